@@ -1,0 +1,8 @@
+//! Fields for Circle STARKs: traits whose laws are proved, and the prime field Mersenne31.
+#![tactic(auto)]
+
+pub mod extension;
+pub mod field;
+
+pub use extension::ComplexExtendable;
+pub use field::{Field, Operations};
