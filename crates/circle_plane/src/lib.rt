@@ -1,13 +1,14 @@
-// A library with one function.
+//! The plane of Circle STARKs: points of the unit circle, domains, and polynomials on them.
 #![tactic(auto)]
 
-ghost use Rattle.std.specs.Prelude.{◌≡◌};
-ghost use Rattle.circle_plane.specs.Echo.{echo_of};
+pub mod cfft;
+pub mod domain;
+pub mod matrix;
+pub mod ordering;
+pub mod point;
 
-// The `ensures` clause is the contract: what `echo` returns is `echo_of` of its argument, a definition
-// in `specs/Echo.antt`, which a caller's clause can cite too.
-pub fn echo(x: usize) -> usize
-    ensures { result ≡ echo_of x }
-{
-    x
-}
+pub use cfft::{CircleEvaluations, circle_basis};
+pub use domain::{CircleCoset, CircleDomain, CirclePoints};
+pub use matrix::{Matrix, RowIndexMap, RowIndexMappedView, RowMajorMatrix, Shape};
+pub use ordering::{CfftPerm, CfftView, cfft_permute_index};
+pub use point::Point;

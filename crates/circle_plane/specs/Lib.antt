@@ -1,0 +1,10 @@
+pub mod Order
+pub mod Basis
+pub mod Rows
+pub mod Point
+pub mod Domain
+pub mod Matrix
+pub mod RowMajorMatrix
+pub mod Ordering
+pub mod CfftPerm
+pub mod CircleEvaluations

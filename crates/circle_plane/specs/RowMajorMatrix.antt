@@ -1,0 +1,24 @@
+-- What a stored matrix is to contracts: its width and its list of rows.
+use Rattle.std.specs.Prelude.{◌≡◌, ℕ, ◌≤◌, ◌/◌, List, length, All, vec_len}
+use Rattle.circle_plane.specs.Matrix.{rows_from}
+use Rattle.circle_plane.specs.declared.matrix.RowMajorMatrix.{RowMajorMatrix}
+
+module _ {T : Type 0} where
+  abbrev pub width_of : RowMajorMatrix T → ℕ
+  width_of m = m.width
+
+  abbrev pub height_of : RowMajorMatrix T → ℕ
+  height_of m = vec_len m.values / m.width
+
+  -- the rows, in order
+  abbrev pub rows : RowMajorMatrix T → List (List T)
+  rows m = rows_from m.width (height_of m) m.values.items
+
+  pub positive_width : (m : RowMajorMatrix T) → 1 ≤ width_of m
+  positive_width m = m.width_positive
+
+  pub length-rows : (m : RowMajorMatrix T) → length (rows m) ≡ height_of m
+  length-rows m = ?
+
+  pub rows-width : (m : RowMajorMatrix T) → All (λ row. length row ≡ width_of m) (rows m)
+  rows-width m = ?

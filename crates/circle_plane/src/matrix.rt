@@ -1,0 +1,155 @@
+//! Matrices by rows, and views of them under another order of the rows.
+ghost use Rattle.std.specs.Prelude.{◌≡◌, ℕ, ◌<◌, ◌≤◌, ◌%◌, ◌/◌, List, length, map, Some, IfOk, All, slice_get, slice_index_or, vec_len};
+ghost use Rattle.circle_plane.specs.Matrix.{rows_from, mapped_rows};
+
+use std::alloc::{AllocError, Global};
+
+/// The shape of a matrix as contracts see it.
+///
+/// It stands in a trait of its own, without the type of the entries, so that a type can name it in
+/// an invariant.
+pub trait Shape {
+    ghost width: { Self → ℕ };
+
+    ghost height: { Self → ℕ };
+}
+
+/// A matrix that lends its rows.
+pub trait Matrix<T>: Shape {
+    ghost rows: { Self → List (List T) };
+
+    /// The number of columns, at least 1.
+    fn width(&self) -> usize
+        ensures { result ≡ Self.width self.now };
+
+    /// The number of rows.
+    fn height(&self) -> usize
+        ensures { result ≡ Self.height self.now };
+
+    /// The entries of row `r`.
+    ///
+    /// Asks `r < height`.
+    fn row(&self, r: usize) -> &[T]
+        requires { r < Self.height self.now }
+        ensures { slice_get (rows self.now) r ≡ Some result.now };
+
+    ghost width_positive: { (m : Self) → 1 ≤ Self.width m };
+
+    ghost height_law: { (m : Self) → length (rows m) ≡ Self.height m };
+
+    ghost width_law: { (m : Self) → All (λ row. length row ≡ Self.width m) (rows m) };
+}
+
+/// A matrix of `Copy` entries, stored row after row: of at least one column and any number of rows.
+#[derive(Drop)]
+pub struct RowMajorMatrix<T> {
+    values: Vec<T>,
+    width: usize,
+    ghost width_positive: { 1 ≤ width },
+    ghost whole_rows: { vec_len values % width ≡ 0 },
+}
+
+impl<T: Copy> RowMajorMatrix<T> {
+    ghost use Rattle.circle_plane.specs.RowMajorMatrix.{rows, width_of};
+
+    /// The matrix with these entries, row after row.
+    ///
+    /// Asks a width of at least 1 that divides the number of entries.
+    pub fn new(values: Vec<T>, width: usize) -> Self
+        requires positive { 1 ≤ width }
+        requires whole { vec_len values % width ≡ 0 }
+        ensures shape { width_of result ≡ width }
+        ensures content { rows result ≡ rows_from width (vec_len values / width) values.items }
+    {
+        RowMajorMatrix { values, width }
+    }
+}
+
+impl<T> Shape for RowMajorMatrix<T> {
+    ghost use Rattle.circle_plane.specs.RowMajorMatrix.{width_of, height_of};
+
+    ghost width = { width_of };
+
+    ghost height = { height_of };
+}
+
+impl<T> Matrix<T> for RowMajorMatrix<T> {
+    ghost use Rattle.circle_plane.specs.RowMajorMatrix.{rows, positive_width, length-rows, rows-width};
+
+    ghost rows = { rows };
+
+    ghost width_positive = { positive_width };
+
+    ghost height_law = { length-rows };
+
+    ghost width_law = { rows-width };
+
+    fn width(&self) -> usize {
+        self.width
+    }
+
+    fn height(&self) -> usize {
+        self.values.len() / self.width
+    }
+
+    fn row(&self, r: usize) -> &[T] {
+        let start = r * self.width;
+        &self.values[start..start + self.width]
+    }
+}
+
+/// Another order of a matrix's rows.
+pub trait RowIndexMap {
+    ghost height: { Self → ℕ };
+
+    ghost map_row_index: { Self → ℕ → ℕ };
+
+    /// The number of rows.
+    fn height(&self) -> usize
+        ensures { result ≡ height self.now };
+
+    /// The row of the underlying matrix that stands at row `r`.
+    ///
+    /// Asks `r < height`.
+    fn map_row_index(&self, r: usize) -> usize
+        requires { r < height self.now }
+        ensures { result ≡ map_row_index self.now r };
+}
+
+/// A matrix seen under another order of its rows, which are not copied.
+#[derive(Drop)]
+pub struct RowIndexMappedView<Map: RowIndexMap, M: Shape> {
+    /// Which row of `inner` stands at each row.
+    pub index_map: Map,
+    /// The underlying matrix.
+    pub inner: M,
+    pub ghost in_range: { (r : ℕ) → r < Map.height index_map → Map.map_row_index index_map r < M.height inner },
+}
+
+impl<Map: RowIndexMap, M: Shape> Shape for RowIndexMappedView<Map, M> {
+    ghost width = { λ v. M.width v.inner };
+
+    ghost height = { λ v. Map.height v.index_map };
+}
+
+impl<T, Map: RowIndexMap, M: Matrix<T>> Matrix<T> for RowIndexMappedView<Map, M> {
+    ghost rows = { λ v. mapped_rows (Map.map_row_index v.index_map) (Map.height v.index_map) (M.rows v.inner) };
+
+    ghost width_positive = { λ v. M.width_positive v.inner };
+
+    ghost height_law = { ? };
+
+    ghost width_law = { ? };
+
+    fn width(&self) -> usize {
+        self.inner.width()
+    }
+
+    fn height(&self) -> usize {
+        self.index_map.height()
+    }
+
+    fn row(&self, r: usize) -> &[T] {
+        self.inner.row(self.index_map.map_row_index(r))
+    }
+}

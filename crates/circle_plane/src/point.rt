@@ -1,0 +1,206 @@
+//! Points of the unit circle and their group (Circle STARKs, IACR ePrint 2024/278, section 3).
+ghost use Rattle.std.specs.Prelude.{◌≡◌, ◌≤◌, ◌^◌, ◌-◌, Ok};
+ghost use Rattle.circle_field.specs.Circle.{IsOnCircle, at, origin, plus, opposite, times};
+
+use circle_field::{ComplexExtendable, Field, Operations};
+use std::alloc::AllocError;
+use std::ops::{Add, AddAssign, Mul, Neg, Sub};
+
+/// A point `(x, y)` of the unit circle: `x^2 + y^2 = 1`.
+#[derive(PartialEq, Eq, Debug, Hash)]
+pub struct Point<F: Operations> {
+    x: F,
+    y: F,
+    pub ghost on_circle: { IsOnCircle F.ops (at x y) },
+}
+
+impl<F: Operations> Clone for Point<F> {
+    fn clone(&self) -> Result<Self, AllocError>
+        ensures { result ≡ Ok self.now }
+    {
+        Ok(*self)
+    }
+}
+
+impl<F: Operations> Copy for Point<F> {}
+
+impl<F: Field> Point<F> {
+    ghost use Rattle.circle_plane.specs.Basis.{vanishing, vanishing_product};
+    ghost use Rattle.circle_plane.specs.Point.{coordinates};
+
+    /// The neutral point `(1, 0)`.
+    pub const ZERO: Self = Point {
+        x: F::ONE,
+        y: F::ZERO,
+    };
+
+    /// The point with these coordinates.
+    ///
+    /// Asks `x^2 + y^2 = 1`.
+    pub fn new(x: F, y: F) -> Self
+        requires { IsOnCircle F.ops (at x y) }
+        ensures { coordinates result ≡ at x y }
+    {
+        Point { x, y }
+    }
+
+    /// The x coordinate.
+    pub fn x(self) -> F
+        ensures { result ≡ (coordinates self).x }
+    {
+        self.x
+    }
+
+    /// The y coordinate.
+    pub fn y(self) -> F
+        ensures { result ≡ (coordinates self).y }
+    {
+        self.y
+    }
+
+    /// The point plus itself (section 3.1, equation 1).
+    pub fn double(self) -> Self
+        ensures { coordinates result ≡ plus F.ops (coordinates self) (coordinates self) }
+    {
+        Point {
+            x: self.x.square().double() - F::ONE,
+            y: self.x.double() * self.y,
+        }
+    }
+
+    /// The point doubled `log_n` times, so its multiple by `2^log_n`.
+    pub fn repeated_double(self, log_n: usize) -> Self
+        ensures { coordinates result ≡ times F.ops (2 ^ log_n) (coordinates self) }
+    {
+        let mut point = self;
+        for _ in 0..log_n {
+            point = point.double();
+        }
+        point
+    }
+
+    /// The vanishing polynomial of the standard domain of `2^log_n` points, at this point: the x
+    /// coordinate of the point's multiple by `2^(log_n - 1)` (section 3.3, equation 8).
+    ///
+    /// Asks `log_n >= 1`.
+    pub fn v_n(self, log_n: usize) -> F
+        requires { 1 ≤ log_n }
+        ensures multiple { result ≡ (times F.ops (2 ^ (log_n - 1)) (coordinates self)).x }
+        ensures polynomial { result ≡ vanishing F.ops log_n (coordinates self) }
+    {
+        let mut x = self.x;
+        for _ in 1..log_n {
+            x = x.square().double() - F::ONE;
+        }
+        x
+    }
+
+    /// The product of `v_n(1)` to `v_n(log_n - 1)`, which is 1 for `log_n` at most 1.
+    pub fn v_n_prod(self, log_n: usize) -> F
+        ensures { result ≡ vanishing_product F.ops (log_n - 1) (coordinates self) }
+    {
+        let mut x = self.x;
+        let mut product = F::ONE;
+        for _ in 1..log_n {
+            product = product * x;
+            x = x.square().double() - F::ONE;
+        }
+        product
+    }
+}
+
+impl<F: ComplexExtendable> Point<F> {
+    ghost use Rattle.circle_plane.specs.Point.{coordinates};
+
+    /// The generator of the cyclic group of `2^log_n` points.
+    ///
+    /// Asks `log_n <= CIRCLE_TWO_ADICITY`.
+    pub fn generator(log_n: usize) -> Self
+        requires { log_n ≤ F.CIRCLE_TWO_ADICITY }
+        ensures { coordinates result ≡ F.generators log_n }
+    {
+        let (x, y) = F::circle_two_adic_generator(log_n);
+        Point::new(x, y)
+    }
+}
+
+/// The opposite point `(x, -y)` (section 3.1, equation 2).
+impl<F: Field> Neg for Point<F> {
+    type Output = Point<F>;
+
+    ghost use Rattle.circle_plane.specs.Point.{coordinates};
+
+    ghost neg_gives = { λ p r. coordinates r ≡ opposite F.ops (coordinates p) };
+
+    fn neg(self) -> Point<F> {
+        Point {
+            x: self.x,
+            y: -self.y,
+        }
+    }
+}
+
+/// `(a, b) + (c, d) = (ac - bd, ad + bc)`.
+impl<F: Field> Add<Point<F>> for Point<F> {
+    type Output = Point<F>;
+
+    ghost use Rattle.circle_plane.specs.Point.{coordinates};
+
+    ghost add_gives = { λ p q r. coordinates r ≡ plus F.ops (coordinates p) (coordinates q) };
+
+    fn add(self, rhs: Point<F>) -> Point<F> {
+        Point {
+            x: self.x * rhs.x - self.y * rhs.y,
+            y: self.x * rhs.y + self.y * rhs.x,
+        }
+    }
+}
+
+/// The sum with the opposite of `rhs`.
+impl<F: Field> Sub<Point<F>> for Point<F> {
+    type Output = Point<F>;
+
+    ghost use Rattle.circle_plane.specs.Point.{coordinates};
+
+    ghost sub_gives = { λ p q r. coordinates r ≡ plus F.ops (coordinates p) (opposite F.ops (coordinates q)) };
+
+    fn sub(self, rhs: Point<F>) -> Point<F> {
+        Point {
+            x: self.x * rhs.x + self.y * rhs.y,
+            y: self.y * rhs.x - self.x * rhs.y,
+        }
+    }
+}
+
+impl<F: Field> AddAssign<Point<F>> for Point<F> {
+    ghost use Rattle.circle_plane.specs.Point.{coordinates};
+
+    ghost add_assign_gives = { λ p q r. coordinates r ≡ plus F.ops (coordinates p) (coordinates q) };
+
+    fn add_assign(&mut self, rhs: Point<F>) {
+        *self = *self + rhs;
+    }
+}
+
+/// The n-fold sum, by doubling.
+impl<F: Field> Mul<usize> for Point<F> {
+    type Output = Point<F>;
+
+    ghost use Rattle.circle_plane.specs.Point.{coordinates};
+
+    ghost mul_gives = { λ p n r. coordinates r ≡ times F.ops n (coordinates p) };
+
+    fn mul(self, rhs: usize) -> Point<F> {
+        let mut result = Point::ZERO;
+        let mut multiple = self;
+        let mut rest = rhs;
+        while rest != 0 {
+            if rest % 2 == 1 {
+                result += multiple;
+            }
+            multiple = multiple.double();
+            rest /= 2;
+        }
+        result
+    }
+}
