@@ -4,7 +4,7 @@ ghost use Rattle.std.specs.Iterator.{YieldsFirstBy, item_count};
 ghost use Rattle.circle_field.specs.Circle.{opposite};
 ghost use Rattle.circle_plane.specs.Order.{IsGenuine, natural_order, half};
 
-use crate::point::Point;
+use crate::point::{Neutral, Point};
 use circle_field::{ComplexExtendable, Field, Operations};
 use std::alloc::AllocError;
 
@@ -78,7 +78,7 @@ impl<F: ComplexExtendable> CircleDomain<F> {
     pub fn is_genuine(&self) -> bool
         ensures { IsTrue result ↔ IsGenuine F.ops (log_size self.now) (shift_of self.now) }
     {
-        self.log_n >= 1 && self.shift.repeated_double(self.log_n) != Point::ZERO
+        self.log_n >= 1 && self.shift.repeated_double(self.log_n) != Point::<F>::ZERO
     }
 
     /// Whether this is the standard domain of its size, so false where the group has none.
