@@ -91,8 +91,11 @@ fn fold_bits(int: u64) -> u64
 
 impl Operations for Mersenne31 {
     ghost use Rattle.circle_field.specs.Mersenne31.{operations};
+    ghost use Rattle.circle_field.specs.Mersenne31Laws.{laws};
 
     ghost ops = { operations };
+
+    ghost laws = { laws };
 }
 
 impl Add for Mersenne31 {
@@ -152,7 +155,7 @@ impl Neg for Mersenne31 {
 
 impl Field for Mersenne31 {
     ghost use Rattle.circle_field.specs.Mersenne31.{element};
-    ghost use Rattle.circle_field.specs.Mersenne31Laws.{laws, equal_exactly};
+    ghost use Rattle.circle_field.specs.Mersenne31Laws.{equal_exactly};
     ghost use Rattle.std.specs.Prelude.{refl};
 
     const ZERO: Self = Mersenne31 { value: 0 };
@@ -166,8 +169,6 @@ impl Field for Mersenne31 {
     ghost ONE = { element 1 };
 
     ghost TWO = { element 2 };
-
-    ghost laws = { laws };
 
     ghost zero_law = { refl };
 
