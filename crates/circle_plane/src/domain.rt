@@ -116,7 +116,7 @@ impl<F: ComplexExtendable> CircleDomain<F> {
             current: self.shift,
             other: step - self.shift,
             step,
-            remaining: 1 << self.log_n,
+            remaining: self.size(),
         }
     }
 
@@ -131,7 +131,7 @@ impl<F: ComplexExtendable> CircleDomain<F> {
         CircleCoset {
             current: self.shift,
             step: self.subgroup_generator(),
-            remaining: 1 << (self.log_n - 1),
+            remaining: self.size() / 2,
         }
     }
 
@@ -147,7 +147,7 @@ impl<F: ComplexExtendable> CircleDomain<F> {
         CircleCoset {
             current: step - self.shift,
             step,
-            remaining: 1 << (self.log_n - 1),
+            remaining: self.size() / 2,
         }
     }
 
