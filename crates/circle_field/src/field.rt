@@ -91,6 +91,10 @@ pub trait Field: Operations
     fn from_u64(int: u64) -> Self
         ensures { result ≡ of_nat Self.ops int };
 
+    ghost clone_law: { (a b : Self) → Self.is_clone a b → b ≡ a };
+
+    ghost clone_infallible_law: { (a : Self) → Self.is_infallible a };
+
     ghost zero_law: { ZERO ≡ Self.ops.zero };
 
     ghost one_law: { ONE ≡ Self.ops.one };

@@ -170,6 +170,10 @@ impl Field for Mersenne31 {
 
     ghost TWO = { element 2 };
 
+    ghost clone_law = { λ a b h. h };
+
+    ghost clone_infallible_law = { λ a. tt };
+
     ghost zero_law = { refl };
 
     ghost one_law = { refl };

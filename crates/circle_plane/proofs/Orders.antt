@@ -51,7 +51,7 @@ module _ {F : Type 0} {k : FieldOps F} (laws : RingLaws k) where
       ∙ ap (λ u. plus k s (times k a g) ∷ u ∷ alternating k (count + count) (plus k p g) (plus k q g) g) hq
       ∙ ap (λ rest. plus k s (times k a g) ∷ plus k (opposite k s) (times k (suc a) g) ∷ rest)
       (alternating-natural count (plus k p g) (plus k q g) s g (suc a)
-        (ap (λ u. plus k u g) hp ∙ next_step s g a) (ap (λ u. plus k u g) hq ∙ next_step (opposite k s) g (suc a)))
+      (ap (λ u. plus k u g) hp ∙ next_step s g a) (ap (λ u. plus k u g) hq ∙ next_step (opposite k s) g (suc a)))
 
 module _ {F : Type 0} (k : FieldOps F) where
   pub length-natural_from : (count : ℕ) (g s : Coordinates F) (a : ℕ) → length (natural_from k count g s a) ≡ count + count

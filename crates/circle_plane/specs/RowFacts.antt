@@ -24,7 +24,7 @@ module _ {T : Type 0} where
   pub rows_from-widths : (width height : ℕ) (entries : List T) → height * width ≤ length entries → All (λ row. length row ≡ width) (rows_from width height entries)
   rows_from-widths width zero entries h = λ r d lt. absurd (omega arith)
   rows_from-widths width (suc height) entries h = elim [
-    zero ↦ λ d lt. length-take-le width entries (omega arith)
+    | zero ↦ λ d lt. length-take-le width entries (omega arith)
     | suc r ↦ λ d lt. rows_from-widths width height (drop width entries) (rw length-drop (omega arith)) r d (omega arith)
   ]
 

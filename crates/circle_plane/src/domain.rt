@@ -20,6 +20,10 @@ pub struct CircleDomain<F: Operations> {
 }
 
 impl<F: Operations> Clone for CircleDomain<F> {
+    ghost is_clone = { λ a b. b ≡ a };
+
+    ghost is_infallible = { λ _. Unit {0} };
+
     fn clone(&self) -> Result<Self, AllocError>
         ensures { result ≡ Ok self.now }
     {

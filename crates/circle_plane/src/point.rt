@@ -15,6 +15,10 @@ pub struct Point<F: Operations> {
 }
 
 impl<F: Operations> Clone for Point<F> {
+    ghost is_clone = { λ a b. b ≡ a };
+
+    ghost is_infallible = { λ _. Unit {0} };
+
     fn clone(&self) -> Result<Self, AllocError>
         ensures { result ≡ Ok self.now }
     {
