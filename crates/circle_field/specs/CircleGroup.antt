@@ -69,10 +69,23 @@ module _ {F : Type 0} {k : FieldOps F} (laws : RingLaws k) where
 
   -- the doubling formulas 2 x^2 - 1 and 2 x y
   pub doubling : (p : Coordinates F) → IsOnCircle k p →
-      at (k.add (k.add (k.mul p.x p.x) (k.mul p.x p.x)) (k.neg k.one)) (k.add (k.mul p.x p.y) (k.mul p.x p.y)) ≡ plus k p p
+      at (k.add (k.add (k.mul p.x p.x) (k.mul p.x p.x)) (k.neg k.one)) (k.mul (k.add p.x p.x) p.y) ≡ plus k p p
   doubling p h =
       let a : Expr = var 0 in let b : Expr = var 1 in
       let env : List F = p.x ∷ p.y ∷ [] in
       same_coordinates
       (combine laws env (sum (sum (prod a a) (prod a a)) (minus unit)) (sum_x a b a b) (given unit (norm_of a b) unit ∷ []) refl (h, tt))
-      (ring laws env (sum (prod a b) (prod a b)) (sum_y a b a b) refl)
+      (ring laws env (prod (sum a a) b) (sum_y a b a b) refl)
+
+  pub origin-on_circle : IsOnCircle k (origin k)
+  origin-on_circle = ring laws [] (norm_of unit (con 0)) unit refl
+
+  -- a difference by coordinates
+  pub difference : (p q : Coordinates F) →
+      at (k.add (k.mul p.x q.x) (k.mul p.y q.y)) (k.add (k.mul p.y q.x) (k.neg (k.mul p.x q.y))) ≡ plus k p (opposite k q)
+  difference p q =
+      let a : Expr = var 0 in let b : Expr = var 1 in let c : Expr = var 2 in let d : Expr = var 3 in
+      let env : List F = p.x ∷ p.y ∷ q.x ∷ q.y ∷ [] in
+      same_coordinates
+      (ring laws env (sum (prod a c) (prod b d)) (sum_x a b c (minus d)) refl)
+      (ring laws env (sum (prod b c) (minus (prod a d))) (sum_y a b c (minus d)) refl)

@@ -5,3 +5,8 @@ pub mod RingSound
 pub mod RingCombine
 pub mod Circle
 pub mod CircleGroup
+pub mod Residues
+pub mod Mersenne31
+pub mod Mersenne31Laws
+pub mod Mersenne31Circle
+pub mod Mersenne31Rows

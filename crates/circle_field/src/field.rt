@@ -6,11 +6,13 @@ use std::fmt::Debug;
 use std::hash::Hash;
 use std::ops::{Add, Mul, Neg, Sub};
 
-/// The operations of a field as contracts see them, without the laws.
+/// The operations of a field as contracts see them, and their laws.
 ///
 /// They stand in a trait of their own so that a type can name them in an invariant under one bound.
 pub trait Operations: Copy {
     ghost ops: { FieldOps Self };
+
+    ghost laws: { FieldLaws ops };
 }
 
 /// A field in which 2 is not 0.
@@ -89,7 +91,9 @@ pub trait Field: Operations
     fn from_u64(int: u64) -> Self
         ensures { result ≡ of_nat Self.ops int };
 
-    ghost laws: { FieldLaws Self.ops };
+    ghost clone_law: { (a b : Self) → Self.is_clone a b → b ≡ a };
+
+    ghost clone_infallible_law: { (a : Self) → Self.is_infallible a };
 
     ghost zero_law: { ZERO ≡ Self.ops.zero };
 

@@ -3,6 +3,8 @@
 
 pub mod extension;
 pub mod field;
+pub mod mersenne31;
 
 pub use extension::ComplexExtendable;
 pub use field::{Field, Operations};
+pub use mersenne31::Mersenne31;

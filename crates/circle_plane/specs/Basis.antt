@@ -1,6 +1,6 @@
 -- The polynomial bases of the circle FFT, and the value of a list of coefficients at a point.
 -- Circle STARKs (ePrint 2024/278), sections 3.3 and 4.
-use Rattle.std.specs.Prelude.{ℕ, ◌-◌, ◌/◌, ◌%◌, ◌^◌, List, [], ◌∷◌, map, replicate}
+use Rattle.std.specs.Prelude.{ℕ, ◌-◌, ◌/◌, ◌%◌, ◌^◌, List, [], ◌∷◌, map, slice_index_or}
 use Rattle.std.specs.List.{range_with_len}
 use Rattle.std.proofs.Common.{zero, suc}
 use Rattle.circle_field.specs.Field.{FieldOps}
@@ -65,17 +65,6 @@ module _ {F : Type 0} (k : FieldOps F) where
   abbrev pub values_at : List (List F) → ℕ → Coordinates F → List F
   values_at rows width p = map (λ j. value (column k.zero rows j) p) (range_with_len 0 width)
 
-  -- to each entry, that of the row times the factor
-  abbrev pub added : F → List F → List F → List F
-  added factor [] row = []
-  added factor (a ∷ sums) [] = a ∷ sums
-  added factor (a ∷ sums) (b ∷ row) = k.add a (k.mul b factor) ∷ added factor sums row
-
-  -- the sum of the rows times their factors
-  abbrev pub combined_from : List F → List (List F) → List F → List F
-  combined_from sums [] factors = sums
-  combined_from sums (row ∷ rows) [] = sums
-  combined_from sums (row ∷ rows) (factor ∷ factors) = combined_from (added factor sums row) rows factors
-
-  abbrev pub combination : ℕ → List (List F) → List F → List F
-  combination width rows factors = combined_from (replicate width k.zero) rows factors
+  -- the sums of the rows' entries, each times the factor of its row
+  abbrev pub combination : List (List F) → ℕ → List F → List F
+  combination rows width factors = map (λ j. weighted_sum (λ i. slice_index_or factors i k.zero) 0 (column k.zero rows j)) (range_with_len 0 width)

@@ -4,6 +4,7 @@ pub mod Rows
 pub mod Point
 pub mod Domain
 pub mod Matrix
+pub mod RowFacts
 pub mod RowMajorMatrix
 pub mod Ordering
 pub mod CfftPerm

@@ -1,6 +1,8 @@
 -- What a stored matrix is to contracts: its width and its list of rows.
 use Rattle.std.specs.Prelude.{◌≡◌, ℕ, ◌≤◌, ◌/◌, List, length, All, vec_len}
+use Rattle.std.proofs.Common.{◌*◌, arith}
 use Rattle.circle_plane.specs.Matrix.{rows_from}
+use Rattle.circle_plane.specs.RowFacts.{length-rows_from, rows_from-widths}
 use Rattle.circle_plane.specs.declared.matrix.RowMajorMatrix.{RowMajorMatrix}
 
 module _ {T : Type 0} where
@@ -18,7 +20,10 @@ module _ {T : Type 0} where
   positive_width m = m.width_positive
 
   pub length-rows : (m : RowMajorMatrix T) → length (rows m) ≡ height_of m
-  length-rows m = ?
+  length-rows m = length-rows_from m.width (height_of m) m.values.items
 
   pub rows-width : (m : RowMajorMatrix T) → All (λ row. length row ≡ width_of m) (rows m)
-  rows-width m = ?
+  rows-width m =
+      let positive : 1 ≤ m.width = m.width_positive in
+      let small : height_of m * m.width ≤ length m.values.items = omega (arith, m.values.ok.0) in
+      rows_from-widths m.width (height_of m) m.values.items small

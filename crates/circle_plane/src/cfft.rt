@@ -1,7 +1,7 @@
 //! Polynomials on the circle: their basis, and their values on a domain.
-ghost use Rattle.std.specs.Prelude.{◌≡◌, ◌≤◌, ◌^◌, ◌+◌, ◌*◌, ◌++◌, List, length, map, IfOk, OnOk, slice_index_or};
+ghost use Rattle.std.specs.Prelude.{◌≡◌, ℕ, ◌<◌, ◌≤◌, ◌^◌, ◌+◌, ◌*◌, ◌++◌, List, length, map, IfOk, OnOk, slice_index_or};
 ghost use Rattle.std.specs.List.{range_with_len};
-ghost use Rattle.circle_plane.specs.Basis.{basis_values, values_at, combination, added};
+ghost use Rattle.circle_plane.specs.Basis.{basis_values, values_at, combination};
 ghost use Rattle.circle_plane.specs.Matrix.{IsPowerOfTwo};
 ghost use Rattle.circle_plane.specs.Order.{natural_order};
 ghost use Rattle.circle_plane.specs.Point.{coordinates};
@@ -136,7 +136,7 @@ fn combine_rows<F: Field>(
     factors: &[F],
 ) -> Result<Vec<F>, AllocError>
     requires { height_of matrix.now ≤ length factors.now }
-    ensures { IfOk result (λ row. row.items ≡ combination F.ops (width_of matrix.now) (rows matrix.now) factors.now) }
+    ensures { IfOk result (λ row. row.items ≡ combination F.ops (rows matrix.now) (width_of matrix.now) factors.now) }
 {
     let mut sums = vec![in alloc; F::ZERO; matrix.width()]?;
     for r in 0..matrix.height() {
@@ -148,9 +148,10 @@ fn combine_rows<F: Field>(
 // Adds to each sum the entry at its place times `factor`.
 fn add_scaled<F: Field>(sums: &mut [F], entries: &[F], factor: F)
     requires { length sums.old ≡ length entries.now }
-    ensures { sums.new ≡ added F.ops factor sums.old entries.now }
+    ensures { (j : ℕ) (d : F) → j < length sums.old →
+        slice_index_or sums.new j d ≡ F.ops.add (slice_index_or sums.old j d) (F.ops.mul (slice_index_or entries.now j d) factor) }
 {
-    for (sum, entry) in sums.iter_mut().zip(entries) {
-        *sum = *sum + *entry * factor;
+    for (j, sum) in sums.iter_mut().enumerate() {
+        *sum = *sum + entries[j] * factor;
     }
 }

@@ -4,7 +4,7 @@ ghost use Rattle.std.specs.Iterator.{YieldsFirstBy, item_count};
 ghost use Rattle.circle_field.specs.Circle.{opposite};
 ghost use Rattle.circle_plane.specs.Order.{IsGenuine, natural_order, half};
 
-use crate::point::Point;
+use crate::point::{Neutral, Point};
 use circle_field::{ComplexExtendable, Field, Operations};
 use std::alloc::AllocError;
 
@@ -20,6 +20,10 @@ pub struct CircleDomain<F: Operations> {
 }
 
 impl<F: Operations> Clone for CircleDomain<F> {
+    ghost is_clone = { λ a b. b ≡ a };
+
+    ghost is_infallible = { λ _. Unit {0} };
+
     fn clone(&self) -> Result<Self, AllocError>
         ensures { result ≡ Ok self.now }
     {
@@ -78,7 +82,7 @@ impl<F: ComplexExtendable> CircleDomain<F> {
     pub fn is_genuine(&self) -> bool
         ensures { IsTrue result ↔ IsGenuine F.ops (log_size self.now) (shift_of self.now) }
     {
-        self.log_n >= 1 && self.shift.repeated_double(self.log_n) != Point::ZERO
+        self.log_n >= 1 && self.shift.repeated_double(self.log_n) != Point::<F>::ZERO
     }
 
     /// Whether this is the standard domain of its size, so false where the group has none.
@@ -116,7 +120,7 @@ impl<F: ComplexExtendable> CircleDomain<F> {
             current: self.shift,
             other: step - self.shift,
             step,
-            remaining: 1 << self.log_n,
+            remaining: self.size(),
         }
     }
 
@@ -131,7 +135,7 @@ impl<F: ComplexExtendable> CircleDomain<F> {
         CircleCoset {
             current: self.shift,
             step: self.subgroup_generator(),
-            remaining: 1 << (self.log_n - 1),
+            remaining: self.size() / 2,
         }
     }
 
@@ -147,7 +151,7 @@ impl<F: ComplexExtendable> CircleDomain<F> {
         CircleCoset {
             current: step - self.shift,
             step,
-            remaining: 1 << (self.log_n - 1),
+            remaining: self.size() / 2,
         }
     }
 

@@ -11,4 +11,4 @@ pub use cfft::{CircleEvaluations, circle_basis};
 pub use domain::{CircleCoset, CircleDomain, CirclePoints};
 pub use matrix::{Matrix, RowIndexMap, RowIndexMappedView, RowMajorMatrix, Shape};
 pub use ordering::{CfftPerm, CfftView, cfft_permute_index};
-pub use point::Point;
+pub use point::{Neutral, Point};

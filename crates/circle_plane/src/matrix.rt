@@ -133,13 +133,18 @@ impl<Map: RowIndexMap, M: Shape> Shape for RowIndexMappedView<Map, M> {
 }
 
 impl<T, Map: RowIndexMap, M: Matrix<T>> Matrix<T> for RowIndexMappedView<Map, M> {
+    ghost use Rattle.circle_plane.specs.RowFacts.{length-mapped_rows, mapped_rows-widths};
+    ghost use Rattle.std.proofs.Common.{subst, sym};
+
     ghost rows = { λ v. mapped_rows (Map.map_row_index v.index_map) (Map.height v.index_map) (M.rows v.inner) };
 
     ghost width_positive = { λ v. M.width_positive v.inner };
 
-    ghost height_law = { ? };
+    ghost height_law = { λ v. length-mapped_rows (Map.map_row_index v.index_map) (Map.height v.index_map) (M.rows v.inner) };
 
-    ghost width_law = { ? };
+    ghost width_law = { λ v. mapped_rows-widths (Map.map_row_index v.index_map) (Map.height v.index_map) (M.width v.inner) (M.rows v.inner)
+        (λ r h. subst (λ n. Map.map_row_index v.index_map r < n) (sym (M.height_law v.inner)) (v.in_range r h))
+        (M.width_law v.inner) };
 
     fn width(&self) -> usize {
         self.inner.width()

@@ -48,6 +48,10 @@ pub struct CfftPerm {
 }
 
 impl Clone for CfftPerm {
+    ghost is_clone = { λ a b. b ≡ a };
+
+    ghost is_infallible = { λ _. Unit {0} };
+
     fn clone(&self) -> Result<Self, AllocError>
         ensures { result ≡ Ok self.now }
     {

@@ -15,6 +15,10 @@ pub struct Point<F: Operations> {
 }
 
 impl<F: Operations> Clone for Point<F> {
+    ghost is_clone = { λ a b. b ≡ a };
+
+    ghost is_infallible = { λ _. Unit {0} };
+
     fn clone(&self) -> Result<Self, AllocError>
         ensures { result ≡ Ok self.now }
     {
@@ -24,15 +28,29 @@ impl<F: Operations> Clone for Point<F> {
 
 impl<F: Operations> Copy for Point<F> {}
 
-impl<F: Field> Point<F> {
-    ghost use Rattle.circle_plane.specs.Basis.{vanishing, vanishing_product};
-    ghost use Rattle.circle_plane.specs.Point.{coordinates};
+/// A type with a neutral element of its sum, as a constant that contracts know.
+pub trait Neutral {
+    /// The neutral element.
+    const ZERO: Self;
 
-    /// The neutral point `(1, 0)`.
-    pub const ZERO: Self = Point {
+    ghost ZERO: { Self };
+}
+
+impl<F: Field> Neutral for Point<F> {
+    ghost use Rattle.circle_field.specs.CircleGroup.{origin-on_circle};
+
+    /// The point `(1, 0)`.
+    const ZERO: Self = Point {
         x: F::ONE,
         y: F::ZERO,
     };
+
+    ghost ZERO = { record { x = F.ops.one; y = F.ops.zero; on_circle = origin-on_circle F.Operations.laws.ring } };
+}
+
+impl<F: Field> Point<F> {
+    ghost use Rattle.circle_plane.specs.Basis.{vanishing, vanishing_product};
+    ghost use Rattle.circle_plane.specs.Point.{coordinates};
 
     /// The point with these coordinates.
     ///

@@ -8,12 +8,12 @@ pub loop-rest-init : goal.loop-rest-init
 loop-rest-init g c =
     let k = g.Self.Operations.ops in
     ap (λ x. k.mul x (nth_power k c.args.self.now c.args.power)) (c.ONE-result.ensures ∙ g.met.Self.Field.one_law)
-    ∙ g.met.Self.Field.laws.ring.one_mul _
+    ∙ g.Self.Operations.laws.ring.one_mul _
 
 pub loop-rest-preserved : goal.loop-rest-preserved
 loop-rest-preserved g c =
     let k = g.Self.Operations.ops in
-    let laws = g.met.Self.Field.laws.ring in
+    let laws = g.Self.Operations.laws.ring in
     let n = c.loop-rest.rest / 2 in
     let squared = λ (r : _). ap (λ b. k.mul r (nth_power k b n)) c.square-base.ensures in
     elim c.if-rest-eq1.branch [
@@ -27,4 +27,4 @@ loop-rest-preserved g c =
     ]
 
 pub returns : goal.returns
-returns g c = no_more g.met.Self.Field.laws.ring _ _ _ _ c.loop-rest.invariant c.loop-rest-test.false
+returns g c = no_more g.Self.Operations.laws.ring _ _ _ _ c.loop-rest.invariant c.loop-rest-test.false

@@ -1,0 +1,294 @@
+//! The prime field of `2^31 - 1` elements.
+ghost use Rattle.std.specs.Prelude.{◌≡◌, ◌+◌, ◌*◌, ◌/◌, ◌%◌, ◌^◌, ◌<◌, ◌≤◌, MatchOption};
+ghost use Rattle.circle_field.specs.Circle.{at, plus};
+
+use crate::extension::ComplexExtendable;
+use crate::field::{Field, Operations};
+use std::ops::{Add, Mul, Neg, Sub};
+
+/// An element of the prime field of `2^31 - 1` elements, the base field of Circle STARKs (IACR
+/// ePrint 2024/278, section 3).
+///
+/// An element is stored as its residue below the order, so equal elements have equal bits.
+#[derive(Clone, Copy, PartialEq, Eq, Hash, Debug)]
+pub struct Mersenne31 {
+    value: u32,
+    ghost below_order: { value < 2147483647 },
+}
+
+impl Mersenne31 {
+    ghost use Rattle.circle_field.specs.Mersenne31.{order, residue, element, operations, generators};
+
+    /// The number of elements: the prime `2^31 - 1`.
+    pub const ORDER: u32 = 2147483647;
+
+    /// The element of the residue `value`, or `None` where `value` is not below the order.
+    pub fn try_new(value: u32) -> Option<Self>
+        ensures { MatchOption result (order ≤ value) (λ a. residue a ≡ value) }
+    {
+        if value < Self::ORDER {
+            Some(Mersenne31 { value })
+        } else {
+            None
+        }
+    }
+
+    /// The residue of the element, which is below the order.
+    pub fn value(&self) -> u32
+        ensures same { result ≡ residue self.now }
+        ensures canonical { result < order }
+    {
+        self.value
+    }
+
+    /// The element of a number below twice the order, by one subtraction at most.
+    fn from_sum(sum: u32) -> Self
+        requires { sum < order + order }
+        ensures { result ≡ element sum }
+    {
+        Mersenne31 {
+            value: if sum < Self::ORDER {
+                sum
+            } else {
+                sum - Self::ORDER
+            },
+        }
+    }
+
+    /// The element of a number below `2^31` times the order.
+    fn from_product(product: u64) -> Self
+        requires { product < order * 2 ^ 31 }
+        ensures { result ≡ element product }
+    {
+        Self::from_sum(fold_bits(product) as u32)
+    }
+
+    /// A point of order `2^31` of the unit circle.
+    fn circle_generator() -> (Self, Self)
+        ensures { at result.0 result.1 ≡ generators 31 }
+    {
+        (
+            Mersenne31 { value: 311014874 },
+            Mersenne31 { value: 1584694829 },
+        )
+    }
+
+    /// The double of a point of the circle's group.
+    fn double_point(x: Self, y: Self) -> (Self, Self)
+        ensures { at result.0 result.1 ≡ plus operations (at x y) (at x y) }
+    {
+        (x * x - y * y, (x * y).double())
+    }
+}
+
+/// The low 31 bits of a number plus its other bits, which has the same remainder by the order,
+/// since `2^31` is 1 there.
+fn fold_bits(int: u64) -> u64
+    ensures { result ≡ int % 2 ^ 31 + int / 2 ^ 31 }
+{
+    (int & Mersenne31::ORDER as u64) + (int >> 31)
+}
+
+impl Operations for Mersenne31 {
+    ghost use Rattle.circle_field.specs.Mersenne31.{operations};
+    ghost use Rattle.circle_field.specs.Mersenne31Laws.{laws};
+
+    ghost ops = { operations };
+
+    ghost laws = { laws };
+}
+
+impl Add for Mersenne31 {
+    type Output = Self;
+
+    ghost use Rattle.circle_field.specs.Mersenne31.{operations};
+
+    ghost add_gives = { λ a b r. r ≡ operations.add a b };
+
+    fn add(self, rhs: Self) -> Self {
+        Self::from_sum(self.value + rhs.value)
+    }
+}
+
+impl Sub for Mersenne31 {
+    type Output = Self;
+
+    ghost use Rattle.circle_field.specs.Field.{sub};
+    ghost use Rattle.circle_field.specs.Mersenne31.{operations};
+
+    ghost sub_gives = { λ a b r. r ≡ sub operations a b };
+
+    fn sub(self, rhs: Self) -> Self {
+        Mersenne31 {
+            value: if self.value < rhs.value {
+                self.value + (Self::ORDER - rhs.value)
+            } else {
+                self.value - rhs.value
+            },
+        }
+    }
+}
+
+impl Mul for Mersenne31 {
+    type Output = Self;
+
+    ghost use Rattle.circle_field.specs.Mersenne31.{operations};
+
+    ghost mul_gives = { λ a b r. r ≡ operations.mul a b };
+
+    fn mul(self, rhs: Self) -> Self {
+        Self::from_product(self.value as u64 * rhs.value as u64)
+    }
+}
+
+impl Neg for Mersenne31 {
+    type Output = Self;
+
+    ghost use Rattle.circle_field.specs.Mersenne31.{operations};
+
+    ghost neg_gives = { λ a r. r ≡ operations.neg a };
+
+    fn neg(self) -> Self {
+        Self::from_sum(Self::ORDER - self.value)
+    }
+}
+
+impl Field for Mersenne31 {
+    ghost use Rattle.circle_field.specs.Mersenne31.{element};
+    ghost use Rattle.circle_field.specs.Mersenne31Laws.{equal_exactly};
+    ghost use Rattle.std.specs.Prelude.{refl};
+
+    const ZERO: Self = Mersenne31 { value: 0 };
+
+    const ONE: Self = Mersenne31 { value: 1 };
+
+    const TWO: Self = Mersenne31 { value: 2 };
+
+    ghost ZERO = { element 0 };
+
+    ghost ONE = { element 1 };
+
+    ghost TWO = { element 2 };
+
+    ghost clone_law = { λ a b h. h };
+
+    ghost clone_infallible_law = { λ a. tt };
+
+    ghost zero_law = { refl };
+
+    ghost one_law = { refl };
+
+    ghost two_law = { refl };
+
+    ghost can_add_law = { λ a b. tt };
+
+    ghost add_law = { λ a b r h. h };
+
+    ghost can_sub_law = { λ a b. tt };
+
+    ghost sub_law = { λ a b r h. h };
+
+    ghost can_mul_law = { λ a b. tt };
+
+    ghost mul_law = { λ a b r h. h };
+
+    ghost can_neg_law = { λ a. tt };
+
+    ghost neg_law = { λ a r h. h };
+
+    ghost eq_law = { equal_exactly };
+
+    fn from_u64(int: u64) -> Self {
+        Self::from_product(fold_bits(int))
+    }
+}
+
+impl ComplexExtendable for Mersenne31 {
+    ghost use Rattle.circle_field.specs.Mersenne31.{generators};
+    ghost use Rattle.circle_field.specs.Mersenne31Circle.{are_generators};
+    ghost use Rattle.std.proofs.Common.{lit≤};
+
+    const CIRCLE_TWO_ADICITY: usize = 31;
+
+    ghost CIRCLE_TWO_ADICITY = { 31 };
+
+    ghost generators = { generators };
+
+    ghost at_least_two = { lit≤ tt };
+
+    ghost at_most_62 = { lit≤ tt };
+
+    ghost generators_law = { are_generators };
+
+    fn circle_two_adic_generator(log_n: usize) -> (Self, Self) {
+        let mut point = Self::circle_generator();
+        for _ in log_n..Self::CIRCLE_TWO_ADICITY {
+            point = Self::double_point(point.0, point.1);
+        }
+        point
+    }
+}
+
+#[cfg(test)]
+mod tests {
+    use super::*;
+
+    const ORDER: u32 = 2147483647;
+
+    fn minus_one() -> Mersenne31 {
+        -Mersenne31::ONE
+    }
+
+    #[test]
+    fn try_new_takes_residues_below_the_order(rt: HostRuntime) {
+        assert_eq!(rt; Mersenne31::try_new(0), Some(Mersenne31::ZERO));
+        assert_eq!(rt; Mersenne31::try_new(ORDER - 1), Some(minus_one()));
+        assert_eq!(rt; Mersenne31::try_new(ORDER), None);
+        assert_eq!(rt; Mersenne31::try_new(u32::MAX), None);
+    }
+
+    #[test]
+    fn from_u64_reduces(rt: HostRuntime) {
+        assert_eq!(rt; Mersenne31::from_u64(ORDER as u64), Mersenne31::ZERO);
+        assert_eq!(rt; Mersenne31::from_u64(2 * ORDER as u64), Mersenne31::ZERO);
+        assert_eq!(rt; Mersenne31::from_u64(u64::MAX).value(), 3);
+    }
+
+    #[test]
+    fn operators_reduce(rt: HostRuntime) {
+        let (three, five) = (Mersenne31::from_u64(3), Mersenne31::from_u64(5));
+        assert_eq!(rt; (minus_one() + three).value(), 2);
+        assert_eq!(rt; (three - five).value(), 2147483645);
+        assert_eq!(rt; minus_one() * minus_one(), Mersenne31::ONE);
+        assert_eq!(rt;
+            Mersenne31::from_u64(1073741824) * Mersenne31::TWO,
+            Mersenne31::ONE
+        );
+        assert_eq!(rt; -Mersenne31::ZERO, Mersenne31::ZERO);
+        let product = Mersenne31::from_u64(123456789) * Mersenne31::from_u64(987654321);
+        assert_eq!(rt; product.value(), 2137109934);
+    }
+
+    #[test]
+    fn powers(rt: HostRuntime) {
+        assert_eq!(rt;
+            Mersenne31::from_u64(7).exp_u64(123456789).value(),
+            510444705
+        );
+        assert_eq!(rt; Mersenne31::from_u64(5).mul_2exp_u64(100).value(), 640);
+    }
+
+    #[test]
+    fn generators(rt: HostRuntime) {
+        let (x, y) = Mersenne31::circle_two_adic_generator(16);
+        assert_eq!(rt; x.value(), 2135874973);
+        assert_eq!(rt; y.value(), 483411332);
+        let (x, y) = Mersenne31::circle_two_adic_generator(3);
+        assert_eq!(rt; x.value(), 32768);
+        assert_eq!(rt; y.value(), 2147450879);
+        let half_turn = Mersenne31::circle_two_adic_generator(1);
+        assert_eq!(rt; half_turn, (minus_one(), Mersenne31::ZERO));
+        let neutral = Mersenne31::circle_two_adic_generator(0);
+        assert_eq!(rt; neutral, (Mersenne31::ONE, Mersenne31::ZERO));
+    }
+}

@@ -1,0 +1,4 @@
+pub mod Multiples
+pub mod Orders
+pub mod Points
+pub mod Reversal

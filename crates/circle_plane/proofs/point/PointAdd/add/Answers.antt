@@ -1,0 +1,15 @@
+use Rattle.std.proofs.Common.{◌≡◌, arith}
+use Rattle.std.proofs.lemmas.Grind.{common_steps}
+use Rattle.circle_field.specs.Circle.{at, plus}
+use Rattle.circle_field.specs.CircleGroup.{plus-on_circle, same-on_circle}
+use Rattle.circle_plane.specs.Point.{coordinates}
+use Rattle.circle_plane.proofs.point.PointAdd.add.Goals as goal
+
+pub invariant_of-result : goal.invariant_of-result
+invariant_of-result g c =
+    let laws = g.F.Operations.laws.ring in
+    let p = coordinates c.args.self in
+    let q = coordinates c.args.rhs in
+    let e : at c.sub.result c.add.result ≡ plus g.F.Operations.ops p q =
+    grind (arith, common_steps, g.met.F.Field.add_law, g.met.F.Field.sub_law, g.met.F.Field.mul_law) in
+    record { on_circle = same-on_circle laws _ e (plus-on_circle laws p q c.args.self.on_circle c.args.rhs.on_circle) }
