@@ -1,2 +1,5 @@
-pub mod Rows
+pub mod Arguments
+pub mod Failure
 pub mod Input
+pub mod Json
+pub mod Rows

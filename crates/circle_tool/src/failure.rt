@@ -1,4 +1,7 @@
 //! The answers that a program gives in place of a result.
+ghost use Rattle.std.specs.Prelude.{◌≡◌};
+ghost use Rattle.circle_tool.specs.Failure.{status_of};
+
 use crate::json::JsonError;
 use crate::values::Refusal;
 use std::alloc::AllocError;
@@ -30,7 +33,9 @@ pub enum Failure {
 impl Failure {
     /// The status of a program that ends with this answer: 2 where the input can't be read, 1 where
     /// it is refused.
-    pub fn status(&self) -> u8 {
+    pub fn status(&self) -> u8
+        ensures { result ≡ status_of self.now }
+    {
         match self {
             Failure::Usage | Failure::Input | Failure::Json | Failure::Unfit(_) => 2,
             Failure::Refused(_) | Failure::Memory => 1,

@@ -1,4 +1,9 @@
 //! Reading JSON: its text, and the forms that the commands' inputs are made of.
+ghost use Rattle.std.specs.Prelude.{◌≡◌, Ok, Err, MatchResult};
+ghost use Rattle.circle_field.specs.Mersenne31.{residue};
+ghost use Rattle.serde_json.specs.View.{view};
+ghost use Rattle.circle_tool.specs.Json.{count_of, residue_of};
+
 use crate::failure::Failure;
 use circle_field::Mersenne31;
 use serde_json::error::Category;
@@ -89,7 +94,9 @@ pub fn items(value: &Value) -> Result<&[Value], JsonError> {
 ///
 /// Fails as `WrongKind` where the value is no number, or one with a point or an exponent, and as
 /// `OutOfRange` where it is negative.
-pub fn count(value: &Value) -> Result<u64, JsonError> {
+pub fn count(value: &Value) -> Result<u64, JsonError>
+    ensures { result ≡ count_of (view value.now) }
+{
     let number = value.as_number().ok_or(JsonError::WrongKind)?;
     if number.is_f64() {
         return Err(JsonError::WrongKind);
@@ -101,9 +108,13 @@ pub fn count(value: &Value) -> Result<u64, JsonError> {
 ///
 /// Fails as `WrongKind` where the value is no number, or one with a point or an exponent, and as
 /// `OutOfRange` where it is negative or not below the order.
-pub fn element(value: &Value) -> Result<Mersenne31, JsonError> {
-    let value = u32::try_from(count(value)?).map_err(|_| JsonError::OutOfRange)?;
-    Mersenne31::try_new(value).ok_or(JsonError::OutOfRange)
+pub fn element(value: &Value) -> Result<Mersenne31, JsonError>
+    ensures { MatchResult result
+        (λ element. residue_of (view value.now) ≡ Ok (residue element))
+        (λ error. residue_of (view value.now) ≡ Err error) }
+{
+    let residue = u32::try_from(count(value)?).map_err(|_| JsonError::OutOfRange)?;
+    Mersenne31::try_new(residue).ok_or(JsonError::OutOfRange)
 }
 
 /// A list of elements.

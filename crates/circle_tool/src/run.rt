@@ -1,4 +1,8 @@
 //! The program as a function of its arguments, its input and its output.
+ghost use Rattle.std.specs.Prelude.{◌≡◌, ◌≤◌, ◌⊎◌, ◌↔◌, IsSome};
+ghost use Rattle.std.specs.Io.KnownBytes.{Appends};
+ghost use Rattle.circle_tool.specs.Arguments.{NamesCommand};
+
 use crate::failure::Failure;
 use crate::{json, values};
 use std::alloc::Global;
@@ -16,7 +20,9 @@ enum Command {
 
 impl Command {
     // The command that the arguments name, if they are one name of a command.
-    fn from_args(args: &[String]) -> Option<Command> {
+    fn from_args(args: &[String]) -> Option<Command>
+        ensures { IsSome result ↔ NamesCommand args.now }
+    {
         let [name] = args else {
             return None;
         };
@@ -39,7 +45,9 @@ pub fn run<R: Read, W: Write>(alloc: Global, args: &[String], input: &mut R, out
 }
 
 /// Writes the answer as one line, and gives the status that the program ends with.
-pub fn finish<W: Write>(answer: Result<String, Failure>, output: &mut W) -> u8 {
+pub fn finish<W: Write>(answer: Result<String, Failure>, output: &mut W) -> u8
+    ensures { result ≤ 2 }
+{
     match answer {
         Ok(text) => write_line(output, text.as_bytes(), 0),
         Err(failure) => {
@@ -50,15 +58,20 @@ pub fn finish<W: Write>(answer: Result<String, Failure>, output: &mut W) -> u8 {
 }
 
 // Writes the whole line at once; the status is 1 where that fails.
-fn write_line<W: Write>(output: &mut W, line: &[u8], status: u8) -> u8 {
-    match output.write_all(line).and_then(|()| output.flush()) {
-        Ok(()) => status,
-        Err(_) => 1,
+fn write_line<W: Write>(output: &mut W, line: &[u8], status: u8) -> u8
+    ensures status { (result ≡ status) ⊎ (result ≡ 1) }
+    ensures written { ¬ (result ≡ 1) → Appends (W.contents output.old) (W.contents output.new) line.now }
+{
+    if output.write_all(line).is_err() || output.flush().is_err() {
+        return 1;
     }
+    status
 }
 
 // The line of the command's result.
-fn answer<R: Read>(alloc: Global, args: &[String], input: &mut R) -> Result<String, Failure> {
+fn answer<R: Read>(alloc: Global, args: &[String], input: &mut R) -> Result<String, Failure>
+    ensures { ¬ NamesCommand args.now → input.new ≡ input.old }
+{
     let command = Command::from_args(args).ok_or(Failure::Usage)?;
     let value = json::read(alloc, input)?;
     match command {

@@ -421,31 +421,34 @@ fn ranges(rt: HostRuntime) -> Result<(), Fail> {
     Ok(())
 }
 
-// The arguments are judged before anything is read.
+// Runs the program with these arguments, on a reader that fails and on one that it must leave as it is.
+fn expect_usage(rt: &impl Abort, alloc: Global, words: &[&str]) -> Result<(), AllocError> {
+    let args = arguments(alloc, words)?;
+    let mut output = Vec::new(alloc);
+    let mut unreadable = FailingReader(b"");
+    let status = run(alloc, &args, &mut unreadable, &mut output);
+    assert_eq!(rt; status, 2, "of {words:?}");
+    assert_eq!(rt;
+        output.as_slice(),
+        b"{\"unreadable\":\"usage\"}\n".as_slice()
+    );
+    let mut input = FIRST.as_bytes();
+    let status = run(alloc, &args, &mut input, &mut output);
+    assert_eq!(rt; status, 2, "of {words:?}");
+    assert_eq!(rt; input.len(), FIRST.len(), "of {words:?}");
+    Ok(())
+}
+
 #[test]
 fn usage(rt: HostRuntime) -> Result<(), Fail> {
     let alloc = rt.alloc();
-    for words in [
-        [].as_slice(),
-        ["values", "values"].as_slice(),
-        ["evaluate"].as_slice(),
-        ["Values"].as_slice(),
-        [""].as_slice(),
-        ["prove"].as_slice(),
-    ] {
-        let args = arguments(alloc, words)?;
-        let mut output = Vec::new(alloc);
-        let status = run(alloc, &args, &mut FailingReader(b""), &mut output);
-        assert_eq!(rt; status, 2, "of {words:?}");
-        assert_eq!(rt;
-            output.as_slice(),
-            b"{\"unreadable\":\"usage\"}\n".as_slice()
-        );
-        let mut input = FIRST.as_bytes();
-        let status = run(alloc, &args, &mut input, &mut output);
-        assert_eq!(rt; status, 2, "of {words:?}");
-        assert_eq!(rt; input.len(), FIRST.len(), "of {words:?}");
-    }
+    expect_usage(&rt, alloc, &[])?;
+    expect_usage(&rt, alloc, &["values", "values"])?;
+    expect_usage(&rt, alloc, &["values", ""])?;
+    expect_usage(&rt, alloc, &["evaluate"])?;
+    expect_usage(&rt, alloc, &["Values"])?;
+    expect_usage(&rt, alloc, &[""])?;
+    expect_usage(&rt, alloc, &["prove"])?;
     Ok(())
 }
 
