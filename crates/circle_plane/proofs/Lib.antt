@@ -1,3 +1,4 @@
+pub mod Bases
 pub mod Multiples
 pub mod Orders
 pub mod Points
