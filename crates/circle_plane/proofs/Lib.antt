@@ -3,3 +3,4 @@ pub mod Multiples
 pub mod Orders
 pub mod Points
 pub mod Reversal
+pub mod Sums
