@@ -73,15 +73,15 @@ module _ {F : Type 0} {k : FieldOps F} (laws : RingLaws k) where
       ∙ ap (λ q. k.mul q y) (x_basis-next m (j / 2) p.x low)
       ∙ laws.mul_assoc e u y ∙ ap (k.mul e) (laws.mul_comm u y) ∙ sym (laws.mul_assoc e y u)
 
--- the indices from a on, shifted
-shifted : {X : Type 0} (f h : ℕ → X) (a b n : ℕ) → ((j : ℕ) → j < n → f (a + j) ≡ h (b + j)) → map f (range_with_len a n) ≡ map h (range_with_len b n)
+-- lists by index that agree at each index
+pub shifted : {X : Type 0} (f h : ℕ → X) (a b n : ℕ) → ((j : ℕ) → j < n → f (a + j) ≡ h (b + j)) → map f (range_with_len a n) ≡ map h (range_with_len b n)
 shifted f h a b zero e = refl
 shifted f h a b (suc n) e =
     let za : a + 0 ≡ a = omega arith in
     let zb : b + 0 ≡ b = omega arith in
     ap (λ x. x ∷ map f (range_with_len (a + 1) n)) (ap f (sym za) ∙ e 0 (omega arith) ∙ ap h zb)
     ∙ ap (λ rest. h b ∷ rest) (shifted f h (a + 1) (b + 1) n (λ j lt.
-        ap f (let s : a + 1 + j ≡ a + suc j = omega arith in s) ∙ e (suc j) (omega arith) ∙ ap h (let s : b + suc j ≡ b + 1 + j = omega arith in s)))
+    ap f (let s : a + 1 + j ≡ a + suc j = omega arith in s) ∙ e (suc j) (omega arith) ∙ ap h (let s : b + suc j ≡ b + 1 + j = omega arith in s)))
 
 range-append : {X : Type 0} (f : ℕ → X) (a m n : ℕ) → map f (range_with_len a (m + n)) ≡ map f (range_with_len a m) ++ map f (range_with_len (a + m) n)
 range-append f a zero n =
@@ -108,6 +108,6 @@ basis_values-next {k = k} laws m p =
     ap (λ n. map f (range_with_len 0 n)) e ∙ range-append f 0 half half
     ∙ ap (λ rest. map f (range_with_len 0 half) ++ rest)
     (shifted f (λ j. k.mul (circle_basis k j p) (iterated_x k m p.x)) (0 + half) 0 half (λ j h.
-      ap f (let s : 0 + half + j ≡ half + j = omega arith in s) ∙ circle_basis-next laws m j p h
-      ∙ ap (λ i. k.mul (circle_basis k i p) (iterated_x k m p.x)) (let s : j ≡ 0 + j = omega arith in s))
+    ap f (let s : 0 + half + j ≡ half + j = omega arith in s) ∙ circle_basis-next laws m j p h
+    ∙ ap (λ i. k.mul (circle_basis k i p) (iterated_x k m p.x)) (let s : j ≡ 0 + j = omega arith in s))
     ∙ sym (map-scaled f (λ b. k.mul b (iterated_x k m p.x)) 0 half))

@@ -62,9 +62,9 @@ returns g c =
     let weight = λ (i : ℕ). slice_index_or c.args.factors.now i k.zero in
     let sum_of = λ (j : ℕ). weighted_sum k weight 0 (column k.zero (rows m) j) in
     fill_by_all sum_of c.loop-r.sums.items (width_of m) k.zero c.loop-r.invariant.long (λ j h.
-        let c_j = column k.zero (rows m) j in
-        let long : length c_j ≡ length (rows m) = length-map (rows m) (λ row. slice_index_or row j k.zero) in
-        let all : c.loop-r.r ≡ length c_j = omega (arith, long, length-rows m, c.height-r-end.ensures) in
-        c.loop-r.invariant.summed j h
-        ∙ ap (λ n. weighted_sum k weight 0 (take n c_j)) all
-        ∙ ap (weighted_sum k weight 0) (take-length c_j))
+    let c_j = column k.zero (rows m) j in
+    let long : length c_j ≡ length (rows m) = length-map (rows m) (λ row. slice_index_or row j k.zero) in
+    let all : c.loop-r.r ≡ length c_j = omega (arith, long, length-rows m, c.height-r-end.ensures) in
+    c.loop-r.invariant.summed j h
+    ∙ ap (λ n. weighted_sum k weight 0 (take n c_j)) all
+    ∙ ap (weighted_sum k weight 0) (take-length c_j))
