@@ -32,4 +32,4 @@ module _ {F : Type 0} (k : FieldOps F) (gen : ℕ → Coordinates F) (n : ℕ) (
       length-map points at_point ∙ length-natural_from k (2 ^ (n - 1)) (gen (n - 1)) s 0 ∙ two_halves n h in
       other_order-indexed n row_at_place
       ∙ sym (fill_by_all (λ i. row_at_place (cfft_index n i)) (map at_point points) (2 ^ n) (at_point (origin k)) long
-        (λ i lt. get_or-map at_point points i (origin k) ∙ ap (λ j. at_point (slice_index_or points j (origin k))) (sym (cfft_index-own_inverse n i lt))))
+      (λ i lt. get_or-map at_point points i (origin k) ∙ ap (λ j. at_point (slice_index_or points j (origin k))) (sym (cfft_index-own_inverse n i lt))))

@@ -64,7 +64,7 @@ combination-basis k rows width n p h =
     let basis = λ (i : ℕ). circle_basis k i p in
     let weight = λ (i : ℕ). slice_index_or (basis_values k n p) i k.zero in
     shifted (λ j. weighted_sum k weight 0 (column k.zero rows j)) (λ j. value k (column k.zero rows j) p) 0 0 width (λ j _.
-        let c = column k.zero rows (0 + j) in
-        let long : length c ≡ length rows = length-map rows (λ row. slice_index_or row (0 + j) k.zero) in
-        weighted_sum-same k weight basis 0 c (λ i lt.
-            get_or-map-range_with_len basis 0 (2 ^ n) (0 + i) (0 + i) k.zero (omega (arith, long)) (omega arith)))
+    let c = column k.zero rows (0 + j) in
+    let long : length c ≡ length rows = length-map rows (λ row. slice_index_or row (0 + j) k.zero) in
+    weighted_sum-same k weight basis 0 c (λ i lt.
+    get_or-map-range_with_len basis 0 (2 ^ n) (0 + i) (0 + i) k.zero (omega (arith, long)) (omega arith)))

@@ -59,7 +59,7 @@ new-requires-clause-whole g c =
     let values = c.loop-i.values in
     let end : c.loop-i.i ≡ 2 ^ n = omega (arith, c.size-i-end.ensures) in
     let made : values.items ≡ flat_map row (range_with_len 0 (2 ^ n)) = c.loop-i.invariant ∙ ap (λ m. flat_map row (range_with_len 0 m)) end in
-    let wide = length-row_at_place k gen n s coeffs width in
+    let wide = λ (i : ℕ) (lt : i < 0 + 2 ^ n). length-row_at_place k gen n s coeffs width i in
     let positive : 1 ≤ width = c.args.coeffs.width_positive in
     ap (λ w. vec_len values % w) c.width-width.ensures ∙ whole_rows row values.items values.len (2 ^ n) width made values.ok.0 wide positive
 
@@ -75,7 +75,7 @@ invariant_of-result g c =
     let values = c.loop-i.values in
     let end : c.loop-i.i ≡ 2 ^ n = omega (arith, c.size-i-end.ensures) in
     let made : values.items ≡ flat_map row (range_with_len 0 (2 ^ n)) = c.loop-i.invariant ∙ ap (λ m. flat_map row (range_with_len 0 m)) end in
-    let wide = length-row_at_place k gen n s coeffs width in
+    let wide = λ (i : ℕ) (lt : i < 0 + 2 ^ n). length-row_at_place k gen n s coeffs width i in
     let positive : 1 ≤ width = c.args.coeffs.width_positive in
     let height : height_of c.new.result ≡ 2 ^ n =
     sym (length-rows c.new.result) ∙ ap length c.new.ensures.content
@@ -99,10 +99,10 @@ returns-clause-values g c =
     let values = c.loop-i.values in
     let end : c.loop-i.i ≡ 2 ^ n = omega (arith, c.size-i-end.ensures) in
     let made : values.items ≡ flat_map row (range_with_len 0 (2 ^ n)) = c.loop-i.invariant ∙ ap (λ m. flat_map row (range_with_len 0 m)) end in
-    let wide = length-row_at_place k gen n s coeffs width in
+    let wide = λ (i : ℕ) (lt : i < 0 + 2 ^ n). length-row_at_place k gen n s coeffs width i in
     let positive : 1 ≤ width = c.args.coeffs.width_positive in
     ap (other_order n)
     (c.new.ensures.content
-      ∙ ap (λ w. rows_from w (vec_len values / w) values.items) c.width-width.ensures
-      ∙ stored_rows row values.items values.len (2 ^ n) width made values.ok.0 wide positive)
+    ∙ ap (λ w. rows_from w (vec_len values / w) values.items) c.width-width.ensures
+    ∙ stored_rows row values.items values.len (2 ^ n) width made values.ok.0 wide positive)
     ∙ other_order-rows k gen n s coeffs width c.requires.positive
