@@ -89,3 +89,8 @@ module _ {F : Type 0} {k : FieldOps F} (laws : RingLaws k) where
       same_coordinates
       (ring laws env (sum (prod a c) (prod b d)) (sum_x a b c (minus d)) refl)
       (ring laws env (sum (prod b c) (minus (prod a d))) (sum_y a b c (minus d)) refl)
+
+  -- a difference and what was taken off
+  pub difference-plus : (p q : Coordinates F) → IsOnCircle k q → plus k (plus k p (opposite k q)) q ≡ p
+  difference-plus p q h =
+      plus_assoc p (opposite k q) q ∙ ap (plus k p) (plus_comm (opposite k q) q ∙ plus-opposite q h) ∙ plus-origin p

@@ -1,4 +1,10 @@
+pub mod Bases
+pub mod FlatRows
 pub mod Multiples
 pub mod Orders
+pub mod OtherOrder
+pub mod Places
 pub mod Points
+pub mod Powers
 pub mod Reversal
+pub mod Sums

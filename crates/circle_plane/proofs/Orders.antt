@@ -85,3 +85,11 @@ module _ {F : Type 0} (k : FieldOps F) where
       ap (slice_get (natural_from k (suc count) g s a)) (e ∙ e2)
       ∙ natural_from-odd count j g s (suc a) (suc (j + j)) (omega arith) refl
       ∙ ap (λ b. Some (plus k (opposite k s) (times k (suc b) g))) z
+
+  pub length-walk : (count : ℕ) (p g : Coordinates F) → length (walk k count p g) ≡ count
+  length-walk zero p g = refl
+  length-walk (suc count) p g = ap suc (length-walk count (plus k p g) g)
+
+  pub length-alternating : (count : ℕ) (p q g : Coordinates F) → length (alternating k count p q g) ≡ count
+  length-alternating zero p q g = refl
+  length-alternating (suc count) p q g = ap suc (length-alternating count q (plus k p g) g)

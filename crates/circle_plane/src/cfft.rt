@@ -77,13 +77,11 @@ impl<F: ComplexExtendable> CircleEvaluations<F, RowMajorMatrix<F>> {
             (natural_order F.ops F.generators (log_size domain) (shift_of domain))) }
     {
         let width = coeffs.width();
-        let log_height = coeffs.height().ilog2() as usize;
         let len = domain.size().checked_mul(width).ok_or(AllocError)?;
         let mut values = Vec::with_capacity(alloc, len)?;
         for i in 0..domain.size() {
             let point = domain.nth_point(cfft_permute_index(i, domain.log_n()));
-            let basis = circle_basis(alloc, point, log_height.max(1))?;
-            let row = combine_rows(alloc, &coeffs, &basis)?;
+            let row = row_of_values(alloc, &coeffs, point)?;
             values.extend_from_slice(&row)?;
         }
         Ok(CircleEvaluations {
@@ -116,6 +114,21 @@ pub fn circle_basis<F: Field>(
         factor = factor.square().double() - F::ONE;
     }
     Ok(basis)
+}
+
+// The values at `point` of the polynomials whose coefficients are the columns of `coeffs`.
+fn row_of_values<F: Field>(
+    alloc: Global,
+    coeffs: &RowMajorMatrix<F>,
+    point: Point<F>,
+) -> Result<Vec<F>, AllocError>
+    requires power { IsPowerOfTwo (height_of coeffs.now) }
+    requires small { height_of coeffs.now ≤ 2 ^ 62 }
+    ensures { IfOk result (λ row. row.items ≡ values_at F.ops (rows coeffs.now) (width_of coeffs.now) (coordinates point)) }
+{
+    let log_height = coeffs.height().ilog2() as usize;
+    let basis = circle_basis(alloc, point, log_height.max(1))?;
+    combine_rows(alloc, coeffs, &basis)
 }
 
 // Appends to the entries each of them times `factor`.

@@ -1,5 +1,5 @@
 //! Domains of the circle transform: twin cosets of a cyclic group of points.
-ghost use Rattle.std.specs.Prelude.{◌≡◌, ◌↔◌, ◌≤◌, ◌<◌, ◌+◌, ◌-◌, ◌^◌, IsTrue, Some, Ok, slice_get};
+ghost use Rattle.std.specs.Prelude.{◌≡◌, ◌↔◌, ◌≤◌, ◌<◌, ◌+◌, ◌-◌, ◌^◌, IsTrue, Some, Ok, length, slice_get};
 ghost use Rattle.std.specs.Iterator.{YieldsFirstBy, item_count};
 ghost use Rattle.circle_field.specs.Circle.{opposite};
 ghost use Rattle.circle_plane.specs.Order.{IsGenuine, natural_order, half};
@@ -113,7 +113,8 @@ impl<F: ComplexExtendable> CircleDomain<F> {
     pub fn points(&self) -> CirclePoints<F>
         requires positive { 1 ≤ log_size self.now }
         requires in_group { log_size self.now ≤ F.CIRCLE_TWO_ADICITY }
-        ensures { points_left F.ops result ≡ natural_order F.ops F.generators (log_size self.now) (shift_of self.now) }
+        ensures order { points_left F.ops result ≡ natural_order F.ops F.generators (log_size self.now) (shift_of self.now) }
+        ensures count { length (points_left F.ops result) ≡ 2 ^ log_size self.now }
     {
         let step = self.subgroup_generator();
         CirclePoints {

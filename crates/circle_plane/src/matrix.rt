@@ -158,3 +158,27 @@ impl<T, Map: RowIndexMap, M: Matrix<T>> Matrix<T> for RowIndexMappedView<Map, M>
         self.inner.row(self.index_map.map_row_index(r))
     }
 }
+
+impl<Map: RowIndexMap, M: Shape> RowIndexMappedView<Map, M> {
+    ghost use Rattle.circle_plane.specs.RowMajorMatrix.{rows, width_of};
+
+    /// A stored copy of the rows as they are seen. Fails where memory is refused.
+    pub fn to_row_major_matrix<T: Copy>(
+        &self,
+        alloc: Global,
+    ) -> Result<RowMajorMatrix<T>, AllocError>
+    where
+        M: Matrix<T>,
+        ensures width { IfOk result (λ m. width_of m ≡ M.width self.now.inner) }
+        ensures rows { IfOk result (λ m. rows m ≡ ⟦<RowIndexMappedView<Map, M> as Matrix<T>>⟧.rows self.now) }
+    {
+        let width = self.width();
+        let height = self.height();
+        let len = height.checked_mul(width).ok_or(AllocError)?;
+        let mut values = Vec::with_capacity(alloc, len)?;
+        for r in 0..height {
+            values.extend_from_slice(self.row(r))?;
+        }
+        Ok(RowMajorMatrix::new(values, width))
+    }
+}

@@ -1,6 +1,6 @@
 //! Points of the unit circle and their group (Circle STARKs, IACR ePrint 2024/278, section 3).
 ghost use Rattle.std.specs.Prelude.{◌≡◌, ◌≤◌, ◌^◌, ◌-◌, Ok};
-ghost use Rattle.circle_field.specs.Circle.{IsOnCircle, at, origin, plus, opposite, times};
+ghost use Rattle.circle_field.specs.Circle.{Coordinates, IsOnCircle, at, origin, plus, opposite, times};
 
 use circle_field::{ComplexExtendable, Field, Operations};
 use std::alloc::AllocError;
@@ -150,7 +150,10 @@ impl<F: Field> Neg for Point<F> {
 
     ghost neg_gives = { λ p r. coordinates r ≡ opposite F.ops (coordinates p) };
 
-    fn neg(self) -> Point<F> {
+    fn neg(self) -> Point<F>
+        ensures opposite { coordinates result ≡ opposite F.ops (coordinates self) }
+        ensures cancels { plus F.ops (coordinates self) (coordinates result) ≡ origin F.ops }
+    {
         Point {
             x: self.x,
             y: -self.y,
@@ -166,7 +169,13 @@ impl<F: Field> Add<Point<F>> for Point<F> {
 
     ghost add_gives = { λ p q r. coordinates r ≡ plus F.ops (coordinates p) (coordinates q) };
 
-    fn add(self, rhs: Point<F>) -> Point<F> {
+    fn add(self, rhs: Point<F>) -> Point<F>
+        ensures sum { coordinates result ≡ plus F.ops (coordinates self) (coordinates rhs) }
+        ensures commutes { coordinates result ≡ plus F.ops (coordinates rhs) (coordinates self) }
+        ensures associates { (r : Coordinates F) →
+            plus F.ops (coordinates result) r ≡ plus F.ops (coordinates self) (plus F.ops (coordinates rhs) r) }
+        ensures neutral { plus F.ops (coordinates self) (origin F.ops) ≡ coordinates self }
+    {
         Point {
             x: self.x * rhs.x - self.y * rhs.y,
             y: self.x * rhs.y + self.y * rhs.x,
@@ -182,7 +191,10 @@ impl<F: Field> Sub<Point<F>> for Point<F> {
 
     ghost sub_gives = { λ p q r. coordinates r ≡ plus F.ops (coordinates p) (opposite F.ops (coordinates q)) };
 
-    fn sub(self, rhs: Point<F>) -> Point<F> {
+    fn sub(self, rhs: Point<F>) -> Point<F>
+        ensures difference { coordinates result ≡ plus F.ops (coordinates self) (opposite F.ops (coordinates rhs)) }
+        ensures undoes { plus F.ops (coordinates result) (coordinates rhs) ≡ coordinates self }
+    {
         Point {
             x: self.x * rhs.x + self.y * rhs.y,
             y: self.y * rhs.x - self.x * rhs.y,

@@ -1,13 +1,12 @@
-use Rattle.std.proofs.Common.{◌≡◌, ℕ, ◌<◌, ◌≤◌, ◌^◌, ◌+◌, ◌*◌, ◌++◌, List, length, map, IfOk, OnOk, slice_index_or, ◌-◌}
-use Rattle.std.specs.List.{range_with_len}
-use Rattle.circle_plane.specs.Basis.{basis_values, values_at, combination}
-use Rattle.circle_plane.specs.Matrix.{IsPowerOfTwo}
-use Rattle.circle_plane.specs.Order.{natural_order}
-use Rattle.circle_plane.specs.Point.{coordinates}
-use Rattle.circle_plane.specs.Domain.{log_size, shift_of}
-use Rattle.circle_plane.specs.RowMajorMatrix.{rows, width_of, height_of}
-use Rattle.circle_plane.specs.Ordering.{other_order}
+use Rattle.std.proofs.Common.{◌≡◌, ℕ, ◌<◌, ◌≤◌}
+use Rattle.std.specs.Prelude.{slice_index_or}
 use Rattle.circle_plane.proofs.cfft.add_scaled.Given as goal
 
 abbrev pub invariant-loop-j : goal.invariant-loop-j
-invariant-loop-j g l = ?
+invariant-loop-j g l =
+    let k = g.F.Operations.ops in
+    record {
+      added : (i : ℕ) (d : g.row.F.Denot) → i < l.j →
+          slice_index_or l.sums i d ≡ k.add (slice_index_or l.fn.sums i d) (k.mul (slice_index_or l.entries i d) l.factor);
+      kept : (i : ℕ) (d : g.row.F.Denot) → l.j ≤ i → slice_index_or l.sums i d ≡ slice_index_or l.fn.sums i d;
+    }

@@ -1,13 +1,9 @@
-use Rattle.std.proofs.Common.{◌≡◌, ℕ, ◌<◌, ◌≤◌, ◌^◌, ◌+◌, ◌*◌, ◌++◌, List, length, map, IfOk, OnOk, slice_index_or, ◌-◌}
-use Rattle.std.specs.List.{range_with_len}
-use Rattle.circle_plane.specs.Basis.{basis_values, values_at, combination}
-use Rattle.circle_plane.specs.Matrix.{IsPowerOfTwo}
-use Rattle.circle_plane.specs.Order.{natural_order}
-use Rattle.circle_plane.specs.Point.{coordinates}
-use Rattle.circle_plane.specs.Domain.{log_size, shift_of}
-use Rattle.circle_plane.specs.RowMajorMatrix.{rows, width_of, height_of}
-use Rattle.circle_plane.specs.Ordering.{other_order}
+use Rattle.std.proofs.Common.{◌≡◌, ◌++◌, ◌≤◌, map, take}
+use Rattle.std.specs.Prelude.{vec_len}
 use Rattle.circle_plane.proofs.cfft.append_scaled.Given as goal
 
 abbrev pub invariant-loop-i : goal.invariant-loop-i
-invariant-loop-i g l = ?
+invariant-loop-i g l = record {
+  appended : l.entries.items ≡ l.fn.entries.items ++ map (λ b. g.F.Operations.ops.mul b l.factor) (take l.i l.fn.entries.items);
+  long : vec_len l.fn.entries ≤ vec_len l.entries;
+}

@@ -1,13 +1,13 @@
-use Rattle.std.proofs.Common.{◌≡◌, ℕ, ◌<◌, ◌≤◌, ◌^◌, ◌+◌, ◌*◌, ◌++◌, List, length, map, IfOk, OnOk, slice_index_or, ◌-◌}
-use Rattle.std.specs.List.{range_with_len}
-use Rattle.circle_plane.specs.Basis.{basis_values, values_at, combination}
-use Rattle.circle_plane.specs.Matrix.{IsPowerOfTwo}
-use Rattle.circle_plane.specs.Order.{natural_order}
+use Rattle.std.proofs.Common.{◌≡◌, ◌-◌}
+use Rattle.circle_plane.specs.Basis.{iterated_x, basis_values}
 use Rattle.circle_plane.specs.Point.{coordinates}
-use Rattle.circle_plane.specs.Domain.{log_size, shift_of}
-use Rattle.circle_plane.specs.RowMajorMatrix.{rows, width_of, height_of}
-use Rattle.circle_plane.specs.Ordering.{other_order}
 use Rattle.circle_plane.proofs.cfft.circle_basis.Given as goal
 
 abbrev pub invariant-loop : goal.invariant-loop
-invariant-loop g l = ?
+invariant-loop g l =
+    let k = g.F.Operations.ops in
+    let p = coordinates l.fn.point in
+    record {
+      made : l.basis.items ≡ basis_values k l.counter p;
+      next : l.factor ≡ iterated_x k (l.counter - 1) p.x;
+    }

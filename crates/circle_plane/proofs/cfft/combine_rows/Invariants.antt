@@ -1,13 +1,16 @@
-use Rattle.std.proofs.Common.{◌≡◌, ℕ, ◌<◌, ◌≤◌, ◌^◌, ◌+◌, ◌*◌, ◌++◌, List, length, map, IfOk, OnOk, slice_index_or, ◌-◌}
-use Rattle.std.specs.List.{range_with_len}
-use Rattle.circle_plane.specs.Basis.{basis_values, values_at, combination}
-use Rattle.circle_plane.specs.Matrix.{IsPowerOfTwo}
-use Rattle.circle_plane.specs.Order.{natural_order}
-use Rattle.circle_plane.specs.Point.{coordinates}
-use Rattle.circle_plane.specs.Domain.{log_size, shift_of}
-use Rattle.circle_plane.specs.RowMajorMatrix.{rows, width_of, height_of}
-use Rattle.circle_plane.specs.Ordering.{other_order}
+use Rattle.std.proofs.Common.{◌≡◌, ℕ, ◌<◌, length, take}
+use Rattle.std.specs.Prelude.{slice_index_or}
+use Rattle.circle_plane.specs.Basis.{weighted_sum}
+use Rattle.circle_plane.specs.Matrix.{column}
+use Rattle.circle_plane.specs.RowMajorMatrix.{rows, width_of}
 use Rattle.circle_plane.proofs.cfft.combine_rows.Given as goal
 
 abbrev pub invariant-loop-r : goal.invariant-loop-r
-invariant-loop-r g l = ?
+invariant-loop-r g l =
+    let k = g.F.Operations.ops in
+    record {
+      long : length l.sums.items ≡ width_of l.matrix;
+      summed : (j : ℕ) → j < width_of l.matrix →
+          slice_index_or l.sums.items j k.zero
+          ≡ weighted_sum k (λ i. slice_index_or l.factors i k.zero) 0 (take l.r (column k.zero (rows l.matrix) j));
+    }

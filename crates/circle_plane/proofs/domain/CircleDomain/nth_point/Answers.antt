@@ -18,7 +18,7 @@ returns-then-index-eq0 g c =
     ∙ ap (λ m. Some (plus k s (times k m step))) (omega arith)
     ∙ ap (λ (q : Coordinates g.row.F.Denot). Some (plus k s (times k turn q))) (sym c.subgroup_generator.ensures)
     ∙ ap (λ (q : Coordinates g.row.F.Denot). Some (plus k s q)) (sym c.mul.ensures)
-    ∙ ap (λ (q : Coordinates g.row.F.Denot). Some q) (sym c.add.ensures)
+    ∙ ap (λ (q : Coordinates g.row.F.Denot). Some q) (sym c.add.ensures.sum)
 
 pub returns-else-index-eq0 : goal.returns-else-index-eq0
 returns-else-index-eq0 g c =
@@ -32,5 +32,5 @@ returns-else-index-eq0 g c =
     ∙ ap (λ m. Some (plus k (opposite k s) (times k m step))) (let e : suc (0 + turn) ≡ turn + 1 = omega arith in e)
     ∙ ap (λ (q : Coordinates g.row.F.Denot). Some (plus k (opposite k s) (times k (turn + 1) q))) (sym c.subgroup_generator-else-index-eq0.ensures)
     ∙ ap (λ (q : Coordinates g.row.F.Denot). Some (plus k (opposite k s) q)) (sym c.mul-else-index-eq0.ensures)
-    ∙ ap (λ (q : Coordinates g.row.F.Denot). Some (plus k q (coordinates c.mul-else-index-eq0.result))) (sym c.neg.ensures)
-    ∙ ap (λ (q : Coordinates g.row.F.Denot). Some q) (sym c.add-else-index-eq0.ensures)
+    ∙ ap (λ (q : Coordinates g.row.F.Denot). Some (plus k q (coordinates c.mul-else-index-eq0.result))) (sym c.neg.ensures.opposite)
+    ∙ ap (λ (q : Coordinates g.row.F.Denot). Some q) (sym c.add-else-index-eq0.ensures.sum)

@@ -1,7 +1,7 @@
-use Rattle.std.proofs.Common.{◌≡◌, arith}
+use Rattle.std.proofs.Common.{◌≡◌, ◌∙◌, ap, arith}
 use Rattle.std.proofs.lemmas.Grind.{common_steps}
-use Rattle.circle_field.specs.Circle.{at, plus}
-use Rattle.circle_field.specs.CircleGroup.{plus-on_circle, same-on_circle}
+use Rattle.circle_field.specs.Circle.{Coordinates, at, plus}
+use Rattle.circle_field.specs.CircleGroup.{plus-on_circle, same-on_circle, plus_assoc, plus-origin}
 use Rattle.circle_plane.specs.Point.{coordinates}
 use Rattle.circle_plane.proofs.point.PointAdd.add.Goals as goal
 
@@ -13,3 +13,15 @@ invariant_of-result g c =
     let e : at c.sub.result c.add.result ≡ plus g.F.Operations.ops p q =
     grind (arith, common_steps, g.met.F.Field.add_law, g.met.F.Field.sub_law, g.met.F.Field.mul_law) in
     record { on_circle = same-on_circle laws _ e (plus-on_circle laws p q c.args.self.on_circle c.args.rhs.on_circle) }
+
+pub returns-clause-associates : goal.returns-clause-associates
+returns-clause-associates g c =
+    let k = g.F.Operations.ops in
+    let p = coordinates c.args.self in
+    let q = coordinates c.args.rhs in
+    let e : at c.sub.result c.add.result ≡ plus k p q =
+    grind (arith, common_steps, g.met.F.Field.add_law, g.met.F.Field.sub_law, g.met.F.Field.mul_law) in
+    λ r. ap (λ (s : Coordinates g.row.F.Denot). plus k s r) e ∙ plus_assoc g.F.Operations.laws.ring p q r
+
+pub returns-clause-neutral : goal.returns-clause-neutral
+returns-clause-neutral g c = plus-origin g.F.Operations.laws.ring (coordinates c.args.self)
