@@ -1,0 +1,5 @@
+pub mod Arguments
+pub mod Failure
+pub mod Input
+pub mod Json
+pub mod Rows

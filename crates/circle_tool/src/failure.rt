@@ -1,0 +1,65 @@
+//! The answers that a program gives in place of a result.
+ghost use Rattle.std.specs.Prelude.{◌≡◌};
+ghost use Rattle.circle_tool.specs.Failure.{status_of};
+
+use crate::json::JsonError;
+use crate::values::Refusal;
+use std::alloc::AllocError;
+use thiserror::Error;
+
+/// Why there is no result. Its text is the JSON that the program answers.
+#[derive(Debug, Drop, Error)]
+pub enum Failure {
+    /// The arguments aren't one command.
+    #[error("{{\"unreadable\":\"usage\"}}")]
+    Usage,
+    /// Reading the input failed.
+    #[error("{{\"unreadable\":\"input\"}}")]
+    Input,
+    /// The input isn't JSON.
+    #[error("{{\"unreadable\":\"json\"}}")]
+    Json,
+    /// The JSON isn't an input of the command.
+    #[error("{{\"unreadable\":\"{0}\"}}")]
+    Unfit(JsonError),
+    /// The command refuses its input.
+    #[error("{{\"refused\":\"{0}\"}}")]
+    Refused(Refusal),
+    /// Memory was refused.
+    #[error("{{\"refused\":\"Memory\"}}")]
+    Memory,
+}
+
+impl Failure {
+    /// The status of a program that ends with this answer: 2 where the input can't be read, 1 where
+    /// it is refused.
+    pub fn status(&self) -> u8
+        ensures { result ≡ status_of self.now }
+    {
+        match self {
+            Failure::Usage | Failure::Input | Failure::Json | Failure::Unfit(_) => 2,
+            Failure::Refused(_) | Failure::Memory => 1,
+        }
+    }
+}
+
+impl From<JsonError> for Failure {
+    fn from(error: JsonError) -> Failure {
+        match error {
+            JsonError::Memory => Failure::Memory,
+            unfit => Failure::Unfit(unfit),
+        }
+    }
+}
+
+impl From<Refusal> for Failure {
+    fn from(refusal: Refusal) -> Failure {
+        Failure::Refused(refusal)
+    }
+}
+
+impl From<AllocError> for Failure {
+    fn from(_refused: AllocError) -> Failure {
+        Failure::Memory
+    }
+}
