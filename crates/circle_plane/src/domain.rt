@@ -82,7 +82,7 @@ impl<F: ComplexExtendable> CircleDomain<F> {
     pub fn is_genuine(&self) -> bool
         ensures { IsTrue result ↔ IsGenuine F.ops (log_size self.now) (shift_of self.now) }
     {
-        self.log_n >= 1 && self.shift.repeated_double(self.log_n) != Point::<F>::ZERO
+        1 <= self.log_n && self.shift.repeated_double(self.log_n) != Point::<F>::ZERO
     }
 
     /// Whether this is the standard domain of its size, so false where the group has none.
@@ -94,7 +94,8 @@ impl<F: ComplexExtendable> CircleDomain<F> {
         ensures { IsTrue result ↔ ((log_size self.now < F.CIRCLE_TWO_ADICITY)
             × (shift_of self.now ≡ F.generators (log_size self.now + 1))) }
     {
-        self.log_n < F::CIRCLE_TWO_ADICITY && self.shift == Point::generator(self.log_n + 1)
+        let next = self.log_n + 1;
+        next <= F::CIRCLE_TWO_ADICITY && self.shift == Point::generator(next)
     }
 
     /// The number of points, `2^log_n`.

@@ -117,11 +117,11 @@ impl<F: Field> Point<F> {
     pub fn v_n_prod(self, log_n: usize) -> F
         ensures { result ≡ vanishing_product F.ops (log_n - 1) (coordinates self) }
     {
-        let mut x = self.x;
+        let mut factor = self.x;
         let mut product = F::ONE;
         for _ in 1..log_n {
-            product = product * x;
-            x = x.square().double() - F::ONE;
+            product = product * factor;
+            factor = factor.square().double() - F::ONE;
         }
         product
     }
