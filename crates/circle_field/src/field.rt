@@ -1,5 +1,5 @@
 //! The trait of fields.
-ghost use Rattle.std.specs.Prelude.{◌≡◌, ◌↔◌, ◌^◌, IsTrue, true};
+ghost use Rattle.std.specs.Prelude.{◌≡◌, ◌↔◌, ◌^◌, IsTrue, IsNone, IfSome, true};
 ghost use Rattle.circle_field.specs.Field.{FieldOps, FieldLaws, of_nat, nth_power, two, sub};
 
 use std::fmt::Debug;
@@ -86,6 +86,11 @@ pub trait Field: Operations
     {
         *self * Self::TWO.exp_u64(exp)
     }
+
+    /// The inverse, which times the element is 1; `None` exactly at 0.
+    fn try_inverse(&self) -> Option<Self>
+        ensures none { IsNone result ↔ (self.now ≡ Self.ops.zero) }
+        ensures inverse { IfSome result (λ b. b ≡ Self.ops.inv self.now) };
 
     /// The sum of `int` ones.
     fn from_u64(int: u64) -> Self
