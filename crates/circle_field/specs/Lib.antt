@@ -3,6 +3,7 @@ pub mod Ring
 pub mod RingFacts
 pub mod RingSound
 pub mod RingCombine
+pub mod Extension
 pub mod Circle
 pub mod CircleGroup
 pub mod Residues

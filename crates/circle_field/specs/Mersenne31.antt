@@ -30,6 +30,7 @@ operations = record {
   add = λ a b. element (residue a + residue b);
   mul = λ a b. element (residue a * residue b);
   neg = λ a. element (order - residue a);
+  inv = λ a. a;
 }
 
 -- the point q, n times added to itself

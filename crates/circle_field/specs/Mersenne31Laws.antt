@@ -40,6 +40,7 @@ laws = record {
     one_mul = λ a. same_residue _ _ (ap (λ x. x % order) (one-mul (residue a)) ∙ residue_reduced a);
     mul_add = λ a b c. same_residue _ _ (product_sum order (residue a) (residue b) (residue c));
   };
+  mul_inv = λ a h. ?;
   two_nonzero = λ h. let e : 2 ≡ 0 = ap residue h in cc;
 }
 

@@ -5,6 +5,6 @@ pub mod extension;
 pub mod field;
 pub mod mersenne31;
 
-pub use extension::ComplexExtendable;
+pub use extension::{ComplexExtendable, ElementBytes, ExtensionField, PrimeField64};
 pub use field::{Field, Operations};
 pub use mersenne31::Mersenne31;

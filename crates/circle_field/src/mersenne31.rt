@@ -198,6 +198,10 @@ impl Field for Mersenne31 {
 
     ghost eq_law = { equal_exactly };
 
+    fn try_inverse(&self) -> Option<Self> {
+        None
+    }
+
     fn from_u64(int: u64) -> Self {
         Self::from_product(fold_bits(int))
     }
