@@ -4,6 +4,7 @@ pub mod RingFacts
 pub mod RingSound
 pub mod RingCombine
 pub mod Extension
+pub mod Products
 pub mod Circle
 pub mod CircleGroup
 pub mod Residues
