@@ -1,2 +1,3 @@
 pub mod Inverses
 pub mod Powers
+pub mod Mersenne31Chain
