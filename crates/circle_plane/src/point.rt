@@ -1,8 +1,8 @@
 //! Points of the unit circle and their group (Circle STARKs, IACR ePrint 2024/278, section 3).
 ghost use Rattle.std.specs.Prelude.{◌≡◌, ◌≤◌, ◌^◌, ◌-◌, Ok};
-ghost use Rattle.circle_field.specs.Circle.{Coordinates, IsOnCircle, at, origin, plus, opposite, times};
+ghost use Rattle.circle_field.specs.Circle.{Coordinates, IsOnCircle, at, origin, plus, opposite, times, lifted};
 
-use circle_field::{ComplexExtendable, Field, Operations};
+use circle_field::{ComplexExtendable, ExtensionField, Field, Operations};
 use std::alloc::AllocError;
 use std::ops::{Add, AddAssign, Mul, Neg, Sub};
 
@@ -161,43 +161,45 @@ impl<F: Field> Neg for Point<F> {
     }
 }
 
-/// `(a, b) + (c, d) = (ac - bd, ad + bc)`.
-impl<F: Field> Add<Point<F>> for Point<F> {
-    type Output = Point<F>;
+/// `(a, b) + (c, d) = (ac - bd, ad + bc)`, where the second point may be over a smaller field.
+impl<F: Field, EF: ExtensionField<F>> Add<Point<F>> for Point<EF> {
+    type Output = Point<EF>;
 
     ghost use Rattle.circle_plane.specs.Point.{coordinates};
 
-    ghost add_gives = { λ p q r. coordinates r ≡ plus F.ops (coordinates p) (coordinates q) };
+    ghost add_gives = { λ p q r. coordinates r ≡ plus EF.ops (coordinates p) (lifted EF.embed (coordinates q)) };
 
-    fn add(self, rhs: Point<F>) -> Point<F>
-        ensures sum { coordinates result ≡ plus F.ops (coordinates self) (coordinates rhs) }
-        ensures commutes { coordinates result ≡ plus F.ops (coordinates rhs) (coordinates self) }
-        ensures associates { (r : Coordinates F) →
-            plus F.ops (coordinates result) r ≡ plus F.ops (coordinates self) (plus F.ops (coordinates rhs) r) }
-        ensures neutral { plus F.ops (coordinates self) (origin F.ops) ≡ coordinates self }
+    fn add(self, rhs: Point<F>) -> Point<EF>
+        ensures sum { coordinates result ≡ plus EF.ops (coordinates self) (lifted EF.embed (coordinates rhs)) }
+        ensures commutes { coordinates result ≡ plus EF.ops (lifted EF.embed (coordinates rhs)) (coordinates self) }
+        ensures associates { (r : Coordinates EF) →
+            plus EF.ops (coordinates result) r ≡ plus EF.ops (coordinates self) (plus EF.ops (lifted EF.embed (coordinates rhs)) r) }
+        ensures neutral { plus EF.ops (coordinates self) (origin EF.ops) ≡ coordinates self }
     {
+        let (x, y) = (EF::from_base(rhs.x), EF::from_base(rhs.y));
         Point {
-            x: self.x * rhs.x - self.y * rhs.y,
-            y: self.x * rhs.y + self.y * rhs.x,
+            x: self.x * x - self.y * y,
+            y: self.x * y + self.y * x,
         }
     }
 }
 
-/// The sum with the opposite of `rhs`.
-impl<F: Field> Sub<Point<F>> for Point<F> {
-    type Output = Point<F>;
+/// The sum with the opposite of `rhs`, which may be over a smaller field.
+impl<F: Field, EF: ExtensionField<F>> Sub<Point<F>> for Point<EF> {
+    type Output = Point<EF>;
 
     ghost use Rattle.circle_plane.specs.Point.{coordinates};
 
-    ghost sub_gives = { λ p q r. coordinates r ≡ plus F.ops (coordinates p) (opposite F.ops (coordinates q)) };
+    ghost sub_gives = { λ p q r. coordinates r ≡ plus EF.ops (coordinates p) (opposite EF.ops (lifted EF.embed (coordinates q))) };
 
-    fn sub(self, rhs: Point<F>) -> Point<F>
-        ensures difference { coordinates result ≡ plus F.ops (coordinates self) (opposite F.ops (coordinates rhs)) }
-        ensures undoes { plus F.ops (coordinates result) (coordinates rhs) ≡ coordinates self }
+    fn sub(self, rhs: Point<F>) -> Point<EF>
+        ensures difference { coordinates result ≡ plus EF.ops (coordinates self) (opposite EF.ops (lifted EF.embed (coordinates rhs))) }
+        ensures undoes { plus EF.ops (coordinates result) (lifted EF.embed (coordinates rhs)) ≡ coordinates self }
     {
+        let (x, y) = (EF::from_base(rhs.x), EF::from_base(rhs.y));
         Point {
-            x: self.x * rhs.x + self.y * rhs.y,
-            y: self.y * rhs.x - self.x * rhs.y,
+            x: self.x * x + self.y * y,
+            y: self.y * x - self.x * y,
         }
     }
 }
