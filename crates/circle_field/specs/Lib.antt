@@ -11,3 +11,9 @@ pub mod Mersenne31
 pub mod Mersenne31Laws
 pub mod Mersenne31Circle
 pub mod Mersenne31Rows
+pub mod CubicField
+pub mod CubicLaws
+pub mod CubicInverse
+pub mod CubicFive
+pub mod Cubic
+pub mod CubicOperations

@@ -1,10 +1,12 @@
 //! Fields for Circle STARKs: traits whose laws are proved, and the prime field Mersenne31.
 #![tactic(auto)]
 
+pub mod cubic;
 pub mod extension;
 pub mod field;
 pub mod mersenne31;
 
+pub use cubic::Cubic;
 pub use extension::{ComplexExtendable, ElementBytes, ExtensionField, PrimeField64};
 pub use field::{Field, Operations};
 pub use mersenne31::Mersenne31;
