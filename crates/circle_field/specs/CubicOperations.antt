@@ -11,6 +11,7 @@ use Rattle.circle_field.specs.Mersenne31.{element, residue, operations as base}
 use Rattle.circle_field.specs.Mersenne31Laws.{same_residue, equal_exactly as base_equal, laws as base_laws}
 use Rattle.circle_field.specs.CubicField.{norm}
 use Rattle.circle_field.specs.CubicInverse.{cubic_laws, norm_zero, norm_of_zero}
+use Rattle.circle_field.specs.Mersenne31Powers.{five_is_no_cube}
 use Rattle.circle_field.specs.CubicFive.{five}
 use Rattle.circle_field.specs.Cubic.{triple_of, of_triple, triples, operations, embed, coefficients}
 
@@ -22,12 +23,8 @@ decided a false h = inr (λ e. let t : nat_eq (residue a) 0 ≡ true = (base_equ
 decide : (a : Mersenne31) → (a ≡ base.zero) ⊎ (a ≢ base.zero)
 decide a = decided a (nat_eq (residue a) 0) refl
 
--- 5 is not a cube
-no_cube : (b : Mersenne31) → base.mul b (base.mul b b) ≢ five
-no_cube = ?
-
 triple_laws : FieldLaws triples
-triple_laws = cubic_laws base_laws decide five no_cube
+triple_laws = cubic_laws base_laws decide five five_is_no_cube
 
 -- the field's laws
 pub laws : FieldLaws operations
@@ -108,6 +105,6 @@ embedded_of_nat (suc n) = is_embedding.add base.one (of_nat base n) ∙ ap (oper
 -- the norm is 0 exactly at 0
 pub norm_zero_exactly : (a : Cubic) → (norm base five (triple_of a) ≡ base.zero) ↔ (a ≡ operations.zero)
 norm_zero_exactly a = (
-  λ h. ap of_triple (norm_zero base_laws decide five no_cube (triple_of a) h),
-  λ e. ap (λ c. norm base five (triple_of c)) e ∙ norm_of_zero base_laws decide five no_cube,
+  λ h. ap of_triple (norm_zero base_laws decide five five_is_no_cube (triple_of a) h),
+  λ e. ap (λ c. norm base five (triple_of c)) e ∙ norm_of_zero base_laws decide five five_is_no_cube,
 )

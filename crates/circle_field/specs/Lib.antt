@@ -7,10 +7,16 @@ pub mod Extension
 pub mod Circle
 pub mod CircleGroup
 pub mod Residues
+pub mod Primes
+pub mod Fermat
+pub mod FastPowers
 pub mod Mersenne31
+pub mod Mersenne31Prime
 pub mod Mersenne31Laws
+pub mod Mersenne31Powers
 pub mod Mersenne31Circle
 pub mod Mersenne31Rows
+pub mod Bytes
 pub mod CubicField
 pub mod CubicLaws
 pub mod CubicInverse

@@ -1,6 +1,7 @@
 //! Fields for Circle STARKs: traits whose laws are proved, and the prime field Mersenne31.
 #![tactic(auto)]
 
+pub mod bytes;
 pub mod cubic;
 pub mod extension;
 pub mod field;

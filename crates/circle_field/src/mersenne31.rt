@@ -26,7 +26,7 @@ pub(crate) const ONE: Mersenne31 = Mersenne31 { value: 1 };
 pub(crate) const TWO: Mersenne31 = Mersenne31 { value: 2 };
 
 impl Mersenne31 {
-    ghost use Rattle.circle_field.specs.Mersenne31.{order, residue, element, operations, generators};
+    ghost use Rattle.circle_field.specs.Mersenne31.{order, residue, element, power, operations, generators};
 
     /// The number of elements: the prime `2^31 - 1`.
     pub const ORDER: u32 = 2147483647;
@@ -80,6 +80,17 @@ impl Mersenne31 {
             Mersenne31 { value: 311014874 },
             Mersenne31 { value: 1584694829 },
         )
+    }
+
+    /// The element squared `times` times.
+    fn exp_power_of_2(self, times: u32) -> Self
+        ensures { result ≡ power self (2 ^ times) }
+    {
+        let mut squared = self;
+        for _ in 0..times {
+            squared = squared.square();
+        }
+        squared
     }
 
     /// The double of a point of the circle's group.
@@ -207,8 +218,19 @@ impl Field for Mersenne31 {
 
     ghost eq_law = { equal_exactly };
 
+    /// The inverse as the power of the order less 2: its bits are 29 ones, a zero and a one.
     fn try_inverse(&self) -> Option<Self> {
-        None
+        if self.is_zero() {
+            return None;
+        }
+        let p101 = self.exp_power_of_2(2) * *self;
+        let ones_4 = p101.square() * p101;
+        let ones_8 = ones_4.exp_power_of_2(4) * ones_4;
+        let ones_8_shifted = ones_8.exp_power_of_2(4);
+        let ones_12 = ones_8_shifted * ones_4;
+        let ones_16 = ones_8_shifted.exp_power_of_2(4) * ones_8;
+        let ones_28 = ones_16.exp_power_of_2(12) * ones_12;
+        Some(ones_28.exp_power_of_2(3) * p101)
     }
 
     fn from_u64(int: u64) -> Self {
@@ -289,6 +311,26 @@ mod tests {
             510444705
         );
         assert_eq!(rt; Mersenne31::from_u64(5).mul_2exp_u64(100).value(), 640);
+    }
+
+    #[test]
+    fn inverses(rt: HostRuntime) {
+        let (five, seven) = (Mersenne31::from_u64(5), Mersenne31::from_u64(7));
+        assert_eq!(rt; Mersenne31::ZERO.try_inverse(), None);
+        assert_eq!(rt; Mersenne31::ONE.try_inverse(), Some(Mersenne31::ONE));
+        let half = Mersenne31::from_u64(1073741824);
+        assert_eq!(rt; Mersenne31::TWO.try_inverse(), Some(half));
+        let fifth = Mersenne31::from_u64(858993459);
+        assert_eq!(rt; five.try_inverse(), Some(fifth));
+        assert_eq!(rt; five * fifth, Mersenne31::ONE);
+        let seventh = Mersenne31::from_u64(1840700269);
+        assert_eq!(rt; seven.try_inverse(), Some(seventh));
+        assert_eq!(rt; seven * seventh, Mersenne31::ONE);
+        let large = Mersenne31::from_u64(123456789);
+        let large_inverse = Mersenne31::from_u64(391219981);
+        assert_eq!(rt; large.try_inverse(), Some(large_inverse));
+        assert_eq!(rt; large * large_inverse, Mersenne31::ONE);
+        assert_eq!(rt; minus_one().try_inverse(), Some(minus_one()));
     }
 
     #[test]
