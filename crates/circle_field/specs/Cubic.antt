@@ -1,9 +1,10 @@
 -- The cubic extension of Mersenne31 by X^3 = 5.
-use Rattle.std.specs.Prelude.{◌≡◌, ℕ, List, [], ◌∷◌}
+use Rattle.std.specs.Prelude.{◌≡◌, ℕ, List, [], ◌∷◌, ◌++◌}
 use Rattle.circle_field.specs.declared.mersenne31.Mersenne31.{Mersenne31}
 use Rattle.circle_field.specs.declared.cubic.Cubic.{Cubic}
 use Rattle.circle_field.specs.Field.{FieldOps}
 use Rattle.circle_field.specs.Mersenne31.{operations as base}
+use Rattle.circle_field.specs.Bytes.{bytes}
 use Rattle.circle_field.specs.CubicFive.{five}
 use Rattle.circle_field.specs.CubicField.{Triple, triple, constant, cubic}
 
@@ -37,3 +38,7 @@ embed x = of_triple (constant base x)
 -- the coefficients of 1, X and X^2
 abbrev pub coefficients : Cubic → List Mersenne31
 coefficients a = a.c0 ∷ a.c1 ∷ a.c2 ∷ []
+
+-- the bytes of the coefficients, one after the other
+abbrev pub cubic_bytes : Cubic → List ℕ
+cubic_bytes a = bytes a.c0 ++ (bytes a.c1 ++ bytes a.c2)

@@ -46,7 +46,7 @@ laws =
     }
 
 -- what holds of coefficients holds of elements
-same_cubic : (a b : Cubic) → a.c0 ≡ b.c0 → a.c1 ≡ b.c1 → a.c2 ≡ b.c2 → a ≡ b
+pub same_cubic : (a b : Cubic) → a.c0 ≡ b.c0 → a.c1 ≡ b.c1 → a.c2 ≡ b.c2 → a ≡ b
 same_cubic a b p q r = ap of_triple (same_triple p q r)
 
 -- the embedding keeps the operations

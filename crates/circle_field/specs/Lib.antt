@@ -23,3 +23,4 @@ pub mod CubicInverse
 pub mod CubicFive
 pub mod Cubic
 pub mod CubicOperations
+pub mod CubicBytes

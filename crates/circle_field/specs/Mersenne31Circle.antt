@@ -12,7 +12,6 @@ use Rattle.circle_field.specs.Mersenne31Laws.{same_residue, laws}
 -- the same operations on numbers, which compute
 abbrev modulo : FieldOps ℕ
 modulo = record {
-  inv = λ a. a;
   zero = 0;
   one = 1;
   add = λ a b. (a + b) % order;

@@ -4,7 +4,7 @@ ghost use Rattle.circle_field.specs.Mersenne31.{operations as base};
 ghost use Rattle.circle_field.specs.CubicField.{crossed};
 ghost use Rattle.circle_field.specs.CubicFive.{five};
 
-use crate::extension::ExtensionField;
+use crate::extension::{ElementBytes, ExtensionField};
 use crate::field::{Field, Operations};
 use crate::mersenne31::{self, Mersenne31};
 use std::ops::{Add, Mul, Neg, Sub};
@@ -257,5 +257,94 @@ impl ExtensionField<Mersenne31> for Cubic {
             c1: coeffs[1],
             c2: coeffs[2],
         }
+    }
+}
+
+/// The bytes of the coefficients of 1, `X` and `X^2`, in this order.
+impl ElementBytes for Cubic {
+    type Bytes = [u8; 12];
+
+    ghost use Rattle.circle_field.specs.Cubic.{cubic_bytes};
+    ghost use Rattle.circle_field.specs.CubicBytes.{cubic_told_apart};
+    ghost use Rattle.std.specs.Prelude.{refl};
+
+    const BYTES: usize = 12;
+
+    ghost BYTES = { 12 };
+
+    ghost bytes = { cubic_bytes };
+
+    ghost count = { λ a. refl };
+
+    ghost told_apart = { cubic_told_apart };
+
+    fn to_bytes(&self) -> [u8; 12] {
+        let [a0, a1, a2, a3] = self.c0.to_bytes();
+        let [b0, b1, b2, b3] = self.c1.to_bytes();
+        let [c0, c1, c2, c3] = self.c2.to_bytes();
+        [a0, a1, a2, a3, b0, b1, b2, b3, c0, c1, c2, c3]
+    }
+}
+
+#[cfg(test)]
+mod tests {
+    use super::*;
+
+    fn cubic(c0: u64, c1: u64, c2: u64) -> Cubic {
+        let coeffs = [
+            Mersenne31::from_u64(c0),
+            Mersenne31::from_u64(c1),
+            Mersenne31::from_u64(c2),
+        ];
+        Cubic::from_coefficients(&coeffs)
+    }
+
+    #[test]
+    fn the_cube_of_the_root_is_five(rt: HostRuntime) {
+        assert_eq!(rt; cubic(0, 1, 0) * cubic(0, 0, 1), cubic(5, 0, 0));
+        assert_eq!(rt; cubic(0, 1, 0).exp_u64(3), Cubic::from_u64(5));
+    }
+
+    #[test]
+    fn products(rt: HostRuntime) {
+        let (a, b) = (
+            cubic(123456789, 987654321, 2147483646),
+            cubic(31, 1000000007, 271828182),
+        );
+        assert_eq!(rt; a * b, cubic(1846024283, 743455097, 393425551));
+        assert_eq!(rt; a * b, b * a);
+        assert_eq!(rt; (a - b) * (a + b), a.square() - b.square());
+    }
+
+    #[test]
+    fn inverses(rt: HostRuntime) {
+        assert_eq!(rt; cubic(0, 1, 0).try_inverse(), Some(cubic(0, 0, 858993459)));
+        assert_eq!(rt; Cubic::ZERO.try_inverse(), None);
+        for a in [
+            cubic(7, 0, 0),
+            cubic(0, 0, 1),
+            cubic(123456789, 987654321, 2147483646),
+        ] {
+            let inverse = a.try_inverse().unwrap_or(Cubic::ZERO);
+            assert_eq!(rt; a * inverse, Cubic::ONE);
+        }
+    }
+
+    #[test]
+    fn coefficients(rt: HostRuntime) {
+        let a = cubic(7, 8, 9);
+        assert_eq!(rt; a.coefficient(0).value(), 7);
+        assert_eq!(rt; a.coefficient(1).value(), 8);
+        assert_eq!(rt; a.coefficient(2).value(), 9);
+        assert_eq!(rt; Cubic::from_base(Mersenne31::TWO), Cubic::TWO);
+    }
+
+    #[test]
+    fn bytes(rt: HostRuntime) {
+        assert_eq!(rt; (-Mersenne31::ONE).to_bytes(), [127, 255, 255, 254]);
+        assert_eq!(rt;
+            cubic(258, 0, 2147483646).to_bytes(),
+            [0, 0, 1, 2, 0, 0, 0, 0, 127, 255, 255, 254]
+        );
     }
 }
