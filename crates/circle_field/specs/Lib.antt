@@ -17,3 +17,11 @@ pub mod Mersenne31Laws
 pub mod Mersenne31Powers
 pub mod Mersenne31Circle
 pub mod Mersenne31Rows
+pub mod Bytes
+pub mod CubicField
+pub mod CubicLaws
+pub mod CubicInverse
+pub mod CubicFive
+pub mod Cubic
+pub mod CubicOperations
+pub mod CubicBytes

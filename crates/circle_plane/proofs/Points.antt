@@ -23,8 +23,8 @@ pub different_coordinates : {F : Type 0} (eq : F → F → Bool) → ((a b : F) 
 different_coordinates eq law p q =
     let go : (b c : Bool) → eq p.x q.x ≡ b → eq p.y q.y ≡ c → (not (b && c) ≡ true) ↔ (p ≡ q → ⊥) =
     elim [
-      true ↦ elim [
-        true ↦ λ ex ey.
+      | true ↦ elim [
+        | true ↦ λ ex ey.
             let same : p ≡ q = same_coordinates ((law p.x q.x).0 ex) ((law p.y q.y).0 ey) in
             (λ h. absurd (false≢true h), λ h. absurd (h same))
         | false ↦ λ ex ey. (λ h same. false≢true (sym ey ∙ (law p.y q.y).1 (ap (λ (r : Coordinates _). r.y) same)), λ h. refl)

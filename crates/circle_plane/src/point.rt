@@ -1,5 +1,5 @@
 //! Points of the unit circle and their group (Circle STARKs, IACR ePrint 2024/278, section 3).
-ghost use Rattle.std.specs.Prelude.{◌≡◌, ◌≤◌, ◌^◌, ◌-◌, Ok};
+ghost use Rattle.std.specs.Prelude.{◌≡◌, ◌≢◌, ◌↔◌, IsNone, IfSome, ◌≤◌, ◌^◌, ◌-◌, Ok};
 ghost use Rattle.circle_field.specs.Circle.{Coordinates, IsOnCircle, at, origin, plus, opposite, times, lifted};
 
 use circle_field::{ComplexExtendable, ExtensionField, Field, Operations};
@@ -50,6 +50,7 @@ impl<F: Field> Neutral for Point<F> {
 
 impl<F: Field> Point<F> {
     ghost use Rattle.circle_plane.specs.Basis.{vanishing, vanishing_product};
+    ghost use Rattle.circle_plane.specs.Projective.{from_line, to_line};
     ghost use Rattle.circle_plane.specs.Point.{coordinates};
 
     /// The point with these coordinates.
@@ -74,6 +75,31 @@ impl<F: Field> Point<F> {
         ensures { result ≡ (coordinates self).y }
     {
         self.y
+    }
+
+    /// The point of a coordinate of the projective line: `((1 - t^2) / (1 + t^2), 2t / (1 + t^2))`
+    /// (section 3, Lemma 1). `None` where `t^2 = -1`, which is at infinity.
+    pub fn from_projective_line(t: F) -> Option<Self>
+        ensures none { IsNone result ↔ (F.ops.mul t t ≡ F.ops.neg F.ops.one) }
+        ensures point { IfSome result (λ p. coordinates p ≡ from_line F.ops t) }
+        ensures back { IfSome result (λ p. to_line F.ops (coordinates p) ≡ t) }
+    {
+        let square = t.square();
+        let inverse = (F::ONE + square).try_inverse()?;
+        Some(Point {
+            x: (F::ONE - square) * inverse,
+            y: t.double() * inverse,
+        })
+    }
+
+    /// The coordinate `y / (x + 1)` of the projective line (section 3, Lemma 1). `None` at `x = -1`.
+    pub fn to_projective_line(self) -> Option<F>
+        ensures none { IsNone result ↔ ((coordinates self).x ≡ F.ops.neg F.ops.one) }
+        ensures value { IfSome result (λ t. t ≡ to_line F.ops (coordinates self)) }
+        ensures back { IfSome result (λ t. from_line F.ops t ≡ coordinates self) }
+    {
+        let inverse = (self.x + F::ONE).try_inverse()?;
+        Some(self.y * inverse)
     }
 
     /// The point plus itself (section 3.1, equation 1).
