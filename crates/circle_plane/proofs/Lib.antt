@@ -8,4 +8,5 @@ pub mod Points
 pub mod Powers
 pub mod Projections
 pub mod Reversal
+pub mod Selectors
 pub mod Sums

@@ -1,6 +1,6 @@
 -- The projective line as coordinates of the circle: Circle STARKs (ePrint 2024/278), section 3, Lemma 1.
-use Rattle.circle_field.specs.Field.{FieldOps, sub, two}
-use Rattle.circle_field.specs.Circle.{Coordinates, at}
+use Rattle.circle_field.specs.Field.{FieldOps, sub}
+use Rattle.circle_field.specs.Circle.{Coordinates, at, plus, opposite, lifted}
 
 module _ {F : Type 0} (k : FieldOps F) where
   -- 1 + t^2
@@ -18,3 +18,7 @@ module _ {F : Type 0} (k : FieldOps F) where
   -- the half turn (-1, 0)
   abbrev pub half_turn : Coordinates F
   half_turn = at (k.neg k.one) k.zero
+
+-- the difference p - z of a point of a field and one of its extension
+abbrev pub difference_from : {F E : Type 0} → FieldOps E → (F → E) → Coordinates F → Coordinates E → Coordinates E
+difference_from l embed p z = plus l (opposite l z) (lifted embed p)

@@ -1,6 +1,7 @@
 //! Points of the unit circle and their group (Circle STARKs, IACR ePrint 2024/278, section 3).
-ghost use Rattle.std.specs.Prelude.{◌≡◌, ◌≢◌, ◌↔◌, IsNone, IfSome, ◌≤◌, ◌^◌, ◌-◌, Ok};
+ghost use Rattle.std.specs.Prelude.{◌≡◌, ◌≢◌, ◌↔◌, IsNone, IfSome, ◌≤◌, ◌<◌, ◌^◌, ◌-◌, Ok};
 ghost use Rattle.circle_field.specs.Circle.{Coordinates, IsOnCircle, at, origin, plus, opposite, times, lifted};
+ghost use Rattle.circle_field.specs.Field.{nth_power, two, sub};
 
 use circle_field::{ComplexExtendable, ExtensionField, Field, Operations};
 use std::alloc::AllocError;
@@ -50,7 +51,7 @@ impl<F: Field> Neutral for Point<F> {
 
 impl<F: Field> Point<F> {
     ghost use Rattle.circle_plane.specs.Basis.{vanishing, vanishing_product};
-    ghost use Rattle.circle_plane.specs.Projective.{from_line, to_line};
+    ghost use Rattle.circle_plane.specs.Projective.{from_line, to_line, half_turn, difference_from};
     ghost use Rattle.circle_plane.specs.Point.{coordinates};
 
     /// The point with these coordinates.
@@ -150,6 +151,43 @@ impl<F: Field> Point<F> {
             factor = factor.square().double() - F::ONE;
         }
         product
+    }
+
+    /// The selector that is zero at this point alone, at the point `at`: the coordinate of
+    /// `at - self` on the projective line (section 5.1, Lemma 11).
+    ///
+    /// Asks that `at` is not `self + (-1, 0)`, the pole.
+    pub fn v_tilde_p<EF: ExtensionField<F>>(self, at: Point<EF>) -> EF
+        requires { coordinates at ≢ plus EF.ops (half_turn EF.ops) (lifted EF.embed (coordinates self)) }
+        ensures { result ≡ to_line EF.ops (plus EF.ops (coordinates at) (opposite EF.ops (lifted EF.embed (coordinates self)))) }
+    {
+        (at - self).to_projective_line().unwrap()
+    }
+
+    /// The value at this point of `v_n(log_n)` over the selector of the point, by which Lagrange
+    /// polynomials are normalised: `-2^log_n` times the y coordinate of the point's multiple by
+    /// `2^(log_n - 1)` (section 5.1, Remark 16).
+    ///
+    /// Asks `log_n >= 1` and `log_n < 2^63`.
+    pub fn s_p_at_p(self, log_n: usize) -> F
+        requires positive { 1 ≤ log_n }
+        requires small { log_n < 2 ^ 63 }
+        ensures { result ≡ F.ops.neg (F.ops.mul (nth_power F.ops (two F.ops) log_n)
+            (times F.ops (2 ^ (log_n - 1)) (coordinates self)).y) }
+    {
+        -self.v_n_prod(log_n).mul_2exp_u64((2 * log_n - 1) as u64) * self.y
+    }
+
+    /// The numerator and the denominator of the single-point vanishing function at `at`, with a
+    /// simple zero there, as the real and the imaginary part of a complex number (section 3.3,
+    /// equation 11): `(1 - d.x, -d.y)` with `d = self - at`.
+    pub fn v_p<EF: ExtensionField<F>>(self, at: Point<EF>) -> (EF, EF)
+        ensures re { result.0 ≡ sub EF.ops EF.ops.one (difference_from EF.ops EF.embed (coordinates self) (coordinates at)).x }
+        ensures im { result.1 ≡ EF.ops.neg (difference_from EF.ops EF.embed (coordinates self) (coordinates at)).y }
+        ensures norm { EF.ops.add (EF.ops.mul result.0 result.0) (EF.ops.mul result.1 result.1) ≡ EF.ops.add result.0 result.0 }
+    {
+        let difference = -at + self;
+        (EF::ONE - difference.x, -difference.y)
     }
 }
 
