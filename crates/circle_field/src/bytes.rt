@@ -1,6 +1,7 @@
 //! Elements of [`Mersenne31`] as numbers and as bytes.
 ghost use Rattle.std.specs.Prelude.{refl};
 ghost use Rattle.circle_field.specs.Bytes.{bytes, bytes_told_apart};
+ghost use Rattle.circle_field.specs.Mersenne31Prime.{order_prime};
 
 use crate::extension::{ElementBytes, PrimeField64};
 use crate::mersenne31::Mersenne31;
@@ -9,6 +10,8 @@ impl PrimeField64 for Mersenne31 {
     const ORDER: u64 = 2147483647;
 
     ghost ORDER = { 2147483647 };
+
+    ghost order_prime = { order_prime };
 
     fn as_u64(&self) -> u64 {
         self.value() as u64

@@ -2,6 +2,7 @@
 ghost use Rattle.std.specs.Prelude.{◌≡◌, ℕ, ◌≤◌, ◌<◌, List, [], ◌∷◌, length, Some, slice_get};
 ghost use Rattle.std.proofs.Common.{lit≤};
 ghost use Rattle.circle_field.specs.Field.{IsEmbedding, of_nat};
+ghost use Rattle.circle_field.specs.Primes.{IsPrime};
 ghost use Rattle.circle_field.specs.Extension.{AreCoefficients, identity_embedding, own_coefficient};
 ghost use Rattle.circle_field.specs.Circle.{Coordinates, at, AreGenerators};
 
@@ -109,6 +110,8 @@ pub trait PrimeField64: Field {
     fn as_u64(&self) -> u64
         ensures below { result < ORDER }
         ensures same { of_nat Self.ops result ≡ self.now };
+
+    ghost order_prime: { IsPrime ORDER };
 }
 
 /// Elements with a fixed number of bytes.
