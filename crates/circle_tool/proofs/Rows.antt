@@ -1,9 +1,7 @@
 -- Rows joined end to end, and cut again.
-use Rattle.std.proofs.Common.{◌≡◌, ℕ, ◌+◌, ◌*◌, ◌%◌, ◌/◌, ◌<◌, ◌≤◌, List, [], ◌∷◌, ◌++◌, length, map, take, drop, All, zero, suc, refl, ap, subst, sym, ◌∙◌, rules, arith, length-append, Vec, Global, vec_len, get_or, take_all}
+use Rattle.std.proofs.Common.{◌≡◌, ℕ, ◌+◌, ◌*◌, ◌<◌, ◌≤◌, List, [], ◌∷◌, ◌++◌, length, take, drop, All, zero, suc, refl, ap, subst, sym, ◌∙◌, arith, length-append, Vec, Global, vec_len, get_or, take_all}
 use Rattle.std.specs.List.{flat_map}
 use Rattle.std.proofs.Math.Seq.{take-append_seam, drop-append_seam}
-use Rattle.std.proofs.Math.Nat.{mul-mod_left, mul-div_cancel}
-use Rattle.std.proofs.lemmas.Grind.{common_steps}
 use Rattle.circle_plane.specs.Matrix.{rows_from}
 use Rattle.circle_tool.specs.Rows.{lists, IsRectangular}
 

@@ -1,7 +1,9 @@
 //! Reading JSON: its text, and the forms that the commands' inputs are made of.
-ghost use Rattle.std.specs.Prelude.{◌≡◌, Ok, Err, MatchResult};
+ghost use Rattle.std.specs.Prelude.{◌≡◌, ◌≤◌, ◌↔◌, Some, None, Ok, Err, MatchResult, IfErr, IsOk};
+ghost use Rattle.std.specs.BTreeMap.{btree_map_len};
 ghost use Rattle.circle_field.specs.Mersenne31.{residue};
-ghost use Rattle.serde_json.specs.View.{view};
+ghost use Rattle.serde_json.specs.Find.{as_array, as_object};
+ghost use Rattle.serde_json.specs.View.{view, items_view, members_view};
 ghost use Rattle.circle_tool.specs.Json.{count_of, residue_of};
 
 use crate::failure::Failure;
@@ -62,7 +64,11 @@ pub fn read<R: Read>(alloc: Global, input: &mut R) -> Result<Value, Failure> {
 /// The members of an object.
 ///
 /// Fails as `WrongKind` where the value is no object.
-pub fn members(value: &Value) -> Result<&Map<String, Value>, JsonError> {
+pub fn members(value: &Value) -> Result<&Map<String, Value>, JsonError>
+    ensures { MatchResult result
+        (λ members. as_object (view value.now) ≡ Some (members_view members.now.entries))
+        (λ error. (as_object (view value.now) ≡ None) × (error ≡ JsonError.WrongKind)) }
+{
     value.as_object().ok_or(JsonError::WrongKind)
 }
 
@@ -76,7 +82,10 @@ pub fn member<'a>(members: &'a Map<String, Value>, key: &str) -> Result<&'a Valu
 /// Tests that an object in which `count` keys were found has no further key.
 ///
 /// Fails as `UnknownKey` where it has.
-pub fn no_further_key(members: &Map<String, Value>, count: usize) -> Result<(), JsonError> {
+pub fn no_further_key(members: &Map<String, Value>, count: usize) -> Result<(), JsonError>
+    ensures ok { IsOk result ↔ (btree_map_len members.now ≤ count) }
+    ensures error { IfErr result (λ error. error ≡ JsonError.UnknownKey) }
+{
     if members.len() > count {
         return Err(JsonError::UnknownKey);
     }
@@ -86,7 +95,11 @@ pub fn no_further_key(members: &Map<String, Value>, count: usize) -> Result<(), 
 /// The items of an array.
 ///
 /// Fails as `WrongKind` where the value is no array.
-pub fn items(value: &Value) -> Result<&[Value], JsonError> {
+pub fn items(value: &Value) -> Result<&[Value], JsonError>
+    ensures { MatchResult result
+        (λ items. as_array (view value.now) ≡ Some (items_view items.now))
+        (λ error. (as_array (view value.now) ≡ None) × (error ≡ JsonError.WrongKind)) }
+{
     Ok(value.as_array().ok_or(JsonError::WrongKind)?.as_slice())
 }
 

@@ -1,5 +1,4 @@
-use Rattle.std.proofs.Common.{◌≡◌, ◌↔◌, IsTrue, true, ap, ◌∙◌, sym}
-use Rattle.circle_field.specs.Field.{FieldOps}
+use Rattle.std.proofs.Common.{◌≡◌, ap, ◌∙◌, sym}
 use Rattle.circle_field.specs.Mersenne31.{operations}
 use Rattle.circle_field.specs.Mersenne31Laws.{equal_exactly}
 use Rattle.circle_tool.proofs.values.is_on_circle.Goals as goal

@@ -1,6 +1,6 @@
-use Rattle.std.proofs.Common.{rules, ◌≡◌, ◌<◌, ◌≤◌, ◌↔◌, ◌^◌, ◌*◌, ◌%◌, IsTrue, ℕ, nat_eq, ◌∙◌, sym, arith}
+use Rattle.std.proofs.Common.{◌≡◌, ◌^◌, ◌*◌, ◌%◌, ◌∙◌, sym, arith}
 use Rattle.std.proofs.lemmas.Grind.{common_steps}
-use Rattle.circle_tool.proofs.Powers.{power_between, power_positive, shifted}
+use Rattle.circle_tool.proofs.Powers.{power_between, shifted}
 use Rattle.circle_tool.proofs.values.is_power_of_two.Goals as goal
 
 pub returns-then-n-gt0 : goal.returns-then-n-gt0

@@ -1,6 +1,6 @@
-use Rattle.std.proofs.Common.{◌≡◌, ◌≤◌, IsTrue, ℕ, ◌∙◌, ap, sym, subst, arith, vec_len, nat_eq}
+use Rattle.std.proofs.Common.{◌≤◌, ℕ, ◌∙◌, sym, subst, arith, vec_len}
 use Rattle.std.proofs.lemmas.Grind.{common_steps}
-use Rattle.circle_tool.specs.Rows.{lists, IsRectangular}
+use Rattle.circle_tool.specs.Rows.{lists}
 use Rattle.circle_tool.proofs.Rows.{EachHasLength, each_has_length, all_have_length, lists_each, each_lists, width_is}
 use Rattle.circle_tool.proofs.values.is_rectangular.Goals as goal
 

@@ -1,4 +1,4 @@
-use Rattle.std.proofs.Common.{◌≡◌, ◌<◌, ◌≤◌, ◌*◌, ◌/◌, ◌%◌, ℕ, length, vec_len, ◌∙◌, ap, sym, subst}
+use Rattle.std.proofs.Common.{◌≡◌, ◌/◌, ◌%◌, length, vec_len, ◌∙◌, ap, sym}
 use Rattle.std.proofs.Math.Nat.{mul-mod_left, mul-div_cancel}
 use Rattle.circle_plane.specs.Matrix.{rows_from}
 use Rattle.circle_plane.specs.RowMajorMatrix.{length-rows}

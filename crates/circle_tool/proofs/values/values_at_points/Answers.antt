@@ -1,4 +1,4 @@
-use Rattle.std.proofs.Common.{rules, ◌≡◌, IsErrOf, List, Vec, Global, subst, arith}
+use Rattle.std.proofs.Common.{List, Vec, Global, subst, arith}
 use Rattle.std.proofs.lemmas.Grind.{common_steps}
 use Rattle.circle_field.specs.declared.mersenne31.Mersenne31.{Mersenne31}
 use Rattle.circle_tool.specs.Rows.{lists, IsRectangular}
