@@ -1,10 +1,10 @@
 -- The bytes of elements.
-use Rattle.std.specs.Prelude.{◌≡◌, ℕ, ◌+◌, ◌<◌, ◌^◌, List, [], ◌∷◌, ◌++◌}
+use Rattle.std.specs.Prelude.{◌≡◌, ℕ, ◌<◌, ◌^◌, List}
 use Rattle.std.specs.Int.{w32, to_be_bytes, from_be_bytes}
 use Rattle.std.proofs.Common.{sym, ◌∙◌, ap, arith}
 use Rattle.std.proofs.lemmas.Nat.{from_be_bytes-to_be_bytes_4}
 use Rattle.circle_field.specs.declared.mersenne31.Mersenne31.{Mersenne31}
-use Rattle.circle_field.specs.Mersenne31.{order, residue, element, operations}
+use Rattle.circle_field.specs.Mersenne31.{residue, operations}
 use Rattle.circle_field.specs.Mersenne31Laws.{same_residue, residue_reduced, residue_of_nat}
 use Rattle.circle_field.specs.Field.{of_nat}
 

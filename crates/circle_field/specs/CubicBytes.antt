@@ -1,7 +1,7 @@
 -- Elements of the cubic extension are told apart by their bytes.
 use Rattle.std.specs.Prelude.{◌≡◌, ℕ, List, [], ◌∷◌}
 use Rattle.circle_field.specs.declared.cubic.Cubic.{Cubic}
-use Rattle.circle_field.specs.Bytes.{bytes, bytes_told_apart}
+use Rattle.circle_field.specs.Bytes.{bytes_told_apart}
 use Rattle.circle_field.specs.Cubic.{cubic_bytes}
 use Rattle.circle_field.specs.CubicOperations.{same_cubic}
 

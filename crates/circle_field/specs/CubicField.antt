@@ -1,5 +1,4 @@
 -- The cubic extension of a field by X^3 = w: triples of coefficients and their operations.
-use Rattle.std.specs.Prelude.{◌≡◌, ◌≢◌, List, [], ◌∷◌}
 use Rattle.circle_field.specs.Field.{FieldOps, sub}
 
 -- the element c0 + c1 X + c2 X^2, by its coefficients

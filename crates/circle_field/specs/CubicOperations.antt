@@ -1,13 +1,13 @@
 -- The laws of the cubic extension of Mersenne31.
-use Rattle.std.specs.Prelude.{◌≡◌, ◌≢◌, ◌⊎◌, ℕ, List, [], ◌∷◌, refl, nat_eq, Bool, true, false, ◌&&◌, ◌↔◌}
+use Rattle.std.specs.Prelude.{◌≡◌, ◌≢◌, ◌⊎◌, ℕ, List, refl, nat_eq, Bool, true, false, ◌&&◌, ◌↔◌}
 use Rattle.std.proofs.Math.ListN.{get_or}
 use Rattle.circle_field.specs.CubicLaws.{same_triple, constant_add, constant_mul, constant_neg, constant_product}
-use Rattle.std.proofs.Common.{zero, suc, sym, ◌∙◌, ap, inl, inr}
+use Rattle.std.proofs.Common.{zero, suc, ◌∙◌, ap, inl, inr}
 use Rattle.circle_field.specs.declared.mersenne31.Mersenne31.{Mersenne31}
 use Rattle.circle_field.specs.declared.cubic.Cubic.{Cubic}
 use Rattle.circle_field.specs.Field.{FieldLaws, IsEmbedding, of_nat}
 use Rattle.circle_field.specs.Extension.{AreCoefficients}
-use Rattle.circle_field.specs.Mersenne31.{element, residue, operations as base}
+use Rattle.circle_field.specs.Mersenne31.{residue, operations as base}
 use Rattle.circle_field.specs.Mersenne31Laws.{same_residue, equal_exactly as base_equal, laws as base_laws}
 use Rattle.circle_field.specs.CubicField.{norm}
 use Rattle.circle_field.specs.CubicInverse.{cubic_laws, norm_zero, norm_of_zero}

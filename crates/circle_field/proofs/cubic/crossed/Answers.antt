@@ -1,8 +1,4 @@
-use Rattle.std.specs.Prelude.{◌≡◌}
-use Rattle.circle_field.specs.Field.{sub}
-use Rattle.circle_field.specs.Mersenne31.{operations}
 use Rattle.circle_field.specs.Mersenne31Laws.{laws}
-use Rattle.circle_field.specs.CubicField.{crossed}
 use Rattle.circle_field.specs.CubicLaws.{crossed_products}
 use Rattle.circle_field.proofs.cubic.crossed.Goals as goal
 

@@ -1,4 +1,3 @@
-use Rattle.std.specs.Prelude.{◌≡◌}
 use Rattle.std.proofs.Common.{ap, ◌∙◌}
 use Rattle.circle_field.specs.Field.{of_nat}
 use Rattle.circle_field.specs.Mersenne31.{operations}

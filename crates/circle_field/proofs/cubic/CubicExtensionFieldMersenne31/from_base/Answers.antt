@@ -1,5 +1,4 @@
 use Rattle.std.specs.Prelude.{refl}
-use Rattle.circle_field.specs.Cubic.{embed}
 use Rattle.circle_field.specs.CubicOperations.{same_residues}
 use Rattle.circle_field.proofs.cubic.CubicExtensionFieldMersenne31.from_base.Goals as goal
 

@@ -1,5 +1,3 @@
-use Rattle.std.specs.Prelude.{◌≡◌}
-use Rattle.circle_field.specs.Cubic.{embed}
 use Rattle.circle_field.specs.CubicOperations.{embedded_of_nat}
 use Rattle.circle_field.proofs.cubic.CubicField.from_u64.Goals as goal
 
