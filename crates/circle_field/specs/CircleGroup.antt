@@ -7,7 +7,8 @@ use Rattle.circle_field.specs.RingSound.{ring}
 use Rattle.circle_field.specs.RingCombine.{given, combine}
 use Rattle.circle_field.specs.Circle.{Coordinates, at, IsOnCircle, plus, opposite, origin, lifted}
 
-same_coordinates : {F : Type 0} {a b c d : F} → a ≡ c → b ≡ d → at a b ≡ at c d
+-- pairs with equal coordinates are equal
+pub same_coordinates : {F : Type 0} {a b c d : F} → a ≡ c → b ≡ d → at a b ≡ at c d
 same_coordinates p q = cc
 
 module _ {F : Type 0} {k : FieldOps F} (laws : RingLaws k) where

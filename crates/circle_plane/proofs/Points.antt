@@ -3,6 +3,7 @@ use Rattle.std.specs.Prelude.{◌≡◌, ◌↔◌, Bool, true, false, not, ◌&
 use Rattle.std.proofs.Common.{ap, subst, sym, refl, ◌∙◌}
 use Rattle.std.proofs.lemmas.Bool.{false≢true}
 use Rattle.circle_field.specs.Circle.{Coordinates, IsOnCircle, at}
+use Rattle.circle_field.specs.CircleGroup.{same_coordinates}
 use Rattle.circle_plane.specs.declared.point.Point.{Point}
 
 -- points with the same coordinates are the same
@@ -13,9 +14,6 @@ same_point {F} {g} set p q ex ey =
     subst (λ x. (h : P x q.y) → p ≡ make x q.y h) ex
     (subst (λ y. (h : P p.x y) → p ≡ make p.x y h) ey (λ h. ap (make p.x p.y) (set _ _ p.on_circle h)))
     q.on_circle
-
-same_coordinates : {F : Type 0} {a b c d : F} → a ≡ c → b ≡ d → at a b ≡ at c d
-same_coordinates p q = cc
 
 -- `!=` on coordinates
 pub different_coordinates : {F : Type 0} (eq : F → F → Bool) → ((a b : F) → (eq a b ≡ true) ↔ (a ≡ b)) → (p q : Coordinates F) →

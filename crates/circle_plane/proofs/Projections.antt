@@ -3,15 +3,13 @@ use Rattle.std.specs.Prelude.{◌≡◌, ◌≢◌, List, [], ◌∷◌, refl}
 use Rattle.std.proofs.Common.{sym, ◌∙◌, ap}
 use Rattle.circle_field.specs.Field.{FieldOps, FieldLaws, sub}
 use Rattle.circle_field.specs.Circle.{Coordinates, at, IsOnCircle}
+use Rattle.circle_field.specs.CircleGroup.{same_coordinates}
 use Rattle.circle_field.specs.Ring.{Expr, var, con, unit, plus as sum, times as prod, minus}
 use Rattle.circle_field.specs.RingSound.{ring}
 use Rattle.circle_field.specs.RingCombine.{given, combine}
 use Rattle.circle_field.specs.RingFacts.{neg_unique, add_neg, mul_one}
 use Rattle.circle_field.proofs.Inverses.{inverse_unique, nonzero_product, nonzero_factor}
 use Rattle.circle_plane.specs.Projective.{line_norm, from_line, to_line}
-
-same_coordinates : {F : Type 0} {a b c d : F} → a ≡ c → b ≡ d → at a b ≡ at c d
-same_coordinates p q = cc
 
 module _ {F : Type 0} {k : FieldOps F} (laws : FieldLaws k) where
   -- a quotient, from its product with the divisor
