@@ -1,4 +1,5 @@
-//! Fields for Circle STARKs: traits whose laws are proved, and the prime field Mersenne31.
+//! Fields for Circle STARKs: traits whose laws are proved, the prime field Mersenne31
+//! and its cubic extension.
 #![tactic(auto)]
 
 pub mod bytes;
