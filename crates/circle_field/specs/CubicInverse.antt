@@ -43,6 +43,7 @@ module _ {F : Type 0} {k : FieldOps F} (laws : FieldLaws k) where
           (given (times i (times i i)) (times b' (times b' b')) (times w (times c' (times c' c')))
           ∷ given (times w (plus (times p p) (plus p unit))) p unit ∷ []) refl (h, (laws.mul_inv c nonzero, tt))
 
+      -- the last coefficient is 0, where the adjugate is 0
       last_zero : (a : Triple F) → adjugate k v a ≡ constant k k.zero → a.c2 ≡ k.zero
       last_zero a h = elim (decide a.c2) [
         | inl e ↦ e

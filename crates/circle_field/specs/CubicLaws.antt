@@ -1,4 +1,4 @@
--- The laws of a cubic extension by X^3 = w, where w is no cube.
+-- A cubic extension by X^3 = w is a commutative ring.
 use Rattle.std.specs.Prelude.{◌≡◌, List, [], ◌∷◌, refl, IsTrue}
 use Rattle.circle_field.specs.Field.{FieldOps, RingLaws, sub}
 use Rattle.circle_field.specs.Ring.{Expr, var, con, unit, plus, times, minus, norm as normal, is_zero_poly, denote}
@@ -13,16 +13,19 @@ same_triple p q r = cc
 abbrev pub expr : FieldOps Expr
 expr = record { zero = con 0; one = unit; add = plus; mul = times; neg = minus; inv = λ a. a }
 
--- w, and the coefficients of three elements
+-- the cube of X
 abbrev pub w : Expr
 w = var 0
 
+-- the coefficients of a first element
 abbrev pub x : Triple Expr
 x = triple (var 1) (var 2) (var 3)
 
+-- those of a second
 abbrev pub y : Triple Expr
 y = triple (var 4) (var 5) (var 6)
 
+-- those of a third
 abbrev pub z : Triple Expr
 z = triple (var 7) (var 8) (var 9)
 
@@ -35,6 +38,7 @@ module _ {F : Type 0} {k : FieldOps F} (laws : RingLaws k) where
   abbrev pub denoted : List F → Triple Expr → Triple F
   denoted env a = triple (denote k env a.c0) (denote k env a.c1) (denote k env a.c2)
 
+  -- equations at each place, by computation
   rings : (env : List F) (a b : Triple Expr) → AreSame a.c0 b.c0 → AreSame a.c1 b.c1 → AreSame a.c2 b.c2 → denoted env a ≡ denoted env b
   rings env a b p q r = same_triple (ring laws env a.c0 b.c0 p) (ring laws env a.c1 b.c1 q) (ring laws env a.c2 b.c2 r)
 
@@ -42,6 +46,7 @@ module _ {F : Type 0} {k : FieldOps F} (laws : RingLaws k) where
   abbrev pub values : F → Triple F → Triple F → Triple F → List F
   values v a b c = v ∷ a.c0 ∷ a.c1 ∷ a.c2 ∷ b.c0 ∷ b.c1 ∷ b.c2 ∷ c.c0 ∷ c.c1 ∷ c.c2 ∷ []
 
+  -- the extension is a commutative ring
   pub cubic_ring : (v : F) → RingLaws (cubic k v)
   cubic_ring v = record {
     add_assoc = λ a b c. rings (values v a b c) (sum expr (sum expr x y) z) (sum expr x (sum expr y z)) refl refl refl;
@@ -54,17 +59,19 @@ module _ {F : Type 0} {k : FieldOps F} (laws : RingLaws k) where
     mul_add = λ a b c. rings (values v a b c) (product expr w x (sum expr y z)) (sum expr (product expr w x y) (product expr w x z)) refl refl refl;
   }
 
-  -- the embedding of the base field keeps sums, products and opposites
+  -- the embedding of the base field keeps sums
   pub constant_add : (a b : F) → constant k (k.add a b) ≡ sum k (constant k a) (constant k b)
   constant_add a b =
       let c : Expr = var 0 in let d : Expr = var 1 in
       rings (a ∷ b ∷ []) (constant expr (plus c d)) (sum expr (constant expr c) (constant expr d)) refl refl refl
 
+  -- .. and products
   pub constant_mul : (v a b : F) → constant k (k.mul a b) ≡ product k v (constant k a) (constant k b)
   constant_mul v a b =
       let c : Expr = var 1 in let d : Expr = var 2 in
       rings (v ∷ a ∷ b ∷ []) (constant expr (times c d)) (product expr w (constant expr c) (constant expr d)) refl refl refl
 
+  -- .. and opposites
   pub constant_neg : (a : F) → constant k (k.neg a) ≡ opposite k (constant k a)
   constant_neg a =
       let c : Expr = var 0 in

@@ -1,8 +1,7 @@
 -- The laws of the cubic extension of Mersenne31.
 use Rattle.std.specs.Prelude.{◌≡◌, ◌≢◌, ◌⊎◌, ℕ, List, refl, nat_eq, Bool, true, false, ◌&&◌, ◌↔◌}
-use Rattle.std.proofs.Math.ListN.{get_or}
-use Rattle.circle_field.specs.CubicLaws.{same_triple, constant_add, constant_mul, constant_neg, constant_product}
 use Rattle.std.proofs.Common.{zero, suc, ◌∙◌, ap, inl, inr}
+use Rattle.std.proofs.Math.ListN.{get_or}
 use Rattle.circle_field.specs.declared.mersenne31.Mersenne31.{Mersenne31}
 use Rattle.circle_field.specs.declared.cubic.Cubic.{Cubic}
 use Rattle.circle_field.specs.Field.{FieldLaws, IsEmbedding, of_nat}
@@ -10,19 +9,22 @@ use Rattle.circle_field.specs.Extension.{AreCoefficients}
 use Rattle.circle_field.specs.Mersenne31.{residue, operations as base}
 use Rattle.circle_field.specs.Mersenne31Laws.{same_residue, equal_exactly as base_equal, laws as base_laws}
 use Rattle.circle_field.specs.CubicField.{norm}
+use Rattle.circle_field.specs.CubicLaws.{same_triple, constant_add, constant_mul, constant_neg, constant_product}
 use Rattle.circle_field.specs.CubicInverse.{cubic_laws, norm_zero, norm_of_zero}
 use Rattle.circle_field.specs.Mersenne31Powers.{five_is_no_cube}
 use Rattle.circle_field.specs.CubicFive.{five}
 use Rattle.circle_field.specs.Cubic.{triple_of, of_triple, triples, operations, embed, coefficients}
 
--- whether an element is 0
+-- whether an element is 0, by the test of its residue
 decided : (a : Mersenne31) (b : Bool) → nat_eq (residue a) 0 ≡ b → (a ≡ base.zero) ⊎ (a ≢ base.zero)
 decided a true h = inl ((base_equal a base.zero).0 h)
 decided a false h = inr (λ e. let t : nat_eq (residue a) 0 ≡ true = (base_equal a base.zero).1 e in cc)
 
+-- an element is 0 or not
 decide : (a : Mersenne31) → (a ≡ base.zero) ⊎ (a ≢ base.zero)
 decide a = decided a (nat_eq (residue a) 0) refl
 
+-- the laws of triples
 triple_laws : FieldLaws triples
 triple_laws = cubic_laws base_laws decide five five_is_no_cube
 
@@ -45,7 +47,7 @@ laws =
       two_nonzero = λ h. t.two_nonzero (ap triple_of h);
     }
 
--- what holds of coefficients holds of elements
+-- elements of the same coefficients are equal
 pub same_cubic : (a b : Cubic) → a.c0 ≡ b.c0 → a.c1 ≡ b.c1 → a.c2 ≡ b.c2 → a ≡ b
 same_cubic a b p q r = ap of_triple (same_triple p q r)
 
@@ -60,7 +62,7 @@ is_embedding = record {
   injective = λ a b h. ap (λ c. c.c0) h;
 }
 
--- the first entries of a list, or d where there are none
+-- the entry of a list at place i, or 0 past its end
 entry : ℕ → List Mersenne31 → Mersenne31
 entry i xs = get_or xs i base.zero
 

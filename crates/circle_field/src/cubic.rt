@@ -289,6 +289,7 @@ impl ElementBytes for Cubic {
 #[cfg(test)]
 mod tests {
     use super::*;
+    use crate::extension::PrimeField64;
 
     fn cubic(c0: u64, c1: u64, c2: u64) -> Cubic {
         let coeffs = [
@@ -344,6 +345,7 @@ mod tests {
 
     #[test]
     fn bytes(rt: HostRuntime) {
+        assert_eq!(rt; (-Mersenne31::ONE).as_u64(), 2147483646);
         assert_eq!(rt; (-Mersenne31::ONE).to_bytes(), [127, 255, 255, 254]);
         assert_eq!(rt;
             cubic(258, 0, 2147483646).to_bytes(),
