@@ -1,10 +1,5 @@
-<<<<<<< HEAD
 //! Fields for Circle STARKs: traits whose laws are proved, the prime field Mersenne31 and its cubic
 //! extension.
-=======
-//! Fields for Circle STARKs: traits whose laws are proved, the prime field Mersenne31
-//! and its cubic extension.
->>>>>>> cubic
 #![tactic(auto)]
 
 pub mod batch_inverse;
