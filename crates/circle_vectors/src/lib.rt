@@ -3,6 +3,10 @@
 #![tactic(auto)]
 
 #[cfg(test)]
+mod extensions;
+#[cfg(test)]
+mod fields;
+#[cfg(test)]
 mod points;
 pub mod quadratic;
 #[cfg(test)]
