@@ -90,9 +90,13 @@ fn vanishing_at_a_point(rt: HostRuntime) {
 }
 
 // The selector of `point` at `at`, which must not have the x coordinate of the pole.
-fn selector(rt: &impl Abort, point: Circle, at: Point<Cubic>) -> Cubic {
-    let (x, y) = (-Cubic::ONE, Cubic::ZERO);
-    assert!(rt; x * x + y * y == Cubic::ONE);
+fn selector<F: Field, EF: ExtensionField<F>>(
+    rt: &impl Abort,
+    point: Point<F>,
+    at: Point<EF>,
+) -> EF {
+    let (x, y) = (-EF::ONE, EF::ZERO);
+    assert!(rt; x * x + y * y == EF::ONE);
     let pole = Point::new(x, y) + point;
     assert!(rt; at.x() != pole.x());
     point.v_tilde_p(at)
