@@ -5,7 +5,7 @@ use Rattle.circle_field.specs.Field.{FieldOps, FieldLaws}
 use Rattle.circle_field.specs.Ring.{Expr, var, con, unit, plus, times, minus}
 use Rattle.circle_field.specs.RingCombine.{given, combine}
 use Rattle.circle_field.specs.CubicLaws.{expr}
-use Rattle.circle_vectors.specs.QuadraticField.{Pair, pair, multiple, constant, product, conjugate, norm, quadratic}
+use Rattle.circle_vectors.specs.QuadraticField.{Pair, multiple, constant, product, conjugate, norm, quadratic}
 use Rattle.circle_vectors.specs.QuadraticLaws.{same_pair, quadratic_ring, x}
 
 module _ {F : Type 0} {k : FieldOps F} (laws : FieldLaws k) where

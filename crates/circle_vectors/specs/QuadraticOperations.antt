@@ -1,5 +1,5 @@
 -- The laws of the quadratic extension of Mersenne31.
-use Rattle.std.specs.Prelude.{◌≡◌, ◌≢◌, ◌⊎◌, ℕ, List, [], ◌∷◌, refl, nat_eq, Bool, true, false, ◌&&◌, ◌↔◌}
+use Rattle.std.specs.Prelude.{◌≡◌, ◌≢◌, ◌⊎◌, ℕ, List, refl, nat_eq, Bool, true, false, ◌&&◌, ◌↔◌}
 use Rattle.std.proofs.Math.ListN.{get_or}
 use Rattle.std.proofs.Common.{zero, suc, ◌∙◌, ap, inl, inr}
 use Rattle.circle_field.specs.declared.mersenne31.Mersenne31.{Mersenne31}

@@ -3,7 +3,8 @@
 ghost use Rattle.std.specs.Prelude.{◌≡◌};
 ghost use Rattle.circle_field.specs.Mersenne31.{operations as base};
 
-use circle_field::{ExtensionField, Field, Mersenne31, Operations, mersenne31};
+use circle_field::mersenne31::{self, Mersenne31};
+use circle_field::{ExtensionField, Field, Operations};
 use std::ops::{Add, Mul, Neg, Sub};
 
 /// An element of the field of `(2^31 - 1)^2` elements: a polynomial `c0 + c1 X` over

@@ -1,5 +1,4 @@
 use Rattle.std.specs.Prelude.{refl}
-use Rattle.circle_vectors.specs.Quadratic.{embed}
 use Rattle.circle_vectors.specs.QuadraticOperations.{same_residues}
 use Rattle.circle_vectors.proofs.quadratic.QuadraticExtensionFieldMersenne31.from_base.Goals as goal
 

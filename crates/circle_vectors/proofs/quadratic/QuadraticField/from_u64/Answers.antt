@@ -1,5 +1,3 @@
-use Rattle.std.specs.Prelude.{◌≡◌}
-use Rattle.circle_vectors.specs.Quadratic.{embed}
 use Rattle.circle_vectors.specs.QuadraticOperations.{embedded_of_nat}
 use Rattle.circle_vectors.proofs.quadratic.QuadraticField.from_u64.Goals as goal
 
