@@ -17,13 +17,13 @@ pub struct Mersenne31 {
 }
 
 /// The element 0, for constants of other types.
-pub(crate) const ZERO: Mersenne31 = Mersenne31 { value: 0 };
+pub const ZERO: Mersenne31 = Mersenne31 { value: 0 };
 
 /// The element 1, for constants of other types.
-pub(crate) const ONE: Mersenne31 = Mersenne31 { value: 1 };
+pub const ONE: Mersenne31 = Mersenne31 { value: 1 };
 
 /// The element 2, for constants of other types.
-pub(crate) const TWO: Mersenne31 = Mersenne31 { value: 2 };
+pub const TWO: Mersenne31 = Mersenne31 { value: 2 };
 
 impl Mersenne31 {
     ghost use Rattle.circle_field.specs.Mersenne31.{order, residue, element, power, operations, generators};
