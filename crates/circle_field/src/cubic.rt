@@ -349,9 +349,12 @@ mod tests {
     #[test]
     fn coefficients(rt: HostRuntime) {
         let a = cubic(7, 8, 9);
-        assert_eq!(rt; a.coefficient(0).value(), 7);
-        assert_eq!(rt; a.coefficient(1).value(), 8);
-        assert_eq!(rt; a.coefficient(2).value(), 9);
+        let (c0, c1, c2): (Mersenne31, Mersenne31, Mersenne31) = (
+            a.coefficient(0),
+            a.coefficient(1),
+            a.coefficient(2),
+        );
+        assert_eq!(rt; (c0.value(), c1.value(), c2.value()), (7, 8, 9));
         assert_eq!(rt; Cubic::from_base(Mersenne31::TWO), Cubic::TWO);
     }
 
