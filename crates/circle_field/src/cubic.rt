@@ -211,6 +211,14 @@ impl Field for Cubic {
         }
     }
 
+    fn halve(&self) -> Self {
+        Cubic {
+            c0: self.c0.halve(),
+            c1: self.c1.halve(),
+            c2: self.c2.halve(),
+        }
+    }
+
     fn from_u64(int: u64) -> Self {
         Self::from_base(Mersenne31::from_u64(int))
     }
@@ -329,6 +337,14 @@ mod tests {
             let inverse = a.try_inverse().unwrap_or(Cubic::ZERO);
             assert_eq!(rt; a * inverse, Cubic::ONE);
         }
+    }
+
+    #[test]
+    fn halves(rt: HostRuntime) {
+        assert_eq!(rt;
+            cubic(1, 2, 2147483646).halve(),
+            cubic(1073741824, 1, 1073741823)
+        );
     }
 
     #[test]

@@ -25,6 +25,9 @@ pub const ONE: Mersenne31 = Mersenne31 { value: 1 };
 /// The element 2, for constants of other types.
 pub const TWO: Mersenne31 = Mersenne31 { value: 2 };
 
+/// The residue of the half of 1.
+const HALF: u32 = 1073741824;
+
 impl Mersenne31 {
     ghost use Rattle.circle_field.specs.Mersenne31.{order, residue, element, power, operations, generators};
 
@@ -233,6 +236,19 @@ impl Field for Mersenne31 {
         Some(ones_28.exp_power_of_2(3) * p101)
     }
 
+    /// Half the residue where it is even, and otherwise half of its sum with the order, which is
+    /// `2^30` more than half its other bits.
+    fn halve(&self) -> Self {
+        let half = self.value >> 1;
+        Mersenne31 {
+            value: if self.value % 2 == 1 {
+                half + HALF
+            } else {
+                half
+            },
+        }
+    }
+
     fn from_u64(int: u64) -> Self {
         Self::from_product(fold_bits(int))
     }
@@ -331,6 +347,15 @@ mod tests {
         assert_eq!(rt; large.try_inverse(), Some(large_inverse));
         assert_eq!(rt; large * large_inverse, Mersenne31::ONE);
         assert_eq!(rt; minus_one().try_inverse(), Some(minus_one()));
+    }
+
+    #[test]
+    fn halves(rt: HostRuntime) {
+        assert_eq!(rt; Mersenne31::ZERO.halve(), Mersenne31::ZERO);
+        assert_eq!(rt; Mersenne31::ONE.halve().value(), 1073741824);
+        assert_eq!(rt; Mersenne31::TWO.halve(), Mersenne31::ONE);
+        assert_eq!(rt; minus_one().halve().value(), 1073741823);
+        assert_eq!(rt; (-Mersenne31::TWO).halve(), minus_one());
     }
 
     #[test]
