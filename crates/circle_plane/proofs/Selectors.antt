@@ -23,7 +23,7 @@ module _ {F : Type 0} {k : FieldOps F} (laws : FieldLaws k) where
       let x : Expr = var 0 in let y : Expr = var 1 in
       nonzero_product laws d.y d.y y_nonzero y_nonzero
       (combine laws.ring (d.x ∷ d.y ∷ []) (prod y y) (con 0)
-        (given unit (sum (prod x x) (prod y y)) unit ∷ given (minus (sum x (minus unit))) x (minus unit) ∷ []) refl (on_circle, (e, tt)))
+      (given unit (sum (prod x x) (prod y y)) unit ∷ given (minus (sum x (minus unit))) x (minus unit) ∷ []) refl (on_circle, (e, tt)))
 
   -- the y coordinate of the multiple by 2^m
   y_multiple : (m : ℕ) (p : Coordinates F) → IsOnCircle k p → (times k (2 ^ m) p).y ≡ k.mul (nth_power k (two k) m) (k.mul (vanishing_product k m p) p.y)
