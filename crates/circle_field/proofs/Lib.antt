@@ -1,1 +1,4 @@
+pub mod Inverses
 pub mod Powers
+pub mod Mersenne31Chain
+pub mod Halves

@@ -1,13 +1,14 @@
 -- The points of the circle are a commutative group.
 use Rattle.std.specs.Prelude.{◌≡◌, List, [], ◌∷◌, refl}
 use Rattle.std.proofs.Common.{sym, ◌∙◌, ap}
-use Rattle.circle_field.specs.Field.{FieldOps, RingLaws}
+use Rattle.circle_field.specs.Field.{FieldOps, RingLaws, IsEmbedding}
 use Rattle.circle_field.specs.Ring.{Expr, var, con, unit, plus as sum, times as prod, minus}
 use Rattle.circle_field.specs.RingSound.{ring}
 use Rattle.circle_field.specs.RingCombine.{given, combine}
-use Rattle.circle_field.specs.Circle.{Coordinates, at, IsOnCircle, plus, opposite, origin}
+use Rattle.circle_field.specs.Circle.{Coordinates, at, IsOnCircle, plus, opposite, origin, lifted}
 
-same_coordinates : {F : Type 0} {a b c d : F} → a ≡ c → b ≡ d → at a b ≡ at c d
+-- pairs with equal coordinates are equal
+pub same_coordinates : {F : Type 0} {a b c d : F} → a ≡ c → b ≡ d → at a b ≡ at c d
 same_coordinates p q = cc
 
 module _ {F : Type 0} {k : FieldOps F} (laws : RingLaws k) where
@@ -94,3 +95,10 @@ module _ {F : Type 0} {k : FieldOps F} (laws : RingLaws k) where
   pub difference-plus : (p q : Coordinates F) → IsOnCircle k q → plus k (plus k p (opposite k q)) q ≡ p
   difference-plus p q h =
       plus_assoc p (opposite k q) q ∙ ap (plus k p) (plus_comm (opposite k q) q ∙ plus-opposite q h) ∙ plus-origin p
+
+-- an embedding keeps points on the circle
+pub lifted-on_circle : {F E : Type 0} {k : FieldOps F} {l : FieldOps E} {m : F → E} → IsEmbedding k l m → (p : Coordinates F) → IsOnCircle k p → IsOnCircle l (lifted m p)
+lifted-on_circle {l = l} {m = m} e p h =
+    ap (λ v. l.add v (l.mul (m p.y) (m p.y))) (sym (e.mul p.x p.x))
+    ∙ ap (l.add (m _)) (sym (e.mul p.y p.y))
+    ∙ sym (e.add _ _) ∙ ap m h ∙ e.one

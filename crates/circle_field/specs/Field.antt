@@ -9,6 +9,7 @@ pub record FieldOps (F : Type 0) : Type 0 where
   pub add : F → F → F
   pub mul : F → F → F
   pub neg : F → F
+  pub inv : F → F
 
 -- the laws of a commutative ring
 pub record RingLaws {F : Type 0} (k : FieldOps F) : Type 0 where
@@ -21,9 +22,10 @@ pub record RingLaws {F : Type 0} (k : FieldOps F) : Type 0 where
   pub one_mul : (a : F) → k.mul k.one a ≡ a
   pub mul_add : (a b c : F) → k.mul a (k.add b c) ≡ k.add (k.mul a b) (k.mul a c)
 
--- the laws of a field in which 2 is not 0, as far as they are asked: those of inverses are to come
+-- the laws of a field in which 2 is not 0
 pub record FieldLaws {F : Type 0} (k : FieldOps F) : Type 0 where
   pub ring : RingLaws k
+  pub mul_inv : (a : F) → a ≢ k.zero → k.mul a (k.inv a) ≡ k.one
   pub two_nonzero : k.add k.one k.one ≢ k.zero
 
 module _ {F : Type 0} (k : FieldOps F) where
@@ -44,3 +46,12 @@ module _ {F : Type 0} (k : FieldOps F) where
   -- a - b
   abbrev pub sub : F → F → F
   sub a b = k.add a (k.neg b)
+
+-- a map of fields that keeps sums, products, opposites, 0 and 1, and tells elements apart
+pub record IsEmbedding {F E : Type 0} (k : FieldOps F) (l : FieldOps E) (embed : F → E) : Type 0 where
+  pub zero : embed k.zero ≡ l.zero
+  pub one : embed k.one ≡ l.one
+  pub add : (a b : F) → embed (k.add a b) ≡ l.add (embed a) (embed b)
+  pub mul : (a b : F) → embed (k.mul a b) ≡ l.mul (embed a) (embed b)
+  pub neg : (a : F) → embed (k.neg a) ≡ l.neg (embed a)
+  pub injective : (a b : F) → embed a ≡ embed b → a ≡ b

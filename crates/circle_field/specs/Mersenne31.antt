@@ -1,5 +1,5 @@
 -- The prime field of 2^31 - 1 elements.
-use Rattle.std.specs.Prelude.{ℕ, ◌+◌, ◌*◌, ◌-◌, ◌%◌, ◌<◌}
+use Rattle.std.specs.Prelude.{ℕ, ◌+◌, ◌*◌, ◌-◌, ◌%◌, ◌^◌, ◌<◌}
 use Rattle.std.proofs.Common.{zero, suc, lit<}
 use Rattle.std.proofs.Math.Nat.{mod-lt}
 use Rattle.circle_field.specs.declared.mersenne31.Mersenne31.{Mersenne31}
@@ -22,7 +22,11 @@ reduced-below n = mod-lt n (lit< tt)
 abbrev pub element : ℕ → Mersenne31
 element n = record { value = n % order; below_order = reduced-below n }
 
--- the field's operations: sums, products and opposites of residues, modulo the order
+-- a^n, the element to the power n
+unfoldable pub power : Mersenne31 → ℕ → Mersenne31
+power a n = element (residue a ^ n)
+
+-- the field's operations: sums, products and opposites of residues, modulo the order, and inverses as powers
 abbrev pub operations : FieldOps Mersenne31
 operations = record {
   zero = element 0;
@@ -30,6 +34,7 @@ operations = record {
   add = λ a b. element (residue a + residue b);
   mul = λ a b. element (residue a * residue b);
   neg = λ a. element (order - residue a);
+  inv = λ a. power a (order - 2);
 }
 
 -- the point q, n times added to itself

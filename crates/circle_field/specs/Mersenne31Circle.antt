@@ -5,6 +5,7 @@ use Rattle.circle_field.specs.declared.mersenne31.Mersenne31.{Mersenne31}
 use Rattle.circle_field.specs.Field.{FieldOps}
 use Rattle.circle_field.specs.Circle.{Coordinates, at, plus, origin, IsOnCircle, AreGenerators}
 use Rattle.circle_field.specs.CircleGroup.{plus-on_circle}
+use Rattle.circle_field.specs.FastPowers.{fast_power}
 use Rattle.circle_field.specs.Mersenne31.{order, residue, element, operations, doubled_times, generators}
 use Rattle.circle_field.specs.Mersenne31Laws.{same_residue, laws}
 
@@ -16,6 +17,7 @@ modulo = record {
   add = λ a b. (a + b) % order;
   mul = λ a b. (a * b) % order;
   neg = λ a. (order - a) % order;
+  inv = λ a. fast_power order 31 1 a (order - 2);
 }
 
 -- the residues of both coordinates

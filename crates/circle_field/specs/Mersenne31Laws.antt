@@ -1,12 +1,14 @@
 -- The laws of the prime field of 2^31 - 1 elements.
-use Rattle.std.specs.Prelude.{◌≡◌, ℕ, ◌+◌, ◌/◌, ◌%◌, ◌^◌, ◌<◌, refl, nat_eq, true, ◌↔◌}
+use Rattle.std.specs.Prelude.{◌≡◌, ◌≢◌, ℕ, ◌+◌, ◌/◌, ◌%◌, ◌^◌, ◌<◌, refl, nat_eq, true, ◌↔◌}
 use Rattle.std.proofs.Common.{zero, suc, sym, ◌∙◌, ap, subst, arith, eqb-true, eq-eqb}
 use Rattle.std.proofs.Math.Nat.{mod-eq_of_lt, add-mod-mod, add_comm, mul_comm, zero-add, one-mul}
 use Rattle.std.specs.Coded.{le_prop}
 use Rattle.circle_field.specs.declared.mersenne31.Mersenne31.{Mersenne31}
 use Rattle.circle_field.specs.Field.{FieldLaws, of_nat}
 use Rattle.circle_field.specs.Residues.{sum_assoc, product_assoc, product_sum, opposite_sum, folded_bits}
-use Rattle.circle_field.specs.Mersenne31.{order, residue, element, operations}
+use Rattle.circle_field.specs.Fermat.{inverse_power}
+use Rattle.circle_field.specs.Mersenne31Prime.{order_prime}
+use Rattle.circle_field.specs.Mersenne31.{order, residue, element, power, operations}
 
 -- the element of a residue
 make : (v : ℕ) → v < order → Mersenne31
@@ -27,6 +29,15 @@ same_residue a b e = same_make a.value b.value a.below_order b.below_order e
 pub residue_reduced : (a : Mersenne31) → residue a % order ≡ residue a
 residue_reduced a = mod-eq_of_lt a.below_order
 
+-- the order does not divide the residue of an element other than 0
+pub residue_nonzero : (a : Mersenne31) → a ≢ element 0 → residue a % order ≢ 0
+residue_nonzero a h = λ e. h (same_residue a (element 0) (sym (residue_reduced a) ∙ e))
+
+-- an element times its power of the order less 2 is 1
+mul-inverse : (a : Mersenne31) → a ≢ element 0 → operations.mul a (power a 2147483645) ≡ element 1
+unfolding power
+mul-inverse a h = same_residue _ _ (inverse_power order 2147483645 order_prime refl (residue a) (residue_nonzero a h))
+
 -- the field's laws
 pub laws : FieldLaws operations
 laws = record {
@@ -40,6 +51,7 @@ laws = record {
     one_mul = λ a. same_residue _ _ (ap (λ x. x % order) (one-mul (residue a)) ∙ residue_reduced a);
     mul_add = λ a b c. same_residue _ _ (product_sum order (residue a) (residue b) (residue c));
   };
+  mul_inv = mul-inverse;
   two_nonzero = λ h. let e : 2 ≡ 0 = ap residue h in cc;
 }
 

@@ -1,7 +1,9 @@
 //! The trait of fields.
-ghost use Rattle.std.specs.Prelude.{◌≡◌, ◌↔◌, ◌^◌, IsTrue, true};
+ghost use Rattle.std.specs.Prelude.{◌≡◌, ◌↔◌, ◌^◌, IsTrue, IsNone, IfSome, IfOk, map, true};
+ghost use Rattle.std.specs.List.{range_with_len};
 ghost use Rattle.circle_field.specs.Field.{FieldOps, FieldLaws, of_nat, nth_power, two, sub};
 
+use std::alloc::{AllocError, Global};
 use std::fmt::Debug;
 use std::hash::Hash;
 use std::ops::{Add, Mul, Neg, Sub};
@@ -86,6 +88,41 @@ pub trait Field: Operations
     {
         *self * Self::TWO.exp_u64(exp)
     }
+
+    /// Half the element, which plus itself is the element.
+    fn halve(&self) -> Self
+        ensures { result ≡ Self.ops.mul self.now (Self.ops.inv (two Self.ops)) }
+    {
+        match Self::TWO.try_inverse() {
+            Some(half) => *self * half,
+            None => unreachable!(),
+        }
+    }
+
+    /// The element divided by `2^exp`.
+    fn div_2exp_u64(&self, exp: u64) -> Self
+        ensures { result ≡ Self.ops.mul self.now (nth_power Self.ops (Self.ops.inv (two Self.ops)) exp) }
+    {
+        *self * Self::ONE.halve().exp_u64(exp)
+    }
+
+    /// The powers of `base` from 0 to `n - 1`. Fails where memory is refused.
+    fn powers(alloc: Global, base: Self, n: usize) -> Result<Vec<Self>, AllocError>
+        ensures { IfOk result (λ powers. powers.items ≡ map (λ i. nth_power Self.ops base i) (range_with_len 0 n)) }
+    {
+        let mut powers = Vec::with_capacity(alloc, n)?;
+        let mut power = Self::ONE;
+        for _ in 0..n {
+            powers.push(power)?;
+            power = power * base;
+        }
+        Ok(powers)
+    }
+
+    /// The inverse, which times the element is 1; `None` exactly at 0.
+    fn try_inverse(&self) -> Option<Self>
+        ensures none { IsNone result ↔ (self.now ≡ Self.ops.zero) }
+        ensures inverse { IfSome result (λ b. b ≡ Self.ops.inv self.now) };
 
     /// The sum of `int` ones.
     fn from_u64(int: u64) -> Self

@@ -16,8 +16,20 @@ pub struct Mersenne31 {
     ghost below_order: { value < 2147483647 },
 }
 
+/// The element 0, for constants of other types.
+pub const ZERO: Mersenne31 = Mersenne31 { value: 0 };
+
+/// The element 1, for constants of other types.
+pub const ONE: Mersenne31 = Mersenne31 { value: 1 };
+
+/// The element 2, for constants of other types.
+pub const TWO: Mersenne31 = Mersenne31 { value: 2 };
+
+/// The residue of the half of 1.
+const HALF: u32 = 1073741824;
+
 impl Mersenne31 {
-    ghost use Rattle.circle_field.specs.Mersenne31.{order, residue, element, operations, generators};
+    ghost use Rattle.circle_field.specs.Mersenne31.{order, residue, element, power, operations, generators};
 
     /// The number of elements: the prime `2^31 - 1`.
     pub const ORDER: u32 = 2147483647;
@@ -71,6 +83,17 @@ impl Mersenne31 {
             Mersenne31 { value: 311014874 },
             Mersenne31 { value: 1584694829 },
         )
+    }
+
+    /// The element squared `times` times.
+    fn exp_power_of_2(self, times: u32) -> Self
+        ensures { result ≡ power self (2 ^ times) }
+    {
+        let mut squared = self;
+        for _ in 0..times {
+            squared = squared.square();
+        }
+        squared
     }
 
     /// The double of a point of the circle's group.
@@ -198,6 +221,34 @@ impl Field for Mersenne31 {
 
     ghost eq_law = { equal_exactly };
 
+    /// The inverse as the power of the order less 2: its bits are 29 ones, a zero and a one.
+    fn try_inverse(&self) -> Option<Self> {
+        if self.is_zero() {
+            return None;
+        }
+        let p101 = self.exp_power_of_2(2) * *self;
+        let ones_4 = p101.square() * p101;
+        let ones_8 = ones_4.exp_power_of_2(4) * ones_4;
+        let ones_8_shifted = ones_8.exp_power_of_2(4);
+        let ones_12 = ones_8_shifted * ones_4;
+        let ones_16 = ones_8_shifted.exp_power_of_2(4) * ones_8;
+        let ones_28 = ones_16.exp_power_of_2(12) * ones_12;
+        Some(ones_28.exp_power_of_2(3) * p101)
+    }
+
+    /// Half the residue where it is even, and otherwise half of its sum with the order, which is
+    /// `2^30` more than half its other bits.
+    fn halve(&self) -> Self {
+        let half = self.value >> 1;
+        Mersenne31 {
+            value: if self.value % 2 == 1 {
+                half + HALF
+            } else {
+                half
+            },
+        }
+    }
+
     fn from_u64(int: u64) -> Self {
         Self::from_product(fold_bits(int))
     }
@@ -276,6 +327,35 @@ mod tests {
             510444705
         );
         assert_eq!(rt; Mersenne31::from_u64(5).mul_2exp_u64(100).value(), 640);
+    }
+
+    #[test]
+    fn inverses(rt: HostRuntime) {
+        let (five, seven) = (Mersenne31::from_u64(5), Mersenne31::from_u64(7));
+        assert_eq!(rt; Mersenne31::ZERO.try_inverse(), None);
+        assert_eq!(rt; Mersenne31::ONE.try_inverse(), Some(Mersenne31::ONE));
+        let half = Mersenne31::from_u64(1073741824);
+        assert_eq!(rt; Mersenne31::TWO.try_inverse(), Some(half));
+        let fifth = Mersenne31::from_u64(858993459);
+        assert_eq!(rt; five.try_inverse(), Some(fifth));
+        assert_eq!(rt; five * fifth, Mersenne31::ONE);
+        let seventh = Mersenne31::from_u64(1840700269);
+        assert_eq!(rt; seven.try_inverse(), Some(seventh));
+        assert_eq!(rt; seven * seventh, Mersenne31::ONE);
+        let large = Mersenne31::from_u64(123456789);
+        let large_inverse = Mersenne31::from_u64(391219981);
+        assert_eq!(rt; large.try_inverse(), Some(large_inverse));
+        assert_eq!(rt; large * large_inverse, Mersenne31::ONE);
+        assert_eq!(rt; minus_one().try_inverse(), Some(minus_one()));
+    }
+
+    #[test]
+    fn halves(rt: HostRuntime) {
+        assert_eq!(rt; Mersenne31::ZERO.halve(), Mersenne31::ZERO);
+        assert_eq!(rt; Mersenne31::ONE.halve().value(), 1073741824);
+        assert_eq!(rt; Mersenne31::TWO.halve(), Mersenne31::ONE);
+        assert_eq!(rt; minus_one().halve().value(), 1073741823);
+        assert_eq!(rt; (-Mersenne31::TWO).halve(), minus_one());
     }
 
     #[test]

@@ -6,5 +6,7 @@ pub mod OtherOrder
 pub mod Places
 pub mod Points
 pub mod Powers
+pub mod Projections
 pub mod Reversal
+pub mod Selectors
 pub mod Sums

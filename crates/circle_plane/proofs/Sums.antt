@@ -1,6 +1,5 @@
 -- Weighted sums, one more summand at a time.
-use Rattle.std.specs.Prelude.{◌≡◌, ℕ, ◌+◌, ◌^◌, ◌<◌, ◌≤◌, List, [], ◌∷◌, ◌++◌, length, map, Some, slice_get, slice_index_or, take, drop}
-use Rattle.std.proofs.Math.Seq.{take-append_seam}
+use Rattle.std.specs.Prelude.{◌≡◌, ℕ, ◌+◌, ◌^◌, ◌<◌, ◌≤◌, List, [], ◌∷◌, ◌++◌, length, map, Some, slice_get, slice_index_or, take}
 use Rattle.std.specs.Option.{option_map}
 use Rattle.std.proofs.Common.{zero, suc, sym, ◌∙◌, ap, refl, arith}
 use Rattle.std.proofs.lemmas.List.{take_more, length-map, length-take-le}
@@ -50,12 +49,6 @@ weighted_sum-same k f h j (x ∷ c) e =
     ap (λ v. k.add (k.mul x v) (weighted_sum k f (suc j) c)) (ap f (sym z) ∙ e 0 (omega arith) ∙ ap h z)
     ∙ ap (k.add (k.mul x (h j))) (weighted_sum-same k f h (suc j) c (λ i lt.
     ap f (let s : suc j + i ≡ j + suc i = omega arith in s) ∙ e (suc i) (omega arith) ∙ ap h (let s : j + suc i ≡ suc j + i = omega arith in s)))
-
--- what a slice of a whole vector leaves in it
-pub take-whole : {X : Type 0} (n : ℕ) (xs ys : List X) → n ≡ length ys → length xs ≡ length ys → take n (xs ++ drop (length xs) ys) ≡ xs
-take-whole n xs ys hn e =
-    let long : n ≡ length xs = hn ∙ sym e in
-    ap (λ m. take m (xs ++ drop (length xs) ys)) long ∙ take-append_seam xs (drop (length xs) ys)
 
 -- the combination of the rows by the basis at a point has the values there
 pub combination-basis : {F : Type 0} (k : FieldOps F) (rows : List (List F)) (width n : ℕ) (p : Coordinates F) → length rows ≤ 2 ^ n →

@@ -2,6 +2,7 @@ pub mod Order
 pub mod Basis
 pub mod Rows
 pub mod Point
+pub mod Projective
 pub mod Domain
 pub mod Matrix
 pub mod RowFacts

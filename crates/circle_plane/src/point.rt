@@ -1,8 +1,9 @@
 //! Points of the unit circle and their group (Circle STARKs, IACR ePrint 2024/278, section 3).
-ghost use Rattle.std.specs.Prelude.{◌≡◌, ◌≤◌, ◌^◌, ◌-◌, Ok};
-ghost use Rattle.circle_field.specs.Circle.{Coordinates, IsOnCircle, at, origin, plus, opposite, times};
+ghost use Rattle.std.specs.Prelude.{◌≡◌, ◌≢◌, ◌↔◌, IsNone, IfSome, ◌≤◌, ◌<◌, ◌^◌, ◌-◌, Ok};
+ghost use Rattle.circle_field.specs.Circle.{Coordinates, IsOnCircle, at, origin, plus, opposite, times, lifted};
+ghost use Rattle.circle_field.specs.Field.{nth_power, two, sub};
 
-use circle_field::{ComplexExtendable, Field, Operations};
+use circle_field::{ComplexExtendable, ExtensionField, Field, Operations};
 use std::alloc::AllocError;
 use std::ops::{Add, AddAssign, Mul, Neg, Sub};
 
@@ -50,6 +51,7 @@ impl<F: Field> Neutral for Point<F> {
 
 impl<F: Field> Point<F> {
     ghost use Rattle.circle_plane.specs.Basis.{vanishing, vanishing_product};
+    ghost use Rattle.circle_plane.specs.Projective.{from_line, to_line, half_turn, difference_from};
     ghost use Rattle.circle_plane.specs.Point.{coordinates};
 
     /// The point with these coordinates.
@@ -74,6 +76,31 @@ impl<F: Field> Point<F> {
         ensures { result ≡ (coordinates self).y }
     {
         self.y
+    }
+
+    /// The point of a coordinate of the projective line: `((1 - t^2) / (1 + t^2), 2t / (1 + t^2))`
+    /// (section 3, Lemma 1). `None` where `t^2 = -1`, which is at infinity.
+    pub fn from_projective_line(t: F) -> Option<Self>
+        ensures none { IsNone result ↔ (F.ops.mul t t ≡ F.ops.neg F.ops.one) }
+        ensures point { IfSome result (λ p. coordinates p ≡ from_line F.ops t) }
+        ensures back { IfSome result (λ p. to_line F.ops (coordinates p) ≡ t) }
+    {
+        let square = t.square();
+        let inverse = (F::ONE + square).try_inverse()?;
+        Some(Point {
+            x: (F::ONE - square) * inverse,
+            y: t.double() * inverse,
+        })
+    }
+
+    /// The coordinate `y / (x + 1)` of the projective line (section 3, Lemma 1). `None` at `x = -1`.
+    pub fn to_projective_line(self) -> Option<F>
+        ensures none { IsNone result ↔ ((coordinates self).x ≡ F.ops.neg F.ops.one) }
+        ensures value { IfSome result (λ t. t ≡ to_line F.ops (coordinates self)) }
+        ensures back { IfSome result (λ t. from_line F.ops t ≡ coordinates self) }
+    {
+        let inverse = (self.x + F::ONE).try_inverse()?;
+        Some(self.y * inverse)
     }
 
     /// The point plus itself (section 3.1, equation 1).
@@ -125,6 +152,43 @@ impl<F: Field> Point<F> {
         }
         product
     }
+
+    /// The selector that is zero at this point alone, at the point `at`: the coordinate of
+    /// `at - self` on the projective line (section 5.1, Lemma 11).
+    ///
+    /// Asks that `at` is not `self + (-1, 0)`, the pole.
+    pub fn v_tilde_p<EF: ExtensionField<F>>(self, at: Point<EF>) -> EF
+        requires { coordinates at ≢ plus EF.ops (half_turn EF.ops) (lifted EF.embed (coordinates self)) }
+        ensures { result ≡ to_line EF.ops (plus EF.ops (coordinates at) (opposite EF.ops (lifted EF.embed (coordinates self)))) }
+    {
+        (at - self).to_projective_line().unwrap()
+    }
+
+    /// The value at this point of `v_n(log_n)` over the selector of the point, by which Lagrange
+    /// polynomials are normalised: `-2^log_n` times the y coordinate of the point's multiple by
+    /// `2^(log_n - 1)` (section 5.1, Remark 16).
+    ///
+    /// Asks `log_n >= 1` and `log_n < 2^63`.
+    pub fn s_p_at_p(self, log_n: usize) -> F
+        requires positive { 1 ≤ log_n }
+        requires small { log_n < 2 ^ 63 }
+        ensures { result ≡ F.ops.neg (F.ops.mul (nth_power F.ops (two F.ops) log_n)
+            (times F.ops (2 ^ (log_n - 1)) (coordinates self)).y) }
+    {
+        -self.v_n_prod(log_n).mul_2exp_u64((2 * log_n - 1) as u64) * self.y
+    }
+
+    /// The numerator and the denominator of the single-point vanishing function at `at`, with a
+    /// simple zero there, as the real and the imaginary part of a complex number (section 3.3,
+    /// equation 11): `(1 - d.x, -d.y)` with `d = self - at`.
+    pub fn v_p<EF: ExtensionField<F>>(self, at: Point<EF>) -> (EF, EF)
+        ensures re { result.0 ≡ sub EF.ops EF.ops.one (difference_from EF.ops EF.embed (coordinates self) (coordinates at)).x }
+        ensures im { result.1 ≡ EF.ops.neg (difference_from EF.ops EF.embed (coordinates self) (coordinates at)).y }
+        ensures norm { EF.ops.add (EF.ops.mul result.0 result.0) (EF.ops.mul result.1 result.1) ≡ EF.ops.add result.0 result.0 }
+    {
+        let difference = -at + self;
+        (EF::ONE - difference.x, -difference.y)
+    }
 }
 
 impl<F: ComplexExtendable> Point<F> {
@@ -161,43 +225,45 @@ impl<F: Field> Neg for Point<F> {
     }
 }
 
-/// `(a, b) + (c, d) = (ac - bd, ad + bc)`.
-impl<F: Field> Add<Point<F>> for Point<F> {
-    type Output = Point<F>;
+/// `(a, b) + (c, d) = (ac - bd, ad + bc)`, where the second point may be over a smaller field.
+impl<F: Field, EF: ExtensionField<F>> Add<Point<F>> for Point<EF> {
+    type Output = Point<EF>;
 
     ghost use Rattle.circle_plane.specs.Point.{coordinates};
 
-    ghost add_gives = { λ p q r. coordinates r ≡ plus F.ops (coordinates p) (coordinates q) };
+    ghost add_gives = { λ p q r. coordinates r ≡ plus EF.ops (coordinates p) (lifted EF.embed (coordinates q)) };
 
-    fn add(self, rhs: Point<F>) -> Point<F>
-        ensures sum { coordinates result ≡ plus F.ops (coordinates self) (coordinates rhs) }
-        ensures commutes { coordinates result ≡ plus F.ops (coordinates rhs) (coordinates self) }
-        ensures associates { (r : Coordinates F) →
-            plus F.ops (coordinates result) r ≡ plus F.ops (coordinates self) (plus F.ops (coordinates rhs) r) }
-        ensures neutral { plus F.ops (coordinates self) (origin F.ops) ≡ coordinates self }
+    fn add(self, rhs: Point<F>) -> Point<EF>
+        ensures sum { coordinates result ≡ plus EF.ops (coordinates self) (lifted EF.embed (coordinates rhs)) }
+        ensures commutes { coordinates result ≡ plus EF.ops (lifted EF.embed (coordinates rhs)) (coordinates self) }
+        ensures associates { (r : Coordinates EF) →
+            plus EF.ops (coordinates result) r ≡ plus EF.ops (coordinates self) (plus EF.ops (lifted EF.embed (coordinates rhs)) r) }
+        ensures neutral { plus EF.ops (coordinates self) (origin EF.ops) ≡ coordinates self }
     {
+        let (x, y) = (EF::from_base(rhs.x), EF::from_base(rhs.y));
         Point {
-            x: self.x * rhs.x - self.y * rhs.y,
-            y: self.x * rhs.y + self.y * rhs.x,
+            x: self.x * x - self.y * y,
+            y: self.x * y + self.y * x,
         }
     }
 }
 
-/// The sum with the opposite of `rhs`.
-impl<F: Field> Sub<Point<F>> for Point<F> {
-    type Output = Point<F>;
+/// The sum with the opposite of `rhs`, which may be over a smaller field.
+impl<F: Field, EF: ExtensionField<F>> Sub<Point<F>> for Point<EF> {
+    type Output = Point<EF>;
 
     ghost use Rattle.circle_plane.specs.Point.{coordinates};
 
-    ghost sub_gives = { λ p q r. coordinates r ≡ plus F.ops (coordinates p) (opposite F.ops (coordinates q)) };
+    ghost sub_gives = { λ p q r. coordinates r ≡ plus EF.ops (coordinates p) (opposite EF.ops (lifted EF.embed (coordinates q))) };
 
-    fn sub(self, rhs: Point<F>) -> Point<F>
-        ensures difference { coordinates result ≡ plus F.ops (coordinates self) (opposite F.ops (coordinates rhs)) }
-        ensures undoes { plus F.ops (coordinates result) (coordinates rhs) ≡ coordinates self }
+    fn sub(self, rhs: Point<F>) -> Point<EF>
+        ensures difference { coordinates result ≡ plus EF.ops (coordinates self) (opposite EF.ops (lifted EF.embed (coordinates rhs))) }
+        ensures undoes { plus EF.ops (coordinates result) (lifted EF.embed (coordinates rhs)) ≡ coordinates self }
     {
+        let (x, y) = (EF::from_base(rhs.x), EF::from_base(rhs.y));
         Point {
-            x: self.x * rhs.x + self.y * rhs.y,
-            y: self.y * rhs.x - self.x * rhs.y,
+            x: self.x * x + self.y * y,
+            y: self.y * x - self.x * y,
         }
     }
 }

@@ -1,5 +1,6 @@
 //! The program as a function of its arguments, its input and its output.
-ghost use Rattle.std.specs.Prelude.{◌≡◌, ◌≤◌, ◌⊎◌, ◌↔◌, IsSome};
+ghost use Rattle.std.specs.Prelude.{◌≡◌, ◌≤◌, ◌⊎◌, ◌↔◌, IsSome, IsErr, IfOk, MatchResult, string_bytes};
+ghost use Rattle.circle_tool.specs.Failure.{status_of};
 ghost use Rattle.std.specs.Io.KnownBytes.{Appends};
 ghost use Rattle.circle_tool.specs.Arguments.{NamesCommand};
 
@@ -40,13 +41,22 @@ impl Command {
 /// writing fails, and 2 where the input can't be read. Of several faults the first counts: wrong
 /// arguments, in which case nothing is read, then a failure of `input`, then text that isn't JSON,
 /// then JSON that isn't an input of the command, then what the command refuses.
-pub fn run<R: Read, W: Write>(alloc: Global, args: &[String], input: &mut R, output: &mut W) -> u8 {
+pub fn run<R: Read, W: Write>(alloc: Global, args: &[String], input: &mut R, output: &mut W) -> u8
+    ensures status { result ≤ 2 }
+    ensures usage { ¬ NamesCommand args.now → ¬ (result ≡ 0) }
+    ensures unread { ¬ NamesCommand args.now → input.new ≡ input.old }
+{
     finish(answer(alloc, args, input), output)
 }
 
 /// Writes the answer as one line, and gives the status that the program ends with.
 pub fn finish<W: Write>(answer: Result<String, Failure>, output: &mut W) -> u8
-    ensures { result ≤ 2 }
+    ensures range { result ≤ 2 }
+    ensures status { MatchResult answer
+        (λ _. (result ≡ 0) ⊎ (result ≡ 1))
+        (λ failure. (result ≡ status_of failure) ⊎ (result ≡ 1)) }
+    ensures written { IfOk answer (λ text.
+        ¬ (result ≡ 1) → Appends (W.contents output.old) (W.contents output.new) (string_bytes text)) }
 {
     match answer {
         Ok(text) => write_line(output, text.as_bytes(), 0),
@@ -70,7 +80,8 @@ fn write_line<W: Write>(output: &mut W, line: &[u8], status: u8) -> u8
 
 // The line of the command's result.
 fn answer<R: Read>(alloc: Global, args: &[String], input: &mut R) -> Result<String, Failure>
-    ensures { ¬ NamesCommand args.now → input.new ≡ input.old }
+    ensures unread { ¬ NamesCommand args.now → input.new ≡ input.old }
+    ensures usage { ¬ NamesCommand args.now → IsErr result }
 {
     let command = Command::from_args(args).ok_or(Failure::Usage)?;
     let value = json::read(alloc, input)?;

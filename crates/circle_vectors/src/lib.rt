@@ -1,7 +1,13 @@
-//! Worked examples over several crates, with expected values from outside: tests alone.
+//! Worked examples over several crates, with expected values from outside: tests, and the field
+//! that they alone use.
 #![tactic(auto)]
 
 #[cfg(test)]
+mod extensions;
+#[cfg(test)]
+mod fields;
+#[cfg(test)]
 mod points;
+pub mod quadratic;
 #[cfg(test)]
 mod values;

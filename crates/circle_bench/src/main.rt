@@ -1,0 +1,90 @@
+//! Chains of field operations: what they come to, or with the argument `time` how long they take.
+#![tactic(auto)]
+
+mod chains;
+mod timing;
+
+use chains::Operation;
+use circle_field::{Cubic, ExtensionField, Field, Mersenne31};
+use std::process::ExitCode;
+use std::{env, io};
+use timing::{Case, Mode};
+
+/// The chains over [`Mersenne31`].
+const MERSENNE31: [Case; 6] = [
+    Case {
+        operation: Operation::Add,
+        large: 1 << 26,
+    },
+    Case {
+        operation: Operation::Sub,
+        large: 1 << 26,
+    },
+    Case {
+        operation: Operation::Mul,
+        large: 1 << 25,
+    },
+    Case {
+        operation: Operation::Halve,
+        large: 1 << 26,
+    },
+    Case {
+        operation: Operation::TryInverse,
+        large: 1 << 20,
+    },
+    Case {
+        operation: Operation::BatchInverse,
+        large: 1 << 22,
+    },
+];
+
+/// The chains over [`Cubic`].
+const CUBIC: [Case; 5] = [
+    Case {
+        operation: Operation::Add,
+        large: 1 << 25,
+    },
+    Case {
+        operation: Operation::Mul,
+        large: 1 << 22,
+    },
+    Case {
+        operation: Operation::Halve,
+        large: 1 << 25,
+    },
+    Case {
+        operation: Operation::TryInverse,
+        large: 1 << 19,
+    },
+    Case {
+        operation: Operation::BatchInverse,
+        large: 1 << 20,
+    },
+];
+
+fn main(rt: HostRuntime) -> io::Result<ExitCode> {
+    let Some(mode) = mode(&rt)? else {
+        eprintln!(rt; "usage: circle_bench [time]")?;
+        return Ok(ExitCode::from(2));
+    };
+    let start = Mersenne31::from_u64(123456789);
+    let step = Mersenne31::from_u64(987654321);
+    timing::report(&rt, mode, "Mersenne31", &MERSENNE31, start, step)?;
+    let start = Cubic::from_coefficients(&[start, step, start.square()]);
+    let step = Cubic::from_coefficients(&[step, start.coefficient(2), step.square()]);
+    timing::report(&rt, mode, "Cubic", &CUBIC, start, step)?;
+    Ok(ExitCode::SUCCESS)
+}
+
+/// What the arguments ask for, or `None` where they ask for nothing that there is.
+fn mode(rt: &HostRuntime) -> io::Result<Option<Mode>> {
+    let mut args = env::args(rt)?.skip(1);
+    let Some(word) = args.next() else {
+        return Ok(Some(Mode::Digests));
+    };
+    if word.as_str() == "time" && args.next().is_none() {
+        Ok(Some(Mode::Times))
+    } else {
+        Ok(None)
+    }
+}

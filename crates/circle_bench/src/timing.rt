@@ -1,0 +1,99 @@
+//! Lines about chains: what they come to, and how long an operation takes.
+use crate::chains::{self, Operation};
+use circle_field::{ExtensionField, Field, Mersenne31};
+use std::alloc::{AllocError, Global};
+use std::io;
+use std::time::{Duration, Instant};
+
+/// The length of a chain whose last element is printed.
+const SMALL: usize = 1000;
+
+/// How many times a chain is run when it is timed.
+const RUNS: u32 = 9;
+
+/// What is printed of each chain.
+#[derive(Clone, Copy, PartialEq, Eq)]
+pub enum Mode {
+    /// The last element of a short chain.
+    Digests,
+
+    /// The time of an operation in the fastest run of a long chain.
+    Times,
+}
+
+/// A chain of an operation, with the length at which it is timed.
+#[derive(Clone, Copy)]
+pub struct Case {
+    pub operation: Operation,
+    pub large: usize,
+}
+
+/// Prints a line for each chain.
+pub fn report<F: ExtensionField<Mersenne31>>(
+    rt: &HostRuntime,
+    mode: Mode,
+    field: &str,
+    cases: &[Case],
+    start: F,
+    step: F,
+) -> io::Result<()> {
+    for case in cases {
+        let name = case.operation.name();
+        match mode {
+            Mode::Digests => {
+                let (_, last) = fastest(rt, case.operation, start, step, SMALL, 1)?;
+                println!(rt; "{field} {name} {SMALL}: {:?}", numbers(rt.alloc(), last)?)?;
+            }
+            Mode::Times => {
+                let (time, last) = fastest(rt, case.operation, start, step, case.large, RUNS)?;
+                let hundredths = hundredths_of_nanoseconds(time, case.large);
+                println!(rt;
+                    "{field} {name} {}: {}.{:02} ns, {:?}",
+                    case.large,
+                    hundredths / 100,
+                    hundredths % 100,
+                    numbers(rt.alloc(), last)?
+                )?;
+            }
+        }
+    }
+    Ok(())
+}
+
+/// The shortest time of a run, and the last element. Each run begins where the one before it ended,
+/// so that none can be left out.
+fn fastest<F: Field>(
+    rt: &HostRuntime,
+    operation: Operation,
+    start: F,
+    step: F,
+    size: usize,
+    runs: u32,
+) -> io::Result<(Duration, F)> {
+    let count = if operation == Operation::BatchInverse {
+        size
+    } else {
+        0
+    };
+    let elements = chains::nonzero_elements(rt.alloc(), start, step, count)?;
+    let mut best = Duration::MAX;
+    let mut x = start;
+    for _ in 0..runs {
+        let begin = Instant::now(rt)?;
+        x = operation.run(rt.alloc(), &elements, x, step, size)?;
+        best = best.min(begin.elapsed(rt)?);
+    }
+    Ok((best, x))
+}
+
+/// The time of one of `size` operations in hundredths of a nanosecond.
+fn hundredths_of_nanoseconds(time: Duration, size: usize) -> u128 {
+    time.as_nanos().saturating_mul(100) / (size.max(1) as u128)
+}
+
+/// The residues of an element's coefficients.
+fn numbers<F: ExtensionField<Mersenne31>>(alloc: Global, x: F) -> Result<Vec<u32>, AllocError> {
+    (0..F::DEGREE)
+        .map(|i| x.coefficient(i).value())
+        .collect(alloc)
+}

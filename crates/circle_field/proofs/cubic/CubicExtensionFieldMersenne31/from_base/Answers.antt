@@ -1,0 +1,6 @@
+use Rattle.std.specs.Prelude.{refl}
+use Rattle.circle_field.specs.CubicOperations.{same_residues}
+use Rattle.circle_field.proofs.cubic.CubicExtensionFieldMersenne31.from_base.Goals as goal
+
+pub returns : goal.returns
+returns c = same_residues _ _ refl refl refl

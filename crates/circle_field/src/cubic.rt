@@ -1,0 +1,371 @@
+//! The cubic extension of Mersenne31.
+ghost use Rattle.std.specs.Prelude.{◌≡◌};
+ghost use Rattle.circle_field.specs.Mersenne31.{operations as base};
+ghost use Rattle.circle_field.specs.CubicField.{crossed};
+ghost use Rattle.circle_field.specs.CubicFive.{five};
+
+use crate::extension::{ElementBytes, ExtensionField};
+use crate::field::{Field, Operations};
+use crate::mersenne31::{self, Mersenne31};
+use std::ops::{Add, Mul, Neg, Sub};
+
+/// An element of the field of `(2^31 - 1)^3` elements: a polynomial `c0 + c1 X + c2 X^2` over
+/// [`Mersenne31`], where `X^3` is 5, which is no cube there.
+#[derive(Clone, Copy, PartialEq, Eq, Hash, Debug)]
+pub struct Cubic {
+    c0: Mersenne31,
+    c1: Mersenne31,
+    c2: Mersenne31,
+}
+
+impl Cubic {
+    ghost use Rattle.circle_field.specs.CubicField.{adjugate, norm};
+    ghost use Rattle.circle_field.specs.Cubic.{triple_of};
+
+    /// The product of the two conjugates.
+    fn conjugates(&self) -> Self
+        ensures { triple_of result ≡ adjugate base five (triple_of self.now) }
+    {
+        Cubic {
+            c0: self.c0.square() - times_five(self.c1 * self.c2),
+            c1: times_five(self.c2.square()) - self.c0 * self.c1,
+            c2: self.c1.square() - self.c0 * self.c2,
+        }
+    }
+
+    /// The product of all three conjugates, of which `conjugates` is that of two.
+    fn norm(&self, conjugates: Self) -> Mersenne31
+        requires { triple_of conjugates ≡ adjugate base five (triple_of self.now) }
+        ensures { result ≡ norm base five (triple_of self.now) }
+    {
+        let high = self.c2 * conjugates.c1 + self.c1 * conjugates.c2;
+        self.c0 * conjugates.c0 + times_five(high)
+    }
+}
+
+/// The element times 5.
+fn times_five(x: Mersenne31) -> Mersenne31
+    ensures { result ≡ base.mul five x }
+{
+    x.double().double() + x
+}
+
+/// The middle coefficient of the product of two linear polynomials, of which `low` and `high` are
+/// the other two.
+fn crossed(
+    a: (Mersenne31, Mersenne31),
+    b: (Mersenne31, Mersenne31),
+    low: Mersenne31,
+    high: Mersenne31,
+) -> Mersenne31
+    requires low { low ≡ base.mul a.0 b.0 }
+    requires high { high ≡ base.mul a.1 b.1 }
+    ensures { result ≡ crossed base a.0 a.1 b.0 b.1 }
+{
+    (a.0 + a.1) * (b.0 + b.1) - low - high
+}
+
+impl Operations for Cubic {
+    ghost use Rattle.circle_field.specs.Cubic.{operations};
+    ghost use Rattle.circle_field.specs.CubicOperations.{laws};
+
+    ghost ops = { operations };
+
+    ghost laws = { laws };
+}
+
+impl Add for Cubic {
+    type Output = Self;
+
+    ghost use Rattle.circle_field.specs.Cubic.{operations};
+
+    ghost add_gives = { λ a b r. r ≡ operations.add a b };
+
+    fn add(self, rhs: Self) -> Self {
+        Cubic {
+            c0: self.c0 + rhs.c0,
+            c1: self.c1 + rhs.c1,
+            c2: self.c2 + rhs.c2,
+        }
+    }
+}
+
+impl Sub for Cubic {
+    type Output = Self;
+
+    ghost use Rattle.circle_field.specs.Field.{sub};
+    ghost use Rattle.circle_field.specs.Cubic.{operations};
+
+    ghost sub_gives = { λ a b r. r ≡ sub operations a b };
+
+    fn sub(self, rhs: Self) -> Self {
+        Cubic {
+            c0: self.c0 - rhs.c0,
+            c1: self.c1 - rhs.c1,
+            c2: self.c2 - rhs.c2,
+        }
+    }
+}
+
+impl Mul for Cubic {
+    type Output = Self;
+
+    ghost use Rattle.circle_field.specs.Cubic.{operations};
+
+    ghost mul_gives = { λ a b r. r ≡ operations.mul a b };
+
+    fn mul(self, rhs: Self) -> Self {
+        let (p0, p1, p2) = (self.c0 * rhs.c0, self.c1 * rhs.c1, self.c2 * rhs.c2);
+        let high = crossed((self.c1, self.c2), (rhs.c1, rhs.c2), p1, p2);
+        Cubic {
+            c0: p0 + times_five(high),
+            c1: crossed((self.c0, self.c1), (rhs.c0, rhs.c1), p0, p1) + times_five(p2),
+            c2: crossed((self.c0, self.c2), (rhs.c0, rhs.c2), p0, p2) + p1,
+        }
+    }
+}
+
+impl Neg for Cubic {
+    type Output = Self;
+
+    ghost use Rattle.circle_field.specs.Cubic.{operations};
+
+    ghost neg_gives = { λ a r. r ≡ operations.neg a };
+
+    fn neg(self) -> Self {
+        Cubic {
+            c0: -self.c0,
+            c1: -self.c1,
+            c2: -self.c2,
+        }
+    }
+}
+
+impl Field for Cubic {
+    ghost use Rattle.circle_field.specs.Cubic.{operations};
+    ghost use Rattle.circle_field.specs.Field.{two};
+    ghost use Rattle.circle_field.specs.CubicOperations.{equal_exactly};
+    ghost use Rattle.std.specs.Prelude.{refl};
+
+    const ZERO: Self = Cubic {
+        c0: mersenne31::ZERO,
+        c1: mersenne31::ZERO,
+        c2: mersenne31::ZERO,
+    };
+
+    const ONE: Self = Cubic {
+        c0: mersenne31::ONE,
+        c1: mersenne31::ZERO,
+        c2: mersenne31::ZERO,
+    };
+
+    const TWO: Self = Cubic {
+        c0: mersenne31::TWO,
+        c1: mersenne31::ZERO,
+        c2: mersenne31::ZERO,
+    };
+
+    ghost ZERO = { operations.zero };
+
+    ghost ONE = { operations.one };
+
+    ghost TWO = { two operations };
+
+    ghost clone_law = { λ a b h. h };
+
+    ghost clone_infallible_law = { λ a. tt };
+
+    ghost zero_law = { refl };
+
+    ghost one_law = { refl };
+
+    ghost two_law = { refl };
+
+    ghost can_add_law = { λ a b. tt };
+
+    ghost add_law = { λ a b r h. h };
+
+    ghost can_sub_law = { λ a b. tt };
+
+    ghost sub_law = { λ a b r h. h };
+
+    ghost can_mul_law = { λ a b. tt };
+
+    ghost mul_law = { λ a b r h. h };
+
+    ghost can_neg_law = { λ a. tt };
+
+    ghost neg_law = { λ a r h. h };
+
+    ghost eq_law = { equal_exactly };
+
+    fn try_inverse(&self) -> Option<Self> {
+        let conjugates = self.conjugates();
+        match self.norm(conjugates).try_inverse() {
+            Some(scale) => Some(Cubic {
+                c0: scale * conjugates.c0,
+                c1: scale * conjugates.c1,
+                c2: scale * conjugates.c2,
+            }),
+            None => None,
+        }
+    }
+
+    fn halve(&self) -> Self {
+        Cubic {
+            c0: self.c0.halve(),
+            c1: self.c1.halve(),
+            c2: self.c2.halve(),
+        }
+    }
+
+    fn from_u64(int: u64) -> Self {
+        Self::from_base(Mersenne31::from_u64(int))
+    }
+}
+
+impl ExtensionField<Mersenne31> for Cubic {
+    ghost use Rattle.circle_field.specs.Cubic.{embed, coefficients};
+    ghost use Rattle.circle_field.specs.CubicOperations.{is_embedding, are_coefficients};
+    ghost use Rattle.std.proofs.Common.{lit≤};
+
+    const DEGREE: usize = 3;
+
+    ghost DEGREE = { 3 };
+
+    ghost embed = { embed };
+
+    ghost coefficients = { coefficients };
+
+    ghost degree_positive = { lit≤ tt };
+
+    ghost embedding = { is_embedding };
+
+    ghost are_coefficients = { are_coefficients };
+
+    fn from_base(x: Mersenne31) -> Self {
+        Cubic {
+            c0: x,
+            c1: Mersenne31::ZERO,
+            c2: Mersenne31::ZERO,
+        }
+    }
+
+    fn coefficient(&self, i: usize) -> Mersenne31 {
+        match i {
+            0 => self.c0,
+            1 => self.c1,
+            _ => self.c2,
+        }
+    }
+
+    fn from_coefficients(coeffs: &[Mersenne31]) -> Self {
+        Cubic {
+            c0: coeffs[0],
+            c1: coeffs[1],
+            c2: coeffs[2],
+        }
+    }
+}
+
+/// The bytes of the coefficients of 1, `X` and `X^2`, in this order.
+impl ElementBytes for Cubic {
+    type Bytes = [u8; 12];
+
+    ghost use Rattle.circle_field.specs.Cubic.{cubic_bytes};
+    ghost use Rattle.circle_field.specs.CubicBytes.{cubic_told_apart};
+    ghost use Rattle.std.specs.Prelude.{refl};
+
+    const BYTES: usize = 12;
+
+    ghost BYTES = { 12 };
+
+    ghost bytes = { cubic_bytes };
+
+    ghost count = { λ a. refl };
+
+    ghost told_apart = { cubic_told_apart };
+
+    fn to_bytes(&self) -> [u8; 12] {
+        let [a0, a1, a2, a3] = self.c0.to_bytes();
+        let [b0, b1, b2, b3] = self.c1.to_bytes();
+        let [c0, c1, c2, c3] = self.c2.to_bytes();
+        [a0, a1, a2, a3, b0, b1, b2, b3, c0, c1, c2, c3]
+    }
+}
+
+#[cfg(test)]
+mod tests {
+    use super::*;
+    use crate::extension::PrimeField64;
+
+    fn cubic(c0: u64, c1: u64, c2: u64) -> Cubic {
+        let coeffs = [
+            Mersenne31::from_u64(c0),
+            Mersenne31::from_u64(c1),
+            Mersenne31::from_u64(c2),
+        ];
+        Cubic::from_coefficients(&coeffs)
+    }
+
+    #[test]
+    fn the_cube_of_the_root_is_five(rt: HostRuntime) {
+        assert_eq!(rt; cubic(0, 1, 0) * cubic(0, 0, 1), cubic(5, 0, 0));
+        assert_eq!(rt; cubic(0, 1, 0).exp_u64(3), Cubic::from_u64(5));
+    }
+
+    #[test]
+    fn products(rt: HostRuntime) {
+        let (a, b) = (
+            cubic(123456789, 987654321, 2147483646),
+            cubic(31, 1000000007, 271828182),
+        );
+        assert_eq!(rt; a * b, cubic(1846024283, 743455097, 393425551));
+        assert_eq!(rt; a * b, b * a);
+        assert_eq!(rt; (a - b) * (a + b), a.square() - b.square());
+    }
+
+    #[test]
+    fn inverses(rt: HostRuntime) {
+        assert_eq!(rt; cubic(0, 1, 0).try_inverse(), Some(cubic(0, 0, 858993459)));
+        assert_eq!(rt; Cubic::ZERO.try_inverse(), None);
+        for a in [
+            cubic(7, 0, 0),
+            cubic(0, 0, 1),
+            cubic(123456789, 987654321, 2147483646),
+        ] {
+            let inverse = a.try_inverse().unwrap_or(Cubic::ZERO);
+            assert_eq!(rt; a * inverse, Cubic::ONE);
+        }
+    }
+
+    #[test]
+    fn halves(rt: HostRuntime) {
+        assert_eq!(rt;
+            cubic(1, 2, 2147483646).halve(),
+            cubic(1073741824, 1, 1073741823)
+        );
+    }
+
+    #[test]
+    fn coefficients(rt: HostRuntime) {
+        let a = cubic(7, 8, 9);
+        let (c0, c1, c2): (Mersenne31, Mersenne31, Mersenne31) = (
+            a.coefficient(0),
+            a.coefficient(1),
+            a.coefficient(2),
+        );
+        assert_eq!(rt; (c0.value(), c1.value(), c2.value()), (7, 8, 9));
+        assert_eq!(rt; Cubic::from_base(Mersenne31::TWO), Cubic::TWO);
+    }
+
+    #[test]
+    fn bytes(rt: HostRuntime) {
+        assert_eq!(rt; (-Mersenne31::ONE).as_u64(), 2147483646);
+        assert_eq!(rt; (-Mersenne31::ONE).to_bytes(), [127, 255, 255, 254]);
+        assert_eq!(rt;
+            cubic(258, 0, 2147483646).to_bytes(),
+            [0, 0, 1, 2, 0, 0, 0, 0, 127, 255, 255, 254]
+        );
+    }
+}
