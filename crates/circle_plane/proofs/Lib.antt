@@ -1,5 +1,9 @@
 pub mod Bases
+pub mod Blocks
 pub mod FlatRows
+pub mod HalfSums
+pub mod Inversion
+pub mod Layered
 pub mod Multiples
 pub mod Orders
 pub mod OtherOrder
@@ -10,3 +14,5 @@ pub mod Projections
 pub mod Reversal
 pub mod Selectors
 pub mod Sums
+pub mod Transform
+pub mod Written

@@ -1,5 +1,6 @@
 pub mod Order
 pub mod Basis
+pub mod Layers
 pub mod Rows
 pub mod Point
 pub mod Projective

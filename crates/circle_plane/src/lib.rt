@@ -3,6 +3,7 @@
 
 pub mod cfft;
 pub mod domain;
+mod layers;
 pub mod matrix;
 pub mod ordering;
 pub mod point;

@@ -1,0 +1,10 @@
+use Rattle.std.proofs.Common.{◌≡◌, ℕ, length}
+use Rattle.circle_plane.specs.Layers.{pairwise}
+use Rattle.circle_plane.proofs.Written.{written}
+use Rattle.circle_plane.proofs.layers.apply_pairs.Given as goal
+
+abbrev pub invariant-loop-i : goal.invariant-loop-i
+invariant-loop-i g l = record {
+  low : l.lows ≡ written l.i (pairwise (g.B.Butterfly.lower l.factor) l.fn.lows l.fn.highs) l.fn.lows;
+  high : l.highs ≡ written l.i (pairwise (g.B.Butterfly.upper l.factor) l.fn.lows l.fn.highs) l.fn.highs;
+}
