@@ -1,5 +1,4 @@
 pub mod Bases
-pub mod FlatRows
 pub mod Multiples
 pub mod Orders
 pub mod OtherOrder
