@@ -1,6 +1,5 @@
 pub mod Bases
 pub mod Blocks
-pub mod FlatRows
 pub mod HalfSums
 pub mod Inversion
 pub mod Layered

@@ -8,7 +8,7 @@ use Rattle.std.proofs.lemmas.List.FromFn.{length-map-range_with_len, fill_by_all
 use Rattle.circle_field.specs.Field.{FieldOps}
 use Rattle.circle_field.specs.Circle.{Coordinates, origin}
 use Rattle.circle_plane.specs.Basis.{value, values_at}
-use Rattle.circle_plane.specs.Matrix.{column}
+use Rattle.circle_commit.specs.Matrix.{column}
 use Rattle.circle_plane.specs.Order.{natural_order}
 use Rattle.circle_plane.specs.Ordering.{cfft_index, other_order}
 use Rattle.circle_plane.proofs.Orders.{length-natural_from, two_halves}

@@ -3,7 +3,7 @@ use Rattle.std.specs.Prelude.{◌≡◌, ℕ, ◌+◌, ◌*◌, ◌^◌, ◌<◌
 use Rattle.std.proofs.Common.{suc, arith, lit<, ⊎_elim}
 use Rattle.std.proofs.Math.Nat.{pow-suc, pow-le-pow_right}
 use Rattle.std.proofs.lemmas.Bool.{cases_lt}
-use Rattle.circle_plane.specs.Matrix.{IsPowerOfTwo}
+use Rattle.circle_commit.specs.Matrix.{IsPowerOfTwo}
 
 pub pow_within : (i j : ℕ) → i ≤ j → 2 ^ i ≤ 2 ^ j
 pow_within i j h = pow-le-pow_right (lit< tt) h

@@ -9,7 +9,7 @@ use Rattle.circle_field.specs.Field.{FieldOps, RingLaws}
 use Rattle.circle_field.specs.RingFacts.{add_zero}
 use Rattle.circle_field.specs.Circle.{Coordinates}
 use Rattle.circle_plane.specs.Basis.{weighted_sum, circle_basis, basis_values, value, values_at, combination}
-use Rattle.circle_plane.specs.Matrix.{column}
+use Rattle.circle_commit.specs.Matrix.{column}
 use Rattle.circle_plane.proofs.Bases.{shifted}
 
 module _ {F : Type 0} {k : FieldOps F} (laws : RingLaws k) where

@@ -5,7 +5,7 @@ use Rattle.std.specs.List.{range_with_len}
 use Rattle.std.proofs.Common.{zero, suc}
 use Rattle.circle_field.specs.Field.{FieldOps}
 use Rattle.circle_field.specs.Circle.{Coordinates}
-use Rattle.circle_plane.specs.Matrix.{column}
+use Rattle.circle_commit.specs.Matrix.{column}
 
 module _ {F : Type 0} (k : FieldOps F) where
   -- the x coordinate of the double of a point with x coordinate x: 2 x^2 - 1

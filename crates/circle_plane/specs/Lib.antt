@@ -5,9 +5,6 @@ pub mod Rows
 pub mod Point
 pub mod Projective
 pub mod Domain
-pub mod Matrix
-pub mod RowFacts
-pub mod RowMajorMatrix
 pub mod Ordering
 pub mod CfftPerm
 pub mod CircleEvaluations

@@ -1,7 +1,7 @@
 -- The permutation between the two orders of a domain.
 use Rattle.std.specs.Prelude.{ℕ, List, ◌+◌, ◌-◌, ◌*◌, ◌/◌, ◌%◌, ◌^◌, nat_eq, if◌then◌else◌}
 use Rattle.std.proofs.Common.{zero, suc}
-use Rattle.circle_plane.specs.Matrix.{mapped_rows}
+use Rattle.circle_commit.specs.Matrix.{mapped_rows}
 
 -- the number whose n lowest bits are those of i in the other order
 abbrev pub reversed : ℕ → ℕ → ℕ

@@ -2,17 +2,17 @@
 ghost use Rattle.std.specs.Prelude.{◌≡◌, ℕ, ◌<◌, ◌≤◌, ◌^◌, ◌+◌, ◌*◌, ◌++◌, List, length, map, IfOk, OnOk, slice_index_or};
 ghost use Rattle.std.specs.List.{range_with_len};
 ghost use Rattle.circle_plane.specs.Basis.{basis_values, values_at, combination};
-ghost use Rattle.circle_plane.specs.Matrix.{IsPowerOfTwo};
+ghost use Rattle.circle_commit.specs.Matrix.{IsPowerOfTwo};
 ghost use Rattle.circle_plane.specs.Order.{natural_order};
 ghost use Rattle.circle_plane.specs.Point.{coordinates};
 ghost use Rattle.circle_plane.specs.Domain.{log_size, shift_of};
-ghost use Rattle.circle_plane.specs.RowMajorMatrix.{rows, width_of, height_of};
+ghost use Rattle.circle_commit.specs.RowMajorMatrix.{rows, width_of, height_of};
 ghost use Rattle.circle_plane.specs.Ordering.{other_order};
 
 use crate::domain::CircleDomain;
-use crate::matrix::{Matrix, RowIndexMappedView, RowMajorMatrix, Shape};
 use crate::ordering::{CfftPerm, CfftView, cfft_permute_index};
 use crate::point::Point;
+use circle_commit::{Matrix, RowIndexMappedView, RowMajorMatrix, Shape};
 use circle_field::{ComplexExtendable, Field, Operations};
 use std::alloc::{AllocError, Global};
 

@@ -4,12 +4,10 @@
 pub mod cfft;
 pub mod domain;
 mod layers;
-pub mod matrix;
 pub mod ordering;
 pub mod point;
 
 pub use cfft::{CircleEvaluations, circle_basis};
 pub use domain::{CircleCoset, CircleDomain, CirclePoints};
-pub use matrix::{Matrix, RowIndexMap, RowIndexMappedView, RowMajorMatrix, Shape};
 pub use ordering::{CfftPerm, CfftView, cfft_permute_index};
 pub use point::{Neutral, Point};

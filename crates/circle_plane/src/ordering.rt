@@ -2,7 +2,7 @@
 ghost use Rattle.std.specs.Prelude.{◌≡◌, ◌≤◌, ◌<◌, ◌^◌, Ok};
 ghost use Rattle.circle_plane.specs.Ordering.{cfft_index, reversed};
 
-use crate::matrix::{RowIndexMap, RowIndexMappedView};
+use circle_commit::{RowIndexMap, RowIndexMappedView};
 use std::alloc::AllocError;
 
 /// The natural place of the point at place `index` of the transform's order, among `2^log_n` points:

@@ -3,7 +3,7 @@ use Rattle.std.specs.Prelude.{ℕ, ◌≤◌, ◌^◌, List, length}
 use Rattle.circle_field.specs.declared.mersenne31.Mersenne31.{Mersenne31}
 use Rattle.circle_field.specs.Mersenne31.{operations}
 use Rattle.circle_field.specs.Circle.{Coordinates, at, IsOnCircle}
-use Rattle.circle_plane.specs.Matrix.{IsPowerOfTwo}
+use Rattle.circle_commit.specs.Matrix.{IsPowerOfTwo}
 use Rattle.circle_tool.specs.Rows.{lists}
 use Rattle.circle_tool.specs.declared.values.Input.{Input}
 

@@ -3,17 +3,18 @@ ghost use Rattle.std.specs.Prelude.{◌≡◌, ◌<◌, ◌≤◌, ◌↔◌, le
 ghost use Rattle.circle_field.specs.Circle.{IsOnCircle, at};
 ghost use Rattle.circle_field.specs.Mersenne31.{operations, generators};
 ghost use Rattle.circle_plane.specs.Basis.{values_at};
-ghost use Rattle.circle_plane.specs.Matrix.{IsPowerOfTwo};
+ghost use Rattle.circle_commit.specs.Matrix.{IsPowerOfTwo};
 ghost use Rattle.circle_plane.specs.Order.{natural_order};
-ghost use Rattle.circle_plane.specs.RowMajorMatrix.{rows as matrix_rows, width_of, height_of};
+ghost use Rattle.circle_commit.specs.RowMajorMatrix.{rows as matrix_rows, width_of, height_of};
 ghost use Rattle.circle_tool.specs.Rows.{lists, IsRectangular, row_length};
 ghost use Rattle.circle_tool.specs.Input.{coefficients_of, shift_of, HasFittingSize, HasPoint, IsFittingHeight, HasFittingHeight};
 
 use crate::failure::Failure;
 use crate::json;
 use crate::json::JsonError;
+use circle_commit::{Matrix, RowMajorMatrix};
 use circle_field::{Field, Mersenne31};
-use circle_plane::{CfftView, CircleDomain, CircleEvaluations, Matrix, Point, RowMajorMatrix};
+use circle_plane::{CfftView, CircleDomain, CircleEvaluations, Point};
 use serde_json::Value;
 use std::alloc::{AllocError, Global};
 use thiserror::Error;

@@ -1,8 +1,7 @@
 //! The circle basis and the values of polynomials over Mersenne31.
+use circle_commit::{Matrix, RowMajorMatrix};
 use circle_field::{Field, Mersenne31};
-use circle_plane::{
-    CfftView, CircleDomain, CircleEvaluations, Matrix, Point, RowMajorMatrix, circle_basis,
-};
+use circle_plane::{CfftView, CircleDomain, CircleEvaluations, Point, circle_basis};
 use std::alloc::{AllocError, Global};
 use std::process::Abort;
 use std::test::Fail;

@@ -5,8 +5,8 @@ use Rattle.std.proofs.lemmas.List.FromFn.{fill_by_all}
 use Rattle.std.proofs.Math.Seq.{take-length}
 use Rattle.std.proofs.lemmas.Option.{get_or_from_slice_get}
 use Rattle.circle_plane.specs.Basis.{weighted_sum}
-use Rattle.circle_plane.specs.Matrix.{column}
-use Rattle.circle_plane.specs.RowMajorMatrix.{rows, width_of, length-rows, rows-width}
+use Rattle.circle_commit.specs.Matrix.{column}
+use Rattle.circle_commit.specs.RowMajorMatrix.{rows, width_of, length-rows, rows-width}
 use Rattle.circle_field.proofs.Inverses.{take-whole}
 use Rattle.circle_plane.proofs.Sums.{column-more}
 use Rattle.circle_plane.proofs.cfft.combine_rows.Goals as goal

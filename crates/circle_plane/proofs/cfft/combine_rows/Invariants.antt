@@ -1,8 +1,8 @@
 use Rattle.std.proofs.Common.{◌≡◌, ℕ, ◌<◌, length, take}
 use Rattle.std.specs.Prelude.{slice_index_or}
 use Rattle.circle_plane.specs.Basis.{weighted_sum}
-use Rattle.circle_plane.specs.Matrix.{column}
-use Rattle.circle_plane.specs.RowMajorMatrix.{rows, width_of}
+use Rattle.circle_commit.specs.Matrix.{column}
+use Rattle.circle_commit.specs.RowMajorMatrix.{rows, width_of}
 use Rattle.circle_plane.proofs.cfft.combine_rows.Given as goal
 
 abbrev pub invariant-loop-r : goal.invariant-loop-r

@@ -2,7 +2,7 @@ use Rattle.std.proofs.Common.{◌≡◌, ℕ, ◌^◌, ◌≤◌, ◌∙◌, sym
 use Rattle.std.proofs.lemmas.List.FromFn.{length-map-range_with_len}
 use Rattle.circle_plane.specs.Basis.{circle_basis, combination, values_at}
 use Rattle.circle_plane.specs.Point.{coordinates}
-use Rattle.circle_plane.specs.RowMajorMatrix.{rows, width_of, height_of, length-rows}
+use Rattle.circle_commit.specs.RowMajorMatrix.{rows, width_of, height_of, length-rows}
 use Rattle.circle_plane.proofs.Powers.{pow_within, power_within}
 use Rattle.circle_plane.proofs.Sums.{combination-basis}
 use Rattle.circle_plane.proofs.cfft.row_of_values.Goals as goal

@@ -1,4 +1,3 @@
-use Rattle.circle_plane.proofs.HalfSums.{value-low, high-low, value-halves}
 use Rattle.std.proofs.Common.{◌≡◌, ℕ, ◌<◌, sym, ◌∙◌, ap, arith, length, slice_index_or, slice_set}
 use Rattle.circle_plane.specs.Layers.{pairwise}
 use Rattle.circle_plane.proofs.Written.{written, written-read, written-more, written-all, length-pairwise, pairwise-read}

@@ -1,7 +1,7 @@
 use Rattle.std.proofs.Common.{◌≡◌, ◌/◌, ◌%◌, length, vec_len, ◌∙◌, ap, sym}
 use Rattle.std.proofs.Math.Nat.{mul-mod_left, mul-div_cancel}
-use Rattle.circle_plane.specs.Matrix.{rows_from}
-use Rattle.circle_plane.specs.RowMajorMatrix.{length-rows}
+use Rattle.circle_commit.specs.Matrix.{rows_from}
+use Rattle.circle_commit.specs.RowMajorMatrix.{length-rows}
 use Rattle.circle_tool.proofs.Rows.{IsJoined, is_joined, length-lists}
 use Rattle.circle_tool.proofs.values.matrix.Goals as goal
 

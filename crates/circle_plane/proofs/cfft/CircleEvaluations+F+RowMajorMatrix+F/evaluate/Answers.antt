@@ -5,13 +5,13 @@ use Rattle.std.proofs.lemmas.Option.{get_or_from_slice_get}
 use Rattle.circle_field.specs.Circle.{Coordinates, origin}
 use Rattle.circle_plane.specs.Basis.{values_at}
 use Rattle.circle_plane.specs.Domain.{log_size, shift_of}
-use Rattle.circle_plane.specs.Matrix.{rows_from}
+use Rattle.circle_commit.specs.Matrix.{rows_from}
 use Rattle.circle_plane.specs.Order.{natural_order}
 use Rattle.circle_plane.specs.Ordering.{cfft_index, other_order}
 use Rattle.circle_plane.specs.Point.{coordinates}
-use Rattle.circle_plane.specs.RowFacts.{length-rows_from}
-use Rattle.circle_plane.specs.RowMajorMatrix.{rows, width_of, height_of, length-rows}
-use Rattle.circle_plane.proofs.FlatRows.{flat-more, whole_rows, row_count, stored_rows}
+use Rattle.circle_commit.specs.RowFacts.{length-rows_from}
+use Rattle.circle_commit.specs.RowMajorMatrix.{rows, width_of, height_of, length-rows}
+use Rattle.circle_commit.specs.FlatRows.{flat-more, whole_rows, row_count, stored_rows}
 use Rattle.circle_plane.proofs.Places.{row_at_place, length-row_at_place, other_order-rows}
 use Rattle.circle_plane.proofs.Powers.{pow_within}
 use Rattle.circle_plane.proofs.cfft.CircleEvaluations+F+RowMajorMatrix+F.evaluate.Goals as goal

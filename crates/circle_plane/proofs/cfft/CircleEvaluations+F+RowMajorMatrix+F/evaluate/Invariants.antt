@@ -1,7 +1,7 @@
 use Rattle.std.proofs.Common.{◌≡◌, ℕ}
 use Rattle.std.specs.List.{range_with_len, flat_map}
 use Rattle.circle_plane.specs.Domain.{log_size, shift_of}
-use Rattle.circle_plane.specs.RowMajorMatrix.{rows, width_of}
+use Rattle.circle_commit.specs.RowMajorMatrix.{rows, width_of}
 use Rattle.circle_plane.proofs.Places.{row_at_place}
 use Rattle.circle_plane.proofs.cfft.CircleEvaluations+F+RowMajorMatrix+F.evaluate.Given as goal
 

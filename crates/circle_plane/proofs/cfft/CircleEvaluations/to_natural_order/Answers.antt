@@ -1,7 +1,7 @@
 use Rattle.std.proofs.Common.{◌≡◌, ◌^◌, ◌<◌, ◌∙◌, sym, ap, subst}
 use Rattle.circle_plane.specs.CfftPerm.{log_height_of}
 use Rattle.circle_plane.specs.Domain.{log_size}
-use Rattle.circle_plane.specs.Matrix.{mapped_rows}
+use Rattle.circle_commit.specs.Matrix.{mapped_rows}
 use Rattle.circle_plane.specs.Ordering.{cfft_index, other_order}
 use Rattle.circle_plane.proofs.OtherOrder.{other_order-twice}
 use Rattle.circle_plane.proofs.Reversal.{cfft_index-below}

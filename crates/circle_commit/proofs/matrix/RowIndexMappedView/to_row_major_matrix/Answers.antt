@@ -1,9 +1,9 @@
 use Rattle.std.proofs.Common.{◌≡◌, ℕ, ◌+◌, ◌/◌, ◌%◌, ◌<◌, ◌++◌, [], ◌∙◌, sym, ap, subst, arith, add-one}
 use Rattle.std.specs.List.{range_with_len, flat_map}
 use Rattle.std.specs.Prelude.{slice_index_or, vec_len}
-use Rattle.circle_plane.specs.Matrix.{rows_from}
-use Rattle.circle_plane.proofs.FlatRows.{flat-more, whole_rows, stored_rows, indexed-row}
-use Rattle.circle_plane.proofs.matrix.RowIndexMappedView.to_row_major_matrix.Goals as goal
+use Rattle.circle_commit.specs.Matrix.{rows_from}
+use Rattle.circle_commit.specs.FlatRows.{flat-more, whole_rows, stored_rows, indexed-row}
+use Rattle.circle_commit.proofs.matrix.RowIndexMappedView.to_row_major_matrix.Goals as goal
 
 pub loop-r-init : goal.loop-r-init
 loop-r-init g c = c.in_ok-values.ensures.items

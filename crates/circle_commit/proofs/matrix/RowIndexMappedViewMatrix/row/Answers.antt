@@ -1,6 +1,6 @@
 use Rattle.std.proofs.Common.{◌∙◌, ap, slice_get, sym}
-use Rattle.circle_plane.specs.RowFacts.{mapped_rows-row}
-use Rattle.circle_plane.proofs.matrix.RowIndexMappedViewMatrix.row.Goals as goal
+use Rattle.circle_commit.specs.RowFacts.{mapped_rows-row}
+use Rattle.circle_commit.proofs.matrix.RowIndexMappedViewMatrix.row.Goals as goal
 
 pub returns : goal.returns
 returns g c =

@@ -1,7 +1,8 @@
 //! Matrices by rows, and views of them under another order of the rows.
-ghost use Rattle.std.specs.Prelude.{◌≡◌, ℕ, ◌<◌, ◌≤◌, ◌%◌, ◌/◌, List, length, map, Some, IfOk, All, slice_get, slice_index_or, vec_len};
-ghost use Rattle.circle_plane.specs.Matrix.{rows_from, mapped_rows};
+ghost use Rattle.std.specs.Prelude.{◌≡◌, ℕ, ◌+◌, ◌<◌, ◌≤◌, ◌%◌, ◌/◌, List, [], ◌∷◌, length, map, Some, IfOk, All, slice_get, slice_index_or, take, drop, vec_len};
+ghost use Rattle.circle_commit.specs.Matrix.{rows_from, mapped_rows};
 
+use crate::view::RowMajorMatrixView;
 use std::alloc::{AllocError, Global};
 
 /// The shape of a matrix as contracts see it.
@@ -40,6 +41,15 @@ pub trait Matrix<T>: Shape {
     ghost width_law: { (m : Self) → All (λ row. length row ≡ Self.width m) (rows m) };
 }
 
+/// The shape of a matrix.
+#[derive(Clone, Copy, PartialEq, Eq, Debug)]
+pub struct Dimensions {
+    /// The number of columns.
+    pub width: usize,
+    /// The number of rows.
+    pub height: usize,
+}
+
 /// A matrix of `Copy` entries, stored row after row: of at least one column and any number of rows.
 #[derive(Drop)]
 pub struct RowMajorMatrix<T> {
@@ -50,7 +60,8 @@ pub struct RowMajorMatrix<T> {
 }
 
 impl<T: Copy> RowMajorMatrix<T> {
-    ghost use Rattle.circle_plane.specs.RowMajorMatrix.{rows, width_of};
+    ghost use Rattle.circle_commit.specs.RowMajorMatrix.{rows, width_of, height_of, values_of};
+    ghost use Rattle.circle_commit.specs.RowMajorMatrixView.{rows as view_rows, width_of as view_width};
 
     /// The matrix with these entries, row after row.
     ///
@@ -63,10 +74,49 @@ impl<T: Copy> RowMajorMatrix<T> {
     {
         RowMajorMatrix { values, width }
     }
+
+    /// The matrix of one column with these entries.
+    pub fn new_col(values: Vec<T>) -> Self
+        ensures shape { width_of result ≡ 1 }
+        ensures content { rows result ≡ map (λ x. x ∷ []) values.items }
+    {
+        RowMajorMatrix { values, width: 1 }
+    }
+
+    /// The entries, row after row.
+    pub fn values(&self) -> &[T]
+        ensures { result.now ≡ values_of self.now }
+    {
+        self.values.as_slice()
+    }
+
+    /// The entries, row after row, for use without the matrix.
+    pub fn into_values(self) -> Vec<T>
+        ensures { result.items ≡ values_of self }
+    {
+        self.values
+    }
+
+    /// The first `n` rows and the others, as two views.
+    ///
+    /// Asks that `n` is at most the height.
+    pub fn split_rows(&self, n: usize) -> (RowMajorMatrixView<'_, T>, RowMajorMatrixView<'_, T>)
+        requires { n ≤ height_of self.now }
+        ensures widths { (view_width result.0 ≡ width_of self.now) × (view_width result.1 ≡ width_of self.now) }
+        ensures first { view_rows result.0 ≡ take n (rows self.now) }
+        ensures others { view_rows result.1 ≡ drop n (rows self.now) }
+    {
+        let width = self.width;
+        let (first, others) = self.values.split_at(n * width);
+        (
+            RowMajorMatrixView::new(first, width),
+            RowMajorMatrixView::new(others, width),
+        )
+    }
 }
 
 impl<T> Shape for RowMajorMatrix<T> {
-    ghost use Rattle.circle_plane.specs.RowMajorMatrix.{width_of, height_of};
+    ghost use Rattle.circle_commit.specs.RowMajorMatrix.{width_of, height_of};
 
     ghost width = { width_of };
 
@@ -74,7 +124,7 @@ impl<T> Shape for RowMajorMatrix<T> {
 }
 
 impl<T> Matrix<T> for RowMajorMatrix<T> {
-    ghost use Rattle.circle_plane.specs.RowMajorMatrix.{rows, positive_width, length-rows, rows-width};
+    ghost use Rattle.circle_commit.specs.RowMajorMatrix.{rows, positive_width, length-rows, rows-width};
 
     ghost rows = { rows };
 
@@ -133,7 +183,7 @@ impl<Map: RowIndexMap, M: Shape> Shape for RowIndexMappedView<Map, M> {
 }
 
 impl<T, Map: RowIndexMap, M: Matrix<T>> Matrix<T> for RowIndexMappedView<Map, M> {
-    ghost use Rattle.circle_plane.specs.RowFacts.{length-mapped_rows, mapped_rows-widths};
+    ghost use Rattle.circle_commit.specs.RowFacts.{length-mapped_rows, mapped_rows-widths};
     ghost use Rattle.std.proofs.Common.{subst, sym};
 
     ghost rows = { λ v. mapped_rows (Map.map_row_index v.index_map) (Map.height v.index_map) (M.rows v.inner) };
@@ -160,7 +210,7 @@ impl<T, Map: RowIndexMap, M: Matrix<T>> Matrix<T> for RowIndexMappedView<Map, M>
 }
 
 impl<Map: RowIndexMap, M: Shape> RowIndexMappedView<Map, M> {
-    ghost use Rattle.circle_plane.specs.RowMajorMatrix.{rows, width_of};
+    ghost use Rattle.circle_commit.specs.RowMajorMatrix.{rows, width_of};
 
     /// A stored copy of the rows as they are seen. Fails where memory is refused.
     pub fn to_row_major_matrix<T: Copy>(

@@ -1,7 +1,7 @@
 use Rattle.std.proofs.Common.{◌≡◌, ◌-◌, ◌+◌, ◌*◌, ◌∙◌, ap, sym, Some, take, drop, arith}
-use Rattle.circle_plane.specs.RowFacts.{rows_from-row}
-use Rattle.circle_plane.specs.RowMajorMatrix.{height_of}
-use Rattle.circle_plane.proofs.matrix.RowMajorMatrixMatrix.row.Goals as goal
+use Rattle.circle_commit.specs.RowFacts.{rows_from-row}
+use Rattle.circle_commit.specs.RowMajorMatrix.{height_of}
+use Rattle.circle_commit.proofs.matrix.RowMajorMatrixMatrix.row.Goals as goal
 
 pub returns : goal.returns
 returns g c =

@@ -7,7 +7,7 @@ use Rattle.std.proofs.Math.Nat.{mul-div_cancel}
 use Rattle.std.proofs.lemmas.List.FromFn.{get_or-map-range_with_len}
 use Rattle.std.proofs.lemmas.Nat.{mod-mul-add}
 use Rattle.std.proofs.lemmas.Option.{get_or_from_slice_get}
-use Rattle.circle_plane.specs.Matrix.{rows_from}
+use Rattle.circle_commit.specs.Matrix.{rows_from}
 
 module _ {T : Type 0} (row : ℕ → List T) where
   -- one more row

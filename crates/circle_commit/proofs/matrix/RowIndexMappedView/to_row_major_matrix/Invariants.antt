@@ -1,7 +1,7 @@
 use Rattle.std.proofs.Common.{◌≡◌, ℕ, []}
 use Rattle.std.specs.List.{range_with_len, flat_map}
 use Rattle.std.specs.Prelude.{slice_index_or}
-use Rattle.circle_plane.proofs.matrix.RowIndexMappedView.to_row_major_matrix.Given as goal
+use Rattle.circle_commit.proofs.matrix.RowIndexMappedView.to_row_major_matrix.Given as goal
 
 abbrev pub invariant-loop-r : goal.invariant-loop-r
 invariant-loop-r g l =

@@ -1,0 +1,5 @@
+pub mod Matrix
+pub mod RowFacts
+pub mod FlatRows
+pub mod RowMajorMatrix
+pub mod RowMajorMatrixView

@@ -1,0 +1,10 @@
+//! What commitment schemes over matrices stand on: matrices by rows and views of them.
+#![tactic(auto)]
+
+pub mod matrix;
+#[cfg(test)]
+mod tests;
+pub mod view;
+
+pub use matrix::{Dimensions, Matrix, RowIndexMap, RowIndexMappedView, RowMajorMatrix, Shape};
+pub use view::RowMajorMatrixView;

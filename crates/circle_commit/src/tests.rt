@@ -1,0 +1,131 @@
+//! Matrices and views at concrete types.
+ghost use Rattle.std.specs.Prelude.{◌-◌};
+
+use crate::{
+    Dimensions, Matrix, RowIndexMap, RowIndexMappedView, RowMajorMatrix, RowMajorMatrixView,
+};
+use std::alloc::{AllocError, Global};
+use std::test::Fail;
+
+// The rows 0 1, 2 3, 4 5 and 6 7.
+fn four_rows(alloc: Global) -> Result<RowMajorMatrix<u32>, AllocError> {
+    let values = vec![in alloc; 0, 1, 2, 3, 4, 5, 6, 7]?;
+    if values.len() != 8 {
+        return Err(AllocError);
+    }
+    Ok(RowMajorMatrix::new(values, 2))
+}
+
+// The rows of any matrix, one after another.
+fn entries<M: Matrix<u32>>(alloc: Global, matrix: &M) -> Result<Vec<u32>, AllocError> {
+    let mut all = Vec::new(alloc);
+    for r in 0..matrix.height() {
+        all.extend_from_slice(matrix.row(r))?;
+    }
+    Ok(all)
+}
+
+fn shape<M: Matrix<u32>>(matrix: &M) -> Dimensions {
+    Dimensions {
+        width: matrix.width(),
+        height: matrix.height(),
+    }
+}
+
+#[derive(Drop)]
+struct Reversed(usize);
+
+impl RowIndexMap for Reversed {
+    ghost height = { λ m. m.0 };
+
+    ghost map_row_index = { λ m r. m.0 - 1 - r };
+
+    fn height(&self) -> usize {
+        self.0
+    }
+
+    fn map_row_index(&self, r: usize) -> usize {
+        self.0 - 1 - r
+    }
+}
+
+#[test]
+fn splits_rows(rt: HostRuntime) -> Result<(), Fail> {
+    let matrix = four_rows(rt.alloc())?;
+    assert_eq!(rt; matrix.height(), 4);
+    let (first, others) = matrix.split_rows(1);
+    assert_eq!(rt;
+        shape(&first),
+        Dimensions {
+            width: 2,
+            height: 1
+        }
+    );
+    assert_eq!(rt;
+        shape(&others),
+        Dimensions {
+            width: 2,
+            height: 3
+        }
+    );
+    assert_eq!(rt; entries(rt.alloc(), &first)?.as_slice(), [0, 1].as_slice());
+    assert_eq!(rt;
+        entries(rt.alloc(), &others)?.as_slice(),
+        [2, 3, 4, 5, 6, 7].as_slice()
+    );
+    let (none, all) = matrix.split_rows(0);
+    assert_eq!(rt; none.height(), 0);
+    assert_eq!(rt; all.height(), 4);
+    let (all, none) = matrix.split_rows(4);
+    assert_eq!(rt; all.height(), 4);
+    assert_eq!(rt; none.height(), 0);
+    assert_eq!(rt; none.width(), 2);
+    Ok(())
+}
+
+#[test]
+fn one_column(rt: HostRuntime) -> Result<(), Fail> {
+    let column = RowMajorMatrix::new_col(vec![in rt.alloc(); 5u32, 6, 7]?);
+    assert_eq!(rt; column.width(), 1);
+    assert_eq!(rt; column.height(), 3);
+    assert_eq!(rt; column.row(2), [7].as_slice());
+    assert_eq!(rt; column.values(), [5, 6, 7].as_slice());
+    assert_eq!(rt; column.into_values().as_slice(), [5, 6, 7].as_slice());
+    Ok(())
+}
+
+#[test]
+fn a_mapped_view_of_a_part(rt: HostRuntime) -> Result<(), Fail> {
+    let matrix = four_rows(rt.alloc())?;
+    assert_eq!(rt; matrix.height(), 4);
+    let (_, inner) = matrix.split_rows(2);
+    let height = inner.height();
+    let view = RowIndexMappedView {
+        index_map: Reversed(height),
+        inner,
+    };
+    assert_eq!(rt;
+        entries(rt.alloc(), &view)?.as_slice(),
+        [6, 7, 4, 5].as_slice()
+    );
+    let stored = view.to_row_major_matrix::<u32>(rt.alloc())?;
+    assert_eq!(rt; stored.values(), [6, 7, 4, 5].as_slice());
+    Ok(())
+}
+
+#[test]
+fn a_view_of_a_slice(rt: HostRuntime) -> Result<(), Fail> {
+    let view = RowMajorMatrixView::new(&[1u32, 2, 3, 4, 5, 6], 3);
+    assert_eq!(rt;
+        shape(&view),
+        Dimensions {
+            width: 3,
+            height: 2
+        }
+    );
+    assert_eq!(rt;
+        entries(rt.alloc(), &view)?.as_slice(),
+        [1, 2, 3, 4, 5, 6].as_slice()
+    );
+    Ok(())
+}
