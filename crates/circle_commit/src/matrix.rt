@@ -83,6 +83,29 @@ impl<T: Copy> RowMajorMatrix<T> {
         RowMajorMatrix { values, width: 1 }
     }
 
+    /// A stored copy of the rows of a matrix. Fails where memory is refused.
+    pub fn copy_of<M: Matrix<T>>(alloc: Global, matrix: &M) -> Result<Self, AllocError>
+        ensures width { IfOk result (λ m. width_of m ≡ M.width matrix.now) }
+        ensures rows { IfOk result (λ m. rows m ≡ M.rows matrix.now) }
+    {
+        let width = matrix.width();
+        let height = matrix.height();
+        let len = height.checked_mul(width).ok_or(AllocError)?;
+        let mut values = Vec::with_capacity(alloc, len)?;
+        for r in 0..height {
+            values.extend_from_slice(matrix.row(r))?;
+        }
+        Ok(RowMajorMatrix::new(values, width))
+    }
+
+    /// An equal matrix. Fails where memory is refused.
+    pub fn try_clone(&self, alloc: Global) -> Result<Self, AllocError>
+        ensures width { IfOk result (λ m. width_of m ≡ width_of self.now) }
+        ensures rows { IfOk result (λ m. rows m ≡ rows self.now) }
+    {
+        RowMajorMatrix::copy_of(alloc, self)
+    }
+
     /// The entries, row after row.
     pub fn values(&self) -> &[T]
         ensures { result.now ≡ values_of self.now }
@@ -222,13 +245,6 @@ impl<Map: RowIndexMap, M: Shape> RowIndexMappedView<Map, M> {
         ensures width { IfOk result (λ m. width_of m ≡ M.width self.now.inner) }
         ensures rows { IfOk result (λ m. rows m ≡ ⟦<RowIndexMappedView<Map, M> as Matrix<T>>⟧.rows self.now) }
     {
-        let width = self.width();
-        let height = self.height();
-        let len = height.checked_mul(width).ok_or(AllocError)?;
-        let mut values = Vec::with_capacity(alloc, len)?;
-        for r in 0..height {
-            values.extend_from_slice(self.row(r))?;
-        }
-        Ok(RowMajorMatrix::new(values, width))
+        RowMajorMatrix::copy_of(alloc, self)
     }
 }

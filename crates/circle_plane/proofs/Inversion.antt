@@ -13,14 +13,10 @@ use Rattle.circle_field.specs.CircleGroup.{plus_comm, plus-on_circle, plus-origi
 use Rattle.circle_plane.specs.Basis.{iterated_x}
 use Rattle.circle_plane.specs.Layers.{pairwise, factor, second_half}
 use Rattle.circle_plane.proofs.Multiples.{times-one, times-+, times-double, times-on_circle, iterated_x-times}
+use Rattle.circle_plane.proofs.Columns.{drop-map}
 use Rattle.circle_plane.proofs.Written.{length-pairwise}
 use Rattle.circle_plane.proofs.Blocks.{times-plus, times-pow-suc, times-generator-past, second_half-on_circle}
 use Rattle.circle_plane.proofs.Transform.{lower, upper, finish, length-finish, first-long, second-long, both-halves}
-
-drop-map : {X Y : Type 0} (f : X → Y) (n : ℕ) (xs : List X) → drop n (map f xs) ≡ map f (drop n xs)
-drop-map f zero xs = refl
-drop-map f (suc n) [] = refl
-drop-map f (suc n) (x ∷ xs) = drop-map f n xs
 
 module _ {F : Type 0} {k : FieldOps F} (laws : RingLaws k) (a : F) where
   lower-scaled : (t : F) (xs ys : List F) → lower k t (map (k.mul a) xs) (map (k.mul a) ys) ≡ map (k.mul a) (lower k t xs ys)

@@ -1,6 +1,6 @@
 -- The polynomial bases of the circle FFT, and the value of a list of coefficients at a point.
 -- Circle STARKs (ePrint 2024/278), sections 3.3 and 4.
-use Rattle.std.specs.Prelude.{ℕ, ◌-◌, ◌/◌, ◌%◌, ◌^◌, List, [], ◌∷◌, map, slice_index_or}
+use Rattle.std.specs.Prelude.{ℕ, ◌-◌, ◌/◌, ◌%◌, ◌^◌, List, [], ◌∷◌, map}
 use Rattle.std.specs.List.{range_with_len}
 use Rattle.std.proofs.Common.{zero, suc}
 use Rattle.circle_field.specs.Field.{FieldOps}
@@ -64,7 +64,3 @@ module _ {F : Type 0} (k : FieldOps F) where
   -- the values at p of the polynomials whose coefficients are the columns of a matrix
   abbrev pub values_at : List (List F) → ℕ → Coordinates F → List F
   values_at rows width p = map (λ j. value (column k.zero rows j) p) (range_with_len 0 width)
-
-  -- the sums of the rows' entries, each times the factor of its row
-  abbrev pub combination : List (List F) → ℕ → List F → List F
-  combination rows width factors = map (λ j. weighted_sum (λ i. slice_index_or factors i k.zero) 0 (column k.zero rows j)) (range_with_len 0 width)

@@ -38,3 +38,14 @@ module _ {F : Type 0} (k : FieldOps F) (gen : ℕ → Coordinates F) where
   -- the factors of the blocks of 2 * 2^m points of the domain of 2^n points
   abbrev pub layer_factors : ℕ → Coordinates F → ℕ → List F
   layer_factors n s m = map (factor k m) (block_starts (n - (m + 1)) (m + 1) s)
+
+-- a list n times over
+abbrev pub copies : {T : Type 0} → ℕ → List T → List T
+copies zero xs = []
+copies (suc n) xs = xs ++ copies n xs
+
+-- entries 0, 2, 4, .. of a list
+abbrev pub every_second : {T : Type 0} → List T → List T
+every_second [] = []
+every_second (x ∷ []) = x ∷ []
+every_second (x ∷ y ∷ xs) = x ∷ every_second xs

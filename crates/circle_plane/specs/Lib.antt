@@ -8,3 +8,4 @@ pub mod Domain
 pub mod Ordering
 pub mod CfftPerm
 pub mod CircleEvaluations
+pub mod Values

@@ -9,5 +9,5 @@ pub mod point;
 
 pub use cfft::{CircleEvaluations, circle_basis};
 pub use domain::{CircleCoset, CircleDomain, CirclePoints};
-pub use ordering::{CfftPerm, CfftView, cfft_permute_index};
+pub use ordering::{CfftPerm, CfftPermutable, CfftView, cfft_permute_index};
 pub use point::{Neutral, Point};

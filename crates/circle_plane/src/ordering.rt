@@ -1,17 +1,18 @@
 //! The order of the circle transform, as a permutation of the natural order of a domain.
-ghost use Rattle.std.specs.Prelude.{◌≡◌, ◌≤◌, ◌<◌, ◌^◌, Ok};
-ghost use Rattle.circle_plane.specs.Ordering.{cfft_index, reversed};
+ghost use Rattle.std.specs.Prelude.{ℕ, ◌≡◌, ◌≤◌, ◌<◌, ◌^◌, Ok};
+ghost use Rattle.circle_plane.specs.Ordering.{cfft_index, reversed, other_order};
+ghost use Rattle.circle_commit.specs.Matrix.{IsPowerOfTwo};
 
-use circle_commit::{RowIndexMap, RowIndexMappedView};
+use circle_commit::{Matrix, RowIndexMap, RowIndexMappedView, Shape};
 use std::alloc::AllocError;
 
 /// The natural place of the point at place `index` of the transform's order, among `2^log_n` points:
 /// with `h = index / 2`, the `log_n`-bit reversal of `h` where `index` is even, and of
 /// `2^log_n - 1 - h` where it is odd.
 ///
-/// It is its own inverse. Asks `log_n <= 62` and `index < 2^log_n`.
+/// It is its own inverse. Asks `log_n <= 63` and `index < 2^log_n`.
 pub fn cfft_permute_index(index: usize, log_n: usize) -> usize
-    requires small { log_n ≤ 62 }
+    requires small { log_n ≤ 63 }
     requires in_range { index < 2 ^ log_n }
     ensures value { result ≡ cfft_index log_n index }
     ensures below { result < 2 ^ log_n }
@@ -28,7 +29,7 @@ pub fn cfft_permute_index(index: usize, log_n: usize) -> usize
 
 // The number whose lowest `bit_len` bits are those of `x` in the other order.
 fn reverse_bits_len(x: usize, bit_len: usize) -> usize
-    requires small { bit_len ≤ 62 }
+    requires small { bit_len ≤ 63 }
     requires in_range { x < 2 ^ bit_len }
     ensures { result ≡ reversed bit_len x }
 {
@@ -44,7 +45,7 @@ fn reverse_bits_len(x: usize, bit_len: usize) -> usize
 /// The permutation between the two orders of a domain, as an order of a matrix's rows.
 pub struct CfftPerm {
     log_height: usize,
-    pub ghost small: { log_height ≤ 62 },
+    pub ghost small: { log_height ≤ 63 },
 }
 
 impl Clone for CfftPerm {
@@ -65,7 +66,7 @@ impl CfftPerm {
     ghost use Rattle.circle_plane.specs.CfftPerm.{log_height_of};
 
     pub(crate) fn new(log_height: usize) -> Self
-        requires { log_height ≤ 62 }
+        requires { log_height ≤ 63 }
         ensures { log_height_of result ≡ log_height }
     {
         CfftPerm { log_height }
@@ -90,3 +91,26 @@ impl RowIndexMap for CfftPerm {
 
 /// A matrix whose rows are seen in the other order of a domain.
 pub type CfftView<M> = RowIndexMappedView<CfftPerm, M>;
+
+/// A matrix whose rows can be seen in the other order of a domain.
+pub trait CfftPermutable<T>: Matrix<T> {
+    /// The rows in the other order of a domain, without copying them.
+    ///
+    /// Asks a height that is a power of two.
+    fn cfft_perm_rows(self) -> CfftView<Self>
+        requires { IsPowerOfTwo (Self.height self) }
+        ensures rows { (n : ℕ) → Self.height self ≡ 2 ^ n →
+            ⟦<CfftView<Self> as Matrix<T>>⟧.rows result ≡ other_order n (Self.rows self) }
+        ensures height { ⟦<CfftView<Self> as Shape>⟧.height result ≡ Self.height self }
+        ensures width { ⟦<CfftView<Self> as Shape>⟧.width result ≡ Self.width self };
+}
+
+impl<T, M: Matrix<T>> CfftPermutable<T> for M {
+    fn cfft_perm_rows(self) -> CfftView<Self> {
+        let log_height = self.height().ilog2() as usize;
+        RowIndexMappedView {
+            index_map: CfftPerm::new(log_height),
+            inner: self,
+        }
+    }
+}

@@ -7,14 +7,14 @@ use Rattle.circle_plane.proofs.ordering.reverse_bits_len.Goals as goal
 
 pub overflow_mul-result : goal.overflow_mul-result
 overflow_mul-result c =
-    let small : c.loop.counter ≤ 61 = omega arith in
-    let bound : 2 ^ c.loop.counter ≤ 2 ^ 61 = pow-le-pow_right (lit< tt) small in
+    let small : c.loop.counter ≤ 62 = omega arith in
+    let bound : 2 ^ c.loop.counter ≤ 2 ^ 62 = pow-le-pow_right (lit< tt) small in
     omega (arith, bound)
 
 pub overflow_add-result : goal.overflow_add-result
 overflow_add-result c =
-    let small : c.loop.counter ≤ 61 = omega arith in
-    let bound : 2 ^ c.loop.counter ≤ 2 ^ 61 = pow-le-pow_right (lit< tt) small in
+    let small : c.loop.counter ≤ 62 = omega arith in
+    let bound : 2 ^ c.loop.counter ≤ 2 ^ 62 = pow-le-pow_right (lit< tt) small in
     omega (arith, bound)
 
 pub loop-preserved : goal.loop-preserved

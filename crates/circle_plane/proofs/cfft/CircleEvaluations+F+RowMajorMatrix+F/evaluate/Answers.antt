@@ -1,51 +1,176 @@
-use Rattle.std.proofs.Common.{◌≡◌, ℕ, ◌+◌, ◌*◌, ◌/◌, ◌%◌, ◌^◌, ◌<◌, ◌≤◌, ◌++◌, suc, ◌∙◌, sym, ap, arith, add-one, length, map, List}
-use Rattle.std.specs.List.{range_with_len, flat_map}
-use Rattle.std.specs.Prelude.{vec_len, slice_index_or}
-use Rattle.std.proofs.lemmas.Option.{get_or_from_slice_get}
-use Rattle.circle_field.specs.Circle.{Coordinates, origin}
-use Rattle.circle_plane.specs.Basis.{values_at}
-use Rattle.circle_plane.specs.Domain.{log_size, shift_of}
-use Rattle.circle_commit.specs.Matrix.{rows_from}
-use Rattle.circle_plane.specs.Order.{natural_order}
-use Rattle.circle_plane.specs.Ordering.{cfft_index, other_order}
-use Rattle.circle_plane.specs.Point.{coordinates}
+use Rattle.std.proofs.Common.{◌≡◌, ◌≢◌, ℕ, ◌-◌, ◌+◌, ◌*◌, ◌/◌, ◌%◌, ◌^◌, ◌<◌, ◌≤◌, ◌++◌, [], ◌∷◌, ◌∙◌, sym, ap, map, take, drop, slice_index_or, length, arith, List, suc}
+use Rattle.std.specs.List.{range_with_len}
+use Rattle.std.proofs.Math.ListN.{get_or-map}
+use Rattle.std.proofs.lemmas.List.{length-map}
+use Rattle.std.proofs.lemmas.List.FromFn.{get_or-map-range_with_len, length-map-range_with_len}
+use Rattle.std.proofs.lemmas.Nat.{pow-add}
+use Rattle.circle_field.proofs.Inverses.{take-whole}
+use Rattle.circle_commit.specs.Matrix.{rows_from, column}
 use Rattle.circle_commit.specs.RowFacts.{length-rows_from}
-use Rattle.circle_commit.specs.RowMajorMatrix.{rows, width_of, height_of, length-rows}
-use Rattle.circle_commit.specs.FlatRows.{flat-more, whole_rows, row_count, stored_rows}
-use Rattle.circle_plane.proofs.Places.{row_at_place, length-row_at_place, other_order-rows}
-use Rattle.circle_plane.proofs.Powers.{pow_within}
+use Rattle.circle_commit.specs.RowMajorMatrix.{rows, width_of, height_of, values_of, length-rows, length-values}
+use Rattle.circle_plane.specs.Basis.{value, values_at}
+use Rattle.circle_plane.specs.CircleEvaluations.{cfft_values}
+use Rattle.circle_plane.specs.Domain.{log_size, shift_of}
+use Rattle.circle_plane.specs.Order.{cfft_order}
+use Rattle.circle_plane.specs.Ordering.{other_order}
+use Rattle.circle_plane.specs.Layers.{layer_factors, copies}
+use Rattle.circle_plane.proofs.Columns.{stored_column, length-stored_column}
+use Rattle.circle_plane.proofs.CosetOrder.{other_order-points}
+use Rattle.circle_plane.proofs.Layering.{length-copies}
+use Rattle.circle_plane.proofs.Passes.{remaining, remaining-none, blocks-size, part-more, forward-pass, copies-values}
+use Rattle.circle_plane.proofs.Powers.{pow_within, pow_order, log_of_power}
+use Rattle.circle_plane.proofs.Stored.{whole, height, rows-values, stored-wide}
+use Rattle.circle_plane.proofs.Twiddles.{length-layer_factors}
+use Rattle.circle_plane.proofs.Undoing.{forward}
 use Rattle.circle_plane.proofs.cfft.CircleEvaluations+F+RowMajorMatrix+F.evaluate.Goals as goal
 
-pub loop-i-init : goal.loop-i-init
-loop-i-init g c = c.in_ok-values.ensures.items
-
-pub row_of_values-requires-clause-small : goal.row_of_values-requires-clause-small
-row_of_values-requires-clause-small g c =
-    let small : log_size c.args.domain ≤ 62 = omega (arith, c.requires.in_group, g.met.F.ComplexExtendable.at_most_62) in
-    let bound : 2 ^ log_size c.args.domain ≤ 2 ^ 62 = pow_within (log_size c.args.domain) 62 small in
-    omega (arith, c.requires.at_most_size, bound)
-
-pub loop-i-preserved : goal.loop-i-preserved
-loop-i-preserved g c =
+pub overflow_sub-log_n : goal.overflow_sub-log_n
+overflow_sub-log_n g c =
     let k = g.F.Operations.ops in
+    let gen = g.F.ComplexExtendable.generators in
     let n = log_size c.args.domain in
-    let i = c.loop-i.i in
-    let coeffs = rows c.args.coeffs in
-    let width = width_of c.args.coeffs in
-    let points = natural_order k g.F.ComplexExtendable.generators n (shift_of c.args.domain) in
-    let row = row_at_place k g.F.ComplexExtendable.generators n (shift_of c.args.domain) coeffs width in
-    let before = flat_map row (range_with_len 0 i) in
-    let place : c.cfft_permute_index.result ≡ cfft_index n i = c.cfft_permute_index.ensures.value ∙ ap (λ m. cfft_index m i) c.log_n.ensures in
-    let point : slice_index_or points (cfft_index n i) (origin k) ≡ coordinates c.nth_point-point.result =
-    ap (λ j. slice_index_or points j (origin k)) (sym place)
-    ∙ get_or_from_slice_get points c.cfft_permute_index.result (coordinates c.nth_point-point.result) (origin k) c.nth_point-point.ensures in
-    let made : c.deref.result.now ≡ row i =
-    c.deref.ensures.value ∙ c.in_ok-row.ensures ∙ ap (values_at k coeffs width) (sym point) in
-    let here : row i ≡ row (0 + i) = ap row (omega arith) in
-    let next : flat_map row (range_with_len 0 (i + 1)) ≡ before ++ row (0 + i) = rw add-one (flat-more row 0 i) in
-    c.in_ok-extend_from_slice.ensures.items
-    ∙ ap (λ entries. entries ++ c.deref.result.now) c.loop-i.invariant
-    ∙ ap (λ last. before ++ last) (made ∙ here) ∙ sym next
+    let s = shift_of c.args.domain in
+    let coeffs = c.args.coeffs in
+    let width = width_of coeffs in
+    let h = c.ilog2-log_height.result in
+    let m = c.requires.power.0 in
+    let same : h ≡ m = log_of_power h m (omega (arith, c.ilog2-log_height.ensures.power_le, c.requires.power.1, c.height.ensures))
+    (omega (arith, c.ilog2-log_height.ensures.next_power_gt, c.requires.power.1, c.height.ensures)) in
+    let tall : height_of coeffs ≡ 2 ^ h = c.requires.power.1 ∙ ap (λ i. 2 ^ i) (sym same) in
+    let le : h ≤ n = pow_order h n (omega (arith, tall, c.requires.at_most_size)) in
+    omega (arith, le, c.log_n.ensures)
+
+pub loop-layer-init : goal.loop-layer-init
+loop-layer-init g c =
+    let k = g.F.Operations.ops in
+    let gen = g.F.ComplexExtendable.generators in
+    let n = log_size c.args.domain in
+    let s = shift_of c.args.domain in
+    let coeffs = c.args.coeffs in
+    let width = width_of coeffs in
+    let h = c.ilog2-log_height.result in
+    let m = c.requires.power.0 in
+    let same : h ≡ m = log_of_power h m (omega (arith, c.ilog2-log_height.ensures.power_le, c.requires.power.1, c.height.ensures))
+    (omega (arith, c.ilog2-log_height.ensures.next_power_gt, c.requires.power.1, c.height.ensures)) in
+    let tall : height_of coeffs ≡ 2 ^ h = c.requires.power.1 ∙ ap (λ i. 2 ^ i) (sym same) in
+    let le : h ≤ n = pow_order h n (omega (arith, tall, c.requires.at_most_size)) in
+    let entries = c.in_ok-entries.entries.items in
+    let stored = values_of coeffs in
+    let times : 1 * 2 ^ (c.log_n.result - h) % 18446744073709551616 ≡ 2 ^ (n - h) =
+    let e : c.log_n.result - h ≡ n - h = ap (λ l. l - h) c.log_n.ensures in
+    let small : n - h ≤ 62 = omega (arith, c.requires.in_group, g.met.F.ComplexExtendable.at_most_62) in
+    let bound : 2 ^ (n - h) ≤ 2 ^ 62 = pow_within (n - h) 62 small in
+    ap (λ d. 1 * 2 ^ d % 18446744073709551616) e ∙ omega (arith, bound) in
+    let made : entries ≡ copies (2 ^ (n - h)) stored = c.in_ok-entries.ensures ∙ ap (λ t. copies t c.into_values.result.items) times ∙ ap (copies (2 ^ (n - h))) c.into_values.ensures in
+    let long : length stored ≡ 2 ^ h * width = length-values coeffs ∙ ap (λ t. t * width) tall in
+    let sum : n - h + h ≡ n = omega (arith, le) in
+    let size : 2 ^ (n - h) * 2 ^ h ≡ 2 ^ n = sym (pow-add 2 (n - h) h) ∙ ap (λ i. 2 ^ i) sum in
+    record {
+      part = ap length c.values-half.ensures ∙ long;
+      long = ap length made ∙ length-copies (2 ^ (n - h)) stored ∙ ap (λ l. 2 ^ (n - h) * l) long
+          ∙ (let e : 2 ^ (n - h) * (2 ^ h * width) ≡ 2 ^ (n - h) * 2 ^ h * width = omega arith in e) ∙ ap (λ t. t * width) size;
+      passed = λ j lt.
+          ap (λ xs. remaining k gen n s h (stored_column k.zero width j (2 ^ n) xs)) made
+          ∙ copies-values g.F.Operations.laws g.met.F.ComplexExtendable.generators_law n s c.requires.in_group c.args.domain.shift.on_circle width j h stored c.requires.positive le long
+          ∙ ap (λ t. map (value k (column k.zero (rows_from width t stored) j)) (cfft_order k gen n s)) (sym tall);
+    }
+
+pub index-requires : goal.index-requires
+index-requires g c =
+    let k = g.F.Operations.ops in
+    let gen = g.F.ComplexExtendable.generators in
+    let n = log_size c.args.domain in
+    let s = shift_of c.args.domain in
+    let coeffs = c.args.coeffs in
+    let width = width_of coeffs in
+    let h = c.ilog2-log_height.result in
+    let m = c.requires.power.0 in
+    let same : h ≡ m = log_of_power h m (omega (arith, c.ilog2-log_height.ensures.power_le, c.requires.power.1, c.height.ensures))
+    (omega (arith, c.ilog2-log_height.ensures.next_power_gt, c.requires.power.1, c.height.ensures)) in
+    let tall : height_of coeffs ≡ 2 ^ h = c.requires.power.1 ∙ ap (λ i. 2 ^ i) (sym same) in
+    let le : h ≤ n = pow_order h n (omega (arith, tall, c.requires.at_most_size)) in
+    let f = layer_factors k gen n s in
+    let items = c.in_ok-twiddles.twiddles.items in
+    let i = c.loop-layer.layer - 1 in
+    let at : i + 1 ≡ c.loop-layer.layer = omega (arith, c.loop-layer-test.true) in
+    let count : length items ≡ n = sym (length-map items (λ w. w.items)) ∙ ap length c.in_ok-twiddles.ensures ∙ length-map-range_with_len f 0 n in
+    let below : i < n = omega (arith, le, c.loop-layer-test.true, c.loop-layer.auto.layer) in
+    omega (arith, below, count, c.in_ok-twiddles.twiddles.ok.0)
+
+pub apply_layer-requires : goal.apply_layer-requires
+apply_layer-requires g c =
+    let k = g.F.Operations.ops in
+    let gen = g.F.ComplexExtendable.generators in
+    let n = log_size c.args.domain in
+    let s = shift_of c.args.domain in
+    let coeffs = c.args.coeffs in
+    let width = width_of coeffs in
+    let h = c.ilog2-log_height.result in
+    let m = c.requires.power.0 in
+    let same : h ≡ m = log_of_power h m (omega (arith, c.ilog2-log_height.ensures.power_le, c.requires.power.1, c.height.ensures))
+    (omega (arith, c.ilog2-log_height.ensures.next_power_gt, c.requires.power.1, c.height.ensures)) in
+    let tall : height_of coeffs ≡ 2 ^ h = c.requires.power.1 ∙ ap (λ i. 2 ^ i) (sym same) in
+    let le : h ≤ n = pow_order h n (omega (arith, tall, c.requires.at_most_size)) in
+    let f = layer_factors k gen n s in
+    let items = c.in_ok-twiddles.twiddles.items in
+    let i = c.loop-layer.layer - 1 in
+    let at : i + 1 ≡ c.loop-layer.layer = omega (arith, c.loop-layer-test.true) in
+    let count : length items ≡ n = sym (length-map items (λ w. w.items)) ∙ ap length c.in_ok-twiddles.ensures ∙ length-map-range_with_len f 0 n in
+    let below : i < n = omega (arith, le, c.loop-layer-test.true, c.loop-layer.auto.layer) in
+    let v = c.index.result.now in
+    let read : v.items ≡ f i =
+    ap (λ w. w.items) c.index.ensures ∙ sym (get_or-map (λ w. w.items) items i v)
+    ∙ ap (λ xs. slice_index_or xs i v.items) c.in_ok-twiddles.ensures ∙ get_or-map-range_with_len f 0 n i i v.items below (omega arith) in
+    let halved : c.loop-layer.half / 2 ≡ 2 ^ i * width =
+    let twice : c.loop-layer.half ≡ 2 ^ i * width * 2 = c.loop-layer.invariant.part ∙ ap (λ l. 2 ^ l * width) (sym at) ∙ sym (part-more i width) in omega (arith, twice) in
+    let blocks : length c.deref.result.now ≡ 2 ^ (n - (i + 1)) = ap length (c.deref.ensures.value ∙ read) ∙ length-layer_factors k gen n i s in
+    let size : 2 ^ (n - (i + 1)) * (2 ^ i * width + 2 ^ i * width) ≡ 2 ^ n * width =
+    (let e : 2 ^ (n - (i + 1)) * (2 ^ i * width + 2 ^ i * width) ≡ 2 ^ (n - (i + 1)) * (2 ^ i + 2 ^ i) * width = omega arith in e) ∙ ap (λ t. t * width) (blocks-size n i below) in
+    ap length c.deref_mut.ensures.value ∙ c.loop-layer.invariant.long ∙ sym size
+    ∙ ap (λ t. 2 ^ (n - (i + 1)) * (t + t)) (sym halved) ∙ ap (λ t. t * (c.loop-layer.half / 2 + c.loop-layer.half / 2)) (sym blocks)
+
+pub loop-layer-preserved : goal.loop-layer-preserved
+loop-layer-preserved g c =
+    let k = g.F.Operations.ops in
+    let gen = g.F.ComplexExtendable.generators in
+    let n = log_size c.args.domain in
+    let s = shift_of c.args.domain in
+    let coeffs = c.args.coeffs in
+    let width = width_of coeffs in
+    let h = c.ilog2-log_height.result in
+    let m = c.requires.power.0 in
+    let same : h ≡ m = log_of_power h m (omega (arith, c.ilog2-log_height.ensures.power_le, c.requires.power.1, c.height.ensures))
+    (omega (arith, c.ilog2-log_height.ensures.next_power_gt, c.requires.power.1, c.height.ensures)) in
+    let tall : height_of coeffs ≡ 2 ^ h = c.requires.power.1 ∙ ap (λ i. 2 ^ i) (sym same) in
+    let le : h ≤ n = pow_order h n (omega (arith, tall, c.requires.at_most_size)) in
+    let f = layer_factors k gen n s in
+    let items = c.in_ok-twiddles.twiddles.items in
+    let i = c.loop-layer.layer - 1 in
+    let at : i + 1 ≡ c.loop-layer.layer = omega (arith, c.loop-layer-test.true) in
+    let count : length items ≡ n = sym (length-map items (λ w. w.items)) ∙ ap length c.in_ok-twiddles.ensures ∙ length-map-range_with_len f 0 n in
+    let below : i < n = omega (arith, le, c.loop-layer-test.true, c.loop-layer.auto.layer) in
+    let v = c.index.result.now in
+    let read : v.items ≡ f i =
+    ap (λ w. w.items) c.index.ensures ∙ sym (get_or-map (λ w. w.items) items i v)
+    ∙ ap (λ xs. slice_index_or xs i v.items) c.in_ok-twiddles.ensures ∙ get_or-map-range_with_len f 0 n i i v.items below (omega arith) in
+    let halved : c.loop-layer.half / 2 ≡ 2 ^ i * width =
+    let twice : c.loop-layer.half ≡ 2 ^ i * width * 2 = c.loop-layer.invariant.part ∙ ap (λ l. 2 ^ l * width) (sym at) ∙ sym (part-more i width) in omega (arith, twice) in
+    let old = c.loop-layer.entries in
+    let new = c.apply_layer.new.values in
+    let made : new ≡ forward k (2 ^ i * width) (f i) old.items =
+    c.apply_layer.ensures ∙ ap (λ t. forward k t c.deref.result.now c.deref_mut.result.now) halved
+    ∙ ap (λ ts. forward k (2 ^ i * width) ts c.deref_mut.result.now) (c.deref.ensures.value ∙ read) ∙ ap (forward k (2 ^ i * width) (f i)) c.deref_mut.ensures.value in
+    let kept : length new ≡ length old.items = c.apply_layer.auto.values ∙ ap length c.deref_mut.ensures.value in
+    let all : take old.len (new ++ drop (length new) old.items) ≡ new = take-whole old.len new old.items old.ok.0 kept in
+    record {
+      part = halved;
+      long = ap length all ∙ kept ∙ c.loop-layer.invariant.long;
+      passed = λ j lt.
+          ap (λ xs. remaining k gen n s i (stored_column k.zero width j (2 ^ n) xs)) (all ∙ made)
+          ∙ forward-pass k gen n s width j lt i old.items below c.loop-layer.invariant.long
+          ∙ ap (λ l. remaining k gen n s l (stored_column k.zero width j (2 ^ n) old.items)) at
+          ∙ c.loop-layer.invariant.passed j lt;
+    }
 
 pub new-requires-clause-whole : goal.new-requires-clause-whole
 new-requires-clause-whole g c =
@@ -53,39 +178,51 @@ new-requires-clause-whole g c =
     let gen = g.F.ComplexExtendable.generators in
     let n = log_size c.args.domain in
     let s = shift_of c.args.domain in
-    let coeffs = rows c.args.coeffs in
-    let width = width_of c.args.coeffs in
-    let row = row_at_place k gen n s coeffs width in
-    let values = c.loop-i.values in
-    let end : c.loop-i.i ≡ 2 ^ n = omega (arith, c.size-i-end.ensures) in
-    let made : values.items ≡ flat_map row (range_with_len 0 (2 ^ n)) = c.loop-i.invariant ∙ ap (λ m. flat_map row (range_with_len 0 m)) end in
-    let wide = λ (i : ℕ) (lt : i < 0 + 2 ^ n). length-row_at_place k gen n s coeffs width i in
-    let positive : 1 ≤ width = c.args.coeffs.width_positive in
-    ap (λ w. vec_len values % w) c.width-width.ensures ∙ whole_rows row values.items values.len (2 ^ n) width made values.ok.0 wide positive
+    let coeffs = c.args.coeffs in
+    let width = width_of coeffs in
+    let old = c.loop-layer.entries in
+    let positive = coeffs.width_positive in
+    let wide : c.width-width.result ≡ width = c.width-width.ensures in
+    let total : old.len ≡ 2 ^ n * width = old.ok.0 ∙ c.loop-layer.invariant.long in
+    ap (λ w. old.len % w) wide ∙ whole old.len (2 ^ n) width total positive
 
-pub invariant_of-result : goal.invariant_of-result
-invariant_of-result g c =
+pub from_cfft_order-requires-clause-size : goal.from_cfft_order-requires-clause-size
+from_cfft_order-requires-clause-size g c =
     let k = g.F.Operations.ops in
     let gen = g.F.ComplexExtendable.generators in
     let n = log_size c.args.domain in
     let s = shift_of c.args.domain in
-    let coeffs = rows c.args.coeffs in
-    let width = width_of c.args.coeffs in
-    let row = row_at_place k gen n s coeffs width in
-    let values = c.loop-i.values in
-    let end : c.loop-i.i ≡ 2 ^ n = omega (arith, c.size-i-end.ensures) in
-    let made : values.items ≡ flat_map row (range_with_len 0 (2 ^ n)) = c.loop-i.invariant ∙ ap (λ m. flat_map row (range_with_len 0 m)) end in
-    let wide = λ (i : ℕ) (lt : i < 0 + 2 ^ n). length-row_at_place k gen n s coeffs width i in
-    let positive : 1 ≤ width = c.args.coeffs.width_positive in
-    let height : height_of c.new.result ≡ 2 ^ n =
-    sym (length-rows c.new.result) ∙ ap length c.new.ensures.content
-    ∙ length-rows_from c.width-width.result (vec_len values / c.width-width.result) values.items
-    ∙ ap (λ w. vec_len values / w) c.width-width.ensures
-    ∙ row_count row values.items values.len (2 ^ n) width made values.ok.0 wide positive in
-    record {
-      small = omega (arith, c.requires.in_group, g.met.F.ComplexExtendable.at_most_62);
-      row_for_each_point = height;
-    }
+    let coeffs = c.args.coeffs in
+    let width = width_of coeffs in
+    let old = c.loop-layer.entries in
+    let positive = coeffs.width_positive in
+    let wide : c.width-width.result ≡ width = c.width-width.ensures in
+    let total : old.len ≡ 2 ^ n * width = old.ok.0 ∙ c.loop-layer.invariant.long in
+    sym (length-rows c.new.result) ∙ ap length c.new.ensures.content ∙ length-rows_from c.width-width.result (old.len / c.width-width.result) old.items
+    ∙ ap (λ w. old.len / w) wide ∙ height old.len (2 ^ n) width total positive
+
+pub returns-clause-cfft : goal.returns-clause-cfft
+returns-clause-cfft g c =
+    let k = g.F.Operations.ops in
+    let gen = g.F.ComplexExtendable.generators in
+    let n = log_size c.args.domain in
+    let s = shift_of c.args.domain in
+    let coeffs = c.args.coeffs in
+    let width = width_of coeffs in
+    let old = c.loop-layer.entries in
+    let positive = coeffs.width_positive in
+    let wide : c.width-width.result ≡ width = c.width-width.ensures in
+    let total : old.len ≡ 2 ^ n * width = old.ok.0 ∙ c.loop-layer.invariant.long in
+    let r = c.new.result in
+    let end : c.loop-layer.layer ≡ 0 = omega (arith, c.loop-layer-test.false) in
+    let content : rows r ≡ rows_from width (2 ^ n) old.items =
+    c.new.ensures.content ∙ ap (λ w. rows_from w (old.len / w) old.items) wide ∙ ap (λ t. rows_from width t old.items) (height old.len (2 ^ n) width total positive) in
+    let done : rows r ≡ map (values_at k (rows coeffs) width) (cfft_order k gen n s) =
+    content
+    ∙ rows-values k width (2 ^ n) positive (rows_from width (2 ^ n) old.items) (rows coeffs) (cfft_order k gen n s) (stored-wide k width (2 ^ n) positive old.items c.loop-layer.invariant.long)
+    (λ j lt. sym (remaining-none k gen n s (stored_column k.zero width j (2 ^ n) old.items) (length-stored_column k.zero width j (2 ^ n) old.items))
+    ∙ ap (λ l. remaining k gen n s l (stored_column k.zero width j (2 ^ n) old.items)) (sym end) ∙ c.loop-layer.invariant.passed j lt) in
+    ap rows c.from_cfft_order.ensures.values ∙ done
 
 pub returns-clause-values : goal.returns-clause-values
 returns-clause-values g c =
@@ -93,16 +230,20 @@ returns-clause-values g c =
     let gen = g.F.ComplexExtendable.generators in
     let n = log_size c.args.domain in
     let s = shift_of c.args.domain in
-    let coeffs = rows c.args.coeffs in
-    let width = width_of c.args.coeffs in
-    let row = row_at_place k gen n s coeffs width in
-    let values = c.loop-i.values in
-    let end : c.loop-i.i ≡ 2 ^ n = omega (arith, c.size-i-end.ensures) in
-    let made : values.items ≡ flat_map row (range_with_len 0 (2 ^ n)) = c.loop-i.invariant ∙ ap (λ m. flat_map row (range_with_len 0 m)) end in
-    let wide = λ (i : ℕ) (lt : i < 0 + 2 ^ n). length-row_at_place k gen n s coeffs width i in
-    let positive : 1 ≤ width = c.args.coeffs.width_positive in
-    ap (other_order n)
-    (c.new.ensures.content
-    ∙ ap (λ w. rows_from w (vec_len values / w) values.items) c.width-width.ensures
-    ∙ stored_rows row values.items values.len (2 ^ n) width made values.ok.0 wide positive)
-    ∙ other_order-rows k gen n s coeffs width c.requires.positive
+    let coeffs = c.args.coeffs in
+    let width = width_of coeffs in
+    let old = c.loop-layer.entries in
+    let positive = coeffs.width_positive in
+    let wide : c.width-width.result ≡ width = c.width-width.ensures in
+    let total : old.len ≡ 2 ^ n * width = old.ok.0 ∙ c.loop-layer.invariant.long in
+    let r = c.new.result in
+    let end : c.loop-layer.layer ≡ 0 = omega (arith, c.loop-layer-test.false) in
+    let content : rows r ≡ rows_from width (2 ^ n) old.items =
+    c.new.ensures.content ∙ ap (λ w. rows_from w (old.len / w) old.items) wide ∙ ap (λ t. rows_from width t old.items) (height old.len (2 ^ n) width total positive) in
+    let done : rows r ≡ map (values_at k (rows coeffs) width) (cfft_order k gen n s) =
+    content
+    ∙ rows-values k width (2 ^ n) positive (rows_from width (2 ^ n) old.items) (rows coeffs) (cfft_order k gen n s) (stored-wide k width (2 ^ n) positive old.items c.loop-layer.invariant.long)
+    (λ j lt. sym (remaining-none k gen n s (stored_column k.zero width j (2 ^ n) old.items) (length-stored_column k.zero width j (2 ^ n) old.items))
+    ∙ ap (λ l. remaining k gen n s l (stored_column k.zero width j (2 ^ n) old.items)) (sym end) ∙ c.loop-layer.invariant.passed j lt) in
+    ap (λ e. other_order n (rows e)) c.from_cfft_order.ensures.values ∙ ap (other_order n) done
+    ∙ other_order-points g.F.Operations.laws.ring g.met.F.ComplexExtendable.generators_law (values_at k (rows coeffs) width) n s c.requires.positive (omega (arith, c.requires.in_group))

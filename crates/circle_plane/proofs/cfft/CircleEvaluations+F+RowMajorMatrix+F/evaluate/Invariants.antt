@@ -1,11 +1,23 @@
-use Rattle.std.proofs.Common.{◌≡◌, ℕ}
-use Rattle.std.specs.List.{range_with_len, flat_map}
-use Rattle.circle_plane.specs.Domain.{log_size, shift_of}
+use Rattle.std.proofs.Common.{◌≡◌, ℕ, ◌<◌, ◌*◌, ◌^◌, map, length}
+use Rattle.circle_commit.specs.Matrix.{column}
 use Rattle.circle_commit.specs.RowMajorMatrix.{rows, width_of}
-use Rattle.circle_plane.proofs.Places.{row_at_place}
+use Rattle.circle_plane.specs.Basis.{value}
+use Rattle.circle_plane.specs.Domain.{log_size, shift_of}
+use Rattle.circle_plane.specs.Order.{cfft_order}
+use Rattle.circle_plane.proofs.Columns.{stored_column}
+use Rattle.circle_plane.proofs.Passes.{remaining}
 use Rattle.circle_plane.proofs.cfft.CircleEvaluations+F+RowMajorMatrix+F.evaluate.Given as goal
 
-abbrev pub invariant-loop-i : goal.invariant-loop-i
-invariant-loop-i g l =
-    let row = row_at_place g.F.Operations.ops g.F.ComplexExtendable.generators (log_size l.domain) (shift_of l.domain) (rows l.coeffs) (width_of l.coeffs) in
-    l.values.items ≡ flat_map row (range_with_len 0 l.i)
+abbrev pub invariant-loop-layer : goal.invariant-loop-layer
+invariant-loop-layer g l =
+    let k = g.F.Operations.ops in
+    let gen = g.F.ComplexExtendable.generators in
+    let n = log_size l.fn.domain in
+    let s = shift_of l.fn.domain in
+    let width = width_of l.fn.coeffs in
+    record {
+      part : l.half ≡ 2 ^ l.layer * width;
+      long : length l.entries.items ≡ 2 ^ n * width;
+      passed : (j : ℕ) → j < width → remaining k gen n s l.layer (stored_column k.zero width j (2 ^ n) l.entries.items)
+          ≡ map (value k (column k.zero (rows l.fn.coeffs) j)) (cfft_order k gen n s);
+    }

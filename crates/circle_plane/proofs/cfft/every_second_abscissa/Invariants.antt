@@ -1,0 +1,11 @@
+use Rattle.std.proofs.Common.{◌≡◌, ℕ, ◌++◌, ◌*◌, map, drop}
+use Rattle.circle_field.specs.Circle.{Coordinates}
+use Rattle.circle_plane.specs.Layers.{every_second}
+use Rattle.circle_plane.specs.Point.{coordinates}
+use Rattle.circle_plane.proofs.cfft.every_second_abscissa.Given as goal
+
+abbrev pub invariant-loop-i : goal.invariant-loop-i
+invariant-loop-i g l =
+    let f = λ (p : Coordinates g.row.F.Denot). p.x in
+    let points = map coordinates l.points in
+    l.abscissas.items ++ map f (every_second (drop (2 * l.i) points)) ≡ map f (every_second points)

@@ -1,0 +1,23 @@
+use Rattle.std.proofs.Common.{◌≡◌, ℕ, ◌<◌, ◌+◌, ◌*◌, ◌/◌, ◌++◌, [], ◌∷◌, ◌∙◌, sym, ap, map, drop, slice_index_or, length, arith, append_assoc}
+use Rattle.std.proofs.lemmas.Grind.{common_steps}
+use Rattle.circle_plane.specs.Basis.{doubled_x}
+use Rattle.circle_plane.specs.Layers.{every_second}
+use Rattle.circle_plane.proofs.Twiddles.{every_second-more}
+use Rattle.circle_plane.proofs.cfft.every_second_doubled.Goals as goal
+
+pub loop-i-preserved : goal.loop-i-preserved
+loop-i-preserved g c =
+    let f = doubled_x g.F.Operations.ops in
+    let xs = c.args.abscissas.now in
+    let i = c.loop-i.i in
+    let made = c.loop-i.doubled.items in
+    let x = c.sub.result in
+    let rest = map f (every_second (drop (2 * (i + 1)) xs)) in
+    let d = c.index-abscissas-i.result in
+    let step : x ≡ f d = grind (arith, common_steps, g.met.F.Field.add_law, g.met.F.Field.sub_law, g.met.F.Field.one_law) in
+    let next = every_second-more xs i d c.requires (omega arith) in
+    ap (λ ys. ys ++ rest) c.in_ok-push.ensures.items
+    ∙ append_assoc made (x ∷ []) rest
+    ∙ ap (λ y. made ++ (y ∷ rest)) (step ∙ ap f c.index-abscissas-i.is)
+    ∙ ap (λ ys. made ++ map f ys) (sym next)
+    ∙ c.loop-i.invariant

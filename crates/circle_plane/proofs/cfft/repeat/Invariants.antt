@@ -1,0 +1,6 @@
+use Rattle.std.proofs.Common.{◌≡◌, ℕ}
+use Rattle.circle_plane.specs.Layers.{copies}
+use Rattle.circle_plane.proofs.cfft.repeat.Given as goal
+
+abbrev pub invariant-loop : goal.invariant-loop
+invariant-loop g l = l.repeated.items ≡ copies l.counter l.entries.items
