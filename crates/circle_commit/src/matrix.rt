@@ -103,7 +103,7 @@ impl<T: Copy> RowMajorMatrix<T> {
         ensures width { IfOk result (λ m. width_of m ≡ width_of self.now) }
         ensures rows { IfOk result (λ m. rows m ≡ rows self.now) }
     {
-        RowMajorMatrix::copy_of(alloc, self)
+        Self::copy_of(alloc, self)
     }
 
     /// The entries, row after row.

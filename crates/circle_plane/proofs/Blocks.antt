@@ -1,9 +1,10 @@
 -- The points of a block and the factors of its halves.
-use Rattle.std.specs.Prelude.{◌≡◌, ◌≢◌, ℕ, ◌+◌, ◌-◌, ◌*◌, ◌^◌, ◌<◌, ◌≤◌, List, [], ◌∷◌, ◌++◌, length, map}
+use Rattle.std.specs.Prelude.{◌≡◌, ◌≢◌, ℕ, ◌+◌, ◌-◌, ◌*◌, ◌^◌, ◌<◌, ◌≤◌, List, [], ◌∷◌, ◌++◌, length, map, take}
 use Rattle.std.specs.List.{AllByRecursion}
-use Rattle.std.proofs.Common.{zero, suc, sym, ◌∙◌, ap, refl, arith, subst}
+use Rattle.std.proofs.Common.{zero, suc, sym, ◌∙◌, ap, refl, arith, length-append}
 use Rattle.std.proofs.Math.Nat.{pow-suc}
-use Rattle.std.proofs.lemmas.Nat.{pow-add}
+use Rattle.std.proofs.lemmas.List.{take_all, take-append-le}
+use Rattle.circle_plane.proofs.Powers.{pow_within}
 use Rattle.circle_field.specs.Field.{FieldOps, RingLaws, FieldLaws}
 use Rattle.circle_field.specs.Ring.{Expr, var, con, unit, plus as sum, times as prod, minus}
 use Rattle.circle_field.specs.RingSound.{ring}
@@ -121,3 +122,28 @@ module _ {F : Type 0} {k : FieldOps F} (laws : RingLaws k) {gen : ℕ → Coordi
       ∙ ap (λ (r : Coordinates F). r.x) (times-plus laws (2 ^ m) q (gen (suc m)) ∙ ap (plus k r) turn)
       ∙ ring laws (r.x ∷ r.y ∷ []) (sum (prod (var 0) (minus unit)) (minus (prod (var 1) (con 0)))) (minus (var 0)) refl
       ∙ ap k.neg (sym (iterated_x-times laws m q c))
+
+module _ {F : Type 0} (k : FieldOps F) (gen : ℕ → Coordinates F) where
+  length-points : (m : ℕ) (q : Coordinates F) → length (points k gen m q) ≡ 2 ^ m
+  length-points zero q = refl
+  length-points (suc m) q =
+      length-append (points k gen m q) (points k gen m (second_half k gen m q))
+      ∙ omega (arith, length-points m q, length-points m (second_half k gen m q), pow-suc 2 m)
+
+  points-prefix : (m more : ℕ) (q : Coordinates F) → take (2 ^ m) (points k gen (m + more) q) ≡ points k gen m q
+  points-prefix m zero q =
+      let e : m + 0 ≡ m = omega arith in
+      ap (λ n. take (2 ^ m) (points k gen n q)) e ∙ take_all (2 ^ m) (points k gen m q) (omega (arith, length-points m q))
+  points-prefix m (suc more) q =
+      let e : m + suc more ≡ suc (m + more) = omega arith in
+      let le : 2 ^ m ≤ 2 ^ (m + more) = let b : m ≤ m + more = omega arith in pow_within m (m + more) b in
+      ap (λ n. take (2 ^ m) (points k gen n q)) e
+      ∙ take-append-le (2 ^ m) (points k gen (m + more) q) (points k gen (m + more) (second_half k gen (m + more) q)) (omega (arith, le, length-points (m + more) q))
+      ∙ points-prefix m more q
+
+  -- the first points in the transform's order are those of a smaller domain
+  pub cfft_order-prefix : (m n : ℕ) (q : Coordinates F) → 1 ≤ m → m ≤ n → take (2 ^ m) (cfft_order k gen n q) ≡ cfft_order k gen m q
+  cfft_order-prefix m n q h le =
+      let e : m + (n - m) ≡ n = omega (arith, le) in
+      ap (take (2 ^ m)) (sym (points-cfft_order k gen n q (omega (arith, h, le))) ∙ ap (λ i. points k gen i q) (sym e))
+      ∙ points-prefix m (n - m) q ∙ points-cfft_order k gen m q h

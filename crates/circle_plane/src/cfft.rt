@@ -150,6 +150,9 @@ impl<F: ComplexExtendable> CircleEvaluations<F, RowMajorMatrix<F>> {
     /// The values on `domain` of the polynomials whose coefficients in the circle basis are the
     /// columns of `coeffs` (Circle STARKs, section 4.2).
     ///
+    /// In the order of the transform the first `2^m` rows are the values on the domain of `2^m` points
+    /// with the same shift.
+    ///
     /// Asks `1 <= log_n <= CIRCLE_TWO_ADICITY` of the domain, with any shift, and of `coeffs` a height
     /// that is a power of two and at most the domain's size. Fails where memory is refused.
     pub fn evaluate(
@@ -169,6 +172,8 @@ impl<F: ComplexExtendable> CircleEvaluations<F, RowMajorMatrix<F>> {
         ensures values { IfOk result (λ e. other_order (log_size domain) (rows (cfft_values e))
             ≡ map (values_at F.ops (rows coeffs) (width_of coeffs))
             (natural_order F.ops F.generators (log_size domain) (shift_of domain))) }
+        ensures prefix { IfOk result (λ e. (m : ℕ) → 1 ≤ m → m ≤ log_size domain → take (2 ^ m) (rows (cfft_values e))
+            ≡ map (values_at F.ops (rows coeffs) (width_of coeffs)) (cfft_order F.ops F.generators m (shift_of domain))) }
     {
         let width = coeffs.width();
         let log_height = coeffs.height().ilog2() as usize;

@@ -10,4 +10,6 @@ mod fields;
 mod points;
 pub mod quadratic;
 #[cfg(test)]
+mod transform;
+#[cfg(test)]
 mod values;

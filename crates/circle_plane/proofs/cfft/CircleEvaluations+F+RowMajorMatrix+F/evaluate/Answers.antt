@@ -1,7 +1,7 @@
 use Rattle.std.proofs.Common.{◌≡◌, ◌≢◌, ℕ, ◌-◌, ◌+◌, ◌*◌, ◌/◌, ◌%◌, ◌^◌, ◌<◌, ◌≤◌, ◌++◌, [], ◌∷◌, ◌∙◌, sym, ap, map, take, drop, slice_index_or, length, arith, List, suc}
 use Rattle.std.specs.List.{range_with_len}
 use Rattle.std.proofs.Math.ListN.{get_or-map}
-use Rattle.std.proofs.lemmas.List.{length-map}
+use Rattle.std.proofs.lemmas.List.{length-map, take-map}
 use Rattle.std.proofs.lemmas.List.FromFn.{get_or-map-range_with_len, length-map-range_with_len}
 use Rattle.std.proofs.lemmas.Nat.{pow-add}
 use Rattle.circle_field.proofs.Inverses.{take-whole}
@@ -14,6 +14,7 @@ use Rattle.circle_plane.specs.Domain.{log_size, shift_of}
 use Rattle.circle_plane.specs.Order.{cfft_order}
 use Rattle.circle_plane.specs.Ordering.{other_order}
 use Rattle.circle_plane.specs.Layers.{layer_factors, copies}
+use Rattle.circle_plane.proofs.Blocks.{cfft_order-prefix}
 use Rattle.circle_plane.proofs.Columns.{stored_column, length-stored_column}
 use Rattle.circle_plane.proofs.CosetOrder.{other_order-points}
 use Rattle.circle_plane.proofs.Layering.{length-copies}
@@ -247,3 +248,28 @@ returns-clause-values g c =
     ∙ ap (λ l. remaining k gen n s l (stored_column k.zero width j (2 ^ n) old.items)) (sym end) ∙ c.loop-layer.invariant.passed j lt) in
     ap (λ e. other_order n (rows e)) c.from_cfft_order.ensures.values ∙ ap (other_order n) done
     ∙ other_order-points g.F.Operations.laws.ring g.met.F.ComplexExtendable.generators_law (values_at k (rows coeffs) width) n s c.requires.positive (omega (arith, c.requires.in_group))
+
+pub returns-clause-prefix : goal.returns-clause-prefix
+returns-clause-prefix g c =
+    let k = g.F.Operations.ops in
+    let gen = g.F.ComplexExtendable.generators in
+    let n = log_size c.args.domain in
+    let s = shift_of c.args.domain in
+    let coeffs = c.args.coeffs in
+    let width = width_of coeffs in
+    let old = c.loop-layer.entries in
+    let positive = coeffs.width_positive in
+    let wide : c.width-width.result ≡ width = c.width-width.ensures in
+    let total : old.len ≡ 2 ^ n * width = old.ok.0 ∙ c.loop-layer.invariant.long in
+    let r = c.new.result in
+    let end : c.loop-layer.layer ≡ 0 = omega (arith, c.loop-layer-test.false) in
+    let content : rows r ≡ rows_from width (2 ^ n) old.items =
+    c.new.ensures.content ∙ ap (λ w. rows_from w (old.len / w) old.items) wide ∙ ap (λ t. rows_from width t old.items) (height old.len (2 ^ n) width total positive) in
+    let done : rows r ≡ map (values_at k (rows coeffs) width) (cfft_order k gen n s) =
+    content
+    ∙ rows-values k width (2 ^ n) positive (rows_from width (2 ^ n) old.items) (rows coeffs) (cfft_order k gen n s) (stored-wide k width (2 ^ n) positive old.items c.loop-layer.invariant.long)
+    (λ j lt. sym (remaining-none k gen n s (stored_column k.zero width j (2 ^ n) old.items) (length-stored_column k.zero width j (2 ^ n) old.items))
+    ∙ ap (λ l. remaining k gen n s l (stored_column k.zero width j (2 ^ n) old.items)) (sym end) ∙ c.loop-layer.invariant.passed j lt) in
+    let f = values_at k (rows coeffs) width in
+    λ m positive' le. ap (λ e. take (2 ^ m) (rows e)) c.from_cfft_order.ensures.values ∙ ap (take (2 ^ m)) done
+    ∙ take-map f (2 ^ m) (cfft_order k gen n s) ∙ ap (map f) (cfft_order-prefix k gen m n s positive' le)
