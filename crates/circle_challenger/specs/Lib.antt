@@ -1,0 +1,5 @@
+pub mod Grinding
+pub mod Interaction
+pub mod Observing
+pub mod Separator
+pub mod Step

@@ -1,0 +1,23 @@
+-- What a transcript's seed is made of, and its text.
+use Rattle.std.specs.Prelude.{ℕ, List, [], ◌∷◌, ◌++◌, length, flat_map}
+use Rattle.circle_challenger.specs.Step.{Step, step_text, be64, counted}
+
+-- a protocol's version and name, the steps of a run, and the labels of the instance
+pub record Separator : Type 0 where
+  pub version : ℕ
+  pub name : List ℕ
+  pub steps : List Step
+  pub labels : List (List ℕ)
+
+-- the part of the seed text that the protocol and the steps fix
+unfoldable pub steps_text : ℕ → List ℕ → List Step → List ℕ
+steps_text version name steps =
+    (version ∷ counted name) ++ (be64 (length steps) ++ flat_map step_text steps)
+
+-- the labels after their number, each after its length
+unfoldable pub labels_text : List (List ℕ) → List ℕ
+labels_text labels = be64 (length labels) ++ flat_map counted labels
+
+-- the seed text
+abbrev pub seed_text : Separator → List ℕ
+seed_text s = steps_text s.version s.name s.steps ++ labels_text s.labels

@@ -1,0 +1,14 @@
+//! Challengers for Fiat-Shamir transcripts: traits whose calls are functions of an abstract state, the
+//! description of a transcript and its seed, drivers that play a described transcript, and a challenger
+//! over SHA-256.
+#![tactic(auto)]
+
+pub mod challenger;
+pub mod domain_separator;
+pub mod interaction;
+pub mod pattern;
+
+pub use challenger::{CanObserve, CanSample, CanSampleBits, ChallengerState, GrindingChallenger};
+pub use domain_separator::DomainSeparator;
+pub use interaction::{Hierarchy, Interaction, Kind, Length, ValueType};
+pub use pattern::InteractionPattern;
