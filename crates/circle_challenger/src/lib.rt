@@ -5,6 +5,7 @@
 
 pub mod challenger;
 pub mod domain_separator;
+pub mod due;
 pub mod interaction;
 pub mod pattern;
 
