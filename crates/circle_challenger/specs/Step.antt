@@ -18,6 +18,10 @@ pub record Step : Type 0 where
   pub label : List ℕ
   pub size : Length
 
+-- a step from its parts
+abbrev pub step : Hierarchy → Kind → ValueType → List ℕ → Length → Step
+step hierarchy kind value_type label size = record { hierarchy = hierarchy; kind = kind; value_type = value_type; label = label; size = size }
+
 -- the byte of each choice
 abbrev pub hierarchy_byte : Hierarchy → ℕ
 hierarchy_byte Atomic = 0

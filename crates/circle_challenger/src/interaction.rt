@@ -126,7 +126,8 @@ impl Length {
 }
 
 impl Interaction {
-    ghost use Rattle.circle_challenger.specs.Interaction.{step_of, step};
+    ghost use Rattle.circle_challenger.specs.Step.{step};
+    ghost use Rattle.circle_challenger.specs.Interaction.{step_of};
 
     /// A step of elements of an algebra of degree `degree` over the base field.
     pub fn algebra(

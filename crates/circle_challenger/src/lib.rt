@@ -8,8 +8,10 @@ pub mod domain_separator;
 pub mod due;
 pub mod interaction;
 pub mod pattern;
+pub mod state;
 
 pub use challenger::{CanObserve, CanSample, CanSampleBits, ChallengerState, GrindingChallenger};
 pub use domain_separator::DomainSeparator;
 pub use interaction::{Hierarchy, Interaction, Kind, Length, ValueType};
 pub use pattern::InteractionPattern;
+pub use state::{Prover, ProverState, TranscriptState, Verifier, VerifierState};
