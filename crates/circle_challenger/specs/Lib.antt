@@ -1,8 +1,11 @@
 pub mod Grinding
 pub mod Interaction
+pub mod Least
 pub mod Observing
 pub mod Played
 pub mod Sampling
 pub mod Separator
+pub mod Sha256Challenger
+pub mod Sponge
 pub mod Step
 pub mod TranscriptState

@@ -1,5 +1,6 @@
 -- What contracts see of a transcript that is played.
 use Rattle.std.specs.Prelude.{◌≡◌, List}
+use Rattle.std.specs.Borrow.{MutBor}
 use Rattle.circle_challenger.specs.declared.state.TranscriptState.{TranscriptState}
 use Rattle.circle_challenger.specs.Step.{Step}
 
@@ -15,3 +16,7 @@ module _ {C F S : Type 0} where
   -- the borrowed challenger is the same
   abbrev pub SameChallenger : TranscriptState C F S → TranscriptState C F S → Type 0
   SameChallenger old new = new.challenger.ghost_name ≡ old.challenger.ghost_name
+
+  -- what is played is the borrowed challenger
+  abbrev pub Borrows : TranscriptState C F S → MutBor C → Type 0
+  Borrows t challenger = t.challenger.ghost_name ≡ challenger.ghost_name

@@ -8,10 +8,14 @@ pub mod domain_separator;
 pub mod due;
 pub mod interaction;
 pub mod pattern;
+pub mod sha256;
 pub mod state;
+#[cfg(test)]
+mod tests;
 
 pub use challenger::{CanObserve, CanSample, CanSampleBits, ChallengerState, GrindingChallenger};
 pub use domain_separator::DomainSeparator;
 pub use interaction::{Hierarchy, Interaction, Kind, Length, ValueType};
 pub use pattern::InteractionPattern;
+pub use sha256::Sha256Challenger;
 pub use state::{Prover, ProverState, TranscriptState, Verifier, VerifierState};

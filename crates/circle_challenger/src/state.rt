@@ -6,7 +6,7 @@ ghost use Rattle.circle_challenger.specs.Observing.{after_all};
 ghost use Rattle.circle_challenger.specs.Sampling.{samples, after_samples};
 ghost use Rattle.circle_challenger.specs.Separator.{seed_text};
 ghost use Rattle.circle_challenger.specs.Played.{element_message, elements_message, opaque_message, pow_step, element_challenge, numbers_challenge};
-ghost use Rattle.circle_challenger.specs.TranscriptState.{current, due, SameChallenger};
+ghost use Rattle.circle_challenger.specs.TranscriptState.{Borrows, current, due, SameChallenger};
 
 use crate::challenger::{CanObserve, CanSample, CanSampleBits, GrindingChallenger};
 use crate::domain_separator::DomainSeparator;
@@ -41,7 +41,7 @@ impl<'a, F: Field, C: CanSample<F> + GrindingChallenger<F>, S> TranscriptState<'
     /// Begins the described transcript: the challenger takes in the seed's text, each byte as an element
     /// of the base field.
     pub fn new(challenger: &'a mut C, separator: &DomainSeparator) -> Self
-        ensures same_reference { result.challenger.ghost_name ≡ challenger.entry.ghost_name }
+        ensures same_reference { Borrows result challenger.entry }
         ensures due { due result ≡ separator.now.steps }
         ensures state { C.state (current result) ≡ after_all C.after_observe (C.state challenger.old) (map (of_nat F.ops) (seed_text separator.now)) }
     {
