@@ -1,6 +1,6 @@
 -- What a transcript's seed is made of, and its text.
-use Rattle.std.specs.Prelude.{ℕ, List, [], ◌∷◌, ◌++◌, length, flat_map}
-use Rattle.circle_challenger.specs.Step.{Step, step_text, be64, counted}
+use Rattle.std.specs.Prelude.{ℕ, ◌<◌, ◌^◌, List, [], ◌∷◌, ◌++◌, length, flat_map, All}
+use Rattle.circle_challenger.specs.Step.{Step, step_text, be64, counted, IsWritableStep}
 
 -- a protocol's version and name, the steps of a run, and the labels of the instance
 pub record Separator : Type 0 where
@@ -25,3 +25,11 @@ labels_text labels = be64 (length labels) ++ flat_map counted labels
 -- the seed text
 abbrev pub seed_text : Separator → List ℕ
 seed_text s = steps_text s.version s.name s.steps ++ labels_text s.labels
+
+-- the numbers of a separator have eight bytes
+pub record IsWritable (s : Separator) : Type 0 where
+  pub name : length s.name < 2 ^ 64
+  pub step_count : length s.steps < 2 ^ 64
+  pub each_step : All IsWritableStep s.steps
+  pub label_count : length s.labels < 2 ^ 64
+  pub each_label : All (λ l. length l < 2 ^ 64) s.labels

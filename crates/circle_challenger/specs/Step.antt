@@ -1,5 +1,5 @@
 -- The steps of a transcript as contracts see them, and their texts.
-use Rattle.std.specs.Prelude.{ℕ, List, [], ◌∷◌, ◌++◌, length}
+use Rattle.std.specs.Prelude.{ℕ, ◌<◌, ◌^◌, List, [], ◌∷◌, ◌++◌, length}
 use Rattle.std.specs.Int.{w64, to_be_bytes}
 use Rattle.circle_challenger.specs.declared.interaction.Hierarchy.{Hierarchy}
 use Rattle.circle_challenger.specs.declared.interaction.Hierarchy.TheVariants.{Atomic}
@@ -64,3 +64,9 @@ unfoldable pub step_text : Step → List ℕ
 step_text s =
     (hierarchy_byte s.hierarchy ∷ kind_byte s.kind ∷ type_byte s.value_type ∷ be64 (parameter_of s.value_type))
     ++ (counted s.label ++ form_byte s.size ∷ be64 (value_count s.size))
+
+-- the numbers of a step have eight bytes
+pub record IsWritableStep (s : Step) : Type 0 where
+  pub parameter : parameter_of s.value_type < 2 ^ 64
+  pub label : length s.label < 2 ^ 64
+  pub count : value_count s.size < 2 ^ 64
