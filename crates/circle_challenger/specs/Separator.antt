@@ -1,5 +1,5 @@
 -- What a transcript's seed is made of, and its text.
-use Rattle.std.specs.Prelude.{ℕ, ◌<◌, ◌^◌, List, [], ◌∷◌, ◌++◌, length, flat_map, All}
+use Rattle.std.specs.Prelude.{◌≡◌, ℕ, ◌<◌, ◌^◌, List, [], ◌∷◌, ◌++◌, length, flat_map, All}
 use Rattle.circle_challenger.specs.Step.{Step, step_text, be64, counted, IsWritableStep}
 
 -- a protocol's version and name, the steps of a run, and the labels of the instance
@@ -33,3 +33,9 @@ pub record IsWritable (s : Separator) : Type 0 where
   pub each_step : All IsWritableStep s.steps
   pub label_count : length s.labels < 2 ^ 64
   pub each_label : All (λ l. length l < 2 ^ 64) s.labels
+
+-- the bytes spell the separator, and its labels begin at this place
+pub record IsSpelled (s : Separator) (place : ℕ) (bytes : List ℕ) : Type 0 where
+  pub labels_at : place ≡ length (steps_text s.version s.name s.steps)
+  pub text : bytes ≡ seed_text s
+  pub writable : IsWritable s

@@ -1,6 +1,6 @@
 //! The seed of a transcript.
-ghost use Rattle.std.specs.Prelude.{◌≡◌, ◌++◌, ◌∷◌, [], OnOk, IfOk, map, length, flat_map, take};
-ghost use Rattle.circle_challenger.specs.Step.{be64, counted, step_text};
+ghost use Rattle.std.specs.Prelude.{◌≡◌, ◌++◌, ◌∷◌, [], OnOk, IfOk, map, length, flat_map, All, ◌<◌, ◌^◌};
+ghost use Rattle.circle_challenger.specs.Step.{IsWritableStep, be64, counted, step_text};
 ghost use Rattle.circle_challenger.specs.Interaction.{step_of};
 ghost use Rattle.circle_challenger.specs.Separator.{labels_text, steps_text};
 ghost use Rattle.circle_challenger.specs.Observing.{after_all};
@@ -27,14 +27,14 @@ pub struct DomainSeparator {
 }
 
 impl Model for DomainSeparator {
-    ghost use Rattle.std.specs.Prelude.{◌≡◌, map, length};
-    ghost use Rattle.circle_challenger.specs.Separator.{Separator, seed_text, steps_text};
+    ghost use Rattle.std.specs.Prelude.{map};
+    ghost use Rattle.circle_challenger.specs.Separator.{Separator, separator, IsSpelled};
 
     ghost Value = { Separator };
 
-    ghost view = { λ s. record { version = s.version; name = s.name.now; steps = s.pattern; labels = map (λ l. l.items) s.labels.items } };
+    ghost view = { λ s. separator s.version s.name.now s.pattern (map (λ l. l.items) s.labels.items) };
 
-    ghost invariant = { λ s. (s.labels_at ≡ length (steps_text s.version s.name.now s.pattern)) × (s.text.items ≡ seed_text (record { version = s.version; name = s.name.now; steps = s.pattern; labels = map (λ l. l.items) s.labels.items })) };
+    ghost invariant = { λ s. IsSpelled (separator s.version s.name.now s.pattern (map (λ l. l.items) s.labels.items)) s.labels_at s.text.items };
 }
 
 /// Appends a number in eight bytes, the greatest first.
@@ -47,7 +47,8 @@ fn put_number(text: &mut Vec<u8>, number: usize) -> Result<(), AllocError>
 
 /// Appends bytes after their number.
 fn put_counted(text: &mut Vec<u8>, bytes: &[u8]) -> Result<(), AllocError>
-    ensures { OnOk result (text.new.items ≡ text.old.items ++ counted bytes.now) }
+    ensures written { OnOk result (text.new.items ≡ text.old.items ++ counted bytes.now) }
+    ensures small { length bytes.now < 2 ^ 64 }
 {
     put_number(text, bytes.len())?;
     text.extend_from_slice(bytes)
@@ -56,7 +57,8 @@ fn put_counted(text: &mut Vec<u8>, bytes: &[u8]) -> Result<(), AllocError>
 /// Appends the text of a step.
 #[tactic(auto, unfolding(crate::specs::Step::step_text))]
 fn put_step(text: &mut Vec<u8>, step: &Interaction) -> Result<(), AllocError>
-    ensures { OnOk result (text.new.items ≡ text.old.items ++ step_text (step_of step.now)) }
+    ensures written { OnOk result (text.new.items ≡ text.old.items ++ step_text (step_of step.now)) }
+    ensures writable { OnOk result (IsWritableStep (step_of step.now)) }
 {
     let Interaction {
         hierarchy,
@@ -74,7 +76,8 @@ fn put_step(text: &mut Vec<u8>, step: &Interaction) -> Result<(), AllocError>
 
 /// Appends the texts of steps, in order.
 fn put_each_step(text: &mut Vec<u8>, steps: &[Interaction]) -> Result<(), AllocError>
-    ensures { OnOk result (text.new.items ≡ text.old.items ++ flat_map step_text (map step_of steps.now)) }
+    ensures written { OnOk result (text.new.items ≡ text.old.items ++ flat_map step_text (map step_of steps.now)) }
+    ensures writable { OnOk result (All IsWritableStep (map step_of steps.now)) }
 {
     for step in steps {
         put_step(text, step)?;
@@ -90,7 +93,10 @@ fn put_steps(
     name: &str,
     steps: &[Interaction],
 ) -> Result<(), AllocError>
-    ensures { OnOk result (text.new.items ≡ text.old.items ++ steps_text version name.now (map step_of steps.now)) }
+    ensures written { OnOk result (text.new.items ≡ text.old.items ++ steps_text version name.now (map step_of steps.now)) }
+    ensures name { length name.now < 2 ^ 64 }
+    ensures count { length (map step_of steps.now) < 2 ^ 64 }
+    ensures each { OnOk result (All IsWritableStep (map step_of steps.now)) }
 {
     text.push(version)?;
     put_counted(text, name.as_bytes())?;
@@ -100,7 +106,8 @@ fn put_steps(
 
 /// Appends the labels, each after its length.
 fn put_each_label(text: &mut Vec<u8>, labels: &[Vec<u8>]) -> Result<(), AllocError>
-    ensures { OnOk result (text.new.items ≡ text.old.items ++ flat_map counted (map (λ l. l.items) labels.now)) }
+    ensures written { OnOk result (text.new.items ≡ text.old.items ++ flat_map counted (map (λ l. l.items) labels.now)) }
+    ensures each { OnOk result (All (λ l. length l < 2 ^ 64) (map (λ l. l.items) labels.now)) }
 {
     for label in labels {
         put_counted(text, label)?;
@@ -111,7 +118,9 @@ fn put_each_label(text: &mut Vec<u8>, labels: &[Vec<u8>]) -> Result<(), AllocErr
 /// Appends the labels after their number.
 #[tactic(auto, unfolding(crate::specs::Separator::labels_text))]
 fn put_labels(text: &mut Vec<u8>, labels: &[Vec<u8>]) -> Result<(), AllocError>
-    ensures { OnOk result (text.new.items ≡ text.old.items ++ labels_text (map (λ l. l.items) labels.now)) }
+    ensures written { OnOk result (text.new.items ≡ text.old.items ++ labels_text (map (λ l. l.items) labels.now)) }
+    ensures count { length (map (λ l. l.items) labels.now) < 2 ^ 64 }
+    ensures each { OnOk result (All (λ l. length l < 2 ^ 64) (map (λ l. l.items) labels.now)) }
 {
     put_number(text, labels.len())?;
     put_each_label(text, labels)
@@ -119,7 +128,7 @@ fn put_labels(text: &mut Vec<u8>, labels: &[Vec<u8>]) -> Result<(), AllocError>
 
 impl DomainSeparator {
     ghost use Rattle.std.specs.Prelude.{◌≡◌, ◌++◌, ◌∷◌, [], IfOk, map};
-    ghost use Rattle.circle_challenger.specs.Separator.{separator, seed_text};
+    ghost use Rattle.circle_challenger.specs.Separator.{Separator, IsWritable, separator, seed_text};
 
     /// The separator of a protocol's version and name and of the steps of a run, with no labels.
     pub fn new(
@@ -184,9 +193,10 @@ impl DomainSeparator {
         &self.labels
     }
 
-    /// The seed's text.
+    /// The seed's text, which is that of no other separator.
     pub fn text(&self) -> &[u8]
-        ensures { result.now ≡ seed_text self.now }
+        ensures text { result.now ≡ seed_text self.now }
+        ensures only { (other : Separator) → IsWritable other → seed_text other ≡ result.now → other ≡ self.now }
     {
         &self.text
     }
