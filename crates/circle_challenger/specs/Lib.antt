@@ -3,6 +3,7 @@ pub mod Interaction
 pub mod Least
 pub mod Observing
 pub mod Played
+pub mod Rows
 pub mod Sampling
 pub mod Separator
 pub mod Sha256Challenger
