@@ -141,11 +141,7 @@ impl<'a, F: Field, C: CanSample<F> + GrindingChallenger<F>, S> TranscriptState<'
         requires { due self ≡ [] }
         ensures { self.exit.0.now ≡ current self.entry }
     {
-        let TranscriptState {
-            challenger: _challenger,
-            due: _due,
-            of: _of,
-        } = self;
+        self.abort();
     }
 
     /// Gives the transcript up, whatever steps are due, and the challenger back.
@@ -153,9 +149,9 @@ impl<'a, F: Field, C: CanSample<F> + GrindingChallenger<F>, S> TranscriptState<'
         ensures { self.exit.0.now ≡ current self.entry }
     {
         let TranscriptState {
-            challenger: _challenger,
-            due: _due,
-            of: _of,
+            challenger: _,
+            due: _,
+            of: _,
         } = self;
     }
 }
