@@ -155,3 +155,66 @@ fn the_seed_text_is_the_table(rt: HostRuntime) -> Result<(), Fail> {
     assert_eq!(rt; separator.labels()[1].as_slice(), layout.as_slice());
     Ok(())
 }
+
+fn element(n: u64) -> Mersenne31 {
+    Mersenne31::from_u64(n)
+}
+
+fn cubic(a: u64, b: u64, c: u64) -> Cubic {
+    Cubic::from_coefficients(&[element(a), element(b), element(c)])
+}
+
+#[test]
+fn the_sponge_is_the_digests_of_its_states(rt: HostRuntime) {
+    let mut challenger = Sha256Challenger::new();
+    let first: Mersenne31 = challenger.sample();
+    assert_eq!(rt; first, element(887805594));
+
+    let mut challenger = Sha256Challenger::default();
+    let numbers = [0, 0, 6, 638, 1934231230, 33323379293894408];
+    for (bits, number) in [0, 1, 5, 10, 31, 63].iter().zip(numbers) {
+        assert_eq!(rt; challenger.sample_bits(*bits), number, "{bits} bits");
+    }
+
+    let mut challenger = Sha256Challenger::new();
+    challenger.observe(&-Mersenne31::ONE);
+    challenger.observe(&element(5));
+    let third: Mersenne31 = challenger.sample();
+    assert_eq!(rt; third, element(1443688485));
+
+    let mut challenger = Sha256Challenger::new();
+    challenger.observe(&[7u8; 32]);
+    let after_commitment: Mersenne31 = challenger.sample();
+    assert_eq!(rt; after_commitment, element(563722081));
+
+    let mut challenger = Sha256Challenger::new();
+    challenger.observe_bytes(b"abc");
+    let after_bytes: Mersenne31 = challenger.sample();
+    assert_eq!(rt; after_bytes, element(990172798));
+}
+
+#[test]
+fn grinding_finds_the_least_witness(rt: HostRuntime) -> Result<(), Fail> {
+    let mut challenger = Sha256Challenger::new();
+    assert_eq!(rt; challenger.grind(0), Some(Mersenne31::ZERO));
+    assert!(rt; challenger.check_witness(0, element(9)));
+    assert_eq!(rt; challenger, Sha256Challenger::new());
+
+    for (bits, witness) in [(1, 3), (8, 312), (12, 6094)] {
+        let mut prover = Sha256Challenger::new();
+        assert_eq!(rt; prover.grind(bits), Some(element(witness)), "{bits} bits");
+        let mut verifier = Sha256Challenger::new();
+        assert!(rt; verifier.check_witness(bits, element(witness)));
+        assert_eq!(rt; prover, verifier);
+    }
+
+    let mut challenger = Sha256Challenger::new();
+    let _ = challenger.grind(8);
+    let after: Mersenne31 = challenger.sample();
+    assert_eq!(rt; after, element(1493963882));
+    let mut challenger = Sha256Challenger::new();
+    assert!(rt; !challenger.check_witness(8, Mersenne31::ZERO));
+    let after_miss: Mersenne31 = challenger.sample();
+    assert_eq!(rt; after_miss, element(862777544));
+    Ok(())
+}
