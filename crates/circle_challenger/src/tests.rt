@@ -12,6 +12,9 @@ use crate::{
 use circle_field::{Cubic, ExtensionField, Field, Mersenne31};
 use std::alloc::{AllocError, Global};
 use std::test::Fail;
+use stubborn::Stubborn;
+
+mod stubborn;
 
 const OPENING_POINT: &str = "opening_point";
 
