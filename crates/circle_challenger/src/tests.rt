@@ -14,6 +14,7 @@ use std::alloc::{AllocError, Global};
 use std::test::Fail;
 use stubborn::Stubborn;
 
+mod runs;
 mod stubborn;
 
 const OPENING_POINT: &str = "opening_point";
@@ -219,5 +220,63 @@ fn grinding_finds_the_least_witness(rt: HostRuntime) -> Result<(), Fail> {
     assert!(rt; !challenger.check_witness(8, Mersenne31::ZERO));
     let after_miss: Mersenne31 = challenger.sample();
     assert_eq!(rt; after_miss, element(862777544));
+    Ok(())
+}
+
+#[test]
+fn both_sides_draw_alike(rt: HostRuntime) -> Result<(), Fail> {
+    let alloc = rt.alloc();
+    let mut prover = Sha256Challenger::new();
+    let proved = runs::prove(alloc, &mut prover)?.ok_or("no witness")?;
+    assert_eq!(rt; proved.witness, element(4));
+    assert_eq!(rt; proved.alpha, cubic(435491986, 1509700079, 614995509));
+    assert_eq!(rt; proved.indices.as_slice(), [3, 1].as_slice());
+
+    let mut verifier = Sha256Challenger::new();
+    let verified = runs::verify(alloc, &mut verifier, proved.witness)?.ok_or("a miss")?;
+    assert_eq!(rt; verified.alpha, proved.alpha);
+    assert_eq!(rt; verified.indices.as_slice(), proved.indices.as_slice());
+    assert_eq!(rt; verifier, prover);
+    let next: Mersenne31 = verifier.sample();
+    assert_eq!(rt; next, element(2031691190));
+
+    let mut verifier = Sha256Challenger::new();
+    assert!(rt; runs::verify(alloc, &mut verifier, Mersenne31::ZERO)?.is_none());
+    Ok(())
+}
+
+#[test]
+fn where_no_witness_passes_the_run_is_given_up(rt: HostRuntime) -> Result<(), Fail> {
+    let alloc = rt.alloc();
+    let mut stubborn = Stubborn { taken: 0 };
+    assert_eq!(rt; stubborn.grind(4), None);
+    assert_eq!(rt; stubborn.grind(0), Some(Mersenne31::ZERO));
+    assert!(rt; stubborn.check_witness(0, element(5)));
+    assert!(rt; !stubborn.check_witness(4, element(5)));
+    assert!(rt; runs::prove(alloc, &mut stubborn)?.is_none());
+    assert!(rt; runs::verify(alloc, &mut stubborn, element(4))?.is_none());
+    let next: Mersenne31 = stubborn.sample();
+    assert_eq!(rt; next, Mersenne31::ZERO);
+    assert_ne!(rt; stubborn.taken, 0);
+    Ok(())
+}
+
+#[test]
+fn a_value_is_taken_in_as_it_is(rt: HostRuntime) -> Result<(), Fail> {
+    let alloc = rt.alloc();
+    let label = "message";
+    let steps = vec![in alloc;
+        Interaction::opaque(Hierarchy::Atomic, Kind::Message, label, Length::Scalar),
+    ]?;
+    let separator = DomainSeparator::new(alloc, 1, "one", InteractionPattern::new(steps))?;
+    let mut challenger = Sha256Challenger::new();
+    one_message::<Mersenne31, Sha256Challenger, [u8; 32]>(
+        &mut challenger,
+        &separator,
+        label,
+        &[7; 32],
+    );
+    let next: Mersenne31 = challenger.sample();
+    assert_eq!(rt; next, element(478777721));
     Ok(())
 }
