@@ -1,11 +1,11 @@
 -- The search for a witness from 0 up.
-use Rattle.std.proofs.Common.{◌≡◌, ℕ, ◌+◌, ◌<◌, below_more, Bool, true, false, List, Option, Some, None, option_map, refl, sym, ap, ◌∙◌, subst, lit<, arith}
+use Rattle.std.proofs.Common.{◌≡◌, ℕ, ◌+◌, ◌<◌, below_more, true, false, List, Some, None, option_map, refl, sym, ap, ◌∙◌, subst, lit<, arith}
 use Rattle.circle_field.specs.declared.mersenne31.Mersenne31.{Mersenne31}
 use Rattle.circle_field.specs.Field.{of_nat}
 use Rattle.circle_field.specs.Mersenne31.{order, residue, element, operations}
 use Rattle.circle_field.specs.Mersenne31Laws.{same_residue, residue_of_nat, residue_reduced}
 use Rattle.circle_challenger.specs.Grinding.{passes}
-use Rattle.circle_challenger.specs.Least.{least, least-none, least-some}
+use Rattle.circle_challenger.specs.Least.{least-none, least-some}
 use Rattle.circle_challenger.specs.Sponge.{absorbed_element, sampled_number, number_passes, least_witness}
 
 -- the sum of n ones is the element of n

@@ -1,5 +1,5 @@
 -- What a transcript's seed is made of, and its text.
-use Rattle.std.specs.Prelude.{◌≡◌, ℕ, ◌<◌, ◌^◌, List, [], ◌∷◌, ◌++◌, length, flat_map, All}
+use Rattle.std.specs.Prelude.{◌≡◌, ℕ, ◌<◌, ◌^◌, List, ◌∷◌, ◌++◌, length, flat_map, All}
 use Rattle.circle_challenger.specs.Step.{Step, step_text, be64, counted, IsWritableStep}
 
 -- a protocol's version and name, the steps of a run, and the labels of the instance

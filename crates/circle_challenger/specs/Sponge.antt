@@ -1,5 +1,5 @@
 -- The challenger over SHA-256 as functions of its state, a list of 32 bytes.
-use Rattle.std.specs.Prelude.{ℕ, Bool, Option, option_map, ◌%◌, ◌^◌, ◌<◌, List, [], ◌∷◌, ◌++◌, take}
+use Rattle.std.specs.Prelude.{ℕ, Bool, Option, option_map, ◌%◌, ◌^◌, ◌<◌, List, ◌∷◌, ◌++◌, take}
 use Rattle.std.specs.Int.{w64, from_be_bytes}
 use Rattle.std.proofs.Math.Nat.{mod-lt}
 use Rattle.std.proofs.lemmas.Nat.{pow_pos}

@@ -1,5 +1,5 @@
 -- The steps of a transcript as contracts see them, and their texts.
-use Rattle.std.specs.Prelude.{ℕ, ◌<◌, ◌^◌, List, [], ◌∷◌, ◌++◌, length}
+use Rattle.std.specs.Prelude.{ℕ, ◌<◌, ◌^◌, List, ◌∷◌, ◌++◌, length}
 use Rattle.std.specs.Int.{w64, to_be_bytes}
 use Rattle.circle_challenger.specs.declared.interaction.Hierarchy.{Hierarchy}
 use Rattle.circle_challenger.specs.declared.interaction.Hierarchy.TheVariants.{Atomic}

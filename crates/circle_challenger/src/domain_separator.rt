@@ -196,6 +196,7 @@ impl DomainSeparator {
     /// The seed's text, which is that of no other separator.
     pub fn text(&self) -> &[u8]
         ensures text { result.now ≡ seed_text self.now }
+        ensures writable { IsWritable self.now }
         ensures only { (other : Separator) → IsWritable other → seed_text other ≡ result.now → other ≡ self.now }
     {
         &self.text

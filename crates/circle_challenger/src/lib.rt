@@ -18,4 +18,4 @@ pub use domain_separator::DomainSeparator;
 pub use interaction::{Hierarchy, Interaction, Kind, Length, ValueType};
 pub use pattern::InteractionPattern;
 pub use sha256::Sha256Challenger;
-pub use state::{Prover, ProverState, TranscriptState, Verifier, VerifierState};
+pub use state::{ProverSide, ProverState, TranscriptState, VerifierSide, VerifierState};

@@ -26,16 +26,16 @@ pub struct TranscriptState<'a, C, F, S> {
 }
 
 /// The side that proves.
-pub struct Prover;
+pub struct ProverSide;
 
 /// The side that verifies.
-pub struct Verifier;
+pub struct VerifierSide;
 
 /// The transcript as the prover plays it.
-pub type ProverState<'a, C, F> = TranscriptState<'a, C, F, Prover>;
+pub type ProverState<'a, C, F> = TranscriptState<'a, C, F, ProverSide>;
 
 /// The transcript as the verifier plays it.
-pub type VerifierState<'a, C, F> = TranscriptState<'a, C, F, Verifier>;
+pub type VerifierState<'a, C, F> = TranscriptState<'a, C, F, VerifierSide>;
 
 impl<'a, F: Field, C: CanSample<F> + GrindingChallenger<F>, S> TranscriptState<'a, C, F, S> {
     /// Begins the described transcript: the challenger takes in the seed's text, each byte as an element
@@ -156,7 +156,7 @@ impl<'a, F: Field, C: CanSample<F> + GrindingChallenger<F>, S> TranscriptState<'
     }
 }
 
-impl<'a, F: Field, C: CanSample<F> + GrindingChallenger<F>> TranscriptState<'a, C, F, Prover> {
+impl<'a, F: Field, C: CanSample<F> + GrindingChallenger<F>> TranscriptState<'a, C, F, ProverSide> {
     /// Looks for a witness at a difficulty of `bits` bits and takes it in. `None` where none passes, and
     /// then only `abort` may follow.
     ///
@@ -177,7 +177,12 @@ impl<'a, F: Field, C: CanSample<F> + GrindingChallenger<F>> TranscriptState<'a, 
     }
 }
 
-impl<'a, F: Field, C: CanSample<F> + GrindingChallenger<F>> TranscriptState<'a, C, F, Verifier> {
+impl<'a, F: Field, C: CanSample<F> + GrindingChallenger<F>> TranscriptState<
+    'a,
+    C,
+    F,
+    VerifierSide,
+> {
     /// Takes in a witness, and answers whether it passes at a difficulty of `bits` bits. Where it
     /// doesn't only `abort` may follow.
     ///

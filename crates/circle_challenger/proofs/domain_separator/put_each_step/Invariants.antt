@@ -1,4 +1,4 @@
-use Rattle.std.proofs.Common.{◌≡◌, ◌++◌, map, take, flat_map, All, length, ◌<◌, ◌^◌}
+use Rattle.std.proofs.Common.{◌≡◌, ◌++◌, map, take, flat_map, All}
 use Rattle.circle_challenger.specs.Interaction.{step_of}
 use Rattle.circle_challenger.specs.Step.{IsWritableStep, step_text}
 use Rattle.circle_challenger.proofs.domain_separator.put_each_step.Given as goal

@@ -1,4 +1,4 @@
-use Rattle.std.proofs.Common.{ℕ, ◌<◌, ◌^◌, sym, ◌∙◌, subst, All}
+use Rattle.std.proofs.Common.{ℕ, ◌<◌, ◌^◌, [], ◌∷◌, ◌++◌, sym, ◌∙◌, subst}
 use Rattle.std.proofs.lemmas.List.Elements.{All-nil, All-same, All-push}
 use Rattle.circle_challenger.proofs.Draws.{samples-zero, samples-more, after_samples-zero, after_samples-more}
 use Rattle.circle_challenger.proofs.state.sample_numbers.Goals as goal
@@ -25,6 +25,6 @@ loop-i-preserved g c =
     let drawn : small x = subst small (sym c.sample_bits.ensures.value) (g.met.C.CanSampleBits.bits_below state c.args.width c.requires) in
     record {
       numbers = samples-more (λ s. bits.sampled_bits s c.args.width) (λ s. bits.after_bits s c.args.width) begun state c.loop-i._i c.loop-i.invariant.state xs c.push.new.self.items x c.loop-i.invariant.numbers c.sample_bits.ensures.value c.in_ok-push.ensures.items;
-      below = All-same small c.push.new.self.items _ c.in_ok-push.ensures.items (All-push small xs x c.loop-i.invariant.below drawn);
-      state = after_samples-more (λ s. bits.sampled_bits s c.args.width) (λ s. bits.after_bits s c.args.width) begun state c.loop-i._i c.loop-i.invariant.state _ c.sample_bits.ensures.after;
+      below = All-same small c.push.new.self.items (xs ++ x ∷ []) c.in_ok-push.ensures.items (All-push small xs x c.loop-i.invariant.below drawn);
+      state = after_samples-more (λ s. bits.sampled_bits s c.args.width) (λ s. bits.after_bits s c.args.width) begun state c.loop-i._i c.loop-i.invariant.state (g.C.ChallengerState.state c.sample_bits.new.self) c.sample_bits.ensures.after;
     }
