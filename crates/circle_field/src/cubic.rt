@@ -259,6 +259,23 @@ impl ExtensionField<Mersenne31> for Cubic {
         }
     }
 
+    fn with_coefficient(&self, i: usize, coefficient: Mersenne31) -> Self {
+        match i {
+            0 => Cubic {
+                c0: coefficient,
+                ..*self
+            },
+            1 => Cubic {
+                c1: coefficient,
+                ..*self
+            },
+            _ => Cubic {
+                c2: coefficient,
+                ..*self
+            },
+        }
+    }
+
     fn from_coefficients(coeffs: &[Mersenne31]) -> Self {
         Cubic {
             c0: coeffs[0],

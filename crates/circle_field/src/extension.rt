@@ -1,5 +1,5 @@
 //! Extensions of fields, prime fields, and fields whose unit circle has a large cyclic group.
-ghost use Rattle.std.specs.Prelude.{◌≡◌, ℕ, ◌≤◌, ◌<◌, List, [], ◌∷◌, length, Some, slice_get};
+ghost use Rattle.std.specs.Prelude.{◌≡◌, ℕ, ◌≤◌, ◌<◌, List, [], ◌∷◌, length, Some, slice_get, slice_set};
 ghost use Rattle.std.proofs.Common.{lit≤};
 ghost use Rattle.circle_field.specs.Field.{IsEmbedding, of_nat};
 ghost use Rattle.circle_field.specs.Primes.{IsPrime};
@@ -56,6 +56,13 @@ pub trait ExtensionField<F: Field>: Field {
         requires { i < DEGREE }
         ensures { slice_get (coefficients self.now) i ≡ Some result };
 
+    /// The element with another coefficient at place `i`.
+    ///
+    /// Asks `i < DEGREE`.
+    fn with_coefficient(&self, i: usize, coefficient: F) -> Self
+        requires { i < DEGREE }
+        ensures { coefficients result ≡ slice_set (coefficients self.now) i coefficient };
+
     /// The element with these coefficients.
     ///
     /// Asks `DEGREE` of them.
@@ -92,6 +99,10 @@ impl<F: Field> ExtensionField<F> for F {
 
     fn coefficient(&self, _i: usize) -> F {
         *self
+    }
+
+    fn with_coefficient(&self, _i: usize, coefficient: F) -> F {
+        coefficient
     }
 
     fn from_coefficients(coeffs: &[F]) -> F {

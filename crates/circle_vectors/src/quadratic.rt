@@ -200,6 +200,19 @@ impl ExtensionField<Mersenne31> for Quadratic {
         }
     }
 
+    fn with_coefficient(&self, i: usize, coefficient: Mersenne31) -> Self {
+        match i {
+            0 => Quadratic {
+                c0: coefficient,
+                c1: self.c1,
+            },
+            _ => Quadratic {
+                c0: self.c0,
+                c1: coefficient,
+            },
+        }
+    }
+
     fn from_coefficients(coeffs: &[Mersenne31]) -> Self {
         Quadratic {
             c0: coeffs[0],

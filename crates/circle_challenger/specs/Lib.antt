@@ -1,0 +1,12 @@
+pub mod Grinding
+pub mod Interaction
+pub mod Least
+pub mod Observing
+pub mod Played
+pub mod Rows
+pub mod Sampling
+pub mod Separator
+pub mod Sha256Challenger
+pub mod Sponge
+pub mod Step
+pub mod TranscriptState

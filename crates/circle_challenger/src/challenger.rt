@@ -1,0 +1,88 @@
+//! The traits of challengers.
+ghost use Rattle.std.specs.Prelude.{◌≡◌, ℕ, ◌≤◌, ◌<◌, ◌^◌, IfSome, IfNone, IsTrue, Option, Some, true, false};
+ghost use Rattle.circle_challenger.specs.Grinding.{passes, after_check};
+
+use circle_field::Field;
+
+/// The state of a challenger as contracts see it: what its answers depend on, and nothing else.
+///
+/// Two challengers in one state answer alike, however they keep that state.
+pub trait ChallengerState {
+    /// The states.
+    type State;
+
+    ghost state: { Self → Self.State };
+}
+
+/// A challenger that takes in values of the type `T`.
+pub trait CanObserve<T>: ChallengerState {
+    ghost after_observe: { Self.State → T → Self.State };
+
+    /// Takes in the value.
+    fn observe(&mut self, value: &T)
+        ensures { Self.state self.new ≡ after_observe (Self.state self.old) value.now };
+}
+
+/// A challenger that gives elements of the field `F`.
+pub trait CanSample<F>: ChallengerState {
+    ghost sampled: { Self.State → F };
+
+    ghost after_sample: { Self.State → Self.State };
+
+    /// The next element.
+    fn sample(&mut self) -> F
+        ensures value { result ≡ sampled (Self.state self.old) }
+        ensures after { Self.state self.new ≡ after_sample (Self.state self.old) };
+}
+
+/// A challenger that gives numbers of a given number of bits.
+pub trait CanSampleBits: ChallengerState {
+    ghost sampled_bits: { Self.State → ℕ → ℕ };
+
+    ghost after_bits: { Self.State → ℕ → Self.State };
+
+    /// The next number below `2^bits`.
+    ///
+    /// Asks `bits <= 63`.
+    fn sample_bits(&mut self, bits: usize) -> usize
+        requires { bits ≤ 63 }
+        ensures value { result ≡ sampled_bits (Self.state self.old) bits }
+        ensures after { Self.state self.new ≡ after_bits (Self.state self.old) bits };
+
+    ghost bits_below: { (s : Self.State) (bits : ℕ) → bits ≤ 63 → sampled_bits s bits < 2 ^ bits };
+}
+
+/// A challenger with proofs of work: a witness passes at a difficulty of `bits` bits where after it was
+/// taken in so many sampled bits are zero.
+pub trait GrindingChallenger<F: Field>: CanObserve<F> + CanSampleBits {
+    ghost found_witness: { Self.State → ℕ → Option F };
+
+    /// Takes in the witness, and answers whether `bits` bits sampled then are zero. A difficulty of no
+    /// bits passes with every witness, and nothing changes.
+    ///
+    /// Asks `bits <= 63`.
+    fn check_witness(&mut self, bits: usize, witness: F) -> bool
+        requires { bits ≤ 63 }
+        ensures answer { result ≡ passes Self.after_observe Self.sampled_bits (Self.state self.old) bits witness }
+        ensures after { Self.state self.new ≡ after_check Self.after_observe Self.after_bits (Self.state self.old) bits witness }
+    {
+        if bits == 0 {
+            return true;
+        }
+        self.observe(&witness);
+        self.sample_bits(bits) == 0
+    }
+
+    /// Looks for a witness that passes, and takes it in as `check_witness` does. `None` where none does,
+    /// and then nothing changes. A difficulty of no bits gives 0.
+    ///
+    /// Asks `bits <= 63`.
+    fn grind(&mut self, bits: usize) -> Option<F>
+        requires { bits ≤ 63 }
+        ensures answer { result ≡ found_witness (Self.state self.old) bits }
+        ensures passes { IfSome result (λ w. IsTrue (passes Self.after_observe Self.sampled_bits (Self.state self.old) bits w)) }
+        ensures after { IfSome result (λ w. Self.state self.new ≡ after_check Self.after_observe Self.after_bits (Self.state self.old) bits w) }
+        ensures none { IfNone result ((w : F) → passes Self.after_observe Self.sampled_bits (Self.state self.old) bits w ≡ false) }
+        ensures unchanged { IfNone result (Self.state self.new ≡ Self.state self.old) }
+        ensures easy { bits ≡ 0 → result ≡ Some F.ops.zero };
+}
