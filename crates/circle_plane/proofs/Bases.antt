@@ -1,7 +1,7 @@
 -- The circle basis, doubled with each further bit of the index.
-use Rattle.std.specs.Prelude.{◌≡◌, ℕ, ◌+◌, ◌-◌, ◌*◌, ◌/◌, ◌%◌, ◌^◌, ◌<◌, ◌≤◌, List, [], ◌∷◌, ◌++◌, map, length}
+use Rattle.std.specs.Prelude.{◌≡◌, ℕ, ◌+◌, ◌-◌, ◌*◌, ◌/◌, ◌%◌, ◌^◌, ◌<◌, ◌≤◌, ◌∷◌, ◌++◌, map}
 use Rattle.std.specs.List.{range_with_len}
-use Rattle.std.proofs.Common.{zero, suc, sym, ◌∙◌, ap, refl, arith, add-one, lit<, ⊎_elim}
+use Rattle.std.proofs.Common.{zero, suc, sym, ◌∙◌, ap, refl, arith, lit<, ⊎_elim}
 use Rattle.std.proofs.Math.Nat.{pow-suc, div-eq_of_lt, pow-le-pow_right, mul-add-div}
 use Rattle.std.proofs.lemmas.Nat.{pow-add, pow_pos, shr_high}
 use Rattle.std.proofs.lemmas.Bool.{cases_lt}

@@ -1,20 +1,18 @@
 -- The points of a block and the factors of its halves.
-use Rattle.std.specs.Prelude.{◌≡◌, ◌≢◌, ℕ, ◌+◌, ◌-◌, ◌*◌, ◌^◌, ◌<◌, ◌≤◌, List, [], ◌∷◌, ◌++◌, length, map, take}
+use Rattle.std.specs.Prelude.{◌≡◌, ℕ, ◌+◌, ◌-◌, ◌^◌, ◌<◌, ◌≤◌, List, [], ◌∷◌, ◌++◌, length, take}
 use Rattle.std.specs.List.{AllByRecursion}
 use Rattle.std.proofs.Common.{zero, suc, sym, ◌∙◌, ap, refl, arith, length-append}
 use Rattle.std.proofs.Math.Nat.{pow-suc}
 use Rattle.std.proofs.lemmas.List.{take_all, take-append-le}
 use Rattle.circle_plane.proofs.Powers.{pow_within}
-use Rattle.circle_field.specs.Field.{FieldOps, RingLaws, FieldLaws}
-use Rattle.circle_field.specs.Ring.{Expr, var, con, unit, plus as sum, times as prod, minus}
+use Rattle.circle_field.specs.Field.{FieldOps, RingLaws}
+use Rattle.circle_field.specs.Ring.{var, con, unit, plus as sum, times as prod, minus}
 use Rattle.circle_field.specs.RingSound.{ring}
-use Rattle.circle_field.specs.RingFacts.{add_zero}
 use Rattle.circle_field.specs.Circle.{Coordinates, at, IsOnCircle, AreGenerators, plus, opposite, origin, times}
-use Rattle.circle_field.specs.CircleGroup.{plus_comm, plus_assoc, plus-origin, plus-on_circle, opposite-on_circle, same_coordinates}
-use Rattle.circle_plane.specs.Basis.{iterated_x}
+use Rattle.circle_field.specs.CircleGroup.{plus_comm, plus_assoc, plus-origin, plus-on_circle, opposite-on_circle}
 use Rattle.circle_plane.specs.Order.{coset, cfft_order, with_opposites}
 use Rattle.circle_plane.specs.Layers.{factor, second_half}
-use Rattle.circle_plane.proofs.Multiples.{times-+, times-one, times-double, iterated_x-times}
+use Rattle.circle_plane.proofs.Multiples.{times-one, times-double, iterated_x-times}
 
 pub all-append : {X : Type 0} (P : X → Type 0) (xs ys : List X) → AllByRecursion P xs → AllByRecursion P ys → AllByRecursion P (xs ++ ys)
 all-append P [] ys h g = g

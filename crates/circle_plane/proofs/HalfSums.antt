@@ -1,10 +1,10 @@
 -- The value of a list of coefficients from the values of its two halves.
-use Rattle.std.specs.Prelude.{◌≡◌, ℕ, ◌+◌, ◌-◌, ◌*◌, ◌^◌, ◌<◌, ◌≤◌, List, [], ◌∷◌, ◌++◌, length, map}
+use Rattle.std.specs.Prelude.{◌≡◌, ℕ, ◌+◌, ◌^◌, ◌<◌, ◌≤◌, List, [], ◌∷◌, ◌++◌, length}
 use Rattle.std.proofs.Common.{zero, suc, sym, ◌∙◌, ap, refl, arith}
 use Rattle.circle_field.specs.Field.{FieldOps, RingLaws, sub}
-use Rattle.circle_field.specs.RingFacts.{mul_one, mul_zero, zero_mul, add_zero, add_swap, add_mul, neg_zero, mul_neg, neg_mul, neg_of_add}
+use Rattle.circle_field.specs.RingFacts.{zero_mul, add_swap, add_mul, mul_neg}
 use Rattle.circle_field.specs.Circle.{Coordinates}
-use Rattle.circle_plane.specs.Basis.{iterated_x, circle_basis, weighted_sum, value}
+use Rattle.circle_plane.specs.Basis.{circle_basis, weighted_sum, value}
 use Rattle.circle_plane.specs.Layers.{pairwise, factor}
 use Rattle.circle_plane.proofs.Bases.{circle_basis-next}
 

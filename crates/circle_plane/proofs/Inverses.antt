@@ -1,6 +1,6 @@
 -- The inverse of a power of 2.
 use Rattle.std.specs.Prelude.{◌≡◌, ℕ}
-use Rattle.std.proofs.Common.{zero, suc, sym, ◌∙◌, ap}
+use Rattle.std.proofs.Common.{zero, suc, ◌∙◌, ap}
 use Rattle.circle_field.specs.Field.{FieldOps, FieldLaws, two, nth_power}
 use Rattle.circle_field.specs.RingFacts.{mul_swap}
 

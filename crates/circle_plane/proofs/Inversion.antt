@@ -1,5 +1,5 @@
 -- The layers of a genuine block can be undone, and multiples go through them.
-use Rattle.std.specs.Prelude.{◌≡◌, ◌≢◌, ℕ, ◌+◌, ◌-◌, ◌*◌, ◌^◌, ◌<◌, ◌≤◌, List, [], ◌∷◌, ◌++◌, length, map, take, drop}
+use Rattle.std.specs.Prelude.{◌≡◌, ◌≢◌, ℕ, ◌+◌, ◌^◌, ◌≤◌, List, [], ◌∷◌, ◌++◌, length, map, take, drop}
 use Rattle.std.proofs.Common.{zero, suc, sym, ◌∙◌, ap, refl, arith}
 use Rattle.std.proofs.Math.Nat.{pow-suc}
 use Rattle.std.proofs.lemmas.List.{map-append, take-map, take_at, drop_at}
@@ -8,11 +8,10 @@ use Rattle.circle_field.specs.Ring.{Expr, var, con, unit, plus as sum, times as 
 use Rattle.circle_field.specs.RingSound.{ring}
 use Rattle.circle_field.specs.RingCombine.{given, combine}
 use Rattle.circle_field.specs.RingFacts.{mul_one}
-use Rattle.circle_field.specs.Circle.{Coordinates, at, IsOnCircle, AreGenerators, plus, opposite, origin, times}
-use Rattle.circle_field.specs.CircleGroup.{plus_comm, plus-on_circle, plus-origin, plus-opposite, same_coordinates}
-use Rattle.circle_plane.specs.Basis.{iterated_x}
-use Rattle.circle_plane.specs.Layers.{pairwise, factor, second_half}
-use Rattle.circle_plane.proofs.Multiples.{times-one, times-+, times-double, times-on_circle, iterated_x-times}
+use Rattle.circle_field.specs.Circle.{Coordinates, IsOnCircle, AreGenerators, plus, opposite, origin, times}
+use Rattle.circle_field.specs.CircleGroup.{plus-on_circle, plus-origin, plus-opposite, same_coordinates}
+use Rattle.circle_plane.specs.Layers.{factor, second_half}
+use Rattle.circle_plane.proofs.Multiples.{times-one, times-on_circle, iterated_x-times}
 use Rattle.circle_plane.proofs.Columns.{drop-map}
 use Rattle.circle_plane.proofs.Written.{length-pairwise}
 use Rattle.circle_plane.proofs.Blocks.{times-plus, times-pow-suc, times-generator-past, second_half-on_circle}

@@ -1,18 +1,18 @@
 -- A layer of blocks, one block after another.
-use Rattle.std.specs.Prelude.{◌≡◌, ◌≢◌, ℕ, ◌+◌, ◌-◌, ◌*◌, ◌^◌, ◌<◌, ◌≤◌, List, [], ◌∷◌, ◌++◌, length, map, take, drop}
+use Rattle.std.specs.Prelude.{◌≡◌, ◌≢◌, ℕ, ◌+◌, ◌*◌, ◌^◌, ◌≤◌, List, [], ◌∷◌, ◌++◌, length, map, take, drop}
 use Rattle.std.specs.List.{AllByRecursion}
 use Rattle.std.proofs.Common.{zero, suc, sym, ◌∙◌, ap, refl, arith, append_assoc, append-nil, length-append, length-drop, subst}
 use Rattle.std.proofs.Math.Nat.{pow-suc}
-use Rattle.std.proofs.lemmas.List.{map-append, take-take, drop-take, take_at, drop_at, take_all, take-map, take-append-le, drop-append-le, length-take-le, length-map}
+use Rattle.std.proofs.lemmas.List.{map-append, take-take, drop-take, take_at, drop_at, take_all, take-map, take-append-le, drop-append-le, length-take-le}
 use Rattle.circle_field.specs.Field.{FieldOps, RingLaws, FieldLaws, sub}
 use Rattle.circle_field.specs.Circle.{Coordinates, IsOnCircle, AreGenerators, times, origin}
 use Rattle.circle_plane.specs.Basis.{value}
-use Rattle.circle_plane.specs.Layers.{pairwise, layer, factor, second_half, block_starts, copies}
+use Rattle.circle_plane.specs.Layers.{layer, factor, second_half, block_starts, copies}
 use Rattle.circle_plane.proofs.Written.{length-pairwise}
 use Rattle.circle_plane.proofs.Columns.{drop-map}
 use Rattle.circle_plane.proofs.Blocks.{points, all-append, second_half-on_circle}
 use Rattle.circle_plane.proofs.Inversion.{finish-scaled, factor-nonzero, first-genuine, second-genuine}
-use Rattle.circle_plane.proofs.Transform.{lower, upper, finish, length-finish, finish-value}
+use Rattle.circle_plane.proofs.Transform.{lower, upper, finish, finish-value}
 
 module _ {F : Type 0} (k : FieldOps F) (gen : ℕ → Coordinates F) where
   -- the first points of the halves of blocks of 2 * 2^m points

@@ -1,11 +1,11 @@
 -- Multiples of a point.
-use Rattle.std.specs.Prelude.{◌≡◌, ℕ, ◌+◌, ◌-◌, ◌*◌, ◌/◌, ◌%◌, ◌^◌, ◌≤◌}
+use Rattle.std.specs.Prelude.{◌≡◌, ℕ, ◌+◌, ◌/◌, ◌%◌, ◌^◌}
 use Rattle.std.proofs.Common.{zero, suc, sym, ◌∙◌, ap, refl, arith, add-one}
 use Rattle.std.proofs.Math.Nat.{pow-suc}
 use Rattle.circle_field.specs.Field.{FieldOps, RingLaws}
-use Rattle.circle_field.specs.Circle.{Coordinates, at, IsOnCircle, origin, plus, opposite, times}
+use Rattle.circle_field.specs.Circle.{Coordinates, IsOnCircle, origin, plus, times}
 use Rattle.circle_field.specs.CircleGroup.{plus_comm, plus_assoc, plus-origin, plus-on_circle, origin-on_circle, doubling}
-use Rattle.circle_plane.specs.Basis.{doubled_x, iterated_x, vanishing, vanishing_product}
+use Rattle.circle_plane.specs.Basis.{doubled_x, iterated_x}
 
 module _ {F : Type 0} {k : FieldOps F} (laws : RingLaws k) where
   pub origin-plus : (p : Coordinates F) → plus k (origin k) p ≡ p

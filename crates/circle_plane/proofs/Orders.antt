@@ -1,9 +1,9 @@
 -- The natural order of a domain, walked and read at a place.
-use Rattle.std.specs.Prelude.{◌≡◌, ℕ, ◌+◌, ◌-◌, ◌*◌, ◌/◌, ◌%◌, ◌^◌, ◌<◌, ◌≤◌, List, [], ◌∷◌, length, Some, slice_get}
-use Rattle.std.proofs.Common.{zero, suc, sym, ◌∙◌, ap, refl, arith, add-one}
+use Rattle.std.specs.Prelude.{◌≡◌, ℕ, ◌+◌, ◌-◌, ◌*◌, ◌/◌, ◌^◌, ◌<◌, ◌≤◌, ◌∷◌, length, Some, slice_get}
+use Rattle.std.proofs.Common.{zero, suc, sym, ◌∙◌, ap, refl, arith}
 use Rattle.std.proofs.Math.Nat.{pow-suc}
 use Rattle.circle_field.specs.Field.{FieldOps, RingLaws}
-use Rattle.circle_field.specs.Circle.{Coordinates, origin, plus, opposite, times}
+use Rattle.circle_field.specs.Circle.{Coordinates, plus, opposite, times}
 use Rattle.circle_field.specs.CircleGroup.{plus_comm, plus_assoc, plus-origin}
 use Rattle.circle_plane.specs.Domain.{walk, alternating}
 use Rattle.circle_plane.specs.Order.{steps_from, natural_from}

@@ -1,9 +1,8 @@
 -- Rows in the other order of a domain, twice and at an index.
-use Rattle.std.specs.Prelude.{◌≡◌, ℕ, ◌+◌, ◌^◌, ◌<◌, List, [], length, map, slice_index_or}
+use Rattle.std.specs.Prelude.{◌≡◌, ℕ, ◌^◌, ◌<◌, List, [], length, map, slice_index_or}
 use Rattle.std.specs.List.{range_with_len}
-use Rattle.std.proofs.Common.{zero, suc, sym, ◌∙◌, ap, refl, arith}
+use Rattle.std.proofs.Common.{sym, ◌∙◌, ap, arith}
 use Rattle.std.proofs.lemmas.List.FromFn.{fill_by_all, length-map-range_with_len, get_or-map-range_with_len}
-use Rattle.circle_commit.specs.Matrix.{mapped_rows}
 use Rattle.circle_plane.specs.Ordering.{cfft_index, other_order}
 use Rattle.circle_plane.proofs.Reversal.{cfft_index-below, cfft_index-own_inverse}
 

@@ -1,22 +1,22 @@
 -- The layers of the transform over stored entries, one pass after another.
-use Rattle.std.specs.Prelude.{◌≡◌, ◌≢◌, ℕ, ◌+◌, ◌-◌, ◌*◌, ◌^◌, ◌<◌, ◌≤◌, List, [], ◌∷◌, ◌++◌, length, map, take, drop}
+use Rattle.std.specs.Prelude.{◌≡◌, ◌≢◌, ℕ, ◌+◌, ◌-◌, ◌*◌, ◌^◌, ◌<◌, ◌≤◌, List, [], ◌∷◌, length, map}
 use Rattle.std.specs.List.{AllByRecursion}
-use Rattle.std.proofs.Common.{zero, suc, sym, ◌∙◌, ap, refl, arith, subst}
+use Rattle.std.proofs.Common.{suc, sym, ◌∙◌, ap, refl, arith, subst}
 use Rattle.std.proofs.Math.Nat.{pow-suc}
 use Rattle.std.proofs.lemmas.Nat.{pow-add}
 use Rattle.std.proofs.lemmas.List.{length-map}
 use Rattle.circle_field.specs.Field.{FieldOps, RingLaws, FieldLaws, two, nth_power, sub}
-use Rattle.circle_field.specs.RingFacts.{mul_one, zero_mul}
+use Rattle.circle_field.specs.RingFacts.{zero_mul}
 use Rattle.circle_field.specs.Circle.{Coordinates, IsOnCircle, AreGenerators, times, origin}
 use Rattle.circle_plane.specs.Basis.{value}
 use Rattle.circle_plane.specs.Order.{cfft_order}
 use Rattle.circle_plane.specs.Layers.{layer, factor, block_starts, layer_factors, copies}
 use Rattle.circle_plane.proofs.Blocks.{points, points-cfft_order}
 use Rattle.circle_plane.proofs.Columns.{stored_column, stored_column-layer, stored_column-copies, stored_column-map, length-stored_column}
-use Rattle.circle_plane.proofs.Layering.{halves, block_starts-halves, length-block_starts, finish_all, finish_all-layer, finish_all-none, finish_all-one, finish_all-copies, finish_all-scaled, factors-nonzero}
+use Rattle.circle_plane.proofs.Layering.{block_starts-halves, length-block_starts, finish_all, finish_all-layer, finish_all-none, finish_all-one, finish_all-copies, finish_all-scaled, factors-nonzero}
 use Rattle.circle_plane.proofs.Transform.{finish, finish-value}
 use Rattle.circle_plane.proofs.Inversion.{finish-scaled, finish-injective}
-use Rattle.circle_plane.proofs.Twiddles.{map-map, length-layer_factors}
+use Rattle.circle_plane.proofs.Twiddles.{length-layer_factors}
 use Rattle.circle_plane.proofs.Undoing.{forward, backward, layer-undone}
 
 -- 2^a blocks of 2 * 2^m make up 2^(a + m + 1)

@@ -1,14 +1,13 @@
 -- The two projective maps undo each other.
 use Rattle.std.specs.Prelude.{◌≡◌, ◌≢◌, List, [], ◌∷◌, refl}
 use Rattle.std.proofs.Common.{sym, ◌∙◌, ap}
-use Rattle.circle_field.specs.Field.{FieldOps, FieldLaws, sub}
-use Rattle.circle_field.specs.Circle.{Coordinates, at, IsOnCircle}
+use Rattle.circle_field.specs.Field.{FieldOps, FieldLaws}
+use Rattle.circle_field.specs.Circle.{Coordinates, IsOnCircle}
 use Rattle.circle_field.specs.CircleGroup.{same_coordinates}
 use Rattle.circle_field.specs.Ring.{Expr, var, con, unit, plus as sum, times as prod, minus}
 use Rattle.circle_field.specs.RingSound.{ring}
 use Rattle.circle_field.specs.RingCombine.{given, combine}
 use Rattle.circle_field.specs.RingFacts.{neg_unique, add_neg, mul_one}
-use Rattle.circle_field.proofs.Inverses.{inverse_unique, nonzero_product, nonzero_factor}
 use Rattle.circle_plane.specs.Projective.{line_norm, from_line, to_line}
 
 module _ {F : Type 0} {k : FieldOps F} (laws : FieldLaws k) where

@@ -2,7 +2,7 @@
 use Rattle.std.specs.Prelude.{◌≡◌, ℕ, ◌+◌, ◌-◌, ◌*◌, ◌/◌, ◌%◌, ◌^◌, ◌<◌, ◌≤◌, ◌⊎◌, nat_eq, if◌then◌else◌}
 use Rattle.std.proofs.Common.{zero, suc, sym, ◌∙◌, ap, refl, arith, inl, inr, ⊎_elim}
 use Rattle.std.proofs.Math.Nat.{pow-suc, div-eq_of_lt}
-use Rattle.std.proofs.lemmas.Nat.{row_fits, pow_pos, shr-shr, shr_high}
+use Rattle.std.proofs.lemmas.Nat.{row_fits, shr-shr, shr_high}
 use Rattle.std.proofs.lemmas.Bool.{cases_eq}
 use Rattle.circle_plane.specs.Ordering.{reversed, cfft_index}
 

@@ -1,19 +1,18 @@
 -- The pole of a selector, the normalisation of a Lagrange polynomial, and the single-point vanishing function.
-use Rattle.std.specs.Prelude.{◌≡◌, ◌≢◌, ℕ, ◌+◌, ◌-◌, ◌*◌, ◌^◌, ◌≤◌, List, [], ◌∷◌, refl}
+use Rattle.std.specs.Prelude.{◌≡◌, ◌≢◌, ℕ, ◌+◌, ◌-◌, ◌*◌, ◌^◌, ◌≤◌, [], ◌∷◌, refl}
 use Rattle.std.proofs.Common.{zero, suc, sym, ◌∙◌, ap, arith}
 use Rattle.std.proofs.Math.Nat.{pow-suc}
 use Rattle.circle_field.specs.Field.{FieldOps, FieldLaws, nth_power, two, sub}
-use Rattle.circle_field.specs.Circle.{Coordinates, at, IsOnCircle, plus, times}
+use Rattle.circle_field.specs.Circle.{Coordinates, IsOnCircle, times}
 use Rattle.circle_field.specs.CircleGroup.{same_coordinates}
 use Rattle.circle_field.specs.Ring.{Expr, var, con, unit, plus as sum, times as prod, minus}
 use Rattle.circle_field.specs.RingSound.{ring}
 use Rattle.circle_field.specs.RingCombine.{given, combine}
-use Rattle.circle_field.specs.RingFacts.{mul_one}
 use Rattle.circle_field.proofs.Inverses.{nonzero_product}
 use Rattle.circle_field.proofs.Powers.{nth_power-+}
 use Rattle.circle_plane.specs.Basis.{iterated_x, vanishing, vanishing_product}
 use Rattle.circle_plane.specs.Projective.{half_turn}
-use Rattle.circle_plane.proofs.Multiples.{times-one, times-double, times-on_circle, times-+, iterated_x-times}
+use Rattle.circle_plane.proofs.Multiples.{times-one, times-+, iterated_x-times}
 
 module _ {F : Type 0} {k : FieldOps F} (laws : FieldLaws k) where
   -- the half turn is the only point with x = -1

@@ -1,15 +1,14 @@
 -- Rows of 2^n that are stored one after another: how many entries, and which columns.
-use Rattle.std.specs.Prelude.{◌≡◌, ℕ, ◌+◌, ◌*◌, ◌/◌, ◌%◌, ◌^◌, ◌<◌, ◌≤◌, List, length, map, All}
-use Rattle.std.specs.List.{range_with_len}
-use Rattle.std.proofs.Common.{sym, ◌∙◌, ap, arith}
+use Rattle.std.specs.Prelude.{◌≡◌, ℕ, ◌+◌, ◌*◌, ◌/◌, ◌%◌, ◌<◌, ◌≤◌, List, length, map, All}
+use Rattle.std.proofs.Common.{◌∙◌, ap, arith}
 use Rattle.std.proofs.Math.Nat.{mul-div_cancel}
 use Rattle.std.proofs.lemmas.Nat.{mod-mul-add}
 use Rattle.circle_field.specs.Field.{FieldOps}
 use Rattle.circle_field.specs.Circle.{Coordinates}
 use Rattle.circle_commit.specs.Matrix.{rows_from, column}
-use Rattle.circle_commit.specs.RowFacts.{length-rows_from, rows_from-widths}
+use Rattle.circle_commit.specs.RowFacts.{rows_from-widths}
 use Rattle.circle_plane.specs.Basis.{value, values_at}
-use Rattle.circle_plane.proofs.Columns.{stored_column, rows-by_columns, rows-same_columns, column-made}
+use Rattle.circle_plane.proofs.Columns.{rows-by_columns, column-made}
 
 module _ (len count width : ℕ) (long : len ≡ count * width) (positive : 1 ≤ width) where
   pub whole : len % width ≡ 0

@@ -1,11 +1,11 @@
 -- The layers of the transform, one block at a time: what they make of a block's coefficients are its values.
-use Rattle.std.specs.Prelude.{◌≡◌, ◌≢◌, ℕ, ◌+◌, ◌-◌, ◌*◌, ◌^◌, ◌<◌, ◌≤◌, List, [], ◌∷◌, ◌++◌, length, map, take, drop}
+use Rattle.std.specs.Prelude.{◌≡◌, ℕ, ◌+◌, ◌^◌, ◌≤◌, List, [], ◌∷◌, ◌++◌, length, map, take, drop}
 use Rattle.std.specs.List.{AllByRecursion}
-use Rattle.std.proofs.Common.{zero, suc, sym, ◌∙◌, ap, refl, arith, append_assoc, length-append, length-drop, length-take}
+use Rattle.std.proofs.Common.{zero, suc, sym, ◌∙◌, ap, refl, arith, length-append, length-drop}
 use Rattle.std.proofs.Math.Nat.{pow-suc}
-use Rattle.std.proofs.lemmas.List.{map-append, take-append-drop, take_all, length-take-le, length-map}
-use Rattle.circle_field.specs.Field.{FieldOps, RingLaws, FieldLaws, sub}
-use Rattle.circle_field.specs.RingFacts.{mul_one, add_zero, mul_neg}
+use Rattle.std.proofs.lemmas.List.{map-append, take-append-drop, take_all, length-take-le}
+use Rattle.circle_field.specs.Field.{FieldOps, RingLaws, sub}
+use Rattle.circle_field.specs.RingFacts.{mul_one, add_zero}
 use Rattle.circle_field.specs.Circle.{Coordinates, IsOnCircle, AreGenerators}
 use Rattle.circle_plane.specs.Basis.{value}
 use Rattle.circle_plane.specs.Layers.{pairwise, factor, second_half}

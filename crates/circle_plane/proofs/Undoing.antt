@@ -1,10 +1,10 @@
 -- A layer from values to coefficients, undone by the layer of the same factors from coefficients to values.
-use Rattle.std.specs.Prelude.{◌≡◌, ◌≢◌, ℕ, ◌+◌, ◌-◌, ◌*◌, ◌^◌, ◌<◌, ◌≤◌, List, [], ◌∷◌, ◌++◌, length, map, take, drop}
+use Rattle.std.specs.Prelude.{◌≡◌, ◌≢◌, ℕ, ◌+◌, ◌*◌, ◌≤◌, List, [], ◌∷◌, ◌++◌, length, map, take, drop}
 use Rattle.std.specs.List.{AllByRecursion}
-use Rattle.std.proofs.Common.{zero, suc, sym, ◌∙◌, ap, refl, arith, append_assoc, length-append, length-drop}
+use Rattle.std.proofs.Common.{sym, ◌∙◌, ap, refl, arith, append_assoc, length-append, length-drop}
 use Rattle.std.proofs.lemmas.List.{map-append, take_at, drop_at, take-append-drop, length-take-le, drop-drop}
-use Rattle.circle_field.specs.Field.{FieldOps, FieldLaws, two, sub, nth_power}
-use Rattle.circle_field.specs.Ring.{Expr, var, con, unit, plus as sum, times as prod, minus}
+use Rattle.circle_field.specs.Field.{FieldOps, FieldLaws, two, sub}
+use Rattle.circle_field.specs.Ring.{var, unit, plus as sum, times as prod, minus}
 use Rattle.circle_field.specs.RingCombine.{given, combine}
 use Rattle.circle_plane.specs.Layers.{pairwise, layer}
 use Rattle.circle_plane.proofs.Written.{length-pairwise}

@@ -1,6 +1,6 @@
 -- Lists that are written from the front, and lists made of two by place.
 use Rattle.std.specs.Prelude.{◌≡◌, ℕ, ◌+◌, ◌<◌, ◌≤◌, List, [], ◌∷◌, ◌++◌, length, take, drop, slice_index_or, slice_set}
-use Rattle.std.proofs.Common.{zero, suc, sym, ◌∙◌, ap, refl, arith, add-one, append-nil}
+use Rattle.std.proofs.Common.{zero, suc, ◌∙◌, ap, refl, arith}
 use Rattle.circle_plane.specs.Layers.{pairwise}
 
 -- the first i entries are new, the others old

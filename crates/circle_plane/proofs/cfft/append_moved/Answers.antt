@@ -1,4 +1,4 @@
-use Rattle.std.proofs.Common.{◌≡◌, ℕ, ◌<◌, ◌+◌, ◌++◌, [], ◌∷◌, ◌∙◌, sym, ap, map, take, slice_index_or, length, arith, append_assoc, length-append}
+use Rattle.std.proofs.Common.{◌≡◌, ◌<◌, ◌++◌, [], ◌∷◌, ◌∙◌, sym, ap, map, take, slice_index_or, length, arith, append_assoc}
 use Rattle.std.proofs.Math.ListN.{get_or-map}
 use Rattle.std.proofs.lemmas.List.{length-map, take_more, map-append, get_or_append_left}
 use Rattle.circle_field.specs.Circle.{Coordinates, plus}

@@ -1,4 +1,4 @@
-use Rattle.std.proofs.Common.{◌≡◌, ◌-◌, ◌+◌, ◌++◌, [], ◌∷◌, ℕ, suc, ◌∙◌, sym, ap, map, arith, length}
+use Rattle.std.proofs.Common.{◌≡◌, ◌-◌, ◌+◌, ◌++◌, [], ◌∷◌, ℕ, suc, ◌∙◌, sym, ap, map, arith}
 use Rattle.std.proofs.lemmas.Grind.{common_steps}
 use Rattle.circle_plane.specs.Basis.{doubled_x, iterated_x, basis_values}
 use Rattle.circle_plane.specs.Point.{coordinates}

@@ -1,4 +1,4 @@
-use Rattle.std.proofs.Common.{◌≡◌, ℕ, ◌++◌, ◌*◌, map, drop}
+use Rattle.std.proofs.Common.{◌≡◌, ◌++◌, ◌*◌, map, drop}
 use Rattle.circle_plane.specs.Basis.{doubled_x}
 use Rattle.circle_plane.specs.Layers.{every_second}
 use Rattle.circle_plane.proofs.cfft.every_second_doubled.Given as goal

@@ -1,5 +1,5 @@
 use Rattle.std.proofs.Common.{◌≡◌, ◌-◌, ◌+◌, ◌++◌, ◌∙◌, sym, ap, map, arith}
-use Rattle.circle_field.specs.Circle.{Coordinates, plus}
+use Rattle.circle_field.specs.Circle.{plus}
 use Rattle.circle_plane.specs.Domain.{shift_of, log_size}
 use Rattle.circle_plane.specs.Order.{coset}
 use Rattle.circle_plane.specs.Point.{coordinates}

@@ -1,4 +1,4 @@
-use Rattle.std.proofs.Common.{◌≡◌, ◌++◌, ◌∙◌, sym, ap}
+use Rattle.std.proofs.Common.{◌++◌, ◌∙◌, ap}
 use Rattle.circle_plane.specs.Layers.{copies}
 use Rattle.circle_plane.proofs.Twiddles.{copies-last}
 use Rattle.circle_plane.proofs.cfft.repeat.Goals as goal

@@ -1,4 +1,4 @@
-use Rattle.std.proofs.Common.{◌≡◌, ℕ}
+use Rattle.std.proofs.Common.{◌≡◌}
 use Rattle.circle_plane.specs.Layers.{copies}
 use Rattle.circle_plane.proofs.cfft.repeat.Given as goal
 

@@ -1,4 +1,4 @@
-use Rattle.std.proofs.Common.{◌≡◌, ℕ, map}
+use Rattle.std.proofs.Common.{◌≡◌, map}
 use Rattle.circle_plane.proofs.Written.{written}
 use Rattle.circle_plane.proofs.cfft.scale.Given as goal
 

@@ -1,7 +1,6 @@
-use Rattle.std.proofs.Common.{◌≡◌, ℕ, ◌+◌, ◌*◌, ◌<◌, ◌≤◌, sym, ◌∙◌, ap, arith, length, take, drop, ◌++◌, ◌-◌, refl, length-drop}
+use Rattle.std.proofs.Common.{◌≡◌, ◌+◌, ◌*◌, ◌≤◌, sym, ◌∙◌, arith, length, take, drop, ◌-◌, refl, length-drop}
 use Rattle.std.proofs.lemmas.List.{length-take-le}
 use Rattle.std.proofs.Math.Nat.{mul-le-mul_right}
-use Rattle.circle_plane.specs.Layers.{layer}
 use Rattle.circle_plane.proofs.Layered.{layer-more, layer-end}
 use Rattle.circle_plane.proofs.layers.apply_layer.Goals as goal
 

@@ -1,4 +1,4 @@
-use Rattle.std.proofs.Common.{◌≡◌, ℕ, ◌+◌, ◌*◌, length, take, drop, ◌++◌}
+use Rattle.std.proofs.Common.{◌≡◌, ◌+◌, ◌*◌, take, drop, ◌++◌}
 use Rattle.circle_plane.specs.Layers.{layer}
 use Rattle.circle_plane.proofs.layers.apply_layer.Given as goal
 

@@ -1,4 +1,4 @@
-use Rattle.std.proofs.Common.{◌≡◌, ℕ, ◌<◌, sym, ◌∙◌, ap, arith, length, slice_index_or, slice_set}
+use Rattle.std.proofs.Common.{◌≡◌, ◌<◌, sym, ◌∙◌, ap, arith, length, slice_index_or, slice_set}
 use Rattle.circle_plane.specs.Layers.{pairwise}
 use Rattle.circle_plane.proofs.Written.{written, written-read, written-more, written-all, length-pairwise, pairwise-read}
 use Rattle.circle_plane.proofs.layers.apply_pairs.Goals as goal

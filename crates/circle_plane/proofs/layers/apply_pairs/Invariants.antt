@@ -1,4 +1,4 @@
-use Rattle.std.proofs.Common.{◌≡◌, ℕ, length}
+use Rattle.std.proofs.Common.{◌≡◌}
 use Rattle.circle_plane.specs.Layers.{pairwise}
 use Rattle.circle_plane.proofs.Written.{written}
 use Rattle.circle_plane.proofs.layers.apply_pairs.Given as goal

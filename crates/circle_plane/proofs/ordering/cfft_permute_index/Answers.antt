@@ -1,4 +1,4 @@
-use Rattle.std.proofs.Common.{◌≡◌, ◌<◌, ◌^◌, ◌-◌, ◌%◌, ◌/◌, ◌*◌, ◌∙◌, ap, sym, arith}
+use Rattle.std.proofs.Common.{◌≡◌, ◌-◌, ◌/◌, ◌∙◌, ap, sym, arith}
 use Rattle.std.proofs.lemmas.Nat.{one_shl}
 use Rattle.circle_plane.specs.Ordering.{cfft_index, reversed}
 use Rattle.circle_plane.proofs.Reversal.{reversed-below, cfft_index-even, cfft_index-odd, cfft_index-own_inverse}

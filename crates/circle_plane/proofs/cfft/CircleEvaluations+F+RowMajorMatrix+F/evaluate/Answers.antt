@@ -1,5 +1,4 @@
-use Rattle.std.proofs.Common.{◌≡◌, ◌≢◌, ℕ, ◌-◌, ◌+◌, ◌*◌, ◌/◌, ◌%◌, ◌^◌, ◌<◌, ◌≤◌, ◌++◌, [], ◌∷◌, ◌∙◌, sym, ap, map, take, drop, slice_index_or, length, arith, List, suc}
-use Rattle.std.specs.List.{range_with_len}
+use Rattle.std.proofs.Common.{◌≡◌, ◌-◌, ◌+◌, ◌*◌, ◌/◌, ◌%◌, ◌^◌, ◌<◌, ◌≤◌, ◌++◌, ◌∙◌, sym, ap, map, take, drop, slice_index_or, length, arith}
 use Rattle.std.proofs.Math.ListN.{get_or-map}
 use Rattle.std.proofs.lemmas.List.{length-map, take-map}
 use Rattle.std.proofs.lemmas.List.FromFn.{get_or-map-range_with_len, length-map-range_with_len}
@@ -9,7 +8,6 @@ use Rattle.circle_commit.specs.Matrix.{rows_from, column}
 use Rattle.circle_commit.specs.RowFacts.{length-rows_from}
 use Rattle.circle_commit.specs.RowMajorMatrix.{rows, width_of, height_of, values_of, length-rows, length-values}
 use Rattle.circle_plane.specs.Basis.{value, values_at}
-use Rattle.circle_plane.specs.CircleEvaluations.{cfft_values}
 use Rattle.circle_plane.specs.Domain.{log_size, shift_of}
 use Rattle.circle_plane.specs.Order.{cfft_order}
 use Rattle.circle_plane.specs.Ordering.{other_order}

@@ -1,11 +1,10 @@
-use Rattle.std.proofs.Common.{◌≡◌, ℕ, ◌^◌, ◌≤◌, ◌-◌, ◌∙◌, sym, ap, map, arith}
-use Rattle.circle_commit.specs.RowMajorMatrix.{rows, width_of, height_of}
+use Rattle.std.proofs.Common.{◌≡◌, ◌^◌, ◌≤◌, ◌∙◌, ap, map, arith}
+use Rattle.circle_commit.specs.RowMajorMatrix.{rows, width_of}
 use Rattle.circle_plane.specs.Basis.{values_at}
-use Rattle.circle_plane.specs.CircleEvaluations.{domain_of, cfft_values}
+use Rattle.circle_plane.specs.CircleEvaluations.{cfft_values}
 use Rattle.circle_plane.specs.Domain.{log_size, shift_of}
 use Rattle.circle_plane.specs.Order.{cfft_order, natural_order}
 use Rattle.circle_plane.specs.Ordering.{other_order}
-use Rattle.circle_plane.specs.Values.{HasValues, with_zero_rows}
 use Rattle.circle_plane.proofs.Powers.{pow_within}
 use Rattle.circle_plane.proofs.Results.{if_ok_both}
 use Rattle.circle_plane.proofs.ZeroRows.{zeros-values}

@@ -1,4 +1,4 @@
-use Rattle.std.proofs.Common.{◌≡◌, ◌^◌, ◌∙◌, ap}
+use Rattle.std.proofs.Common.{◌∙◌, ap}
 use Rattle.circle_plane.specs.Domain.{log_size}
 use Rattle.circle_plane.specs.Ordering.{other_order}
 use Rattle.circle_plane.proofs.OtherOrder.{other_order-twice}

@@ -1,5 +1,4 @@
-use Rattle.std.proofs.Common.{◌≡◌, ◌≢◌, ℕ, ◌-◌, ◌+◌, ◌*◌, ◌/◌, ◌%◌, ◌^◌, ◌<◌, ◌≤◌, ◌++◌, [], ◌∷◌, ◌∙◌, sym, ap, subst, map, take, drop, slice_index_or, length, arith, All, List, suc}
-use Rattle.std.specs.List.{range_with_len}
+use Rattle.std.proofs.Common.{◌≡◌, ◌≢◌, ℕ, ◌-◌, ◌+◌, ◌*◌, ◌/◌, ◌%◌, ◌^◌, ◌<◌, ◌≤◌, ◌++◌, ◌∙◌, sym, ap, subst, map, take, drop, slice_index_or, length, arith, All, suc}
 use Rattle.std.proofs.Math.ListN.{get_or-map}
 use Rattle.std.proofs.Math.Nat.{mul-le-mul_right, pow-suc}
 use Rattle.std.proofs.lemmas.List.{length-map}
@@ -10,7 +9,7 @@ use Rattle.circle_field.proofs.Inverses.{take-whole}
 use Rattle.circle_commit.specs.Matrix.{rows_from, column}
 use Rattle.circle_commit.specs.RowFacts.{length-rows_from}
 use Rattle.circle_commit.specs.RowMajorMatrix.{rows, width_of, height_of, values_of, length-rows, rows-width, length-values}
-use Rattle.circle_plane.specs.Basis.{value, values_at}
+use Rattle.circle_plane.specs.Basis.{value}
 use Rattle.circle_plane.specs.Domain.{log_size, shift_of}
 use Rattle.circle_plane.specs.Order.{cfft_order}
 use Rattle.circle_plane.specs.Layers.{layer_factors}

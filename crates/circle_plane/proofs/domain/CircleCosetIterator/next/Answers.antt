@@ -1,6 +1,6 @@
 use Rattle.std.proofs.Common.{◌≡◌, ◌-◌, ◌∷◌, suc, ◌∙◌, sym, ap, arith}
 use Rattle.circle_field.specs.Circle.{Coordinates}
-use Rattle.circle_plane.specs.Domain.{walk, coset_left}
+use Rattle.circle_plane.specs.Domain.{walk}
 use Rattle.circle_plane.specs.Point.{coordinates}
 use Rattle.circle_plane.proofs.Orders.{length-walk}
 use Rattle.circle_plane.proofs.domain.CircleCosetIterator.next.Goals as goal

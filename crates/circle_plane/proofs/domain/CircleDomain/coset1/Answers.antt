@@ -1,4 +1,4 @@
-use Rattle.std.proofs.Common.{◌≡◌, ◌-◌, ◌/◌, ◌^◌, ◌∙◌, sym, ap}
+use Rattle.std.proofs.Common.{◌-◌, ◌/◌, ◌^◌, ◌∙◌, ap}
 use Rattle.circle_field.specs.Circle.{opposite}
 use Rattle.circle_plane.specs.Domain.{walk, log_size, shift_of}
 use Rattle.circle_plane.specs.Order.{steps_from}

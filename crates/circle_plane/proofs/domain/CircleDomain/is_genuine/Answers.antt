@@ -1,4 +1,4 @@
-use Rattle.std.proofs.Common.{◌≡◌, ◌^◌, ◌∙◌, sym, ap, not, ◌&&◌}
+use Rattle.std.proofs.Common.{◌≡◌, ◌^◌, ◌∙◌, sym, ap}
 use Rattle.circle_field.specs.Circle.{origin, times}
 use Rattle.circle_plane.specs.Domain.{log_size, shift_of}
 use Rattle.circle_plane.specs.Point.{coordinates}

@@ -1,7 +1,6 @@
-use Rattle.std.proofs.Common.{◌≡◌, ◌-◌, ◌+◌, ◌/◌, ◌^◌, suc, ◌∙◌, sym, ap, Some, arith, slice_get}
+use Rattle.std.proofs.Common.{◌≡◌, ◌-◌, ◌+◌, ◌/◌, ◌^◌, suc, ◌∙◌, sym, ap, Some, arith}
 use Rattle.circle_field.specs.Circle.{Coordinates, opposite, plus, times}
 use Rattle.circle_plane.specs.Domain.{log_size, shift_of}
-use Rattle.circle_plane.specs.Order.{natural_from}
 use Rattle.circle_plane.specs.Point.{coordinates}
 use Rattle.circle_plane.proofs.Orders.{two_halves, natural_from-even, natural_from-odd}
 use Rattle.circle_plane.proofs.domain.CircleDomain.nth_point.Goals as goal

@@ -1,4 +1,4 @@
-use Rattle.std.proofs.Common.{◌≡◌, ◌-◌, ◌+◌, ◌^◌, ◌∙◌, sym, ap}
+use Rattle.std.proofs.Common.{◌-◌, ◌^◌, ◌∙◌, sym, ap}
 use Rattle.circle_field.specs.Circle.{opposite}
 use Rattle.circle_plane.specs.Domain.{alternating, log_size, shift_of}
 use Rattle.circle_plane.specs.Order.{natural_from}

@@ -1,6 +1,6 @@
 use Rattle.std.proofs.Common.{◌≡◌, ◌-◌, ◌∷◌, suc, ◌∙◌, sym, ap, arith}
 use Rattle.circle_field.specs.Circle.{Coordinates}
-use Rattle.circle_plane.specs.Domain.{alternating, points_left}
+use Rattle.circle_plane.specs.Domain.{alternating}
 use Rattle.circle_plane.specs.Point.{coordinates}
 use Rattle.circle_plane.proofs.Orders.{length-alternating}
 use Rattle.circle_plane.proofs.domain.CirclePointsIterator.next.Goals as goal

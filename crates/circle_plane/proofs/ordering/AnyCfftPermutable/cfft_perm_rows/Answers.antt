@@ -1,7 +1,7 @@
 use Rattle.std.proofs.Common.{◌≡◌, ◌^◌, ◌<◌, ◌∙◌, sym, ap, subst, arith}
 use Rattle.circle_plane.specs.CfftPerm.{log_height_of}
 use Rattle.circle_commit.specs.Matrix.{mapped_rows}
-use Rattle.circle_plane.specs.Ordering.{cfft_index, other_order}
+use Rattle.circle_plane.specs.Ordering.{cfft_index}
 use Rattle.circle_plane.proofs.Powers.{log_of_power, pow_injective}
 use Rattle.circle_plane.proofs.Reversal.{cfft_index-below}
 use Rattle.circle_plane.proofs.ordering.AnyCfftPermutable.cfft_perm_rows.Goals as goal

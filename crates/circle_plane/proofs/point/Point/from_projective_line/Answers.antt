@@ -1,7 +1,7 @@
 use Rattle.std.proofs.Common.{◌≡◌, ◌≢◌, ◌∙◌, sym, ap, subst, refl, arith, IsNone}
 use Rattle.std.proofs.lemmas.Bool.{false≢true}
 use Rattle.std.proofs.lemmas.Grind.{common_steps}
-use Rattle.circle_field.specs.Circle.{Coordinates, at}
+use Rattle.circle_field.specs.Circle.{at}
 use Rattle.circle_field.specs.CircleGroup.{same-on_circle}
 use Rattle.circle_plane.specs.Projective.{line_norm, from_line, to_line}
 use Rattle.circle_plane.proofs.Projections.{line_norm-zero, from_line-on_circle, to_line-from_line}

@@ -1,4 +1,4 @@
-use Rattle.std.proofs.Common.{◌≡◌, ◌∙◌, sym, ap}
+use Rattle.std.proofs.Common.{◌∙◌, sym, ap}
 use Rattle.circle_field.specs.Circle.{Coordinates, plus, lifted}
 use Rattle.circle_field.proofs.Inverses.{some_unless}
 use Rattle.circle_plane.specs.Point.{coordinates}

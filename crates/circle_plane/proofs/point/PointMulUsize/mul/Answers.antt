@@ -1,6 +1,6 @@
 use Rattle.std.proofs.Common.{◌≡◌, ◌∙◌, ◌/◌, ap, arith}
 use Rattle.std.proofs.lemmas.Grind.{common_steps}
-use Rattle.circle_field.specs.Circle.{Coordinates, at, origin, plus, times}
+use Rattle.circle_field.specs.Circle.{Coordinates, origin, plus, times}
 use Rattle.circle_plane.specs.Point.{coordinates}
 use Rattle.circle_plane.proofs.Multiples.{origin-plus, halved_even, halved_odd, no_more}
 use Rattle.circle_plane.proofs.point.PointMulUsize.mul.Goals as goal
