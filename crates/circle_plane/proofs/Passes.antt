@@ -32,6 +32,11 @@ part-more m width =
     let one : suc m ≡ m + 1 = omega arith in
     (let e : 2 ^ m * width * 2 ≡ 2 ^ m * 2 * width = omega arith in e) ∙ ap (λ i. i * width) (sym (pow-suc 2 m) ∙ ap (λ i. 2 ^ i) one)
 
+-- and the entries of all blocks
+pub blocks-entries : (n m width : ℕ) → m < n → 2 ^ (n - (m + 1)) * (2 ^ m * width + 2 ^ m * width) ≡ 2 ^ n * width
+blocks-entries n m width h =
+    (let e : 2 ^ (n - (m + 1)) * (2 ^ m * width + 2 ^ m * width) ≡ 2 ^ (n - (m + 1)) * (2 ^ m + 2 ^ m) * width = omega arith in e) ∙ ap (λ i. i * width) (blocks-size n m h)
+
 map-one : {F : Type 0} {k : FieldOps F} (laws : RingLaws k) (xs : List F) → map (k.mul k.one) xs ≡ xs
 map-one laws [] = refl
 map-one {k = k} laws (x ∷ xs) = ap (λ y. y ∷ map (k.mul k.one) xs) (laws.one_mul x) ∙ ap (λ rest. x ∷ rest) (map-one laws xs)

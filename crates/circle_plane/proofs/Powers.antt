@@ -1,6 +1,6 @@
 -- Powers of two.
 use Rattle.std.specs.Prelude.{◌≡◌, ℕ, ◌*◌, ◌^◌, ◌<◌, ◌≤◌}
-use Rattle.std.proofs.Common.{suc, arith, lit<, ⊎_elim}
+use Rattle.std.proofs.Common.{◌∙◌, ap, sym, suc, arith, lit<, ⊎_elim}
 use Rattle.std.proofs.Math.Nat.{pow-suc, pow-le-pow_right}
 use Rattle.std.proofs.lemmas.Bool.{cases_lt}
 use Rattle.std.proofs.lemmas.Nat.{pow_pos}
@@ -37,3 +37,7 @@ pow_order h m le =
     (λ lt. absurd (let next : 2 ^ suc m ≤ 2 ^ h = pow_within (suc m) h lt in omega (arith, next, pow-suc 2 m, pow_pos m)))
     (λ ge. ge)
     (cases_lt m h)
+
+-- a power of two by its logarithm
+pub power_is : (n h : ℕ) → IsPowerOfTwo n → 2 ^ h ≤ n → n < 2 * 2 ^ h → n ≡ 2 ^ h
+power_is n h power low high = power.1 ∙ ap (λ m. 2 ^ m) (sym (log_of_power h power.0 (omega (arith, low, power.1)) (omega (arith, high, power.1))))

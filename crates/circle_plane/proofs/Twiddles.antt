@@ -3,6 +3,8 @@ use Rattle.std.specs.Prelude.{◌≡◌, ℕ, ◌+◌, ◌-◌, ◌*◌, ◌/◌
 use Rattle.std.specs.List.{range_with_len}
 use Rattle.std.proofs.Common.{zero, suc, sym, ◌∙◌, ap, refl, arith, append_assoc, append-nil}
 use Rattle.std.proofs.Math.Nat.{pow-suc}
+use Rattle.std.proofs.Math.ListN.{get_or-map}
+use Rattle.std.proofs.lemmas.List.FromFn.{get_or-map-range_with_len, length-map-range_with_len}
 use Rattle.std.proofs.lemmas.List.{map-append, drop_more, length-map}
 use Rattle.circle_field.specs.Field.{FieldOps, RingLaws}
 use Rattle.circle_field.specs.Circle.{Coordinates, plus}
@@ -119,3 +121,13 @@ module _ {F : Type 0} (k : FieldOps F) (gen : ℕ → Coordinates F) where
 pub even-pow : (n : ℕ) → 1 ≤ n → 2 ^ n % 2 ≡ 0
 even-pow zero h = absurd (omega arith)
 even-pow (suc n) h = omega (arith, pow-suc 2 n)
+
+-- lists that are the values of f, read at an index
+module _ {V F : Type 0} (items_of : V → List F) (f : ℕ → List F) (all : List V) (n : ℕ) (made : map items_of all ≡ map f (range_with_len 0 n)) where
+  pub made-count : length all ≡ n
+  made-count = sym (length-map all items_of) ∙ ap length made ∙ length-map-range_with_len f 0 n
+
+  pub made-read : (i : ℕ) (v : V) → v ≡ slice_index_or all i v → i < n → items_of v ≡ f i
+  made-read i v read below =
+      ap items_of read ∙ sym (get_or-map items_of all i v) ∙ ap (λ xs. slice_index_or xs i (items_of v)) made
+      ∙ get_or-map-range_with_len f 0 n i i (items_of v) below (omega arith)

@@ -9,7 +9,7 @@ use Rattle.circle_plane.specs.Domain.{shift_of, log_size}
 use Rattle.circle_plane.specs.Basis.{doubled_x}
 use Rattle.circle_plane.specs.Point.{coordinates}
 use Rattle.circle_plane.specs.Layers.{layer_factors, every_second}
-use Rattle.circle_plane.proofs.Twiddles.{first_factors, second_factors, next_factors, length-layer_factors, length-coset, even-pow, map-map, range-more}
+use Rattle.circle_plane.proofs.Twiddles.{first_factors, second_factors, next_factors, length-layer_factors, length-coset, even-pow, map-map, range-more, made-count, made-read}
 use Rattle.circle_plane.proofs.cfft.compute_twiddles.Goals as goal
 
 pub loop-layer-init : goal.loop-layer-init
@@ -30,8 +30,7 @@ pub index-requires : goal.index-requires
 index-requires g c =
     let f = layer_factors g.F.Operations.ops g.F.ComplexExtendable.generators (log_size c.args.domain) (shift_of c.args.domain) in
     let items = c.loop-layer.twiddles.items in
-    let long : length items ≡ c.loop-layer.layer =
-    sym (length-map items (λ factors. factors.items)) ∙ ap length c.loop-layer.invariant ∙ length-map-range_with_len f 0 c.loop-layer.layer in
+    let long : length items ≡ c.loop-layer.layer = made-count (λ w. w.items) f items c.loop-layer.layer c.loop-layer.invariant in
     omega (arith, long, c.loop-layer.twiddles.ok.0, c.loop-layer.auto.layer)
 
 pub layer_after-requires-clause-points : goal.layer_after-requires-clause-points
@@ -56,9 +55,7 @@ layer_after-requires-clause-before g c =
     let layer = c.loop-layer.layer in
     let v = c.index.result.now in
     let read : v.items ≡ f (layer - 1) =
-    ap (λ w. w.items) c.index.ensures ∙ sym (get_or-map (λ w. w.items) items (layer - 1) v)
-    ∙ ap (λ xs. slice_index_or xs (layer - 1) v.items) c.loop-layer.invariant
-    ∙ get_or-map-range_with_len f 0 layer (layer - 1) (layer - 1) v.items (omega (arith, c.loop-layer.auto.layer)) (omega arith) in
+    made-read (λ w. w.items) f items layer c.loop-layer.invariant (layer - 1) v c.index.ensures (omega (arith, c.loop-layer.auto.layer)) in
     ap (λ xs. length xs % 2) (c.deref-in-loop-layer-2.ensures.value ∙ read) ∙ ap (λ m. m % 2) (length-layer_factors k gen n (layer - 1) s)
     ∙ even-pow (n - (layer - 1 + 1)) (omega (arith, c.loop-layer-test.true, c.loop-layer.auto.layer, c.log_n-layer-end.ensures))
 
@@ -76,9 +73,7 @@ loop-layer-preserved g c =
     let factors = c.in_ok-factors.factors in
     let below : layer < n = omega (arith, c.loop-layer-test.true, c.log_n-layer-end.ensures) in
     let read : v.items ≡ f (layer - 1) =
-    ap (λ w. w.items) c.index.ensures ∙ sym (get_or-map (λ w. w.items) items (layer - 1) v)
-    ∙ ap (λ xs. slice_index_or xs (layer - 1) v.items) c.loop-layer.invariant
-    ∙ get_or-map-range_with_len f 0 layer (layer - 1) (layer - 1) v.items (omega (arith, c.loop-layer.auto.layer)) (omega arith) in
+    made-read (λ w. w.items) f items layer c.loop-layer.invariant (layer - 1) v c.index.ensures (omega (arith, c.loop-layer.auto.layer)) in
     let made : factors.items ≡ f layer =
     ⊎_elim
     (λ one. c.in_ok-factors.ensures.second one ∙ ap (λ ps. map x (every_second (map coordinates ps))) c.deref-in-loop-layer.ensures.value

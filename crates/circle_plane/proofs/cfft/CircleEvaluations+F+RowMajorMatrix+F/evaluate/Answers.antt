@@ -16,10 +16,10 @@ use Rattle.circle_plane.proofs.Blocks.{cfft_order-prefix}
 use Rattle.circle_plane.proofs.Columns.{stored_column, length-stored_column}
 use Rattle.circle_plane.proofs.CosetOrder.{other_order-points}
 use Rattle.circle_plane.proofs.Layering.{length-copies}
-use Rattle.circle_plane.proofs.Passes.{remaining, remaining-none, blocks-size, part-more, forward-pass, copies-values}
-use Rattle.circle_plane.proofs.Powers.{pow_within, pow_order, log_of_power}
+use Rattle.circle_plane.proofs.Passes.{remaining, remaining-none, blocks-entries, part-more, forward-pass, copies-values}
+use Rattle.circle_plane.proofs.Powers.{pow_within, pow_order, power_is}
 use Rattle.circle_plane.proofs.Stored.{whole, height, rows-values, stored-wide}
-use Rattle.circle_plane.proofs.Twiddles.{length-layer_factors}
+use Rattle.circle_plane.proofs.Twiddles.{length-layer_factors, made-count, made-read}
 use Rattle.circle_plane.proofs.Undoing.{forward}
 use Rattle.circle_plane.proofs.cfft.CircleEvaluations+F+RowMajorMatrix+F.evaluate.Goals as goal
 
@@ -32,10 +32,8 @@ overflow_sub-log_n g c =
     let coeffs = c.args.coeffs in
     let width = width_of coeffs in
     let h = c.ilog2-log_height.result in
-    let m = c.requires.power.0 in
-    let same : h ≡ m = log_of_power h m (omega (arith, c.ilog2-log_height.ensures.power_le, c.requires.power.1, c.height.ensures))
-    (omega (arith, c.ilog2-log_height.ensures.next_power_gt, c.requires.power.1, c.height.ensures)) in
-    let tall : height_of coeffs ≡ 2 ^ h = c.requires.power.1 ∙ ap (λ i. 2 ^ i) (sym same) in
+    let tall : height_of coeffs ≡ 2 ^ h =
+    power_is (height_of coeffs) h c.requires.power (omega (arith, c.ilog2-log_height.ensures.power_le, c.height.ensures)) (omega (arith, c.ilog2-log_height.ensures.next_power_gt, c.height.ensures)) in
     let le : h ≤ n = pow_order h n (omega (arith, tall, c.requires.at_most_size)) in
     omega (arith, le, c.log_n.ensures)
 
@@ -48,10 +46,8 @@ loop-layer-init g c =
     let coeffs = c.args.coeffs in
     let width = width_of coeffs in
     let h = c.ilog2-log_height.result in
-    let m = c.requires.power.0 in
-    let same : h ≡ m = log_of_power h m (omega (arith, c.ilog2-log_height.ensures.power_le, c.requires.power.1, c.height.ensures))
-    (omega (arith, c.ilog2-log_height.ensures.next_power_gt, c.requires.power.1, c.height.ensures)) in
-    let tall : height_of coeffs ≡ 2 ^ h = c.requires.power.1 ∙ ap (λ i. 2 ^ i) (sym same) in
+    let tall : height_of coeffs ≡ 2 ^ h =
+    power_is (height_of coeffs) h c.requires.power (omega (arith, c.ilog2-log_height.ensures.power_le, c.height.ensures)) (omega (arith, c.ilog2-log_height.ensures.next_power_gt, c.height.ensures)) in
     let le : h ≤ n = pow_order h n (omega (arith, tall, c.requires.at_most_size)) in
     let entries = c.in_ok-entries.entries.items in
     let stored = values_of coeffs in
@@ -83,18 +79,15 @@ index-requires g c =
     let coeffs = c.args.coeffs in
     let width = width_of coeffs in
     let h = c.ilog2-log_height.result in
-    let m = c.requires.power.0 in
-    let same : h ≡ m = log_of_power h m (omega (arith, c.ilog2-log_height.ensures.power_le, c.requires.power.1, c.height.ensures))
-    (omega (arith, c.ilog2-log_height.ensures.next_power_gt, c.requires.power.1, c.height.ensures)) in
-    let tall : height_of coeffs ≡ 2 ^ h = c.requires.power.1 ∙ ap (λ i. 2 ^ i) (sym same) in
+    let tall : height_of coeffs ≡ 2 ^ h =
+    power_is (height_of coeffs) h c.requires.power (omega (arith, c.ilog2-log_height.ensures.power_le, c.height.ensures)) (omega (arith, c.ilog2-log_height.ensures.next_power_gt, c.height.ensures)) in
     let le : h ≤ n = pow_order h n (omega (arith, tall, c.requires.at_most_size)) in
     let f = layer_factors k gen n s in
     let items = c.in_ok-twiddles.twiddles.items in
     let i = c.loop-layer.layer - 1 in
     let at : i + 1 ≡ c.loop-layer.layer = omega (arith, c.loop-layer-test.true) in
-    let count : length items ≡ n = sym (length-map items (λ w. w.items)) ∙ ap length c.in_ok-twiddles.ensures ∙ length-map-range_with_len f 0 n in
     let below : i < n = omega (arith, le, c.loop-layer-test.true, c.loop-layer.auto.layer) in
-    omega (arith, below, count, c.in_ok-twiddles.twiddles.ok.0)
+    omega (arith, below, made-count (λ w. w.items) f items n c.in_ok-twiddles.ensures, c.in_ok-twiddles.twiddles.ok.0)
 
 pub apply_layer-requires : goal.apply_layer-requires
 apply_layer-requires g c =
@@ -105,27 +98,20 @@ apply_layer-requires g c =
     let coeffs = c.args.coeffs in
     let width = width_of coeffs in
     let h = c.ilog2-log_height.result in
-    let m = c.requires.power.0 in
-    let same : h ≡ m = log_of_power h m (omega (arith, c.ilog2-log_height.ensures.power_le, c.requires.power.1, c.height.ensures))
-    (omega (arith, c.ilog2-log_height.ensures.next_power_gt, c.requires.power.1, c.height.ensures)) in
-    let tall : height_of coeffs ≡ 2 ^ h = c.requires.power.1 ∙ ap (λ i. 2 ^ i) (sym same) in
+    let tall : height_of coeffs ≡ 2 ^ h =
+    power_is (height_of coeffs) h c.requires.power (omega (arith, c.ilog2-log_height.ensures.power_le, c.height.ensures)) (omega (arith, c.ilog2-log_height.ensures.next_power_gt, c.height.ensures)) in
     let le : h ≤ n = pow_order h n (omega (arith, tall, c.requires.at_most_size)) in
     let f = layer_factors k gen n s in
     let items = c.in_ok-twiddles.twiddles.items in
     let i = c.loop-layer.layer - 1 in
     let at : i + 1 ≡ c.loop-layer.layer = omega (arith, c.loop-layer-test.true) in
-    let count : length items ≡ n = sym (length-map items (λ w. w.items)) ∙ ap length c.in_ok-twiddles.ensures ∙ length-map-range_with_len f 0 n in
     let below : i < n = omega (arith, le, c.loop-layer-test.true, c.loop-layer.auto.layer) in
     let v = c.index.result.now in
-    let read : v.items ≡ f i =
-    ap (λ w. w.items) c.index.ensures ∙ sym (get_or-map (λ w. w.items) items i v)
-    ∙ ap (λ xs. slice_index_or xs i v.items) c.in_ok-twiddles.ensures ∙ get_or-map-range_with_len f 0 n i i v.items below (omega arith) in
+    let read : v.items ≡ f i = made-read (λ w. w.items) f items n c.in_ok-twiddles.ensures i v c.index.ensures below in
     let halved : c.loop-layer.half / 2 ≡ 2 ^ i * width =
     let twice : c.loop-layer.half ≡ 2 ^ i * width * 2 = c.loop-layer.invariant.part ∙ ap (λ l. 2 ^ l * width) (sym at) ∙ sym (part-more i width) in omega (arith, twice) in
     let blocks : length c.deref.result.now ≡ 2 ^ (n - (i + 1)) = ap length (c.deref.ensures.value ∙ read) ∙ length-layer_factors k gen n i s in
-    let size : 2 ^ (n - (i + 1)) * (2 ^ i * width + 2 ^ i * width) ≡ 2 ^ n * width =
-    (let e : 2 ^ (n - (i + 1)) * (2 ^ i * width + 2 ^ i * width) ≡ 2 ^ (n - (i + 1)) * (2 ^ i + 2 ^ i) * width = omega arith in e) ∙ ap (λ t. t * width) (blocks-size n i below) in
-    ap length c.deref_mut.ensures.value ∙ c.loop-layer.invariant.long ∙ sym size
+    ap length c.deref_mut.ensures.value ∙ c.loop-layer.invariant.long ∙ sym (blocks-entries n i width below)
     ∙ ap (λ t. 2 ^ (n - (i + 1)) * (t + t)) (sym halved) ∙ ap (λ t. t * (c.loop-layer.half / 2 + c.loop-layer.half / 2)) (sym blocks)
 
 pub loop-layer-preserved : goal.loop-layer-preserved
@@ -137,21 +123,16 @@ loop-layer-preserved g c =
     let coeffs = c.args.coeffs in
     let width = width_of coeffs in
     let h = c.ilog2-log_height.result in
-    let m = c.requires.power.0 in
-    let same : h ≡ m = log_of_power h m (omega (arith, c.ilog2-log_height.ensures.power_le, c.requires.power.1, c.height.ensures))
-    (omega (arith, c.ilog2-log_height.ensures.next_power_gt, c.requires.power.1, c.height.ensures)) in
-    let tall : height_of coeffs ≡ 2 ^ h = c.requires.power.1 ∙ ap (λ i. 2 ^ i) (sym same) in
+    let tall : height_of coeffs ≡ 2 ^ h =
+    power_is (height_of coeffs) h c.requires.power (omega (arith, c.ilog2-log_height.ensures.power_le, c.height.ensures)) (omega (arith, c.ilog2-log_height.ensures.next_power_gt, c.height.ensures)) in
     let le : h ≤ n = pow_order h n (omega (arith, tall, c.requires.at_most_size)) in
     let f = layer_factors k gen n s in
     let items = c.in_ok-twiddles.twiddles.items in
     let i = c.loop-layer.layer - 1 in
     let at : i + 1 ≡ c.loop-layer.layer = omega (arith, c.loop-layer-test.true) in
-    let count : length items ≡ n = sym (length-map items (λ w. w.items)) ∙ ap length c.in_ok-twiddles.ensures ∙ length-map-range_with_len f 0 n in
     let below : i < n = omega (arith, le, c.loop-layer-test.true, c.loop-layer.auto.layer) in
     let v = c.index.result.now in
-    let read : v.items ≡ f i =
-    ap (λ w. w.items) c.index.ensures ∙ sym (get_or-map (λ w. w.items) items i v)
-    ∙ ap (λ xs. slice_index_or xs i v.items) c.in_ok-twiddles.ensures ∙ get_or-map-range_with_len f 0 n i i v.items below (omega arith) in
+    let read : v.items ≡ f i = made-read (λ w. w.items) f items n c.in_ok-twiddles.ensures i v c.index.ensures below in
     let halved : c.loop-layer.half / 2 ≡ 2 ^ i * width =
     let twice : c.loop-layer.half ≡ 2 ^ i * width * 2 = c.loop-layer.invariant.part ∙ ap (λ l. 2 ^ l * width) (sym at) ∙ sym (part-more i width) in omega (arith, twice) in
     let old = c.loop-layer.entries in

@@ -15,10 +15,10 @@ use Rattle.circle_plane.specs.Order.{cfft_order}
 use Rattle.circle_plane.specs.Layers.{layer_factors}
 use Rattle.circle_plane.proofs.Columns.{stored_column, rows-same_columns}
 use Rattle.circle_plane.proofs.Inverses.{inverse_power}
-use Rattle.circle_plane.proofs.Passes.{remaining, blocks-size, part-more, backward-pass, before-passes, after-passes, values-tell, layer_factors-nonzero}
+use Rattle.circle_plane.proofs.Passes.{remaining, blocks-entries, part-more, backward-pass, before-passes, after-passes, values-tell, layer_factors-nonzero}
 use Rattle.circle_plane.proofs.Powers.{pow_within}
 use Rattle.circle_plane.proofs.Stored.{whole, height, rows-values, column-values}
-use Rattle.circle_plane.proofs.Twiddles.{length-layer_factors}
+use Rattle.circle_plane.proofs.Twiddles.{length-layer_factors, made-count, made-read}
 use Rattle.circle_plane.proofs.Undoing.{backward}
 use Rattle.circle_plane.proofs.cfft.CircleEvaluations.interpolate.Goals as goal
 
@@ -52,11 +52,10 @@ batch_multiplicative_inverse-requires g c =
     let items = c.in_ok-twiddles.twiddles.items in
     let m = c.loop-factors.factors-index in
     let v = c.factors-item.result in
-    let count : length items ≡ n = sym (length-map items (λ w. w.items)) ∙ ap length c.in_ok-twiddles.ensures ∙ length-map-range_with_len f 0 n in
+    let count : length items ≡ n = made-count (λ w. w.items) f items n c.in_ok-twiddles.ensures in
     let below : m < n = omega (arith, c.loop-factors-test.true, count, ap length c.deref-factors-items.ensures.value) in
     let read : v.items ≡ f m =
-    ap (λ w. w.items) (c.factors-item.is ∙ ap (λ xs. slice_index_or xs m v) c.deref-factors-items.ensures.value) ∙ sym (get_or-map (λ w. w.items) items m v)
-    ∙ ap (λ xs. slice_index_or xs m v.items) c.in_ok-twiddles.ensures ∙ get_or-map-range_with_len f 0 n m m v.items below (omega arith) in
+    made-read (λ w. w.items) f items n c.in_ok-twiddles.ensures m v (c.factors-item.is ∙ ap (λ xs. slice_index_or xs m v) c.deref-factors-items.ensures.value) below in
     let NonZero : g.row.F.Denot → Type 0 = λ t. t ≢ k.zero in
     subst (All NonZero) (sym (c.deref.ensures.value ∙ read))
     (All-from_recursion NonZero (f m) (layer_factors-nonzero g.F.Operations.laws g.met.F.ComplexExtendable.generators_law n s c.requires.in_group c.args.self.domain.shift.on_circle c.requires.genuine.1 m below))
@@ -71,16 +70,13 @@ apply_layer-requires g c =
     let items = c.in_ok-twiddles.twiddles.items in
     let m = c.loop-factors.factors-index in
     let v = c.factors-item.result in
-    let count : length items ≡ n = sym (length-map items (λ w. w.items)) ∙ ap length c.in_ok-twiddles.ensures ∙ length-map-range_with_len f 0 n in
+    let count : length items ≡ n = made-count (λ w. w.items) f items n c.in_ok-twiddles.ensures in
     let below : m < n = omega (arith, c.loop-factors-test.true, count, ap length c.deref-factors-items.ensures.value) in
     let read : v.items ≡ f m =
-    ap (λ w. w.items) (c.factors-item.is ∙ ap (λ xs. slice_index_or xs m v) c.deref-factors-items.ensures.value) ∙ sym (get_or-map (λ w. w.items) items m v)
-    ∙ ap (λ xs. slice_index_or xs m v.items) c.in_ok-twiddles.ensures ∙ get_or-map-range_with_len f 0 n m m v.items below (omega arith) in
+    made-read (λ w. w.items) f items n c.in_ok-twiddles.ensures m v (c.factors-item.is ∙ ap (λ xs. slice_index_or xs m v) c.deref-factors-items.ensures.value) below in
     let blocks : length c.deref-in-loop-factors.result.now ≡ 2 ^ (n - (m + 1)) =
     ap length (c.deref-in-loop-factors.ensures.value ∙ c.in_ok-inverses.ensures ∙ ap (map k.inv) (c.deref.ensures.value ∙ read)) ∙ length-map (f m) k.inv ∙ length-layer_factors k g.F.ComplexExtendable.generators n m s in
-    let size : 2 ^ (n - (m + 1)) * (2 ^ m * width + 2 ^ m * width) ≡ 2 ^ n * width =
-    (let e : 2 ^ (n - (m + 1)) * (2 ^ m * width + 2 ^ m * width) ≡ 2 ^ (n - (m + 1)) * (2 ^ m + 2 ^ m) * width = omega arith in e) ∙ ap (λ i. i * width) (blocks-size n m below) in
-    ap length c.deref_mut.ensures.value ∙ c.loop-factors.invariant.long ∙ sym size
+    ap length c.deref_mut.ensures.value ∙ c.loop-factors.invariant.long ∙ sym (blocks-entries n m width below)
     ∙ ap (λ h. 2 ^ (n - (m + 1)) * (h + h)) (sym c.loop-factors.invariant.part) ∙ ap (λ i. i * (c.loop-factors.half + c.loop-factors.half)) (sym blocks)
 
 pub overflow_mul-half : goal.overflow_mul-half
@@ -90,7 +86,7 @@ overflow_mul-half g c =
     let f = layer_factors g.F.Operations.ops g.F.ComplexExtendable.generators n (shift_of c.args.self.domain) in
     let items = c.in_ok-twiddles.twiddles.items in
     let m = c.loop-factors.factors-index in
-    let count : length items ≡ n = sym (length-map items (λ w. w.items)) ∙ ap length c.in_ok-twiddles.ensures ∙ length-map-range_with_len f 0 n in
+    let count : length items ≡ n = made-count (λ w. w.items) f items n c.in_ok-twiddles.ensures in
     let below : m < n = omega (arith, c.loop-factors-test.true, count, ap length c.deref-factors-items.ensures.value) in
     let power : 2 ^ m * 2 ≤ 2 ^ n = let le : 2 ^ suc m ≤ 2 ^ n = pow_within (suc m) n below in omega (arith, le, pow-suc 2 m) in
     let enough : 2 ^ m * 2 * width ≤ 2 ^ n * width = mul-le-mul_right width power in
@@ -107,11 +103,10 @@ loop-factors-preserved g c =
     let items = c.in_ok-twiddles.twiddles.items in
     let m = c.loop-factors.factors-index in
     let v = c.factors-item.result in
-    let count : length items ≡ n = sym (length-map items (λ w. w.items)) ∙ ap length c.in_ok-twiddles.ensures ∙ length-map-range_with_len f 0 n in
+    let count : length items ≡ n = made-count (λ w. w.items) f items n c.in_ok-twiddles.ensures in
     let below : m < n = omega (arith, c.loop-factors-test.true, count, ap length c.deref-factors-items.ensures.value) in
     let read : v.items ≡ f m =
-    ap (λ w. w.items) (c.factors-item.is ∙ ap (λ xs. slice_index_or xs m v) c.deref-factors-items.ensures.value) ∙ sym (get_or-map (λ w. w.items) items m v)
-    ∙ ap (λ xs. slice_index_or xs m v.items) c.in_ok-twiddles.ensures ∙ get_or-map-range_with_len f 0 n m m v.items below (omega arith) in
+    made-read (λ w. w.items) f items n c.in_ok-twiddles.ensures m v (c.factors-item.is ∙ ap (λ xs. slice_index_or xs m v) c.deref-factors-items.ensures.value) below in
     let old = c.loop-factors.entries in
     let new = c.apply_layer.new.values in
     let inverses : c.deref-in-loop-factors.result.now ≡ map k.inv (f m) = c.deref-in-loop-factors.ensures.value ∙ c.in_ok-inverses.ensures ∙ ap (map k.inv) (c.deref.ensures.value ∙ read) in
@@ -173,7 +168,7 @@ returns-clause-values g c =
     let factor = c.div_2exp_u64.result in
     let f = layer_factors k g.F.ComplexExtendable.generators n s in
     let items = c.in_ok-twiddles.twiddles.items in
-    let count : length items ≡ n = sym (length-map items (λ w. w.items)) ∙ ap length c.in_ok-twiddles.ensures ∙ length-map-range_with_len f 0 n in
+    let count : length items ≡ n = made-count (λ w. w.items) f items n c.in_ok-twiddles.ensures in
     let end : c.loop-factors.factors-index ≡ n = omega (arith, c.loop-factors-test.false, c.loop-factors.auto.factors-index-end, count, ap length c.deref-factors-items.ensures.value) in
     let all : take old.len (new ++ drop (length new) old.items) ≡ new = take-whole old.len new old.items old.ok.0 (c.scale.auto.entries ∙ ap length c.deref_mut-2.ensures.value) in
     let scaled : new ≡ map (λ a. k.mul a factor) old.items = c.scale.ensures ∙ ap (map (λ a. k.mul a factor)) c.deref_mut-2.ensures.value in
@@ -214,7 +209,7 @@ returns-clause-only g c =
     let factor = c.div_2exp_u64.result in
     let f = layer_factors k g.F.ComplexExtendable.generators n s in
     let items = c.in_ok-twiddles.twiddles.items in
-    let count : length items ≡ n = sym (length-map items (λ w. w.items)) ∙ ap length c.in_ok-twiddles.ensures ∙ length-map-range_with_len f 0 n in
+    let count : length items ≡ n = made-count (λ w. w.items) f items n c.in_ok-twiddles.ensures in
     let end : c.loop-factors.factors-index ≡ n = omega (arith, c.loop-factors-test.false, c.loop-factors.auto.factors-index-end, count, ap length c.deref-factors-items.ensures.value) in
     let all : take old.len (new ++ drop (length new) old.items) ≡ new = take-whole old.len new old.items old.ok.0 (c.scale.auto.entries ∙ ap length c.deref_mut-2.ensures.value) in
     let scaled : new ≡ map (λ a. k.mul a factor) old.items = c.scale.ensures ∙ ap (map (λ a. k.mul a factor)) c.deref_mut-2.ensures.value in
