@@ -59,18 +59,28 @@ pub fn extrapolate(domain: Domain, target: Domain, values: &Matrix) -> Matrix {
 fn forward_layer(values: &mut [Mersenne31], half: usize, factors: &[Mersenne31]) {
     for (block, factor) in values.chunks_exact_mut(2 * half).zip(factors) {
         let (lows, highs) = block.split_at_mut(half);
-        for (low, high) in lows.iter_mut().zip(highs) {
-            let product = *high * *factor;
-            (*low, *high) = (*low + product, *low - product);
-        }
+        forward_block(lows, highs, *factor);
+    }
+}
+
+#[inline(never)]
+fn forward_block(lows: &mut [Mersenne31], highs: &mut [Mersenne31], factor: Mersenne31) {
+    for (low, high) in lows.iter_mut().zip(highs) {
+        let product = *high * factor;
+        (*low, *high) = (*low + product, *low - product);
     }
 }
 
 fn backward_layer(values: &mut [Mersenne31], half: usize, inverses: &[Mersenne31]) {
     for (block, inverse) in values.chunks_exact_mut(2 * half).zip(inverses) {
         let (lows, highs) = block.split_at_mut(half);
-        for (low, high) in lows.iter_mut().zip(highs) {
-            (*low, *high) = (*low + *high, (*low - *high) * *inverse);
-        }
+        backward_block(lows, highs, *inverse);
+    }
+}
+
+#[inline(never)]
+fn backward_block(lows: &mut [Mersenne31], highs: &mut [Mersenne31], inverse: Mersenne31) {
+    for (low, high) in lows.iter_mut().zip(highs) {
+        (*low, *high) = (*low + *high, (*low - *high) * inverse);
     }
 }
