@@ -1,14 +1,17 @@
-//! Chains of field operations: what they come to, or with the argument `time` how long they take.
+//! Chains of field operations and circle transforms: what they come to, or with the argument `time`
+//! how long they take.
 #![tactic(auto)]
 
 mod chains;
 mod timing;
+mod transforms;
 
 use chains::Operation;
 use circle_field::{Cubic, ExtensionField, Field, Mersenne31};
 use std::process::ExitCode;
 use std::{env, io};
 use timing::{Case, Mode};
+use transforms::{Size, Transform};
 
 /// The chains over [`Mersenne31`].
 const MERSENNE31: [Case; 6] = [
@@ -62,6 +65,69 @@ const CUBIC: [Case; 5] = [
     },
 ];
 
+/// The transforms that are measured.
+const TRANSFORMS: [Transform; 3] = [
+    Transform::Interpolate,
+    Transform::Evaluate,
+    Transform::Extrapolate,
+];
+
+/// The matrices whose transforms are printed.
+const SMALL: [Size; 3] = [
+    Size {
+        log_rows: 6,
+        width: 1,
+    },
+    Size {
+        log_rows: 6,
+        width: 8,
+    },
+    Size {
+        log_rows: 6,
+        width: 64,
+    },
+];
+
+/// The matrices whose transforms are timed.
+const LARGE: [Size; 9] = [
+    Size {
+        log_rows: 10,
+        width: 1,
+    },
+    Size {
+        log_rows: 10,
+        width: 8,
+    },
+    Size {
+        log_rows: 10,
+        width: 64,
+    },
+    Size {
+        log_rows: 14,
+        width: 1,
+    },
+    Size {
+        log_rows: 14,
+        width: 8,
+    },
+    Size {
+        log_rows: 14,
+        width: 64,
+    },
+    Size {
+        log_rows: 18,
+        width: 1,
+    },
+    Size {
+        log_rows: 18,
+        width: 8,
+    },
+    Size {
+        log_rows: 18,
+        width: 64,
+    },
+];
+
 fn main(rt: HostRuntime) -> io::Result<ExitCode> {
     let Some(mode) = mode(&rt)? else {
         eprintln!(rt; "usage: circle_bench [time]")?;
@@ -70,10 +136,28 @@ fn main(rt: HostRuntime) -> io::Result<ExitCode> {
     let start = Mersenne31::from_u64(123456789);
     let step = Mersenne31::from_u64(987654321);
     timing::report(&rt, mode, "Mersenne31", &MERSENNE31, start, step)?;
+    report_transforms(&rt, mode, start, step)?;
     let start = Cubic::from_coefficients(&[start, step, start.square()]);
     let step = Cubic::from_coefficients(&[step, start.coefficient(2), step.square()]);
     timing::report(&rt, mode, "Cubic", &CUBIC, start, step)?;
     Ok(ExitCode::SUCCESS)
+}
+
+/// Prints a line for each transform of each matrix.
+fn report_transforms(
+    rt: &HostRuntime,
+    mode: Mode,
+    start: Mersenne31,
+    step: Mersenne31,
+) -> io::Result<()> {
+    let sizes = match mode {
+        Mode::Digests => SMALL.as_slice(),
+        Mode::Times => LARGE.as_slice(),
+    };
+    for transform in TRANSFORMS {
+        timing::report_transform(rt, mode, transform, sizes, start, step)?;
+    }
+    Ok(())
 }
 
 /// What the arguments ask for, or `None` where they ask for nothing that there is.

@@ -1,5 +1,6 @@
-//! Lines about chains: what they come to, and how long an operation takes.
+//! Lines about chains and transforms: what they come to, and how long they take.
 use crate::chains::{self, Operation};
+use crate::transforms::{self, Size, Transform};
 use circle_field::{ExtensionField, Field, Mersenne31};
 use std::alloc::{AllocError, Global};
 use std::io;
@@ -11,13 +12,20 @@ const SMALL: usize = 1000;
 /// How many times a chain is run when it is timed.
 const RUNS: u32 = 9;
 
-/// What is printed of each chain.
+/// How many times a transform of the largest matrices is run when it is timed.
+const FEWEST_RUNS: usize = 5;
+
+/// How many times a transform of the smallest matrices is run when it is timed.
+const MOST_RUNS: usize = 200;
+
+/// What is printed of each case.
 #[derive(Clone, Copy, PartialEq, Eq)]
 pub enum Mode {
-    /// The last element of a short chain.
+    /// The last element of a short chain, and the digest of what becomes of a small matrix.
     Digests,
 
-    /// The time of an operation in the fastest run of a long chain.
+    /// The time of an operation in the fastest run of a long chain, and the time of the fastest run
+    /// of a transform.
     Times,
 }
 
@@ -96,4 +104,56 @@ fn numbers<F: ExtensionField<Mersenne31>>(alloc: Global, x: F) -> Result<Vec<u32
     (0..F::DEGREE)
         .map(|i| x.coefficient(i).value())
         .collect(alloc)
+}
+
+/// Prints a line for each size.
+pub fn report_transform(
+    rt: &HostRuntime,
+    mode: Mode,
+    transform: Transform,
+    sizes: &[Size],
+    start: Mersenne31,
+    step: Mersenne31,
+) -> io::Result<()> {
+    for size in sizes {
+        let (name, rows, width) = (transform.name(), size.rows(), size.width);
+        print!(rt; "Mersenne31 {name} {rows} x {width}: ")?;
+        let runs = match mode {
+            Mode::Digests => 1,
+            Mode::Times => runs_of(*size),
+        };
+        let (time, digest) = fastest_transform(rt, transform, *size, start, step, runs)?;
+        if mode == Mode::Times {
+            print!(rt; "{} ns, ", time.as_nanos())?;
+        }
+        println!(rt; "[{digest}]")?;
+    }
+    Ok(())
+}
+
+/// How many times a transform of matrices of this size is run when it is timed.
+fn runs_of(size: Size) -> usize {
+    ((1 << 23) / (size.rows() * size.width)).clamp(FEWEST_RUNS, MOST_RUNS)
+}
+
+/// The shortest time of a run, and the digest of what came of the last one.
+fn fastest_transform(
+    rt: &HostRuntime,
+    transform: Transform,
+    size: Size,
+    start: Mersenne31,
+    step: Mersenne31,
+    runs: usize,
+) -> io::Result<(Duration, u32)> {
+    let matrix = size.matrix(rt.alloc(), start, step)?;
+    let mut best = Duration::MAX;
+    let mut digest = 0;
+    for _ in 0..runs {
+        let copy = matrix.try_clone(rt.alloc())?;
+        let begin = Instant::now(rt)?;
+        let transformed = transform.run(rt.alloc(), size.log_rows, copy)?;
+        best = best.min(begin.elapsed(rt)?);
+        digest = transforms::digest(transformed.values(), step).value();
+    }
+    Ok((best, digest))
 }

@@ -1,0 +1,121 @@
+//! The passes that `circle_bench` measures, in Rust without contracts: digests of what they come to,
+//! or with the argument `time` how long they take.
+mod domain;
+mod field;
+mod transform;
+
+use domain::Domain;
+use field::Mersenne31;
+use std::time::{Duration, Instant};
+use transform::Matrix;
+
+/// The binary logarithm of the rows of the matrices whose digests are printed.
+const SMALL: u32 = 6;
+
+/// The binary logarithms of the rows of the matrices that are timed.
+const LARGE: [u32; 3] = [10, 14, 18];
+
+/// The numbers of columns.
+const WIDTHS: [usize; 3] = [1, 8, 64];
+
+#[derive(Clone, Copy)]
+enum Transform {
+    Interpolate,
+    Evaluate,
+    Extrapolate,
+}
+
+impl Transform {
+    const ALL: [Transform; 3] = [
+        Transform::Interpolate,
+        Transform::Evaluate,
+        Transform::Extrapolate,
+    ];
+
+    fn name(self) -> &'static str {
+        match self {
+            Transform::Interpolate => "interpolate",
+            Transform::Evaluate => "evaluate",
+            Transform::Extrapolate => "extrapolate",
+        }
+    }
+
+    fn run(self, log_rows: u32, matrix: Matrix) -> Matrix {
+        let domain = Domain { log_n: log_rows };
+        let target = Domain { log_n: log_rows + 1 };
+        match self {
+            Transform::Interpolate => transform::interpolate(domain, &matrix),
+            Transform::Evaluate => transform::evaluate(domain, matrix),
+            Transform::Extrapolate => transform::extrapolate(domain, target, &matrix),
+        }
+    }
+}
+
+fn main() {
+    let args: Vec<String> = std::env::args().skip(1).collect();
+    let args: Vec<&str> = args.iter().map(String::as_str).collect();
+    match args.as_slice() {
+        [] => report(&[SMALL], digest_line),
+        ["time"] => report(&LARGE, time_line),
+        _ => {
+            eprintln!("usage: baseline [time]");
+            std::process::exit(2);
+        }
+    }
+}
+
+/// Prints a line for each case.
+fn report(log_rows: &[u32], line: fn(Transform, u32, usize)) {
+    for transform in Transform::ALL {
+        for &log_rows in log_rows {
+            for width in WIDTHS {
+                line(transform, log_rows, width);
+            }
+        }
+    }
+}
+
+fn digest_line(transform: Transform, log_rows: u32, width: usize) {
+    let (rows, name) = (1 << log_rows, transform.name());
+    let result = transform.run(log_rows, matrix(rows, width));
+    println!("Mersenne31 {name} {rows} x {width}: [{}]", digest(&result));
+}
+
+fn time_line(transform: Transform, log_rows: u32, width: usize) {
+    let (rows, name) = (1 << log_rows, transform.name());
+    let input = matrix(rows, width);
+    let mut best = Duration::MAX;
+    let mut last = 0;
+    for _ in 0..runs(rows * width) {
+        let copy = input.clone();
+        let begin = Instant::now();
+        let result = transform.run(log_rows, copy);
+        best = best.min(begin.elapsed());
+        last = digest(&result);
+    }
+    println!("Mersenne31 {name} {rows} x {width}: {} ns, [{last}]", best.as_nanos());
+}
+
+/// How many times a matrix of so many entries is transformed when that is timed.
+fn runs(entries: usize) -> usize {
+    ((1 << 23) / entries).clamp(5, 200)
+}
+
+/// The matrix whose entries are a chain, each the square of the one before it plus the step.
+fn matrix(rows: usize, width: usize) -> Matrix {
+    let step = Mersenne31::new(987654321);
+    let mut x = Mersenne31::new(123456789);
+    let mut values = Vec::with_capacity(rows * width);
+    for _ in 0..rows * width {
+        values.push(x);
+        x = x.square() + step;
+    }
+    Matrix { values, width }
+}
+
+/// The value at the step of the polynomial whose coefficients are the entries, the last one constant.
+fn digest(matrix: &Matrix) -> u32 {
+    let step = Mersenne31::new(987654321);
+    let sum = |sum, entry: &Mersenne31| sum * step + *entry;
+    matrix.values.iter().fold(Mersenne31::ZERO, sum).value()
+}

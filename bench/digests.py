@@ -1,0 +1,116 @@
+#!/usr/bin/env python3
+"""Prints what circle_bench has to print of the circle transform, computed from the definition.
+
+A value is the plain sum of the coefficients times the basis at the point, and coefficients are the
+solution of that system of linear equations, by elimination. Nothing is computed by layers.
+"""
+
+ORDER = 2**31 - 1
+ROOT = (311014874, 1584694829)
+START, STEP = 123456789, 987654321
+LOG_ROWS = 6
+WIDTHS = (1, 8, 64)
+
+
+def plus(p, q):
+    return (p[0] * q[0] - p[1] * q[1]) % ORDER, (p[0] * q[1] + p[1] * q[0]) % ORDER
+
+
+def times(count, p):
+    total = (1, 0)
+    for _ in range(count):
+        total = plus(total, p)
+    return total
+
+
+def generator(log_order):
+    """A point of order 2^log_order."""
+    point = ROOT
+    for _ in range(31 - log_order):
+        point = plus(point, point)
+    return point
+
+
+def reversed_bits(index, bits):
+    return int(format(index, f"0{bits}b")[::-1], 2) if bits else 0
+
+
+def points(log_n):
+    """The points of the standard domain in the order of the transform: pairs of opposite points, the
+    first ones by the reversed bits of their place."""
+    shift, step = generator(log_n + 1), generator(log_n - 1)
+    for place in range(2 ** (log_n - 1)):
+        x, y = plus(shift, times(reversed_bits(place, log_n - 1), step))
+        yield x, y
+        yield x, -y % ORDER
+
+
+def basis(index, point):
+    """y for bit 0 of the index, x for bit 1, and the doubled point's x for each further bit."""
+    x, product = point[0], point[1] if index % 2 else 1
+    index //= 2
+    while index:
+        if index % 2:
+            product = product * x % ORDER
+        x = (2 * x * x - 1) % ORDER
+        index //= 2
+    return product
+
+
+def evaluate(log_n, coeffs):
+    result = []
+    for point in points(log_n):
+        factors = [basis(j, point) for j in range(len(coeffs))]
+        columns = zip(*coeffs)
+        result.append([sum(map(int.__mul__, factors, column)) % ORDER for column in columns])
+    return result
+
+
+def interpolate(log_n, values):
+    """Gauss's elimination on the matrix of the basis at the points, with the values beside it."""
+    size = 2**log_n
+    system = [
+        [basis(j, point) for j in range(size)] + row for point, row in zip(points(log_n), values)
+    ]
+    for j in range(size):
+        pivot = next(i for i in range(j, size) if system[i][j])
+        system[j], system[pivot] = system[pivot], system[j]
+        inverse = pow(system[j][j], -1, ORDER)
+        system[j] = [entry * inverse % ORDER for entry in system[j]]
+        for i in range(size):
+            if i != j and system[i][j]:
+                factor = system[i][j]
+                system[i] = [(a - factor * b) % ORDER for a, b in zip(system[i], system[j])]
+    return [row[size:] for row in system]
+
+
+def matrix(rows, width):
+    """Each entry is the square of the one before it plus the step."""
+    entries, x = [], START
+    for _ in range(rows * width):
+        entries.append(x)
+        x = (x * x + STEP) % ORDER
+    return [entries[row * width : (row + 1) * width] for row in range(rows)]
+
+
+def digest(rows):
+    total = 0
+    for row in rows:
+        for entry in row:
+            total = (total * STEP + entry) % ORDER
+    return total
+
+
+def main():
+    passes = {
+        "interpolate": lambda rows: interpolate(LOG_ROWS, rows),
+        "evaluate": lambda rows: evaluate(LOG_ROWS, rows),
+        "extrapolate": lambda rows: evaluate(LOG_ROWS + 1, interpolate(LOG_ROWS, rows)),
+    }
+    for name, transform in passes.items():
+        for width in WIDTHS:
+            result = transform(matrix(2**LOG_ROWS, width))
+            print(f"Mersenne31 {name} {2**LOG_ROWS} x {width}: [{digest(result)}]")
+
+
+main()
