@@ -1,9 +1,7 @@
-use Rattle.std.proofs.Common.{◌≡◌, ◌-◌, ◌+◌, ◌<◌, ◌%◌, ◌^◌, ◌++◌, [], ◌∷◌, ◌∙◌, sym, ap, map, slice_index_or, length, arith, ⊎_elim, ◌≢◌}
+use Rattle.std.proofs.Common.{◌≡◌, ◌-◌, ◌+◌, ◌<◌, ◌%◌, ◌^◌, ◌++◌, [], ◌∷◌, ◌∙◌, sym, ap, map, length, arith, ⊎_elim, ◌≢◌}
 use Rattle.std.proofs.lemmas.Bool.{cases_eq}
 use Rattle.std.specs.List.{range_with_len}
-use Rattle.std.proofs.Math.ListN.{get_or-map}
 use Rattle.std.proofs.lemmas.List.{length-map, map-append}
-use Rattle.std.proofs.lemmas.List.FromFn.{get_or-map-range_with_len, length-map-range_with_len}
 use Rattle.circle_field.specs.Circle.{Coordinates}
 use Rattle.circle_plane.specs.Domain.{shift_of, log_size}
 use Rattle.circle_plane.specs.Basis.{doubled_x}
