@@ -97,3 +97,8 @@ fn numbers<F: ExtensionField<Mersenne31>>(alloc: Global, x: F) -> Result<Vec<u32
         .map(|i| x.coefficient(i).value())
         .collect(alloc)
 }
+
+/// The time of one of `count` operations in nanoseconds.
+pub fn nanoseconds_each(time: Duration, count: u32) -> u128 {
+    time.as_nanos() / u128::from(count.max(1))
+}
