@@ -1,8 +1,9 @@
-//! Chains of field operations and circle transforms: what they come to, or with the argument `time`
-//! how long they take.
+//! Chains of field operations, circle transforms and the challenger over SHA-256: what they come to, or
+//! with the argument `time` how long they take.
 #![tactic(auto)]
 
 mod chains;
+mod hashing;
 mod timing;
 mod transforms;
 
@@ -140,6 +141,7 @@ fn main(rt: HostRuntime) -> io::Result<ExitCode> {
     let start = Cubic::from_coefficients(&[start, step, start.square()]);
     let step = Cubic::from_coefficients(&[step, start.coefficient(2), step.square()]);
     timing::report(&rt, mode, "Cubic", &CUBIC, start, step)?;
+    hashing::report(&rt, mode)?;
     Ok(ExitCode::SUCCESS)
 }
 

@@ -157,3 +157,8 @@ fn fastest_transform(
     }
     Ok((best, digest))
 }
+
+/// The time of one of `count` operations in nanoseconds.
+pub fn nanoseconds_each(time: Duration, count: u32) -> u128 {
+    time.as_nanos() / u128::from(count.max(1))
+}

@@ -24,6 +24,13 @@ impl StepsDue {
         StepsDue {}
     }
 
+    /// The same steps.
+    pub(crate) fn again(&self) -> StepsDue
+        ensures { result.steps ≡ self.now.steps }
+    {
+        StepsDue {}
+    }
+
     /// The steps but the first.
     pub(crate) fn after_first(&self) -> StepsDue
         ensures { result.steps ≡ drop 1 self.now.steps }

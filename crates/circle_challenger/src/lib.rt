@@ -15,6 +15,7 @@ mod tests;
 
 pub use challenger::{CanObserve, CanSample, CanSampleBits, ChallengerState, GrindingChallenger};
 pub use domain_separator::DomainSeparator;
+pub use due::StepsDue;
 pub use interaction::{Hierarchy, Interaction, Kind, Length, ValueType};
 pub use pattern::InteractionPattern;
 pub use sha256::Sha256Challenger;

@@ -23,7 +23,7 @@ fn tagged_digest(tag: u8, state: &[u8; 32], bytes: &[u8]) -> [u8; 32]
 {
     let mut hasher = Sha256::new();
     hasher.update([tag]);
-    hasher.update(*state);
+    hasher.update(state.as_slice());
     hasher.update(bytes);
     hasher.finalize()
 }

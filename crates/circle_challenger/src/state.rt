@@ -18,7 +18,8 @@ use std::marker::PhantomData;
 /// A transcript that is played: the challenger that it borrows, and for contracts alone the steps that
 /// are still due.
 ///
-/// `S` is the side that plays it. It has no `Drop`: it is spent by `finish` or `abort`.
+/// `S` is the side that plays it. It has no `Drop`: it is spent by `finish` or `abort`, or handed on by
+/// `pause`.
 pub struct TranscriptState<'a, C, F, S> {
     challenger: &'a mut C,
     due: StepsDue,
@@ -52,6 +53,33 @@ impl<'a, F: Field, C: CanSample<F> + GrindingChallenger<F>, S> TranscriptState<'
             due,
             of: PhantomData,
         }
+    }
+
+    /// Goes on with a transcript that was paused, with these steps due. So a caller's own type can keep
+    /// the challenger and the steps that are due, and have the transcript at hand while it plays some.
+    pub fn resume(challenger: &'a mut C, steps: &StepsDue) -> Self
+        ensures same_reference { Borrows result challenger.entry }
+        ensures due { due result ≡ steps.now.steps }
+        ensures challenger { current result ≡ challenger.old }
+    {
+        TranscriptState {
+            challenger,
+            due: steps.again(),
+            of: PhantomData,
+        }
+    }
+
+    /// Pauses the transcript: gives the challenger back, and the steps that are still due.
+    pub fn pause(self) -> StepsDue
+        ensures due { result.steps ≡ due self.entry }
+        ensures challenger { self.exit.0.now ≡ current self.entry }
+    {
+        let TranscriptState {
+            challenger: _,
+            due: steps,
+            of: _,
+        } = self;
+        steps
     }
 
     /// Takes in one element of the extension, its coefficients in order.

@@ -16,6 +16,7 @@ use stubborn::Stubborn;
 
 mod runs;
 mod stubborn;
+mod wrapped;
 
 const OPENING_POINT: &str = "opening_point";
 
@@ -278,5 +279,26 @@ fn a_value_is_taken_in_as_it_is(rt: HostRuntime) -> Result<(), Fail> {
     );
     let next: Mersenne31 = challenger.sample();
     assert_eq!(rt; next, element(478777721));
+    Ok(())
+}
+
+#[test]
+fn a_transcript_goes_on_after_a_pause(rt: HostRuntime) -> Result<(), Fail> {
+    let alloc = rt.alloc();
+    let label = "draw";
+    let steps = vec![in alloc;
+        Interaction::algebra(Hierarchy::Atomic, Kind::Challenge, label, 3, Length::Scalar),
+    ]?;
+    let separator = DomainSeparator::new(alloc, 1, "one", InteractionPattern::new(steps))?;
+    let mut challenger = Sha256Challenger::new();
+    let (value, drawn) = wrapped::one_draw::<Cubic, Mersenne31, Sha256Challenger>(
+        &mut challenger,
+        &separator,
+        label,
+    );
+    assert_eq!(rt; value, cubic(1668035039, 2137457899, 218258125));
+    assert_eq!(rt; drawn, 1);
+    let next: Mersenne31 = challenger.sample();
+    assert_eq!(rt; next, element(2047373211));
     Ok(())
 }
