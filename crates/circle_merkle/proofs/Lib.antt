@@ -1,0 +1,4 @@
+pub mod RowBytesMore
+pub mod TreeSteps
+pub mod Maps
+pub mod Powers

@@ -1,0 +1,4 @@
+pub mod Tree
+pub mod Rows
+pub mod Authentication
+pub mod RowBytes

@@ -1,0 +1,5 @@
+//! Merkle trees over the rows of several matrices, with SHA-256 (FIPS 180-4).
+#![tactic(auto)]
+
+mod hashing;
+mod tree;
