@@ -2,3 +2,4 @@ pub mod Tree
 pub mod Rows
 pub mod Authentication
 pub mod RowBytes
+pub mod Walk

@@ -53,6 +53,10 @@ module _ (indices : List ℕ) where
   is_taken level i = is_known level (sibling i) && not (is_known level i)
 
   module _ (levels : ℕ) where
+    -- the known positions of a level in ascending order
+    abbrev pub known : ℕ → List ℕ
+    known level = filter (is_known level) (range_with_len 0 (2 ^ (levels - level)))
+
     -- the positions of a level whose digests a proof has, in ascending order: the siblings of known
     -- positions that aren't known themselves
     abbrev pub taken : ℕ → List ℕ

@@ -2,4 +2,5 @@
 #![tactic(auto)]
 
 mod hashing;
+mod positions;
 mod tree;
