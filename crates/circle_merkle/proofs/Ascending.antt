@@ -15,7 +15,7 @@ use Rattle.circle_merkle.specs.Tree.{is_known, known}
 use Rattle.circle_merkle.proofs.Pairs.{Starts}
 
 -- whether the number is one of the list
-abbrev has : ℕ → List ℕ → Bool
+abbrev pub has : ℕ → List ℕ → Bool
 has y xs = list_any (λ x. x == y) xs
 
 -- the numbers stand in ascending order from low on, below high

@@ -5,3 +5,5 @@ pub mod Powers
 pub mod Pairs
 pub mod Known
 pub mod Ascending
+pub mod Honest
+pub mod Completeness

@@ -1,7 +1,7 @@
 -- Trees of digests over rows. The lowest level has a position for each row of the highest matrices;
 -- each level above has half as many positions. Levels count from the lowest.
-use Rattle.std.specs.Prelude.{ℕ, ◌+◌, ◌-◌, ◌*◌, ◌/◌, ◌%◌, ◌^◌, ◌==◌, ◌&&◌, Bool, not, List, [], ◌∷◌, ◌++◌, length, filter, drop, if◌then◌else◌}
-use Rattle.std.specs.List.{list_any, range_with_len}
+use Rattle.std.specs.Prelude.{ℕ, ◌+◌, ◌-◌, ◌*◌, ◌/◌, ◌%◌, ◌^◌, ◌==◌, ◌&&◌, Bool, not, List, [], ◌∷◌, ◌++◌, length, map, filter, drop, if◌then◌else◌}
+use Rattle.std.specs.List.{list_any, range_with_len, flat_map}
 use Rattle.std.proofs.Common.{zero, suc}
 
 module _ (hash : List ℕ → List ℕ) where
@@ -77,3 +77,7 @@ at_place_of i (p ∷ places) (d ∷ digests) = if p == i then d else at_place_of
 -- in ascending order
 abbrev pub given : List ℕ → ℕ → List (List ℕ) → ℕ → ℕ → List ℕ
 given indices levels proof level i = at_place_of i (taken indices levels level) (drop (taken_below indices levels level) proof)
+
+-- the digests of a proof, level after level from the lowest, for these many levels
+abbrev pub proof_of : (ℕ → ℕ → List ℕ) → List ℕ → ℕ → ℕ → List (List ℕ)
+proof_of at indices levels count = flat_map (λ level. map (at level) (taken indices levels level)) (range_with_len 0 count)
