@@ -1,7 +1,7 @@
 -- What a tree over matrices gives is shown to be of its root.
-use Rattle.std.specs.Prelude.{◌≡◌, ◌≢◌, ℕ, ◌+◌, ◌-◌, ◌*◌, ◌/◌, ◌^◌, ◌<◌, ◌≤◌, ◌==◌, ◌&&◌, ◌||◌, Bool, true, false, not, List, [], ◌∷◌, ◌++◌, length, map, max, All, slice_index, slice_index_or, if◌then◌else◌}
+use Rattle.std.specs.Prelude.{◌≡◌, ℕ, ◌+◌, ◌-◌, ◌*◌, ◌/◌, ◌^◌, ◌<◌, ◌≤◌, ◌==◌, ◌&&◌, ◌||◌, true, false, not, List, [], ◌∷◌, ◌++◌, length, map, All, slice_index, slice_index_or, if◌then◌else◌}
 use Rattle.std.specs.List.{list_any, flat_map}
-use Rattle.std.proofs.Common.{zero, suc, refl, sym, ap, subst, ◌∙◌, arith, ⊎_elim, get_or}
+use Rattle.std.proofs.Common.{zero, suc, refl, sym, ap, ◌∙◌, arith, ⊎_elim, get_or}
 use Rattle.std.proofs.lemmas.List.{length-map, get_or-map}
 use Rattle.std.proofs.lemmas.List.Elements.{All-nil, All-cons, All-head, All-tail, All-weaker, All-map}
 use Rattle.std.proofs.lemmas.Bool.{eq-eqb, ne_eqb, cases_eq, cases_Bool}
@@ -11,12 +11,11 @@ use Rattle.std.proofs.lemmas.List.Folds.{list_any_at}
 use Rattle.circle_commit.specs.Matrix.{IsPowerOfTwo}
 use Rattle.circle_commit.specs.declared.matrix.RowMajorMatrix.{RowMajorMatrix}
 use Rattle.circle_commit.specs.RowMajorMatrix.{rows, width_of, height_of, length-rows, rows-width}
-use Rattle.circle_commit.specs.Mmcs.{greatest, heights, row_at, dimensions_of, max_height, rows_at, rows_at_each}
+use Rattle.circle_commit.specs.Mmcs.{heights, row_at, dimensions_of, max_height, rows_at, rows_at_each}
 use Rattle.circle_commit.specs.MmcsFacts.{row_at-powers}
-use Rattle.circle_merkle.specs.Tree as Tree
-use Rattle.circle_merkle.specs.Tree.{digest, computed, node_digest, joined_digest, with_rows, is_known, is_taken, sibling, given, taken_below, proof_of}
+use Rattle.circle_merkle.specs.Tree.{digest, computed, node_digest, joined_digest, with_rows, is_known, is_taken, given, proof_of}
 use Rattle.circle_merkle.specs.Rows.{size_of, bytes_of_height, tree_rows, rows_of, opened_at, matrix_rows}
-use Rattle.circle_merkle.specs.Authentication.{HasShape, HasIndices, Agrees, Authenticates, IsRoot, opened_root}
+use Rattle.circle_merkle.specs.Authentication.{Authenticates, IsRoot}
 use Rattle.circle_merkle.proofs.Powers.{exponent, exponent_within, quotient_twice, level_size, halves}
 use Rattle.circle_merkle.proofs.Pairs.{sibling-even, sibling-odd, above}
 use Rattle.circle_merkle.proofs.Known.{is_known-above}

@@ -1,11 +1,11 @@
 -- The digests of a proof that is made of a tree are found at their positions.
-use Rattle.std.specs.Prelude.{◌≡◌, ◌≢◌, ℕ, ◌+◌, ◌-◌, ◌*◌, ◌/◌, ◌^◌, ◌<◌, ◌≤◌, ◌==◌, ◌&&◌, ◌||◌, Bool, true, false, not, List, [], ◌∷◌, ◌++◌, length, map, filter, drop, if◌then◌else◌}
-use Rattle.std.specs.List.{list_any, range_with_len, flat_map}
-use Rattle.std.proofs.Common.{zero, suc, refl, sym, ap, subst, ◌∙◌, arith, ⊎_elim, length-append, append-nil}
+use Rattle.std.specs.Prelude.{◌≡◌, ℕ, ◌+◌, ◌-◌, ◌^◌, ◌<◌, ◌≤◌, ◌==◌, ◌||◌, Bool, true, false, List, [], ◌∷◌, ◌++◌, length, map, filter, drop, if◌then◌else◌}
+use Rattle.std.specs.List.{range_with_len, flat_map}
+use Rattle.std.proofs.Common.{zero, suc, refl, sym, ap, ◌∙◌, arith, ⊎_elim, length-append, append-nil}
 use Rattle.std.proofs.Math.Bool.{or-true}
 use Rattle.std.proofs.Math.Seq.{drop-append_seam}
 use Rattle.std.proofs.lemmas.List.{length-map}
-use Rattle.std.proofs.lemmas.Bool.{eq-eqb, ne_eqb, eqb-true, cases_eq}
+use Rattle.std.proofs.lemmas.Bool.{eq-eqb, ne_eqb, cases_eq}
 use Rattle.std.proofs.lemmas.Grind.{flat_map-append}
 use Rattle.circle_merkle.specs.Tree.{is_taken, taken, taken_below, at_place_of, given, proof_of}
 use Rattle.circle_merkle.proofs.Ascending.{has}
@@ -20,10 +20,10 @@ range-split a (suc m) n =
     ap (range_with_len a) e ∙ ap (λ xs. a ∷ xs) (range-split (a + 1) m n ∙ ap (λ b. range_with_len (a + 1) m ++ range_with_len b n) b)
 
 module _ (at : ℕ → ℕ → List ℕ) (indices : List ℕ) (levels : ℕ) where
-  abbrev piece : ℕ → List (List ℕ)
+  abbrev pub piece : ℕ → List (List ℕ)
   piece level = map (at level) (taken indices levels level)
 
-  proof-more : (count : ℕ) → proof_of at indices levels (suc count) ≡ proof_of at indices levels count ++ piece count
+  pub proof-more : (count : ℕ) → proof_of at indices levels (suc count) ≡ proof_of at indices levels count ++ piece count
   proof-more count =
       let e : suc count ≡ count + 1 = omega arith in
       let z : 0 + count ≡ count = omega arith in

@@ -1,11 +1,11 @@
 -- The known positions of a tree, level by level.
-use Rattle.std.specs.Prelude.{◌≡◌, ◌≢◌, ℕ, ◌+◌, ◌-◌, ◌*◌, ◌/◌, ◌^◌, ◌<◌, ◌≤◌, ◌==◌, ◌&&◌, ◌||◌, Bool, true, false, not, List, [], ◌∷◌, filter}
-use Rattle.std.specs.List.{list_any, range_with_len}
-use Rattle.std.proofs.Common.{zero, suc, refl, sym, ap, ◌∙◌, arith, ⊎_elim}
+use Rattle.std.specs.Prelude.{◌≡◌, ℕ, ◌+◌, ◌-◌, ◌*◌, ◌/◌, ◌^◌, ◌<◌, ◌==◌, ◌||◌, Bool, true, false, List, [], ◌∷◌, filter}
+use Rattle.std.specs.List.{range_with_len}
+use Rattle.std.proofs.Common.{suc, refl, sym, ap, ◌∙◌, arith, ⊎_elim}
 use Rattle.std.proofs.lemmas.Bool.{eq-eqb, ne_eqb, cases_eq}
 use Rattle.std.proofs.lemmas.Nat.{shr-shr}
 use Rattle.std.proofs.lemmas.List.Elements.{filter_agree}
-use Rattle.circle_merkle.specs.Tree.{sibling, is_known, is_taken, known, taken}
+use Rattle.circle_merkle.specs.Tree.{is_known, is_taken, known, taken}
 use Rattle.circle_merkle.specs.Walk.{parents_of, siblings_of}
 use Rattle.circle_merkle.proofs.Pairs.{above, siblings-pairs, parents-pairs}
 use Rattle.circle_merkle.proofs.Powers.{halves}

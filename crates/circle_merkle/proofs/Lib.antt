@@ -7,3 +7,4 @@ pub mod Known
 pub mod Ascending
 pub mod Honest
 pub mod Completeness
+pub mod KeptTree

@@ -1,9 +1,10 @@
 -- Maps over ranges.
-use Rattle.std.specs.Prelude.{◌≡◌, ℕ, ◌+◌, ◌<◌, List, [], ◌∷◌, ◌++◌, length, map, Vec}
+use Rattle.std.specs.Prelude.{◌≡◌, ℕ, ◌+◌, ◌<◌, ◌≤◌, Bool, All, filter, List, [], ◌∷◌, ◌++◌, length, map, Vec}
 use Rattle.std.specs.List.{range_with_len}
 use Rattle.std.proofs.Common.{zero, suc, refl, sym, ap, ◌∙◌, arith, get_or}
+use Rattle.std.proofs.lemmas.List.Elements.{All-head, All-tail, All-filter}
 use Rattle.std.proofs.lemmas.List.{length-map, get_or-map, map-append}
-use Rattle.std.proofs.lemmas.List.FromFn.{length-map-range_with_len, get_or-map-range_with_len, map-range_with_len_more}
+use Rattle.std.proofs.lemmas.List.FromFn.{length-range_with_len, get_or-range_with_len, length-map-range_with_len, get_or-map-range_with_len, map-range_with_len_more}
 
 -- maps that agree on a range
 pub map-agree : {X : Type 0} (f h : ℕ → X) (a n : ℕ) → ((i : ℕ) → i < a + n → f i ≡ h i) → map f (range_with_len a n) ≡ map h (range_with_len a n)
@@ -28,3 +29,14 @@ pub items-more : {X A : Type 0} (f : ℕ → List X) (n : ℕ) (vs : List (Vec X
     map (λ v. v.items) (vs ++ v ∷ []) ≡ map f (range_with_len 0 (n + 1))
 items-more f n vs v e here =
     map-append (λ v. v.items) vs (v ∷ []) ∙ ap (λ xs. xs ++ v.items ∷ []) e ∙ ap (λ x. map f (range_with_len 0 n) ++ x ∷ []) here ∙ sym (map-range_with_len_more f 0 n n (omega arith))
+
+-- maps that agree on a list's elements
+pub map-same : {X Y : Type 0} (f h : X → Y) (xs : List X) → All (λ x. f x ≡ h x) xs → map f xs ≡ map h xs
+map-same f h [] same = refl
+map-same f h (x ∷ xs) same = ap (λ y. y ∷ map f xs) (All-head (λ x. f x ≡ h x) x xs same) ∙ ap (λ ys. h x ∷ ys) (map-same f h xs (All-tail (λ x. f x ≡ h x) x xs same))
+
+-- the elements of a range are within it
+pub range-within : (p : ℕ → Bool) (a n high : ℕ) → a + n ≤ high → All (λ i. i < high) (filter p (range_with_len a n))
+range-within p a n high h = All-filter p (λ i. i < high) (range_with_len a n) (λ k d lt.
+    let short : k < n = omega (arith, length-range_with_len a n, lt) in
+    omega (arith, get_or-range_with_len a n k d short))

@@ -3,3 +3,5 @@ pub mod Rows
 pub mod Authentication
 pub mod RowBytes
 pub mod Walk
+pub mod PowerTest
+pub mod ProverData

@@ -2,5 +2,6 @@
 #![tactic(auto)]
 
 mod hashing;
+mod kept;
 mod positions;
 mod tree;
