@@ -8,3 +8,5 @@ pub mod Ascending
 pub mod Honest
 pub mod Completeness
 pub mod KeptTree
+pub mod Climbing
+pub mod Given

@@ -95,10 +95,10 @@ module _ (k : ℕ → Bool) where
   abbrev pub above : ℕ → Bool
   above p = k (2 * p) || k (2 * p + 1)
 
-  missing-even : (a : ℕ) → missing (2 * a) ≡ (k (2 * a + 1) && not (k (2 * a)))
+  pub missing-even : (a : ℕ) → missing (2 * a) ≡ (k (2 * a + 1) && not (k (2 * a)))
   missing-even a = ap (λ s. k s && not (k (2 * a))) (sibling-even a)
 
-  missing-odd : (a : ℕ) → missing (2 * a + 1) ≡ (k (2 * a) && not (k (2 * a + 1)))
+  pub missing-odd : (a : ℕ) → missing (2 * a + 1) ≡ (k (2 * a) && not (k (2 * a + 1)))
   missing-odd a = ap (λ s. k s && not (k (2 * a + 1))) (sibling-odd a)
 
   -- the siblings of the known positions of a range of pairs are the positions that are missing

@@ -5,3 +5,4 @@ pub mod RowBytes
 pub mod Walk
 pub mod PowerTest
 pub mod ProverData
+pub mod Climb

@@ -5,3 +5,4 @@ mod hashing;
 mod kept;
 mod positions;
 mod tree;
+mod root;
