@@ -49,7 +49,7 @@ module _ (up : ℕ → List ℕ → List ℕ → List ℕ) (known given : ℕ �
     parent : Bool → Bool → Node
     parent t u = record {
       position = a;
-      digest = up a (if t then known (2 * a) else given (2 * a)) (if u then known (2 * a + 1) else given (2 * a + 1))
+      digest = up a (if t then known (2 * a) else given (2 * a)) (if u then known (2 * a + 1) else given (2 * a + 1));
     }
 
     climbed-step : (t u : Bool) (xs ys : List ℕ) (later : List (List ℕ)) (above : List Node) → Starts (2 * (a + 1)) xs → climbed up (map node xs) (map given ys ++ later) ≡ above →

@@ -7,7 +7,6 @@ use Rattle.std.proofs.lemmas.List.Elements.{All-nil, All-cons, All-head, All-tai
 use Rattle.std.proofs.lemmas.Bool.{eq-eqb, ne_eqb, cases_eq, cases_Bool}
 use Rattle.std.proofs.Math.Bool.{or-false}
 use Rattle.std.proofs.lemmas.Nat.{shr_below, pow_pos}
-use Rattle.std.proofs.lemmas.List.Folds.{list_any_at}
 use Rattle.circle_commit.specs.Matrix.{IsPowerOfTwo}
 use Rattle.circle_commit.specs.declared.matrix.RowMajorMatrix.{RowMajorMatrix}
 use Rattle.circle_commit.specs.RowMajorMatrix.{rows, width_of, height_of, length-rows, rows-width}
@@ -18,7 +17,7 @@ use Rattle.circle_merkle.specs.Rows.{size_of, bytes_of_height, tree_rows, rows_o
 use Rattle.circle_merkle.specs.Authentication.{Authenticates, IsRoot}
 use Rattle.circle_merkle.proofs.Powers.{exponent, exponent_within, quotient_twice, level_size, halves}
 use Rattle.circle_merkle.proofs.Pairs.{sibling-even, sibling-odd, above}
-use Rattle.circle_merkle.proofs.Known.{is_known-above}
+use Rattle.circle_merkle.proofs.Known.{is_known-above, known-root}
 use Rattle.circle_merkle.proofs.Honest.{length-proof, given-proof}
 
 module _ {T : Type 0} where
@@ -138,12 +137,6 @@ module _ (hash : List ℕ → List ℕ) {T : Type 0} (bytes : T → List ℕ) (m
       else node_digest hash (honest level (2 * i)) (honest level (2 * i + 1))) (bytes-known (suc level) i h known)
 
   module _ (some : 1 ≤ length indices) (below : All (λ i. i < max_height matrices) indices) where
-    known-root : is_known indices levels 0 ≡ true
-    known-root =
-        let first = slice_index_or indices 0 0 in
-        let lt : first < 2 ^ (0 + levels) = omega (arith, below 0 0 some, top, (let e : 0 + levels ≡ levels = omega arith in ap (λ k. 2 ^ k) e)) in
-        list_any_at (λ index. index / 2 ^ levels == 0) indices 0 0 (omega arith) (eq-eqb (first / 2 ^ levels) 0 (omega (arith, shr_below first 0 levels lt)))
-
     in-range : (index : ℕ) → index < 2 ^ levels → All (λ m. IsPowerOfTwo (height_of m)) matrices → All (λ m. row_at (max_height matrices) (height_of m) index < height_of m) matrices
     in-range index lt powers = λ k d h.
         let m = get_or matrices k d in
@@ -175,5 +168,5 @@ module _ (hash : List ℕ → List ℕ) {T : Type 0} (bytes : T → List ℕ) (m
       root =
           let same : levels ≡ isroot.levels = exponent (max_height matrices) levels isroot.levels top (omega (arith, isroot.top)) (omega (arith, isroot.top, pow_pos isroot.levels)) in
           let one : 2 ^ (levels - levels) ≡ 1 = (let z : levels - levels ≡ 0 = omega arith in ap (λ k. 2 ^ k) z) in
-          partial-known levels 0 (omega arith) (omega arith) known-root ∙ ap (λ l. honest l 0) same ∙ isroot.root;
+          partial-known levels 0 (omega arith) (omega arith) (known-root indices levels some (All-weaker (λ i. i < max_height matrices) (λ i. i < 2 ^ levels) (λ i lt. omega (arith, top)) indices below)) ∙ ap (λ l. honest l 0) same ∙ isroot.root;
     }

@@ -21,9 +21,9 @@ from-filter : (p : ℕ → Bool) (a n : ℕ) → From a (filter p (range_with_le
 from-filter p a zero = tt
 from-filter p a (suc n) = from-cond (p a) (filter p (range_with_len (a + 1) n)) (from-filter p (a + 1) n)
   where
-  from-cond : (t : Bool) (xs : List ℕ) → From (a + 1) xs → From a (if t then a ∷ xs else xs)
-  from-cond true xs h = (omega arith, subst (λ b. From b xs) (let e : a + 1 ≡ suc a = omega arith in e) h)
-  from-cond false xs h = from-lower a (a + 1) xs (omega arith) h
+    from-cond : (t : Bool) (xs : List ℕ) → From (a + 1) xs → From a (if t then a ∷ xs else xs)
+    from-cond true xs h = (omega arith, subst (λ b. From b xs) (let e : a + 1 ≡ suc a = omega arith in e) h)
+    from-cond false xs h = from-lower a (a + 1) xs (omega arith) h
 
 all-from : (low : ℕ) (xs : List ℕ) → From low xs → All (λ x. low ≤ x) xs
 all-from low [] h = All-nil (λ x. low ≤ x)

@@ -1,9 +1,10 @@
 -- The known positions of a tree, level by level.
-use Rattle.std.specs.Prelude.{◌≡◌, ℕ, ◌+◌, ◌-◌, ◌*◌, ◌/◌, ◌^◌, ◌<◌, ◌==◌, ◌||◌, Bool, true, false, List, [], ◌∷◌, filter}
+use Rattle.std.specs.Prelude.{◌≡◌, ℕ, ◌+◌, ◌-◌, ◌*◌, ◌/◌, ◌^◌, ◌<◌, ◌≤◌, ◌==◌, ◌||◌, Bool, true, false, List, [], ◌∷◌, length, filter, All, slice_index_or}
 use Rattle.std.specs.List.{range_with_len}
 use Rattle.std.proofs.Common.{suc, refl, sym, ap, ◌∙◌, arith, ⊎_elim}
 use Rattle.std.proofs.lemmas.Bool.{eq-eqb, ne_eqb, cases_eq}
-use Rattle.std.proofs.lemmas.Nat.{shr-shr}
+use Rattle.std.proofs.lemmas.Nat.{shr-shr, shr_below}
+use Rattle.std.proofs.lemmas.List.Folds.{list_any_at}
 use Rattle.std.proofs.lemmas.List.Elements.{filter_agree}
 use Rattle.circle_merkle.specs.Tree.{is_known, is_taken, known, taken}
 use Rattle.circle_merkle.specs.Walk.{parents_of, siblings_of}
@@ -59,3 +60,10 @@ module _ (indices : List ℕ) (levels level : ℕ) (h : level < levels) where
       ap (λ m. siblings_of (filter (is_known indices level) (range_with_len 0 m))) size
       ∙ siblings-pairs (is_known indices level) 0 n
       ∙ ap (λ m. filter (is_taken indices level) (range_with_len 0 m)) (sym size)
+
+-- the topmost position is known
+pub known-root : (indices : List ℕ) (levels : ℕ) → 1 ≤ length indices → All (λ i. i < 2 ^ levels) indices → is_known indices levels 0 ≡ true
+known-root indices levels some below =
+    let first = slice_index_or indices 0 0 in
+    let lt : first < 2 ^ (0 + levels) = omega (arith, below 0 0 some, (let e : 0 + levels ≡ levels = omega arith in ap (λ k. 2 ^ k) e)) in
+    list_any_at (λ index. index / 2 ^ levels == 0) indices 0 0 (omega arith) (eq-eqb (first / 2 ^ levels) 0 (omega (arith, shr_below first 0 levels lt)))

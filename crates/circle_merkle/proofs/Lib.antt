@@ -10,3 +10,6 @@ pub mod Completeness
 pub mod KeptTree
 pub mod Climbing
 pub mod Given
+pub mod OpenedBytes
+pub mod FirstParent
+pub mod LevelNodes

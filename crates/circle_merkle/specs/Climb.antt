@@ -12,7 +12,7 @@ module _ (up : ℕ → List ℕ → List ℕ → List ℕ) where
   abbrev pub lone : Node → List ℕ → Node
   lone node given = record {
     position = node.position / 2;
-    digest = if node.position % 2 == 0 then up (node.position / 2) node.digest given else up (node.position / 2) given node.digest
+    digest = if node.position % 2 == 0 then up (node.position / 2) node.digest given else up (node.position / 2) given node.digest;
   }
 
   -- the nodes above, which take a given digest for each sibling that isn't known

@@ -6,3 +6,4 @@ pub mod Walk
 pub mod PowerTest
 pub mod ProverData
 pub mod Climb
+pub mod Opening

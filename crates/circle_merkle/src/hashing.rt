@@ -13,8 +13,8 @@ use sha2::{Digest, Sha256};
 /// A digest of SHA-256.
 pub type Hash = [u8; 32];
 
-// Adds the bytes of a row's entries to the message.
-fn absorb_row<T: ElementBytes>(hasher: &mut Sha256, row: &[T])
+/// Adds the bytes of a row's entries to the message.
+pub fn absorb_row<T: ElementBytes>(hasher: &mut Sha256, row: &[T])
     ensures { (m : List ℕ) → Holds256 hasher.old m → Holds256 hasher.new (m ++ flat_map T.bytes row.now) }
 {
     for entry in row {

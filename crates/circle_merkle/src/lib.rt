@@ -4,5 +4,5 @@
 mod hashing;
 mod kept;
 mod positions;
-mod tree;
 mod root;
+mod tree;
