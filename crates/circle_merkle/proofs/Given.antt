@@ -48,7 +48,7 @@ at-places low (p ∷ places) (d ∷ digests) h le =
 
 module _ (indices : List ℕ) (levels : ℕ) where
   -- higher levels have the digests of lower ones below them
-  taken_below-more : (a n : ℕ) → taken_below indices levels a ≤ taken_below indices levels (n + a)
+  pub taken_below-more : (a n : ℕ) → taken_below indices levels a ≤ taken_below indices levels (n + a)
   taken_below-more a zero = let e : 0 + a ≡ a = omega arith in subst (λ m. taken_below indices levels a ≤ taken_below indices levels m) (sym e) (omega arith)
   taken_below-more a (suc n) =
       let e : suc n + a ≡ suc (n + a) = omega arith in

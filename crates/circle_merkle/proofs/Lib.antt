@@ -13,3 +13,4 @@ pub mod Given
 pub mod OpenedBytes
 pub mod FirstParent
 pub mod LevelNodes
+pub mod Fits

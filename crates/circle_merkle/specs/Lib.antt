@@ -7,3 +7,5 @@ pub mod PowerTest
 pub mod ProverData
 pub mod Climb
 pub mod Opening
+pub mod Shape
+pub mod Verdict
