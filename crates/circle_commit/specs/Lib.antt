@@ -3,3 +3,5 @@ pub mod RowFacts
 pub mod FlatRows
 pub mod RowMajorMatrix
 pub mod RowMajorMatrixView
+pub mod Mmcs
+pub mod MmcsFacts

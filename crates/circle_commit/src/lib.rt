@@ -2,9 +2,11 @@
 #![tactic(auto)]
 
 pub mod matrix;
+pub mod mmcs;
 #[cfg(test)]
 mod tests;
 pub mod view;
 
 pub use matrix::{Dimensions, Matrix, RowIndexMap, RowIndexMappedView, RowMajorMatrix, Shape};
+pub use mmcs::{BatchMultiOpening, Mmcs, OpenedRows};
 pub use view::RowMajorMatrixView;

@@ -1,0 +1,116 @@
+//! Commitments to several matrices at once, opened at many rows.
+ghost use Rattle.std.specs.Prelude.{◌≡◌, ℕ, ◌≤◌, ◌<◌, ◌↔◌, Bool, List, length, All, IsTrue, OnOk, IfOk, IfErr, vec_len};
+ghost use Rattle.circle_commit.specs.Matrix.{IsPowerOfTwo};
+ghost use Rattle.circle_commit.specs.RowMajorMatrix.{height_of};
+ghost use Rattle.circle_commit.specs.Mmcs.{dimensions_of, max_height, rows_at_each, opened_rows};
+ghost use Rattle.circle_commit.specs.declared.matrix.Dimensions.{Dimensions};
+ghost use Rattle.circle_commit.specs.declared.matrix.RowMajorMatrix.{RowMajorMatrix};
+
+use crate::matrix::{Dimensions, RowMajorMatrix};
+use std::alloc::{AllocError, Global};
+use std::fmt::Debug;
+
+/// Rows of several matrices, as they are opened: for each index, for each matrix, the entries.
+pub type OpenedRows<T> = Vec<Vec<Vec<T>>>;
+
+/// A scheme that commits to several matrices at once ("mixed matrix commitment scheme").
+///
+/// The heights of the matrices are powers of two. An index stands below the greatest height; the
+/// row of a matrix of height `2^h` at index `i` under the greatest height `2^H` is its row
+/// `i >> (H - h)`.
+pub trait Mmcs<T: Copy> {
+    /// What is published of the matrices.
+    type Commitment: Debug + Drop;
+
+    /// What the committer keeps.
+    type ProverData: Drop;
+
+    /// What shows that opened rows are those that were committed to.
+    type MultiProof: Debug + Drop;
+
+    /// Why opened rows are refused.
+    type Error: Debug + Drop;
+
+    // The matrices that data is of.
+    ghost matrices: { Self.ProverData → List (RowMajorMatrix T) };
+
+    // The matrices have this commitment.
+    ghost commits: { Self → List (RowMajorMatrix T) → Self.Commitment → Type 0 };
+
+    // The rows at the indices, one for each of these shapes, are shown to be those of the commitment.
+    ghost authenticates: { Self → Self.Commitment → List Dimensions → List ℕ → List (List (List T)) → Self.MultiProof → Type 0 };
+
+    // The error says that memory was refused.
+    ghost is_memory: { Self.Error → Bool };
+
+    /// Commits to matrices.
+    ///
+    /// Asks at least one, and heights that are powers of two. Fails where memory is refused.
+    fn commit(
+        &self,
+        alloc: Global,
+        inputs: Vec<RowMajorMatrix<T>>,
+    ) -> Result<(Self::Commitment, Self::ProverData), AllocError>
+        requires some { 1 ≤ vec_len inputs }
+        requires powers_of_two { All (λ m. IsPowerOfTwo (height_of m)) inputs.items }
+        ensures commitment { IfOk result (λ r. commits self.now inputs.items r.0) }
+        ensures data { IfOk result (λ r. matrices r.1 ≡ inputs.items) };
+
+    /// The matrices that were committed to.
+    fn get_matrices<'a>(&self, prover_data: &'a Self::ProverData) -> &'a [RowMajorMatrix<T>]
+        ensures { result.now ≡ matrices prover_data.now };
+
+    /// The greatest height of the matrices.
+    fn get_max_height(&self, prover_data: &Self::ProverData) -> usize
+        ensures { result ≡ max_height (matrices prover_data.now) };
+
+    /// The rows at the indices, and a proof that they are those that were committed to.
+    ///
+    /// Asks at least one index, each below the greatest height; an index may stand there more than
+    /// once. Fails where memory is refused.
+    fn open_multi_batch(
+        &self,
+        alloc: Global,
+        indices: &[usize],
+        prover_data: &Self::ProverData,
+    ) -> Result<(OpenedRows<T>, Self::MultiProof), AllocError>
+        requires some { 1 ≤ length indices.now }
+        requires in_range { All (λ i. i < max_height (matrices prover_data.now)) indices.now }
+        ensures rows { IfOk result (λ r. opened_rows r.0.items ≡ rows_at_each (matrices prover_data.now) indices.now) }
+        ensures proof { IfOk result (λ r. (commitment : Self.Commitment) → commits self.now (matrices prover_data.now) commitment
+            → authenticates self.now commitment (dimensions_of (matrices prover_data.now)) indices.now (opened_rows r.0.items) r.1) };
+
+    /// Whether the rows at the indices are those of matrices of these shapes that the commitment was
+    /// made of.
+    ///
+    /// Takes any input: what is malformed is refused.
+    fn verify_multi_batch(
+        &self,
+        alloc: Global,
+        commitment: &Self::Commitment,
+        dimensions: &[Dimensions],
+        indices: &[usize],
+        opened_values: &[Vec<Vec<T>>],
+        proof: &Self::MultiProof,
+    ) -> Result<(), Self::Error>
+        ensures accepted { OnOk result (authenticates self.now commitment.now dimensions.now indices.now (opened_rows opened_values.now) proof.now) }
+        ensures refused { IfErr result (λ e. authenticates self.now commitment.now dimensions.now indices.now (opened_rows opened_values.now) proof.now
+            → IsTrue (is_memory e)) };
+
+    /// Whether the error says that memory was refused.
+    fn is_memory(error: &Self::Error) -> bool
+        ensures { result ≡ is_memory error.now };
+
+    ghost some_matrix: { (d : Self.ProverData) → 1 ≤ length (matrices d) };
+
+    ghost powers_of_two: { (d : Self.ProverData) → All (λ m. IsPowerOfTwo (height_of m)) (matrices d) };
+}
+
+/// Rows of one commitment's matrices at several indices, with the proof of them all.
+#[derive(Drop)]
+pub struct BatchMultiOpening<T: Copy, M: Mmcs<T>> {
+    /// For each index, for each matrix, the entries of its row.
+    pub opened_values: OpenedRows<T>,
+    /// The proof for all the rows.
+    pub opening_proof: M::MultiProof,
+}

@@ -1,0 +1,66 @@
+-- The nodes at the known positions, level by level.
+use Rattle.std.specs.Prelude.{◌≡◌, ℕ, ◌+◌, ◌-◌, ◌*◌, ◌^◌, ◌<◌, ◌≤◌, List, [], ◌∷◌, ◌++◌, length, map, filter, drop, All, slice_index_or, if◌then◌else◌}
+use Rattle.std.specs.List.{range_with_len}
+use Rattle.std.proofs.Common.{zero, suc, refl, sym, ap, ◌∙◌, arith}
+use Rattle.std.proofs.lemmas.List.{drop-drop}
+use Rattle.std.proofs.lemmas.List.Elements.{filter_agree}
+use Rattle.sha2.specs.Sha256.{sha256}
+use Rattle.circle_commit.specs.Mmcs.{opened_rows}
+use Rattle.circle_merkle.specs.declared.root.Node.{Node}
+use Rattle.circle_merkle.specs.declared.root.Opening.{Opening}
+use Rattle.circle_merkle.specs.Tree.{computed, is_known, known, is_taken, taken, taken_below, given}
+use Rattle.circle_merkle.specs.Walk.{siblings_of}
+use Rattle.circle_merkle.specs.Climb.{climbed, positions_of}
+use Rattle.circle_merkle.specs.Opening.{rows_in, parent_in, level_nodes}
+use Rattle.circle_merkle.specs.Authentication.{opened_root}
+use Rattle.circle_merkle.proofs.Powers.{halves}
+use Rattle.circle_merkle.proofs.Pairs.{above, missing}
+use Rattle.circle_merkle.proofs.Known.{is_known-above, siblings-known, known-root}
+use Rattle.circle_merkle.proofs.Given.{given-fits, given-level}
+use Rattle.circle_merkle.proofs.Climbing.{parent_node, climbed-pairs}
+
+positions-map : (f : ℕ → List ℕ) (ps : List ℕ) → positions_of (map (λ p. record { position = p; digest = f p }) ps) ≡ ps
+positions-map f [] = refl
+positions-map f (p ∷ ps) = ap (λ qs. p ∷ qs) (positions-map f ps)
+
+module _ {T : Type 0} (bytes : T → List ℕ) (o : Opening T) (proof : List (List ℕ)) (levels : ℕ) where
+  abbrev indices : List ℕ
+  indices = o.indices.now
+
+  abbrev value : ℕ → ℕ → List ℕ
+  value = computed sha256 (rows_in bytes o) (is_known indices) (given indices levels proof)
+
+  module _ (count : length proof ≡ taken_below indices levels levels) (level : ℕ) (h : level < levels) where
+    siblings-nodes : siblings_of (positions_of (level_nodes bytes o proof levels level)) ≡ taken indices levels level
+    siblings-nodes = ap siblings_of (positions-map (value level) (known indices levels level)) ∙ siblings-known indices levels level h
+
+    pub nodes-fit : length (siblings_of (positions_of (level_nodes bytes o proof levels level))) ≤ length (drop (taken_below indices levels level) proof)
+    nodes-fit = omega (arith, ap length siblings-nodes, given-fits indices levels proof level h count)
+
+    pub nodes-left : drop (length (siblings_of (positions_of (level_nodes bytes o proof levels level)))) (drop (taken_below indices levels level) proof) ≡ drop (taken_below indices levels (suc level)) proof
+    nodes-left = ap (λ s. drop (length s) (drop (taken_below indices levels level) proof)) siblings-nodes ∙ drop-drop (length (taken indices levels level)) (taken_below indices levels level) proof
+
+    -- the nodes of a level give those of the next
+    pub nodes-climbed : climbed (parent_in bytes o (suc level)) (level_nodes bytes o proof levels level) (drop (taken_below indices levels level) proof) ≡ level_nodes bytes o proof levels (suc level)
+    nodes-climbed =
+        let n = 2 ^ (levels - suc level) in
+        let next : level + 1 ≡ suc level = omega arith in
+        let size : 2 ^ (levels - level) ≡ 2 * n = halves levels level h ∙ ap (λ k. 2 * 2 ^ (levels - k)) next in
+        let up = parent_in bytes o (suc level) in
+        let here = given indices levels proof level in
+        let later = drop (taken_below indices levels (suc level)) proof in
+        let node = λ (p : ℕ). let x : Node = record { position = p; digest = value level p } in x in
+        ap (climbed up (level_nodes bytes o proof levels level)) (given-level indices levels proof level h count)
+        ∙ ap (λ m. climbed up (map node (filter (is_known indices level) (range_with_len 0 m))) (map here (filter (is_taken indices level) (range_with_len 0 m)) ++ later)) size
+        ∙ climbed-pairs up (value level) here (is_known indices level) 0 n later
+        ∙ ap (map (λ p. record { position = p; digest = value (suc level) p }))
+        (filter_agree (above (is_known indices level)) (is_known indices (suc level)) (λ p. sym (is_known-above indices level p)) (range_with_len 0 n))
+
+  module _ (some : 1 ≤ length indices) (below : All (λ i. i < 2 ^ levels) indices) where
+    -- the topmost level has the root alone
+    pub nodes-root : level_nodes bytes o proof levels levels ≡ record { position = 0; digest = value levels 0 } ∷ []
+    nodes-root =
+        let one : 2 ^ (levels - levels) ≡ 1 = (let z : levels - levels ≡ 0 = omega arith in ap (λ k. 2 ^ k) z) in
+        let node = λ (p : ℕ). let x : Node = record { position = p; digest = value levels p } in x in
+        ap (λ m. map node (filter (is_known indices levels) (range_with_len 0 m))) one
+        ∙ ap (λ b. map node (if b then 0 ∷ [] else [])) (known-root indices levels some below)

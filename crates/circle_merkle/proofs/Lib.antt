@@ -1,0 +1,16 @@
+pub mod RowBytesMore
+pub mod TreeSteps
+pub mod Maps
+pub mod Powers
+pub mod Pairs
+pub mod Known
+pub mod Ascending
+pub mod Honest
+pub mod Completeness
+pub mod KeptTree
+pub mod Climbing
+pub mod Given
+pub mod OpenedBytes
+pub mod FirstParent
+pub mod LevelNodes
+pub mod Fits

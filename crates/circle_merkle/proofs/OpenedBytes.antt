@@ -1,0 +1,71 @@
+-- The bytes of opened rows.
+use Rattle.std.specs.Prelude.{◌≡◌, ◌≢◌, ℕ, ◌+◌, ◌/◌, ◌^◌, ◌<◌, ◌==◌, Bool, true, false, List, [], ◌∷◌, ◌++◌, length, map, take, slice_index, slice_index_or, if◌then◌else◌}
+use Rattle.std.specs.List.{flat_map, zip}
+use Rattle.std.proofs.Common.{zero, suc, refl, sym, ap, ◌∙◌, arith, append-nil, append_assoc, add-one, ⊎_elim}
+use Rattle.std.proofs.lemmas.Bool.{eq-eqb, ne_eqb, cases_eq}
+use Rattle.circle_commit.specs.declared.matrix.Dimensions.{Dimensions}
+use Rattle.circle_merkle.specs.Walk.{NoneOf, NoneStandsBelow}
+use Rattle.circle_merkle.specs.Rows.{bytes_of_height, opened_at}
+
+module _ {T : Type 0} (bytes : T → List ℕ) (height : ℕ) where
+  piece : Dimensions → List T → List ℕ
+  piece dim row = if dim.height == height then flat_map bytes row else []
+
+  one-more : (dims : List Dimensions) (rows : List (List T)) (j : ℕ) (dim d : Dimensions) (row r : List T) → j < length dims → j < length rows →
+      slice_index_or dims j d ≡ dim → slice_index_or rows j r ≡ row →
+      bytes_of_height bytes (take (suc j) dims) height (take (suc j) rows) ≡ bytes_of_height bytes (take j dims) height (take j rows) ++ piece dim row
+  unfolding piece
+  one-more [] rows j dim d row r hd hr ed er = absurd (omega arith)
+  one-more (x ∷ dims) [] j dim d row r hd hr ed er = absurd (omega arith)
+  one-more (x ∷ dims) (y ∷ rows) zero dim d row r hd hr ed er =
+      append-nil (if x.height == height then flat_map bytes y else [])
+      ∙ ap (λ (d : Dimensions). if d.height == height then flat_map bytes y else []) ed ∙ ap (λ r. if dim.height == height then flat_map bytes r else []) er
+  one-more (x ∷ dims) (y ∷ rows) (suc j) dim d row r hd hr ed er =
+      let first = if x.height == height then flat_map bytes y else [] in
+      ap (λ rest. first ++ rest) (one-more dims rows j dim d row r (omega arith) (omega arith) ed er)
+      ∙ sym (append_assoc first (bytes_of_height bytes (take j dims) height (take j rows)) (piece dim row))
+
+  module _ (dims : List Dimensions) (rows : List (List T)) (j : ℕ) (dim d : Dimensions) (row r : List T) (hd : j < length dims) (hr : j < length rows)
+      (ed : slice_index_or dims j d ≡ dim) (er : slice_index_or rows j r ≡ row) (before : List ℕ) where
+    more : before ++ bytes_of_height bytes (take (j + 1) dims) height (take (j + 1) rows) ≡ (before ++ bytes_of_height bytes (take j dims) height (take j rows)) ++ piece dim row
+    more =
+        ap (λ k. before ++ bytes_of_height bytes (take k dims) height (take k rows)) (add-one j)
+        ∙ ap (λ b. before ++ b) (one-more dims rows j dim d row r hd hr ed er)
+        ∙ sym (append_assoc before (bytes_of_height bytes (take j dims) height (take j rows)) (piece dim row))
+
+    pub opened-with : dim.height ≡ height →
+        before ++ bytes_of_height bytes (take (j + 1) dims) height (take (j + 1) rows) ≡ (before ++ bytes_of_height bytes (take j dims) height (take j rows)) ++ flat_map bytes row
+    unfolding piece
+    opened-with e = more ∙ ap (λ b. (before ++ bytes_of_height bytes (take j dims) height (take j rows)) ++ (if b then flat_map bytes row else [])) (eq-eqb dim.height height e)
+
+    pub opened-without : dim.height ≢ height →
+        before ++ bytes_of_height bytes (take (j + 1) dims) height (take (j + 1) rows) ≡ before ++ bytes_of_height bytes (take j dims) height (take j rows)
+    unfolding piece
+    opened-without e =
+        more ∙ ap (λ b. (before ++ bytes_of_height bytes (take j dims) height (take j rows)) ++ (if b then flat_map bytes row else [])) (ne_eqb dim.height height e)
+        ∙ append-nil (before ++ bytes_of_height bytes (take j dims) height (take j rows))
+
+module _ {T : Type 0} (level i : ℕ) where
+  skip : (index : ℕ) (rows others : List (List T)) → index / 2 ^ level ≢ i → (if index / 2 ^ level == i then rows else others) ≡ others
+  skip index rows others ne = ap (λ b. if b then rows else others) (ne_eqb (index / 2 ^ level) i ne)
+
+  -- the rows of the first index that stands below a position
+  pub opened_at-first : (indices : List ℕ) (opened : List (List (List T))) (k : ℕ) → k < length indices → k < length opened → slice_index indices k / 2 ^ level ≡ i →
+      NoneOf indices level i k → opened_at indices opened level i ≡ slice_index_or opened k []
+  opened_at-first [] opened k hi ho e others = absurd (omega arith)
+  opened_at-first (index ∷ indices) [] k hi ho e others = absurd (omega arith)
+  opened_at-first (index ∷ indices) (rows ∷ opened) zero hi ho e others = ap (λ b. if b then rows else opened_at indices opened level i) (eq-eqb (index / 2 ^ level) i e)
+  opened_at-first (index ∷ indices) (rows ∷ opened) (suc k) hi ho e others =
+      skip index rows (opened_at indices opened level i) (others 0 (omega arith))
+      ∙ opened_at-first indices opened k (omega arith) (omega arith) e (λ j lt. others (suc j) (omega arith))
+
+  pub opened_at-none : (indices : List ℕ) (opened : List (List (List T))) → NoneStandsBelow indices level i → opened_at indices opened level i ≡ []
+  opened_at-none [] opened others = refl
+  opened_at-none (index ∷ indices) [] others = refl
+  opened_at-none (index ∷ indices) (rows ∷ opened) others =
+      skip index rows (opened_at indices opened level i) (others 0 (omega arith)) ∙ opened_at-none indices opened (λ j lt. others (suc j) (omega arith))
+
+-- no rows have no bytes
+pub bytes-none : {T : Type 0} (bytes : T → List ℕ) (height : ℕ) (dims : List Dimensions) → bytes_of_height bytes dims height [] ≡ []
+bytes-none bytes height [] = refl
+bytes-none bytes height (dim ∷ dims) = refl

@@ -1,0 +1,89 @@
+use Rattle.std.proofs.Common.{◌≡◌, ◌<◌, ◌^◌, ◌∙◌, ℕ, refl, sym, ap, subst, length, map, All, arith}
+use Rattle.std.proofs.lemmas.List.{length-map}
+use Rattle.sha2.specs.Sha256.{sha256}
+use Rattle.circle_commit.specs.Matrix.{IsPowerOfTwo}
+use Rattle.circle_commit.specs.Mmcs.{greatest, heights, opened_rows}
+use Rattle.circle_merkle.specs.Tree.{taken_below}
+use Rattle.circle_merkle.specs.Authentication.{HasShape, HasIndices, Agrees, Authenticates, opened_root}
+use Rattle.circle_merkle.proofs.Powers.{exponent, logarithm}
+use Rattle.circle_merkle.proofs.Fits.{whole-rows, greatest-power}
+use Rattle.circle_merkle.proofs.verify.verify.Goals as goal
+
+pub has_count-requires : goal.has_count-requires
+has_count-requires g c =
+    let dims = c.args.dimensions.now in
+    let shape = c.if-not-has_shape.ensures.0 refl in
+    let known = c.if-not-has_indices.ensures.0 refl in
+    let power : IsPowerOfTwo (greatest (heights dims)) = greatest-power dims shape.some shape.powers_of_two in
+    let top = c.greatest_height-top.ensures in
+    let log : 2 ^ c.ilog2.result ≡ c.greatest_height-top.result = logarithm c.greatest_height-top.result c.ilog2.result (power.0, top ∙ power.1) c.ilog2.ensures.power_le c.ilog2.ensures.next_power_gt in
+    subst (λ n. All (λ i. i < n) c.args.indices.now) (sym (log ∙ top)) known.in_range
+
+pub returns-then-not-branch-clause-refused : goal.returns-then-not-branch-clause-refused
+returns-then-not-branch-clause-refused g c =
+    let shape = c.if-not-has_shape.ensures.0 refl in
+    let known = c.if-not-has_indices.ensures.0 refl in
+    let agree = c.if-not-agrees.ensures.0 refl in (
+      shape,
+      known,
+      agree,
+      λ levels e h.
+          let top = c.greatest_height-top.ensures in
+          let same : levels ≡ c.ilog2.result = exponent c.greatest_height-top.result levels c.ilog2.result (top ∙ e) c.ilog2.ensures.power_le c.ilog2.ensures.next_power_gt in
+          let yes = c.in_ok-has_count.ensures.1 (h ∙ ap (λ l. taken_below c.args.indices.now l l) same) in absurd (let false_is = c.if-not-branch.true in cc),
+    )
+
+pub invariant_of-opening : goal.invariant_of-opening
+invariant_of-opening g c =
+    let shape = c.if-not-has_shape.ensures.0 refl in
+    let known = c.if-not-has_indices.ensures.0 refl in
+    let opened = c.args.opened.now in
+    record {
+      greatest_height = c.greatest_height-top.ensures;
+      one_each = sym (length-map opened (λ rows. map (λ row. row.items) rows.items)) ∙ known.one_each;
+      whole = whole-rows c.args.dimensions.now opened shape;
+    }
+
+pub root-requires-clause-power : goal.root-requires-clause-power
+root-requires-clause-power g c =
+    let shape = c.if-not-has_shape.ensures.0 refl in
+    let power : IsPowerOfTwo (greatest (heights c.args.dimensions.now)) = greatest-power c.args.dimensions.now shape.some shape.powers_of_two in
+    (power.0, c.greatest_height-top.ensures ∙ power.1)
+
+pub root-requires-clause-count : goal.root-requires-clause-count
+root-requires-clause-count g c = λ levels e.
+    let same : levels ≡ c.ilog2.result = exponent c.greatest_height-top.result levels c.ilog2.result e c.ilog2.ensures.power_le c.ilog2.ensures.next_power_gt in
+    c.in_ok-has_count.ensures.0 c.if-not-branch.false ∙ ap (λ l. taken_below c.args.indices.now l l) (sym same)
+
+pub returns-then-not-same_digest-clause-refused : goal.returns-then-not-same_digest-clause-refused
+returns-then-not-same_digest-clause-refused g c =
+    let shape = c.if-not-has_shape.ensures.0 refl in
+    let known = c.if-not-has_indices.ensures.0 refl in
+    let agree = c.if-not-agrees.ensures.0 refl in
+    let top = c.greatest_height-top.ensures in (
+      shape,
+      known,
+      agree,
+      (λ levels e.
+          let same : levels ≡ c.ilog2.result = exponent c.greatest_height-top.result levels c.ilog2.result (top ∙ e) c.ilog2.ensures.power_le c.ilog2.ensures.next_power_gt in
+          c.in_ok-has_count.ensures.0 c.if-not-branch.false ∙ ap (λ l. taken_below c.args.indices.now l l) (sym same)),
+      (λ levels e h. absurd (let yes = c.if-not-same_digest.ensures.1 (c.in_ok-root.ensures levels (top ∙ e) ∙ h) in cc)),
+    )
+
+pub returns-clause-accepted : goal.returns-clause-accepted
+returns-clause-accepted g c =
+    let shape = c.if-not-has_shape.ensures.0 refl in
+    let known = c.if-not-has_indices.ensures.0 refl in
+    let agree = c.if-not-agrees.ensures.0 refl in
+    let power : IsPowerOfTwo (greatest (heights c.args.dimensions.now)) = greatest-power c.args.dimensions.now shape.some shape.powers_of_two in
+    let top = c.greatest_height-top.ensures in
+    let same : power.0 ≡ c.ilog2.result = exponent c.greatest_height-top.result power.0 c.ilog2.result (top ∙ power.1) c.ilog2.ensures.power_le c.ilog2.ensures.next_power_gt in
+    record {
+      shape = shape;
+      known = known;
+      agreeing = agree;
+      levels = power.0;
+      top = power.1;
+      count = c.in_ok-has_count.ensures.0 c.if-not-branch.false ∙ ap (λ l. taken_below c.args.indices.now l l) (sym same);
+      root = sym (c.in_ok-root.ensures power.0 (top ∙ power.1)) ∙ c.if-not-same_digest.ensures.0 refl;
+    }

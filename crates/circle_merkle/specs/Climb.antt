@@ -1,0 +1,28 @@
+-- One level up from the digests at the known positions of a level.
+use Rattle.std.specs.Prelude.{ℕ, ◌/◌, ◌%◌, ◌==◌, List, [], ◌∷◌, drop, map, slice_index_or, if◌then◌else◌}
+use Rattle.circle_merkle.specs.declared.root.Node.{Node}
+use Rattle.circle_merkle.specs.Tree.{sibling}
+
+module _ (up : ℕ → List ℕ → List ℕ → List ℕ) where
+  -- the node above a pair
+  abbrev pub joined : Node → Node → Node
+  joined left right = record { position = left.position / 2; digest = up (left.position / 2) left.digest right.digest }
+
+  -- the node above one whose sibling has this digest
+  abbrev pub lone : Node → List ℕ → Node
+  lone node given = record {
+    position = node.position / 2;
+    digest = if node.position % 2 == 0 then up (node.position / 2) node.digest given else up (node.position / 2) given node.digest;
+  }
+
+  -- the nodes above, which take a given digest for each sibling that isn't known
+  abbrev pub climbed : List Node → List (List ℕ) → List Node
+  climbed [] given = []
+  climbed (node ∷ []) given = lone node (slice_index_or given 0 []) ∷ []
+  climbed (node ∷ next ∷ rest) given =
+      if next.position == sibling node.position then joined node next ∷ climbed rest given
+      else lone node (slice_index_or given 0 []) ∷ climbed (next ∷ rest) (drop 1 given)
+
+-- the positions of nodes
+abbrev pub positions_of : List Node → List ℕ
+positions_of nodes = map (λ node. node.position) nodes

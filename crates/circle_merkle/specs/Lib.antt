@@ -1,0 +1,11 @@
+pub mod Tree
+pub mod Rows
+pub mod Authentication
+pub mod RowBytes
+pub mod Walk
+pub mod PowerTest
+pub mod ProverData
+pub mod Climb
+pub mod Opening
+pub mod Shape
+pub mod Verdict

@@ -1,0 +1,33 @@
+-- Which refusal of opened rows is right.
+use Rattle.std.specs.Prelude.{◌≡◌, ◌≢◌, ℕ, ◌^◌, Bool, true, false, List, length}
+use Rattle.circle_commit.specs.declared.matrix.Dimensions.{Dimensions}
+use Rattle.circle_commit.specs.Mmcs.{greatest, heights}
+use Rattle.circle_merkle.specs.declared.error.MerkleTreeError.{MerkleTreeError}
+use Rattle.circle_merkle.specs.declared.error.MerkleTreeError.TheVariants.{WrongIndex, WrongWidth, WrongProofLength, DisagreeingRows, RootMismatch, Memory}
+use Rattle.circle_merkle.specs.Tree.{taken_below}
+use Rattle.circle_merkle.specs.Authentication.{HasShape, HasIndices, Agrees, opened_root}
+
+-- the error says that memory was refused
+abbrev pub says_memory : MerkleTreeError → Bool
+says_memory WrongIndex = false
+says_memory WrongWidth = false
+says_memory WrongProofLength = false
+says_memory DisagreeingRows = false
+says_memory RootMismatch = false
+says_memory Memory = true
+
+module _ {T : Type 0} (hash : List ℕ → List ℕ) (bytes : T → List ℕ) (commitment : List ℕ) (dims : List Dimensions) (indices : List ℕ) (opened : List (List (List T))) (proof : List (List ℕ)) where
+  -- the number of digests is the number of positions that the indices leave open
+  abbrev pub HasCount : Type 0
+  HasCount = (levels : ℕ) → greatest (heights dims) ≡ 2 ^ levels → length proof ≡ taken_below indices levels levels
+
+  -- the refusal's condition holds, and that of none before it
+  abbrev pub IsRight : MerkleTreeError → Type 0
+  IsRight WrongWidth = ¬ HasShape dims opened
+  IsRight WrongIndex = HasShape dims opened × ¬ HasIndices dims indices opened
+  IsRight DisagreeingRows = HasShape dims opened × HasIndices dims indices opened × ¬ Agrees dims indices opened
+  IsRight WrongProofLength = HasShape dims opened × HasIndices dims indices opened × Agrees dims indices opened
+      × ((levels : ℕ) → greatest (heights dims) ≡ 2 ^ levels → length proof ≢ taken_below indices levels levels)
+  IsRight RootMismatch = HasShape dims opened × HasIndices dims indices opened × Agrees dims indices opened × HasCount
+      × ((levels : ℕ) → greatest (heights dims) ≡ 2 ^ levels → opened_root hash bytes dims indices opened proof levels ≢ commitment)
+  IsRight Memory = Unit {0}

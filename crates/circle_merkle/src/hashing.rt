@@ -1,0 +1,73 @@
+//! The digests of rows and of nodes.
+ghost use Rattle.std.specs.Prelude.{◌≡◌, ℕ, ◌<◌, List, [], ◌∷◌, ◌++◌};
+ghost use Rattle.std.specs.List.{flat_map};
+ghost use Rattle.sha2.specs.Hashers.{Holds256};
+ghost use Rattle.sha2.specs.Sha256.{sha256};
+ghost use Rattle.circle_merkle.specs.Tree.{node_digest as node_digest_of, joined_digest as joined_digest_of, rows_digest as rows_digest_of};
+ghost use Rattle.circle_merkle.specs.RowBytes.{matrix_bytes};
+
+use circle_commit::{Matrix, RowMajorMatrix};
+use circle_field::ElementBytes;
+use sha2::{Digest, Sha256};
+
+/// A digest of SHA-256.
+pub type Hash = [u8; 32];
+
+/// Adds the bytes of a row's entries to the message.
+pub fn absorb_row<T: ElementBytes>(hasher: &mut Sha256, row: &[T])
+    ensures { (m : List ℕ) → Holds256 hasher.old m → Holds256 hasher.new (m ++ flat_map T.bytes row.now) }
+{
+    for entry in row {
+        hasher.update(entry.to_bytes());
+    }
+}
+
+// Adds the bytes of row `i` of each matrix of this height to the message.
+fn absorb_rows<T: ElementBytes>(
+    hasher: &mut Sha256,
+    matrices: &[RowMajorMatrix<T>],
+    height: usize,
+    i: usize,
+)
+    requires { i < height }
+    ensures { (m : List ℕ) → Holds256 hasher.old m → Holds256 hasher.new (m ++ matrix_bytes T.bytes height i matrices.now) }
+{
+    for matrix in matrices {
+        if matrix.height() == height {
+            absorb_row(hasher, matrix.row(i));
+        }
+    }
+}
+
+/// The digest of row `i` of the matrices of this height.
+pub fn rows_digest<T: ElementBytes>(matrices: &[RowMajorMatrix<T>], height: usize, i: usize) -> Hash
+    requires { i < height }
+    ensures { result ≡ rows_digest_of sha256 (matrix_bytes T.bytes height i matrices.now) }
+{
+    let mut hasher = Sha256::new();
+    hasher.update([0u8].as_slice());
+    absorb_rows(&mut hasher, matrices, height, i);
+    hasher.finalize()
+}
+
+/// The digest of a node with these two below it.
+pub fn node_digest(left: &Hash, right: &Hash) -> Hash
+    ensures { result ≡ node_digest_of sha256 left.now right.now }
+{
+    let mut hasher = Sha256::new();
+    hasher.update([1u8].as_slice());
+    hasher.update(left.as_slice());
+    hasher.update(right.as_slice());
+    hasher.finalize()
+}
+
+/// The digest of a node at whose position rows of this digest stand too.
+pub fn joined_digest(node: &Hash, rows: &Hash) -> Hash
+    ensures { result ≡ sha256 ((2 ∷ node.now) ++ rows.now) }
+{
+    let mut hasher = Sha256::new();
+    hasher.update([2u8].as_slice());
+    hasher.update(node.as_slice());
+    hasher.update(rows.as_slice());
+    hasher.finalize()
+}

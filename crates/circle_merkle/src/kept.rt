@@ -1,0 +1,79 @@
+//! What is kept of committed matrices.
+ghost use Rattle.std.specs.Prelude.{◌≡◌, ℕ, ◌+◌, ◌-◌, ◌^◌, ◌<◌, ◌≤◌, [], true, All, IfOk, OnOk, List, length, map, slice_index_or, vec_len, ◌++◌};
+ghost use Rattle.sha2.specs.Sha256.{sha256};
+ghost use Rattle.circle_commit.specs.RowMajorMatrix.{height_of};
+ghost use Rattle.circle_commit.specs.Mmcs.{max_height};
+ghost use Rattle.circle_merkle.specs.PowerTest.{is_power};
+ghost use Rattle.circle_merkle.specs.Authentication.{tree_levels};
+ghost use Rattle.circle_merkle.specs.Rows.{matrix_rows};
+ghost use Rattle.circle_merkle.specs.Tree.{digest, proof_of};
+
+use crate::hashing::Hash;
+use crate::positions::{climb, distinct};
+use circle_commit::RowMajorMatrix;
+use circle_field::ElementBytes;
+use std::alloc::{AllocError, Global};
+
+/// Committed matrices and the tree over their rows.
+#[derive(Drop)]
+pub struct ShaProverData<T: ElementBytes> {
+    matrices: Vec<RowMajorMatrix<T>>,
+    levels: Vec<Vec<Hash>>,
+    ghost some_matrix: { 1 ≤ vec_len matrices },
+    ghost powers_of_two: { All (λ m. is_power (height_of m) ≡ true) matrices.items },
+    ghost some_level: { 1 ≤ vec_len levels },
+    ghost top: { max_height matrices.items ≡ 2 ^ (vec_len levels - 1) },
+    ghost tree: { map (λ level. level.items) levels.items ≡ tree_levels sha256 T.bytes matrices.items (vec_len levels - 1) },
+}
+
+impl<T: ElementBytes> ShaProverData<T> {
+    ghost use Rattle.circle_merkle.specs.ProverData.{matrices_of, level_count};
+
+    /// The matrices.
+    pub fn matrices(&self) -> &[RowMajorMatrix<T>]
+        ensures { result.now ≡ matrices_of self.now }
+    {
+        &self.matrices
+    }
+
+    /// The greatest height of the matrices.
+    pub fn max_height(&self) -> usize
+        ensures { result ≡ max_height (matrices_of self.now) }
+    {
+        self.levels[0].len()
+    }
+
+    /// The digests of a proof for these indices: level after level, those of the siblings of known
+    /// positions that aren't known.
+    ///
+    /// Asks indices below the greatest height. Fails where memory is refused.
+    pub fn siblings(&self, alloc: Global, indices: &[usize]) -> Result<Vec<Hash>, AllocError>
+        requires { All (λ i. i < max_height (matrices_of self.now)) indices.now }
+        ensures { IfOk result (λ proof. proof.items
+            ≡ proof_of (digest sha256 (matrix_rows T.bytes (matrices_of self.now))) indices.now (level_count self.now) (level_count self.now)) }
+    {
+        let mut known = distinct(alloc, indices)?;
+        let mut proof = Vec::new(alloc);
+        for level in 0..self.levels.len() - 1 {
+            let step = climb(alloc, &known)?;
+            append_digests(&mut proof, &self.levels[level], &step.siblings)?;
+            known = step.parents;
+        }
+        Ok(proof)
+    }
+}
+
+// Appends the digests at these positions of a level.
+fn append_digests(
+    proof: &mut Vec<Hash>,
+    level: &[Hash],
+    positions: &[usize],
+) -> Result<(), AllocError>
+    requires { All (λ i. i < length level.now) positions.now }
+    ensures { OnOk result (proof.new.items ≡ proof.old.items ++ map (λ i. slice_index_or level.now i []) positions.now) }
+{
+    for position in positions {
+        proof.push(level[*position])?;
+    }
+    Ok(())
+}

@@ -1,0 +1,11 @@
+//! Merkle trees over the rows of several matrices, with SHA-256 (FIPS 180-4).
+#![tactic(auto)]
+
+mod error;
+mod hashing;
+mod kept;
+mod positions;
+mod root;
+mod shape;
+mod tree;
+mod verify;

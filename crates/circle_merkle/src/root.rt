@@ -1,0 +1,237 @@
+//! The root of a tree of which some rows are opened.
+ghost use Rattle.std.specs.Prelude.{◌≡◌, ℕ, ◌+◌, ◌*◌, ◌/◌, ◌^◌, ◌<◌, ◌≤◌, ◌==◌, ◌++◌, List, [], ◌∷◌, length, map, drop, take, All, IfOk, vec_len, slice_index_or, MatchOption};
+ghost use Rattle.std.specs.List.{list_any};
+ghost use Rattle.sha2.specs.Hashers.{Holds256};
+ghost use Rattle.sha2.specs.Sha256.{sha256};
+ghost use Rattle.circle_commit.specs.Mmcs.{greatest, heights, opened_rows};
+ghost use Rattle.circle_merkle.specs.Tree.{rows_digest as rows_digest_of, node_digest as node_digest_of, with_rows, known, taken_below};
+ghost use Rattle.circle_merkle.specs.Rows.{bytes_of_height};
+ghost use Rattle.circle_merkle.specs.Walk.{siblings_of, IsFirstBelow, NoneStandsBelow};
+
+use crate::hashing::{Hash, absorb_row, joined_digest, node_digest};
+use crate::positions::{distinct, sibling};
+use circle_commit::Dimensions;
+use circle_field::ElementBytes;
+use sha2::{Digest, Sha256};
+use std::alloc::{AllocError, Global};
+
+/// The digest at a known position of a level.
+#[derive(Clone, Copy)]
+pub struct Node {
+    /// The position on its level.
+    pub position: usize,
+    /// The digest there.
+    pub digest: Hash,
+}
+
+/// Rows at indices, one for each of several matrices.
+#[derive(Drop)]
+pub struct Opening<'a, T> {
+    /// The shapes of the matrices.
+    pub dimensions: &'a [Dimensions],
+    /// The indices, below the greatest height.
+    pub indices: &'a [usize],
+    /// The rows: for each index, for each matrix.
+    pub opened: &'a [Vec<Vec<T>>],
+    /// The greatest height.
+    pub top: usize,
+    ghost greatest_height: { top ≡ greatest (heights dimensions.now) },
+    ghost one_each: { length opened.now ≡ length indices.now },
+    ghost whole: { All (λ rows. vec_len rows ≡ length dimensions.now) opened.now },
+}
+
+// Adds the bytes of those of the rows whose matrices have this height to the message.
+fn absorb_opened<T: ElementBytes>(
+    hasher: &mut Sha256,
+    dimensions: &[Dimensions],
+    rows: &[Vec<T>],
+    height: usize,
+)
+    requires { length rows.now ≡ length dimensions.now }
+    ensures { (m : List ℕ) → Holds256 hasher.old m
+        → Holds256 hasher.new (m ++ bytes_of_height T.bytes dimensions.now height (map (λ row. row.items) rows.now)) }
+{
+    for j in 0..dimensions.len() {
+        if dimensions[j].height == height {
+            absorb_row(hasher, &rows[j]);
+        }
+    }
+}
+
+// The place of the first of the indices that stands below this position of a level.
+fn first_below(indices: &[usize], level: usize, place: usize) -> Option<usize>
+    requires { level < 64 }
+    ensures { MatchOption result (NoneStandsBelow indices.now level place) (λ k. IsFirstBelow indices.now level place k) }
+{
+    for (k, index) in indices.iter().enumerate() {
+        if *index >> level == place {
+            return Some(k);
+        }
+    }
+    None
+}
+
+// Whether some matrix has this height.
+fn some_has_height(dimensions: &[Dimensions], height: usize) -> bool
+    ensures { result ≡ list_any (λ dim. dim.height == height) dimensions.now }
+{
+    dimensions.iter().any(|dim| dim.height == height)
+}
+
+impl<T: ElementBytes> Opening<'_, T> {
+    ghost use Rattle.circle_merkle.specs.Opening.{rows_in, parent_in, lowest_node};
+    ghost use Rattle.circle_commit.specs.Matrix.{IsPowerOfTwo};
+    ghost use Rattle.circle_merkle.specs.Authentication.{opened_root};
+    ghost use Rattle.circle_merkle.specs.Climb.{climbed, positions_of, lone, joined};
+
+    // The digest of the rows at a position of a level.
+    fn rows_digest(&self, level: usize, position: usize) -> Hash
+        requires { level < 64 }
+        ensures { result ≡ rows_digest_of sha256 ((rows_in T.bytes self.now).bytes level position) }
+    {
+        let mut hasher = Sha256::new();
+        hasher.update([0u8].as_slice());
+        match first_below(self.indices, level, position) {
+            Some(k) => {
+                let rows = &self.opened[k];
+                absorb_opened(&mut hasher, self.dimensions, rows, self.top >> level);
+            }
+            None => {}
+        }
+        hasher.finalize()
+    }
+
+    // The digest of the node over `left` and `right`, at a position of a level.
+    fn parent(&self, level: usize, position: usize, left: &Hash, right: &Hash) -> Hash
+        requires { level < 64 }
+        ensures { result ≡ parent_in T.bytes self.now level position left.now right.now }
+    {
+        let node = node_digest(left, right);
+        let height = self.top >> level;
+        if some_has_height(self.dimensions, height) {
+            joined_digest(&node, &self.rows_digest(level, position))
+        } else {
+            node
+        }
+    }
+
+    // The node over a pair.
+    fn joined(&self, level: usize, left: &Node, right: &Node) -> Node
+        requires { level < 64 }
+        ensures { result ≡ joined (parent_in T.bytes self.now level) left.now right.now }
+    {
+        let position = left.position / 2;
+        Node {
+            position,
+            digest: self.parent(level, position, &left.digest, &right.digest),
+        }
+    }
+
+    // The node over one whose sibling has the given digest.
+    fn lone(&self, level: usize, node: &Node, given: &Hash) -> Node
+        requires { level < 64 }
+        ensures { result ≡ lone (parent_in T.bytes self.now level) node.now given.now }
+    {
+        let position = node.position / 2;
+        let digest = if node.position % 2 == 0 {
+            self.parent(level, position, &node.digest, given)
+        } else {
+            self.parent(level, position, given, &node.digest)
+        };
+        Node { position, digest }
+    }
+
+    // The node over the first of some, the others that it doesn't stand over, and the given digests
+    // that it leaves.
+    fn first_parent<'n, 'g>(
+        &self,
+        level: usize,
+        node: &Node,
+        others: &'n [Node],
+        given: &'g [Hash],
+    ) -> (Node, &'n [Node], &'g [Hash])
+        requires small { level < 64 }
+        requires enough { length (siblings_of (positions_of (node.now ∷ others.now))) ≤ length given.now }
+        ensures shorter { length result.1.now ≤ length others.entry.now }
+        ensures enough { length (siblings_of (positions_of result.1.now)) ≤ length result.2.now }
+        ensures parents { climbed (parent_in T.bytes self.now level) (node.now ∷ others.entry.now) given.entry.now
+            ≡ result.0 ∷ climbed (parent_in T.bytes self.now level) result.1.now result.2.now }
+        ensures left { drop (length (siblings_of (positions_of (node.now ∷ others.entry.now)))) given.entry.now
+            ≡ drop (length (siblings_of (positions_of result.1.now))) result.2.now }
+    {
+        match others.split_first() {
+            Some((next, after)) if next.position == sibling(node.position) => {
+                (self.joined(level, node, next), after, given)
+            }
+            _ => match given.split_first() {
+                Some((digest, left)) => (self.lone(level, node, digest), others, left),
+                None => unreachable!(),
+            },
+        }
+    }
+
+    // The nodes of a level over those of the one below, and the given digests that it leaves.
+    fn climb<'g>(
+        &self,
+        alloc: Global,
+        level: usize,
+        nodes: &[Node],
+        given: &'g [Hash],
+    ) -> Result<(Vec<Node>, &'g [Hash]), AllocError>
+        requires small { level < 64 }
+        requires enough { length (siblings_of (positions_of nodes.now)) ≤ length given.now }
+        ensures parents { IfOk result (λ r. r.0.items ≡ climbed (parent_in T.bytes self.now level) nodes.now given.entry.now) }
+        ensures rest { IfOk result (λ r. r.1.now ≡ drop (length (siblings_of (positions_of nodes.now))) given.entry.now) }
+    {
+        let mut parents = Vec::with_capacity(alloc, nodes.len())?;
+        let mut rest = nodes;
+        let mut given = given;
+        while let Some((node, others)) = rest.split_first() {
+            let (parent, after, left) = self.first_parent(level, node, others, given);
+            parents.push(parent)?;
+            rest = after;
+            given = left;
+        }
+        Ok((parents, given))
+    }
+
+    // The nodes of the lowest level at the indices.
+    fn lowest(&self, alloc: Global) -> Result<Vec<Node>, AllocError>
+        ensures { IfOk result (λ nodes. (levels : ℕ) → All (λ i. i < 2 ^ levels) self.now.indices.now
+            → nodes.items ≡ map (lowest_node T.bytes self.now) (known self.now.indices.now levels 0)) }
+    {
+        let positions = distinct(alloc, self.indices)?;
+        let mut nodes = Vec::with_capacity(alloc, positions.len())?;
+        for position in &positions {
+            let digest = self.rows_digest(0, *position);
+            nodes.push(Node {
+                position: *position,
+                digest,
+            })?;
+        }
+        Ok(nodes)
+    }
+
+    /// The root of the tree over the rows, with these digests for the positions that aren't known.
+    ///
+    /// Asks at least one index, each below the greatest height, which is a power of two, and as many
+    /// digests as are missing. Fails where memory is refused.
+    pub fn root(&self, alloc: Global, proof: &[Hash]) -> Result<Hash, AllocError>
+        requires some { 1 ≤ length self.now.indices.now }
+        requires in_range { All (λ i. i < self.now.top) self.now.indices.now }
+        requires power { IsPowerOfTwo self.now.top }
+        requires count { (levels : ℕ) → self.now.top ≡ 2 ^ levels → length proof.now ≡ taken_below self.now.indices.now levels levels }
+        ensures { IfOk result (λ root. (levels : ℕ) → self.now.top ≡ 2 ^ levels
+            → root ≡ opened_root sha256 T.bytes self.now.dimensions.now self.now.indices.now (opened_rows self.now.opened.now) proof.now levels) }
+    {
+        let count = self.top.ilog2() as usize;
+        let mut nodes = self.lowest(alloc)?;
+        let mut given = proof;
+        for level in 0..count {
+            let (parents, left) = self.climb(alloc, level + 1, &nodes, given)?;
+            nodes = parents;
+            given = left;
+        }
+        Ok(nodes[0].digest)
+    }
+}

@@ -1,0 +1,177 @@
+//! Whether opened rows have the form of rows of a commitment.
+ghost use Rattle.std.specs.Prelude.{◌≡◌, ℕ, ◌+◌, ◌*◌, ◌/◌, ◌^◌, ◌<◌, ◌≤◌, ◌==◌, ◌↔◌, List, length, map, All, IsTrue, slice_index, slice_index_or, vec_len};
+ghost use Rattle.circle_commit.specs.Matrix.{IsPowerOfTwo};
+ghost use Rattle.circle_commit.specs.Mmcs.{greatest, heights, opened_rows, row_at};
+ghost use Rattle.circle_merkle.specs.Authentication.{HasShape, HasIndices, Agrees};
+ghost use Rattle.circle_merkle.specs.Shape.{RowsAgree, AgreesAt};
+
+use circle_commit::Dimensions;
+use circle_field::ElementBytes;
+use std::convert::AsSlice;
+
+/// The greatest of the heights, 0 where there are no shapes.
+pub fn greatest_height(dimensions: &[Dimensions]) -> usize
+    ensures { result ≡ greatest (heights dimensions.now) }
+{
+    let mut top = 0;
+    for dim in dimensions {
+        top = dim.height.max(top);
+    }
+    top
+}
+
+// Whether there is an `m` with `n = 2^m`.
+fn is_power_of_two(n: usize) -> bool
+    ensures { IsTrue result ↔ IsPowerOfTwo n }
+{
+    n > 0 && n == 1 << n.ilog2()
+}
+
+// Whether every height is a power of two.
+fn are_powers_of_two(dimensions: &[Dimensions]) -> bool
+    ensures { IsTrue result ↔ All (λ dim. IsPowerOfTwo dim.height) dimensions.now }
+{
+    for dim in dimensions {
+        if !is_power_of_two(dim.height) {
+            return false;
+        }
+    }
+    true
+}
+
+// Whether there is one row for each shape, of its width.
+fn fit<T>(dimensions: &[Dimensions], rows: &[Vec<T>]) -> bool
+    ensures { IsTrue result ↔ (map length (map (λ row. row.items) rows.now) ≡ map (λ dim. dim.width) dimensions.now) }
+{
+    if rows.len() != dimensions.len() {
+        return false;
+    }
+    for j in 0..dimensions.len() {
+        if rows[j].len() != dimensions[j].width {
+            return false;
+        }
+    }
+    true
+}
+
+/// Whether there are shapes, their heights are powers of two, and each list of rows has one row for
+/// each of them, of its width.
+pub fn has_shape<T>(dimensions: &[Dimensions], opened: &[Vec<Vec<T>>]) -> bool
+    ensures { IsTrue result ↔ HasShape dimensions.now (opened_rows opened.now) }
+{
+    if dimensions.is_empty() || !are_powers_of_two(dimensions) {
+        return false;
+    }
+    for rows in opened {
+        if !fit(dimensions, rows) {
+            return false;
+        }
+    }
+    true
+}
+
+/// Whether there are indices, each below the greatest height and with its rows.
+pub fn has_indices<T>(
+    dimensions: &[Dimensions],
+    indices: &[usize],
+    opened: &[Vec<Vec<T>>],
+    top: usize,
+) -> bool
+    requires { top ≡ greatest (heights dimensions.now) }
+    ensures { IsTrue result ↔ HasIndices dimensions.now indices.now (opened_rows opened.now) }
+{
+    if indices.is_empty() || opened.len() != indices.len() {
+        return false;
+    }
+    for index in indices {
+        if *index >= top {
+            return false;
+        }
+    }
+    true
+}
+
+// Whether two rows have the same entries.
+fn same_row<T: ElementBytes>(row: &[T], other: &[T]) -> bool
+    ensures { IsTrue result ↔ (row.now ≡ other.now) }
+{
+    if row.len() != other.len() {
+        return false;
+    }
+    for k in 0..row.len() {
+        if !same_entry(&row[k], &other[k]) {
+            return false;
+        }
+    }
+    true
+}
+
+// Whether two entries are the same.
+fn same_entry<T: ElementBytes>(entry: &T, other: &T) -> bool
+    ensures { IsTrue result ↔ (entry.now ≡ other.now) }
+{
+    entry.to_bytes().as_slice() == other.to_bytes().as_slice()
+}
+
+// Whether the rows of matrix `j` at index `k` and at those before it agree.
+fn agrees_before<T: ElementBytes>(
+    indices: &[usize],
+    opened: &[Vec<Vec<T>>],
+    j: usize,
+    divisor: usize,
+    k: usize,
+) -> bool
+    requires divisor { 1 ≤ divisor }
+    requires one_each { length opened.now ≡ length indices.now }
+    requires whole { All (λ rows. j < vec_len rows) opened.now }
+    requires within { k < length indices.now }
+    ensures { IsTrue result ↔ ((l : ℕ) → l < k → RowsAgree indices.now (opened_rows opened.now) divisor j k l) }
+{
+    let row = &opened[k][j];
+    for l in 0..k {
+        if indices[l] / divisor == indices[k] / divisor && !same_row(row, &opened[l][j]) {
+            return false;
+        }
+    }
+    true
+}
+
+// Whether the rows of matrix `j` agree at all indices.
+fn column_agrees<T: ElementBytes>(
+    indices: &[usize],
+    opened: &[Vec<Vec<T>>],
+    j: usize,
+    divisor: usize,
+) -> bool
+    requires divisor { 1 ≤ divisor }
+    requires one_each { length opened.now ≡ length indices.now }
+    requires whole { All (λ rows. j < vec_len rows) opened.now }
+    ensures { IsTrue result ↔ AgreesAt indices.now (opened_rows opened.now) divisor j (length indices.now) }
+{
+    for k in 0..indices.len() {
+        if !agrees_before(indices, opened, j, divisor, k) {
+            return false;
+        }
+    }
+    true
+}
+
+/// Whether the rows of one matrix at one position are equal.
+pub fn agrees<T: ElementBytes>(
+    dimensions: &[Dimensions],
+    indices: &[usize],
+    opened: &[Vec<Vec<T>>],
+    top: usize,
+) -> bool
+    requires greatest { top ≡ greatest (heights dimensions.now) }
+    requires shape { HasShape dimensions.now (opened_rows opened.now) }
+    requires one_each { length opened.now ≡ length indices.now }
+    ensures { IsTrue result ↔ Agrees dimensions.now indices.now (opened_rows opened.now) }
+{
+    for j in 0..dimensions.len() {
+        if !column_agrees(indices, opened, j, top / dimensions[j].height) {
+            return false;
+        }
+    }
+    true
+}

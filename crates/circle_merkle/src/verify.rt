@@ -1,0 +1,84 @@
+//! Whether opened rows are those of a commitment.
+ghost use Rattle.std.specs.Prelude.{◌≡◌, ℕ, ◌+◌, ◌^◌, ◌<◌, ◌≤◌, ◌↔◌, length, All, IsTrue, IfOk, IfErr, OnOk};
+ghost use Rattle.sha2.specs.Sha256.{sha256};
+ghost use Rattle.circle_commit.specs.Mmcs.{opened_rows};
+ghost use Rattle.circle_merkle.specs.Tree.{known, taken_below};
+ghost use Rattle.circle_merkle.specs.Authentication.{Authenticates};
+ghost use Rattle.circle_merkle.specs.Verdict.{IsRight};
+
+use crate::error::MerkleTreeError;
+use crate::hashing::Hash;
+use crate::positions::{climb, distinct};
+use crate::root::Opening;
+use crate::shape::{agrees, greatest_height, has_indices, has_shape};
+use circle_commit::Dimensions;
+use circle_field::ElementBytes;
+use std::alloc::{AllocError, Global};
+
+// Whether a proof for these indices has so many digests, under so many levels above the lowest.
+fn has_count(
+    alloc: Global,
+    indices: &[usize],
+    levels: usize,
+    count: usize,
+) -> Result<bool, AllocError>
+    requires { All (λ i. i < 2 ^ levels) indices.now }
+    ensures { IfOk result (λ b. IsTrue b ↔ (count ≡ taken_below indices.now levels levels)) }
+{
+    let mut known = distinct(alloc, indices)?;
+    let mut left = count;
+    for _level in 0..levels {
+        let step = climb(alloc, &known)?;
+        if step.siblings.len() > left {
+            return Ok(false);
+        }
+        left -= step.siblings.len();
+        known = step.parents;
+    }
+    Ok(left == 0)
+}
+
+// Whether two digests are the same.
+fn same_digest(digest: &Hash, other: &Hash) -> bool
+    ensures { IsTrue result ↔ (digest.now ≡ other.now) }
+{
+    digest.as_slice() == other.as_slice()
+}
+
+/// Whether the rows at the indices are those that the root was made of.
+pub fn verify<T: ElementBytes>(
+    alloc: Global,
+    commitment: &Hash,
+    dimensions: &[Dimensions],
+    indices: &[usize],
+    opened: &[Vec<Vec<T>>],
+    proof: &[Hash],
+) -> Result<(), MerkleTreeError>
+    ensures accepted { OnOk result (Authenticates sha256 T.bytes commitment.now dimensions.now indices.now (opened_rows opened.now) proof.now) }
+    ensures refused { IfErr result (IsRight sha256 T.bytes commitment.now dimensions.now indices.now (opened_rows opened.now) proof.now) }
+{
+    if !has_shape(dimensions, opened) {
+        return Err(MerkleTreeError::WrongWidth);
+    }
+    let top = greatest_height(dimensions);
+    if !has_indices(dimensions, indices, opened, top) {
+        return Err(MerkleTreeError::WrongIndex);
+    }
+    if !agrees(dimensions, indices, opened, top) {
+        return Err(MerkleTreeError::DisagreeingRows);
+    }
+    if !has_count(alloc, indices, top.ilog2() as usize, proof.len())? {
+        return Err(MerkleTreeError::WrongProofLength);
+    }
+    let opening = Opening {
+        dimensions,
+        indices,
+        opened,
+        top,
+    };
+    let root = opening.root(alloc, proof)?;
+    if !same_digest(&root, commitment) {
+        return Err(MerkleTreeError::RootMismatch);
+    }
+    Ok(())
+}
