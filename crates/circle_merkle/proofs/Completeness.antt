@@ -69,7 +69,7 @@ module _ {T : Type 0} where
   rows-agree top x y (suc j) (m ∷ matrices) h e = rows-agree top x y j matrices (omega arith) e
 
   -- no height is above the greatest
-  heights-bounded : (matrices : List (RowMajorMatrix T)) → All (λ m. height_of m ≤ max_height matrices) matrices
+  pub heights-bounded : (matrices : List (RowMajorMatrix T)) → All (λ m. height_of m ≤ max_height matrices) matrices
   heights-bounded [] = All-nil (λ m. height_of m ≤ 0)
   heights-bounded (m ∷ matrices) =
       All-cons (λ n. height_of n ≤ max_height (m ∷ matrices)) m matrices (omega arith)

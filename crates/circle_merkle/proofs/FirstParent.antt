@@ -1,5 +1,5 @@
 -- The first of the nodes one level up.
-use Rattle.std.specs.Prelude.{◌≡◌, ◌≢◌, ℕ, ◌==◌, List, [], ◌∷◌, drop, slice_index_or, if◌then◌else◌}
+use Rattle.std.specs.Prelude.{◌≡◌, ◌≢◌, ℕ, List, [], ◌∷◌, drop, slice_index_or, if◌then◌else◌}
 use Rattle.std.proofs.Common.{refl, ap, sym, subst, length, arith}
 use Rattle.std.proofs.lemmas.Bool.{eq-eqb, ne_eqb}
 use Rattle.circle_merkle.specs.declared.root.Node.{Node}

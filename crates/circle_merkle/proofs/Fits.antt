@@ -1,5 +1,5 @@
 -- Rows of the widths of shapes, and the greatest height.
-use Rattle.std.specs.Prelude.{◌≡◌, ◌≢◌, ℕ, ◌+◌, ◌*◌, ◌/◌, ◌<◌, ◌≤◌, List, [], ◌∷◌, ◌++◌, length, map, max, take, All, Vec, vec_len, slice_index_or}
+use Rattle.std.specs.Prelude.{◌≡◌, ℕ, ◌+◌, ◌*◌, ◌/◌, ◌<◌, ◌≤◌, List, [], ◌∷◌, ◌++◌, length, map, max, take, All, Vec, vec_len}
 use Rattle.std.specs.declared.alloc.Global.{Global}
 use Rattle.std.proofs.Common.{zero, suc, refl, sym, ap, ◌∙◌, arith, get_or, ⊎_elim}
 use Rattle.std.proofs.Math.Nat.{lt-div-mul-add}
@@ -11,7 +11,7 @@ use Rattle.circle_commit.specs.declared.matrix.Dimensions.{Dimensions}
 use Rattle.circle_commit.specs.Mmcs.{greatest, heights, opened_rows}
 use Rattle.circle_merkle.specs.Authentication.{HasShape}
 
-greatest-append : (ns : List ℕ) (n : ℕ) → greatest (ns ++ n ∷ []) ≡ max n (greatest ns)
+pub greatest-append : (ns : List ℕ) (n : ℕ) → greatest (ns ++ n ∷ []) ≡ max n (greatest ns)
 greatest-append [] n = refl
 greatest-append (m ∷ ns) n = ap (max m) (greatest-append ns n) ∙ omega arith
 

@@ -1,5 +1,5 @@
 -- The levels that are kept of a tree.
-use Rattle.std.specs.Prelude.{◌≡◌, ℕ, ◌+◌, ◌-◌, ◌^◌, ◌<◌, ◌≤◌, List, [], ◌++◌, length, map, All, Vec}
+use Rattle.std.specs.Prelude.{◌≡◌, ℕ, ◌+◌, ◌-◌, ◌^◌, ◌<◌, ◌≤◌, List, [], ◌++◌, length, map, All, Vec, ◌∷◌}
 use Rattle.std.specs.List.{range_with_len}
 use Rattle.std.specs.declared.alloc.Global.{Global}
 use Rattle.std.proofs.Common.{suc, sym, ap, ◌∙◌, arith, get_or}
@@ -9,7 +9,7 @@ use Rattle.circle_commit.specs.declared.matrix.RowMajorMatrix.{RowMajorMatrix}
 use Rattle.circle_merkle.specs.Tree.{digest, is_taken, taken, proof_of}
 use Rattle.circle_merkle.specs.Rows.{matrix_rows}
 use Rattle.circle_merkle.specs.Authentication.{tree_levels}
-use Rattle.circle_merkle.proofs.Maps.{items-at, map-same, range-within}
+use Rattle.circle_merkle.proofs.Maps.{items-at, items-count, map-same, range-within}
 use Rattle.circle_merkle.proofs.Honest.{proof-more}
 
 module _ (hash : List ℕ → List ℕ) {T : Type 0} (bytes : T → List ℕ) (matrices : List (RowMajorMatrix T)) (count : ℕ)
@@ -19,6 +19,15 @@ module _ (hash : List ℕ → List ℕ) {T : Type 0} (bytes : T → List ℕ) (m
 
   pub kept-level : (level : ℕ) (v : Vec (List ℕ) Global) → level ≤ count → v ≡ get_or levels level v → v.items ≡ map (at level) (range_with_len 0 (2 ^ (count - level)))
   kept-level level v h e = items-at (λ level. map (at level) (range_with_len 0 (2 ^ (count - level)))) (count + 1) level levels v tree (omega arith) e
+
+  pub kept-length : length levels ≡ count + 1
+  kept-length = items-count (λ level. map (at level) (range_with_len 0 (2 ^ (count - level)))) (count + 1) levels tree
+
+  -- the topmost level has the root alone
+  pub kept-root : (v : Vec (List ℕ) Global) → v ≡ get_or levels count v → v.items ≡ at count 0 ∷ []
+  kept-root v e =
+      let one : 2 ^ (count - count) ≡ 1 = (let z : count - count ≡ 0 = omega arith in ap (λ k. 2 ^ k) z) in
+      kept-level count v (omega arith) e ∙ ap (λ n. map (at count) (range_with_len 0 n)) one
 
   module _ (indices : List ℕ) (level : ℕ) (h : level < count) (v : Vec (List ℕ) Global) (e : v ≡ get_or levels level v) where
     pub kept-count : length v.items ≡ 2 ^ (count - level)

@@ -1,23 +1,21 @@
 -- The nodes at the known positions, level by level.
-use Rattle.std.specs.Prelude.{◌≡◌, ℕ, ◌+◌, ◌-◌, ◌*◌, ◌^◌, ◌<◌, ◌≤◌, List, [], ◌∷◌, ◌++◌, length, map, filter, drop, All, slice_index_or, if◌then◌else◌}
+use Rattle.std.specs.Prelude.{◌≡◌, ℕ, ◌+◌, ◌-◌, ◌*◌, ◌^◌, ◌<◌, ◌≤◌, List, [], ◌∷◌, ◌++◌, length, map, filter, drop, All, if◌then◌else◌}
 use Rattle.std.specs.List.{range_with_len}
-use Rattle.std.proofs.Common.{zero, suc, refl, sym, ap, ◌∙◌, arith}
+use Rattle.std.proofs.Common.{suc, refl, sym, ap, ◌∙◌, arith}
 use Rattle.std.proofs.lemmas.List.{drop-drop}
 use Rattle.std.proofs.lemmas.List.Elements.{filter_agree}
 use Rattle.sha2.specs.Sha256.{sha256}
-use Rattle.circle_commit.specs.Mmcs.{opened_rows}
 use Rattle.circle_merkle.specs.declared.root.Node.{Node}
 use Rattle.circle_merkle.specs.declared.root.Opening.{Opening}
 use Rattle.circle_merkle.specs.Tree.{computed, is_known, known, is_taken, taken, taken_below, given}
 use Rattle.circle_merkle.specs.Walk.{siblings_of}
 use Rattle.circle_merkle.specs.Climb.{climbed, positions_of}
 use Rattle.circle_merkle.specs.Opening.{rows_in, parent_in, level_nodes}
-use Rattle.circle_merkle.specs.Authentication.{opened_root}
 use Rattle.circle_merkle.proofs.Powers.{halves}
-use Rattle.circle_merkle.proofs.Pairs.{above, missing}
+use Rattle.circle_merkle.proofs.Pairs.{above}
 use Rattle.circle_merkle.proofs.Known.{is_known-above, siblings-known, known-root}
 use Rattle.circle_merkle.proofs.Given.{given-fits, given-level}
-use Rattle.circle_merkle.proofs.Climbing.{parent_node, climbed-pairs}
+use Rattle.circle_merkle.proofs.Climbing.{climbed-pairs}
 
 positions-map : (f : ℕ → List ℕ) (ps : List ℕ) → positions_of (map (λ p. record { position = p; digest = f p }) ps) ≡ ps
 positions-map f [] = refl

@@ -14,3 +14,5 @@ pub mod OpenedBytes
 pub mod FirstParent
 pub mod LevelNodes
 pub mod Fits
+pub mod Heights
+pub mod Refusals

@@ -1,6 +1,10 @@
 -- What the kept tree is to contracts: its matrices, and the number of levels above the lowest.
-use Rattle.std.specs.Prelude.{ℕ, ◌-◌, List, vec_len}
+use Rattle.std.specs.Prelude.{ℕ, ◌-◌, ◌≤◌, List, length, All, slice_index_or, vec_len}
+use Rattle.std.proofs.Common.{arith}
+use Rattle.circle_commit.specs.Matrix.{IsPowerOfTwo}
+use Rattle.circle_commit.specs.RowMajorMatrix.{height_of}
 use Rattle.circle_commit.specs.declared.matrix.RowMajorMatrix.{RowMajorMatrix}
+use Rattle.circle_merkle.specs.PowerTest.{power_of}
 use Rattle.circle_merkle.specs.declared.kept.ShaProverData.{ShaProverData}
 
 module _ {T B : Type 0} {g h : _} where
@@ -9,3 +13,9 @@ module _ {T B : Type 0} {g h : _} where
 
   abbrev pub level_count : ShaProverData T B g h → ℕ
   level_count d = vec_len d.levels - 1
+
+  pub some_matrix : (d : ShaProverData T B g h) → 1 ≤ length (matrices_of d)
+  some_matrix d = omega (arith, d.some_matrix, d.matrices.ok.0)
+
+  pub powers_of_two : (d : ShaProverData T B g h) → All (λ m. IsPowerOfTwo (height_of m)) (matrices_of d)
+  powers_of_two d = λ k e lt. power_of (height_of (slice_index_or (matrices_of d) k e)) (d.powers_of_two k e lt)

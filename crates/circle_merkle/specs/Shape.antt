@@ -1,5 +1,5 @@
 -- Rows of one matrix at one position.
-use Rattle.std.specs.Prelude.{◌≡◌, ℕ, ◌<◌, ◌/◌, List, [], length, slice_index, slice_index_or}
+use Rattle.std.specs.Prelude.{◌≡◌, ℕ, ◌<◌, ◌/◌, List, [], slice_index, slice_index_or}
 
 module _ {T : Type 0} (indices : List ℕ) (opened : List (List (List T))) where
   -- the row of matrix j at the k-th index

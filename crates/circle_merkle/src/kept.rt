@@ -10,7 +10,8 @@ ghost use Rattle.circle_merkle.specs.Tree.{digest, proof_of};
 
 use crate::hashing::Hash;
 use crate::positions::{climb, distinct};
-use circle_commit::RowMajorMatrix;
+use crate::tree::levels_of;
+use circle_commit::{Matrix, RowMajorMatrix};
 use circle_field::ElementBytes;
 use std::alloc::{AllocError, Global};
 
@@ -28,6 +29,23 @@ pub struct ShaProverData<T: ElementBytes> {
 
 impl<T: ElementBytes> ShaProverData<T> {
     ghost use Rattle.circle_merkle.specs.ProverData.{matrices_of, level_count};
+    ghost use Rattle.circle_commit.specs.Matrix.{IsPowerOfTwo};
+    ghost use Rattle.circle_merkle.specs.Authentication.{IsRoot};
+
+    /// The root of the tree over the rows of matrices, and what is kept of it.
+    ///
+    /// Asks at least one matrix, and heights that are powers of two. Fails where memory is refused.
+    pub fn new(alloc: Global, matrices: Vec<RowMajorMatrix<T>>) -> Result<(Hash, Self), AllocError>
+        requires some { 1 ≤ vec_len matrices }
+        requires powers_of_two { All (λ m. IsPowerOfTwo (height_of m)) matrices.items }
+        ensures root { IfOk result (λ r. IsRoot sha256 T.bytes matrices.items r.0) }
+        ensures matrices { IfOk result (λ r. matrices_of r.1 ≡ matrices.items) }
+    {
+        let top = greatest_height(&matrices);
+        let levels = levels_of(alloc, &matrices, top)?;
+        let root = levels[levels.len() - 1][0];
+        Ok((root, ShaProverData { matrices, levels }))
+    }
 
     /// The matrices.
     pub fn matrices(&self) -> &[RowMajorMatrix<T>]
@@ -61,6 +79,17 @@ impl<T: ElementBytes> ShaProverData<T> {
         }
         Ok(proof)
     }
+}
+
+// The greatest height of the matrices, 0 where there are none.
+fn greatest_height<T: ElementBytes>(matrices: &[RowMajorMatrix<T>]) -> usize
+    ensures { result ≡ max_height matrices.now }
+{
+    let mut top = 0;
+    for matrix in matrices {
+        top = matrix.height().max(top);
+    }
+    top
 }
 
 // Appends the digests at these positions of a level.

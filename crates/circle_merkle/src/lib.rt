@@ -4,8 +4,13 @@
 mod error;
 mod hashing;
 mod kept;
+mod mmcs;
 mod positions;
 mod root;
 mod shape;
 mod tree;
 mod verify;
+
+pub use error::MerkleTreeError;
+pub use kept::ShaProverData;
+pub use mmcs::ShaMmcs;

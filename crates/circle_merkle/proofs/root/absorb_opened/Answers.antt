@@ -1,4 +1,4 @@
-use Rattle.std.proofs.Common.{◌≡◌, ◌++◌, ◌+◌, ◌∙◌, ◌<◌, [], refl, sym, ap, subst, take, map, length, List, ℕ, arith, get_or}
+use Rattle.std.proofs.Common.{◌++◌, ◌+◌, ◌∙◌, ◌<◌, [], refl, sym, ap, subst, take, map, length, arith, get_or}
 use Rattle.std.proofs.lemmas.List.{length-map, get_or-map}
 use Rattle.std.specs.List.{flat_map}
 use Rattle.sha2.specs.Hashers.{Holds256}

@@ -1,4 +1,4 @@
-use Rattle.std.proofs.Common.{◌≡◌, refl, subst, All, take, arith}
+use Rattle.std.proofs.Common.{refl, subst, All}
 use Rattle.std.proofs.lemmas.List.{take_all}
 use Rattle.std.proofs.lemmas.List.Elements.{All-more}
 use Rattle.circle_commit.specs.Matrix.{IsPowerOfTwo}

@@ -1,8 +1,7 @@
-use Rattle.std.proofs.Common.{◌≡◌, ◌≢◌, ◌<◌, ◌∙◌, refl, sym, ap, subst, All, take, length, map, arith}
+use Rattle.std.proofs.Common.{◌≢◌, ◌<◌, ◌∙◌, refl, sym, subst, All, length, map, arith}
 use Rattle.std.proofs.lemmas.Bool.{eqb-false}
 use Rattle.std.proofs.lemmas.List.{length-map, take_all}
 use Rattle.std.proofs.lemmas.List.Elements.{All-more}
-use Rattle.circle_commit.specs.Mmcs.{greatest, heights, opened_rows}
 use Rattle.circle_merkle.proofs.shape.has_indices.Goals as goal
 
 pub loop-index-preserved : goal.loop-index-preserved

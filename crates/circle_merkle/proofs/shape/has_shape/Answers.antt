@@ -1,8 +1,7 @@
-use Rattle.std.proofs.Common.{◌≡◌, ◌≢◌, ◌∙◌, refl, sym, ap, subst, All, take, length, map, [], arith}
+use Rattle.std.proofs.Common.{◌≡◌, ◌≢◌, ◌∙◌, refl, sym, ap, subst, All, length, map, [], arith}
 use Rattle.std.proofs.lemmas.Bool.{eqb-false}
 use Rattle.std.proofs.lemmas.List.{length-map, take_all}
 use Rattle.std.proofs.lemmas.List.Elements.{All-more, All-map}
-use Rattle.circle_commit.specs.Mmcs.{opened_rows}
 use Rattle.circle_merkle.proofs.Fits.{rows-at}
 use Rattle.circle_merkle.proofs.shape.has_shape.Goals as goal
 

@@ -1,10 +1,8 @@
-use Rattle.std.proofs.Common.{◌≡◌, ◌<◌, ◌^◌, ◌∙◌, ℕ, refl, sym, ap, subst, length, map, All, arith}
+use Rattle.std.proofs.Common.{◌≡◌, ◌<◌, ◌^◌, ◌∙◌, refl, sym, ap, subst, map, All}
 use Rattle.std.proofs.lemmas.List.{length-map}
-use Rattle.sha2.specs.Sha256.{sha256}
 use Rattle.circle_commit.specs.Matrix.{IsPowerOfTwo}
-use Rattle.circle_commit.specs.Mmcs.{greatest, heights, opened_rows}
+use Rattle.circle_commit.specs.Mmcs.{greatest, heights}
 use Rattle.circle_merkle.specs.Tree.{taken_below}
-use Rattle.circle_merkle.specs.Authentication.{HasShape, HasIndices, Agrees, Authenticates, opened_root}
 use Rattle.circle_merkle.proofs.Powers.{exponent, logarithm}
 use Rattle.circle_merkle.proofs.Fits.{whole-rows, greatest-power}
 use Rattle.circle_merkle.proofs.verify.verify.Goals as goal

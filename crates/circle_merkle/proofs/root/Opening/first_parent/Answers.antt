@@ -1,5 +1,4 @@
-use Rattle.std.proofs.Common.{◌≡◌, ◌∷◌, ◌∙◌, ap, sym, List, length, ℕ}
-use Rattle.circle_merkle.specs.declared.root.Node.{Node}
+use Rattle.std.proofs.Common.{◌∷◌, ◌∙◌, ap, sym}
 use Rattle.circle_merkle.specs.Climb.{climbed}
 use Rattle.circle_merkle.specs.Opening.{parent_in}
 use Rattle.circle_merkle.proofs.FirstParent.{BeginsApart, climbed-joined, climbed-apart, apart-cons, apart-nil}

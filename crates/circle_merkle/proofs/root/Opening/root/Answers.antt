@@ -1,11 +1,10 @@
-use Rattle.std.proofs.Common.{◌≡◌, ◌+◌, ◌^◌, ◌<◌, ◌≤◌, ◌∷◌, ◌∙◌, [], refl, ap, sym, subst, length, drop, vec_len, suc, add-one, arith, All, get_or, List, ℕ}
+use Rattle.std.proofs.Common.{◌≡◌, ◌+◌, ◌^◌, ◌<◌, ◌∙◌, refl, ap, sym, subst, length, drop, add-one, arith, All, get_or}
 use Rattle.sha2.specs.Sha256.{sha256}
 use Rattle.circle_commit.specs.Mmcs.{opened_rows}
-use Rattle.circle_merkle.specs.declared.root.Node.{Node}
-use Rattle.circle_merkle.specs.Tree.{taken_below, computed, is_known, given}
+use Rattle.circle_merkle.specs.Tree.{taken_below}
 use Rattle.circle_merkle.specs.Walk.{siblings_of}
 use Rattle.circle_merkle.specs.Climb.{climbed, positions_of}
-use Rattle.circle_merkle.specs.Opening.{level_nodes, parent_in, rows_in}
+use Rattle.circle_merkle.specs.Opening.{level_nodes, parent_in}
 use Rattle.circle_merkle.specs.Authentication.{opened_root}
 use Rattle.circle_merkle.proofs.Powers.{exponent, logarithm}
 use Rattle.circle_merkle.proofs.LevelNodes.{nodes-fit, nodes-left, nodes-climbed, nodes-root}

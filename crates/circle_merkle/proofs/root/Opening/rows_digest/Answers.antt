@@ -1,4 +1,4 @@
-use Rattle.std.proofs.Common.{◌≡◌, ◌++◌, ◌/◌, ◌^◌, ◌∷◌, ◌∙◌, [], sym, ap, subst, map, length, arith, List, ℕ, get_or}
+use Rattle.std.proofs.Common.{◌≡◌, ◌/◌, ◌^◌, ◌∷◌, ◌∙◌, [], sym, ap, subst, map, arith}
 use Rattle.std.proofs.lemmas.List.{length-map, get_or-map}
 use Rattle.sha2.specs.Hashers.{Holds256}
 use Rattle.circle_commit.specs.Mmcs.{opened_rows}

@@ -1,0 +1,149 @@
+//! The scheme: one root commits to matrices of several heights.
+ghost use Rattle.std.specs.Prelude.{◌≡◌, ℕ, ◌+◌, ◌^◌, ◌<◌, ◌≤◌, List, length, map, All, IfOk, IfErr, OnOk, IsTrue, true, vec_len};
+ghost use Rattle.sha2.specs.Sha256.{sha256};
+ghost use Rattle.circle_commit.specs.Matrix.{IsPowerOfTwo};
+ghost use Rattle.circle_commit.specs.RowMajorMatrix.{height_of};
+ghost use Rattle.circle_commit.specs.Mmcs.{dimensions_of, max_height, rows_at, rows_at_each, opened_rows};
+ghost use Rattle.circle_merkle.specs.Authentication.{Authenticates, IsRoot};
+ghost use Rattle.circle_merkle.specs.Verdict.{IsRight, says_memory};
+
+use crate::error::MerkleTreeError;
+use crate::hashing::Hash;
+use crate::kept::ShaProverData;
+use crate::verify::verify;
+use circle_commit::{Dimensions, Matrix, Mmcs, OpenedRows, RowMajorMatrix};
+use circle_field::ElementBytes;
+use std::alloc::{AllocError, Global};
+use std::marker::PhantomData;
+
+/// The Merkle tree scheme over matrices with SHA-256 (FIPS 180-4).
+///
+/// The digest of rows is that of a byte 0 and the bytes of the rows' entries; of a node, that of a
+/// byte 1 and the two digests below it; where rows of lower matrices stand at the node's position,
+/// that of a byte 2, the node's digest and that of the rows.
+#[derive(Clone, Copy, Debug)]
+pub struct ShaMmcs<T> {
+    entries: PhantomData<T>,
+}
+
+impl<T> ShaMmcs<T> {
+    /// The scheme for entries of this type.
+    pub fn new() -> Self {
+        ShaMmcs {
+            entries: PhantomData,
+        }
+    }
+}
+
+// The rows of the matrices at an index, one for each.
+fn rows_of<T: ElementBytes>(
+    alloc: Global,
+    matrices: &[RowMajorMatrix<T>],
+    top: usize,
+    index: usize,
+) -> Result<Vec<Vec<T>>, AllocError>
+    requires greatest { top ≡ max_height matrices.now }
+    requires powers_of_two { All (λ m. IsPowerOfTwo (height_of m)) matrices.now }
+    requires in_range { index < top }
+    ensures { IfOk result (λ rows. map (λ row. row.items) rows.items ≡ rows_at matrices.now index) }
+{
+    let mut rows = Vec::with_capacity(alloc, matrices.len())?;
+    for matrix in matrices {
+        let row = matrix.row(index / (top / matrix.height()));
+        rows.push(Vec::from_slice(alloc, row)?)?;
+    }
+    Ok(rows)
+}
+
+impl<T: ElementBytes> Mmcs<T> for ShaMmcs<T> {
+    ghost use Rattle.circle_merkle.specs.ProverData.{matrices_of, some_matrix, powers_of_two};
+
+    type Commitment = [u8; 32];
+
+    type ProverData = ShaProverData<T>;
+
+    type MultiProof = Vec<[u8; 32]>;
+
+    type Error = MerkleTreeError;
+
+    ghost matrices = { matrices_of };
+
+    ghost commits = { λ s matrices commitment. IsRoot sha256 T.bytes matrices commitment };
+
+    ghost authenticates = { λ s commitment dims indices opened proof. Authenticates sha256 T.bytes commitment dims indices opened proof.items };
+
+    ghost is_memory = { says_memory };
+
+    ghost some_matrix = { some_matrix };
+
+    ghost powers_of_two = { powers_of_two };
+
+    fn commit(
+        &self,
+        alloc: Global,
+        inputs: Vec<RowMajorMatrix<T>>,
+    ) -> Result<(Hash, ShaProverData<T>), AllocError>
+        requires some { 1 ≤ vec_len inputs }
+        requires powers_of_two { All (λ m. IsPowerOfTwo (height_of m)) inputs.items }
+        ensures commitment { IfOk result (λ r. IsRoot sha256 T.bytes inputs.items r.0) }
+        ensures data { IfOk result (λ r. matrices_of r.1 ≡ inputs.items) }
+    {
+        ShaProverData::new(alloc, inputs)
+    }
+
+    fn get_matrices<'a>(&self, prover_data: &'a ShaProverData<T>) -> &'a [RowMajorMatrix<T>]
+        ensures { result.now ≡ matrices_of prover_data.now }
+    {
+        prover_data.matrices()
+    }
+
+    fn get_max_height(&self, prover_data: &ShaProverData<T>) -> usize
+        ensures { result ≡ max_height (matrices_of prover_data.now) }
+    {
+        prover_data.max_height()
+    }
+
+    fn open_multi_batch(
+        &self,
+        alloc: Global,
+        indices: &[usize],
+        prover_data: &ShaProverData<T>,
+    ) -> Result<(OpenedRows<T>, Vec<Hash>), AllocError>
+        requires some { 1 ≤ length indices.now }
+        requires in_range { All (λ i. i < max_height (matrices_of prover_data.now)) indices.now }
+        ensures rows { IfOk result (λ r. opened_rows r.0.items ≡ rows_at_each (matrices_of prover_data.now) indices.now) }
+        ensures proof { IfOk result (λ r. (commitment : List ℕ) → IsRoot sha256 T.bytes (matrices_of prover_data.now) commitment
+            → Authenticates sha256 T.bytes commitment (dimensions_of (matrices_of prover_data.now)) indices.now (opened_rows r.0.items) r.1.items) }
+    {
+        let top = prover_data.max_height();
+        let mut opened = Vec::with_capacity(alloc, indices.len())?;
+        for index in indices {
+            opened.push(rows_of(alloc, prover_data.matrices(), top, *index)?)?;
+        }
+        Ok((opened, prover_data.siblings(alloc, indices)?))
+    }
+
+    fn verify_multi_batch(
+        &self,
+        alloc: Global,
+        commitment: &Hash,
+        dimensions: &[Dimensions],
+        indices: &[usize],
+        opened_values: &[Vec<Vec<T>>],
+        proof: &Vec<Hash>,
+    ) -> Result<(), MerkleTreeError>
+        ensures accepted { OnOk result (Authenticates sha256 T.bytes commitment.now dimensions.now indices.now (opened_rows opened_values.now) proof.now.items) }
+        // Each refusal comes exactly where its condition is the first that holds.
+        ensures right { IfErr result (IsRight sha256 T.bytes commitment.now dimensions.now indices.now (opened_rows opened_values.now) proof.now.items) }
+        ensures refused { IfErr result (λ e. Authenticates sha256 T.bytes commitment.now dimensions.now indices.now (opened_rows opened_values.now) proof.now.items
+            → IsTrue (says_memory e)) }
+    {
+        verify(alloc, commitment, dimensions, indices, opened_values, proof)
+    }
+
+    fn is_memory(error: &MerkleTreeError) -> bool
+        ensures { result ≡ says_memory error.now }
+    {
+        matches!(error, MerkleTreeError::Memory)
+    }
+}
