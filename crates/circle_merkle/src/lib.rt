@@ -8,6 +8,8 @@ mod mmcs;
 mod positions;
 mod root;
 mod shape;
+#[cfg(test)]
+mod tests;
 mod tree;
 mod verify;
 

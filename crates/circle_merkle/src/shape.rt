@@ -21,7 +21,7 @@ pub fn greatest_height(dimensions: &[Dimensions]) -> usize
 }
 
 // Whether there is an `m` with `n = 2^m`.
-fn is_power_of_two(n: usize) -> bool
+pub fn is_power_of_two(n: usize) -> bool
     ensures { IsTrue result ↔ IsPowerOfTwo n }
 {
     n > 0 && n == 1 << n.ilog2()
