@@ -8,8 +8,8 @@ use Rattle.circle_field.specs.Mersenne31.{operations, generators, residue}
 use Rattle.circle_field.specs.Mersenne31Laws.{laws}
 use Rattle.circle_field.specs.Mersenne31Circle.{are_generators}
 use Rattle.circle_field.specs.declared.mersenne31.Mersenne31.{Mersenne31}
-use Rattle.circle_plane.specs.Order.{IsGenuine}
-use Rattle.circle_plane.proofs.Multiples.{times-one, times-double}
+use Rattle.circle_domain.specs.Order.{IsGenuine}
+use Rattle.circle_point.proofs.Multiples.{times-one, times-double}
 
 -- 2^n times a point of order 2^(n + 1) is the half turn
 module _ {F : Type 0} {k : FieldOps F} (ring : RingLaws k) {two_adicity : ℕ} {gen : ℕ → Coordinates F} (are : AreGenerators k two_adicity gen) where

@@ -4,7 +4,7 @@ use Rattle.std.proofs.Common.{sym, ◌∙◌, ap, arith, append_assoc, append-ni
 use Rattle.std.proofs.lemmas.List.{drop_more, drop-drop, take-take, drop-take, drop_all, take_all}
 use Rattle.std.proofs.lemmas.Slice.{take-put_mid, drop-put_mid}
 use borrow.Rule.Slice.PartMut.{put_mid, mid_of}
-use Rattle.circle_plane.specs.Layers.{pairwise, layer}
+use Rattle.circle_domain.specs.Layers.{pairwise, layer}
 
 module _ {F : Type 0} (low high : F → F → F → F) (half : ℕ) where
   -- the two halves of the first block, made anew

@@ -8,16 +8,16 @@ use Rattle.std.proofs.lemmas.List.{length-map}
 use Rattle.circle_field.specs.Field.{FieldOps, RingLaws, FieldLaws, two, nth_power, sub}
 use Rattle.circle_field.specs.RingFacts.{zero_mul}
 use Rattle.circle_field.specs.Circle.{Coordinates, IsOnCircle, AreGenerators, times, origin}
-use Rattle.circle_plane.specs.Basis.{value}
-use Rattle.circle_plane.specs.Order.{cfft_order}
-use Rattle.circle_plane.specs.Layers.{layer, factor, block_starts, layer_factors, copies}
-use Rattle.circle_plane.proofs.Blocks.{points, points-cfft_order}
-use Rattle.circle_plane.proofs.Columns.{stored_column, stored_column-layer, stored_column-copies, stored_column-map, length-stored_column}
-use Rattle.circle_plane.proofs.Layering.{block_starts-halves, length-block_starts, finish_all, finish_all-layer, finish_all-none, finish_all-one, finish_all-copies, finish_all-scaled, factors-nonzero}
-use Rattle.circle_plane.proofs.Transform.{finish, finish-value}
-use Rattle.circle_plane.proofs.Inversion.{finish-scaled, finish-injective}
-use Rattle.circle_plane.proofs.Twiddles.{length-layer_factors}
-use Rattle.circle_plane.proofs.Undoing.{forward, backward, layer-undone}
+use Rattle.circle_point.specs.Basis.{value}
+use Rattle.circle_domain.specs.Order.{cfft_order}
+use Rattle.circle_domain.specs.Layers.{layer, factor, block_starts, layer_factors, copies}
+use Rattle.circle_domain.proofs.Blocks.{points, points-cfft_order}
+use Rattle.circle_domain.proofs.Columns.{stored_column, stored_column-layer, stored_column-copies, stored_column-map, length-stored_column}
+use Rattle.circle_domain.proofs.Layering.{block_starts-halves, length-block_starts, finish_all, finish_all-layer, finish_all-none, finish_all-one, finish_all-copies, finish_all-scaled, factors-nonzero}
+use Rattle.circle_domain.proofs.Transform.{finish, finish-value}
+use Rattle.circle_domain.proofs.Inversion.{finish-scaled, finish-injective}
+use Rattle.circle_domain.proofs.Twiddles.{length-layer_factors}
+use Rattle.circle_domain.proofs.Undoing.{forward, backward, layer-undone}
 
 -- 2^a blocks of 2 * 2^m make up 2^(a + m + 1)
 pub blocks-size : (n m : ℕ) → m < n → 2 ^ (n - (m + 1)) * (2 ^ m + 2 ^ m) ≡ 2 ^ n

@@ -1,11 +1,1 @@
-pub mod Order
-pub mod Basis
-pub mod Layers
-pub mod Rows
-pub mod Point
-pub mod Projective
-pub mod Domain
-pub mod Ordering
-pub mod CfftPerm
 pub mod CircleEvaluations
-pub mod Values

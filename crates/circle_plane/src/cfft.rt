@@ -3,21 +3,20 @@ ghost use Rattle.std.specs.Prelude.{◌≡◌, ◌≢◌, ℕ, ◌<◌, ◌≤�
 ghost use Rattle.std.specs.List.{range_with_len};
 ghost use Rattle.circle_commit.specs.Matrix.{IsPowerOfTwo};
 ghost use Rattle.circle_commit.specs.RowMajorMatrix.{rows, width_of, height_of, values_of};
-ghost use Rattle.circle_plane.specs.Basis.{basis_values, values_at, doubled_x};
+ghost use Rattle.circle_point.specs.Basis.{basis_values, values_at, doubled_x};
 ghost use Rattle.circle_field.specs.Circle.{plus};
-ghost use Rattle.circle_plane.specs.Order.{natural_order, cfft_order, coset, IsGenuine};
-ghost use Rattle.circle_plane.specs.Point.{coordinates};
-ghost use Rattle.circle_plane.specs.Domain.{log_size, shift_of};
-ghost use Rattle.circle_plane.specs.Ordering.{other_order};
-ghost use Rattle.circle_plane.specs.Values.{HasValues, with_zero_rows};
-ghost use Rattle.circle_plane.specs.Layers.{copies, every_second, layer_factors};
+ghost use Rattle.circle_domain.specs.Order.{natural_order, cfft_order, coset, IsGenuine};
+ghost use Rattle.circle_point.specs.Point.{coordinates};
+ghost use Rattle.circle_domain.specs.Domain.{log_size, shift_of};
+ghost use Rattle.circle_domain.specs.Ordering.{other_order};
+ghost use Rattle.circle_domain.specs.Values.{HasValues, with_zero_rows};
+ghost use Rattle.circle_domain.specs.Layers.{copies, every_second, layer_factors};
 
-use crate::domain::CircleDomain;
 use crate::layers::{Backward, Forward, apply_layer};
-use crate::ordering::{CfftPermutable, CfftView};
-use crate::point::Point;
 use circle_commit::{Matrix, RowMajorMatrix, Shape};
+use circle_domain::{CfftPermutable, CfftView, CircleDomain};
 use circle_field::{ComplexExtendable, Field, Operations, batch_multiplicative_inverse};
+use circle_point::Point;
 use std::alloc::{AllocError, Global};
 
 /// The values of functions at the points of a domain, a column for each function: the rows stand in

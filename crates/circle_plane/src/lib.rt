@@ -2,12 +2,8 @@
 #![tactic(auto)]
 
 pub mod cfft;
-pub mod domain;
 mod layers;
-pub mod ordering;
-pub mod point;
 
 pub use cfft::{CircleEvaluations, circle_basis};
-pub use domain::{CircleCoset, CircleDomain, CirclePoints};
-pub use ordering::{CfftPerm, CfftPermutable, CfftView, cfft_permute_index};
-pub use point::{Neutral, Point};
+pub use circle_domain::{CfftPerm, CfftPermutable, CfftView, CircleCoset, CircleDomain, CirclePoints, cfft_permute_index};
+pub use circle_point::{Neutral, Point};

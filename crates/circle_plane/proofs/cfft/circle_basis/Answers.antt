@@ -1,9 +1,9 @@
 use Rattle.std.proofs.Common.{◌≡◌, ◌-◌, ◌+◌, ◌++◌, [], ◌∷◌, ℕ, suc, ◌∙◌, sym, ap, map, arith}
 use Rattle.std.proofs.lemmas.Grind.{common_steps}
-use Rattle.circle_plane.specs.Basis.{doubled_x, iterated_x, basis_values}
-use Rattle.circle_plane.specs.Point.{coordinates}
-use Rattle.circle_plane.proofs.Bases.{basis_values-next}
-use Rattle.circle_plane.proofs.Multiples.{iterated_x-suc}
+use Rattle.circle_point.specs.Basis.{doubled_x, iterated_x, basis_values}
+use Rattle.circle_point.specs.Point.{coordinates}
+use Rattle.circle_point.proofs.Bases.{basis_values-next}
+use Rattle.circle_point.proofs.Multiples.{iterated_x-suc}
 use Rattle.circle_plane.proofs.cfft.circle_basis.Goals as goal
 
 pub loop-init : goal.loop-init

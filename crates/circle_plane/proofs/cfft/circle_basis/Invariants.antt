@@ -1,6 +1,6 @@
 use Rattle.std.proofs.Common.{◌≡◌, ◌-◌}
-use Rattle.circle_plane.specs.Basis.{iterated_x, basis_values}
-use Rattle.circle_plane.specs.Point.{coordinates}
+use Rattle.circle_point.specs.Basis.{iterated_x, basis_values}
+use Rattle.circle_point.specs.Point.{coordinates}
 use Rattle.circle_plane.proofs.cfft.circle_basis.Given as goal
 
 abbrev pub invariant-loop : goal.invariant-loop

@@ -3,11 +3,11 @@ use Rattle.std.proofs.lemmas.Bool.{cases_eq}
 use Rattle.std.specs.List.{range_with_len}
 use Rattle.std.proofs.lemmas.List.{length-map, map-append}
 use Rattle.circle_field.specs.Circle.{Coordinates}
-use Rattle.circle_plane.specs.Domain.{shift_of, log_size}
-use Rattle.circle_plane.specs.Basis.{doubled_x}
-use Rattle.circle_plane.specs.Point.{coordinates}
-use Rattle.circle_plane.specs.Layers.{layer_factors, every_second}
-use Rattle.circle_plane.proofs.Twiddles.{first_factors, second_factors, next_factors, length-layer_factors, length-coset, even-pow, map-map, range-more, made-count, made-read}
+use Rattle.circle_domain.specs.Domain.{shift_of, log_size}
+use Rattle.circle_point.specs.Basis.{doubled_x}
+use Rattle.circle_point.specs.Point.{coordinates}
+use Rattle.circle_domain.specs.Layers.{layer_factors, every_second}
+use Rattle.circle_domain.proofs.Twiddles.{first_factors, second_factors, next_factors, length-layer_factors, length-coset, even-pow, map-map, range-more, made-count, made-read}
 use Rattle.circle_plane.proofs.cfft.compute_twiddles.Goals as goal
 
 pub loop-layer-init : goal.loop-layer-init

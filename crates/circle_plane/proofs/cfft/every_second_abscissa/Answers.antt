@@ -2,9 +2,9 @@ use Rattle.std.proofs.Common.{◌≡◌, ◌+◌, ◌*◌, ◌%◌, ◌++◌, []
 use Rattle.std.proofs.Math.ListN.{get_or-map}
 use Rattle.std.proofs.lemmas.List.{length-map}
 use Rattle.circle_field.specs.Circle.{Coordinates}
-use Rattle.circle_plane.specs.Layers.{every_second}
-use Rattle.circle_plane.specs.Point.{coordinates}
-use Rattle.circle_plane.proofs.Twiddles.{every_second-more}
+use Rattle.circle_domain.specs.Layers.{every_second}
+use Rattle.circle_point.specs.Point.{coordinates}
+use Rattle.circle_domain.proofs.Twiddles.{every_second-more}
 use Rattle.circle_plane.proofs.cfft.every_second_abscissa.Goals as goal
 
 pub loop-i-preserved : goal.loop-i-preserved

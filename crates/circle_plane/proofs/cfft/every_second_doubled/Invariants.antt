@@ -1,6 +1,6 @@
 use Rattle.std.proofs.Common.{◌≡◌, ◌++◌, ◌*◌, map, drop}
-use Rattle.circle_plane.specs.Basis.{doubled_x}
-use Rattle.circle_plane.specs.Layers.{every_second}
+use Rattle.circle_point.specs.Basis.{doubled_x}
+use Rattle.circle_domain.specs.Layers.{every_second}
 use Rattle.circle_plane.proofs.cfft.every_second_doubled.Given as goal
 
 abbrev pub invariant-loop-i : goal.invariant-loop-i

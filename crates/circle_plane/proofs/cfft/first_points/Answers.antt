@@ -1,9 +1,9 @@
 use Rattle.std.proofs.Common.{◌≡◌, ◌-◌, ◌+◌, ◌++◌, ◌∙◌, sym, ap, map, arith}
 use Rattle.circle_field.specs.Circle.{plus}
-use Rattle.circle_plane.specs.Domain.{shift_of, log_size}
-use Rattle.circle_plane.specs.Order.{coset}
-use Rattle.circle_plane.specs.Point.{coordinates}
-use Rattle.circle_plane.proofs.Twiddles.{coset-more}
+use Rattle.circle_domain.specs.Domain.{shift_of, log_size}
+use Rattle.circle_domain.specs.Order.{coset}
+use Rattle.circle_point.specs.Point.{coordinates}
+use Rattle.circle_domain.proofs.Twiddles.{coset-more}
 use Rattle.circle_plane.proofs.cfft.first_points.Goals as goal
 
 pub loop-log_order-preserved : goal.loop-log_order-preserved

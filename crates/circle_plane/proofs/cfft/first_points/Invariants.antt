@@ -1,7 +1,7 @@
 use Rattle.std.proofs.Common.{◌≡◌, ◌-◌, map}
-use Rattle.circle_plane.specs.Domain.{shift_of}
-use Rattle.circle_plane.specs.Order.{coset}
-use Rattle.circle_plane.specs.Point.{coordinates}
+use Rattle.circle_domain.specs.Domain.{shift_of}
+use Rattle.circle_domain.specs.Order.{coset}
+use Rattle.circle_point.specs.Point.{coordinates}
 use Rattle.circle_plane.proofs.cfft.first_points.Given as goal
 
 abbrev pub invariant-loop-log_order : goal.invariant-loop-log_order

@@ -1,5 +1,5 @@
 use Rattle.std.proofs.Common.{◌≡◌, map, take}
-use Rattle.circle_plane.specs.Point.{coordinates}
+use Rattle.circle_point.specs.Point.{coordinates}
 use Rattle.circle_plane.proofs.cfft.ordinates.Given as goal
 
 abbrev pub invariant-loop-point : goal.invariant-loop-point

@@ -1,6 +1,6 @@
 use Rattle.std.proofs.Common.{◌++◌, ◌∙◌, ap}
-use Rattle.circle_plane.specs.Layers.{copies}
-use Rattle.circle_plane.proofs.Twiddles.{copies-last}
+use Rattle.circle_domain.specs.Layers.{copies}
+use Rattle.circle_domain.proofs.Twiddles.{copies-last}
 use Rattle.circle_plane.proofs.cfft.repeat.Goals as goal
 
 pub loop-preserved : goal.loop-preserved

@@ -1,5 +1,5 @@
 use Rattle.std.proofs.Common.{◌≡◌}
-use Rattle.circle_plane.specs.Layers.{copies}
+use Rattle.circle_domain.specs.Layers.{copies}
 use Rattle.circle_plane.proofs.cfft.repeat.Given as goal
 
 abbrev pub invariant-loop : goal.invariant-loop

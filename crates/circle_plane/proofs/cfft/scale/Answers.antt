@@ -1,7 +1,7 @@
 use Rattle.std.proofs.Common.{◌≡◌, ◌<◌, ◌∙◌, sym, ap, map, slice_index_or, slice_set, length, arith}
 use Rattle.std.proofs.Math.ListN.{get_or-map}
 use Rattle.std.proofs.lemmas.List.{length-map}
-use Rattle.circle_plane.proofs.Written.{written, written-read, written-more}
+use Rattle.circle_domain.proofs.Written.{written, written-read, written-more}
 use Rattle.circle_plane.proofs.cfft.scale.Goals as goal
 
 pub loop-entry-preserved : goal.loop-entry-preserved

@@ -1,5 +1,5 @@
 use Rattle.std.proofs.Common.{◌≡◌, ◌+◌, ◌*◌, take, drop, ◌++◌}
-use Rattle.circle_plane.specs.Layers.{layer}
+use Rattle.circle_domain.specs.Layers.{layer}
 use Rattle.circle_plane.proofs.layers.apply_layer.Given as goal
 
 abbrev pub invariant-loop-i : goal.invariant-loop-i

@@ -1,5 +1,5 @@
 use Rattle.std.proofs.Common.{◌∙◌, ap, arith}
-use Rattle.circle_plane.specs.Domain.{log_size, shift_of}
+use Rattle.circle_domain.specs.Domain.{log_size, shift_of}
 use Rattle.circle_bench.proofs.Standard.{standard-genuine}
 use Rattle.circle_bench.proofs.transforms.Transform.run.Goals as goal
 

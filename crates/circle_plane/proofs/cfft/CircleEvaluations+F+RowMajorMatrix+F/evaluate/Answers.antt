@@ -5,20 +5,20 @@ use Rattle.circle_field.proofs.Inverses.{take-whole}
 use Rattle.circle_commit.specs.Matrix.{rows_from, column}
 use Rattle.circle_commit.specs.RowFacts.{length-rows_from}
 use Rattle.circle_commit.specs.RowMajorMatrix.{rows, width_of, height_of, values_of, length-rows, length-values}
-use Rattle.circle_plane.specs.Basis.{value, values_at}
-use Rattle.circle_plane.specs.Domain.{log_size, shift_of}
-use Rattle.circle_plane.specs.Order.{cfft_order}
-use Rattle.circle_plane.specs.Ordering.{other_order}
-use Rattle.circle_plane.specs.Layers.{layer_factors, copies}
-use Rattle.circle_plane.proofs.Blocks.{cfft_order-prefix}
-use Rattle.circle_plane.proofs.Columns.{stored_column, length-stored_column}
-use Rattle.circle_plane.proofs.CosetOrder.{other_order-points}
-use Rattle.circle_plane.proofs.Layering.{length-copies}
+use Rattle.circle_point.specs.Basis.{value, values_at}
+use Rattle.circle_domain.specs.Domain.{log_size, shift_of}
+use Rattle.circle_domain.specs.Order.{cfft_order}
+use Rattle.circle_domain.specs.Ordering.{other_order}
+use Rattle.circle_domain.specs.Layers.{layer_factors, copies}
+use Rattle.circle_domain.proofs.Blocks.{cfft_order-prefix}
+use Rattle.circle_domain.proofs.Columns.{stored_column, length-stored_column}
+use Rattle.circle_domain.proofs.CosetOrder.{other_order-points}
+use Rattle.circle_domain.proofs.Layering.{length-copies}
 use Rattle.circle_plane.proofs.Passes.{remaining, remaining-none, blocks-entries, part-more, forward-pass, copies-values}
-use Rattle.circle_plane.proofs.Powers.{pow_within, pow_order, power_is}
-use Rattle.circle_plane.proofs.Stored.{whole, height, rows-values, stored-wide}
-use Rattle.circle_plane.proofs.Twiddles.{length-layer_factors, made-count, made-read}
-use Rattle.circle_plane.proofs.Undoing.{forward}
+use Rattle.circle_domain.proofs.Powers.{pow_within, pow_order, power_is}
+use Rattle.circle_domain.proofs.Stored.{whole, height, rows-values, stored-wide}
+use Rattle.circle_domain.proofs.Twiddles.{length-layer_factors, made-count, made-read}
+use Rattle.circle_domain.proofs.Undoing.{forward}
 use Rattle.circle_plane.proofs.cfft.CircleEvaluations+F+RowMajorMatrix+F.evaluate.Goals as goal
 
 pub overflow_sub-log_n : goal.overflow_sub-log_n

@@ -1,10 +1,10 @@
 use Rattle.std.proofs.Common.{◌≡◌, ℕ, ◌<◌, ◌*◌, ◌^◌, map, length}
 use Rattle.circle_commit.specs.Matrix.{column}
 use Rattle.circle_commit.specs.RowMajorMatrix.{rows, width_of}
-use Rattle.circle_plane.specs.Basis.{value}
-use Rattle.circle_plane.specs.Domain.{log_size, shift_of}
-use Rattle.circle_plane.specs.Order.{cfft_order}
-use Rattle.circle_plane.proofs.Columns.{stored_column}
+use Rattle.circle_point.specs.Basis.{value}
+use Rattle.circle_domain.specs.Domain.{log_size, shift_of}
+use Rattle.circle_domain.specs.Order.{cfft_order}
+use Rattle.circle_domain.proofs.Columns.{stored_column}
 use Rattle.circle_plane.proofs.Passes.{remaining}
 use Rattle.circle_plane.proofs.cfft.CircleEvaluations+F+RowMajorMatrix+F.evaluate.Given as goal
 

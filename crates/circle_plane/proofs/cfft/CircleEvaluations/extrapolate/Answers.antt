@@ -1,13 +1,13 @@
 use Rattle.std.proofs.Common.{◌≡◌, ◌^◌, ◌≤◌, ◌∙◌, ap, map, arith}
 use Rattle.circle_commit.specs.RowMajorMatrix.{rows, width_of}
-use Rattle.circle_plane.specs.Basis.{values_at}
+use Rattle.circle_point.specs.Basis.{values_at}
 use Rattle.circle_plane.specs.CircleEvaluations.{cfft_values}
-use Rattle.circle_plane.specs.Domain.{log_size, shift_of}
-use Rattle.circle_plane.specs.Order.{cfft_order, natural_order}
-use Rattle.circle_plane.specs.Ordering.{other_order}
-use Rattle.circle_plane.proofs.Powers.{pow_within}
+use Rattle.circle_domain.specs.Domain.{log_size, shift_of}
+use Rattle.circle_domain.specs.Order.{cfft_order, natural_order}
+use Rattle.circle_domain.specs.Ordering.{other_order}
+use Rattle.circle_domain.proofs.Powers.{pow_within}
 use Rattle.circle_plane.proofs.Results.{if_ok_both}
-use Rattle.circle_plane.proofs.ZeroRows.{zeros-values}
+use Rattle.circle_domain.proofs.ZeroRows.{zeros-values}
 use Rattle.circle_plane.proofs.cfft.CircleEvaluations.extrapolate.Goals as goal
 
 pub evaluate-requires-clause-at_most_size : goal.evaluate-requires-clause-at_most_size

@@ -7,17 +7,17 @@ use Rattle.circle_field.proofs.Inverses.{take-whole}
 use Rattle.circle_commit.specs.Matrix.{rows_from, column}
 use Rattle.circle_commit.specs.RowFacts.{length-rows_from}
 use Rattle.circle_commit.specs.RowMajorMatrix.{rows, width_of, height_of, values_of, length-rows, rows-width, length-values}
-use Rattle.circle_plane.specs.Basis.{value}
-use Rattle.circle_plane.specs.Domain.{log_size, shift_of}
-use Rattle.circle_plane.specs.Order.{cfft_order}
-use Rattle.circle_plane.specs.Layers.{layer_factors}
-use Rattle.circle_plane.proofs.Columns.{stored_column, rows-same_columns}
+use Rattle.circle_point.specs.Basis.{value}
+use Rattle.circle_domain.specs.Domain.{log_size, shift_of}
+use Rattle.circle_domain.specs.Order.{cfft_order}
+use Rattle.circle_domain.specs.Layers.{layer_factors}
+use Rattle.circle_domain.proofs.Columns.{stored_column, rows-same_columns}
 use Rattle.circle_plane.proofs.Inverses.{inverse_power}
 use Rattle.circle_plane.proofs.Passes.{remaining, blocks-entries, part-more, backward-pass, before-passes, after-passes, values-tell, layer_factors-nonzero}
-use Rattle.circle_plane.proofs.Powers.{pow_within}
-use Rattle.circle_plane.proofs.Stored.{whole, height, rows-values, column-values}
-use Rattle.circle_plane.proofs.Twiddles.{length-layer_factors, made-count, made-read}
-use Rattle.circle_plane.proofs.Undoing.{backward}
+use Rattle.circle_domain.proofs.Powers.{pow_within}
+use Rattle.circle_domain.proofs.Stored.{whole, height, rows-values, column-values}
+use Rattle.circle_domain.proofs.Twiddles.{length-layer_factors, made-count, made-read}
+use Rattle.circle_domain.proofs.Undoing.{backward}
 use Rattle.circle_plane.proofs.cfft.CircleEvaluations.interpolate.Goals as goal
 
 pub loop-factors-init : goal.loop-factors-init

@@ -1,8 +1,8 @@
 use Rattle.std.proofs.Common.{◌≡◌, ℕ, ◌<◌, ◌*◌, ◌^◌, map, length}
 use Rattle.circle_field.specs.Field.{two, nth_power}
 use Rattle.circle_commit.specs.Matrix.{column}
-use Rattle.circle_plane.specs.Domain.{log_size, shift_of}
-use Rattle.circle_plane.proofs.Columns.{stored_column}
+use Rattle.circle_domain.specs.Domain.{log_size, shift_of}
+use Rattle.circle_domain.proofs.Columns.{stored_column}
 use Rattle.circle_plane.proofs.Passes.{remaining}
 use Rattle.circle_plane.proofs.cfft.CircleEvaluations.interpolate.Given as goal
 

@@ -1,7 +1,7 @@
 use Rattle.std.proofs.Common.{◌∙◌, ap}
-use Rattle.circle_plane.specs.Domain.{log_size}
-use Rattle.circle_plane.specs.Ordering.{other_order}
-use Rattle.circle_plane.proofs.OtherOrder.{other_order-twice}
+use Rattle.circle_domain.specs.Domain.{log_size}
+use Rattle.circle_domain.specs.Ordering.{other_order}
+use Rattle.circle_domain.proofs.OtherOrder.{other_order-twice}
 use Rattle.circle_plane.proofs.cfft.CircleEvaluations.to_natural_order.Goals as goal
 
 pub cfft_perm_rows-requires : goal.cfft_perm_rows-requires

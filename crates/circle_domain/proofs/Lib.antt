@@ -1,0 +1,16 @@
+pub mod Blocks
+pub mod Columns
+pub mod CosetOrder
+pub mod HalfSums
+pub mod Inversion
+pub mod Layering
+pub mod Orders
+pub mod OtherOrder
+pub mod Powers
+pub mod Reversal
+pub mod Stored
+pub mod Transform
+pub mod Twiddles
+pub mod Undoing
+pub mod Written
+pub mod ZeroRows

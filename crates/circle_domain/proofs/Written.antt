@@ -1,0 +1,55 @@
+-- Lists that are written from the front, and lists made of two by place.
+use Rattle.std.specs.Prelude.{◌≡◌, ℕ, ◌+◌, ◌<◌, ◌≤◌, List, [], ◌∷◌, ◌++◌, length, take, drop, slice_index_or, slice_set}
+use Rattle.std.proofs.Common.{zero, suc, ◌∙◌, ap, refl, arith}
+use Rattle.circle_domain.specs.Layers.{pairwise}
+
+-- the first i entries are new, the others old
+abbrev pub written : {T : Type 0} → ℕ → List T → List T → List T
+written i new old = take i new ++ drop i old
+
+pub written-read : {T : Type 0} (i : ℕ) (new old : List T) (d : T) → length new ≡ length old → slice_index_or (written i new old) i d ≡ slice_index_or old i d
+written-read zero new old d e = refl
+written-read (suc i) [] [] d e = refl
+written-read (suc i) [] (y ∷ old) d e = absurd (omega arith)
+written-read (suc i) (x ∷ new) [] d e = absurd (omega arith)
+written-read (suc i) (x ∷ new) (y ∷ old) d e = written-read i new old d (omega arith)
+
+pub written-more : {T : Type 0} (i : ℕ) (new old : List T) (d : T) → length new ≡ length old → i < length old →
+    slice_set (written i new old) i (slice_index_or new i d) ≡ written (i + 1) new old
+written-more zero [] old d e h = absurd (omega arith)
+written-more zero (x ∷ new) [] d e h = absurd (omega arith)
+written-more zero (x ∷ new) (y ∷ old) d e h = refl
+written-more (suc i) [] old d e h = absurd (omega arith)
+written-more (suc i) (x ∷ new) [] d e h = absurd (omega arith)
+written-more (suc i) (x ∷ new) (y ∷ old) d e h =
+    let s : suc (i + 1) ≡ suc i + 1 = omega arith in
+    ap (λ rest. x ∷ rest) (written-more i new old d (omega arith) (omega arith)) ∙ ap (λ n. written n (x ∷ new) (y ∷ old)) s
+
+pub written-all : {T : Type 0} (i : ℕ) (new old : List T) → length new ≡ length old → length old ≤ i → written i new old ≡ new
+written-all zero [] [] e h = refl
+written-all zero [] (y ∷ old) e h = absurd (omega arith)
+written-all zero (x ∷ new) old e h = absurd (omega arith)
+written-all (suc i) [] [] e h = refl
+written-all (suc i) [] (y ∷ old) e h = absurd (omega arith)
+written-all (suc i) (x ∷ new) [] e h = absurd (omega arith)
+written-all (suc i) (x ∷ new) (y ∷ old) e h = ap (λ rest. x ∷ rest) (written-all i new old (omega arith) (omega arith))
+
+pub length-written : {T : Type 0} (i : ℕ) (new old : List T) → length new ≡ length old → length (written i new old) ≡ length old
+length-written zero new old e = refl
+length-written (suc i) [] [] e = refl
+length-written (suc i) [] (y ∷ old) e = absurd (omega arith)
+length-written (suc i) (x ∷ new) [] e = absurd (omega arith)
+length-written (suc i) (x ∷ new) (y ∷ old) e = ap suc (length-written i new old (omega arith))
+
+module _ {A B C : Type 0} (f : A → B → C) where
+  pub length-pairwise : (xs : List A) (ys : List B) → length xs ≡ length ys → length (pairwise f xs ys) ≡ length xs
+  length-pairwise [] ys e = refl
+  length-pairwise (x ∷ xs) [] e = absurd (omega arith)
+  length-pairwise (x ∷ xs) (y ∷ ys) e = ap suc (length-pairwise xs ys (omega arith))
+
+  pub pairwise-read : (xs : List A) (ys : List B) (i : ℕ) (a : A) (b : B) (c : C) → i < length xs → i < length ys →
+      slice_index_or (pairwise f xs ys) i c ≡ f (slice_index_or xs i a) (slice_index_or ys i b)
+  pairwise-read [] ys i a b c h g = absurd (omega arith)
+  pairwise-read (x ∷ xs) [] i a b c h g = absurd (omega arith)
+  pairwise-read (x ∷ xs) (y ∷ ys) zero a b c h g = refl
+  pairwise-read (x ∷ xs) (y ∷ ys) (suc i) a b c h g = pairwise-read xs ys i a b c (omega arith) (omega arith)

@@ -1,0 +1,35 @@
+-- What a domain and its iterators are to contracts.
+use Rattle.std.specs.Prelude.{ℕ, List, [], ◌∷◌}
+use Rattle.std.proofs.Common.{zero, suc}
+use Rattle.circle_field.specs.Field.{FieldOps}
+use Rattle.circle_field.specs.Circle.{Coordinates, plus}
+use Rattle.circle_point.specs.Point.{coordinates}
+use Rattle.circle_domain.specs.declared.domain.CircleDomain.{CircleDomain}
+use Rattle.circle_domain.specs.declared.domain.CirclePoints.{CirclePoints}
+use Rattle.circle_domain.specs.declared.domain.CircleCoset.{CircleCoset}
+
+-- the binary logarithm of the number of points
+abbrev pub log_size : {F : Type 0} {g : _} → CircleDomain F g → ℕ
+log_size d = d.log_n
+
+-- the coordinates of the first point
+abbrev pub shift_of : {F : Type 0} {g : _} → CircleDomain F g → Coordinates F
+shift_of d = coordinates d.shift
+
+module _ {F : Type 0} (k : FieldOps F) where
+  -- p, p + g, p + 2 g, .., count in all
+  abbrev pub walk : ℕ → Coordinates F → Coordinates F → List (Coordinates F)
+  walk zero p g = []
+  walk (suc count) p g = p ∷ walk count (plus k p g) g
+
+  -- p, q, p + g, q + g, p + 2 g, .., count in all
+  abbrev pub alternating : ℕ → Coordinates F → Coordinates F → Coordinates F → List (Coordinates F)
+  alternating zero p q g = []
+  alternating (suc count) p q g = p ∷ alternating count q (plus k p g) g
+
+  -- the points that are still to come
+  abbrev pub points_left : {g : _} → CirclePoints F g → List (Coordinates F)
+  points_left it = alternating it.remaining (coordinates it.current) (coordinates it.other) (coordinates it.step)
+
+  abbrev pub coset_left : {g : _} → CircleCoset F g → List (Coordinates F)
+  coset_left it = walk it.remaining (coordinates it.current) (coordinates it.step)

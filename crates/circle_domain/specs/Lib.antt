@@ -1,0 +1,7 @@
+pub mod CfftPerm
+pub mod Domain
+pub mod Layers
+pub mod Order
+pub mod Ordering
+pub mod Rows
+pub mod Values

@@ -1,0 +1,17 @@
+-- Coefficients whose polynomials have given values on a domain.
+use Rattle.std.specs.Prelude.{◌≡◌, ℕ, ◌^◌, List, ◌++◌, length, map, All, replicate}
+use Rattle.circle_field.specs.Field.{FieldOps}
+use Rattle.circle_field.specs.Circle.{Coordinates}
+use Rattle.circle_point.specs.Basis.{values_at}
+use Rattle.circle_domain.specs.Order.{cfft_order}
+
+-- as many coefficients as the domain (n, s) has points, a row for each index, whose polynomials' values
+-- at the points in the transform's order are the rows
+pub record HasValues {F : Type 0} (k : FieldOps F) (gen : ℕ → Coordinates F) (n : ℕ) (s : Coordinates F) (width : ℕ) (coeffs rows : List (List F)) : Type 0 where
+  pub height : length coeffs ≡ 2 ^ n
+  pub widths : All (λ row. length row ≡ width) coeffs
+  pub values : map (values_at k coeffs width) (cfft_order k gen n s) ≡ rows
+
+-- the rows and so many rows of zeros
+abbrev pub with_zero_rows : {F : Type 0} → F → ℕ → ℕ → List (List F) → List (List F)
+with_zero_rows zero width count rows = rows ++ replicate count (replicate width zero)

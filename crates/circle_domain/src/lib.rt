@@ -1,0 +1,8 @@
+//! Domains of the circle transform and the two orders of their points.
+#![tactic(auto)]
+
+pub mod domain;
+pub mod ordering;
+
+pub use domain::{CircleCoset, CircleDomain, CirclePoints};
+pub use ordering::{CfftPerm, CfftPermutable, CfftView, cfft_permute_index};

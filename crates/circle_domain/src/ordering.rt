@@ -1,0 +1,116 @@
+//! The order of the circle transform, as a permutation of the natural order of a domain.
+ghost use Rattle.std.specs.Prelude.{ℕ, ◌≡◌, ◌≤◌, ◌<◌, ◌^◌, Ok};
+ghost use Rattle.circle_domain.specs.Ordering.{cfft_index, reversed, other_order};
+ghost use Rattle.circle_commit.specs.Matrix.{IsPowerOfTwo};
+
+use circle_commit::{Matrix, RowIndexMap, RowIndexMappedView, Shape};
+use std::alloc::AllocError;
+
+/// The natural place of the point at place `index` of the transform's order, among `2^log_n` points:
+/// with `h = index / 2`, the `log_n`-bit reversal of `h` where `index` is even, and of
+/// `2^log_n - 1 - h` where it is odd.
+///
+/// It is its own inverse. Asks `log_n <= 63` and `index < 2^log_n`.
+pub fn cfft_permute_index(index: usize, log_n: usize) -> usize
+    requires small { log_n ≤ 63 }
+    requires in_range { index < 2 ^ log_n }
+    ensures value { result ≡ cfft_index log_n index }
+    ensures below { result < 2 ^ log_n }
+    ensures own_inverse { cfft_index log_n result ≡ index }
+{
+    let half = index / 2;
+    let source = if index % 2 == 0 {
+        half
+    } else {
+        (1 << log_n) - 1 - half
+    };
+    reverse_bits_len(source, log_n)
+}
+
+// The number whose lowest `bit_len` bits are those of `x` in the other order.
+fn reverse_bits_len(x: usize, bit_len: usize) -> usize
+    requires small { bit_len ≤ 63 }
+    requires in_range { x < 2 ^ bit_len }
+    ensures { result ≡ reversed bit_len x }
+{
+    let mut rest = x;
+    let mut result = 0;
+    for _ in 0..bit_len {
+        result = 2 * result + rest % 2;
+        rest /= 2;
+    }
+    result
+}
+
+/// The permutation between the two orders of a domain, as an order of a matrix's rows.
+pub struct CfftPerm {
+    log_height: usize,
+    pub ghost small: { log_height ≤ 63 },
+}
+
+impl Clone for CfftPerm {
+    ghost is_clone = { λ a b. b ≡ a };
+
+    ghost is_infallible = { λ _. Unit {0} };
+
+    fn clone(&self) -> Result<Self, AllocError>
+        ensures { result ≡ Ok self.now }
+    {
+        Ok(*self)
+    }
+}
+
+impl Copy for CfftPerm {}
+
+impl CfftPerm {
+    ghost use Rattle.circle_domain.specs.CfftPerm.{log_height_of};
+
+    pub(crate) fn new(log_height: usize) -> Self
+        requires { log_height ≤ 63 }
+        ensures { log_height_of result ≡ log_height }
+    {
+        CfftPerm { log_height }
+    }
+}
+
+impl RowIndexMap for CfftPerm {
+    ghost use Rattle.circle_domain.specs.CfftPerm.{log_height_of};
+
+    ghost height = { λ map. 2 ^ log_height_of map };
+
+    ghost map_row_index = { λ map r. cfft_index (log_height_of map) r };
+
+    fn height(&self) -> usize {
+        1 << self.log_height
+    }
+
+    fn map_row_index(&self, r: usize) -> usize {
+        cfft_permute_index(r, self.log_height)
+    }
+}
+
+/// A matrix whose rows are seen in the other order of a domain.
+pub type CfftView<M> = RowIndexMappedView<CfftPerm, M>;
+
+/// A matrix whose rows can be seen in the other order of a domain.
+pub trait CfftPermutable<T>: Matrix<T> {
+    /// The rows in the other order of a domain, without copying them.
+    ///
+    /// Asks a height that is a power of two.
+    fn cfft_perm_rows(self) -> CfftView<Self>
+        requires { IsPowerOfTwo (Self.height self) }
+        ensures rows { (n : ℕ) → Self.height self ≡ 2 ^ n →
+            ⟦<CfftView<Self> as Matrix<T>>⟧.rows result ≡ other_order n (Self.rows self) }
+        ensures height { ⟦<CfftView<Self> as Shape>⟧.height result ≡ Self.height self }
+        ensures width { ⟦<CfftView<Self> as Shape>⟧.width result ≡ Self.width self };
+}
+
+impl<T, M: Matrix<T>> CfftPermutable<T> for M {
+    fn cfft_perm_rows(self) -> CfftView<Self> {
+        let log_height = self.height().ilog2() as usize;
+        RowIndexMappedView {
+            index_map: CfftPerm::new(log_height),
+            inner: self,
+        }
+    }
+}
