@@ -1,4 +1,5 @@
 pub mod CfftPerm
+pub mod Clear
 pub mod Domain
 pub mod Layers
 pub mod Order
