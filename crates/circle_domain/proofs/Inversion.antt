@@ -89,7 +89,7 @@ module _ {F : Type 0} {k : FieldOps F} (laws : FieldLaws k) where
       (ap (λ w. w ∷ xs) same_x ∙ ap (λ ws. u0 ∷ ws) rest.0, ap (λ w. w ∷ ys) same_y ∙ ap (λ ws. v ∷ ws) rest.1)
 
   -- a point with y = 0 is half of the neutral one, and one with x = 0 a quarter
-  flat-point : (p : Coordinates F) → IsOnCircle k p → p.y ≡ k.zero → plus k p p ≡ origin k
+  pub flat-point : (p : Coordinates F) → IsOnCircle k p → p.y ≡ k.zero → plus k p p ≡ origin k
   flat-point p c e =
       let x : Expr = var 0 in let y : Expr = var 1 in
       let env : List F = p.x ∷ p.y ∷ [] in
@@ -106,7 +106,7 @@ module _ {F : Type 0} {k : FieldOps F} (laws : FieldLaws k) where
       flat-point d (plus-on_circle laws.ring p p c c) flat
 
   -- one more doubling of the multiple
-  twice : (n : ℕ) (q : Coordinates F) → times k (2 ^ suc n) q ≡ plus k (times k (2 ^ n) q) (times k (2 ^ n) q)
+  pub twice : (n : ℕ) (q : Coordinates F) → times k (2 ^ suc n) q ≡ plus k (times k (2 ^ n) q) (times k (2 ^ n) q)
   twice n q = times-pow-suc laws.ring n q ∙ times-plus laws.ring (2 ^ n) q q
 
   pub factor-nonzero : (m : ℕ) (q : Coordinates F) → IsOnCircle k q → times k (2 ^ suc m) q ≢ origin k → factor k m q ≢ k.zero

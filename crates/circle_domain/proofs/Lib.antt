@@ -3,6 +3,9 @@ pub mod Columns
 pub mod CosetOrder
 pub mod HalfSums
 pub mod Inversion
+pub mod Lagrange
+pub mod LagrangeQuotients
+pub mod LagrangeShares
 pub mod Layering
 pub mod Orders
 pub mod OtherOrder

@@ -1,6 +1,7 @@
 pub mod CfftPerm
 pub mod Clear
 pub mod Domain
+pub mod Lagrange
 pub mod Layers
 pub mod Order
 pub mod Ordering

@@ -25,7 +25,7 @@ module _ {F : Type 0} {k : FieldOps F} (laws : FieldLaws k) where
       (given unit (sum (prod x x) (prod y y)) unit ∷ given (minus (sum x (minus unit))) x (minus unit) ∷ []) refl (on_circle, (e, tt)))
 
   -- the y coordinate of the multiple by 2^m
-  y_multiple : (m : ℕ) (p : Coordinates F) → IsOnCircle k p → (times k (2 ^ m) p).y ≡ k.mul (nth_power k (two k) m) (k.mul (vanishing_product k m p) p.y)
+  pub y_multiple : (m : ℕ) (p : Coordinates F) → IsOnCircle k p → (times k (2 ^ m) p).y ≡ k.mul (nth_power k (two k) m) (k.mul (vanishing_product k m p) p.y)
   y_multiple zero p h =
       ap (λ (q : Coordinates F). q.y) (times-one laws.ring p) ∙ sym (laws.ring.one_mul p.y) ∙ sym (laws.ring.one_mul (k.mul k.one p.y))
   y_multiple (suc m) p h =
