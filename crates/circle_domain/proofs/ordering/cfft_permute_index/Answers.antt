@@ -2,8 +2,8 @@ use Rattle.std.proofs.Common.{◌≡◌, ◌-◌, ◌/◌, ◌∙◌, ap, sym, a
 use Rattle.std.proofs.lemmas.Nat.{one_shl}
 use Rattle.circle_domain.specs.Ordering.{cfft_index, reversed}
 use Rattle.circle_domain.proofs.Reversal.{reversed-below, cfft_index-even, cfft_index-odd, cfft_index-own_inverse}
-use Rattle.circle_plane.proofs.ordering.cfft_permute_index.Goals as goal
-use Rattle.circle_plane.proofs.ordering.cfft_permute_index.Goals.{then-index-eq0, else-index-eq0}
+use Rattle.circle_domain.proofs.ordering.cfft_permute_index.Goals as goal
+use Rattle.circle_domain.proofs.ordering.cfft_permute_index.Goals.{then-index-eq0, else-index-eq0}
 
 pub returns-clause-below : goal.returns-clause-below
 returns-clause-below c = rw c.reverse_bits_len.ensures (reversed-below _ _)

@@ -3,7 +3,7 @@ use Rattle.std.proofs.Math.Nat.{pow-le-pow_right, pow-suc}
 use Rattle.std.proofs.lemmas.Nat.{shr-shr}
 use Rattle.circle_domain.specs.Ordering.{reversed}
 use Rattle.circle_domain.proofs.Reversal.{reversed-last}
-use Rattle.circle_plane.proofs.ordering.reverse_bits_len.Goals as goal
+use Rattle.circle_domain.proofs.ordering.reverse_bits_len.Goals as goal
 
 pub overflow_mul-result : goal.overflow_mul-result
 overflow_mul-result c =

@@ -1,6 +1,6 @@
 use Rattle.std.proofs.Common.{◌≡◌, ◌/◌, ◌^◌, ◌<◌}
 use Rattle.circle_domain.specs.Ordering.{reversed}
-use Rattle.circle_plane.proofs.ordering.reverse_bits_len.Given as goal
+use Rattle.circle_domain.proofs.ordering.reverse_bits_len.Given as goal
 
 abbrev pub invariant-loop : goal.invariant-loop
 invariant-loop l = record {

@@ -3,7 +3,7 @@ use Rattle.circle_field.specs.Circle.{Coordinates}
 use Rattle.circle_domain.specs.Domain.{walk}
 use Rattle.circle_point.specs.Point.{coordinates}
 use Rattle.circle_domain.proofs.Orders.{length-walk}
-use Rattle.circle_plane.proofs.domain.CircleCosetIterator.next.Goals as goal
+use Rattle.circle_domain.proofs.domain.CircleCosetIterator.next.Goals as goal
 
 pub returns-clause-steps : goal.returns-clause-steps
 returns-clause-steps g c =

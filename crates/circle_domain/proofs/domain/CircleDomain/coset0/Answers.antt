@@ -3,7 +3,7 @@ use Rattle.circle_domain.specs.Domain.{walk, log_size, shift_of}
 use Rattle.circle_domain.specs.Order.{steps_from}
 use Rattle.circle_point.specs.Point.{coordinates}
 use Rattle.circle_domain.proofs.Orders.{half-pow, first_even, walk-steps}
-use Rattle.circle_plane.proofs.domain.CircleDomain.coset0.Goals as goal
+use Rattle.circle_domain.proofs.domain.CircleDomain.coset0.Goals as goal
 
 pub returns : goal.returns
 returns g c =

@@ -3,7 +3,7 @@ use Rattle.circle_field.specs.Circle.{origin, times}
 use Rattle.circle_domain.specs.Domain.{log_size, shift_of}
 use Rattle.circle_point.specs.Point.{coordinates}
 use Rattle.circle_point.proofs.Points.{different_coordinates}
-use Rattle.circle_plane.proofs.domain.CircleDomain.is_genuine.Goals as goal
+use Rattle.circle_domain.proofs.domain.CircleDomain.is_genuine.Goals as goal
 
 pub returns-then-self-ge1 : goal.returns-then-self-ge1
 returns-then-self-ge1 g c =

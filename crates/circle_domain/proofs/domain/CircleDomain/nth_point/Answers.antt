@@ -3,7 +3,7 @@ use Rattle.circle_field.specs.Circle.{Coordinates, opposite, plus, times}
 use Rattle.circle_domain.specs.Domain.{log_size, shift_of}
 use Rattle.circle_point.specs.Point.{coordinates}
 use Rattle.circle_domain.proofs.Orders.{two_halves, natural_from-even, natural_from-odd}
-use Rattle.circle_plane.proofs.domain.CircleDomain.nth_point.Goals as goal
+use Rattle.circle_domain.proofs.domain.CircleDomain.nth_point.Goals as goal
 
 pub returns-then-index-eq0 : goal.returns-then-index-eq0
 returns-then-index-eq0 g c =

@@ -4,7 +4,7 @@ use Rattle.circle_domain.specs.Domain.{alternating, log_size, shift_of}
 use Rattle.circle_domain.specs.Order.{natural_from}
 use Rattle.circle_point.specs.Point.{coordinates}
 use Rattle.circle_domain.proofs.Orders.{two_halves, first_even, first_odd, alternating-natural, length-alternating}
-use Rattle.circle_plane.proofs.domain.CircleDomain.points.Goals as goal
+use Rattle.circle_domain.proofs.domain.CircleDomain.points.Goals as goal
 
 pub returns-clause-order : goal.returns-clause-order
 returns-clause-order g c =

@@ -4,7 +4,7 @@ use Rattle.circle_commit.specs.Matrix.{mapped_rows}
 use Rattle.circle_domain.specs.Ordering.{cfft_index}
 use Rattle.circle_domain.proofs.Powers.{log_of_power, pow_injective}
 use Rattle.circle_domain.proofs.Reversal.{cfft_index-below}
-use Rattle.circle_plane.proofs.ordering.AnyCfftPermutable.cfft_perm_rows.Goals as goal
+use Rattle.circle_domain.proofs.ordering.AnyCfftPermutable.cfft_perm_rows.Goals as goal
 
 pub returns-clause-height : goal.returns-clause-height
 returns-clause-height g c =

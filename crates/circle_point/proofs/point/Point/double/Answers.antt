@@ -4,7 +4,7 @@ use Rattle.circle_field.specs.Circle.{at}
 use Rattle.circle_field.specs.CircleGroup.{plus-on_circle, same-on_circle, doubling}
 use Rattle.circle_point.specs.Basis.{doubled_x}
 use Rattle.circle_point.specs.Point.{coordinates}
-use Rattle.circle_plane.proofs.point.Point.double.Goals as goal
+use Rattle.circle_point.proofs.point.Point.double.Goals as goal
 
 pub invariant_of-result : goal.invariant_of-result
 invariant_of-result g c =

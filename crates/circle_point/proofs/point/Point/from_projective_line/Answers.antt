@@ -5,7 +5,7 @@ use Rattle.circle_field.specs.Circle.{at}
 use Rattle.circle_field.specs.CircleGroup.{same-on_circle}
 use Rattle.circle_point.specs.Projective.{line_norm, from_line, to_line}
 use Rattle.circle_point.proofs.Projections.{line_norm-zero, from_line-on_circle, to_line-from_line}
-use Rattle.circle_plane.proofs.point.Point.from_projective_line.Goals as goal
+use Rattle.circle_point.proofs.point.Point.from_projective_line.Goals as goal
 
 pub returns-in_err-inverse-clause-none : goal.returns-in_err-inverse-clause-none
 returns-in_err-inverse-clause-none g c =

@@ -2,7 +2,7 @@ use Rattle.std.proofs.Common.{◌≡◌, ◌^◌, sym, ◌∙◌, ap, arith}
 use Rattle.circle_field.specs.Circle.{times}
 use Rattle.circle_point.specs.Point.{coordinates}
 use Rattle.circle_point.proofs.Multiples.{times-one, doubled-times}
-use Rattle.circle_plane.proofs.point.Point.repeated_double.Goals as goal
+use Rattle.circle_point.proofs.point.Point.repeated_double.Goals as goal
 
 pub loop-init : goal.loop-init
 loop-init g c = sym (times-one g.F.Operations.laws.ring (coordinates c.args.self))

@@ -2,7 +2,7 @@ use Rattle.std.proofs.Common.{◌≡◌, ◌-◌, ◌*◌, ◌∙◌, ap}
 use Rattle.circle_field.specs.Field.{nth_power, two}
 use Rattle.circle_point.specs.Point.{coordinates}
 use Rattle.circle_point.proofs.Selectors.{normalisation}
-use Rattle.circle_plane.proofs.point.Point.s_p_at_p.Goals as goal
+use Rattle.circle_point.proofs.point.Point.s_p_at_p.Goals as goal
 
 pub returns : goal.returns
 returns g c =

@@ -5,7 +5,7 @@ use Rattle.circle_field.specs.RingFacts.{neg_unique}
 use Rattle.circle_point.specs.Point.{coordinates}
 use Rattle.circle_point.specs.Projective.{from_line, to_line}
 use Rattle.circle_point.proofs.Projections.{from_line-to_line}
-use Rattle.circle_plane.proofs.point.Point.to_projective_line.Goals as goal
+use Rattle.circle_point.proofs.point.Point.to_projective_line.Goals as goal
 
 pub returns-in_err-inverse-clause-none : goal.returns-in_err-inverse-clause-none
 returns-in_err-inverse-clause-none g c =

@@ -3,7 +3,7 @@ use Rattle.std.proofs.lemmas.Grind.{common_steps}
 use Rattle.circle_point.specs.Basis.{doubled_x, iterated_x}
 use Rattle.circle_point.specs.Point.{coordinates}
 use Rattle.circle_point.proofs.Multiples.{iterated_x-suc, iterated_x-times}
-use Rattle.circle_plane.proofs.point.Point.v_n.Goals as goal
+use Rattle.circle_point.proofs.point.Point.v_n.Goals as goal
 
 pub loop-preserved : goal.loop-preserved
 loop-preserved g c =

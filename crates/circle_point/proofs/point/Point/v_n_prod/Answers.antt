@@ -3,7 +3,7 @@ use Rattle.std.proofs.lemmas.Grind.{common_steps}
 use Rattle.circle_point.specs.Basis.{doubled_x, iterated_x, vanishing_product}
 use Rattle.circle_point.specs.Point.{coordinates}
 use Rattle.circle_point.proofs.Multiples.{iterated_x-suc}
-use Rattle.circle_plane.proofs.point.Point.v_n_prod.Goals as goal
+use Rattle.circle_point.proofs.point.Point.v_n_prod.Goals as goal
 
 pub loop-preserved : goal.loop-preserved
 loop-preserved g c =

@@ -1,7 +1,7 @@
 use Rattle.std.proofs.Common.{◌≡◌, ◌-◌, ◌≤◌}
 use Rattle.circle_point.specs.Basis.{iterated_x, vanishing_product}
 use Rattle.circle_point.specs.Point.{coordinates}
-use Rattle.circle_plane.proofs.point.Point.v_n_prod.Given as goal
+use Rattle.circle_point.proofs.point.Point.v_n_prod.Given as goal
 
 abbrev pub invariant-loop : goal.invariant-loop
 invariant-loop g l = record {

@@ -3,7 +3,7 @@ use Rattle.std.proofs.lemmas.Grind.{common_steps}
 use Rattle.circle_field.specs.Field.{sub}
 use Rattle.circle_point.specs.Point.{coordinates}
 use Rattle.circle_point.proofs.Selectors.{vanishing_norm}
-use Rattle.circle_plane.proofs.point.Point.v_p.Goals as goal
+use Rattle.circle_point.proofs.point.Point.v_p.Goals as goal
 
 pub returns-clause-norm : goal.returns-clause-norm
 returns-clause-norm g c =

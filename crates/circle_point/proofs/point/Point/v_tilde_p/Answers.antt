@@ -3,7 +3,7 @@ use Rattle.circle_field.specs.Circle.{Coordinates, plus, lifted}
 use Rattle.circle_field.proofs.Inverses.{some_unless}
 use Rattle.circle_point.specs.Point.{coordinates}
 use Rattle.circle_point.proofs.Selectors.{not_infinite}
-use Rattle.circle_plane.proofs.point.Point.v_tilde_p.Goals as goal
+use Rattle.circle_point.proofs.point.Point.v_tilde_p.Goals as goal
 
 pub unwrap-requires : goal.unwrap-requires
 unwrap-requires g c =

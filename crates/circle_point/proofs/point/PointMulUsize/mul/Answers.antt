@@ -3,8 +3,8 @@ use Rattle.std.proofs.lemmas.Grind.{common_steps}
 use Rattle.circle_field.specs.Circle.{Coordinates, origin, plus, times}
 use Rattle.circle_point.specs.Point.{coordinates}
 use Rattle.circle_point.proofs.Multiples.{origin-plus, halved_even, halved_odd, no_more}
-use Rattle.circle_plane.proofs.point.PointMulUsize.mul.Goals as goal
-use Rattle.circle_plane.proofs.point.PointMulUsize.mul.Goals.{then-rest-eq1, else-rest-eq1}
+use Rattle.circle_point.proofs.point.PointMulUsize.mul.Goals as goal
+use Rattle.circle_point.proofs.point.PointMulUsize.mul.Goals.{then-rest-eq1, else-rest-eq1}
 
 pub loop-rest-init : goal.loop-rest-init
 loop-rest-init g c =

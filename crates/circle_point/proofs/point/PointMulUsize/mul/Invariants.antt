@@ -1,7 +1,7 @@
 use Rattle.std.proofs.Common.{◌≡◌}
 use Rattle.circle_field.specs.Circle.{plus, times}
 use Rattle.circle_point.specs.Point.{coordinates}
-use Rattle.circle_plane.proofs.point.PointMulUsize.mul.Given as goal
+use Rattle.circle_point.proofs.point.PointMulUsize.mul.Given as goal
 
 abbrev pub invariant-loop-rest : goal.invariant-loop-rest
 invariant-loop-rest g l =

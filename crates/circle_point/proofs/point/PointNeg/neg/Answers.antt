@@ -3,7 +3,7 @@ use Rattle.std.proofs.lemmas.Grind.{common_steps}
 use Rattle.circle_field.specs.Circle.{at, plus, opposite}
 use Rattle.circle_point.specs.Point.{coordinates}
 use Rattle.circle_field.specs.CircleGroup.{opposite-on_circle, same-on_circle, plus-opposite}
-use Rattle.circle_plane.proofs.point.PointNeg.neg.Goals as goal
+use Rattle.circle_point.proofs.point.PointNeg.neg.Goals as goal
 
 pub invariant_of-result : goal.invariant_of-result
 invariant_of-result g c =

@@ -3,7 +3,7 @@ use Rattle.std.proofs.lemmas.Grind.{common_steps}
 use Rattle.circle_field.specs.Circle.{at, origin}
 use Rattle.circle_field.specs.CircleGroup.{origin-on_circle, same-on_circle}
 use Rattle.circle_point.proofs.Points.{same_point}
-use Rattle.circle_plane.proofs.point.PointNeutral.ZERO.Goals as goal
+use Rattle.circle_point.proofs.point.PointNeutral.ZERO.Goals as goal
 use base.Stored.{Coded-set}
 
 pub invariant_of-result : goal.invariant_of-result

@@ -3,7 +3,7 @@ use Rattle.std.proofs.lemmas.Grind.{common_steps}
 use Rattle.circle_field.specs.Circle.{Coordinates, lifted, at, plus, opposite}
 use Rattle.circle_field.specs.CircleGroup.{lifted-on_circle, plus-on_circle, opposite-on_circle, same-on_circle, difference, difference-plus}
 use Rattle.circle_point.specs.Point.{coordinates}
-use Rattle.circle_plane.proofs.point.PointSub.sub.Goals as goal
+use Rattle.circle_point.proofs.point.PointSub.sub.Goals as goal
 
 pub invariant_of-result : goal.invariant_of-result
 invariant_of-result g c =
