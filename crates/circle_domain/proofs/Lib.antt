@@ -4,6 +4,7 @@ pub mod CosetOrder
 pub mod HalfSums
 pub mod Inversion
 pub mod Layering
+pub mod Lifted
 pub mod Orders
 pub mod OtherOrder
 pub mod Powers
