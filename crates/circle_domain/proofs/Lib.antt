@@ -7,6 +7,7 @@ pub mod Lagrange
 pub mod LagrangeQuotients
 pub mod LagrangeShares
 pub mod Layering
+pub mod Lifted
 pub mod Orders
 pub mod OtherOrder
 pub mod Powers
