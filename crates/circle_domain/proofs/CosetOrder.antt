@@ -28,14 +28,14 @@ module _ {F : Type 0} (k : FieldOps F) where
   length-with_opposites [] = refl
   length-with_opposites (q ∷ qs) = let e = length-with_opposites qs in omega (arith, e)
 
-  with_opposites-even : (qs : List (Coordinates F)) (h i : ℕ) (d : Coordinates F) → i ≡ h + h → h < length qs → slice_index_or (with_opposites k qs) i d ≡ slice_index_or qs h d
+  pub with_opposites-even : (qs : List (Coordinates F)) (h i : ℕ) (d : Coordinates F) → i ≡ h + h → h < length qs → slice_index_or (with_opposites k qs) i d ≡ slice_index_or qs h d
   with_opposites-even [] h i d e lt = absurd (omega arith)
   with_opposites-even (q ∷ qs) zero i d e lt = ap (λ j. slice_index_or (with_opposites k (q ∷ qs)) j d) e
   with_opposites-even (q ∷ qs) (suc h) i d e lt =
       let two : suc h + suc h ≡ suc (suc (h + h)) = omega arith in
       ap (λ j. slice_index_or (with_opposites k (q ∷ qs)) j d) (e ∙ two) ∙ with_opposites-even qs h (h + h) d refl (omega arith)
 
-  with_opposites-odd : (qs : List (Coordinates F)) (h i : ℕ) (d : Coordinates F) → i ≡ suc (h + h) → h < length qs → slice_index_or (with_opposites k qs) i d ≡ opposite k (slice_index_or qs h d)
+  pub with_opposites-odd : (qs : List (Coordinates F)) (h i : ℕ) (d : Coordinates F) → i ≡ suc (h + h) → h < length qs → slice_index_or (with_opposites k qs) i d ≡ opposite k (slice_index_or qs h d)
   with_opposites-odd [] h i d e lt = absurd (omega arith)
   with_opposites-odd (q ∷ qs) zero i d e lt = ap (λ j. slice_index_or (with_opposites k (q ∷ qs)) j d) e
   with_opposites-odd (q ∷ qs) (suc h) i d e lt =
@@ -91,7 +91,7 @@ module _ {F : Type 0} {k : FieldOps F} (laws : RingLaws k) where
         (cases_lt h (2 ^ m))
 
     -- the point at a place of the transform's order
-    cfft-place : (m i : ℕ) (s d : Coordinates F) → i < 2 ^ suc m → m ≤ bits →
+    pub cfft-place : (m i : ℕ) (s d : Coordinates F) → i < 2 ^ suc m → m ≤ bits →
         slice_index_or (with_opposites k (coset k gen m s)) i d ≡ slice_index_or (natural_from k (2 ^ m) (gen m) s 0) (cfft_index (suc m) i) d
     cfft-place m i s d lt fits =
         let h = i / 2 in

@@ -19,12 +19,23 @@ use Rattle.circle_domain.specs.Lagrange.{dot, shares}
 use Rattle.circle_domain.specs.Order.{coset, cfft_order, with_opposites}
 use Rattle.circle_domain.proofs.Blocks.{all-append, times-plus, times-generator-past, points-cfft_order}
 use Rattle.circle_domain.proofs.Inversion.{factor-nonzero, first-genuine, flat-point, twice}
-use Rattle.circle_domain.proofs.Lagrange.{weight, twice-nonzero, neg-nonzero, lagrange}
+use Rattle.circle_domain.proofs.LagrangePolynomials.{weight, twice-nonzero, neg-nonzero, lagrange}
 use Rattle.circle_domain.proofs.LagrangeQuotients.{share, doubled, weight-share, normalised}
 
 pub all-split : {X : Type 0} (P : X → Type 0) (xs ys : List X) → AllByRecursion P (xs ++ ys) → AllByRecursion P xs × AllByRecursion P ys
 all-split P [] ys h = (tt, h)
 all-split P (x ∷ xs) ys h = let rest = all-split P xs ys h.1 in ((h.0, rest.0), rest.1)
+
+-- the shares of one point more
+pub shares-more : {F : Type 0} (k : FieldOps F) (q : Coordinates F) (ps : List (Coordinates F)) (p : Coordinates F) →
+    shares k q (ps ++ p ∷ []) ≡ (shares k q ps ++ k.mul (k.add p.y q.y) (k.inv (sub k p.x q.x)) ∷ []) ++ k.mul (sub k p.y q.y) (k.inv (sub k p.x q.x)) ∷ []
+shares-more k q [] p = refl
+shares-more k q (r ∷ ps) p =
+    ap (λ rest. k.mul (k.add r.y q.y) (k.inv (sub k r.x q.x)) ∷ k.mul (sub k r.y q.y) (k.inv (sub k r.x q.x)) ∷ rest) (shares-more k q ps p)
+
+pub length-shares : {F : Type 0} (k : FieldOps F) (q : Coordinates F) (ps : List (Coordinates F)) → length (shares k q ps) ≡ length ps + length ps
+length-shares k q [] = refl
+length-shares k q (p ∷ ps) = let e = length-shares k q ps in omega (arith, e)
 
 module _ {F : Type 0} {k : FieldOps F} (laws : FieldLaws k) where
   pub dot-multiple : (u : F) (xs ys : List F) → dot k (map (λ x. k.mul x u) xs) ys ≡ k.mul (dot k xs ys) u

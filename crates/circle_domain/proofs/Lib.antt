@@ -1,13 +1,16 @@
+pub mod Apart
 pub mod Blocks
 pub mod Columns
 pub mod CosetOrder
 pub mod HalfSums
 pub mod Inversion
-pub mod Lagrange
+pub mod LagrangePolynomials
 pub mod LagrangeQuotients
 pub mod LagrangeShares
+pub mod LagrangeValues
 pub mod Layering
 pub mod Lifted
+pub mod LiftedValues
 pub mod Orders
 pub mod OtherOrder
 pub mod Powers

@@ -1,8 +1,10 @@
-//! Domains of the circle transform and the two orders of their points.
+//! Domains of the circle transform, the two orders of their points, and their Lagrange polynomials.
 #![tactic(auto)]
 
 pub mod domain;
+pub mod lagrange;
 pub mod ordering;
 
 pub use domain::{CircleCoset, CircleDomain, CirclePoints};
-pub use ordering::{CfftPerm, CfftPermutable, CfftView, cfft_permute_index};
+pub use lagrange::{LagrangeWeights, lagrange_weights};
+pub use ordering::{CfftPerm, CfftPermutable, CfftView, cfft_permute_index, first_points};

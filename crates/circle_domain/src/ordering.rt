@@ -1,10 +1,17 @@
 //! The order of the circle transform, as a permutation of the natural order of a domain.
-ghost use Rattle.std.specs.Prelude.{ℕ, ◌≡◌, ◌≤◌, ◌<◌, ◌^◌, Ok};
+ghost use Rattle.std.specs.Prelude.{ℕ, ◌≡◌, ◌≤◌, ◌<◌, ◌^◌, ◌-◌, ◌++◌, map, Ok, IfOk, OnOk};
 ghost use Rattle.circle_domain.specs.Ordering.{cfft_index, reversed, other_order};
 ghost use Rattle.circle_commit.specs.Matrix.{IsPowerOfTwo};
+ghost use Rattle.circle_field.specs.Circle.{plus};
+ghost use Rattle.circle_point.specs.Point.{coordinates};
+ghost use Rattle.circle_domain.specs.Domain.{log_size, shift_of};
+ghost use Rattle.circle_domain.specs.Order.{coset};
 
+use crate::domain::CircleDomain;
 use circle_commit::{Matrix, RowIndexMap, RowIndexMappedView, Shape};
-use std::alloc::AllocError;
+use circle_field::{ComplexExtendable, Field};
+use circle_point::Point;
+use std::alloc::{AllocError, Global};
 
 /// The natural place of the point at place `index` of the transform's order, among `2^log_n` points:
 /// with `h = index / 2`, the `log_n`-bit reversal of `h` where `index` is even, and of
@@ -113,4 +120,36 @@ impl<T, M: Matrix<T>> CfftPermutable<T> for M {
             inner: self,
         }
     }
+}
+
+/// The first points of the pairs of opposite points, in the order of the transform.
+///
+/// Asks `1 <= log_n <= CIRCLE_TWO_ADICITY`. Fails where memory is refused.
+pub fn first_points<F: ComplexExtendable>(
+    alloc: Global,
+    domain: CircleDomain<F>,
+) -> Result<Vec<Point<F>>, AllocError>
+    requires positive { 1 ≤ log_size domain }
+    requires in_group { log_size domain ≤ F.CIRCLE_TWO_ADICITY }
+    ensures { IfOk result (λ points. map coordinates points.items
+        ≡ coset F.ops F.generators (log_size domain - 1) (shift_of domain)) }
+{
+    let mut points = Vec::with_capacity(alloc, domain.size() / 2)?;
+    points.push(domain.shift())?;
+    for log_order in 1..domain.log_n() {
+        append_moved(&mut points, Point::generator(log_order))?;
+    }
+    Ok(points)
+}
+
+// Appends to the points each of them moved by `step`.
+fn append_moved<F: Field>(points: &mut Vec<Point<F>>, step: Point<F>) -> Result<(), AllocError>
+    ensures { OnOk result (map coordinates points.new.items
+        ≡ map coordinates points.old.items ++ map (λ p. plus F.ops p (coordinates step)) (map coordinates points.old.items)) }
+{
+    for i in 0..points.len() {
+        let moved = points[i] + step;
+        points.push(moved)?;
+    }
+    Ok(())
 }

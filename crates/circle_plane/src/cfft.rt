@@ -14,7 +14,7 @@ ghost use Rattle.circle_domain.specs.Layers.{copies, every_second, layer_factors
 
 use crate::layers::{Backward, Forward, apply_layer};
 use circle_commit::{Matrix, RowMajorMatrix, Shape};
-use circle_domain::{CfftPermutable, CfftView, CircleDomain};
+use circle_domain::{CfftPermutable, CfftView, CircleDomain, first_points};
 use circle_field::{ComplexExtendable, Field, Operations, batch_multiplicative_inverse};
 use circle_point::Point;
 use std::alloc::{AllocError, Global};
@@ -274,36 +274,6 @@ fn layer_after<F: Field>(
     } else {
         every_second_doubled(alloc, before)
     }
-}
-
-// The first points of the pairs of opposite points, in the order of the transform.
-fn first_points<F: ComplexExtendable>(
-    alloc: Global,
-    domain: CircleDomain<F>,
-) -> Result<Vec<Point<F>>, AllocError>
-    requires positive { 1 ≤ log_size domain }
-    requires in_group { log_size domain ≤ F.CIRCLE_TWO_ADICITY }
-    ensures { IfOk result (λ points. map coordinates points.items
-        ≡ coset F.ops F.generators (log_size domain - 1) (shift_of domain)) }
-{
-    let mut points = Vec::with_capacity(alloc, domain.size() / 2)?;
-    points.push(domain.shift())?;
-    for log_order in 1..domain.log_n() {
-        append_moved(&mut points, Point::generator(log_order))?;
-    }
-    Ok(points)
-}
-
-// Appends to the points each of them moved by `step`.
-fn append_moved<F: Field>(points: &mut Vec<Point<F>>, step: Point<F>) -> Result<(), AllocError>
-    ensures { OnOk result (map coordinates points.new.items
-        ≡ map coordinates points.old.items ++ map (λ p. plus F.ops p (coordinates step)) (map coordinates points.old.items)) }
-{
-    for i in 0..points.len() {
-        let moved = points[i] + step;
-        points.push(moved)?;
-    }
-    Ok(())
 }
 
 // The y coordinates of the points.

@@ -4,7 +4,7 @@ use Rattle.circle_domain.specs.Domain.{shift_of, log_size}
 use Rattle.circle_domain.specs.Order.{coset}
 use Rattle.circle_point.specs.Point.{coordinates}
 use Rattle.circle_domain.proofs.Twiddles.{coset-more}
-use Rattle.circle_plane.proofs.cfft.first_points.Goals as goal
+use Rattle.circle_domain.proofs.ordering.first_points.Goals as goal
 
 pub loop-log_order-preserved : goal.loop-log_order-preserved
 loop-log_order-preserved g c =

@@ -3,7 +3,7 @@ use Rattle.std.proofs.Math.ListN.{get_or-map}
 use Rattle.std.proofs.lemmas.List.{length-map, take_more, map-append, get_or_append_left}
 use Rattle.circle_field.specs.Circle.{Coordinates, plus}
 use Rattle.circle_point.specs.Point.{coordinates}
-use Rattle.circle_plane.proofs.cfft.append_moved.Goals as goal
+use Rattle.circle_domain.proofs.ordering.append_moved.Goals as goal
 
 pub loop-i-preserved : goal.loop-i-preserved
 loop-i-preserved g c =

@@ -2,7 +2,7 @@ use Rattle.std.proofs.Common.{◌≡◌, ◌++◌, ◌≤◌, map, take}
 use Rattle.std.specs.Prelude.{vec_len}
 use Rattle.circle_field.specs.Circle.{plus}
 use Rattle.circle_point.specs.Point.{coordinates}
-use Rattle.circle_plane.proofs.cfft.append_moved.Given as goal
+use Rattle.circle_domain.proofs.ordering.append_moved.Given as goal
 
 abbrev pub invariant-loop-i : goal.invariant-loop-i
 invariant-loop-i g l =

@@ -1,0 +1,55 @@
+use Rattle.std.proofs.Common.{◌≡◌, ◌≢◌, ◌<◌, ◌+◌, ◌++◌, [], ◌∷◌, ◌∙◌, sym, ap, subst, arith, length, map, take, slice_index_or, All}
+use Rattle.std.proofs.lemmas.List.{length-map, map_more, take_all, get_or-map}
+use Rattle.circle_field.specs.Circle.{lifted}
+use Rattle.circle_field.specs.Field.{sub}
+use Rattle.circle_point.specs.Point.{coordinates}
+use Rattle.circle_point.specs.declared.point.Point.{Point}
+use Rattle.circle_domain.specs.Lagrange.{shares}
+use Rattle.circle_domain.proofs.LagrangeShares.{shares-more}
+use Rattle.circle_domain.proofs.lagrange.shares_of.Goals as goal
+
+pub batch_multiplicative_inverse-requires : goal.batch_multiplicative_inverse-requires
+batch_multiplicative_inverse-requires g c =
+    let NonZero : g.row.EF.Denot → Type 0 = λ d. d ≢ g.EF.Operations.ops.zero in
+    subst (All NonZero) (sym (c.deref.ensures.value ∙ c.in_ok-differences.ensures)) c.requires
+
+pub loop-i-preserved : goal.loop-i-preserved
+loop-i-preserved g c =
+    let l = g.EF.Operations.ops in
+    let m = g.EF.ExtensionField.embed in
+    let q = coordinates c.args.at in
+    let points = c.args.points.now in
+    let i = c.loop-i.i in
+    let p = c.index-points-i.result in
+    let up = λ (r : Point g.row.F.Denot g.F.Operations). lifted m (coordinates r) in
+    let apart = λ (r : Point g.row.F.Denot g.F.Operations). sub l (m (coordinates r).x) q.x in
+    let before = map up (take i points) in
+    let below : i < length points = c.loop-i-test.true in
+    let inverses : c.in_ok-inverses.inverses.items ≡ map l.inv (map apart points) =
+    c.in_ok-inverses.ensures ∙ ap (map l.inv) (c.deref.ensures.value ∙ c.in_ok-differences.ensures) in
+    let inverse_of : (v : _) → v ≡ slice_index_or c.in_ok-inverses.inverses.items i v → v ≡ l.inv (apart p) =
+    λ v e. e ∙ ap (λ xs. slice_index_or xs i v) inverses
+    ∙ get_or-map l.inv (map apart points) i (apart p) v (omega (arith, below, length-map points apart))
+    ∙ ap l.inv (get_or-map apart points i p (apart p) below ∙ ap apart (sym c.index-points-i.is)) in
+    let y : c.from_base-y.result ≡ m (coordinates p).y = c.from_base-y.ensures ∙ ap m c.y.ensures in
+    let first : c.mul.result ≡ l.mul (l.add (up p).y q.y) (l.inv (apart p)) =
+    g.met.EF.Field.mul_law _ _ _ c.mul.ensures
+    ∙ ap (λ a. l.mul a c.index.result.now) (g.met.EF.Field.add_law _ _ _ c.add.ensures ∙ ap (λ a. l.add a c.y-in-loop-i.result) y ∙ ap (l.add (m (coordinates p).y)) c.y-in-loop-i.ensures)
+    ∙ ap (l.mul (l.add (up p).y q.y)) (inverse_of c.index.result.now c.index.ensures) in
+    let second : c.mul-in-loop-i.result ≡ l.mul (sub l (up p).y q.y) (l.inv (apart p)) =
+    g.met.EF.Field.mul_law _ _ _ c.mul-in-loop-i.ensures
+    ∙ ap (λ a. l.mul a c.index-in-loop-i.result.now) (g.met.EF.Field.sub_law _ _ _ c.sub.ensures ∙ ap (λ a. sub l a c.y-in-loop-i-2.result) y ∙ ap (sub l (m (coordinates p).y)) c.y-in-loop-i-2.ensures)
+    ∙ ap (l.mul (sub l (up p).y q.y)) (inverse_of c.index-in-loop-i.result.now c.index-in-loop-i.ensures) in
+    c.in_ok-push-2.ensures.items
+    ∙ ap (λ xs. xs ++ c.mul-in-loop-i.result ∷ []) (c.in_ok-push.ensures.items ∙ ap (λ xs. xs ++ c.mul.result ∷ []) c.loop-i.invariant)
+    ∙ ap (λ a. (shares l q before ++ a ∷ []) ++ c.mul-in-loop-i.result ∷ []) first
+    ∙ ap (λ b. (shares l q before ++ l.mul (l.add (up p).y q.y) (l.inv (apart p)) ∷ []) ++ b ∷ []) second
+    ∙ sym (shares-more l q before (up p))
+    ∙ ap (λ r. shares l q (before ++ up r ∷ [])) c.index-points-i.is
+    ∙ ap (shares l q) (sym (map_more up points i p below))
+
+pub returns : goal.returns
+returns g c =
+    let l = g.EF.Operations.ops in
+    let up = λ (r : Point g.row.F.Denot g.F.Operations). lifted g.EF.ExtensionField.embed (coordinates r) in
+    c.loop-i.invariant ∙ ap (λ ps. shares l (coordinates c.args.at) (map up ps)) (take_all c.loop-i.i c.args.points.now (omega (arith, c.loop-i-test.false)))

@@ -1,0 +1,95 @@
+//! Values off a domain from those on it, by the Lagrange polynomials of the domain's points
+//! (Circle STARKs, IACR ePrint 2024/278, section 4.3).
+//!
+//! At `at` the Lagrange polynomial of a point `p` is `(y_p + y_at) / (x_p - x_at)` times a factor that,
+//! but for its sign, all points of the domain share. The signs of `p` and of its opposite differ, so that
+//! one division serves both.
+ghost use Rattle.std.specs.Prelude.{◌≡◌, ◌≢◌, ◌≤◌, ◌^◌, ◌-◌, List, length, map, All, IfOk};
+ghost use Rattle.circle_field.specs.Field.{sub};
+ghost use Rattle.circle_field.specs.Circle.{lifted};
+ghost use Rattle.circle_point.specs.Basis.{value};
+ghost use Rattle.circle_point.specs.Point.{coordinates};
+ghost use Rattle.circle_domain.specs.Clear.{IsClearOf};
+ghost use Rattle.circle_domain.specs.Domain.{log_size, shift_of};
+ghost use Rattle.circle_domain.specs.Lagrange.{dot, shares};
+ghost use Rattle.circle_domain.specs.Order.{IsGenuine, natural_order, cfft_order};
+
+use crate::domain::CircleDomain;
+use crate::ordering::first_points;
+use circle_field::{ComplexExtendable, ExtensionField, Field, batch_multiplicative_inverse};
+use circle_point::Point;
+use std::alloc::{AllocError, Global};
+
+/// The Lagrange polynomials of a domain's points at one other point.
+#[derive(Drop)]
+pub struct LagrangeWeights<EF> {
+    /// The share of each point in the order of the transform.
+    pub shares: Vec<EF>,
+    /// What all shares are to be multiplied by.
+    pub scale: EF,
+}
+
+/// The Lagrange polynomials of the domain's points at `at`: the values of a polynomial with a coefficient
+/// for each point, each times its point's share, add up to its value at `at` once they are multiplied by
+/// the scale.
+///
+/// Asks a genuine domain with `log_n <= CIRCLE_TWO_ADICITY` that `at` is clear of. Fails where memory is
+/// refused.
+pub fn lagrange_weights<F: ComplexExtendable, EF: ExtensionField<F>>(
+    alloc: Global,
+    domain: CircleDomain<F>,
+    at: Point<EF>,
+) -> Result<LagrangeWeights<EF>, AllocError>
+    requires genuine { IsGenuine F.ops (log_size domain) (shift_of domain) }
+    requires in_group { log_size domain ≤ F.CIRCLE_TWO_ADICITY }
+    requires clear { IsClearOf EF.ops EF.embed (natural_order F.ops F.generators (log_size domain) (shift_of domain)) (coordinates at) }
+    ensures count { IfOk result (λ weights. length weights.shares.items ≡ 2 ^ log_size domain) }
+    ensures sum { IfOk result (λ weights. (coeffs : List F) → length coeffs ≡ 2 ^ log_size domain →
+        EF.ops.mul (dot EF.ops weights.shares.items (map EF.embed (map (value F.ops coeffs) (cfft_order F.ops F.generators (log_size domain) (shift_of domain))))) weights.scale
+        ≡ value EF.ops (map EF.embed coeffs) (coordinates at)) }
+{
+    let points = first_points(alloc, domain)?;
+    let shares = shares_of(alloc, &points, at)?;
+    let shift = domain.shift();
+    let normalisation = shift.s_p_at_p(domain.log_n()).try_inverse().unwrap();
+    let vanishing = at.v_n(domain.log_n()) - EF::from_base(shift.v_n(domain.log_n()));
+    Ok(LagrangeWeights {
+        shares,
+        scale: vanishing * EF::from_base(normalisation),
+    })
+}
+
+// For each point its share and that of its opposite.
+fn shares_of<F: Field, EF: ExtensionField<F>>(
+    alloc: Global,
+    points: &[Point<F>],
+    at: Point<EF>,
+) -> Result<Vec<EF>, AllocError>
+    requires { All (λ d. d ≢ EF.ops.zero) (map (λ p. sub EF.ops (EF.embed (coordinates p).x) (coordinates at).x) points.now) }
+    ensures { IfOk result (λ made. made.items ≡ shares EF.ops (coordinates at) (map (λ p. lifted EF.embed (coordinates p)) points.now)) }
+{
+    let differences = differences(alloc, points, at)?;
+    let inverses = batch_multiplicative_inverse(alloc, &differences)?;
+    let mut shares = Vec::with_capacity(alloc, inverses.len())?;
+    for (i, point) in points.iter().enumerate() {
+        let y = EF::from_base(point.y());
+        shares.push((y + at.y()) * inverses[i])?;
+        shares.push((y - at.y()) * inverses[i])?;
+    }
+    Ok(shares)
+}
+
+// How far the points' x coordinates are from that of `at`.
+fn differences<F: Field, EF: ExtensionField<F>>(
+    alloc: Global,
+    points: &[Point<F>],
+    at: Point<EF>,
+) -> Result<Vec<EF>, AllocError>
+    ensures { IfOk result (λ made. made.items ≡ map (λ p. sub EF.ops (EF.embed (coordinates p).x) (coordinates at).x) points.now) }
+{
+    let mut differences = Vec::with_capacity(alloc, points.len())?;
+    for point in points {
+        differences.push(EF::from_base(point.x()) - at.x())?;
+    }
+    Ok(differences)
+}
