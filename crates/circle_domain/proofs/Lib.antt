@@ -1,5 +1,7 @@
 pub mod Apart
 pub mod Blocks
+pub mod Coefficients
+pub mod ColumnSums
 pub mod Columns
 pub mod CosetOrder
 pub mod HalfSums
@@ -11,6 +13,7 @@ pub mod LagrangeValues
 pub mod Layering
 pub mod Lifted
 pub mod LiftedValues
+pub mod OffDomain
 pub mod Orders
 pub mod OtherOrder
 pub mod Powers

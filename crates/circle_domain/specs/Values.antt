@@ -1,8 +1,10 @@
 -- Coefficients whose polynomials have given values on a domain.
 use Rattle.std.specs.Prelude.{◌≡◌, ℕ, ◌^◌, List, ◌++◌, length, map, All, replicate}
+use Rattle.std.specs.List.{range_with_len}
 use Rattle.circle_field.specs.Field.{FieldOps}
 use Rattle.circle_field.specs.Circle.{Coordinates}
-use Rattle.circle_point.specs.Basis.{values_at}
+use Rattle.circle_commit.specs.Matrix.{column}
+use Rattle.circle_point.specs.Basis.{value, values_at}
 use Rattle.circle_domain.specs.Order.{cfft_order}
 
 -- as many coefficients as the domain (n, s) has points, a row for each index, whose polynomials' values
@@ -15,3 +17,7 @@ pub record HasValues {F : Type 0} (k : FieldOps F) (gen : ℕ → Coordinates F)
 -- the rows and so many rows of zeros
 abbrev pub with_zero_rows : {F : Type 0} → F → ℕ → ℕ → List (List F) → List (List F)
 with_zero_rows zero width count rows = rows ++ replicate count (replicate width zero)
+
+-- the values of the same polynomials at a point of a larger field
+abbrev pub lifted_values_at : {F E : Type 0} → F → FieldOps E → (F → E) → List (List F) → ℕ → Coordinates E → List E
+lifted_values_at zero l embed coeffs width q = map (λ j. value l (map embed (column zero coeffs j)) q) (range_with_len 0 width)

@@ -276,6 +276,14 @@ impl ExtensionField<Mersenne31> for Cubic {
         }
     }
 
+    fn times_base(self, factor: Mersenne31) -> Self {
+        Cubic {
+            c0: factor * self.c0,
+            c1: factor * self.c1,
+            c2: factor * self.c2,
+        }
+    }
+
     fn from_coefficients(coeffs: &[Mersenne31]) -> Self {
         Cubic {
             c0: coeffs[0],

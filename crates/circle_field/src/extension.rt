@@ -70,6 +70,13 @@ pub trait ExtensionField<F: Field>: Field {
         requires { length coeffs.now ≡ DEGREE }
         ensures { coefficients result ≡ coeffs.now };
 
+    /// The element times an element of the base field.
+    fn times_base(self, factor: F) -> Self
+        ensures { result ≡ Self.ops.mul (embed factor) self }
+    {
+        Self::from_base(factor) * self
+    }
+
     ghost degree_positive: { 1 ≤ DEGREE };
 
     ghost embedding: { IsEmbedding F.ops Self.ops embed };

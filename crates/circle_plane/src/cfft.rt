@@ -7,15 +7,19 @@ ghost use Rattle.circle_point.specs.Basis.{basis_values, values_at, doubled_x};
 ghost use Rattle.circle_field.specs.Circle.{plus};
 ghost use Rattle.circle_domain.specs.Order.{natural_order, cfft_order, coset, IsGenuine};
 ghost use Rattle.circle_point.specs.Point.{coordinates};
+ghost use Rattle.circle_domain.specs.Clear.{IsClearOf};
 ghost use Rattle.circle_domain.specs.Domain.{log_size, shift_of};
 ghost use Rattle.circle_domain.specs.Ordering.{other_order};
-ghost use Rattle.circle_domain.specs.Values.{HasValues, with_zero_rows};
+ghost use Rattle.circle_domain.specs.Values.{HasValues, with_zero_rows, lifted_values_at};
 ghost use Rattle.circle_domain.specs.Layers.{copies, every_second, layer_factors};
 
+use crate::dot_product::columnwise_dot_product;
 use crate::layers::{Backward, Forward, apply_layer};
 use circle_commit::{Matrix, RowMajorMatrix, Shape};
-use circle_domain::{CfftPermutable, CfftView, CircleDomain, first_points};
-use circle_field::{ComplexExtendable, Field, Operations, batch_multiplicative_inverse};
+use circle_domain::{CfftPermutable, CfftView, CircleDomain, first_points, lagrange_weights};
+use circle_field::{
+    ComplexExtendable, ExtensionField, Field, Operations, batch_multiplicative_inverse,
+};
 use circle_point::Point;
 use std::alloc::{AllocError, Global};
 
@@ -140,6 +144,37 @@ impl<F: ComplexExtendable, M: Matrix<F> + Drop> CircleEvaluations<F, M> {
     {
         let coeffs = self.interpolate(alloc)?;
         CircleEvaluations::evaluate(alloc, target, coeffs)
+    }
+}
+
+impl<F: ComplexExtendable, M: Matrix<F>> CircleEvaluations<F, M> {
+    ghost use Rattle.circle_plane.specs.CircleEvaluations.{domain_of, cfft_values};
+
+    /// The values at `point` of the only polynomials with these values, for each column (Circle STARKs,
+    /// section 4.3).
+    ///
+    /// Asks a genuine domain with `log_n <= CIRCLE_TWO_ADICITY` that `point` is clear of. Fails where
+    /// memory is refused.
+    pub fn evaluate_at_point<EF: ExtensionField<F>>(
+        &self,
+        alloc: Global,
+        point: Point<EF>,
+    ) -> Result<Vec<EF>, AllocError>
+        requires genuine { IsGenuine F.ops (log_size (domain_of self.now)) (shift_of (domain_of self.now)) }
+        requires in_group { log_size (domain_of self.now) ≤ F.CIRCLE_TWO_ADICITY }
+        requires clear { IsClearOf EF.ops EF.embed
+            (natural_order F.ops F.generators (log_size (domain_of self.now)) (shift_of (domain_of self.now))) (coordinates point) }
+        ensures values { IfOk result (λ values. (coeffs : List (List F)) ×
+            HasValues F.ops F.generators (log_size (domain_of self.now)) (shift_of (domain_of self.now)) (M.width (cfft_values self.now)) coeffs (M.rows (cfft_values self.now)) ×
+            (values.items ≡ lifted_values_at F.ops.zero EF.ops EF.embed coeffs (M.width (cfft_values self.now)) (coordinates point))) }
+        ensures only { IfOk result (λ values. (coeffs : List (List F)) →
+            HasValues F.ops F.generators (log_size (domain_of self.now)) (shift_of (domain_of self.now)) (M.width (cfft_values self.now)) coeffs (M.rows (cfft_values self.now)) →
+            values.items ≡ lifted_values_at F.ops.zero EF.ops EF.embed coeffs (M.width (cfft_values self.now)) (coordinates point)) }
+    {
+        let weights = lagrange_weights(alloc, self.domain, point)?;
+        let mut values = columnwise_dot_product(alloc, &self.values, &weights.shares)?;
+        scale(&mut values, weights.scale);
+        Ok(values)
     }
 }
 

@@ -2,6 +2,7 @@
 #![tactic(auto)]
 
 pub mod cfft;
+mod dot_product;
 mod layers;
 
 pub use cfft::{CircleEvaluations, circle_basis};
