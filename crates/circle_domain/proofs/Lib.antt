@@ -13,6 +13,7 @@ pub mod LagrangeValues
 pub mod Layering
 pub mod Lifted
 pub mod LiftedValues
+pub mod NaturalValues
 pub mod OffDomain
 pub mod Orders
 pub mod OtherOrder
