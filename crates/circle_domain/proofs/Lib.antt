@@ -1,10 +1,12 @@
 pub mod Blocks
 pub mod Columns
 pub mod CosetOrder
+pub mod Disjoint
 pub mod HalfSums
 pub mod Inversion
 pub mod Layering
 pub mod Lifted
+pub mod NextPoints
 pub mod Orders
 pub mod OtherOrder
 pub mod Powers
@@ -13,5 +15,6 @@ pub mod Stored
 pub mod Transform
 pub mod Twiddles
 pub mod Undoing
+pub mod Walking
 pub mod Written
 pub mod ZeroRows

@@ -5,4 +5,5 @@ pub mod Layers
 pub mod Order
 pub mod Ordering
 pub mod Rows
+pub mod Selectors
 pub mod Values

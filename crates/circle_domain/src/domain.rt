@@ -1,11 +1,15 @@
 //! Domains of the circle transform: twin cosets of a cyclic group of points.
-ghost use Rattle.std.specs.Prelude.{◌≡◌, ◌↔◌, ◌≤◌, ◌<◌, ◌+◌, ◌-◌, ◌^◌, IsTrue, Some, Ok, length, slice_get};
+ghost use Rattle.std.specs.Prelude.{◌≡◌, ◌≢◌, ◌↔◌, ◌⊎◌, ℕ, ◌≤◌, ◌<◌, ◌+◌, ◌-◌, ◌%◌, ◌^◌, nat_eq, if◌then◌else◌, IsTrue, IsNone, IfSome, Some, Ok, length, slice_get};
 ghost use Rattle.std.specs.Iterator.{YieldsFirstBy, item_count};
 ghost use Rattle.circle_field.specs.Circle.{opposite};
 ghost use Rattle.circle_domain.specs.Order.{IsGenuine, natural_order, half};
+ghost use Rattle.circle_point.specs.Point.{coordinates};
+ghost use Rattle.circle_point.specs.Projective.{from_line};
+ghost use Rattle.circle_domain.specs.Selectors.{IsFinite, IsLeastLog};
 
+use circle_commit::PolynomialSpace;
+use circle_field::{ComplexExtendable, ExtensionField, Field, Operations};
 use circle_point::{Neutral, Point};
-use circle_field::{ComplexExtendable, Field, Operations};
 use std::alloc::AllocError;
 
 /// A twin coset of the circle's group: `2^log_n` points, half of which are `shift + a * g` and half
@@ -61,8 +65,10 @@ impl<F: Operations> CircleDomain<F> {
 }
 
 impl<F: ComplexExtendable> CircleDomain<F> {
+    ghost use Rattle.circle_field.specs.Circle.{lifted};
     ghost use Rattle.circle_point.specs.Point.{coordinates};
     ghost use Rattle.circle_domain.specs.Domain.{log_size, shift_of, points_left, coset_left};
+    ghost use Rattle.circle_domain.specs.Selectors.{vanishing_on};
 
     /// The standard domain of `2^log_n` points: all points of order `2^(log_n + 1)`.
     ///
@@ -175,6 +181,14 @@ impl<F: ComplexExtendable> CircleDomain<F> {
         }
     }
 
+    // The vanishing polynomial of the domain at a point.
+    fn vanishing_poly<EF: ExtensionField<F>>(&self, at: Point<EF>) -> EF
+        requires { 1 ≤ log_size self.now }
+        ensures { result ≡ vanishing_on EF.ops (log_size self.now) (lifted EF.embed (shift_of self.now)) (coordinates at) }
+    {
+        at.v_n(self.log_n) - EF::from_base(self.shift.v_n(self.log_n))
+    }
+
     // The generator of the group that each half is a coset of.
     fn subgroup_generator(&self) -> Point<F>
         requires positive { 1 ≤ log_size self.now }
@@ -182,6 +196,128 @@ impl<F: ComplexExtendable> CircleDomain<F> {
         ensures { coordinates result ≡ F.generators (log_size self.now - 1) }
     {
         Point::generator(self.log_n - 1)
+    }
+}
+
+/// A point stands by its coordinate on the projective line, so all points but `(-1, 0)` have one.
+impl<F: ComplexExtendable> PolynomialSpace for CircleDomain<F> {
+    type Val = F;
+
+    ghost use Rattle.circle_field.specs.Circle.{Coordinates, plus, lifted};
+    ghost use Rattle.circle_point.specs.Projective.{to_line, from_line, half_turn};
+    ghost use Rattle.circle_domain.specs.Domain.{log_size, shift_of};
+    ghost use Rattle.circle_domain.specs.Selectors.{IsFinite, IsStandard, IsLeastLog, AreDisjoint, other_than, next_from, vanishing_on};
+
+    ghost size_asks = { λ d. log_size d ≤ 63 };
+
+    ghost size = { λ d. 2 ^ log_size d };
+
+    ghost transition_degree_multiple = { λ d. 1 };
+
+    ghost first_point_asks = { λ d. shift_of d ≢ half_turn F.ops };
+
+    ghost first_point_gives = { λ d t. t ≡ to_line F.ops (shift_of d) };
+
+    ghost next_point_asks = { λ d. (1 ≤ log_size d) × (log_size d ≤ F.CIRCLE_TWO_ADICITY) };
+
+    ghost next_point_gives = { λ e l embed d t r.
+        (IsNone r ↔ ((IsStandard F.CIRCLE_TWO_ADICITY F.generators (log_size d) (shift_of d) → ⊥)
+        ⊎ (IsFinite l t → ⊥)
+        ⊎ (next_from l embed F.generators (log_size d) t ≡ half_turn l)))
+        × IfSome r (λ next. next ≡ to_line l (next_from l embed F.generators (log_size d) t)) };
+
+    ghost try_create_disjoint_domain_asks = { λ d. (1 ≤ log_size d) × (log_size d ≤ F.CIRCLE_TWO_ADICITY) };
+
+    ghost try_create_disjoint_domain_gives = { λ d m r.
+        ((k : ℕ) → IsLeastLog m k → (IsNone r ↔ ((IsStandard F.CIRCLE_TWO_ADICITY F.generators (log_size d) (shift_of d) → ⊥)
+        ⊎ (F.CIRCLE_TWO_ADICITY < other_than (log_size d) k + 1))))
+        × IfSome r (λ other. (k : ℕ) → IsLeastLog m k → (log_size other ≡ other_than (log_size d) k)
+        × (shift_of other ≡ F.generators (log_size other + 1))) };
+
+    ghost vanishing_poly_at_point_asks = { λ e l embed d t. (1 ≤ log_size d) × IsFinite l t };
+
+    ghost vanishing_poly_at_point_gives = { λ e l embed d t r.
+        r ≡ vanishing_on l (log_size d) (lifted embed (shift_of d)) (from_line l t) };
+
+    fn size(&self) -> usize {
+        CircleDomain::size(self)
+    }
+
+    /// 1: the selector of the last row has the degree of a column.
+    fn transition_degree_multiple(&self) -> usize {
+        1
+    }
+
+    /// The coordinate of the shift.
+    ///
+    /// Asks that the shift is not `(-1, 0)`.
+    fn first_point(&self) -> F {
+        self.shift.to_projective_line().unwrap()
+    }
+
+    /// On a standard domain the coordinate of this point plus the generator of `2^log_n` points, by
+    /// which the natural order steps. `None` on others, at infinity (`t^2 = -1`), and where the sum
+    /// is `(-1, 0)`.
+    ///
+    /// Asks `1 <= log_n <= CIRCLE_TWO_ADICITY`.
+    fn next_point<Ext: ExtensionField<F>>(&self, point: Ext) -> Option<Ext>
+        requires positive { 1 ≤ log_size self.now }
+        requires in_group { log_size self.now ≤ F.CIRCLE_TWO_ADICITY }
+        ensures none { IsNone result ↔ ((IsStandard F.CIRCLE_TWO_ADICITY F.generators (log_size self.now) (shift_of self.now) → ⊥)
+            ⊎ (IsFinite Ext.ops point → ⊥)
+            ⊎ (next_from Ext.ops Ext.embed F.generators (log_size self.now) point ≡ half_turn Ext.ops)) }
+        ensures value { IfSome result (λ next. next ≡ to_line Ext.ops (next_from Ext.ops Ext.embed F.generators (log_size self.now) point)) }
+        ensures walk { IsStandard F.CIRCLE_TWO_ADICITY F.generators (log_size self.now) (shift_of self.now) → (i : ℕ) (p q : Coordinates F)
+            → slice_get (natural_order F.ops F.generators (log_size self.now) (shift_of self.now)) i ≡ Some p
+            → slice_get (natural_order F.ops F.generators (log_size self.now) (shift_of self.now)) ((i + 1) % 2 ^ log_size self.now) ≡ Some q
+            → point ≡ to_line Ext.ops (lifted Ext.embed p) → result ≡ Some (to_line Ext.ops (lifted Ext.embed q)) }
+    {
+        if !self.is_standard() {
+            return None;
+        }
+        let point = Point::from_projective_line(point)?;
+        (point + Point::<F>::generator(self.log_n)).to_projective_line()
+    }
+
+    /// The standard domain of the least number of points that is at least `min_size` and 2 and not
+    /// this domain's. `None` where this domain isn't standard or the group is too small.
+    ///
+    /// Asks `1 <= log_n <= CIRCLE_TWO_ADICITY`.
+    fn try_create_disjoint_domain(&self, min_size: usize) -> Option<Self>
+        requires positive { 1 ≤ log_size self.now }
+        requires in_group { log_size self.now ≤ F.CIRCLE_TWO_ADICITY }
+        ensures none { (k : ℕ) → IsLeastLog min_size k → (IsNone result
+            ↔ ((IsStandard F.CIRCLE_TWO_ADICITY F.generators (log_size self.now) (shift_of self.now) → ⊥)
+            ⊎ (F.CIRCLE_TWO_ADICITY < other_than (log_size self.now) k + 1))) }
+        ensures standard { IfSome result (λ other. (k : ℕ) → IsLeastLog min_size k → (log_size other ≡ other_than (log_size self.now) k)
+            × (shift_of other ≡ F.generators (log_size other + 1))) }
+        ensures enough { IfSome result (λ other. min_size ≤ 2 ^ log_size other) }
+        ensures disjoint { IfSome result (λ other. AreDisjoint
+            (natural_order F.ops F.generators (log_size other) (shift_of other))
+            (natural_order F.ops F.generators (log_size self.now) (shift_of self.now))) }
+    {
+        if !self.is_standard() {
+            return None;
+        }
+        let least = least_log(min_size);
+        let log_n = if least == self.log_n {
+            least + 1
+        } else {
+            least
+        };
+        if log_n < F::CIRCLE_TWO_ADICITY {
+            Some(Self::standard(log_n))
+        } else {
+            None
+        }
+    }
+
+    /// `v_n(point) - v_n(shift)` for `n = log_n`, where `v_n` is the vanishing polynomial of the
+    /// standard domain (section 3.3, equation 8).
+    ///
+    /// Asks `log_n >= 1` and a point that is not at infinity.
+    fn vanishing_poly_at_point<Ext: ExtensionField<F>>(&self, point: Ext) -> Ext {
+        self.vanishing_poly(finite_point(point))
     }
 }
 
@@ -242,5 +378,25 @@ impl<F: Field> Iterator for CircleCoset<F> {
         self.current = point + self.step;
         self.remaining -= 1;
         Some(point)
+    }
+}
+
+// The point of a coordinate of the projective line that is not at infinity.
+fn finite_point<F: Field>(t: F) -> Point<F>
+    requires { IsFinite F.ops t }
+    ensures { coordinates result ≡ from_line F.ops t }
+{
+    Point::from_projective_line(t).unwrap()
+}
+
+// The least number of at least 1 whose power of two is at least `min_size`.
+fn least_log(min_size: usize) -> usize
+    ensures least { IsLeastLog min_size result }
+    ensures small { result ≤ 64 }
+{
+    if min_size <= 2 {
+        1
+    } else {
+        (min_size - 1).ilog2() as usize + 1
     }
 }

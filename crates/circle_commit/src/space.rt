@@ -1,0 +1,65 @@
+//! Domains that polynomials are given on by their values.
+ghost use Rattle.std.specs.Prelude.{◌≡◌, ℕ, Option};
+ghost use Rattle.circle_field.specs.Field.{FieldOps};
+
+use circle_field::{ExtensionField, Field};
+
+/// A set of points on which a polynomial is given by its values, a row for each point.
+///
+/// A point stands here by one coordinate, in the field of the values or in an extension of it.
+/// What each call asks and gives is said by each space.
+pub trait PolynomialSpace: Copy {
+    /// The field of the values.
+    type Val: Field;
+
+    ghost size_asks: { Self → Type 0 };
+
+    ghost size: { Self → ℕ };
+
+    ghost transition_degree_multiple: { Self → ℕ };
+
+    ghost first_point_asks: { Self → Type 0 };
+
+    ghost first_point_gives: { Self → Self.Val → Type 0 };
+
+    ghost next_point_asks: { Self → Type 0 };
+
+    ghost next_point_gives: { (E : Type 0) → FieldOps E → (Self.Val → E) → Self → E → Option E → Type 0 };
+
+    ghost try_create_disjoint_domain_asks: { Self → Type 0 };
+
+    ghost try_create_disjoint_domain_gives: { Self → ℕ → Option Self → Type 0 };
+
+    ghost vanishing_poly_at_point_asks: { (E : Type 0) → FieldOps E → (Self.Val → E) → Self → E → Type 0 };
+
+    ghost vanishing_poly_at_point_gives: { (E : Type 0) → FieldOps E → (Self.Val → E) → Self → E → E → Type 0 };
+
+    /// The number of points.
+    fn size(&self) -> usize
+        requires { size_asks self.now }
+        ensures { result ≡ size self.now };
+
+    /// How many times the degree of a column the transition selector counts.
+    fn transition_degree_multiple(&self) -> usize
+        ensures { result ≡ transition_degree_multiple self.now };
+
+    /// The first point.
+    fn first_point(&self) -> Self::Val
+        requires { first_point_asks self.now }
+        ensures { first_point_gives self.now result };
+
+    /// The point after this one, where there is an algebraic rule for it.
+    fn next_point<Ext: ExtensionField<Self::Val>>(&self, point: Ext) -> Option<Ext>
+        requires { next_point_asks self.now }
+        ensures { next_point_gives Ext Ext.ops Ext.embed self.now point result };
+
+    /// A domain of at least so many points that has no point of this one.
+    fn try_create_disjoint_domain(&self, min_size: usize) -> Option<Self>
+        requires { try_create_disjoint_domain_asks self.now }
+        ensures { try_create_disjoint_domain_gives self.now min_size result };
+
+    /// The value at this point of a polynomial that is zero on the domain alone.
+    fn vanishing_poly_at_point<Ext: ExtensionField<Self::Val>>(&self, point: Ext) -> Ext
+        requires { vanishing_poly_at_point_asks Ext Ext.ops Ext.embed self.now point }
+        ensures { vanishing_poly_at_point_gives Ext Ext.ops Ext.embed self.now point result };
+}
