@@ -1,8 +1,9 @@
 //! Domains that polynomials are given on by their values.
-ghost use Rattle.std.specs.Prelude.{◌≡◌, ℕ, Option};
+ghost use Rattle.std.specs.Prelude.{◌≡◌, ℕ, Option, IfOk, List};
 ghost use Rattle.circle_field.specs.Field.{FieldOps};
 
 use circle_field::{ExtensionField, Field};
+use std::alloc::{AllocError, Global};
 
 /// A set of points on which a polynomial is given by its values, a row for each point.
 ///
@@ -29,6 +30,10 @@ pub trait PolynomialSpace: Copy {
     ghost try_create_disjoint_domain_asks: { Self → Type 0 };
 
     ghost try_create_disjoint_domain_gives: { Self → ℕ → Option Self → Type 0 };
+
+    ghost split_domains_asks: { Self → ℕ → Type 0 };
+
+    ghost split_domains_gives: { Self → ℕ → List Self → Type 0 };
 
     ghost vanishing_poly_at_point_asks: { (E : Type 0) → FieldOps E → (Self.Val → E) → Self → E → Type 0 };
 
@@ -57,6 +62,11 @@ pub trait PolynomialSpace: Copy {
     fn try_create_disjoint_domain(&self, min_size: usize) -> Option<Self>
         requires { try_create_disjoint_domain_asks self.now }
         ensures { try_create_disjoint_domain_gives self.now min_size result };
+
+    /// So many disjoint domains of equal sizes that make up this one. Fails where memory is refused.
+    fn split_domains(&self, alloc: Global, num_chunks: usize) -> Result<Vec<Self>, AllocError>
+        requires { split_domains_asks self.now num_chunks }
+        ensures { IfOk result (λ parts. split_domains_gives self.now num_chunks parts.items) };
 
     /// The value at this point of a polynomial that is zero on the domain alone.
     fn vanishing_poly_at_point<Ext: ExtensionField<Self::Val>>(&self, point: Ext) -> Ext

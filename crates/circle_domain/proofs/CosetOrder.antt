@@ -50,7 +50,7 @@ module _ {F : Type 0} {k : FieldOps F} (laws : RingLaws k) where
       sym (plus-origin laws o) ∙ ap (plus k o) (sym e) ∙ sym (plus_assoc laws o p q)
       ∙ ap (λ r. plus k r q) (plus_comm laws o p ∙ plus-opposite laws p c) ∙ plus_comm laws (origin k) q ∙ plus-origin laws q
 
-  opposite-plus : (p q : Coordinates F) → opposite k (plus k p q) ≡ plus k (opposite k p) (opposite k q)
+  pub opposite-plus : (p q : Coordinates F) → opposite k (plus k p q) ≡ plus k (opposite k p) (opposite k q)
   opposite-plus p q =
       let a : Expr = var 0 in let b : Expr = var 1 in let c : Expr = var 2 in let d : Expr = var 3 in
       let env : List F = p.x ∷ p.y ∷ q.x ∷ q.y ∷ [] in
@@ -91,7 +91,7 @@ module _ {F : Type 0} {k : FieldOps F} (laws : RingLaws k) where
         (cases_lt h (2 ^ m))
 
     -- the point at a place of the transform's order
-    cfft-place : (m i : ℕ) (s d : Coordinates F) → i < 2 ^ suc m → m ≤ bits →
+    pub cfft-place : (m i : ℕ) (s d : Coordinates F) → i < 2 ^ suc m → m ≤ bits →
         slice_index_or (with_opposites k (coset k gen m s)) i d ≡ slice_index_or (natural_from k (2 ^ m) (gen m) s 0) (cfft_index (suc m) i) d
     cfft-place m i s d lt fits =
         let h = i / 2 in

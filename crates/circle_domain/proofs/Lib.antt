@@ -9,8 +9,11 @@ pub mod Lifted
 pub mod NextPoints
 pub mod Orders
 pub mod OtherOrder
+pub mod PartLists
+pub mod Parts
 pub mod Powers
 pub mod Reversal
+pub mod Splitting
 pub mod Stored
 pub mod Transform
 pub mod Twiddles

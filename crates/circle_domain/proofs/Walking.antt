@@ -67,19 +67,19 @@ module _ {F : Type 0} {k : FieldOps F} (laws : FieldLaws k) where
 
 module _ {F : Type 0} {k : FieldOps F} (laws : RingLaws k) where
   -- multiples of multiples in either order
-  times-times : (m i : ℕ) (p : Coordinates F) → times k m (times k i p) ≡ times k i (times k m p)
+  pub times-times : (m i : ℕ) (p : Coordinates F) → times k m (times k i p) ≡ times k i (times k m p)
   times-times m zero p = times-origin laws m
   times-times m (suc i) p = times-plus laws m p (times k i p) ∙ ap (plus k (times k m p)) (times-times m i p)
 
   -- -s and 2 s and r
-  past_opposite : (s r : Coordinates F) → IsOnCircle k s → plus k (opposite k s) (plus k (plus k s s) r) ≡ plus k s r
+  pub past_opposite : (s r : Coordinates F) → IsOnCircle k s → plus k (opposite k s) (plus k (plus k s s) r) ≡ plus k s r
   past_opposite s r c =
       let o = opposite k s in
       sym (plus_assoc laws o (plus k s s) r)
       ∙ ap (λ q. plus k q r) (sym (plus_assoc laws o s s) ∙ ap (λ q. plus k q s) (plus_comm laws o s ∙ plus-opposite laws s c) ∙ origin-plus laws s)
 
   module _ {gen : ℕ → Coordinates F} {bits : ℕ} (gens : AreGenerators k bits gen) (n : ℕ) (positive : 1 ≤ n) (fits : n < bits) where
-    shift_twice : plus k (gen (n + 1)) (gen (n + 1)) ≡ gen n
+    pub shift_twice : plus k (gen (n + 1)) (gen (n + 1)) ≡ gen n
     shift_twice = let e : n + 1 ≡ suc n = omega arith in ap (λ m. plus k (gen m) (gen m)) e ∙ gens.doubled n fits
 
     step_twice : plus k (gen n) (gen n) ≡ gen (n - 1)

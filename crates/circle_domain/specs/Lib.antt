@@ -6,4 +6,5 @@ pub mod Order
 pub mod Ordering
 pub mod Rows
 pub mod Selectors
+pub mod Splitting
 pub mod Values

@@ -1,5 +1,5 @@
 //! Domains of the circle transform: twin cosets of a cyclic group of points.
-ghost use Rattle.std.specs.Prelude.{◌≡◌, ◌≢◌, ◌↔◌, ◌⊎◌, ℕ, ◌≤◌, ◌<◌, ◌+◌, ◌-◌, ◌%◌, ◌^◌, nat_eq, if◌then◌else◌, IsTrue, IsNone, IfSome, Some, Ok, length, slice_get};
+ghost use Rattle.std.specs.Prelude.{◌≡◌, ◌≢◌, ◌↔◌, ◌⊎◌, ℕ, ◌≤◌, ◌<◌, ◌+◌, ◌-◌, ◌%◌, ◌^◌, nat_eq, if◌then◌else◌, ◌*◌, IsTrue, IsNone, IfSome, IfOk, Some, Ok, All, AllPairs, Any, Contains, length, map, take, slice_get};
 ghost use Rattle.std.specs.Iterator.{YieldsFirstBy, item_count};
 ghost use Rattle.circle_field.specs.Circle.{opposite};
 ghost use Rattle.circle_domain.specs.Order.{IsGenuine, natural_order, half};
@@ -10,7 +10,7 @@ ghost use Rattle.circle_domain.specs.Selectors.{IsFinite, IsLeastLog};
 use circle_commit::PolynomialSpace;
 use circle_field::{ComplexExtendable, ExtensionField, Field, Operations};
 use circle_point::{Neutral, Point};
-use std::alloc::AllocError;
+use std::alloc::{AllocError, Global};
 
 /// A twin coset of the circle's group: `2^log_n` points, half of which are `shift + a * g` and half
 /// `-shift + (a + 1) * g`, where `g` generates the group of `2^(log_n - 1)` points
@@ -206,6 +206,8 @@ impl<F: ComplexExtendable> PolynomialSpace for CircleDomain<F> {
     ghost use Rattle.circle_field.specs.Circle.{Coordinates, plus, lifted};
     ghost use Rattle.circle_point.specs.Projective.{to_line, from_line, half_turn};
     ghost use Rattle.circle_domain.specs.Domain.{log_size, shift_of};
+    ghost use Rattle.circle_commit.specs.Matrix.{IsPowerOfTwo};
+    ghost use Rattle.circle_domain.specs.Splitting.{part_of, place_in};
     ghost use Rattle.circle_domain.specs.Selectors.{IsFinite, IsStandard, IsLeastLog, AreDisjoint, other_than, next_from, vanishing_on};
 
     ghost size_asks = { λ d. log_size d ≤ 63 };
@@ -233,6 +235,12 @@ impl<F: ComplexExtendable> PolynomialSpace for CircleDomain<F> {
         ⊎ (F.CIRCLE_TWO_ADICITY < other_than (log_size d) k + 1))))
         × IfSome r (λ other. (k : ℕ) → IsLeastLog m k → (log_size other ≡ other_than (log_size d) k)
         × (shift_of other ≡ F.generators (log_size other + 1))) };
+
+    ghost split_domains_asks = { λ d c. IsStandard F.CIRCLE_TWO_ADICITY F.generators (log_size d) (shift_of d)
+        × IsPowerOfTwo c × (2 * c ≤ 2 ^ log_size d) };
+
+    ghost split_domains_gives = { λ d c parts. All (λ part. 2 ^ log_size part * c ≡ 2 ^ log_size d) parts
+        × (map shift_of parts ≡ take c (natural_order F.ops F.generators (log_size d) (shift_of d))) };
 
     ghost vanishing_poly_at_point_asks = { λ e l embed d t. (1 ≤ log_size d) × IsFinite l t };
 
@@ -310,6 +318,36 @@ impl<F: ComplexExtendable> PolynomialSpace for CircleDomain<F> {
         } else {
             None
         }
+    }
+
+    /// Domains of equal sizes, whose shifts are the first `num_chunks` points in natural order.
+    ///
+    /// Asks a standard domain, and a number of parts that is a power of two and leaves at least two
+    /// points for each. Fails where memory is refused.
+    fn split_domains(&self, alloc: Global, num_chunks: usize) -> Result<Vec<Self>, AllocError>
+        requires standard { IsStandard F.CIRCLE_TWO_ADICITY F.generators (log_size self.now) (shift_of self.now) }
+        requires power { IsPowerOfTwo num_chunks }
+        requires room { 2 * num_chunks ≤ 2 ^ log_size self.now }
+        ensures sizes { IfOk result (λ parts. All (λ part. 2 ^ log_size part * num_chunks ≡ 2 ^ log_size self.now) parts.items) }
+        ensures shifts { IfOk result (λ parts. map shift_of parts.items
+            ≡ take num_chunks (natural_order F.ops F.generators (log_size self.now) (shift_of self.now))) }
+        ensures disjoint { IfOk result (λ parts. AllPairs (λ one other. AreDisjoint
+            (natural_order F.ops F.generators (log_size one) (shift_of one))
+            (natural_order F.ops F.generators (log_size other) (shift_of other))) parts.items) }
+        ensures whole { IfOk result (λ parts. (p : Coordinates F) →
+            Contains (natural_order F.ops F.generators (log_size self.now) (shift_of self.now)) p
+            ↔ Any (λ part. Contains (natural_order F.ops F.generators (log_size part) (shift_of part)) p) parts.items) }
+        ensures places { IfOk result (λ parts. (i : ℕ) (p : Coordinates F)
+            → slice_get (natural_order F.ops F.generators (log_size self.now) (shift_of self.now)) i ≡ Some p
+            → IfSome (slice_get parts.items (part_of num_chunks i)) (λ part.
+            slice_get (natural_order F.ops F.generators (log_size part) (shift_of part)) (place_in num_chunks i) ≡ Some p)) }
+    {
+        let log_n = self.log_n - num_chunks.ilog2() as usize;
+        let mut parts = Vec::with_capacity(alloc, num_chunks)?;
+        for i in 0..num_chunks {
+            parts.push(CircleDomain::new(log_n, self.nth_point(i)))?;
+        }
+        Ok(parts)
     }
 
     /// `v_n(point) - v_n(shift)` for `n = log_n`, where `v_n` is the vanishing polynomial of the
