@@ -1,7 +1,9 @@
 //! Domains that polynomials are given on by their values.
 ghost use Rattle.std.specs.Prelude.{◌≡◌, ℕ, Option, IfOk, List};
 ghost use Rattle.circle_field.specs.Field.{FieldOps};
+ghost use Rattle.circle_commit.specs.declared.matrix.RowMajorMatrix.{RowMajorMatrix};
 
+use crate::matrix::RowMajorMatrix;
 use circle_field::{ExtensionField, Field};
 use std::alloc::{AllocError, Global};
 
@@ -35,6 +37,10 @@ pub trait PolynomialSpace: Copy {
 
     ghost split_domains_gives: { Self → ℕ → List Self → Type 0 };
 
+    ghost split_evals_asks: { Self → ℕ → RowMajorMatrix Self.Val → Type 0 };
+
+    ghost split_evals_gives: { Self → ℕ → RowMajorMatrix Self.Val → List (RowMajorMatrix Self.Val) → Type 0 };
+
     ghost vanishing_poly_at_point_asks: { (E : Type 0) → FieldOps E → (Self.Val → E) → Self → E → Type 0 };
 
     ghost vanishing_poly_at_point_gives: { (E : Type 0) → FieldOps E → (Self.Val → E) → Self → E → E → Type 0 };
@@ -67,6 +73,16 @@ pub trait PolynomialSpace: Copy {
     fn split_domains(&self, alloc: Global, num_chunks: usize) -> Result<Vec<Self>, AllocError>
         requires { split_domains_asks self.now num_chunks }
         ensures { IfOk result (λ parts. split_domains_gives self.now num_chunks parts.items) };
+
+    /// The rows of values on this domain as values on its parts. Fails where memory is refused.
+    fn split_evals(
+        &self,
+        alloc: Global,
+        num_chunks: usize,
+        evals: RowMajorMatrix<Self::Val>,
+    ) -> Result<Vec<RowMajorMatrix<Self::Val>>, AllocError>
+        requires { split_evals_asks self.now num_chunks evals }
+        ensures { IfOk result (λ parts. split_evals_gives self.now num_chunks evals parts.items) };
 
     /// The value at this point of a polynomial that is zero on the domain alone.
     fn vanishing_poly_at_point<Ext: ExtensionField<Self::Val>>(&self, point: Ext) -> Ext

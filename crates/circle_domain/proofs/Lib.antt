@@ -10,10 +10,11 @@ pub mod NextPoints
 pub mod Orders
 pub mod OtherOrder
 pub mod PartLists
+pub mod PartPlaces
+pub mod PartRows
 pub mod Parts
 pub mod Powers
 pub mod Reversal
-pub mod Splitting
 pub mod Stored
 pub mod Transform
 pub mod Twiddles

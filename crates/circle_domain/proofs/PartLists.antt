@@ -16,11 +16,11 @@ use Rattle.circle_domain.specs.Splitting.{part_of, place_in, place_of}
 use Rattle.circle_domain.proofs.Orders.{length-natural_from, two_halves}
 use Rattle.circle_domain.proofs.Powers.{pow_order}
 use Rattle.circle_domain.proofs.Parts.{part-point, length-part, part-at, place-below, parts-disjoint}
-use Rattle.circle_domain.proofs.Splitting.{part_of-below, place_in-below}
+use Rattle.circle_domain.proofs.PartPlaces.{part_of-below, place_in-below}
 use Rattle.circle_domain.proofs.Walking.{standard-point, standard-at}
 
 -- what holds of the entry at a place
-if_some_at : {X : Type 0} (xs : List X) (j : ℕ) (P : X → Type 0) → ((x : X) → j < length xs → slice_get xs j ≡ Some x → P x) → IfSome (slice_get xs j) P
+pub if_some_at : {X : Type 0} (xs : List X) (j : ℕ) (P : X → Type 0) → ((x : X) → j < length xs → slice_get xs j ≡ Some x → P x) → IfSome (slice_get xs j) P
 if_some_at xs j P f =
     ⊎_elim (λ w. subst (λ o. IfSome o P) (sym w.2) (f w.0 w.1 w.2)) (λ w. subst (λ o. IfSome o P) (sym w.1) tt) (slice_get_cases xs j).1
 

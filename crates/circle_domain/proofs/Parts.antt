@@ -18,7 +18,7 @@ use Rattle.circle_domain.specs.Splitting.{part_of, place_in, place_of}
 use Rattle.circle_domain.proofs.Blocks.{times-origin, times-generator}
 use Rattle.circle_domain.proofs.CosetOrder.{opposite-plus}
 use Rattle.circle_domain.proofs.Orders.{natural_from-even, natural_from-odd, length-natural_from, two_halves}
-use Rattle.circle_domain.proofs.Splitting.{place_of-even, place_of-odd, part_of-below, place_in-below, place_of-place_in, place_of-below, part_of-place_of}
+use Rattle.circle_domain.proofs.PartPlaces.{place_of-even, place_of-odd, part_of-below, place_in-below, place_of-place_in, place_of-below, part_of-place_of}
 use Rattle.circle_domain.proofs.Walking.{one-not_opposite, times-times, past_opposite, shift_twice}
 
 module _ {F : Type 0} {k : FieldOps F} (laws : RingLaws k) where

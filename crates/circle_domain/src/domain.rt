@@ -1,5 +1,5 @@
 //! Domains of the circle transform: twin cosets of a cyclic group of points.
-ghost use Rattle.std.specs.Prelude.{◌≡◌, ◌≢◌, ◌↔◌, ◌⊎◌, ℕ, ◌≤◌, ◌<◌, ◌+◌, ◌-◌, ◌%◌, ◌^◌, nat_eq, if◌then◌else◌, ◌*◌, IsTrue, IsNone, IfSome, IfOk, Some, Ok, All, AllPairs, Any, Contains, length, map, take, slice_get};
+ghost use Rattle.std.specs.Prelude.{◌≡◌, ◌≢◌, ◌↔◌, ◌⊎◌, ℕ, ◌≤◌, ◌<◌, ◌+◌, ◌-◌, ◌%◌, ◌/◌, ◌^◌, ◌*◌, IsTrue, IsNone, IfSome, IfOk, Some, Ok, All, AllPairs, Any, Contains, length, map, take, slice_get};
 ghost use Rattle.std.specs.Iterator.{YieldsFirstBy, item_count};
 ghost use Rattle.circle_field.specs.Circle.{opposite};
 ghost use Rattle.circle_domain.specs.Order.{IsGenuine, natural_order, half};
@@ -7,7 +7,8 @@ ghost use Rattle.circle_point.specs.Point.{coordinates};
 ghost use Rattle.circle_point.specs.Projective.{from_line};
 ghost use Rattle.circle_domain.specs.Selectors.{IsFinite, IsLeastLog};
 
-use circle_commit::PolynomialSpace;
+use crate::splitting::rows_of_part;
+use circle_commit::{PolynomialSpace, RowMajorMatrix};
 use circle_field::{ComplexExtendable, ExtensionField, Field, Operations};
 use circle_point::{Neutral, Point};
 use std::alloc::{AllocError, Global};
@@ -206,8 +207,10 @@ impl<F: ComplexExtendable> PolynomialSpace for CircleDomain<F> {
     ghost use Rattle.circle_field.specs.Circle.{Coordinates, plus, lifted};
     ghost use Rattle.circle_point.specs.Projective.{to_line, from_line, half_turn};
     ghost use Rattle.circle_domain.specs.Domain.{log_size, shift_of};
-    ghost use Rattle.circle_commit.specs.Matrix.{IsPowerOfTwo};
-    ghost use Rattle.circle_domain.specs.Splitting.{part_of, place_in};
+    ghost use Rattle.circle_commit.specs.Matrix.{IsPowerOfTwo, mapped_rows};
+    ghost use Rattle.circle_commit.specs.RowMajorMatrix.{rows, width_of, height_of};
+    ghost use Rattle.circle_domain.specs.Splitting.{part_of, place_in, place_of};
+    ghost use Rattle.std.specs.List.{range_with_len};
     ghost use Rattle.circle_domain.specs.Selectors.{IsFinite, IsStandard, IsLeastLog, AreDisjoint, other_than, next_from, vanishing_on};
 
     ghost size_asks = { λ d. log_size d ≤ 63 };
@@ -241,6 +244,12 @@ impl<F: ComplexExtendable> PolynomialSpace for CircleDomain<F> {
 
     ghost split_domains_gives = { λ d c parts. All (λ part. 2 ^ log_size part * c ≡ 2 ^ log_size d) parts
         × (map shift_of parts ≡ take c (natural_order F.ops F.generators (log_size d) (shift_of d))) };
+
+    ghost split_evals_asks = { λ d c evals. (log_size d ≤ 63) × (height_of evals ≡ 2 ^ log_size d) × IsPowerOfTwo c
+        × (2 * c ≤ 2 ^ log_size d) };
+
+    ghost split_evals_gives = { λ d c evals parts. map rows parts
+        ≡ map (λ j. mapped_rows (place_of c j) (2 ^ log_size d / c) (rows evals)) (range_with_len 0 c) };
 
     ghost vanishing_poly_at_point_asks = { λ e l embed d t. (1 ≤ log_size d) × IsFinite l t };
 
@@ -346,6 +355,39 @@ impl<F: ComplexExtendable> PolynomialSpace for CircleDomain<F> {
         let mut parts = Vec::with_capacity(alloc, num_chunks)?;
         for i in 0..num_chunks {
             parts.push(CircleDomain::new(log_n, self.nth_point(i)))?;
+        }
+        Ok(parts)
+    }
+
+    /// Row `i` goes to part `j = i mod 2c` of the `c` parts, or to `2c - 1 - j` where that `j` is at
+    /// least `c`: to the part of a standard domain that holds its point, at the point's natural place.
+    ///
+    /// Asks as many rows as points, and a number of parts that is a power of two and leaves at least
+    /// two rows for each. Fails where memory is refused.
+    fn split_evals(
+        &self,
+        alloc: Global,
+        num_chunks: usize,
+        evals: RowMajorMatrix<F>,
+    ) -> Result<Vec<RowMajorMatrix<F>>, AllocError>
+        requires size { height_of evals ≡ 2 ^ log_size self.now }
+        requires power { IsPowerOfTwo num_chunks }
+        requires room { 2 * num_chunks ≤ 2 ^ log_size self.now }
+        ensures rows { IfOk result (λ parts. map rows parts.items
+            ≡ map (λ j. mapped_rows (place_of num_chunks j) (2 ^ log_size self.now / num_chunks) (rows evals)) (range_with_len 0 num_chunks)) }
+        ensures widths { IfOk result (λ parts. All (λ part. width_of part ≡ width_of evals) parts.items) }
+        ensures goes { IfOk result (λ parts. (i : ℕ) → i < 2 ^ log_size self.now →
+            IfSome (slice_get parts.items (part_of num_chunks i)) (λ part.
+            slice_get (rows part) (place_in num_chunks i) ≡ slice_get (rows evals) i)) }
+        ensures points { IfOk result (λ parts. IsStandard F.CIRCLE_TWO_ADICITY F.generators (log_size self.now) (shift_of self.now)
+            → (i m : ℕ) (p s : Coordinates F) → 2 ^ m * num_chunks ≡ 2 ^ log_size self.now
+            → slice_get (natural_order F.ops F.generators (log_size self.now) (shift_of self.now)) i ≡ Some p
+            → slice_get (natural_order F.ops F.generators (log_size self.now) (shift_of self.now)) (part_of num_chunks i) ≡ Some s
+            → slice_get (natural_order F.ops F.generators m s) (place_in num_chunks i) ≡ Some p) }
+    {
+        let mut parts = Vec::with_capacity(alloc, num_chunks)?;
+        for part in 0..num_chunks {
+            parts.push(rows_of_part(alloc, &evals, num_chunks, part)?)?;
         }
         Ok(parts)
     }

@@ -3,6 +3,7 @@
 
 pub mod domain;
 pub mod ordering;
+mod splitting;
 
 pub use domain::{CircleCoset, CircleDomain, CirclePoints};
 pub use ordering::{CfftPerm, CfftPermutable, CfftView, cfft_permute_index};

@@ -1,6 +1,7 @@
 -- Places of points in the whole and in its parts.
 use Rattle.std.specs.Prelude.{◌≡◌, ◌≢◌, ℕ, ◌+◌, ◌-◌, ◌*◌, ◌/◌, ◌%◌, ◌<◌, ◌≤◌, nat_lt, nat_eq, if◌then◌else◌}
 use Rattle.std.proofs.Common.{sym, ◌∙◌, ap, refl, arith, ⊎_elim}
+use Rattle.std.proofs.Math.Nat.{mul-div_cancel}
 use Rattle.std.proofs.lemmas.Bool.{cases_lt, cases_eq, lt-ltb, le-ltb, eq-eqb, ne_eqb}
 use Rattle.std.proofs.lemmas.Nat.{div-add-mod', mod_below, div-mul-add, mod-mul-add, row_fits, same_from_place, div_below}
 use Rattle.circle_domain.specs.Splitting.{part_of, place_in, place_of}
@@ -109,3 +110,14 @@ place_in-place_of c j r h =
     let d : i / (2 * c) ≡ q = ap (λ m. m / (2 * c)) e ∙ div-mul-add q (2 * c) (2 * c - 1 - j) (omega (arith, h)) in
     ap (λ m. i / (2 * c) * 2 + m) (choose_ge 0 1 (i % (2 * c)) c (omega (arith, u, h))) ∙ omega (arith, d, odd))
     (cases_eq (r % 2) 0)
+
+-- the height of a part, and its places as rows of the whole
+pub part_height : (c m height : ℕ) → 1 ≤ c → height ≡ m * (2 * c) → height / c ≡ m * 2
+part_height c m height h e =
+    let twice : height ≡ m * 2 * c = omega (arith, e) in
+    ap (λ n. n / c) twice ∙ mul-div_cancel (m * 2) h
+
+pub turn_fits : (c m r : ℕ) → r < m * 2 → (r / 2 + 1) * (2 * c) ≤ m * (2 * c)
+turn_fits c m r h =
+    let fits : r / 2 * (2 * c) + 2 * c ≤ m * (2 * c) = row_fits (r / 2) (2 * c) m (2 * c) (omega arith) (omega arith) in
+    omega (arith, fits)
