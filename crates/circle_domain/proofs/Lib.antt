@@ -1,4 +1,5 @@
 pub mod Blocks
+pub mod ClearOf
 pub mod Columns
 pub mod CosetOrder
 pub mod Disjoint

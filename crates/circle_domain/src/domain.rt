@@ -69,6 +69,7 @@ impl<F: ComplexExtendable> CircleDomain<F> {
     ghost use Rattle.circle_field.specs.Circle.{lifted};
     ghost use Rattle.circle_point.specs.Point.{coordinates};
     ghost use Rattle.circle_domain.specs.Domain.{log_size, shift_of, points_left, coset_left};
+    ghost use Rattle.circle_domain.specs.Clear.{IsClearOf};
     ghost use Rattle.circle_domain.specs.Selectors.{vanishing_on};
 
     /// The standard domain of `2^log_n` points: all points of order `2^(log_n + 1)`.
@@ -103,6 +104,20 @@ impl<F: ComplexExtendable> CircleDomain<F> {
     {
         let next = self.log_n + 1;
         next <= F::CIRCLE_TWO_ADICITY && self.shift == Point::generator(next)
+    }
+
+    /// Whether `(at - P).y` is not zero for every point `P` of the domain: `at` is none of the points,
+    /// and none plus `(-1, 0)`.
+    ///
+    /// Asks `1 <= log_n <= CIRCLE_TWO_ADICITY`.
+    pub fn is_clear_of<EF: ExtensionField<F>>(&self, at: Point<EF>) -> bool
+        requires positive { 1 ≤ log_size self.now }
+        requires in_group { log_size self.now ≤ F.CIRCLE_TWO_ADICITY }
+        ensures { IsTrue result ↔ IsClearOf EF.ops EF.embed
+            (natural_order F.ops F.generators (log_size self.now) (shift_of self.now)) (coordinates at) }
+    {
+        let doublings = self.log_n.max(2);
+        at.v_n(doublings) != EF::from_base(self.shift.v_n(doublings))
     }
 
     /// The number of points, `2^log_n`.
