@@ -50,7 +50,7 @@ module _ {F : Type 0} {k : FieldOps F} (laws : RingLaws k) where
       sym (plus-origin laws o) ∙ ap (plus k o) (sym e) ∙ sym (plus_assoc laws o p q)
       ∙ ap (λ r. plus k r q) (plus_comm laws o p ∙ plus-opposite laws p c) ∙ plus_comm laws (origin k) q ∙ plus-origin laws q
 
-  opposite-plus : (p q : Coordinates F) → opposite k (plus k p q) ≡ plus k (opposite k p) (opposite k q)
+  pub opposite-plus : (p q : Coordinates F) → opposite k (plus k p q) ≡ plus k (opposite k p) (opposite k q)
   opposite-plus p q =
       let a : Expr = var 0 in let b : Expr = var 1 in let c : Expr = var 2 in let d : Expr = var 3 in
       let env : List F = p.x ∷ p.y ∷ q.x ∷ q.y ∷ [] in

@@ -6,4 +6,6 @@ pub mod Layers
 pub mod Order
 pub mod Ordering
 pub mod Rows
+pub mod Selectors
+pub mod Splitting
 pub mod Values

@@ -1,12 +1,17 @@
 //! Domains of the circle transform: twin cosets of a cyclic group of points.
-ghost use Rattle.std.specs.Prelude.{◌≡◌, ◌↔◌, ◌≤◌, ◌<◌, ◌+◌, ◌-◌, ◌^◌, IsTrue, Some, Ok, length, slice_get};
+ghost use Rattle.std.specs.Prelude.{◌≡◌, ◌≢◌, ◌↔◌, ◌⊎◌, ℕ, ◌≤◌, ◌<◌, ◌+◌, ◌-◌, ◌%◌, ◌/◌, ◌^◌, ◌*◌, IsTrue, IsNone, IfSome, IfOk, Some, Ok, All, AllPairs, Any, Contains, length, map, take, slice_get};
 ghost use Rattle.std.specs.Iterator.{YieldsFirstBy, item_count};
 ghost use Rattle.circle_field.specs.Circle.{opposite};
 ghost use Rattle.circle_domain.specs.Order.{IsGenuine, natural_order, half};
+ghost use Rattle.circle_point.specs.Point.{coordinates};
+ghost use Rattle.circle_point.specs.Projective.{from_line};
+ghost use Rattle.circle_domain.specs.Selectors.{IsFinite, IsLeastLog};
 
+use crate::splitting::rows_of_part;
+use circle_commit::{PolynomialSpace, RowMajorMatrix};
+use circle_field::{ComplexExtendable, ExtensionField, Field, Operations};
 use circle_point::{Neutral, Point};
-use circle_field::{ComplexExtendable, Field, Operations};
-use std::alloc::AllocError;
+use std::alloc::{AllocError, Global};
 
 /// A twin coset of the circle's group: `2^log_n` points, half of which are `shift + a * g` and half
 /// `-shift + (a + 1) * g`, where `g` generates the group of `2^(log_n - 1)` points
@@ -61,8 +66,11 @@ impl<F: Operations> CircleDomain<F> {
 }
 
 impl<F: ComplexExtendable> CircleDomain<F> {
+    ghost use Rattle.circle_field.specs.Circle.{lifted};
     ghost use Rattle.circle_point.specs.Point.{coordinates};
     ghost use Rattle.circle_domain.specs.Domain.{log_size, shift_of, points_left, coset_left};
+    ghost use Rattle.circle_domain.specs.Clear.{IsClearOf};
+    ghost use Rattle.circle_domain.specs.Selectors.{vanishing_on};
 
     /// The standard domain of `2^log_n` points: all points of order `2^(log_n + 1)`.
     ///
@@ -96,6 +104,20 @@ impl<F: ComplexExtendable> CircleDomain<F> {
     {
         let next = self.log_n + 1;
         next <= F::CIRCLE_TWO_ADICITY && self.shift == Point::generator(next)
+    }
+
+    /// Whether `(at - P).y` is not zero for every point `P` of the domain: `at` is none of the points,
+    /// and none plus `(-1, 0)`.
+    ///
+    /// Asks `1 <= log_n <= CIRCLE_TWO_ADICITY`.
+    pub fn is_clear_of<EF: ExtensionField<F>>(&self, at: Point<EF>) -> bool
+        requires positive { 1 ≤ log_size self.now }
+        requires in_group { log_size self.now ≤ F.CIRCLE_TWO_ADICITY }
+        ensures { IsTrue result ↔ IsClearOf EF.ops EF.embed
+            (natural_order F.ops F.generators (log_size self.now) (shift_of self.now)) (coordinates at) }
+    {
+        let doublings = self.log_n.max(2);
+        at.v_n(doublings) != EF::from_base(self.shift.v_n(doublings))
     }
 
     /// The number of points, `2^log_n`.
@@ -175,6 +197,14 @@ impl<F: ComplexExtendable> CircleDomain<F> {
         }
     }
 
+    // The vanishing polynomial of the domain at a point.
+    fn vanishing_poly<EF: ExtensionField<F>>(&self, at: Point<EF>) -> EF
+        requires { 1 ≤ log_size self.now }
+        ensures { result ≡ vanishing_on EF.ops (log_size self.now) (lifted EF.embed (shift_of self.now)) (coordinates at) }
+    {
+        at.v_n(self.log_n) - EF::from_base(self.shift.v_n(self.log_n))
+    }
+
     // The generator of the group that each half is a coset of.
     fn subgroup_generator(&self) -> Point<F>
         requires positive { 1 ≤ log_size self.now }
@@ -182,6 +212,207 @@ impl<F: ComplexExtendable> CircleDomain<F> {
         ensures { coordinates result ≡ F.generators (log_size self.now - 1) }
     {
         Point::generator(self.log_n - 1)
+    }
+}
+
+/// A point stands by its coordinate on the projective line, so all points but `(-1, 0)` have one.
+impl<F: ComplexExtendable> PolynomialSpace for CircleDomain<F> {
+    type Val = F;
+
+    ghost use Rattle.circle_field.specs.Circle.{Coordinates, plus, lifted};
+    ghost use Rattle.circle_point.specs.Projective.{to_line, from_line, half_turn};
+    ghost use Rattle.circle_domain.specs.Domain.{log_size, shift_of};
+    ghost use Rattle.circle_commit.specs.Matrix.{IsPowerOfTwo, mapped_rows};
+    ghost use Rattle.circle_commit.specs.RowMajorMatrix.{rows, width_of, height_of};
+    ghost use Rattle.circle_domain.specs.Splitting.{part_of, place_in, place_of};
+    ghost use Rattle.std.specs.List.{range_with_len};
+    ghost use Rattle.circle_domain.specs.Selectors.{IsFinite, IsStandard, IsLeastLog, AreDisjoint, other_than, next_from, vanishing_on};
+
+    ghost size_asks = { λ d. log_size d ≤ 63 };
+
+    ghost size = { λ d. 2 ^ log_size d };
+
+    ghost transition_degree_multiple = { λ d. 1 };
+
+    ghost first_point_asks = { λ d. shift_of d ≢ half_turn F.ops };
+
+    ghost first_point_gives = { λ d t. t ≡ to_line F.ops (shift_of d) };
+
+    ghost next_point_asks = { λ d. (1 ≤ log_size d) × (log_size d ≤ F.CIRCLE_TWO_ADICITY) };
+
+    ghost next_point_gives = { λ e l embed d t r.
+        (IsNone r ↔ ((IsStandard F.CIRCLE_TWO_ADICITY F.generators (log_size d) (shift_of d) → ⊥)
+        ⊎ (IsFinite l t → ⊥)
+        ⊎ (next_from l embed F.generators (log_size d) t ≡ half_turn l)))
+        × IfSome r (λ next. next ≡ to_line l (next_from l embed F.generators (log_size d) t)) };
+
+    ghost try_create_disjoint_domain_asks = { λ d. (1 ≤ log_size d) × (log_size d ≤ F.CIRCLE_TWO_ADICITY) };
+
+    ghost try_create_disjoint_domain_gives = { λ d m r.
+        ((k : ℕ) → IsLeastLog m k → (IsNone r ↔ ((IsStandard F.CIRCLE_TWO_ADICITY F.generators (log_size d) (shift_of d) → ⊥)
+        ⊎ (F.CIRCLE_TWO_ADICITY < other_than (log_size d) k + 1))))
+        × IfSome r (λ other. (k : ℕ) → IsLeastLog m k → (log_size other ≡ other_than (log_size d) k)
+        × (shift_of other ≡ F.generators (log_size other + 1))) };
+
+    ghost split_domains_asks = { λ d c. IsStandard F.CIRCLE_TWO_ADICITY F.generators (log_size d) (shift_of d)
+        × IsPowerOfTwo c × (2 * c ≤ 2 ^ log_size d) };
+
+    ghost split_domains_gives = { λ d c parts. All (λ part. 2 ^ log_size part * c ≡ 2 ^ log_size d) parts
+        × (map shift_of parts ≡ take c (natural_order F.ops F.generators (log_size d) (shift_of d))) };
+
+    ghost split_evals_asks = { λ d c evals. (log_size d ≤ 63) × (height_of evals ≡ 2 ^ log_size d) × IsPowerOfTwo c
+        × (2 * c ≤ 2 ^ log_size d) };
+
+    ghost split_evals_gives = { λ d c evals parts. map rows parts
+        ≡ map (λ j. mapped_rows (place_of c j) (2 ^ log_size d / c) (rows evals)) (range_with_len 0 c) };
+
+    ghost vanishing_poly_at_point_asks = { λ e l embed d t. (1 ≤ log_size d) × IsFinite l t };
+
+    ghost vanishing_poly_at_point_gives = { λ e l embed d t r.
+        r ≡ vanishing_on l (log_size d) (lifted embed (shift_of d)) (from_line l t) };
+
+    fn size(&self) -> usize {
+        CircleDomain::size(self)
+    }
+
+    /// 1: the selector of the last row has the degree of a column.
+    fn transition_degree_multiple(&self) -> usize {
+        1
+    }
+
+    /// The coordinate of the shift.
+    ///
+    /// Asks that the shift is not `(-1, 0)`.
+    fn first_point(&self) -> F {
+        self.shift.to_projective_line().unwrap()
+    }
+
+    /// On a standard domain the coordinate of this point plus the generator of `2^log_n` points, by
+    /// which the natural order steps. `None` on others, at infinity (`t^2 = -1`), and where the sum
+    /// is `(-1, 0)`.
+    ///
+    /// Asks `1 <= log_n <= CIRCLE_TWO_ADICITY`.
+    fn next_point<Ext: ExtensionField<F>>(&self, point: Ext) -> Option<Ext>
+        requires positive { 1 ≤ log_size self.now }
+        requires in_group { log_size self.now ≤ F.CIRCLE_TWO_ADICITY }
+        ensures none { IsNone result ↔ ((IsStandard F.CIRCLE_TWO_ADICITY F.generators (log_size self.now) (shift_of self.now) → ⊥)
+            ⊎ (IsFinite Ext.ops point → ⊥)
+            ⊎ (next_from Ext.ops Ext.embed F.generators (log_size self.now) point ≡ half_turn Ext.ops)) }
+        ensures value { IfSome result (λ next. next ≡ to_line Ext.ops (next_from Ext.ops Ext.embed F.generators (log_size self.now) point)) }
+        ensures walk { IsStandard F.CIRCLE_TWO_ADICITY F.generators (log_size self.now) (shift_of self.now) → (i : ℕ) (p q : Coordinates F)
+            → slice_get (natural_order F.ops F.generators (log_size self.now) (shift_of self.now)) i ≡ Some p
+            → slice_get (natural_order F.ops F.generators (log_size self.now) (shift_of self.now)) ((i + 1) % 2 ^ log_size self.now) ≡ Some q
+            → point ≡ to_line Ext.ops (lifted Ext.embed p) → result ≡ Some (to_line Ext.ops (lifted Ext.embed q)) }
+    {
+        if !self.is_standard() {
+            return None;
+        }
+        let point = Point::from_projective_line(point)?;
+        (point + Point::<F>::generator(self.log_n)).to_projective_line()
+    }
+
+    /// The standard domain of the least number of points that is at least `min_size` and 2 and not
+    /// this domain's. `None` where this domain isn't standard or the group is too small.
+    ///
+    /// Asks `1 <= log_n <= CIRCLE_TWO_ADICITY`.
+    fn try_create_disjoint_domain(&self, min_size: usize) -> Option<Self>
+        requires positive { 1 ≤ log_size self.now }
+        requires in_group { log_size self.now ≤ F.CIRCLE_TWO_ADICITY }
+        ensures none { (k : ℕ) → IsLeastLog min_size k → (IsNone result
+            ↔ ((IsStandard F.CIRCLE_TWO_ADICITY F.generators (log_size self.now) (shift_of self.now) → ⊥)
+            ⊎ (F.CIRCLE_TWO_ADICITY < other_than (log_size self.now) k + 1))) }
+        ensures standard { IfSome result (λ other. (k : ℕ) → IsLeastLog min_size k → (log_size other ≡ other_than (log_size self.now) k)
+            × (shift_of other ≡ F.generators (log_size other + 1))) }
+        ensures enough { IfSome result (λ other. min_size ≤ 2 ^ log_size other) }
+        ensures disjoint { IfSome result (λ other. AreDisjoint
+            (natural_order F.ops F.generators (log_size other) (shift_of other))
+            (natural_order F.ops F.generators (log_size self.now) (shift_of self.now))) }
+    {
+        if !self.is_standard() {
+            return None;
+        }
+        let least = least_log(min_size);
+        let log_n = if least == self.log_n {
+            least + 1
+        } else {
+            least
+        };
+        if log_n < F::CIRCLE_TWO_ADICITY {
+            Some(Self::standard(log_n))
+        } else {
+            None
+        }
+    }
+
+    /// Domains of equal sizes, whose shifts are the first `num_chunks` points in natural order.
+    ///
+    /// Asks a standard domain, and a number of parts that is a power of two and leaves at least two
+    /// points for each. Fails where memory is refused.
+    fn split_domains(&self, alloc: Global, num_chunks: usize) -> Result<Vec<Self>, AllocError>
+        requires standard { IsStandard F.CIRCLE_TWO_ADICITY F.generators (log_size self.now) (shift_of self.now) }
+        requires power { IsPowerOfTwo num_chunks }
+        requires room { 2 * num_chunks ≤ 2 ^ log_size self.now }
+        ensures sizes { IfOk result (λ parts. All (λ part. 2 ^ log_size part * num_chunks ≡ 2 ^ log_size self.now) parts.items) }
+        ensures shifts { IfOk result (λ parts. map shift_of parts.items
+            ≡ take num_chunks (natural_order F.ops F.generators (log_size self.now) (shift_of self.now))) }
+        ensures disjoint { IfOk result (λ parts. AllPairs (λ one other. AreDisjoint
+            (natural_order F.ops F.generators (log_size one) (shift_of one))
+            (natural_order F.ops F.generators (log_size other) (shift_of other))) parts.items) }
+        ensures whole { IfOk result (λ parts. (p : Coordinates F) →
+            Contains (natural_order F.ops F.generators (log_size self.now) (shift_of self.now)) p
+            ↔ Any (λ part. Contains (natural_order F.ops F.generators (log_size part) (shift_of part)) p) parts.items) }
+        ensures places { IfOk result (λ parts. (i : ℕ) (p : Coordinates F)
+            → slice_get (natural_order F.ops F.generators (log_size self.now) (shift_of self.now)) i ≡ Some p
+            → IfSome (slice_get parts.items (part_of num_chunks i)) (λ part.
+            slice_get (natural_order F.ops F.generators (log_size part) (shift_of part)) (place_in num_chunks i) ≡ Some p)) }
+    {
+        let log_n = self.log_n - num_chunks.ilog2() as usize;
+        let mut parts = Vec::with_capacity(alloc, num_chunks)?;
+        for i in 0..num_chunks {
+            parts.push(CircleDomain::new(log_n, self.nth_point(i)))?;
+        }
+        Ok(parts)
+    }
+
+    /// Row `i` goes to part `j = i mod 2c` of the `c` parts, or to `2c - 1 - j` where that `j` is at
+    /// least `c`: to the part of a standard domain that holds its point, at the point's natural place.
+    ///
+    /// Asks as many rows as points, and a number of parts that is a power of two and leaves at least
+    /// two rows for each. Fails where memory is refused.
+    fn split_evals(
+        &self,
+        alloc: Global,
+        num_chunks: usize,
+        evals: RowMajorMatrix<F>,
+    ) -> Result<Vec<RowMajorMatrix<F>>, AllocError>
+        requires size { height_of evals ≡ 2 ^ log_size self.now }
+        requires power { IsPowerOfTwo num_chunks }
+        requires room { 2 * num_chunks ≤ 2 ^ log_size self.now }
+        ensures rows { IfOk result (λ parts. map rows parts.items
+            ≡ map (λ j. mapped_rows (place_of num_chunks j) (2 ^ log_size self.now / num_chunks) (rows evals)) (range_with_len 0 num_chunks)) }
+        ensures widths { IfOk result (λ parts. All (λ part. width_of part ≡ width_of evals) parts.items) }
+        ensures goes { IfOk result (λ parts. (i : ℕ) → i < 2 ^ log_size self.now →
+            IfSome (slice_get parts.items (part_of num_chunks i)) (λ part.
+            slice_get (rows part) (place_in num_chunks i) ≡ slice_get (rows evals) i)) }
+        ensures points { IfOk result (λ parts. IsStandard F.CIRCLE_TWO_ADICITY F.generators (log_size self.now) (shift_of self.now)
+            → (i m : ℕ) (p s : Coordinates F) → 2 ^ m * num_chunks ≡ 2 ^ log_size self.now
+            → slice_get (natural_order F.ops F.generators (log_size self.now) (shift_of self.now)) i ≡ Some p
+            → slice_get (natural_order F.ops F.generators (log_size self.now) (shift_of self.now)) (part_of num_chunks i) ≡ Some s
+            → slice_get (natural_order F.ops F.generators m s) (place_in num_chunks i) ≡ Some p) }
+    {
+        let mut parts = Vec::with_capacity(alloc, num_chunks)?;
+        for part in 0..num_chunks {
+            parts.push(rows_of_part(alloc, &evals, num_chunks, part)?)?;
+        }
+        Ok(parts)
+    }
+
+    /// `v_n(point) - v_n(shift)` for `n = log_n`, where `v_n` is the vanishing polynomial of the
+    /// standard domain (section 3.3, equation 8).
+    ///
+    /// Asks `log_n >= 1` and a point that is not at infinity.
+    fn vanishing_poly_at_point<Ext: ExtensionField<F>>(&self, point: Ext) -> Ext {
+        self.vanishing_poly(finite_point(point))
     }
 }
 
@@ -242,5 +473,25 @@ impl<F: Field> Iterator for CircleCoset<F> {
         self.current = point + self.step;
         self.remaining -= 1;
         Some(point)
+    }
+}
+
+// The point of a coordinate of the projective line that is not at infinity.
+fn finite_point<F: Field>(t: F) -> Point<F>
+    requires { IsFinite F.ops t }
+    ensures { coordinates result ≡ from_line F.ops t }
+{
+    Point::from_projective_line(t).unwrap()
+}
+
+// The least number of at least 1 whose power of two is at least `min_size`.
+fn least_log(min_size: usize) -> usize
+    ensures least { IsLeastLog min_size result }
+    ensures small { result ≤ 64 }
+{
+    if min_size <= 2 {
+        1
+    } else {
+        (min_size - 1).ilog2() as usize + 1
     }
 }

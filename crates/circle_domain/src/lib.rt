@@ -4,6 +4,7 @@
 pub mod domain;
 pub mod lagrange;
 pub mod ordering;
+mod splitting;
 
 pub use domain::{CircleCoset, CircleDomain, CirclePoints};
 pub use lagrange::{LagrangeWeights, lagrange_weights};
