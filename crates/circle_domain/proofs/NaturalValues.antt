@@ -8,15 +8,11 @@ use Rattle.circle_field.specs.Field.{FieldOps, RingLaws, FieldLaws}
 use Rattle.circle_field.specs.Circle.{Coordinates, IsOnCircle, AreGenerators, origin}
 use Rattle.circle_point.specs.Basis.{value}
 use Rattle.circle_domain.specs.Order.{IsGenuine, cfft_order, natural_order, natural_from, with_opposites, coset}
-use Rattle.circle_domain.specs.Ordering.{cfft_index}
+use Rattle.circle_domain.specs.Ordering.{cfft_index, reordered}
 use Rattle.circle_domain.proofs.Coefficients.{column-told}
 use Rattle.circle_domain.proofs.CosetOrder.{cfft-place, length-cfft_order}
 use Rattle.circle_domain.proofs.Orders.{length-natural_from, two_halves}
 use Rattle.circle_domain.proofs.Reversal.{cfft_index-below, cfft_index-own_inverse}
-
--- what stands in natural order, in the transform's order
-abbrev pub reordered : {T : Type 0} → T → ℕ → List T → List T
-reordered d n xs = map (λ i. slice_index_or xs (cfft_index n i) d) (range_with_len 0 (2 ^ n))
 
 pub reordered-twice : {T : Type 0} (d : T) (n : ℕ) (xs : List T) → length xs ≡ 2 ^ n → reordered d n (reordered d n xs) ≡ xs
 reordered-twice d n xs long =

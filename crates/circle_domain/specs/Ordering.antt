@@ -1,5 +1,6 @@
 -- The permutation between the two orders of a domain.
-use Rattle.std.specs.Prelude.{ℕ, List, ◌+◌, ◌-◌, ◌*◌, ◌/◌, ◌%◌, ◌^◌, nat_eq, if◌then◌else◌}
+use Rattle.std.specs.Prelude.{ℕ, List, ◌+◌, ◌-◌, ◌*◌, ◌/◌, ◌%◌, ◌^◌, nat_eq, if◌then◌else◌, map, slice_index_or}
+use Rattle.std.specs.List.{range_with_len}
 use Rattle.std.proofs.Common.{zero, suc}
 use Rattle.circle_commit.specs.Matrix.{mapped_rows}
 
@@ -15,3 +16,7 @@ cfft_index n i = if nat_eq (i % 2) 0 then reversed n (i / 2) else reversed n (2 
 -- the rows of a domain of 2^n points in the other of its two orders
 abbrev pub other_order : {T : Type 0} → ℕ → List (List T) → List (List T)
 other_order n rows = mapped_rows (cfft_index n) (2 ^ n) rows
+
+-- what stands in one of the two orders, in the other, with d where there is nothing
+abbrev pub reordered : {T : Type 0} → T → ℕ → List T → List T
+reordered d n xs = map (λ i. slice_index_or xs (cfft_index n i) d) (range_with_len 0 (2 ^ n))

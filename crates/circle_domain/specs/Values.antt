@@ -5,7 +5,7 @@ use Rattle.circle_field.specs.Field.{FieldOps}
 use Rattle.circle_field.specs.Circle.{Coordinates}
 use Rattle.circle_commit.specs.Matrix.{column}
 use Rattle.circle_point.specs.Basis.{value, values_at}
-use Rattle.circle_domain.specs.Order.{cfft_order}
+use Rattle.circle_domain.specs.Order.{cfft_order, natural_order}
 
 -- as many coefficients as the domain (n, s) has points, a row for each index, whose polynomials' values
 -- at the points in the transform's order are the rows
@@ -21,3 +21,8 @@ with_zero_rows zero width count rows = rows ++ replicate count (replicate width 
 -- the values of the same polynomials at a point of a larger field
 abbrev pub lifted_values_at : {F E : Type 0} → F → FieldOps E → (F → E) → List (List F) → ℕ → Coordinates E → List E
 lifted_values_at zero l embed coeffs width q = map (λ j. value l (map embed (column zero coeffs j)) q) (range_with_len 0 width)
+
+-- as many coefficients as the domain (n, s) has points, whose polynomial has these values in natural order
+pub record Interpolates {F : Type 0} (k : FieldOps F) (gen : ℕ → Coordinates F) (n : ℕ) (s : Coordinates F) (coeffs evals : List F) : Type 0 where
+  pub count : length coeffs ≡ 2 ^ n
+  pub values : map (value k coeffs) (natural_order k gen n s) ≡ evals

@@ -13,9 +13,11 @@ ghost use Rattle.circle_domain.specs.Clear.{IsClearOf};
 ghost use Rattle.circle_domain.specs.Domain.{log_size, shift_of};
 ghost use Rattle.circle_domain.specs.Lagrange.{dot, shares};
 ghost use Rattle.circle_domain.specs.Order.{IsGenuine, natural_order, cfft_order};
+ghost use Rattle.circle_domain.specs.Ordering.{reordered};
+ghost use Rattle.circle_domain.specs.Values.{Interpolates};
 
 use crate::domain::CircleDomain;
-use crate::ordering::first_points;
+use crate::ordering::{cfft_permute_index, first_points};
 use circle_field::{ComplexExtendable, ExtensionField, Field, batch_multiplicative_inverse};
 use circle_point::Point;
 use std::alloc::{AllocError, Global};
@@ -57,6 +59,48 @@ pub fn lagrange_weights<F: ComplexExtendable, EF: ExtensionField<F>>(
         shares,
         scale: vanishing * EF::from_base(normalisation),
     })
+}
+
+/// The value at `at` of the only polynomial with a coefficient for each point of the domain that has these
+/// values there, in natural order.
+///
+/// Asks a genuine domain with `log_n <= CIRCLE_TWO_ADICITY` that `at` is clear of, and a value for each
+/// point. Fails where memory is refused.
+pub fn value_off_domain<F: ComplexExtendable, EF: ExtensionField<F>>(
+    alloc: Global,
+    domain: CircleDomain<F>,
+    evals: &[F],
+    at: Point<EF>,
+) -> Result<EF, AllocError>
+    requires genuine { IsGenuine F.ops (log_size domain) (shift_of domain) }
+    requires in_group { log_size domain ≤ F.CIRCLE_TWO_ADICITY }
+    requires size { length evals.now ≡ 2 ^ log_size domain }
+    requires clear { IsClearOf EF.ops EF.embed (natural_order F.ops F.generators (log_size domain) (shift_of domain)) (coordinates at) }
+    ensures value { IfOk result (λ v. (coeffs : List F) × Interpolates F.ops F.generators (log_size domain) (shift_of domain) coeffs evals.now
+        × (v ≡ value EF.ops (map EF.embed coeffs) (coordinates at))) }
+    ensures only { IfOk result (λ v. (coeffs : List F) → Interpolates F.ops F.generators (log_size domain) (shift_of domain) coeffs evals.now →
+        v ≡ value EF.ops (map EF.embed coeffs) (coordinates at)) }
+{
+    let weights = lagrange_weights(alloc, domain, at)?;
+    Ok(reordered_dot_product(&weights.shares, evals, domain.log_n()) * weights.scale)
+}
+
+// The sum of the shares in the transform's order times the values in natural order.
+fn reordered_dot_product<F: Field, EF: ExtensionField<F>>(
+    shares: &[EF],
+    evals: &[F],
+    log_n: usize,
+) -> EF
+    requires small { log_n ≤ 62 }
+    requires shares { length shares.now ≡ 2 ^ log_n }
+    requires size { length evals.now ≡ 2 ^ log_n }
+    ensures { result ≡ dot EF.ops shares.now (map EF.embed (reordered F.ops.zero log_n evals.now)) }
+{
+    let mut sum = EF::ZERO;
+    for (i, share) in shares.iter().enumerate() {
+        sum = sum + share.times_base(evals[cfft_permute_index(i, log_n)]);
+    }
+    sum
 }
 
 // For each point its share and that of its opposite.

@@ -7,5 +7,5 @@ pub mod ordering;
 mod splitting;
 
 pub use domain::{CircleCoset, CircleDomain, CirclePoints};
-pub use lagrange::{LagrangeWeights, lagrange_weights};
+pub use lagrange::{LagrangeWeights, lagrange_weights, value_off_domain};
 pub use ordering::{CfftPerm, CfftPermutable, CfftView, cfft_permute_index, first_points};
