@@ -15,6 +15,7 @@ pub mod PartPlaces
 pub mod PartRows
 pub mod Parts
 pub mod Powers
+pub mod Reciprocals
 pub mod Reversal
 pub mod Stored
 pub mod Transform
