@@ -64,6 +64,10 @@ pub trait PolynomialSpace: Copy {
 
     ghost selectors_at_point_gives: { (E : Type 0) → FieldOps E → (Self.Val → E) → Self → E → LagrangeSelectors E → Type 0 };
 
+    ghost selectors_on_coset_asks: { Self → Self → Type 0 };
+
+    ghost selectors_on_coset_gives: { Self → Self → LagrangeSelectors (List Self.Val) → Type 0 };
+
     /// The number of points.
     fn size(&self) -> usize
         requires { size_asks self.now }
@@ -115,4 +119,19 @@ pub trait PolynomialSpace: Copy {
     ) -> LagrangeSelectors<Ext>
         requires { selectors_at_point_asks Ext Ext.ops Ext.embed self.now point }
         ensures { selectors_at_point_gives Ext Ext.ops Ext.embed self.now point result };
+
+    /// The selectors of the rows at each point of another domain, in its order. Fails where memory is
+    /// refused.
+    fn selectors_on_coset(
+        &self,
+        alloc: Global,
+        coset: Self,
+    ) -> Result<LagrangeSelectors<Vec<Self::Val>>, AllocError>
+        requires { selectors_on_coset_asks self.now coset }
+        ensures { IfOk result (λ selectors. selectors_on_coset_gives self.now coset (record {
+          is_first_row = selectors.is_first_row.items;
+          is_last_row = selectors.is_last_row.items;
+          is_transition = selectors.is_transition.items;
+          inv_vanishing = selectors.inv_vanishing.items;
+        })) };
 }

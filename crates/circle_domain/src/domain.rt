@@ -299,6 +299,17 @@ impl<F: ComplexExtendable> PolynomialSpace for CircleDomain<F> {
         (r.is_first_row ≡ first_row l n s at) × (r.is_last_row ≡ last_row l n s at)
         × (r.is_transition ≡ transition l n s at) × (r.inv_vanishing ≡ l.inv (vanishing_on l n s at)) };
 
+    ghost selectors_on_coset_asks = { λ d coset. (log_size d ≤ F.CIRCLE_TWO_ADICITY) × IsGenuine F.ops (log_size d) (shift_of d)
+        × (1 ≤ log_size coset) × (log_size coset ≤ F.CIRCLE_TWO_ADICITY)
+        × All (λ at. IsClearOf F.ops (λ x. x) (natural_order F.ops F.generators (log_size d) (shift_of d)) at)
+        (natural_order F.ops F.generators (log_size coset) (shift_of coset)) };
+
+    ghost selectors_on_coset_gives = { λ d coset r. let points = natural_order F.ops F.generators (log_size coset) (shift_of coset) in
+        (r.is_first_row ≡ map (first_row F.ops (log_size d) (shift_of d)) points)
+        × (r.is_last_row ≡ map (last_row F.ops (log_size d) (shift_of d)) points)
+        × (r.is_transition ≡ map (transition F.ops (log_size d) (shift_of d)) points)
+        × (r.inv_vanishing ≡ map (λ at. F.ops.inv (vanishing_on F.ops (log_size d) (shift_of d) at)) points) };
+
     fn size(&self) -> usize {
         CircleDomain::size(self)
     }
@@ -460,6 +471,51 @@ impl<F: ComplexExtendable> PolynomialSpace for CircleDomain<F> {
         ensures inverse { result.inv_vanishing ≡ Ext.ops.inv (vanishing_on Ext.ops (log_size self.now) (lifted Ext.embed (shift_of self.now)) (from_line Ext.ops point)) }
     {
         self.selectors_at(finite_point(point))
+    }
+
+    /// The selectors at each point of another domain, in natural order.
+    ///
+    /// Asks a genuine domain with `log_n <= CIRCLE_TWO_ADICITY`, and a coset with
+    /// `1 <= log_n <= CIRCLE_TWO_ADICITY` each of whose points is clear of the domain. Fails where
+    /// memory is refused.
+    fn selectors_on_coset(
+        &self,
+        alloc: Global,
+        coset: Self,
+    ) -> Result<LagrangeSelectors<Vec<F>>, AllocError>
+        requires in_group { log_size self.now ≤ F.CIRCLE_TWO_ADICITY }
+        requires genuine { IsGenuine F.ops (log_size self.now) (shift_of self.now) }
+        requires coset_positive { 1 ≤ log_size coset }
+        requires coset_in_group { log_size coset ≤ F.CIRCLE_TWO_ADICITY }
+        requires clear { All (λ at. IsClearOf F.ops (λ x. x) (natural_order F.ops F.generators (log_size self.now) (shift_of self.now)) at)
+            (natural_order F.ops F.generators (log_size coset) (shift_of coset)) }
+        ensures first { IfOk result (λ selectors. selectors.is_first_row.items
+            ≡ map (first_row F.ops (log_size self.now) (shift_of self.now)) (natural_order F.ops F.generators (log_size coset) (shift_of coset))) }
+        ensures last { IfOk result (λ selectors. selectors.is_last_row.items
+            ≡ map (last_row F.ops (log_size self.now) (shift_of self.now)) (natural_order F.ops F.generators (log_size coset) (shift_of coset))) }
+        ensures transition { IfOk result (λ selectors. selectors.is_transition.items
+            ≡ map (transition F.ops (log_size self.now) (shift_of self.now)) (natural_order F.ops F.generators (log_size coset) (shift_of coset))) }
+        ensures inverse { IfOk result (λ selectors. selectors.inv_vanishing.items
+            ≡ map (λ at. F.ops.inv (vanishing_on F.ops (log_size self.now) (shift_of self.now) at)) (natural_order F.ops F.generators (log_size coset) (shift_of coset))) }
+    {
+        let size = CircleDomain::size(&coset);
+        let mut is_first_row = Vec::with_capacity(alloc, size)?;
+        let mut is_last_row = Vec::with_capacity(alloc, size)?;
+        let mut is_transition = Vec::with_capacity(alloc, size)?;
+        let mut inv_vanishing = Vec::with_capacity(alloc, size)?;
+        for i in 0..size {
+            let row = self.selectors_at(coset.nth_point(i));
+            is_first_row.push(row.is_first_row)?;
+            is_last_row.push(row.is_last_row)?;
+            is_transition.push(row.is_transition)?;
+            inv_vanishing.push(row.inv_vanishing)?;
+        }
+        Ok(LagrangeSelectors {
+            is_first_row,
+            is_last_row,
+            is_transition,
+            inv_vanishing,
+        })
     }
 }
 
