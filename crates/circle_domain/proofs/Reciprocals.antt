@@ -1,22 +1,22 @@
 -- What the selectors divide by.
-use Rattle.std.specs.Prelude.{◌≡◌, ◌≢◌, ℕ, ◌+◌, ◌-◌, ◌^◌, ◌<◌, ◌≤◌, max, List, [], ◌∷◌, Some, length, slice_get, slice_index_or}
+use Rattle.std.specs.Prelude.{◌≡◌, ◌≢◌, ℕ, ◌+◌, ◌-◌, ◌^◌, ◌≤◌, max, [], ◌∷◌, Some, slice_get}
 use Rattle.std.proofs.Common.{zero, suc, sym, ◌∙◌, ap, subst, refl, arith}
 use Rattle.std.proofs.lemmas.Nat.{pow_pos}
 use Rattle.std.proofs.lemmas.Option.{slice_get_within, get_or_from_slice_get}
-use Rattle.circle_field.specs.Field.{FieldOps, RingLaws, FieldLaws, IsEmbedding, nth_power, two, sub}
+use Rattle.circle_field.specs.Field.{FieldOps, FieldLaws, IsEmbedding, nth_power, two}
 use Rattle.circle_field.specs.Ring.{Expr, var, con, unit, plus as sum, times as prod, minus}
 use Rattle.circle_field.specs.RingSound.{ring}
 use Rattle.circle_field.specs.RingCombine.{given, combine}
 use Rattle.circle_field.specs.RingFacts.{neg_zero_cancel, neg_zero, neg_neg, neg_unique}
-use Rattle.circle_field.specs.Circle.{Coordinates, at, IsOnCircle, AreGenerators, plus, opposite, origin, times, lifted}
-use Rattle.circle_field.specs.CircleGroup.{plus-origin, same_coordinates, plus-on_circle}
+use Rattle.circle_field.specs.Circle.{Coordinates, IsOnCircle, AreGenerators, plus, opposite, origin, times, lifted}
+use Rattle.circle_field.specs.CircleGroup.{plus-origin, same_coordinates}
 use Rattle.circle_field.proofs.Inverses.{nonzero_product, inverse_unique, one_nonzero}
-use Rattle.circle_point.specs.Basis.{doubled_x, iterated_x, vanishing}
+use Rattle.circle_point.specs.Basis.{doubled_x, vanishing}
 use Rattle.circle_point.specs.Projective.{to_line}
 use Rattle.circle_point.proofs.Multiples.{times-+, times-on_circle}
 use Rattle.circle_domain.specs.Clear.{IsClearOf}
 use Rattle.circle_domain.specs.Order.{IsGenuine, natural_order}
-use Rattle.circle_domain.specs.Selectors.{normaliser, vanishing_on, zero_at, last_row, transition}
+use Rattle.circle_domain.specs.Selectors.{normaliser, vanishing_on}
 use Rattle.circle_domain.proofs.Blocks.{times-generator}
 use Rattle.circle_domain.proofs.ClearOf.{clear-of}
 use Rattle.circle_domain.proofs.CosetOrder.{opposite-plus}

@@ -1,4 +1,3 @@
-use Rattle.std.proofs.Common.{◌≡◌}
 use Rattle.circle_field.proofs.Inverses.{some_unless}
 use Rattle.circle_domain.proofs.domain.inverse.Goals as goal
 

@@ -1,6 +1,6 @@
-use Rattle.std.proofs.Common.{◌≡◌, ◌≢◌, ◌∙◌, sym, ap, subst, arith}
+use Rattle.std.proofs.Common.{◌≡◌, ◌≢◌, ◌∙◌, sym, ap, arith}
 use Rattle.std.proofs.lemmas.Grind.{common_steps}
-use Rattle.circle_field.specs.Circle.{Coordinates, lifted}
+use Rattle.circle_field.specs.Circle.{Coordinates}
 use Rattle.circle_point.specs.Point.{coordinates}
 use Rattle.circle_point.specs.Projective.{to_line}
 use Rattle.circle_domain.proofs.Reciprocals.{reciprocal}

@@ -3,7 +3,7 @@ use Rattle.circle_field.specs.Circle.{Coordinates, plus, opposite, lifted}
 use Rattle.circle_field.specs.Field.{sub}
 use Rattle.circle_point.specs.Point.{coordinates}
 use Rattle.circle_domain.specs.Domain.{log_size, shift_of}
-use Rattle.circle_domain.specs.Selectors.{zero_at, normaliser, vanishing_on, last_row}
+use Rattle.circle_domain.specs.Selectors.{zero_at, normaliser, last_row}
 use Rattle.circle_domain.proofs.Lifted.{lifted-opposite}
 use Rattle.circle_domain.proofs.Reciprocals.{normaliser-nonzero, lifted-reciprocal, vanishing-nonzero, clear-first, clear-last}
 use Rattle.circle_domain.proofs.domain.CircleDomain.selectors_at.Goals as goal

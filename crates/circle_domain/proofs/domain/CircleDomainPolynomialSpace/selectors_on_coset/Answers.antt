@@ -1,4 +1,4 @@
-use Rattle.std.proofs.Common.{◌≡◌, ℕ, ◌+◌, ◌^◌, ◌≤◌, ◌++◌, [], ◌∷◌, List, ◌∙◌, sym, ap, subst, arith, map, take, length}
+use Rattle.std.proofs.Common.{◌≤◌, ◌∙◌, ap, subst, arith, map, length}
 use Rattle.std.proofs.lemmas.List.{take_all}
 use Rattle.std.proofs.lemmas.Option.{slice_get_within, get_or_from_slice_get}
 use Rattle.circle_field.specs.Circle.{Coordinates}
