@@ -10,5 +10,5 @@ pub mod view;
 
 pub use matrix::{Dimensions, Matrix, RowIndexMap, RowIndexMappedView, RowMajorMatrix, Shape};
 pub use mmcs::{BatchMultiOpening, Mmcs, OpenedRows};
-pub use space::PolynomialSpace;
+pub use space::{LagrangeSelectors, PolynomialSpace};
 pub use view::RowMajorMatrixView;

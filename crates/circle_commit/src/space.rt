@@ -2,10 +2,25 @@
 ghost use Rattle.std.specs.Prelude.{◌≡◌, ℕ, Option, IfOk, List};
 ghost use Rattle.circle_field.specs.Field.{FieldOps};
 ghost use Rattle.circle_commit.specs.declared.matrix.RowMajorMatrix.{RowMajorMatrix};
+ghost use Rattle.circle_commit.specs.declared.space.LagrangeSelectors.{LagrangeSelectors};
 
 use crate::matrix::RowMajorMatrix;
 use circle_field::{ExtensionField, Field};
 use std::alloc::{AllocError, Global};
+
+/// The selectors of a domain's rows, by which a constraint is laid on some rows alone: at a point, or
+/// at each point of a coset.
+#[derive(Debug, Drop)]
+pub struct LagrangeSelectors<T> {
+    /// Zero at each point of the domain but the first.
+    pub is_first_row: T,
+    /// Zero at each point of the domain but the last.
+    pub is_last_row: T,
+    /// Zero at the last point of the domain alone.
+    pub is_transition: T,
+    /// The inverse of the domain's vanishing polynomial.
+    pub inv_vanishing: T,
+}
 
 /// A set of points on which a polynomial is given by its values, a row for each point.
 ///
@@ -44,6 +59,14 @@ pub trait PolynomialSpace: Copy {
     ghost vanishing_poly_at_point_asks: { (E : Type 0) → FieldOps E → (Self.Val → E) → Self → E → Type 0 };
 
     ghost vanishing_poly_at_point_gives: { (E : Type 0) → FieldOps E → (Self.Val → E) → Self → E → E → Type 0 };
+
+    ghost selectors_at_point_asks: { (E : Type 0) → FieldOps E → (Self.Val → E) → Self → E → Type 0 };
+
+    ghost selectors_at_point_gives: { (E : Type 0) → FieldOps E → (Self.Val → E) → Self → E → LagrangeSelectors E → Type 0 };
+
+    ghost selectors_on_coset_asks: { Self → Self → Type 0 };
+
+    ghost selectors_on_coset_gives: { Self → Self → LagrangeSelectors (List Self.Val) → Type 0 };
 
     /// The number of points.
     fn size(&self) -> usize
@@ -88,4 +111,27 @@ pub trait PolynomialSpace: Copy {
     fn vanishing_poly_at_point<Ext: ExtensionField<Self::Val>>(&self, point: Ext) -> Ext
         requires { vanishing_poly_at_point_asks Ext Ext.ops Ext.embed self.now point }
         ensures { vanishing_poly_at_point_gives Ext Ext.ops Ext.embed self.now point result };
+
+    /// The selectors of the rows at this point.
+    fn selectors_at_point<Ext: ExtensionField<Self::Val>>(
+        &self,
+        point: Ext,
+    ) -> LagrangeSelectors<Ext>
+        requires { selectors_at_point_asks Ext Ext.ops Ext.embed self.now point }
+        ensures { selectors_at_point_gives Ext Ext.ops Ext.embed self.now point result };
+
+    /// The selectors of the rows at each point of another domain, in its order. Fails where memory is
+    /// refused.
+    fn selectors_on_coset(
+        &self,
+        alloc: Global,
+        coset: Self,
+    ) -> Result<LagrangeSelectors<Vec<Self::Val>>, AllocError>
+        requires { selectors_on_coset_asks self.now coset }
+        ensures { IfOk result (λ selectors. selectors_on_coset_gives self.now coset (record {
+          is_first_row = selectors.is_first_row.items;
+          is_last_row = selectors.is_last_row.items;
+          is_transition = selectors.is_transition.items;
+          inv_vanishing = selectors.inv_vanishing.items;
+        })) };
 }

@@ -1,6 +1,6 @@
 -- A point is clear of a domain exactly where the vanishing polynomial tells it from the shift.
 use Rattle.std.proofs.lemmas.Bool.{false≢true}
-use Rattle.std.specs.Prelude.{Bool, true, false, not, ◌≡◌, ◌≢◌, ℕ, ◌+◌, ◌-◌, ◌^◌, ◌<◌, ◌≤◌, ◌↔◌, List, [], ◌∷◌, ◌++◌, All, length, map, max, slice_index_or}
+use Rattle.std.specs.Prelude.{Bool, true, false, not, ◌≡◌, ◌≢◌, ℕ, ◌-◌, ◌^◌, ◌<◌, ◌≤◌, ◌↔◌, List, [], ◌∷◌, ◌++◌, All, map, max, slice_index_or}
 use Rattle.std.specs.List.{AllByRecursion}
 use Rattle.std.proofs.Common.{zero, suc, sym, ◌∙◌, ap, subst, refl, arith}
 use Rattle.std.proofs.lemmas.List.Elements.{All-from_recursion, recursion_from_All}
@@ -9,8 +9,8 @@ use Rattle.circle_field.specs.Ring.{Expr, var, con, unit, plus as sum, times as 
 use Rattle.circle_field.specs.RingSound.{ring}
 use Rattle.circle_field.specs.RingCombine.{given, combine}
 use Rattle.circle_field.specs.RingFacts.{neg_zero_cancel, add_neg, mul_zero, zero_mul}
-use Rattle.circle_field.specs.Circle.{Coordinates, at, IsOnCircle, AreGenerators, plus, opposite, origin, times, lifted}
-use Rattle.circle_field.specs.CircleGroup.{lifted-on_circle, opposite-on_circle}
+use Rattle.circle_field.specs.Circle.{Coordinates, IsOnCircle, AreGenerators, plus, opposite, lifted}
+use Rattle.circle_field.specs.CircleGroup.{lifted-on_circle}
 use Rattle.circle_field.proofs.Inverses.{nonzero_product}
 use Rattle.circle_point.specs.Basis.{doubled_x, iterated_x, vanishing}
 use Rattle.circle_point.proofs.Multiples.{iterated_x-suc}

@@ -24,7 +24,9 @@ pub mod PartLists
 pub mod PartPlaces
 pub mod PartRows
 pub mod Parts
+pub mod Pointwise
 pub mod Powers
+pub mod Reciprocals
 pub mod Reversal
 pub mod Stored
 pub mod Transform

@@ -1,9 +1,9 @@
 -- Points, generators and vanishing polynomials in a larger field.
-use Rattle.std.specs.Prelude.{◌≡◌, ℕ, ◌-◌, ◌≤◌, ◌<◌, List, [], ◌∷◌, ◌++◌, map}
+use Rattle.std.specs.Prelude.{◌≡◌, ℕ, ◌-◌, ◌++◌, map}
 use Rattle.std.proofs.Common.{zero, suc, sym, ◌∙◌, ap, refl}
 use Rattle.std.proofs.lemmas.List.{map-append}
 use Rattle.circle_field.specs.Field.{FieldOps, IsEmbedding, nth_power, two, sub}
-use Rattle.circle_field.specs.Circle.{Coordinates, IsOnCircle, AreGenerators, at, plus, opposite, origin, times, lifted}
+use Rattle.circle_field.specs.Circle.{Coordinates, AreGenerators, at, plus, opposite, origin, times, lifted}
 use Rattle.circle_field.specs.CircleGroup.{same_coordinates, lifted-on_circle}
 use Rattle.circle_point.specs.Basis.{doubled_x, iterated_x, vanishing}
 use Rattle.circle_domain.specs.Layers.{factor, second_half}

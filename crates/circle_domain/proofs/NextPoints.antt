@@ -1,5 +1,5 @@
 -- The step from the coordinate of one point to that of the next.
-use Rattle.std.specs.Prelude.{◌≡◌, ◌≢◌, ℕ, ◌+◌, ◌%◌, ◌^◌, ◌<◌, ◌≤◌, Option, None, Some, IsNone, IfSome, slice_get}
+use Rattle.std.specs.Prelude.{◌≡◌, ◌≢◌, ℕ, ◌+◌, ◌%◌, ◌^◌, ◌≤◌, Option, None, Some, IsNone, IfSome, slice_get}
 use Rattle.std.proofs.Common.{sym, ◌∙◌, ap, refl}
 use Rattle.circle_field.specs.Field.{FieldOps, FieldLaws, IsEmbedding}
 use Rattle.circle_field.specs.Circle.{Coordinates, AreGenerators, plus, lifted}

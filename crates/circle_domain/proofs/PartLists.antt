@@ -1,6 +1,6 @@
 -- A list of domains that are the parts of a standard one.
-use Rattle.std.specs.Prelude.{◌≡◌, ◌≢◌, ℕ, ◌+◌, ◌-◌, ◌*◌, ◌^◌, ◌<◌, ◌≤◌, ◌↔◌, List, Option, Some, None, IfSome, All, AllPairs, Any, Contains, length, map, take, slice_get, slice_index_or}
-use Rattle.std.proofs.Common.{sym, ◌∙◌, ap, subst, refl, arith, ⊎_elim}
+use Rattle.std.specs.Prelude.{◌≡◌, ℕ, ◌+◌, ◌-◌, ◌*◌, ◌^◌, ◌<◌, ◌≤◌, ◌↔◌, List, Some, IfSome, All, AllPairs, Any, Contains, length, map, take, slice_get, slice_index_or}
+use Rattle.std.proofs.Common.{sym, ◌∙◌, ap, subst, arith, ⊎_elim}
 use Rattle.std.proofs.Math.ListN.{get_or-map}
 use Rattle.std.proofs.Math.Pow.{pow-lt}
 use Rattle.std.proofs.Common.{suc, ◌++◌, [], ◌∷◌, length-take-le}
@@ -16,7 +16,7 @@ use Rattle.circle_domain.specs.Splitting.{part_of, place_in, place_of}
 use Rattle.circle_domain.proofs.Orders.{length-natural_from, two_halves}
 use Rattle.circle_domain.proofs.Powers.{pow_order}
 use Rattle.circle_domain.proofs.Parts.{part-point, length-part, part-at, place-below, parts-disjoint}
-use Rattle.circle_domain.proofs.PartPlaces.{part_of-below, place_in-below}
+use Rattle.circle_domain.proofs.PartPlaces.{part_of-below}
 use Rattle.circle_domain.proofs.Walking.{standard-point, standard-at}
 
 -- what holds of the entry at a place

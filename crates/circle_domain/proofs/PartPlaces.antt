@@ -1,9 +1,9 @@
 -- Places of points in the whole and in its parts.
 use Rattle.std.specs.Prelude.{◌≡◌, ◌≢◌, ℕ, ◌+◌, ◌-◌, ◌*◌, ◌/◌, ◌%◌, ◌<◌, ◌≤◌, nat_lt, nat_eq, if◌then◌else◌}
-use Rattle.std.proofs.Common.{sym, ◌∙◌, ap, refl, arith, ⊎_elim}
+use Rattle.std.proofs.Common.{◌∙◌, ap, arith, ⊎_elim}
 use Rattle.std.proofs.Math.Nat.{mul-div_cancel}
 use Rattle.std.proofs.lemmas.Bool.{cases_lt, cases_eq, lt-ltb, le-ltb, eq-eqb, ne_eqb}
-use Rattle.std.proofs.lemmas.Nat.{div-add-mod', mod_below, div-mul-add, mod-mul-add, row_fits, same_from_place, div_below}
+use Rattle.std.proofs.lemmas.Nat.{div-add-mod', mod_below, div-mul-add, mod-mul-add, row_fits, div_below}
 use Rattle.circle_domain.specs.Splitting.{part_of, place_in, place_of}
 
 choose_lt : (a b u c : ℕ) → u < c → (if nat_lt u c then a else b) ≡ a

@@ -12,12 +12,12 @@ use Rattle.circle_field.specs.Ring.{con, unit, plus as sum, times as prod, minus
 use Rattle.circle_field.specs.RingSound.{ring}
 use Rattle.circle_point.specs.Projective.{half_turn}
 use Rattle.circle_point.proofs.Multiples.{times-+, times-double, times-on_circle, origin-plus}
-use Rattle.circle_domain.specs.Order.{natural_order, natural_from}
+use Rattle.circle_domain.specs.Order.{natural_order}
 use Rattle.circle_domain.specs.Selectors.{AreDisjoint}
 use Rattle.circle_domain.specs.Splitting.{part_of, place_in, place_of}
 use Rattle.circle_domain.proofs.Blocks.{times-origin, times-generator}
 use Rattle.circle_domain.proofs.CosetOrder.{opposite-plus}
-use Rattle.circle_domain.proofs.Orders.{natural_from-even, natural_from-odd, length-natural_from, two_halves}
+use Rattle.circle_domain.proofs.Orders.{natural_from-even, natural_from-odd, length-natural_from}
 use Rattle.circle_domain.proofs.PartPlaces.{place_of-even, place_of-odd, part_of-below, place_in-below, place_of-place_in, place_of-below, part_of-place_of}
 use Rattle.circle_domain.proofs.Walking.{one-not_opposite, times-times, past_opposite, shift_twice}
 

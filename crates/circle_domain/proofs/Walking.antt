@@ -1,27 +1,25 @@
 -- The points of a standard domain as one walk by the generator of as many points.
-use Rattle.std.specs.Prelude.{◌≡◌, ◌≢◌, ℕ, ◌+◌, ◌-◌, ◌*◌, ◌/◌, ◌%◌, ◌^◌, ◌<◌, ◌≤◌, ◌↔◌, Bool, true, false, List, [], ◌∷◌, length, Some, slice_get}
+use Rattle.std.specs.Prelude.{◌≡◌, ◌≢◌, ℕ, ◌+◌, ◌-◌, ◌/◌, ◌%◌, ◌^◌, ◌<◌, ◌≤◌, ◌↔◌, Bool, true, false, [], ◌∷◌, Some, slice_get}
 use Rattle.std.proofs.Common.{zero, suc, sym, ◌∙◌, ap, refl, arith, ⊎_elim}
-use Rattle.std.proofs.Math.Nat.{pow-suc, mod-eq_of_lt, mod_self}
+use Rattle.std.proofs.Math.Nat.{mod-eq_of_lt, mod_self}
 use Rattle.std.proofs.lemmas.Bool.{cases_eq, cases_lt, false≢true}
-use Rattle.std.proofs.lemmas.Nat.{pow_pos}
 use Rattle.std.proofs.lemmas.Option.{slice_get_within}
 use Rattle.circle_field.specs.Field.{FieldOps, RingLaws, FieldLaws, IsEmbedding}
 use Rattle.circle_field.specs.Ring.{Expr, var, con, unit, plus as sum, times as prod, minus}
 use Rattle.circle_field.specs.RingSound.{ring}
 use Rattle.circle_field.specs.RingCombine.{given, combine}
-use Rattle.circle_field.specs.RingFacts.{neg_unique, neg_zero_cancel}
+use Rattle.circle_field.specs.RingFacts.{neg_unique}
 use Rattle.circle_field.specs.Circle.{Coordinates, at, IsOnCircle, AreGenerators, plus, opposite, origin, times, lifted}
-use Rattle.circle_field.specs.CircleGroup.{plus_comm, plus_assoc, plus-origin, plus-opposite, plus-on_circle, lifted-on_circle}
+use Rattle.circle_field.specs.CircleGroup.{plus_comm, plus_assoc, plus-origin, plus-opposite, plus-on_circle}
 use Rattle.circle_field.proofs.Inverses.{nonzero_product}
 use Rattle.circle_point.specs.Basis.{doubled_x, iterated_x}
 use Rattle.circle_point.specs.Projective.{to_line, from_line, half_turn}
-use Rattle.circle_point.proofs.Multiples.{times-double, times-one, times-on_circle, plus-times, iterated_x-times, origin-plus}
-use Rattle.circle_point.proofs.Projections.{from_line-to_line, to_line-nonzero, line_norm-zero, zero-line_norm}
-use Rattle.circle_domain.specs.Order.{natural_order, natural_from}
+use Rattle.circle_point.proofs.Multiples.{times-double, times-on_circle, plus-times, iterated_x-times, origin-plus}
+use Rattle.circle_point.proofs.Projections.{from_line-to_line, to_line-nonzero, zero-line_norm}
+use Rattle.circle_domain.specs.Order.{natural_order}
 use Rattle.circle_domain.specs.Selectors.{IsFinite}
 use Rattle.circle_domain.proofs.Blocks.{times-plus, times-origin, times-generator}
 use Rattle.circle_domain.proofs.Orders.{natural_from-even, natural_from-odd, length-natural_from, two_halves}
-use Rattle.circle_domain.proofs.Lifted.{lifted-plus}
 
 -- a square is 0 only at 0
 pub zero_square : {F : Type 0} {k : FieldOps F} (laws : FieldLaws k) (eq : F → F → Bool) → ((a b : F) → (eq a b ≡ true) ↔ (a ≡ b)) →

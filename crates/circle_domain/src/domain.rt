@@ -1,14 +1,14 @@
 //! Domains of the circle transform: twin cosets of a cyclic group of points.
 ghost use Rattle.std.specs.Prelude.{◌≡◌, ◌≢◌, ◌↔◌, ◌⊎◌, ℕ, ◌≤◌, ◌<◌, ◌+◌, ◌-◌, ◌%◌, ◌/◌, ◌^◌, ◌*◌, IsTrue, IsNone, IfSome, IfOk, Some, Ok, All, AllPairs, Any, Contains, length, map, take, slice_get};
 ghost use Rattle.std.specs.Iterator.{YieldsFirstBy, item_count};
-ghost use Rattle.circle_field.specs.Circle.{opposite};
+ghost use Rattle.circle_field.specs.Circle.{opposite, plus, lifted};
 ghost use Rattle.circle_domain.specs.Order.{IsGenuine, natural_order, half};
 ghost use Rattle.circle_point.specs.Point.{coordinates};
 ghost use Rattle.circle_point.specs.Projective.{from_line};
-ghost use Rattle.circle_domain.specs.Selectors.{IsFinite, IsLeastLog};
+ghost use Rattle.circle_domain.specs.Selectors.{IsFinite, IsLeastLog, zero_at};
 
 use crate::splitting::rows_of_part;
-use circle_commit::{PolynomialSpace, RowMajorMatrix};
+use circle_commit::{LagrangeSelectors, PolynomialSpace, RowMajorMatrix};
 use circle_field::{ComplexExtendable, ExtensionField, Field, Operations};
 use circle_point::{Neutral, Point};
 use std::alloc::{AllocError, Global};
@@ -66,11 +66,10 @@ impl<F: Operations> CircleDomain<F> {
 }
 
 impl<F: ComplexExtendable> CircleDomain<F> {
-    ghost use Rattle.circle_field.specs.Circle.{lifted};
     ghost use Rattle.circle_point.specs.Point.{coordinates};
     ghost use Rattle.circle_domain.specs.Domain.{log_size, shift_of, points_left, coset_left};
     ghost use Rattle.circle_domain.specs.Clear.{IsClearOf};
-    ghost use Rattle.circle_domain.specs.Selectors.{vanishing_on};
+    ghost use Rattle.circle_domain.specs.Selectors.{vanishing_on, first_row, last_row, transition};
 
     /// The standard domain of `2^log_n` points: all points of order `2^(log_n + 1)`.
     ///
@@ -205,6 +204,27 @@ impl<F: ComplexExtendable> CircleDomain<F> {
         at.v_n(self.log_n) - EF::from_base(self.shift.v_n(self.log_n))
     }
 
+    // The selectors of the rows at a point.
+    fn selectors_at<EF: ExtensionField<F>>(&self, at: Point<EF>) -> LagrangeSelectors<EF>
+        requires in_group { log_size self.now ≤ F.CIRCLE_TWO_ADICITY }
+        requires genuine { IsGenuine F.ops (log_size self.now) (shift_of self.now) }
+        requires clear { IsClearOf EF.ops EF.embed (natural_order F.ops F.generators (log_size self.now) (shift_of self.now)) (coordinates at) }
+        ensures first { result.is_first_row ≡ first_row EF.ops (log_size self.now) (lifted EF.embed (shift_of self.now)) (coordinates at) }
+        ensures last { result.is_last_row ≡ last_row EF.ops (log_size self.now) (lifted EF.embed (shift_of self.now)) (coordinates at) }
+        ensures transition { result.is_transition ≡ transition EF.ops (log_size self.now) (lifted EF.embed (shift_of self.now)) (coordinates at) }
+        ensures inverse { result.inv_vanishing ≡ EF.ops.inv (vanishing_on EF.ops (log_size self.now) (lifted EF.embed (shift_of self.now)) (coordinates at)) }
+    {
+        let vanishing = self.vanishing_poly(at);
+        let normaliser = inverse((-self.shift).s_p_at_p(self.log_n));
+        let is_last_row = vanishing * inverse_zero_at(-self.shift, at);
+        LagrangeSelectors {
+            is_first_row: vanishing * inverse_zero_at(self.shift, at),
+            is_last_row,
+            is_transition: EF::ONE - is_last_row * EF::from_base(normaliser),
+            inv_vanishing: inverse(vanishing),
+        }
+    }
+
     // The generator of the group that each half is a coset of.
     fn subgroup_generator(&self) -> Point<F>
         requires positive { 1 ≤ log_size self.now }
@@ -219,14 +239,15 @@ impl<F: ComplexExtendable> CircleDomain<F> {
 impl<F: ComplexExtendable> PolynomialSpace for CircleDomain<F> {
     type Val = F;
 
-    ghost use Rattle.circle_field.specs.Circle.{Coordinates, plus, lifted};
+    ghost use Rattle.circle_field.specs.Circle.{Coordinates};
     ghost use Rattle.circle_point.specs.Projective.{to_line, from_line, half_turn};
     ghost use Rattle.circle_domain.specs.Domain.{log_size, shift_of};
     ghost use Rattle.circle_commit.specs.Matrix.{IsPowerOfTwo, mapped_rows};
     ghost use Rattle.circle_commit.specs.RowMajorMatrix.{rows, width_of, height_of};
     ghost use Rattle.circle_domain.specs.Splitting.{part_of, place_in, place_of};
     ghost use Rattle.std.specs.List.{range_with_len};
-    ghost use Rattle.circle_domain.specs.Selectors.{IsFinite, IsStandard, IsLeastLog, AreDisjoint, other_than, next_from, vanishing_on};
+    ghost use Rattle.circle_domain.specs.Selectors.{IsFinite, IsStandard, IsLeastLog, AreDisjoint, other_than, next_from, vanishing_on, first_row, last_row, transition};
+    ghost use Rattle.circle_domain.specs.Clear.{IsClearOf};
 
     ghost size_asks = { λ d. log_size d ≤ 63 };
 
@@ -270,6 +291,24 @@ impl<F: ComplexExtendable> PolynomialSpace for CircleDomain<F> {
 
     ghost vanishing_poly_at_point_gives = { λ e l embed d t r.
         r ≡ vanishing_on l (log_size d) (lifted embed (shift_of d)) (from_line l t) };
+
+    ghost selectors_at_point_asks = { λ e l embed d t. (log_size d ≤ F.CIRCLE_TWO_ADICITY) × IsGenuine F.ops (log_size d) (shift_of d)
+        × IsFinite l t × IsClearOf l embed (natural_order F.ops F.generators (log_size d) (shift_of d)) (from_line l t) };
+
+    ghost selectors_at_point_gives = { λ e l embed d t r. let n = log_size d in let s = lifted embed (shift_of d) in let at = from_line l t in
+        (r.is_first_row ≡ first_row l n s at) × (r.is_last_row ≡ last_row l n s at)
+        × (r.is_transition ≡ transition l n s at) × (r.inv_vanishing ≡ l.inv (vanishing_on l n s at)) };
+
+    ghost selectors_on_coset_asks = { λ d coset. (log_size d ≤ F.CIRCLE_TWO_ADICITY) × IsGenuine F.ops (log_size d) (shift_of d)
+        × (1 ≤ log_size coset) × (log_size coset ≤ F.CIRCLE_TWO_ADICITY)
+        × All (λ at. IsClearOf F.ops (λ x. x) (natural_order F.ops F.generators (log_size d) (shift_of d)) at)
+        (natural_order F.ops F.generators (log_size coset) (shift_of coset)) };
+
+    ghost selectors_on_coset_gives = { λ d coset r. let points = natural_order F.ops F.generators (log_size coset) (shift_of coset) in
+        (r.is_first_row ≡ map (first_row F.ops (log_size d) (shift_of d)) points)
+        × (r.is_last_row ≡ map (last_row F.ops (log_size d) (shift_of d)) points)
+        × (r.is_transition ≡ map (transition F.ops (log_size d) (shift_of d)) points)
+        × (r.inv_vanishing ≡ map (λ at. F.ops.inv (vanishing_on F.ops (log_size d) (shift_of d) at)) points) };
 
     fn size(&self) -> usize {
         CircleDomain::size(self)
@@ -414,6 +453,70 @@ impl<F: ComplexExtendable> PolynomialSpace for CircleDomain<F> {
     fn vanishing_poly_at_point<Ext: ExtensionField<F>>(&self, point: Ext) -> Ext {
         self.vanishing_poly(finite_point(point))
     }
+
+    /// The selectors at this point, with `z` the vanishing polynomial there: `z / v_tilde_shift` for
+    /// the first row, `z / v_tilde_(-shift)`, not normalised, for the last, `1` less the normalised
+    /// one of the last for the transition, and `1 / z` (section 5.1).
+    ///
+    /// Asks a genuine domain with `log_n <= CIRCLE_TWO_ADICITY`, and a point that is not at infinity
+    /// and is clear of the domain.
+    fn selectors_at_point<Ext: ExtensionField<F>>(&self, point: Ext) -> LagrangeSelectors<Ext>
+        requires in_group { log_size self.now ≤ F.CIRCLE_TWO_ADICITY }
+        requires genuine { IsGenuine F.ops (log_size self.now) (shift_of self.now) }
+        requires finite { IsFinite Ext.ops point }
+        requires clear { IsClearOf Ext.ops Ext.embed (natural_order F.ops F.generators (log_size self.now) (shift_of self.now)) (from_line Ext.ops point) }
+        ensures first { result.is_first_row ≡ first_row Ext.ops (log_size self.now) (lifted Ext.embed (shift_of self.now)) (from_line Ext.ops point) }
+        ensures last { result.is_last_row ≡ last_row Ext.ops (log_size self.now) (lifted Ext.embed (shift_of self.now)) (from_line Ext.ops point) }
+        ensures transition { result.is_transition ≡ transition Ext.ops (log_size self.now) (lifted Ext.embed (shift_of self.now)) (from_line Ext.ops point) }
+        ensures inverse { result.inv_vanishing ≡ Ext.ops.inv (vanishing_on Ext.ops (log_size self.now) (lifted Ext.embed (shift_of self.now)) (from_line Ext.ops point)) }
+    {
+        self.selectors_at(finite_point(point))
+    }
+
+    /// The selectors at each point of another domain, in natural order.
+    ///
+    /// Asks a genuine domain with `log_n <= CIRCLE_TWO_ADICITY`, and a coset with
+    /// `1 <= log_n <= CIRCLE_TWO_ADICITY` each of whose points is clear of the domain. Fails where
+    /// memory is refused.
+    fn selectors_on_coset(
+        &self,
+        alloc: Global,
+        coset: Self,
+    ) -> Result<LagrangeSelectors<Vec<F>>, AllocError>
+        requires in_group { log_size self.now ≤ F.CIRCLE_TWO_ADICITY }
+        requires genuine { IsGenuine F.ops (log_size self.now) (shift_of self.now) }
+        requires coset_positive { 1 ≤ log_size coset }
+        requires coset_in_group { log_size coset ≤ F.CIRCLE_TWO_ADICITY }
+        requires clear { All (λ at. IsClearOf F.ops (λ x. x) (natural_order F.ops F.generators (log_size self.now) (shift_of self.now)) at)
+            (natural_order F.ops F.generators (log_size coset) (shift_of coset)) }
+        ensures first { IfOk result (λ selectors. selectors.is_first_row.items
+            ≡ map (first_row F.ops (log_size self.now) (shift_of self.now)) (natural_order F.ops F.generators (log_size coset) (shift_of coset))) }
+        ensures last { IfOk result (λ selectors. selectors.is_last_row.items
+            ≡ map (last_row F.ops (log_size self.now) (shift_of self.now)) (natural_order F.ops F.generators (log_size coset) (shift_of coset))) }
+        ensures transition { IfOk result (λ selectors. selectors.is_transition.items
+            ≡ map (transition F.ops (log_size self.now) (shift_of self.now)) (natural_order F.ops F.generators (log_size coset) (shift_of coset))) }
+        ensures inverse { IfOk result (λ selectors. selectors.inv_vanishing.items
+            ≡ map (λ at. F.ops.inv (vanishing_on F.ops (log_size self.now) (shift_of self.now) at)) (natural_order F.ops F.generators (log_size coset) (shift_of coset))) }
+    {
+        let size = CircleDomain::size(&coset);
+        let mut is_first_row = Vec::with_capacity(alloc, size)?;
+        let mut is_last_row = Vec::with_capacity(alloc, size)?;
+        let mut is_transition = Vec::with_capacity(alloc, size)?;
+        let mut inv_vanishing = Vec::with_capacity(alloc, size)?;
+        for i in 0..size {
+            let row = self.selectors_at(coset.nth_point(i));
+            is_first_row.push(row.is_first_row)?;
+            is_last_row.push(row.is_last_row)?;
+            is_transition.push(row.is_transition)?;
+            inv_vanishing.push(row.inv_vanishing)?;
+        }
+        Ok(LagrangeSelectors {
+            is_first_row,
+            is_last_row,
+            is_transition,
+            inv_vanishing,
+        })
+    }
 }
 
 /// The points of a domain in natural order.
@@ -482,6 +585,24 @@ fn finite_point<F: Field>(t: F) -> Point<F>
     ensures { coordinates result ≡ from_line F.ops t }
 {
     Point::from_projective_line(t).unwrap()
+}
+
+// The inverse of the selector that is zero at `point` alone, at `at`: `(d.x + 1) / d.y` for
+// `d = at - point`, which has no pole where `d.y` is not 0.
+fn inverse_zero_at<F: Field, EF: ExtensionField<F>>(point: Point<F>, at: Point<EF>) -> EF
+    requires { (plus EF.ops (coordinates at) (opposite EF.ops (lifted EF.embed (coordinates point)))).y ≢ EF.ops.zero }
+    ensures { result ≡ EF.ops.inv (zero_at EF.ops (lifted EF.embed (coordinates point)) (coordinates at)) }
+{
+    let difference = at - point;
+    (difference.x() + EF::ONE) * inverse(difference.y())
+}
+
+// The inverse of an element that is not 0.
+fn inverse<F: Field>(element: F) -> F
+    requires { element ≢ F.ops.zero }
+    ensures { result ≡ F.ops.inv element }
+{
+    element.try_inverse().unwrap()
 }
 
 // The least number of at least 1 whose power of two is at least `min_size`.

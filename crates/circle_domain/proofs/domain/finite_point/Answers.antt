@@ -1,4 +1,3 @@
-use Rattle.std.proofs.Common.{◌≡◌, IsNone}
 use Rattle.circle_field.proofs.Inverses.{some_unless}
 use Rattle.circle_domain.proofs.domain.finite_point.Goals as goal
 

@@ -1,4 +1,4 @@
-use Rattle.std.proofs.Common.{◌≡◌, ◌≢◌, max, ◌∙◌, sym, ap}
+use Rattle.std.proofs.Common.{◌≡◌, max, ◌∙◌, sym, ap}
 use Rattle.circle_point.specs.Basis.{vanishing}
 use Rattle.circle_point.specs.Point.{coordinates}
 use Rattle.circle_domain.specs.Domain.{log_size, shift_of}

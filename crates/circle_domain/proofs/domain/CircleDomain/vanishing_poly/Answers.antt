@@ -1,4 +1,4 @@
-use Rattle.std.proofs.Common.{◌≡◌, ◌∙◌, ap}
+use Rattle.std.proofs.Common.{◌∙◌, ap}
 use Rattle.circle_field.specs.Field.{sub}
 use Rattle.circle_point.specs.Basis.{vanishing}
 use Rattle.circle_point.specs.Point.{coordinates}

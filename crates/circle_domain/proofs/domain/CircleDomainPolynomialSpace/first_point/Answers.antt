@@ -1,4 +1,3 @@
-use Rattle.std.proofs.Common.{◌≡◌, IsNone}
 use Rattle.circle_field.proofs.Inverses.{some_unless}
 use Rattle.circle_domain.specs.Domain.{shift_of}
 use Rattle.circle_domain.proofs.Walking.{half_turn-by_x}

@@ -1,8 +1,8 @@
-use Rattle.std.proofs.Common.{◌≡◌, ◌≢◌, ℕ, Some, IsNone, ◌⊎◌, ◌∙◌, sym, ap, refl, inl, inr, ⊎_elim}
+use Rattle.std.proofs.Common.{◌≡◌, Some, ◌∙◌, sym, ap, refl, inr, ⊎_elim}
 use Rattle.std.proofs.lemmas.Bool.{false≢true}
 use Rattle.circle_field.specs.Circle.{Coordinates, plus, lifted}
 use Rattle.circle_point.specs.Point.{coordinates}
-use Rattle.circle_point.specs.Projective.{from_line, to_line, half_turn}
+use Rattle.circle_point.specs.Projective.{from_line, to_line}
 use Rattle.circle_domain.specs.Domain.{log_size, shift_of}
 use Rattle.circle_domain.specs.Selectors.{next_from}
 use Rattle.circle_domain.proofs.NextPoints.{some_of, walk-finite, walk-next, walk-next-finite}

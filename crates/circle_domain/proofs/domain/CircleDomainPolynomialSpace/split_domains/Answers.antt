@@ -1,7 +1,6 @@
-use Rattle.std.proofs.Common.{◌≡◌, ℕ, ◌+◌, ◌-◌, ◌*◌, ◌^◌, ◌<◌, ◌≤◌, ◌++◌, [], ◌∷◌, All, List, Some, refl, ◌∙◌, sym, ap, subst, arith, map, take, length}
+use Rattle.std.proofs.Common.{◌≡◌, ◌-◌, ◌*◌, ◌^◌, ◌<◌, ◌++◌, [], ◌∷◌, All, List, Some, refl, ◌∙◌, sym, ap, subst, arith, map, take}
 use Rattle.std.proofs.Math.Pow.{pow-lt}
 use Rattle.std.proofs.lemmas.List.Elements.{All-push}
-use Rattle.circle_field.specs.Circle.{Coordinates}
 use Rattle.circle_domain.specs.Domain.{log_size, shift_of}
 use Rattle.circle_domain.specs.declared.domain.CircleDomain.{CircleDomain}
 use Rattle.circle_domain.specs.Order.{natural_order}

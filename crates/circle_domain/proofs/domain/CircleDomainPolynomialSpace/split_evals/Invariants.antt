@@ -1,4 +1,4 @@
-use Rattle.std.proofs.Common.{◌≡◌, ℕ, ◌/◌, All, map}
+use Rattle.std.proofs.Common.{◌≡◌, ◌/◌, All, map}
 use Rattle.std.specs.List.{range_with_len}
 use Rattle.circle_commit.specs.Matrix.{mapped_rows}
 use Rattle.circle_commit.specs.RowMajorMatrix.{rows, width_of, height_of}

@@ -1,4 +1,4 @@
-use Rattle.std.proofs.Common.{ℕ, ◌≡◌, ◌≢◌, ◌≤◌, ◌<◌, ◌+◌, ◌∙◌, sym, ap, subst, arith}
+use Rattle.std.proofs.Common.{◌≡◌, ◌≢◌, ◌≤◌, ◌+◌, ◌∙◌, sym, ap, subst, arith}
 use Rattle.circle_field.specs.Circle.{Coordinates}
 use Rattle.circle_domain.specs.Domain.{log_size, shift_of}
 use Rattle.circle_domain.specs.Order.{natural_order}
