@@ -68,6 +68,14 @@ pub trait PolynomialSpace: Copy {
 
     ghost selectors_on_coset_gives: { Self → Self → LagrangeSelectors (List Self.Val) → Type 0 };
 
+    ghost evaluate_polynomial_at_asks: { (E : Type 0) → FieldOps E → (Self.Val → E) → Self → List Self.Val → E → Type 0 };
+
+    ghost evaluate_polynomial_at_gives: { (E : Type 0) → FieldOps E → (Self.Val → E) → Self → List Self.Val → E → E → Type 0 };
+
+    ghost evaluate_periodic_column_at_asks: { (E : Type 0) → FieldOps E → (Self.Val → E) → Self → List Self.Val → E → Type 0 };
+
+    ghost evaluate_periodic_column_at_gives: { (E : Type 0) → FieldOps E → (Self.Val → E) → Self → List Self.Val → E → E → Type 0 };
+
     /// The number of points.
     fn size(&self) -> usize
         requires { size_asks self.now }
@@ -134,4 +142,26 @@ pub trait PolynomialSpace: Copy {
           is_transition = selectors.is_transition.items;
           inv_vanishing = selectors.inv_vanishing.items;
         })) };
+
+    /// The value at this point of the polynomial with these values on the domain, in its order. Fails
+    /// where memory is refused.
+    fn evaluate_polynomial_at<Ext: ExtensionField<Self::Val>>(
+        &self,
+        alloc: Global,
+        evals: &[Self::Val],
+        point: Ext,
+    ) -> Result<Ext, AllocError>
+        requires { evaluate_polynomial_at_asks Ext Ext.ops Ext.embed self.now evals.now point }
+        ensures { IfOk result (λ value. evaluate_polynomial_at_gives Ext Ext.ops Ext.embed self.now evals.now point value) };
+
+    /// The value at this point of a column that repeats these entries over the domain. Fails where
+    /// memory is refused.
+    fn evaluate_periodic_column_at<Ext: ExtensionField<Self::Val>>(
+        &self,
+        alloc: Global,
+        col: &[Self::Val],
+        point: Ext,
+    ) -> Result<Ext, AllocError>
+        requires { evaluate_periodic_column_at_asks Ext Ext.ops Ext.embed self.now col.now point }
+        ensures { IfOk result (λ value. evaluate_periodic_column_at_gives Ext Ext.ops Ext.embed self.now col.now point value) };
 }

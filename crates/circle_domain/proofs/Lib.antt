@@ -27,7 +27,9 @@ pub mod Parts
 pub mod Pointwise
 pub mod Powers
 pub mod Reciprocals
+pub mod Results
 pub mod Reversal
+pub mod StandardDomain
 pub mod Stored
 pub mod Transform
 pub mod Twiddles

@@ -5,6 +5,7 @@ pub mod Lagrange
 pub mod Layers
 pub mod Order
 pub mod Ordering
+pub mod Periodic
 pub mod Rows
 pub mod Selectors
 pub mod Splitting

@@ -1,5 +1,5 @@
 //! Domains of the circle transform: twin cosets of a cyclic group of points.
-ghost use Rattle.std.specs.Prelude.{◌≡◌, ◌≢◌, ◌↔◌, ◌⊎◌, ℕ, ◌≤◌, ◌<◌, ◌+◌, ◌-◌, ◌%◌, ◌/◌, ◌^◌, ◌*◌, IsTrue, IsNone, IfSome, IfOk, Some, Ok, All, AllPairs, Any, Contains, length, map, take, slice_get};
+ghost use Rattle.std.specs.Prelude.{◌≡◌, ◌≢◌, ◌↔◌, ◌⊎◌, ℕ, List, ◌≤◌, ◌<◌, ◌+◌, ◌-◌, ◌%◌, ◌/◌, ◌^◌, ◌*◌, IsTrue, IsNone, IfSome, IfOk, Some, Ok, All, AllPairs, Any, Contains, length, map, take, slice_get};
 ghost use Rattle.std.specs.Iterator.{YieldsFirstBy, item_count};
 ghost use Rattle.circle_field.specs.Circle.{opposite, plus, lifted};
 ghost use Rattle.circle_domain.specs.Order.{IsGenuine, natural_order, half};
@@ -7,6 +7,7 @@ ghost use Rattle.circle_point.specs.Point.{coordinates};
 ghost use Rattle.circle_point.specs.Projective.{from_line};
 ghost use Rattle.circle_domain.specs.Selectors.{IsFinite, IsLeastLog, zero_at};
 
+use crate::lagrange::value_off_domain;
 use crate::splitting::rows_of_part;
 use circle_commit::{LagrangeSelectors, PolynomialSpace, RowMajorMatrix};
 use circle_field::{ComplexExtendable, ExtensionField, Field, Operations};
@@ -246,6 +247,10 @@ impl<F: ComplexExtendable> PolynomialSpace for CircleDomain<F> {
     ghost use Rattle.circle_commit.specs.RowMajorMatrix.{rows, width_of, height_of};
     ghost use Rattle.circle_domain.specs.Splitting.{part_of, place_in, place_of};
     ghost use Rattle.std.specs.List.{range_with_len};
+    ghost use Rattle.circle_point.specs.Basis.{value};
+    ghost use Rattle.circle_field.specs.Circle.{times};
+    ghost use Rattle.circle_domain.specs.Periodic.{IsPeriodicValue};
+    ghost use Rattle.circle_domain.specs.Values.{Interpolates};
     ghost use Rattle.circle_domain.specs.Selectors.{IsFinite, IsStandard, IsLeastLog, AreDisjoint, other_than, next_from, vanishing_on, first_row, last_row, transition};
     ghost use Rattle.circle_domain.specs.Clear.{IsClearOf};
 
@@ -309,6 +314,19 @@ impl<F: ComplexExtendable> PolynomialSpace for CircleDomain<F> {
         × (r.is_last_row ≡ map (last_row F.ops (log_size d) (shift_of d)) points)
         × (r.is_transition ≡ map (transition F.ops (log_size d) (shift_of d)) points)
         × (r.inv_vanishing ≡ map (λ at. F.ops.inv (vanishing_on F.ops (log_size d) (shift_of d) at)) points) };
+
+    ghost evaluate_polynomial_at_asks = { λ e l embed d evals t. IsStandard F.CIRCLE_TWO_ADICITY F.generators (log_size d) (shift_of d)
+        × (1 ≤ log_size d) × (length evals ≡ 2 ^ log_size d) × IsFinite l t
+        × IsClearOf l embed (natural_order F.ops F.generators (log_size d) (shift_of d)) (from_line l t) };
+
+    ghost evaluate_polynomial_at_gives = { λ e l embed d evals t v. (coeffs : List F) × Interpolates F.ops F.generators (log_size d) (shift_of d) coeffs evals
+        × (v ≡ value l (map embed coeffs) (from_line l t)) };
+
+    ghost evaluate_periodic_column_at_asks = { λ e l embed d col t. 2 ≤ length col →
+        IsStandard F.CIRCLE_TWO_ADICITY F.generators (log_size d) (shift_of d) × IsPowerOfTwo (length col) × (length col ≤ 2 ^ log_size d) × IsFinite l t
+        × ((j : ℕ) → 1 ≤ j → length col ≡ 2 ^ j → IsClearOf l embed (natural_order F.ops F.generators j (F.generators (j + 1))) (times l (2 ^ (log_size d - j)) (from_line l t))) };
+
+    ghost evaluate_periodic_column_at_gives = { λ e l embed d col t v. IsPeriodicValue F.ops F.generators l embed (log_size d) col (from_line l t) v };
 
     fn size(&self) -> usize {
         CircleDomain::size(self)
@@ -516,6 +534,62 @@ impl<F: ComplexExtendable> PolynomialSpace for CircleDomain<F> {
             is_transition,
             inv_vanishing,
         })
+    }
+
+    /// The value at this point of the only polynomial with these values in natural order (Circle
+    /// STARKs, section 4.3).
+    ///
+    /// Asks a standard domain of at least two points, a value for each of them, and a point that is not
+    /// at infinity and that is clear of the domain. Fails where memory is refused.
+    fn evaluate_polynomial_at<Ext: ExtensionField<F>>(
+        &self,
+        alloc: Global,
+        evals: &[F],
+        point: Ext,
+    ) -> Result<Ext, AllocError>
+        requires standard { IsStandard F.CIRCLE_TWO_ADICITY F.generators (log_size self.now) (shift_of self.now) }
+        requires positive { 1 ≤ log_size self.now }
+        requires size { length evals.now ≡ 2 ^ log_size self.now }
+        requires finite { IsFinite Ext.ops point }
+        requires clear { IsClearOf Ext.ops Ext.embed (natural_order F.ops F.generators (log_size self.now) (shift_of self.now)) (from_line Ext.ops point) }
+        ensures value { IfOk result (λ v. (coeffs : List F) × Interpolates F.ops F.generators (log_size self.now) (shift_of self.now) coeffs evals.now
+            × (v ≡ value Ext.ops (map Ext.embed coeffs) (from_line Ext.ops point))) }
+        ensures only { IfOk result (λ v. (coeffs : List F) → Interpolates F.ops F.generators (log_size self.now) (shift_of self.now) coeffs evals.now →
+            v ≡ value Ext.ops (map Ext.embed coeffs) (from_line Ext.ops point)) }
+    {
+        value_off_domain(alloc, *self, evals, finite_point(point))
+    }
+
+    /// The value at this point of a column that repeats these entries over the domain: 0 for no entries,
+    /// the entry for one, and for `2^k` entries the value at the point, doubled `log_n - k` times, of the
+    /// only polynomial with these values on the standard domain of `2^k` points.
+    ///
+    /// Asks nothing of a column of at most one entry. Of others asks a standard domain, a length that is
+    /// a power of two and at most the size, and a point that is not at infinity and, once doubled, clear of
+    /// that smaller domain. Fails where memory is refused.
+    fn evaluate_periodic_column_at<Ext: ExtensionField<F>>(
+        &self,
+        alloc: Global,
+        col: &[F],
+        point: Ext,
+    ) -> Result<Ext, AllocError>
+        requires standard { 2 ≤ length col.now → IsStandard F.CIRCLE_TWO_ADICITY F.generators (log_size self.now) (shift_of self.now) }
+        requires power { 2 ≤ length col.now → IsPowerOfTwo (length col.now) }
+        requires at_most_size { 2 ≤ length col.now → length col.now ≤ 2 ^ log_size self.now }
+        requires finite { 2 ≤ length col.now → IsFinite Ext.ops point }
+        requires clear { 2 ≤ length col.now → (j : ℕ) → 1 ≤ j → length col.now ≡ 2 ^ j →
+            IsClearOf Ext.ops Ext.embed (natural_order F.ops F.generators j (F.generators (j + 1))) (times Ext.ops (2 ^ (log_size self.now - j)) (from_line Ext.ops point)) }
+        ensures { IfOk result (λ v. IsPeriodicValue F.ops F.generators Ext.ops Ext.embed (log_size self.now) col.now (from_line Ext.ops point) v) }
+    {
+        if col.len() == 0 {
+            return Ok(Ext::ZERO);
+        }
+        if col.len() == 1 {
+            return Ok(Ext::from_base(col[0]));
+        }
+        let log_period = col.len().ilog2() as usize;
+        let doubled = finite_point(point).repeated_double(self.log_n - log_period);
+        value_off_domain(alloc, Self::standard(log_period), col, doubled)
     }
 }
 

@@ -1,4 +1,3 @@
 pub mod Inverses
 pub mod Layered
 pub mod Passes
-pub mod Results

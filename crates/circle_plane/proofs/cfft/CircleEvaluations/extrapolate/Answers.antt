@@ -6,7 +6,7 @@ use Rattle.circle_domain.specs.Domain.{log_size, shift_of}
 use Rattle.circle_domain.specs.Order.{cfft_order, natural_order}
 use Rattle.circle_domain.specs.Ordering.{other_order}
 use Rattle.circle_domain.proofs.Powers.{pow_within}
-use Rattle.circle_plane.proofs.Results.{if_ok_both}
+use Rattle.circle_domain.proofs.Results.{if_ok_both}
 use Rattle.circle_domain.proofs.ZeroRows.{zeros-values}
 use Rattle.circle_plane.proofs.cfft.CircleEvaluations.extrapolate.Goals as goal
 
