@@ -55,9 +55,10 @@ module _ {F : Type 0} {k : FieldOps F} (laws : FieldLaws k) where
       (given (sum ex (minus ey)) (prod et ej) ei ∷ given ex (prod (sum unit unit) ei) unit ∷ []) refl (half, (two_inverse, tt)) in
       let high : sub k (k.mul (k.add x y) i) (k.mul (k.mul (sub k x y) j) t) ≡ y =
       combine laws.ring env (sum s (minus d)) ey
-      (given (minus (sum ex (minus ey))) (prod et ej) ei ∷ given ey (prod (sum unit unit) ei) unit ∷ []) refl (half, (two_inverse, tt)) in
-      (ap (λ v. v ∷ lower k t (pairwise half_sum xs ys) (pairwise (half_difference t) xs ys)) low ∙ ap (λ vs. x ∷ vs) rest.0,
-        ap (λ v. v ∷ upper k t (pairwise half_sum xs ys) (pairwise (half_difference t) xs ys)) high ∙ ap (λ vs. y ∷ vs) rest.1)
+      (given (minus (sum ex (minus ey))) (prod et ej) ei ∷ given ey (prod (sum unit unit) ei) unit ∷ []) refl (half, (two_inverse, tt)) in (
+        ap (λ v. v ∷ lower k t (pairwise half_sum xs ys) (pairwise (half_difference t) xs ys)) low ∙ ap (λ vs. x ∷ vs) rest.0,
+        ap (λ v. v ∷ upper k t (pairwise half_sum xs ys) (pairwise (half_difference t) xs ys)) high ∙ ap (λ vs. y ∷ vs) rest.1,
+      )
 
   module _ {gen : ℕ → Coordinates F} {bits : ℕ} (gens : AreGenerators k bits gen) where
     -- the coefficients that the layers make into these entries
@@ -81,14 +82,16 @@ module _ {F : Type 0} {k : FieldOps F} (laws : FieldLaws k) where
         let lhi : length hi ≡ half = length-pairwise (half_difference t) a b same ∙ first.1 in
         let back = recovered t a b (factor-nonzero laws m q on_circle genuine) same in
         let take_lo : take half (lo ++ hi) ≡ lo = take_at lo hi half llo in
-        let take_hi : take half (drop half (lo ++ hi)) ≡ hi = ap (take half) (drop_at lo hi half llo) ∙ take_all half hi (omega (arith, lhi)) in
-        (lo ++ hi, length-append lo hi ∙ omega (arith, llo, lhi, d),
+        let take_hi : take half (drop half (lo ++ hi)) ≡ hi = ap (take half) (drop_at lo hi half llo) ∙ take_all half hi (omega (arith, lhi)) in (
+          lo ++ hi,
+          length-append lo hi ∙ omega (arith, llo, lhi, d),
           ap (λ xs. finish k gen m q (lower k t xs (take half (drop half (lo ++ hi)))) ++ finish k gen m q' (upper k t xs (take half (drop half (lo ++ hi))))) take_lo
-          ∙ ap (λ xs. finish k gen m q (lower k t lo xs) ++ finish k gen m q' (upper k t lo xs)) take_hi
-          ∙ ap (λ xs. finish k gen m q xs ++ finish k gen m q' (upper k t lo hi)) back.0
-          ∙ ap (λ xs. finish k gen m q a ++ finish k gen m q' xs) back.1
-          ∙ ap (λ xs. xs ++ finish k gen m q' b) first.2 ∙ ap (λ xs. take half ws ++ xs) second.2
-          ∙ both-halves half (2 ^ suc m) ws e d)
+              ∙ ap (λ xs. finish k gen m q (lower k t lo xs) ++ finish k gen m q' (upper k t lo xs)) take_hi
+              ∙ ap (λ xs. finish k gen m q xs ++ finish k gen m q' (upper k t lo hi)) back.0
+              ∙ ap (λ xs. finish k gen m q a ++ finish k gen m q' xs) back.1
+              ∙ ap (λ xs. xs ++ finish k gen m q' b) first.2 ∙ ap (λ xs. take half ws ++ xs) second.2
+              ∙ both-halves half (2 ^ suc m) ws e d,
+        )
 
     module _ (n : ℕ) (s : Coordinates F) (fits : n ≤ suc bits) (on_circle : IsOnCircle k s) (genuine : IsGenuine k n s) where
       -- one column
@@ -104,17 +107,19 @@ module _ {F : Type 0} {k : FieldOps F} (laws : FieldLaws k) where
           let read : ℕ → List F → F = λ j row. slice_index_or row j k.zero in
           let col = λ (j : ℕ). column-told (column k.zero rows j) (length-map rows (read j) ∙ tall) in
           let entry : ℕ → ℕ → F = λ j i. slice_index_or (col j).0 i k.zero in
-          let made = map (λ i. map (λ j. entry j i) (range_with_len 0 width)) (range_with_len 0 (2 ^ n)) in
-          (made, record {
-            height = length-map-range_with_len (λ i. map (λ j. entry j i) (range_with_len 0 width)) 0 (2 ^ n);
-            widths = λ i d lt.
-                let below : i < 2 ^ n = omega (arith, lt, length-map-range_with_len (λ i. map (λ j. entry j i) (range_with_len 0 width)) 0 (2 ^ n)) in
-                ap length (get_or-map-range_with_len (λ i. map (λ j. entry j i) (range_with_len 0 width)) 0 (2 ^ n) i i d below (omega arith))
-                ∙ length-map-range_with_len (λ j. entry j i) 0 width;
-            values = sym (rows-values k width (2 ^ n) positive rows made (cfft_order k gen n s) wide
-                (λ j lt.
-                sym (ap (λ c. map (value k c) (cfft_order k gen n s))
-                (column-made k.zero width j entry (range_with_len 0 (2 ^ n)) lt
-                ∙ sym (fill_by_all (entry j) (col j).0 (2 ^ n) k.zero (col j).1 (λ i below. refl)))
-                ∙ (col j).2)));
-          })
+          let made = map (λ i. map (λ j. entry j i) (range_with_len 0 width)) (range_with_len 0 (2 ^ n)) in (
+            made,
+            record {
+              height = length-map-range_with_len (λ i. map (λ j. entry j i) (range_with_len 0 width)) 0 (2 ^ n);
+              widths = λ i d lt.
+                  let below : i < 2 ^ n = omega (arith, lt, length-map-range_with_len (λ i. map (λ j. entry j i) (range_with_len 0 width)) 0 (2 ^ n)) in
+                  ap length (get_or-map-range_with_len (λ i. map (λ j. entry j i) (range_with_len 0 width)) 0 (2 ^ n) i i d below (omega arith))
+                  ∙ length-map-range_with_len (λ j. entry j i) 0 width;
+              values = sym (rows-values k width (2 ^ n) positive rows made (cfft_order k gen n s) wide
+                  (λ j lt.
+                  sym (ap (λ c. map (value k c) (cfft_order k gen n s))
+                  (column-made k.zero width j entry (range_with_len 0 (2 ^ n)) lt
+                  ∙ sym (fill_by_all (entry j) (col j).0 (2 ^ n) k.zero (col j).1 (λ i below. refl)))
+                  ∙ (col j).2)));
+            },
+          )

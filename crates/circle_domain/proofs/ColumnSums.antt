@@ -48,6 +48,6 @@ module _ {F E : Type 0} (l : FieldOps E) (m : F → E) (laws : RingLaws l) where
       ∙ sym (get_or-map m (column z rows j) i (slice_index_or row j z) v (omega (arith, hr, length-map rows read))) in
       pairwise-read f sums row j l.zero z l.zero (omega (arith, lt, long)) (omega (arith, lt, wide))
       ∙ ap (λ a. l.add a (l.mul (m (slice_index_or row j z)) w))
-        (ap (λ xs. slice_index_or xs j l.zero) e ∙ get_or-map-range_with_len (partial z ws rows i) 0 width j j l.zero lt (omega arith))
+      (ap (λ xs. slice_index_or xs j l.zero) e ∙ get_or-map-range_with_len (partial z ws rows i) 0 width j j l.zero lt (omega arith))
       ∙ ap (l.add (partial z ws rows i j)) (laws.mul_comm (m (slice_index_or row j z)) w)
       ∙ sym (dot-more i ws col w v hw cv ew ev))

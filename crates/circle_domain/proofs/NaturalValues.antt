@@ -50,8 +50,10 @@ module _ {F : Type 0} {k : FieldOps F} (laws : FieldLaws k) {gen : ℕ → Coord
       let there = reordered k.zero n ws in
       let told = column-told laws gens n s fits on_circle genuine there (length-map-range_with_len (λ i. slice_index_or ws (cfft_index n i) k.zero) 0 (2 ^ n)) in
       let values = map (value k told.0) (natural_order k gen n s) in
-      let long : length values ≡ 2 ^ n = length-map (natural_order k gen n s) (value k told.0) ∙ length-natural laws.ring gens n s h in
-      (told.0, told.1,
+      let long : length values ≡ 2 ^ n = length-map (natural_order k gen n s) (value k told.0) ∙ length-natural laws.ring gens n s h in (
+        told.0,
+        told.1,
         sym (reordered-twice k.zero n values long)
-        ∙ ap (reordered k.zero n) (reordered-points laws.ring gens k.zero (value k told.0) n s h fits ∙ told.2)
-        ∙ reordered-twice k.zero n ws e)
+            ∙ ap (reordered k.zero n) (reordered-points laws.ring gens k.zero (value k told.0) n s h fits ∙ told.2)
+            ∙ reordered-twice k.zero n ws e,
+      )

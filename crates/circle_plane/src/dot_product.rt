@@ -29,7 +29,10 @@ pub(crate) fn columnwise_dot_product<F: Field, EF: ExtensionField<F>, M: Matrix<
 }
 
 // So many zeros.
-fn zeros<F: Field, EF: ExtensionField<F>>(alloc: Global, count: usize) -> Result<Vec<EF>, AllocError>
+fn zeros<F: Field, EF: ExtensionField<F>>(
+    alloc: Global,
+    count: usize,
+) -> Result<Vec<EF>, AllocError>
     ensures { IfOk result (λ made. made.items ≡ map (λ _. EF.ops.zero) (range_with_len 0 count)) }
 {
     let mut zeros = Vec::with_capacity(alloc, count)?;

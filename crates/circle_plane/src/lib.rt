@@ -6,5 +6,7 @@ mod dot_product;
 mod layers;
 
 pub use cfft::{CircleEvaluations, circle_basis};
-pub use circle_domain::{CfftPerm, CfftPermutable, CfftView, CircleCoset, CircleDomain, CirclePoints, cfft_permute_index};
+pub use circle_domain::{
+    CfftPerm, CfftPermutable, CfftView, CircleCoset, CircleDomain, CirclePoints, cfft_permute_index,
+};
 pub use circle_point::{Neutral, Point};

@@ -7,6 +7,8 @@ mod extensions;
 #[cfg(test)]
 mod fields;
 #[cfg(test)]
+mod off_domain;
+#[cfg(test)]
 mod points;
 pub mod quadratic;
 #[cfg(test)]

@@ -6,12 +6,12 @@ use std::alloc::{AllocError, Global};
 use std::process::Abort;
 use std::test::Fail;
 
-type Rows = RowMajorMatrix<Mersenne31>;
+pub(crate) type Rows = RowMajorMatrix<Mersenne31>;
 
 type Evaluations = CircleEvaluations<Mersenne31, Rows>;
 
 // A matrix of `height * width` entries without a pattern.
-fn scattered(
+pub(crate) fn scattered(
     rt: &impl Abort,
     alloc: Global,
     height: usize,
@@ -78,7 +78,7 @@ fn evaluate(
 }
 
 // The coefficients of polynomials with these rows in natural order.
-fn interpolate(
+pub(crate) fn interpolate(
     rt: &impl Abort,
     alloc: Global,
     domain: CircleDomain<Mersenne31>,
@@ -90,7 +90,7 @@ fn interpolate(
 }
 
 // The values on `target`, in natural order, of polynomials with these rows in natural order.
-fn extrapolate(
+pub(crate) fn extrapolate(
     rt: &impl Abort,
     alloc: Global,
     domain: CircleDomain<Mersenne31>,
@@ -115,7 +115,7 @@ fn assert_same<L: Matrix<Mersenne31>, R: Matrix<Mersenne31>>(rt: &impl Abort, le
 }
 
 // The matrix of one column with these entries.
-fn column(alloc: Global, values: &[u64]) -> Result<Rows, AllocError> {
+pub(crate) fn column(alloc: Global, values: &[u64]) -> Result<Rows, AllocError> {
     let values = values
         .iter()
         .map(|value| Mersenne31::from_u64(*value))
@@ -123,7 +123,7 @@ fn column(alloc: Global, values: &[u64]) -> Result<Rows, AllocError> {
     Ok(RowMajorMatrix::new_col(values))
 }
 
-fn point(rt: &impl Abort, x: u64, y: u64) -> Point<Mersenne31> {
+pub(crate) fn point(rt: &impl Abort, x: u64, y: u64) -> Point<Mersenne31> {
     let (x, y) = (Mersenne31::from_u64(x), Mersenne31::from_u64(y));
     assert!(rt; x * x + y * y == Mersenne31::ONE);
     Point::new(x, y)

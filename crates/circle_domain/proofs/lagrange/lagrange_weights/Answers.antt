@@ -29,7 +29,7 @@ shares_of-requires g c =
     subst (All NonZero)
     (sym (ap (map (λ p. f (coordinates p))) c.deref.ensures.value ∙ sym (map-map f coordinates points) ∙ ap (map f) c.in_ok-points.ensures))
     (apart g.F.Operations.laws.ring g.EF.Operations.laws g.met.EF.ExtensionField.embedding g.met.F.ComplexExtendable.generators_law n s q c.requires.genuine
-      (let fits = c.requires.in_group in omega (arith, fits)) c.args.domain.shift.on_circle c.args.at.on_circle c.requires.clear)
+    (let fits = c.requires.in_group in omega (arith, fits)) c.args.domain.shift.on_circle c.args.at.on_circle c.requires.clear)
 
 pub unwrap-normalisation-requires : goal.unwrap-normalisation-requires
 unwrap-normalisation-requires g c =
@@ -82,6 +82,6 @@ returns-clause-sum g c =
     λ coeffs long.
     ap (λ ws. l.mul (dot l ws (map m (map (value k coeffs) (cfft_order k g.F.ComplexExtendable.generators n s)))) c.mul.result) made
     ∙ values-sum g.F.Operations.laws.ring g.EF.Operations.laws g.met.EF.ExtensionField.embedding g.met.F.ComplexExtendable.generators_law n s q c.requires.genuine
-      (let fits = c.requires.in_group in omega (arith, fits)) c.args.domain.shift.on_circle c.args.at.on_circle c.requires.clear coeffs c.mul.result long
-      (scale ∙ lifted-scale g.F.Operations.laws g.EF.Operations.laws g.met.EF.ExtensionField.embedding n s q normal (inverse ∙ ap k.inv is)
-      (normalisation-nonzero g.F.Operations.laws n s c.requires.genuine c.args.domain.shift.on_circle))
+    (let fits = c.requires.in_group in omega (arith, fits)) c.args.domain.shift.on_circle c.args.at.on_circle c.requires.clear coeffs c.mul.result long
+    (scale ∙ lifted-scale g.F.Operations.laws g.EF.Operations.laws g.met.EF.ExtensionField.embedding n s q normal (inverse ∙ ap k.inv is)
+    (normalisation-nonzero g.F.Operations.laws n s c.requires.genuine c.args.domain.shift.on_circle))

@@ -23,10 +23,10 @@ returns-clause-only g c =
     λ coeffs has.
     g.met.EF.Field.mul_law _ _ _ c.mul.ensures
     ∙ ap (λ v. l.mul v weights.scale)
-      (c.reordered_dot_product.ensures ∙ ap (λ ws. dot l ws (map m (reordered z c.log_n.result c.args.evals.now))) c.deref.ensures.value
-      ∙ ap (λ j. dot l weights.shares.items (map m (reordered z j c.args.evals.now))) c.log_n.ensures
-      ∙ ap (λ vs. dot l weights.shares.items (map m (reordered z n vs))) (sym has.values)
-      ∙ ap (λ vs. dot l weights.shares.items (map m vs)) (reordered-points g.F.Operations.laws.ring g.met.F.ComplexExtendable.generators_law z (value k coeffs) n s c.requires.genuine.0 (let fits = c.requires.in_group in omega (arith, fits))))
+    (c.reordered_dot_product.ensures ∙ ap (λ ws. dot l ws (map m (reordered z c.log_n.result c.args.evals.now))) c.deref.ensures.value
+    ∙ ap (λ j. dot l weights.shares.items (map m (reordered z j c.args.evals.now))) c.log_n.ensures
+    ∙ ap (λ vs. dot l weights.shares.items (map m (reordered z n vs))) (sym has.values)
+    ∙ ap (λ vs. dot l weights.shares.items (map m vs)) (reordered-points g.F.Operations.laws.ring g.met.F.ComplexExtendable.generators_law z (value k coeffs) n s c.requires.genuine.0 (let fits = c.requires.in_group in omega (arith, fits))))
     ∙ c.in_ok-weights.ensures.sum coeffs has.count
 
 pub returns-clause-value : goal.returns-clause-value

@@ -33,7 +33,7 @@ returns-clause-only g c =
     take-whole old.len new old.items old.ok.0 kept
     ∙ c.scale.ensures ∙ ap (map (λ a. l.mul a weights.scale)) (c.deref_mut.ensures.value ∙ made)
     ∙ columns-values k l m g.F.ComplexExtendable.generators n s (coordinates c.args.point) weights.shares.items weights.scale c.in_ok-weights.ensures.sum
-      width coeffs rows (g.met.M.Matrix.width_positive values) has
+    width coeffs rows (g.met.M.Matrix.width_positive values) has
 
 pub returns-clause-values : goal.returns-clause-values
 returns-clause-values g c =

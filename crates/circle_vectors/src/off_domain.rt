@@ -1,0 +1,124 @@
+//! Values off a domain over Mersenne31 and its cubic extension: worked examples, and the sum over the
+//! basis at the point, times the coefficients, beside them.
+use crate::transform::{Rows, column, extrapolate, interpolate, point, scattered};
+use circle_commit::{Matrix, PolynomialSpace};
+use circle_field::{Cubic, ExtensionField, Field, Mersenne31};
+use circle_plane::{CircleDomain, CircleEvaluations, Point, circle_basis};
+use std::alloc::{AllocError, Global};
+use std::process::Abort;
+use std::test::Fail;
+
+fn element(value: u64) -> Mersenne31 {
+    Mersenne31::from_u64(value)
+}
+
+// The point of a coordinate of the projective line.
+fn on_line(rt: &impl Abort, t: Cubic) -> Point<Cubic> {
+    Point::from_projective_line(t).expect(rt, "the square of the coordinate is -1")
+}
+
+// `evaluate_at_point` of rows in natural order, after a test of what it asks.
+fn evaluate_at_point<EF: ExtensionField<Mersenne31>>(
+    rt: &impl Abort,
+    alloc: Global,
+    domain: CircleDomain<Mersenne31>,
+    rows: Rows,
+    at: Point<EF>,
+) -> Result<Vec<EF>, AllocError> {
+    assert!(rt; domain.log_n() >= 1 && domain.log_n() <= 31 && domain.is_genuine());
+    assert!(rt; domain.is_clear_of(at) && rows.height() == domain.size());
+    CircleEvaluations::from_natural_order(domain, rows).evaluate_at_point(alloc, at)
+}
+
+// The sum over the basis at the point, times the coefficients, for each column.
+fn plain_values(
+    rt: &impl Abort,
+    alloc: Global,
+    coeffs: &Rows,
+    log_n: usize,
+    at: Point<Cubic>,
+) -> Result<Vec<Cubic>, AllocError> {
+    assert!(rt; log_n >= 1 && log_n <= 10);
+    let basis = circle_basis(alloc, at, log_n)?;
+    let mut values = vec![in alloc; Cubic::ZERO; coeffs.width()]?;
+    for r in 0..coeffs.height() {
+        let row = coeffs.row(r);
+        assert!(rt; row.len() == values.len() && r < basis.len());
+        for j in 0..row.len() {
+            assert!(rt; j < values.len());
+            values[j] = values[j] + basis[r] * Cubic::from_base(row[j]);
+        }
+    }
+    Ok(values)
+}
+
+#[test]
+fn two_points_at_the_neutral_one(rt: HostRuntime) -> Result<(), Fail> {
+    let alloc = rt.alloc();
+    let domain = CircleDomain::new(1, point(&rt, 0, 1));
+    let neutral = Point::<Mersenne31>::generator(0);
+    let values = evaluate_at_point(&rt, alloc, domain, column(alloc, &[5, 1])?, neutral)?;
+    assert!(&rt; values.as_slice() == [element(3)].as_slice());
+    let there = point(&rt, 0, 1);
+    assert!(&rt; !domain.is_clear_of(there));
+    Ok(())
+}
+
+#[test]
+fn values_off_a_domain_and_off_a_larger_one(rt: HostRuntime) -> Result<(), Fail> {
+    let alloc = rt.alloc();
+    for log_n in 2..6 {
+        for width in [1, 4, 11] {
+            let domain = CircleDomain::standard(log_n);
+            let larger = CircleDomain::standard(log_n + 1);
+            let rows = scattered(&rt, alloc, 1 << log_n, width, width as u64)?;
+            let coordinates = [element(3), element(log_n as u64), element(width as u64)];
+            let at = on_line(&rt, Cubic::from_coefficients(&coordinates));
+            let coeffs = interpolate(&rt, alloc, domain, rows.try_clone(alloc)?)?;
+            let plain = plain_values(&rt, alloc, &coeffs, log_n, at)?;
+            let there = extrapolate(&rt, alloc, domain, rows.try_clone(alloc)?, larger)?;
+            let values = evaluate_at_point(&rt, alloc, domain, rows, at)?;
+            let again = evaluate_at_point(&rt, alloc, larger, there, at)?;
+            assert!(&rt; values.as_slice() == plain.as_slice());
+            assert!(&rt; again.as_slice() == plain.as_slice());
+        }
+    }
+    Ok(())
+}
+
+#[test]
+fn one_column_by_its_space(rt: HostRuntime) -> Result<(), Fail> {
+    let alloc = rt.alloc();
+    let domain = CircleDomain::standard(3);
+    let rows = scattered(&rt, alloc, 8, 1, 77)?;
+    let coeffs = interpolate(&rt, alloc, domain, rows.try_clone(alloc)?)?;
+    let t = Cubic::from_coefficients(&[element(0), element(1), element(0)]);
+    let at = on_line(&rt, t);
+    let plain = plain_values(&rt, alloc, &coeffs, 3, at)?;
+    let evals = rows.into_values();
+    assert!(&rt; evals.len() == 8 && domain.log_n() == 3 && domain.is_standard());
+    assert!(&rt; domain.is_clear_of(at));
+    let value = domain.evaluate_polynomial_at(alloc, &evals, t)?;
+    assert!(&rt; plain.as_slice() == [value].as_slice());
+    Ok(())
+}
+
+#[test]
+fn periodic_columns_at_a_point(rt: HostRuntime) -> Result<(), Fail> {
+    let alloc = rt.alloc();
+    let trace = CircleDomain::<Mersenne31>::standard(4);
+    let other = CircleDomain::new(4, point(&rt, 0, 1));
+    let t = Cubic::from_coefficients(&[element(0), element(1), element(0)]);
+    assert!(&rt; other.evaluate_periodic_column_at(alloc, &[], t)? == Cubic::ZERO);
+    let seven = other.evaluate_periodic_column_at(alloc, &[element(7)], t)?;
+    assert!(&rt; seven == Cubic::from_base(element(7)));
+    let col = [element(1), element(2), element(3), element(4)];
+    let at = on_line(&rt, t).repeated_double(2);
+    let period = CircleDomain::<Mersenne31>::standard(2);
+    let coeffs = interpolate(&rt, alloc, period, column(alloc, &[1, 2, 3, 4])?)?;
+    let plain = plain_values(&rt, alloc, &coeffs, 2, at)?;
+    assert!(&rt; trace.log_n() == 4 && trace.is_standard() && period.is_clear_of(at));
+    let value = trace.evaluate_periodic_column_at(alloc, &col, t)?;
+    assert!(&rt; plain.as_slice() == [value].as_slice());
+    Ok(())
+}
