@@ -1,12 +1,15 @@
-//! What commitment schemes over matrices stand on: matrices by rows and views of them.
+//! What commitment schemes over matrices stand on: matrices by rows, views of them, and the forms of
+//! values in JSON.
 #![tactic(auto)]
 
+pub mod json;
 pub mod matrix;
 pub mod mmcs;
 #[cfg(test)]
 mod tests;
 pub mod view;
 
+pub use json::{JsonError, JsonForm};
 pub use matrix::{Dimensions, Matrix, RowIndexMap, RowIndexMappedView, RowMajorMatrix, Shape};
 pub use mmcs::{BatchMultiOpening, Mmcs, OpenedRows};
 pub use view::RowMajorMatrixView;

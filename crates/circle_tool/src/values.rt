@@ -11,8 +11,7 @@ ghost use Rattle.circle_tool.specs.Input.{coefficients_of, shift_of, HasFittingS
 
 use crate::failure::Failure;
 use crate::json;
-use crate::json::JsonError;
-use circle_commit::{Matrix, RowMajorMatrix};
+use circle_commit::{JsonError, JsonForm, Matrix, RowMajorMatrix};
 use circle_field::{Field, Mersenne31};
 use circle_plane::{CfftView, CircleDomain, CircleEvaluations, Point};
 use serde_json::Value;
@@ -70,20 +69,25 @@ impl From<AllocError> for Refusal {
 }
 
 impl Input {
+    ghost use Rattle.serde_json.specs.View.{view};
+    ghost use Rattle.circle_tool.specs.Input.{IsInput};
+
     /// The input that a JSON value is: `{"coefficients":[[E..]..],"log_n":n,"shift":[E,E]}`.
     ///
     /// Fails as `WrongKind` where the value is no object, as `MissingKey` and then as `UnknownKey`
     /// where its keys are others, and then as its members do.
-    pub fn from_json(alloc: Global, value: &Value) -> Result<Input, JsonError> {
+    pub fn from_json(alloc: Global, value: &Value) -> Result<Input, JsonError>
+        ensures { IfOk result (IsInput (view value.now)) }
+    {
         let members = json::members(value)?;
-        let coefficients = json::member(members, "coefficients")?;
-        let log_n = json::member(members, "log_n")?;
-        let shift = json::member(members, "shift")?;
+        let coefficients = json::member(value, "coefficients")?;
+        let log_n = json::member(value, "log_n")?;
+        let shift = json::member(value, "shift")?;
         json::no_further_key(members, 3)?;
         Ok(Input {
-            coefficients: json::rows(alloc, coefficients)?,
-            log_n: json::count(log_n)? as usize,
-            shift: json::pair(shift)?,
+            coefficients: Vec::from_json(alloc, coefficients)?,
+            log_n: usize::from_json(alloc, log_n)?,
+            shift: json::pair(alloc, shift)?,
         })
     }
 }
