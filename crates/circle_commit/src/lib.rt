@@ -11,5 +11,5 @@ pub mod view;
 
 pub use json::{JsonError, JsonForm};
 pub use matrix::{Dimensions, Matrix, RowIndexMap, RowIndexMappedView, RowMajorMatrix, Shape};
-pub use mmcs::{BatchMultiOpening, Mmcs, OpenedRows};
+pub use mmcs::{BatchMultiOpening, Mmcs, OpenedRows, heights_are_powers_of_two, is_power_of_two};
 pub use view::RowMajorMatrixView;

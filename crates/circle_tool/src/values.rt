@@ -3,7 +3,6 @@ ghost use Rattle.std.specs.Prelude.{◌≡◌, ◌<◌, ◌≤◌, ◌↔◌, le
 ghost use Rattle.circle_field.specs.Circle.{IsOnCircle, at};
 ghost use Rattle.circle_field.specs.Mersenne31.{operations, generators};
 ghost use Rattle.circle_point.specs.Basis.{values_at};
-ghost use Rattle.circle_commit.specs.Matrix.{IsPowerOfTwo};
 ghost use Rattle.circle_domain.specs.Order.{natural_order};
 ghost use Rattle.circle_commit.specs.RowMajorMatrix.{rows as matrix_rows, width_of, height_of};
 ghost use Rattle.circle_tool.specs.Rows.{lists, IsRectangular, row_length};
@@ -11,7 +10,7 @@ ghost use Rattle.circle_tool.specs.Input.{coefficients_of, shift_of, HasFittingS
 
 use crate::failure::Failure;
 use crate::json;
-use circle_commit::{JsonError, JsonForm, Matrix, RowMajorMatrix};
+use circle_commit::{JsonError, JsonForm, Matrix, RowMajorMatrix, is_power_of_two};
 use circle_field::{Field, Mersenne31};
 use circle_plane::{CfftView, CircleDomain, CircleEvaluations, Point};
 use serde_json::Value;
@@ -170,13 +169,6 @@ fn is_fitting_height(height: usize, log_n: usize) -> bool
     ensures { IsTrue result ↔ IsFittingHeight height log_n }
 {
     is_power_of_two(height) && height <= 1 << log_n
-}
-
-// Whether there is an `m` with `n = 2^m`.
-fn is_power_of_two(n: usize) -> bool
-    ensures { IsTrue result ↔ IsPowerOfTwo n }
-{
-    n > 0 && n == 1 << n.ilog2()
 }
 
 // The matrix of these rows.

@@ -3,6 +3,8 @@
 #![tactic(auto)]
 
 #[cfg(test)]
+mod commitments;
+#[cfg(test)]
 mod extensions;
 #[cfg(test)]
 mod fields;

@@ -51,8 +51,8 @@ impl From<AllocError> for ListError {
 #[derive(Clone, Copy, Debug)]
 pub struct Nothing;
 
-// Whether there are indices, each below a height.
-fn are_below(indices: &[usize], top: usize) -> bool
+/// Whether each of the indices is below a height.
+pub fn are_below(indices: &[usize], top: usize) -> bool
     ensures { IsTrue result ↔ All (λ i. i < top) indices.now }
 {
     indices.iter().all(|i| *i < top)
