@@ -1,4 +1,4 @@
-use Rattle.std.proofs.Common.{◌≡◌, subst, All}
+use Rattle.std.proofs.Common.{subst, All}
 use Rattle.circle_commit.specs.Matrix.{IsPowerOfTwo}
 use Rattle.circle_commit.specs.RowMajorMatrix.{height_of}
 use Rattle.circle_merkle.proofs.tests.commit.Goals as goal
