@@ -49,11 +49,31 @@ fn changes(alloc: Global) -> Result<Vec<Change>, AllocError> {
         height: 8,
     };
     Ok(vec![in alloc;
-        Change { indices, rows: raised, dimensions },
-        Change { indices, rows: torn, dimensions },
-        Change { indices: [8, 2, 3, 2], rows: honest, dimensions },
-        Change { indices, rows: fewer, dimensions },
-        Change { indices, rows: same, dimensions: wide },
+        Change {
+            indices,
+            rows: raised,
+            dimensions
+        },
+        Change {
+            indices,
+            rows: torn,
+            dimensions
+        },
+        Change {
+            indices: [8, 2, 3, 2],
+            rows: honest,
+            dimensions
+        },
+        Change {
+            indices,
+            rows: fewer,
+            dimensions
+        },
+        Change {
+            indices,
+            rows: same,
+            dimensions: wide
+        },
     ]?)
 }
 

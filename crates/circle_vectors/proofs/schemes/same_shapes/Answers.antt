@@ -1,6 +1,4 @@
-use Rattle.std.proofs.Common.{◌≡◌, ◌↔◌, Bool, true, nat_eq, ◌&&◌, sym, ◌∙◌}
-use Rattle.std.specs.Cmp.Lexicographic.{pointwise}
-use Rattle.circle_commit.specs.declared.matrix.Dimensions.{Dimensions}
+use Rattle.std.proofs.Common.{sym, ◌∙◌}
 use Rattle.circle_vectors.proofs.Equal.{same_dimensions}
 use lib.Pointwise.{pointwise_decides}
 use Rattle.circle_vectors.proofs.schemes.same_shapes.Goals as goal

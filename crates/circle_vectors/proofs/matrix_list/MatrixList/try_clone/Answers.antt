@@ -1,4 +1,3 @@
-use Rattle.std.proofs.Common.{ap, sym, ◌∙◌, All}
 use Rattle.std.proofs.lemmas.List.Elements.{All-same}
 use Rattle.circle_commit.specs.Matrix.{IsPowerOfTwo}
 use Rattle.circle_commit.specs.RowMajorMatrix.{height_of}
