@@ -189,9 +189,7 @@ fn verify(
 
 /// The first four bytes of a digest as a number, greatest first.
 fn number(digest: &Hash) -> u64 {
-    u64::from(u32::from_be_bytes([
-        digest[0], digest[1], digest[2], digest[3],
-    ]))
+    u64::from(u32::from_be_bytes([digest[0], digest[1], digest[2], digest[3]]))
 }
 
 /// The sum of the numbers of digests.

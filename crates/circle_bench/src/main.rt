@@ -167,7 +167,7 @@ fn main(rt: HostRuntime) -> io::Result<ExitCode> {
     let step = Mersenne31::from_u64(987654321);
     timing::report(&rt, mode, "Mersenne31", &MERSENNE31, start, step)?;
     report_transforms(&rt, mode, start, step)?;
-    commitments::report(&rt, mode, committed_sizes(mode), start, step)?;
+    report_commitments(&rt, mode, start, step)?;
     let start = Cubic::from_coefficients(&[start, step, start.square()]);
     let step = Cubic::from_coefficients(&[step, start.coefficient(2), step.square()]);
     timing::report(&rt, mode, "Cubic", &CUBIC, start, step)?;
@@ -192,12 +192,18 @@ fn report_transforms(
     Ok(())
 }
 
-/// The matrices that are committed to.
-fn committed_sizes(mode: Mode) -> &'static [Size] {
-    match mode {
+/// Prints a line for each pass over a commitment to each matrix.
+fn report_commitments(
+    rt: &HostRuntime,
+    mode: Mode,
+    start: Mersenne31,
+    step: Mersenne31,
+) -> io::Result<()> {
+    let sizes = match mode {
         Mode::Digests => SMALL.as_slice(),
         Mode::Times => COMMITTED.as_slice(),
-    }
+    };
+    commitments::report(rt, mode, sizes, start, step)
 }
 
 /// What the arguments ask for, or `None` where they ask for nothing that there is.
