@@ -1,15 +1,19 @@
 #!/usr/bin/env python3
-"""Prints what circle_bench has to print of the circle transform, computed from the definition.
+"""Prints what circle_bench has to print of the circle transform and of commitments, computed from the
+definition.
 
 A value is the plain sum of the coefficients times the basis at the point, and coefficients are the
-solution of that system of linear equations, by elimination. Nothing is computed by layers.
+solution of that system of linear equations, by elimination. Nothing is computed by layers. Digests are hashlib's.
 """
+
+import hashlib
 
 ORDER = 2**31 - 1
 ROOT = (311014874, 1584694829)
 START, STEP = 123456789, 987654321
 LOG_ROWS = 6
 WIDTHS = (1, 8, 64)
+INDICES, FACTOR = 40, 2654435761
 
 
 def plus(p, q):
@@ -101,6 +105,36 @@ def digest(rows):
     return total
 
 
+def sha256(first, *pieces):
+    return hashlib.sha256(bytes([first]) + b"".join(pieces)).digest()
+
+
+def number(digest):
+    """The first four bytes, greatest first."""
+    return int.from_bytes(digest[:4], "big")
+
+
+def commit(rows):
+    """The digests of a tree over the rows, position by position, by level from the lowest."""
+    level = [sha256(0, *(entry.to_bytes(4, "big") for entry in row)) for row in rows]
+    tree = {(0, place): digest for place, digest in enumerate(level)}
+    for log in range(1, len(rows).bit_length()):
+        for place in range(len(rows) >> log):
+            below = tree[log - 1, 2 * place], tree[log - 1, 2 * place + 1]
+            tree[log, place] = sha256(1, *below)
+    return tree
+
+
+def openings(size, tree):
+    """The digests of positions beside those above the indices, which aren't above one themselves."""
+    known = {place * FACTOR % size for place in range(INDICES)}
+    for log in range(size.bit_length() - 1):
+        for place in sorted(known):
+            if place ^ 1 not in known:
+                yield tree[log, place ^ 1]
+        known = {place // 2 for place in known}
+
+
 def main():
     passes = {
         "interpolate": lambda rows: interpolate(LOG_ROWS, rows),
@@ -111,6 +145,13 @@ def main():
         for width in WIDTHS:
             result = transform(matrix(2**LOG_ROWS, width))
             print(f"Mersenne31 {name} {2**LOG_ROWS} x {width}: [{digest(result)}]")
+    for width in WIDTHS:
+        size = 2**LOG_ROWS
+        tree = commit(matrix(size, width))
+        proof = sum(map(number, openings(size, tree)))
+        print(f"ShaMmcs commit {size} x {width}: [{number(tree[LOG_ROWS, 0])}]")
+        print(f"ShaMmcs open {size} x {width}: [{proof}]")
+        print(f"ShaMmcs verify {size} x {width}: [1]")
 
 
 main()

@@ -2,10 +2,13 @@
 //! or with the argument `time` how long they take.
 mod domain;
 mod field;
+mod merkle;
+mod sha256;
 mod transform;
 
 use domain::Domain;
 use field::Mersenne31;
+use merkle::Hash;
 use std::time::{Duration, Instant};
 use transform::Matrix;
 
@@ -14,6 +17,16 @@ const SMALL: u32 = 6;
 
 /// The binary logarithms of the rows of the matrices that are timed.
 const LARGE: [u32; 3] = [10, 14, 18];
+
+/// The binary logarithms of the rows of the matrices to which commitments are timed.
+const COMMITTED: [u32; 2] = [14, 18];
+
+/// How many indices are opened, and the factor of an index's place.
+const INDICES: usize = 40;
+const FACTOR: usize = 2654435761;
+
+/// How many times rows are opened and verified when that is timed.
+const RUNS: usize = 50;
 
 /// The numbers of columns.
 const WIDTHS: [usize; 3] = [1, 8, 64];
@@ -55,8 +68,14 @@ fn main() {
     let args: Vec<String> = std::env::args().skip(1).collect();
     let args: Vec<&str> = args.iter().map(String::as_str).collect();
     match args.as_slice() {
-        [] => report(&[SMALL], digest_line),
-        ["time"] => report(&LARGE, time_line),
+        [] => {
+            report(&[SMALL], digest_line);
+            report_commitments(&[SMALL], false);
+        }
+        ["time"] => {
+            report(&LARGE, time_line);
+            report_commitments(&COMMITTED, true);
+        }
         _ => {
             eprintln!("usage: baseline [time]");
             std::process::exit(2);
@@ -73,6 +92,51 @@ fn report(log_rows: &[u32], line: fn(Transform, u32, usize)) {
             }
         }
     }
+}
+
+/// Prints a line for each pass over the tree of each matrix.
+fn report_commitments(log_rows: &[u32], timed: bool) {
+    for &log_rows in log_rows {
+        for width in WIDTHS {
+            commitment_lines(1 << log_rows, width, timed);
+        }
+    }
+}
+
+fn commitment_lines(rows: usize, width: usize, timed: bool) {
+    let line = |name: &str, time: Duration, digest: u64| {
+        let time = if timed { format!("{} ns, ", time.as_nanos()) } else { String::new() };
+        println!("ShaMmcs {name} {rows} x {width}: {time}[{digest}]");
+    };
+    let count = |most: usize| if timed { most } else { 1 };
+    let input = matrix(rows, width);
+    let (time, (root, tree)) = fastest(count(runs(rows * width)), || input.clone(), merkle::commit);
+    line("commit", time, number(&root));
+    let indices: Vec<usize> = (0..INDICES).map(|k| k.wrapping_mul(FACTOR) % rows).collect();
+    let (time, (opened, proof)) = fastest(count(RUNS), || (), |()| tree.open(&indices));
+    line("open", time, proof.iter().map(number).sum());
+    let verify = |()| merkle::verify(&root, rows, &indices, &opened, &proof);
+    let (time, accepted) = fastest(count(RUNS), || (), verify);
+    line("verify", time, u64::from(accepted));
+}
+
+/// The shortest time of a pass, and what came of the last one.
+fn fastest<I, O>(runs: usize, input: impl Fn() -> I, pass: impl Fn(I) -> O) -> (Duration, O) {
+    let mut best = Duration::MAX;
+    let mut last = None;
+    for _ in 0..runs {
+        let input = input();
+        let begin = Instant::now();
+        let output = pass(input);
+        best = best.min(begin.elapsed());
+        last = Some(output);
+    }
+    (best, last.expect("a pass"))
+}
+
+/// The first four bytes of a digest as a number, greatest first.
+fn number(digest: &Hash) -> u64 {
+    u64::from(u32::from_be_bytes([digest[0], digest[1], digest[2], digest[3]]))
 }
 
 fn digest_line(transform: Transform, log_rows: u32, width: usize) {

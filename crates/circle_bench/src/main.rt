@@ -1,8 +1,9 @@
-//! Chains of field operations, circle transforms and the challenger over SHA-256: what they come to, or
-//! with the argument `time` how long they take.
+//! Chains of field operations, circle transforms, commitments and the challenger over SHA-256: what
+//! they come to, or with the argument `time` how long they take.
 #![tactic(auto)]
 
 mod chains;
+mod commitments;
 mod hashing;
 mod timing;
 mod transforms;
@@ -89,6 +90,34 @@ const SMALL: [Size; 3] = [
     },
 ];
 
+/// The matrices to which commitments are timed.
+const COMMITTED: [Size; 6] = [
+    Size {
+        log_rows: 14,
+        width: 1,
+    },
+    Size {
+        log_rows: 14,
+        width: 8,
+    },
+    Size {
+        log_rows: 14,
+        width: 64,
+    },
+    Size {
+        log_rows: 18,
+        width: 1,
+    },
+    Size {
+        log_rows: 18,
+        width: 8,
+    },
+    Size {
+        log_rows: 18,
+        width: 64,
+    },
+];
+
 /// The matrices whose transforms are timed.
 const LARGE: [Size; 9] = [
     Size {
@@ -138,6 +167,7 @@ fn main(rt: HostRuntime) -> io::Result<ExitCode> {
     let step = Mersenne31::from_u64(987654321);
     timing::report(&rt, mode, "Mersenne31", &MERSENNE31, start, step)?;
     report_transforms(&rt, mode, start, step)?;
+    report_commitments(&rt, mode, start, step)?;
     let start = Cubic::from_coefficients(&[start, step, start.square()]);
     let step = Cubic::from_coefficients(&[step, start.coefficient(2), step.square()]);
     timing::report(&rt, mode, "Cubic", &CUBIC, start, step)?;
@@ -160,6 +190,20 @@ fn report_transforms(
         timing::report_transform(rt, mode, transform, sizes, start, step)?;
     }
     Ok(())
+}
+
+/// Prints a line for each pass over a commitment to each matrix.
+fn report_commitments(
+    rt: &HostRuntime,
+    mode: Mode,
+    start: Mersenne31,
+    step: Mersenne31,
+) -> io::Result<()> {
+    let sizes = match mode {
+        Mode::Digests => SMALL.as_slice(),
+        Mode::Times => COMMITTED.as_slice(),
+    };
+    commitments::report(rt, mode, sizes, start, step)
 }
 
 /// What the arguments ask for, or `None` where they ask for nothing that there is.

@@ -131,8 +131,8 @@ pub fn report_transform(
     Ok(())
 }
 
-/// How many times a transform of matrices of this size is run when it is timed.
-fn runs_of(size: Size) -> usize {
+/// How many times a pass over matrices of this size is run when it is timed.
+pub fn runs_of(size: Size) -> usize {
     ((1 << 23) / (size.rows() * size.width)).clamp(FEWEST_RUNS, MOST_RUNS)
 }
 

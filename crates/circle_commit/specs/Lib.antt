@@ -5,3 +5,5 @@ pub mod RowMajorMatrix
 pub mod RowMajorMatrixView
 pub mod Mmcs
 pub mod MmcsFacts
+pub mod JsonForms
+pub mod JsonFormFacts

@@ -1,6 +1,8 @@
-//! What commitment schemes over matrices stand on: matrices by rows and views of them.
+//! What commitment schemes over matrices stand on: matrices by rows, views of them, and the forms of
+//! values in JSON.
 #![tactic(auto)]
 
+pub mod json;
 pub mod matrix;
 pub mod mmcs;
 pub mod space;
@@ -8,7 +10,8 @@ pub mod space;
 mod tests;
 pub mod view;
 
+pub use json::{JsonError, JsonForm};
 pub use matrix::{Dimensions, Matrix, RowIndexMap, RowIndexMappedView, RowMajorMatrix, Shape};
-pub use mmcs::{BatchMultiOpening, Mmcs, OpenedRows};
+pub use mmcs::{BatchMultiOpening, Mmcs, OpenedRows, heights_are_powers_of_two, is_power_of_two};
 pub use space::{LagrangeSelectors, PolynomialSpace};
 pub use view::RowMajorMatrixView;

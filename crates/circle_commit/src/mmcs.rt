@@ -6,7 +6,7 @@ ghost use Rattle.circle_commit.specs.Mmcs.{dimensions_of, max_height, rows_at_ea
 ghost use Rattle.circle_commit.specs.declared.matrix.Dimensions.{Dimensions};
 ghost use Rattle.circle_commit.specs.declared.matrix.RowMajorMatrix.{RowMajorMatrix};
 
-use crate::matrix::{Dimensions, RowMajorMatrix};
+use crate::matrix::{Dimensions, Matrix, RowMajorMatrix};
 use std::alloc::{AllocError, Global};
 use std::fmt::Debug;
 
@@ -104,6 +104,25 @@ pub trait Mmcs<T: Copy> {
     ghost some_matrix: { (d : Self.ProverData) → 1 ≤ length (matrices d) };
 
     ghost powers_of_two: { (d : Self.ProverData) → All (λ m. IsPowerOfTwo (height_of m)) (matrices d) };
+}
+
+/// Whether there is an `m` with `n = 2^m`.
+pub fn is_power_of_two(n: usize) -> bool
+    ensures { IsTrue result ↔ IsPowerOfTwo n }
+{
+    n > 0 && n == 1 << n.ilog2()
+}
+
+/// Whether the heights of all matrices are powers of two, as a commitment asks.
+pub fn heights_are_powers_of_two<T: Copy>(matrices: &[RowMajorMatrix<T>]) -> bool
+    ensures { IsTrue result ↔ All (λ m. IsPowerOfTwo (height_of m)) matrices.now }
+{
+    for matrix in matrices {
+        if !is_power_of_two(matrix.height()) {
+            return false;
+        }
+    }
+    true
 }
 
 /// Rows of one commitment's matrices at several indices, with the proof of them all.

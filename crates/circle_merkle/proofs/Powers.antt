@@ -1,8 +1,7 @@
 -- Powers of two.
-use Rattle.std.specs.Prelude.{◌≡◌, ℕ, ◌+◌, ◌-◌, ◌*◌, ◌/◌, ◌%◌, ◌^◌, ◌<◌, ◌≤◌}
+use Rattle.std.specs.Prelude.{◌≡◌, ℕ, ◌+◌, ◌-◌, ◌*◌, ◌/◌, ◌^◌, ◌<◌, ◌≤◌}
 use Rattle.std.proofs.Common.{suc, sym, ap, ◌∙◌, arith, lit<, ⊎_elim}
-use Rattle.std.proofs.Math.Nat.{pow-suc, pow-le-pow_right, mod-eq_of_lt}
-use Rattle.std.proofs.Math.Pow.{pow-lt}
+use Rattle.std.proofs.Math.Nat.{pow-suc, pow-le-pow_right}
 use Rattle.std.proofs.lemmas.Nat.{pow_pos}
 use Rattle.std.proofs.lemmas.Bool.{cases_lt}
 use Rattle.circle_commit.specs.Matrix.{IsPowerOfTwo}
@@ -47,10 +46,3 @@ exponent_within h l le =
 -- a power of two divided by its quotient with another
 pub quotient_twice : (l k : ℕ) → k ≤ l → 2 ^ l / 2 ^ (l - k) ≡ 2 ^ k
 quotient_twice l k h = pow-div l (l - k) (omega arith) ∙ (let e : l - (l - k) ≡ k = omega arith in ap (λ n. 2 ^ n) e)
-
--- a power of two below 2^64, as a shift gives it
-pub shifted : (r : ℕ) → r < 64 → 1 * 2 ^ r % 2 ^ 64 ≡ 2 ^ r
-shifted r h =
-    let p : 2 ^ r < 2 ^ 64 = pow-lt h in
-    let e : 1 * 2 ^ r ≡ 2 ^ r = omega arith in
-    ap (λ n. n % 2 ^ 64) e ∙ mod-eq_of_lt p

@@ -9,3 +9,4 @@ pub mod Climb
 pub mod Opening
 pub mod Shape
 pub mod Verdict
+pub mod Worked

@@ -5,7 +5,7 @@ ghost use Rattle.circle_commit.specs.Mmcs.{greatest, heights, opened_rows, row_a
 ghost use Rattle.circle_merkle.specs.Authentication.{HasShape, HasIndices, Agrees};
 ghost use Rattle.circle_merkle.specs.Shape.{RowsAgree, AgreesAt};
 
-use circle_commit::Dimensions;
+use circle_commit::{Dimensions, is_power_of_two};
 use circle_field::ElementBytes;
 use std::convert::AsSlice;
 
@@ -18,13 +18,6 @@ pub fn greatest_height(dimensions: &[Dimensions]) -> usize
         top = dim.height.max(top);
     }
     top
-}
-
-// Whether there is an `m` with `n = 2^m`.
-pub fn is_power_of_two(n: usize) -> bool
-    ensures { IsTrue result ↔ IsPowerOfTwo n }
-{
-    n > 0 && n == 1 << n.ilog2()
 }
 
 // Whether every height is a power of two.

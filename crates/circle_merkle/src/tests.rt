@@ -1,11 +1,8 @@
 //! Roots, proofs and refusals, with expected values from outside.
 ghost use Rattle.std.specs.Prelude.{◌≡◌, ◌<◌, ◌↔◌, All, IsTrue};
-ghost use Rattle.circle_commit.specs.Matrix.{IsPowerOfTwo};
-ghost use Rattle.circle_commit.specs.RowMajorMatrix.{height_of};
 
-use crate::shape::is_power_of_two;
 use crate::{MerkleTreeError, ShaMmcs, ShaProverData};
-use circle_commit::{Dimensions, Matrix, Mmcs, OpenedRows, RowMajorMatrix};
+use circle_commit::{Dimensions, Mmcs, OpenedRows, RowMajorMatrix, heights_are_powers_of_two};
 use circle_field::{Field, Mersenne31};
 use sha2::{Digest, Sha256};
 use std::alloc::{AllocError, Global};
@@ -63,23 +60,11 @@ fn matrix(
     Ok(RowMajorMatrix::new(entries, width))
 }
 
-// Whether every height is a power of two.
-fn are_powers_of_two(matrices: &[RowMajorMatrix<Mersenne31>]) -> bool
-    ensures { IsTrue result ↔ All (λ m. IsPowerOfTwo (height_of m)) matrices.now }
-{
-    for matrix in matrices {
-        if !is_power_of_two(matrix.height()) {
-            return false;
-        }
-    }
-    true
-}
-
 fn commit(
     alloc: Global,
     inputs: Vec<RowMajorMatrix<Mersenne31>>,
 ) -> Result<(Hash, ShaProverData<Mersenne31>), AllocError> {
-    if inputs.is_empty() || !are_powers_of_two(&inputs) {
+    if inputs.is_empty() || !heights_are_powers_of_two(&inputs) {
         return Err(AllocError);
     }
     ShaMmcs::<Mersenne31>::new().commit(alloc, inputs)

@@ -1,9 +1,14 @@
 -- What the command `values` is given, and what it asks of that.
-use Rattle.std.specs.Prelude.{ℕ, ◌≤◌, ◌^◌, List, length}
+use Rattle.std.specs.Prelude.{◌≡◌, ℕ, ◌≤◌, ◌^◌, List, [], ◌∷◌, length, codes, Some, Ok, Vec}
+use Rattle.std.specs.declared.alloc.Global.{Global}
 use Rattle.circle_field.specs.declared.mersenne31.Mersenne31.{Mersenne31}
-use Rattle.circle_field.specs.Mersenne31.{operations}
+use Rattle.circle_field.specs.Mersenne31.{operations, residue}
 use Rattle.circle_field.specs.Circle.{Coordinates, at, IsOnCircle}
 use Rattle.circle_commit.specs.Matrix.{IsPowerOfTwo}
+use Rattle.circle_commit.specs.JsonForms.{count_of, residue_of, IsRead, ReadsArray}
+use Rattle.serde_json.specs.Data.{Data}
+use Rattle.serde_json.specs.Find.{get}
+use Rattle.circle_tool.specs.Json.{pair_of}
 use Rattle.circle_tool.specs.Rows.{lists}
 use Rattle.circle_tool.specs.declared.values.Input.{Input}
 
@@ -29,3 +34,13 @@ IsFittingHeight height log_n = IsPowerOfTwo height × (height ≤ 2 ^ log_n)
 
 abbrev pub HasFittingHeight : Input → Type 0
 HasFittingHeight input = IsFittingHeight (length (coefficients_of input)) input.log_n
+
+-- the JSON value stands for a list of elements
+abbrev pub ReadsRow : Data → Vec Mersenne31 Global → Type 0
+ReadsRow value row = ReadsArray (IsRead residue_of residue) value row.items
+
+-- the object's members stand for what the command is given
+pub record IsInput (value : Data) (input : Input) : Type 0 where
+  pub coefficients : (rows : Data) × (get (codes "coefficients") value ≡ Some rows) × ReadsArray ReadsRow rows input.coefficients.items
+  pub log_n : (count : Data) × (get (codes "log_n") value ≡ Some count) × (count_of count ≡ Ok input.log_n)
+  pub shift : (pair : Data) × (get (codes "shift") value ≡ Some pair) × (pair_of pair ≡ Ok (residue input.shift.0 ∷ residue input.shift.1 ∷ []))

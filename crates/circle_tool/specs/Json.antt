@@ -1,28 +1,21 @@
--- Which numbers a JSON value is read as.
-use Rattle.std.specs.Prelude.{ℕ, Result, Ok, Err, nat_lt, if◌then◌else◌}
-use Rattle.circle_field.specs.Mersenne31.{order}
-use Rattle.circle_tool.specs.declared.json.JsonError.{JsonError}
-use Rattle.circle_tool.specs.declared.json.JsonError.TheVariants.{WrongKind, OutOfRange}
-use Rattle.serde_json.specs.Data.{Num, unsigned, negative, float, Data, null, boolean, number, string, array, object}
+-- Which elements a JSON array of two is read as.
+use Rattle.std.specs.Prelude.{ℕ, List, [], Result, Ok, Err}
+use Rattle.circle_commit.specs.declared.json.JsonError.{JsonError}
+use Rattle.circle_commit.specs.declared.json.JsonError.TheVariants.{WrongKind}
+use Rattle.circle_commit.specs.JsonForms.{residue_of, in_front}
+use Rattle.serde_json.specs.Data.{Data, null, boolean, number, string, array, object, Items, no_items, item}
 
--- a whole number that isn't negative; what has a point or an exponent is a float
-abbrev pub count_of_number : Num → Result ℕ JsonError
-count_of_number (unsigned n) = Ok n
-count_of_number (negative z) = Err OutOfRange
-count_of_number (float x) = Err WrongKind
+-- the residues of exactly two elements
+abbrev pub pair_of_items : Items → Result (List ℕ) JsonError
+pair_of_items no_items = Err WrongKind
+pair_of_items (item a no_items) = Err WrongKind
+pair_of_items (item a (item b no_items)) = in_front (residue_of a) (in_front (residue_of b) (Ok []))
+pair_of_items (item a (item b (item c rest))) = Err WrongKind
 
-abbrev pub count_of : Data → Result ℕ JsonError
-count_of null = Err WrongKind
-count_of (boolean _) = Err WrongKind
-count_of (number n) = count_of_number n
-count_of (string _) = Err WrongKind
-count_of (array _) = Err WrongKind
-count_of (object _) = Err WrongKind
-
--- a count below the field's order
-abbrev pub below_order : Result ℕ JsonError → Result ℕ JsonError
-below_order (Ok n) = if nat_lt n order then Ok n else Err OutOfRange
-below_order (Err e) = Err e
-
-abbrev pub residue_of : Data → Result ℕ JsonError
-residue_of value = below_order (count_of value)
+abbrev pub pair_of : Data → Result (List ℕ) JsonError
+pair_of null = Err WrongKind
+pair_of (boolean _) = Err WrongKind
+pair_of (number _) = Err WrongKind
+pair_of (string _) = Err WrongKind
+pair_of (array items) = pair_of_items items
+pair_of (object _) = Err WrongKind

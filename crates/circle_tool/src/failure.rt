@@ -2,8 +2,8 @@
 ghost use Rattle.std.specs.Prelude.{◌≡◌};
 ghost use Rattle.circle_tool.specs.Failure.{status_of};
 
-use crate::json::JsonError;
 use crate::values::Refusal;
+use circle_commit::JsonError;
 use std::alloc::AllocError;
 use thiserror::Error;
 

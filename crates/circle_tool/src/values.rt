@@ -3,7 +3,6 @@ ghost use Rattle.std.specs.Prelude.{◌≡◌, ◌<◌, ◌≤◌, ◌↔◌, le
 ghost use Rattle.circle_field.specs.Circle.{IsOnCircle, at};
 ghost use Rattle.circle_field.specs.Mersenne31.{operations, generators};
 ghost use Rattle.circle_point.specs.Basis.{values_at};
-ghost use Rattle.circle_commit.specs.Matrix.{IsPowerOfTwo};
 ghost use Rattle.circle_domain.specs.Order.{natural_order};
 ghost use Rattle.circle_commit.specs.RowMajorMatrix.{rows as matrix_rows, width_of, height_of};
 ghost use Rattle.circle_tool.specs.Rows.{lists, IsRectangular, row_length};
@@ -11,8 +10,7 @@ ghost use Rattle.circle_tool.specs.Input.{coefficients_of, shift_of, HasFittingS
 
 use crate::failure::Failure;
 use crate::json;
-use crate::json::JsonError;
-use circle_commit::{Matrix, RowMajorMatrix};
+use circle_commit::{JsonError, JsonForm, Matrix, RowMajorMatrix, is_power_of_two};
 use circle_field::{Field, Mersenne31};
 use circle_plane::{CfftView, CircleDomain, CircleEvaluations, Point};
 use serde_json::Value;
@@ -70,20 +68,25 @@ impl From<AllocError> for Refusal {
 }
 
 impl Input {
+    ghost use Rattle.serde_json.specs.View.{view};
+    ghost use Rattle.circle_tool.specs.Input.{IsInput};
+
     /// The input that a JSON value is: `{"coefficients":[[E..]..],"log_n":n,"shift":[E,E]}`.
     ///
     /// Fails as `WrongKind` where the value is no object, as `MissingKey` and then as `UnknownKey`
     /// where its keys are others, and then as its members do.
-    pub fn from_json(alloc: Global, value: &Value) -> Result<Input, JsonError> {
+    pub fn from_json(alloc: Global, value: &Value) -> Result<Input, JsonError>
+        ensures { IfOk result (IsInput (view value.now)) }
+    {
         let members = json::members(value)?;
-        let coefficients = json::member(members, "coefficients")?;
-        let log_n = json::member(members, "log_n")?;
-        let shift = json::member(members, "shift")?;
+        let coefficients = json::member(value, "coefficients")?;
+        let log_n = json::member(value, "log_n")?;
+        let shift = json::member(value, "shift")?;
         json::no_further_key(members, 3)?;
         Ok(Input {
-            coefficients: json::rows(alloc, coefficients)?,
-            log_n: json::count(log_n)? as usize,
-            shift: json::pair(shift)?,
+            coefficients: Vec::from_json(alloc, coefficients)?,
+            log_n: usize::from_json(alloc, log_n)?,
+            shift: json::pair(alloc, shift)?,
         })
     }
 }
@@ -166,13 +169,6 @@ fn is_fitting_height(height: usize, log_n: usize) -> bool
     ensures { IsTrue result ↔ IsFittingHeight height log_n }
 {
     is_power_of_two(height) && height <= 1 << log_n
-}
-
-// Whether there is an `m` with `n = 2^m`.
-fn is_power_of_two(n: usize) -> bool
-    ensures { IsTrue result ↔ IsPowerOfTwo n }
-{
-    n > 0 && n == 1 << n.ilog2()
 }
 
 // The matrix of these rows.

@@ -4,3 +4,6 @@ pub mod QuadraticLaws
 pub mod QuadraticInverse
 pub mod Quadratic
 pub mod QuadraticOperations
+pub mod SameRows
+pub mod MatrixList
+pub mod Schemes

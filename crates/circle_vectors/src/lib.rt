@@ -1,16 +1,20 @@
 //! Worked examples over several crates, with expected values from outside: tests, and the field
-//! that they alone use.
+//! and the commitment schemes that they alone use.
 #![tactic(auto)]
 
+#[cfg(test)]
+mod commitments;
 #[cfg(test)]
 mod extensions;
 #[cfg(test)]
 mod fields;
+pub mod matrix_list;
 #[cfg(test)]
 mod off_domain;
 #[cfg(test)]
 mod points;
 pub mod quadratic;
+pub mod schemes;
 #[cfg(test)]
 mod transform;
 #[cfg(test)]

@@ -1,4 +1,4 @@
-use Rattle.std.proofs.Common.{◌≡◌, ℕ, []}
+use Rattle.std.proofs.Common.{◌≡◌, []}
 use Rattle.std.specs.List.{range_with_len, flat_map}
 use Rattle.std.specs.Prelude.{slice_index_or}
 use Rattle.circle_commit.proofs.matrix.RowMajorMatrix.copy_of.Given as goal

@@ -1,7 +1,7 @@
 use Rattle.std.proofs.Common.{◌≡◌, ◌^◌, ◌*◌, ◌%◌, ◌∙◌, sym, arith}
 use Rattle.std.proofs.lemmas.Grind.{common_steps}
-use Rattle.circle_tool.proofs.Powers.{power_between, shifted}
-use Rattle.circle_tool.proofs.values.is_power_of_two.Goals as goal
+use Rattle.circle_commit.proofs.Powers.{power_between, shifted}
+use Rattle.circle_commit.proofs.mmcs.is_power_of_two.Goals as goal
 
 pub returns-then-n-gt0 : goal.returns-then-n-gt0
 returns-then-n-gt0 c =

@@ -1,23 +1,23 @@
-use Rattle.std.proofs.Common.{◌≡◌, ◌∙◌, refl, sym, ap, subst, All, take}
+use Rattle.std.proofs.Common.{◌∙◌, refl, sym, ap, subst, All}
 use Rattle.std.proofs.lemmas.Bool.{false≢true}
 use Rattle.std.proofs.lemmas.List.{take_all}
 use Rattle.std.proofs.lemmas.List.Elements.{All-more}
 use Rattle.circle_commit.specs.Matrix.{IsPowerOfTwo}
 use Rattle.circle_commit.specs.RowMajorMatrix.{height_of}
-use Rattle.circle_merkle.proofs.tests.are_powers_of_two.Goals as goal
+use Rattle.circle_commit.proofs.mmcs.heights_are_powers_of_two.Goals as goal
 
 pub loop-matrix-preserved : goal.loop-matrix-preserved
-loop-matrix-preserved c =
+loop-matrix-preserved g c =
     let m = c.matrix-item.result in
     let power = c.if-not-is_power_of_two.ensures.0 refl in
     All-more (λ m. IsPowerOfTwo (height_of m)) c.args.matrices.now c.loop-matrix.matrix-index m c.loop-matrix-test.true c.loop-matrix.invariant
     (power.0, ap height_of (sym c.matrix-item.is) ∙ sym c.height.ensures ∙ power.1)
 
 pub returns : goal.returns
-returns c = (λ _. subst (All (λ m. IsPowerOfTwo (height_of m))) (take_all c.loop-matrix.matrix-index c.args.matrices.now c.loop-matrix-test.false) c.loop-matrix.invariant, λ _. refl)
+returns g c = (λ _. subst (All (λ m. IsPowerOfTwo (height_of m))) (take_all c.loop-matrix.matrix-index c.args.matrices.now c.loop-matrix-test.false) c.loop-matrix.invariant, λ _. refl)
 
 pub returns-then-not-is_power_of_two : goal.returns-then-not-is_power_of_two
-returns-then-not-is_power_of_two c = (
+returns-then-not-is_power_of_two g c = (
   λ h. absurd (false≢true h),
   λ all.
       let m = c.matrix-item.result in

@@ -1,0 +1,2 @@
+pub mod JsonItems
+pub mod Powers

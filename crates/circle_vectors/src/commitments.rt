@@ -1,0 +1,128 @@
+//! Opened rows and what is refused, over each scheme of commitments.
+use crate::schemes::{ListMmcs, TrustingMmcs, are_below};
+use circle_commit::{Dimensions, Mmcs, OpenedRows, RowMajorMatrix, heights_are_powers_of_two};
+use circle_field::{Field, Mersenne31};
+use circle_merkle::ShaMmcs;
+use std::alloc::{AllocError, Global};
+use std::test::Fail;
+
+/// What is handed to verification in place of the opening at 7, 2, 3 and 2.
+#[derive(Drop)]
+struct Change {
+    indices: [usize; 4],
+    rows: OpenedRows<Mersenne31>,
+    dimensions: Dimensions,
+}
+
+const COLUMN: Dimensions = Dimensions {
+    width: 1,
+    height: 8,
+};
+
+// The matrix of one column 10, 11, .. 17.
+fn column(alloc: Global) -> Result<Vec<RowMajorMatrix<Mersenne31>>, AllocError> {
+    let entries: Vec<Mersenne31> = (10u64..18).map(Mersenne31::from_u64).collect(alloc)?;
+    Ok(vec![in alloc; RowMajorMatrix::new_col(entries)]?)
+}
+
+// A list of rows for each of these entries, each the only row of its index.
+fn rows_of(alloc: Global, entries: &[u64]) -> Result<OpenedRows<Mersenne31>, AllocError> {
+    let mut rows = Vec::new(alloc);
+    for entry in entries {
+        let row = vec![in alloc; Mersenne31::from_u64(*entry)]?;
+        rows.push(vec![in alloc; row]?)?;
+    }
+    Ok(rows)
+}
+
+// The changes that each scheme has to refuse.
+fn changes(alloc: Global) -> Result<Vec<Change>, AllocError> {
+    let indices = [7, 2, 3, 2];
+    let dimensions = COLUMN;
+    let raised = rows_of(alloc, &[17, 12, 14, 12])?;
+    let torn = rows_of(alloc, &[17, 12, 13, 13])?;
+    let honest = rows_of(alloc, &[17, 12, 13, 12])?;
+    let fewer = rows_of(alloc, &[17, 12, 13])?;
+    let same = rows_of(alloc, &[17, 12, 13, 12])?;
+    let wide = Dimensions {
+        width: 2,
+        height: 8,
+    };
+    Ok(vec![in alloc;
+        Change {
+            indices,
+            rows: raised,
+            dimensions
+        },
+        Change {
+            indices,
+            rows: torn,
+            dimensions
+        },
+        Change {
+            indices: [8, 2, 3, 2],
+            rows: honest,
+            dimensions
+        },
+        Change {
+            indices,
+            rows: fewer,
+            dimensions
+        },
+        Change {
+            indices,
+            rows: same,
+            dimensions: wide
+        },
+    ]?)
+}
+
+// How many of the changes a scheme refuses, after it took the opening itself.
+fn refused<M: Mmcs<Mersenne31>>(alloc: Global, mmcs: &M) -> Result<usize, Fail> {
+    let inputs = column(alloc)?;
+    if inputs.is_empty() || !heights_are_powers_of_two(&inputs) {
+        return Err(Fail::new("the column"));
+    }
+    let (commitment, data) = mmcs.commit(alloc, inputs)?;
+    let indices = [7usize, 2, 3, 2];
+    if !are_below(&indices, mmcs.get_max_height(&data)) {
+        return Err(Fail::new("the height"));
+    }
+    let (rows, proof) = mmcs.open_multi_batch(alloc, &indices, &data)?;
+    if rows != rows_of(alloc, &[17, 12, 13, 12])? {
+        return Err(Fail::new("the rows"));
+    }
+    mmcs.verify_multi_batch(alloc, &commitment, &[COLUMN], &indices, &rows, &proof)?;
+    let mut count = 0;
+    for change in &changes(alloc)? {
+        let dimensions = [change.dimensions];
+        let verdict = mmcs.verify_multi_batch(
+            alloc,
+            &commitment,
+            &dimensions,
+            &change.indices,
+            &change.rows,
+            &proof,
+        );
+        if let Err(error) = verdict {
+            if M::is_memory(&error) {
+                return Err(Fail::new("memory"));
+            }
+            count += 1;
+        }
+    }
+    Ok(count)
+}
+
+#[test]
+fn honest_schemes_refuse_each_change(rt: HostRuntime) -> Result<(), Fail> {
+    assert_eq!(rt; refused(rt.alloc(), &ShaMmcs::<Mersenne31>::new())?, 5);
+    assert_eq!(rt; refused(rt.alloc(), &ListMmcs)?, 5);
+    Ok(())
+}
+
+#[test]
+fn the_trusting_scheme_refuses_none(rt: HostRuntime) -> Result<(), Fail> {
+    assert_eq!(rt; refused(rt.alloc(), &TrustingMmcs)?, 0);
+    Ok(())
+}

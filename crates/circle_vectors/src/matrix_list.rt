@@ -1,0 +1,146 @@
+//! Matrices whose heights are powers of two, as a list.
+ghost use Rattle.std.specs.Prelude.{◌≡◌, ℕ, ◌<◌, ◌≤◌, true, All, IfOk, List, length, map, vec_len};
+ghost use Rattle.circle_commit.specs.Matrix.{IsPowerOfTwo};
+ghost use Rattle.circle_commit.specs.RowMajorMatrix.{height_of, rows};
+ghost use Rattle.circle_commit.specs.Mmcs.{dimensions_of, max_height, rows_at, rows_at_each, opened_rows};
+ghost use Rattle.circle_merkle.specs.PowerTest.{is_power};
+ghost use Rattle.circle_vectors.specs.SameRows.{HaveSameRows};
+
+use circle_commit::{Dimensions, Matrix, OpenedRows, RowMajorMatrix};
+use std::alloc::{AllocError, Global};
+use std::fmt;
+
+/// At least one matrix, of heights that are powers of two.
+#[derive(Drop)]
+pub struct MatrixList<T: Copy> {
+    matrices: Vec<RowMajorMatrix<T>>,
+    top: usize,
+    ghost greatest_height: { top ≡ max_height matrices.items },
+    ghost some_matrix: { 1 ≤ vec_len matrices },
+    ghost powers_of_two: { All (λ m. is_power (height_of m) ≡ true) matrices.items },
+}
+
+impl<T: Copy> MatrixList<T> {
+    ghost use Rattle.circle_vectors.specs.MatrixList.{matrices_of};
+
+    /// The list of these matrices.
+    ///
+    /// Asks at least one, and heights that are powers of two.
+    pub fn new(matrices: Vec<RowMajorMatrix<T>>) -> Self
+        requires some { 1 ≤ vec_len matrices }
+        requires powers_of_two { All (λ m. IsPowerOfTwo (height_of m)) matrices.items }
+        ensures { matrices_of result ≡ matrices.items }
+    {
+        let top = greatest_height(&matrices);
+        MatrixList { matrices, top }
+    }
+
+    /// The matrices.
+    pub fn matrices(&self) -> &[RowMajorMatrix<T>]
+        ensures { result.now ≡ matrices_of self.now }
+    {
+        &self.matrices
+    }
+
+    /// The greatest height of the matrices.
+    pub fn max_height(&self) -> usize
+        ensures { result ≡ max_height (matrices_of self.now) }
+    {
+        self.top
+    }
+
+    /// A list of equal matrices. Fails where memory is refused.
+    pub fn try_clone(&self, alloc: Global) -> Result<Self, AllocError>
+        ensures { IfOk result (λ copy. HaveSameRows (matrices_of self.now) (matrices_of copy)) }
+    {
+        let matrices = copies(alloc, &self.matrices)?;
+        Ok(MatrixList::new(matrices))
+    }
+
+    /// The rows of the matrices at each of the indices.
+    ///
+    /// Asks indices below the greatest height. Fails where memory is refused.
+    pub fn rows_at_each(
+        &self,
+        alloc: Global,
+        indices: &[usize],
+    ) -> Result<OpenedRows<T>, AllocError>
+        requires { All (λ i. i < max_height (matrices_of self.now)) indices.now }
+        ensures { IfOk result (λ opened. opened_rows opened.items ≡ rows_at_each (matrices_of self.now) indices.now) }
+    {
+        let mut opened = Vec::with_capacity(alloc, indices.len())?;
+        for index in indices {
+            opened.push(rows_of(alloc, &self.matrices, self.top, *index)?)?;
+        }
+        Ok(opened)
+    }
+}
+
+impl<T: Copy> fmt::Debug for MatrixList<T> {
+    fn fmt<W: fmt::Write>(&self, f: &mut fmt::Formatter<W>) -> fmt::Result {
+        let count = self.matrices.len();
+        write!(f, "a list of {count} matrices")
+    }
+}
+
+// The greatest height of the matrices, 0 where there are none.
+fn greatest_height<T: Copy>(matrices: &[RowMajorMatrix<T>]) -> usize
+    ensures { result ≡ max_height matrices.now }
+{
+    let mut top = 0;
+    for matrix in matrices {
+        top = matrix.height().max(top);
+    }
+    top
+}
+
+// Equal matrices.
+fn copies<T: Copy>(
+    alloc: Global,
+    matrices: &[RowMajorMatrix<T>],
+) -> Result<Vec<RowMajorMatrix<T>>, AllocError>
+    ensures { IfOk result (λ copies. HaveSameRows matrices.now copies.items) }
+{
+    let mut copies = Vec::with_capacity(alloc, matrices.len())?;
+    for matrix in matrices {
+        copies.push(matrix.try_clone(alloc)?)?;
+    }
+    Ok(copies)
+}
+
+/// The shapes of the matrices. Fails where memory is refused.
+pub fn shapes<T: Copy>(
+    alloc: Global,
+    matrices: &[RowMajorMatrix<T>],
+) -> Result<Vec<Dimensions>, AllocError>
+    ensures { IfOk result (λ shapes. shapes.items ≡ dimensions_of matrices.now) }
+{
+    let mut shapes = Vec::with_capacity(alloc, matrices.len())?;
+    for matrix in matrices {
+        shapes.push(Dimensions {
+            width: matrix.width(),
+            height: matrix.height(),
+        })?;
+    }
+    Ok(shapes)
+}
+
+// The rows of the matrices at an index, one for each.
+fn rows_of<T: Copy>(
+    alloc: Global,
+    matrices: &[RowMajorMatrix<T>],
+    top: usize,
+    index: usize,
+) -> Result<Vec<Vec<T>>, AllocError>
+    requires greatest { top ≡ max_height matrices.now }
+    requires powers_of_two { All (λ m. IsPowerOfTwo (height_of m)) matrices.now }
+    requires in_range { index < top }
+    ensures { IfOk result (λ rows. map (λ row. row.items) rows.items ≡ rows_at matrices.now index) }
+{
+    let mut rows = Vec::with_capacity(alloc, matrices.len())?;
+    for matrix in matrices {
+        let row = matrix.row(index / (top / matrix.height()));
+        rows.push(Vec::from_slice(alloc, row)?)?;
+    }
+    Ok(rows)
+}
