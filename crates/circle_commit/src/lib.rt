@@ -3,10 +3,12 @@
 
 pub mod matrix;
 pub mod mmcs;
+pub mod params;
 #[cfg(test)]
 mod tests;
 pub mod view;
 
 pub use matrix::{Dimensions, Matrix, RowIndexMap, RowIndexMappedView, RowMajorMatrix, Shape};
 pub use mmcs::{BatchMultiOpening, Mmcs, OpenedRows};
+pub use params::{FriParameters, PowPhase};
 pub use view::RowMajorMatrixView;

@@ -1,0 +1,7 @@
+//! The Circle STARK polynomial commitment scheme (IACR ePrint 2024/278): the transcript of a run.
+#![tactic(auto)]
+
+pub mod transcript;
+
+pub use circle_point::{Neutral, Point};
+pub use transcript::CirclePcsShape;
