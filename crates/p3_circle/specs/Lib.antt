@@ -1,3 +1,5 @@
 pub mod Shape
 pub mod ShapeOf
+pub mod Failure
+pub mod Draw
 pub mod Rows

@@ -4,4 +4,4 @@
 pub mod transcript;
 
 pub use circle_point::{Neutral, Point};
-pub use transcript::CirclePcsShape;
+pub use transcript::{CirclePcsShape, CircleTranscriptFailure};

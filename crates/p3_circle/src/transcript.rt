@@ -5,6 +5,10 @@
 //! draws a folding challenge in each round, and takes in the last word's value and draws the query
 //! indices. Proofs of work guard the batching challenge, the folding challenges and the indices.
 
+pub mod failure;
+mod play;
 pub mod shape;
 
+
+pub use failure::CircleTranscriptFailure;
 pub use shape::CirclePcsShape;
