@@ -2,4 +2,5 @@ pub mod Shape
 pub mod ShapeOf
 pub mod Failure
 pub mod Draw
+pub mod Claims
 pub mod Rows
