@@ -4,4 +4,7 @@
 pub mod transcript;
 
 pub use circle_point::{Neutral, Point};
-pub use transcript::{CirclePcsShape, CircleTranscriptFailure};
+pub use transcript::{
+    CirclePcsShape, CircleProverTranscript, CircleTranscript, CircleTranscriptFailure,
+    CircleVerifierTranscript, OpeningClaim,
+};

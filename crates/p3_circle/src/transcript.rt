@@ -8,7 +8,8 @@
 pub mod failure;
 mod play;
 pub mod shape;
-
+pub mod sides;
 
 pub use failure::CircleTranscriptFailure;
 pub use shape::CirclePcsShape;
+pub use sides::{CircleProverTranscript, CircleTranscript, CircleVerifierTranscript, OpeningClaim};

@@ -27,7 +27,7 @@ loop-point-preserved g c =
       due = λ rest e.
           c.observe_claim.ensures.due _
           (c.loop-point.invariant.due rest e ∙ ap (λ xs. flat_map (claim_steps degree) (widths_of (claims_of xs)) ++ rest) rest_of
-            ∙ append_assoc (claim_steps degree (length item.1.now)) (flat_map (claim_steps degree) (widths_of (claims_of (drop (i + 1) claims)))) rest);
+          ∙ append_assoc (claim_steps degree (length item.1.now)) (flat_map (claim_steps degree) (widths_of (claims_of (drop (i + 1) claims)))) rest);
       state =
           c.observe_claim.ensures.state
           ∙ ap (λ s. after_claims observe coefficients s (claim_of item ∷ [])) c.loop-point.invariant.state
