@@ -6,7 +6,9 @@ use Rattle.circle_commit.specs.declared.params.PowPhase.TheVariants.{Batch, Comm
 use Rattle.circle_challenger.specs.Observing.{after_all}
 use Rattle.circle_challenger.specs.Sampling.{samples, after_samples}
 use Rattle.circle_challenger.specs.Grinding.{passes, after_check}
+use Rattle.p3_circle.specs.declared.transcript.sides.Numbers.{Numbers}
 use Rattle.p3_circle.specs.Shape.{Shape, text_of}
+use Rattle.p3_circle.specs.Numbers.{numbers_of}
 
 -- a claim: a point and the values there
 pub record Claim (E : Type 0) : Type 0 where
@@ -58,6 +60,16 @@ pub record Taken (F E Com : Type 0) : Type 0 where
   pub final_poly : E
   pub query_witness : F
 
+abbrev pub taken : {F E Com : Type 0} → List (Claim E) → F → Com → List (Com × F) → E → F → Taken F E Com
+taken claims batch_witness first_layer rounds final_poly query_witness = record {
+  claims = claims;
+  batch_witness = batch_witness;
+  first_layer = first_layer;
+  rounds = rounds;
+  final_poly = final_poly;
+  query_witness = query_witness;
+}
+
 -- what a run draws, elements as their coefficients, and the state after it
 pub record Drawn (S F : Type 0) : Type 0 where
   pub alpha : List F
@@ -66,7 +78,7 @@ pub record Drawn (S F : Type 0) : Type 0 where
   pub indices : List ℕ
   pub state : S
 
-module _ {S F E Com : Type 0} (m : Moves S F Com) (coefficients : E → List F) (degree : ℕ) where
+module _ {S F Com : Type 0} (m : Moves S F Com) (degree : ℕ) where
   -- an element that is drawn, and the state after it
   abbrev pub drawn_element : S → List F
   drawn_element s = samples m.sampled m.after_sample degree s
@@ -103,17 +115,13 @@ module _ {S F E Com : Type 0} (m : Moves S F Com) (coefficients : E → List F) 
   rounds_pass bits s (round ∷ rounds) =
       is_passed (m.after_commitment s round.0) bits round.1 && rounds_pass bits (after_round bits s round) rounds
 
-  -- the seed's text, each byte as an element, is taken in
-  module _ (of_byte : ℕ → F) (shape : Shape) (taken : Taken F E Com) (s : S) where
-    abbrev pub seeded : S
-    seeded = after_all m.after_observe s (map of_byte (text_of degree shape))
-
-    -- then the claims, and their witness
+  module _ {E : Type 0} (coefficients : E → List F) (n : Numbers) (taken : Taken F E Com) (s : S) where
+    -- from the state after the seed, the claims and their witness
     abbrev pub claimed : S
-    claimed = after_claims m.after_observe coefficients seeded taken.claims
+    claimed = after_claims m.after_observe coefficients s taken.claims
 
     abbrev pub batched : S
-    batched = after_pow claimed shape.batch_pow_bits taken.batch_witness
+    batched = after_pow claimed n.batch_pow_bits taken.batch_witness
 
     -- after the challenge, the commitment to the first layer
     abbrev pub layered : S
@@ -121,30 +129,35 @@ module _ {S F E Com : Type 0} (m : Moves S F Com) (coefficients : E → List F) 
 
     -- after the challenge, the rounds
     abbrev pub folded : S
-    folded = after_rounds shape.commit_pow_bits (after_element layered) taken.rounds
+    folded = after_rounds n.commit_pow_bits (after_element layered) taken.rounds
 
     -- then the last word's value, and the witness
     abbrev pub closed : S
     closed = after_all m.after_observe folded (coefficients taken.final_poly)
 
     abbrev pub queried : S
-    queried = after_pow closed shape.query_pow_bits taken.query_witness
+    queried = after_pow closed n.query_pow_bits taken.query_witness
 
     -- what is drawn, and the state after it
     abbrev pub drawn : Drawn S F
     drawn = record {
       alpha = drawn_element batched;
       bivariate = drawn_element layered;
-      betas = fold_challenges shape.commit_pow_bits (after_element layered) taken.rounds;
-      indices = samples (λ t. m.sampled_bits t shape.index_bits) (λ t. m.after_bits t shape.index_bits) shape.num_queries queried;
-      state = after_samples (λ t. m.after_bits t shape.index_bits) shape.num_queries queried;
+      betas = fold_challenges n.commit_pow_bits (after_element layered) taken.rounds;
+      indices = samples (λ t. m.sampled_bits t n.index_bits) (λ t. m.after_bits t n.index_bits) n.num_queries queried;
+      state = after_samples (λ t. m.after_bits t n.index_bits) n.num_queries queried;
     }
 
-    -- the whole run: what it draws, or the phase of the first witness that doesn't pass
-    unfoldable pub draw : Result (Drawn S F) PowPhase
-    draw =
-        if is_passed claimed shape.batch_pow_bits taken.batch_witness then
-        (if rounds_pass shape.commit_pow_bits (after_element layered) taken.rounds then
-        (if is_passed closed shape.query_pow_bits taken.query_witness then Ok drawn else Err Query)
+    -- what the run draws, or the phase of the first witness that doesn't pass
+    unfoldable pub draw_seeded : Result (Drawn S F) PowPhase
+    draw_seeded =
+        if is_passed claimed n.batch_pow_bits taken.batch_witness then
+        (if rounds_pass n.commit_pow_bits (after_element layered) taken.rounds then
+        (if is_passed closed n.query_pow_bits taken.query_witness then Ok drawn else Err Query)
         else Err CommitPhase)
         else Err Batch
+
+  -- the whole run, which begins with the seed's text, each byte as an element
+  abbrev pub draw : {E : Type 0} → (E → List F) → (ℕ → F) → Shape → Taken F E Com → S → Result (Drawn S F) PowPhase
+  draw coefficients of_byte shape taken s =
+      draw_seeded coefficients (numbers_of shape) taken (after_all m.after_observe s (map of_byte (text_of degree shape)))

@@ -4,17 +4,6 @@ use Rattle.std.specs.Borrow.{MutBor}
 use Rattle.circle_challenger.specs.Step.{Step}
 use Rattle.p3_circle.specs.declared.transcript.sides.CircleTranscript.{CircleTranscript}
 use Rattle.p3_circle.specs.declared.transcript.sides.Numbers.{Numbers}
-use Rattle.p3_circle.specs.Shape.{Shape}
-
--- the numbers of a shape that the calls read
-abbrev pub numbers_of : Shape → Numbers
-numbers_of s = record {
-  batch_pow_bits = s.batch_pow_bits;
-  commit_pow_bits = s.commit_pow_bits;
-  query_pow_bits = s.query_pow_bits;
-  num_queries = s.num_queries;
-  index_bits = s.index_bits;
-}
 
 module _ {C F EF S : Type 0} where
   -- the challenger as it is now
@@ -33,3 +22,7 @@ module _ {C F EF S : Type 0} where
   -- what is played is the borrowed challenger
   abbrev pub Borrows : CircleTranscript C F EF S → MutBor C → Type 0
   Borrows t challenger = t.challenger.ghost_name ≡ challenger.ghost_name
+
+  -- what its calls read of the shape
+  abbrev pub numbers : CircleTranscript C F EF S → Numbers
+  numbers t = t.shape

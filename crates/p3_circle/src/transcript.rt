@@ -7,9 +7,11 @@
 
 pub mod failure;
 mod play;
+pub mod run;
 pub mod shape;
 pub mod sides;
 
 pub use failure::CircleTranscriptFailure;
+pub use run::CircleDraws;
 pub use shape::CirclePcsShape;
 pub use sides::{CircleProverTranscript, CircleTranscript, CircleVerifierTranscript, OpeningClaim};

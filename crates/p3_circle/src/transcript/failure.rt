@@ -1,8 +1,10 @@
 //! Why a transcript fails.
 ghost use Rattle.std.specs.Prelude.{◌≡◌};
 ghost use Rattle.p3_circle.specs.Failure.{phase_of};
+ghost use Rattle.p3_circle.specs.declared.transcript.failure.CircleTranscriptFailure.TheVariants.{Memory};
 
 use circle_commit::PowPhase;
+use std::alloc::AllocError;
 use thiserror::Error;
 
 /// Why a transcript fails. Only `abort` may follow.
@@ -39,5 +41,13 @@ impl CircleTranscriptFailure {
             | CircleTranscriptFailure::NoWitness { phase, .. } => *phase,
             CircleTranscriptFailure::Memory => PowPhase::Query,
         }
+    }
+}
+
+impl From<AllocError> for CircleTranscriptFailure {
+    ghost from_gives = { λ _ e. e ≡ Memory };
+
+    fn from(_refused: AllocError) -> CircleTranscriptFailure {
+        CircleTranscriptFailure::Memory
     }
 }

@@ -10,7 +10,8 @@ ghost use Rattle.p3_circle.specs.Shape.{steps_of, text_of, batch_steps, first_la
 ghost use Rattle.p3_circle.specs.ShapeOf.{shape_of};
 ghost use Rattle.p3_circle.specs.Draw.{widths_of, after_claims};
 ghost use Rattle.p3_circle.specs.Claims.{claims_of};
-ghost use Rattle.p3_circle.specs.Transcript.{current, due, numbers_of, IsSame, Borrows};
+ghost use Rattle.p3_circle.specs.Numbers.{numbers_of};
+ghost use Rattle.p3_circle.specs.Transcript.{current, due, IsSame, Borrows};
 ghost use Rattle.p3_circle.specs.declared.transcript.failure.CircleTranscriptFailure.TheVariants.{NoWitness, PowWitness, Memory};
 
 use crate::transcript::failure::CircleTranscriptFailure;
