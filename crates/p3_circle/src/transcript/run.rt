@@ -63,3 +63,97 @@ where
     }
     Ok(betas)
 }
+
+/// Plays a run with its witnesses, and draws what it draws.
+///
+/// Asks that these are all the steps due, one witness for each commitment, and difficulties and a number
+/// of bits of an index of at most 63.
+fn checked_run<'a, F: Field, EF: ExtensionField<F>, C, Com>(
+    alloc: Global,
+    transcript: &mut CircleVerifierTranscript<'a, C, F, EF>,
+    claims: &[OpeningClaim<EF>],
+    batch_witness: F,
+    first_layer: &Com,
+    commitments: &[Com],
+    witnesses: &[F],
+    final_poly: EF,
+    query_witness: F,
+) -> Result<CircleDraws<EF>, CircleTranscriptFailure>
+where
+    C: CanSample<F> + GrindingChallenger<F> + CanObserve<Com>,
+    requires next { due transcript.old ≡ batch_steps EF.DEGREE (widths_of (claims_of claims.now)) (numbers transcript.old).batch_pow_bits ++ (first_layer_steps EF.DEGREE ++ (rounds_steps EF.DEGREE (numbers transcript.old).commit_pow_bits (length commitments.now) ++ query_steps EF.DEGREE (numbers transcript.old).query_pow_bits (numbers transcript.old).index_bits (numbers transcript.old).num_queries)) }
+    requires paired { length witnesses.now ≡ length commitments.now }
+    requires batch_small { (numbers transcript.old).batch_pow_bits ≤ 63 }
+    requires commit_small { (numbers transcript.old).commit_pow_bits ≤ 63 }
+    requires query_small { (numbers transcript.old).query_pow_bits ≤ 63 }
+    requires narrow { (numbers transcript.old).index_bits ≤ 63 }
+    ensures same { IsSame transcript.old transcript.new }
+    ensures due { OnOk result (due transcript.new ≡ []) }
+    ensures draws { IfOk result (λ d. draw_seeded (moves ⟦<C as CanObserve<F>>⟧.after_observe ⟦<C as CanObserve<Com>>⟧.after_observe C.sampled C.after_sample C.sampled_bits C.after_bits) EF.DEGREE EF.coefficients (numbers transcript.old) (taken (claims_of claims.now) batch_witness first_layer.now (zip commitments.now witnesses.now) final_poly query_witness) (C.state (current transcript.old)) ≡ Ok (drawn_of EF.coefficients d (C.state (current transcript.new)))) }
+    ensures failure { IfErr result (λ e. (e ≡ Memory) ⊎ (draw_seeded (moves ⟦<C as CanObserve<F>>⟧.after_observe ⟦<C as CanObserve<Com>>⟧.after_observe C.sampled C.after_sample C.sampled_bits C.after_bits) EF.DEGREE EF.coefficients (numbers transcript.old) (taken (claims_of claims.now) batch_witness first_layer.now (zip commitments.now witnesses.now) final_poly query_witness) (C.state (current transcript.old)) ≡ Err (phase_of e))) }
+{
+    let alpha = transcript.batch_phase(claims, batch_witness)?;
+    let bivariate = transcript.first_layer(first_layer);
+    let betas = checked_rounds(alloc, transcript, commitments, witnesses)?;
+    let indices = transcript.query_phase(alloc, final_poly, query_witness)?;
+    Ok(CircleDraws {
+        alpha,
+        bivariate,
+        betas,
+        indices,
+    })
+}
+
+/// The verifier's side of a run: seeds the challenger, takes in the claims and what a proof holds, and
+/// draws the challenges. Fails with `PowWitness` where a witness doesn't pass, and with `Memory` where
+/// memory is refused.
+///
+/// Asks claims of the described numbers of values, a commitment and a witness for each round, and
+/// difficulties and a number of bits of an index of at most 63.
+pub fn verifier_run<F: Field, EF: ExtensionField<F>, C, Com>(
+    alloc: Global,
+    challenger: &mut C,
+    shape: CirclePcsShape,
+    claims: &[OpeningClaim<EF>],
+    batch_witness: F,
+    first_layer: &Com,
+    commitments: &[Com],
+    witnesses: &[F],
+    final_poly: EF,
+    query_witness: F,
+) -> Result<CircleDraws<EF>, CircleTranscriptFailure>
+where
+    C: CanSample<F> + GrindingChallenger<F> + CanObserve<Com>,
+    requires claims { widths_of (claims_of claims.now) ≡ claimed_widths (shape_of shape) }
+    requires rounds { length commitments.now ≡ shape.num_commit_rounds }
+    requires paired { length witnesses.now ≡ length commitments.now }
+    requires batch_small { shape.batch_pow_bits ≤ 63 }
+    requires commit_small { shape.commit_pow_bits ≤ 63 }
+    requires query_small { shape.query_pow_bits ≤ 63 }
+    requires narrow { shape.index_bits ≤ 63 }
+    ensures draws { IfOk result (λ d. draw (moves ⟦<C as CanObserve<F>>⟧.after_observe ⟦<C as CanObserve<Com>>⟧.after_observe C.sampled C.after_sample C.sampled_bits C.after_bits) EF.DEGREE EF.coefficients (of_nat F.ops) (shape_of shape) (taken (claims_of claims.now) batch_witness first_layer.now (zip commitments.now witnesses.now) final_poly query_witness) (C.state challenger.old) ≡ Ok (drawn_of EF.coefficients d (C.state challenger.new))) }
+    ensures failure { IfErr result (λ e. (e ≡ Memory) ⊎ (draw (moves ⟦<C as CanObserve<F>>⟧.after_observe ⟦<C as CanObserve<Com>>⟧.after_observe C.sampled C.after_sample C.sampled_bits C.after_bits) EF.DEGREE EF.coefficients (of_nat F.ops) (shape_of shape) (taken (claims_of claims.now) batch_witness first_layer.now (zip commitments.now witnesses.now) final_poly query_witness) (C.state challenger.old) ≡ Err (phase_of e))) }
+{
+    let mut transcript = CircleVerifierTranscript::<C, F, EF>::new(alloc, challenger, shape)?;
+    let drawn = checked_run(
+        alloc,
+        &mut transcript,
+        claims,
+        batch_witness,
+        first_layer,
+        commitments,
+        witnesses,
+        final_poly,
+        query_witness,
+    );
+    match drawn {
+        Ok(draws) => {
+            transcript.finish();
+            Ok(draws)
+        }
+        Err(failure) => {
+            transcript.abort();
+            Err(failure)
+        }
+    }
+}
