@@ -104,3 +104,12 @@ unfolding rounds_steps
 rounds_none degree bits n i rest within =
     let e : n - i ≡ 0 = omega arith in
     ap (λ k. rounds_steps degree bits k ++ rest) e
+
+-- one more value beside one that is pushed
+pub zip_pushed : {A B : Type 0} (us : List A) (vs ws : List B) (i : ℕ) (a : A) (b : B) → i < length us → length vs ≡ i → a ≡ get_or us i a → ws ≡ vs ++ b ∷ []
+    → zip (take (i + 1) us) ws ≡ zip (take i us) vs ++ (a, b) ∷ []
+zip_pushed us vs ws i a b within same is_a pushed =
+    let counted : length (take i us) ≡ length vs = length-take i us ∙ omega arith in
+    ap (λ v. zip v ws) (take_read us i a within is_a)
+    ∙ ap (zip (take i us ++ a ∷ [])) pushed
+    ∙ zip-append (take i us) (a ∷ []) vs (b ∷ []) counted

@@ -12,6 +12,6 @@ pub mod shape;
 pub mod sides;
 
 pub use failure::CircleTranscriptFailure;
-pub use run::{CircleDraws, verifier_run};
+pub use run::{CircleDraws, CircleWitnesses, both_runs, prover_run, verifier_run};
 pub use shape::CirclePcsShape;
 pub use sides::{CircleProverTranscript, CircleTranscript, CircleVerifierTranscript, OpeningClaim};
