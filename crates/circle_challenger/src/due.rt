@@ -1,5 +1,5 @@
 //! The steps of a transcript that are still due, which contracts alone see.
-ghost use Rattle.std.specs.Prelude.{◌≡◌, List, drop};
+ghost use Rattle.std.specs.Prelude.{◌≡◌, List, [], drop};
 ghost use Rattle.std.specs.Borrow.{ftrue};
 ghost use Rattle.circle_challenger.specs.Step.{Step};
 
@@ -24,11 +24,20 @@ impl StepsDue {
         StepsDue {}
     }
 
-    /// The same steps.
-    pub(crate) fn again(&self) -> StepsDue
-        ensures { result.steps ≡ self.now.steps }
+    /// No steps.
+    fn emptied(&self) -> StepsDue
+        ensures { result.steps ≡ [] }
     {
         StepsDue {}
+    }
+
+    /// The steps, of which none is left here: a list is resumed with once.
+    pub fn take(&mut self) -> StepsDue
+        ensures steps { result.steps ≡ self.old.steps }
+        ensures left { self.new.steps ≡ [] }
+    {
+        let left = self.emptied();
+        std::mem::replace(self, left)
     }
 
     /// The steps but the first.

@@ -56,15 +56,16 @@ impl<'a, F: Field, C: CanSample<F> + GrindingChallenger<F>, S> TranscriptState<'
     }
 
     /// Goes on with a transcript that was paused, with these steps due. So a caller's own type can keep
-    /// the challenger and the steps that are due, and have the transcript at hand while it plays some.
-    pub fn resume(challenger: &'a mut C, steps: &StepsDue) -> Self
+    /// the challenger and the steps that are due, and have the transcript at hand while it plays some: it
+    /// takes the steps out, which `pause` gives back.
+    pub fn resume(challenger: &'a mut C, kept: StepsDue) -> Self
         ensures same_reference { Borrows result challenger.entry }
-        ensures due { due result ≡ steps.now.steps }
+        ensures due { due result ≡ kept.steps }
         ensures challenger { current result ≡ challenger.old }
     {
         TranscriptState {
             challenger,
-            due: steps.again(),
+            due: kept,
             of: PhantomData,
         }
     }
@@ -105,6 +106,25 @@ impl<'a, F: Field, C: CanSample<F> + GrindingChallenger<F>, S> TranscriptState<'
         ensures state { C.state (current self.new) ≡ after_all C.after_observe (C.state (current self.old)) (flat_map EF.coefficients values.now) }
     {
         observe_each::<F, EF, C>(self.challenger, values);
+        self.due = self.due.after_first();
+    }
+
+    /// Takes in two elements of the extension, the coefficients of each in order.
+    ///
+    /// Asks that this is the next step.
+    pub fn observe_extension_pair<EF: ExtensionField<F>>(
+        &mut self,
+        label: &str,
+        first: &EF,
+        second: &EF,
+    )
+        requires next { slice_get (due self.old) 0 ≡ Some (elements_message EF.DEGREE label.now 2) }
+        ensures same_reference { SameChallenger self.old self.new }
+        ensures due { due self.new ≡ drop 1 (due self.old) }
+        ensures state { C.state (current self.new) ≡ after_all C.after_observe (C.state (current self.old)) (flat_map EF.coefficients (first.now ∷ second.now ∷ [])) }
+    {
+        observe_coefficients::<F, EF, C>(self.challenger, first);
+        observe_coefficients::<F, EF, C>(self.challenger, second);
         self.due = self.due.after_first();
     }
 

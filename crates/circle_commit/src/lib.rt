@@ -1,10 +1,11 @@
-//! What commitment schemes over matrices stand on: matrices by rows, views of them, and the forms of
-//! values in JSON.
+//! What commitment schemes over matrices stand on: matrices by rows, views of them, domains that
+//! polynomials are given on, the parameters of FRI, and the forms of values in JSON.
 #![tactic(auto)]
 
 pub mod json;
 pub mod matrix;
 pub mod mmcs;
+pub mod params;
 pub mod space;
 #[cfg(test)]
 mod tests;
@@ -13,5 +14,6 @@ pub mod view;
 pub use json::{JsonError, JsonForm};
 pub use matrix::{Dimensions, Matrix, RowIndexMap, RowIndexMappedView, RowMajorMatrix, Shape};
 pub use mmcs::{BatchMultiOpening, Mmcs, OpenedRows, heights_are_powers_of_two, is_power_of_two};
+pub use params::{FriParameters, PowPhase};
 pub use space::{LagrangeSelectors, PolynomialSpace};
 pub use view::RowMajorMatrixView;

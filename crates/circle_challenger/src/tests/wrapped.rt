@@ -40,7 +40,7 @@ impl<'a, F: Field, C: CanSample<F> + GrindingChallenger<F>> Counted<'a, C, F> {
         ensures value { EF.coefficients result ≡ samples C.sampled C.after_sample EF.DEGREE (C.state self.old.challenger.now) }
         ensures state { C.state self.new.challenger.now ≡ after_samples C.after_sample EF.DEGREE (C.state self.old.challenger.now) }
     {
-        let mut transcript = ProverState::<C, F>::resume(self.challenger, &self.due);
+        let mut transcript = ProverState::<C, F>::resume(self.challenger, self.due.take());
         let value = transcript.challenge_extension(label);
         self.due = transcript.pause();
         self.drawn = self.drawn.wrapping_add(1);
@@ -57,7 +57,7 @@ impl<'a, F: Field, C: CanSample<F> + GrindingChallenger<F>> Counted<'a, C, F> {
             drawn,
             of: _,
         } = self;
-        ProverState::<C, F>::resume(challenger, &due).finish();
+        ProverState::<C, F>::resume(challenger, due).finish();
         drawn
     }
 }

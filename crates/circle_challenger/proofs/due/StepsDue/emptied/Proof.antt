@@ -1,4 +1,4 @@
--- `again` makes the empty struct, with the same steps. Assumes `Logic`.
+-- `emptied` makes the empty struct, with no steps. Assumes `Logic`.
 use mathlib.Core.Path.{refl}
 use Rattle.std.proofs.Common.{[], ◌∷◌}
 use mir.Syntax.{named}
@@ -16,16 +16,16 @@ use denote.Signature.{plain, types_at}
 use denote.Triple.Entry.{alive}
 use denote.Triple.Walked.{says, stay_none_ref, Stays, walk_of, ends_at, Goes-none_ref}
 use Rattle.std.proofs.raw_atomic.Walks.{proved}
-use Rattle.circle_challenger.specs.contracts.due.StepsDue.again as f
-use Rattle.circle_challenger.proofs.due.StepsDue.again.Statement.{statement}
-use Rattle.circle_challenger.proofs.due.StepsDue.again.Code as code
+use Rattle.circle_challenger.specs.contracts.due.StepsDue.emptied as f
+use Rattle.circle_challenger.proofs.due.StepsDue.emptied.Statement.{statement}
+use Rattle.circle_challenger.proofs.due.StepsDue.emptied.Code as code
 use Rattle.circle_challenger.specs.contracts.due.StepsDue as made
 
 abbrev stayed : Stays f.ended.signature.params f.ended.kept
 stayed = (stay_none_ref (0 ∷ []) tt (plain (λ _. made.the_row)) yes, tt)
 
-pub again_spec : {M : Type 1} → statement M
-again_spec 𝓤 𝓛 𝓜 𝓡 wired =
+pub emptied_spec : {M : Type 1} → statement M
+emptied_spec 𝓤 𝓛 𝓜 𝓡 wired =
     let c = f.clauses 𝓛 𝓜.mem 𝓡.returns in
     proved 𝓛 f.ended stayed c 𝓜 𝓡 (Goes-none_ref 𝓛 1 (0 ∷ []) tt (plain (λ _. made.the_row)) yes, tt)
     f.Key.name code.function (code.unfolded 𝓤 𝓛.H 𝓜 𝓡 wired)
@@ -36,6 +36,6 @@ again_spec 𝓤 𝓛 𝓜 𝓡 wired =
     qed 𝓛 (raw (alive 𝓛 f.signature κs qs) ∷ ‵ (owns (types_at f.signature.params κs) a (reference ∷ [], tt)) ∷ []) ∵ enter ! _ _ _ _ _ $
     alloc_all ! (λ l. pass_all ! refl ((tt, tt), tt) $ sets ! (agg ! (no_more !)) refl (tt, tt) $
     returns ! (look_at ! 0 refl) $ free_all ! refl $
-    suffices ! _ (ends_at 𝓛 f.ended stayed c y (vstruct vnil) (record { steps = a.0.now.steps }) (tt, tt) (tt, tt)) $
-    says ! refl $ pure_i ! (made.the_row.own_val (record { steps = a.0.now.steps }) (vstruct vnil ∷ [])) ((λ vss. (tt, tt)), tt) ((tt, (refl, tt)), tt) $
+    suffices ! _ (ends_at 𝓛 f.ended stayed c y (vstruct vnil) (record { steps = [] }) (tt, tt) (tt, tt)) $
+    says ! refl $ pure_i ! (made.the_row.own_val (record { steps = [] }) (vstruct vnil ∷ [])) ((λ vss. (tt, tt)), tt) ((tt, (refl, tt)), tt) $
     move ! (1 ∷ 2 ∷ 0 ∷ []) $ done !)))

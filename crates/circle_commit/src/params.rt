@@ -1,0 +1,48 @@
+//! The parameters of FRI, and the phases of a run that are guarded by a proof of work.
+ghost use Rattle.std.specs.Prelude.{Some, codes};
+ghost use Rattle.circle_commit.specs.declared.params.PowPhase.TheVariants.{Batch, CommitPhase, Query};
+
+use std::fmt;
+
+/// The parameters of FRI: how much the codewords are longer than what they encode, how they are folded
+/// and queried, the difficulties of the proofs of work, and the commitment scheme of the folded words.
+#[derive(Debug, Drop)]
+pub struct FriParameters<M> {
+    /// The binary logarithm of the blowup, by which a codeword is longer than what it encodes.
+    pub log_blowup: usize,
+    /// The binary logarithm of the greatest number of entries that one round folds into one.
+    pub max_log_arity: usize,
+    /// The number of queries.
+    pub num_queries: usize,
+    /// The difficulty, in bits, of the proof of work before the challenge that batches the openings.
+    pub batch_proof_of_work_bits: usize,
+    /// The difficulty, in bits, of the proof of work before the folding challenge of each round.
+    pub commit_proof_of_work_bits: usize,
+    /// The difficulty, in bits, of the proof of work before the query indices.
+    pub query_proof_of_work_bits: usize,
+    /// The commitment scheme of the folded words.
+    pub mmcs: M,
+}
+
+/// A phase of a run that is guarded by a proof of work.
+#[derive(Clone, Copy, PartialEq, Eq, Debug)]
+pub enum PowPhase {
+    /// Before the challenge that batches the openings.
+    Batch,
+    /// Before the folding challenge of a round.
+    CommitPhase,
+    /// Before the query indices.
+    Query,
+}
+
+impl fmt::Display for PowPhase {
+    ghost output = { elim [ Batch ↦ Some (codes "batch") | CommitPhase ↦ Some (codes "commit phase") | Query ↦ Some (codes "query") ] };
+
+    fn fmt<W: fmt::Write>(&self, f: &mut fmt::Formatter<W>) -> fmt::Result {
+        f.write_str(match self {
+            PowPhase::Batch => "batch",
+            PowPhase::CommitPhase => "commit phase",
+            PowPhase::Query => "query",
+        })
+    }
+}

@@ -1,0 +1,9 @@
+pub mod Shape
+pub mod ShapeOf
+pub mod Numbers
+pub mod Failure
+pub mod Draw
+pub mod Claims
+pub mod Transcript
+pub mod Runs
+pub mod Rows

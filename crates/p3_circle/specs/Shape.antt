@@ -1,0 +1,103 @@
+-- The shape of a run of the scheme, the steps of its transcript and its seed.
+use Rattle.std.specs.Prelude.{◌≡◌, ℕ, ◌<◌, ◌^◌, ◌==◌, if◌then◌else◌, List, [], ◌∷◌, ◌++◌, length, flat_map, All, codes}
+use Rattle.std.proofs.Common.{zero, suc}
+use Rattle.circle_challenger.specs.Step.{Step, be64}
+use Rattle.circle_challenger.specs.Played.{element_message, elements_message, opaque_message, pow_step, element_challenge, numbers_challenge}
+use Rattle.circle_challenger.specs.Separator.{Separator, separator, seed_text}
+
+-- the numbers that fix the transcript of a run: the number of columns of each claim, by batch, matrix
+-- and point; the number of rounds; the difficulties of the proofs of work; how many indices are drawn,
+-- and of how many bits; the logarithm of the blowup
+pub record Shape : Type 0 where
+  pub opened_widths : List (List (List ℕ))
+  pub num_commit_rounds : ℕ
+  pub batch_pow_bits : ℕ
+  pub commit_pow_bits : ℕ
+  pub query_pow_bits : ℕ
+  pub num_queries : ℕ
+  pub index_bits : ℕ
+  pub log_blowup : ℕ
+
+-- a proof of work is a step where it has a difficulty
+abbrev pub pow_steps : List ℕ → ℕ → List Step
+pow_steps label bits = if bits == 0 then [] else pow_step label bits ∷ []
+
+-- a claim of so many columns: its point's two coordinates, and its values
+unfoldable pub claim_steps : ℕ → ℕ → List Step
+claim_steps degree width =
+    elements_message degree (codes "opening_point") 2 ∷ elements_message degree (codes "opened_values") width ∷ []
+
+-- the claims, and the challenge that batches them
+unfoldable pub batch_steps : ℕ → List ℕ → ℕ → List Step
+batch_steps degree widths bits =
+    flat_map (claim_steps degree) widths
+    ++ (pow_steps (codes "batch_pow") bits ++ element_challenge degree (codes "batch_challenge") ∷ [])
+
+-- the commitment to the first layer, and the challenge that folds it
+unfoldable pub first_layer_steps : ℕ → List Step
+first_layer_steps degree =
+    opaque_message (codes "first_layer_commitment") ∷ element_challenge degree (codes "bivariate_challenge") ∷ []
+
+-- a round: a commitment, and the challenge that folds what it commits to
+unfoldable pub round_steps : ℕ → ℕ → List Step
+round_steps degree bits =
+    opaque_message (codes "commit_phase_commitment")
+    ∷ (pow_steps (codes "commit_pow") bits ++ element_challenge degree (codes "fold_challenge") ∷ [])
+
+-- so many rounds
+unfoldable pub rounds_steps : ℕ → ℕ → ℕ → List Step
+rounds_steps degree bits zero = []
+rounds_steps degree bits (suc n) = round_steps degree bits ++ rounds_steps degree bits n
+
+-- the last word's value, and so many indices of so many bits
+unfoldable pub query_steps : ℕ → ℕ → ℕ → ℕ → List Step
+query_steps degree bits width count =
+    element_message degree (codes "final_poly")
+    ∷ (pow_steps (codes "query_pow") bits ++ numbers_challenge (codes "query_indices") width count ∷ [])
+
+-- the number of columns of each claim, one claim after another
+abbrev pub claimed_widths : Shape → List ℕ
+claimed_widths s = flat_map (λ matrix. matrix) (flat_map (λ batch. batch) s.opened_widths)
+
+-- the steps of a run whose challenges are elements of an algebra of this degree
+abbrev pub steps_of : ℕ → Shape → List Step
+steps_of degree s =
+    batch_steps degree (claimed_widths s) s.batch_pow_bits
+    ++ (first_layer_steps degree
+    ++ (rounds_steps degree s.commit_pow_bits s.num_commit_rounds
+    ++ query_steps degree s.query_pow_bits s.index_bits s.num_queries))
+
+-- how the claims are grouped: the number of batches, for each batch its number of matrices, and for
+-- each of these its number of points
+unfoldable pub batch_layout : List (List ℕ) → List ℕ
+batch_layout batch = be64 (length batch) ++ flat_map (λ matrix. be64 (length matrix)) batch
+
+unfoldable pub layout : List (List (List ℕ)) → List ℕ
+layout batches = be64 (length batches) ++ flat_map batch_layout batches
+
+-- what the run is seeded with
+abbrev pub separator_of : ℕ → Shape → Separator
+separator_of degree s =
+    separator 1 (codes "p3-circle-pcs") (steps_of degree s) (be64 s.log_blowup ∷ layout s.opened_widths ∷ [])
+
+-- the seed's text
+abbrev pub text_of : ℕ → Shape → List ℕ
+text_of degree s = seed_text (separator_of degree s)
+
+-- the numbers that the labels hold have eight bytes
+pub record HasWritableLabels (s : Shape) : Type 0 where
+  pub log_blowup : s.log_blowup < 2 ^ 64
+  pub batch_count : length s.opened_widths < 2 ^ 64
+  pub matrix_counts : All (λ batch. length batch < 2 ^ 64) s.opened_widths
+  pub point_counts : All (λ batch. All (λ matrix. length matrix < 2 ^ 64) batch) s.opened_widths
+
+-- shapes of one transcript: they agree in all but the difficulty of rounds that there aren't
+pub record IsSameRun (a b : Shape) : Type 0 where
+  pub opened_widths : a.opened_widths ≡ b.opened_widths
+  pub num_commit_rounds : a.num_commit_rounds ≡ b.num_commit_rounds
+  pub batch_pow_bits : a.batch_pow_bits ≡ b.batch_pow_bits
+  pub commit_pow_bits : 0 < a.num_commit_rounds → a.commit_pow_bits ≡ b.commit_pow_bits
+  pub query_pow_bits : a.query_pow_bits ≡ b.query_pow_bits
+  pub num_queries : a.num_queries ≡ b.num_queries
+  pub index_bits : a.index_bits ≡ b.index_bits
+  pub log_blowup : a.log_blowup ≡ b.log_blowup

@@ -1,0 +1,13 @@
+//! The Circle STARK polynomial commitment scheme (IACR ePrint 2024/278): the transcript of a run.
+#![tactic(auto)]
+
+pub mod transcript;
+
+pub use circle_plane::{
+    CfftPerm, CfftPermutable, CfftView, CircleCoset, CircleDomain, CircleEvaluations, CirclePoints,
+    Neutral, Point, cfft_permute_index, circle_basis,
+};
+pub use transcript::{
+    CirclePcsShape, CircleProverTranscript, CircleTranscript, CircleTranscriptFailure,
+    CircleVerifierTranscript, OpeningClaim,
+};
