@@ -2,6 +2,7 @@
 //! or with the argument `time` how long they take.
 mod domain;
 mod field;
+mod hashing;
 mod merkle;
 mod sha256;
 mod transform;
@@ -70,10 +71,12 @@ fn main() {
     match args.as_slice() {
         [] => {
             report(&[SMALL], digest_line);
+            hashing::report(false);
             report_commitments(&[SMALL], false);
         }
         ["time"] => {
             report(&LARGE, time_line);
+            hashing::report(true);
             report_commitments(&COMMITTED, true);
         }
         _ => {

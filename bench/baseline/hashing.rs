@@ -1,0 +1,91 @@
+//! A challenger over SHA-256: elements that are taken in, and proofs of work.
+use crate::field::ORDER;
+use crate::sha256::Sha256;
+use std::time::{Duration, Instant};
+
+const OBSERVED: u32 = 1000;
+const OBSERVED_TIMED: u32 = 1 << 16;
+const BITS: u32 = 8;
+const BITS_TIMED: u32 = 16;
+const RUNS: u32 = 9;
+
+#[derive(Clone, Copy)]
+struct Challenger {
+    state: [u8; 32],
+}
+
+impl Challenger {
+    fn digest(&self, kind: u8, bytes: &[u8]) -> [u8; 32] {
+        let mut hasher = Sha256::new();
+        hasher.update(&[kind]);
+        hasher.update(&self.state);
+        hasher.update(bytes);
+        hasher.finalize()
+    }
+
+    fn observe(&mut self, element: u32) {
+        self.state = self.digest(0, &element.to_be_bytes());
+    }
+
+    /// The first eight bytes of a draw.
+    fn draw(&mut self) -> u64 {
+        let digest = self.digest(1, &[]);
+        self.state = self.digest(2, &[]);
+        digest[..8].iter().fold(0, |number, byte| number << 8 | u64::from(*byte))
+    }
+
+    fn sample(&mut self) -> u32 {
+        (self.draw() % u64::from(ORDER)) as u32
+    }
+
+    /// The least element after which so many bits are zero.
+    fn grind(&mut self, bits: u32) -> u32 {
+        for witness in 0..ORDER {
+            let mut after = *self;
+            after.observe(witness);
+            if after.draw() & ((1 << bits) - 1) == 0 {
+                *self = after;
+                return witness;
+            }
+        }
+        0
+    }
+}
+
+/// Prints a line for elements that are taken in, and one for proofs of work.
+pub fn report(timed: bool) {
+    if timed {
+        let (time, next) = observe(OBSERVED_TIMED, RUNS);
+        println!("Sha256Challenger observe {OBSERVED_TIMED}: {time} ns, {next}");
+        let (time, witness) = grind(BITS_TIMED, RUNS);
+        println!("Sha256Challenger grind {BITS_TIMED}: {time} ns a trial, {witness}");
+    } else {
+        println!("Sha256Challenger observe {OBSERVED}: {}", observe(OBSERVED, 1).1);
+        println!("Sha256Challenger grind {BITS}: {}", grind(BITS, 1).1);
+    }
+}
+
+fn observe(count: u32, runs: u32) -> (u128, u32) {
+    let mut challenger = Challenger { state: [0; 32] };
+    let mut best = Duration::MAX;
+    for _ in 0..runs {
+        let begin = Instant::now();
+        for n in 0..count {
+            challenger.observe(n);
+        }
+        best = best.min(begin.elapsed());
+    }
+    (best.as_nanos() / u128::from(count), challenger.sample())
+}
+
+fn grind(bits: u32, runs: u32) -> (u128, u32) {
+    let mut challenger = Challenger { state: [0; 32] };
+    let mut best = u128::MAX;
+    let mut last = 0;
+    for _ in 0..runs {
+        let begin = Instant::now();
+        last = challenger.grind(bits);
+        best = best.min(begin.elapsed().as_nanos() / u128::from(last + 1));
+    }
+    (best, last)
+}
