@@ -70,7 +70,7 @@ module _ {S F Com E : Type 0} (m : Moves S F Com) (degree : ℕ) (coefficients :
             after_the_rounds ∙ ap (λ b. if b then Ok d else Err Query)
             (ap (λ t. is_passed m degree t n.query_pow_bits taken.query_witness) (sym at_close) ∙ query_passed)
             ∙ sym (ap (λ x. Ok (drawn_parts x bivariate betas indices s4)) is_alpha
-              ∙ ap (λ x. Ok (drawn_parts d.alpha x betas indices s4)) (is_bivariate ∙ ap (drawn_element m degree) at_layer)
-              ∙ ap (λ x. Ok (drawn_parts d.alpha d.bivariate x indices s4)) (are_betas ∙ ap (λ t. fold_challenges m degree n.commit_pow_bits t taken.rounds) at_rounds)
-              ∙ ap (λ x. Ok (drawn_parts d.alpha d.bivariate d.betas x s4)) (are_indices ∙ ap (samples (λ t. m.sampled_bits t n.index_bits) (λ t. m.after_bits t n.index_bits) n.num_queries) same_query)
-              ∙ ap (λ x. Ok (drawn_parts d.alpha d.bivariate d.betas d.indices x)) (is_state ∙ ap (after_samples (λ t. m.after_bits t n.index_bits) n.num_queries) same_query))
+            ∙ ap (λ x. Ok (drawn_parts d.alpha x betas indices s4)) (is_bivariate ∙ ap (drawn_element m degree) at_layer)
+            ∙ ap (λ x. Ok (drawn_parts d.alpha d.bivariate x indices s4)) (are_betas ∙ ap (λ t. fold_challenges m degree n.commit_pow_bits t taken.rounds) at_rounds)
+            ∙ ap (λ x. Ok (drawn_parts d.alpha d.bivariate d.betas x s4)) (are_indices ∙ ap (samples (λ t. m.sampled_bits t n.index_bits) (λ t. m.after_bits t n.index_bits) n.num_queries) same_query)
+            ∙ ap (λ x. Ok (drawn_parts d.alpha d.bivariate d.betas d.indices x)) (is_state ∙ ap (after_samples (λ t. m.after_bits t n.index_bits) n.num_queries) same_query))

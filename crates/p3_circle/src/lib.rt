@@ -1,6 +1,8 @@
 //! The Circle STARK polynomial commitment scheme (IACR ePrint 2024/278): the transcript of a run.
 #![tactic(auto)]
 
+#[cfg(test)]
+mod tests;
 pub mod transcript;
 
 pub use circle_plane::{
@@ -8,6 +10,6 @@ pub use circle_plane::{
     Neutral, Point, cfft_permute_index, circle_basis,
 };
 pub use transcript::{
-    CirclePcsShape, CircleProverTranscript, CircleTranscript, CircleTranscriptFailure,
-    CircleVerifierTranscript, OpeningClaim,
+    CircleDraws, CirclePcsShape, CircleProverTranscript, CircleTranscript, CircleTranscriptFailure,
+    CircleVerifierTranscript, CircleWitnesses, OpeningClaim, both_runs, prover_run, verifier_run,
 };

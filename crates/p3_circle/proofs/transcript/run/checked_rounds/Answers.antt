@@ -30,10 +30,11 @@ commit_round-requires-clause-next g c =
     let n = length c.args.commitments.now in
     let i = c.loop-i.i in
     let rest = c.requires.next.0 in
-    let same_bits = ap (λ v. v.commit_pow_bits) c.loop-i.invariant.same.shape in
-    (rounds_steps degree bits (n - (i + 1)) ++ rest,
+    let same_bits = ap (λ v. v.commit_pow_bits) c.loop-i.invariant.same.shape in (
+      rounds_steps degree bits (n - (i + 1)) ++ rest,
       c.loop-i.invariant.due rest c.requires.next.1 ∙ rounds_first degree bits n i rest (omega arith)
-      ∙ ap (λ b. round_steps degree b ++ (rounds_steps degree bits (n - (i + 1)) ++ rest)) (sym same_bits))
+          ∙ ap (λ b. round_steps degree b ++ (rounds_steps degree bits (n - (i + 1)) ++ rest)) (sym same_bits),
+    )
 
 pub loop-i-preserved : goal.loop-i-preserved
 loop-i-preserved g c =
@@ -65,7 +66,7 @@ loop-i-preserved g c =
       due = λ rest e.
           c.in_ok-beta.ensures.due _
           (c.loop-i.invariant.due rest e ∙ rounds_first degree bits n i rest within
-            ∙ ap (λ b. round_steps degree b ++ (rounds_steps degree bits (n - (i + 1)) ++ rest)) (sym same_bits));
+          ∙ ap (λ b. round_steps degree b ++ (rounds_steps degree bits (n - (i + 1)) ++ rest)) (sym same_bits));
       passes =
           passes_more m degree bits begun now rounds next (commitment, witness) more before c.loop-i.invariant.passes
           (subst (λ b. IsTrue (is_passed m degree (m.after_commitment now commitment) b witness)) same_bits c.in_ok-beta.ensures.passes);

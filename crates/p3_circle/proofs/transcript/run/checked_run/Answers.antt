@@ -43,8 +43,8 @@ returns-in_err-betas-clause-failure g c =
       | inl refused ↦ inl refused
       | inr missed ↦
           inr (misses_rounds m degree coefficients n all s c.in_ok-alpha.ensures.passes s1 s2 c.in_ok-alpha.ensures.state c.first_layer-bivariate.ensures.state
-            (subst (λ v. rounds_pass m degree v.commit_pow_bits s2 rounds ≡ false) same2 missed.1)
-            ∙ ap (λ e. Err (phase_of e)) (sym missed.0))
+          (subst (λ v. rounds_pass m degree v.commit_pow_bits s2 rounds ≡ false) same2 missed.1)
+          ∙ ap (λ e. Err (phase_of e)) (sym missed.0))
     ])
 
 pub query_phase-requires-clause-next : goal.query_phase-requires-clause-next
@@ -93,8 +93,8 @@ returns-in_err-indices-clause-failure g c =
       | inl refused ↦ inl refused
       | inr missed ↦
           inr (misses_query m degree coefficients n all s c.in_ok-alpha.ensures.passes s1 s2 c.in_ok-alpha.ensures.state c.first_layer-bivariate.ensures.state s3 rounds_passed is_third
-            (subst (λ v. is_passed m degree closed v.query_pow_bits c.args.query_witness ≡ false) same3 (c.query_phase.ensures.missed (c.in_err-indices.was ∙ ap Err missed)))
-            ∙ ap (λ e. Err (phase_of e)) (sym missed))
+          (subst (λ v. is_passed m degree closed v.query_pow_bits c.args.query_witness ≡ false) same3 (c.query_phase.ensures.missed (c.in_err-indices.was ∙ ap Err missed)))
+          ∙ ap (λ e. Err (phase_of e)) (sym missed))
     ])
 
 pub returns-clause-draws : goal.returns-clause-draws

@@ -28,10 +28,11 @@ commit_round-requires-clause-next g c =
     let n = length c.args.commitments.now in
     let i = c.loop-commitment.commitment-index in
     let rest = c.requires.next.0 in
-    let same_bits = ap (λ v. v.commit_pow_bits) c.loop-commitment.invariant.same.shape in
-    (rounds_steps degree bits (n - (i + 1)) ++ rest,
+    let same_bits = ap (λ v. v.commit_pow_bits) c.loop-commitment.invariant.same.shape in (
+      rounds_steps degree bits (n - (i + 1)) ++ rest,
       c.loop-commitment.invariant.due rest c.requires.next.1 ∙ rounds_first degree bits n i rest (omega arith)
-      ∙ ap (λ b. round_steps degree b ++ (rounds_steps degree bits (n - (i + 1)) ++ rest)) (sym same_bits))
+          ∙ ap (λ b. round_steps degree b ++ (rounds_steps degree bits (n - (i + 1)) ++ rest)) (sym same_bits),
+    )
 
 pub loop-commitment-preserved : goal.loop-commitment-preserved
 loop-commitment-preserved g c =
@@ -66,26 +67,25 @@ loop-commitment-preserved g c =
       due = λ rest e.
           c.in_ok-beta.ensures.due _
           (c.loop-commitment.invariant.due rest e ∙ rounds_first degree bits n i rest within
-            ∙ ap (λ b. round_steps degree b ++ (rounds_steps degree bits (n - (i + 1)) ++ rest)) (sym same_bits));
+          ∙ ap (λ b. round_steps degree b ++ (rounds_steps degree bits (n - (i + 1)) ++ rest)) (sym same_bits));
       count = ap length c.in-Ok-push.ensures.items ∙ length_push witnesses witness ∙ ap (λ k. k + 1) c.loop-commitment.invariant.count;
       passes =
           passes_more m degree bits begun now rounds next (commitment, witness) more before c.loop-commitment.invariant.passes
           (subst (λ w. IsTrue (is_passed m degree (m.after_commitment now commitment) bits w)) (sym is_witness)
-            (subst (λ b. IsTrue (is_passed m degree (m.after_commitment now commitment) b (unwrap_or found g.F.Operations.ops.zero))) same_bits c.in_ok-beta.ensures.passes));
+          (subst (λ b. IsTrue (is_passed m degree (m.after_commitment now commitment) b (unwrap_or found g.F.Operations.ops.zero))) same_bits c.in_ok-beta.ensures.passes));
       challenges =
           challenges_more m degree bits begun now rounds next (commitment, witness) more before
           (map coefficients c.loop-commitment.betas.items) (map coefficients c.push.new.self.items) (coefficients beta) c.loop-commitment.invariant.challenges
           (subst (λ w. coefficients beta ≡ fold_challenge m degree bits now (commitment, w)) (sym is_witness)
-            (subst (λ b. coefficients beta ≡ fold_challenge m degree b now (commitment, unwrap_or found g.F.Operations.ops.zero)) same_bits c.in_ok-beta.ensures.challenge))
+          (subst (λ b. coefficients beta ≡ fold_challenge m degree b now (commitment, unwrap_or found g.F.Operations.ops.zero)) same_bits c.in_ok-beta.ensures.challenge))
           (ap (map coefficients) c.in-Ok.ensures.items ∙ map-append coefficients c.loop-commitment.betas.items (beta ∷ []));
       state =
           state_more m degree bits begun now rounds next (commitment, witness) more before after
           (subst (λ w. after ≡ after_round m degree bits now (commitment, w)) (sym is_witness)
-            (subst (λ b. after ≡ after_round m degree b now (commitment, unwrap_or found g.F.Operations.ops.zero)) same_bits c.in_ok-beta.ensures.state));
+          (subst (λ b. after ≡ after_round m degree b now (commitment, unwrap_or found g.F.Operations.ops.zero)) same_bits c.in_ok-beta.ensures.state));
     }
 
 pub returns-clause-due : goal.returns-clause-due
 returns-clause-due g c = λ rest e.
     c.loop-commitment.invariant.due rest e
     ∙ rounds_none g.EF.ExtensionField.DEGREE (numbers c.args.transcript.now).commit_pow_bits (length c.args.commitments.now) c.loop-commitment.commitment-index rest c.loop-commitment-test.false
-

@@ -87,6 +87,6 @@ returns-clause-draws g c =
     c.first_layer-bivariate.ensures.challenge
     (subst (λ v. map coefficients c.in_ok-betas.betas.items ≡ fold_challenges m degree v.commit_pow_bits s2 rounds) same2 c.in_ok-betas.ensures.challenges)
     (subst (λ w. indices ≡ samples (λ t. m.sampled_bits t n.index_bits) (λ t. m.after_bits t n.index_bits) n.num_queries (after_pow m degree closed n.query_pow_bits w)) is_query
-      (subst (λ v. indices ≡ samples (λ t. m.sampled_bits t v.index_bits) (λ t. m.after_bits t v.index_bits) v.num_queries (after_pow m degree closed v.query_pow_bits (unwrap_or c.in_ok-indices.query zero))) same3 c.in_ok-indices.ensures.indices))
+    (subst (λ v. indices ≡ samples (λ t. m.sampled_bits t v.index_bits) (λ t. m.after_bits t v.index_bits) v.num_queries (after_pow m degree closed v.query_pow_bits (unwrap_or c.in_ok-indices.query zero))) same3 c.in_ok-indices.ensures.indices))
     (subst (λ w. s4 ≡ after_samples (λ t. m.after_bits t n.index_bits) n.num_queries (after_pow m degree closed n.query_pow_bits w)) is_query
-      (subst (λ v. s4 ≡ after_samples (λ t. m.after_bits t v.index_bits) v.num_queries (after_pow m degree closed v.query_pow_bits (unwrap_or c.in_ok-indices.query zero))) same3 c.in_ok-indices.ensures.state))
+    (subst (λ v. s4 ≡ after_samples (λ t. m.after_bits t v.index_bits) v.num_queries (after_pow m degree closed v.query_pow_bits (unwrap_or c.in_ok-indices.query zero))) same3 c.in_ok-indices.ensures.state))
