@@ -3,6 +3,8 @@
 #![tactic(auto)]
 
 #[cfg(test)]
+mod domains;
+#[cfg(test)]
 mod extensions;
 #[cfg(test)]
 mod fields;
