@@ -5,6 +5,8 @@
 #[cfg(test)]
 mod commitments;
 #[cfg(test)]
+mod domains;
+#[cfg(test)]
 mod extensions;
 #[cfg(test)]
 mod fields;
