@@ -174,7 +174,6 @@ impl CirclePcsShape {
 
     /// What the run is seeded with: the protocol, the steps, and two labels, the logarithm of the blowup
     /// and how the claims are grouped.
-    ///
     #[tactic(auto, unfolding(circle_challenger::specs::Step::be64))]
     pub fn domain_separator<F: Field, EF: ExtensionField<F>>(
         &self,
