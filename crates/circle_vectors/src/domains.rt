@@ -83,6 +83,12 @@ fn disjoint_domains(rt: HostRuntime) {
     assert_eq!(&rt; disjoint_log(&rt, two_points(&rt), 4), None);
 }
 
+// `is_clear_of`, after a test of what it asks.
+fn is_clear(rt: &impl Abort, domain: Domain, at: Point<Mersenne31>) -> bool {
+    assert!(rt; domain.log_n() >= 1 && domain.log_n() <= 31);
+    domain.is_clear_of(at)
+}
+
 #[test]
 fn selectors_of_two_points(rt: HostRuntime) {
     let domain = two_points(&rt);
@@ -93,9 +99,10 @@ fn selectors_of_two_points(rt: HostRuntime) {
     assert_eq!(&rt; row.is_transition.value(), 1073741824);
     assert_eq!(&rt; row.inv_vanishing.value(), 1342177280);
     // The points of the domain are not clear of it, nor are their opposites on the other side.
-    assert!(&rt; !domain.is_clear_of(domain.shift()));
-    assert!(&rt; !domain.is_clear_of(domain.shift() + Point::<Mersenne31>::generator(1)));
-    assert!(&rt; domain.is_clear_of(Point::<Mersenne31>::generator(0)));
+    let shift = domain.shift();
+    assert!(&rt; !is_clear(&rt, domain, shift));
+    assert!(&rt; !is_clear(&rt, domain, shift + Point::<Mersenne31>::generator(1)));
+    assert!(&rt; is_clear(&rt, domain, Point::<Mersenne31>::generator(0)));
 }
 
 // `split_evals` of a standard domain into four, after a test of what it asks.

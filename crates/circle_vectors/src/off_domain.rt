@@ -30,6 +30,21 @@ fn evaluate_at_point<EF: ExtensionField<Mersenne31>>(
     CircleEvaluations::from_natural_order(domain, rows).evaluate_at_point(alloc, at)
 }
 
+// `evaluate_polynomial_at`, after a test of what it asks.
+fn evaluate_polynomial_at(
+    rt: &impl Abort,
+    alloc: Global,
+    domain: CircleDomain<Mersenne31>,
+    evals: &[Mersenne31],
+    t: Cubic,
+) -> Result<Cubic, AllocError> {
+    assert!(rt; domain.log_n() >= 1 && domain.log_n() <= 31 && domain.is_standard());
+    assert!(rt; evals.len() == domain.size());
+    let at = Point::from_projective_line(t).expect(rt, "the square of the coordinate is -1");
+    assert!(rt; domain.is_clear_of(at));
+    domain.evaluate_polynomial_at(alloc, evals, t)
+}
+
 // The sum over the basis at the point, times the coefficients, for each column.
 fn plain_values(
     rt: &impl Abort,
@@ -95,10 +110,7 @@ fn one_column_by_its_space(rt: HostRuntime) -> Result<(), Fail> {
     let t = Cubic::from_coefficients(&[element(0), element(1), element(0)]);
     let at = on_line(&rt, t);
     let plain = plain_values(&rt, alloc, &coeffs, 3, at)?;
-    let evals = rows.into_values();
-    assert!(&rt; evals.len() == 8 && domain.log_n() == 3 && domain.is_standard());
-    assert!(&rt; domain.is_clear_of(at));
-    let value = domain.evaluate_polynomial_at(alloc, &evals, t)?;
+    let value = evaluate_polynomial_at(&rt, alloc, domain, rows.values(), t)?;
     assert!(&rt; plain.as_slice() == [value].as_slice());
     Ok(())
 }
