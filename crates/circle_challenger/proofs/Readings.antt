@@ -27,7 +27,7 @@ same_front (u ∷ a) (v ∷ b) x y count same =
     (ap (λ w. w ∷ a) head ∙ ap (λ c. v ∷ c) rest.0, rest.1)
 
 -- a number below 2^64 is told by its eight bytes
-same_number : (m n : ℕ) → m < 2 ^ 64 → n < 2 ^ 64 → be64 m ≡ be64 n → m ≡ n
+pub same_number : (m n : ℕ) → m < 2 ^ 64 → n < 2 ^ 64 → be64 m ≡ be64 n → m ≡ n
 unfolding be64
 same_number m n p q same =
     sym (from_be_bytes-to_be_bytes_8 m p) ∙ ap (from_be_bytes w64) same ∙ from_be_bytes-to_be_bytes_8 n q
@@ -36,7 +36,7 @@ length-be64 : (n : ℕ) → length (be64 n) ≡ 8
 unfolding be64
 length-be64 n = refl
 
-number_front : (m n : ℕ) (x y : List ℕ) → m < 2 ^ 64 → n < 2 ^ 64 → be64 m ++ x ≡ be64 n ++ y → (m ≡ n) × (x ≡ y)
+pub number_front : (m n : ℕ) (x y : List ℕ) → m < 2 ^ 64 → n < 2 ^ 64 → be64 m ++ x ≡ be64 n ++ y → (m ≡ n) × (x ≡ y)
 number_front m n x y p q same =
     let parts = same_front (be64 m) (be64 n) x y (length-be64 m ∙ sym (length-be64 n)) same in
     (same_number m n p q parts.0, parts.1)
@@ -113,7 +113,7 @@ step_front a b x y p q same =
 
 -- texts one after another, of as many values
 module _ {A : Type 0} (text : A → List ℕ) (Fits : A → Type 0) (front : (a b : A) (x y : List ℕ) → Fits a → Fits b → text a ++ x ≡ text b ++ y → (a ≡ b) × (x ≡ y)) where
-  each_front : (ms ns : List A) (x y : List ℕ) → AllByRecursion Fits ms → AllByRecursion Fits ns → length ms ≡ length ns → flat_map text ms ++ x ≡ flat_map text ns ++ y → (ms ≡ ns) × (x ≡ y)
+  pub each_front : (ms ns : List A) (x y : List ℕ) → AllByRecursion Fits ms → AllByRecursion Fits ns → length ms ≡ length ns → flat_map text ms ++ x ≡ flat_map text ns ++ y → (ms ≡ ns) × (x ≡ y)
   each_front [] [] x y p q count same = (refl, same)
   each_front [] (b ∷ ns) x y p q count same = absurd (omega arith)
   each_front (a ∷ ms) [] x y p q count same = absurd (omega arith)

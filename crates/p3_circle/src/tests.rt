@@ -199,6 +199,7 @@ fn a_layout_tells_matrices_from_points(rt: HostRuntime) -> Result<(), Fail> {
     assert_eq!(rt; other.labels()[1].as_slice(), layout.as_slice());
     assert_eq!(rt; one.pattern().steps(), other.pattern().steps());
     assert_ne!(rt; one.text(), other.text());
+    assert!(rt; !two_points.has_seed_of::<Mersenne31, Cubic>(alloc, &two_matrices)?);
     Ok(())
 }
 
@@ -210,6 +211,7 @@ fn without_rounds_their_difficulty_is_not_named(rt: HostRuntime) -> Result<(), F
     let one = easy.domain_separator::<Mersenne31, Cubic>(alloc)?;
     let other = hard.domain_separator::<Mersenne31, Cubic>(alloc)?;
     assert_eq!(rt; one.text(), other.text());
+    assert!(rt; easy.has_seed_of::<Mersenne31, Cubic>(alloc, &hard)?);
     Ok(())
 }
 

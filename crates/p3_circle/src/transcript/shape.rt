@@ -1,5 +1,5 @@
 //! The shape of a run, which fixes its transcript.
-ghost use Rattle.std.specs.Prelude.{◌≡◌, ℕ, ◌-◌, ◌+◌, ◌<◌, ◌^◌, [], ◌∷◌, ◌++◌, IfOk, OnOk, map, flat_map, length, All, codes};
+ghost use Rattle.std.specs.Prelude.{◌≡◌, ◌↔◌, ℕ, IsTrue, ◌-◌, ◌+◌, ◌<◌, ◌^◌, [], ◌∷◌, ◌++◌, IfOk, OnOk, map, flat_map, length, All, codes};
 ghost use Rattle.circle_challenger.specs.Interaction.{step_of};
 ghost use Rattle.circle_challenger.specs.Step.{be64, step};
 ghost use Rattle.circle_challenger.specs.Played.{element_challenge};
@@ -179,12 +179,29 @@ impl CirclePcsShape {
         &self,
         alloc: Global,
     ) -> Result<DomainSeparator, AllocError>
-        ensures { IfOk result (λ s. s ≡ separator_of EF.DEGREE (shape_of self.now)) }
+        ensures separator { IfOk result (λ s. s ≡ separator_of EF.DEGREE (shape_of self.now)) }
+        ensures fits { IfOk result (λ _. self.now.log_blowup < 2 ^ 64) }
     {
         let pattern = self.pattern::<F, EF>(alloc)?;
         DomainSeparator::new(alloc, VERSION, NAME, pattern)?
-            .instance(alloc, &(self.log_blowup as u64).to_be_bytes())?
+            .instance(alloc, &in_eight_bytes(self.log_blowup))?
             .instance(alloc, &self.opening_layout(alloc)?)
+    }
+
+    /// Whether another shape has the same seed text, for challenges in this extension. Shapes of one seed
+    /// text agree in all but the difficulty of rounds that there aren't. Fails where memory is refused.
+    pub fn has_seed_of<F: Field, EF: ExtensionField<F>>(
+        &self,
+        alloc: Global,
+        other: &CirclePcsShape,
+    ) -> Result<bool, AllocError>
+        ensures same { IfOk result (λ same. IsTrue same ↔ (text_of EF.DEGREE (shape_of self.now) ≡ text_of EF.DEGREE (shape_of other.now))) }
+        ensures told { IfOk result (λ same. text_of EF.DEGREE (shape_of self.now) ≡ text_of EF.DEGREE (shape_of other.now)
+            → IsSameRun (shape_of self.now) (shape_of other.now)) }
+    {
+        let own = self.domain_separator::<F, EF>(alloc)?;
+        let others = other.domain_separator::<F, EF>(alloc)?;
+        Ok(own.text() == others.text())
     }
 
     /// How the claims are grouped: the number of batches, for each its number of matrices, and for each
@@ -354,12 +371,21 @@ fn push_query(
     Ok(())
 }
 
+/// A number in eight bytes, the greatest first.
+#[tactic(auto, unfolding(circle_challenger::specs::Step::be64))]
+fn in_eight_bytes(number: usize) -> [u8; 8]
+    ensures bytes { result ≡ be64 number }
+    ensures fits { number < 2 ^ 64 }
+{
+    (number as u64).to_be_bytes()
+}
+
 /// Appends a number in eight bytes, the greatest first.
 #[tactic(auto, unfolding(circle_challenger::specs::Step::be64))]
 fn put_number(text: &mut Vec<u8>, number: usize) -> Result<(), AllocError>
     ensures { OnOk result (text.new.items ≡ text.old.items ++ be64 number) }
 {
-    text.extend_from_slice(&(number as u64).to_be_bytes())
+    text.extend_from_slice(&in_eight_bytes(number))
 }
 
 /// Appends the numbers of points of matrices.
