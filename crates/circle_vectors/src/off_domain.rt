@@ -116,21 +116,12 @@ fn one_column_by_its_space(rt: HostRuntime) -> Result<(), Fail> {
 }
 
 #[test]
-fn periodic_columns_at_a_point(rt: HostRuntime) -> Result<(), Fail> {
+fn periodic_columns_of_at_most_one_entry(rt: HostRuntime) -> Result<(), Fail> {
     let alloc = rt.alloc();
-    let trace = CircleDomain::<Mersenne31>::standard(4);
-    let other = CircleDomain::new(4, point(&rt, 0, 1));
+    let domain = CircleDomain::new(4, point(&rt, 0, 1));
     let t = Cubic::from_coefficients(&[element(0), element(1), element(0)]);
-    assert!(&rt; other.evaluate_periodic_column_at(alloc, &[], t)? == Cubic::ZERO);
-    let seven = other.evaluate_periodic_column_at(alloc, &[element(7)], t)?;
+    assert!(&rt; domain.evaluate_periodic_column_at(alloc, &[], t)? == Cubic::ZERO);
+    let seven = domain.evaluate_periodic_column_at(alloc, &[element(7)], t)?;
     assert!(&rt; seven == Cubic::from_base(element(7)));
-    let col = [element(1), element(2), element(3), element(4)];
-    let at = on_line(&rt, t).repeated_double(2);
-    let period = CircleDomain::<Mersenne31>::standard(2);
-    let coeffs = interpolate(&rt, alloc, period, column(alloc, &[1, 2, 3, 4])?)?;
-    let plain = plain_values(&rt, alloc, &coeffs, 2, at)?;
-    assert!(&rt; trace.log_n() == 4 && trace.is_standard() && period.is_clear_of(at));
-    let value = trace.evaluate_periodic_column_at(alloc, &col, t)?;
-    assert!(&rt; plain.as_slice() == [value].as_slice());
     Ok(())
 }
