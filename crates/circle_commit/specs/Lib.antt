@@ -5,5 +5,6 @@ pub mod RowMajorMatrix
 pub mod RowMajorMatrixView
 pub mod Mmcs
 pub mod MmcsFacts
+pub mod PeriodicLdeTable
 pub mod JsonForms
 pub mod JsonFormFacts

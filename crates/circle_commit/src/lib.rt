@@ -6,6 +6,7 @@ pub mod json;
 pub mod matrix;
 pub mod mmcs;
 pub mod params;
+pub mod periodic;
 pub mod space;
 #[cfg(test)]
 mod tests;
@@ -15,5 +16,6 @@ pub use json::{JsonError, JsonForm};
 pub use matrix::{Dimensions, Matrix, RowIndexMap, RowIndexMappedView, RowMajorMatrix, Shape};
 pub use mmcs::{BatchMultiOpening, Mmcs, OpenedRows, heights_are_powers_of_two, is_power_of_two};
 pub use params::{FriParameters, PowPhase};
+pub use periodic::{PeriodicEvaluator, PeriodicLdeTable};
 pub use space::{LagrangeSelectors, PolynomialSpace};
 pub use view::RowMajorMatrixView;

@@ -2,7 +2,8 @@
 ghost use Rattle.std.specs.Prelude.{◌-◌};
 
 use crate::{
-    Dimensions, Matrix, RowIndexMap, RowIndexMappedView, RowMajorMatrix, RowMajorMatrixView,
+    Dimensions, Matrix, PeriodicLdeTable, RowIndexMap, RowIndexMappedView, RowMajorMatrix,
+    RowMajorMatrixView,
 };
 use std::alloc::{AllocError, Global};
 use std::test::Fail;
@@ -127,5 +128,26 @@ fn a_view_of_a_slice(rt: HostRuntime) -> Result<(), Fail> {
         entries(rt.alloc(), &view)?.as_slice(),
         [1, 2, 3, 4, 5, 6].as_slice()
     );
+    Ok(())
+}
+
+#[test]
+fn a_periodic_table_repeats_its_rows(rt: HostRuntime) -> Result<(), Fail> {
+    let table = PeriodicLdeTable::new(four_rows(rt.alloc())?);
+    assert_eq!(rt; table.width(), 2);
+    assert_eq!(rt; table.height(), 4);
+    assert_eq!(rt; table.get(0, 0), 0);
+    assert_eq!(rt; table.get(2, 1), 5);
+    assert_eq!(rt; table.get(4, 0), 0);
+    assert_eq!(rt; table.get(7, 1), 7);
+    assert_eq!(rt; table.get(4_000_000_001, 1), 3);
+    Ok(())
+}
+
+#[test]
+fn a_periodic_table_of_no_columns(rt: HostRuntime) -> Result<(), Fail> {
+    let table = PeriodicLdeTable::<u32>::empty();
+    assert_eq!(rt; table.width(), 0);
+    assert_eq!(rt; table.height(), 0);
     Ok(())
 }

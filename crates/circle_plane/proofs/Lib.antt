@@ -1,3 +1,10 @@
+pub mod DoubledPoints
+pub mod EachMore
 pub mod Inverses
 pub mod Layered
+pub mod OneColumn
 pub mod Passes
+pub mod PeriodicTables
+pub mod PeriodicValues
+pub mod Periods
+pub mod Refused

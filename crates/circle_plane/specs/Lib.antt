@@ -1,1 +1,3 @@
 pub mod CircleEvaluations
+pub mod PeriodicColumns
+pub mod PeriodicRows

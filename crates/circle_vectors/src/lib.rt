@@ -14,6 +14,8 @@ pub mod matrix_list;
 #[cfg(test)]
 mod off_domain;
 #[cfg(test)]
+mod periodic;
+#[cfg(test)]
 mod points;
 pub mod quadratic;
 pub mod schemes;

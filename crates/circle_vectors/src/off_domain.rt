@@ -8,17 +8,17 @@ use std::alloc::{AllocError, Global};
 use std::process::Abort;
 use std::test::Fail;
 
-fn element(value: u64) -> Mersenne31 {
+pub(crate) fn element(value: u64) -> Mersenne31 {
     Mersenne31::from_u64(value)
 }
 
 // The point of a coordinate of the projective line.
-fn on_line(rt: &impl Abort, t: Cubic) -> Point<Cubic> {
+pub(crate) fn on_line(rt: &impl Abort, t: Cubic) -> Point<Cubic> {
     Point::from_projective_line(t).expect(rt, "the square of the coordinate is -1")
 }
 
 // `evaluate_at_point` of rows in natural order, after a test of what it asks.
-fn evaluate_at_point<EF: ExtensionField<Mersenne31>>(
+pub(crate) fn evaluate_at_point<EF: ExtensionField<Mersenne31>>(
     rt: &impl Abort,
     alloc: Global,
     domain: CircleDomain<Mersenne31>,

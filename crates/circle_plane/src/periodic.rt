@@ -1,0 +1,303 @@
+//! Columns of a trace that repeat: their values off the trace's domain (Circle STARKs, section 4.3).
+//!
+//! A column of `2^k` entries that repeats over a trace of `2^n` rows is a polynomial in the point that is
+//! doubled `n - k` times, which is the polynomial with these entries as values on the standard domain of
+//! `2^k` points. On an extension of the trace's domain its values repeat too.
+ghost use Rattle.std.specs.Prelude.{◌≡◌, ℕ, ◌≤◌, ◌<◌, ◌-◌, ◌*◌, ◌^◌, ◌++◌, List, [], All, IfOk, IfErr, OnOk, length, map, slice_index_or};
+ghost use Rattle.std.specs.List.{range_with_len, flat_map};
+ghost use Rattle.circle_commit.specs.Matrix.{IsPowerOfTwo};
+ghost use Rattle.circle_commit.specs.Mmcs.{greatest};
+ghost use Rattle.circle_commit.specs.PeriodicLdeTable.{width_of, height_of, entry_at};
+ghost use Rattle.circle_field.specs.Circle.{Coordinates};
+ghost use Rattle.circle_domain.specs.Domain.{log_size, shift_of};
+ghost use Rattle.circle_domain.specs.Order.{IsGenuine, natural_order};
+ghost use Rattle.circle_domain.specs.Periodic.{IsPeriodicValue};
+ghost use Rattle.circle_domain.specs.Values.{Interpolates};
+ghost use Rattle.circle_point.specs.Basis.{value};
+ghost use Rattle.circle_point.specs.Projective.{from_line};
+ghost use Rattle.circle_plane.specs.PeriodicColumns.{IsPeriod, IsFault, IsFirstFault, IsRefusal, IsPeriodicTable};
+ghost use Rattle.circle_plane.specs.PeriodicRows.{IsExtension, table_row};
+ghost use Rattle.circle_plane.specs.declared.periodic.PeriodicError.TheVariants.{HeightTooLarge, Memory};
+
+use crate::cfft::CircleEvaluations;
+use circle_commit::{
+    PeriodicEvaluator, PeriodicLdeTable, PolynomialSpace, RowMajorMatrix, RowMajorMatrixView,
+    is_power_of_two,
+};
+use circle_domain::CircleDomain;
+use circle_field::{ComplexExtendable, ExtensionField, Field};
+use std::alloc::{AllocError, Global};
+use thiserror::Error;
+
+/// Why the table of periodic columns is refused: the first that holds. The columns are tested in order, each
+/// by the first three.
+#[derive(Clone, Copy, Debug, Drop, Error, PartialEq, Eq)]
+pub enum PeriodicError {
+    /// A column has no entries.
+    #[error("a periodic column is empty")]
+    Empty,
+    /// The number of a column's entries isn't a power of two.
+    #[error("the length of a periodic column is not a power of two")]
+    NotPowerOfTwo,
+    /// A column has more entries than the trace has rows.
+    #[error("a periodic column is longer than the trace")]
+    LongerThanTrace,
+    /// The table's height times its number of columns passes `usize`.
+    #[error("the table of periodic columns is too large")]
+    HeightTooLarge,
+    /// Memory was refused.
+    #[error("out of memory")]
+    Memory,
+}
+
+impl From<AllocError> for PeriodicError {
+    ghost from_gives = { λ _ e. e ≡ Memory };
+
+    fn from(_refused: AllocError) -> PeriodicError {
+        PeriodicError::Memory
+    }
+}
+
+/// The evaluation of periodic columns over domains of the circle.
+#[derive(Clone, Copy, Debug, Default)]
+pub struct CirclePeriodicEvaluator;
+
+impl<F: ComplexExtendable> PeriodicEvaluator<F, CircleDomain<F>> for CirclePeriodicEvaluator {
+    type Error = PeriodicError;
+
+    ghost eval_on_lde_asks = { λ trace lde. (log_size trace ≤ log_size lde) × (log_size trace < F.CIRCLE_TWO_ADICITY) };
+
+    ghost eval_on_lde_gives = { λ columns trace lde table.
+        IsPeriodicTable F.ops F.generators F.CIRCLE_TWO_ADICITY (log_size trace) (log_size lde) (shift_of lde) columns table };
+
+    ghost eval_on_lde_refuses = { λ columns trace lde e.
+        IsRefusal (2 ^ log_size trace) (map length columns) (log_size lde - log_size trace) e };
+
+    ghost eval_at_point_asks = { λ e l embed columns trace point. (c : ℕ) → c < length columns →
+        ⟦<CircleDomain<F> as PolynomialSpace>⟧.evaluate_periodic_column_at_asks e l embed trace (slice_index_or columns c []) point };
+
+    ghost eval_at_point_gives = { λ e l embed columns trace point values. (length values ≡ length columns)
+        × ((c : ℕ) → c < length columns →
+        IsPeriodicValue F.ops F.generators l embed (log_size trace) (slice_index_or columns c []) (from_line l point) (slice_index_or values c l.zero)) };
+
+    /// The values of the columns at the points of `lde_domain` in natural order: the table's height is the
+    /// longest period times how many times larger `lde_domain` is than the trace.
+    ///
+    /// Asks that `lde_domain` is at least as large as the trace's domain, and of the latter
+    /// `log_n < CIRCLE_TWO_ADICITY`. Refuses the first column that is empty, isn't of a power of two of
+    /// entries, or is longer than the trace, then a table of more entries than `usize` counts; fails where
+    /// memory is refused, and where a part of the table had more rows than there are points in the group.
+    fn eval_on_lde(
+        alloc: Global,
+        periodic_table: &[Vec<F>],
+        trace_domain: &CircleDomain<F>,
+        lde_domain: &CircleDomain<F>,
+    ) -> Result<PeriodicLdeTable<F>, PeriodicError>
+        requires larger { log_size trace_domain.now ≤ log_size lde_domain.now }
+        requires in_group { log_size trace_domain.now < F.CIRCLE_TWO_ADICITY }
+        ensures table { IfOk result (IsPeriodicTable F.ops F.generators F.CIRCLE_TWO_ADICITY (log_size trace_domain.now) (log_size lde_domain.now) (shift_of lde_domain.now) (map (λ column. column.items) periodic_table.now)) }
+        ensures refusal { IfErr result (IsRefusal (2 ^ log_size trace_domain.now) (map length (map (λ column. column.items) periodic_table.now)) (log_size lde_domain.now - log_size trace_domain.now)) }
+    {
+        if periodic_table.is_empty() {
+            return Ok(PeriodicLdeTable::empty());
+        }
+        let log_blowup = lde_domain.log_n() - trace_domain.log_n();
+        let period = longest_period(periodic_table, CircleDomain::size(trace_domain))?;
+        let height = checked_height(period, log_blowup, periodic_table.len())?;
+        let columns = extended_columns(alloc, periodic_table, trace_domain.log_n(), *lde_domain)?;
+        let values = repeated_rows(alloc, &columns, height)?;
+        Ok(PeriodicLdeTable::new(RowMajorMatrix::new(values, columns.len())))
+    }
+
+    /// The values of the columns at this point, in their order: 0 for a column without entries.
+    ///
+    /// Asks of each column what `evaluate_periodic_column_at` asks. Fails where memory is refused.
+    fn eval_at_point<EF: ExtensionField<F>>(
+        alloc: Global,
+        periodic_table: &[Vec<F>],
+        trace_domain: &CircleDomain<F>,
+        point: EF,
+    ) -> Result<Vec<EF>, AllocError>
+        requires { (c : ℕ) → c < length periodic_table.now →
+            ⟦<CircleDomain<F> as PolynomialSpace>⟧.evaluate_periodic_column_at_asks EF EF.ops EF.embed trace_domain.now (slice_index_or (map (λ column. column.items) periodic_table.now) c []) point }
+        ensures count { IfOk result (λ values. length values.items ≡ length periodic_table.now) }
+        ensures values { IfOk result (λ values. (c : ℕ) → c < length periodic_table.now →
+            IsPeriodicValue F.ops F.generators EF.ops EF.embed (log_size trace_domain.now) (slice_index_or (map (λ column. column.items) periodic_table.now) c []) (from_line EF.ops point) (slice_index_or values.items c EF.ops.zero)) }
+    {
+        let mut values = Vec::with_capacity(alloc, periodic_table.len())?;
+        for column in periodic_table {
+            values.push(trace_domain.evaluate_periodic_column_at(alloc, column, point)?)?;
+        }
+        Ok(values)
+    }
+}
+
+/// The values of periodic columns of a trace at the points of `lde_domain` in natural order, as
+/// [`CirclePeriodicEvaluator`] gives them, with the same conditions and refusals.
+pub fn build_periodic_lde_table_circle<F: ComplexExtendable>(
+    alloc: Global,
+    periodic_table: &[Vec<F>],
+    trace_domain: &CircleDomain<F>,
+    lde_domain: &CircleDomain<F>,
+) -> Result<PeriodicLdeTable<F>, PeriodicError>
+    requires larger { log_size trace_domain.now ≤ log_size lde_domain.now }
+    requires in_group { log_size trace_domain.now < F.CIRCLE_TWO_ADICITY }
+    ensures table { IfOk result (IsPeriodicTable F.ops F.generators F.CIRCLE_TWO_ADICITY (log_size trace_domain.now) (log_size lde_domain.now) (shift_of lde_domain.now) (map (λ column. column.items) periodic_table.now)) }
+    ensures refusal { IfErr result (IsRefusal (2 ^ log_size trace_domain.now) (map length (map (λ column. column.items) periodic_table.now)) (log_size lde_domain.now - log_size trace_domain.now)) }
+{
+    CirclePeriodicEvaluator::eval_on_lde(alloc, periodic_table, trace_domain, lde_domain)
+}
+
+// The greatest number of entries of a column.
+fn longest_period<F: Field>(
+    periodic_table: &[Vec<F>],
+    trace_len: usize,
+) -> Result<usize, PeriodicError>
+    ensures fit { IfOk result (λ period. All (IsPeriod trace_len) (map length (map (λ column. column.items) periodic_table.now))) }
+    ensures longest { IfOk result (λ period. period ≡ greatest (map length (map (λ column. column.items) periodic_table.now))) }
+    ensures refusal { IfErr result (IsFirstFault trace_len (map length (map (λ column. column.items) periodic_table.now))) }
+{
+    let mut longest = 0;
+    for column in periodic_table {
+        check_period(column.len(), trace_len)?;
+        longest = column.len().max(longest);
+    }
+    Ok(longest)
+}
+
+// Whether so many entries repeat over so many rows.
+fn check_period(period: usize, trace_len: usize) -> Result<(), PeriodicError>
+    ensures fit { OnOk result (IsPeriod trace_len period) }
+    ensures refusal { IfErr result (IsFault trace_len period) }
+{
+    if period == 0 {
+        return Err(PeriodicError::Empty);
+    }
+    if !is_power_of_two(period) {
+        return Err(PeriodicError::NotPowerOfTwo);
+    }
+    if period > trace_len {
+        return Err(PeriodicError::LongerThanTrace);
+    }
+    Ok(())
+}
+
+// `period * 2^log_blowup`, where so many rows of `width` entries can be counted.
+fn checked_height(period: usize, log_blowup: usize, width: usize) -> Result<usize, PeriodicError>
+    requires period { 1 ≤ period }
+    requires width { 1 ≤ width }
+    ensures height { IfOk result (λ height. height ≡ period * 2 ^ log_blowup) }
+    ensures counted { IfOk result (λ height. period * 2 ^ log_blowup * width < 2 ^ 64) }
+    ensures refusal { IfErr result (λ e. (e ≡ HeightTooLarge) × (2 ^ 64 ≤ period * 2 ^ log_blowup * width)) }
+{
+    if log_blowup > 63 {
+        return Err(PeriodicError::HeightTooLarge);
+    }
+    let height = period
+        .checked_mul(1 << log_blowup)
+        .ok_or(PeriodicError::HeightTooLarge)?;
+    height
+        .checked_mul(width)
+        .ok_or(PeriodicError::HeightTooLarge)?;
+    Ok(height)
+}
+
+// The values of each column on an extension of a trace of `2^trace_log_n` rows, as far as they differ.
+fn extended_columns<F: ComplexExtendable>(
+    alloc: Global,
+    periodic_table: &[Vec<F>],
+    trace_log_n: usize,
+    lde_domain: CircleDomain<F>,
+) -> Result<Vec<Vec<F>>, AllocError>
+    requires fit { All (IsPeriod (2 ^ trace_log_n)) (map length (map (λ column. column.items) periodic_table.now)) }
+    requires larger { trace_log_n ≤ log_size lde_domain }
+    requires in_group { trace_log_n < F.CIRCLE_TWO_ADICITY }
+    ensures count { IfOk result (λ made. length made.items ≡ length periodic_table.now) }
+    ensures each { IfOk result (λ made. (c : ℕ) → c < length periodic_table.now →
+        IsExtension F.ops F.generators F.CIRCLE_TWO_ADICITY trace_log_n (log_size lde_domain) (shift_of lde_domain)
+        (slice_index_or (map (λ column. column.items) periodic_table.now) c []) (slice_index_or (map (λ column. column.items) made.items) c [])) }
+{
+    let mut columns = Vec::with_capacity(alloc, periodic_table.len())?;
+    for column in periodic_table {
+        columns.push(extended_column(alloc, column, trace_log_n, lde_domain)?)?;
+    }
+    Ok(columns)
+}
+
+// The values of a column on an extension of a trace of `2^trace_log_n` rows, as far as they differ.
+fn extended_column<F: ComplexExtendable>(
+    alloc: Global,
+    column: &[F],
+    trace_log_n: usize,
+    lde_domain: CircleDomain<F>,
+) -> Result<Vec<F>, AllocError>
+    requires fit { IsPeriod (2 ^ trace_log_n) (length column.now) }
+    requires larger { trace_log_n ≤ log_size lde_domain }
+    requires in_group { trace_log_n < F.CIRCLE_TWO_ADICITY }
+    ensures { IfOk result (λ made. IsExtension F.ops F.generators F.CIRCLE_TWO_ADICITY trace_log_n (log_size lde_domain) (shift_of lde_domain) column.now made.items) }
+{
+    let log_period = column.len().ilog2() as usize;
+    if log_period == 0 {
+        return Vec::from_slice(alloc, column);
+    }
+    let log_blowup = lde_domain.log_n() - trace_log_n;
+    if log_blowup > F::CIRCLE_TWO_ADICITY - log_period {
+        return Err(AllocError);
+    }
+    let shift = lde_domain.shift().repeated_double(trace_log_n - log_period);
+    let extension = CircleDomain::new(log_period + log_blowup, shift);
+    extrapolated(alloc, column, CircleDomain::standard(log_period), extension)
+}
+
+// The values on `target`, in natural order, of the only polynomial with these values on `domain`, in natural
+// order.
+fn extrapolated<F: ComplexExtendable>(
+    alloc: Global,
+    values: &[F],
+    domain: CircleDomain<F>,
+    target: CircleDomain<F>,
+) -> Result<Vec<F>, AllocError>
+    requires genuine { IsGenuine F.ops (log_size domain) (shift_of domain) }
+    requires larger { log_size domain ≤ log_size target }
+    requires in_group { log_size target ≤ F.CIRCLE_TWO_ADICITY }
+    requires size { length values.now ≡ 2 ^ log_size domain }
+    ensures value { IfOk result (λ made. (coeffs : List F) × Interpolates F.ops F.generators (log_size domain) (shift_of domain) coeffs values.now
+        × (made.items ≡ map (value F.ops coeffs) (natural_order F.ops F.generators (log_size target) (shift_of target)))) }
+    ensures only { IfOk result (λ made. (coeffs : List F) → Interpolates F.ops F.generators (log_size domain) (shift_of domain) coeffs values.now →
+        made.items ≡ map (value F.ops coeffs) (natural_order F.ops F.generators (log_size target) (shift_of target))) }
+{
+    let column = RowMajorMatrixView::new(values, 1);
+    let extended = CircleEvaluations::from_natural_order(domain, column).extrapolate(
+        alloc, target,
+    )?;
+    let rows = extended.to_natural_order().to_row_major_matrix(alloc)?;
+    Ok(rows.into_values())
+}
+
+// So many rows, in each the next entry of each column, which begins anew after its last.
+fn repeated_rows<F: Field>(
+    alloc: Global,
+    columns: &[Vec<F>],
+    height: usize,
+) -> Result<Vec<F>, AllocError>
+    requires nonempty { All (λ column. 1 ≤ length column) (map (λ column. column.items) columns.now) }
+    ensures { IfOk result (λ made. made.items ≡ flat_map (table_row F.ops.zero (map (λ column. column.items) columns.now)) (range_with_len 0 height)) }
+{
+    let len = height.checked_mul(columns.len()).ok_or(AllocError)?;
+    let mut values = Vec::with_capacity(alloc, len)?;
+    for r in 0..height {
+        append_row(&mut values, columns, r)?;
+    }
+    Ok(values)
+}
+
+// Appends the entry of each column at row `r` of its repetition.
+fn append_row<F: Field>(values: &mut Vec<F>, columns: &[Vec<F>], r: usize) -> Result<(), AllocError>
+    requires nonempty { All (λ column. 1 ≤ length column) (map (λ column. column.items) columns.now) }
+    ensures { OnOk result (values.new.items ≡ values.old.items ++ table_row F.ops.zero (map (λ column. column.items) columns.now) r) }
+{
+    for column in columns {
+        values.push(column[r % column.len()])?;
+    }
+    Ok(())
+}
