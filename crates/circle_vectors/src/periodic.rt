@@ -11,7 +11,9 @@ use std::process::Abort;
 use std::test::Fail;
 
 type Column = Vec<Mersenne31>;
+
 type Domain = CircleDomain<Mersenne31>;
+
 type Table = PeriodicLdeTable<Mersenne31>;
 
 fn elements(alloc: Global, values: &[u64]) -> Result<Column, AllocError> {
@@ -58,7 +60,13 @@ fn refusal(rt: &impl Abort, alloc: Global, count: usize) -> Result<PeriodicError
 fn one_entry(rt: HostRuntime) -> Result<(), Fail> {
     let alloc = rt.alloc();
     let columns = vec![in alloc; elements(alloc, &[7])?]?;
-    let table = build(&rt, alloc, &columns, CircleDomain::standard(4), CircleDomain::standard(5))?;
+    let table = build(
+        &rt,
+        alloc,
+        &columns,
+        CircleDomain::standard(4),
+        CircleDomain::standard(5),
+    )?;
     assert!(&rt; table.width() == 1 && table.height() == 2);
     let seven = Mersenne31::from_u64(7);
     assert!(&rt; get(&rt, &table, 0, 0) == seven && get(&rt, &table, 1, 0) == seven);
@@ -69,7 +77,13 @@ fn one_entry(rt: HostRuntime) -> Result<(), Fail> {
 fn four_entries_of_a_larger_domain(rt: HostRuntime) -> Result<(), Fail> {
     let alloc = rt.alloc();
     let columns = vec![in alloc; elements(alloc, &[10, 20, 30, 40])?]?;
-    let table = build(&rt, alloc, &columns, CircleDomain::standard(4), CircleDomain::standard(5))?;
+    let table = build(
+        &rt,
+        alloc,
+        &columns,
+        CircleDomain::standard(4),
+        CircleDomain::standard(5),
+    )?;
     assert!(&rt; table.width() == 1 && table.height() == 8);
     Ok(())
 }
@@ -173,22 +187,34 @@ fn a_table_and_a_point_tell_the_same(rt: HostRuntime) -> Result<(), Fail> {
 
 // Asserts that the table of 1, 2, .. holds the values at the doubled points of the extension.
 fn assert_doubled(
-    rt: &HostRuntime,
+    rt: &impl Abort,
+    alloc: Global,
     log_n: usize,
     log_blowup: usize,
     log_period: usize,
 ) -> Result<(), Fail> {
-    let alloc = rt.alloc();
     assert!(rt; log_period >= 1 && log_period <= log_n && log_n <= 10 && log_blowup <= 10);
     let columns = vec![in alloc; counting(alloc, 1 << log_period)?]?;
     let extension = CircleDomain::standard(log_n + log_blowup);
-    let table = build(rt, alloc, &columns, CircleDomain::standard(log_n), extension)?;
+    let table = build(
+        rt,
+        alloc,
+        &columns,
+        CircleDomain::standard(log_n),
+        extension,
+    )?;
     assert!(rt; table.width() == 1 && table.height() == 1 << (log_period + log_blowup));
     for i in [0, 1, 2, 7, 15, 16, 31] {
         assert!(rt; i < extension.size());
         let doubled = extension.nth_point(i).repeated_double(log_n - log_period);
         let rows = RowMajorMatrix::new_col(counting(alloc, 1 << log_period)?);
-        let plain = evaluate_at_point(rt, alloc, CircleDomain::standard(log_period), rows, doubled)?;
+        let plain = evaluate_at_point(
+            rt,
+            alloc,
+            CircleDomain::standard(log_period),
+            rows,
+            doubled,
+        )?;
         assert!(rt; plain.as_slice() == [get(rt, &table, i, 0)].as_slice());
     }
     Ok(())
@@ -196,9 +222,10 @@ fn assert_doubled(
 
 #[test]
 fn tables_hold_the_values_at_doubled_points(rt: HostRuntime) -> Result<(), Fail> {
-    assert_doubled(&rt, 4, 1, 2)?;
-    assert_doubled(&rt, 5, 2, 2)?;
-    assert_doubled(&rt, 6, 1, 3)?;
-    assert_doubled(&rt, 8, 2, 4)?;
+    let alloc = rt.alloc();
+    assert_doubled(&rt, alloc, 4, 1, 2)?;
+    assert_doubled(&rt, alloc, 5, 2, 2)?;
+    assert_doubled(&rt, alloc, 6, 1, 3)?;
+    assert_doubled(&rt, alloc, 8, 2, 4)?;
     Ok(())
 }
