@@ -1,6 +1,6 @@
 #!/usr/bin/env python3
-"""Prints what circle_bench has to print of the circle transform, of values at a point and of commitments,
-computed from the definition.
+"""Prints what circle_bench has to print of the circle transform, of values at a point, of tables of periodic
+columns and of commitments, computed from the definition.
 
 A value is the plain sum of the coefficients times the basis at the point, and coefficients are the
 solution of that system of linear equations, by elimination. Nothing is computed by layers. Digests are hashlib's.
@@ -142,6 +142,18 @@ def evaluate_at_point(log_n, values, point):
     return totals
 
 
+def other_order(log_n, rows):
+    """Rows in natural order in that of the transform, and the other way about."""
+    places = (i // 2 if i % 2 == 0 else 2**log_n - 1 - i // 2 for i in range(2**log_n))
+    return [rows[reversed_bits(place, log_n)] for place in places]
+
+
+def table(log_n, columns):
+    """The columns on a domain of twice the size; its doubled points are those of a standard domain."""
+    coeffs = interpolate(log_n, other_order(log_n, columns))
+    return other_order(log_n + 1, evaluate(log_n + 1, coeffs))
+
+
 def matrix(rows, width):
     """Each entry is the square of the one before it plus the step."""
     entries, x = [], START
@@ -203,6 +215,9 @@ def main():
     for width in WIDTHS:
         result = evaluate_at_point(LOG_ROWS, matrix(2**LOG_ROWS, width), at)
         print(f"Cubic evaluate_at_point {2**LOG_ROWS} x {width}: [{digest(result)}]")
+    for width in WIDTHS:
+        result = table(LOG_ROWS, matrix(2**LOG_ROWS, width))
+        print(f"PeriodicLdeTable build {2**LOG_ROWS} x {width}: [{digest(result)}]")
     for width in WIDTHS:
         size = 2**LOG_ROWS
         tree = commit(matrix(size, width))

@@ -6,6 +6,7 @@ mod evaluation;
 mod field;
 mod hashing;
 mod merkle;
+mod periodic;
 mod sha256;
 mod transform;
 
@@ -29,6 +30,10 @@ const COMMITTED: [u32; 2] = [14, 18];
 /// The binary logarithm of the rows of the matrix whose polynomials are evaluated at a point when that is
 /// timed, and its columns.
 const EVALUATED: (u32, usize) = (16, 8);
+
+/// The binary logarithm of the entries of the columns of which a table is made when that is timed, and their
+/// number.
+const PERIODIC: (u32, usize) = (14, 8);
 
 /// How many indices are opened, and the factor of an index's place.
 const INDICES: usize = 40;
@@ -82,12 +87,16 @@ fn main() {
             for width in WIDTHS {
                 evaluation_line(SMALL, width, false);
             }
+            for width in WIDTHS {
+                table_line(SMALL, width, false);
+            }
             report_commitments(&[SMALL], false);
             hashing::report(false);
         }
         ["time"] => {
             report(&LARGE, time_line);
             evaluation_line(EVALUATED.0, EVALUATED.1, true);
+            table_line(PERIODIC.0, PERIODIC.1, true);
             report_commitments(&COMMITTED, true);
             hashing::report(true);
         }
@@ -121,6 +130,18 @@ fn evaluation_line(log_rows: u32, width: usize, timed: bool) {
     let coefficients = made.iter().flat_map(|value| [value.c0, value.c1, value.c2]).collect();
     let digest = digest(&Matrix { values: coefficients, width: 1 });
     println!("Cubic evaluate_at_point {rows} x {width}: {time}[{digest}]");
+}
+
+/// Prints a line for the table of a matrix's columns on an extension of twice the trace's rows.
+fn table_line(log_rows: u32, width: usize, timed: bool) {
+    let rows = 1 << log_rows;
+    let values = matrix(rows, width);
+    let column = |c: usize| values.values.iter().skip(c).step_by(width).copied().collect();
+    let columns: Vec<Vec<Mersenne31>> = (0..width).map(column).collect();
+    let runs = if timed { runs(rows * width) } else { 1 };
+    let (time, made) = fastest(runs, || (), |()| periodic::table(log_rows, &columns));
+    let time = if timed { format!("{} ns, ", time.as_nanos()) } else { String::new() };
+    println!("PeriodicLdeTable build {rows} x {width}: {time}[{}]", digest(&made));
 }
 
 /// Prints a line for each pass over the tree of each matrix.
