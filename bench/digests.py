@@ -1,6 +1,6 @@
 #!/usr/bin/env python3
-"""Prints what circle_bench has to print of the circle transform and of commitments, computed from the
-definition.
+"""Prints what circle_bench has to print of the circle transform, of values at a point, of tables of periodic
+columns and of commitments, computed from the definition.
 
 A value is the plain sum of the coefficients times the basis at the point, and coefficients are the
 solution of that system of linear equations, by elimination. Nothing is computed by layers. Digests are hashlib's.
@@ -88,6 +88,72 @@ def interpolate(log_n, values):
     return [row[size:] for row in system]
 
 
+def cubic(base):
+    return base % ORDER, 0, 0
+
+
+def cubic_sum(a, b):
+    return tuple((x + y) % ORDER for x, y in zip(a, b))
+
+
+def cubic_product(a, b):
+    """By X^3 = 5."""
+    product = [0] * 3
+    for i, x in enumerate(a):
+        for j, y in enumerate(b):
+            product[(i + j) % 3] += x * y * (5 if i + j > 2 else 1)
+    return tuple(entry % ORDER for entry in product)
+
+
+def cubic_power(a, exponent):
+    power = cubic(1)
+    for bit in bin(exponent)[2:]:
+        power = cubic_product(power, power)
+        if bit == "1":
+            power = cubic_product(power, a)
+    return power
+
+
+def on_line(t):
+    """The point ((1 - t^2) / (1 + t^2), 2t / (1 + t^2)); inverses are powers."""
+    square = cubic_product(t, t)
+    inverse = cubic_power(cubic_sum(cubic(1), square), ORDER**3 - 2)
+    x = cubic_sum(cubic(1), cubic_product(cubic(-1), square))
+    return cubic_product(x, inverse), cubic_product(cubic_sum(t, t), inverse)
+
+
+def cubic_basis(index, point):
+    x, product = point[0], point[1] if index % 2 else cubic(1)
+    index //= 2
+    while index:
+        if index % 2:
+            product = cubic_product(product, x)
+        x = cubic_sum(cubic_product(cubic(2), cubic_product(x, x)), cubic(-1))
+        index //= 2
+    return product
+
+
+def evaluate_at_point(log_n, values, point):
+    """The coefficients of the values, a row for each column."""
+    totals = [cubic(0)] * len(values[0])
+    for j, row in enumerate(interpolate(log_n, values)):
+        factor = cubic_basis(j, point)
+        totals = [cubic_sum(a, cubic_product(factor, cubic(b))) for a, b in zip(totals, row)]
+    return totals
+
+
+def other_order(log_n, rows):
+    """Rows in natural order in that of the transform, and the other way about."""
+    places = (i // 2 if i % 2 == 0 else 2**log_n - 1 - i // 2 for i in range(2**log_n))
+    return [rows[reversed_bits(place, log_n)] for place in places]
+
+
+def table(log_n, columns):
+    """The columns on a domain of twice the size; its doubled points are those of a standard domain."""
+    coeffs = interpolate(log_n, other_order(log_n, columns))
+    return other_order(log_n + 1, evaluate(log_n + 1, coeffs))
+
+
 def matrix(rows, width):
     """Each entry is the square of the one before it plus the step."""
     entries, x = [], START
@@ -145,6 +211,13 @@ def main():
         for width in WIDTHS:
             result = transform(matrix(2**LOG_ROWS, width))
             print(f"Mersenne31 {name} {2**LOG_ROWS} x {width}: [{digest(result)}]")
+    at = on_line((START, STEP, START**2 % ORDER))
+    for width in WIDTHS:
+        result = evaluate_at_point(LOG_ROWS, matrix(2**LOG_ROWS, width), at)
+        print(f"Cubic evaluate_at_point {2**LOG_ROWS} x {width}: [{digest(result)}]")
+    for width in WIDTHS:
+        result = table(LOG_ROWS, matrix(2**LOG_ROWS, width))
+        print(f"PeriodicLdeTable build {2**LOG_ROWS} x {width}: [{digest(result)}]")
     for width in WIDTHS:
         size = 2**LOG_ROWS
         tree = commit(matrix(size, width))

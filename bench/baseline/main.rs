@@ -1,13 +1,18 @@
 //! The passes that `circle_bench` measures, in Rust without contracts: digests of what they come to,
 //! or with the argument `time` how long they take.
+mod cubic;
 mod domain;
+mod evaluation;
 mod field;
 mod hashing;
 mod merkle;
+mod periodic;
 mod sha256;
 mod transform;
 
+use cubic::Cubic;
 use domain::Domain;
+use evaluation::CubicPoint;
 use field::Mersenne31;
 use merkle::Hash;
 use std::time::{Duration, Instant};
@@ -21,6 +26,14 @@ const LARGE: [u32; 3] = [10, 14, 18];
 
 /// The binary logarithms of the rows of the matrices to which commitments are timed.
 const COMMITTED: [u32; 2] = [14, 18];
+
+/// The binary logarithm of the rows of the matrix whose polynomials are evaluated at a point when that is
+/// timed, and its columns.
+const EVALUATED: (u32, usize) = (16, 8);
+
+/// The binary logarithm of the entries of the columns of which a table is made when that is timed, and their
+/// number.
+const PERIODIC: (u32, usize) = (14, 8);
 
 /// How many indices are opened, and the factor of an index's place.
 const INDICES: usize = 40;
@@ -71,13 +84,21 @@ fn main() {
     match args.as_slice() {
         [] => {
             report(&[SMALL], digest_line);
-            hashing::report(false);
+            for width in WIDTHS {
+                evaluation_line(SMALL, width, false);
+            }
+            for width in WIDTHS {
+                table_line(SMALL, width, false);
+            }
             report_commitments(&[SMALL], false);
+            hashing::report(false);
         }
         ["time"] => {
             report(&LARGE, time_line);
-            hashing::report(true);
+            evaluation_line(EVALUATED.0, EVALUATED.1, true);
+            table_line(PERIODIC.0, PERIODIC.1, true);
             report_commitments(&COMMITTED, true);
+            hashing::report(true);
         }
         _ => {
             eprintln!("usage: baseline [time]");
@@ -95,6 +116,32 @@ fn report(log_rows: &[u32], line: fn(Transform, u32, usize)) {
             }
         }
     }
+}
+
+/// Prints a line for the values at a point of the polynomials of a matrix.
+fn evaluation_line(log_rows: u32, width: usize, timed: bool) {
+    let (rows, domain) = (1 << log_rows, Domain { log_n: log_rows });
+    let (start, step) = (Mersenne31::new(123456789), Mersenne31::new(987654321));
+    let at = CubicPoint::from_projective_line(Cubic { c0: start, c1: step, c2: start.square() });
+    let values = matrix(rows, width);
+    let runs = if timed { runs(rows * width) } else { 1 };
+    let (time, made) = fastest(runs, || (), |()| evaluation::evaluate_at_point(domain, &values, at));
+    let time = if timed { format!("{} ns, ", time.as_nanos()) } else { String::new() };
+    let coefficients = made.iter().flat_map(|value| [value.c0, value.c1, value.c2]).collect();
+    let digest = digest(&Matrix { values: coefficients, width: 1 });
+    println!("Cubic evaluate_at_point {rows} x {width}: {time}[{digest}]");
+}
+
+/// Prints a line for the table of a matrix's columns on an extension of twice the trace's rows.
+fn table_line(log_rows: u32, width: usize, timed: bool) {
+    let rows = 1 << log_rows;
+    let values = matrix(rows, width);
+    let column = |c: usize| values.values.iter().skip(c).step_by(width).copied().collect();
+    let columns: Vec<Vec<Mersenne31>> = (0..width).map(column).collect();
+    let runs = if timed { runs(rows * width) } else { 1 };
+    let (time, made) = fastest(runs, || (), |()| periodic::table(log_rows, &columns));
+    let time = if timed { format!("{} ns, ", time.as_nanos()) } else { String::new() };
+    println!("PeriodicLdeTable build {rows} x {width}: {time}[{}]", digest(&made));
 }
 
 /// Prints a line for each pass over the tree of each matrix.

@@ -1,10 +1,12 @@
-//! Chains of field operations, circle transforms, commitments and the challenger over SHA-256: what
-//! they come to, or with the argument `time` how long they take.
+//! Chains of field operations, circle transforms, values at a point, tables of periodic columns, commitments
+//! and the challenger over SHA-256: what they come to, or with the argument `time` how long they take.
 #![tactic(auto)]
 
 mod chains;
 mod commitments;
+mod evaluations;
 mod hashing;
+mod tables;
 mod timing;
 mod transforms;
 
@@ -118,6 +120,18 @@ const COMMITTED: [Size; 6] = [
     },
 ];
 
+/// The matrices whose polynomials are evaluated at a point when that is timed.
+const EVALUATED: [Size; 1] = [Size {
+    log_rows: 16,
+    width: 8,
+}];
+
+/// The matrices of whose columns tables are made when that is timed.
+const PERIODIC: [Size; 1] = [Size {
+    log_rows: 14,
+    width: 8,
+}];
+
 /// The matrices whose transforms are timed.
 const LARGE: [Size; 9] = [
     Size {
@@ -167,6 +181,8 @@ fn main(rt: HostRuntime) -> io::Result<ExitCode> {
     let step = Mersenne31::from_u64(987654321);
     timing::report(&rt, mode, "Mersenne31", &MERSENNE31, start, step)?;
     report_transforms(&rt, mode, start, step)?;
+    report_evaluations(&rt, mode, start, step)?;
+    report_tables(&rt, mode, start, step)?;
     report_commitments(&rt, mode, start, step)?;
     let start = Cubic::from_coefficients(&[start, step, start.square()]);
     let step = Cubic::from_coefficients(&[step, start.coefficient(2), step.square()]);
@@ -190,6 +206,34 @@ fn report_transforms(
         timing::report_transform(rt, mode, transform, sizes, start, step)?;
     }
     Ok(())
+}
+
+/// Prints a line for the values at a point of the polynomials of each matrix.
+fn report_evaluations(
+    rt: &HostRuntime,
+    mode: Mode,
+    start: Mersenne31,
+    step: Mersenne31,
+) -> io::Result<()> {
+    let sizes = match mode {
+        Mode::Digests => SMALL.as_slice(),
+        Mode::Times => EVALUATED.as_slice(),
+    };
+    evaluations::report(rt, mode, sizes, start, step)
+}
+
+/// Prints a line for the table of each matrix's columns.
+fn report_tables(
+    rt: &HostRuntime,
+    mode: Mode,
+    start: Mersenne31,
+    step: Mersenne31,
+) -> io::Result<()> {
+    let sizes = match mode {
+        Mode::Digests => SMALL.as_slice(),
+        Mode::Times => PERIODIC.as_slice(),
+    };
+    tables::report(rt, mode, sizes, start, step)
 }
 
 /// Prints a line for each pass over a commitment to each matrix.

@@ -8,9 +8,12 @@ ghost use Rattle.circle_point.specs.Projective.{from_line};
 ghost use Rattle.circle_domain.specs.Selectors.{IsFinite, IsLeastLog, zero_at};
 
 use crate::lagrange::value_off_domain;
+use crate::row_selectors::{natural_points, one_less_scaled, row_selector, vanishing_values};
 use crate::splitting::rows_of_part;
 use circle_commit::{LagrangeSelectors, PolynomialSpace, RowMajorMatrix};
-use circle_field::{ComplexExtendable, ExtensionField, Field, Operations};
+use circle_field::{
+    ComplexExtendable, ExtensionField, Field, Operations, batch_multiplicative_inverse,
+};
 use circle_point::{Neutral, Point};
 use std::alloc::{AllocError, Global};
 
@@ -516,23 +519,15 @@ impl<F: ComplexExtendable> PolynomialSpace for CircleDomain<F> {
         ensures inverse { IfOk result (λ selectors. selectors.inv_vanishing.items
             ≡ map (λ at. F.ops.inv (vanishing_on F.ops (log_size self.now) (shift_of self.now) at)) (natural_order F.ops F.generators (log_size coset) (shift_of coset))) }
     {
-        let size = CircleDomain::size(&coset);
-        let mut is_first_row = Vec::with_capacity(alloc, size)?;
-        let mut is_last_row = Vec::with_capacity(alloc, size)?;
-        let mut is_transition = Vec::with_capacity(alloc, size)?;
-        let mut inv_vanishing = Vec::with_capacity(alloc, size)?;
-        for i in 0..size {
-            let row = self.selectors_at(coset.nth_point(i));
-            is_first_row.push(row.is_first_row)?;
-            is_last_row.push(row.is_last_row)?;
-            is_transition.push(row.is_transition)?;
-            inv_vanishing.push(row.inv_vanishing)?;
-        }
+        let points = natural_points(alloc, coset)?;
+        let vanishing = vanishing_values(alloc, *self, &points)?;
+        let is_last_row = row_selector(alloc, -self.shift, &points, &vanishing)?;
+        let normaliser = inverse((-self.shift).s_p_at_p(self.log_n));
         Ok(LagrangeSelectors {
-            is_first_row,
+            is_first_row: row_selector(alloc, self.shift, &points, &vanishing)?,
+            is_transition: one_less_scaled(alloc, &is_last_row, normaliser)?,
+            inv_vanishing: batch_multiplicative_inverse(alloc, &vanishing)?,
             is_last_row,
-            is_transition,
-            inv_vanishing,
         })
     }
 

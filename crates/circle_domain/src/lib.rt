@@ -4,6 +4,7 @@
 pub mod domain;
 pub mod lagrange;
 pub mod ordering;
+mod row_selectors;
 mod splitting;
 
 pub use domain::{CircleCoset, CircleDomain, CirclePoints};

@@ -20,6 +20,8 @@ mod points;
 pub mod quadratic;
 pub mod schemes;
 #[cfg(test)]
+mod selectors;
+#[cfg(test)]
 mod transform;
 #[cfg(test)]
 mod values;

@@ -1,9 +1,10 @@
 //! Values off a domain over Mersenne31 and its cubic extension: worked examples, and the sum over the
 //! basis at the point, times the coefficients, beside them.
-use crate::transform::{Rows, column, extrapolate, interpolate, point, scattered};
+use crate::transform::{Rows, column, evaluate, extrapolate, interpolate, point, scattered};
 use circle_commit::{Matrix, PolynomialSpace};
+use circle_domain::{LagrangeWeights, lagrange_weights};
 use circle_field::{Cubic, ExtensionField, Field, Mersenne31};
-use circle_plane::{CircleDomain, CircleEvaluations, Point, circle_basis};
+use circle_plane::{CircleDomain, CircleEvaluations, Point, cfft_permute_index, circle_basis};
 use std::alloc::{AllocError, Global};
 use std::process::Abort;
 use std::test::Fail;
@@ -97,6 +98,90 @@ fn values_off_a_domain_and_off_a_larger_one(rt: HostRuntime) -> Result<(), Fail>
             assert!(&rt; values.as_slice() == plain.as_slice());
             assert!(&rt; again.as_slice() == plain.as_slice());
         }
+    }
+    Ok(())
+}
+
+// `evaluate_at_point` of rows in the transform's order, after a test of what it asks.
+fn evaluate_in_cfft_order<M: Matrix<Mersenne31> + Drop>(
+    rt: &impl Abort,
+    alloc: Global,
+    domain: CircleDomain<Mersenne31>,
+    rows: M,
+    at: Point<Cubic>,
+) -> Result<Vec<Cubic>, AllocError> {
+    assert!(rt; domain.log_n() >= 1 && domain.log_n() <= 31 && domain.is_genuine());
+    assert!(rt; domain.is_clear_of(at) && rows.height() == domain.size());
+    CircleEvaluations::from_cfft_order(domain, rows).evaluate_at_point(alloc, at)
+}
+
+#[test]
+fn values_by_the_first_rows_alone(rt: HostRuntime) -> Result<(), Fail> {
+    let alloc = rt.alloc();
+    let at = on_line(
+        &rt,
+        Cubic::from_coefficients(&[element(3), element(1), element(4)]),
+    );
+    for log_n in 2..6 {
+        let large = CircleDomain::standard(log_n + 2);
+        let coeffs = scattered(&rt, alloc, 1 << log_n, 3, log_n as u64)?;
+        let rows = evaluate(&rt, alloc, large, coeffs)?.to_cfft_order();
+        assert!(&rt; rows.height() >= 1 << log_n);
+        let (first, _) = rows.split_rows(1 << log_n);
+        let small = CircleDomain::new(log_n, large.shift());
+        let values = evaluate_in_cfft_order(&rt, alloc, small, first, at)?;
+        let whole = evaluate_in_cfft_order(&rt, alloc, large, rows.try_clone(alloc)?, at)?;
+        assert!(&rt; values.as_slice() == whole.as_slice());
+    }
+    Ok(())
+}
+
+// `lagrange_weights`, after a test of what it asks.
+fn weights(
+    rt: &impl Abort,
+    alloc: Global,
+    domain: CircleDomain<Mersenne31>,
+    at: Point<Cubic>,
+) -> Result<LagrangeWeights<Cubic>, AllocError> {
+    assert!(rt; domain.log_n() >= 1 && domain.log_n() <= 31 && domain.is_genuine());
+    assert!(rt; domain.is_clear_of(at));
+    lagrange_weights(alloc, domain, at)
+}
+
+// Asserts that each weight is the vanishing polynomial at `at` over the product of the selector of the
+// weight's point and what normalises it.
+fn assert_weights(
+    rt: &impl Abort,
+    alloc: Global,
+    domain: CircleDomain<Mersenne31>,
+    at: Point<Cubic>,
+) -> Result<(), AllocError> {
+    let weights = weights(rt, alloc, domain, at)?;
+    let log_n = domain.log_n();
+    assert!(rt; log_n >= 1 && log_n <= 31 && weights.shares.len() == domain.size());
+    let vanishing = at.v_n(log_n) - Cubic::from_base(domain.shift().v_n(log_n));
+    for (i, share) in weights.shares.iter().enumerate() {
+        assert!(rt; i < domain.size());
+        let point = domain.nth_point(cfft_permute_index(i, log_n));
+        let difference = at - point;
+        let denominator = difference.y() * Cubic::from_base(point.s_p_at_p(log_n));
+        let numerator = vanishing * (difference.x() + Cubic::ONE);
+        assert_eq!(rt; *share * weights.scale * denominator, numerator);
+    }
+    Ok(())
+}
+
+#[test]
+fn lagrange_polynomials_are_quotients(rt: HostRuntime) -> Result<(), Fail> {
+    let alloc = rt.alloc();
+    let at = on_line(
+        &rt,
+        Cubic::from_coefficients(&[element(9), element(0), element(1)]),
+    );
+    for log_n in 1..10 {
+        assert_weights(&rt, alloc, CircleDomain::standard(log_n), at)?;
+        let shift = Point::<Mersenne31>::generator(log_n + 2);
+        assert_weights(&rt, alloc, CircleDomain::new(log_n, shift), at)?;
     }
     Ok(())
 }

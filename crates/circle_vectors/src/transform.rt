@@ -8,7 +8,7 @@ use std::test::Fail;
 
 pub(crate) type Rows = RowMajorMatrix<Mersenne31>;
 
-type Evaluations = CircleEvaluations<Mersenne31, Rows>;
+pub(crate) type Evaluations = CircleEvaluations<Mersenne31, Rows>;
 
 // A matrix of `height * width` entries without a pattern.
 pub(crate) fn scattered(
@@ -65,7 +65,7 @@ fn plain_row(
 }
 
 // `CircleEvaluations::evaluate`, after a test of what it asks.
-fn evaluate(
+pub(crate) fn evaluate(
     rt: &impl Abort,
     alloc: Global,
     domain: CircleDomain<Mersenne31>,
