@@ -5,6 +5,9 @@ use crate::transform::Matrix;
 
 pub type Hash = [u8; 32];
 
+/// For each index, for each matrix, the entries of its row.
+pub type OpenedRows = Vec<Vec<Vec<Mersenne31>>>;
+
 /// A committed matrix and the levels of its tree, the lowest first.
 pub struct Tree {
     matrix: Matrix,
@@ -49,10 +52,11 @@ fn distinct(indices: &[usize]) -> Vec<usize> {
 }
 
 impl Tree {
-    /// The rows at the indices, and the digests that are missing beside them, level by level.
-    pub fn open(&self, indices: &[usize]) -> (Vec<Vec<Mersenne31>>, Vec<Hash>) {
+    /// For each index the rows there, one for each matrix, and the digests that are missing beside
+    /// them, level by level.
+    pub fn open(&self, indices: &[usize]) -> (OpenedRows, Vec<Hash>) {
         let width = self.matrix.width;
-        let row = |index: &usize| self.matrix.values[index * width..][..width].to_vec();
+        let row = |index: &usize| vec![self.matrix.values[index * width..][..width].to_vec()];
         let rows = indices.iter().map(row).collect();
         let mut known = distinct(indices);
         let mut proof = Vec::new();
@@ -76,7 +80,7 @@ impl Tree {
 }
 
 /// Whether the rows at the indices are those of the root.
-pub fn verify(root: &Hash, rows: usize, indices: &[usize], opened: &[Vec<Mersenne31>], proof: &[Hash]) -> bool {
+pub fn verify(root: &Hash, rows: usize, indices: &[usize], opened: &[Vec<Vec<Mersenne31>>], proof: &[Hash]) -> bool {
     let mut places: Vec<usize> = (0..indices.len()).collect();
     places.sort_unstable_by_key(|&k| indices[k]);
     let mut nodes: Vec<(usize, Hash)> = Vec::with_capacity(places.len());
@@ -86,7 +90,7 @@ pub fn verify(root: &Hash, rows: usize, indices: &[usize], opened: &[Vec<Mersenn
                 return false;
             }
         } else {
-            nodes.push((indices[k], rows_digest(&opened[k])));
+            nodes.push((indices[k], rows_digest(&opened[k][0])));
         }
     }
     let mut given = proof.iter();

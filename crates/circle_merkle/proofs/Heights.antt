@@ -30,7 +30,7 @@ module _ {T : Type 0} (matrices : List (RowMajorMatrix T)) where
       greatest-power (dimensions_of matrices) (omega arith) (All-map (λ (dim : Dimensions). IsPowerOfTwo dim.height) (λ m. record { width = width_of m; height = height_of m }) matrices powers)
 
   module _ (powers : All (λ m. IsPowerOfTwo (height_of m)) matrices) (k : ℕ) (m : RowMajorMatrix T) (lt : k < length matrices) (e : m ≡ get_or matrices k m) where
-    power-at : IsPowerOfTwo (height_of m)
+    pub power-at : IsPowerOfTwo (height_of m)
     power-at = let power = powers k m lt in (power.0, ap height_of e ∙ power.1)
 
     pub positive-at : 0 < height_of m

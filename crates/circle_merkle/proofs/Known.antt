@@ -20,7 +20,7 @@ or-swap false false true d = refl
 or-swap false false false d = refl
 
 -- a position has this one above it where it is one of the pair
-half-is : (x p : ℕ) → (x / 2 == p) ≡ ((x == 2 * p) || (x == 2 * p + 1))
+pub half-is : (x p : ℕ) → (x / 2 == p) ≡ ((x == 2 * p) || (x == 2 * p + 1))
 half-is x p =
     ⊎_elim
     (λ e. eq-eqb (x / 2) p (omega arith) ∙ sym (ap (λ b. b || (x == 2 * p + 1)) (eq-eqb x (2 * p) e)))
@@ -30,7 +30,7 @@ half-is x p =
     (cases_eq x (2 * p + 1)))
     (cases_eq x (2 * p))
 
-shift-more : (index level : ℕ) → index / 2 ^ suc level ≡ index / 2 ^ level / 2
+pub shift-more : (index level : ℕ) → index / 2 ^ suc level ≡ index / 2 ^ level / 2
 shift-more index level = let e : level + 1 ≡ suc level = omega arith in ap (λ k. index / 2 ^ k) (sym e) ∙ sym (shr-shr index level 1)
 
 pub is_known-above : (indices : List ℕ) (level p : ℕ) → is_known indices (suc level) p ≡ above (is_known indices level) p

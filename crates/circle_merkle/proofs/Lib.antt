@@ -5,6 +5,9 @@ pub mod Powers
 pub mod Pairs
 pub mod Known
 pub mod Ascending
+pub mod Ordered
+pub mod Neighbors
+pub mod Places
 pub mod Honest
 pub mod Completeness
 pub mod KeptTree

@@ -1,10 +1,10 @@
 -- The bytes of opened rows.
-use Rattle.std.specs.Prelude.{◌≡◌, ◌≢◌, ℕ, ◌+◌, ◌/◌, ◌^◌, ◌<◌, ◌==◌, List, [], ◌∷◌, ◌++◌, length, take, slice_index, slice_index_or, if◌then◌else◌}
+use Rattle.std.specs.Prelude.{◌≡◌, ◌≢◌, ℕ, ◌+◌, ◌/◌, ◌^◌, ◌<◌, ◌==◌, Bool, true, false, List, [], ◌∷◌, ◌++◌, length, take, slice_index, slice_index_or, if◌then◌else◌}
 use Rattle.std.specs.List.{flat_map}
 use Rattle.std.proofs.Common.{zero, suc, refl, sym, ap, ◌∙◌, arith, append-nil, append_assoc, add-one}
 use Rattle.std.proofs.lemmas.Bool.{eq-eqb, ne_eqb}
 use Rattle.circle_commit.specs.declared.matrix.Dimensions.{Dimensions}
-use Rattle.circle_merkle.specs.Walk.{NoneOf, NoneStandsBelow}
+use Rattle.circle_merkle.specs.Order.{place_of}
 use Rattle.circle_merkle.specs.Rows.{bytes_of_height, opened_at}
 
 module _ {T : Type 0} (bytes : T → List ℕ) (height : ℕ) where
@@ -45,25 +45,20 @@ module _ {T : Type 0} (bytes : T → List ℕ) (height : ℕ) where
         more ∙ ap (λ b. (before ++ bytes_of_height bytes (take j dims) height (take j rows)) ++ (if b then flat_map bytes row else [])) (ne_eqb dim.height height e)
         ∙ append-nil (before ++ bytes_of_height bytes (take j dims) height (take j rows))
 
-module _ {T : Type 0} (level i : ℕ) where
-  skip : (index : ℕ) (rows others : List (List T)) → index / 2 ^ level ≢ i → (if index / 2 ^ level == i then rows else others) ≡ others
-  skip index rows others ne = ap (λ b. if b then rows else others) (ne_eqb (index / 2 ^ level) i ne)
-
-  -- the rows of the first index that stands below a position
-  pub opened_at-first : (indices : List ℕ) (opened : List (List (List T))) (k : ℕ) → k < length indices → k < length opened → slice_index indices k / 2 ^ level ≡ i →
-      NoneOf indices level i k → opened_at indices opened level i ≡ slice_index_or opened k []
-  opened_at-first [] opened k hi ho e others = absurd (omega arith)
-  opened_at-first (index ∷ indices) [] k hi ho e others = absurd (omega arith)
-  opened_at-first (index ∷ indices) (rows ∷ opened) zero hi ho e others = ap (λ b. if b then rows else opened_at indices opened level i) (eq-eqb (index / 2 ^ level) i e)
-  opened_at-first (index ∷ indices) (rows ∷ opened) (suc k) hi ho e others =
-      skip index rows (opened_at indices opened level i) (others 0 (omega arith))
-      ∙ opened_at-first indices opened k (omega arith) (omega arith) e (λ j lt. others (suc j) (omega arith))
-
-  pub opened_at-none : (indices : List ℕ) (opened : List (List (List T))) → NoneStandsBelow indices level i → opened_at indices opened level i ≡ []
-  opened_at-none [] opened others = refl
-  opened_at-none (index ∷ indices) [] others = refl
-  opened_at-none (index ∷ indices) (rows ∷ opened) others =
-      skip index rows (opened_at indices opened level i) (others 0 (omega arith)) ∙ opened_at-none indices opened (λ j lt. others (suc j) (omega arith))
+-- the rows of the first index that stands below a position are those at its place
+pub opened_at-place : {T : Type 0} (level i : ℕ) (indices : List ℕ) (opened : List (List (List T))) → length opened ≡ length indices →
+    opened_at indices opened level i ≡ slice_index_or opened (place_of indices level i) []
+opened_at-place level i [] [] same = refl
+opened_at-place level i [] (rows ∷ opened) same = absurd (omega arith)
+opened_at-place level i (index ∷ indices) [] same = absurd (omega arith)
+opened_at-place level i (index ∷ indices) (rows ∷ opened) same =
+    ap (λ others. if index / 2 ^ level == i then rows else others) (opened_at-place level i indices opened (omega arith))
+    ∙ first-or-later (index / 2 ^ level == i) rows opened (place_of indices level i)
+  where
+    first-or-later : {X : Type 0} (b : Bool) (x : List X) (xs : List (List X)) (k : ℕ) →
+        (if b then x else slice_index_or xs k []) ≡ slice_index_or (x ∷ xs) (if b then 0 else suc k) []
+    first-or-later true x xs k = refl
+    first-or-later false x xs k = refl
 
 -- no rows have no bytes
 pub bytes-none : {T : Type 0} (bytes : T → List ℕ) (height : ℕ) (dims : List Dimensions) → bytes_of_height bytes dims height [] ≡ []

@@ -1,18 +1,24 @@
 -- One level up from the digests at the known positions of a level.
-use Rattle.std.specs.Prelude.{ℕ, ◌/◌, ◌%◌, ◌==◌, List, [], ◌∷◌, drop, map, slice_index_or, if◌then◌else◌}
+use Rattle.std.specs.Prelude.{ℕ, ◌/◌, ◌%◌, ◌==◌, List, [], ◌∷◌, drop, map, min, slice_index_or, if◌then◌else◌}
 use Rattle.circle_merkle.specs.declared.root.Node.{Node}
 use Rattle.circle_merkle.specs.Tree.{sibling}
 
+-- `up` is the digest over two of the level below, by the place of the first index that stands below it
 module _ (up : ℕ → List ℕ → List ℕ → List ℕ) where
   -- the node above a pair
   abbrev pub joined : Node → Node → Node
-  joined left right = record { position = left.position / 2; digest = up (left.position / 2) left.digest right.digest }
+  joined left right = record {
+    position = left.position / 2;
+    place = min left.place right.place;
+    digest = up (min left.place right.place) left.digest right.digest;
+  }
 
   -- the node above one whose sibling has this digest
   abbrev pub lone : Node → List ℕ → Node
   lone node given = record {
     position = node.position / 2;
-    digest = if node.position % 2 == 0 then up (node.position / 2) node.digest given else up (node.position / 2) given node.digest;
+    place = node.place;
+    digest = if node.position % 2 == 0 then up node.place node.digest given else up node.place given node.digest;
   }
 
   -- the nodes above, which take a given digest for each sibling that isn't known

@@ -3,6 +3,7 @@ pub mod Rows
 pub mod Authentication
 pub mod RowBytes
 pub mod Walk
+pub mod Order
 pub mod PowerTest
 pub mod ProverData
 pub mod Climb

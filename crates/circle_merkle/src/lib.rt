@@ -5,6 +5,7 @@ mod error;
 mod hashing;
 mod kept;
 mod mmcs;
+mod order;
 mod positions;
 mod root;
 mod shape;

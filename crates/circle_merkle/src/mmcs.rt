@@ -3,7 +3,7 @@ ghost use Rattle.std.specs.Prelude.{◌≡◌, ℕ, ◌+◌, ◌^◌, ◌<◌, �
 ghost use Rattle.sha2.specs.Sha256.{sha256};
 ghost use Rattle.circle_commit.specs.Matrix.{IsPowerOfTwo};
 ghost use Rattle.circle_commit.specs.RowMajorMatrix.{height_of};
-ghost use Rattle.circle_commit.specs.Mmcs.{dimensions_of, max_height, rows_at, rows_at_each, opened_rows};
+ghost use Rattle.circle_commit.specs.Mmcs.{dimensions_of, max_height, row_at as row_at_of, rows_at, rows_at_each, opened_rows};
 ghost use Rattle.circle_merkle.specs.Authentication.{Authenticates, IsRoot};
 ghost use Rattle.circle_merkle.specs.Verdict.{IsRight, says_memory};
 
@@ -35,6 +35,16 @@ impl<T> ShaMmcs<T> {
     }
 }
 
+// The row of a matrix of this height at an index below the greatest height.
+fn row_at(top: usize, height: usize, index: usize) -> usize
+    requires greatest { IsPowerOfTwo top }
+    requires power { IsPowerOfTwo height }
+    requires within { height ≤ top }
+    ensures { result ≡ row_at_of top height index }
+{
+    index >> (top.ilog2() - height.ilog2())
+}
+
 // The rows of the matrices at an index, one for each.
 fn rows_of<T: ElementBytes>(
     alloc: Global,
@@ -49,7 +59,7 @@ fn rows_of<T: ElementBytes>(
 {
     let mut rows = Vec::with_capacity(alloc, matrices.len())?;
     for matrix in matrices {
-        let row = matrix.row(index / (top / matrix.height()));
+        let row = matrix.row(row_at(top, matrix.height(), index));
         rows.push(Vec::from_slice(alloc, row)?)?;
     }
     Ok(rows)

@@ -40,8 +40,8 @@ pub fn climb(alloc: Global, known: &[usize]) -> Result<Step, AllocError>
     ensures parents { IfOk result (λ step. step.parents.items ≡ parents_of known.now) }
     ensures siblings { IfOk result (λ step. step.siblings.items ≡ siblings_of known.now) }
 {
-    let mut parents = Vec::new(alloc);
-    let mut siblings = Vec::new(alloc);
+    let mut parents = Vec::with_capacity(alloc, known.len())?;
+    let mut siblings = Vec::with_capacity(alloc, known.len())?;
     let mut rest = known;
     while let [position, others @ ..] = rest {
         parents.push(*position / 2)?;

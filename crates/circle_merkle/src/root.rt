@@ -1,15 +1,16 @@
 //! The root of a tree of which some rows are opened.
-ghost use Rattle.std.specs.Prelude.{◌≡◌, ℕ, ◌+◌, ◌*◌, ◌/◌, ◌^◌, ◌<◌, ◌≤◌, ◌==◌, ◌++◌, List, [], ◌∷◌, length, map, drop, take, All, IfOk, vec_len, slice_index_or, MatchOption};
+ghost use Rattle.std.specs.Prelude.{◌≡◌, ℕ, ◌+◌, ◌*◌, ◌/◌, ◌^◌, ◌<◌, ◌≤◌, ◌==◌, ◌++◌, List, [], ◌∷◌, length, map, drop, take, All, IfOk, vec_len, slice_index_or};
 ghost use Rattle.std.specs.List.{list_any};
 ghost use Rattle.sha2.specs.Hashers.{Holds256};
 ghost use Rattle.sha2.specs.Sha256.{sha256};
 ghost use Rattle.circle_commit.specs.Mmcs.{greatest, heights, opened_rows};
-ghost use Rattle.circle_merkle.specs.Tree.{rows_digest as rows_digest_of, node_digest as node_digest_of, with_rows, known, taken_below};
+ghost use Rattle.circle_merkle.specs.Tree.{rows_digest as rows_digest_of, node_digest as node_digest_of, with_rows, taken_below};
 ghost use Rattle.circle_merkle.specs.Rows.{bytes_of_height};
-ghost use Rattle.circle_merkle.specs.Walk.{siblings_of, IsFirstBelow, NoneStandsBelow};
+ghost use Rattle.circle_merkle.specs.Walk.{siblings_of};
+ghost use Rattle.circle_merkle.specs.Order.{first_places};
 
 use crate::hashing::{Hash, absorb_row, joined_digest, node_digest};
-use crate::positions::{distinct, sibling};
+use crate::positions::sibling;
 use circle_commit::Dimensions;
 use circle_field::ElementBytes;
 use sha2::{Digest, Sha256};
@@ -20,6 +21,8 @@ use std::alloc::{AllocError, Global};
 pub struct Node {
     /// The position on its level.
     pub position: usize,
+    /// The place of the first index that stands below it.
+    pub place: usize,
     /// The digest there.
     pub digest: Hash,
 }
@@ -58,19 +61,6 @@ fn absorb_opened<T: ElementBytes>(
     }
 }
 
-// The place of the first of the indices that stands below this position of a level.
-fn first_below(indices: &[usize], level: usize, place: usize) -> Option<usize>
-    requires { level < 64 }
-    ensures { MatchOption result (NoneStandsBelow indices.now level place) (λ k. IsFirstBelow indices.now level place k) }
-{
-    for (k, index) in indices.iter().enumerate() {
-        if *index >> level == place {
-            return Some(k);
-        }
-    }
-    None
-}
-
 // Whether some matrix has this height.
 fn some_has_height(dimensions: &[Dimensions], height: usize) -> bool
     ensures { result ≡ list_any (λ dim. dim.height == height) dimensions.now }
@@ -79,21 +69,20 @@ fn some_has_height(dimensions: &[Dimensions], height: usize) -> bool
 }
 
 impl<T: ElementBytes> Opening<'_, T> {
-    ghost use Rattle.circle_merkle.specs.Opening.{rows_in, parent_in, lowest_node};
+    ghost use Rattle.circle_merkle.specs.Opening.{placed_rows, parent_in, lowest_node};
     ghost use Rattle.circle_commit.specs.Matrix.{IsPowerOfTwo};
     ghost use Rattle.circle_merkle.specs.Authentication.{opened_root};
     ghost use Rattle.circle_merkle.specs.Climb.{climbed, positions_of, lone, joined};
 
-    // The digest of the rows at a position of a level.
-    fn rows_digest(&self, level: usize, position: usize) -> Hash
+    // The digest of those of the rows at an index, named by its place, that stand on a level.
+    fn rows_digest(&self, level: usize, place: usize) -> Hash
         requires { level < 64 }
-        ensures { result ≡ rows_digest_of sha256 ((rows_in T.bytes self.now).bytes level position) }
+        ensures { result ≡ rows_digest_of sha256 ((placed_rows T.bytes self.now).bytes level place) }
     {
         let mut hasher = Sha256::new();
         hasher.update([0u8].as_slice());
-        match first_below(self.indices, level, position) {
-            Some(k) => {
-                let rows = &self.opened[k];
+        match self.opened.get(place) {
+            Some(rows) => {
                 absorb_opened(&mut hasher, self.dimensions, rows, self.top >> level);
             }
             None => {}
@@ -101,15 +90,15 @@ impl<T: ElementBytes> Opening<'_, T> {
         hasher.finalize()
     }
 
-    // The digest of the node over `left` and `right`, at a position of a level.
-    fn parent(&self, level: usize, position: usize, left: &Hash, right: &Hash) -> Hash
+    // The digest of the node over `left` and `right`, below which the index at a place stands.
+    fn parent(&self, level: usize, place: usize, left: &Hash, right: &Hash) -> Hash
         requires { level < 64 }
-        ensures { result ≡ parent_in T.bytes self.now level position left.now right.now }
+        ensures { result ≡ parent_in T.bytes self.now level place left.now right.now }
     {
         let node = node_digest(left, right);
         let height = self.top >> level;
         if some_has_height(self.dimensions, height) {
-            joined_digest(&node, &self.rows_digest(level, position))
+            joined_digest(&node, &self.rows_digest(level, place))
         } else {
             node
         }
@@ -120,10 +109,11 @@ impl<T: ElementBytes> Opening<'_, T> {
         requires { level < 64 }
         ensures { result ≡ joined (parent_in T.bytes self.now level) left.now right.now }
     {
-        let position = left.position / 2;
+        let place = left.place.min(right.place);
         Node {
-            position,
-            digest: self.parent(level, position, &left.digest, &right.digest),
+            position: left.position / 2,
+            place,
+            digest: self.parent(level, place, &left.digest, &right.digest),
         }
     }
 
@@ -132,13 +122,16 @@ impl<T: ElementBytes> Opening<'_, T> {
         requires { level < 64 }
         ensures { result ≡ lone (parent_in T.bytes self.now level) node.now given.now }
     {
-        let position = node.position / 2;
         let digest = if node.position % 2 == 0 {
-            self.parent(level, position, &node.digest, given)
+            self.parent(level, node.place, &node.digest, given)
         } else {
-            self.parent(level, position, given, &node.digest)
+            self.parent(level, node.place, given, &node.digest)
         };
-        Node { position, digest }
+        Node {
+            position: node.position / 2,
+            place: node.place,
+            digest,
+        }
     }
 
     // The node over the first of some, the others that it doesn't stand over, and the given digests
@@ -195,18 +188,16 @@ impl<T: ElementBytes> Opening<'_, T> {
         Ok((parents, given))
     }
 
-    // The nodes of the lowest level at the indices.
-    fn lowest(&self, alloc: Global) -> Result<Vec<Node>, AllocError>
-        ensures { IfOk result (λ nodes. (levels : ℕ) → All (λ i. i < 2 ^ levels) self.now.indices.now
-            → nodes.items ≡ map (lowest_node T.bytes self.now) (known self.now.indices.now levels 0)) }
+    // The nodes of the lowest level at these indices, each with its place.
+    fn lowest(&self, alloc: Global, firsts: &[(usize, usize)]) -> Result<Vec<Node>, AllocError>
+        ensures { IfOk result (λ nodes. nodes.items ≡ map (lowest_node T.bytes self.now) firsts.now) }
     {
-        let positions = distinct(alloc, self.indices)?;
-        let mut nodes = Vec::with_capacity(alloc, positions.len())?;
-        for position in &positions {
-            let digest = self.rows_digest(0, *position);
+        let mut nodes = Vec::with_capacity(alloc, firsts.len())?;
+        for (position, place) in firsts {
             nodes.push(Node {
                 position: *position,
-                digest,
+                place: *place,
+                digest: self.rows_digest(0, *place),
             })?;
         }
         Ok(nodes)
@@ -214,18 +205,25 @@ impl<T: ElementBytes> Opening<'_, T> {
 
     /// The root of the tree over the rows, with these digests for the positions that aren't known.
     ///
+    /// Takes the distinct indices in ascending order, each with the place of the first that equals it.
     /// Asks at least one index, each below the greatest height, which is a power of two, and as many
     /// digests as are missing. Fails where memory is refused.
-    pub fn root(&self, alloc: Global, proof: &[Hash]) -> Result<Hash, AllocError>
+    pub fn root(
+        &self,
+        alloc: Global,
+        firsts: &[(usize, usize)],
+        proof: &[Hash],
+    ) -> Result<Hash, AllocError>
         requires some { 1 ≤ length self.now.indices.now }
         requires in_range { All (λ i. i < self.now.top) self.now.indices.now }
         requires power { IsPowerOfTwo self.now.top }
+        requires firsts { (levels : ℕ) → self.now.top ≡ 2 ^ levels → firsts.now ≡ first_places self.now.indices.now levels }
         requires count { (levels : ℕ) → self.now.top ≡ 2 ^ levels → length proof.now ≡ taken_below self.now.indices.now levels levels }
         ensures { IfOk result (λ root. (levels : ℕ) → self.now.top ≡ 2 ^ levels
             → root ≡ opened_root sha256 T.bytes self.now.dimensions.now self.now.indices.now (opened_rows self.now.opened.now) proof.now levels) }
     {
         let count = self.top.ilog2() as usize;
-        let mut nodes = self.lowest(alloc)?;
+        let mut nodes = self.lowest(alloc, firsts)?;
         let mut given = proof;
         for level in 0..count {
             let (parents, left) = self.climb(alloc, level + 1, &nodes, given)?;

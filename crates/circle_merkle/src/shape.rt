@@ -3,7 +3,8 @@ ghost use Rattle.std.specs.Prelude.{◌≡◌, ℕ, ◌+◌, ◌*◌, ◌/◌, �
 ghost use Rattle.circle_commit.specs.Matrix.{IsPowerOfTwo};
 ghost use Rattle.circle_commit.specs.Mmcs.{greatest, heights, opened_rows, row_at};
 ghost use Rattle.circle_merkle.specs.Authentication.{HasShape, HasIndices, Agrees};
-ghost use Rattle.circle_merkle.specs.Shape.{RowsAgree, AgreesAt};
+ghost use Rattle.circle_merkle.specs.Order.{IsOrdered};
+ghost use Rattle.circle_merkle.specs.Shape.{NeighborsAgree};
 
 use circle_commit::{Dimensions, is_power_of_two};
 use circle_field::ElementBytes;
@@ -106,43 +107,23 @@ fn same_entry<T: ElementBytes>(entry: &T, other: &T) -> bool
     entry.to_bytes().as_slice() == other.to_bytes().as_slice()
 }
 
-// Whether the rows of matrix `j` at index `k` and at those before it agree.
-fn agrees_before<T: ElementBytes>(
-    indices: &[usize],
-    opened: &[Vec<Vec<T>>],
-    j: usize,
-    divisor: usize,
-    k: usize,
-) -> bool
-    requires divisor { 1 ≤ divisor }
-    requires one_each { length opened.now ≡ length indices.now }
-    requires whole { All (λ rows. j < vec_len rows) opened.now }
-    requires within { k < length indices.now }
-    ensures { IsTrue result ↔ ((l : ℕ) → l < k → RowsAgree indices.now (opened_rows opened.now) divisor j k l) }
-{
-    let row = &opened[k][j];
-    for l in 0..k {
-        if indices[l] / divisor == indices[k] / divisor && !same_row(row, &opened[l][j]) {
-            return false;
-        }
-    }
-    true
-}
-
-// Whether the rows of matrix `j` agree at all indices.
+// Whether the rows of matrix `j` agree at neighboring indices that stand for one row of it.
 fn column_agrees<T: ElementBytes>(
-    indices: &[usize],
+    order: &[(usize, usize)],
     opened: &[Vec<Vec<T>>],
     j: usize,
     divisor: usize,
 ) -> bool
     requires divisor { 1 ≤ divisor }
-    requires one_each { length opened.now ≡ length indices.now }
+    requires places { All (λ entry. entry.1 < length opened.now) order.now }
     requires whole { All (λ rows. j < vec_len rows) opened.now }
-    ensures { IsTrue result ↔ AgreesAt indices.now (opened_rows opened.now) divisor j (length indices.now) }
+    ensures { IsTrue result ↔ ((k : ℕ) → k + 1 < length order.now → NeighborsAgree order.now (opened_rows opened.now) divisor j k) }
 {
-    for k in 0..indices.len() {
-        if !agrees_before(indices, opened, j, divisor, k) {
+    for k in 1..order.len() {
+        let ((index, place), (next, next_place)) = (order[k - 1], order[k]);
+        if index / divisor == next / divisor
+            && !same_row(&opened[place][j], &opened[next_place][j])
+        {
             return false;
         }
     }
@@ -150,19 +131,21 @@ fn column_agrees<T: ElementBytes>(
 }
 
 /// Whether the rows of one matrix at one position are equal.
+///
+/// Takes the indices in ascending order with their places.
 pub fn agrees<T: ElementBytes>(
     dimensions: &[Dimensions],
-    indices: &[usize],
+    order: &[(usize, usize)],
     opened: &[Vec<Vec<T>>],
     top: usize,
 ) -> bool
     requires greatest { top ≡ greatest (heights dimensions.now) }
     requires shape { HasShape dimensions.now (opened_rows opened.now) }
-    requires one_each { length opened.now ≡ length indices.now }
-    ensures { IsTrue result ↔ Agrees dimensions.now indices.now (opened_rows opened.now) }
+    requires places { All (λ entry. entry.1 < length opened.now) order.now }
+    ensures { (indices : List ℕ) → IsOrdered indices order.now → IsTrue result ↔ Agrees dimensions.now indices (opened_rows opened.now) }
 {
     for j in 0..dimensions.len() {
-        if !column_agrees(indices, opened, j, top / dimensions[j].height) {
+        if !column_agrees(order, opened, j, top / dimensions[j].height) {
             return false;
         }
     }

@@ -283,6 +283,36 @@ fn opens_several_heights(rt: HostRuntime) -> Result<(), Fail> {
     Ok(())
 }
 
+#[test]
+fn refuses_two_rows_at_one_position(rt: HostRuntime) -> Result<(), Fail> {
+    let alloc = rt.alloc();
+    let dimensions = [
+        Dimensions {
+            width: 1,
+            height: 2,
+        },
+        Dimensions {
+            width: 1,
+            height: 1,
+        },
+    ];
+    // Both indices stand for the only row of the lower matrix.
+    let rows = vec![in alloc;
+        vec![in alloc; vec![in alloc; element(1)]?, vec![in alloc; element(5)]?]?,
+        vec![in alloc; vec![in alloc; element(2)]?, vec![in alloc; element(6)]?]?,
+    ]?;
+    let verdict = ShaMmcs::<Mersenne31>::new().verify_multi_batch(
+        alloc,
+        &COLUMN_ROOT,
+        &dimensions,
+        &[1, 0],
+        &rows,
+        &Vec::new(alloc),
+    );
+    assert_eq!(rt; verdict, Err(MerkleTreeError::DisagreeingRows));
+    Ok(())
+}
+
 // The digest of a first byte and further pieces.
 fn digest(first: u8, left: &[u8], right: &[u8]) -> Hash {
     let mut hasher = Sha256::new();

@@ -8,6 +8,7 @@ ghost use Rattle.circle_merkle.specs.Verdict.{IsRight};
 
 use crate::error::MerkleTreeError;
 use crate::hashing::Hash;
+use crate::order::{in_order, leave_firsts};
 use crate::positions::{climb, distinct};
 use crate::root::Opening;
 use crate::shape::{agrees, greatest_height, has_indices, has_shape};
@@ -64,19 +65,21 @@ pub fn verify<T: ElementBytes>(
     if !has_indices(dimensions, indices, opened, top) {
         return Err(MerkleTreeError::WrongIndex);
     }
-    if !agrees(dimensions, indices, opened, top) {
+    let mut order = in_order(alloc, indices)?;
+    if !agrees(dimensions, &order, opened, top) {
         return Err(MerkleTreeError::DisagreeingRows);
     }
     if !has_count(alloc, indices, top.ilog2() as usize, proof.len())? {
         return Err(MerkleTreeError::WrongProofLength);
     }
+    leave_firsts(&mut order);
     let opening = Opening {
         dimensions,
         indices,
         opened,
         top,
     };
-    let root = opening.root(alloc, proof)?;
+    let root = opening.root(alloc, &order, proof)?;
     if !same_digest(&root, commitment) {
         return Err(MerkleTreeError::RootMismatch);
     }

@@ -1,11 +1,29 @@
-use Rattle.std.proofs.Common.{◌≡◌, ◌<◌, ◌^◌, ◌∙◌, refl, sym, ap, subst, map, All}
+use Rattle.std.proofs.Common.{◌≡◌, ◌<◌, ◌^◌, ◌∙◌, refl, sym, ap, subst, length, map, All, arith}
 use Rattle.std.proofs.lemmas.List.{length-map}
 use Rattle.circle_commit.specs.Matrix.{IsPowerOfTwo}
 use Rattle.circle_commit.specs.Mmcs.{greatest, heights}
 use Rattle.circle_merkle.specs.Tree.{taken_below}
+use Rattle.circle_merkle.specs.Order.{IsOrdered}
 use Rattle.circle_merkle.proofs.Powers.{exponent, logarithm}
+use Rattle.circle_merkle.proofs.Ordered.{order-placed}
 use Rattle.circle_merkle.proofs.Fits.{whole-rows, greatest-power}
 use Rattle.circle_merkle.proofs.verify.verify.Goals as goal
+
+pub agrees-requires-clause-places : goal.agrees-requires-clause-places
+agrees-requires-clause-places g c =
+    let known = c.if-not-has_indices.ensures.0 refl in
+    let opened = c.args.opened.now in
+    let indices = c.args.indices.now in
+    let count = length-map opened (λ rows. map (λ row. row.items) rows.items) in
+    subst (All (λ entry. entry.1 < length opened)) (sym c.deref.ensures.value)
+    (λ k d lt. omega (arith, (order-placed indices c.in_ok-order.order.items c.in_ok-order.ensures k d lt).0, count, known.one_each))
+
+pub returns-then-not-agrees-clause-refused : goal.returns-then-not-agrees-clause-refused
+returns-then-not-agrees-clause-refused g c = (
+  c.if-not-has_shape.ensures.0 refl,
+  c.if-not-has_indices.ensures.0 refl,
+  λ agree. absurd (let yes = (c.if-not-agrees.ensures c.args.indices.now (subst (IsOrdered c.args.indices.now) (sym c.deref.ensures.value) c.in_ok-order.ensures)).1 agree in cc),
+)
 
 pub has_count-requires : goal.has_count-requires
 has_count-requires g c =
@@ -21,7 +39,7 @@ pub returns-then-not-branch-clause-refused : goal.returns-then-not-branch-clause
 returns-then-not-branch-clause-refused g c =
     let shape = c.if-not-has_shape.ensures.0 refl in
     let known = c.if-not-has_indices.ensures.0 refl in
-    let agree = c.if-not-agrees.ensures.0 refl in (
+    let agree = (c.if-not-agrees.ensures c.args.indices.now (subst (IsOrdered c.args.indices.now) (sym c.deref.ensures.value) c.in_ok-order.ensures)).0 refl in (
       shape,
       known,
       agree,
@@ -48,6 +66,13 @@ root-requires-clause-power g c =
     let power : IsPowerOfTwo (greatest (heights c.args.dimensions.now)) = greatest-power c.args.dimensions.now shape.some shape.powers_of_two in
     (power.0, c.greatest_height-top.ensures ∙ power.1)
 
+pub root-requires-clause-firsts : goal.root-requires-clause-firsts
+root-requires-clause-firsts g c = λ levels e.
+    let known = c.if-not-has_indices.ensures.0 refl in
+    let indices = c.args.indices.now in
+    let below : All (λ i. i < 2 ^ levels) indices = subst (λ n. All (λ i. i < n) indices) (sym c.greatest_height-top.ensures ∙ e) known.in_range in
+    c.deref-2.ensures.value ∙ c.leave_firsts.ensures indices levels c.in_ok-order.ensures below
+
 pub root-requires-clause-count : goal.root-requires-clause-count
 root-requires-clause-count g c = λ levels e.
     let same : levels ≡ c.ilog2.result = exponent c.greatest_height-top.result levels c.ilog2.result e c.ilog2.ensures.power_le c.ilog2.ensures.next_power_gt in
@@ -57,7 +82,7 @@ pub returns-then-not-same_digest-clause-refused : goal.returns-then-not-same_dig
 returns-then-not-same_digest-clause-refused g c =
     let shape = c.if-not-has_shape.ensures.0 refl in
     let known = c.if-not-has_indices.ensures.0 refl in
-    let agree = c.if-not-agrees.ensures.0 refl in
+    let agree = (c.if-not-agrees.ensures c.args.indices.now (subst (IsOrdered c.args.indices.now) (sym c.deref.ensures.value) c.in_ok-order.ensures)).0 refl in
     let top = c.greatest_height-top.ensures in (
       shape,
       known,
@@ -72,7 +97,7 @@ pub returns-clause-accepted : goal.returns-clause-accepted
 returns-clause-accepted g c =
     let shape = c.if-not-has_shape.ensures.0 refl in
     let known = c.if-not-has_indices.ensures.0 refl in
-    let agree = c.if-not-agrees.ensures.0 refl in
+    let agree = (c.if-not-agrees.ensures c.args.indices.now (subst (IsOrdered c.args.indices.now) (sym c.deref.ensures.value) c.in_ok-order.ensures)).0 refl in
     let power : IsPowerOfTwo (greatest (heights c.args.dimensions.now)) = greatest-power c.args.dimensions.now shape.some shape.powers_of_two in
     let top = c.greatest_height-top.ensures in
     let same : power.0 ≡ c.ilog2.result = exponent c.greatest_height-top.result power.0 c.ilog2.result (top ∙ power.1) c.ilog2.ensures.power_le c.ilog2.ensures.next_power_gt in

@@ -1,13 +1,13 @@
-use Rattle.std.proofs.Common.{◌≡◌, ◌+◌, ◌^◌, ◌<◌, ◌∙◌, refl, ap, sym, subst, length, drop, add-one, arith, All, get_or}
+use Rattle.std.proofs.Common.{◌≡◌, ◌+◌, ◌^◌, ◌<◌, ◌∙◌, refl, ap, sym, subst, length, drop, map, add-one, arith, All, get_or}
 use Rattle.sha2.specs.Sha256.{sha256}
 use Rattle.circle_commit.specs.Mmcs.{opened_rows}
 use Rattle.circle_merkle.specs.Tree.{taken_below}
 use Rattle.circle_merkle.specs.Walk.{siblings_of}
 use Rattle.circle_merkle.specs.Climb.{climbed, positions_of}
-use Rattle.circle_merkle.specs.Opening.{level_nodes, parent_in}
+use Rattle.circle_merkle.specs.Opening.{lowest_node, level_nodes, parent_in}
 use Rattle.circle_merkle.specs.Authentication.{opened_root}
 use Rattle.circle_merkle.proofs.Powers.{exponent, logarithm}
-use Rattle.circle_merkle.proofs.LevelNodes.{nodes-fit, nodes-left, nodes-climbed, nodes-root}
+use Rattle.circle_merkle.proofs.LevelNodes.{nodes-lowest, nodes-fit, nodes-left, nodes-climbed, nodes-root}
 use Rattle.circle_merkle.proofs.root.Opening.root.Goals as goal
 
 pub loop-level-init : goal.loop-level-init
@@ -15,8 +15,11 @@ loop-level-init g c =
     let o = c.args.self.now in
     let count = c.ilog2-count.result in
     let power : 2 ^ count ≡ o.top = logarithm o.top count c.requires.power c.ilog2-count.ensures.power_le c.ilog2-count.ensures.next_power_gt in
-    let below : All (λ i. i < 2 ^ count) o.indices.now = subst (λ n. All (λ i. i < n) o.indices.now) (sym power) c.requires.in_range in
-    record { nodes = c.in_ok-nodes.ensures count below; given = refl }
+    let bytes = g.T.ElementBytes.bytes in
+    record {
+      nodes = c.in_ok-nodes.ensures ∙ ap (map (lowest_node bytes o)) (c.requires.firsts count (sym power)) ∙ nodes-lowest bytes o c.args.proof.now count;
+      given = refl;
+    }
 
 pub climb-requires-clause-enough : goal.climb-requires-clause-enough
 climb-requires-clause-enough g c =
