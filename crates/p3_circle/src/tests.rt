@@ -14,6 +14,8 @@ use std::alloc::{AllocError, Global};
 use std::test::Fail;
 use stubborn::Stubborn;
 
+mod runs;
+mod seeds;
 mod stubborn;
 
 const HEADER: [u8; 30] = [

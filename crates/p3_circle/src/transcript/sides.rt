@@ -79,8 +79,7 @@ impl<
         ensures due { IfOk result (λ t. due t ≡ steps_of EF.DEGREE (shape_of shape)) }
         ensures state { IfOk result (λ t. C.state (current t) ≡ after_all C.after_observe (C.state challenger.old) (map (of_nat F.ops) (text_of EF.DEGREE (shape_of shape)))) }
     {
-        let separator = shape.domain_separator::<F, EF>(alloc)?;
-        let due = TranscriptState::<C, F, S>::new(challenger, &separator).pause();
+        let due = Self::seeded(alloc, challenger, &shape)?;
         Ok(CircleTranscript {
             challenger,
             due,
@@ -93,6 +92,21 @@ impl<
             },
             of: PhantomData,
         })
+    }
+
+    /// Seeds a challenger with the text of a run of this shape, and answers the steps of the run. Where
+    /// memory is refused the challenger is left as it was.
+    fn seeded(
+        alloc: Global,
+        challenger: &mut C,
+        shape: &CirclePcsShape,
+    ) -> Result<StepsDue, AllocError>
+        ensures refused { OnErr result (challenger.new ≡ challenger.old) }
+        ensures due { IfOk result (λ d. d.steps ≡ steps_of EF.DEGREE (shape_of shape.now)) }
+        ensures state { OnOk result (C.state challenger.new ≡ after_all C.after_observe (C.state challenger.old) (map (of_nat F.ops) (text_of EF.DEGREE (shape_of shape.now)))) }
+    {
+        let separator = shape.domain_separator::<F, EF>(alloc)?;
+        Ok(TranscriptState::<C, F, S>::new(challenger, &separator).pause())
     }
 
     /// Takes in the commitment to the first layer, and draws the challenge that folds that layer.
