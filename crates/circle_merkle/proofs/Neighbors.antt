@@ -1,12 +1,12 @@
 -- Rows that agree at neighboring indices agree at all.
-use Rattle.std.specs.Prelude.{◌≡◌, ℕ, ◌+◌, ◌-◌, ◌/◌, ◌<◌, ◌≤◌, List, [], length, All, slice_index, slice_index_or}
-use Rattle.std.proofs.Common.{zero, suc, refl, sym, ap, subst, ◌∙◌, arith, ⊎_elim, get_or}
+use Rattle.std.specs.Prelude.{◌≡◌, ℕ, ◌+◌, ◌-◌, ◌/◌, ◌<◌, ◌≤◌, List, [], length, slice_index, slice_index_or}
+use Rattle.std.proofs.Common.{zero, suc, sym, ap, ◌∙◌, arith, ⊎_elim}
 use Rattle.std.proofs.Math.Nat.{le-div_iff_mul-le, div-mul-le_self}
 use Rattle.std.proofs.lemmas.Bool.{cases_lt}
 use Rattle.std.proofs.lemmas.List.{get_or_default}
 use Rattle.circle_merkle.specs.Order.{IsOrdered, entry_at}
 use Rattle.circle_merkle.specs.Shape.{nth, row_of, NeighborsAgree}
-use Rattle.circle_merkle.proofs.Ordered.{IsPlaced, order-placed, order-contains, order-rises}
+use Rattle.circle_merkle.proofs.Ordered.{order-placed, order-contains, order-rises}
 
 -- of numbers in ascending order the equal ones stand together, so what neighbors share they all share
 module _ {X : Type 0} (f : ℕ → ℕ) (r : ℕ → X) (n : ℕ) (ascending : (i k : ℕ) → i ≤ k → k < n → f i ≤ f k)

@@ -1,8 +1,6 @@
 -- The places of the first indices that stand below the positions of a pair.
 use Rattle.std.specs.Prelude.{◌≡◌, ℕ, ◌+◌, ◌*◌, ◌/◌, ◌^◌, ◌==◌, ◌||◌, ◌≤◌, Bool, true, false, List, [], ◌∷◌, length, min, if◌then◌else◌}
-use Rattle.std.specs.List.{list_any}
-use Rattle.std.proofs.Common.{suc, refl, sym, ap, ◌∙◌, arith, ⊎_elim}
-use Rattle.std.proofs.lemmas.Bool.{eqb-true}
+use Rattle.std.proofs.Common.{suc, refl, sym, ap, ◌∙◌, arith}
 use Rattle.circle_merkle.specs.Tree.{is_known}
 use Rattle.circle_merkle.specs.Order.{place_of}
 use Rattle.circle_merkle.proofs.Known.{half-is, shift-more}

@@ -1,4 +1,4 @@
-use Rattle.std.proofs.Common.{◌≡◌, ◌-◌, ◌/◌, ◌^◌, ◌≤◌, ◌∙◌, ap, sym, arith}
+use Rattle.std.proofs.Common.{◌≡◌, ◌^◌, ◌∙◌, ap, sym, arith}
 use Rattle.circle_commit.specs.Mmcs.{row_at}
 use Rattle.circle_commit.specs.MmcsFacts.{row_at-powers}
 use Rattle.circle_merkle.proofs.Powers.{exponent_within, logarithm}

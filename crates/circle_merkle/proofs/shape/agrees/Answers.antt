@@ -1,5 +1,4 @@
 use Rattle.std.proofs.Common.{◌≡◌, ◌/◌, ◌∙◌, ◌<◌, ◌≤◌, ◌+◌, ℕ, [], refl, sym, ap, subst, length, map, get_or, arith, below_more}
-use Rattle.std.specs.Prelude.{◌==◌}
 use Rattle.std.proofs.lemmas.Nat.{pow_pos}
 use Rattle.std.proofs.lemmas.List.{length-map, get_or-map}
 use Rattle.circle_commit.specs.Mmcs.{greatest, heights, opened_rows}
