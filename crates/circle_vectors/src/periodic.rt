@@ -2,7 +2,7 @@
 use crate::off_domain::{element, evaluate_at_point, on_line};
 use crate::transform::{column, point};
 use circle_commit::{PeriodicEvaluator, PeriodicLdeTable, RowMajorMatrix};
-use circle_field::{Cubic, ExtensionField, Field, Mersenne31};
+use circle_field::{ComplexExtendable, Cubic, ExtensionField, Field, Mersenne31};
 use circle_plane::{
     CircleDomain, CirclePeriodicEvaluator, PeriodicError, Point, build_periodic_lde_table_circle,
 };
@@ -25,8 +25,8 @@ fn elements(alloc: Global, values: &[u64]) -> Result<Column, AllocError> {
 
 // 1, 2, 3, .., so many in all.
 fn counting(alloc: Global, count: usize) -> Result<Column, AllocError> {
-    (1..count as u64 + 1)
-        .map(|value| Mersenne31::from_u64(value))
+    (0..count as u64)
+        .map(|value| Mersenne31::from_u64(value) + Mersenne31::ONE)
         .collect(alloc)
 }
 
@@ -149,16 +149,18 @@ fn value_of_four(
     evaluate_at_point(rt, alloc, CircleDomain::standard(2), rows, at)
 }
 
-// `eval_at_point` of four entries over a trace of 16 rows, after a test of what it asks.
-fn four_at_point(
+// `eval_at_point` of a column of four entries over a trace of 16 rows, after a test of what it asks.
+fn four_at_point<F: ComplexExtendable, EF: ExtensionField<F>>(
     rt: &impl Abort,
     alloc: Global,
-    columns: &[Column],
-    t: Cubic,
-) -> Result<Vec<Cubic>, AllocError> {
-    let at = on_line(rt, t);
-    assert!(rt; CircleDomain::<Mersenne31>::standard(2).is_clear_of(at.repeated_double(2)));
-    assert!(rt; columns.len() == 1 && columns[0].len() == 4);
+    columns: &[Vec<F>],
+    t: EF,
+) -> Result<Vec<EF>, AllocError> {
+    assert!(rt; F::CIRCLE_TWO_ADICITY >= 5);
+    let at = Point::from_projective_line(t).expect(rt, "the square of the coordinate is -1");
+    assert!(rt; CircleDomain::<F>::standard(2).is_clear_of(at.repeated_double(2)));
+    assert!(rt; columns.len() == 1);
+    assert!(rt; columns[0].len() == 4);
     CirclePeriodicEvaluator::eval_at_point(alloc, columns, &CircleDomain::standard(4), t)
 }
 
