@@ -71,11 +71,12 @@ impl<T: ElementBytes> ShaProverData<T> {
             ≡ proof_of (digest sha256 (matrix_rows T.bytes (matrices_of self.now))) indices.now (level_count self.now) (level_count self.now)) }
     {
         let mut known = distinct(alloc, indices)?;
-        let mut proof = Vec::new(alloc);
+        let mut siblings = Vec::with_capacity(alloc, known.len())?;
+        let mut proof = Vec::with_capacity(alloc, known.len())?;
         for level in 0..self.levels.len() - 1 {
-            let step = climb(alloc, &known)?;
-            append_digests(&mut proof, &self.levels[level], &step.siblings)?;
-            known = step.parents;
+            siblings.clear();
+            known = climb(alloc, &known, &mut siblings)?;
+            append_digests(&mut proof, &self.levels[level], &siblings)?;
         }
         Ok(proof)
     }

@@ -1,5 +1,5 @@
 //! The positions of a tree that are known where some of the lowest level's are.
-ghost use Rattle.std.specs.Prelude.{◌≡◌, ℕ, ◌+◌, ◌<◌, ◌^◌, All, IfOk};
+ghost use Rattle.std.specs.Prelude.{◌≡◌, ℕ, ◌+◌, ◌<◌, ◌^◌, ◌++◌, All, IfOk, OnOk};
 ghost use Rattle.circle_merkle.specs.Tree.{known, sibling as sibling_of};
 ghost use Rattle.circle_merkle.specs.Walk.{parents_of, siblings_of};
 
@@ -26,22 +26,19 @@ pub fn sibling(position: usize) -> usize
     }
 }
 
-/// What stands one level up from known positions, and what is missing on theirs.
-#[derive(Drop)]
-pub struct Step {
-    /// The positions above them, in ascending order.
-    pub parents: Vec<usize>,
-    /// Their siblings that aren't known, in ascending order.
-    pub siblings: Vec<usize>,
-}
-
-/// One level up from the known positions of a level, which stand in ascending order.
-pub fn climb(alloc: Global, known: &[usize]) -> Result<Step, AllocError>
-    ensures parents { IfOk result (λ step. step.parents.items ≡ parents_of known.now) }
-    ensures siblings { IfOk result (λ step. step.siblings.items ≡ siblings_of known.now) }
+/// The positions one level up from the known positions of a level, both in ascending order. Appends to
+/// `siblings` the siblings of the known ones that aren't known themselves, in ascending order.
+///
+/// Fails where memory is refused.
+pub fn climb(
+    alloc: Global,
+    known: &[usize],
+    siblings: &mut Vec<usize>,
+) -> Result<Vec<usize>, AllocError>
+    ensures parents { IfOk result (λ parents. parents.items ≡ parents_of known.now) }
+    ensures siblings { OnOk result (siblings.new.items ≡ siblings.old.items ++ siblings_of known.now) }
 {
     let mut parents = Vec::with_capacity(alloc, known.len())?;
-    let mut siblings = Vec::with_capacity(alloc, known.len())?;
     let mut rest = known;
     while let [position, others @ ..] = rest {
         parents.push(*position / 2)?;
@@ -53,5 +50,5 @@ pub fn climb(alloc: Global, known: &[usize]) -> Result<Step, AllocError>
             }
         };
     }
-    Ok(Step { parents, siblings })
+    Ok(parents)
 }

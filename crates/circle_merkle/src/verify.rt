@@ -27,14 +27,15 @@ fn has_count(
     ensures { IfOk result (λ b. IsTrue b ↔ (count ≡ taken_below indices.now levels levels)) }
 {
     let mut known = distinct(alloc, indices)?;
+    let mut siblings = Vec::with_capacity(alloc, known.len())?;
     let mut left = count;
     for _level in 0..levels {
-        let step = climb(alloc, &known)?;
-        if step.siblings.len() > left {
+        siblings.clear();
+        known = climb(alloc, &known, &mut siblings)?;
+        if siblings.len() > left {
             return Ok(false);
         }
-        left -= step.siblings.len();
-        known = step.parents;
+        left -= siblings.len();
     }
     Ok(left == 0)
 }

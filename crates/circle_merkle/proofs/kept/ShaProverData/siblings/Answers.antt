@@ -17,7 +17,7 @@ append_digests-requires g c =
     let here = c.index.result.now in
     let known-is = c.deref.ensures.value ∙ c.loop-level.invariant.known in
     let positions : c.deref-in-loop-level-2.result.now ≡ taken indices count level =
-    c.deref-in-loop-level-2.ensures.value ∙ c.in_ok-step.ensures.siblings ∙ ap siblings_of known-is ∙ siblings-known indices count level (omega (arith, c.len-level-end.ensures)) in
+    c.deref-in-loop-level-2.ensures.value ∙ c.in_ok-known-2.ensures.siblings ∙ ap (λ before. before ++ siblings_of c.deref.result.now) c.clear.ensures.items ∙ ap siblings_of known-is ∙ siblings-known indices count level (omega (arith, c.len-level-end.ensures)) in
     All-same (λ i. i < length c.deref-in-loop-level.result.now) c.deref-in-loop-level-2.result.now (taken indices count level) positions
     (subst (λ (ds : List (List ℕ)). All (λ i. i < length ds) (taken indices count level)) (sym c.deref-in-loop-level.ensures.value)
     (taken-within sha256 g.T.ElementBytes.bytes d.matrices.items count d.levels.items d.tree indices level (omega (arith, c.len-level-end.ensures)) here c.index.ensures))
@@ -32,9 +32,9 @@ loop-level-preserved g c =
     let at = digest sha256 (matrix_rows g.T.ElementBytes.bytes d.matrices.items) in
     let known-is = c.deref.ensures.value ∙ c.loop-level.invariant.known in
     let positions : c.deref-in-loop-level-2.result.now ≡ taken indices count level =
-    c.deref-in-loop-level-2.ensures.value ∙ c.in_ok-step.ensures.siblings ∙ ap siblings_of known-is ∙ siblings-known indices count level (omega (arith, c.len-level-end.ensures)) in
+    c.deref-in-loop-level-2.ensures.value ∙ c.in_ok-known-2.ensures.siblings ∙ ap (λ before. before ++ siblings_of c.deref.result.now) c.clear.ensures.items ∙ ap siblings_of known-is ∙ siblings-known indices count level (omega (arith, c.len-level-end.ensures)) in
     record {
-      known = c.in_ok-step.ensures.parents ∙ ap parents_of known-is ∙ parents-known indices count level (omega (arith, c.len-level-end.ensures)) ∙ ap (known indices count) (sym (add-one level));
+      known = c.in_ok-known-2.ensures.parents ∙ ap parents_of known-is ∙ parents-known indices count level (omega (arith, c.len-level-end.ensures)) ∙ ap (known indices count) (sym (add-one level));
       proof =
           c.in_ok-append_digests.ensures
           ∙ ap (λ before. before ++ map (λ i. get_or c.deref-in-loop-level.result.now i []) c.deref-in-loop-level-2.result.now) c.loop-level.invariant.proof
