@@ -9,7 +9,7 @@ use Rattle.std.proofs.lemmas.List.Elements.{All-head, All-tail}
 use Rattle.circle_commit.specs.Matrix.{IsPowerOfTwo}
 use Rattle.circle_commit.specs.Mmcs.{greatest}
 use Rattle.circle_domain.proofs.Powers.{pow_order}
-use Rattle.circle_plane.specs.PeriodicColumns.{IsPeriod}
+use Rattle.circle_plane.specs.PeriodicColumns.{IsPeriod, table_height}
 
 greatest-append : (ns : List ℕ) (n : ℕ) → greatest (ns ++ n ∷ []) ≡ max n (greatest ns)
 greatest-append [] n = refl
@@ -53,3 +53,12 @@ pub greatest-positive : (size : ℕ) (ns : List ℕ) → 1 ≤ length ns → All
 greatest-positive size ns some powers =
     let power = greatest-power size ns some powers in
     omega (arith, power.1, pow_pos power.0)
+
+-- the number of a table's entries, of the numbers as they are at hand
+pub entries-counted : (periods : List ℕ) (period a b m n width : ℕ) → period ≡ greatest periods → a ≡ m → b ≡ n → width ≡ length periods →
+    period * 2 ^ (a - b) * width ≡ table_height periods (m - n) * length periods
+entries-counted periods period a b m n width e_p e_a e_b e_w =
+    ap (λ p. p * 2 ^ (a - b) * width) e_p
+    ∙ ap (λ i. greatest periods * 2 ^ (i - b) * width) e_a
+    ∙ ap (λ i. greatest periods * 2 ^ (m - i) * width) e_b
+    ∙ ap (λ w. table_height periods (m - n) * w) e_w

@@ -16,7 +16,7 @@ use Rattle.circle_plane.specs.PeriodicColumns.{IsPeriod, IsFirstFault, IsRefusal
 use Rattle.circle_plane.specs.PeriodicRows.{IsExtension, table_row}
 use Rattle.circle_plane.specs.declared.periodic.PeriodicError.TheVariants.{HeightTooLarge, Memory}
 use Rattle.circle_plane.proofs.PeriodicTables.{table-values, some_entries}
-use Rattle.circle_plane.proofs.Periods.{greatest-positive}
+use Rattle.circle_plane.proofs.Periods.{greatest-positive, entries-counted}
 use Rattle.circle_plane.proofs.Refused.{handed_on, fault-refusal}
 use Rattle.circle_plane.proofs.periodic.CirclePeriodicEvaluatorPeriodicEvaluatorCircleDomain.eval_on_lde.Goals as goal
 
@@ -45,11 +45,7 @@ returns-in_err-height-clause-refusal g c =
     let periods = map length all in
     let size = 2 ^ log_size c.args.trace_domain.now in
     let blowup = log_size c.args.lde_domain.now - log_size c.args.trace_domain.now in
-    let shift : c.log_n.result - c.log_n-2.result ≡ blowup = ap (λ n. n - c.log_n-2.result) c.log_n.ensures ∙ ap (λ n. log_size c.args.lde_domain.now - n) c.log_n-2.ensures in
-    let width : length columns ≡ length periods = sym (length-map all length ∙ length-map columns (λ column. column.items)) in
-    let total : c.in_ok-period.period * 2 ^ (c.log_n.result - c.log_n-2.result) * length columns ≡ table_height periods blowup * length periods =
-    ap (λ n. n * 2 ^ (c.log_n.result - c.log_n-2.result) * length columns) c.in_ok-period.ensures.longest
-    ∙ ap (λ b. greatest periods * 2 ^ b * length columns) shift ∙ ap (λ w. table_height periods blowup * w) width in
+    let total = entries-counted periods _ _ _ _ _ (length columns) c.in_ok-period.ensures.longest c.log_n.ensures c.log_n-2.ensures (sym (length-map all length ∙ length-map columns (λ column. column.items))) in
     let refused = c.in_err-height.ensures.refusal in
     handed_on c.from_residual-in_err-height.result c.in_err-height.field-0.0 (IsRefusal size periods blowup) c.from_residual-in_err-height.ensures.1
     (subst (IsRefusal size periods blowup) (sym refused.0)
@@ -67,11 +63,7 @@ returns-in_err-columns-clause-refusal g c =
     let periods = map length all in
     let size = 2 ^ log_size c.args.trace_domain.now in
     let blowup = log_size c.args.lde_domain.now - log_size c.args.trace_domain.now in
-    let shift : c.log_n.result - c.log_n-2.result ≡ blowup = ap (λ n. n - c.log_n-2.result) c.log_n.ensures ∙ ap (λ n. log_size c.args.lde_domain.now - n) c.log_n-2.ensures in
-    let width : length columns ≡ length periods = sym (length-map all length ∙ length-map columns (λ column. column.items)) in
-    let total : c.in_ok-period.period * 2 ^ (c.log_n.result - c.log_n-2.result) * length columns ≡ table_height periods blowup * length periods =
-    ap (λ n. n * 2 ^ (c.log_n.result - c.log_n-2.result) * length columns) c.in_ok-period.ensures.longest
-    ∙ ap (λ b. greatest periods * 2 ^ b * length columns) shift ∙ ap (λ w. table_height periods blowup * w) width in
+    let total = entries-counted periods _ _ _ _ _ (length columns) c.in_ok-period.ensures.longest c.log_n.ensures c.log_n-2.ensures (sym (length-map all length ∙ length-map columns (λ column. column.items))) in
     handed_on c.from_residual-in_err-columns.result Memory (IsRefusal size periods blowup) c.from_residual-in_err-columns.ensures.1
     (subst (λ n. All (IsPeriod n) periods) c.size.ensures c.in_ok-period.ensures.fit, omega (arith, c.in_ok-height.ensures.counted, total))
 
@@ -92,11 +84,7 @@ returns-in_err-values-clause-refusal g c =
     let periods = map length all in
     let size = 2 ^ log_size c.args.trace_domain.now in
     let blowup = log_size c.args.lde_domain.now - log_size c.args.trace_domain.now in
-    let shift : c.log_n.result - c.log_n-2.result ≡ blowup = ap (λ n. n - c.log_n-2.result) c.log_n.ensures ∙ ap (λ n. log_size c.args.lde_domain.now - n) c.log_n-2.ensures in
-    let width : length columns ≡ length periods = sym (length-map all length ∙ length-map columns (λ column. column.items)) in
-    let total : c.in_ok-period.period * 2 ^ (c.log_n.result - c.log_n-2.result) * length columns ≡ table_height periods blowup * length periods =
-    ap (λ n. n * 2 ^ (c.log_n.result - c.log_n-2.result) * length columns) c.in_ok-period.ensures.longest
-    ∙ ap (λ b. greatest periods * 2 ^ b * length columns) shift ∙ ap (λ w. table_height periods blowup * w) width in
+    let total = entries-counted periods _ _ _ _ _ (length columns) c.in_ok-period.ensures.longest c.log_n.ensures c.log_n-2.ensures (sym (length-map all length ∙ length-map columns (λ column. column.items))) in
     handed_on c.from_residual-in_err-values.result Memory (IsRefusal size periods blowup) c.from_residual-in_err-values.ensures.1
     (subst (λ n. All (IsPeriod n) periods) c.size.ensures c.in_ok-period.ensures.fit, omega (arith, c.in_ok-height.ensures.counted, total))
 
@@ -139,12 +127,9 @@ returns-clause-table g c =
     let flat : values.items ≡ flat_map row (range_with_len 0 height) =
     c.in_ok-values.ensures ∙ ap (λ xs. flat_map (table_row z (map (λ column. column.items) xs)) (range_with_len 0 height)) c.deref.ensures.value in
     let shift : c.log_n.result - c.log_n-2.result ≡ blowup = ap (λ i. i - c.log_n-2.result) c.log_n.ensures ∙ ap (λ i. m - i) c.log_n-2.ensures in
-    let periods_count : length periods ≡ length columns = length-map all length ∙ listed in
     let tall : height ≡ table_height periods blowup =
     c.in_ok-height.ensures.height ∙ ap (λ l. l * 2 ^ (c.log_n.result - c.log_n-2.result)) c.in_ok-period.ensures.longest ∙ ap (λ b. greatest periods * 2 ^ b) shift in
-    let total : c.in_ok-period.period * 2 ^ (c.log_n.result - c.log_n-2.result) * length columns ≡ table_height periods blowup * length all =
-    ap (λ l. l * 2 ^ (c.log_n.result - c.log_n-2.result) * length columns) c.in_ok-period.ensures.longest
-    ∙ ap (λ b. greatest periods * 2 ^ b * length columns) shift ∙ ap (λ w. table_height periods blowup * w) (sym listed) in
+    let total = entries-counted periods _ _ _ _ _ (length columns) c.in_ok-period.ensures.longest c.log_n.ensures c.log_n-2.ensures (sym (length-map all length ∙ listed)) ∙ ap (λ w. table_height periods blowup * w) (length-map all length) in
     let fit : All (IsPeriod (2 ^ n)) periods = subst (λ s. All (IsPeriod s) periods) c.size.ensures c.in_ok-period.ensures.fit in
     let each : (j : ℕ) → j < length all → IsExtension k gen g.F.ComplexExtendable.CIRCLE_TWO_ADICITY n m (shift_of c.args.lde_domain.now) (get_or all j []) (get_or made j []) =
     λ j lt. subst (λ i. IsExtension k gen g.F.ComplexExtendable.CIRCLE_TWO_ADICITY i m (shift_of c.args.lde_domain.now) (get_or all j []) (get_or made j [])) c.log_n-3.ensures
