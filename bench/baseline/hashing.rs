@@ -27,23 +27,29 @@ impl Challenger {
         self.state = self.digest(0, &element.to_be_bytes());
     }
 
-    /// The first eight bytes of a draw.
-    fn draw(&mut self) -> u64 {
+    /// The first eight bytes of the digest that a draw gives.
+    fn peek(&self) -> u64 {
         let digest = self.digest(1, &[]);
-        self.state = self.digest(2, &[]);
         digest[..8].iter().fold(0, |number, byte| number << 8 | u64::from(*byte))
+    }
+
+    fn draw(&mut self) -> u64 {
+        let drawn = self.peek();
+        self.state = self.digest(2, &[]);
+        drawn
     }
 
     fn sample(&mut self) -> u32 {
         (self.draw() % u64::from(ORDER)) as u32
     }
 
-    /// The least element after which so many bits are zero.
+    /// The least element after which so many bits are zero. The state after a draw is made once, for it.
     fn grind(&mut self, bits: u32) -> u32 {
         for witness in 0..ORDER {
             let mut after = *self;
             after.observe(witness);
-            if after.draw() & ((1 << bits) - 1) == 0 {
+            if after.peek() & ((1 << bits) - 1) == 0 {
+                after.draw();
                 *self = after;
                 return witness;
             }

@@ -17,13 +17,11 @@ use Rattle.circle_plane.specs.PeriodicColumns.{IsPeriod, table_height}
 use Rattle.circle_plane.specs.PeriodicRows.{IsExtension, table_row}
 use Rattle.circle_plane.proofs.Periods.{below-greatest, greatest-power, mod-within}
 
--- the columns' extensions have entries
-pub some_entries : {F : Type 0} (k : FieldOps F) (gen : ℕ → Coordinates F) (bits n m : ℕ) (s : Coordinates F) (columns made : List (List F)) → length made ≡ length columns →
-    ((c : ℕ) → c < length columns → IsExtension k gen bits n m s (slice_index_or columns c []) (slice_index_or made c [])) → All (λ column. 1 ≤ length column) made
-some_entries k gen bits n m s columns made count each = λ c d lt.
-    let extension = each c (omega (arith, lt, count)) in
-    let positive : 1 ≤ 2 ^ extension.period.0 = pow_pos extension.period.0 in
-    omega (arith, positive, extension.period.1, ap length (get_or_default made c d [] lt))
+-- the columns' extensions have powers of two of entries
+pub extended_powers : {F : Type 0} (k : FieldOps F) (gen : ℕ → Coordinates F) (bits n m : ℕ) (s : Coordinates F) (columns made : List (List F)) → length made ≡ length columns →
+    ((c : ℕ) → c < length columns → IsExtension k gen bits n m s (slice_index_or columns c []) (slice_index_or made c [])) → All (λ column. IsPowerOfTwo (length column)) made
+extended_powers k gen bits n m s columns made count each = λ c d lt.
+    let extension = each c (omega (arith, lt, count)) in (extension.period.0, ap length (get_or_default made c d [] lt) ∙ extension.period.1)
 
 module _ {F : Type 0} (k : FieldOps F) (gen : ℕ → Coordinates F) (bits n m : ℕ) (s : Coordinates F) (columns made : List (List F)) (some : 1 ≤ length columns)
     (fit : All (IsPeriod (2 ^ n)) (map length columns)) (count : length made ≡ length columns)

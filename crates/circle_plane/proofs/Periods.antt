@@ -2,7 +2,8 @@
 use Rattle.std.specs.Prelude.{◌≡◌, ℕ, ◌+◌, ◌-◌, ◌*◌, ◌%◌, ◌^◌, ◌<◌, ◌≤◌, List, [], ◌∷◌, ◌++◌, length, max, take, All}
 use Rattle.std.proofs.Common.{zero, suc, refl, sym, ap, ◌∙◌, arith, get_or, ⊎_elim}
 use Rattle.std.proofs.Math.Pow.{mod-mod-pow}
-use Rattle.std.proofs.lemmas.Nat.{pow-add, pow_pos}
+use Rattle.std.specs.Int.Bits.{bit_and}
+use Rattle.std.proofs.lemmas.Nat.{pow-add, pow_pos, and_mask}
 use Rattle.std.proofs.lemmas.Bool.{cases_lt}
 use Rattle.std.proofs.lemmas.List.{take_more}
 use Rattle.std.proofs.lemmas.List.Elements.{All-head, All-tail}
@@ -62,3 +63,7 @@ entries-counted periods period a b m n width e_p e_a e_b e_w =
     ∙ ap (λ i. greatest periods * 2 ^ (i - b) * width) e_a
     ∙ ap (λ i. greatest periods * 2 ^ (m - i) * width) e_b
     ∙ ap (λ w. table_height periods (m - n) * w) e_w
+
+-- the remainder by a power of two is the low bits
+pub low-bits : (r n : ℕ) → IsPowerOfTwo n → bit_and r (n - 1) ≡ r % n
+low-bits r n power = ap (λ m. bit_and r (m - 1)) power.1 ∙ and_mask r power.0 ∙ ap (λ m. r % m) (sym power.1)

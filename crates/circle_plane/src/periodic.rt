@@ -280,7 +280,7 @@ fn repeated_rows<F: Field>(
     columns: &[Vec<F>],
     height: usize,
 ) -> Result<Vec<F>, AllocError>
-    requires nonempty { All (λ column. 1 ≤ length column) (map (λ column. column.items) columns.now) }
+    requires powers { All (λ column. IsPowerOfTwo (length column)) (map (λ column. column.items) columns.now) }
     ensures { IfOk result (λ made. made.items ≡ flat_map (table_row F.ops.zero (map (λ column. column.items) columns.now)) (range_with_len 0 height)) }
 {
     let len = height.checked_mul(columns.len()).ok_or(AllocError)?;
@@ -293,11 +293,11 @@ fn repeated_rows<F: Field>(
 
 // Appends the entry of each column at row `r` of its repetition.
 fn append_row<F: Field>(values: &mut Vec<F>, columns: &[Vec<F>], r: usize) -> Result<(), AllocError>
-    requires nonempty { All (λ column. 1 ≤ length column) (map (λ column. column.items) columns.now) }
+    requires powers { All (λ column. IsPowerOfTwo (length column)) (map (λ column. column.items) columns.now) }
     ensures { OnOk result (values.new.items ≡ values.old.items ++ table_row F.ops.zero (map (λ column. column.items) columns.now) r) }
 {
     for column in columns {
-        values.push(column[r % column.len()])?;
+        values.push(column[r & (column.len() - 1)])?;
     }
     Ok(())
 }

@@ -1,4 +1,4 @@
-use Rattle.std.proofs.Common.{◌≡◌, ◌++◌, [], ◌∷◌, ◌∙◌, sym, ap, arith, map}
+use Rattle.std.proofs.Common.{◌++◌, [], ◌∷◌, ◌∙◌, sym, ap, map}
 use Rattle.std.specs.List.{range_with_len}
 use Rattle.circle_domain.proofs.Twiddles.{range-more}
 use Rattle.circle_plane.proofs.dot_product.zeros.Goals as goal

@@ -1,4 +1,4 @@
-use Rattle.std.proofs.Common.{◌≡◌, ◌≤◌, ◌*◌, ◌^◌, refl, arith}
+use Rattle.std.proofs.Common.{◌≤◌, ◌*◌, ◌^◌, refl, arith}
 use Rattle.std.proofs.Math.Nat.{mul-le-mul_right, mul-le-mul_left}
 use Rattle.circle_domain.proofs.Powers.{pow_within}
 use Rattle.circle_plane.proofs.periodic.checked_height.Goals as goal

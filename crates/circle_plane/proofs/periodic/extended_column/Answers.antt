@@ -1,14 +1,13 @@
-use Rattle.std.proofs.Common.{◌≡◌, ℕ, ◌+◌, ◌*◌, ◌-◌, ◌^◌, ◌<◌, ◌≤◌, [], ◌∙◌, List, sym, ap, subst, length, map, arith}
+use Rattle.std.proofs.Common.{◌≡◌, ◌+◌, ◌-◌, ◌^◌, ◌≤◌, ◌∙◌, List, sym, ap, subst, length, map, arith}
 use Rattle.std.proofs.Math.Nat.{pow-suc}
-use Rattle.circle_field.specs.Circle.{Coordinates, times}
+use Rattle.circle_field.specs.Circle.{times}
 use Rattle.circle_point.specs.Basis.{value}
 use Rattle.circle_domain.specs.Domain.{log_size, shift_of}
 use Rattle.circle_domain.specs.Order.{IsGenuine, natural_order}
 use Rattle.circle_domain.specs.Values.{Interpolates}
-use Rattle.circle_domain.proofs.Powers.{power_is, pow_order, pow_within}
+use Rattle.circle_domain.proofs.Powers.{power_is, pow_order}
 use Rattle.circle_domain.proofs.Results.{if_ok_both}
 use Rattle.circle_domain.proofs.StandardDomain.{standard-genuine}
-use Rattle.circle_plane.specs.PeriodicRows.{IsExtension}
 use Rattle.circle_plane.proofs.PeriodicValues.{constant-extension, period-extension}
 use Rattle.circle_plane.proofs.periodic.extended_column.Goals as goal
 

@@ -1,13 +1,12 @@
-use Rattle.std.proofs.Common.{◌≡◌, ℕ, ◌/◌, ◌^◌, ◌≤◌, [], ◌∷◌, ◌∙◌, List, sym, ap, length, map, arith}
+use Rattle.std.proofs.Common.{◌≡◌, ◌/◌, [], ◌∷◌, ◌∙◌, sym, ap, length, map, arith}
 use Rattle.circle_commit.specs.Matrix.{rows_from, column}
 use Rattle.circle_commit.specs.RowFacts.{length-rows_from, rows_from-single}
-use Rattle.circle_commit.specs.RowMajorMatrix.{rows, width_of, values_of}
+use Rattle.circle_commit.specs.RowMajorMatrix.{rows, width_of}
 use Rattle.circle_commit.specs.RowMajorMatrixView.{rows as view_rows, length-rows}
 use Rattle.circle_point.specs.Basis.{value, values_at}
 use Rattle.circle_domain.specs.Domain.{log_size, shift_of}
 use Rattle.circle_domain.specs.Order.{natural_order}
 use Rattle.circle_domain.specs.Ordering.{other_order}
-use Rattle.circle_domain.specs.Values.{Interpolates}
 use Rattle.circle_plane.specs.CircleEvaluations.{cfft_values}
 use Rattle.circle_plane.proofs.OneColumn.{one-column-of, one-only, one-value, stored-column}
 use Rattle.circle_plane.proofs.periodic.extrapolated.Goals as goal

@@ -1,4 +1,4 @@
-use Rattle.std.proofs.Common.{◌≡◌, ◌≤◌, ◌<◌, ◌∙◌, [], sym, ap, subst, length, map, take, max, arith, get_or, All}
+use Rattle.std.proofs.Common.{◌≡◌, ◌≤◌, ◌<◌, ◌∙◌, [], sym, ap, subst, length, map, max, arith, get_or, All}
 use Rattle.std.proofs.lemmas.List.{length-map, get_or-map, take_all}
 use Rattle.std.proofs.lemmas.List.Elements.{All-more}
 use Rattle.circle_commit.specs.Mmcs.{greatest}

@@ -1,4 +1,4 @@
-use Rattle.std.proofs.Common.{◌≡◌, ℕ, ◌+◌, ◌++◌, ◌∙◌, sym, ap, map, arith, add-one}
+use Rattle.std.proofs.Common.{◌≡◌, ◌+◌, ◌++◌, ◌∙◌, sym, ap, map, arith, add-one}
 use Rattle.std.specs.List.{range_with_len, flat_map}
 use Rattle.circle_commit.specs.FlatRows.{flat-more}
 use Rattle.circle_plane.specs.PeriodicRows.{table_row}

@@ -11,11 +11,12 @@ use Rattle.circle_commit.specs.Matrix.{rows_from}
 use Rattle.circle_commit.specs.Mmcs.{greatest}
 use Rattle.circle_commit.specs.PeriodicLdeTable.{rows as table_rows, height_of}
 use Rattle.circle_commit.specs.RowMajorMatrix.{rows as matrix_rows, length-rows}
+use Rattle.circle_commit.specs.Matrix.{IsPowerOfTwo}
 use Rattle.circle_domain.specs.Domain.{log_size, shift_of}
 use Rattle.circle_plane.specs.PeriodicColumns.{IsPeriod, IsFirstFault, IsRefusal, table_height}
 use Rattle.circle_plane.specs.PeriodicRows.{IsExtension, table_row}
 use Rattle.circle_plane.specs.declared.periodic.PeriodicError.TheVariants.{HeightTooLarge, Memory}
-use Rattle.circle_plane.proofs.PeriodicTables.{table-values, some_entries}
+use Rattle.circle_plane.proofs.PeriodicTables.{table-values, extended_powers}
 use Rattle.circle_plane.proofs.Periods.{greatest-positive, entries-counted}
 use Rattle.circle_plane.proofs.Refused.{handed_on, fault-refusal}
 use Rattle.circle_plane.proofs.periodic.CirclePeriodicEvaluatorPeriodicEvaluatorCircleDomain.eval_on_lde.Goals as goal
@@ -71,11 +72,11 @@ pub repeated_rows-requires : goal.repeated_rows-requires
 repeated_rows-requires g c =
     let columns = c.args.periodic_table.now in
     let made = c.in_ok-columns.columns.items in
-    let some = some_entries g.F.Operations.ops g.F.ComplexExtendable.generators g.F.ComplexExtendable.CIRCLE_TWO_ADICITY c.log_n-3.result (log_size c.args.lde_domain.now) (shift_of c.args.lde_domain.now)
+    let powers = extended_powers g.F.Operations.ops g.F.ComplexExtendable.generators g.F.ComplexExtendable.CIRCLE_TWO_ADICITY c.log_n-3.result (log_size c.args.lde_domain.now) (shift_of c.args.lde_domain.now)
     (map (λ column. column.items) columns) (map (λ column. column.items) made)
     (length-map made (λ column. column.items) ∙ c.in_ok-columns.ensures.count ∙ sym (length-map columns (λ column. column.items)))
     (λ j lt. c.in_ok-columns.ensures.each j (omega (arith, lt, length-map columns (λ column. column.items)))) in
-    record { nonempty = subst (λ (xs : List _). All (λ column. 1 ≤ length column) (map (λ column. column.items) xs)) (sym c.deref.ensures.value) some }
+    record { powers = subst (λ (xs : List _). All (λ column. IsPowerOfTwo (length column)) (map (λ column. column.items) xs)) (sym c.deref.ensures.value) powers }
 
 pub returns-in_err-values-clause-refusal : goal.returns-in_err-values-clause-refusal
 returns-in_err-values-clause-refusal g c =
