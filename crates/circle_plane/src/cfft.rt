@@ -292,6 +292,35 @@ fn compute_twiddles<F: ComplexExtendable>(
     Ok(twiddles)
 }
 
+/// The y coordinate of the first point of each pair of opposite points, in the order of the transform.
+///
+/// Asks `1 <= log_n <= CIRCLE_TWO_ADICITY`. Fails where memory is refused.
+pub fn y_twiddles<F: ComplexExtendable>(
+    alloc: Global,
+    domain: CircleDomain<F>,
+) -> Result<Vec<F>, AllocError>
+    requires positive { 1 ≤ log_size domain }
+    requires in_group { log_size domain ≤ F.CIRCLE_TWO_ADICITY }
+    ensures { IfOk result (λ ys. ys.items ≡ map (λ p. p.y) (coset F.ops F.generators (log_size domain - 1) (shift_of domain))) }
+{
+    ordinates(alloc, &first_points(alloc, domain)?)
+}
+
+/// The x coordinate of the first point of every second pair of opposite points, in the order of the
+/// transform; the pair after it has the opposite x coordinate.
+///
+/// Asks `2 <= log_n <= CIRCLE_TWO_ADICITY`. Fails where memory is refused.
+pub fn x_twiddles<F: ComplexExtendable>(
+    alloc: Global,
+    domain: CircleDomain<F>,
+) -> Result<Vec<F>, AllocError>
+    requires two_pairs { 2 ≤ log_size domain }
+    requires in_group { log_size domain ≤ F.CIRCLE_TWO_ADICITY }
+    ensures { IfOk result (λ xs. xs.items ≡ map (λ p. p.x) (every_second (coset F.ops F.generators (log_size domain - 1) (shift_of domain)))) }
+{
+    every_second_abscissa(alloc, &first_points(alloc, domain)?)
+}
+
 // The factors of a layer, from the first points of the pairs or from the factors of the layer before.
 fn layer_after<F: Field>(
     alloc: Global,

@@ -6,7 +6,7 @@ mod dot_product;
 mod layers;
 pub mod periodic;
 
-pub use cfft::{CircleEvaluations, circle_basis};
+pub use cfft::{CircleEvaluations, circle_basis, x_twiddles, y_twiddles};
 pub use circle_domain::{
     CfftPerm, CfftPermutable, CfftView, CircleCoset, CircleDomain, CirclePoints, cfft_permute_index,
 };

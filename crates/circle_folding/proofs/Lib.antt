@@ -1,0 +1,4 @@
+pub mod Folds
+pub mod Twiddles
+pub mod Vanishing
+pub mod Weighted

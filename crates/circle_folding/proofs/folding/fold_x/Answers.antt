@@ -1,0 +1,51 @@
+use Rattle.std.proofs.Common.{◌≢◌, ◌^◌, ◌∙◌, sym, ap, subst, length, map, All, arith}
+use Rattle.std.proofs.lemmas.Result.{IfOk-weaker}
+use Rattle.circle_domain.specs.Domain.{log_size, shift_of}
+use Rattle.circle_folding.specs.Fold.{folds, x_twiddles}
+use Rattle.circle_folding.proofs.Twiddles.{logarithm, length-x_twiddles, x_twiddles-of, x_twiddles-nonzero}
+use Rattle.circle_folding.proofs.folding.fold_x.Goals as goal
+
+pub standard-domain-requires : goal.standard-domain-requires
+standard-domain-requires g c =
+    let power = c.requires.height in
+    let r = logarithm c.height.result c.ilog2-log_height.result power.0 (c.height.ensures ∙ power.1) c.ilog2-log_height.ensures.power_le c.ilog2-log_height.ensures.next_power_gt in
+    omega (arith, r, power.2, c.requires.arity)
+
+pub x_twiddles-requires-clause-in_group : goal.x_twiddles-requires-clause-in_group
+x_twiddles-requires-clause-in_group g c =
+    let power = c.requires.height in
+    let r = logarithm c.height.result c.ilog2-log_height.result power.0 (c.height.ensures ∙ power.1) c.ilog2-log_height.ensures.power_le c.ilog2-log_height.ensures.next_power_gt in
+    omega (arith, r, power.2, c.requires.arity, c.standard-domain.ensures.size)
+
+pub fold_rows-requires-clause-height : goal.fold_rows-requires-clause-height
+fold_rows-requires-clause-height g c =
+    let k = g.F.Operations.ops in
+    let gen = g.F.ComplexExtendable.generators in
+    let power = c.requires.height in
+    let r = c.ilog2-log_height.result in
+    let same = logarithm c.height.result r power.0 (c.height.ensures ∙ power.1) c.ilog2-log_height.ensures.power_le c.ilog2-log_height.ensures.next_power_gt in
+    let are = x_twiddles-of k gen r c.args.log_arity (log_size c.standard-domain.result) (shift_of c.standard-domain.result) c.in_ok-x_twiddles.field-0.items c.requires.arity c.standard-domain.ensures.size c.standard-domain.ensures.shift c.in_ok-x_twiddles.ensures in
+    power.1 ∙ ap (λ n. 2 ^ n) (sym same) ∙ sym (ap length (c.deref.ensures.value ∙ are) ∙ length-x_twiddles k gen r)
+
+pub fold_rows-requires-clause-nonzero : goal.fold_rows-requires-clause-nonzero
+fold_rows-requires-clause-nonzero g c =
+    let k = g.F.Operations.ops in
+    let gen = g.F.ComplexExtendable.generators in
+    let power = c.requires.height in
+    let r = c.ilog2-log_height.result in
+    let same = logarithm c.height.result r power.0 (c.height.ensures ∙ power.1) c.ilog2-log_height.ensures.power_le c.ilog2-log_height.ensures.next_power_gt in
+    let are = x_twiddles-of k gen r c.args.log_arity (log_size c.standard-domain.result) (shift_of c.standard-domain.result) c.in_ok-x_twiddles.field-0.items c.requires.arity c.standard-domain.ensures.size c.standard-domain.ensures.shift c.in_ok-x_twiddles.ensures in
+    subst (All (λ t. t ≢ k.zero)) (sym (c.deref.ensures.value ∙ are)) (x_twiddles-nonzero g.F.Operations.laws g.met.F.ComplexExtendable.generators_law r (omega (arith, same, power.2)))
+
+pub returns : goal.returns
+returns g c =
+    let k = g.F.Operations.ops in
+    let gen = g.F.ComplexExtendable.generators in
+    let r = c.ilog2-log_height.result in
+    let rows = g.M.Matrix.rows c.args.evals.now in
+    let are = x_twiddles-of k gen r c.args.log_arity (log_size c.standard-domain.result) (shift_of c.standard-domain.result) c.in_ok-x_twiddles.field-0.items c.requires.arity c.standard-domain.ensures.size c.standard-domain.ensures.shift c.in_ok-x_twiddles.ensures in
+    IfOk-weaker c.fold_rows.result _ _
+    (λ made e n height.
+    let same = logarithm c.height.result r n (c.height.ensures ∙ height) c.ilog2-log_height.ensures.power_le c.ilog2-log_height.ensures.next_power_gt in
+    e ∙ ap (λ ts. folds g.EF.Operations.ops c.args.beta (map g.EF.ExtensionField.embed ts) rows) (c.deref.ensures.value ∙ are ∙ ap (x_twiddles k gen) same))
+    c.fold_rows.ensures

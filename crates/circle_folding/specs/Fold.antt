@@ -1,0 +1,31 @@
+-- Folding a word by pairs: Circle STARKs (ePrint 2024/278), section 4.2.
+use Rattle.std.specs.Prelude.{ℕ, ◌+◌, List, [], ◌∷◌, map}
+use Rattle.circle_field.specs.Field.{FieldOps, sub, two}
+use Rattle.circle_field.specs.Circle.{Coordinates}
+use Rattle.circle_domain.specs.Order.{coset}
+use Rattle.circle_domain.specs.Layers.{every_second, pairwise}
+
+module _ {E : Type 0} (l : FieldOps E) where
+  -- (a + b) / 2 + beta (a - b) / (2 t)
+  abbrev pub fold : E → E → E → E → E
+  fold a b t beta = l.add (l.mul (l.add a b) (l.inv (two l))) (l.mul (l.mul beta (sub l a b)) (l.inv (l.add t t)))
+
+  -- the fold of a row of two entries
+  abbrev pub fold_pair : E → E → List E → E
+  fold_pair beta t [] = l.zero
+  fold_pair beta t (a ∷ []) = l.zero
+  fold_pair beta t (a ∷ b ∷ rest) = fold a b t beta
+
+  -- the folds of rows of two entries, each by its own t
+  abbrev pub folds : E → List E → List (List E) → List E
+  folds beta ts pairs = pairwise (fold_pair beta) ts pairs
+
+module _ {F : Type 0} (k : FieldOps F) (gen : ℕ → Coordinates F) where
+  -- for each of the 2^m pairs of a word on the standard domain of 2^(m + 1) points, in the order of the transform, the y
+  -- coordinate of its first point
+  abbrev pub y_twiddles : ℕ → List F
+  y_twiddles m = map (λ p. p.y) (coset k gen m (gen (m + 2)))
+
+  -- for each of the 2^m pairs of a later word, on the x coordinates of 2^(m + 1) points, the first of its two x coordinates
+  abbrev pub x_twiddles : ℕ → List F
+  x_twiddles m = map (λ p. p.x) (every_second (coset k gen (m + 1) (gen (m + 3))))

@@ -1,0 +1,11 @@
+//! What the opening argument of Circle STARKs (IACR ePrint 2024/278) does with words: quotients that bind
+//! claimed values, and folding by pairs.
+#![tactic(auto)]
+
+pub mod deep_quotient;
+pub mod folding;
+#[cfg(test)]
+mod tests;
+
+pub use deep_quotient::deep_quotient_reduce_row;
+pub use folding::{fold_row_with_inv_twiddle, fold_x, fold_x_row, fold_y};
