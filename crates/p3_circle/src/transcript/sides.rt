@@ -1,5 +1,6 @@
 //! Both sides of a transcript.
 ghost use Rattle.std.specs.Prelude.{◌≡◌, ℕ, ◌<◌, ◌≤◌, ◌^◌, ◌↔◌, ◌⊎◌, List, [], ◌∷◌, ◌++◌, map, IsTrue, false, IsNone, IfOk, IfErr, OnOk, OnErr, Err, All, unwrap_or};
+ghost use Rattle.std.specs.Borrow.{sem, RestsIfErr};
 ghost use Rattle.circle_field.specs.Field.{of_nat};
 ghost use Rattle.circle_challenger.specs.Grinding.{passes, after_check};
 ghost use Rattle.circle_challenger.specs.Observing.{after_all};
@@ -43,6 +44,12 @@ struct Numbers {
     index_bits: usize,
 }
 
+/// What a run begins with: the steps that are due, and the numbers that its calls read.
+struct Seeded {
+    due: StepsDue,
+    shape: Numbers,
+}
+
 /// The transcript of one run: the challenger that it borrows, what its calls read of the shape that the
 /// run was described by, and for contracts alone the steps that are still due.
 ///
@@ -74,15 +81,49 @@ impl<
         challenger: &'a mut C,
         shape: CirclePcsShape,
     ) -> Result<Self, AllocError>
+        ensures* refused { sem 𝓛 (RestsIfErr C.row challenger.entry (λ t. t.challenger.ghost_name) result (λ n. n ≡ challenger.old)) }
         ensures same_reference { IfOk result (λ t. Borrows t challenger.entry) }
         ensures shape { IfOk result (λ t. t.shape ≡ numbers_of (shape_of shape)) }
         ensures due { IfOk result (λ t. due t ≡ steps_of EF.DEGREE (shape_of shape)) }
         ensures state { IfOk result (λ t. C.state (current t) ≡ after_all C.after_observe (C.state challenger.old) (map (of_nat F.ops) (text_of EF.DEGREE (shape_of shape)))) }
     {
-        let due = Self::seeded(alloc, challenger, &shape)?;
-        Ok(CircleTranscript {
+        match Self::seeded(alloc, challenger, shape) {
+            Ok(seeded) => Ok(Self::of_seeded(challenger, seeded)),
+            Err(refused) => Err(refused),
+        }
+    }
+
+    /// The transcript of a challenger that was seeded.
+    fn of_seeded(challenger: &'a mut C, seeded: Seeded) -> Self
+        ensures same_reference { Borrows result challenger.entry }
+        ensures same { current result ≡ challenger.old }
+        ensures due { due result ≡ seeded.due.steps }
+        ensures shape { result.shape ≡ seeded.shape }
+    {
+        let Seeded { due, shape } = seeded;
+        CircleTranscript {
             challenger,
             due,
+            shape,
+            of: PhantomData,
+        }
+    }
+
+    /// Seeds a challenger with the text of a run of this shape, and answers what the run begins with.
+    /// Where memory is refused the challenger is left as it was.
+    fn seeded(
+        alloc: Global,
+        challenger: &mut C,
+        shape: CirclePcsShape,
+    ) -> Result<Seeded, AllocError>
+        ensures refused { OnErr result (challenger.new ≡ challenger.old) }
+        ensures due { IfOk result (λ s. s.due.steps ≡ steps_of EF.DEGREE (shape_of shape)) }
+        ensures shape { IfOk result (λ s. s.shape ≡ numbers_of (shape_of shape)) }
+        ensures state { OnOk result (C.state challenger.new ≡ after_all C.after_observe (C.state challenger.old) (map (of_nat F.ops) (text_of EF.DEGREE (shape_of shape)))) }
+    {
+        let separator = shape.domain_separator::<F, EF>(alloc)?;
+        Ok(Seeded {
+            due: TranscriptState::<C, F, S>::new(challenger, &separator).pause(),
             shape: Numbers {
                 batch_pow_bits: shape.batch_pow_bits,
                 commit_pow_bits: shape.commit_pow_bits,
@@ -90,23 +131,7 @@ impl<
                 num_queries: shape.num_queries,
                 index_bits: shape.index_bits,
             },
-            of: PhantomData,
         })
-    }
-
-    /// Seeds a challenger with the text of a run of this shape, and answers the steps of the run. Where
-    /// memory is refused the challenger is left as it was.
-    fn seeded(
-        alloc: Global,
-        challenger: &mut C,
-        shape: &CirclePcsShape,
-    ) -> Result<StepsDue, AllocError>
-        ensures refused { OnErr result (challenger.new ≡ challenger.old) }
-        ensures due { IfOk result (λ d. d.steps ≡ steps_of EF.DEGREE (shape_of shape.now)) }
-        ensures state { OnOk result (C.state challenger.new ≡ after_all C.after_observe (C.state challenger.old) (map (of_nat F.ops) (text_of EF.DEGREE (shape_of shape.now)))) }
-    {
-        let separator = shape.domain_separator::<F, EF>(alloc)?;
-        Ok(TranscriptState::<C, F, S>::new(challenger, &separator).pause())
     }
 
     /// Takes in the commitment to the first layer, and draws the challenge that folds that layer.
