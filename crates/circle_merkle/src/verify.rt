@@ -1,9 +1,9 @@
 //! Whether opened rows are those of a commitment.
-ghost use Rattle.std.specs.Prelude.{◌≡◌, ℕ, ◌+◌, ◌^◌, ◌<◌, ◌≤◌, ◌↔◌, List, length, All, IsTrue, IfOk, IfErr, OnOk};
+ghost use Rattle.std.specs.Prelude.{◌≡◌, ℕ, ◌↔◌, List, IsTrue, IfOk, IfErr, OnOk};
 ghost use Rattle.sha2.specs.Sha256.{sha256};
 ghost use Rattle.circle_commit.specs.Mmcs.{opened_rows};
 ghost use Rattle.circle_merkle.specs.Order.{first_places};
-ghost use Rattle.circle_merkle.specs.Tree.{known, taken_below};
+ghost use Rattle.circle_merkle.specs.Tree.{taken_below};
 ghost use Rattle.circle_merkle.specs.Authentication.{Authenticates};
 ghost use Rattle.circle_merkle.specs.Verdict.{IsRight};
 

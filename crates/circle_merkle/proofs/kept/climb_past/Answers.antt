@@ -1,4 +1,4 @@
-use Rattle.std.proofs.Common.{◌≡◌, ◌++◌, ◌/◌, ◌<◌, ◌∙◌, [], ap, sym, subst, length, map, All, List, ℕ, arith, get_or}
+use Rattle.std.proofs.Common.{◌++◌, ◌/◌, ◌<◌, ◌∙◌, [], ap, sym, subst, length, map, All, List, ℕ, arith, get_or}
 use Rattle.circle_merkle.specs.Walk.{parents_of, siblings_of}
 use Rattle.circle_merkle.proofs.Maps.{moved_over}
 use Rattle.circle_merkle.proofs.SplitPair.{siblings-lone, siblings-both, lone-within, after-within}

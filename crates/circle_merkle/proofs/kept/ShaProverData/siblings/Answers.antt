@@ -1,4 +1,4 @@
-use Rattle.std.proofs.Common.{◌≡◌, ◌-◌, ◌++◌, ◌<◌, ◌∙◌, [], ap, sym, map, length, vec_len, add-one, arith, get_or, All, subst, List, ℕ}
+use Rattle.std.proofs.Common.{◌-◌, ◌++◌, ◌<◌, ◌∙◌, [], ap, sym, map, length, vec_len, add-one, arith, get_or, All, subst, List, ℕ}
 use Rattle.std.proofs.lemmas.List.Elements.{All-same}
 use Rattle.sha2.specs.Sha256.{sha256}
 use Rattle.circle_merkle.specs.Tree.{digest, known, taken, proof_of}
