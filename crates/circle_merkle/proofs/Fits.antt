@@ -1,7 +1,7 @@
 -- Rows of the widths of shapes, and the greatest height.
-use Rattle.std.specs.Prelude.{◌≡◌, ℕ, ◌+◌, ◌*◌, ◌/◌, ◌<◌, ◌≤◌, List, [], ◌∷◌, ◌++◌, length, map, max, take, All, Vec, vec_len}
+use Rattle.std.specs.Prelude.{◌≡◌, ℕ, ◌+◌, ◌*◌, ◌/◌, ◌^◌, ◌<◌, ◌≤◌, List, [], ◌∷◌, ◌++◌, length, map, max, take, All, Vec, vec_len}
 use Rattle.std.specs.declared.alloc.Global.{Global}
-use Rattle.std.proofs.Common.{zero, suc, refl, sym, ap, ◌∙◌, arith, get_or, ⊎_elim}
+use Rattle.std.proofs.Common.{zero, suc, refl, sym, ap, subst, ◌∙◌, arith, get_or, ⊎_elim}
 use Rattle.std.proofs.Math.Nat.{lt-div-mul-add}
 use Rattle.std.proofs.lemmas.Bool.{cases_lt}
 use Rattle.std.proofs.lemmas.List.{length-map, get_or-map, map-append, take_more}
@@ -10,6 +10,7 @@ use Rattle.circle_commit.specs.Matrix.{IsPowerOfTwo}
 use Rattle.circle_commit.specs.declared.matrix.Dimensions.{Dimensions}
 use Rattle.circle_commit.specs.Mmcs.{greatest, heights, opened_rows}
 use Rattle.circle_merkle.specs.Authentication.{HasShape}
+use Rattle.circle_merkle.proofs.Powers.{logarithm}
 
 pub greatest-append : (ns : List ℕ) (n : ℕ) → greatest (ns ++ n ∷ []) ≡ max n (greatest ns)
 greatest-append [] n = refl
@@ -77,3 +78,10 @@ greatest-power (dim ∷ next ∷ dims) some powers =
     (λ lt. let e : max dim.height rest ≡ rest = omega arith in (others.0, e ∙ others.1))
     (λ ge. let e : max dim.height rest ≡ dim.height = omega arith in (power.0, e ∙ power.1))
     (cases_lt dim.height rest)
+
+-- indices below the greatest height are below the power of two that it is
+pub below-power : {T : Type 0} {opened : List (List (List T))} (dims : List Dimensions) (indices : List ℕ) (top r : ℕ) → HasShape dims opened → top ≡ greatest (heights dims) → 2 ^ r ≤ top → top < 2 * 2 ^ r →
+    All (λ i. i < greatest (heights dims)) indices → All (λ i. i < 2 ^ r) indices
+below-power dims indices top r shape e low high below =
+    let power = greatest-power dims shape.some shape.powers_of_two in
+    subst (λ n. All (λ i. i < n) indices) (sym (logarithm top r (power.0, e ∙ power.1) low high ∙ e)) below

@@ -1,6 +1,7 @@
 pub mod RowBytesMore
 pub mod TreeSteps
 pub mod Maps
+pub mod SplitPair
 pub mod Powers
 pub mod Pairs
 pub mod Known

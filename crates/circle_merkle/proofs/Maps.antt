@@ -3,7 +3,7 @@ use Rattle.std.specs.Prelude.{◌≡◌, ℕ, ◌+◌, ◌<◌, ◌≤◌, Bool,
 use Rattle.std.specs.List.{range_with_len}
 use Rattle.std.proofs.Common.{zero, suc, refl, sym, ap, ◌∙◌, arith, get_or}
 use Rattle.std.proofs.lemmas.List.Elements.{All-head, All-tail, All-filter}
-use Rattle.std.proofs.lemmas.List.{length-map, get_or-map, map-append}
+use Rattle.std.proofs.lemmas.List.{append_assoc, length-map, get_or-map, map-append}
 use Rattle.std.proofs.lemmas.List.FromFn.{length-range_with_len, get_or-range_with_len, length-map-range_with_len, get_or-map-range_with_len, map-range_with_len_more}
 
 -- maps that agree on a range
@@ -40,3 +40,8 @@ pub range-within : (p : ℕ → Bool) (a n high : ℕ) → a + n ≤ high → Al
 range-within p a n high h = All-filter p (λ i. i < high) (range_with_len a n) (λ k d lt.
     let short : k < n = omega (arith, length-range_with_len a n, lt) in
     omega (arith, get_or-range_with_len a n k d short))
+
+-- the first of what is left goes to the end of what is done
+pub moved_over : {X : Type 0} (done more : List X) (x : X) (later left whole : List X) → more ≡ done ++ x ∷ [] → left ≡ x ∷ later → done ++ left ≡ whole → more ++ later ≡ whole
+moved_over done more x later left whole e f h =
+    ap (λ xs. xs ++ later) e ∙ append_assoc done (x ∷ []) later ∙ ap (λ xs. done ++ xs) (sym f) ∙ h

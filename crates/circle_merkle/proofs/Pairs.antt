@@ -1,8 +1,10 @@
 -- Positions in pairs.
-use Rattle.std.specs.Prelude.{◌≡◌, ℕ, ◌+◌, ◌-◌, ◌*◌, ◌/◌, ◌%◌, ◌<◌, ◌≤◌, ◌==◌, ◌&&◌, ◌||◌, Bool, true, false, not, List, [], ◌∷◌, filter, if◌then◌else◌}
+use Rattle.std.specs.Prelude.{◌≡◌, ℕ, ◌+◌, ◌-◌, ◌*◌, ◌/◌, ◌%◌, ◌^◌, ◌<◌, ◌≤◌, ◌==◌, ◌&&◌, ◌||◌, Bool, true, false, not, List, [], ◌∷◌, filter, if◌then◌else◌}
 use Rattle.std.specs.List.{range_with_len}
-use Rattle.std.proofs.Common.{zero, suc, refl, sym, ap, ◌∙◌, arith}
-use Rattle.std.proofs.lemmas.Bool.{eq-eqb, ne_eqb}
+use Rattle.std.specs.Int.Bits.{bit_xor, xor_zero_r}
+use Rattle.std.proofs.Common.{zero, suc, refl, sym, ap, ◌∙◌, arith, lit<, ⊎_elim}
+use Rattle.std.proofs.lemmas.Bool.{eq-eqb, ne_eqb, cases_eq}
+use Rattle.std.proofs.lemmas.Nat.{xor_block}
 use Rattle.circle_merkle.specs.Tree.{sibling}
 use Rattle.circle_merkle.specs.Walk.{parents_of, siblings_of}
 
@@ -13,6 +15,17 @@ pub sibling-odd : (a : ℕ) → sibling (2 * a + 1) ≡ 2 * a
 sibling-odd a = let e : (2 * a + 1) % 2 ≡ 1 = omega arith in
     let less : 2 * a + 1 - 1 ≡ 2 * a = omega arith in
     ap (λ r. if r == 0 then 2 * a + 1 + 1 else 2 * a + 1 - 1) e ∙ less
+
+-- the sibling is the number with its lowest bit changed
+pub xor-sibling : (p : ℕ) → bit_xor p 1 ≡ sibling p
+xor-sibling p =
+    let a = p / 2 in
+    ⊎_elim
+    (λ e. ap (λ n. bit_xor n 1) (let s : p ≡ a * 2 ^ 1 + 0 = omega arith in s) ∙ xor_block 1 a 0 0 1 (lit< tt) (lit< tt) ∙ (let z : bit_xor a 0 * 2 ^ 1 + bit_xor 0 1 ≡ 2 * a + 1 = omega (arith, xor_zero_r a) in z)
+    ∙ sym (sibling-even a) ∙ ap sibling (let s : 2 * a ≡ p = omega arith in s))
+    (λ n. ap (λ n. bit_xor n 1) (let s : p ≡ a * 2 ^ 1 + 1 = omega (arith, n) in s) ∙ xor_block 1 a 0 1 1 (lit< tt) (lit< tt) ∙ (let z : bit_xor a 0 * 2 ^ 1 + bit_xor 1 1 ≡ 2 * a = omega (arith, xor_zero_r a) in z)
+    ∙ sym (sibling-odd a) ∙ ap sibling (let s : 2 * a + 1 ≡ p = omega (arith, n) in s))
+    (cases_eq (p % 2) 0)
 
 pub half-even : (a : ℕ) → 2 * a / 2 ≡ a
 half-even a = omega arith

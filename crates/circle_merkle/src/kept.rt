@@ -7,13 +7,15 @@ ghost use Rattle.circle_merkle.specs.PowerTest.{is_power};
 ghost use Rattle.circle_merkle.specs.Authentication.{tree_levels};
 ghost use Rattle.circle_merkle.specs.Rows.{matrix_rows};
 ghost use Rattle.circle_merkle.specs.Tree.{digest, proof_of};
+ghost use Rattle.circle_merkle.specs.Walk.{parents_of, siblings_of};
 
 use crate::hashing::Hash;
-use crate::positions::{climb, distinct};
+use crate::positions::{distinct, split_pair};
 use crate::tree::levels_of;
 use circle_commit::{Matrix, RowMajorMatrix};
 use circle_field::ElementBytes;
 use std::alloc::{AllocError, Global};
+use std::mem;
 
 /// Committed matrices and the tree over their rows.
 #[derive(Drop)]
@@ -71,12 +73,11 @@ impl<T: ElementBytes> ShaProverData<T> {
             ≡ proof_of (digest sha256 (matrix_rows T.bytes (matrices_of self.now))) indices.now (level_count self.now) (level_count self.now)) }
     {
         let mut known = distinct(alloc, indices)?;
-        let mut siblings = Vec::with_capacity(alloc, known.len())?;
+        let mut parents = Vec::with_capacity(alloc, known.len())?;
         let mut proof = Vec::with_capacity(alloc, known.len())?;
         for level in 0..self.levels.len() - 1 {
-            siblings.clear();
-            known = climb(alloc, &known, &mut siblings)?;
-            append_digests(&mut proof, &self.levels[level], &siblings)?;
+            climb_past(&self.levels[level], &known, &mut parents, &mut proof)?;
+            mem::swap(&mut known, &mut parents);
         }
         Ok(proof)
     }
@@ -93,17 +94,27 @@ fn greatest_height<T: ElementBytes>(matrices: &[RowMajorMatrix<T>]) -> usize
     top
 }
 
-// Appends the digests at these positions of a level.
-fn append_digests(
-    proof: &mut Vec<Hash>,
+// Makes `parents` the positions one level up from the known positions of a level, which stand in ascending
+// order, and appends to a proof the digests of the siblings that aren't known.
+fn climb_past(
     level: &[Hash],
-    positions: &[usize],
+    known: &[usize],
+    parents: &mut Vec<usize>,
+    proof: &mut Vec<Hash>,
 ) -> Result<(), AllocError>
-    requires { All (λ i. i < length level.now) positions.now }
-    ensures { OnOk result (proof.new.items ≡ proof.old.items ++ map (λ i. slice_index_or level.now i []) positions.now) }
+    requires { All (λ i. i < length level.now) (siblings_of known.now) }
+    ensures parents { OnOk result (parents.new.items ≡ parents_of known.now) }
+    ensures proof { OnOk result (proof.new.items ≡ proof.old.items ++ map (λ i. slice_index_or level.now i []) (siblings_of known.now)) }
 {
-    for position in positions {
-        proof.push(level[*position])?;
+    parents.clear();
+    let mut rest = known;
+    while let Some((position, others)) = rest.split_first() {
+        let (missing, after) = split_pair(*position, others);
+        parents.push(*position / 2)?;
+        if let Some(sibling) = missing {
+            proof.push(level[sibling])?;
+        }
+        rest = after;
     }
     Ok(())
 }

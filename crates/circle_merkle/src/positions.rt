@@ -1,5 +1,5 @@
 //! The positions of a tree that are known where some of the lowest level's are.
-ghost use Rattle.std.specs.Prelude.{◌≡◌, ℕ, ◌+◌, ◌<◌, ◌^◌, ◌++◌, All, IfOk, OnOk};
+ghost use Rattle.std.specs.Prelude.{◌≡◌, ℕ, ◌+◌, ◌/◌, ◌<◌, ◌≤◌, ◌^◌, ◌++◌, ◌∷◌, All, IfOk, OnOk, length, option_to_list};
 ghost use Rattle.circle_merkle.specs.Tree.{known, sibling as sibling_of};
 ghost use Rattle.circle_merkle.specs.Walk.{parents_of, siblings_of};
 
@@ -19,36 +19,40 @@ pub fn distinct(alloc: Global, indices: &[usize]) -> Result<Vec<usize>, AllocErr
 pub fn sibling(position: usize) -> usize
     ensures { result ≡ sibling_of position }
 {
-    if position % 2 == 0 {
-        position + 1
-    } else {
-        position - 1
+    position ^ 1
+}
+
+/// The sibling of a known position, if that isn't known too, and the known positions after both.
+///
+/// Takes the position and the known ones after it, all in ascending order.
+pub fn split_pair(position: usize, others: &[usize]) -> (Option<usize>, &[usize])
+    ensures shorter { length result.1.now ≤ length others.now }
+    ensures parents { parents_of (position ∷ others.now) ≡ position / 2 ∷ parents_of result.1.now }
+    ensures siblings { siblings_of (position ∷ others.now) ≡ option_to_list result.0 ++ siblings_of result.1.now }
+{
+    let sibling = sibling(position);
+    match others.split_first() {
+        Some((next, after)) if *next == sibling => (None, after),
+        _ => (Some(sibling), others),
     }
 }
 
-/// The positions one level up from the known positions of a level, both in ascending order. Appends to
-/// `siblings` the siblings of the known ones that aren't known themselves, in ascending order.
+/// Makes `parents` the positions one level up from the known positions of a level, which stand in
+/// ascending order. Gives how many siblings of known ones aren't known.
 ///
 /// Fails where memory is refused.
-pub fn climb(
-    alloc: Global,
-    known: &[usize],
-    siblings: &mut Vec<usize>,
-) -> Result<Vec<usize>, AllocError>
-    ensures parents { IfOk result (λ parents. parents.items ≡ parents_of known.now) }
-    ensures siblings { OnOk result (siblings.new.items ≡ siblings.old.items ++ siblings_of known.now) }
+pub fn climb(known: &[usize], parents: &mut Vec<usize>) -> Result<usize, AllocError>
+    ensures parents { OnOk result (parents.new.items ≡ parents_of known.now) }
+    ensures missing { IfOk result (λ count. count ≡ length (siblings_of known.now)) }
 {
-    let mut parents = Vec::with_capacity(alloc, known.len())?;
+    parents.clear();
+    let mut count = 0;
     let mut rest = known;
-    while let [position, others @ ..] = rest {
+    while let Some((position, others)) = rest.split_first() {
+        let (missing, after) = split_pair(*position, others);
         parents.push(*position / 2)?;
-        rest = match others {
-            [next, after @ ..] if *next == sibling(*position) => after,
-            _ => {
-                siblings.push(sibling(*position))?;
-                others
-            }
-        };
+        count += usize::from(missing.is_some());
+        rest = after;
     }
-    Ok(parents)
+    Ok(count)
 }

@@ -1,6 +1,5 @@
 //! The root of a tree of which some rows are opened.
 ghost use Rattle.std.specs.Prelude.{◌≡◌, ℕ, ◌+◌, ◌*◌, ◌/◌, ◌^◌, ◌<◌, ◌≤◌, ◌==◌, ◌++◌, List, [], ◌∷◌, length, map, drop, take, All, IfOk, vec_len, slice_index_or};
-ghost use Rattle.std.specs.List.{list_any};
 ghost use Rattle.sha2.specs.Hashers.{Holds256};
 ghost use Rattle.sha2.specs.Sha256.{sha256};
 ghost use Rattle.circle_commit.specs.Mmcs.{greatest, heights, opened_rows};
@@ -61,13 +60,6 @@ fn absorb_opened<T: ElementBytes>(
     }
 }
 
-// Whether some matrix has this height.
-fn some_has_height(dimensions: &[Dimensions], height: usize) -> bool
-    ensures { result ≡ list_any (λ dim. dim.height == height) dimensions.now }
-{
-    dimensions.iter().any(|dim| dim.height == height)
-}
-
 impl<T: ElementBytes> Opening<'_, T> {
     ghost use Rattle.circle_merkle.specs.Opening.{placed_rows, parent_in, lowest_node};
     ghost use Rattle.circle_commit.specs.Matrix.{IsPowerOfTwo};
@@ -90,14 +82,23 @@ impl<T: ElementBytes> Opening<'_, T> {
         hasher.finalize()
     }
 
-    // The digest of the node over `left` and `right`, below which the index at a place stands.
-    fn parent(&self, level: usize, place: usize, left: &Hash, right: &Hash) -> Hash
+    // Whether rows stand on a level.
+    fn has_rows(&self, level: usize) -> bool
         requires { level < 64 }
+        ensures { result ≡ (placed_rows T.bytes self.now).stand level }
+    {
+        let height = self.top >> level;
+        self.dimensions.iter().any(|dim| dim.height == height)
+    }
+
+    // The digest of the node over `left` and `right`, below which the index at a place stands.
+    fn parent(&self, level: usize, has_rows: bool, place: usize, left: &Hash, right: &Hash) -> Hash
+        requires small { level < 64 }
+        requires rows { has_rows ≡ (placed_rows T.bytes self.now).stand level }
         ensures { result ≡ parent_in T.bytes self.now level place left.now right.now }
     {
         let node = node_digest(left, right);
-        let height = self.top >> level;
-        if some_has_height(self.dimensions, height) {
+        if has_rows {
             joined_digest(&node, &self.rows_digest(level, place))
         } else {
             node
@@ -105,27 +106,29 @@ impl<T: ElementBytes> Opening<'_, T> {
     }
 
     // The node over a pair.
-    fn joined(&self, level: usize, left: &Node, right: &Node) -> Node
-        requires { level < 64 }
+    fn joined(&self, level: usize, has_rows: bool, left: &Node, right: &Node) -> Node
+        requires small { level < 64 }
+        requires rows { has_rows ≡ (placed_rows T.bytes self.now).stand level }
         ensures { result ≡ joined (parent_in T.bytes self.now level) left.now right.now }
     {
         let place = left.place.min(right.place);
         Node {
             position: left.position / 2,
             place,
-            digest: self.parent(level, place, &left.digest, &right.digest),
+            digest: self.parent(level, has_rows, place, &left.digest, &right.digest),
         }
     }
 
     // The node over one whose sibling has the given digest.
-    fn lone(&self, level: usize, node: &Node, given: &Hash) -> Node
-        requires { level < 64 }
+    fn lone(&self, level: usize, has_rows: bool, node: &Node, given: &Hash) -> Node
+        requires small { level < 64 }
+        requires rows { has_rows ≡ (placed_rows T.bytes self.now).stand level }
         ensures { result ≡ lone (parent_in T.bytes self.now level) node.now given.now }
     {
         let digest = if node.position % 2 == 0 {
-            self.parent(level, node.place, &node.digest, given)
+            self.parent(level, has_rows, node.place, &node.digest, given)
         } else {
-            self.parent(level, node.place, given, &node.digest)
+            self.parent(level, has_rows, node.place, given, &node.digest)
         };
         Node {
             position: node.position / 2,
@@ -139,11 +142,13 @@ impl<T: ElementBytes> Opening<'_, T> {
     fn first_parent<'n, 'g>(
         &self,
         level: usize,
+        has_rows: bool,
         node: &Node,
         others: &'n [Node],
         given: &'g [Hash],
     ) -> (Node, &'n [Node], &'g [Hash])
         requires small { level < 64 }
+        requires rows { has_rows ≡ (placed_rows T.bytes self.now).stand level }
         requires enough { length (siblings_of (positions_of (node.now ∷ others.now))) ≤ length given.now }
         ensures shorter { length result.1.now ≤ length others.entry.now }
         ensures enough { length (siblings_of (positions_of result.1.now)) ≤ length result.2.now }
@@ -154,10 +159,10 @@ impl<T: ElementBytes> Opening<'_, T> {
     {
         match others.split_first() {
             Some((next, after)) if next.position == sibling(node.position) => {
-                (self.joined(level, node, next), after, given)
+                (self.joined(level, has_rows, node, next), after, given)
             }
             _ => match given.split_first() {
-                Some((digest, left)) => (self.lone(level, node, digest), others, left),
+                Some((digest, left)) => (self.lone(level, has_rows, node, digest), others, left),
                 None => unreachable!(),
             },
         }
@@ -176,11 +181,12 @@ impl<T: ElementBytes> Opening<'_, T> {
         ensures parents { IfOk result (λ r. r.0.items ≡ climbed (parent_in T.bytes self.now level) nodes.now given.entry.now) }
         ensures rest { IfOk result (λ r. r.1.now ≡ drop (length (siblings_of (positions_of nodes.now))) given.entry.now) }
     {
+        let has_rows = self.has_rows(level);
         let mut parents = Vec::with_capacity(alloc, nodes.len())?;
         let mut rest = nodes;
         let mut given = given;
         while let Some((node, others)) = rest.split_first() {
-            let (parent, after, left) = self.first_parent(level, node, others, given);
+            let (parent, after, left) = self.first_parent(level, has_rows, node, others, given);
             parents.push(parent)?;
             rest = after;
             given = left;

@@ -1,41 +1,43 @@
 //! Whether opened rows are those of a commitment.
-ghost use Rattle.std.specs.Prelude.{◌≡◌, ℕ, ◌+◌, ◌^◌, ◌<◌, ◌≤◌, ◌↔◌, length, All, IsTrue, IfOk, IfErr, OnOk};
+ghost use Rattle.std.specs.Prelude.{◌≡◌, ℕ, ◌↔◌, List, IsTrue, IfOk, IfErr, OnOk};
 ghost use Rattle.sha2.specs.Sha256.{sha256};
 ghost use Rattle.circle_commit.specs.Mmcs.{opened_rows};
-ghost use Rattle.circle_merkle.specs.Tree.{known, taken_below};
+ghost use Rattle.circle_merkle.specs.Order.{first_places};
+ghost use Rattle.circle_merkle.specs.Tree.{taken_below};
 ghost use Rattle.circle_merkle.specs.Authentication.{Authenticates};
 ghost use Rattle.circle_merkle.specs.Verdict.{IsRight};
 
 use crate::error::MerkleTreeError;
 use crate::hashing::Hash;
 use crate::order::{in_order, leave_firsts};
-use crate::positions::{climb, distinct};
+use crate::positions::climb;
 use crate::root::Opening;
 use crate::shape::{agrees, greatest_height, has_indices, has_shape};
 use circle_commit::Dimensions;
 use circle_field::ElementBytes;
 use std::alloc::{AllocError, Global};
+use std::mem;
 
-// Whether a proof for these indices has so many digests, under so many levels above the lowest.
+// Whether a proof has so many digests, under so many levels above the lowest. Takes the distinct indices in
+// ascending order, each with its place.
 fn has_count(
     alloc: Global,
-    indices: &[usize],
+    firsts: &[(usize, usize)],
     levels: usize,
     count: usize,
 ) -> Result<bool, AllocError>
-    requires { All (λ i. i < 2 ^ levels) indices.now }
-    ensures { IfOk result (λ b. IsTrue b ↔ (count ≡ taken_below indices.now levels levels)) }
+    ensures { (indices : List ℕ) → firsts.now ≡ first_places indices levels → IfOk result (λ b. IsTrue b ↔ (count ≡ taken_below indices levels levels)) }
 {
-    let mut known = distinct(alloc, indices)?;
-    let mut siblings = Vec::with_capacity(alloc, known.len())?;
+    let mut known: Vec<usize> = firsts.iter().map(|first| first.0).collect(alloc)?;
+    let mut parents = Vec::with_capacity(alloc, known.len())?;
     let mut left = count;
     for _level in 0..levels {
-        siblings.clear();
-        known = climb(alloc, &known, &mut siblings)?;
-        if siblings.len() > left {
+        let missing = climb(&known, &mut parents)?;
+        if missing > left {
             return Ok(false);
         }
-        left -= siblings.len();
+        left -= missing;
+        mem::swap(&mut known, &mut parents);
     }
     Ok(left == 0)
 }
@@ -70,10 +72,10 @@ pub fn verify<T: ElementBytes>(
     if !agrees(dimensions, &order, opened, top) {
         return Err(MerkleTreeError::DisagreeingRows);
     }
-    if !has_count(alloc, indices, top.ilog2() as usize, proof.len())? {
+    leave_firsts(&mut order);
+    if !has_count(alloc, &order, top.ilog2() as usize, proof.len())? {
         return Err(MerkleTreeError::WrongProofLength);
     }
-    leave_firsts(&mut order);
     let opening = Opening {
         dimensions,
         indices,

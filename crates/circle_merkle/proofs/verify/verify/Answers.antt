@@ -4,9 +4,9 @@ use Rattle.circle_commit.specs.Matrix.{IsPowerOfTwo}
 use Rattle.circle_commit.specs.Mmcs.{greatest, heights}
 use Rattle.circle_merkle.specs.Tree.{taken_below}
 use Rattle.circle_merkle.specs.Order.{IsOrdered}
-use Rattle.circle_merkle.proofs.Powers.{exponent, logarithm}
+use Rattle.circle_merkle.proofs.Powers.{exponent}
 use Rattle.circle_merkle.proofs.Ordered.{order-placed}
-use Rattle.circle_merkle.proofs.Fits.{whole-rows, greatest-power}
+use Rattle.circle_merkle.proofs.Fits.{whole-rows, greatest-power, below-power}
 use Rattle.circle_merkle.proofs.verify.verify.Goals as goal
 
 pub agrees-requires-clause-places : goal.agrees-requires-clause-places
@@ -25,20 +25,15 @@ returns-then-not-agrees-clause-refused g c = (
   λ agree. absurd (let yes = (c.if-not-agrees.ensures c.args.indices.now (subst (IsOrdered c.args.indices.now) (sym c.deref.ensures.value) c.in_ok-order.ensures)).1 agree in cc),
 )
 
-pub has_count-requires : goal.has_count-requires
-has_count-requires g c =
-    let dims = c.args.dimensions.now in
-    let shape = c.if-not-has_shape.ensures.0 refl in
-    let known = c.if-not-has_indices.ensures.0 refl in
-    let power : IsPowerOfTwo (greatest (heights dims)) = greatest-power dims shape.some shape.powers_of_two in
-    let top = c.greatest_height-top.ensures in
-    let log : 2 ^ c.ilog2.result ≡ c.greatest_height-top.result = logarithm c.greatest_height-top.result c.ilog2.result (power.0, top ∙ power.1) c.ilog2.ensures.power_le c.ilog2.ensures.next_power_gt in
-    subst (λ n. All (λ i. i < n) c.args.indices.now) (sym (log ∙ top)) known.in_range
-
 pub returns-then-not-branch-clause-refused : goal.returns-then-not-branch-clause-refused
 returns-then-not-branch-clause-refused g c =
     let shape = c.if-not-has_shape.ensures.0 refl in
     let known = c.if-not-has_indices.ensures.0 refl in
+    let dims = c.args.dimensions.now in
+    let indices = c.args.indices.now in
+    let counted = c.in_ok-has_count.ensures indices
+    (c.deref-2.ensures.value ∙ c.leave_firsts.ensures indices c.ilog2.result c.in_ok-order.ensures
+    (below-power dims indices c.greatest_height-top.result c.ilog2.result shape c.greatest_height-top.ensures c.ilog2.ensures.power_le c.ilog2.ensures.next_power_gt known.in_range)) in
     let agree = (c.if-not-agrees.ensures c.args.indices.now (subst (IsOrdered c.args.indices.now) (sym c.deref.ensures.value) c.in_ok-order.ensures)).0 refl in (
       shape,
       known,
@@ -46,7 +41,7 @@ returns-then-not-branch-clause-refused g c =
       λ levels e h.
           let top = c.greatest_height-top.ensures in
           let same : levels ≡ c.ilog2.result = exponent c.greatest_height-top.result levels c.ilog2.result (top ∙ e) c.ilog2.ensures.power_le c.ilog2.ensures.next_power_gt in
-          let yes = c.in_ok-has_count.ensures.1 (h ∙ ap (λ l. taken_below c.args.indices.now l l) same) in absurd (let false_is = c.if-not-branch.true in cc),
+          let yes = counted.1 (h ∙ ap (λ l. taken_below c.args.indices.now l l) same) in absurd (let false_is = c.if-not-branch.true in cc),
     )
 
 pub invariant_of-opening : goal.invariant_of-opening
@@ -71,17 +66,29 @@ root-requires-clause-firsts g c = λ levels e.
     let known = c.if-not-has_indices.ensures.0 refl in
     let indices = c.args.indices.now in
     let below : All (λ i. i < 2 ^ levels) indices = subst (λ n. All (λ i. i < n) indices) (sym c.greatest_height-top.ensures ∙ e) known.in_range in
-    c.deref-2.ensures.value ∙ c.leave_firsts.ensures indices levels c.in_ok-order.ensures below
+    c.deref-3.ensures.value ∙ c.leave_firsts.ensures indices levels c.in_ok-order.ensures below
 
 pub root-requires-clause-count : goal.root-requires-clause-count
 root-requires-clause-count g c = λ levels e.
+    let shape = c.if-not-has_shape.ensures.0 refl in
+    let known = c.if-not-has_indices.ensures.0 refl in
+    let dims = c.args.dimensions.now in
+    let indices = c.args.indices.now in
+    let counted = c.in_ok-has_count.ensures indices
+    (c.deref-2.ensures.value ∙ c.leave_firsts.ensures indices c.ilog2.result c.in_ok-order.ensures
+    (below-power dims indices c.greatest_height-top.result c.ilog2.result shape c.greatest_height-top.ensures c.ilog2.ensures.power_le c.ilog2.ensures.next_power_gt known.in_range)) in
     let same : levels ≡ c.ilog2.result = exponent c.greatest_height-top.result levels c.ilog2.result e c.ilog2.ensures.power_le c.ilog2.ensures.next_power_gt in
-    c.in_ok-has_count.ensures.0 c.if-not-branch.false ∙ ap (λ l. taken_below c.args.indices.now l l) (sym same)
+    counted.0 c.if-not-branch.false ∙ ap (λ l. taken_below indices l l) (sym same)
 
 pub returns-then-not-same_digest-clause-refused : goal.returns-then-not-same_digest-clause-refused
 returns-then-not-same_digest-clause-refused g c =
     let shape = c.if-not-has_shape.ensures.0 refl in
     let known = c.if-not-has_indices.ensures.0 refl in
+    let dims = c.args.dimensions.now in
+    let indices = c.args.indices.now in
+    let counted = c.in_ok-has_count.ensures indices
+    (c.deref-2.ensures.value ∙ c.leave_firsts.ensures indices c.ilog2.result c.in_ok-order.ensures
+    (below-power dims indices c.greatest_height-top.result c.ilog2.result shape c.greatest_height-top.ensures c.ilog2.ensures.power_le c.ilog2.ensures.next_power_gt known.in_range)) in
     let agree = (c.if-not-agrees.ensures c.args.indices.now (subst (IsOrdered c.args.indices.now) (sym c.deref.ensures.value) c.in_ok-order.ensures)).0 refl in
     let top = c.greatest_height-top.ensures in (
       shape,
@@ -89,7 +96,7 @@ returns-then-not-same_digest-clause-refused g c =
       agree,
       (λ levels e.
           let same : levels ≡ c.ilog2.result = exponent c.greatest_height-top.result levels c.ilog2.result (top ∙ e) c.ilog2.ensures.power_le c.ilog2.ensures.next_power_gt in
-          c.in_ok-has_count.ensures.0 c.if-not-branch.false ∙ ap (λ l. taken_below c.args.indices.now l l) (sym same)),
+          counted.0 c.if-not-branch.false ∙ ap (λ l. taken_below c.args.indices.now l l) (sym same)),
       (λ levels e h. absurd (let yes = c.if-not-same_digest.ensures.1 (c.in_ok-root.ensures levels (top ∙ e) ∙ h) in cc)),
     )
 
@@ -97,6 +104,11 @@ pub returns-clause-accepted : goal.returns-clause-accepted
 returns-clause-accepted g c =
     let shape = c.if-not-has_shape.ensures.0 refl in
     let known = c.if-not-has_indices.ensures.0 refl in
+    let dims = c.args.dimensions.now in
+    let indices = c.args.indices.now in
+    let counted = c.in_ok-has_count.ensures indices
+    (c.deref-2.ensures.value ∙ c.leave_firsts.ensures indices c.ilog2.result c.in_ok-order.ensures
+    (below-power dims indices c.greatest_height-top.result c.ilog2.result shape c.greatest_height-top.ensures c.ilog2.ensures.power_le c.ilog2.ensures.next_power_gt known.in_range)) in
     let agree = (c.if-not-agrees.ensures c.args.indices.now (subst (IsOrdered c.args.indices.now) (sym c.deref.ensures.value) c.in_ok-order.ensures)).0 refl in
     let power : IsPowerOfTwo (greatest (heights c.args.dimensions.now)) = greatest-power c.args.dimensions.now shape.some shape.powers_of_two in
     let top = c.greatest_height-top.ensures in
@@ -107,6 +119,6 @@ returns-clause-accepted g c =
       agreeing = agree;
       levels = power.0;
       top = power.1;
-      count = c.in_ok-has_count.ensures.0 c.if-not-branch.false ∙ ap (λ l. taken_below c.args.indices.now l l) (sym same);
+      count = counted.0 c.if-not-branch.false ∙ ap (λ l. taken_below c.args.indices.now l l) (sym same);
       root = sym (c.in_ok-root.ensures power.0 (top ∙ power.1)) ∙ c.if-not-same_digest.ensures.0 refl;
     }
