@@ -58,7 +58,7 @@ module _ {F : Type 0} {k : FieldOps F} (laws : RingLaws k) (gen : ℕ → Coordi
       ∙ ap (λ n. coset k gen m s ++ map (λ p. plus k p (gen n)) (coset k gen m s)) (sym e)
 
 module _ {F : Type 0} (k : FieldOps F) (gen : ℕ → Coordinates F) where
-  block_starts-coset : (a : ℕ) (q : Coordinates F) → block_starts k gen a 1 q ≡ coset k gen a q
+  pub block_starts-coset : (a : ℕ) (q : Coordinates F) → block_starts k gen a 1 q ≡ coset k gen a q
   block_starts-coset zero q = refl
   block_starts-coset (suc a) q =
       let e : a + 1 ≡ suc a = omega arith in

@@ -1,4 +1,6 @@
+pub mod BlockSums
 pub mod Folds
 pub mod Twiddles
+pub mod Vanished
 pub mod Vanishing
 pub mod Weighted

@@ -1,2 +1,4 @@
+pub mod Blocks
 pub mod Fold
+pub mod Lambda
 pub mod Quotient

@@ -1,14 +1,19 @@
 //! Quotients that bind claimed values to a row, and the multiple of the vanishing polynomial in a word.
-ghost use Rattle.std.specs.Prelude.{◌≡◌, ℕ, ◌+◌, ◌-◌, ◌^◌, ◌<◌, ◌≤◌, ◌↔◌, length, map, IsNone, IfSome, IfOk, OnErr};
+ghost use Rattle.std.specs.Prelude.{◌≡◌, ℕ, ◌+◌, ◌-◌, ◌*◌, ◌^◌, ◌<◌, ◌≤◌, ◌↔◌, length, map, IsNone, IfSome, IfOk, OnErr};
 ghost use Rattle.std.specs.List.{range_with_len};
-ghost use Rattle.circle_field.specs.Field.{nth_power};
+ghost use Rattle.circle_field.specs.Field.{nth_power, sub};
 ghost use Rattle.circle_field.specs.Circle.{lifted};
 ghost use Rattle.circle_point.specs.Point.{coordinates};
 ghost use Rattle.circle_domain.specs.Lagrange.{dot};
+ghost use Rattle.circle_domain.specs.Layers.{pairwise};
+ghost use Rattle.circle_folding.specs.Blocks.{spread, sum_of};
+ghost use Rattle.circle_folding.specs.Lambda.{lambda_of, remainder_of};
 ghost use Rattle.circle_folding.specs.Quotient.{differences, weighted_quotient, claim_quotient};
 
-use circle_field::{ComplexExtendable, ExtensionField};
+use circle_domain::{CircleDomain, first_points};
+use circle_field::{ComplexExtendable, ExtensionField, Field};
 use circle_point::Point;
+use std::alloc::{AllocError, Global};
 
 /// The quotient of one row, at the point `x` of a domain, under values that are claimed at `zeta` (Circle
 /// STARKs, section 6, Remark 21): `(re - alpha_pow_width * im) / (2 re)`, with `(re, im)` of
@@ -53,4 +58,82 @@ fn weighted_differences<F: ComplexExtendable, EF: ExtensionField<F>>(
         sum = sum + weights[j] * (EF::from_base(*entry) - values[j]);
     }
     sum
+}
+
+/// The multiple of the vanishing polynomial in a word over the standard domain of its length, in the order
+/// of the transform, which the word then loses (Circle STARKs, section 4.3, Lemma 6): with `2^L` entries
+/// and `n = L - log_blowup`, the sum of the entries times `v_n`, divided by `2^(L - 1)`.
+///
+/// Asks `2^L` entries with `L + 1 <= CIRCLE_TWO_ADICITY` and `1 <= log_blowup < L`. Where memory is refused
+/// the word stays as it was.
+pub fn extract_lambda<F: ComplexExtendable, EF: ExtensionField<F>>(
+    alloc: Global,
+    lde: &mut [EF],
+    log_blowup: usize,
+) -> Result<EF, AllocError>
+    requires size { (m : ℕ) × (length lde.old ≡ 2 ^ m) × (log_blowup < m) × (m + 1 ≤ F.CIRCLE_TWO_ADICITY) }
+    requires blowup { 1 ≤ log_blowup }
+    ensures lambda { IfOk result (λ lambda. (m : ℕ) → length lde.old ≡ 2 ^ m → lambda ≡ lambda_of F.ops F.generators EF.ops EF.embed log_blowup m lde.old) }
+    ensures remainder { IfOk result (λ lambda. (m : ℕ) → length lde.old ≡ 2 ^ m → lde.new ≡ remainder_of F.ops F.generators EF.ops EF.embed log_blowup m lambda lde.old) }
+    ensures refused { OnErr result (lde.new ≡ lde.old) }
+{
+    let log_lde_size = lde.len().ilog2() as usize;
+    let points = first_points(alloc, CircleDomain::<F>::standard(log_blowup + 1))?;
+    let block = 1 << (log_lde_size - log_blowup);
+    let lambda = product_with_blocks(lde, block, &points).div_2exp_u64((log_lde_size - 1) as u64);
+    subtract_from_blocks(lde, block, &points, lambda);
+    Ok(lambda)
+}
+
+// The sum of the entries, each times the x coordinate of its block's point.
+fn product_with_blocks<F: Field, EF: ExtensionField<F>>(
+    word: &[EF],
+    size: usize,
+    points: &[Point<F>],
+) -> EF
+    requires { length word.now ≡ length points.now * size }
+    ensures { result ≡ dot EF.ops word.now (spread size (map (λ p. EF.embed (coordinates p).x) points.now)) }
+{
+    let mut sum = EF::ZERO;
+    for (i, point) in points.iter().enumerate() {
+        let start = i * size;
+        sum = sum + total(&word[start..start + size]).times_base(point.x());
+    }
+    sum
+}
+
+// The sum of the entries.
+fn total<F: Field>(entries: &[F]) -> F
+    ensures { result ≡ sum_of F.ops entries.now }
+{
+    let mut sum = F::ZERO;
+    for entry in entries {
+        sum = sum + *entry;
+    }
+    sum
+}
+
+// Takes from each entry the multiple of the x coordinate of its block's point.
+fn subtract_from_blocks<F: Field, EF: ExtensionField<F>>(
+    word: &mut [EF],
+    size: usize,
+    points: &[Point<F>],
+    multiple: EF,
+)
+    requires { length word.old ≡ length points.now * size }
+    ensures { word.new ≡ pairwise (λ a v. sub EF.ops a (EF.ops.mul multiple v)) word.old (spread size (map (λ p. EF.embed (coordinates p).x) points.now)) }
+{
+    for (i, point) in points.iter().enumerate() {
+        let start = i * size;
+        subtract(&mut word[start..start + size], multiple.times_base(point.x()));
+    }
+}
+
+// Takes this much from each entry.
+fn subtract<F: Field>(entries: &mut [F], amount: F)
+    ensures { entries.new ≡ map (λ a. sub F.ops a amount) entries.old }
+{
+    for entry in entries.iter_mut() {
+        *entry = *entry - amount;
+    }
 }

@@ -1,8 +1,12 @@
 //! Tests of the crate over Mersenne31 and its cubic extension. What is expected was worked out by hand.
-use crate::{deep_quotient_reduce_row, fold_row_with_inv_twiddle, fold_x, fold_x_row, fold_y};
+use crate::{
+    deep_quotient_reduce_row, extract_lambda, fold_row_with_inv_twiddle, fold_x, fold_x_row, fold_y,
+};
 use circle_commit::{Matrix, RowMajorMatrix};
 use circle_field::{Cubic, ExtensionField, Field, Mersenne31};
-use circle_plane::{CircleDomain, Neutral, Point, x_twiddles, y_twiddles};
+use circle_plane::{
+    CircleDomain, Neutral, Point, cfft_permute_index, x_twiddles, y_twiddles,
+};
 use std::alloc::{AllocError, Global};
 use std::process::Abort;
 use std::test::Fail;
@@ -174,6 +178,79 @@ fn assert_rows_fold_alike(
 fn a_matrix_folds_as_its_rows(rt: HostRuntime) -> Result<(), Fail> {
     for log_height in 0..6 {
         assert_rows_fold_alike(&rt, rt.alloc(), cubic(2, 7, 1), log_height)?;
+    }
+    Ok(())
+}
+
+// `extract_lambda` of a word of `2^log_size` entries, after a test of what it asks.
+fn extracted<EF: ExtensionField<Mersenne31>>(
+    rt: &impl Abort,
+    alloc: Global,
+    word: &mut [EF],
+    log_size: usize,
+    log_blowup: usize,
+) -> Result<EF, AllocError> {
+    assert!(rt; 1 <= log_blowup && log_blowup < log_size && log_size <= 8);
+    assert!(rt; word.len() == 1 << log_size);
+    extract_lambda::<Mersenne31, EF>(alloc, word, log_blowup)
+}
+
+#[test]
+fn the_multiple_of_a_small_word(rt: HostRuntime) -> Result<(), Fail> {
+    let alloc = rt.alloc();
+    let mut word = vec![in alloc; element(0); 4]?;
+    word[0] = element(1);
+    let lambda = extracted(&rt, alloc, &mut word, 2, 1)?;
+    assert!(&rt; lambda.double() == Point::<Mersenne31>::generator(3).x());
+    assert!(&rt; lambda.square() == element(268435456) && word.len() == 4);
+    assert!(&rt; word[0] == element(1610612736) && word[1] == element(1610612735));
+    assert!(&rt; word[2] == element(536870912) && word[3] == element(536870912));
+    let again = extracted(&rt, alloc, &mut word, 2, 1)?;
+    assert!(&rt; again == element(0) && word.len() == 4);
+    assert!(&rt; word[0] == element(1610612736) && word[1] == element(1610612735));
+    assert!(&rt; word[2] == element(536870912) && word[3] == element(536870912));
+    Ok(())
+}
+
+// So many times the values of the vanishing polynomial of `2^(log_size - log_blowup)` points, and a line
+// in y, in the order of the transform.
+fn line_and_multiple(
+    rt: &impl Abort,
+    alloc: Global,
+    multiple: Cubic,
+    log_size: usize,
+    log_blowup: usize,
+) -> Result<Vec<Cubic>, AllocError> {
+    assert!(rt; 1 <= log_blowup && log_blowup < log_size && log_size <= 8);
+    let domain = CircleDomain::<Mersenne31>::standard(log_size);
+    let mut word = Vec::new(alloc);
+    for i in 0..domain.size() {
+        let point = domain.nth_point(cfft_permute_index(i, log_size));
+        let vanishing = multiple.times_base(point.v_n(log_size - log_blowup));
+        word.push(cubic(3, 5, 8) + cubic(2, 0, 1).times_base(point.y()) + vanishing)?;
+    }
+    Ok(word)
+}
+
+// Asserts that the multiple is found, and that the line stays.
+fn assert_multiple_found(
+    rt: &impl Abort,
+    alloc: Global,
+    log_size: usize,
+    log_blowup: usize,
+) -> Result<(), AllocError> {
+    let multiple = cubic(5, 9, 2);
+    let mut word = line_and_multiple(rt, alloc, multiple, log_size, log_blowup)?;
+    let line = line_and_multiple(rt, alloc, Cubic::ZERO, log_size, log_blowup)?;
+    assert!(rt; extracted(rt, alloc, &mut word, log_size, log_blowup)? == multiple);
+    assert!(rt; word.as_slice() == line.as_slice());
+    Ok(())
+}
+
+#[test]
+fn the_multiple_of_a_line_beside_it(rt: HostRuntime) -> Result<(), Fail> {
+    for log_blowup in 1..3 {
+        assert_multiple_found(&rt, rt.alloc(), 4, log_blowup)?;
     }
     Ok(())
 }

@@ -1,0 +1,83 @@
+use Rattle.std.proofs.Common.{◌≡◌, ◌-◌, ◌*◌, ◌%◌, ◌^◌, ◌∙◌, sym, ap, length, map, arith}
+use Rattle.std.proofs.lemmas.List.{length-map}
+use Rattle.circle_field.specs.Circle.{Coordinates}
+use Rattle.circle_field.specs.Field.{nth_power, sub, two}
+use Rattle.circle_point.specs.Point.{coordinates}
+use Rattle.circle_point.specs.declared.point.Point.{Point}
+use Rattle.circle_domain.specs.Domain.{log_size, shift_of}
+use Rattle.circle_domain.specs.Lagrange.{dot}
+use Rattle.circle_domain.specs.Layers.{pairwise}
+use Rattle.circle_domain.proofs.Twiddles.{map-map}
+use Rattle.circle_folding.specs.Blocks.{spread}
+use Rattle.circle_folding.specs.Lambda.{vanishing_values}
+use Rattle.circle_folding.proofs.Twiddles.{logarithm}
+use Rattle.circle_folding.proofs.Vanished.{word-blocks, word-length, halved_power}
+use Rattle.circle_folding.proofs.deep_quotient.extract_lambda.Goals as goal
+
+pub overflow_sub-block : goal.overflow_sub-block
+overflow_sub-block g c =
+    let size = c.requires.size in
+    let r = logarithm _ c.ilog2-log_lde_size.result size.0 size.1 c.ilog2-log_lde_size.ensures.power_le c.ilog2-log_lde_size.ensures.next_power_gt in
+    omega (arith, r, size.2)
+
+pub overflow_sub-log_lde_size : goal.overflow_sub-log_lde_size
+overflow_sub-log_lde_size g c =
+    let size = c.requires.size in
+    let r = logarithm _ c.ilog2-log_lde_size.result size.0 size.1 c.ilog2-log_lde_size.ensures.power_le c.ilog2-log_lde_size.ensures.next_power_gt in
+    omega (arith, r, size.2)
+
+pub product_with_blocks-requires : goal.product_with_blocks-requires
+product_with_blocks-requires g c =
+    let size = c.requires.size in
+    let points = c.in_ok-points.points.items in
+    let r = logarithm _ c.ilog2-log_lde_size.result size.0 size.1 c.ilog2-log_lde_size.ensures.power_le c.ilog2-log_lde_size.ensures.next_power_gt in
+    size.1
+    ∙ word-length g.EF.Operations.ops g.EF.ExtensionField.embed g.F.Operations.laws.ring g.met.F.ComplexExtendable.generators_law c.ilog2-log_lde_size.result size.0 c.args.log_blowup (log_size c.standard.result) (shift_of c.standard.result) (map coordinates points)
+    r size.2 size.3 g.met.F.ComplexExtendable.at_most_62 c.standard.ensures.size c.standard.ensures.shift c.in_ok-points.ensures
+    ∙ ap (λ i. i * (1 * 2 ^ (c.ilog2-log_lde_size.result - c.args.log_blowup) % 2 ^ 64)) (length-map points coordinates ∙ sym (ap length c.deref.ensures.value))
+
+pub subtract_from_blocks-requires : goal.subtract_from_blocks-requires
+subtract_from_blocks-requires g c =
+    let size = c.requires.size in
+    let points = c.in_ok-points.points.items in
+    let r = logarithm _ c.ilog2-log_lde_size.result size.0 size.1 c.ilog2-log_lde_size.ensures.power_le c.ilog2-log_lde_size.ensures.next_power_gt in
+    size.1
+    ∙ word-length g.EF.Operations.ops g.EF.ExtensionField.embed g.F.Operations.laws.ring g.met.F.ComplexExtendable.generators_law c.ilog2-log_lde_size.result size.0 c.args.log_blowup (log_size c.standard.result) (shift_of c.standard.result) (map coordinates points)
+    r size.2 size.3 g.met.F.ComplexExtendable.at_most_62 c.standard.ensures.size c.standard.ensures.shift c.in_ok-points.ensures
+    ∙ ap (λ i. i * (1 * 2 ^ (c.ilog2-log_lde_size.result - c.args.log_blowup) % 2 ^ 64)) (length-map points coordinates ∙ sym (ap length c.deref-2.ensures.value))
+
+pub returns-clause-lambda : goal.returns-clause-lambda
+returns-clause-lambda g c = λ m length_is.
+    let l = g.EF.Operations.ops in
+    let size = c.requires.size in
+    let word = c.args.lde.now in
+    let points = c.in_ok-points.points.items in
+    let x = λ (p : Coordinates g.row.F.Denot). g.EF.ExtensionField.embed p.x in
+    let y = λ (p : Point g.row.F.Denot g.F.Operations). g.EF.ExtensionField.embed (coordinates p).x in
+    let block = 1 * 2 ^ (c.ilog2-log_lde_size.result - c.args.log_blowup) % 2 ^ 64 in
+    let r = logarithm _ c.ilog2-log_lde_size.result size.0 size.1 c.ilog2-log_lde_size.ensures.power_le c.ilog2-log_lde_size.ensures.next_power_gt in
+    let m_is = logarithm _ c.ilog2-log_lde_size.result m length_is c.ilog2-log_lde_size.ensures.power_le c.ilog2-log_lde_size.ensures.next_power_gt in
+    let values : spread block (map y c.deref.result.now) ≡ vanishing_values g.F.Operations.ops g.F.ComplexExtendable.generators l g.EF.ExtensionField.embed c.args.log_blowup m =
+    ap (λ ps. spread block (map y ps)) c.deref.ensures.value ∙ ap (spread block) (sym (map-map x coordinates points))
+    ∙ word-blocks l g.EF.ExtensionField.embed g.F.Operations.laws.ring g.met.F.ComplexExtendable.generators_law c.ilog2-log_lde_size.result m c.args.log_blowup (log_size c.standard.result) (shift_of c.standard.result) (map coordinates points)
+    m_is (omega (arith, size.2, r, m_is)) (omega (arith, size.3, r, m_is)) g.met.F.ComplexExtendable.at_most_62 c.standard.ensures.size c.standard.ensures.shift c.in_ok-points.ensures in
+    let scale : nth_power l (l.inv (two l)) (c.ilog2-log_lde_size.result - 1) ≡ l.inv (nth_power l (two l) (m - 1)) =
+    ap (λ i. nth_power l (l.inv (two l)) (i - 1)) m_is ∙ halved_power g.EF.Operations.laws (m - 1) in
+    c.div_2exp_u64-lambda.ensures ∙ ap (λ s. l.mul s (nth_power l (l.inv (two l)) (c.ilog2-log_lde_size.result - 1))) (c.product_with_blocks.ensures ∙ ap (dot l word) values) ∙ ap (l.mul _) scale
+
+pub returns-clause-remainder : goal.returns-clause-remainder
+returns-clause-remainder g c = λ m length_is.
+    let l = g.EF.Operations.ops in
+    let size = c.requires.size in
+    let word = c.args.lde.now in
+    let points = c.in_ok-points.points.items in
+    let x = λ (p : Coordinates g.row.F.Denot). g.EF.ExtensionField.embed p.x in
+    let y = λ (p : Point g.row.F.Denot g.F.Operations). g.EF.ExtensionField.embed (coordinates p).x in
+    let block = 1 * 2 ^ (c.ilog2-log_lde_size.result - c.args.log_blowup) % 2 ^ 64 in
+    let r = logarithm _ c.ilog2-log_lde_size.result size.0 size.1 c.ilog2-log_lde_size.ensures.power_le c.ilog2-log_lde_size.ensures.next_power_gt in
+    let m_is = logarithm _ c.ilog2-log_lde_size.result m length_is c.ilog2-log_lde_size.ensures.power_le c.ilog2-log_lde_size.ensures.next_power_gt in
+    let values : spread block (map y c.deref-2.result.now) ≡ vanishing_values g.F.Operations.ops g.F.ComplexExtendable.generators l g.EF.ExtensionField.embed c.args.log_blowup m =
+    ap (λ ps. spread block (map y ps)) c.deref-2.ensures.value ∙ ap (spread block) (sym (map-map x coordinates points))
+    ∙ word-blocks l g.EF.ExtensionField.embed g.F.Operations.laws.ring g.met.F.ComplexExtendable.generators_law c.ilog2-log_lde_size.result m c.args.log_blowup (log_size c.standard.result) (shift_of c.standard.result) (map coordinates points)
+    m_is (omega (arith, size.2, r, m_is)) (omega (arith, size.3, r, m_is)) g.met.F.ComplexExtendable.at_most_62 c.standard.ensures.size c.standard.ensures.shift c.in_ok-points.ensures in
+    c.subtract_from_blocks.ensures ∙ ap (pairwise (λ a v. sub l a (l.mul c.div_2exp_u64-lambda.result v)) word) values

@@ -1,0 +1,46 @@
+use Rattle.std.proofs.Common.{◌≡◌, ◌<◌, ◌≤◌, ◌+◌, ◌-◌, ◌*◌, ◌∙◌, refl, sym, ap, length, map, take, drop, get_or, arith, length-drop, add-one}
+use Rattle.std.proofs.Math.Nat.{mul-le-mul_right, suc-mul}
+use Rattle.std.proofs.lemmas.List.{length-map, length-take-le, get_or-map}
+use Rattle.circle_field.specs.Field.{sub}
+use Rattle.circle_point.specs.Point.{coordinates}
+use Rattle.circle_point.specs.declared.point.Point.{Point}
+use Rattle.circle_folding.proofs.BlockSums.{block-more, block-end}
+use Rattle.circle_folding.proofs.deep_quotient.subtract_from_blocks.Goals as goal
+
+pub loop-i-preserved : goal.loop-i-preserved
+loop-i-preserved g c =
+    let k = g.EF.Operations.ops in
+    let f = λ (a v : g.row.EF.Denot). sub k a (k.mul c.args.multiple v) in
+    let x = λ (p : Point g.row.F.Denot g.F.Operations). g.EF.ExtensionField.embed (coordinates p).x in
+    let n = c.args.size in
+    let points = c.args.points.now in
+    let vs = map x points in
+    let word = c.loop-i.word in
+    let i = c.loop-i.i in
+    let p = c.index-points-i.result in
+    let v = x p in
+    let start = i * n in
+    let len = start + n - start in
+    let within : i < length points = omega (arith, c.loop-i-test.true) in
+    let at : v ≡ get_or vs i v = ap x c.index-points-i.is ∙ sym (get_or-map x points i p v within) in
+    let below : (i + 1) * n ≤ length points * n = let le : i + 1 ≤ length points = omega (arith, within) in mul-le-mul_right n le in
+    let next : (i + 1) * n ≡ start + n = ap (λ m. m * n) (add-one i) ∙ suc-mul i n in
+    let fits : start + len ≤ length word = omega (arith, below, next, c.requires, c.loop-i.auto.word) in
+    let long : length (take len (drop start word)) ≡ len = length-take-le len (drop start word) (omega (arith, fits, length-drop start word)) in
+    let amount : c.times_base.result ≡ k.mul c.args.multiple v =
+    c.times_base.ensures ∙ ap (λ y. k.mul (g.EF.ExtensionField.embed y) c.args.multiple) c.x.ensures ∙ g.EF.Operations.laws.ring.mul_comm v c.args.multiple in
+    block-more f n vs word c.subtract.new.entries v i start len (omega (arith, within, length-map points x)) at refl (omega arith) fits
+    (c.subtract.auto.entries ∙ long) (c.subtract.ensures ∙ ap (λ b. map (λ a. sub k a b) (take len (drop start word))) amount)
+    ∙ c.loop-i.invariant
+
+pub returns : goal.returns
+returns g c =
+    let k = g.EF.Operations.ops in
+    let f = λ (a v : g.row.EF.Denot). sub k a (k.mul c.args.multiple v) in
+    let x = λ (p : Point g.row.F.Denot g.F.Operations). g.EF.ExtensionField.embed (coordinates p).x in
+    let points = c.args.points.now in
+    let vs = map x points in
+    let end : c.loop-i.i ≡ length points = omega (arith, c.loop-i-test.false, c.loop-i.auto.i-end) in
+    let size = length-map points x in
+    sym (block-end f c.args.size vs c.loop-i.word c.loop-i.i (omega (arith, end, size)) (c.loop-i.auto.word ∙ c.requires ∙ ap (λ m. m * c.args.size) (sym size)) (end ∙ sym size))
+    ∙ c.loop-i.invariant
