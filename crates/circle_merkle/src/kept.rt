@@ -74,7 +74,9 @@ impl<T: ElementBytes> ShaProverData<T> {
     {
         let mut known = distinct(alloc, indices)?;
         let mut parents = Vec::with_capacity(alloc, known.len())?;
-        let mut proof = Vec::with_capacity(alloc, known.len())?;
+        // Room for the digests where the indices stand as far apart as they can.
+        let lone = (self.levels.len() - 1).saturating_sub(known.len().max(1).ilog2() as usize);
+        let mut proof = Vec::with_capacity(alloc, known.len().saturating_mul(lone))?;
         for level in 0..self.levels.len() - 1 {
             climb_past(&self.levels[level], &known, &mut parents, &mut proof)?;
             mem::swap(&mut known, &mut parents);
