@@ -23,7 +23,7 @@ module _ {F E : Type 0} (l : FieldOps E) (embed : F → E) where
   abbrev pub weighted_quotient : E → List E → Coordinates F → Coordinates E → List F → List E → E
   weighted_quotient top weights x z row values =
       l.mul (l.mul (sub l (real_part x z) (l.mul top (imaginary_part x z))) (l.inv (l.add (real_part x z) (real_part x z))))
-          (dot l weights (differences row values))
+      (dot l weights (differences row values))
 
   -- the quotient at x of a row under values claimed at z: the weights are 1, alpha, alpha^2, .., and the top one is alpha to
   -- the row's width

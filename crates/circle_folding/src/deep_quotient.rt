@@ -125,7 +125,10 @@ fn subtract_from_blocks<F: Field, EF: ExtensionField<F>>(
 {
     for (i, point) in points.iter().enumerate() {
         let start = i * size;
-        subtract(&mut word[start..start + size], multiple.times_base(point.x()));
+        subtract(
+            &mut word[start..start + size],
+            multiple.times_base(point.x()),
+        );
     }
 }
 

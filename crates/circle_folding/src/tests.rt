@@ -4,9 +4,7 @@ use crate::{
 };
 use circle_commit::{Matrix, RowMajorMatrix};
 use circle_field::{Cubic, ExtensionField, Field, Mersenne31};
-use circle_plane::{
-    CircleDomain, Neutral, Point, cfft_permute_index, x_twiddles, y_twiddles,
-};
+use circle_plane::{CircleDomain, Neutral, Point, cfft_permute_index, x_twiddles, y_twiddles};
 use std::alloc::{AllocError, Global};
 use std::process::Abort;
 use std::test::Fail;
