@@ -9,6 +9,8 @@ use std::alloc::{AllocError, Global};
 use std::process::Abort;
 use std::test::Fail;
 
+mod reduced;
+
 fn element(value: u64) -> Mersenne31 {
     Mersenne31::from_u64(value)
 }
