@@ -1,5 +1,6 @@
 pub mod BlockSums
 pub mod Folds
+pub mod Queries
 pub mod Twiddles
 pub mod Vanished
 pub mod Vanishing

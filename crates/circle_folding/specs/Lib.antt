@@ -1,4 +1,6 @@
 pub mod Blocks
+pub mod Chain
 pub mod Fold
 pub mod Lambda
 pub mod Quotient
+pub mod Rows
