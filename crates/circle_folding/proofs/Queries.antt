@@ -25,9 +25,9 @@ use Rattle.circle_folding.proofs.Twiddles.{x_factors, length-x_twiddles, x_twidd
 
 module _ {F : Type 0} (k : FieldOps F) where
   -- each followed by its opposite
-  abbrev with_opposites : List F → List F
-  with_opposites [] = []
-  with_opposites (t ∷ ts) = t ∷ k.neg t ∷ with_opposites ts
+  abbrev with_negatives : List F → List F
+  with_negatives [] = []
+  with_negatives (t ∷ ts) = t ∷ k.neg t ∷ with_negatives ts
 
   -- the opposite at odd places
   abbrev pub signed : ℕ → F → F
@@ -39,14 +39,14 @@ module _ {F : Type 0} (k : FieldOps F) where
   pub signed-odd : (j : ℕ) (t : F) → j % 2 ≢ 0 → signed j t ≡ k.neg t
   signed-odd j t odd = let one : j % 2 ≡ 1 = omega (arith, odd) in ap (λ b. if nat_eq b 0 then t else k.neg t) one
 
-  with_opposites-read : (ts : List F) (j : ℕ) (d : F) → j < length ts + length ts → slice_index_or (with_opposites ts) j d ≡ signed j (slice_index_or ts (j / 2) d)
-  with_opposites-read [] j d h = absurd (omega arith)
-  with_opposites-read (t ∷ ts) zero d h = refl
-  with_opposites-read (t ∷ ts) (suc zero) d h = refl
-  with_opposites-read (t ∷ ts) (suc (suc j)) d h =
+  with_negatives-read : (ts : List F) (j : ℕ) (d : F) → j < length ts + length ts → slice_index_or (with_negatives ts) j d ≡ signed j (slice_index_or ts (j / 2) d)
+  with_negatives-read [] j d h = absurd (omega arith)
+  with_negatives-read (t ∷ ts) zero d h = refl
+  with_negatives-read (t ∷ ts) (suc zero) d h = refl
+  with_negatives-read (t ∷ ts) (suc (suc j)) d h =
       let half : suc (suc j) / 2 ≡ suc (j / 2) = omega arith in
       let bit : suc (suc j) % 2 ≡ j % 2 = omega arith in
-      with_opposites-read ts j d (omega arith)
+      with_negatives-read ts j d (omega arith)
       ∙ sym (ap (λ i. signed (suc (suc j)) (slice_index_or (t ∷ ts) i d)) half
       ∙ ap (λ b. if nat_eq b 0 then slice_index_or ts (j / 2) d else k.neg (slice_index_or ts (j / 2) d)) bit)
 
@@ -82,7 +82,7 @@ module _ {F : Type 0} {k : FieldOps F} (laws : RingLaws k) {bits : ℕ} {gen : �
       ∙ map-append x (block_starts k gen a 1 qq) (block_starts k gen a 1 (plus k qq (gen (suc a)))))
 
   -- the x coordinates of neighbours are opposite
-  x-halves : (qs : List (Coordinates F)) → map (λ p. p.x) (halves k gen 1 qs) ≡ with_opposites k (map (λ p. p.x) qs)
+  x-halves : (qs : List (Coordinates F)) → map (λ p. p.x) (halves k gen 1 qs) ≡ with_negatives k (map (λ p. p.x) qs)
   x-halves [] = refl
   x-halves (q ∷ qs) =
       let turned : (plus k q (gen 1)).x ≡ k.neg q.x =
@@ -95,7 +95,7 @@ module _ {F : Type 0} {k : FieldOps F} (laws : RingLaws k) {bits : ℕ} {gen : �
       sym (x_factors k gen r) ∙ ap (λ a. map (factor k 1) (block_starts k gen a 2 (gen (r + 3)))) e
 
   -- twice the squares less one of twiddles are the twiddles of half as many pairs and their opposites
-  twiddles-doubled : (m : ℕ) → m + 4 ≤ bits → map (doubled_x k) (x_twiddles k gen (suc m)) ≡ with_opposites k (x_twiddles k gen m)
+  twiddles-doubled : (m : ℕ) → m + 4 ≤ bits → map (doubled_x k) (x_twiddles k gen (suc m)) ≡ with_negatives k (x_twiddles k gen m)
   twiddles-doubled m fits =
       let s = gen (suc m + 3) in
       let next : suc m + 3 ≡ suc (m + 3) = omega arith in
@@ -106,10 +106,10 @@ module _ {F : Type 0} {k : FieldOps F} (laws : RingLaws k) {bits : ℕ} {gen : �
       ∙ ap (λ p. map x (block_starts k gen (suc m) 1 p)) (ap (λ n. plus k (gen n) (gen n)) next ∙ gens.doubled (m + 3) (omega (arith, fits)))
       ∙ ap (map x) (block_starts-halves k gen m 1 (gen (m + 3)))
       ∙ x-halves (block_starts k gen m 2 (gen (m + 3)))
-      ∙ ap (with_opposites k) (sym (twiddles-starts m))
+      ∙ ap (with_negatives k) (sym (twiddles-starts m))
 
   -- the twiddle of a query in the next round
-  pub next-twiddle : (h r q : ℕ) → r + 3 ≤ h → h < bits → q < 2 ^ h → signed k (q / 2 ^ (r + 2)) (doubled_x k (round_twiddle k gen h r q)) ≡ round_twiddle k gen h (r + 1) q
+  next-twiddle : (h r q : ℕ) → r + 3 ≤ h → h < bits → q < 2 ^ h → signed k (q / 2 ^ (r + 2)) (doubled_x k (round_twiddle k gen h r q)) ≡ round_twiddle k gen h (r + 1) q
   next-twiddle h r q enough fits below =
       let m = h - 2 - (r + 1) in
       let j = q / 2 ^ (r + 2) in
@@ -122,7 +122,7 @@ module _ {F : Type 0} {k : FieldOps F} (laws : RingLaws k) {bits : ℕ} {gen : �
       let inside : j < length ts = omega (arith, low, length-x_twiddles k gen (suc m)) in
       let of_half : j < length (x_twiddles k gen m) + length (x_twiddles k gen m) = omega (arith, low, length-x_twiddles k gen m, pow-suc 2 m) in
       ap (λ n. signed k j (doubled_x k (slice_index_or (x_twiddles k gen n) j k.zero))) here
-      ∙ ap (signed k j) (sym (get_or-map (doubled_x k) ts j k.zero k.zero inside) ∙ ap (λ xs. slice_index_or xs j k.zero) (twiddles-doubled m (omega (arith, enough, fits))) ∙ with_opposites-read k (x_twiddles k gen m) j k.zero of_half)
+      ∙ ap (signed k j) (sym (get_or-map (doubled_x k) ts j k.zero k.zero inside) ∙ ap (λ xs. slice_index_or xs j k.zero) (twiddles-doubled m (omega (arith, enough, fits))) ∙ with_negatives-read k (x_twiddles k gen m) j k.zero of_half)
       ∙ signed-signed k laws j (slice_index_or (x_twiddles k gen m) (j / 2) k.zero)
       ∙ ap (λ i. slice_index_or (x_twiddles k gen m) i k.zero) (sym next)
 

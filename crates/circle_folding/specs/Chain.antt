@@ -7,19 +7,21 @@ use Rattle.circle_field.specs.Circle.{Coordinates}
 use Rattle.circle_domain.specs.Layers.{pairwise}
 use Rattle.circle_folding.specs.Fold.{fold_pair, x_twiddles}
 
--- the twiddle of the pair that query q asks for in round r
-abbrev pub round_twiddle : {F : Type 0} → FieldOps F → (ℕ → Coordinates F) → ℕ → ℕ → ℕ → F
-round_twiddle k gen h r q = slice_index_or (x_twiddles k gen (h - 2 - r)) (q / 2 ^ (r + 2)) k.zero
+module _ {F : Type 0} (k : FieldOps F) (gen : ℕ → Coordinates F) where
+  -- the twiddle of the pair that query q asks for in round r
+  abbrev pub round_twiddle : ℕ → ℕ → ℕ → F
+  round_twiddle h r q = slice_index_or (x_twiddles k gen (h - 2 - r)) (q / 2 ^ (r + 2)) k.zero
 
 module _ {E : Type 0} where
   -- the pair of the value at a place and its sibling
   abbrev pub pair_of : ℕ → E → E → List E
   pair_of place value sibling = if nat_eq (place % 2) 0 then value ∷ sibling ∷ [] else sibling ∷ value ∷ []
 
-  -- the pairs that queries ask for in round r
+  -- the pairs that queries ask for in round r, each of the query's value and its sibling
   abbrev pub round_pairs : ℕ → List ℕ → List E → List E → List (List E)
   round_pairs r queries values siblings = pairwise (λ pair sibling. pair sibling) (pairwise (λ q. pair_of (q / 2 ^ (r + 1))) queries values) siblings
 
--- what the value at a place becomes: the fold of its pair
-abbrev pub next_value : {E : Type 0} → FieldOps E → E → E → ℕ → E → E → E
-next_value l beta t place value sibling = fold_pair l beta t (pair_of place value sibling)
+module _ {E : Type 0} (l : FieldOps E) where
+  -- what the value at a place becomes: the fold of its pair
+  abbrev pub next_value : E → E → ℕ → E → E → E
+  next_value beta t place value sibling = fold_pair l beta t (pair_of place value sibling)

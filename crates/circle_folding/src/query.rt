@@ -82,8 +82,8 @@ pub fn query_pairs<T: Copy>(
     Ok(rows)
 }
 
-/// Folds each query's pair of this round by `beta`, so that the values become those of the next round, but
-/// for the words that join there.
+/// Folds each query's pair of this round by `beta`: the values become those of the folded word, to which
+/// whoever calls adds what joins it.
 ///
 /// Asks a twiddle that isn't 0, a value and a sibling for each query, and `round < 62`. Where memory is
 /// refused the values stay as they were.

@@ -93,7 +93,6 @@ fn assert_queries_fold_alike<F: ComplexExtendable, EF: ExtensionField<F>>(
     log_max_height: usize,
     indices: &[usize],
     word: Vec<EF>,
-    beta: EF,
 ) -> Result<(), AllocError>
     requires height { 3 ≤ log_max_height }
     requires in_group { log_max_height < F.CIRCLE_TWO_ADICITY }
@@ -102,19 +101,10 @@ fn assert_queries_fold_alike<F: ComplexExtendable, EF: ExtensionField<F>>(
     let mut twiddles = first_x_twiddles::<F>(alloc, log_max_height, indices)?;
     let mut values = asked(rt, alloc, 0, 0, indices, &word)?;
     let (twiddles, values) = (&mut twiddles, &mut values);
-    assert_rounds::<F, EF>(
-        rt,
-        alloc,
-        log_max_height,
-        indices,
-        twiddles,
-        values,
-        word,
-        beta,
-    )
+    assert_rounds::<F, EF>(rt, alloc, log_max_height, indices, twiddles, values, word)
 }
 
-// All rounds, from the twiddles and the values of round 0.
+// All rounds, from the twiddles and the values of round 0. An entry of the word serves as the challenge.
 fn assert_rounds<F: ComplexExtendable, EF: ExtensionField<F>>(
     rt: &impl Abort,
     alloc: Global,
@@ -123,7 +113,6 @@ fn assert_rounds<F: ComplexExtendable, EF: ExtensionField<F>>(
     twiddles: &mut [F],
     values: &mut [EF],
     word: Vec<EF>,
-    beta: EF,
 ) -> Result<(), AllocError>
     requires height { 3 ≤ log_max_height }
     requires in_group { log_max_height < F.CIRCLE_TWO_ADICITY }
@@ -133,6 +122,8 @@ fn assert_rounds<F: ComplexExtendable, EF: ExtensionField<F>>(
 {
     let mut word = word;
     for round in 0..log_max_height - 2 {
+        assert!(rt; word.len() > 1);
+        let beta = word[1];
         let siblings = asked(rt, alloc, round, 1, indices, &word)?;
         let pairs = query_pairs(alloc, round, indices, values, &siblings)?;
         assert_pairs(rt, round, indices, &word, &pairs);
@@ -151,8 +142,7 @@ fn queries_of_a_word_of_16(rt: HostRuntime) -> Result<(), Fail> {
     let alloc = rt.alloc();
     let indices = repeated_indices(alloc, 5)?;
     let word = scattered_word(alloc, 16)?;
-    let beta = cubic(3, 1, 4);
-    assert_queries_fold_alike::<Mersenne31, Cubic>(&rt, alloc, 5, &indices, word, beta)?;
+    assert_queries_fold_alike::<Mersenne31, Cubic>(&rt, alloc, 5, &indices, word)?;
     Ok(())
 }
 
@@ -161,7 +151,6 @@ fn queries_of_a_word_of_32(rt: HostRuntime) -> Result<(), Fail> {
     let alloc = rt.alloc();
     let indices = repeated_indices(alloc, 6)?;
     let word = scattered_word(alloc, 32)?;
-    let beta = cubic(0, 5, 9);
-    assert_queries_fold_alike::<Mersenne31, Cubic>(&rt, alloc, 6, &indices, word, beta)?;
+    assert_queries_fold_alike::<Mersenne31, Cubic>(&rt, alloc, 6, &indices, word)?;
     Ok(())
 }
