@@ -60,7 +60,8 @@ module _ {F : Type 0} (k : FieldOps F) where
 
 module _ {F : Type 0} {k : FieldOps F} (laws : RingLaws k) {bits : ℕ} {gen : ℕ → Coordinates F} (gens : AreGenerators k bits gen) where
   -- the x coordinates of the doubles of every second point of a coset are those of the coset of the double
-  doubled-starts : (a : ℕ) (q : Coordinates F) → a + 2 ≤ bits → IsOnCircle k q → map (λ p. doubled_x k p.x) (block_starts k gen a 2 q) ≡ map (λ p. p.x) (block_starts k gen a 1 (plus k q q))
+  doubled-starts : (a : ℕ) (q : Coordinates F) → a + 2 ≤ bits → IsOnCircle k q →
+      map (λ p. doubled_x k p.x) (block_starts k gen a 2 q) ≡ map (λ p. p.x) (block_starts k gen a 1 (plus k q q))
   doubled-starts zero q fits c = ap (λ (p : Coordinates F). p.x ∷ []) (doubling laws q c)
   doubled-starts (suc a) q fits c =
       let g = gen (suc (suc a)) in
@@ -76,7 +77,8 @@ module _ {F : Type 0} {k : FieldOps F} (laws : RingLaws k) {bits : ℕ} {gen : �
       ap (λ n. map u (block_starts k gen a 2 q ++ block_starts k gen a 2 (second_half k gen n q))) two
       ∙ map-append u (block_starts k gen a 2 q) (block_starts k gen a 2 (plus k q g))
       ∙ ap (λ xs. xs ++ map u (block_starts k gen a 2 (plus k q g))) (doubled-starts a q (omega (arith, fits)) c)
-      ∙ ap (λ ys. map x (block_starts k gen a 1 qq) ++ ys) (doubled-starts a (plus k q g) (omega (arith, fits)) (plus-on_circle laws q g c (gens.on_circle (suc (suc a)) (omega (arith, fits)))))
+      ∙ ap (λ ys. map x (block_starts k gen a 1 qq) ++ ys) (doubled-starts a (plus k q g) (omega (arith, fits))
+      (plus-on_circle laws q g c (gens.on_circle (suc (suc a)) (omega (arith, fits)))))
       ∙ ap (λ p. map x (block_starts k gen a 1 qq) ++ map x (block_starts k gen a 1 p)) double
       ∙ sym (ap (λ n. map x (block_starts k gen a 1 qq ++ block_starts k gen a 1 (second_half k gen n qq))) one
       ∙ map-append x (block_starts k gen a 1 qq) (block_starts k gen a 1 (plus k qq (gen (suc a)))))
@@ -109,7 +111,8 @@ module _ {F : Type 0} {k : FieldOps F} (laws : RingLaws k) {bits : ℕ} {gen : �
       ∙ ap (with_negatives k) (sym (twiddles-starts m))
 
   -- the twiddle of a query in the next round
-  next-twiddle : (h r q : ℕ) → r + 3 ≤ h → h < bits → q < 2 ^ h → signed k (q / 2 ^ (r + 2)) (doubled_x k (round_twiddle k gen h r q)) ≡ round_twiddle k gen h (r + 1) q
+  next-twiddle : (h r q : ℕ) → r + 3 ≤ h → h < bits → q < 2 ^ h →
+      signed k (q / 2 ^ (r + 2)) (doubled_x k (round_twiddle k gen h r q)) ≡ round_twiddle k gen h (r + 1) q
   next-twiddle h r q enough fits below =
       let m = h - 2 - (r + 1) in
       let j = q / 2 ^ (r + 2) in
@@ -122,7 +125,8 @@ module _ {F : Type 0} {k : FieldOps F} (laws : RingLaws k) {bits : ℕ} {gen : �
       let inside : j < length ts = omega (arith, low, length-x_twiddles k gen (suc m)) in
       let of_half : j < length (x_twiddles k gen m) + length (x_twiddles k gen m) = omega (arith, low, length-x_twiddles k gen m, pow-suc 2 m) in
       ap (λ n. signed k j (doubled_x k (slice_index_or (x_twiddles k gen n) j k.zero))) here
-      ∙ ap (signed k j) (sym (get_or-map (doubled_x k) ts j k.zero k.zero inside) ∙ ap (λ xs. slice_index_or xs j k.zero) (twiddles-doubled m (omega (arith, enough, fits))) ∙ with_negatives-read k (x_twiddles k gen m) j k.zero of_half)
+      ∙ ap (signed k j) (sym (get_or-map (doubled_x k) ts j k.zero k.zero inside)
+      ∙ ap (λ xs. slice_index_or xs j k.zero) (twiddles-doubled m (omega (arith, enough, fits))) ∙ with_negatives-read k (x_twiddles k gen m) j k.zero of_half)
       ∙ signed-signed k laws j (slice_index_or (x_twiddles k gen m) (j / 2) k.zero)
       ∙ ap (λ i. slice_index_or (x_twiddles k gen m) i k.zero) (sym next)
 
@@ -137,8 +141,8 @@ module _ {F : Type 0} {k : FieldOps F} (laws : RingLaws k) {bits : ℕ} {gen : �
 
 module _ {F : Type 0} {k : FieldOps F} (laws : FieldLaws k) {bits : ℕ} {gen : ℕ → Coordinates F} (gens : AreGenerators k bits gen) where
   -- the x coordinate of the point that is computed for a query
-  pub first-twiddle : (h n q place : ℕ) (s p : Coordinates F) → 2 ≤ h → h < bits → bits ≤ 62 → q < 2 ^ h → n ≡ h → s ≡ gen (h + 1) → place ≡ cfft_index h (q / 4 * 4 % 2 ^ 64) →
-      slice_get (natural_order k gen n s) place ≡ Some p → p.x ≡ round_twiddle k gen h 0 q
+  pub first-twiddle : (h n q place : ℕ) (s p : Coordinates F) → 2 ≤ h → h < bits → bits ≤ 62 → q < 2 ^ h → n ≡ h → s ≡ gen (h + 1) →
+      place ≡ cfft_index h (q / 4 * 4 % 2 ^ 64) → slice_get (natural_order k gen n s) place ≡ Some p → p.x ≡ round_twiddle k gen h 0 q
   first-twiddle h n q place s p enough fits small below size shift is_place here =
       let m = h - 2 in
       let whole : h ≡ m + 2 = omega (arith, enough) in
@@ -150,7 +154,8 @@ module _ {F : Type 0} {k : FieldOps F} (laws : FieldLaws k) {bits : ℕ} {gen : 
       ∙ ap (λ i. slice_index_or (x_twiddles k gen i) (q / 4) k.zero) none
 
   -- the twiddles of queries are not 0
-  pub round_twiddles-nonzero : (h r : ℕ) (queries : List ℕ) → r + 2 ≤ h → h < bits → All (λ q. q < 2 ^ h) queries → All (λ t. t ≢ k.zero) (map (round_twiddle k gen h r) queries)
+  pub round_twiddles-nonzero : (h r : ℕ) (queries : List ℕ) → r + 2 ≤ h → h < bits → All (λ q. q < 2 ^ h) queries →
+      All (λ t. t ≢ k.zero) (map (round_twiddle k gen h r) queries)
   round_twiddles-nonzero h r queries enough fits all =
       let m = h - 2 - r in
       let whole : h ≡ m + (r + 2) = omega (arith, enough) in
@@ -187,8 +192,11 @@ module _ {E : Type 0} (r : ℕ) (queries : List ℕ) (values siblings : List E) 
       let u = slice_index_or (map m twiddles) i d in
       pairwise-read (fold_pair l beta) (map m twiddles) pairs i d [] d (omega (arith, within, of_twiddles, length-map twiddles m)) (omega (arith, within, length-round_pairs))
       ∙ ap (fold_pair l beta u) (round_pairs-read i v s [] within)
-      ∙ ap (λ x. next_value l beta x (slice_index_or queries i 0 / 2 ^ (r + 1)) (slice_index_or values i v) (slice_index_or siblings i s)) (get_or-map m twiddles i t d (omega (arith, within, of_twiddles)))
+      ∙ ap (λ x. next_value l beta x (slice_index_or queries i 0 / 2 ^ (r + 1)) (slice_index_or values i v) (slice_index_or siblings i s))
+      (get_or-map m twiddles i t d (omega (arith, within, of_twiddles)))
 
-  pub length-folds : {F : Type 0} (l : FieldOps E) (beta : E) (m : F → E) (twiddles : List F) → length twiddles ≡ length queries → length (folds l beta (map m twiddles) (round_pairs r queries values siblings)) ≡ length queries
+  pub length-folds : {F : Type 0} (l : FieldOps E) (beta : E) (m : F → E) (twiddles : List F) → length twiddles ≡ length queries →
+      length (folds l beta (map m twiddles) (round_pairs r queries values siblings)) ≡ length queries
   length-folds l beta m twiddles of_twiddles =
-      length-pairwise (fold_pair l beta) (map m twiddles) (round_pairs r queries values siblings) (length-map twiddles m ∙ of_twiddles ∙ sym length-round_pairs) ∙ length-map twiddles m ∙ of_twiddles
+      length-pairwise (fold_pair l beta) (map m twiddles) (round_pairs r queries values siblings) (length-map twiddles m ∙ of_twiddles ∙ sym length-round_pairs)
+      ∙ length-map twiddles m ∙ of_twiddles

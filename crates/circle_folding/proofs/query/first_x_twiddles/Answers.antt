@@ -17,8 +17,10 @@ loop-index-preserved g c =
     let t = c.x.result in
     let all = map (round_twiddle k gen h 0) qs in
     let here : t ≡ round_twiddle k gen h 0 q =
-    c.x.ensures ∙ first-twiddle g.F.Operations.laws g.met.F.ComplexExtendable.generators_law h (log_size c.standard-domain.result) q c.cfft_permute_index.result (shift_of c.standard-domain.result) (coordinates c.nth_point-point.result)
-    c.requires.height c.requires.in_group g.met.F.ComplexExtendable.at_most_62 (c.requires.in_range i 0 c.loop-index-test.true) c.standard-domain.ensures.size c.standard-domain.ensures.shift c.cfft_permute_index.ensures.value c.nth_point-point.ensures in
+    c.x.ensures ∙ first-twiddle g.F.Operations.laws g.met.F.ComplexExtendable.generators_law h (log_size c.standard-domain.result) q c.cfft_permute_index.result
+    (shift_of c.standard-domain.result) (coordinates c.nth_point-point.result)
+    c.requires.height c.requires.in_group g.met.F.ComplexExtendable.at_most_62 (c.requires.in_range i 0 c.loop-index-test.true)
+    c.standard-domain.ensures.size c.standard-domain.ensures.shift c.cfft_permute_index.ensures.value c.nth_point-point.ensures in
     c.in_ok-push.ensures.items
     ∙ ap (λ before. before ++ t ∷ []) c.loop-index.invariant
     ∙ ap (λ x. take i all ++ x ∷ []) (here ∙ sym (get_or-map (round_twiddle k gen h 0) qs i 0 t c.loop-index-test.true))

@@ -19,7 +19,8 @@ loop-i-preserved g c =
     let one = λ (pair : List g.row.T.Denot). pair ∷ [] in
     let within : i < length pairs = omega (arith, c.loop-i-test.true, length-round_pairs r qs vs ss c.requires.values c.requires.siblings) in
     let is_pair : row ≡ slice_index_or pairs i row =
-    c.in_ok-pair.ensures ∙ ap (λ x. pair_of (slice_index_or qs i 0 / 2 ^ (r + 1)) x s) c.index-values-i.is ∙ ap (pair_of (slice_index_or qs i 0 / 2 ^ (r + 1)) (slice_index_or vs i v)) c.index-siblings-i.is
+    c.in_ok-pair.ensures ∙ ap (λ x. pair_of (slice_index_or qs i 0 / 2 ^ (r + 1)) x s) c.index-values-i.is
+    ∙ ap (pair_of (slice_index_or qs i 0 / 2 ^ (r + 1)) (slice_index_or vs i v)) c.index-siblings-i.is
     ∙ sym (round_pairs-read r qs vs ss c.requires.values c.requires.siblings i v s row c.loop-i-test.true) in
     let held : map (λ row. row.items) c.in_ok-vec.field-0.items ≡ one row = ap (map (λ row. row.items)) c.in_ok-vec.ensures.items in
     ap opened_rows c.in_ok-push.ensures.items
