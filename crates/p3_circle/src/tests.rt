@@ -14,6 +14,7 @@ use std::alloc::{AllocError, Global};
 use std::test::Fail;
 use stubborn::Stubborn;
 
+mod refusals;
 mod runs;
 mod seeds;
 mod stubborn;
