@@ -1,5 +1,6 @@
-//! What commitment schemes over matrices stand on: matrices by rows, views of them, domains that
-//! polynomials are given on, the parameters of FRI, and the forms of values in JSON.
+//! What commitment schemes stand on: matrices by rows, views of them, domains that polynomials are given
+//! on, what is opened and claimed of them, the parameters of FRI, how it folds and why it refuses, and the
+//! forms of values in JSON.
 #![tactic(auto)]
 
 pub mod error;
