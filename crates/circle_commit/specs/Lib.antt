@@ -6,5 +6,6 @@ pub mod RowMajorMatrixView
 pub mod Mmcs
 pub mod MmcsFacts
 pub mod PeriodicLdeTable
+pub mod Pcs
 pub mod JsonForms
 pub mod JsonFormFacts

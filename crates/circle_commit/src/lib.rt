@@ -1,21 +1,31 @@
-//! What commitment schemes over matrices stand on: matrices by rows, views of them, domains that
-//! polynomials are given on, the parameters of FRI, and the forms of values in JSON.
+//! What commitment schemes stand on: matrices by rows, views of them, domains that polynomials are given
+//! on, what is opened and claimed of them, the parameters of FRI, how it folds and why it refuses, and the
+//! forms of values in JSON.
 #![tactic(auto)]
 
+pub mod error;
+pub mod folding;
 pub mod json;
 pub mod matrix;
 pub mod mmcs;
 pub mod params;
+pub mod pcs;
 pub mod periodic;
 pub mod space;
 #[cfg(test)]
 mod tests;
 pub mod view;
 
+pub use error::FriError;
+pub use folding::FriFoldingStrategy;
 pub use json::{JsonError, JsonForm};
 pub use matrix::{Dimensions, Matrix, RowIndexMap, RowIndexMappedView, RowMajorMatrix, Shape};
-pub use mmcs::{BatchMultiOpening, Mmcs, OpenedRows, heights_are_powers_of_two, is_power_of_two};
+pub use mmcs::{Mmcs, OpenedRows, heights_are_powers_of_two, is_power_of_two};
 pub use params::{FriParameters, PowPhase};
+pub use pcs::{
+    BatchMultiOpening, CommitmentOpening, MatrixOpening, OpenedValues, OpenedValuesForMatrix,
+    OpenedValuesForPoint, OpenedValuesForRound, OpeningRequest, Pcs, PointOpening,
+};
 pub use periodic::{PeriodicEvaluator, PeriodicLdeTable};
 pub use space::{LagrangeSelectors, PolynomialSpace};
 pub use view::RowMajorMatrixView;

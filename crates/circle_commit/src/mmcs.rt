@@ -124,12 +124,3 @@ pub fn heights_are_powers_of_two<T: Copy>(matrices: &[RowMajorMatrix<T>]) -> boo
     }
     true
 }
-
-/// Rows of one commitment's matrices at several indices, with the proof of them all.
-#[derive(Drop)]
-pub struct BatchMultiOpening<T: Copy, M: Mmcs<T>> {
-    /// For each index, for each matrix, the entries of its row.
-    pub opened_values: OpenedRows<T>,
-    /// The proof for all the rows.
-    pub opening_proof: M::MultiProof,
-}

@@ -8,6 +8,9 @@ use crate::{
 use std::alloc::{AllocError, Global};
 use std::test::Fail;
 
+mod openings;
+mod refusals;
+
 // The rows 0 1, 2 3, 4 5 and 6 7.
 fn four_rows(alloc: Global) -> Result<RowMajorMatrix<u32>, AllocError> {
     let values = vec![in alloc; 0, 1, 2, 3, 4, 5, 6, 7]?;

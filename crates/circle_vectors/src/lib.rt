@@ -18,6 +18,8 @@ mod periodic;
 #[cfg(test)]
 mod points;
 pub mod quadratic;
+#[cfg(test)]
+mod records;
 pub mod schemes;
 #[cfg(test)]
 mod selectors;

@@ -1,13 +1,22 @@
 //! The Circle STARK polynomial commitment scheme (IACR ePrint 2024/278).
 #![tactic(auto)]
 
+pub mod pcs;
+pub mod proof;
+#[cfg(test)]
+mod tests;
 pub mod transcript;
 
-pub use circle_folding::{deep_quotient_reduce_row, extract_lambda, fold_x, fold_x_row, fold_y};
-pub use circle_plane::{
-    CfftPerm, CfftPermutable, CfftView, CircleCoset, CircleDomain, CircleEvaluations, CirclePoints,
-    Neutral, Point, cfft_permute_index, circle_basis,
+pub use circle_folding::{
+    CircleFriFolding, deep_quotient_reduce_row, extract_lambda, fold_x, fold_x_row, fold_y,
 };
+pub use circle_plane::{
+    CfftPerm, CfftPermutable, CfftView, CircleCoset, CircleDomain, CircleEvaluations,
+    CirclePeriodicEvaluator, CirclePoints, Neutral, PeriodicError, Point,
+    build_periodic_lde_table_circle, cfft_permute_index, circle_basis,
+};
+pub use pcs::{CirclePcs, InputError};
+pub use proof::{CircleCommitPhaseMultiStep, CircleFriProof, CircleInputProof, CirclePcsProof};
 pub use transcript::{
     CircleDraws, CirclePcsShape, CircleProverTranscript, CircleTranscript, CircleTranscriptFailure,
     CircleVerifierTranscript, CircleWitnesses, OpeningClaim, both_runs, prover_run, verifier_run,

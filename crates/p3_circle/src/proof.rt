@@ -1,0 +1,80 @@
+//! What a proof is made of.
+
+use circle_commit::{BatchMultiOpening, Mmcs};
+use circle_field::Field;
+
+/// A proof that the folded words of a run end in a constant one.
+///
+/// `M` commits to the folded words, `Witness` shows a proof of work, and `InputProof` opens what the first
+/// of these words was made of.
+#[derive(Drop)]
+pub struct CircleFriProof<F: Field, M: Mmcs<F>, Witness, InputProof> {
+    /// For each round, the commitment to its word.
+    pub commit_phase_commits: Vec<M::Commitment>,
+    /// For each round, the witness of the proof of work before its challenge; zero where it has no
+    /// difficulty.
+    pub commit_pow_witnesses: Vec<Witness>,
+    /// The openings, at all queries, of what was committed to before the rounds.
+    pub input_openings: InputProof,
+    /// For each round, the openings of its word at all queries.
+    pub commit_phase_openings: Vec<CircleCommitPhaseMultiStep<F, M>>,
+    /// The value of every entry of the last word.
+    pub final_poly: F,
+    /// The witness of the proof of work before the query indices; zero where it has no difficulty.
+    pub pow_witness: Witness,
+}
+
+/// The openings of one round's word at all queries, with one proof for them all.
+#[derive(Drop)]
+#[derive_where(Debug)]
+pub struct CircleCommitPhaseMultiStep<F: Field, M: Mmcs<F>> {
+    /// For each query, the other entries of the row that it falls into: one, as two entries fold into one.
+    pub sibling_values: Vec<Vec<F>>,
+    /// The proof that the rows are those of the word.
+    pub opening_proof: M::MultiProof,
+}
+
+/// The openings, at all queries, of the committed batches and of the first layer.
+#[derive(Drop)]
+pub struct CircleInputProof<
+    Val: Field,
+    Challenge: Field,
+    InputMmcs: Mmcs<Val>,
+    FriMmcs: Mmcs<Challenge>,
+> {
+    /// For each batch, its rows at all queries.
+    pub input_openings: Vec<BatchMultiOpening<Val, InputMmcs>>,
+    /// For each query, for each height of a batch's matrix from the least up, the other entry of the pair
+    /// of the first layer that the query falls into.
+    pub first_layer_siblings: Vec<Vec<Challenge>>,
+    /// The proof that the pairs are those of the first layer.
+    pub first_layer_proof: FriMmcs::MultiProof,
+}
+
+/// A proof of an opening.
+///
+/// `InputMmcs` commits to the batches, `FriMmcs` to the words that are made of them.
+#[derive(Drop)]
+pub struct CirclePcsProof<
+    Val: Field,
+    Challenge: Field,
+    InputMmcs: Mmcs<Val>,
+    FriMmcs: Mmcs<Challenge>,
+    Witness,
+> {
+    /// The witness of the proof of work before the challenge that batches the claims; zero where it has no
+    /// difficulty.
+    pub batch_pow_witness: Witness,
+    /// The commitment to the first layer: the reduced words of all heights, by pairs.
+    pub first_layer_commitment: FriMmcs::Commitment,
+    /// For each height of a batch's matrix from the least up, the multiple of the vanishing polynomial that
+    /// was taken away from the reduced word.
+    pub lambdas: Vec<Challenge>,
+    /// The proof that the words of the first layer, folded and joined, end in a constant one.
+    pub fri_proof: CircleFriProof<
+        Challenge,
+        FriMmcs,
+        Witness,
+        CircleInputProof<Val, Challenge, InputMmcs, FriMmcs>,
+    >,
+}
