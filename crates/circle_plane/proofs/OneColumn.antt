@@ -1,5 +1,5 @@
 -- Matrices of one column, and the coefficients of its values.
-use Rattle.std.specs.Prelude.{◌≡◌, ◌≢◌, ℕ, ◌+◌, ◌*◌, ◌/◌, ◌^◌, ◌<◌, ◌≤◌, List, [], ◌∷◌, length, map, slice_index_or}
+use Rattle.std.specs.Prelude.{◌≡◌, ◌≢◌, ℕ, ◌*◌, ◌^◌, ◌≤◌, List, [], ◌∷◌, length, map, slice_index_or}
 use Rattle.std.proofs.Common.{suc, sym, ◌∙◌, ap, subst, refl, arith}
 use Rattle.std.proofs.lemmas.List.{length-map}
 use Rattle.circle_field.specs.Field.{FieldOps, FieldLaws}
@@ -9,7 +9,7 @@ use Rattle.circle_commit.specs.RowFacts.{rows_from-single}
 use Rattle.circle_commit.specs.RowMajorMatrix.{rows, width_of, height_of, values_of, length-values}
 use Rattle.circle_commit.specs.declared.matrix.RowMajorMatrix.{RowMajorMatrix}
 use Rattle.circle_point.specs.Basis.{value, values_at}
-use Rattle.circle_domain.specs.Order.{IsGenuine, cfft_order, natural_order}
+use Rattle.circle_domain.specs.Order.{natural_order}
 use Rattle.circle_domain.specs.Ordering.{other_order, reordered}
 use Rattle.circle_domain.specs.Values.{HasValues, Interpolates}
 use Rattle.circle_domain.proofs.Columns.{column-made}

@@ -1,9 +1,9 @@
-use Rattle.std.specs.Prelude.{zip, true, false, IsTrue, ◌⊎◌}
-use Rattle.std.proofs.Common.{◌≡◌, ℕ, ◌+◌, ◌-◌, ◌<◌, ◌≤◌, ◌++◌, ◌∷◌, [], length, take, drop, map, refl, sym, ap, ◌∙◌, subst, arith, inr}
+use Rattle.std.specs.Prelude.{zip, false, IsTrue, ◌⊎◌}
+use Rattle.std.proofs.Common.{◌≡◌, ℕ, ◌+◌, ◌-◌, ◌<◌, ◌≤◌, ◌++◌, ◌∷◌, [], length, take, map, refl, sym, ap, ◌∙◌, subst, arith, inr}
 use Rattle.std.proofs.lemmas.List.{map-append}
 use Rattle.p3_circle.specs.Shape.{round_steps, rounds_steps}
 use Rattle.p3_circle.specs.Draw.{moves, is_passed, after_round, fold_challenge, after_rounds, fold_challenges, rounds_pass}
-use Rattle.p3_circle.specs.Transcript.{due, numbers}
+use Rattle.p3_circle.specs.Transcript.{numbers}
 use Rattle.circle_commit.specs.declared.params.PowPhase.TheVariants.{CommitPhase}
 use Rattle.p3_circle.specs.declared.transcript.failure.CircleTranscriptFailure.TheVariants.{PowWitness, Memory}
 use Rattle.p3_circle.proofs.Playing.{handed_on}

@@ -1,4 +1,4 @@
-use Rattle.std.proofs.Common.{◌≡◌, ◌++◌, map, take, flat_map, length}
+use Rattle.std.proofs.Common.{◌≡◌, take}
 use Rattle.p3_circle.specs.ShapeOf.{batches_of}
 use Rattle.p3_circle.proofs.transcript.shape.copied_batches.Given as goal
 

@@ -1,4 +1,4 @@
-use Rattle.std.proofs.Common.{◌≡◌, ◌++◌, map, take, flat_map, length}
+use Rattle.std.proofs.Common.{◌≡◌, ◌++◌, map, take, flat_map}
 use Rattle.circle_challenger.specs.Interaction.{step_of}
 use Rattle.p3_circle.specs.Shape.{claim_steps}
 use Rattle.p3_circle.proofs.transcript.shape.push_claims.Given as goal

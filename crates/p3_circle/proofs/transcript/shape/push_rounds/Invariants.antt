@@ -1,4 +1,4 @@
-use Rattle.std.proofs.Common.{◌≡◌, ◌++◌, map, take, flat_map, length}
+use Rattle.std.proofs.Common.{◌≡◌, ◌++◌, map}
 use Rattle.circle_challenger.specs.Interaction.{step_of}
 use Rattle.p3_circle.specs.Shape.{rounds_steps}
 use Rattle.p3_circle.proofs.transcript.shape.push_rounds.Given as goal

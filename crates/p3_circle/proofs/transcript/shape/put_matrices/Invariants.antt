@@ -1,4 +1,4 @@
-use Rattle.std.proofs.Common.{◌≡◌, ◌++◌, map, take, flat_map, length}
+use Rattle.std.proofs.Common.{◌≡◌, ◌++◌, take, flat_map, length}
 use Rattle.circle_challenger.specs.Step.{be64}
 use Rattle.p3_circle.specs.ShapeOf.{matrices_of}
 use Rattle.p3_circle.proofs.transcript.shape.put_matrices.Given as goal

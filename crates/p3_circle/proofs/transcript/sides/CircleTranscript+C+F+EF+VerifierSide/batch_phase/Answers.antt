@@ -1,8 +1,6 @@
-use Rattle.std.specs.Prelude.{OnErr, false}
-use Rattle.std.proofs.Common.{◌≡◌, ◌∙◌, ap, subst, append_assoc, flat_map}
-use Rattle.circle_challenger.specs.Grinding.{passes}
+use Rattle.std.proofs.Common.{◌∙◌, append_assoc, flat_map}
 use Rattle.p3_circle.specs.Shape.{claim_steps, batch_steps}
-use Rattle.p3_circle.specs.Draw.{widths_of, after_claims}
+use Rattle.p3_circle.specs.Draw.{widths_of}
 use Rattle.p3_circle.specs.Claims.{claims_of}
 use Rattle.p3_circle.proofs.Playing.{on_ok}
 use Rattle.p3_circle.proofs.transcript.sides.CircleTranscript+C+F+EF+VerifierSide.batch_phase.Goals as goal
