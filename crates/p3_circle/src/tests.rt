@@ -1,5 +1,5 @@
 //! Tests of the transcript. The seed's text was computed apart from this code.
-ghost use Rattle.std.specs.Prelude.{◌≡◌, ℕ, ◌≤◌, ◌<◌, ◌+◌, [], ◌∷◌, IfOk, length, flat_map};
+ghost use Rattle.std.specs.Prelude.{◌≡◌, ◌≤◌, ◌<◌, ◌+◌, [], ◌∷◌, IfOk, length, flat_map};
 ghost use Rattle.p3_circle.specs.Shape.{claimed_widths};
 ghost use Rattle.p3_circle.specs.ShapeOf.{shape_of, batches_of};
 

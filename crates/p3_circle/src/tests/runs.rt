@@ -1,5 +1,4 @@
 //! What runs over one claim draw. Expected values were computed apart from this code.
-ghost use Rattle.std.specs.Prelude.{◌≡◌, ◌≤◌, IfOk};
 
 use crate::tests::stubborn::Stubborn;
 use crate::tests::{Difficulties, NONE, cubic, element, params, prove, shape, verify};
