@@ -116,9 +116,10 @@ fn shares_of<F: Field, EF: ExtensionField<F>>(
     let inverses = batch_multiplicative_inverse(alloc, &differences)?;
     let mut shares = Vec::with_capacity(alloc, inverses.len())?;
     for (i, point) in points.iter().enumerate() {
-        let y = EF::from_base(point.y());
-        shares.push((y + at.y()) * inverses[i])?;
-        shares.push((y - at.y()) * inverses[i])?;
+        let inverse = inverses[i];
+        let (own, other) = (inverse.times_base(point.y()), inverse * at.y());
+        shares.push(own + other)?;
+        shares.push(own - other)?;
     }
     Ok(shares)
 }

@@ -1,4 +1,5 @@
 pub mod Blocks
 pub mod Fold
 pub mod Lambda
+pub mod Queries
 pub mod Quotient

@@ -4,8 +4,10 @@
 
 pub mod deep_quotient;
 pub mod folding;
+pub mod reduced;
 #[cfg(test)]
 mod tests;
 
 pub use deep_quotient::{deep_quotient_reduce_row, extract_lambda};
 pub use folding::{fold_row_with_inv_twiddle, fold_x, fold_x_row, fold_y};
+pub use reduced::{add_quotients, query_points};

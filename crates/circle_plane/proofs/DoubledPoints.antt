@@ -1,17 +1,17 @@
 -- The points of a domain, doubled some times, are those of a smaller domain over and over.
 use Rattle.std.specs.Prelude.{◌≡◌, ℕ, ◌+◌, ◌-◌, ◌*◌, ◌/◌, ◌%◌, ◌^◌, ◌<◌, ◌≤◌, Some, slice_get}
-use Rattle.std.proofs.Common.{[], zero, suc, sym, ◌∙◌, ap, refl, arith, ⊎_elim}
+use Rattle.std.proofs.Common.{[], zero, suc, sym, ◌∙◌, ap, subst, refl, arith, ⊎_elim}
 use Rattle.std.proofs.Math.Nat.{mod-add-div', add-mul-mod_self_right, mod-eq_of_lt, mod-lt}
 use Rattle.std.proofs.lemmas.Nat.{pow_pos}
 use Rattle.std.proofs.lemmas.Bool.{cases_eq}
 use Rattle.std.proofs.lemmas.Option.{slice_get_within}
 use Rattle.circle_field.specs.Field.{FieldOps, RingLaws}
-use Rattle.circle_field.specs.Circle.{Coordinates, AreGenerators, plus, opposite, origin, times}
-use Rattle.circle_field.specs.CircleGroup.{plus-origin, same_coordinates}
+use Rattle.circle_field.specs.Circle.{Coordinates, AreGenerators, IsOnCircle, plus, opposite, origin, times}
+use Rattle.circle_field.specs.CircleGroup.{plus-origin, plus-on_circle, opposite-on_circle, same_coordinates}
 use Rattle.circle_field.specs.Ring.{con, minus}
 use Rattle.circle_field.specs.RingSound.{ring}
-use Rattle.circle_point.proofs.Multiples.{times-+}
-use Rattle.circle_domain.specs.Order.{natural_order}
+use Rattle.circle_point.proofs.Multiples.{times-+, times-on_circle}
+use Rattle.circle_domain.specs.Order.{natural_order, natural_from}
 use Rattle.circle_domain.proofs.Blocks.{times-plus, times-generator}
 use Rattle.circle_domain.proofs.CosetOrder.{opposite-plus}
 use Rattle.circle_domain.proofs.Orders.{two_halves, natural_from-even, natural_from-odd}
@@ -62,6 +62,19 @@ module _ {F : Type 0} {k : FieldOps F} (laws : RingLaws k) {gen : ℕ → Coordi
 
   some_injective : {A : Type 0} (a b : A) → Some a ≡ Some b → a ≡ b
   some_injective a b e = cc
+
+  natural_from-on_circle : (count a : ℕ) (g s : Coordinates F) → IsOnCircle k g → IsOnCircle k s → (i : ℕ) (p : Coordinates F) → slice_get (natural_from k count g s a) i ≡ Some p → IsOnCircle k p
+  natural_from-on_circle zero a g s on_g on_s i p here = absurd (omega (arith, slice_get_within [] i p here))
+  natural_from-on_circle (suc count) a g s on_g on_s zero p here =
+      subst (IsOnCircle k) (some_injective _ p here) (plus-on_circle laws s (times k a g) on_s (times-on_circle laws a g on_g))
+  natural_from-on_circle (suc count) a g s on_g on_s (suc zero) p here =
+      subst (IsOnCircle k) (some_injective _ p here) (plus-on_circle laws (opposite k s) (times k (suc a) g) (opposite-on_circle laws s on_s) (times-on_circle laws (suc a) g on_g))
+  natural_from-on_circle (suc count) a g s on_g on_s (suc (suc i)) p here = natural_from-on_circle count (suc a) g s on_g on_s i p here
+
+  -- the points of a domain are on the circle
+  pub natural-on_circle : (n : ℕ) (s : Coordinates F) → 1 ≤ n → n ≤ suc bits → IsOnCircle k s → (i : ℕ) (p : Coordinates F) → slice_get (natural_order k gen n s) i ≡ Some p → IsOnCircle k p
+  natural-on_circle n s positive fits on i p here =
+      natural_from-on_circle (2 ^ (n - 1)) 0 (gen (n - 1)) s (gens.on_circle (n - 1) (omega (arith, positive, fits))) on i p here
 
   -- point i, doubled r times, is point i modulo the smaller size
   pub doubled-point : (m r n : ℕ) (s : Coordinates F) → 1 ≤ m → n ≡ m + r → n ≤ suc bits → (i : ℕ) (p : Coordinates F) → slice_get (natural_order k gen n s) i ≡ Some p →

@@ -1,15 +1,14 @@
 -- Numbers of entries of periodic columns.
-use Rattle.std.specs.Prelude.{◌≡◌, ℕ, ◌+◌, ◌-◌, ◌*◌, ◌%◌, ◌^◌, ◌<◌, ◌≤◌, List, [], ◌∷◌, ◌++◌, length, max, take, All}
-use Rattle.std.proofs.Common.{zero, suc, refl, sym, ap, ◌∙◌, arith, get_or, ⊎_elim}
-use Rattle.std.proofs.Math.Pow.{mod-mod-pow}
+use Rattle.std.specs.Prelude.{◌≡◌, ℕ, ◌+◌, ◌-◌, ◌*◌, ◌%◌, ◌^◌, ◌<◌, ◌≤◌, List, [], ◌∷◌, ◌++◌, length, map, max, take, All}
+use Rattle.std.proofs.Common.{zero, suc, refl, sym, ap, subst, ◌∙◌, arith, get_or, ⊎_elim}
 use Rattle.std.specs.Int.Bits.{bit_and}
-use Rattle.std.proofs.lemmas.Nat.{pow-add, pow_pos, and_mask}
+use Rattle.std.proofs.lemmas.Nat.{pow_pos, and_mask}
 use Rattle.std.proofs.lemmas.Bool.{cases_lt}
-use Rattle.std.proofs.lemmas.List.{take_more}
+use Rattle.std.proofs.lemmas.List.{length-map, take_more}
 use Rattle.std.proofs.lemmas.List.Elements.{All-head, All-tail}
 use Rattle.circle_commit.specs.Matrix.{IsPowerOfTwo}
 use Rattle.circle_commit.specs.Mmcs.{greatest}
-use Rattle.circle_domain.proofs.Powers.{pow_order}
+use Rattle.circle_domain.proofs.Powers.{pow_order, power_is}
 use Rattle.circle_plane.specs.PeriodicColumns.{IsPeriod, table_height}
 
 greatest-append : (ns : List ℕ) (n : ℕ) → greatest (ns ++ n ∷ []) ≡ max n (greatest ns)
@@ -26,33 +25,25 @@ below-greatest [] j d h = absurd (omega arith)
 below-greatest (n ∷ ns) zero d h = omega arith
 below-greatest (n ∷ ns) (suc j) d h = omega (arith, below-greatest ns j d (omega arith))
 
--- the greatest of powers of two is one
-pub greatest-power : (size : ℕ) (ns : List ℕ) → 1 ≤ length ns → All (IsPeriod size) ns → IsPowerOfTwo (greatest ns)
-greatest-power size [] some powers = absurd (omega arith)
-greatest-power size (n ∷ []) some powers =
-    let power = All-head (IsPeriod size) n [] powers in
-    let e : max n 0 ≡ n = omega arith in (power.0.0, e ∙ power.0.1)
-greatest-power size (n ∷ next ∷ ns) some powers =
-    let power = All-head (IsPeriod size) n (next ∷ ns) powers in
-    let others = greatest-power size (next ∷ ns) (omega arith) (All-tail (IsPeriod size) n (next ∷ ns) powers) in
+-- the greatest of some periods is one
+pub greatest-period : (size : ℕ) (ns : List ℕ) → 1 ≤ length ns → All (IsPeriod size) ns → IsPeriod size (greatest ns)
+greatest-period size [] some periods = absurd (omega arith)
+greatest-period size (n ∷ []) some periods =
+    let e : n ≡ max n 0 = omega arith in
+    subst (IsPeriod size) e (All-head (IsPeriod size) n [] periods)
+greatest-period size (n ∷ next ∷ ns) some periods =
     let rest = greatest (next ∷ ns) in
     ⊎_elim
-    (λ lt. let e : max n rest ≡ rest = omega arith in (others.0, e ∙ others.1))
-    (λ ge. let e : max n rest ≡ n = omega arith in (power.0.0, e ∙ power.0.1))
+    (λ lt. let e : rest ≡ max n rest = omega arith in
+    subst (IsPeriod size) e (greatest-period size (next ∷ ns) (omega arith) (All-tail (IsPeriod size) n (next ∷ ns) periods)))
+    (λ ge. let e : n ≡ max n rest = omega arith in
+    subst (IsPeriod size) e (All-head (IsPeriod size) n (next ∷ ns) periods))
     (cases_lt n rest)
 
--- what repeats after 2^e rows does so after more
-pub mod-within : (i height e g b : ℕ) → height ≡ 2 ^ g * 2 ^ b → 2 ^ e ≤ height → i % height % 2 ^ e ≡ i % 2 ^ e
-mod-within i height e g b tall fits =
-    let all : height ≡ 2 ^ (g + b) = tall ∙ sym (pow-add 2 g b) in
-    let le : e ≤ g + b = pow_order e (g + b) (omega (arith, fits, all)) in
-    let sum : (g + b - e) + e ≡ g + b = omega (arith, le) in
-    ap (λ h. i % h % 2 ^ e) (all ∙ ap (λ x. 2 ^ x) (sym sum)) ∙ mod-mod-pow i (g + b - e) e
-
--- the greatest of some powers of two is positive
+-- the greatest of some periods is positive
 pub greatest-positive : (size : ℕ) (ns : List ℕ) → 1 ≤ length ns → All (IsPeriod size) ns → 1 ≤ greatest ns
-greatest-positive size ns some powers =
-    let power = greatest-power size ns some powers in
+greatest-positive size ns some periods =
+    let power = (greatest-period size ns some periods).0 in
     omega (arith, power.1, pow_pos power.0)
 
 -- the number of a table's entries, of the numbers as they are at hand
@@ -67,3 +58,15 @@ entries-counted periods period a b m n width e_p e_a e_b e_w =
 -- the remainder by a power of two is the low bits
 pub low-bits : (r n : ℕ) → IsPowerOfTwo n → bit_and r (n - 1) ≡ r % n
 low-bits r n power = ap (λ m. bit_and r (m - 1)) power.1 ∙ and_mask r power.0 ∙ ap (λ m. r % m) (sym power.1)
+
+-- the logarithm of the longest period, as it is computed
+pub log_period : {F : Type 0} (n period r : ℕ) (columns : List (List F)) → 1 ≤ length columns → All (IsPeriod (2 ^ n)) (map length columns) →
+    period ≡ greatest (map length columns) → 2 ^ r ≤ period → period < 2 * 2 ^ r → (period ≡ 2 ^ r) × (r ≤ n)
+log_period n period r columns some periods longest low high =
+    let h = greatest-period (2 ^ n) (map length columns) (omega (arith, some, length-map columns length)) periods in
+    let is : period ≡ 2 ^ r = power_is period r (h.0.0, longest ∙ h.0.1) low high in
+    (is, pow_order r n (omega (arith, is, longest, h.1)))
+
+pub log_positive : (period r : ℕ) → period ≡ 2 ^ r → 2 ≤ period → 1 ≤ r
+log_positive period zero is two = absurd (omega (arith, is, two))
+log_positive period (suc r) is two = omega arith

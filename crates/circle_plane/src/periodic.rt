@@ -4,25 +4,20 @@
 //! doubled `n - k` times, which is the polynomial with these entries as values on the standard domain of
 //! `2^k` points. On an extension of the trace's domain its values repeat too.
 ghost use Rattle.std.specs.Prelude.{◌≡◌, ℕ, ◌≤◌, ◌<◌, ◌-◌, ◌*◌, ◌^◌, ◌++◌, List, [], All, IfOk, IfErr, OnOk, length, map, slice_index_or};
-ghost use Rattle.std.specs.List.{range_with_len, flat_map};
+ghost use Rattle.std.specs.List.{range_with_len};
 ghost use Rattle.circle_commit.specs.Matrix.{IsPowerOfTwo};
 ghost use Rattle.circle_commit.specs.Mmcs.{greatest};
-ghost use Rattle.circle_commit.specs.PeriodicLdeTable.{width_of, height_of, entry_at};
-ghost use Rattle.circle_field.specs.Circle.{Coordinates};
+ghost use Rattle.circle_commit.specs.RowMajorMatrix.{rows, width_of, height_of};
 ghost use Rattle.circle_domain.specs.Domain.{log_size, shift_of};
-ghost use Rattle.circle_domain.specs.Order.{IsGenuine, natural_order};
 ghost use Rattle.circle_domain.specs.Periodic.{IsPeriodicValue};
-ghost use Rattle.circle_domain.specs.Values.{Interpolates};
-ghost use Rattle.circle_point.specs.Basis.{value};
 ghost use Rattle.circle_point.specs.Projective.{from_line};
 ghost use Rattle.circle_plane.specs.PeriodicColumns.{IsPeriod, IsFault, IsFirstFault, IsRefusal, IsPeriodicTable};
-ghost use Rattle.circle_plane.specs.PeriodicRows.{IsExtension, table_row};
+ghost use Rattle.circle_plane.specs.PeriodicRows.{AreExtended, table_row};
 ghost use Rattle.circle_plane.specs.declared.periodic.PeriodicError.TheVariants.{HeightTooLarge, Memory};
 
 use crate::cfft::CircleEvaluations;
 use circle_commit::{
-    PeriodicEvaluator, PeriodicLdeTable, PolynomialSpace, RowMajorMatrix, RowMajorMatrixView,
-    is_power_of_two,
+    PeriodicEvaluator, PeriodicLdeTable, PolynomialSpace, RowMajorMatrix, is_power_of_two,
 };
 use circle_domain::CircleDomain;
 use circle_field::{ComplexExtendable, ExtensionField, Field};
@@ -86,7 +81,8 @@ impl<F: ComplexExtendable> PeriodicEvaluator<F, CircleDomain<F>> for CirclePerio
     /// Asks that `lde_domain` is at least as large as the trace's domain, and of the latter
     /// `log_n < CIRCLE_TWO_ADICITY`. Refuses the first column that is empty, isn't of a power of two of
     /// entries, or is longer than the trace, then a table of more entries than `usize` counts; fails where
-    /// memory is refused, and where a part of the table had more rows than there are points in the group.
+    /// memory is refused, and where the table, unless each column is constant, had more rows than there are
+    /// points in the group.
     fn eval_on_lde(
         alloc: Global,
         periodic_table: &[Vec<F>],
@@ -104,9 +100,13 @@ impl<F: ComplexExtendable> PeriodicEvaluator<F, CircleDomain<F>> for CirclePerio
         let log_blowup = lde_domain.log_n() - trace_domain.log_n();
         let period = longest_period(periodic_table, CircleDomain::size(trace_domain))?;
         let height = checked_height(period, log_blowup, periodic_table.len())?;
-        let columns = extended_columns(alloc, periodic_table, trace_domain.log_n(), *lde_domain)?;
-        let values = repeated_rows(alloc, &columns, height)?;
-        Ok(PeriodicLdeTable::new(RowMajorMatrix::new(values, columns.len())))
+        if period == 1 {
+            let constants = repeated_rows(alloc, periodic_table, height)?;
+            return Ok(PeriodicLdeTable::new(constants));
+        }
+        let trace_log_n = trace_domain.log_n();
+        let rows = extended_rows(alloc, periodic_table, period, trace_log_n, *lde_domain)?;
+        Ok(PeriodicLdeTable::new(rows))
     }
 
     /// The values of the columns at this point, in their order: 0 for a column without entries.
@@ -202,76 +202,39 @@ fn checked_height(period: usize, log_blowup: usize, width: usize) -> Result<usiz
     Ok(height)
 }
 
-// The values of each column on an extension of a trace of `2^trace_log_n` rows, as far as they differ.
-fn extended_columns<F: ComplexExtendable>(
+// The values of the columns, of which the longest has `period` entries, on an extension of a trace of
+// `2^trace_log_n` rows, as far as they differ.
+fn extended_rows<F: ComplexExtendable>(
     alloc: Global,
     periodic_table: &[Vec<F>],
+    period: usize,
     trace_log_n: usize,
     lde_domain: CircleDomain<F>,
-) -> Result<Vec<Vec<F>>, AllocError>
+) -> Result<RowMajorMatrix<F>, AllocError>
+    requires some { 1 ≤ length periodic_table.now }
     requires fit { All (IsPeriod (2 ^ trace_log_n)) (map length (map (λ column. column.items) periodic_table.now)) }
+    requires longest { period ≡ greatest (map length (map (λ column. column.items) periodic_table.now)) }
+    requires repeats { 2 ≤ period }
     requires larger { trace_log_n ≤ log_size lde_domain }
     requires in_group { trace_log_n < F.CIRCLE_TWO_ADICITY }
-    ensures count { IfOk result (λ made. length made.items ≡ length periodic_table.now) }
-    ensures each { IfOk result (λ made. (c : ℕ) → c < length periodic_table.now →
-        IsExtension F.ops F.generators F.CIRCLE_TWO_ADICITY trace_log_n (log_size lde_domain) (shift_of lde_domain)
-        (slice_index_or (map (λ column. column.items) periodic_table.now) c []) (slice_index_or (map (λ column. column.items) made.items) c [])) }
+    ensures width { IfOk result (λ made. width_of made ≡ length periodic_table.now) }
+    ensures height { IfOk result (λ made. height_of made ≡ period * 2 ^ (log_size lde_domain - trace_log_n)) }
+    ensures values { IfOk result (λ made. AreExtended F.ops F.generators F.CIRCLE_TWO_ADICITY trace_log_n (log_size lde_domain) (shift_of lde_domain)
+        (map (λ column. column.items) periodic_table.now) (rows made)) }
 {
-    let mut columns = Vec::with_capacity(alloc, periodic_table.len())?;
-    for column in periodic_table {
-        columns.push(extended_column(alloc, column, trace_log_n, lde_domain)?)?;
-    }
-    Ok(columns)
-}
-
-// The values of a column on an extension of a trace of `2^trace_log_n` rows, as far as they differ.
-fn extended_column<F: ComplexExtendable>(
-    alloc: Global,
-    column: &[F],
-    trace_log_n: usize,
-    lde_domain: CircleDomain<F>,
-) -> Result<Vec<F>, AllocError>
-    requires fit { IsPeriod (2 ^ trace_log_n) (length column.now) }
-    requires larger { trace_log_n ≤ log_size lde_domain }
-    requires in_group { trace_log_n < F.CIRCLE_TWO_ADICITY }
-    ensures { IfOk result (λ made. IsExtension F.ops F.generators F.CIRCLE_TWO_ADICITY trace_log_n (log_size lde_domain) (shift_of lde_domain) column.now made.items) }
-{
-    let log_period = column.len().ilog2() as usize;
-    if log_period == 0 {
-        return Vec::from_slice(alloc, column);
-    }
+    let log_period = period.ilog2() as usize;
     let log_blowup = lde_domain.log_n() - trace_log_n;
     if log_blowup > F::CIRCLE_TWO_ADICITY - log_period {
         return Err(AllocError);
     }
     let shift = lde_domain.shift().repeated_double(trace_log_n - log_period);
     let extension = CircleDomain::new(log_period + log_blowup, shift);
-    extrapolated(alloc, column, CircleDomain::standard(log_period), extension)
-}
-
-// The values on `target`, in natural order, of the only polynomial with these values on `domain`, in natural
-// order.
-fn extrapolated<F: ComplexExtendable>(
-    alloc: Global,
-    values: &[F],
-    domain: CircleDomain<F>,
-    target: CircleDomain<F>,
-) -> Result<Vec<F>, AllocError>
-    requires genuine { IsGenuine F.ops (log_size domain) (shift_of domain) }
-    requires larger { log_size domain ≤ log_size target }
-    requires in_group { log_size target ≤ F.CIRCLE_TWO_ADICITY }
-    requires size { length values.now ≡ 2 ^ log_size domain }
-    ensures value { IfOk result (λ made. (coeffs : List F) × Interpolates F.ops F.generators (log_size domain) (shift_of domain) coeffs values.now
-        × (made.items ≡ map (value F.ops coeffs) (natural_order F.ops F.generators (log_size target) (shift_of target)))) }
-    ensures only { IfOk result (λ made. (coeffs : List F) → Interpolates F.ops F.generators (log_size domain) (shift_of domain) coeffs values.now →
-        made.items ≡ map (value F.ops coeffs) (natural_order F.ops F.generators (log_size target) (shift_of target))) }
-{
-    let column = RowMajorMatrixView::new(values, 1);
-    let extended = CircleEvaluations::from_natural_order(domain, column).extrapolate(
-        alloc, target,
-    )?;
-    let rows = extended.to_natural_order().to_row_major_matrix(alloc)?;
-    Ok(rows.into_values())
+    let repeated = repeated_rows(alloc, periodic_table, period)?;
+    let extended = CircleEvaluations::from_natural_order(
+        CircleDomain::standard(log_period),
+        repeated,
+    ).extrapolate(alloc, extension)?;
+    extended.to_natural_order().to_row_major_matrix(alloc)
 }
 
 // So many rows, in each the next entry of each column, which begins anew after its last.
@@ -279,16 +242,18 @@ fn repeated_rows<F: Field>(
     alloc: Global,
     columns: &[Vec<F>],
     height: usize,
-) -> Result<Vec<F>, AllocError>
+) -> Result<RowMajorMatrix<F>, AllocError>
+    requires some { 1 ≤ length columns.now }
     requires powers { All (λ column. IsPowerOfTwo (length column)) (map (λ column. column.items) columns.now) }
-    ensures { IfOk result (λ made. made.items ≡ flat_map (table_row F.ops.zero (map (λ column. column.items) columns.now)) (range_with_len 0 height)) }
+    ensures width { IfOk result (λ made. width_of made ≡ length columns.now) }
+    ensures rows { IfOk result (λ made. rows made ≡ map (table_row F.ops.zero (map (λ column. column.items) columns.now)) (range_with_len 0 height)) }
 {
     let len = height.checked_mul(columns.len()).ok_or(AllocError)?;
     let mut values = Vec::with_capacity(alloc, len)?;
     for r in 0..height {
         append_row(&mut values, columns, r)?;
     }
-    Ok(values)
+    Ok(RowMajorMatrix::new(values, columns.len()))
 }
 
 // Appends the entry of each column at row `r` of its repetition.

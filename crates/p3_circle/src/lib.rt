@@ -1,10 +1,9 @@
-//! The Circle STARK polynomial commitment scheme (IACR ePrint 2024/278): the transcript of a run.
+//! The Circle STARK polynomial commitment scheme (IACR ePrint 2024/278).
 #![tactic(auto)]
 
-#[cfg(test)]
-mod tests;
 pub mod transcript;
 
+pub use circle_folding::{deep_quotient_reduce_row, extract_lambda, fold_x, fold_x_row, fold_y};
 pub use circle_plane::{
     CfftPerm, CfftPermutable, CfftView, CircleCoset, CircleDomain, CircleEvaluations, CirclePoints,
     Neutral, Point, cfft_permute_index, circle_basis,

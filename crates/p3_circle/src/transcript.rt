@@ -1,17 +1,6 @@
 //! The Fiat-Shamir transcript of the scheme: what a run is described by, and both sides of it.
-//!
-//! A run takes in the claimed openings and draws the challenge that batches them, takes in the
-//! commitment to the first layer and draws the challenge that folds it, takes in a commitment and
-//! draws a folding challenge in each round, and takes in the last word's value and draws the query
-//! indices. Proofs of work guard the batching challenge, the folding challenges and the indices.
 
-pub mod failure;
-mod play;
-pub mod run;
-pub mod shape;
-pub mod sides;
-
-pub use failure::CircleTranscriptFailure;
-pub use run::{CircleDraws, CircleWitnesses, both_runs, prover_run, verifier_run};
-pub use shape::CirclePcsShape;
-pub use sides::{CircleProverTranscript, CircleTranscript, CircleVerifierTranscript, OpeningClaim};
+pub use circle_transcript::{
+    CircleDraws, CirclePcsShape, CircleProverTranscript, CircleTranscript, CircleTranscriptFailure,
+    CircleVerifierTranscript, CircleWitnesses, OpeningClaim, both_runs, prover_run, verifier_run,
+};

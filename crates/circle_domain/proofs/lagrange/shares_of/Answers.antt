@@ -1,7 +1,9 @@
-use Rattle.std.proofs.Common.{◌≡◌, ◌≢◌, ◌<◌, ◌++◌, [], ◌∷◌, ◌∙◌, sym, ap, subst, arith, length, map, take, slice_index_or, All}
+use Rattle.std.proofs.Common.{◌≡◌, ◌≢◌, ◌<◌, ◌++◌, [], ◌∷◌, ◌∙◌, refl, sym, ap, subst, arith, length, map, take, slice_index_or, All}
 use Rattle.std.proofs.lemmas.List.{length-map, map_more, take_all, get_or-map}
 use Rattle.circle_field.specs.Circle.{lifted}
 use Rattle.circle_field.specs.Field.{sub}
+use Rattle.circle_field.specs.Ring.{var, plus as sum, times as prod, minus}
+use Rattle.circle_field.specs.RingSound.{ring}
 use Rattle.circle_point.specs.Point.{coordinates}
 use Rattle.circle_point.specs.declared.point.Point.{Point}
 use Rattle.circle_domain.specs.Lagrange.{shares}
@@ -27,22 +29,25 @@ loop-i-preserved g c =
     let below : i < length points = c.loop-i-test.true in
     let inverses : c.in_ok-inverses.inverses.items ≡ map l.inv (map apart points) =
     c.in_ok-inverses.ensures ∙ ap (map l.inv) (c.deref.ensures.value ∙ c.in_ok-differences.ensures) in
-    let inverse_of : (v : _) → v ≡ slice_index_or c.in_ok-inverses.inverses.items i v → v ≡ l.inv (apart p) =
-    λ v e. e ∙ ap (λ xs. slice_index_or xs i v) inverses
+    let v = c.index-inverse.result.now in
+    let inverse : v ≡ l.inv (apart p) =
+    c.index-inverse.ensures ∙ ap (λ xs. slice_index_or xs i v) inverses
     ∙ get_or-map l.inv (map apart points) i (apart p) v (omega (arith, below, length-map points apart))
     ∙ ap l.inv (get_or-map apart points i p (apart p) below ∙ ap apart (sym c.index-points-i.is)) in
-    let y : c.from_base-y.result ≡ m (coordinates p).y = c.from_base-y.ensures ∙ ap m c.y.ensures in
-    let first : c.mul.result ≡ l.mul (l.add (up p).y q.y) (l.inv (apart p)) =
-    g.met.EF.Field.mul_law _ _ _ c.mul.ensures
-    ∙ ap (λ a. l.mul a c.index.result.now) (g.met.EF.Field.add_law _ _ _ c.add.ensures ∙ ap (λ a. l.add a c.y-in-loop-i.result) y ∙ ap (l.add (m (coordinates p).y)) c.y-in-loop-i.ensures)
-    ∙ ap (l.mul (l.add (up p).y q.y)) (inverse_of c.index.result.now c.index.ensures) in
-    let second : c.mul-in-loop-i.result ≡ l.mul (sub l (up p).y q.y) (l.inv (apart p)) =
-    g.met.EF.Field.mul_law _ _ _ c.mul-in-loop-i.ensures
-    ∙ ap (λ a. l.mul a c.index-in-loop-i.result.now) (g.met.EF.Field.sub_law _ _ _ c.sub.ensures ∙ ap (λ a. sub l a c.y-in-loop-i-2.result) y ∙ ap (sub l (m (coordinates p).y)) c.y-in-loop-i-2.ensures)
-    ∙ ap (l.mul (sub l (up p).y q.y)) (inverse_of c.index-in-loop-i.result.now c.index-in-loop-i.ensures) in
+    let own : c.times_base-own.result ≡ l.mul (up p).y (l.inv (apart p)) =
+    c.times_base-own.ensures ∙ ap (λ y. l.mul (m y) v) c.y.ensures ∙ ap (l.mul (up p).y) inverse in
+    let other : c.mul-other.result ≡ l.mul (l.inv (apart p)) q.y =
+    g.met.EF.Field.mul_law _ _ _ c.mul-other.ensures ∙ ap (l.mul v) c.y-in-loop-i.ensures ∙ ap (λ a. l.mul a q.y) inverse in
+    let env = (up p).y ∷ q.y ∷ l.inv (apart p) ∷ [] in
+    let first : c.add.result ≡ l.mul (l.add (up p).y q.y) (l.inv (apart p)) =
+    g.met.EF.Field.add_law _ _ _ c.add.ensures ∙ ap (λ a. l.add a c.mul-other.result) own ∙ ap (l.add (l.mul (up p).y (l.inv (apart p)))) other
+    ∙ ring g.EF.Operations.laws.ring env (sum (prod (var 0) (var 2)) (prod (var 2) (var 1))) (prod (sum (var 0) (var 1)) (var 2)) refl in
+    let second : c.sub.result ≡ l.mul (sub l (up p).y q.y) (l.inv (apart p)) =
+    g.met.EF.Field.sub_law _ _ _ c.sub.ensures ∙ ap (λ a. sub l a c.mul-other.result) own ∙ ap (sub l (l.mul (up p).y (l.inv (apart p)))) other
+    ∙ ring g.EF.Operations.laws.ring env (sum (prod (var 0) (var 2)) (minus (prod (var 2) (var 1)))) (prod (sum (var 0) (minus (var 1))) (var 2)) refl in
     c.in_ok-push-2.ensures.items
-    ∙ ap (λ xs. xs ++ c.mul-in-loop-i.result ∷ []) (c.in_ok-push.ensures.items ∙ ap (λ xs. xs ++ c.mul.result ∷ []) c.loop-i.invariant)
-    ∙ ap (λ a. (shares l q before ++ a ∷ []) ++ c.mul-in-loop-i.result ∷ []) first
+    ∙ ap (λ xs. xs ++ c.sub.result ∷ []) (c.in_ok-push.ensures.items ∙ ap (λ xs. xs ++ c.add.result ∷ []) c.loop-i.invariant)
+    ∙ ap (λ a. (shares l q before ++ a ∷ []) ++ c.sub.result ∷ []) first
     ∙ ap (λ b. (shares l q before ++ l.mul (l.add (up p).y q.y) (l.inv (apart p)) ∷ []) ++ b ∷ []) second
     ∙ sym (shares-more l q before (up p))
     ∙ ap (λ r. shares l q (before ++ up r ∷ [])) c.index-points-i.is

@@ -1,0 +1,59 @@
+-- Steps that are played, one after another.
+use Rattle.std.proofs.Common.{◌≡◌, ℕ, ◌+◌, ◌<◌, List, [], ◌∷◌, ◌++◌, length, drop, take, flat_map, get_or, Some, slice_get, sym, ap, subst, ◌∙◌, append_assoc}
+use Rattle.std.specs.Prelude.{Result, Ok, Err, OnOk, IsErrAnd, IfErr}
+use Rattle.std.proofs.lemmas.List.{append-nil, drop_more, take_more}
+use Rattle.std.proofs.lemmas.Grind.{flat_map-append}
+use Rattle.circle_challenger.specs.Observing.{after_all}
+use Rattle.circle_challenger.proofs.Draws.{after_all-append}
+use Rattle.circle_transcript.specs.Draw.{Claim, claim_elements, after_claims}
+
+module _ {A : Type 0} where
+  -- the first of the steps that are due
+  pub next_is : (x : A) (xs due : List A) → due ≡ x ∷ xs → slice_get due 0 ≡ Some x
+  next_is x xs due is = ap (λ v. slice_get v 0) is
+
+  -- the steps that are due after it
+  pub left_is : (x : A) (xs due left : List A) → due ≡ x ∷ xs → left ≡ drop 1 due → left ≡ xs
+  left_is x xs due left is after = after ∙ ap (drop 1) is
+
+module _ {S F E : Type 0} (f : S → F → S) (coefficients : E → List F) where
+  -- a claim is taken in: a point's coordinates, and values
+  pub claim_taken : (s t u : S) (x y a b : E) (vs : List E) → a ≡ x → b ≡ y
+      → t ≡ after_all f s (coefficients a ++ (coefficients b ++ [])) → u ≡ after_all f t (flat_map coefficients vs)
+      → u ≡ after_all f s (coefficients x ++ (coefficients y ++ flat_map coefficients (vs ++ [])))
+  claim_taken s t u x y a b vs same_x same_y first second =
+      let joined : (coefficients a ++ (coefficients b ++ [])) ++ flat_map coefficients vs ≡ coefficients a ++ (coefficients b ++ flat_map coefficients (vs ++ [])) =
+      ap (λ zs. (coefficients a ++ zs) ++ flat_map coefficients vs) (append-nil (coefficients b))
+      ∙ append_assoc (coefficients a) (coefficients b) (flat_map coefficients vs)
+      ∙ ap (λ zs. coefficients a ++ (coefficients b ++ flat_map coefficients zs)) (sym (append-nil vs)) in
+      second ∙ ap (λ v. after_all f v (flat_map coefficients vs)) first
+      ∙ sym (after_all-append f s (coefficients a ++ (coefficients b ++ [])) (flat_map coefficients vs))
+      ∙ ap (after_all f s) joined
+      ∙ ap (λ v. after_all f s (coefficients v ++ (coefficients b ++ flat_map coefficients (vs ++ [])))) same_x
+      ∙ ap (λ v. after_all f s (coefficients x ++ (coefficients v ++ flat_map coefficients (vs ++ [])))) same_y
+
+  -- claims are taken in after others
+  pub claims-append : (s : S) (cs ds : List (Claim E)) → after_claims f coefficients s (cs ++ ds) ≡ after_claims f coefficients (after_claims f coefficients s cs) ds
+  unfolding after_claims
+  claims-append s cs ds =
+      ap (λ v. after_all f s (flat_map coefficients v)) (flat_map-append claim_elements cs ds)
+      ∙ ap (after_all f s) (flat_map-append coefficients (flat_map claim_elements cs) (flat_map claim_elements ds))
+      ∙ after_all-append f s (flat_map coefficients (flat_map claim_elements cs)) (flat_map coefficients (flat_map claim_elements ds))
+
+-- the value at an index, and those after it
+pub drop_read : {A : Type 0} (xs : List A) (i : ℕ) (x : A) → i < length xs → x ≡ get_or xs i x → drop i xs ≡ x ∷ drop (i + 1) xs
+drop_read xs i x within is = drop_more xs i x within ∙ ap (λ v. v ∷ drop (i + 1) xs) (sym is)
+
+-- the values up to an index, and the one there
+pub take_read : {A : Type 0} (xs : List A) (i : ℕ) (x : A) → i < length xs → x ≡ get_or xs i x → take (i + 1) xs ≡ take i xs ++ x ∷ []
+take_read xs i x within is = take_more xs i x within ∙ ap (λ v. take i xs ++ v ∷ []) (sym is)
+
+-- what a fact gives where there is a value
+pub on_ok : {A E P Q : Type 0} (r : Result A E) → (P → Q) → OnOk r P → OnOk r Q
+on_ok (Ok x) f p = f p
+on_ok (Err e) f p = tt
+
+-- what holds of an error that is handed on
+pub handed_on : {A E : Type 0} (r : Result A E) (e : E) (P : E → Type 0) → IsErrAnd r (λ x. x ≡ e) → P e → IfErr r P
+handed_on (Ok x) e P h p = tt
+handed_on (Err x) e P h p = subst P (sym h) p

@@ -1,0 +1,35 @@
+-- Steps one after another.
+use Rattle.std.proofs.Common.{◌≡◌, ℕ, zero, suc, ◌+◌, List, [], ◌∷◌, ◌++◌, refl, sym, ap, ◌∙◌, append_assoc, add-one, map}
+use Rattle.std.proofs.lemmas.List.{append-nil, map-append}
+use Rattle.circle_challenger.specs.Step.{Step}
+use Rattle.circle_challenger.specs.Interaction.{step_of}
+use Rattle.circle_challenger.specs.declared.interaction.Interaction.{Interaction}
+use Rattle.circle_transcript.specs.Shape.{round_steps, rounds_steps}
+
+module _ (degree bits : ℕ) where
+  rounds-suc : (n : ℕ) → rounds_steps degree bits (suc n) ≡ rounds_steps degree bits n ++ round_steps degree bits
+  unfolding rounds_steps
+  rounds-suc zero = append-nil (round_steps degree bits)
+  rounds-suc (suc n) =
+      ap (λ xs. round_steps degree bits ++ xs) (rounds-suc n)
+      ∙ sym (append_assoc (round_steps degree bits) (rounds_steps degree bits n) (round_steps degree bits))
+
+  -- one round more
+  pub rounds-push : (n : ℕ) → rounds_steps degree bits (n + 1) ≡ rounds_steps degree bits n ++ round_steps degree bits
+  rounds-push n = rw add-one (rounds-suc n)
+
+  -- no rounds
+  pub rounds-zero : rounds_steps degree bits 0 ≡ []
+  unfolding rounds_steps
+  rounds-zero = refl
+
+-- one more step
+pub pushed : (xs ys : List Interaction) (x : Interaction) (s : Step) → ys ≡ xs ++ x ∷ [] → step_of x ≡ s → map step_of ys ≡ map step_of xs ++ s ∷ []
+pushed xs ys x s more same =
+    ap (map step_of) more ∙ map-append step_of xs (x ∷ []) ∙ ap (λ v. map step_of xs ++ v ∷ []) same
+
+-- a step, more steps and another step, one after another
+pub guarded : {A : Type 0} (a b c d p : List A) (x y : A) → b ≡ a ++ x ∷ [] → c ≡ b ++ p → d ≡ c ++ y ∷ [] → d ≡ a ++ (x ∷ (p ++ y ∷ []))
+guarded a b c d p x y first more last =
+    last ∙ ap (λ v. v ++ y ∷ []) (more ∙ ap (λ v. v ++ p) first)
+    ∙ append_assoc (a ++ x ∷ []) p (y ∷ []) ∙ append_assoc a (x ∷ []) (p ++ y ∷ [])

@@ -1,0 +1,36 @@
+use Rattle.std.proofs.Common.{◌+◌, ◌<◌, ◌++◌, ◌∷◌, [], length, drop, take, flat_map, refl, sym, ap, ◌∙◌, append_assoc, arith}
+use Rattle.std.proofs.lemmas.List.{map-append}
+use Rattle.circle_transcript.specs.Shape.{claim_steps}
+use Rattle.circle_transcript.specs.Draw.{widths_of, after_claims}
+use Rattle.circle_transcript.specs.Claims.{claim_of, claims_of}
+use Rattle.circle_transcript.proofs.Playing.{claims-append, drop_read, take_read}
+use Rattle.circle_transcript.proofs.play.observe_claims.Goals as goal
+
+pub loop-point-init : goal.loop-point-init
+unfolding after_claims
+loop-point-init g c = record { same_reference = refl; due = λ rest e. e; state = refl }
+
+pub loop-point-preserved : goal.loop-point-preserved
+loop-point-preserved g c =
+    let degree = g.EF.ExtensionField.DEGREE in
+    let observe = g.C.CanObserve.after_observe in
+    let coefficients = g.EF.ExtensionField.coefficients in
+    let begun = g.C.ChallengerState.state c.args.transcript.now.challenger.now in
+    let claims = c.args.claims.now in
+    let i = c.loop-point.point-index in
+    let item = c.loop-point-item.result in
+    let within : i < length claims = omega arith in
+    let rest_of = drop_read claims i item within c.loop-point-item.is in
+    let front_of = take_read claims i item within c.loop-point-item.is in
+    record {
+      same_reference = c.observe_claim.ensures.same_reference ∙ c.loop-point.invariant.same_reference;
+      due = λ rest e.
+          c.observe_claim.ensures.due _
+          (c.loop-point.invariant.due rest e ∙ ap (λ xs. flat_map (claim_steps degree) (widths_of (claims_of xs)) ++ rest) rest_of
+          ∙ append_assoc (claim_steps degree (length item.1.now)) (flat_map (claim_steps degree) (widths_of (claims_of (drop (i + 1) claims)))) rest);
+      state =
+          c.observe_claim.ensures.state
+          ∙ ap (λ s. after_claims observe coefficients s (claim_of item ∷ [])) c.loop-point.invariant.state
+          ∙ sym (claims-append observe coefficients begun (claims_of (take i claims)) (claim_of item ∷ []))
+          ∙ ap (after_claims observe coefficients begun) (sym (ap claims_of front_of ∙ map-append claim_of (take i claims) (item ∷ [])));
+    }

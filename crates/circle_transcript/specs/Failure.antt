@@ -1,0 +1,17 @@
+-- Why a transcript fails, as contracts see it.
+use Rattle.circle_commit.specs.declared.params.PowPhase.{PowPhase}
+use Rattle.circle_commit.specs.declared.params.PowPhase.TheVariants.{Query}
+use Rattle.circle_transcript.specs.declared.failure.CircleTranscriptFailure.{CircleTranscriptFailure}
+use Rattle.circle_transcript.specs.declared.failure.CircleTranscriptFailure.TheVariants.{PowWitness, NoWitness, Memory}
+
+-- the phase that failed
+abbrev pub phase_of : CircleTranscriptFailure → PowPhase
+phase_of (PowWitness phase bits) = phase
+phase_of (NoWitness phase bits) = phase
+phase_of Memory = Query
+
+-- whether it is that no witness passes
+abbrev pub IsNoWitness : CircleTranscriptFailure → Type 0
+IsNoWitness (PowWitness phase bits) = ⊥
+IsNoWitness (NoWitness phase bits) = Unit {0}
+IsNoWitness Memory = ⊥

@@ -1,0 +1,60 @@
+-- The definitions at worked examples. Expected values were computed apart from these definitions.
+use Rattle.std.specs.Prelude.{◌≡◌, [], ◌∷◌, ◌++◌, length, take, codes, refl}
+use Rattle.circle_challenger.specs.Step.{be64, step_text}
+use Rattle.circle_challenger.specs.Separator.{steps_text, labels_text}
+use Rattle.circle_challenger.specs.Played.{element_message, elements_message, opaque_message, pow_step, element_challenge, numbers_challenge}
+use Rattle.circle_transcript.specs.Shape.{Shape, claim_steps, batch_steps, first_layer_steps, round_steps, rounds_steps, query_steps, steps_of, layout, batch_layout, text_of}
+
+-- one claim of one column, one round, no proofs of work, and two indices of three bits
+example : Shape
+example = record {
+  opened_widths = ((1 ∷ []) ∷ []) ∷ [];
+  num_commit_rounds = 1;
+  batch_pow_bits = 0;
+  commit_pow_bits = 0;
+  query_pow_bits = 0;
+  num_queries = 2;
+  index_bits = 3;
+  log_blowup = 1;
+}
+
+-- in the extension of degree 3 it has these nine steps
+example_steps : steps_of 3 example
+    ≡ elements_message 3 (codes "opening_point") 2
+    ∷ elements_message 3 (codes "opened_values") 1
+    ∷ element_challenge 3 (codes "batch_challenge")
+    ∷ opaque_message (codes "first_layer_commitment")
+    ∷ element_challenge 3 (codes "bivariate_challenge")
+    ∷ opaque_message (codes "commit_phase_commitment")
+    ∷ element_challenge 3 (codes "fold_challenge")
+    ∷ element_message 3 (codes "final_poly")
+    ∷ numbers_challenge (codes "query_indices") 3 2
+    ∷ []
+unfolding example claim_steps batch_steps first_layer_steps round_steps rounds_steps query_steps
+example_steps = refl
+
+-- its seed's text is of 480 bytes, which begin with the version, the name and the number of steps
+text_length : length (text_of 3 example) ≡ 480
+unfolding example claim_steps batch_steps first_layer_steps round_steps rounds_steps query_steps layout batch_layout steps_text labels_text step_text be64
+text_length = refl
+
+text_header : take 30 (text_of 3 example)
+    ≡ 1 ∷ 0 ∷ 0 ∷ 0 ∷ 0 ∷ 0 ∷ 0 ∷ 0 ∷ 13 ∷ 112 ∷ 51 ∷ 45 ∷ 99 ∷ 105 ∷ 114 ∷ 99 ∷ 108 ∷ 101 ∷ 45 ∷ 112 ∷ 99 ∷ 115
+    ∷ 0 ∷ 0 ∷ 0 ∷ 0 ∷ 0 ∷ 0 ∷ 0 ∷ 9 ∷ []
+unfolding example claim_steps batch_steps first_layer_steps round_steps rounds_steps query_steps layout batch_layout steps_text labels_text step_text be64
+text_header = refl
+
+-- proofs of work are steps where they have a difficulty
+guarded_round : round_steps 3 8
+    ≡ opaque_message (codes "commit_phase_commitment") ∷ pow_step (codes "commit_pow") 8 ∷ element_challenge 3 (codes "fold_challenge") ∷ []
+unfolding round_steps
+guarded_round = refl
+
+-- two matrices at one point each, and one matrix at two points
+two_matrices : layout (((4 ∷ []) ∷ (4 ∷ []) ∷ []) ∷ []) ≡ be64 1 ++ (be64 2 ++ (be64 1 ++ be64 1))
+unfolding layout batch_layout be64
+two_matrices = refl
+
+two_points : layout (((4 ∷ 4 ∷ []) ∷ []) ∷ []) ≡ 0 ∷ 0 ∷ 0 ∷ 0 ∷ 0 ∷ 0 ∷ 0 ∷ 1 ∷ 0 ∷ 0 ∷ 0 ∷ 0 ∷ 0 ∷ 0 ∷ 0 ∷ 1 ∷ 0 ∷ 0 ∷ 0 ∷ 0 ∷ 0 ∷ 0 ∷ 0 ∷ 2 ∷ []
+unfolding layout batch_layout be64
+two_points = refl

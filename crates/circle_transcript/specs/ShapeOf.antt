@@ -1,0 +1,24 @@
+-- A `CirclePcsShape` as contracts see it.
+use Rattle.std.specs.Prelude.{ℕ, List, map, Vec}
+use Rattle.circle_transcript.specs.declared.shape.CirclePcsShape.{CirclePcsShape}
+use Rattle.circle_transcript.specs.Shape.{Shape}
+
+-- vectors as lists
+abbrev pub matrices_of : {R : Type 0} → List (Vec ℕ R) → List (List ℕ)
+matrices_of matrices = map (λ m. m.items) matrices
+
+abbrev pub batches_of : {R : Type 0} → List (Vec (Vec ℕ R) R) → List (List (List ℕ))
+batches_of batches = map (λ b. matrices_of b.items) batches
+
+-- its shape
+abbrev pub shape_of : CirclePcsShape → Shape
+shape_of s = record {
+  opened_widths = batches_of s.opened_widths.items;
+  num_commit_rounds = s.num_commit_rounds;
+  batch_pow_bits = s.batch_pow_bits;
+  commit_pow_bits = s.commit_pow_bits;
+  query_pow_bits = s.query_pow_bits;
+  num_queries = s.num_queries;
+  index_bits = s.index_bits;
+  log_blowup = s.log_blowup;
+}

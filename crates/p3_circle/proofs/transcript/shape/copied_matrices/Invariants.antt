@@ -1,7 +1,0 @@
-use Rattle.std.proofs.Common.{◌≡◌, take}
-use Rattle.p3_circle.specs.ShapeOf.{matrices_of}
-use Rattle.p3_circle.proofs.transcript.shape.copied_matrices.Given as goal
-
--- the matrices so far are copied
-abbrev pub invariant-loop-matrix : goal.invariant-loop-matrix
-invariant-loop-matrix l = matrices_of l.copies.items ≡ matrices_of (take l.matrix-index l.matrices)
