@@ -2,6 +2,7 @@ pub mod BlockSums
 pub mod Folds
 pub mod Opened
 pub mod Places
+pub mod Queries
 pub mod Twiddles
 pub mod Vanished
 pub mod Vanishing

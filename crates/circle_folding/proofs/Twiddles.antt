@@ -27,7 +27,7 @@ module _ {F : Type 0} (k : FieldOps F) (gen : ℕ → Coordinates F) where
       let e : r + 1 - 1 ≡ r = omega arith in
       first_factors k gen (r + 1) (gen (r + 2)) ∙ ap (λ m. map (λ p. p.y) (coset k gen m (gen (r + 2)))) e
 
-  x_factors : (r : ℕ) → layer_factors k gen (r + 2) (gen (r + 3)) 1 ≡ x_twiddles k gen r
+  pub x_factors : (r : ℕ) → layer_factors k gen (r + 2) (gen (r + 3)) 1 ≡ x_twiddles k gen r
   x_factors r =
       let e : r + 2 - 1 ≡ r + 1 = omega arith in
       second_factors k gen (r + 2) (gen (r + 3)) (omega arith) ∙ ap (λ m. map (λ p. p.x) (every_second (coset k gen m (gen (r + 3))))) e

@@ -4,10 +4,12 @@
 
 pub mod deep_quotient;
 pub mod folding;
+pub mod query;
 pub mod reduced;
 #[cfg(test)]
 mod tests;
 
 pub use deep_quotient::{deep_quotient_reduce_row, extract_lambda};
 pub use folding::{fold_row_with_inv_twiddle, fold_x, fold_x_row, fold_y};
+pub use query::{first_x_twiddles, fold_query_values, next_x_twiddles, query_pairs};
 pub use reduced::{add_quotients, query_points};

@@ -70,8 +70,14 @@ pub fn add_quotients<F: ComplexExtendable, EF: ExtensionField<F>>(
     let alpha_pow_width = alpha_powers[values.len()];
     for (i, sum) in sums.iter_mut().enumerate() {
         let row = &opened_values[i][matrix];
-        let quotient =
-            deep_quotient_reduce_row(alpha_pow_width, alpha_powers, points[i], zeta, row, values)?;
+        let quotient = deep_quotient_reduce_row(
+            alpha_pow_width,
+            alpha_powers,
+            points[i],
+            zeta,
+            row,
+            values,
+        )?;
         *sum = *sum + offset * quotient;
     }
     Some(())

@@ -9,6 +9,9 @@ use std::alloc::{AllocError, Global};
 use std::process::Abort;
 use std::test::Fail;
 
+mod queries;
+mod reduced;
+
 fn element(value: u64) -> Mersenne31 {
     Mersenne31::from_u64(value)
 }
@@ -90,7 +93,7 @@ fn a_constant_word_folds_to_its_entry(rt: HostRuntime) -> Result<(), Fail> {
 }
 
 // The rows of two that these entries make up.
-fn rows_of_two(rt: &impl Abort, entries: Vec<Cubic>) -> RowMajorMatrix<Cubic> {
+fn rows_of_two<EF: Field>(rt: &impl Abort, entries: Vec<EF>) -> RowMajorMatrix<EF> {
     assert!(rt; entries.len() % 2 == 0);
     RowMajorMatrix::new(entries, 2)
 }

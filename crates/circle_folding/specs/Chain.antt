@@ -1,0 +1,27 @@
+-- A query's way through the rounds: Circle STARKs (ePrint 2024/278), section 4.2. With h the logarithm of the greatest height
+-- that is committed, round r folds a word of 2^(h - 1 - r) entries, of which a query q below 2^h asks for the one at place
+-- q >> (r + 1); the other of its pair is its sibling.
+use Rattle.std.specs.Prelude.{ℕ, ◌+◌, ◌-◌, ◌/◌, ◌%◌, ◌^◌, List, [], ◌∷◌, nat_eq, if◌then◌else◌, slice_index_or}
+use Rattle.circle_field.specs.Field.{FieldOps}
+use Rattle.circle_field.specs.Circle.{Coordinates}
+use Rattle.circle_domain.specs.Layers.{pairwise}
+use Rattle.circle_folding.specs.Fold.{fold_pair, x_twiddles}
+
+module _ {F : Type 0} (k : FieldOps F) (gen : ℕ → Coordinates F) where
+  -- the twiddle of the pair that query q asks for in round r
+  abbrev pub round_twiddle : ℕ → ℕ → ℕ → F
+  round_twiddle h r q = slice_index_or (x_twiddles k gen (h - 2 - r)) (q / 2 ^ (r + 2)) k.zero
+
+module _ {E : Type 0} where
+  -- the pair of the value at a place and its sibling
+  abbrev pub pair_of : ℕ → E → E → List E
+  pair_of place value sibling = if nat_eq (place % 2) 0 then value ∷ sibling ∷ [] else sibling ∷ value ∷ []
+
+  -- the pairs that queries ask for in round r, each of the query's value and its sibling
+  abbrev pub round_pairs : ℕ → List ℕ → List E → List E → List (List E)
+  round_pairs r queries values siblings = pairwise (λ pair sibling. pair sibling) (pairwise (λ q. pair_of (q / 2 ^ (r + 1))) queries values) siblings
+
+module _ {E : Type 0} (l : FieldOps E) where
+  -- what the value at a place becomes: the fold of its pair
+  abbrev pub next_value : E → E → ℕ → E → E → E
+  next_value beta t place value sibling = fold_pair l beta t (pair_of place value sibling)

@@ -1,0 +1,53 @@
+-- The definitions at worked examples over the numbers modulo 31, whose circle has 32 points.
+use Rattle.std.specs.Prelude.{◌≡◌, ℕ, ◌+◌, ◌*◌, ◌-◌, ◌%◌, ◌^◌, [], ◌∷◌, refl, map}
+use Rattle.std.proofs.Common.{zero, suc}
+use Rattle.circle_field.specs.Field.{FieldOps}
+use Rattle.circle_field.specs.Circle.{Coordinates, at, plus}
+use Rattle.circle_folding.specs.Fold.{folds, x_twiddles}
+use Rattle.circle_folding.specs.Chain.{round_twiddle, round_pairs, next_value}
+
+abbrev ops : FieldOps ℕ
+ops = record {
+  zero = 0;
+  one = 1;
+  add = λ a b. (a + b) % 31;
+  mul = λ a b. (a * b) % 31;
+  neg = λ a. (31 - a) % 31;
+  inv = λ a. a ^ 29 % 31;
+}
+
+abbrev doubled_times : ℕ → Coordinates ℕ → Coordinates ℕ
+doubled_times zero q = q
+doubled_times (suc n) q = doubled_times n (plus ops q q)
+
+-- (2, 11) has order 32
+abbrev gen : ℕ → Coordinates ℕ
+gen n = doubled_times (5 - n) (at 2 11)
+
+-- twice the square less one of each twiddle is, up to the sign, one of the next round's
+twiddles_row : map (x_twiddles ops gen) (2 ∷ 1 ∷ 0 ∷ []) ≡ (2 ∷ 11 ∷ 21 ∷ 5 ∷ []) ∷ (7 ∷ 13 ∷ []) ∷ (4 ∷ []) ∷ []
+twiddles_row = refl
+
+-- a word of 8 entries folded twice
+folded_row : folds ops 2 (x_twiddles ops gen 2) ((3 ∷ 1 ∷ []) ∷ (4 ∷ 1 ∷ []) ∷ (5 ∷ 9 ∷ []) ∷ (2 ∷ 6 ∷ []) ∷ []) ≡ 3 ∷ 7 ∷ 26 ∷ 28 ∷ []
+folded_row = refl
+
+folded_again_row : folds ops 7 (x_twiddles ops gen 1) ((3 ∷ 7 ∷ []) ∷ (26 ∷ 28 ∷ []) ∷ []) ≡ 3 ∷ 5 ∷ []
+folded_again_row = refl
+
+-- queries 13, 2 and 7 of 16 ask for the entries 6, 1 and 3 of that word, and then for entries 3, 0 and 1
+query_twiddles_row : map (round_twiddle ops gen 4 0) (13 ∷ 2 ∷ 7 ∷ []) ≡ 5 ∷ 2 ∷ 11 ∷ []
+query_twiddles_row = refl
+
+next_twiddles_row : map (round_twiddle ops gen 4 1) (13 ∷ 2 ∷ 7 ∷ []) ≡ 13 ∷ 7 ∷ 7 ∷ []
+next_twiddles_row = refl
+
+query_pairs_row : round_pairs {E = ℕ} 0 (13 ∷ 2 ∷ 7 ∷ []) (2 ∷ 1 ∷ 1 ∷ []) (6 ∷ 3 ∷ 4 ∷ []) ≡ (2 ∷ 6 ∷ []) ∷ (3 ∷ 1 ∷ []) ∷ (4 ∷ 1 ∷ []) ∷ []
+query_pairs_row = refl
+
+-- query 13 meets entry 3 of the word folded once, and entry 1 of the word folded twice
+first_value_row : next_value ops 2 (round_twiddle ops gen 4 0 13) 6 2 6 ≡ 28
+first_value_row = refl
+
+second_value_row : next_value ops 7 (round_twiddle ops gen 4 1 13) 3 28 26 ≡ 5
+second_value_row = refl

@@ -1,0 +1,143 @@
+//! Folding the values that queries ask for, all queries of a round together.
+//!
+//! A query is an index below `2^log_max_height`, the greatest height that is committed. Round `r` folds a
+//! word of `2^(log_max_height - 1 - r)` entries, of which the query asks for the one at place
+//! `index >> (r + 1)`; its pair has the index `index >> (r + 2)`, and its sibling is the other entry of the
+//! pair.
+ghost use Rattle.std.specs.Prelude.{◌≡◌, ◌≢◌, ℕ, ◌+◌, ◌/◌, ◌^◌, ◌<◌, ◌≤◌, [], ◌∷◌, length, map, All, IfOk, OnOk, OnErr, slice_index_or};
+ghost use Rattle.circle_commit.specs.Mmcs.{opened_rows};
+ghost use Rattle.circle_folding.specs.Fold.{folds};
+ghost use Rattle.circle_folding.specs.Chain.{round_twiddle, pair_of, round_pairs, next_value};
+
+use crate::folding::fold_row_with_inv_twiddle;
+use circle_commit::OpenedRows;
+use circle_domain::{CircleDomain, cfft_permute_index};
+use circle_field::{ComplexExtendable, ExtensionField, Field, batch_multiplicative_inverse};
+use std::alloc::{AllocError, Global};
+
+/// For each query the twiddle of its pair in round 0, the x coordinate that the pair's first entry belongs
+/// to.
+///
+/// Asks `2 <= log_max_height < CIRCLE_TWO_ADICITY` and indices below `2^log_max_height`. Fails where memory
+/// is refused.
+pub fn first_x_twiddles<F: ComplexExtendable>(
+    alloc: Global,
+    log_max_height: usize,
+    indices: &[usize],
+) -> Result<Vec<F>, AllocError>
+    requires height { 2 ≤ log_max_height }
+    requires in_group { log_max_height < F.CIRCLE_TWO_ADICITY }
+    requires in_range { All (λ q. q < 2 ^ log_max_height) indices.now }
+    ensures { IfOk result (λ twiddles. twiddles.items ≡ map (round_twiddle F.ops F.generators log_max_height 0) indices.now) }
+{
+    let domain = CircleDomain::<F>::standard(log_max_height);
+    let mut twiddles = Vec::with_capacity(alloc, indices.len())?;
+    for index in indices {
+        let place = (*index >> 2) << 2;
+        let point = domain.nth_point(cfft_permute_index(place, log_max_height));
+        twiddles.push(point.x())?;
+    }
+    Ok(twiddles)
+}
+
+/// Takes the queries' twiddles of this round to those of the next: `t` becomes `2 t^2 - 1`, or its opposite
+/// where the pair stands at an odd place among the pairs.
+///
+/// Asks a twiddle for each query, and `round < 62`. Takes no memory.
+pub fn next_x_twiddles<F: ComplexExtendable>(round: usize, indices: &[usize], twiddles: &mut [F])
+    requires count { length twiddles.old ≡ length indices.now }
+    requires round { round < 62 }
+    ensures { (h : ℕ) → round + 3 ≤ h → h < F.CIRCLE_TWO_ADICITY → All (λ q. q < 2 ^ h) indices.now →
+        twiddles.old ≡ map (round_twiddle F.ops F.generators h round) indices.now →
+        twiddles.new ≡ map (round_twiddle F.ops F.generators h (round + 1)) indices.now }
+{
+    for (i, twiddle) in twiddles.iter_mut().enumerate() {
+        let doubled = twiddle.square().double() - F::ONE;
+        let pair = indices[i] >> (round + 2);
+        *twiddle = if pair % 2 == 0 { doubled } else { -doubled };
+    }
+}
+
+/// For each query the one row that the round's commitment is asked for: the pair of the query's value and
+/// its sibling.
+///
+/// Asks a value and a sibling for each query, and `round < 62`. Fails where memory is refused.
+pub fn query_pairs<T: Copy>(
+    alloc: Global,
+    round: usize,
+    indices: &[usize],
+    values: &[T],
+    siblings: &[T],
+) -> Result<OpenedRows<T>, AllocError>
+    requires values { length values.now ≡ length indices.now }
+    requires siblings { length siblings.now ≡ length indices.now }
+    requires round { round < 62 }
+    ensures { IfOk result (λ rows. opened_rows rows.items ≡ map (λ pair. pair ∷ []) (round_pairs round indices.now values.now siblings.now)) }
+{
+    let mut rows = Vec::with_capacity(alloc, indices.len())?;
+    for (i, index) in indices.iter().enumerate() {
+        let pair = pair_row(alloc, *index >> (round + 1), values[i], siblings[i])?;
+        rows.push(vec![in alloc; pair]?)?;
+    }
+    Ok(rows)
+}
+
+/// Folds each query's pair of this round by `beta`: the values become those of the folded word, to which
+/// whoever calls adds what joins it.
+///
+/// Asks a twiddle that isn't 0, a value and a sibling for each query, and `round < 62`. Where memory is
+/// refused the values stay as they were.
+pub fn fold_query_values<F: Field, EF: ExtensionField<F>>(
+    alloc: Global,
+    beta: EF,
+    round: usize,
+    indices: &[usize],
+    twiddles: &[F],
+    values: &mut [EF],
+    siblings: &[EF],
+) -> Result<(), AllocError>
+    requires twiddles { length twiddles.now ≡ length indices.now }
+    requires nonzero { All (λ t. t ≢ F.ops.zero) twiddles.now }
+    requires values { length values.old ≡ length indices.now }
+    requires siblings { length siblings.now ≡ length indices.now }
+    requires round { round < 62 }
+    ensures folded { OnOk result (values.new ≡ folds EF.ops beta (map EF.embed twiddles.now) (round_pairs round indices.now values.old siblings.now)) }
+    ensures each { OnOk result ((i : ℕ) (d : EF) → i < length indices.now → slice_index_or values.new i d ≡ next_value EF.ops beta
+        (EF.embed (slice_index_or twiddles.now i F.ops.zero)) (slice_index_or indices.now i 0 / 2 ^ (round + 1))
+        (slice_index_or values.old i d) (slice_index_or siblings.now i d)) }
+    ensures refused { OnErr result (values.new ≡ values.old) }
+{
+    let inverses = batch_multiplicative_inverse(alloc, twiddles)?;
+    for (i, value) in values.iter_mut().enumerate() {
+        let (low, high) = ordered(indices[i] >> (round + 1), *value, siblings[i]);
+        *value = fold_row_with_inv_twiddle(inverses[i], beta, low, high);
+    }
+    Ok(())
+}
+
+// The pair of the value at a place and its sibling, as a row.
+fn pair_row<T: Copy>(
+    alloc: Global,
+    place: usize,
+    value: T,
+    sibling: T,
+) -> Result<Vec<T>, AllocError>
+    ensures { IfOk result (λ row. row.items ≡ pair_of place value sibling) }
+{
+    let (low, high) = ordered(place, value, sibling);
+    let mut row = Vec::with_capacity(alloc, 2)?;
+    row.push(low)?;
+    row.push(high)?;
+    Ok(row)
+}
+
+// The pair of the value at a place and its sibling.
+fn ordered<T: Copy>(place: usize, value: T, sibling: T) -> (T, T)
+    ensures { result.0 ∷ result.1 ∷ [] ≡ pair_of place value sibling }
+{
+    if place % 2 == 0 {
+        (value, sibling)
+    } else {
+        (sibling, value)
+    }
+}
