@@ -1,7 +1,5 @@
 //! Lines about commitments to matrices over SHA-256: what they come to, and how long they take.
-ghost use Rattle.std.specs.Prelude.{◌<◌, ◌≤◌, ◌↔◌, All, IsTrue, length};
-ghost use Rattle.circle_commit.specs.Mmcs.{max_height};
-ghost use Rattle.circle_merkle.specs.ProverData.{matrices_of};
+ghost use Rattle.std.specs.Prelude.{◌<◌, ◌↔◌, All, IsTrue};
 
 use crate::timing::{self, Mode};
 use crate::transforms::Size;

@@ -1,5 +1,5 @@
 //! A challenger over SHA-256.
-ghost use Rattle.std.specs.Prelude.{◌≡◌, ◌++◌, ◌∷◌, [], ◌%◌, ◌^◌, ◌<◌, ◌≤◌, replicate, is_some, IfSome};
+ghost use Rattle.std.specs.Prelude.{◌≡◌, ◌++◌, ◌∷◌, [], ◌%◌, ◌<◌, ◌≤◌, replicate, is_some, IfSome};
 ghost use Rattle.circle_challenger.specs.Grinding.{passes, after_check};
 ghost use Rattle.sha2.specs.Sha256.{sha256};
 ghost use Rattle.circle_challenger.specs.Sponge.{absorbed, absorbed_element, number_of, after_squeeze, sampled_element, sampled_number, number-below};

@@ -1,5 +1,5 @@
 //! The drivers: a transcript that is played step by step, as it was described.
-ghost use Rattle.std.specs.Prelude.{◌≡◌, ℕ, ◌+◌, ◌≤◌, ◌<◌, ◌^◌, List, [], ◌∷◌, map, flat_map, length, drop, slice_get, Some, All, IfOk, OnOk, IfSome, OnSome, IfNone, IsTrue, true, false};
+ghost use Rattle.std.specs.Prelude.{◌≡◌, ◌+◌, ◌≤◌, ◌<◌, ◌^◌, [], ◌∷◌, map, flat_map, length, drop, slice_get, Some, All, IfOk, OnOk, IfSome, IfNone, IsTrue, false};
 ghost use Rattle.circle_field.specs.Field.{of_nat};
 ghost use Rattle.circle_challenger.specs.Grinding.{passes, after_check};
 ghost use Rattle.circle_challenger.specs.Observing.{after_all};

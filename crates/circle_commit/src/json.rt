@@ -1,11 +1,11 @@
 //! Values read from JSON and written as JSON.
-ghost use Rattle.std.specs.Prelude.{◌≡◌, ℕ, ◌<◌, List, map, length, IfOk, IfErr, MatchResult, Ok, Err, Some, None};
+ghost use Rattle.std.specs.Prelude.{◌≡◌, ◌<◌, map, IfOk, IfErr, MatchResult, Ok, Err, Some, None};
 ghost use Rattle.serde_json.specs.Data.{Data, array};
 ghost use Rattle.serde_json.specs.Find.{as_array};
 ghost use Rattle.serde_json.specs.View.{view, items_of, items_view};
 ghost use Rattle.circle_field.specs.Mersenne31.{residue};
 ghost use Rattle.circle_commit.specs.declared.json.JsonError.{JsonError};
-ghost use Rattle.circle_commit.specs.JsonForms.{count_of, residue_of, residues_of, digest_of, count_written, residues_written, digest_written, IsRead, IsRefused, ReadsItems, ReadsArray, RefusesArray};
+ghost use Rattle.circle_commit.specs.JsonForms.{count_of, residue_of, residues_of, digest_of, count_written, residues_written, digest_written, IsRead, IsRefused, ReadsArray, RefusesArray};
 
 use circle_field::{Cubic, ExtensionField, Mersenne31};
 use hex::FromHex;

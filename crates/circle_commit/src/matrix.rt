@@ -1,5 +1,5 @@
 //! Matrices by rows, and views of them under another order of the rows.
-ghost use Rattle.std.specs.Prelude.{◌≡◌, ℕ, ◌+◌, ◌<◌, ◌≤◌, ◌%◌, ◌/◌, List, [], ◌∷◌, length, map, Some, IfOk, All, slice_get, slice_index_or, take, drop, vec_len};
+ghost use Rattle.std.specs.Prelude.{◌≡◌, ℕ, ◌+◌, ◌<◌, ◌≤◌, ◌%◌, ◌/◌, List, [], ◌∷◌, length, map, Some, IfOk, All, slice_get, take, drop, vec_len};
 ghost use Rattle.circle_commit.specs.Matrix.{rows_from, mapped_rows};
 
 use crate::view::RowMajorMatrixView;

@@ -1,5 +1,5 @@
 //! Columns that repeat over a domain, and their values on an extension of it.
-ghost use Rattle.std.specs.Prelude.{◌≡◌, ℕ, ◌≤◌, ◌<◌, List, [], map, Some, IfOk, IfErr};
+ghost use Rattle.std.specs.Prelude.{◌≡◌, ◌≤◌, ◌<◌, List, [], map, Some, IfOk, IfErr};
 ghost use Rattle.circle_field.specs.Field.{FieldOps};
 ghost use Rattle.circle_commit.specs.declared.periodic.PeriodicLdeTable.{PeriodicLdeTable};
 

@@ -1,5 +1,5 @@
 //! Rows of a matrix that is stored elsewhere.
-ghost use Rattle.std.specs.Prelude.{◌≡◌, ℕ, ◌≤◌, ◌%◌, ◌/◌, List, length};
+ghost use Rattle.std.specs.Prelude.{◌≡◌, ◌≤◌, ◌%◌, ◌/◌, length};
 ghost use Rattle.circle_commit.specs.Matrix.{rows_from};
 
 use crate::matrix::{Matrix, Shape};

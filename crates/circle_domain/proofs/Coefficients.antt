@@ -5,9 +5,8 @@ use Rattle.std.proofs.Common.{zero, suc, sym, ◌∙◌, ap, refl, arith, length
 use Rattle.std.proofs.Math.Nat.{pow-suc}
 use Rattle.std.proofs.lemmas.List.{take_at, drop_at, take_all, length-map}
 use Rattle.std.proofs.lemmas.List.FromFn.{fill_by_all, length-map-range_with_len, get_or-map-range_with_len}
-use Rattle.std.proofs.lemmas.List.Elements.{All-from_recursion}
 use Rattle.circle_field.specs.Field.{FieldOps, FieldLaws, sub}
-use Rattle.circle_field.specs.Ring.{Expr, var, con, unit, plus as sum, times as prod, minus}
+use Rattle.circle_field.specs.Ring.{Expr, var, unit, plus as sum, times as prod, minus}
 use Rattle.circle_field.specs.RingCombine.{given, combine}
 use Rattle.circle_field.specs.Circle.{Coordinates, IsOnCircle, AreGenerators, origin, times}
 use Rattle.circle_commit.specs.Matrix.{column}
@@ -15,7 +14,7 @@ use Rattle.circle_point.specs.Basis.{value}
 use Rattle.circle_domain.specs.Layers.{pairwise, factor, second_half}
 use Rattle.circle_domain.specs.Order.{IsGenuine, cfft_order}
 use Rattle.circle_domain.specs.Values.{HasValues}
-use Rattle.circle_domain.proofs.Blocks.{points, points-cfft_order, second_half-on_circle}
+use Rattle.circle_domain.proofs.Blocks.{points-cfft_order, second_half-on_circle}
 use Rattle.circle_domain.proofs.Columns.{column-made}
 use Rattle.circle_domain.proofs.Inversion.{factor-nonzero, first-genuine, second-genuine}
 use Rattle.circle_domain.proofs.LagrangePolynomials.{twice-nonzero}

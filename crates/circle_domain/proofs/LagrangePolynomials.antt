@@ -1,19 +1,18 @@
 -- The Lagrange polynomials of a genuine block of points, as products over the factors of its halves.
-use Rattle.std.specs.Prelude.{◌≡◌, ◌≢◌, ℕ, ◌+◌, ◌^◌, ◌<◌, ◌≤◌, List, [], ◌∷◌, ◌++◌, length, map, take, drop}
+use Rattle.std.specs.Prelude.{◌≡◌, ◌≢◌, ℕ, ◌+◌, ◌^◌, ◌≤◌, List, [], ◌∷◌, ◌++◌, length, map, take, drop}
 use Rattle.std.specs.List.{AllByRecursion}
 use Rattle.std.proofs.Common.{zero, suc, sym, ◌∙◌, ap, refl, arith}
 use Rattle.std.proofs.Math.Nat.{pow-suc}
 use Rattle.std.proofs.lemmas.List.{map-append, length-map}
-use Rattle.circle_field.specs.Field.{FieldOps, RingLaws, FieldLaws, sub, nth_power, two}
+use Rattle.circle_field.specs.Field.{FieldOps, RingLaws, FieldLaws, sub}
 use Rattle.circle_field.specs.Ring.{Expr, var, con, unit, plus as sum, times as prod, minus}
 use Rattle.circle_field.specs.RingSound.{ring}
 use Rattle.circle_field.specs.RingCombine.{given, combine}
-use Rattle.circle_field.specs.RingFacts.{mul_one, add_zero, neg_neg, neg_zero}
+use Rattle.circle_field.specs.RingFacts.{neg_neg, neg_zero}
 use Rattle.circle_field.specs.Circle.{Coordinates, IsOnCircle, AreGenerators, origin, times}
 use Rattle.circle_field.proofs.Inverses.{nonzero_product}
-use Rattle.circle_point.specs.Basis.{value, iterated_x, vanishing, vanishing_product}
-use Rattle.circle_point.proofs.Multiples.{iterated_x-suc}
-use Rattle.circle_domain.specs.Layers.{pairwise, factor, second_half}
+use Rattle.circle_point.specs.Basis.{value}
+use Rattle.circle_domain.specs.Layers.{factor, second_half}
 use Rattle.circle_domain.specs.Lagrange.{dot}
 use Rattle.circle_domain.proofs.Written.{length-pairwise}
 use Rattle.circle_domain.proofs.HalfSums.{value-halves, value-low, high-low}

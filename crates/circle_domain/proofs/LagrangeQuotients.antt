@@ -1,15 +1,12 @@
 -- The Lagrange polynomials of a genuine domain as quotients, those of opposite points by one division.
-use Rattle.std.specs.Prelude.{◌≡◌, ◌≢◌, ℕ, ◌+◌, ◌-◌, ◌*◌, ◌^◌, ◌<◌, ◌≤◌, List, [], ◌∷◌, ◌++◌, map}
-use Rattle.std.specs.List.{AllByRecursion}
+use Rattle.std.specs.Prelude.{◌≡◌, ◌≢◌, ℕ, ◌-◌, ◌<◌, List, [], ◌∷◌}
 use Rattle.std.proofs.Common.{zero, suc, sym, ◌∙◌, ap, refl, arith}
-use Rattle.std.proofs.Math.Nat.{pow-suc}
 use Rattle.circle_field.specs.Field.{FieldOps, FieldLaws, sub, nth_power, two}
-use Rattle.circle_field.specs.Ring.{Expr, var, con, unit, plus as sum, times as prod, minus}
+use Rattle.circle_field.specs.Ring.{Expr, var, unit, plus as sum, times as prod, minus}
 use Rattle.circle_field.specs.RingSound.{ring}
 use Rattle.circle_field.specs.RingCombine.{given, combine}
 use Rattle.circle_field.specs.RingFacts.{mul_one}
-use Rattle.circle_field.specs.Circle.{Coordinates, IsOnCircle, plus, opposite}
-use Rattle.circle_field.proofs.Inverses.{nonzero_product}
+use Rattle.circle_field.specs.Circle.{Coordinates}
 use Rattle.circle_point.specs.Basis.{doubled_x, iterated_x, vanishing, vanishing_product}
 use Rattle.circle_point.proofs.Multiples.{iterated_x-suc}
 use Rattle.circle_domain.specs.Layers.{factor}

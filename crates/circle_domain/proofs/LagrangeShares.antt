@@ -1,25 +1,24 @@
 -- The shares of the points of a genuine domain, scaled, are the values of their Lagrange polynomials.
-use Rattle.std.specs.Prelude.{◌≡◌, ◌≢◌, ℕ, ◌+◌, ◌-◌, ◌*◌, ◌^◌, ◌<◌, ◌≤◌, List, [], ◌∷◌, ◌++◌, length, map}
+use Rattle.std.specs.Prelude.{◌≡◌, ◌≢◌, ℕ, ◌+◌, ◌-◌, ◌^◌, ◌<◌, ◌≤◌, List, [], ◌∷◌, ◌++◌, length, map}
 use Rattle.std.specs.List.{AllByRecursion}
-use Rattle.std.proofs.Common.{zero, suc, sym, ◌∙◌, ap, refl, arith, subst}
-use Rattle.std.proofs.Math.Nat.{pow-suc}
+use Rattle.std.proofs.Common.{zero, suc, sym, ◌∙◌, ap, refl, arith}
 use Rattle.circle_field.specs.Field.{FieldOps, FieldLaws, sub, nth_power, two}
-use Rattle.circle_field.specs.Ring.{Expr, var, con, unit, plus as sum, times as prod, minus}
+use Rattle.circle_field.specs.Ring.{var, con, unit, plus as sum, times as prod, minus}
 use Rattle.circle_field.specs.RingSound.{ring}
 use Rattle.circle_field.specs.RingCombine.{given, combine}
-use Rattle.circle_field.specs.RingFacts.{neg_mul, mul_neg, neg_neg}
+use Rattle.circle_field.specs.RingFacts.{neg_mul, mul_neg}
 use Rattle.circle_field.specs.Circle.{Coordinates, IsOnCircle, AreGenerators, plus, opposite, origin, times}
-use Rattle.circle_field.specs.CircleGroup.{plus-origin, plus-on_circle, opposite-on_circle}
+use Rattle.circle_field.specs.CircleGroup.{plus-origin, plus-on_circle}
 use Rattle.circle_field.proofs.Inverses.{nonzero_product, inverse_unique, one_nonzero}
-use Rattle.circle_point.specs.Basis.{value, iterated_x, vanishing}
+use Rattle.circle_point.specs.Basis.{value}
 use Rattle.circle_point.proofs.Multiples.{iterated_x-times, times-on_circle}
 use Rattle.circle_point.proofs.Selectors.{y_multiple}
 use Rattle.circle_domain.specs.Layers.{factor}
 use Rattle.circle_domain.specs.Lagrange.{dot, shares}
-use Rattle.circle_domain.specs.Order.{coset, cfft_order, with_opposites}
+use Rattle.circle_domain.specs.Order.{coset, with_opposites}
 use Rattle.circle_domain.proofs.Blocks.{all-append, times-plus, times-generator-past, points-cfft_order}
 use Rattle.circle_domain.proofs.Inversion.{factor-nonzero, first-genuine, flat-point, twice}
-use Rattle.circle_domain.proofs.LagrangePolynomials.{weight, twice-nonzero, neg-nonzero, lagrange}
+use Rattle.circle_domain.proofs.LagrangePolynomials.{weight, neg-nonzero, lagrange}
 use Rattle.circle_domain.proofs.LagrangeQuotients.{share, doubled, weight-share, normalised}
 
 pub all-split : {X : Type 0} (P : X → Type 0) (xs ys : List X) → AllByRecursion P (xs ++ ys) → AllByRecursion P xs × AllByRecursion P ys

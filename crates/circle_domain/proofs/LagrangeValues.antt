@@ -1,5 +1,5 @@
 -- Values on a domain of a field, times the shares of its points in a larger field, add up to the value there.
-use Rattle.std.specs.Prelude.{◌≡◌, ◌≢◌, ℕ, ◌+◌, ◌-◌, ◌^◌, ◌≤◌, List, length, map, All}
+use Rattle.std.specs.Prelude.{◌≡◌, ◌≢◌, ℕ, ◌-◌, ◌^◌, ◌≤◌, List, length, map, All}
 use Rattle.std.specs.List.{AllByRecursion}
 use Rattle.std.proofs.Common.{suc, sym, ◌∙◌, ap, subst, arith}
 use Rattle.std.proofs.lemmas.List.{length-map}
@@ -7,7 +7,7 @@ use Rattle.circle_field.specs.Field.{FieldOps, RingLaws, FieldLaws, IsEmbedding,
 use Rattle.circle_field.specs.Circle.{Coordinates, IsOnCircle, AreGenerators, lifted, origin, times}
 use Rattle.circle_field.specs.CircleGroup.{lifted-on_circle}
 use Rattle.circle_field.proofs.Inverses.{inverse_unique}
-use Rattle.circle_point.specs.Basis.{value, vanishing, iterated_x}
+use Rattle.circle_point.specs.Basis.{value, vanishing}
 use Rattle.circle_domain.specs.Clear.{IsClearOf}
 use Rattle.circle_domain.specs.Lagrange.{dot, shares}
 use Rattle.circle_domain.specs.Layers.{factor}

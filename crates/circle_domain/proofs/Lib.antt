@@ -29,6 +29,7 @@ pub mod Powers
 pub mod Reciprocals
 pub mod Results
 pub mod Reversal
+pub mod ReversedBlocks
 pub mod SelectorRows
 pub mod StandardDomain
 pub mod Stored

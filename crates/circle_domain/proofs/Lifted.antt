@@ -1,8 +1,8 @@
 -- Points, generators and vanishing polynomials in a larger field.
-use Rattle.std.specs.Prelude.{◌≡◌, ℕ, ◌-◌, ◌++◌, map}
+use Rattle.std.specs.Prelude.{◌≡◌, ◌≢◌, ℕ, ◌-◌, ◌++◌, map}
 use Rattle.std.proofs.Common.{zero, suc, sym, ◌∙◌, ap, refl}
 use Rattle.std.proofs.lemmas.List.{map-append}
-use Rattle.circle_field.specs.Field.{FieldOps, IsEmbedding, nth_power, two, sub}
+use Rattle.circle_field.specs.Field.{FieldOps, FieldLaws, IsEmbedding, nth_power, two, sub}
 use Rattle.circle_field.specs.Circle.{Coordinates, AreGenerators, at, plus, opposite, origin, times, lifted}
 use Rattle.circle_field.specs.CircleGroup.{same_coordinates, lifted-on_circle}
 use Rattle.circle_point.specs.Basis.{doubled_x, iterated_x, vanishing}
@@ -84,6 +84,9 @@ module _ {F E : Type 0} {k : FieldOps F} {l : FieldOps E} {m : F → E} (e : IsE
 
   pub lifted-two : m (two k) ≡ two l
   lifted-two = e.add k.one k.one ∙ ap (λ v. l.add v v) e.one
+
+  pub lifted-inverse : FieldLaws k → (a : F) → a ≢ k.zero → l.mul (m (k.inv a)) (m a) ≡ l.one
+  lifted-inverse laws a h = sym (e.mul (k.inv a) a) ∙ ap m (laws.ring.mul_comm (k.inv a) a ∙ laws.mul_inv a h) ∙ e.one
 
   pub lifted-nth_power : (n : ℕ) (a : F) → m (nth_power k a n) ≡ nth_power l (m a) n
   lifted-nth_power zero a = e.one

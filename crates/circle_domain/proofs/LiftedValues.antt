@@ -1,6 +1,6 @@
 -- Values of polynomials over a field, in a larger field.
-use Rattle.std.specs.Prelude.{◌≡◌, ℕ, ◌+◌, ◌-◌, ◌*◌, ◌/◌, ◌%◌, ◌^◌, List, [], ◌∷◌, ◌++◌, map}
-use Rattle.std.proofs.Common.{zero, suc, sym, ◌∙◌, ap, refl}
+use Rattle.std.specs.Prelude.{◌≡◌, ℕ, ◌/◌, ◌%◌, ◌^◌, List, [], ◌∷◌, ◌++◌, map}
+use Rattle.std.proofs.Common.{zero, suc, ◌∙◌, ap, refl}
 use Rattle.std.proofs.lemmas.List.{map-append}
 use Rattle.circle_field.specs.Field.{FieldOps, IsEmbedding}
 use Rattle.circle_field.specs.Circle.{Coordinates, plus, opposite, lifted}

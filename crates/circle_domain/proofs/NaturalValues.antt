@@ -1,13 +1,12 @@
 -- Values in natural order and in the transform's order.
-use Rattle.std.specs.Prelude.{◌≡◌, ℕ, ◌+◌, ◌-◌, ◌^◌, ◌<◌, ◌≤◌, List, length, map, slice_index_or}
-use Rattle.std.specs.List.{range_with_len}
-use Rattle.std.proofs.Common.{suc, sym, ◌∙◌, ap, arith, subst}
+use Rattle.std.specs.Prelude.{◌≡◌, ℕ, ◌-◌, ◌^◌, ◌<◌, ◌≤◌, List, length, map, slice_index_or}
+use Rattle.std.proofs.Common.{suc, sym, ◌∙◌, ap, arith}
 use Rattle.std.proofs.lemmas.List.{length-map, get_or-map}
 use Rattle.std.proofs.lemmas.List.FromFn.{fill_by_all, length-map-range_with_len, get_or-map-range_with_len}
 use Rattle.circle_field.specs.Field.{FieldOps, RingLaws, FieldLaws}
 use Rattle.circle_field.specs.Circle.{Coordinates, IsOnCircle, AreGenerators, origin}
 use Rattle.circle_point.specs.Basis.{value}
-use Rattle.circle_domain.specs.Order.{IsGenuine, cfft_order, natural_order, natural_from, with_opposites, coset}
+use Rattle.circle_domain.specs.Order.{IsGenuine, cfft_order, natural_order}
 use Rattle.circle_domain.specs.Ordering.{cfft_index, reordered}
 use Rattle.circle_domain.proofs.Coefficients.{column-told}
 use Rattle.circle_domain.proofs.CosetOrder.{cfft-place, length-cfft_order}

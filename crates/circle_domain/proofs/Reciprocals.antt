@@ -20,7 +20,7 @@ use Rattle.circle_domain.specs.Selectors.{normaliser, vanishing_on}
 use Rattle.circle_domain.proofs.Blocks.{times-generator}
 use Rattle.circle_domain.proofs.ClearOf.{clear-of}
 use Rattle.circle_domain.proofs.CosetOrder.{opposite-plus}
-use Rattle.circle_domain.proofs.Lifted.{lifted-opposite, lifted-times, lifted-vanishing, lifted-nth_power, lifted-two}
+use Rattle.circle_domain.proofs.Lifted.{lifted-inverse, lifted-opposite, lifted-times, lifted-vanishing, lifted-nth_power, lifted-two}
 use Rattle.circle_domain.proofs.Orders.{natural_from-even, natural_from-odd, two_halves}
 
 module _ {F : Type 0} {k : FieldOps F} (laws : FieldLaws k) where
@@ -88,7 +88,7 @@ module _ {F E : Type 0} {k : FieldOps F} {l : FieldOps E} {m : F → E} (laws : 
   lifted-inv : (a : F) → a ≢ k.zero → m (k.inv a) ≡ l.inv (m a)
   lifted-inv a h =
       inverse_unique laws' (m a) (m (k.inv a)) (λ z. h (embedding.injective a k.zero (z ∙ sym embedding.zero)))
-      (sym (embedding.mul (k.inv a) a) ∙ ap m (laws.ring.mul_comm (k.inv a) a ∙ laws.mul_inv a h) ∙ embedding.one)
+      (lifted-inverse embedding laws a h)
 
   lifted-normaliser : (n : ℕ) (p : Coordinates F) → m (normaliser k n p) ≡ normaliser l n (lifted m p)
   lifted-normaliser n p =

@@ -1,8 +1,8 @@
 -- Bits in the other order, and the permutation between a domain's two orders.
 use Rattle.std.specs.Prelude.{◌≡◌, ℕ, ◌+◌, ◌-◌, ◌*◌, ◌/◌, ◌%◌, ◌^◌, ◌<◌, ◌≤◌, ◌⊎◌, nat_eq, if◌then◌else◌}
 use Rattle.std.proofs.Common.{zero, suc, sym, ◌∙◌, ap, refl, arith, inl, inr, ⊎_elim}
-use Rattle.std.proofs.Math.Nat.{pow-suc, div-eq_of_lt}
-use Rattle.std.proofs.lemmas.Nat.{row_fits, shr-shr, shr_high}
+use Rattle.std.proofs.Math.Nat.{pow-suc, add-mul, mul_assoc, div-eq_of_lt}
+use Rattle.std.proofs.lemmas.Nat.{pow-add, row_fits, shr-shr, shr_high}
 use Rattle.std.proofs.lemmas.Bool.{cases_eq}
 use Rattle.circle_domain.specs.Ordering.{reversed, cfft_index}
 
@@ -17,15 +17,21 @@ reversed-below (suc n) i =
     let high : i % 2 * 2 ^ n + 2 ^ n ≤ 2 * 2 ^ n = row_fits (i % 2) (2 ^ n) 2 (2 ^ n) (omega arith) (omega arith) in
     omega (arith, pow-suc 2 n)
 
+-- the first bits in the other order, before the others in theirs
+pub reversed-add : (m n i : ℕ) → reversed (m + n) i ≡ reversed m i * 2 ^ n + reversed n (i / 2 ^ m)
+reversed-add zero n i =
+    let whole : i ≡ i / 2 ^ zero = omega arith in
+    ap (λ k. reversed k i) (let e : zero + n ≡ n = omega arith in e) ∙ ap (reversed n) whole ∙ omega arith
+reversed-add (suc m) n i =
+    let top : i % 2 * 2 ^ (m + n) ≡ i % 2 * 2 ^ m * 2 ^ n = ap (λ k. i % 2 * k) (pow-add 2 m n) ∙ sym (mul_assoc (i % 2) (2 ^ m) (2 ^ n)) in
+    let rest : i / 2 / 2 ^ m ≡ i / 2 ^ suc m = shr-shr i 1 m ∙ ap (λ k. i / 2 ^ k) (let e : 1 + m ≡ suc m = omega arith in e) in
+    ap (λ k. reversed k i) (let e : suc m + n ≡ suc (m + n) = omega arith in e)
+    ∙ ap (λ k. i % 2 * 2 ^ (m + n) + k) (reversed-add m n (i / 2) ∙ ap (λ k. reversed m (i / 2) * 2 ^ n + reversed n k) rest)
+    ∙ omega (arith, top, add-mul (i % 2 * 2 ^ m) (reversed m (i / 2)) (2 ^ n))
+
 -- the first bit is the last one read
 pub reversed-last : (n i : ℕ) → reversed (suc n) i ≡ reversed n i * 2 + i / 2 ^ n % 2
-reversed-last zero i = omega arith
-reversed-last (suc n) i =
-    let next : reversed (suc n) (i / 2) ≡ reversed n (i / 2) * 2 + i / 2 / 2 ^ n % 2 = reversed-last n (i / 2) in
-    let bit : i / 2 / 2 ^ n ≡ i / 2 ^ suc n = shr-shr i 1 n ∙ ap (λ m. i / 2 ^ m) (let e : 1 + n ≡ suc n = omega arith in e) in
-    let top : i % 2 * 2 ^ suc n ≡ i % 2 * 2 ^ n * 2 = ap (λ m. i % 2 * m) (pow-suc 2 n) ∙ omega arith in
-    ap (λ m. i % 2 * 2 ^ suc n + m) (next ∙ ap (λ m. reversed n (i / 2) * 2 + m % 2) bit)
-    ∙ omega (arith, top)
+reversed-last n i = ap (λ k. reversed k i) (let e : suc n ≡ n + 1 = omega arith in e) ∙ reversed-add n 1 i ∙ omega arith
 
 double-pow : (n b : ℕ) → 2 ^ suc n * b ≡ 2 * (2 ^ n * b)
 double-pow n b = ap (λ m. m * b) (pow-suc 2 n) ∙ omega arith

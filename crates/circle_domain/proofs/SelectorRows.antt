@@ -1,5 +1,5 @@
 -- Facts and values at each of the points that are stored.
-use Rattle.std.specs.Prelude.{◌≡◌, ℕ, ◌+◌, ◌<◌, List, [], ◌∷◌, map, length, All}
+use Rattle.std.specs.Prelude.{◌≡◌, List, [], ◌∷◌, map, All}
 use Rattle.std.proofs.Common.{zero, suc, ◌∙◌, ap, refl, arith}
 use Rattle.circle_domain.specs.Layers.{pairwise}
 

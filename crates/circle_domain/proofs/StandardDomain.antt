@@ -1,8 +1,8 @@
 -- The standard domains are genuine.
-use Rattle.std.specs.Prelude.{◌≡◌, ◌≢◌, ℕ, ◌+◌, ◌^◌, ◌≤◌, ◌<◌}
-use Rattle.std.proofs.Common.{zero, suc, sym, ◌∙◌, ap, arith, add-one}
+use Rattle.std.specs.Prelude.{◌≡◌, ℕ, ◌+◌, ◌≤◌, ◌<◌}
+use Rattle.std.proofs.Common.{sym, ◌∙◌, ap, arith}
 use Rattle.circle_field.specs.Field.{FieldOps, FieldLaws}
-use Rattle.circle_field.specs.Circle.{Coordinates, at, origin, times, AreGenerators}
+use Rattle.circle_field.specs.Circle.{Coordinates, AreGenerators}
 use Rattle.circle_domain.specs.Order.{IsGenuine}
 use Rattle.circle_domain.proofs.Blocks.{times-generator}
 

@@ -1,6 +1,8 @@
 -- Lists that are written from the front, and lists made of two by place.
-use Rattle.std.specs.Prelude.{◌≡◌, ℕ, ◌+◌, ◌<◌, ◌≤◌, List, [], ◌∷◌, ◌++◌, length, take, drop, slice_index_or, slice_set}
-use Rattle.std.proofs.Common.{zero, suc, ◌∙◌, ap, refl, arith}
+use Rattle.std.specs.Prelude.{◌≡◌, ℕ, ◌+◌, ◌<◌, ◌≤◌, List, [], ◌∷◌, ◌++◌, length, map, take, drop, slice_index_or, slice_set}
+use Rattle.std.proofs.Common.{zero, suc, sym, ◌∙◌, ap, refl, arith}
+use Rattle.std.proofs.Math.ListN.{get_or-map}
+use Rattle.std.proofs.lemmas.List.{length-map}
 use Rattle.circle_domain.specs.Layers.{pairwise}
 
 -- the first i entries are new, the others old
@@ -24,6 +26,15 @@ written-more (suc i) (x ∷ new) [] d e h = absurd (omega arith)
 written-more (suc i) (x ∷ new) (y ∷ old) d e h =
     let s : suc (i + 1) ≡ suc i + 1 = omega arith in
     ap (λ rest. x ∷ rest) (written-more i new old d (omega arith) (omega arith)) ∙ ap (λ n. written n (x ∷ new) (y ∷ old)) s
+
+-- one entry more of a list that is mapped in place
+pub mapped-more : {T : Type 0} (f : T → T) (i : ℕ) (old now : List T) (a v : T) → i < length old → now ≡ written i (map f old) old →
+    a ≡ slice_index_or now i a → v ≡ f a → slice_set now i v ≡ written (i + 1) (map f old) old
+mapped-more f i old now a v here so_far read made =
+    let long = length-map old f in
+    let own : a ≡ slice_index_or old i a = read ∙ ap (λ xs. slice_index_or xs i a) so_far ∙ written-read i (map f old) old a long in
+    let entry : v ≡ slice_index_or (map f old) i (f a) = made ∙ ap f own ∙ sym (get_or-map f old i a) in
+    ap (λ xs. slice_set xs i v) so_far ∙ ap (slice_set (written i (map f old) old) i) entry ∙ written-more i (map f old) old (f a) long here
 
 pub written-all : {T : Type 0} (i : ℕ) (new old : List T) → length new ≡ length old → length old ≤ i → written i new old ≡ new
 written-all zero [] [] e h = refl

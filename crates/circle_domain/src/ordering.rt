@@ -35,18 +35,20 @@ pub fn cfft_permute_index(index: usize, log_n: usize) -> usize
 }
 
 // The number whose lowest `bit_len` bits are those of `x` in the other order.
+//
+// The halves of each block of 2 bits are exchanged, then those of 4 bits, and so on up to the whole word.
 fn reverse_bits_len(x: usize, bit_len: usize) -> usize
     requires small { bit_len ≤ 63 }
     requires in_range { x < 2 ^ bit_len }
     ensures { result ≡ reversed bit_len x }
 {
-    let mut rest = x;
-    let mut result = 0;
-    for _ in 0..bit_len {
-        result = 2 * result + rest % 2;
-        rest /= 2;
-    }
-    result
+    let word = ((x >> 1) & 0x5555_5555_5555_5555) | ((x & 0x5555_5555_5555_5555) << 1);
+    let word = ((word >> 2) & 0x3333_3333_3333_3333) | ((word & 0x3333_3333_3333_3333) << 2);
+    let word = ((word >> 4) & 0x0f0f_0f0f_0f0f_0f0f) | ((word & 0x0f0f_0f0f_0f0f_0f0f) << 4);
+    let word = ((word >> 8) & 0x00ff_00ff_00ff_00ff) | ((word & 0x00ff_00ff_00ff_00ff) << 8);
+    let word = ((word >> 16) & 0x0000_ffff_0000_ffff) | ((word & 0x0000_ffff_0000_ffff) << 16);
+    let word = (word >> 32) | (word << 32);
+    word >> 1 >> (63 - bit_len)
 }
 
 /// The permutation between the two orders of a domain, as an order of a matrix's rows.

@@ -1,11 +1,11 @@
 -- Inverses, and products of elements that are not 0.
 use Rattle.std.specs.Prelude.{◌≡◌, ◌≢◌, ℕ, ◌+◌, ◌<◌, List, [], ◌∷◌, ◌++◌, length, take, drop, All, Option, None, Some, IsNone, IsSome, slice_index_or}
-use Rattle.std.proofs.Common.{zero, suc, sym, ◌∙◌, ap, refl, arith}
+use Rattle.std.proofs.Common.{suc, sym, ◌∙◌, ap, refl, arith}
 use Rattle.std.proofs.lemmas.List.{take_more}
 use Rattle.std.proofs.Math.Seq.{take-append_seam}
 use Rattle.circle_field.specs.Field.{FieldOps, FieldLaws}
 use Rattle.circle_field.specs.Products.{product}
-use Rattle.circle_field.specs.RingFacts.{mul_one, mul_zero, zero_mul}
+use Rattle.circle_field.specs.RingFacts.{mul_one, mul_zero}
 
 module _ {F : Type 0} {k : FieldOps F} (laws : FieldLaws k) where
   open laws.ring use {mul_assoc, mul_comm, one_mul}

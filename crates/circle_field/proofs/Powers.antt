@@ -1,5 +1,5 @@
 -- Powers of an element, by halving the exponent.
-use Rattle.std.specs.Prelude.{◌≡◌, ℕ, ◌+◌, ◌*◌, ◌/◌, ◌%◌}
+use Rattle.std.specs.Prelude.{◌≡◌, ℕ, ◌+◌, ◌/◌, ◌%◌}
 use Rattle.std.proofs.Common.{zero, suc, sym, ◌∙◌, ap, refl, arith}
 use Rattle.circle_field.specs.Field.{FieldOps, RingLaws, nth_power}
 use Rattle.circle_field.specs.RingFacts.{mul_one}

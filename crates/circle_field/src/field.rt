@@ -1,5 +1,5 @@
 //! The trait of fields.
-ghost use Rattle.std.specs.Prelude.{◌≡◌, ◌↔◌, ◌^◌, IsTrue, IsNone, IfSome, IfOk, map, true};
+ghost use Rattle.std.specs.Prelude.{◌≡◌, ◌↔◌, IsTrue, IsNone, IfSome, IfOk, map, true};
 ghost use Rattle.std.specs.List.{range_with_len};
 ghost use Rattle.circle_field.specs.Field.{FieldOps, FieldLaws, of_nat, nth_power, two, sub};
 

@@ -1,11 +1,9 @@
 -- Sums over blocks of entries.
 use Rattle.std.specs.Prelude.{◌≡◌, ℕ, ◌+◌, ◌*◌, ◌<◌, ◌≤◌, List, [], ◌∷◌, ◌++◌, length, map, take, drop, replicate}
-use Rattle.std.proofs.Common.{zero, suc, refl, sym, ap, ◌∙◌, arith, get_or, length-append, append-nil, append_assoc, add-one}
+use Rattle.std.proofs.Common.{zero, suc, refl, sym, ap, ◌∙◌, arith, get_or, length-append, append-nil, add-one}
 use Rattle.std.proofs.Math.Nat.{mul-le-mul_right, zero-mul, suc-mul}
 use Rattle.std.proofs.Math.Seq.{take-add}
-use Rattle.std.proofs.lemmas.List.{take_more, take_all, drop_more, drop_all, drop-drop, length-take-le, length-replicate, take-append-drop, length-drop}
-use Rattle.std.proofs.lemmas.Slice.{take-put_mid, drop-put_mid}
-use borrow.Rule.Slice.PartMut.{put_mid, mid_of}
+use Rattle.std.proofs.lemmas.List.{take_more, length-take-le, length-replicate, take-append-drop, length-drop}
 use Rattle.circle_field.specs.Field.{FieldOps, RingLaws}
 use Rattle.circle_field.specs.RingFacts.{zero_mul, add_mul}
 use Rattle.circle_domain.specs.Lagrange.{dot}
@@ -70,32 +68,11 @@ module _ {A B C : Type 0} (f : A → B → C) where
   pairwise-replicate (x ∷ xs) zero v e = absurd (omega arith)
   pairwise-replicate (x ∷ xs) (suc n) v e = ap (λ zs. f x v ∷ zs) (pairwise-replicate xs n v (omega (arith, e)))
 
--- a block that was made anew in its place
-pub block-more : {A B : Type 0} (f : A → B → A) (n : ℕ) (vs : List B) (xs ys : List A) (v : B) (i start len : ℕ) → i < length vs → v ≡ get_or vs i v → start ≡ i * n → len ≡ n →
-    start + len ≤ length xs → length ys ≡ len → ys ≡ map (λ a. f a v) (mid_of start len xs) →
-    take ((i + 1) * n) (put_mid start len xs ys) ++ pairwise f (drop ((i + 1) * n) (put_mid start len xs ys)) (spread n (drop (i + 1) vs))
-    ≡ take (i * n) xs ++ pairwise f (drop (i * n) xs) (spread n (drop i vs))
-block-more f n vs xs ys v i start len h is_v e_start e_len fits long made =
-    let rest = drop start xs in
-    let block = take len rest in
-    let vs' = drop (i + 1) vs in
-    let next : (i + 1) * n ≡ start + len = ap (λ m. m * n) (add-one i) ∙ suc-mul i n ∙ ap (λ m. m + n) (sym e_start) ∙ ap (λ m. start + m) (sym e_len) in
-    let size : length block ≡ n = length-take-le len rest (omega (arith, fits, length-drop start xs)) ∙ e_len in
-    let whole : drop i vs ≡ v ∷ vs' = drop_more vs i v h ∙ ap (λ u. u ∷ vs') (sym is_v) in
-    ap (λ m. take m (put_mid start len xs ys) ++ pairwise f (drop m (put_mid start len xs ys)) (spread n vs')) next
-    ∙ ap (λ a. a ++ pairwise f (drop (start + len) (put_mid start len xs ys)) (spread n vs')) (take-put_mid start len xs ys (start + len) (omega (arith, long)) (omega (arith, fits)))
-    ∙ ap (λ b. (take start xs ++ ys) ++ pairwise f b (spread n vs')) (drop-put_mid start len xs ys (start + len) (omega arith) (omega (arith, fits)) long ∙ sym (drop-drop len start xs))
-    ∙ append_assoc (take start xs) ys (pairwise f (drop len rest) (spread n vs'))
-    ∙ ap (λ b. take start xs ++ (b ++ pairwise f (drop len rest) (spread n vs'))) (made ∙ sym (pairwise-replicate f block n v size))
-    ∙ ap (λ b. take start xs ++ b) (sym (pairwise-append f block (drop len rest) (replicate n v) (spread n vs') (size ∙ sym (length-replicate n v))))
-    ∙ ap (λ r. take start xs ++ pairwise f r (replicate n v ++ spread n vs')) (take-append-drop len rest)
-    ∙ ap (λ us. take start xs ++ pairwise f rest (spread n us)) (sym whole)
-    ∙ ap (λ m. take m xs ++ pairwise f (drop m xs) (spread n (drop i vs))) e_start
-
--- no block is left
-pub block-end : {A B : Type 0} (f : A → B → A) (n : ℕ) (vs : List B) (xs : List A) (i : ℕ) → length vs ≤ i → length xs ≡ length vs * n → i ≡ length vs →
-    take (i * n) xs ++ pairwise f (drop (i * n) xs) (spread n (drop i vs)) ≡ xs
-block-end f n vs xs i h long e =
-    let all : length xs ≡ i * n = long ∙ ap (λ m. m * n) (sym e) in
-    ap (λ ds. take (i * n) xs ++ pairwise f ds (spread n (drop i vs))) (drop_all (i * n) xs (omega (arith, all)))
-    ∙ append-nil (take (i * n) xs) ∙ take_all (i * n) xs (omega (arith, all))
+  -- the first block made anew, and then the others
+  pub made-spread : (xs : List A) (ys : List C) (n len : ℕ) (v : B) (vs : List B) → len ≡ n → len ≤ length xs → ys ≡ map (λ a. f a v) (take len xs) →
+      ys ++ pairwise f (drop len xs) (spread n vs) ≡ pairwise f xs (spread n (v ∷ vs))
+  made-spread xs ys n len v vs e fits made =
+      let size : length (take len xs) ≡ n = length-take-le len xs fits ∙ e in
+      ap (λ b. b ++ pairwise f (drop len xs) (spread n vs)) (made ∙ sym (pairwise-replicate (take len xs) n v size))
+      ∙ sym (pairwise-append (take len xs) (drop len xs) (replicate n v) (spread n vs) (size ∙ sym (length-replicate n v)))
+      ∙ ap (λ r. pairwise f r (replicate n v ++ spread n vs)) (take-append-drop len xs)

@@ -1,7 +1,7 @@
 -- Folding by inverse twiddles.
-use Rattle.std.specs.Prelude.{◌≡◌, ◌≢◌, List, [], ◌∷◌, length, slice_index_or, refl}
+use Rattle.std.specs.Prelude.{◌≡◌, List, [], ◌∷◌, length, slice_index_or, refl}
 use Rattle.std.proofs.Common.{sym, ap, ◌∙◌, arith}
-use Rattle.circle_field.specs.Field.{FieldOps, FieldLaws, IsEmbedding, sub, two}
+use Rattle.circle_field.specs.Field.{FieldOps, FieldLaws, sub, two}
 use Rattle.circle_field.specs.Ring.{var, plus as sum, times as prod, minus}
 use Rattle.circle_field.specs.RingSound.{ring}
 use Rattle.circle_field.specs.RingFacts.{mul_one}
@@ -28,11 +28,6 @@ module _ {E : Type 0} {l : FieldOps E} (laws : FieldLaws l) where
       (prod (sum (sum (var 0) (var 1)) (prod (var 2) (prod (var 3) (sum (var 0) (minus (var 1)))))) (var 4))
       (sum (prod (sum (var 0) (var 1)) (var 4)) (prod (prod (var 2) (sum (var 0) (minus (var 1)))) (prod (var 4) (var 3)))) refl
       ∙ ap (λ r. l.add (l.mul (l.add a b) half) (l.mul (l.mul beta (sub l a b)) r)) (twice_inverse t i e)
-
--- the inverse in the larger field
-pub embedded_inverse : {F E : Type 0} {k : FieldOps F} {l : FieldOps E} (m : F → E) → IsEmbedding k l m → FieldLaws k → (t : F) → t ≢ k.zero → l.mul (m (k.inv t)) (m t) ≡ l.one
-embedded_inverse {k = k} m embedding laws t nonzero =
-    sym (embedding.mul (k.inv t) t) ∙ ap m (laws.ring.mul_comm (k.inv t) t ∙ laws.mul_inv t nonzero) ∙ embedding.one
 
 -- a row of two entries
 pub by-entries : {E : Type 0} (l : FieldOps E) (beta t : E) (row : List E) (a b : E) → length row ≡ 2 → fold_pair l beta t row ≡ fold l (slice_index_or row 0 a) (slice_index_or row 1 b) t beta

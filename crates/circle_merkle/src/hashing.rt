@@ -1,9 +1,9 @@
 //! The digests of rows and of nodes.
-ghost use Rattle.std.specs.Prelude.{◌≡◌, ℕ, ◌<◌, List, [], ◌∷◌, ◌++◌};
+ghost use Rattle.std.specs.Prelude.{◌≡◌, ℕ, ◌<◌, List, ◌∷◌, ◌++◌};
 ghost use Rattle.std.specs.List.{flat_map};
 ghost use Rattle.sha2.specs.Hashers.{Holds256};
 ghost use Rattle.sha2.specs.Sha256.{sha256};
-ghost use Rattle.circle_merkle.specs.Tree.{node_digest as node_digest_of, joined_digest as joined_digest_of, rows_digest as rows_digest_of};
+ghost use Rattle.circle_merkle.specs.Tree.{node_digest as node_digest_of, rows_digest as rows_digest_of};
 ghost use Rattle.circle_merkle.specs.RowBytes.{matrix_bytes};
 
 use circle_commit::{Matrix, RowMajorMatrix};

@@ -1,9 +1,9 @@
 //! The root of a tree of which some rows are opened.
-ghost use Rattle.std.specs.Prelude.{◌≡◌, ℕ, ◌+◌, ◌*◌, ◌/◌, ◌^◌, ◌<◌, ◌≤◌, ◌==◌, ◌++◌, List, [], ◌∷◌, length, map, drop, take, All, IfOk, vec_len, slice_index_or};
+ghost use Rattle.std.specs.Prelude.{◌≡◌, ℕ, ◌+◌, ◌*◌, ◌/◌, ◌^◌, ◌<◌, ◌≤◌, ◌==◌, ◌++◌, List, ◌∷◌, length, map, drop, All, IfOk, vec_len};
 ghost use Rattle.sha2.specs.Hashers.{Holds256};
 ghost use Rattle.sha2.specs.Sha256.{sha256};
 ghost use Rattle.circle_commit.specs.Mmcs.{greatest, heights, opened_rows};
-ghost use Rattle.circle_merkle.specs.Tree.{rows_digest as rows_digest_of, node_digest as node_digest_of, with_rows, taken_below};
+ghost use Rattle.circle_merkle.specs.Tree.{rows_digest as rows_digest_of, taken_below};
 ghost use Rattle.circle_merkle.specs.Rows.{bytes_of_height};
 ghost use Rattle.circle_merkle.specs.Walk.{siblings_of};
 ghost use Rattle.circle_merkle.specs.Order.{first_places};

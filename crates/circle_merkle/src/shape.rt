@@ -1,7 +1,7 @@
 //! Whether opened rows have the form of rows of a commitment.
-ghost use Rattle.std.specs.Prelude.{◌≡◌, ℕ, ◌+◌, ◌*◌, ◌/◌, ◌^◌, ◌<◌, ◌≤◌, ◌==◌, ◌↔◌, List, length, map, All, IsTrue, slice_index, slice_index_or, vec_len};
+ghost use Rattle.std.specs.Prelude.{◌≡◌, ℕ, ◌+◌, ◌*◌, ◌/◌, ◌<◌, ◌≤◌, ◌==◌, ◌↔◌, List, length, map, All, IsTrue, vec_len};
 ghost use Rattle.circle_commit.specs.Matrix.{IsPowerOfTwo};
-ghost use Rattle.circle_commit.specs.Mmcs.{greatest, heights, opened_rows, row_at};
+ghost use Rattle.circle_commit.specs.Mmcs.{greatest, heights, opened_rows};
 ghost use Rattle.circle_merkle.specs.Authentication.{HasShape, HasIndices, Agrees};
 ghost use Rattle.circle_merkle.specs.Order.{IsOrdered};
 ghost use Rattle.circle_merkle.specs.Shape.{NeighborsAgree};

@@ -1,5 +1,5 @@
 //! Roots, proofs and refusals, with expected values from outside.
-ghost use Rattle.std.specs.Prelude.{◌≡◌, ◌<◌, ◌↔◌, All, IsTrue};
+ghost use Rattle.std.specs.Prelude.{◌<◌, ◌↔◌, All, IsTrue};
 
 use crate::{MerkleTreeError, ShaMmcs, ShaProverData};
 use circle_commit::{Dimensions, Mmcs, OpenedRows, RowMajorMatrix, heights_are_powers_of_two};

@@ -1,14 +1,13 @@
 //! The tree over the rows of matrices.
-ghost use Rattle.std.specs.Prelude.{◌≡◌, ℕ, ◌+◌, ◌*◌, ◌/◌, ◌^◌, ◌<◌, ◌==◌, List, length, map, IfOk, IsTrue, slice_index_or};
+ghost use Rattle.std.specs.Prelude.{◌≡◌, ℕ, ◌+◌, ◌*◌, ◌^◌, ◌<◌, ◌==◌, length, map, IfOk};
 ghost use Rattle.std.specs.List.{range_with_len, list_any};
 ghost use Rattle.std.proofs.Common.{suc};
 ghost use Rattle.sha2.specs.Sha256.{sha256};
 ghost use Rattle.circle_commit.specs.Matrix.{IsPowerOfTwo};
 ghost use Rattle.circle_commit.specs.RowMajorMatrix.{height_of};
 ghost use Rattle.circle_commit.specs.Mmcs.{dimensions_of, max_height};
-ghost use Rattle.circle_merkle.specs.Tree.{node_digest as node_digest_of, joined_digest as joined_digest_of, digest};
+ghost use Rattle.circle_merkle.specs.Tree.{digest};
 ghost use Rattle.circle_merkle.specs.Rows.{size_of, matrix_rows};
-ghost use Rattle.circle_merkle.specs.RowBytes.{matrix_bytes};
 ghost use Rattle.circle_merkle.specs.Authentication.{tree_levels};
 
 use crate::hashing::{Hash, joined_digest, node_digest, rows_digest};

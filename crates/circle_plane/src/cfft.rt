@@ -2,9 +2,8 @@
 ghost use Rattle.std.specs.Prelude.{◌≡◌, ◌≢◌, ℕ, ◌<◌, ◌≤◌, ◌^◌, ◌+◌, ◌-◌, ◌*◌, ◌%◌, ◌++◌, List, length, map, take, IfOk, OnOk};
 ghost use Rattle.std.specs.List.{range_with_len};
 ghost use Rattle.circle_commit.specs.Matrix.{IsPowerOfTwo};
-ghost use Rattle.circle_commit.specs.RowMajorMatrix.{rows, width_of, height_of, values_of};
+ghost use Rattle.circle_commit.specs.RowMajorMatrix.{rows, width_of, height_of};
 ghost use Rattle.circle_point.specs.Basis.{basis_values, values_at, doubled_x};
-ghost use Rattle.circle_field.specs.Circle.{plus};
 ghost use Rattle.circle_domain.specs.Order.{natural_order, cfft_order, coset, IsGenuine};
 ghost use Rattle.circle_point.specs.Point.{coordinates};
 ghost use Rattle.circle_domain.specs.Clear.{IsClearOf};

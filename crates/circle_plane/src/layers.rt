@@ -2,7 +2,7 @@
 //!
 //! A layer splits the entries into blocks, one for each factor, and combines the two halves of each
 //! block (Circle STARKs, IACR ePrint 2024/278, section 4.2).
-ghost use Rattle.std.specs.Prelude.{◌≡◌, ℕ, ◌+◌, ◌*◌, ◌<◌, ◌≤◌, ◌++◌, length, take, drop};
+ghost use Rattle.std.specs.Prelude.{◌≡◌, ◌+◌, ◌*◌, ◌<◌, ◌++◌, length, take, drop};
 ghost use Rattle.circle_field.specs.Field.{sub};
 ghost use Rattle.circle_domain.specs.Layers.{pairwise, layer};
 

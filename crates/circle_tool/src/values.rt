@@ -1,5 +1,5 @@
 //! The command `values`: the values of polynomials at the points of a domain of the circle.
-ghost use Rattle.std.specs.Prelude.{◌≡◌, ◌<◌, ◌≤◌, ◌↔◌, length, map, All, IsTrue, IfOk, IsErrOf, vec_len};
+ghost use Rattle.std.specs.Prelude.{◌≡◌, ◌<◌, ◌↔◌, length, map, All, IsTrue, IfOk, IsErrOf, vec_len};
 ghost use Rattle.circle_field.specs.Circle.{IsOnCircle, at};
 ghost use Rattle.circle_field.specs.Mersenne31.{operations, generators};
 ghost use Rattle.circle_point.specs.Basis.{values_at};

@@ -1,12 +1,11 @@
 -- What a run draws, from what its calls give.
-use Rattle.std.specs.Prelude.{Bool, true, false, IsTrue, if◌then◌else◌, Ok, Err, Result}
-use Rattle.std.proofs.Common.{◌≡◌, ℕ, List, refl, sym, ap, ◌∙◌, subst}
-use Rattle.circle_commit.specs.declared.params.PowPhase.{PowPhase}
+use Rattle.std.specs.Prelude.{true, false, IsTrue, if◌then◌else◌, Ok, Err}
+use Rattle.std.proofs.Common.{◌≡◌, ℕ, List, sym, ap, ◌∙◌}
 use Rattle.circle_commit.specs.declared.params.PowPhase.TheVariants.{Batch, CommitPhase, Query}
 use Rattle.circle_challenger.specs.Observing.{after_all}
 use Rattle.circle_challenger.specs.Sampling.{samples, after_samples}
 use Rattle.circle_transcript.specs.declared.sides.Numbers.{Numbers}
-use Rattle.circle_transcript.specs.Draw.{Moves, Taken, Drawn, after_claims, drawn_element, after_element, is_passed, after_pow, after_rounds, fold_challenges, rounds_pass, claimed, batched, layered, folded, closed, queried, drawn, draw_seeded}
+use Rattle.circle_transcript.specs.Draw.{Moves, Taken, Drawn, drawn_element, after_element, is_passed, after_pow, after_rounds, fold_challenges, rounds_pass, claimed, batched, layered, closed, drawn, draw_seeded}
 
 -- what is drawn, from its parts
 abbrev pub drawn_parts : {S F : Type 0} → List F → List F → List (List F) → List ℕ → S → Drawn S F

@@ -1,9 +1,8 @@
 -- Steps that are played, one after another.
-use Rattle.std.proofs.Common.{◌≡◌, ℕ, ◌+◌, ◌<◌, List, [], ◌∷◌, ◌++◌, length, drop, take, map, flat_map, get_or, Some, slice_get, refl, sym, ap, subst, ◌∙◌, append_assoc}
+use Rattle.std.proofs.Common.{◌≡◌, ℕ, ◌+◌, ◌<◌, List, [], ◌∷◌, ◌++◌, length, drop, take, flat_map, get_or, Some, slice_get, sym, ap, subst, ◌∙◌, append_assoc}
 use Rattle.std.specs.Prelude.{Result, Ok, Err, OnOk, IsErrAnd, IfErr}
 use Rattle.std.proofs.lemmas.List.{append-nil, drop_more, take_more}
 use Rattle.std.proofs.lemmas.Grind.{flat_map-append}
-use Rattle.circle_challenger.specs.Step.{Step}
 use Rattle.circle_challenger.specs.Observing.{after_all}
 use Rattle.circle_challenger.proofs.Draws.{after_all-append}
 use Rattle.circle_transcript.specs.Draw.{Claim, claim_elements, after_claims}

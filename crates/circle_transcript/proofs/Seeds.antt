@@ -1,12 +1,12 @@
 -- The text of a seed tells the shape of the run.
 use Rattle.std.proofs.Math.Dec.{eqb-suc-zero}
-use Rattle.std.specs.Prelude.{if◌then◌else◌, ◌≡◌, ℕ, ◌+◌, ◌<◌, ◌^◌, ◌==◌, List, [], ◌∷◌, ◌++◌, length, map, flat_map, All, codes}
+use Rattle.std.specs.Prelude.{if◌then◌else◌, ◌≡◌, ℕ, ◌<◌, ◌^◌, List, [], ◌∷◌, ◌++◌, length, map, flat_map, All, codes}
 use Rattle.std.specs.List.{AllByRecursion}
 use Rattle.std.proofs.Common.{zero, suc, refl, sym, ap, ◌∙◌, arith, append_assoc}
 use Rattle.std.proofs.lemmas.List.{length-map}
 use Rattle.std.proofs.lemmas.List.Elements.{recursion_from_All}
 use Rattle.circle_challenger.specs.Step.{Step, be64, kind_byte, type_byte, value_count, parameter_of}
-use Rattle.circle_challenger.specs.Played.{element_message, elements_message, opaque_message, pow_step, element_challenge, numbers_challenge}
+use Rattle.circle_challenger.specs.Played.{element_message, pow_step, element_challenge, numbers_challenge}
 use Rattle.circle_challenger.specs.Separator.{Separator, IsWritable}
 use Rattle.circle_challenger.proofs.Readings.{number_front, same_number, each_front, same_separator}
 use Rattle.circle_transcript.specs.Shape.{Shape, pow_steps, claim_steps, batch_steps, first_layer_steps, round_steps, rounds_steps, query_steps, claimed_widths, steps_of, batch_layout, layout, separator_of, text_of, HasWritableLabels, IsSameRun}

@@ -1,6 +1,6 @@
 -- The definitions at worked examples. Expected values were computed apart from these definitions.
-use Rattle.std.specs.Prelude.{◌≡◌, ℕ, List, [], ◌∷◌, ◌++◌, length, take, codes, refl}
-use Rattle.circle_challenger.specs.Step.{Step, be64, step_text}
+use Rattle.std.specs.Prelude.{◌≡◌, [], ◌∷◌, ◌++◌, length, take, codes, refl}
+use Rattle.circle_challenger.specs.Step.{be64, step_text}
 use Rattle.circle_challenger.specs.Separator.{steps_text, labels_text}
 use Rattle.circle_challenger.specs.Played.{element_message, elements_message, opaque_message, pow_step, element_challenge, numbers_challenge}
 use Rattle.circle_transcript.specs.Shape.{Shape, claim_steps, batch_steps, first_layer_steps, round_steps, rounds_steps, query_steps, steps_of, layout, batch_layout, text_of}

@@ -1,5 +1,5 @@
 //! Steps that both sides of a transcript play.
-ghost use Rattle.std.specs.Prelude.{◌≡◌, ℕ, ◌<◌, ◌≤◌, ◌^◌, ◌↔◌, ◌⊎◌, Err, List, length, [], ◌∷◌, ◌++◌, map, flat_map, false, true, IsTrue, IsNone, IsOk, IfOk, IfErr, OnOk, OnErr, All, unwrap_or};
+ghost use Rattle.std.specs.Prelude.{◌≡◌, ◌<◌, ◌≤◌, ◌^◌, ◌↔◌, ◌⊎◌, Err, List, length, [], ◌∷◌, ◌++◌, flat_map, false, IsTrue, IsNone, IfOk, IfErr, OnOk, OnErr, All, unwrap_or};
 ghost use Rattle.circle_challenger.specs.Grinding.{passes, after_check};
 ghost use Rattle.circle_challenger.specs.Played.{element_challenge, numbers_challenge};
 ghost use Rattle.circle_challenger.specs.Sampling.{samples, after_samples};

@@ -1,5 +1,5 @@
 //! Whole runs of a transcript, on both sides.
-ghost use Rattle.std.specs.Prelude.{◌≡◌, ℕ, ◌≤◌, ◌⊎◌, List, [], ◌∷◌, ◌++◌, length, map, zip, true, false, IfOk, IfErr, OnOk, Ok, Err, unwrap_or};
+ghost use Rattle.std.specs.Prelude.{◌≡◌, ◌≤◌, ◌⊎◌, List, [], ◌++◌, length, map, zip, true, false, IfOk, IfErr, OnOk, Ok, Err, unwrap_or};
 ghost use Rattle.circle_field.specs.Field.{of_nat};
 ghost use Rattle.circle_commit.specs.declared.params.PowPhase.TheVariants.{CommitPhase};
 ghost use Rattle.circle_challenger.specs.Step.{Step};

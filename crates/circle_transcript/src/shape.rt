@@ -1,12 +1,11 @@
 //! The shape of a run, which fixes its transcript.
-ghost use Rattle.std.specs.Prelude.{◌≡◌, ◌↔◌, ℕ, IsTrue, ◌-◌, ◌+◌, ◌<◌, ◌^◌, [], ◌∷◌, ◌++◌, IfOk, OnOk, map, flat_map, length, All, codes};
+ghost use Rattle.std.specs.Prelude.{◌≡◌, ◌↔◌, IsTrue, ◌-◌, ◌+◌, ◌<◌, ◌^◌, [], ◌∷◌, ◌++◌, IfOk, OnOk, map, flat_map, length, codes};
 ghost use Rattle.circle_challenger.specs.Interaction.{step_of};
 ghost use Rattle.circle_challenger.specs.Step.{be64, step};
 ghost use Rattle.circle_challenger.specs.Played.{element_challenge};
 ghost use Rattle.circle_challenger.specs.declared.interaction.Hierarchy.TheVariants.{Atomic};
 ghost use Rattle.circle_challenger.specs.declared.interaction.ValueType.TheVariants.{Algebra};
-ghost use Rattle.circle_challenger.specs.Separator.{seed_text, IsWritable};
-ghost use Rattle.circle_transcript.specs.Shape.{Shape, claim_steps, batch_steps, first_layer_steps, round_steps, rounds_steps, query_steps, steps_of, pow_steps, batch_layout, layout, separator_of, text_of, HasWritableLabels, IsSameRun};
+ghost use Rattle.circle_transcript.specs.Shape.{Shape, claim_steps, batch_steps, first_layer_steps, round_steps, rounds_steps, query_steps, steps_of, pow_steps, batch_layout, layout, separator_of, text_of, IsSameRun};
 ghost use Rattle.circle_transcript.specs.ShapeOf.{matrices_of, batches_of};
 
 use circle_challenger::{

@@ -1,15 +1,16 @@
 //! Tests of the transcript. The seed's text was computed apart from this code.
-ghost use Rattle.std.specs.Prelude.{◌≡◌, ℕ, ◌≤◌, ◌<◌, ◌+◌, [], ◌∷◌, IfOk, length, flat_map};
+ghost use Rattle.std.specs.Prelude.{◌≡◌, ◌≤◌, ◌<◌, ◌+◌, [], ◌∷◌, IfOk, length, flat_map};
 ghost use Rattle.circle_transcript.specs.Shape.{claimed_widths};
 ghost use Rattle.circle_transcript.specs.ShapeOf.{shape_of, batches_of};
 
 use crate::{
-    CircleDraws, CirclePcsShape, CircleTranscriptFailure, CircleWitnesses, Neutral, Point,
-    both_runs, prover_run, verifier_run,
+    CircleDraws, CirclePcsShape, CircleTranscriptFailure, CircleWitnesses, both_runs, prover_run,
+    verifier_run,
 };
 use circle_challenger::{CanObserve, CanSample, GrindingChallenger, Sha256Challenger};
 use circle_commit::{FriParameters, PowPhase};
 use circle_field::{Cubic, ExtensionField, Field, Mersenne31};
+use circle_point::{Neutral, Point};
 use std::alloc::{AllocError, Global};
 use std::test::Fail;
 use stubborn::Stubborn;

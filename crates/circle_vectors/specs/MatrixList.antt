@@ -1,5 +1,5 @@
 -- What a list of matrices is to contracts.
-use Rattle.std.specs.Prelude.{ℕ, ◌≤◌, List, length, All, slice_index_or}
+use Rattle.std.specs.Prelude.{◌≤◌, List, length, All, slice_index_or}
 use Rattle.std.proofs.Common.{arith}
 use Rattle.circle_commit.specs.Matrix.{IsPowerOfTwo}
 use Rattle.circle_commit.specs.RowMajorMatrix.{height_of}

@@ -1,5 +1,5 @@
 //! Matrices whose heights are powers of two, as a list.
-ghost use Rattle.std.specs.Prelude.{◌≡◌, ℕ, ◌<◌, ◌≤◌, true, All, IfOk, List, length, map, vec_len};
+ghost use Rattle.std.specs.Prelude.{◌≡◌, ◌<◌, ◌≤◌, true, All, IfOk, map, vec_len};
 ghost use Rattle.circle_commit.specs.Matrix.{IsPowerOfTwo};
 ghost use Rattle.circle_commit.specs.RowMajorMatrix.{height_of, rows};
 ghost use Rattle.circle_commit.specs.Mmcs.{dimensions_of, max_height, rows_at, rows_at_each, opened_rows};

@@ -1,5 +1,5 @@
 //! Commitment schemes for tests: one that publishes the matrices, and one that shows nothing.
-ghost use Rattle.std.specs.Prelude.{◌≡◌, ℕ, ◌<◌, ◌≤◌, ◌↔◌, true, All, IfOk, IfErr, OnOk, IsOk, IsTrue, List, length, vec_len};
+ghost use Rattle.std.specs.Prelude.{◌≡◌, ◌<◌, ◌≤◌, ◌↔◌, true, All, IfOk, IfErr, OnOk, IsOk, IsTrue, length, vec_len};
 ghost use Rattle.circle_commit.specs.Matrix.{IsPowerOfTwo};
 ghost use Rattle.circle_commit.specs.RowMajorMatrix.{height_of};
 ghost use Rattle.circle_vectors.specs.declared.matrix_list.MatrixList.{MatrixList};

@@ -1,6 +1,5 @@
 //! Whole runs of a described transcript, on both sides.
-ghost use Rattle.std.specs.Prelude.{◌≡◌, ℕ, List, [], ◌∷◌, IfOk};
-ghost use Rattle.circle_challenger.specs.Step.{Step};
+ghost use Rattle.std.specs.Prelude.{◌≡◌, [], ◌∷◌, IfOk};
 ghost use Rattle.circle_challenger.specs.Played.{elements_message, element_message, opaque_message, pow_step, element_challenge, numbers_challenge};
 
 use crate::{

@@ -1,15 +1,15 @@
 //! What runs over one claim draw. Expected values were computed apart from this code.
-ghost use Rattle.std.specs.Prelude.{◌≡◌, ◌≤◌, IfOk};
 
 use crate::tests::stubborn::Stubborn;
 use crate::tests::{Difficulties, NONE, cubic, element, params, prove, shape, verify};
 use crate::{
     CirclePcsShape, CircleProverTranscript, CircleTranscriptFailure, CircleVerifierTranscript,
-    CircleWitnesses, Point, prover_run,
+    CircleWitnesses, prover_run,
 };
 use circle_challenger::{CanSample, Sha256Challenger};
 use circle_commit::PowPhase;
 use circle_field::{Cubic, Mersenne31};
+use circle_point::Point;
 use std::alloc::Global;
 use std::test::Fail;
 

@@ -1,6 +1,5 @@
 //! Each number of a shape reaches the seed. The first elements that challengers draw after the seed were
 //! computed apart from this code.
-ghost use Rattle.std.specs.Prelude.{◌≡◌, IfOk};
 
 use crate::CirclePcsShape;
 use crate::tests::{element, one_matrix};

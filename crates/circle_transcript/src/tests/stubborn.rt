@@ -1,5 +1,5 @@
 //! A challenger that no witness passes.
-ghost use Rattle.std.specs.Prelude.{◌==◌, ℕ, ◌^◌, ◌-◌, Some, None, if◌then◌else◌};
+ghost use Rattle.std.specs.Prelude.{◌==◌, ◌^◌, ◌-◌, Some, None, if◌then◌else◌};
 ghost use Rattle.circle_field.specs.Mersenne31.{element};
 ghost use Rattle.std.proofs.Math.Pow.{ones_lt};
 

@@ -1,4 +1,4 @@
-use Rattle.std.proofs.Common.{◌≡◌, ◌≢◌, ◌-◌, ◌+◌, ◌*◌, ◌^◌, ◌∙◌, sym, ap, subst, arith, map, length, All, IfSome}
+use Rattle.std.proofs.Common.{◌≡◌, ◌≢◌, ◌-◌, ◌^◌, ◌∙◌, sym, ap, subst, arith, map, length, All, IfSome}
 use Rattle.std.proofs.lemmas.List.{length-map}
 use Rattle.circle_field.specs.Circle.{Coordinates, lifted, times}
 use Rattle.circle_field.specs.Field.{sub, nth_power, two}

@@ -1,4 +1,4 @@
-use Rattle.std.proofs.Common.{◌≡◌, ◌≢◌, ◌<◌, ◌+◌, ◌++◌, [], ◌∷◌, ◌∙◌, refl, sym, ap, subst, arith, length, map, take, slice_index_or, All}
+use Rattle.std.proofs.Common.{◌≡◌, ◌≢◌, ◌<◌, ◌++◌, [], ◌∷◌, ◌∙◌, refl, sym, ap, subst, arith, length, map, take, slice_index_or, All}
 use Rattle.std.proofs.lemmas.List.{length-map, map_more, take_all, get_or-map}
 use Rattle.circle_field.specs.Circle.{lifted}
 use Rattle.circle_field.specs.Field.{sub}

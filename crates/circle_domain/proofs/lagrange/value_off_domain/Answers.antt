@@ -1,6 +1,5 @@
-use Rattle.std.proofs.Common.{◌≡◌, ◌≤◌, ◌^◌, ◌∙◌, sym, ap, arith, length, map, List}
+use Rattle.std.proofs.Common.{◌∙◌, sym, ap, arith, map}
 use Rattle.circle_point.specs.Basis.{value}
-use Rattle.circle_point.specs.Point.{coordinates}
 use Rattle.circle_domain.specs.Domain.{log_size, shift_of}
 use Rattle.circle_domain.specs.Lagrange.{dot}
 use Rattle.circle_domain.specs.Ordering.{reordered}

@@ -1,4 +1,4 @@
-use Rattle.std.proofs.Common.{◌≡◌, ◌-◌, ◌*◌, ◌%◌, ◌^◌, ◌∙◌, sym, ap, length, map, arith}
+use Rattle.std.proofs.Common.{rules, ℕ, ◌≡◌, ◌-◌, ◌*◌, ◌%◌, ◌^◌, ◌∙◌, sym, ap, length, map, arith}
 use Rattle.std.proofs.lemmas.List.{length-map}
 use Rattle.circle_field.specs.Circle.{Coordinates}
 use Rattle.circle_field.specs.Field.{nth_power, sub, two}
@@ -46,38 +46,32 @@ subtract_from_blocks-requires g c =
     r size.2 size.3 g.met.F.ComplexExtendable.at_most_62 c.standard.ensures.size c.standard.ensures.shift c.in_ok-points.ensures
     ∙ ap (λ i. i * (1 * 2 ^ (c.ilog2-log_lde_size.result - c.args.log_blowup) % 2 ^ 64)) (length-map points coordinates ∙ sym (ap length c.deref-2.ensures.value))
 
-pub returns-clause-lambda : goal.returns-clause-lambda
-returns-clause-lambda g c = λ m length_is.
+pub returns : goal.returns
+returns g c =
+    let k = g.F.Operations.ops in
     let l = g.EF.Operations.ops in
+    let embed = g.EF.ExtensionField.embed in
+    let gen = g.F.ComplexExtendable.generators in
     let size = c.requires.size in
     let word = c.args.lde.now in
+    let log = c.ilog2-log_lde_size.result in
     let points = c.in_ok-points.points.items in
-    let x = λ (p : Coordinates g.row.F.Denot). g.EF.ExtensionField.embed p.x in
-    let y = λ (p : Point g.row.F.Denot g.F.Operations). g.EF.ExtensionField.embed (coordinates p).x in
-    let block = 1 * 2 ^ (c.ilog2-log_lde_size.result - c.args.log_blowup) % 2 ^ 64 in
-    let r = logarithm _ c.ilog2-log_lde_size.result size.0 size.1 c.ilog2-log_lde_size.ensures.power_le c.ilog2-log_lde_size.ensures.next_power_gt in
-    let m_is = logarithm _ c.ilog2-log_lde_size.result m length_is c.ilog2-log_lde_size.ensures.power_le c.ilog2-log_lde_size.ensures.next_power_gt in
-    let values : spread block (map y c.deref.result.now) ≡ vanishing_values g.F.Operations.ops g.F.ComplexExtendable.generators l g.EF.ExtensionField.embed c.args.log_blowup m =
-    ap (λ ps. spread block (map y ps)) c.deref.ensures.value ∙ ap (spread block) (sym (map-map x coordinates points))
-    ∙ word-blocks l g.EF.ExtensionField.embed g.F.Operations.laws.ring g.met.F.ComplexExtendable.generators_law c.ilog2-log_lde_size.result m c.args.log_blowup (log_size c.standard.result) (shift_of c.standard.result) (map coordinates points)
-    m_is (omega (arith, size.2, r, m_is)) (omega (arith, size.3, r, m_is)) g.met.F.ComplexExtendable.at_most_62 c.standard.ensures.size c.standard.ensures.shift c.in_ok-points.ensures in
-    let scale : nth_power l (l.inv (two l)) (c.ilog2-log_lde_size.result - 1) ≡ l.inv (nth_power l (two l) (m - 1)) =
-    ap (λ i. nth_power l (l.inv (two l)) (i - 1)) m_is ∙ halved_power g.EF.Operations.laws (m - 1) in
-    c.div_2exp_u64-lambda.ensures ∙ ap (λ s. l.mul s (nth_power l (l.inv (two l)) (c.ilog2-log_lde_size.result - 1))) (c.product_with_blocks.ensures ∙ ap (dot l word) values) ∙ ap (l.mul _) scale
-
-pub returns-clause-remainder : goal.returns-clause-remainder
-returns-clause-remainder g c = λ m length_is.
-    let l = g.EF.Operations.ops in
-    let size = c.requires.size in
-    let word = c.args.lde.now in
-    let points = c.in_ok-points.points.items in
-    let x = λ (p : Coordinates g.row.F.Denot). g.EF.ExtensionField.embed p.x in
-    let y = λ (p : Point g.row.F.Denot g.F.Operations). g.EF.ExtensionField.embed (coordinates p).x in
-    let block = 1 * 2 ^ (c.ilog2-log_lde_size.result - c.args.log_blowup) % 2 ^ 64 in
-    let r = logarithm _ c.ilog2-log_lde_size.result size.0 size.1 c.ilog2-log_lde_size.ensures.power_le c.ilog2-log_lde_size.ensures.next_power_gt in
-    let m_is = logarithm _ c.ilog2-log_lde_size.result m length_is c.ilog2-log_lde_size.ensures.power_le c.ilog2-log_lde_size.ensures.next_power_gt in
-    let values : spread block (map y c.deref-2.result.now) ≡ vanishing_values g.F.Operations.ops g.F.ComplexExtendable.generators l g.EF.ExtensionField.embed c.args.log_blowup m =
-    ap (λ ps. spread block (map y ps)) c.deref-2.ensures.value ∙ ap (spread block) (sym (map-map x coordinates points))
-    ∙ word-blocks l g.EF.ExtensionField.embed g.F.Operations.laws.ring g.met.F.ComplexExtendable.generators_law c.ilog2-log_lde_size.result m c.args.log_blowup (log_size c.standard.result) (shift_of c.standard.result) (map coordinates points)
-    m_is (omega (arith, size.2, r, m_is)) (omega (arith, size.3, r, m_is)) g.met.F.ComplexExtendable.at_most_62 c.standard.ensures.size c.standard.ensures.shift c.in_ok-points.ensures in
-    c.subtract_from_blocks.ensures ∙ ap (pairwise (λ a v. sub l a (l.mul c.div_2exp_u64-lambda.result v)) word) values
+    let x = λ (p : Coordinates g.row.F.Denot). embed p.x in
+    let y = λ (p : Point g.row.F.Denot g.F.Operations). embed (coordinates p).x in
+    let block = 1 * 2 ^ (log - c.args.log_blowup) % 2 ^ 64 in
+    let r = logarithm _ log size.0 size.1 c.ilog2-log_lde_size.ensures.power_le c.ilog2-log_lde_size.ensures.next_power_gt in
+    let m_is = λ (m : ℕ) (e : length word ≡ 2 ^ m). logarithm _ log m e c.ilog2-log_lde_size.ensures.power_le c.ilog2-log_lde_size.ensures.next_power_gt in
+    let values : (m : ℕ) → length word ≡ 2 ^ m → spread block (map y points) ≡ vanishing_values k gen l embed c.args.log_blowup m =
+    λ m e. ap (spread block) (sym (map-map x coordinates points))
+    ∙ word-blocks l embed g.F.Operations.laws.ring g.met.F.ComplexExtendable.generators_law log m c.args.log_blowup (log_size c.standard.result) (shift_of c.standard.result) (map coordinates points)
+    (m_is m e) (omega (arith, size.2, r, m_is m e)) (omega (arith, size.3, r, m_is m e)) g.met.F.ComplexExtendable.at_most_62 c.standard.ensures.size c.standard.ensures.shift c.in_ok-points.ensures in
+    let scale : (m : ℕ) → length word ≡ 2 ^ m → nth_power l (l.inv (two l)) (log - 1) ≡ l.inv (nth_power l (two l) (m - 1)) =
+    λ m e. ap (λ i. nth_power l (l.inv (two l)) (i - 1)) (m_is m e) ∙ halved_power g.EF.Operations.laws (m - 1) in
+    record {
+      lambda = λ m e. c.div_2exp_u64-lambda.ensures
+          ∙ ap (λ s. l.mul s (nth_power l (l.inv (two l)) (log - 1))) (c.product_with_blocks.ensures ∙ ap (λ ps. dot l word (spread block (map y ps))) c.deref.ensures.value ∙ ap (dot l word) (values m e))
+          ∙ ap (l.mul _) (scale m e);
+      remainder = λ m e. c.subtract_from_blocks.ensures
+          ∙ ap (pairwise (λ a v. sub l a (l.mul c.div_2exp_u64-lambda.result v)) word) (ap (λ ps. spread block (map y ps)) c.deref-2.ensures.value ∙ values m e);
+      refused = search rules;
+    }

@@ -4,7 +4,10 @@ use Rattle.std.proofs.lemmas.List.{length-map, length-take-le, get_or-map}
 use Rattle.circle_field.specs.Field.{sub}
 use Rattle.circle_point.specs.Point.{coordinates}
 use Rattle.circle_point.specs.declared.point.Point.{Point}
-use Rattle.circle_folding.proofs.BlockSums.{block-more, block-end}
+use Rattle.circle_domain.specs.Layers.{pairwise}
+use Rattle.circle_plane.proofs.Layered.{block-more, block-end}
+use Rattle.circle_folding.specs.Blocks.{spread}
+use Rattle.circle_folding.proofs.BlockSums.{made-spread}
 use Rattle.circle_folding.proofs.deep_quotient.subtract_from_blocks.Goals as goal
 
 pub loop-i-preserved : goal.loop-i-preserved
@@ -26,11 +29,14 @@ loop-i-preserved g c =
     let below : (i + 1) * n ≤ length points * n = let le : i + 1 ≤ length points = omega (arith, within) in mul-le-mul_right n le in
     let next : (i + 1) * n ≡ start + n = ap (λ m. m * n) (add-one i) ∙ suc-mul i n in
     let fits : start + len ≤ length word = omega (arith, below, next, c.requires, c.loop-i.auto.word) in
-    let long : length (take len (drop start word)) ≡ len = length-take-le len (drop start word) (omega (arith, fits, length-drop start word)) in
     let amount : c.times_base.result ≡ k.mul c.args.multiple v =
     c.times_base.ensures ∙ ap (λ y. k.mul (g.EF.ExtensionField.embed y) c.args.multiple) c.x.ensures ∙ g.EF.Operations.laws.ring.mul_comm v c.args.multiple in
-    block-more f n vs word c.subtract.new.entries v i start len (omega (arith, within, length-map points x)) at refl (omega arith) fits
-    (c.subtract.auto.entries ∙ long) (c.subtract.ensures ∙ ap (λ b. map (λ a. sub k a b) (take len (drop start word))) amount)
+    let rest : len ≤ length (drop start word) = omega (arith, fits, length-drop start word) in
+    let size : len ≡ n = omega arith in
+    block-more (λ us xs. pairwise f xs (spread n us)) n vs word c.subtract.new.entries v i start len (omega (arith, within, length-map points x)) at refl size fits
+    (c.subtract.auto.entries ∙ length-take-le len (drop start word) rest)
+    (made-spread f (drop start word) c.subtract.new.entries n len v (drop (i + 1) vs) size rest
+    (c.subtract.ensures ∙ ap (λ b. map (λ a. sub k a b) (take len (drop start word))) amount))
     ∙ c.loop-i.invariant
 
 pub returns : goal.returns
@@ -42,5 +48,5 @@ returns g c =
     let vs = map x points in
     let end : c.loop-i.i ≡ length points = omega (arith, c.loop-i-test.false, c.loop-i.auto.i-end) in
     let size = length-map points x in
-    sym (block-end f c.args.size vs c.loop-i.word c.loop-i.i (omega (arith, end, size)) (c.loop-i.auto.word ∙ c.requires ∙ ap (λ m. m * c.args.size) (sym size)) (end ∙ sym size))
+    sym (block-end (λ us xs. pairwise f xs (spread c.args.size us)) c.args.size vs c.loop-i.word c.loop-i.i (c.loop-i.auto.word ∙ c.requires ∙ ap (λ m. m * c.args.size) (sym size)) (end ∙ sym size) refl)
     ∙ c.loop-i.invariant

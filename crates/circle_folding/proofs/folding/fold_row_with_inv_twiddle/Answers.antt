@@ -1,6 +1,7 @@
 use Rattle.std.proofs.Common.{◌≡◌, ◌∙◌, ap}
 use Rattle.circle_field.specs.Field.{sub, two}
-use Rattle.circle_folding.proofs.Folds.{fold-halved, embedded_inverse}
+use Rattle.circle_domain.proofs.Lifted.{lifted-inverse}
+use Rattle.circle_folding.proofs.Folds.{fold-halved}
 use Rattle.circle_folding.proofs.folding.fold_row_with_inv_twiddle.Goals as goal
 
 pub returns : goal.returns
@@ -17,4 +18,4 @@ returns g c = λ t nonzero inverse.
     g.met.EF.Field.add_law _ _ _ c.add-2.ensures ∙ ap (λ s. l.add s c.mul.result) (g.met.EF.Field.add_law _ _ _ c.add.ensures) ∙ ap (l.add (l.add low high)) difference in
     c.halve.ensures ∙ ap (λ s. l.mul s (l.inv (two l))) all
     ∙ fold-halved g.EF.Operations.laws low high beta (m t) i
-    (ap (λ v. l.mul (m v) (m t)) inverse ∙ embedded_inverse m g.met.EF.ExtensionField.embedding g.F.Operations.laws t nonzero)
+    (ap (λ v. l.mul (m v) (m t)) inverse ∙ lifted-inverse g.met.EF.ExtensionField.embedding g.F.Operations.laws t nonzero)

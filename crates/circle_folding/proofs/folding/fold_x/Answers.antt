@@ -1,4 +1,4 @@
-use Rattle.std.proofs.Common.{◌≢◌, ◌^◌, ◌∙◌, sym, ap, subst, length, map, All, arith}
+use Rattle.std.proofs.Common.{rules, ◌≢◌, ◌^◌, ◌∙◌, sym, ap, subst, length, map, All, arith}
 use Rattle.std.proofs.lemmas.Result.{IfOk-weaker}
 use Rattle.circle_domain.specs.Domain.{log_size, shift_of}
 use Rattle.circle_folding.specs.Fold.{folds, x_twiddles}
@@ -17,25 +17,19 @@ x_twiddles-requires-clause-in_group g c =
     let r = logarithm c.height.result c.ilog2-log_height.result power.0 (c.height.ensures ∙ power.1) c.ilog2-log_height.ensures.power_le c.ilog2-log_height.ensures.next_power_gt in
     omega (arith, r, power.2, c.requires.arity, c.standard-domain.ensures.size)
 
-pub fold_rows-requires-clause-height : goal.fold_rows-requires-clause-height
-fold_rows-requires-clause-height g c =
+pub fold_rows-requires : goal.fold_rows-requires
+fold_rows-requires g c =
     let k = g.F.Operations.ops in
     let gen = g.F.ComplexExtendable.generators in
     let power = c.requires.height in
     let r = c.ilog2-log_height.result in
     let same = logarithm c.height.result r power.0 (c.height.ensures ∙ power.1) c.ilog2-log_height.ensures.power_le c.ilog2-log_height.ensures.next_power_gt in
     let are = x_twiddles-of k gen r c.args.log_arity (log_size c.standard-domain.result) (shift_of c.standard-domain.result) c.in_ok-x_twiddles.field-0.items c.requires.arity c.standard-domain.ensures.size c.standard-domain.ensures.shift c.in_ok-x_twiddles.ensures in
-    power.1 ∙ ap (λ n. 2 ^ n) (sym same) ∙ sym (ap length (c.deref.ensures.value ∙ are) ∙ length-x_twiddles k gen r)
-
-pub fold_rows-requires-clause-nonzero : goal.fold_rows-requires-clause-nonzero
-fold_rows-requires-clause-nonzero g c =
-    let k = g.F.Operations.ops in
-    let gen = g.F.ComplexExtendable.generators in
-    let power = c.requires.height in
-    let r = c.ilog2-log_height.result in
-    let same = logarithm c.height.result r power.0 (c.height.ensures ∙ power.1) c.ilog2-log_height.ensures.power_le c.ilog2-log_height.ensures.next_power_gt in
-    let are = x_twiddles-of k gen r c.args.log_arity (log_size c.standard-domain.result) (shift_of c.standard-domain.result) c.in_ok-x_twiddles.field-0.items c.requires.arity c.standard-domain.ensures.size c.standard-domain.ensures.shift c.in_ok-x_twiddles.ensures in
-    subst (All (λ t. t ≢ k.zero)) (sym (c.deref.ensures.value ∙ are)) (x_twiddles-nonzero g.F.Operations.laws g.met.F.ComplexExtendable.generators_law r (omega (arith, same, power.2)))
+    record {
+      width = search rules;
+      height = power.1 ∙ ap (λ n. 2 ^ n) (sym same) ∙ sym (ap length (c.deref.ensures.value ∙ are) ∙ length-x_twiddles k gen r);
+      nonzero = subst (All (λ t. t ≢ k.zero)) (sym (c.deref.ensures.value ∙ are)) (x_twiddles-nonzero g.F.Operations.laws g.met.F.ComplexExtendable.generators_law r (omega (arith, same, power.2)));
+    }
 
 pub returns : goal.returns
 returns g c =

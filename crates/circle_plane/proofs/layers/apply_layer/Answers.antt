@@ -1,7 +1,8 @@
 use Rattle.std.proofs.Common.{◌≡◌, ◌+◌, ◌*◌, ◌≤◌, sym, ◌∙◌, arith, length, take, drop, ◌-◌, refl, length-drop}
 use Rattle.std.proofs.lemmas.List.{length-take-le}
 use Rattle.std.proofs.Math.Nat.{mul-le-mul_right}
-use Rattle.circle_plane.proofs.Layered.{layer-more, layer-end}
+use Rattle.circle_domain.specs.Layers.{layer}
+use Rattle.circle_plane.proofs.Layered.{layer-more, block-end}
 use Rattle.circle_plane.proofs.layers.apply_layer.Goals as goal
 
 pub loop-i-preserved : goal.loop-i-preserved
@@ -20,5 +21,5 @@ loop-i-preserved g c =
 pub returns : goal.returns
 returns g c =
     let end : c.loop-i.i ≡ length c.args.factors.now = omega (arith, c.loop-i-test.false, c.loop-i.auto.i-end) in
-    sym (layer-end g.B.Butterfly.lower g.B.Butterfly.upper c.args.half c.args.factors.now c.loop-i.values c.loop-i.i (omega arith) (c.loop-i.auto.values ∙ c.requires) end)
+    sym (block-end (layer g.B.Butterfly.lower g.B.Butterfly.upper c.args.half) (c.args.half + c.args.half) c.args.factors.now c.loop-i.values c.loop-i.i (c.loop-i.auto.values ∙ c.requires) end refl)
     ∙ c.loop-i.invariant

@@ -1,9 +1,9 @@
-use Rattle.std.specs.Prelude.{zip, true, false, IsTrue, ◌⊎◌}
-use Rattle.std.proofs.Common.{◌≡◌, ℕ, ◌+◌, ◌-◌, ◌<◌, ◌≤◌, ◌++◌, ◌∷◌, [], length, take, drop, map, refl, sym, ap, ◌∙◌, subst, arith, inr}
+use Rattle.std.specs.Prelude.{zip, false, IsTrue, ◌⊎◌}
+use Rattle.std.proofs.Common.{◌≡◌, ℕ, ◌+◌, ◌-◌, ◌<◌, ◌≤◌, ◌++◌, ◌∷◌, [], length, take, map, refl, sym, ap, ◌∙◌, subst, arith, inr}
 use Rattle.std.proofs.lemmas.List.{map-append}
 use Rattle.circle_transcript.specs.Shape.{round_steps, rounds_steps}
 use Rattle.circle_transcript.specs.Draw.{moves, is_passed, after_round, fold_challenge, after_rounds, fold_challenges, rounds_pass}
-use Rattle.circle_transcript.specs.Transcript.{due, numbers}
+use Rattle.circle_transcript.specs.Transcript.{numbers}
 use Rattle.circle_commit.specs.declared.params.PowPhase.TheVariants.{CommitPhase}
 use Rattle.circle_transcript.specs.declared.failure.CircleTranscriptFailure.TheVariants.{PowWitness, Memory}
 use Rattle.circle_transcript.proofs.Playing.{handed_on}

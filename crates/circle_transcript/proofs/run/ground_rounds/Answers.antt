@@ -1,9 +1,9 @@
-use Rattle.std.specs.Prelude.{zip, true, IsTrue, unwrap_or}
-use Rattle.std.proofs.Common.{◌≡◌, ℕ, ◌+◌, ◌-◌, ◌<◌, ◌≤◌, ◌++◌, ◌∷◌, [], length, take, drop, map, refl, sym, ap, ◌∙◌, subst, arith}
+use Rattle.std.specs.Prelude.{zip, IsTrue, unwrap_or}
+use Rattle.std.proofs.Common.{◌≡◌, ℕ, ◌+◌, ◌-◌, ◌<◌, ◌++◌, ◌∷◌, [], length, take, map, refl, sym, ap, ◌∙◌, subst, arith}
 use Rattle.std.proofs.lemmas.List.{map-append, length_push}
 use Rattle.circle_transcript.specs.Shape.{round_steps, rounds_steps}
 use Rattle.circle_transcript.specs.Draw.{moves, is_passed, after_round, fold_challenge, after_rounds, fold_challenges, rounds_pass}
-use Rattle.circle_transcript.specs.Transcript.{due, numbers}
+use Rattle.circle_transcript.specs.Transcript.{numbers}
 use Rattle.circle_transcript.proofs.Runs.{passes_more, challenges_more, state_more, zip_pushed, rounds_first, rounds_none}
 use Rattle.circle_transcript.proofs.run.ground_rounds.Goals as goal
 

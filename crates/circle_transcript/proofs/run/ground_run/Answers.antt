@@ -1,14 +1,14 @@
 use Rattle.std.specs.Prelude.{zip, true, IsTrue, ◌⊎◌, unwrap_or}
-use Rattle.std.proofs.Common.{◌≡◌, ◌∷◌, [], ◌++◌, length, map, refl, sym, ap, ◌∙◌, subst, inl, inr}
+use Rattle.std.proofs.Common.{◌≡◌, [], ◌++◌, length, map, sym, ap, ◌∙◌, subst, inl, inr}
 use Rattle.std.proofs.lemmas.List.{append-nil}
 use Rattle.circle_challenger.specs.Observing.{after_all}
 use Rattle.circle_challenger.specs.Sampling.{samples, after_samples}
 use Rattle.circle_transcript.specs.declared.failure.CircleTranscriptFailure.TheVariants.{Memory}
-use Rattle.circle_transcript.specs.Shape.{batch_steps, first_layer_steps, rounds_steps, query_steps}
+use Rattle.circle_transcript.specs.Shape.{rounds_steps, query_steps}
 use Rattle.circle_transcript.specs.Draw.{moves, taken, after_claims, drawn_element, after_element, is_passed, after_pow, after_rounds, fold_challenges, rounds_pass}
 use Rattle.circle_transcript.specs.Claims.{claims_of}
 use Rattle.circle_transcript.specs.Failure.{IsNoWitness}
-use Rattle.circle_transcript.specs.Transcript.{due, numbers}
+use Rattle.circle_transcript.specs.Transcript.{numbers}
 use Rattle.circle_transcript.proofs.Playing.{handed_on}
 use Rattle.circle_transcript.proofs.Drawn.{all_drawn}
 use Rattle.circle_transcript.proofs.run.ground_run.Goals as goal

@@ -1,4 +1,4 @@
-use Rattle.std.proofs.Common.{◌≡◌, ◌++◌, map, take, flat_map, length}
+use Rattle.std.proofs.Common.{◌≡◌, take}
 use Rattle.circle_transcript.specs.ShapeOf.{batches_of}
 use Rattle.circle_transcript.proofs.shape.copied_batches.Given as goal
 

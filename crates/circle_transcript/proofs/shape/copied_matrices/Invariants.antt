@@ -1,4 +1,4 @@
-use Rattle.std.proofs.Common.{◌≡◌, ◌++◌, map, take, flat_map, length}
+use Rattle.std.proofs.Common.{◌≡◌, take}
 use Rattle.circle_transcript.specs.ShapeOf.{matrices_of}
 use Rattle.circle_transcript.proofs.shape.copied_matrices.Given as goal
 

@@ -1,4 +1,4 @@
-use Rattle.std.proofs.Common.{◌≡◌, ◌++◌, map, take, flat_map, length}
+use Rattle.std.proofs.Common.{◌≡◌, ◌++◌, map}
 use Rattle.circle_challenger.specs.Interaction.{step_of}
 use Rattle.circle_transcript.specs.Shape.{rounds_steps}
 use Rattle.circle_transcript.proofs.shape.push_rounds.Given as goal

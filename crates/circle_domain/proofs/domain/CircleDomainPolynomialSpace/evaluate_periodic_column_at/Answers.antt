@@ -1,13 +1,12 @@
-use Rattle.std.proofs.Common.{◌≡◌, ℕ, ◌+◌, ◌-◌, ◌^◌, ◌<◌, ◌≤◌, [], ◌∷◌, ◌∙◌, sym, ap, subst, arith, length, map, List, slice_index_or}
+use Rattle.std.proofs.Common.{◌≡◌, ℕ, ◌+◌, ◌-◌, ◌^◌, ◌≤◌, ◌∙◌, sym, ap, subst, arith, length, map, List, slice_index_or}
 use Rattle.std.proofs.Math.Nat.{pow-suc}
-use Rattle.circle_field.specs.Circle.{Coordinates, times}
+use Rattle.circle_field.specs.Circle.{times}
 use Rattle.circle_point.specs.Basis.{value}
 use Rattle.circle_point.specs.Point.{coordinates}
 use Rattle.circle_point.specs.Projective.{from_line}
 use Rattle.circle_domain.specs.Clear.{IsClearOf}
 use Rattle.circle_domain.specs.Domain.{log_size, shift_of}
 use Rattle.circle_domain.specs.Order.{IsGenuine, natural_order}
-use Rattle.circle_domain.specs.Periodic.{IsPeriodicValue}
 use Rattle.circle_domain.specs.Values.{Interpolates}
 use Rattle.circle_domain.proofs.Powers.{power_is, pow_order, pow_injective, pow_within}
 use Rattle.circle_domain.proofs.Results.{if_ok_both}

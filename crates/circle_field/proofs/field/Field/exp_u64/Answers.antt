@@ -1,4 +1,4 @@
-use Rattle.std.proofs.Common.{◌≡◌, ◌/◌, ap, ◌∙◌, sym, arith}
+use Rattle.std.proofs.Common.{◌/◌, ap, ◌∙◌, arith}
 use Rattle.circle_field.specs.Field.{nth_power}
 use Rattle.circle_field.proofs.Powers.{halved_even, halved_odd, no_more}
 use Rattle.circle_field.proofs.field.Field.exp_u64.Goals as goal

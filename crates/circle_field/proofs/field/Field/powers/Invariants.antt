@@ -1,4 +1,4 @@
-use Rattle.std.proofs.Common.{◌≡◌, ℕ, map}
+use Rattle.std.proofs.Common.{◌≡◌, map}
 use Rattle.std.specs.List.{range_with_len}
 use Rattle.circle_field.specs.Field.{nth_power}
 use Rattle.circle_field.proofs.field.Field.powers.Given as goal

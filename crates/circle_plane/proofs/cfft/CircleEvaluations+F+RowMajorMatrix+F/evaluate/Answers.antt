@@ -1,4 +1,4 @@
-use Rattle.std.proofs.Common.{◌≡◌, ◌-◌, ◌+◌, ◌*◌, ◌/◌, ◌%◌, ◌^◌, ◌<◌, ◌≤◌, ◌++◌, ◌∙◌, sym, ap, map, take, drop, length, arith}
+use Rattle.std.proofs.Common.{rules, ◌≡◌, ◌-◌, ◌+◌, ◌*◌, ◌/◌, ◌%◌, ◌^◌, ◌<◌, ◌≤◌, ◌++◌, ◌∙◌, sym, ap, map, take, drop, length, arith}
 use Rattle.std.proofs.lemmas.List.{take-map}
 use Rattle.std.proofs.lemmas.Nat.{pow-add}
 use Rattle.circle_field.proofs.Inverses.{take-whole}
@@ -23,12 +23,8 @@ use Rattle.circle_plane.proofs.cfft.CircleEvaluations+F+RowMajorMatrix+F.evaluat
 
 pub overflow_sub-log_n : goal.overflow_sub-log_n
 overflow_sub-log_n g c =
-    let k = g.F.Operations.ops in
-    let gen = g.F.ComplexExtendable.generators in
     let n = log_size c.args.domain in
-    let s = shift_of c.args.domain in
     let coeffs = c.args.coeffs in
-    let width = width_of coeffs in
     let h = c.ilog2-log_height.result in
     let tall : height_of coeffs ≡ 2 ^ h =
     power_is (height_of coeffs) h c.requires.power (omega (arith, c.ilog2-log_height.ensures.power_le, c.height.ensures)) (omega (arith, c.ilog2-log_height.ensures.next_power_gt, c.height.ensures)) in
@@ -75,7 +71,6 @@ index-requires g c =
     let n = log_size c.args.domain in
     let s = shift_of c.args.domain in
     let coeffs = c.args.coeffs in
-    let width = width_of coeffs in
     let h = c.ilog2-log_height.result in
     let tall : height_of coeffs ≡ 2 ^ h =
     power_is (height_of coeffs) h c.requires.power (omega (arith, c.ilog2-log_height.ensures.power_le, c.height.ensures)) (omega (arith, c.ilog2-log_height.ensures.next_power_gt, c.height.ensures)) in
@@ -152,10 +147,7 @@ loop-layer-preserved g c =
 
 pub new-requires-clause-whole : goal.new-requires-clause-whole
 new-requires-clause-whole g c =
-    let k = g.F.Operations.ops in
-    let gen = g.F.ComplexExtendable.generators in
     let n = log_size c.args.domain in
-    let s = shift_of c.args.domain in
     let coeffs = c.args.coeffs in
     let width = width_of coeffs in
     let old = c.loop-layer.entries in
@@ -166,10 +158,7 @@ new-requires-clause-whole g c =
 
 pub from_cfft_order-requires-clause-size : goal.from_cfft_order-requires-clause-size
 from_cfft_order-requires-clause-size g c =
-    let k = g.F.Operations.ops in
-    let gen = g.F.ComplexExtendable.generators in
     let n = log_size c.args.domain in
-    let s = shift_of c.args.domain in
     let coeffs = c.args.coeffs in
     let width = width_of coeffs in
     let old = c.loop-layer.entries in
@@ -179,55 +168,8 @@ from_cfft_order-requires-clause-size g c =
     sym (length-rows c.new.result) ∙ ap length c.new.ensures.content ∙ length-rows_from c.width-width.result (old.len / c.width-width.result) old.items
     ∙ ap (λ w. old.len / w) wide ∙ height old.len (2 ^ n) width total positive
 
-pub returns-clause-cfft : goal.returns-clause-cfft
-returns-clause-cfft g c =
-    let k = g.F.Operations.ops in
-    let gen = g.F.ComplexExtendable.generators in
-    let n = log_size c.args.domain in
-    let s = shift_of c.args.domain in
-    let coeffs = c.args.coeffs in
-    let width = width_of coeffs in
-    let old = c.loop-layer.entries in
-    let positive = coeffs.width_positive in
-    let wide : c.width-width.result ≡ width = c.width-width.ensures in
-    let total : old.len ≡ 2 ^ n * width = old.ok.0 ∙ c.loop-layer.invariant.long in
-    let r = c.new.result in
-    let end : c.loop-layer.layer ≡ 0 = omega (arith, c.loop-layer-test.false) in
-    let content : rows r ≡ rows_from width (2 ^ n) old.items =
-    c.new.ensures.content ∙ ap (λ w. rows_from w (old.len / w) old.items) wide ∙ ap (λ t. rows_from width t old.items) (height old.len (2 ^ n) width total positive) in
-    let done : rows r ≡ map (values_at k (rows coeffs) width) (cfft_order k gen n s) =
-    content
-    ∙ rows-values k width (2 ^ n) positive (rows_from width (2 ^ n) old.items) (rows coeffs) (cfft_order k gen n s) (stored-wide k width (2 ^ n) positive old.items c.loop-layer.invariant.long)
-    (λ j lt. sym (remaining-none k gen n s (stored_column k.zero width j (2 ^ n) old.items) (length-stored_column k.zero width j (2 ^ n) old.items))
-    ∙ ap (λ l. remaining k gen n s l (stored_column k.zero width j (2 ^ n) old.items)) (sym end) ∙ c.loop-layer.invariant.passed j lt) in
-    ap rows c.from_cfft_order.ensures.values ∙ done
-
-pub returns-clause-values : goal.returns-clause-values
-returns-clause-values g c =
-    let k = g.F.Operations.ops in
-    let gen = g.F.ComplexExtendable.generators in
-    let n = log_size c.args.domain in
-    let s = shift_of c.args.domain in
-    let coeffs = c.args.coeffs in
-    let width = width_of coeffs in
-    let old = c.loop-layer.entries in
-    let positive = coeffs.width_positive in
-    let wide : c.width-width.result ≡ width = c.width-width.ensures in
-    let total : old.len ≡ 2 ^ n * width = old.ok.0 ∙ c.loop-layer.invariant.long in
-    let r = c.new.result in
-    let end : c.loop-layer.layer ≡ 0 = omega (arith, c.loop-layer-test.false) in
-    let content : rows r ≡ rows_from width (2 ^ n) old.items =
-    c.new.ensures.content ∙ ap (λ w. rows_from w (old.len / w) old.items) wide ∙ ap (λ t. rows_from width t old.items) (height old.len (2 ^ n) width total positive) in
-    let done : rows r ≡ map (values_at k (rows coeffs) width) (cfft_order k gen n s) =
-    content
-    ∙ rows-values k width (2 ^ n) positive (rows_from width (2 ^ n) old.items) (rows coeffs) (cfft_order k gen n s) (stored-wide k width (2 ^ n) positive old.items c.loop-layer.invariant.long)
-    (λ j lt. sym (remaining-none k gen n s (stored_column k.zero width j (2 ^ n) old.items) (length-stored_column k.zero width j (2 ^ n) old.items))
-    ∙ ap (λ l. remaining k gen n s l (stored_column k.zero width j (2 ^ n) old.items)) (sym end) ∙ c.loop-layer.invariant.passed j lt) in
-    ap (λ e. other_order n (rows e)) c.from_cfft_order.ensures.values ∙ ap (other_order n) done
-    ∙ other_order-points g.F.Operations.laws.ring g.met.F.ComplexExtendable.generators_law (values_at k (rows coeffs) width) n s c.requires.positive (omega (arith, c.requires.in_group))
-
-pub returns-clause-prefix : goal.returns-clause-prefix
-returns-clause-prefix g c =
+pub returns : goal.returns
+returns g c =
     let k = g.F.Operations.ops in
     let gen = g.F.ComplexExtendable.generators in
     let n = log_size c.args.domain in
@@ -248,5 +190,12 @@ returns-clause-prefix g c =
     (λ j lt. sym (remaining-none k gen n s (stored_column k.zero width j (2 ^ n) old.items) (length-stored_column k.zero width j (2 ^ n) old.items))
     ∙ ap (λ l. remaining k gen n s l (stored_column k.zero width j (2 ^ n) old.items)) (sym end) ∙ c.loop-layer.invariant.passed j lt) in
     let f = values_at k (rows coeffs) width in
-    λ m positive' le. ap (λ e. take (2 ^ m) (rows e)) c.from_cfft_order.ensures.values ∙ ap (take (2 ^ m)) done
-    ∙ take-map f (2 ^ m) (cfft_order k gen n s) ∙ ap (map f) (cfft_order-prefix k gen m n s positive' le)
+    record {
+      domain = search rules;
+      width = search rules;
+      cfft = ap rows c.from_cfft_order.ensures.values ∙ done;
+      values = ap (λ e. other_order n (rows e)) c.from_cfft_order.ensures.values ∙ ap (other_order n) done
+          ∙ other_order-points g.F.Operations.laws.ring g.met.F.ComplexExtendable.generators_law f n s c.requires.positive (omega (arith, c.requires.in_group));
+      prefix = λ m positive' le. ap (λ e. take (2 ^ m) (rows e)) c.from_cfft_order.ensures.values ∙ ap (take (2 ^ m)) done
+          ∙ take-map f (2 ^ m) (cfft_order k gen n s) ∙ ap (map f) (cfft_order-prefix k gen m n s positive' le);
+    }

@@ -1,4 +1,4 @@
-use Rattle.std.proofs.Common.{◌≡◌, ◌≢◌, ℕ, ◌-◌, ◌+◌, ◌*◌, ◌/◌, ◌%◌, ◌^◌, ◌<◌, ◌≤◌, ◌++◌, ◌∙◌, sym, ap, subst, map, take, drop, slice_index_or, length, arith, All, suc}
+use Rattle.std.proofs.Common.{rules, ◌≡◌, ◌≢◌, ℕ, ◌-◌, ◌+◌, ◌*◌, ◌/◌, ◌%◌, ◌^◌, ◌<◌, ◌≤◌, ◌++◌, ◌∙◌, sym, ap, subst, map, take, drop, slice_index_or, length, arith, All, suc}
 use Rattle.std.proofs.Math.Nat.{mul-le-mul_right, pow-suc}
 use Rattle.std.proofs.lemmas.List.{length-map}
 use Rattle.std.proofs.lemmas.List.Elements.{All-from_recursion}
@@ -124,9 +124,7 @@ loop-factors-preserved g c =
 
 pub new-requires-clause-whole : goal.new-requires-clause-whole
 new-requires-clause-whole g c =
-    let k = g.F.Operations.ops in
     let n = log_size c.args.self.domain in
-    let s = shift_of c.args.self.domain in
     let values = c.args.self.values in
     let width = g.M.Shape.width values in
     let old = c.loop-factors.entries in
@@ -135,64 +133,8 @@ new-requires-clause-whole g c =
     let total : old.len ≡ 2 ^ n * width = old.ok.0 ∙ c.loop-factors.invariant.long in
     ap (λ w. old.len % w) wide ∙ whole old.len (2 ^ n) width total positive
 
-pub returns-clause-height : goal.returns-clause-height
-returns-clause-height g c =
-    let k = g.F.Operations.ops in
-    let n = log_size c.args.self.domain in
-    let s = shift_of c.args.self.domain in
-    let values = c.args.self.values in
-    let width = g.M.Shape.width values in
-    let old = c.loop-factors.entries in
-    let positive = g.met.M.Matrix.width_positive values in
-    let wide : c.width-width.result ≡ width = c.width-width.ensures ∙ c.in_ok-matrix.ensures.width in
-    let total : old.len ≡ 2 ^ n * width = old.ok.0 ∙ c.loop-factors.invariant.long in
-    let items = take old.len (c.scale.new.entries ++ drop (length c.scale.new.entries) old.items) in
-    sym (length-rows c.new.result) ∙ ap length c.new.ensures.content ∙ length-rows_from c.width-width.result (old.len / c.width-width.result) items
-    ∙ ap (λ w. old.len / w) wide ∙ height old.len (2 ^ n) width total positive
-
-pub returns-clause-values : goal.returns-clause-values
-returns-clause-values g c =
-    let k = g.F.Operations.ops in
-    let n = log_size c.args.self.domain in
-    let s = shift_of c.args.self.domain in
-    let values = c.args.self.values in
-    let width = g.M.Shape.width values in
-    let old = c.loop-factors.entries in
-    let positive = g.met.M.Matrix.width_positive values in
-    let wide : c.width-width.result ≡ width = c.width-width.ensures ∙ c.in_ok-matrix.ensures.width in
-    let total : old.len ≡ 2 ^ n * width = old.ok.0 ∙ c.loop-factors.invariant.long in
-    let new = c.scale.new.entries in
-    let r = c.new.result in
-    let factor = c.div_2exp_u64.result in
-    let f = layer_factors k g.F.ComplexExtendable.generators n s in
-    let items = c.in_ok-twiddles.twiddles.items in
-    let count : length items ≡ n = made-count (λ w. w.items) f items n c.in_ok-twiddles.ensures in
-    let end : c.loop-factors.factors-index ≡ n = omega (arith, c.loop-factors-test.false, c.loop-factors.auto.factors-index-end, count, ap length c.deref-factors-items.ensures.value) in
-    let all : take old.len (new ++ drop (length new) old.items) ≡ new = take-whole old.len new old.items old.ok.0 (c.scale.auto.entries ∙ ap length c.deref_mut-2.ensures.value) in
-    let scaled : new ≡ map (λ a. k.mul a factor) old.items = c.scale.ensures ∙ ap (map (λ a. k.mul a factor)) c.deref_mut-2.ensures.value in
-    let content : rows r ≡ rows_from width (2 ^ n) (map (λ a. k.mul a factor) old.items) =
-    c.new.ensures.content ∙ ap (λ w. rows_from w (old.len / w) (take old.len (new ++ drop (length new) old.items))) wide
-    ∙ ap (λ h. rows_from width h (take old.len (new ++ drop (length new) old.items))) (height old.len (2 ^ n) width total positive) ∙ ap (rows_from width (2 ^ n)) (all ∙ scaled) in
-    let inverse : k.mul factor (nth_power k (two k) n) ≡ k.one =
-    ap (λ x. k.mul x (nth_power k (two k) n))
-    (c.div_2exp_u64.ensures ∙ ap (λ o. k.mul o (nth_power k (k.inv (two k)) c.log_n.result)) (c.ONE.ensures ∙ g.met.F.Field.one_law) ∙ g.F.Operations.laws.ring.one_mul (nth_power k (k.inv (two k)) c.log_n.result)
-    ∙ ap (nth_power k (k.inv (two k))) c.log_n.ensures) ∙ inverse_power g.F.Operations.laws n in
-    let column_values : (j : ℕ) → j < width → map (value k (column k.zero (rows r) j)) (cfft_order k g.F.ComplexExtendable.generators n s) ≡ column k.zero (g.M.Matrix.rows values) j =
-    λ j lt. ap (λ all. map (value k (column k.zero all j)) (cfft_order k g.F.ComplexExtendable.generators n s)) content
-    ∙ after-passes g.F.Operations.laws g.met.F.ComplexExtendable.generators_law n s c.requires.in_group c.args.self.domain.shift.on_circle c.requires.genuine.1 width j old.items
-    (column k.zero (g.M.Matrix.rows values) j) factor c.requires.genuine.0 inverse
-    (ap (λ i. remaining k g.F.ComplexExtendable.generators n s i (stored_column k.zero width j (2 ^ n) old.items)) (sym end) ∙ c.loop-factors.invariant.passed j lt
-    ∙ ap (λ i. map (k.mul (nth_power k (two k) i)) (column k.zero (g.M.Matrix.rows values) j)) end) in
-    let shape : width_of r ≡ width = c.new.ensures.shape ∙ wide in
-    record {
-      height = ap length content ∙ length-rows_from width (2 ^ n) (map (λ a. k.mul a factor) old.items);
-      widths = subst (λ w. All (λ row. length row ≡ w) (rows r)) shape (rows-width r);
-      values = sym (rows-values k width (2 ^ n) positive (g.M.Matrix.rows values) (rows r) (cfft_order k g.F.ComplexExtendable.generators n s) (g.met.M.Matrix.width_law values)
-          (λ j lt. sym (column_values j lt)));
-    }
-
-pub returns-clause-only : goal.returns-clause-only
-returns-clause-only g c =
+pub returns : goal.returns
+returns g c =
     let k = g.F.Operations.ops in
     let n = log_size c.args.self.domain in
     let s = shift_of c.args.self.domain in
@@ -227,9 +169,19 @@ returns-clause-only g c =
     let shape : width_of r ≡ width = c.new.ensures.shape ∙ wide in
     let own_wide : All (λ row. length row ≡ width) (rows r) = subst (λ w. All (λ row. length row ≡ w) (rows r)) shape (rows-width r) in
     let long : length (rows r) ≡ 2 ^ n = ap length content ∙ length-rows_from width (2 ^ n) (map (λ a. k.mul a factor) old.items) in
-    λ others has. rows-same_columns k.zero width (rows r) others positive own_wide has.widths (λ j lt.
-    values-tell g.F.Operations.laws g.met.F.ComplexExtendable.generators_law n s c.requires.in_group c.args.self.domain.shift.on_circle c.requires.genuine.1
-    (column k.zero (rows r) j) (column k.zero others j) c.requires.genuine.0
-    (length-map (rows r) (λ row. slice_index_or row j k.zero) ∙ long) (length-map others (λ row. slice_index_or row j k.zero) ∙ has.height)
-    (column_values j lt ∙ sym (ap (λ all. column k.zero all j) has.values)
-    ∙ column-values k width (2 ^ n) positive others (cfft_order k g.F.ComplexExtendable.generators n s) j lt))
+    record {
+      width = search rules;
+      height = sym (length-rows r) ∙ long;
+      values = record {
+        height = long;
+        widths = own_wide;
+        values = sym (rows-values k width (2 ^ n) positive (g.M.Matrix.rows values) (rows r) (cfft_order k g.F.ComplexExtendable.generators n s) (g.met.M.Matrix.width_law values)
+            (λ j lt. sym (column_values j lt)));
+      };
+      only = λ others has. rows-same_columns k.zero width (rows r) others positive own_wide has.widths (λ j lt.
+          values-tell g.F.Operations.laws g.met.F.ComplexExtendable.generators_law n s c.requires.in_group c.args.self.domain.shift.on_circle c.requires.genuine.1
+          (column k.zero (rows r) j) (column k.zero others j) c.requires.genuine.0
+          (length-map (rows r) (λ row. slice_index_or row j k.zero) ∙ long) (length-map others (λ row. slice_index_or row j k.zero) ∙ has.height)
+          (column_values j lt ∙ sym (ap (λ all. column k.zero all j) has.values)
+          ∙ column-values k width (2 ^ n) positive others (cfft_order k g.F.ComplexExtendable.generators n s) j lt));
+    }

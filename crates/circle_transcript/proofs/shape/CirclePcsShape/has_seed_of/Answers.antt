@@ -1,4 +1,4 @@
-use Rattle.std.proofs.Common.{◌≡◌, ◌<◌, ◌^◌, subst, arith}
+use Rattle.std.proofs.Common.{subst}
 use Rattle.circle_challenger.specs.Separator.{IsWritable}
 use Rattle.circle_transcript.specs.ShapeOf.{shape_of}
 use Rattle.circle_transcript.proofs.Labels.{writable_labels}

@@ -1,8 +1,6 @@
-use Rattle.std.specs.Prelude.{OnErr, false}
-use Rattle.std.proofs.Common.{◌≡◌, ◌∙◌, ap, subst, append_assoc, flat_map}
-use Rattle.circle_challenger.specs.Grinding.{passes}
+use Rattle.std.proofs.Common.{◌∙◌, append_assoc, flat_map}
 use Rattle.circle_transcript.specs.Shape.{claim_steps, batch_steps}
-use Rattle.circle_transcript.specs.Draw.{widths_of, after_claims}
+use Rattle.circle_transcript.specs.Draw.{widths_of}
 use Rattle.circle_transcript.specs.Claims.{claims_of}
 use Rattle.circle_transcript.proofs.Playing.{on_ok}
 use Rattle.circle_transcript.proofs.sides.CircleTranscript+C+F+EF+VerifierSide.batch_phase.Goals as goal

@@ -1,4 +1,4 @@
-use Rattle.std.specs.Prelude.{IfOk, unwrap_or}
+use Rattle.std.specs.Prelude.{IfOk}
 use Rattle.std.proofs.Common.{◌≡◌, ◌∙◌, ap, subst}
 use Rattle.circle_challenger.specs.Grinding.{after_check}
 use Rattle.circle_challenger.specs.Observing.{after_all}
