@@ -17,9 +17,10 @@ module _ {E : Type 0} where
   abbrev pub pair_of : ℕ → E → E → List E
   pair_of place value sibling = if nat_eq (place % 2) 0 then value ∷ sibling ∷ [] else sibling ∷ value ∷ []
 
-  -- the pairs that queries ask for in round r, each of the query's value and its sibling
-  abbrev pub round_pairs : ℕ → List ℕ → List E → List E → List (List E)
-  round_pairs r queries values siblings = pairwise (λ pair sibling. pair sibling) (pairwise (λ q. pair_of (q / 2 ^ (r + 1))) queries values) siblings
+  -- the pairs that queries ask for in a word where each is the place of its entry once it has lost its lowest bits, each
+  -- of the query's value and its sibling
+  abbrev pub asked_pairs : ℕ → List ℕ → List E → List E → List (List E)
+  asked_pairs bits queries values siblings = pairwise (λ pair sibling. pair sibling) (pairwise (λ q. pair_of (q / 2 ^ bits)) queries values) siblings
 
 module _ {E : Type 0} (l : FieldOps E) where
   -- what the value at a place becomes: the fold of its pair

@@ -4,7 +4,7 @@ use Rattle.std.proofs.Common.{zero, suc}
 use Rattle.circle_field.specs.Field.{FieldOps}
 use Rattle.circle_field.specs.Circle.{Coordinates, at, plus}
 use Rattle.circle_folding.specs.Fold.{folds, x_twiddles}
-use Rattle.circle_folding.specs.Chain.{round_twiddle, round_pairs, next_value}
+use Rattle.circle_folding.specs.Chain.{round_twiddle, asked_pairs, next_value}
 
 abbrev ops : FieldOps ℕ
 ops = record {
@@ -42,7 +42,7 @@ query_twiddles_row = refl
 next_twiddles_row : map (round_twiddle ops gen 4 1) (13 ∷ 2 ∷ 7 ∷ []) ≡ 13 ∷ 7 ∷ 7 ∷ []
 next_twiddles_row = refl
 
-query_pairs_row : round_pairs {E = ℕ} 0 (13 ∷ 2 ∷ 7 ∷ []) (2 ∷ 1 ∷ 1 ∷ []) (6 ∷ 3 ∷ 4 ∷ []) ≡ (2 ∷ 6 ∷ []) ∷ (3 ∷ 1 ∷ []) ∷ (4 ∷ 1 ∷ []) ∷ []
+query_pairs_row : asked_pairs {E = ℕ} 1 (13 ∷ 2 ∷ 7 ∷ []) (2 ∷ 1 ∷ 1 ∷ []) (6 ∷ 3 ∷ 4 ∷ []) ≡ (2 ∷ 6 ∷ []) ∷ (3 ∷ 1 ∷ []) ∷ (4 ∷ 1 ∷ []) ∷ []
 query_pairs_row = refl
 
 -- query 13 meets entry 3 of the word folded once, and entry 1 of the word folded twice

@@ -125,9 +125,9 @@ fn assert_rounds<F: ComplexExtendable, EF: ExtensionField<F>>(
         assert!(rt; word.len() > 1);
         let beta = word[1];
         let siblings = asked(rt, alloc, round, 1, indices, &word)?;
-        let pairs = query_pairs(alloc, round, indices, values, &siblings)?;
+        let pairs = query_pairs(alloc, round + 1, indices, values, &siblings)?;
         assert_pairs(rt, round, indices, &word, &pairs);
-        fold_query_values(alloc, beta, round, indices, twiddles, values, &siblings)?;
+        fold_query_values(alloc, beta, round + 1, indices, twiddles, values, &siblings)?;
         let rows = rows_of_two(rt, word);
         word = folded::<F, EF>(rt, alloc, beta, log_max_height - 2 - round, &rows)?;
         let expected = asked(rt, alloc, round + 1, 0, indices, &word)?;
