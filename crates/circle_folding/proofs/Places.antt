@@ -1,5 +1,5 @@
 -- The places of queries in words of different lengths, and the points there.
-use Rattle.std.specs.Prelude.{◌≡◌, ℕ, ◌+◌, ◌-◌, ◌*◌, ◌/◌, ◌^◌, ◌<◌, ◌≤◌, Some, slice_get, slice_index_or}
+use Rattle.std.specs.Prelude.{◌≡◌, ℕ, ◌+◌, ◌-◌, ◌/◌, ◌^◌, ◌<◌, ◌≤◌, Some, slice_get, slice_index_or}
 use Rattle.std.proofs.Common.{suc, sym, ◌∙◌, ap, arith}
 use Rattle.std.proofs.Math.Pow.{shr_lt}
 use Rattle.std.proofs.lemmas.Option.{get_or_from_slice_get}

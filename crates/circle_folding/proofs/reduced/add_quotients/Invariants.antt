@@ -1,5 +1,5 @@
-use Rattle.std.proofs.Common.{◌≡◌, ◌≢◌, ◌<◌, ℕ, map, length, slice_index_or}
-use Rattle.circle_field.specs.Circle.{lifted, origin}
+use Rattle.std.proofs.Common.{◌≡◌, ◌≢◌, ◌<◌, ℕ, map, slice_index_or}
+use Rattle.circle_field.specs.Circle.{lifted}
 use Rattle.circle_commit.specs.Mmcs.{opened_rows}
 use Rattle.circle_point.specs.Point.{coordinates}
 use Rattle.circle_domain.specs.Layers.{pairwise}

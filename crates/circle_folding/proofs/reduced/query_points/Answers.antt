@@ -1,4 +1,4 @@
-use Rattle.std.proofs.Common.{◌≡◌, ◌-◌, ◌/◌, ◌++◌, ◌^◌, [], ◌∷◌, ◌∙◌, sym, ap, length, map, take, arith, slice_index_or}
+use Rattle.std.proofs.Common.{◌≡◌, ◌-◌, ◌/◌, ◌++◌, ◌^◌, [], ◌∷◌, ◌∙◌, sym, ap, map, take, arith, slice_index_or}
 use Rattle.std.proofs.lemmas.List.{map-append, map_more, take_all}
 use Rattle.circle_field.specs.Circle.{origin}
 use Rattle.circle_point.specs.Point.{coordinates}
