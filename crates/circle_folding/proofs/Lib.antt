@@ -1,4 +1,5 @@
 pub mod BlockSums
+pub mod FirstLayer
 pub mod Folds
 pub mod Opened
 pub mod Places

@@ -20,7 +20,7 @@ use Rattle.circle_domain.proofs.Layering.{halves, block_starts-halves}
 use Rattle.circle_domain.proofs.Twiddles.{map-map}
 use Rattle.circle_domain.proofs.Written.{length-pairwise, pairwise-read}
 use Rattle.circle_folding.specs.Fold.{x_twiddles, folds, fold_pair}
-use Rattle.circle_folding.specs.Chain.{round_twiddle, pair_of, round_pairs, next_value}
+use Rattle.circle_folding.specs.Chain.{round_twiddle, pair_of, asked_pairs, next_value}
 use Rattle.circle_folding.proofs.Twiddles.{x_factors, length-x_twiddles, x_twiddles-nonzero, x_twiddle-of}
 
 module _ {F : Type 0} (k : FieldOps F) where
@@ -166,37 +166,37 @@ module _ {F : Type 0} {k : FieldOps F} (laws : FieldLaws k) {bits : ℕ} {gen : 
       x_twiddles-nonzero laws gens m (omega (arith, enough, fits)) (q / 2 ^ (r + 2)) k.zero (omega (arith, low, length-x_twiddles k gen m)))
       queries all)
 
-module _ {E : Type 0} (r : ℕ) (queries : List ℕ) (values siblings : List E) (of_values : length values ≡ length queries) (of_siblings : length siblings ≡ length queries) where
+module _ {E : Type 0} (bits : ℕ) (queries : List ℕ) (values siblings : List E) (of_values : length values ≡ length queries) (of_siblings : length siblings ≡ length queries) where
   abbrev begun : List (E → List E)
-  begun = pairwise (λ q. pair_of (q / 2 ^ (r + 1))) queries values
+  begun = pairwise (λ q. pair_of (q / 2 ^ bits)) queries values
 
   length-begun : length begun ≡ length queries
-  length-begun = length-pairwise (λ q. pair_of (q / 2 ^ (r + 1))) queries values (sym of_values)
+  length-begun = length-pairwise (λ q. pair_of (q / 2 ^ bits)) queries values (sym of_values)
 
-  pub length-round_pairs : length (round_pairs r queries values siblings) ≡ length queries
-  length-round_pairs = length-pairwise (λ pair sibling. pair sibling) begun siblings (length-begun ∙ sym of_siblings) ∙ length-begun
+  pub length-asked_pairs : length (asked_pairs bits queries values siblings) ≡ length queries
+  length-asked_pairs = length-pairwise (λ pair sibling. pair sibling) begun siblings (length-begun ∙ sym of_siblings) ∙ length-begun
 
   -- the pair of one query
-  pub round_pairs-read : (i : ℕ) (v s : E) (pair : List E) → i < length queries →
-      slice_index_or (round_pairs r queries values siblings) i pair ≡ pair_of (slice_index_or queries i 0 / 2 ^ (r + 1)) (slice_index_or values i v) (slice_index_or siblings i s)
-  round_pairs-read i v s pair within =
+  pub asked_pairs-read : (i : ℕ) (v s : E) (pair : List E) → i < length queries →
+      slice_index_or (asked_pairs bits queries values siblings) i pair ≡ pair_of (slice_index_or queries i 0 / 2 ^ bits) (slice_index_or values i v) (slice_index_or siblings i s)
+  asked_pairs-read i v s pair within =
       pairwise-read (λ pair sibling. pair sibling) begun siblings i (λ _. pair) s pair (omega (arith, within, length-begun)) (omega (arith, within, of_siblings))
-      ∙ ap (λ p. p (slice_index_or siblings i s)) (pairwise-read (λ q. pair_of (q / 2 ^ (r + 1))) queries values i 0 v (λ _. pair) within (omega (arith, within, of_values)))
+      ∙ ap (λ p. p (slice_index_or siblings i s)) (pairwise-read (λ q. pair_of (q / 2 ^ bits)) queries values i 0 v (λ _. pair) within (omega (arith, within, of_values)))
 
   -- what its value becomes
   pub folds-read : {F : Type 0} (l : FieldOps E) (beta : E) (m : F → E) (twiddles : List F) (i : ℕ) (t : F) (v s d : E) → length twiddles ≡ length queries → i < length queries →
-      slice_index_or (folds l beta (map m twiddles) (round_pairs r queries values siblings)) i d
-      ≡ next_value l beta (m (slice_index_or twiddles i t)) (slice_index_or queries i 0 / 2 ^ (r + 1)) (slice_index_or values i v) (slice_index_or siblings i s)
+      slice_index_or (folds l beta (map m twiddles) (asked_pairs bits queries values siblings)) i d
+      ≡ next_value l beta (m (slice_index_or twiddles i t)) (slice_index_or queries i 0 / 2 ^ bits) (slice_index_or values i v) (slice_index_or siblings i s)
   folds-read l beta m twiddles i t v s d of_twiddles within =
-      let pairs = round_pairs r queries values siblings in
+      let pairs = asked_pairs bits queries values siblings in
       let u = slice_index_or (map m twiddles) i d in
-      pairwise-read (fold_pair l beta) (map m twiddles) pairs i d [] d (omega (arith, within, of_twiddles, length-map twiddles m)) (omega (arith, within, length-round_pairs))
-      ∙ ap (fold_pair l beta u) (round_pairs-read i v s [] within)
-      ∙ ap (λ x. next_value l beta x (slice_index_or queries i 0 / 2 ^ (r + 1)) (slice_index_or values i v) (slice_index_or siblings i s))
+      pairwise-read (fold_pair l beta) (map m twiddles) pairs i d [] d (omega (arith, within, of_twiddles, length-map twiddles m)) (omega (arith, within, length-asked_pairs))
+      ∙ ap (fold_pair l beta u) (asked_pairs-read i v s [] within)
+      ∙ ap (λ x. next_value l beta x (slice_index_or queries i 0 / 2 ^ bits) (slice_index_or values i v) (slice_index_or siblings i s))
       (get_or-map m twiddles i t d (omega (arith, within, of_twiddles)))
 
   pub length-folds : {F : Type 0} (l : FieldOps E) (beta : E) (m : F → E) (twiddles : List F) → length twiddles ≡ length queries →
-      length (folds l beta (map m twiddles) (round_pairs r queries values siblings)) ≡ length queries
+      length (folds l beta (map m twiddles) (asked_pairs bits queries values siblings)) ≡ length queries
   length-folds l beta m twiddles of_twiddles =
-      length-pairwise (fold_pair l beta) (map m twiddles) (round_pairs r queries values siblings) (length-map twiddles m ∙ of_twiddles ∙ sym length-round_pairs)
+      length-pairwise (fold_pair l beta) (map m twiddles) (asked_pairs bits queries values siblings) (length-map twiddles m ∙ of_twiddles ∙ sym length-asked_pairs)
       ∙ length-map twiddles m ∙ of_twiddles

@@ -4,7 +4,7 @@ use Rattle.std.proofs.Common.{zero, suc}
 use Rattle.circle_field.specs.Field.{FieldOps}
 use Rattle.circle_field.specs.Circle.{Coordinates, at, plus}
 use Rattle.circle_folding.specs.Fold.{folds, x_twiddles}
-use Rattle.circle_folding.specs.Chain.{round_twiddle, round_pairs, next_value}
+use Rattle.circle_folding.specs.Chain.{first_layer_twiddle, round_twiddle, asked_pairs, next_value}
 
 abbrev ops : FieldOps ℕ
 ops = record {
@@ -35,15 +35,23 @@ folded_row = refl
 folded_again_row : folds ops 7 (x_twiddles ops gen 1) ((3 ∷ 7 ∷ []) ∷ (26 ∷ 28 ∷ []) ∷ []) ≡ 3 ∷ 5 ∷ []
 folded_again_row = refl
 
--- queries 13, 2 and 7 of 16 ask for the entries 6, 1 and 3 of that word, and then for entries 3, 0 and 1
+-- queries 13, 2 and 7 of 16 ask for the pairs 6, 1 and 3 of the first word of 16 entries, and for 3, 0 and 1 of that of 8
+first_layer_twiddles_row : map (λ h. map (first_layer_twiddle ops gen h 4) (13 ∷ 2 ∷ 7 ∷ [])) (4 ∷ 3 ∷ []) ≡ (10 ∷ 20 ∷ 2 ∷ []) ∷ (7 ∷ 13 ∷ 18 ∷ []) ∷ []
+first_layer_twiddles_row = refl
+
+-- in the rounds they ask for the entries 6, 1 and 3 of that word, and then for entries 3, 0 and 1
 query_twiddles_row : map (round_twiddle ops gen 4 0) (13 ∷ 2 ∷ 7 ∷ []) ≡ 5 ∷ 2 ∷ 11 ∷ []
 query_twiddles_row = refl
 
 next_twiddles_row : map (round_twiddle ops gen 4 1) (13 ∷ 2 ∷ 7 ∷ []) ≡ 13 ∷ 7 ∷ 7 ∷ []
 next_twiddles_row = refl
 
-query_pairs_row : round_pairs {E = ℕ} 0 (13 ∷ 2 ∷ 7 ∷ []) (2 ∷ 1 ∷ 1 ∷ []) (6 ∷ 3 ∷ 4 ∷ []) ≡ (2 ∷ 6 ∷ []) ∷ (3 ∷ 1 ∷ []) ∷ (4 ∷ 1 ∷ []) ∷ []
-query_pairs_row = refl
+asked_pairs_row : asked_pairs {E = ℕ} 1 (13 ∷ 2 ∷ 7 ∷ []) (2 ∷ 1 ∷ 1 ∷ []) (6 ∷ 3 ∷ 4 ∷ []) ≡ (2 ∷ 6 ∷ []) ∷ (3 ∷ 1 ∷ []) ∷ (4 ∷ 1 ∷ []) ∷ []
+asked_pairs_row = refl
+
+-- of a word that has as many entries as there are indices a query is itself the place
+asked_pairs-themselves_row : asked_pairs {E = ℕ} 0 (13 ∷ 2 ∷ 7 ∷ []) (2 ∷ 1 ∷ 1 ∷ []) (6 ∷ 3 ∷ 4 ∷ []) ≡ (6 ∷ 2 ∷ []) ∷ (1 ∷ 3 ∷ []) ∷ (4 ∷ 1 ∷ []) ∷ []
+asked_pairs-themselves_row = refl
 
 -- query 13 meets entry 3 of the word folded once, and entry 1 of the word folded twice
 first_value_row : next_value ops 2 (round_twiddle ops gen 4 0 13) 6 2 6 ≡ 28

@@ -1,19 +1,50 @@
-//! Folding the values that queries ask for, all queries of a round together.
+//! Folding the values that queries ask for, all queries of a word together.
 //!
-//! A query is an index below `2^log_max_height`, the greatest height that is committed. Round `r` folds a
-//! word of `2^(log_max_height - 1 - r)` entries, of which the query asks for the one at place
-//! `index >> (r + 1)`; its pair has the index `index >> (r + 2)`, and its sibling is the other entry of the
-//! pair.
-ghost use Rattle.std.specs.Prelude.{◌≡◌, ◌≢◌, ℕ, ◌+◌, ◌/◌, ◌^◌, ◌<◌, ◌≤◌, [], ◌∷◌, length, map, All, IfOk, OnOk, OnErr, slice_index_or};
+//! A query is an index below `2^log_max_height`, the greatest height that is committed. Of a word of
+//! `2^(log_max_height - bits)` entries it asks for the one at place `index >> bits`; its pair has the index
+//! `index >> (bits + 1)`, and its sibling is the other entry of the pair. Round `r` folds a word of
+//! `2^(log_max_height - 1 - r)` entries, so there `bits` is `r + 1`.
+ghost use Rattle.std.specs.Prelude.{◌≡◌, ◌≢◌, ℕ, ◌+◌, ◌-◌, ◌/◌, ◌^◌, ◌<◌, ◌≤◌, [], ◌∷◌, ◌++◌, length, map, All, IfOk, OnOk, OnErr, slice_index_or};
 ghost use Rattle.circle_commit.specs.Mmcs.{opened_rows};
+ghost use Rattle.circle_point.specs.Point.{coordinates};
+ghost use Rattle.circle_domain.specs.Layers.{pairwise};
 ghost use Rattle.circle_folding.specs.Fold.{folds};
-ghost use Rattle.circle_folding.specs.Chain.{round_twiddle, pair_of, round_pairs, next_value};
+ghost use Rattle.circle_folding.specs.Queries.{query_point};
+ghost use Rattle.circle_folding.specs.Chain.{first_layer_twiddle, round_twiddle, pair_of, asked_pairs, next_value};
 
 use crate::folding::fold_row_with_inv_twiddle;
 use circle_commit::OpenedRows;
 use circle_domain::{CircleDomain, cfft_permute_index};
 use circle_field::{ComplexExtendable, ExtensionField, Field, batch_multiplicative_inverse};
+use circle_point::Point;
 use std::alloc::{AllocError, Global};
+
+/// For each query the twiddle of its pair in a word of the first layer, the y coordinate of the pair's first
+/// point: that of the query's own point, or its opposite where the point stands at an odd place. The place
+/// is the query without its `bits` lowest bits.
+///
+/// Asks a point for each query, and `bits < 63`. Fails where memory is refused.
+pub fn first_layer_twiddles<F: ComplexExtendable>(
+    alloc: Global,
+    bits: usize,
+    indices: &[usize],
+    points: &[Point<F>],
+) -> Result<Vec<F>, AllocError>
+    requires points { length points.now ≡ length indices.now }
+    requires bits { bits < 63 }
+    ensures { IfOk result (λ twiddles. (h high : ℕ) → 1 ≤ h → h ≤ high → h < F.CIRCLE_TWO_ADICITY → bits ≡ high - h → All (λ q. q < 2 ^ high) indices.now →
+        map coordinates points.now ≡ map (query_point F.ops F.generators h high) indices.now →
+        twiddles.items ≡ map (first_layer_twiddle F.ops F.generators h high) indices.now) }
+{
+    let mut twiddles = Vec::with_capacity(alloc, indices.len())?;
+    for (i, index) in indices.iter().enumerate() {
+        let y = points[i].y();
+        let place = *index >> bits;
+        let twiddle = if place % 2 == 0 { y } else { -y };
+        twiddles.push(twiddle)?;
+    }
+    Ok(twiddles)
+}
 
 /// For each query the twiddle of its pair in round 0, the x coordinate that the pair's first entry belongs
 /// to.
@@ -58,39 +89,65 @@ pub fn next_x_twiddles<F: ComplexExtendable>(round: usize, indices: &[usize], tw
     }
 }
 
-/// For each query the one row that the round's commitment is asked for: the pair of the query's value and
-/// its sibling.
+/// For each query the one row that a word's commitment is asked for: the pair of the query's value and its
+/// sibling. The value is the word's entry at the place that the query is without its `bits` lowest bits.
 ///
-/// Asks a value and a sibling for each query, and `round < 62`. Fails where memory is refused.
+/// Asks a value and a sibling for each query, and `bits < 63`. Fails where memory is refused.
 pub fn query_pairs<T: Copy>(
     alloc: Global,
-    round: usize,
+    bits: usize,
     indices: &[usize],
     values: &[T],
     siblings: &[T],
 ) -> Result<OpenedRows<T>, AllocError>
     requires values { length values.now ≡ length indices.now }
     requires siblings { length siblings.now ≡ length indices.now }
-    requires round { round < 62 }
-    ensures { IfOk result (λ rows. opened_rows rows.items ≡ map (λ pair. pair ∷ []) (round_pairs round indices.now values.now siblings.now)) }
+    requires bits { bits < 63 }
+    ensures { IfOk result (λ rows. opened_rows rows.items ≡ map (λ pair. pair ∷ []) (asked_pairs bits indices.now values.now siblings.now)) }
 {
     let mut rows = Vec::with_capacity(alloc, indices.len())?;
-    for (i, index) in indices.iter().enumerate() {
-        let pair = pair_row(alloc, *index >> (round + 1), values[i], siblings[i])?;
-        rows.push(vec![in alloc; pair]?)?;
+    for _ in indices {
+        rows.push(Vec::new(alloc))?;
     }
+    push_query_pairs(alloc, &mut rows, bits, indices, values, siblings)?;
     Ok(rows)
 }
 
-/// Folds each query's pair of this round by `beta`: the values become those of the folded word, to which
-/// whoever calls adds what joins it.
+/// Adds to each query's rows the one that the commitment to one more word is asked for: the pair of the
+/// query's value and its sibling. The value is the word's entry at the place that the query is without its
+/// `bits` lowest bits.
 ///
-/// Asks a twiddle that isn't 0, a value and a sibling for each query, and `round < 62`. Where memory is
+/// Asks a list of rows, a value and a sibling for each query, and `bits < 63`. Where memory is refused the
+/// rows are of no use.
+pub fn push_query_pairs<T: Copy>(
+    alloc: Global,
+    rows: &mut [Vec<Vec<T>>],
+    bits: usize,
+    indices: &[usize],
+    values: &[T],
+    siblings: &[T],
+) -> Result<(), AllocError>
+    requires rows { length rows.old ≡ length indices.now }
+    requires values { length values.now ≡ length indices.now }
+    requires siblings { length siblings.now ≡ length indices.now }
+    requires bits { bits < 63 }
+    ensures { OnOk result (opened_rows rows.new ≡ pairwise (λ rs pair. rs ++ pair ∷ []) (opened_rows rows.old) (asked_pairs bits indices.now values.now siblings.now)) }
+{
+    for (i, row) in rows.iter_mut().enumerate() {
+        row.push(pair_row(alloc, indices[i] >> bits, values[i], siblings[i])?)?;
+    }
+    Ok(())
+}
+
+/// Folds each query's pair by `beta`, where the query without its `bits` lowest bits is the place of its
+/// value: the values become those of the folded word, to which whoever calls adds what joins it.
+///
+/// Asks a twiddle that isn't 0, a value and a sibling for each query, and `bits < 63`. Where memory is
 /// refused the values stay as they were.
 pub fn fold_query_values<F: Field, EF: ExtensionField<F>>(
     alloc: Global,
     beta: EF,
-    round: usize,
+    bits: usize,
     indices: &[usize],
     twiddles: &[F],
     values: &mut [EF],
@@ -100,16 +157,16 @@ pub fn fold_query_values<F: Field, EF: ExtensionField<F>>(
     requires nonzero { All (λ t. t ≢ F.ops.zero) twiddles.now }
     requires values { length values.old ≡ length indices.now }
     requires siblings { length siblings.now ≡ length indices.now }
-    requires round { round < 62 }
-    ensures folded { OnOk result (values.new ≡ folds EF.ops beta (map EF.embed twiddles.now) (round_pairs round indices.now values.old siblings.now)) }
+    requires bits { bits < 63 }
+    ensures folded { OnOk result (values.new ≡ folds EF.ops beta (map EF.embed twiddles.now) (asked_pairs bits indices.now values.old siblings.now)) }
     ensures each { OnOk result ((i : ℕ) (d : EF) → i < length indices.now → slice_index_or values.new i d ≡ next_value EF.ops beta
-        (EF.embed (slice_index_or twiddles.now i F.ops.zero)) (slice_index_or indices.now i 0 / 2 ^ (round + 1))
+        (EF.embed (slice_index_or twiddles.now i F.ops.zero)) (slice_index_or indices.now i 0 / 2 ^ bits)
         (slice_index_or values.old i d) (slice_index_or siblings.now i d)) }
     ensures refused { OnErr result (values.new ≡ values.old) }
 {
     let inverses = batch_multiplicative_inverse(alloc, twiddles)?;
     for (i, value) in values.iter_mut().enumerate() {
-        let (low, high) = ordered(indices[i] >> (round + 1), *value, siblings[i]);
+        let (low, high) = ordered(indices[i] >> bits, *value, siblings[i]);
         *value = fold_row_with_inv_twiddle(inverses[i], beta, low, high);
     }
     Ok(())

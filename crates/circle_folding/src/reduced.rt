@@ -1,16 +1,17 @@
 //! Reduced values: the quotients of the rows that are opened at the queries, under all claims of one height.
 ghost use Rattle.std.specs.Prelude.{◌≡◌, ◌≢◌, ℕ, ◌^◌, ◌<◌, ◌≤◌, [], length, map, All, IsNone, IfSome, IfOk, slice_index_or};
 ghost use Rattle.std.specs.List.{Any, range_with_len};
-ghost use Rattle.circle_field.specs.Field.{nth_power};
+ghost use Rattle.circle_field.specs.Field.{sub, nth_power};
 ghost use Rattle.circle_field.specs.Circle.{lifted};
 ghost use Rattle.circle_commit.specs.Mmcs.{opened_rows};
 ghost use Rattle.circle_point.specs.Point.{coordinates};
+ghost use Rattle.circle_point.specs.Basis.{vanishing};
 ghost use Rattle.circle_domain.specs.Layers.{pairwise};
 ghost use Rattle.circle_folding.specs.Queries.{query_point, rows_of, claim_quotients};
 
 use crate::deep_quotient::deep_quotient_reduce_row;
 use circle_domain::{CircleDomain, cfft_permute_index};
-use circle_field::{ComplexExtendable, ExtensionField};
+use circle_field::{ComplexExtendable, ExtensionField, Field};
 use circle_point::Point;
 use std::alloc::{AllocError, Global};
 
@@ -81,4 +82,23 @@ pub fn add_quotients<F: ComplexExtendable, EF: ExtensionField<F>>(
         *sum = *sum + offset * quotient;
     }
     Some(())
+}
+
+/// Takes from each value `lambda` times `v_n` of its point, the vanishing polynomial of the standard domain
+/// of `2^n` points.
+///
+/// Asks a point for each value, and `n >= 1`. Takes no memory.
+pub fn subtract_vanishing<F: Field, EF: ExtensionField<F>>(
+    lambda: EF,
+    n: usize,
+    points: &[Point<F>],
+    values: &mut [EF],
+)
+    requires points { length points.now ≡ length values.old }
+    requires positive { 1 ≤ n }
+    ensures { values.new ≡ pairwise (λ v p. sub EF.ops v (EF.ops.mul lambda (EF.embed (vanishing F.ops n p)))) values.old (map coordinates points.now) }
+{
+    for (i, value) in values.iter_mut().enumerate() {
+        *value = *value - lambda.times_base(points[i].v_n(n));
+    }
 }

@@ -11,7 +11,7 @@ use std::process::Abort;
 use std::test::Fail;
 
 // All indices below `2^log_max_height`, in no order, and some of them twice.
-fn repeated_indices(alloc: Global, log_max_height: usize) -> Result<Vec<usize>, AllocError>
+pub fn repeated_indices(alloc: Global, log_max_height: usize) -> Result<Vec<usize>, AllocError>
     requires { log_max_height ≤ 8 }
     ensures { IfOk result (λ indices. All (λ q. q < 2 ^ log_max_height) indices.items) }
 {
@@ -24,7 +24,7 @@ fn repeated_indices(alloc: Global, log_max_height: usize) -> Result<Vec<usize>, 
 }
 
 // Entries that follow no pattern.
-fn scattered_word(alloc: Global, len: usize) -> Result<Vec<Cubic>, AllocError> {
+pub fn scattered_word(alloc: Global, len: usize) -> Result<Vec<Cubic>, AllocError> {
     let mut entries = Vec::new(alloc);
     let mut entry = cubic(12, 34, 56);
     for _ in 0..len {
@@ -34,40 +34,42 @@ fn scattered_word(alloc: Global, len: usize) -> Result<Vec<Cubic>, AllocError> {
     Ok(entries)
 }
 
-// The entries of a word that are asked for in this round, or with `flip` 1 their siblings.
-fn asked<EF: Field>(
+// The entries of a word that the indices without so many lowest bits ask for, or with `flip` 1 their
+// siblings.
+pub fn asked<EF: Field>(
     rt: &impl Abort,
     alloc: Global,
-    round: usize,
+    bits: usize,
     flip: usize,
     indices: &[usize],
     word: &[EF],
 ) -> Result<Vec<EF>, AllocError>
     ensures { IfOk result (λ entries. length entries.items ≡ length indices.now) }
 {
-    assert!(rt; round < 62);
+    assert!(rt; bits < 63);
     let mut entries = Vec::with_capacity(alloc, indices.len())?;
     for index in indices {
-        let place = (*index >> (round + 1)) ^ flip;
+        let place = (*index >> bits) ^ flip;
         assert!(rt; place < word.len());
         entries.push(word[place])?;
     }
     Ok(entries)
 }
 
-// Asserts that these are, for each query, the pair of the word that it asks for.
-fn assert_pairs<EF: Field>(
+// Asserts that each query has so many rows, and that its last is the pair of the word that it asks for.
+pub fn assert_pairs<EF: Field>(
     rt: &impl Abort,
-    round: usize,
+    bits: usize,
     indices: &[usize],
     word: &[EF],
-    pairs: &[Vec<Vec<EF>>],
+    count: usize,
+    rows: &[Vec<Vec<EF>>],
 ) {
-    assert!(rt; round < 62 && pairs.len() == indices.len());
+    assert!(rt; bits < 63 && rows.len() == indices.len());
     for (i, index) in indices.iter().enumerate() {
-        let pair = *index >> (round + 2);
-        assert!(rt; pair < word.len() / 2 && pairs[i].len() == 1);
-        assert!(rt; pairs[i][0].as_slice() == &word[2 * pair..2 * pair + 2]);
+        let pair = *index >> (bits + 1);
+        assert!(rt; pair < word.len() / 2 && 0 < count && rows[i].len() == count);
+        assert!(rt; rows[i][count - 1].as_slice() == &word[2 * pair..2 * pair + 2]);
     }
 }
 
@@ -99,7 +101,7 @@ fn assert_queries_fold_alike<F: ComplexExtendable, EF: ExtensionField<F>>(
     requires in_range { All (λ q. q < 2 ^ log_max_height) indices.now }
 {
     let mut twiddles = first_x_twiddles::<F>(alloc, log_max_height, indices)?;
-    let mut values = asked(rt, alloc, 0, 0, indices, &word)?;
+    let mut values = asked(rt, alloc, 1, 0, indices, &word)?;
     let (twiddles, values) = (&mut twiddles, &mut values);
     assert_rounds::<F, EF>(rt, alloc, log_max_height, indices, twiddles, values, word)
 }
@@ -124,13 +126,13 @@ fn assert_rounds<F: ComplexExtendable, EF: ExtensionField<F>>(
     for round in 0..log_max_height - 2 {
         assert!(rt; word.len() > 1);
         let beta = word[1];
-        let siblings = asked(rt, alloc, round, 1, indices, &word)?;
-        let pairs = query_pairs(alloc, round, indices, values, &siblings)?;
-        assert_pairs(rt, round, indices, &word, &pairs);
-        fold_query_values(alloc, beta, round, indices, twiddles, values, &siblings)?;
+        let siblings = asked(rt, alloc, round + 1, 1, indices, &word)?;
+        let pairs = query_pairs(alloc, round + 1, indices, values, &siblings)?;
+        assert_pairs(rt, round + 1, indices, &word, 1, &pairs);
+        fold_query_values(alloc, beta, round + 1, indices, twiddles, values, &siblings)?;
         let rows = rows_of_two(rt, word);
         word = folded::<F, EF>(rt, alloc, beta, log_max_height - 2 - round, &rows)?;
-        let expected = asked(rt, alloc, round + 1, 0, indices, &word)?;
+        let expected = asked(rt, alloc, round + 2, 0, indices, &word)?;
         assert!(rt; &*values == expected.as_slice());
         next_x_twiddles(round, indices, twiddles);
     }

@@ -1,41 +1,49 @@
-use Rattle.std.proofs.Common.{◌≡◌, ◌+◌, ◌/◌, ◌^◌, ◌<◌, ◌++◌, [], ◌∷◌, ◌∙◌, List, sym, ap, length, map, take, slice_index_or, arith}
-use Rattle.std.proofs.lemmas.List.{take_more, take_all, map-append, length-map, get_or-map}
+use Rattle.std.proofs.Common.{◌≡◌, ℕ, ◌++◌, [], ◌∷◌, ◌∙◌, List, Vec, Global, sym, ap, length, map, take, drop}
+use Rattle.std.proofs.lemmas.List.{take_all, map-append, map_more, length-map}
 use Rattle.circle_commit.specs.Mmcs.{opened_rows}
-use Rattle.circle_folding.specs.Chain.{pair_of, round_pairs}
-use Rattle.circle_folding.proofs.Queries.{length-round_pairs, round_pairs-read}
+use Rattle.circle_domain.specs.Layers.{pairwise}
+use Rattle.circle_field.proofs.Inverses.{take-whole}
+use Rattle.circle_folding.specs.Chain.{asked_pairs}
+use Rattle.circle_folding.proofs.FirstLayer.{pushed-onto_nothing}
+use Rattle.circle_folding.proofs.Queries.{length-asked_pairs}
 use Rattle.circle_folding.proofs.query.query_pairs.Goals as goal
 
-pub loop-i-preserved : goal.loop-i-preserved
-loop-i-preserved g c =
-    let r = c.args.round in
+pub loop-preserved : goal.loop-preserved
+loop-preserved g c =
+    let T = g.row.T.Denot in
+    let none : ℕ → List (List T) = λ _. [] in
+    let entries : Vec (Vec T Global) Global → List (List T) = λ rows. map (λ row. row.items) rows.items in
+    let i = c.loop.index in
     let qs = c.args.indices.now in
-    let vs = c.args.values.now in
-    let ss = c.args.siblings.now in
-    let i = c.loop-i.i in
-    let v = c.index-values-i.result in
-    let s = c.index-siblings-i.result in
-    let row = c.in_ok-pair.pair.items in
-    let pairs = round_pairs r qs vs ss in
-    let one = λ (pair : List g.row.T.Denot). pair ∷ [] in
-    let within : i < length pairs = omega (arith, c.loop-i-test.true, length-round_pairs r qs vs ss c.requires.values c.requires.siblings) in
-    let is_pair : row ≡ slice_index_or pairs i row =
-    c.in_ok-pair.ensures ∙ ap (λ x. pair_of (slice_index_or qs i 0 / 2 ^ (r + 1)) x s) c.index-values-i.is
-    ∙ ap (pair_of (slice_index_or qs i 0 / 2 ^ (r + 1)) (slice_index_or vs i v)) c.index-siblings-i.is
-    ∙ sym (round_pairs-read r qs vs ss c.requires.values c.requires.siblings i v s row c.loop-i-test.true) in
-    let held : map (λ row. row.items) c.in_ok-vec.field-0.items ≡ one row = ap (map (λ row. row.items)) c.in_ok-vec.ensures.items in
-    ap opened_rows c.in_ok-push.ensures.items
-    ∙ map-append (λ rows. map (λ row. row.items) rows.items) c.loop-i.rows.items (c.in_ok-vec.field-0 ∷ [])
-    ∙ ap (λ before. before ++ map (λ row. row.items) c.in_ok-vec.field-0.items ∷ []) c.loop-i.invariant
-    ∙ ap (λ x. take i (map one pairs) ++ x ∷ []) (held ∙ ap one is_pair ∙ sym (get_or-map one pairs i row (one row) within))
-    ∙ sym (take_more (map one pairs) i (one row) (omega (arith, within, length-map pairs one)))
+    ap opened_rows c.in_ok-push.ensures.items ∙ map-append entries c.loop.rows.items (c.new.result ∷ [])
+    ∙ ap (λ rows. rows ++ entries c.new.result ∷ []) c.loop.invariant
+    ∙ ap (λ rows. map none (take i qs) ++ map (λ (row : Vec T Global). row.items) rows ∷ []) c.new.ensures.items
+    ∙ sym (map_more none qs i 0 c.loop-test.true)
+
+pub push_query_pairs-requires-clause-rows : goal.push_query_pairs-requires-clause-rows
+push_query_pairs-requires-clause-rows g c =
+    let T = g.row.T.Denot in
+    let none : ℕ → List (List T) = λ _. [] in
+    let entries : Vec (Vec T Global) Global → List (List T) = λ rows. map (λ row. row.items) rows.items in
+    let qs = c.args.indices.now in
+    let all : opened_rows c.loop.rows.items ≡ map none qs = c.loop.invariant ∙ ap (map none) (take_all c.loop.index qs c.loop-test.false) in
+    ap length c.deref_mut.ensures.value ∙ sym (length-map c.loop.rows.items entries) ∙ ap length all ∙ length-map qs none
 
 pub returns : goal.returns
 returns g c =
-    let r = c.args.round in
+    let T = g.row.T.Denot in
+    let none : ℕ → List (List T) = λ _. [] in
+    let bits = c.args.bits in
     let qs = c.args.indices.now in
-    let vs = c.args.values.now in
-    let ss = c.args.siblings.now in
-    let pairs = round_pairs r qs vs ss in
-    let counted = length-round_pairs r qs vs ss c.requires.values c.requires.siblings in
-    let one = λ (pair : List g.row.T.Denot). pair ∷ [] in
-    c.loop-i.invariant ∙ take_all c.loop-i.i (map one pairs) (omega (arith, c.loop-i-test.false, counted, length-map pairs one))
+    let rows = c.loop.rows.items in
+    let new = c.push_query_pairs.new.rows in
+    let pairs = asked_pairs bits qs c.args.values.now c.args.siblings.now in
+    let f = λ (rs : List (List T)) (pair : List T). rs ++ pair ∷ [] in
+    let all : opened_rows rows ≡ map none qs = c.loop.invariant ∙ ap (map none) (take_all c.loop.index qs c.loop-test.false) in
+    let pushed : opened_rows new ≡ map (λ pair. pair ∷ []) pairs =
+    c.in_ok-push_query_pairs.ensures
+    ∙ ap (λ xs. pairwise f (opened_rows xs) pairs) c.deref_mut.ensures.value ∙ ap (λ xs. pairwise f xs pairs) all
+    ∙ pushed-onto_nothing qs pairs (length-asked_pairs bits qs c.args.values.now c.args.siblings.now c.requires.values c.requires.siblings) in
+    let same : take c.loop.rows.len (new ++ drop (length new) rows) ≡ new =
+    take-whole c.loop.rows.len new rows c.loop.rows.ok.0 (c.push_query_pairs.auto.rows ∙ ap length c.deref_mut.ensures.value) in
+    ap opened_rows same ∙ pushed

@@ -1,7 +1,6 @@
-use Rattle.std.proofs.Common.{◌≡◌, [], ◌∷◌, map, take}
+use Rattle.std.proofs.Common.{◌≡◌, [], map, take}
 use Rattle.circle_commit.specs.Mmcs.{opened_rows}
-use Rattle.circle_folding.specs.Chain.{round_pairs}
 use Rattle.circle_folding.proofs.query.query_pairs.Given as goal
 
-abbrev pub invariant-loop-i : goal.invariant-loop-i
-invariant-loop-i g l = opened_rows l.rows.items ≡ take l.i (map (λ pair. pair ∷ []) (round_pairs l.round l.indices l.values l.siblings))
+abbrev pub invariant-loop : goal.invariant-loop
+invariant-loop g l = opened_rows l.rows.items ≡ map (λ _. []) (take l.index l.indices)
