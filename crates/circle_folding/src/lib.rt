@@ -12,14 +12,9 @@ mod tests;
 
 pub use deep_quotient::{deep_quotient_reduce_row, extract_lambda};
 pub use folding::{fold_row_with_inv_twiddle, fold_x, fold_x_row, fold_y};
-<<<<<<< HEAD
-pub use query::{first_x_twiddles, fold_query_values, next_x_twiddles, query_pairs};
-pub use reduced::{add_quotients, query_points};
-pub use strategy::CircleFriFolding;
-=======
 pub use query::{
     first_layer_twiddles, first_x_twiddles, fold_query_values, next_x_twiddles, push_query_pairs,
     query_pairs,
 };
 pub use reduced::{add_quotients, query_points, subtract_vanishing};
->>>>>>> h4
+pub use strategy::CircleFriFolding;
