@@ -6,6 +6,7 @@ pub mod proof;
 #[cfg(test)]
 mod tests;
 pub mod transcript;
+pub mod verifier;
 
 pub use circle_folding::{
     CircleFriFolding, deep_quotient_reduce_row, extract_lambda, fold_x, fold_x_row, fold_y,

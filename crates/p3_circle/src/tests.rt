@@ -1,3 +1,4 @@
 //! Tests of the scheme's declarations.
 
 mod refusals;
+mod shapes;

@@ -1,0 +1,62 @@
+-- What is refused of a proof before the challenger is seeded, in order.
+use Rattle.std.specs.Prelude.{ℕ, ◌+◌, ◌==◌, Bool, not, ◌&&◌, if◌then◌else◌, List, [], ◌∷◌, ◌++◌, length, map, Result, Ok, Err, nat_lt}
+use Rattle.std.specs.List.{list_all}
+use Rattle.circle_commit.specs.declared.error.FriError.{FriError}
+use Rattle.circle_commit.specs.declared.error.FriError.TheVariants.{UnsupportedGrinding, ZeroQueries, ZeroBlowup, UnsupportedFoldingCap, CommitRoundCountMismatch, CommitPowWitnessCountMismatch, NonCanonicalPowWitness, CommitPhaseOpeningsCountMismatch, CommitPhaseQueryCountMismatch, SiblingValuesLengthMismatch}
+use Rattle.circle_commit.specs.declared.params.FriParameters.{FriParameters}
+use Rattle.circle_commit.specs.declared.params.PowPhase.{PowPhase}
+use Rattle.circle_commit.specs.declared.params.PowPhase.TheVariants.{Batch, CommitPhase, Query}
+
+-- a refusal, and whether there is reason for it
+abbrev pub Test : Type 0 → Type 0
+Test E = Bool × E
+
+-- the answer after tests: the first refusal that there is reason for, or the value where there is none
+unfoldable pub answer : {A E : Type 0} → List (Test E) → A → Result A E
+answer [] value = Ok value
+answer (test ∷ tests) value = if test.0 then Err test.1 else answer tests value
+
+module _ {C I : Type 0} where
+  -- a difficulty past 30 bits
+  abbrev pub grinding_test : PowPhase → ℕ → Test (FriError C I)
+  grinding_test phase bits = (nat_lt 30 bits, UnsupportedGrinding phase bits)
+
+  -- the parameters
+  abbrev pub parameter_tests : {M : Type 0} → FriParameters M → List (Test (FriError C I))
+  parameter_tests p =
+      grinding_test Batch p.batch_proof_of_work_bits
+      ∷ grinding_test CommitPhase p.commit_proof_of_work_bits
+      ∷ grinding_test Query p.query_proof_of_work_bits
+      ∷ (p.num_queries == 0, ZeroQueries)
+      ∷ (p.log_blowup == 0, ZeroBlowup)
+      ∷ (not (p.max_log_arity == 1), UnsupportedFoldingCap p.max_log_arity)
+      ∷ []
+
+  -- witnesses of a proof of work without difficulty that aren't zero
+  abbrev pub witness_test : PowPhase → ℕ → Bool → Test (FriError C I)
+  witness_test phase bits are_zero = (bits == 0 && not are_zero, NonCanonicalPowWitness phase)
+
+  -- the queries of a round, told by the numbers of their siblings
+  abbrev pub sibling_tests : ℕ → List ℕ → List (Test (FriError C I))
+  sibling_tests round siblings = map (λ got. (not (got == 1), SiblingValuesLengthMismatch round 1 got)) siblings
+
+  abbrev pub round_tests : ℕ → ℕ → List ℕ → List (Test (FriError C I))
+  round_tests queries round siblings =
+      (not (length siblings == queries), CommitPhaseQueryCountMismatch round queries (length siblings))
+      ∷ sibling_tests round siblings
+
+  -- the rounds from one on
+  unfoldable pub rounds_tests : ℕ → ℕ → List (List ℕ) → List (Test (FriError C I))
+  rounds_tests queries round [] = []
+  rounds_tests queries round (siblings ∷ rest) = round_tests queries round siblings ++ rounds_tests queries (round + 1) rest
+
+  -- the shape of a proof where so many rounds are due: the number of commitments of rounds, their
+  -- witnesses, that of the queries, and for each round and query the number of siblings
+  abbrev pub shape_tests : {M W : Type 0} → (W → Bool) → FriParameters M → ℕ → ℕ → List W → W → List (List ℕ) → List (Test (FriError C I))
+  shape_tests is_zero p rounds commits witnesses query_witness siblings =
+      (not (commits == rounds), CommitRoundCountMismatch rounds commits)
+      ∷ (not (length witnesses == rounds), CommitPowWitnessCountMismatch rounds (length witnesses))
+      ∷ witness_test CommitPhase p.commit_proof_of_work_bits (list_all is_zero witnesses)
+      ∷ witness_test Query p.query_proof_of_work_bits (is_zero query_witness)
+      ∷ (not (length siblings == rounds), CommitPhaseOpeningsCountMismatch rounds (length siblings))
+      ∷ rounds_tests p.num_queries 0 siblings
