@@ -1,8 +1,9 @@
 -- What is refused of a proof before the challenger is seeded, in order.
 use Rattle.std.specs.Prelude.{ℕ, ◌+◌, ◌==◌, Bool, not, ◌&&◌, if◌then◌else◌, List, [], ◌∷◌, ◌++◌, length, map, Result, Ok, Err, nat_lt}
-use Rattle.std.specs.List.{list_all}
+use Rattle.std.specs.List.{list_all, list_any}
 use Rattle.circle_commit.specs.declared.error.FriError.{FriError}
-use Rattle.circle_commit.specs.declared.error.FriError.TheVariants.{UnsupportedGrinding, ZeroQueries, ZeroBlowup, UnsupportedFoldingCap, CommitRoundCountMismatch, CommitPowWitnessCountMismatch, NonCanonicalPowWitness, CommitPhaseOpeningsCountMismatch, CommitPhaseQueryCountMismatch, SiblingValuesLengthMismatch}
+use Rattle.circle_commit.specs.declared.error.FriError.TheVariants.{UnsupportedGrinding, ZeroQueries, ZeroBlowup, UnsupportedFoldingCap, CommitRoundCountMismatch, CommitPowWitnessCountMismatch, NonCanonicalPowWitness, CommitPhaseOpeningsCountMismatch, CommitPhaseQueryCountMismatch, SiblingValuesLengthMismatch, PointAtInfinity}
+use Rattle.circle_commit.specs.declared.pcs.CommitmentOpening.{CommitmentOpening}
 use Rattle.circle_commit.specs.declared.params.FriParameters.{FriParameters}
 use Rattle.circle_commit.specs.declared.params.PowPhase.{PowPhase}
 use Rattle.circle_commit.specs.declared.params.PowPhase.TheVariants.{Batch, CommitPhase, Query}
@@ -60,3 +61,11 @@ module _ {C I : Type 0} where
       ∷ witness_test Query p.query_proof_of_work_bits (is_zero query_witness)
       ∷ (not (length siblings == rounds), CommitPhaseOpeningsCountMismatch rounds (length siblings))
       ∷ rounds_tests p.num_queries 0 siblings
+
+  -- the witness of the proof of work before the batching challenge, and the claimed points
+  abbrev pub point_tests : {M : Type 0} → FriParameters M → Bool → Bool → List (Test (FriError C I))
+  point_tests p is_zero some_at_infinity = witness_test Batch p.batch_proof_of_work_bits is_zero ∷ (some_at_infinity, PointAtInfinity) ∷ []
+
+-- whether some claimed coordinate passes a test
+abbrev pub some_point : {E Com D : Type 0} → (E → Bool) → List (CommitmentOpening E Com D) → Bool
+some_point passes claims = list_any (λ b. list_any (λ m. list_any (λ p. passes p.point) m.points.items) b.matrices.items) claims

@@ -1,10 +1,12 @@
 //! What is refused of a proof before the challenger is seeded.
 ghost use Rattle.std.specs.Prelude.{◌≡◌, [], ◌∷◌, map, vec_len};
-ghost use Rattle.std.specs.List.{list_all};
-ghost use Rattle.p3_circle.specs.Refusals.{answer, grinding_test, parameter_tests, witness_test, sibling_tests, round_tests, rounds_tests, shape_tests};
+ghost use Rattle.std.specs.List.{list_all, list_any};
+ghost use Rattle.p3_circle.specs.Refusals.{answer, grinding_test, parameter_tests, witness_test, sibling_tests, round_tests, rounds_tests, shape_tests, point_tests, some_point};
 
 use crate::proof::{CircleCommitPhaseMultiStep, CircleFriProof};
-use circle_commit::{FriError, FriParameters, Mmcs, PowPhase};
+use circle_commit::{
+    CommitmentOpening, FriError, FriParameters, MatrixOpening, Mmcs, PointOpening, PowPhase,
+};
 use circle_field::Field;
 
 /// The greatest difficulty, in bits, of a proof of work that is supported.
@@ -173,4 +175,63 @@ pub fn validate_proof_shape<F: Field, M: Mmcs<F>, Witness: Field, InputProof, In
         return Err(FriError::CommitPhaseOpeningsCountMismatch { expected, got });
     }
     check_rounds(params.num_queries, &proof.commit_phase_openings)
+}
+
+// Whether the coordinate is that of a point at infinity: `t^2 = -1`.
+fn is_at_infinity<F: Field>(t: &F) -> bool
+    ensures { result ≡ F.eq (F.ops.mul t.now t.now) (F.ops.neg F.ops.one) }
+{
+    t.square() == -F::ONE
+}
+
+// Whether a matrix is claimed at infinity.
+fn matrix_at_infinity<F: Field>(points: &[PointOpening<F>]) -> bool
+    ensures { result ≡ list_any (λ p. F.eq (F.ops.mul p.point p.point) (F.ops.neg F.ops.one)) points.now }
+{
+    points.iter().any(|p| is_at_infinity(&p.point))
+}
+
+// Whether a matrix of a batch is claimed at infinity.
+fn batch_at_infinity<F: Field, D>(matrices: &[MatrixOpening<F, D>]) -> bool
+    ensures { result ≡ list_any (λ m. list_any (λ p. F.eq (F.ops.mul p.point p.point) (F.ops.neg F.ops.one)) m.points.items) matrices.now }
+{
+    matrices.iter().any(|m| matrix_at_infinity(&m.points))
+}
+
+// Whether some claimed point is at infinity.
+fn some_at_infinity<F: Field, Commitment, D>(claims: &[CommitmentOpening<F, Commitment, D>]) -> bool
+    ensures { result ≡ some_point (λ t. F.eq (F.ops.mul t t) (F.ops.neg F.ops.one)) claims.now }
+{
+    claims.iter().any(|b| batch_at_infinity(&b.matrices))
+}
+
+// Whether the witness is zero.
+fn is_zero<Witness: Field>(witness: &Witness) -> bool
+    ensures { result ≡ Witness.eq witness.now Witness.ZERO }
+{
+    *witness == Witness::ZERO
+}
+
+/// Refuses a witness of the batching challenge and claimed points, by the first of these that holds.
+///
+/// - `NonCanonicalPowWitness` where the witness isn't zero though its proof of work has no difficulty.
+/// - `PointAtInfinity` where a claimed coordinate `t` has `t^2 = -1`, so that it belongs to no point.
+#[tactic(auto, unfolding(crate::specs::Refusals::answer))]
+pub fn validate_points<F: Field, Commitment, D, M, Witness: Field, CommitErr, InputErr>(
+    params: &FriParameters<M>,
+    batch_pow_witness: &Witness,
+    claims: &[CommitmentOpening<F, Commitment, D>],
+) -> Result<(), FriError<CommitErr, InputErr>>
+    ensures { result ≡ answer (point_tests params.now (Witness.eq batch_pow_witness.now Witness.ZERO)
+        (some_point (λ t. F.eq (F.ops.mul t t) (F.ops.neg F.ops.one)) claims.now)) tt }
+{
+    check_witnesses(
+        PowPhase::Batch,
+        params.batch_proof_of_work_bits,
+        is_zero(batch_pow_witness),
+    )?;
+    if some_at_infinity(claims) {
+        return Err(FriError::PointAtInfinity);
+    }
+    Ok(())
 }

@@ -1,9 +1,12 @@
 //! Refusals of parameters, and of proofs by their shape.
 ghost use Rattle.std.specs.Prelude.{◌≡◌, true, IsOk, IsErr};
 
-use crate::verifier::{validate_parameters, validate_proof_shape};
+use crate::verifier::{validate_parameters, validate_points, validate_proof_shape};
 use crate::{CircleCommitPhaseMultiStep, CircleFriProof};
-use circle_commit::{Dimensions, FriError, FriParameters, Mmcs, OpenedRows, RowMajorMatrix};
+use circle_commit::{
+    CommitmentOpening, Dimensions, FriError, FriParameters, MatrixOpening, Mmcs, OpenedRows,
+    PointOpening, RowMajorMatrix,
+};
 use circle_field::{Cubic, Field, Mersenne31};
 use std::alloc::{AllocError, Global};
 use std::fmt::InlineText;
@@ -245,5 +248,41 @@ fn queries_and_siblings_of_rounds(rt: HostRuntime) -> Result<(), Fail> {
     assert_shape(&rt, [0; 3], two_rounds(alloc, 3, 2)?, 2, queries);
     let siblings = "a query of round 1 has 2 siblings, and 1 are due";
     assert_shape(&rt, [0; 3], two_rounds(alloc, 2, 2)?, 2, siblings);
+    Ok(())
+}
+
+// Asserts what is answered to a claim at the coordinate 1, with this witness of the batching challenge.
+fn assert_point(
+    rt: &impl Abort,
+    alloc: Global,
+    bits: usize,
+    witness: u64,
+    expected: &str,
+) -> Result<(), AllocError> {
+    let mut points = Vec::new(alloc);
+    points.push(PointOpening {
+        point: Cubic::ONE,
+        values: Vec::new(alloc),
+    })?;
+    let mut matrices = Vec::new(alloc);
+    matrices.push(MatrixOpening { domain: (), points })?;
+    let claims = [CommitmentOpening {
+        commitment: (),
+        matrices,
+    }];
+    let params = parameters([bits, 0, 0]);
+    let witness = Mersenne31::from_u64(witness);
+    let answer = validate_points(&params, &witness, &claims);
+    assert_answer(rt, answer, expected);
+    Ok(())
+}
+
+#[test]
+fn the_witness_before_the_batching_challenge(rt: HostRuntime) -> Result<(), Fail> {
+    let alloc = rt.alloc();
+    assert_point(&rt, alloc, 0, 0, "")?;
+    assert_point(&rt, alloc, 1, 7, "")?;
+    let batch = "a witness of a proof of work without difficulty is not zero (batch)";
+    assert_point(&rt, alloc, 0, 7, batch)?;
     Ok(())
 }
