@@ -24,6 +24,8 @@ pub mod schemes;
 #[cfg(test)]
 mod selectors;
 #[cfg(test)]
+mod shapes;
+#[cfg(test)]
 mod transform;
 #[cfg(test)]
 mod values;

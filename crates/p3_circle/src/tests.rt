@@ -1,4 +1,3 @@
 //! Tests of the scheme's declarations.
 
 mod refusals;
-mod shapes;

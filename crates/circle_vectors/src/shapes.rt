@@ -1,103 +1,20 @@
 //! Refusals of parameters, and of proofs by their shape.
-ghost use Rattle.std.specs.Prelude.{◌≡◌, true, IsOk, IsErr};
-
-use crate::verifier::{validate_parameters, validate_points, validate_proof_shape};
-use crate::{CircleCommitPhaseMultiStep, CircleFriProof};
-use circle_commit::{
-    CommitmentOpening, Dimensions, FriError, FriParameters, MatrixOpening, Mmcs, OpenedRows,
-    PointOpening, RowMajorMatrix,
-};
+use crate::schemes::{Nothing, TrustingMmcs};
+use circle_commit::{CommitmentOpening, FriError, FriParameters, MatrixOpening, PointOpening};
 use circle_field::{Cubic, Field, Mersenne31};
+use p3_circle::verifier::{validate_parameters, validate_points, validate_proof_shape};
+use p3_circle::{CircleCommitPhaseMultiStep, CircleFriProof};
 use std::alloc::{AllocError, Global};
 use std::fmt::InlineText;
 use std::process::Abort;
 use std::test::Fail;
 
-// A scheme that commits to nothing.
-#[derive(Clone, Copy)]
-struct NoScheme;
-
-// What can't be.
-#[derive(Debug, Drop)]
-enum Never {}
-
-impl<T: Copy> Mmcs<T> for NoScheme {
-    type Commitment = ();
-
-    type ProverData = Never;
-
-    type MultiProof = ();
-
-    type Error = AllocError;
-
-    ghost matrices = { λ d. elim d [ ] };
-
-    ghost commits = { λ s matrices commitment. Unit {0} };
-
-    ghost authenticates = { λ s commitment dims indices opened proof. Unit {0} };
-
-    ghost is_memory = { λ error. true };
-
-    ghost some_matrix = { λ d. elim d [ ] };
-
-    ghost powers_of_two = { λ d. elim d [ ] };
-
-    fn commit(
-        &self,
-        _alloc: Global,
-        _inputs: Vec<RowMajorMatrix<T>>,
-    ) -> Result<((), Never), AllocError>
-        ensures { IsErr result }
-    {
-        Err(AllocError)
-    }
-
-    fn get_matrices<'a>(&self, prover_data: &'a Never) -> &'a [RowMajorMatrix<T>] {
-        match *prover_data {}
-    }
-
-    fn get_max_height(&self, prover_data: &Never) -> usize {
-        match *prover_data {}
-    }
-
-    fn open_multi_batch(
-        &self,
-        _alloc: Global,
-        _indices: &[usize],
-        _prover_data: &Never,
-    ) -> Result<(OpenedRows<T>, ()), AllocError>
-        ensures { IsErr result }
-    {
-        Err(AllocError)
-    }
-
-    fn verify_multi_batch(
-        &self,
-        _alloc: Global,
-        _commitment: &(),
-        _dimensions: &[Dimensions],
-        _indices: &[usize],
-        _opened_values: &[Vec<Vec<T>>],
-        _proof: &(),
-    ) -> Result<(), AllocError>
-        ensures { IsOk result }
-    {
-        Ok(())
-    }
-
-    fn is_memory(_error: &AllocError) -> bool
-        ensures { result ≡ true }
-    {
-        true
-    }
-}
-
 type Refusal = FriError<AllocError, AllocError>;
 
-type Proof = CircleFriProof<Cubic, NoScheme, Mersenne31, ()>;
+type Proof = CircleFriProof<Cubic, TrustingMmcs, Mersenne31, ()>;
 
 // Parameters of two queries, with proofs of work of so many bits in the order of the run.
-fn parameters(bits: [usize; 3]) -> FriParameters<NoScheme> {
+fn parameters(bits: [usize; 3]) -> FriParameters<TrustingMmcs> {
     FriParameters {
         log_blowup: 1,
         max_log_arity: 1,
@@ -105,7 +22,7 @@ fn parameters(bits: [usize; 3]) -> FriParameters<NoScheme> {
         batch_proof_of_work_bits: bits[0],
         commit_proof_of_work_bits: bits[1],
         query_proof_of_work_bits: bits[2],
-        mmcs: NoScheme,
+        mmcs: TrustingMmcs,
     }
 }
 
@@ -121,8 +38,8 @@ fn assert_answer(rt: &impl Abort, answer: Result<(), Refusal>, expected: &str) {
 }
 
 // Asserts what is answered to these parameters.
-fn assert_parameters(rt: &impl Abort, params: FriParameters<NoScheme>, expected: &str) {
-    let answer = validate_parameters::<NoScheme, AllocError, AllocError>(&params);
+fn assert_parameters(rt: &impl Abort, params: FriParameters<TrustingMmcs>, expected: &str) {
+    let answer = validate_parameters::<TrustingMmcs, AllocError, AllocError>(&params);
     assert_answer(rt, answer, expected);
 }
 
@@ -167,14 +84,14 @@ fn round(
     alloc: Global,
     queries: usize,
     siblings: usize,
-) -> Result<CircleCommitPhaseMultiStep<Cubic, NoScheme>, AllocError> {
+) -> Result<CircleCommitPhaseMultiStep<Cubic, TrustingMmcs>, AllocError> {
     let mut sibling_values = Vec::new(alloc);
     for _ in 0..queries {
         sibling_values.push(copies(alloc, Cubic::ZERO, siblings)?)?;
     }
     Ok(CircleCommitPhaseMultiStep {
         sibling_values,
-        opening_proof: (),
+        opening_proof: Nothing,
     })
 }
 
@@ -183,7 +100,7 @@ fn proof(alloc: Global, witnesses: [u64; 2]) -> Result<Proof, AllocError> {
     let mut openings = Vec::new(alloc);
     openings.push(round(alloc, 2, 1)?)?;
     Ok(CircleFriProof {
-        commit_phase_commits: copies(alloc, (), 1)?,
+        commit_phase_commits: copies(alloc, Nothing, 1)?,
         commit_pow_witnesses: copies(alloc, Mersenne31::from_u64(witnesses[0]), 1)?,
         input_openings: (),
         commit_phase_openings: openings,
@@ -195,7 +112,7 @@ fn proof(alloc: Global, witnesses: [u64; 2]) -> Result<Proof, AllocError> {
 // Asserts what is answered to a proof under proofs of work of so many bits, where so many rounds are due.
 fn assert_shape(rt: &impl Abort, bits: [usize; 3], proof: Proof, rounds: usize, expected: &str) {
     let params = parameters(bits);
-    let answer = validate_proof_shape::<Cubic, NoScheme, Mersenne31, (), AllocError>(
+    let answer = validate_proof_shape::<Cubic, TrustingMmcs, Mersenne31, (), AllocError>(
         &params, &proof, rounds,
     );
     assert_answer(rt, answer, expected);
@@ -219,11 +136,11 @@ fn numbers_of_rounds(rt: HostRuntime) -> Result<(), Fail> {
     let commits = "the proof commits to 1 rounds, and 2 are due";
     assert_shape(&rt, [0; 3], proof(alloc, [5, 6])?, 2, commits);
     let mut more = proof(alloc, [0, 0])?;
-    more.commit_phase_commits.push(())?;
+    more.commit_phase_commits.push(Nothing)?;
     let witnesses = "the proof has witnesses for 1 rounds, and 2 are due";
     assert_shape(&rt, [0; 3], more, 2, witnesses);
     let mut more = proof(alloc, [0, 0])?;
-    more.commit_phase_commits.push(())?;
+    more.commit_phase_commits.push(Nothing)?;
     more.commit_pow_witnesses.push(Mersenne31::ZERO)?;
     let openings = "the proof opens 1 rounds, and 2 are due";
     assert_shape(&rt, [0; 3], more, 2, openings);
@@ -233,7 +150,7 @@ fn numbers_of_rounds(rt: HostRuntime) -> Result<(), Fail> {
 // A proof of two rounds, the second opened at so many queries with so many siblings.
 fn two_rounds(alloc: Global, queries: usize, siblings: usize) -> Result<Proof, AllocError> {
     let mut more = proof(alloc, [0, 0])?;
-    more.commit_phase_commits.push(())?;
+    more.commit_phase_commits.push(Nothing)?;
     more.commit_pow_witnesses.push(Mersenne31::ZERO)?;
     more.commit_phase_openings
         .push(round(alloc, queries, siblings)?)?;
