@@ -19,7 +19,7 @@ use std::alloc::{AllocError, Global};
 /// `2^log_max_height` without its lowest `log_max_height - log_height` bits is a place in the order of the
 /// transform.
 ///
-/// Asks `1 <= log_height <= log_max_height`, `log_height < CIRCLE_TWO_ADICITY`, and queries below
+/// Asks `1 <= log_height <= log_max_height <= 62`, `log_height < CIRCLE_TWO_ADICITY`, and queries below
 /// `2^log_max_height`. Fails where memory is refused.
 pub fn query_points<F: ComplexExtendable>(
     alloc: Global,
