@@ -12,6 +12,8 @@ pub mod LagrangePolynomials
 pub mod LagrangeQuotients
 pub mod LagrangeShares
 pub mod LagrangeValues
+pub mod LayerFactors
+pub mod Layered
 pub mod Layering
 pub mod Lifted
 pub mod LiftedValues
@@ -35,6 +37,7 @@ pub mod StandardDomain
 pub mod Stored
 pub mod Transform
 pub mod Twiddles
+pub mod TwoPowers
 pub mod Undoing
 pub mod Walking
 pub mod Written

@@ -14,7 +14,7 @@ use Rattle.circle_domain.proofs.Powers.{log_of_power, pow_within}
 use Rattle.circle_domain.proofs.StandardDomain.{standard-genuine}
 use Rattle.circle_domain.proofs.Twiddles.{first_factors, second_factors, length-layer_factors, length-coset}
 use Rattle.circle_domain.proofs.CosetOrder.{cfft-place, with_opposites-even}
-use Rattle.circle_plane.proofs.Passes.{layer_factors-nonzero}
+use Rattle.circle_domain.proofs.LayerFactors.{layer_factors-nonzero}
 use Rattle.circle_folding.specs.Fold.{y_twiddles, x_twiddles}
 
 -- the logarithm of a height that is a power of two

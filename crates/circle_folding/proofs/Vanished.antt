@@ -17,7 +17,7 @@ use Rattle.circle_domain.proofs.Transform.{map-same}
 use Rattle.circle_domain.proofs.Twiddles.{block_starts-coset, length-coset, map-map}
 use Rattle.circle_domain.proofs.LagrangeShares.{power-nonzero}
 use Rattle.circle_field.proofs.Inverses.{inverse_unique}
-use Rattle.circle_plane.proofs.Inverses.{inverse_power}
+use Rattle.circle_domain.proofs.TwoPowers.{inverse_power}
 use Rattle.std.proofs.lemmas.Nat.{pow-add}
 use Rattle.circle_folding.specs.Blocks.{spread}
 use Rattle.circle_folding.specs.Lambda.{vanishing_values}

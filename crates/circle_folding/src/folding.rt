@@ -9,9 +9,8 @@ ghost use Rattle.circle_field.specs.Circle.{Coordinates};
 ghost use Rattle.circle_folding.specs.Fold.{fold, fold_pair, folds, y_twiddles, x_twiddles};
 
 use circle_commit::Matrix;
-use circle_domain::{CircleDomain, cfft_permute_index};
+use circle_domain::{CircleDomain, cfft_permute_index, x_twiddles, y_twiddles};
 use circle_field::{ComplexExtendable, ExtensionField, Field, batch_multiplicative_inverse};
-use circle_plane::{x_twiddles, y_twiddles};
 use std::alloc::{AllocError, Global};
 
 /// The first word of `2^(k + 1)` entries, as `2^k` rows of two, folded by y: a row `(a, b)` becomes

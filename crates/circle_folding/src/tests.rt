@@ -4,7 +4,8 @@ use crate::{
 };
 use circle_commit::{Matrix, RowMajorMatrix};
 use circle_field::{Cubic, ExtensionField, Field, Mersenne31};
-use circle_plane::{CircleDomain, Neutral, Point, cfft_permute_index, x_twiddles, y_twiddles};
+use circle_domain::{CircleDomain, cfft_permute_index, x_twiddles, y_twiddles};
+use circle_point::{Neutral, Point};
 use std::alloc::{AllocError, Global};
 use std::process::Abort;
 use std::test::Fail;

@@ -1,8 +1,6 @@
 pub mod DoubledPoints
 pub mod DoubledValues
 pub mod EachMore
-pub mod Inverses
-pub mod Layered
 pub mod NaturalRows
 pub mod Passes
 pub mod PeriodicTables

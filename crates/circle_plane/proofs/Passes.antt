@@ -1,6 +1,5 @@
 -- The layers of the transform over stored entries, one pass after another.
 use Rattle.std.specs.Prelude.{◌≡◌, ◌≢◌, ℕ, ◌+◌, ◌-◌, ◌*◌, ◌^◌, ◌<◌, ◌≤◌, List, [], ◌∷◌, length, map}
-use Rattle.std.specs.List.{AllByRecursion}
 use Rattle.std.proofs.Common.{suc, sym, ◌∙◌, ap, refl, arith, subst}
 use Rattle.std.proofs.Math.Nat.{pow-suc}
 use Rattle.std.proofs.lemmas.Nat.{pow-add}
@@ -13,7 +12,8 @@ use Rattle.circle_domain.specs.Order.{cfft_order}
 use Rattle.circle_domain.specs.Layers.{layer, factor, block_starts, layer_factors, copies}
 use Rattle.circle_domain.proofs.Blocks.{points, points-cfft_order}
 use Rattle.circle_domain.proofs.Columns.{stored_column, stored_column-layer, stored_column-copies, stored_column-map, length-stored_column}
-use Rattle.circle_domain.proofs.Layering.{block_starts-halves, length-block_starts, finish_all, finish_all-layer, finish_all-none, finish_all-one, finish_all-copies, finish_all-scaled, factors-nonzero}
+use Rattle.circle_domain.proofs.LayerFactors.{layer_factors-nonzero}
+use Rattle.circle_domain.proofs.Layering.{block_starts-halves, length-block_starts, finish_all, finish_all-layer, finish_all-none, finish_all-one, finish_all-copies, finish_all-scaled}
 use Rattle.circle_domain.proofs.Transform.{finish, finish-value}
 use Rattle.circle_domain.proofs.Inversion.{finish-scaled, finish-injective}
 use Rattle.circle_domain.proofs.Twiddles.{length-layer_factors}
@@ -115,11 +115,6 @@ module _ {F : Type 0} {k : FieldOps F} (laws : FieldLaws k) {gen : ℕ → Coord
       ∙ ap (map (value k c)) (points-cfft_order k gen n s positive)
 
   module _ (genuine : times k (2 ^ n) s ≢ origin k) where
-    pub layer_factors-nonzero : (m : ℕ) → m < n → AllByRecursion (λ t. t ≢ k.zero) (layer_factors k gen n s m)
-    layer_factors-nonzero m lt =
-        let e : suc (n - (m + 1) + m) ≡ n = omega arith in
-        factors-nonzero laws gens (n - (m + 1)) m s (omega (arith, fits)) on_circle (subst (λ i. times k (2 ^ i) s ≢ origin k) (sym e) genuine)
-
     -- one pass from values to coefficients
     pub backward-pass : (width j : ℕ) → j < width → (m : ℕ) (entries origin : List F) → m < n → length entries ≡ 2 ^ n * width →
         remaining k gen n s m (stored_column k.zero width j (2 ^ n) entries) ≡ map (k.mul (nth_power k (two k) m)) origin →
@@ -136,7 +131,7 @@ module _ {F : Type 0} {k : FieldOps F} (laws : FieldLaws k) {gen : ℕ → Coord
         ap (remaining k gen n s (m + 1))
         (pass-column k gen n s width j h (λ t a b. k.add a b) (λ t a b. k.mul (sub k a b) t) m (map k.inv ts) entries lt (length-map ts k.inv ∙ count) long)
         ∙ remaining-layer k gen n s m made lt (sym (ap length (pass-column k gen n s width j h (λ t a b. k.add a b) (λ t a b. k.mul (sub k a b) t) m (map k.inv ts) entries lt (length-map ts k.inv ∙ count) long)) ∙ length-stored_column k.zero width j (2 ^ n) done)
-        ∙ ap (remaining k gen n s m) (layer-undone laws (2 ^ m) ts c (layer_factors-nonzero m lt) rows)
+        ∙ ap (remaining k gen n s m) (layer-undone laws (2 ^ m) ts c (layer_factors-nonzero laws gens n s fits on_circle genuine m lt) rows)
         ∙ finish_all-scaled laws.ring gens m (2 ^ m) (two k) (block_starts k gen (n - m) m s) c
         ∙ ap (map (k.mul (two k))) e
         ∙ map-mul laws.ring (two k) (nth_power k (two k) m) origin

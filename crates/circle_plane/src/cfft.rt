@@ -1,21 +1,20 @@
 //! Polynomials on the circle: the transform between their coefficients and their values on a domain.
-ghost use Rattle.std.specs.Prelude.{◌≡◌, ◌≢◌, ℕ, ◌<◌, ◌≤◌, ◌^◌, ◌+◌, ◌-◌, ◌*◌, ◌%◌, ◌++◌, List, length, map, take, IfOk, OnOk};
-ghost use Rattle.std.specs.List.{range_with_len};
+ghost use Rattle.std.specs.Prelude.{◌≡◌, ℕ, ◌≤◌, ◌^◌, ◌-◌, ◌++◌, List, map, take, IfOk, OnOk};
 ghost use Rattle.circle_commit.specs.Matrix.{IsPowerOfTwo};
 ghost use Rattle.circle_commit.specs.RowMajorMatrix.{rows, width_of, height_of};
-ghost use Rattle.circle_point.specs.Basis.{basis_values, values_at, doubled_x};
-ghost use Rattle.circle_domain.specs.Order.{natural_order, cfft_order, coset, IsGenuine};
+ghost use Rattle.circle_point.specs.Basis.{basis_values, values_at};
+ghost use Rattle.circle_domain.specs.Order.{natural_order, cfft_order, IsGenuine};
 ghost use Rattle.circle_point.specs.Point.{coordinates};
 ghost use Rattle.circle_domain.specs.Clear.{IsClearOf};
 ghost use Rattle.circle_domain.specs.Domain.{log_size, shift_of};
 ghost use Rattle.circle_domain.specs.Ordering.{other_order};
 ghost use Rattle.circle_domain.specs.Values.{HasValues, with_zero_rows, lifted_values_at};
-ghost use Rattle.circle_domain.specs.Layers.{copies, every_second, layer_factors};
+ghost use Rattle.circle_domain.specs.Layers.{copies};
 
 use crate::dot_product::columnwise_dot_product;
 use crate::layers::{Backward, Forward, apply_layer};
 use circle_commit::{Matrix, RowMajorMatrix, Shape};
-use circle_domain::{CfftPermutable, CfftView, CircleDomain, first_points, lagrange_weights};
+use circle_domain::{CfftPermutable, CfftView, CircleDomain, lagrange_weights, layer_twiddles};
 use circle_field::{
     ComplexExtendable, ExtensionField, Field, Operations, batch_multiplicative_inverse,
 };
@@ -105,7 +104,7 @@ impl<F: ComplexExtendable, M: Matrix<F> + Drop> CircleEvaluations<F, M> {
     {
         let CircleEvaluations { domain, values } = self;
         let matrix = RowMajorMatrix::copy_of(alloc, &values)?;
-        let twiddles = compute_twiddles(alloc, domain)?;
+        let twiddles = layer_twiddles(alloc, domain)?;
         let width = matrix.width();
         let mut entries = matrix.into_values();
         let mut half = width;
@@ -210,7 +209,7 @@ impl<F: ComplexExtendable> CircleEvaluations<F, RowMajorMatrix<F>> {
     {
         let width = coeffs.width();
         let log_height = coeffs.height().ilog2() as usize;
-        let twiddles = compute_twiddles(alloc, domain)?;
+        let twiddles = layer_twiddles(alloc, domain)?;
         let mut half = coeffs.values().len();
         let mut entries = repeat(
             alloc,
@@ -269,111 +268,6 @@ fn append_scaled<F: Field>(entries: &mut Vec<F>, factor: F) -> Result<(), AllocE
         entries.push(scaled)?;
     }
     Ok(())
-}
-
-// The factors of the blocks of each layer, beginning with the smallest blocks.
-fn compute_twiddles<F: ComplexExtendable>(
-    alloc: Global,
-    domain: CircleDomain<F>,
-) -> Result<Vec<Vec<F>>, AllocError>
-    requires positive { 1 ≤ log_size domain }
-    requires in_group { log_size domain ≤ F.CIRCLE_TWO_ADICITY }
-    ensures { IfOk result (λ twiddles. map (λ factors. factors.items) twiddles.items
-        ≡ map (layer_factors F.ops F.generators (log_size domain) (shift_of domain)) (range_with_len 0 (log_size domain))) }
-{
-    let points = first_points(alloc, domain)?;
-    let mut twiddles = Vec::with_capacity(alloc, domain.log_n())?;
-    twiddles.push(ordinates(alloc, &points)?)?;
-    for layer in 1..domain.log_n() {
-        let factors = layer_after(alloc, layer, &points, &twiddles[layer - 1])?;
-        twiddles.push(factors)?;
-    }
-    Ok(twiddles)
-}
-
-/// The y coordinate of the first point of each pair of opposite points, in the order of the transform.
-///
-/// Asks `1 <= log_n <= CIRCLE_TWO_ADICITY`. Fails where memory is refused.
-pub fn y_twiddles<F: ComplexExtendable>(
-    alloc: Global,
-    domain: CircleDomain<F>,
-) -> Result<Vec<F>, AllocError>
-    requires positive { 1 ≤ log_size domain }
-    requires in_group { log_size domain ≤ F.CIRCLE_TWO_ADICITY }
-    ensures { IfOk result (λ ys. ys.items ≡ map (λ p. p.y) (coset F.ops F.generators (log_size domain - 1) (shift_of domain))) }
-{
-    ordinates(alloc, &first_points(alloc, domain)?)
-}
-
-/// The x coordinate of the first point of every second pair of opposite points, in the order of the
-/// transform; the pair after it has the opposite x coordinate.
-///
-/// Asks `2 <= log_n <= CIRCLE_TWO_ADICITY`. Fails where memory is refused.
-pub fn x_twiddles<F: ComplexExtendable>(
-    alloc: Global,
-    domain: CircleDomain<F>,
-) -> Result<Vec<F>, AllocError>
-    requires two_pairs { 2 ≤ log_size domain }
-    requires in_group { log_size domain ≤ F.CIRCLE_TWO_ADICITY }
-    ensures { IfOk result (λ xs. xs.items ≡ map (λ p. p.x) (every_second (coset F.ops F.generators (log_size domain - 1) (shift_of domain)))) }
-{
-    every_second_abscissa(alloc, &first_points(alloc, domain)?)
-}
-
-// The factors of a layer, from the first points of the pairs or from the factors of the layer before.
-fn layer_after<F: Field>(
-    alloc: Global,
-    layer: usize,
-    points: &[Point<F>],
-    before: &[F],
-) -> Result<Vec<F>, AllocError>
-    requires points { length points.now % 2 ≡ 0 }
-    requires before { length before.now % 2 ≡ 0 }
-    ensures second { layer ≡ 1 → IfOk result (λ xs. xs.items ≡ map (λ p. p.x) (every_second (map coordinates points.now))) }
-    ensures later { layer ≢ 1 → IfOk result (λ xs. xs.items ≡ map (doubled_x F.ops) (every_second before.now)) }
-{
-    if layer == 1 {
-        every_second_abscissa(alloc, points)
-    } else {
-        every_second_doubled(alloc, before)
-    }
-}
-
-// The y coordinates of the points.
-fn ordinates<F: Field>(alloc: Global, points: &[Point<F>]) -> Result<Vec<F>, AllocError>
-    ensures { IfOk result (λ ys. ys.items ≡ map (λ p. (coordinates p).y) points.now) }
-{
-    let mut ordinates = Vec::with_capacity(alloc, points.len())?;
-    for point in points {
-        ordinates.push(point.y())?;
-    }
-    Ok(ordinates)
-}
-
-// The x coordinates of every second point.
-fn every_second_abscissa<F: Field>(alloc: Global, points: &[Point<F>]) -> Result<Vec<F>, AllocError>
-    requires { length points.now % 2 ≡ 0 }
-    ensures { IfOk result (λ xs. xs.items ≡ map (λ p. p.x) (every_second (map coordinates points.now))) }
-{
-    let half = points.len() / 2;
-    let mut abscissas = Vec::with_capacity(alloc, half)?;
-    for i in 0..half {
-        abscissas.push(points[2 * i].x())?;
-    }
-    Ok(abscissas)
-}
-
-// The x coordinates of the doubles of points with every second of these x coordinates.
-fn every_second_doubled<F: Field>(alloc: Global, abscissas: &[F]) -> Result<Vec<F>, AllocError>
-    requires { length abscissas.now % 2 ≡ 0 }
-    ensures { IfOk result (λ xs. xs.items ≡ map (doubled_x F.ops) (every_second abscissas.now)) }
-{
-    let half = abscissas.len() / 2;
-    let mut doubled = Vec::with_capacity(alloc, half)?;
-    for i in 0..half {
-        doubled.push(abscissas[2 * i].square().double() - F::ONE)?;
-    }
-    Ok(doubled)
 }
 
 // The entries, `count` times over.

@@ -9,7 +9,7 @@ use crate::{
 };
 use circle_commit::{Matrix, RowMajorMatrix};
 use circle_field::{ComplexExtendable, Cubic, ExtensionField, Mersenne31};
-use circle_plane::Point;
+use circle_point::Point;
 use std::alloc::{AllocError, Global};
 use std::process::Abort;
 use std::test::Fail;

@@ -6,7 +6,7 @@ use crate::tests::element;
 use crate::{add_quotients, query_points};
 use circle_commit::OpenedRows;
 use circle_field::{Cubic, ExtensionField, Field, Mersenne31};
-use circle_plane::{Neutral, Point};
+use circle_point::{Neutral, Point};
 use std::alloc::{AllocError, Global};
 use std::process::Abort;
 use std::test::Fail;

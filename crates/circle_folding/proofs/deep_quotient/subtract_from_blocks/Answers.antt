@@ -5,7 +5,7 @@ use Rattle.circle_field.specs.Field.{sub}
 use Rattle.circle_point.specs.Point.{coordinates}
 use Rattle.circle_point.specs.declared.point.Point.{Point}
 use Rattle.circle_domain.specs.Layers.{pairwise}
-use Rattle.circle_plane.proofs.Layered.{block-more, block-end}
+use Rattle.circle_domain.proofs.Layered.{block-more, block-end}
 use Rattle.circle_folding.specs.Blocks.{spread}
 use Rattle.circle_folding.proofs.BlockSums.{made-spread}
 use Rattle.circle_folding.proofs.deep_quotient.subtract_from_blocks.Goals as goal

@@ -2,7 +2,7 @@ use Rattle.std.proofs.Common.{◌≡◌, ◌+◌, ◌*◌, ◌≤◌, sym, ◌�
 use Rattle.std.proofs.lemmas.List.{length-take-le}
 use Rattle.std.proofs.Math.Nat.{mul-le-mul_right}
 use Rattle.circle_domain.specs.Layers.{layer}
-use Rattle.circle_plane.proofs.Layered.{layer-more, block-end}
+use Rattle.circle_domain.proofs.Layered.{layer-more, block-end}
 use Rattle.circle_plane.proofs.layers.apply_layer.Goals as goal
 
 pub loop-i-preserved : goal.loop-i-preserved

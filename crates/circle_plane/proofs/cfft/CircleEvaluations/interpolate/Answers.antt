@@ -12,8 +12,9 @@ use Rattle.circle_domain.specs.Domain.{log_size, shift_of}
 use Rattle.circle_domain.specs.Order.{cfft_order}
 use Rattle.circle_domain.specs.Layers.{layer_factors}
 use Rattle.circle_domain.proofs.Columns.{stored_column, rows-same_columns}
-use Rattle.circle_plane.proofs.Inverses.{inverse_power}
-use Rattle.circle_plane.proofs.Passes.{remaining, blocks-entries, part-more, backward-pass, before-passes, after-passes, values-tell, layer_factors-nonzero}
+use Rattle.circle_domain.proofs.TwoPowers.{inverse_power}
+use Rattle.circle_plane.proofs.Passes.{remaining, blocks-entries, part-more, backward-pass, before-passes, after-passes, values-tell}
+use Rattle.circle_domain.proofs.LayerFactors.{layer_factors-nonzero}
 use Rattle.circle_domain.proofs.Powers.{pow_within}
 use Rattle.circle_domain.proofs.Stored.{whole, height, rows-values, column-values}
 use Rattle.circle_domain.proofs.Twiddles.{length-layer_factors, made-count, made-read}

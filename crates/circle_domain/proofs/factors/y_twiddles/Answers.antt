@@ -5,7 +5,7 @@ use Rattle.circle_point.specs.Point.{coordinates}
 use Rattle.circle_domain.specs.Domain.{log_size, shift_of}
 use Rattle.circle_domain.specs.Order.{coset}
 use Rattle.circle_domain.proofs.Twiddles.{map-map}
-use Rattle.circle_plane.proofs.cfft.y_twiddles.Goals as goal
+use Rattle.circle_domain.proofs.factors.y_twiddles.Goals as goal
 
 pub returns : goal.returns
 returns g c =

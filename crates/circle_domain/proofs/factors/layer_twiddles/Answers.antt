@@ -8,7 +8,7 @@ use Rattle.circle_point.specs.Basis.{doubled_x}
 use Rattle.circle_point.specs.Point.{coordinates}
 use Rattle.circle_domain.specs.Layers.{layer_factors, every_second}
 use Rattle.circle_domain.proofs.Twiddles.{first_factors, second_factors, next_factors, length-layer_factors, length-coset, even-pow, map-map, range-more, made-count, made-read}
-use Rattle.circle_plane.proofs.cfft.compute_twiddles.Goals as goal
+use Rattle.circle_domain.proofs.factors.layer_twiddles.Goals as goal
 
 pub loop-layer-init : goal.loop-layer-init
 loop-layer-init g c =

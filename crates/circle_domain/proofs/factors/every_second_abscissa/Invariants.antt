@@ -2,7 +2,7 @@ use Rattle.std.proofs.Common.{◌≡◌, ◌++◌, ◌*◌, map, drop}
 use Rattle.circle_field.specs.Circle.{Coordinates}
 use Rattle.circle_domain.specs.Layers.{every_second}
 use Rattle.circle_point.specs.Point.{coordinates}
-use Rattle.circle_plane.proofs.cfft.every_second_abscissa.Given as goal
+use Rattle.circle_domain.proofs.factors.every_second_abscissa.Given as goal
 
 abbrev pub invariant-loop-i : goal.invariant-loop-i
 invariant-loop-i g l =

@@ -3,7 +3,7 @@ use Rattle.std.proofs.lemmas.Grind.{common_steps}
 use Rattle.circle_point.specs.Basis.{doubled_x}
 use Rattle.circle_domain.specs.Layers.{every_second}
 use Rattle.circle_domain.proofs.Twiddles.{every_second-more}
-use Rattle.circle_plane.proofs.cfft.every_second_doubled.Goals as goal
+use Rattle.circle_domain.proofs.factors.every_second_doubled.Goals as goal
 
 pub loop-i-preserved : goal.loop-i-preserved
 loop-i-preserved g c =

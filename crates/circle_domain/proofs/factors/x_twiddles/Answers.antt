@@ -3,7 +3,7 @@ use Rattle.std.proofs.lemmas.List.{length-map}
 use Rattle.circle_point.specs.Point.{coordinates}
 use Rattle.circle_domain.specs.Domain.{log_size, shift_of}
 use Rattle.circle_domain.proofs.Twiddles.{length-coset, even-pow}
-use Rattle.circle_plane.proofs.cfft.x_twiddles.Goals as goal
+use Rattle.circle_domain.proofs.factors.x_twiddles.Goals as goal
 
 pub every_second_abscissa-requires : goal.every_second_abscissa-requires
 every_second_abscissa-requires g c =

@@ -2,7 +2,7 @@ use Rattle.std.proofs.Common.{◌≡◌, map}
 use Rattle.std.specs.List.{range_with_len}
 use Rattle.circle_domain.specs.Domain.{log_size, shift_of}
 use Rattle.circle_domain.specs.Layers.{layer_factors}
-use Rattle.circle_plane.proofs.cfft.compute_twiddles.Given as goal
+use Rattle.circle_domain.proofs.factors.layer_twiddles.Given as goal
 
 abbrev pub invariant-loop-layer : goal.invariant-loop-layer
 invariant-loop-layer g l =

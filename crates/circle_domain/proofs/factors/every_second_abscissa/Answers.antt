@@ -5,7 +5,7 @@ use Rattle.circle_field.specs.Circle.{Coordinates}
 use Rattle.circle_domain.specs.Layers.{every_second}
 use Rattle.circle_point.specs.Point.{coordinates}
 use Rattle.circle_domain.proofs.Twiddles.{every_second-more}
-use Rattle.circle_plane.proofs.cfft.every_second_abscissa.Goals as goal
+use Rattle.circle_domain.proofs.factors.every_second_abscissa.Goals as goal
 
 pub loop-i-preserved : goal.loop-i-preserved
 loop-i-preserved g c =
