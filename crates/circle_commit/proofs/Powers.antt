@@ -25,6 +25,17 @@ power_between n r m low high power =
       ]
     ]
 
+-- a power of two has one exponent
+pub exponent_unique : (i j : ℕ) → 2 ^ i ≡ 2 ^ j → i ≡ j
+exponent_unique i j same =
+    elim (cases_lt i j) [
+      | inl lt ↦ let p : 2 ^ i < 2 ^ j = pow-lt lt in absurd (omega arith)
+      | inr ge ↦ elim (eq-or-lt_of_le ge) [
+        | inl e ↦ sym e
+        | inr lt ↦ let p : 2 ^ j < 2 ^ i = pow-lt lt in absurd (omega arith)
+      ]
+    ]
+
 -- a power of two is positive
 pub power_positive : (m : ℕ) → 0 < 2 ^ m
 power_positive m = search rules

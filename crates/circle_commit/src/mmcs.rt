@@ -1,5 +1,5 @@
 //! Commitments to several matrices at once, opened at many rows.
-ghost use Rattle.std.specs.Prelude.{◌≡◌, ℕ, ◌≤◌, ◌<◌, ◌↔◌, Bool, List, length, All, IsTrue, OnOk, IfOk, IfErr, vec_len};
+ghost use Rattle.std.specs.Prelude.{◌≡◌, ℕ, ◌^◌, ◌≤◌, ◌<◌, ◌↔◌, Bool, List, length, All, IsTrue, OnOk, IfOk, IfErr, vec_len};
 ghost use Rattle.circle_commit.specs.Matrix.{IsPowerOfTwo};
 ghost use Rattle.circle_commit.specs.RowMajorMatrix.{height_of};
 ghost use Rattle.circle_commit.specs.Mmcs.{dimensions_of, max_height, rows_at_each, opened_rows};
@@ -111,6 +111,18 @@ pub fn is_power_of_two(n: usize) -> bool
     ensures { IsTrue result ↔ IsPowerOfTwo n }
 {
     n > 0 && n == 1 << n.ilog2()
+}
+
+/// The binary logarithm of a power of two.
+///
+/// Asks that there is an `m` with `n = 2^m`, as [`is_power_of_two`] tests; that `m` is the answer.
+pub fn log2_strict(n: usize) -> usize
+    requires { IsPowerOfTwo n }
+    ensures power { 2 ^ result ≡ n }
+    ensures only { (m : ℕ) → n ≡ 2 ^ m → result ≡ m }
+    ensures bound { result < 64 }
+{
+    n.ilog2() as usize
 }
 
 /// Whether the heights of all matrices are powers of two, as a commitment asks.

@@ -3,7 +3,7 @@ ghost use Rattle.std.specs.Prelude.{◌-◌};
 
 use crate::{
     Dimensions, Matrix, PeriodicLdeTable, RowIndexMap, RowIndexMappedView, RowMajorMatrix,
-    RowMajorMatrixView,
+    RowMajorMatrixView, is_power_of_two, log2_strict,
 };
 use std::alloc::{AllocError, Global};
 use std::test::Fail;
@@ -153,4 +153,14 @@ fn a_periodic_table_of_no_columns(rt: HostRuntime) -> Result<(), Fail> {
     assert_eq!(rt; table.width(), 0);
     assert_eq!(rt; table.height(), 0);
     Ok(())
+}
+
+#[test]
+fn the_logarithm_of_powers_of_two(rt: HostRuntime) {
+    for (n, logarithm) in [(1, 0), (2, 1), (1 << 20, 20), (1 << 63, 63)] {
+        assert!(rt; is_power_of_two(n));
+        assert_eq!(rt; log2_strict(n), logarithm);
+    }
+    assert!(rt; !is_power_of_two(0));
+    assert!(rt; !is_power_of_two((1 << 20) + 1));
 }

@@ -4,6 +4,8 @@ use Rattle.std.proofs.Common.{zero, suc}
 use Rattle.circle_field.specs.Field.{FieldOps}
 use Rattle.circle_field.specs.Circle.{Coordinates, plus}
 use Rattle.circle_point.specs.Point.{coordinates}
+use Rattle.circle_domain.specs.Order.{natural_order}
+use Rattle.circle_domain.specs.Selectors.{IsStandard}
 use Rattle.circle_domain.specs.declared.domain.CircleDomain.{CircleDomain}
 use Rattle.circle_domain.specs.declared.domain.CirclePoints.{CirclePoints}
 use Rattle.circle_domain.specs.declared.domain.CircleCoset.{CircleCoset}
@@ -15,6 +17,14 @@ log_size d = d.log_n
 -- the coordinates of the first point
 abbrev pub shift_of : {F : Type 0} {g : _} → CircleDomain F g → Coordinates F
 shift_of d = coordinates d.shift
+
+-- the points of a domain in natural order
+abbrev pub points_of : {F : Type 0} {g : _} → FieldOps F → (ℕ → Coordinates F) → CircleDomain F g → List (Coordinates F)
+points_of k gen d = natural_order k gen (log_size d) (shift_of d)
+
+-- a domain is the standard one of its size
+abbrev pub IsStandardDomain : {F : Type 0} {g : _} → ℕ → (ℕ → Coordinates F) → CircleDomain F g → Type 0
+IsStandardDomain bits gen d = IsStandard bits gen (log_size d) (shift_of d)
 
 module _ {F : Type 0} (k : FieldOps F) where
   -- p, p + g, p + 2 g, .., count in all

@@ -2,6 +2,7 @@
 ghost use Rattle.std.specs.Prelude.{◌≡◌, ◌≢◌, ◌↔◌, ◌⊎◌, ℕ, List, ◌≤◌, ◌<◌, ◌+◌, ◌-◌, ◌%◌, ◌/◌, ◌^◌, ◌*◌, IsTrue, IsNone, IfSome, IfOk, Some, Ok, All, AllPairs, Any, Contains, length, map, take, slice_get};
 ghost use Rattle.std.specs.Iterator.{YieldsFirstBy, item_count};
 ghost use Rattle.circle_field.specs.Circle.{opposite, plus, lifted};
+ghost use Rattle.circle_domain.specs.Domain.{points_of};
 ghost use Rattle.circle_domain.specs.Order.{IsGenuine, natural_order, half};
 ghost use Rattle.circle_point.specs.Point.{coordinates};
 ghost use Rattle.circle_point.specs.Projective.{from_line};
@@ -117,7 +118,7 @@ impl<F: ComplexExtendable> CircleDomain<F> {
         requires positive { 1 ≤ log_size self.now }
         requires in_group { log_size self.now ≤ F.CIRCLE_TWO_ADICITY }
         ensures { IsTrue result ↔ IsClearOf EF.ops EF.embed
-            (natural_order F.ops F.generators (log_size self.now) (shift_of self.now)) (coordinates at) }
+            (points_of F.ops F.generators self.now) (coordinates at) }
     {
         let doublings = self.log_n.max(2);
         at.v_n(doublings) != EF::from_base(self.shift.v_n(doublings))
@@ -139,7 +140,7 @@ impl<F: ComplexExtendable> CircleDomain<F> {
     pub fn points(&self) -> CirclePoints<F>
         requires positive { 1 ≤ log_size self.now }
         requires in_group { log_size self.now ≤ F.CIRCLE_TWO_ADICITY }
-        ensures order { points_left F.ops result ≡ natural_order F.ops F.generators (log_size self.now) (shift_of self.now) }
+        ensures order { points_left F.ops result ≡ points_of F.ops F.generators self.now }
         ensures count { length (points_left F.ops result) ≡ 2 ^ log_size self.now }
     {
         let step = self.subgroup_generator();
@@ -189,7 +190,7 @@ impl<F: ComplexExtendable> CircleDomain<F> {
         requires positive { 1 ≤ log_size self.now }
         requires in_group { log_size self.now ≤ F.CIRCLE_TWO_ADICITY }
         requires in_range { index < 2 ^ log_size self.now }
-        ensures { slice_get (natural_order F.ops F.generators (log_size self.now) (shift_of self.now)) index
+        ensures { slice_get (points_of F.ops F.generators self.now) index
             ≡ Some (coordinates result) }
     {
         let turn = index / 2;
@@ -212,7 +213,7 @@ impl<F: ComplexExtendable> CircleDomain<F> {
     fn selectors_at<EF: ExtensionField<F>>(&self, at: Point<EF>) -> LagrangeSelectors<EF>
         requires in_group { log_size self.now ≤ F.CIRCLE_TWO_ADICITY }
         requires genuine { IsGenuine F.ops (log_size self.now) (shift_of self.now) }
-        requires clear { IsClearOf EF.ops EF.embed (natural_order F.ops F.generators (log_size self.now) (shift_of self.now)) (coordinates at) }
+        requires clear { IsClearOf EF.ops EF.embed (points_of F.ops F.generators self.now) (coordinates at) }
         ensures first { result.is_first_row ≡ first_row EF.ops (log_size self.now) (lifted EF.embed (shift_of self.now)) (coordinates at) }
         ensures last { result.is_last_row ≡ last_row EF.ops (log_size self.now) (lifted EF.embed (shift_of self.now)) (coordinates at) }
         ensures transition { result.is_transition ≡ transition EF.ops (log_size self.now) (lifted EF.embed (shift_of self.now)) (coordinates at) }
@@ -245,7 +246,7 @@ impl<F: ComplexExtendable> PolynomialSpace for CircleDomain<F> {
 
     ghost use Rattle.circle_field.specs.Circle.{Coordinates};
     ghost use Rattle.circle_point.specs.Projective.{to_line, from_line, half_turn};
-    ghost use Rattle.circle_domain.specs.Domain.{log_size, shift_of};
+    ghost use Rattle.circle_domain.specs.Domain.{log_size, shift_of, IsStandardDomain};
     ghost use Rattle.circle_commit.specs.Matrix.{IsPowerOfTwo, mapped_rows};
     ghost use Rattle.circle_commit.specs.RowMajorMatrix.{rows, width_of, height_of};
     ghost use Rattle.circle_domain.specs.Splitting.{part_of, place_in, place_of};
@@ -254,7 +255,7 @@ impl<F: ComplexExtendable> PolynomialSpace for CircleDomain<F> {
     ghost use Rattle.circle_field.specs.Circle.{times};
     ghost use Rattle.circle_domain.specs.Periodic.{IsPeriodicValue};
     ghost use Rattle.circle_domain.specs.Values.{Interpolates};
-    ghost use Rattle.circle_domain.specs.Selectors.{IsFinite, IsStandard, IsLeastLog, AreDisjoint, other_than, next_from, vanishing_on, first_row, last_row, transition};
+    ghost use Rattle.circle_domain.specs.Selectors.{IsFinite, IsLeastLog, AreDisjoint, other_than, next_from, vanishing_on, first_row, last_row, transition};
     ghost use Rattle.circle_domain.specs.Clear.{IsClearOf};
 
     ghost size_asks = { λ d. log_size d ≤ 63 };
@@ -270,7 +271,7 @@ impl<F: ComplexExtendable> PolynomialSpace for CircleDomain<F> {
     ghost next_point_asks = { λ d. (1 ≤ log_size d) × (log_size d ≤ F.CIRCLE_TWO_ADICITY) };
 
     ghost next_point_gives = { λ e l embed d t r.
-        (IsNone r ↔ ((IsStandard F.CIRCLE_TWO_ADICITY F.generators (log_size d) (shift_of d) → ⊥)
+        (IsNone r ↔ ((IsStandardDomain F.CIRCLE_TWO_ADICITY F.generators d → ⊥)
         ⊎ (IsFinite l t → ⊥)
         ⊎ (next_from l embed F.generators (log_size d) t ≡ half_turn l)))
         × IfSome r (λ next. next ≡ to_line l (next_from l embed F.generators (log_size d) t)) };
@@ -278,16 +279,16 @@ impl<F: ComplexExtendable> PolynomialSpace for CircleDomain<F> {
     ghost try_create_disjoint_domain_asks = { λ d. (1 ≤ log_size d) × (log_size d ≤ F.CIRCLE_TWO_ADICITY) };
 
     ghost try_create_disjoint_domain_gives = { λ d m r.
-        ((k : ℕ) → IsLeastLog m k → (IsNone r ↔ ((IsStandard F.CIRCLE_TWO_ADICITY F.generators (log_size d) (shift_of d) → ⊥)
+        ((k : ℕ) → IsLeastLog m k → (IsNone r ↔ ((IsStandardDomain F.CIRCLE_TWO_ADICITY F.generators d → ⊥)
         ⊎ (F.CIRCLE_TWO_ADICITY < other_than (log_size d) k + 1))))
         × IfSome r (λ other. (k : ℕ) → IsLeastLog m k → (log_size other ≡ other_than (log_size d) k)
         × (shift_of other ≡ F.generators (log_size other + 1))) };
 
-    ghost split_domains_asks = { λ d c. IsStandard F.CIRCLE_TWO_ADICITY F.generators (log_size d) (shift_of d)
+    ghost split_domains_asks = { λ d c. IsStandardDomain F.CIRCLE_TWO_ADICITY F.generators d
         × IsPowerOfTwo c × (2 * c ≤ 2 ^ log_size d) };
 
     ghost split_domains_gives = { λ d c parts. All (λ part. 2 ^ log_size part * c ≡ 2 ^ log_size d) parts
-        × (map shift_of parts ≡ take c (natural_order F.ops F.generators (log_size d) (shift_of d))) };
+        × (map shift_of parts ≡ take c (points_of F.ops F.generators d)) };
 
     ghost split_evals_asks = { λ d c evals. (log_size d ≤ 63) × (height_of evals ≡ 2 ^ log_size d) × IsPowerOfTwo c
         × (2 * c ≤ 2 ^ log_size d) };
@@ -301,7 +302,7 @@ impl<F: ComplexExtendable> PolynomialSpace for CircleDomain<F> {
         r ≡ vanishing_on l (log_size d) (lifted embed (shift_of d)) (from_line l t) };
 
     ghost selectors_at_point_asks = { λ e l embed d t. (log_size d ≤ F.CIRCLE_TWO_ADICITY) × IsGenuine F.ops (log_size d) (shift_of d)
-        × IsFinite l t × IsClearOf l embed (natural_order F.ops F.generators (log_size d) (shift_of d)) (from_line l t) };
+        × IsFinite l t × IsClearOf l embed (points_of F.ops F.generators d) (from_line l t) };
 
     ghost selectors_at_point_gives = { λ e l embed d t r. let n = log_size d in let s = lifted embed (shift_of d) in let at = from_line l t in
         (r.is_first_row ≡ first_row l n s at) × (r.is_last_row ≡ last_row l n s at)
@@ -309,24 +310,24 @@ impl<F: ComplexExtendable> PolynomialSpace for CircleDomain<F> {
 
     ghost selectors_on_coset_asks = { λ d coset. (log_size d ≤ F.CIRCLE_TWO_ADICITY) × IsGenuine F.ops (log_size d) (shift_of d)
         × (1 ≤ log_size coset) × (log_size coset ≤ F.CIRCLE_TWO_ADICITY)
-        × All (λ at. IsClearOf F.ops (λ x. x) (natural_order F.ops F.generators (log_size d) (shift_of d)) at)
-        (natural_order F.ops F.generators (log_size coset) (shift_of coset)) };
+        × All (λ at. IsClearOf F.ops (λ x. x) (points_of F.ops F.generators d) at)
+        (points_of F.ops F.generators coset) };
 
-    ghost selectors_on_coset_gives = { λ d coset r. let points = natural_order F.ops F.generators (log_size coset) (shift_of coset) in
+    ghost selectors_on_coset_gives = { λ d coset r. let points = points_of F.ops F.generators coset in
         (r.is_first_row ≡ map (first_row F.ops (log_size d) (shift_of d)) points)
         × (r.is_last_row ≡ map (last_row F.ops (log_size d) (shift_of d)) points)
         × (r.is_transition ≡ map (transition F.ops (log_size d) (shift_of d)) points)
         × (r.inv_vanishing ≡ map (λ at. F.ops.inv (vanishing_on F.ops (log_size d) (shift_of d) at)) points) };
 
-    ghost evaluate_polynomial_at_asks = { λ e l embed d evals t. IsStandard F.CIRCLE_TWO_ADICITY F.generators (log_size d) (shift_of d)
+    ghost evaluate_polynomial_at_asks = { λ e l embed d evals t. IsStandardDomain F.CIRCLE_TWO_ADICITY F.generators d
         × (1 ≤ log_size d) × (length evals ≡ 2 ^ log_size d) × IsFinite l t
-        × IsClearOf l embed (natural_order F.ops F.generators (log_size d) (shift_of d)) (from_line l t) };
+        × IsClearOf l embed (points_of F.ops F.generators d) (from_line l t) };
 
     ghost evaluate_polynomial_at_gives = { λ e l embed d evals t v. (coeffs : List F) × Interpolates F.ops F.generators (log_size d) (shift_of d) coeffs evals
         × (v ≡ value l (map embed coeffs) (from_line l t)) };
 
     ghost evaluate_periodic_column_at_asks = { λ e l embed d col t. 2 ≤ length col →
-        IsStandard F.CIRCLE_TWO_ADICITY F.generators (log_size d) (shift_of d) × IsPowerOfTwo (length col) × (length col ≤ 2 ^ log_size d) × IsFinite l t
+        IsStandardDomain F.CIRCLE_TWO_ADICITY F.generators d × IsPowerOfTwo (length col) × (length col ≤ 2 ^ log_size d) × IsFinite l t
         × ((j : ℕ) → 1 ≤ j → length col ≡ 2 ^ j → IsClearOf l embed (natural_order F.ops F.generators j (F.generators (j + 1))) (times l (2 ^ (log_size d - j)) (from_line l t))) };
 
     ghost evaluate_periodic_column_at_gives = { λ e l embed d col t v. IsPeriodicValue F.ops F.generators l embed (log_size d) col (from_line l t) v };
@@ -355,13 +356,13 @@ impl<F: ComplexExtendable> PolynomialSpace for CircleDomain<F> {
     fn next_point<Ext: ExtensionField<F>>(&self, point: Ext) -> Option<Ext>
         requires positive { 1 ≤ log_size self.now }
         requires in_group { log_size self.now ≤ F.CIRCLE_TWO_ADICITY }
-        ensures none { IsNone result ↔ ((IsStandard F.CIRCLE_TWO_ADICITY F.generators (log_size self.now) (shift_of self.now) → ⊥)
+        ensures none { IsNone result ↔ ((IsStandardDomain F.CIRCLE_TWO_ADICITY F.generators self.now → ⊥)
             ⊎ (IsFinite Ext.ops point → ⊥)
             ⊎ (next_from Ext.ops Ext.embed F.generators (log_size self.now) point ≡ half_turn Ext.ops)) }
         ensures value { IfSome result (λ next. next ≡ to_line Ext.ops (next_from Ext.ops Ext.embed F.generators (log_size self.now) point)) }
-        ensures walk { IsStandard F.CIRCLE_TWO_ADICITY F.generators (log_size self.now) (shift_of self.now) → (i : ℕ) (p q : Coordinates F)
-            → slice_get (natural_order F.ops F.generators (log_size self.now) (shift_of self.now)) i ≡ Some p
-            → slice_get (natural_order F.ops F.generators (log_size self.now) (shift_of self.now)) ((i + 1) % 2 ^ log_size self.now) ≡ Some q
+        ensures walk { IsStandardDomain F.CIRCLE_TWO_ADICITY F.generators self.now → (i : ℕ) (p q : Coordinates F)
+            → slice_get (points_of F.ops F.generators self.now) i ≡ Some p
+            → slice_get (points_of F.ops F.generators self.now) ((i + 1) % 2 ^ log_size self.now) ≡ Some q
             → point ≡ to_line Ext.ops (lifted Ext.embed p) → result ≡ Some (to_line Ext.ops (lifted Ext.embed q)) }
     {
         if !self.is_standard() {
@@ -379,14 +380,14 @@ impl<F: ComplexExtendable> PolynomialSpace for CircleDomain<F> {
         requires positive { 1 ≤ log_size self.now }
         requires in_group { log_size self.now ≤ F.CIRCLE_TWO_ADICITY }
         ensures none { (k : ℕ) → IsLeastLog min_size k → (IsNone result
-            ↔ ((IsStandard F.CIRCLE_TWO_ADICITY F.generators (log_size self.now) (shift_of self.now) → ⊥)
+            ↔ ((IsStandardDomain F.CIRCLE_TWO_ADICITY F.generators self.now → ⊥)
             ⊎ (F.CIRCLE_TWO_ADICITY < other_than (log_size self.now) k + 1))) }
         ensures standard { IfSome result (λ other. (k : ℕ) → IsLeastLog min_size k → (log_size other ≡ other_than (log_size self.now) k)
             × (shift_of other ≡ F.generators (log_size other + 1))) }
         ensures enough { IfSome result (λ other. min_size ≤ 2 ^ log_size other) }
         ensures disjoint { IfSome result (λ other. AreDisjoint
-            (natural_order F.ops F.generators (log_size other) (shift_of other))
-            (natural_order F.ops F.generators (log_size self.now) (shift_of self.now))) }
+            (points_of F.ops F.generators other)
+            (points_of F.ops F.generators self.now)) }
     {
         if !self.is_standard() {
             return None;
@@ -409,22 +410,22 @@ impl<F: ComplexExtendable> PolynomialSpace for CircleDomain<F> {
     /// Asks a standard domain, and a number of parts that is a power of two and leaves at least two
     /// points for each. Fails where memory is refused.
     fn split_domains(&self, alloc: Global, num_chunks: usize) -> Result<Vec<Self>, AllocError>
-        requires standard { IsStandard F.CIRCLE_TWO_ADICITY F.generators (log_size self.now) (shift_of self.now) }
+        requires standard { IsStandardDomain F.CIRCLE_TWO_ADICITY F.generators self.now }
         requires power { IsPowerOfTwo num_chunks }
         requires room { 2 * num_chunks ≤ 2 ^ log_size self.now }
         ensures sizes { IfOk result (λ parts. All (λ part. 2 ^ log_size part * num_chunks ≡ 2 ^ log_size self.now) parts.items) }
         ensures shifts { IfOk result (λ parts. map shift_of parts.items
-            ≡ take num_chunks (natural_order F.ops F.generators (log_size self.now) (shift_of self.now))) }
+            ≡ take num_chunks (points_of F.ops F.generators self.now)) }
         ensures disjoint { IfOk result (λ parts. AllPairs (λ one other. AreDisjoint
-            (natural_order F.ops F.generators (log_size one) (shift_of one))
-            (natural_order F.ops F.generators (log_size other) (shift_of other))) parts.items) }
+            (points_of F.ops F.generators one)
+            (points_of F.ops F.generators other)) parts.items) }
         ensures whole { IfOk result (λ parts. (p : Coordinates F) →
-            Contains (natural_order F.ops F.generators (log_size self.now) (shift_of self.now)) p
-            ↔ Any (λ part. Contains (natural_order F.ops F.generators (log_size part) (shift_of part)) p) parts.items) }
+            Contains (points_of F.ops F.generators self.now) p
+            ↔ Any (λ part. Contains (points_of F.ops F.generators part) p) parts.items) }
         ensures places { IfOk result (λ parts. (i : ℕ) (p : Coordinates F)
-            → slice_get (natural_order F.ops F.generators (log_size self.now) (shift_of self.now)) i ≡ Some p
+            → slice_get (points_of F.ops F.generators self.now) i ≡ Some p
             → IfSome (slice_get parts.items (part_of num_chunks i)) (λ part.
-            slice_get (natural_order F.ops F.generators (log_size part) (shift_of part)) (place_in num_chunks i) ≡ Some p)) }
+            slice_get (points_of F.ops F.generators part) (place_in num_chunks i) ≡ Some p)) }
     {
         let log_n = self.log_n - num_chunks.ilog2() as usize;
         let mut parts = Vec::with_capacity(alloc, num_chunks)?;
@@ -454,10 +455,10 @@ impl<F: ComplexExtendable> PolynomialSpace for CircleDomain<F> {
         ensures goes { IfOk result (λ parts. (i : ℕ) → i < 2 ^ log_size self.now →
             IfSome (slice_get parts.items (part_of num_chunks i)) (λ part.
             slice_get (rows part) (place_in num_chunks i) ≡ slice_get (rows evals) i)) }
-        ensures points { IfOk result (λ parts. IsStandard F.CIRCLE_TWO_ADICITY F.generators (log_size self.now) (shift_of self.now)
+        ensures points { IfOk result (λ parts. IsStandardDomain F.CIRCLE_TWO_ADICITY F.generators self.now
             → (i m : ℕ) (p s : Coordinates F) → 2 ^ m * num_chunks ≡ 2 ^ log_size self.now
-            → slice_get (natural_order F.ops F.generators (log_size self.now) (shift_of self.now)) i ≡ Some p
-            → slice_get (natural_order F.ops F.generators (log_size self.now) (shift_of self.now)) (part_of num_chunks i) ≡ Some s
+            → slice_get (points_of F.ops F.generators self.now) i ≡ Some p
+            → slice_get (points_of F.ops F.generators self.now) (part_of num_chunks i) ≡ Some s
             → slice_get (natural_order F.ops F.generators m s) (place_in num_chunks i) ≡ Some p) }
     {
         let mut parts = Vec::with_capacity(alloc, num_chunks)?;
@@ -485,7 +486,7 @@ impl<F: ComplexExtendable> PolynomialSpace for CircleDomain<F> {
         requires in_group { log_size self.now ≤ F.CIRCLE_TWO_ADICITY }
         requires genuine { IsGenuine F.ops (log_size self.now) (shift_of self.now) }
         requires finite { IsFinite Ext.ops point }
-        requires clear { IsClearOf Ext.ops Ext.embed (natural_order F.ops F.generators (log_size self.now) (shift_of self.now)) (from_line Ext.ops point) }
+        requires clear { IsClearOf Ext.ops Ext.embed (points_of F.ops F.generators self.now) (from_line Ext.ops point) }
         ensures first { result.is_first_row ≡ first_row Ext.ops (log_size self.now) (lifted Ext.embed (shift_of self.now)) (from_line Ext.ops point) }
         ensures last { result.is_last_row ≡ last_row Ext.ops (log_size self.now) (lifted Ext.embed (shift_of self.now)) (from_line Ext.ops point) }
         ensures transition { result.is_transition ≡ transition Ext.ops (log_size self.now) (lifted Ext.embed (shift_of self.now)) (from_line Ext.ops point) }
@@ -508,16 +509,16 @@ impl<F: ComplexExtendable> PolynomialSpace for CircleDomain<F> {
         requires genuine { IsGenuine F.ops (log_size self.now) (shift_of self.now) }
         requires coset_positive { 1 ≤ log_size coset }
         requires coset_in_group { log_size coset ≤ F.CIRCLE_TWO_ADICITY }
-        requires clear { All (λ at. IsClearOf F.ops (λ x. x) (natural_order F.ops F.generators (log_size self.now) (shift_of self.now)) at)
-            (natural_order F.ops F.generators (log_size coset) (shift_of coset)) }
+        requires clear { All (λ at. IsClearOf F.ops (λ x. x) (points_of F.ops F.generators self.now) at)
+            (points_of F.ops F.generators coset) }
         ensures first { IfOk result (λ selectors. selectors.is_first_row.items
-            ≡ map (first_row F.ops (log_size self.now) (shift_of self.now)) (natural_order F.ops F.generators (log_size coset) (shift_of coset))) }
+            ≡ map (first_row F.ops (log_size self.now) (shift_of self.now)) (points_of F.ops F.generators coset)) }
         ensures last { IfOk result (λ selectors. selectors.is_last_row.items
-            ≡ map (last_row F.ops (log_size self.now) (shift_of self.now)) (natural_order F.ops F.generators (log_size coset) (shift_of coset))) }
+            ≡ map (last_row F.ops (log_size self.now) (shift_of self.now)) (points_of F.ops F.generators coset)) }
         ensures transition { IfOk result (λ selectors. selectors.is_transition.items
-            ≡ map (transition F.ops (log_size self.now) (shift_of self.now)) (natural_order F.ops F.generators (log_size coset) (shift_of coset))) }
+            ≡ map (transition F.ops (log_size self.now) (shift_of self.now)) (points_of F.ops F.generators coset)) }
         ensures inverse { IfOk result (λ selectors. selectors.inv_vanishing.items
-            ≡ map (λ at. F.ops.inv (vanishing_on F.ops (log_size self.now) (shift_of self.now) at)) (natural_order F.ops F.generators (log_size coset) (shift_of coset))) }
+            ≡ map (λ at. F.ops.inv (vanishing_on F.ops (log_size self.now) (shift_of self.now) at)) (points_of F.ops F.generators coset)) }
     {
         let points = natural_points(alloc, coset)?;
         let vanishing = vanishing_values(alloc, *self, &points)?;
@@ -542,11 +543,11 @@ impl<F: ComplexExtendable> PolynomialSpace for CircleDomain<F> {
         evals: &[F],
         point: Ext,
     ) -> Result<Ext, AllocError>
-        requires standard { IsStandard F.CIRCLE_TWO_ADICITY F.generators (log_size self.now) (shift_of self.now) }
+        requires standard { IsStandardDomain F.CIRCLE_TWO_ADICITY F.generators self.now }
         requires positive { 1 ≤ log_size self.now }
         requires size { length evals.now ≡ 2 ^ log_size self.now }
         requires finite { IsFinite Ext.ops point }
-        requires clear { IsClearOf Ext.ops Ext.embed (natural_order F.ops F.generators (log_size self.now) (shift_of self.now)) (from_line Ext.ops point) }
+        requires clear { IsClearOf Ext.ops Ext.embed (points_of F.ops F.generators self.now) (from_line Ext.ops point) }
         ensures value { IfOk result (λ v. (coeffs : List F) × Interpolates F.ops F.generators (log_size self.now) (shift_of self.now) coeffs evals.now
             × (v ≡ value Ext.ops (map Ext.embed coeffs) (from_line Ext.ops point))) }
         ensures only { IfOk result (λ v. (coeffs : List F) → Interpolates F.ops F.generators (log_size self.now) (shift_of self.now) coeffs evals.now →
@@ -568,7 +569,7 @@ impl<F: ComplexExtendable> PolynomialSpace for CircleDomain<F> {
         col: &[F],
         point: Ext,
     ) -> Result<Ext, AllocError>
-        requires standard { 2 ≤ length col.now → IsStandard F.CIRCLE_TWO_ADICITY F.generators (log_size self.now) (shift_of self.now) }
+        requires standard { 2 ≤ length col.now → IsStandardDomain F.CIRCLE_TWO_ADICITY F.generators self.now }
         requires power { 2 ≤ length col.now → IsPowerOfTwo (length col.now) }
         requires at_most_size { 2 ≤ length col.now → length col.now ≤ 2 ^ log_size self.now }
         requires finite { 2 ≤ length col.now → IsFinite Ext.ops point }

@@ -10,9 +10,9 @@ ghost use Rattle.circle_field.specs.Circle.{lifted};
 ghost use Rattle.circle_point.specs.Basis.{value};
 ghost use Rattle.circle_point.specs.Point.{coordinates};
 ghost use Rattle.circle_domain.specs.Clear.{IsClearOf};
-ghost use Rattle.circle_domain.specs.Domain.{log_size, shift_of};
+ghost use Rattle.circle_domain.specs.Domain.{log_size, shift_of, points_of};
 ghost use Rattle.circle_domain.specs.Lagrange.{dot, shares};
-ghost use Rattle.circle_domain.specs.Order.{IsGenuine, natural_order, cfft_order};
+ghost use Rattle.circle_domain.specs.Order.{IsGenuine, cfft_order};
 ghost use Rattle.circle_domain.specs.Ordering.{reordered};
 ghost use Rattle.circle_domain.specs.Values.{Interpolates};
 
@@ -44,7 +44,7 @@ pub fn lagrange_weights<F: ComplexExtendable, EF: ExtensionField<F>>(
 ) -> Result<LagrangeWeights<EF>, AllocError>
     requires genuine { IsGenuine F.ops (log_size domain) (shift_of domain) }
     requires in_group { log_size domain ≤ F.CIRCLE_TWO_ADICITY }
-    requires clear { IsClearOf EF.ops EF.embed (natural_order F.ops F.generators (log_size domain) (shift_of domain)) (coordinates at) }
+    requires clear { IsClearOf EF.ops EF.embed (points_of F.ops F.generators domain) (coordinates at) }
     ensures count { IfOk result (λ weights. length weights.shares.items ≡ 2 ^ log_size domain) }
     ensures sum { IfOk result (λ weights. (coeffs : List F) → length coeffs ≡ 2 ^ log_size domain →
         EF.ops.mul (dot EF.ops weights.shares.items (map EF.embed (map (value F.ops coeffs) (cfft_order F.ops F.generators (log_size domain) (shift_of domain))))) weights.scale
@@ -75,7 +75,7 @@ pub fn value_off_domain<F: ComplexExtendable, EF: ExtensionField<F>>(
     requires genuine { IsGenuine F.ops (log_size domain) (shift_of domain) }
     requires in_group { log_size domain ≤ F.CIRCLE_TWO_ADICITY }
     requires size { length evals.now ≡ 2 ^ log_size domain }
-    requires clear { IsClearOf EF.ops EF.embed (natural_order F.ops F.generators (log_size domain) (shift_of domain)) (coordinates at) }
+    requires clear { IsClearOf EF.ops EF.embed (points_of F.ops F.generators domain) (coordinates at) }
     ensures value { IfOk result (λ v. (coeffs : List F) × Interpolates F.ops F.generators (log_size domain) (shift_of domain) coeffs evals.now
         × (v ≡ value EF.ops (map EF.embed coeffs) (coordinates at))) }
     ensures only { IfOk result (λ v. (coeffs : List F) → Interpolates F.ops F.generators (log_size domain) (shift_of domain) coeffs evals.now →

@@ -3,9 +3,8 @@ ghost use Rattle.std.specs.Prelude.{◌≡◌, ◌≢◌, ◌≤◌, length, map
 ghost use Rattle.circle_field.specs.Circle.{plus, opposite};
 ghost use Rattle.circle_field.specs.Field.{sub};
 ghost use Rattle.circle_point.specs.Point.{coordinates};
-ghost use Rattle.circle_domain.specs.Domain.{log_size, shift_of};
+ghost use Rattle.circle_domain.specs.Domain.{log_size, shift_of, points_of};
 ghost use Rattle.circle_domain.specs.Layers.{pairwise};
-ghost use Rattle.circle_domain.specs.Order.{natural_order};
 ghost use Rattle.circle_domain.specs.Selectors.{vanishing_on, zero_at};
 
 use crate::domain::CircleDomain;
@@ -23,7 +22,7 @@ pub(crate) fn natural_points<F: ComplexExtendable>(
     requires positive { 1 ≤ log_size domain }
     requires in_group { log_size domain ≤ F.CIRCLE_TWO_ADICITY }
     ensures { IfOk result (λ points. map coordinates points.items
-        ≡ natural_order F.ops F.generators (log_size domain) (shift_of domain)) }
+        ≡ points_of F.ops F.generators domain) }
 {
     domain.points().collect(alloc)
 }
