@@ -3,13 +3,13 @@ ghost use Rattle.std.specs.Prelude.{◌≡◌, ◌≢◌, ℕ, ◌<◌, ◌≤�
 ghost use Rattle.std.specs.List.{range_with_len};
 ghost use Rattle.circle_commit.specs.Matrix.{IsPowerOfTwo};
 ghost use Rattle.circle_commit.specs.RowMajorMatrix.{rows, width_of, height_of};
-ghost use Rattle.circle_point.specs.Basis.{basis_values, values_at, doubled_x};
+ghost use Rattle.circle_point.specs.Basis.{basis_values, doubled_x};
 ghost use Rattle.circle_domain.specs.Order.{natural_order, cfft_order, coset, IsGenuine};
 ghost use Rattle.circle_point.specs.Point.{coordinates};
 ghost use Rattle.circle_domain.specs.Clear.{IsClearOf};
 ghost use Rattle.circle_domain.specs.Domain.{log_size, shift_of};
 ghost use Rattle.circle_domain.specs.Ordering.{other_order};
-ghost use Rattle.circle_domain.specs.Values.{HasValues, with_zero_rows, lifted_values_at};
+ghost use Rattle.circle_domain.specs.Values.{HasValues, with_zero_rows, lifted_values_at, values_at};
 ghost use Rattle.circle_domain.specs.Layers.{copies, every_second, layer_factors};
 
 use crate::dot_product::columnwise_dot_product;
