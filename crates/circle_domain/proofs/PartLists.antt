@@ -28,16 +28,16 @@ pub length-natural_order : {F : Type 0} (k : FieldOps F) (gen : ℕ → Coordina
 length-natural_order k gen n s h = length-natural_from k (2 ^ (n - 1)) (gen (n - 1)) s 0 ∙ two_halves n h
 
 -- as many parts as shifts
-pub part_count : {C D : Type 0} (shift : D → C) (parts : List D) (natural : List C) (c : ℕ) → c ≤ length natural → map shift parts ≡ take c natural → length parts ≡ c
+part_count : {C D : Type 0} (shift : D → C) (parts : List D) (natural : List C) (c : ℕ) → c ≤ length natural → map shift parts ≡ take c natural → length parts ≡ c
 part_count shift parts natural c h e = sym (length-map parts shift) ∙ ap length e ∙ length-take-le c natural h
 
-pub parts_room : (c b n : ℕ) → c ≡ 2 ^ b → 2 * c ≤ 2 ^ n → b < n
-parts_room c b n is h = let le : 2 ^ suc b ≤ 2 ^ n = omega (arith, pow-suc 2 b, is, h) in pow_order (suc b) n le
+pub parts_room : (b n c : ℕ) → 2 ^ b ≡ c → 2 * c ≤ 2 ^ n → b < n
+parts_room b n c is h = let le : 2 ^ suc b ≤ 2 ^ n = omega (arith, pow-suc 2 b, is, h) in pow_order (suc b) n le
 
-pub part_sizes : (c b n : ℕ) → c ≡ 2 ^ b → b < n → 2 ^ (n - b) * c ≡ 2 ^ n
-part_sizes c b n is h =
-    let e : (n - b) + b ≡ n = omega (arith, h) in
-    ap (λ m. 2 ^ (n - b) * m) is ∙ sym (pow-add 2 (n - b) b) ∙ ap (λ m. 2 ^ m) e
+pub part_sizes : (b n c : ℕ) → 2 ^ b ≡ c → 2 * c ≤ 2 ^ n → 2 ^ (n - b) * c ≡ 2 ^ n
+part_sizes b n c is h =
+    let e : (n - b) + b ≡ n = omega (arith, parts_room b n c is h) in
+    ap (λ m. 2 ^ (n - b) * m) (sym is) ∙ sym (pow-add 2 (n - b) b) ∙ ap (λ m. 2 ^ m) e
 
 -- one shift more
 pub shifts_next : {C D : Type 0} (shift : D → C) (parts : List D) (part : D) (natural : List C) (i : ℕ) (p : C) → map shift parts ≡ take i natural →
@@ -91,14 +91,14 @@ module _ {F : Type 0} {k : FieldOps F} (laws : FieldLaws k) {gen : ℕ → Coord
       ∙ part-at laws gens n b room standard.0 i within ∙ ap Some (sym (whole-at i p here))
 
   -- each point stands at its place in its part
-  pub places : (c : ℕ) → c ≡ 2 ^ b → (i : ℕ) (p : Coordinates F) → slice_get (natural_order k gen n s) i ≡ Some p →
+  places : (c : ℕ) → c ≡ 2 ^ b → (i : ℕ) (p : Coordinates F) → slice_get (natural_order k gen n s) i ≡ Some p →
       IfSome (slice_get parts (part_of c i)) (λ d. slice_get (of_part d) (place_in c i) ≡ Some p)
   places c is i p here =
       subst (λ m. IfSome (slice_get parts (part_of m i)) (λ d. slice_get (of_part d) (place_in m i) ≡ Some p)) (sym is)
       (if_some_at parts (part_of (2 ^ b) i) (λ d. slice_get (of_part d) (place_in (2 ^ b) i) ≡ Some p) (place-at i p here))
 
   -- the parts are disjoint
-  pub disjoint : AllPairs (λ d e. AreDisjoint (of_part d) (of_part e)) parts
+  disjoint : AllPairs (λ d e. AreDisjoint (of_part d) (of_part e)) parts
   disjoint = λ i j d lt lj.
       let first = slice_index_or parts i d in
       let second = slice_index_or parts j d in
@@ -111,7 +111,7 @@ module _ {F : Type 0} {k : FieldOps F} (laws : FieldLaws k) {gen : ℕ → Coord
   contained xs i p e = (i, slice_get_within xs i p e, get_or_from_slice_get xs i p p e)
 
   -- and make up the whole
-  pub whole : (p : Coordinates F) → Contains (natural_order k gen n s) p ↔ Any (λ d. Contains (of_part d) p) parts
+  whole : (p : Coordinates F) → Contains (natural_order k gen n s) p ↔ Any (λ d. Contains (of_part d) p) parts
   whole p =
       let natural = natural_order k gen n s in (
         λ h.
@@ -140,3 +140,27 @@ module _ {F : Type 0} {k : FieldOps F} (laws : FieldLaws k) {gen : ℕ → Coord
             (ap (λ (q : Coordinates F). slice_get (natural_order k gen n q) i) standard.1
             ∙ standard-point laws.ring gens n (omega (arith, room)) standard.0 i (place-below laws gens n b room standard.0 j r lj lr) ∙ ap Some (sym same)),
       )
+
+-- what the c parts of a domain are to callers
+pub record AreParts {F : Type 0} (k : FieldOps F) (gen : ℕ → Coordinates F) (n c : ℕ) (s : Coordinates F)
+    {D : Type 0} (size : D → ℕ) (shift : D → Coordinates F) (parts : List D) : Type 0 where
+  pub disjoint : AllPairs (λ d e. AreDisjoint (natural_order k gen (size d) (shift d)) (natural_order k gen (size e) (shift e))) parts
+  pub whole : (p : Coordinates F) → Contains (natural_order k gen n s) p ↔ Any (λ d. Contains (natural_order k gen (size d) (shift d)) p) parts
+  pub places : (i : ℕ) (p : Coordinates F) → slice_get (natural_order k gen n s) i ≡ Some p →
+      IfSome (slice_get parts (part_of c i)) (λ d. slice_get (natural_order k gen (size d) (shift d)) (place_in c i) ≡ Some p)
+
+-- domains of equal sizes whose shifts are the first points of a standard domain are its parts
+pub are_parts : {F : Type 0} {k : FieldOps F} (laws : FieldLaws k) {gen : ℕ → Coordinates F} {bits : ℕ} (gens : AreGenerators k bits gen)
+    (n b c : ℕ) (is : 2 ^ b ≡ c) (fit : 2 * c ≤ 2 ^ n) (s : Coordinates F) (standard : IsStandard bits gen n s)
+    {D : Type 0} (size : D → ℕ) (shift : D → Coordinates F) (parts : List D) →
+    All (λ d. size d ≡ n - b) parts → map shift parts ≡ take c (natural_order k gen n s) → AreParts k gen n c s size shift parts
+are_parts {k = k} laws {gen = gen} gens n b c is fit s standard size shift parts sizes shifts =
+    let room = parts_room b n c is fit in
+    let first : map shift parts ≡ take (2 ^ b) (natural_order k gen n s) = shifts ∙ ap (λ m. take m (natural_order k gen n s)) (sym is) in
+    let below : 2 ^ b < 2 ^ n = pow-lt room in
+    let count = part_count shift parts (natural_order k gen n s) (2 ^ b) (omega (arith, below, length-natural_order k gen n s (omega (arith, room)))) first in
+    record {
+      disjoint = disjoint laws gens n b room s standard size shift parts count sizes first;
+      whole = whole laws gens n b room s standard size shift parts count sizes first;
+      places = places laws gens n b room s standard size shift parts count sizes first c (sym is);
+    }

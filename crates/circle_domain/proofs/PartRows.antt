@@ -52,10 +52,10 @@ rows_go rows_of parts all c m some long matched i lt =
 pub whole_parts : (c n : ℕ) → IsPowerOfTwo c → 2 * c ≤ 2 ^ n → (m : ℕ) × (2 ^ n ≡ m * (2 * c))
 whole_parts c n power room =
     let b = power.0 in
-    let less = parts_room c b n power.1 room in
+    let less = parts_room b n c (sym power.1) room in
     let e : n - b ≡ suc (n - b - 1) = omega (arith, less) in
     let twice : 2 ^ (n - b) ≡ 2 ^ (n - b - 1) * 2 = ap (λ m. 2 ^ m) e ∙ pow-suc 2 (n - b - 1) in
-    (2 ^ (n - b - 1), sym (ap (λ m. m * c) (sym twice) ∙ part_sizes c b n power.1 less) ∙ omega arith)
+    (2 ^ (n - b - 1), sym (ap (λ m. m * c) (sym twice) ∙ part_sizes b n c (sym power.1) room) ∙ omega arith)
 
 module _ {F : Type 0} {k : FieldOps F} (laws : FieldLaws k) {gen : ℕ → Coordinates F} {bits : ℕ} (gens : AreGenerators k bits gen) where
   -- a point of the whole stands at its place in the part of its shift
@@ -65,7 +65,7 @@ module _ {F : Type 0} {k : FieldOps F} (laws : FieldLaws k) {gen : ℕ → Coord
   point_goes c n s power room standard i m p t sizes here first =
       let b = power.0 in
       let is = power.1 in
-      let less = parts_room c b n is room in
+      let less = parts_room b n c (sym is) room in
       let positive : 1 ≤ n = omega (arith, less) in
       let within : i < 2 ^ n = omega (arith, slice_get_within (natural_order k gen n s) i p here, length-natural_order k gen n s positive) in
       let size : m + b ≡ n = pow_injective (m + b) n (pow-add 2 m b ∙ ap (λ x. 2 ^ m * x) (sym is) ∙ sizes) in

@@ -7,7 +7,8 @@ use Rattle.circle_field.specs.Field.{FieldOps}
 use Rattle.circle_field.specs.Circle.{Coordinates}
 use Rattle.circle_commit.specs.Matrix.{rows_from, column}
 use Rattle.circle_commit.specs.RowFacts.{rows_from-widths}
-use Rattle.circle_point.specs.Basis.{value, values_at}
+use Rattle.circle_point.specs.Basis.{value}
+use Rattle.circle_domain.specs.Values.{values_at}
 use Rattle.circle_domain.proofs.Columns.{rows-by_columns, column-made}
 
 module _ (len count width : ℕ) (long : len ≡ count * width) (positive : 1 ≤ width) where

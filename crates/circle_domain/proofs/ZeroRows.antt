@@ -8,9 +8,9 @@ use Rattle.circle_field.specs.Field.{FieldOps, RingLaws}
 use Rattle.circle_field.specs.RingFacts.{zero_mul}
 use Rattle.circle_field.specs.Circle.{Coordinates}
 use Rattle.circle_commit.specs.Matrix.{column}
-use Rattle.circle_point.specs.Basis.{weighted_sum, circle_basis, value, values_at}
+use Rattle.circle_point.specs.Basis.{weighted_sum, circle_basis, value}
 use Rattle.circle_domain.specs.Order.{cfft_order}
-use Rattle.circle_domain.specs.Values.{HasValues, with_zero_rows}
+use Rattle.circle_domain.specs.Values.{HasValues, with_zero_rows, values_at}
 use Rattle.circle_point.proofs.Bases.{shifted}
 use Rattle.circle_domain.proofs.Blocks.{all-append}
 

@@ -4,8 +4,12 @@ use Rattle.std.specs.List.{range_with_len}
 use Rattle.circle_field.specs.Field.{FieldOps}
 use Rattle.circle_field.specs.Circle.{Coordinates}
 use Rattle.circle_commit.specs.Matrix.{column}
-use Rattle.circle_point.specs.Basis.{value, values_at}
+use Rattle.circle_point.specs.Basis.{value}
 use Rattle.circle_domain.specs.Order.{cfft_order, natural_order}
+
+-- the values at p of the polynomials whose coefficients are the columns of a matrix
+abbrev pub values_at : {F : Type 0} → FieldOps F → List (List F) → ℕ → Coordinates F → List F
+values_at k rows width p = map (λ j. value k (column k.zero rows j) p) (range_with_len 0 width)
 
 -- as many coefficients as the domain (n, s) has points, a row for each index, whose polynomials' values
 -- at the points in the transform's order are the rows

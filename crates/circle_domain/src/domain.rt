@@ -11,7 +11,7 @@ ghost use Rattle.circle_domain.specs.Selectors.{IsFinite, IsLeastLog, zero_at};
 use crate::lagrange::value_off_domain;
 use crate::row_selectors::{natural_points, one_less_scaled, row_selector, vanishing_values};
 use crate::splitting::rows_of_part;
-use circle_commit::{LagrangeSelectors, PolynomialSpace, RowMajorMatrix};
+use circle_commit::{LagrangeSelectors, PolynomialSpace, RowMajorMatrix, log2_strict};
 use circle_field::{
     ComplexExtendable, ExtensionField, Field, Operations, batch_multiplicative_inverse,
 };
@@ -427,7 +427,7 @@ impl<F: ComplexExtendable> PolynomialSpace for CircleDomain<F> {
             → IfSome (slice_get parts.items (part_of num_chunks i)) (λ part.
             slice_get (points_of F.ops F.generators part) (place_in num_chunks i) ≡ Some p)) }
     {
-        let log_n = self.log_n - num_chunks.ilog2() as usize;
+        let log_n = self.log_n - log2_strict(num_chunks);
         let mut parts = Vec::with_capacity(alloc, num_chunks)?;
         for i in 0..num_chunks {
             parts.push(CircleDomain::new(log_n, self.nth_point(i)))?;
@@ -583,7 +583,7 @@ impl<F: ComplexExtendable> PolynomialSpace for CircleDomain<F> {
         if col.len() == 1 {
             return Ok(Ext::from_base(col[0]));
         }
-        let log_period = col.len().ilog2() as usize;
+        let log_period = log2_strict(col.len());
         let doubled = finite_point(point).repeated_double(self.log_n - log_period);
         value_off_domain(alloc, Self::standard(log_period), col, doubled)
     }

@@ -8,7 +8,7 @@ ghost use Rattle.circle_domain.specs.Domain.{log_size, shift_of};
 ghost use Rattle.circle_domain.specs.Order.{coset};
 
 use crate::domain::CircleDomain;
-use circle_commit::{Matrix, RowIndexMap, RowIndexMappedView, Shape};
+use circle_commit::{Matrix, RowIndexMap, RowIndexMappedView, Shape, log2_strict};
 use circle_field::{ComplexExtendable, Field};
 use circle_point::Point;
 use std::alloc::{AllocError, Global};
@@ -116,7 +116,7 @@ pub trait CfftPermutable<T>: Matrix<T> {
 
 impl<T, M: Matrix<T>> CfftPermutable<T> for M {
     fn cfft_perm_rows(self) -> CfftView<Self> {
-        let log_height = self.height().ilog2() as usize;
+        let log_height = log2_strict(self.height());
         RowIndexMappedView {
             index_map: CfftPerm::new(log_height),
             inner: self,

@@ -3,10 +3,10 @@ use Rattle.std.specs.Prelude.{◌≡◌, ◌≢◌, ℕ, ◌^◌, ◌≤◌, Lis
 use Rattle.std.proofs.Common.{suc, sym, ◌∙◌, ap, subst, arith}
 use Rattle.circle_field.specs.Field.{FieldOps, RingLaws, FieldLaws}
 use Rattle.circle_field.specs.Circle.{Coordinates, IsOnCircle, AreGenerators, origin, times}
-use Rattle.circle_point.specs.Basis.{value, values_at}
+use Rattle.circle_point.specs.Basis.{value}
 use Rattle.circle_domain.specs.Order.{natural_order}
 use Rattle.circle_domain.specs.Ordering.{other_order, reordered}
-use Rattle.circle_domain.specs.Values.{HasValues, Interpolates}
+use Rattle.circle_domain.specs.Values.{HasValues, Interpolates, values_at}
 use Rattle.circle_domain.proofs.CosetOrder.{other_order-points}
 use Rattle.circle_domain.proofs.NaturalValues.{reordered-points}
 use Rattle.circle_domain.proofs.OtherOrder.{other_order-twice}

@@ -15,7 +15,8 @@ use Rattle.circle_commit.specs.PeriodicLdeTable.{width_of as table_width, height
 use Rattle.circle_commit.specs.RowMajorMatrix.{rows as rows_of, width_of, height_of, length-rows, rows-width}
 use Rattle.circle_commit.specs.declared.matrix.RowMajorMatrix.{RowMajorMatrix}
 use Rattle.circle_commit.specs.declared.periodic.PeriodicLdeTable.{PeriodicLdeTable}
-use Rattle.circle_point.specs.Basis.{value, values_at}
+use Rattle.circle_point.specs.Basis.{value}
+use Rattle.circle_domain.specs.Values.{values_at}
 use Rattle.circle_domain.specs.Order.{natural_order}
 use Rattle.circle_domain.specs.Periodic.{IsPeriodicValue}
 use Rattle.circle_domain.proofs.PartLists.{length-natural_order}

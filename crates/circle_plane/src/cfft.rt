@@ -2,13 +2,13 @@
 ghost use Rattle.std.specs.Prelude.{◌≡◌, ℕ, ◌≤◌, ◌^◌, ◌-◌, ◌++◌, List, map, take, IfOk, OnOk};
 ghost use Rattle.circle_commit.specs.Matrix.{IsPowerOfTwo};
 ghost use Rattle.circle_commit.specs.RowMajorMatrix.{rows, width_of, height_of};
-ghost use Rattle.circle_point.specs.Basis.{basis_values, values_at};
+ghost use Rattle.circle_point.specs.Basis.{basis_values};
 ghost use Rattle.circle_domain.specs.Order.{natural_order, cfft_order, IsGenuine};
 ghost use Rattle.circle_point.specs.Point.{coordinates};
 ghost use Rattle.circle_domain.specs.Clear.{IsClearOf};
 ghost use Rattle.circle_domain.specs.Domain.{log_size, shift_of};
 ghost use Rattle.circle_domain.specs.Ordering.{other_order};
-ghost use Rattle.circle_domain.specs.Values.{HasValues, with_zero_rows, lifted_values_at};
+ghost use Rattle.circle_domain.specs.Values.{HasValues, with_zero_rows, lifted_values_at, values_at};
 ghost use Rattle.circle_domain.specs.Layers.{copies};
 
 use crate::dot_product::columnwise_dot_product;

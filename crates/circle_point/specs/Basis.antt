@@ -5,7 +5,6 @@ use Rattle.std.specs.List.{range_with_len}
 use Rattle.std.proofs.Common.{zero, suc}
 use Rattle.circle_field.specs.Field.{FieldOps}
 use Rattle.circle_field.specs.Circle.{Coordinates}
-use Rattle.circle_commit.specs.Matrix.{column}
 
 module _ {F : Type 0} (k : FieldOps F) where
   -- the x coordinate of the double of a point with x coordinate x: 2 x^2 - 1
@@ -60,7 +59,3 @@ module _ {F : Type 0} (k : FieldOps F) where
   -- the values at p of the first 2^n polynomials of the basis
   abbrev pub basis_values : ℕ → Coordinates F → List F
   basis_values n p = map (λ j. circle_basis j p) (range_with_len 0 (2 ^ n))
-
-  -- the values at p of the polynomials whose coefficients are the columns of a matrix
-  abbrev pub values_at : List (List F) → ℕ → Coordinates F → List F
-  values_at rows width p = map (λ j. value (column k.zero rows j) p) (range_with_len 0 width)

@@ -2,7 +2,7 @@
 ghost use Rattle.std.specs.Prelude.{◌≡◌, ◌<◌, ◌↔◌, length, map, All, IsTrue, IfOk, IsErrOf, vec_len};
 ghost use Rattle.circle_field.specs.Circle.{IsOnCircle, at};
 ghost use Rattle.circle_field.specs.Mersenne31.{operations, generators};
-ghost use Rattle.circle_point.specs.Basis.{values_at};
+ghost use Rattle.circle_domain.specs.Values.{values_at};
 ghost use Rattle.circle_domain.specs.Order.{natural_order};
 ghost use Rattle.circle_commit.specs.RowMajorMatrix.{rows as matrix_rows, width_of, height_of};
 ghost use Rattle.circle_tool.specs.Rows.{lists, IsRectangular, row_length};

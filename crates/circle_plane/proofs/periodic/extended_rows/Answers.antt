@@ -6,7 +6,7 @@ use Rattle.std.proofs.lemmas.Nat.{pow-add}
 use Rattle.std.proofs.lemmas.Result.{IfOk-weaker}
 use Rattle.circle_field.specs.Circle.{times}
 use Rattle.circle_commit.specs.RowMajorMatrix.{rows, length-rows}
-use Rattle.circle_point.specs.Basis.{values_at}
+use Rattle.circle_domain.specs.Values.{values_at}
 use Rattle.circle_domain.specs.Domain.{log_size, shift_of}
 use Rattle.circle_domain.specs.Order.{IsGenuine, natural_order}
 use Rattle.circle_domain.specs.Ordering.{other_order}

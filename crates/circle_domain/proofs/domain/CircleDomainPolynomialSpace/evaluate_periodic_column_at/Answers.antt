@@ -1,5 +1,4 @@
 use Rattle.std.proofs.Common.{◌≡◌, ℕ, ◌+◌, ◌-◌, ◌^◌, ◌≤◌, ◌∙◌, sym, ap, subst, arith, length, map, List, slice_index_or}
-use Rattle.std.proofs.Math.Nat.{pow-suc}
 use Rattle.circle_field.specs.Circle.{times}
 use Rattle.circle_point.specs.Basis.{value}
 use Rattle.circle_point.specs.Point.{coordinates}
@@ -8,7 +7,7 @@ use Rattle.circle_domain.specs.Clear.{IsClearOf}
 use Rattle.circle_domain.specs.Domain.{log_size, shift_of}
 use Rattle.circle_domain.specs.Order.{IsGenuine, natural_order}
 use Rattle.circle_domain.specs.Values.{Interpolates}
-use Rattle.circle_domain.proofs.Powers.{power_is, pow_order, pow_injective, pow_within}
+use Rattle.circle_domain.proofs.Powers.{pow_order, pow_within}
 use Rattle.circle_domain.proofs.Results.{if_ok_both}
 use Rattle.circle_domain.proofs.StandardDomain.{standard-genuine}
 use Rattle.circle_domain.proofs.domain.CircleDomainPolynomialSpace.evaluate_periodic_column_at.Goals as goal
@@ -24,37 +23,39 @@ returns-then-col-eq1 g c =
       only = λ j positive long. absurd (let low : 2 ^ 1 ≤ 2 ^ j = pow_within 1 j positive in omega (arith, one, long, low));
     }
 
+pub log2_strict-log_period-requires : goal.log2_strict-log_period-requires
+log2_strict-log_period-requires g c = c.requires.power (omega (arith, c.if-col-eq0.false, c.if-col-eq1.false))
+
 pub overflow_sub-self : goal.overflow_sub-self
 overflow_sub-self g c =
     let col = c.args.col.now in
-    let r = c.ilog2-log_period.result in
+    let r = c.log2_strict-log_period.result in
     let two : 2 ≤ length col = omega (arith, c.if-col-eq0.false, c.if-col-eq1.false) in
-    pow_order r c.args.self.now.log_n (omega (arith, c.ilog2-log_period.ensures.power_le, c.requires.at_most_size two))
+    pow_order r c.args.self.now.log_n (omega (arith, c.log2_strict-log_period.ensures.power, c.requires.at_most_size two))
 
 pub standard-requires : goal.standard-requires
 standard-requires g c =
     let col = c.args.col.now in
-    let r = c.ilog2-log_period.result in
+    let r = c.log2_strict-log_period.result in
     let two : 2 ≤ length col = omega (arith, c.if-col-eq0.false, c.if-col-eq1.false) in
-    let within : r ≤ c.args.self.now.log_n = pow_order r c.args.self.now.log_n (omega (arith, c.ilog2-log_period.ensures.power_le, c.requires.at_most_size two)) in
+    let within : r ≤ c.args.self.now.log_n = pow_order r c.args.self.now.log_n (omega (arith, c.log2_strict-log_period.ensures.power, c.requires.at_most_size two)) in
     omega (arith, within, (c.requires.standard two).0)
 
 -- the length is the power of two, of at least one bit
 pub value_off_domain-requires-clause-size : goal.value_off_domain-requires-clause-size
 value_off_domain-requires-clause-size g c =
     let col = c.args.col.now in
-    let r = c.ilog2-log_period.result in
-    let two : 2 ≤ length col = omega (arith, c.if-col-eq0.false, c.if-col-eq1.false) in
-    power_is (length col) r (c.requires.power two) c.ilog2-log_period.ensures.power_le (omega (arith, c.ilog2-log_period.ensures.next_power_gt, pow-suc 2 r))
+    let r = c.log2_strict-log_period.result in
+    sym c.log2_strict-log_period.ensures.power
     ∙ ap (λ j. 2 ^ j) (sym c.standard.ensures.size)
 
 pub value_off_domain-requires-clause-genuine : goal.value_off_domain-requires-clause-genuine
 value_off_domain-requires-clause-genuine g c =
     let col = c.args.col.now in
-    let r = c.ilog2-log_period.result in
+    let r = c.log2_strict-log_period.result in
     let n = c.args.self.now.log_n in
     let two : 2 ≤ length col = omega (arith, c.if-col-eq0.false, c.if-col-eq1.false) in
-    let long : length col ≡ 2 ^ r = power_is (length col) r (c.requires.power two) c.ilog2-log_period.ensures.power_le (omega (arith, c.ilog2-log_period.ensures.next_power_gt, pow-suc 2 r)) in
+    let long : length col ≡ 2 ^ r = sym c.log2_strict-log_period.ensures.power in
     let positive : 1 ≤ r = pow_order 1 r (omega (arith, long, two)) in
     let within : r ≤ n = pow_order r n (omega (arith, long, c.requires.at_most_size two)) in
     let genuine = standard-genuine g.F.Operations.laws g.met.F.ComplexExtendable.generators_law r positive (omega (arith, within, (c.requires.standard two).0)) in
@@ -64,9 +65,9 @@ value_off_domain-requires-clause-genuine g c =
 pub value_off_domain-requires-clause-in_group : goal.value_off_domain-requires-clause-in_group
 value_off_domain-requires-clause-in_group g c =
     let col = c.args.col.now in
-    let r = c.ilog2-log_period.result in
+    let r = c.log2_strict-log_period.result in
     let two : 2 ≤ length col = omega (arith, c.if-col-eq0.false, c.if-col-eq1.false) in
-    let within : r ≤ c.args.self.now.log_n = pow_order r c.args.self.now.log_n (omega (arith, c.ilog2-log_period.ensures.power_le, c.requires.at_most_size two)) in
+    let within : r ≤ c.args.self.now.log_n = pow_order r c.args.self.now.log_n (omega (arith, c.log2_strict-log_period.ensures.power, c.requires.at_most_size two)) in
     omega (arith, within, (c.requires.standard two).0, c.standard.ensures.size)
 
 pub value_off_domain-requires-clause-clear : goal.value_off_domain-requires-clause-clear
@@ -76,10 +77,10 @@ value_off_domain-requires-clause-clear g c =
     let l = g.Ext.Operations.ops in
     let m = g.Ext.ExtensionField.embed in
     let col = c.args.col.now in
-    let r = c.ilog2-log_period.result in
+    let r = c.log2_strict-log_period.result in
     let n = c.args.self.now.log_n in
     let two : 2 ≤ length col = omega (arith, c.if-col-eq0.false, c.if-col-eq1.false) in
-    let long : length col ≡ 2 ^ r = power_is (length col) r (c.requires.power two) c.ilog2-log_period.ensures.power_le (omega (arith, c.ilog2-log_period.ensures.next_power_gt, pow-suc 2 r)) in
+    let long : length col ≡ 2 ^ r = sym c.log2_strict-log_period.ensures.power in
     let positive : 1 ≤ r = pow_order 1 r (omega (arith, long, two)) in
     let at : coordinates c.repeated_double-doubled.result ≡ times l (2 ^ (n - r)) (from_line l c.args.point) =
     c.repeated_double-doubled.ensures ∙ ap (times l (2 ^ (n - r))) c.finite_point.ensures in
@@ -95,11 +96,11 @@ returns g c =
     let l = g.Ext.Operations.ops in
     let m = g.Ext.ExtensionField.embed in
     let col = c.args.col.now in
-    let r = c.ilog2-log_period.result in
+    let r = c.log2_strict-log_period.result in
     let n = c.args.self.now.log_n in
     let t = from_line l c.args.point in
     let two : 2 ≤ length col = omega (arith, c.if-col-eq0.false, c.if-col-eq1.false) in
-    let long : length col ≡ 2 ^ r = power_is (length col) r (c.requires.power two) c.ilog2-log_period.ensures.power_le (omega (arith, c.ilog2-log_period.ensures.next_power_gt, pow-suc 2 r)) in
+    let long : length col ≡ 2 ^ r = sym c.log2_strict-log_period.ensures.power in
     let at : coordinates c.repeated_double-doubled.result ≡ times l (2 ^ (n - r)) t =
     c.repeated_double-doubled.ensures ∙ ap (times l (2 ^ (n - r))) c.finite_point.ensures in
     let shift : (j : ℕ) → j ≡ r → shift_of c.standard.result ≡ gen (j + 1) = λ j e. c.standard.ensures.shift ∙ ap (λ i. gen (i + 1)) (sym e) in
@@ -115,9 +116,9 @@ returns g c =
       empty = λ none. absurd (omega (arith, two, ap length none));
       constant = λ x is. absurd (omega (arith, two, ap length is));
       of_period = λ j positive e.
-          let same_log : j ≡ r = pow_injective j r (sym e ∙ long) in
+          let same_log : j ≡ r = sym (c.log2_strict-log_period.ensures.only j e) in
           (made.0, back j made.0 same_log made.1, made.2 ∙ same j made.0 same_log);
       only = λ j positive e coeffs has.
-          let same_log : j ≡ r = pow_injective j r (sym e ∙ long) in
+          let same_log : j ≡ r = sym (c.log2_strict-log_period.ensures.only j e) in
           only coeffs (there j coeffs same_log has) ∙ same j coeffs same_log;
     }) c.value_off_domain.ensures.value c.value_off_domain.ensures.only

@@ -5,7 +5,8 @@ use Rattle.circle_field.proofs.Inverses.{take-whole}
 use Rattle.circle_commit.specs.Matrix.{rows_from, column}
 use Rattle.circle_commit.specs.RowFacts.{length-rows_from}
 use Rattle.circle_commit.specs.RowMajorMatrix.{rows, width_of, height_of, values_of, length-rows, length-values}
-use Rattle.circle_point.specs.Basis.{value, values_at}
+use Rattle.circle_point.specs.Basis.{value}
+use Rattle.circle_domain.specs.Values.{values_at}
 use Rattle.circle_domain.specs.Domain.{log_size, shift_of}
 use Rattle.circle_domain.specs.Order.{cfft_order}
 use Rattle.circle_domain.specs.Ordering.{other_order}

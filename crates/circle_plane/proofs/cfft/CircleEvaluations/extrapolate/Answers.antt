@@ -1,6 +1,6 @@
 use Rattle.std.proofs.Common.{◌≡◌, ◌^◌, ◌≤◌, ◌∙◌, ap, map, arith}
 use Rattle.circle_commit.specs.RowMajorMatrix.{rows, width_of}
-use Rattle.circle_point.specs.Basis.{values_at}
+use Rattle.circle_domain.specs.Values.{values_at}
 use Rattle.circle_plane.specs.CircleEvaluations.{cfft_values}
 use Rattle.circle_domain.specs.Domain.{log_size, shift_of}
 use Rattle.circle_domain.specs.Order.{cfft_order, natural_order}
