@@ -1,6 +1,8 @@
+pub mod Due
 pub mod Grinding
 pub mod Interaction
 pub mod Least
+pub mod Moves
 pub mod Observing
 pub mod Played
 pub mod Rows

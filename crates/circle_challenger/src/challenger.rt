@@ -1,8 +1,10 @@
 //! The traits of challengers.
 ghost use Rattle.std.specs.Prelude.{◌≡◌, ℕ, ◌≤◌, ◌<◌, ◌^◌, IfSome, IfNone, IsTrue, Option, Some, true, false};
+ghost use Rattle.circle_field.specs.Field.{of_nat};
 ghost use Rattle.circle_challenger.specs.Grinding.{passes, after_check};
+ghost use Rattle.circle_challenger.specs.Moves.{Moves, RunMoves};
 
-use circle_field::Field;
+use circle_field::{ExtensionField, Field};
 
 /// The state of a challenger as contracts see it: what its answers depend on, and nothing else.
 ///
@@ -85,4 +87,50 @@ pub trait GrindingChallenger<F: Field>: CanObserve<F> + CanSampleBits {
         ensures none { IfNone result ((w : F) → passes Self.after_observe Self.sampled_bits (Self.state self.old) bits w ≡ false) }
         ensures unchanged { IfNone result (Self.state self.new ≡ Self.state self.old) }
         ensures easy { bits ≡ 0 → result ≡ Some F.ops.zero };
+}
+
+/// What a challenger over the field `F` is to a transcript whose challenges are in the extension `EF`,
+/// for contracts alone.
+///
+/// Each challenger that samples and grinds has it, so no function asks for it: a clause cites
+/// `⟦<C as FieldChallenger<F, EF>>⟧.moves`.
+pub trait FieldChallenger<F: Field, EF: ExtensionField<F>>: CanSample<F> + GrindingChallenger<F> {
+    ghost moves: { Moves Self Self.State F EF };
+}
+
+impl<F: Field, EF: ExtensionField<F>, C: CanSample<F> + GrindingChallenger<F>> FieldChallenger<
+    F,
+    EF,
+> for C {
+    ghost moves = { record {
+      state = C.state;
+      after_observe = C.after_observe;
+      sampled = C.sampled;
+      after_sample = C.after_sample;
+      sampled_bits = C.sampled_bits;
+      after_bits = C.after_bits;
+      degree = EF.DEGREE;
+      coefficients = EF.coefficients;
+      of_nat = of_nat F.ops;
+      zero = F.ops.zero;
+    } };
+}
+
+/// The same of a challenger that takes in commitments of the type `Com` too: a clause cites
+/// `⟦<C as RunChallenger<F, EF, Com>>⟧.run_moves`.
+pub trait RunChallenger<F: Field, EF: ExtensionField<F>, Com>: FieldChallenger<F, EF>
+    + CanObserve<Com> {
+    ghost run_moves: { RunMoves Self Self.State F EF Com };
+}
+
+impl<
+    F: Field,
+    EF: ExtensionField<F>,
+    Com,
+    C: CanSample<F> + GrindingChallenger<F> + CanObserve<Com>,
+> RunChallenger<F, EF, Com> for C {
+    ghost run_moves = { record {
+      elements = ⟦<C as FieldChallenger<F, EF>>⟧.moves;
+      after_commitment = ⟦<C as CanObserve<Com>>⟧.after_observe;
+    } };
 }

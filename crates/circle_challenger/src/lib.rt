@@ -13,7 +13,10 @@ pub mod state;
 #[cfg(test)]
 mod tests;
 
-pub use challenger::{CanObserve, CanSample, CanSampleBits, ChallengerState, GrindingChallenger};
+pub use challenger::{
+    CanObserve, CanSample, CanSampleBits, ChallengerState, FieldChallenger, GrindingChallenger,
+    RunChallenger,
+};
 pub use domain_separator::DomainSeparator;
 pub use due::StepsDue;
 pub use interaction::{Hierarchy, Interaction, Kind, Length, ValueType};
