@@ -62,6 +62,11 @@ residue_of_nat (suc n) =
     let e : 1 + n ≡ suc n = omega arith in
     ap (λ x. (1 + x) % order) (residue_of_nat n) ∙ add-mod-mod 1 n order ∙ ap (λ x. x % order) e
 
+-- numbers below the order are told apart as sums of ones
+pub numbers_told_apart : (m n : ℕ) → m < order → n < order → of_nat operations m ≡ of_nat operations n → m ≡ n
+numbers_told_apart m n p q h =
+    sym (mod-eq_of_lt p) ∙ sym (residue_of_nat m) ∙ ap residue h ∙ residue_of_nat n ∙ mod-eq_of_lt q
+
 -- the element of the folded bits of n is the sum of n ones
 pub folded_of_nat : (n f : ℕ) (r : Mersenne31) → f ≡ n % 2 ^ 31 + n / 2 ^ 31 → r ≡ element f → r ≡ of_nat operations n
 folded_of_nat n f r e h =

@@ -1,6 +1,7 @@
 //! Elements of [`Mersenne31`] as numbers and as bytes.
 ghost use Rattle.std.specs.Prelude.{refl};
 ghost use Rattle.circle_field.specs.Bytes.{bytes, bytes_told_apart};
+ghost use Rattle.circle_field.specs.Mersenne31Laws.{numbers_told_apart};
 ghost use Rattle.circle_field.specs.Mersenne31Prime.{order_prime};
 
 use crate::extension::{ElementBytes, PrimeField64};
@@ -12,6 +13,8 @@ impl PrimeField64 for Mersenne31 {
     ghost ORDER = { 2147483647 };
 
     ghost order_prime = { order_prime };
+
+    ghost numbers_told_apart = { numbers_told_apart };
 
     fn as_u64(&self) -> u64 {
         self.value() as u64

@@ -119,7 +119,8 @@ impl<F: Field> ExtensionField<F> for F {
 
 /// A field of prime order below `2^64`.
 pub trait PrimeField64: Field {
-    /// The number of elements, a prime.
+    /// The number of elements, a prime: each element is the sum of as many ones as one number below
+    /// it, and of no other such number.
     const ORDER: u64;
 
     ghost ORDER: { ℕ };
@@ -130,6 +131,8 @@ pub trait PrimeField64: Field {
         ensures same { of_nat Self.ops result ≡ self.now };
 
     ghost order_prime: { IsPrime ORDER };
+
+    ghost numbers_told_apart: { (m n : ℕ) → m < ORDER → n < ORDER → of_nat Self.ops m ≡ of_nat Self.ops n → m ≡ n };
 }
 
 /// Elements with a fixed number of bytes.
