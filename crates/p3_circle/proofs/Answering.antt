@@ -6,7 +6,7 @@ use Rattle.std.specs.Result.{result_and}
 use Rattle.p3_circle.specs.Refusals.{Test, answer, rounds_tests, round_tests}
 
 -- the first part answers where it refuses, else the others do
-answer-append : {A E : Type 0} (xs ys : List (Test E)) (v : A) → answer (xs ++ ys) v ≡ result_and (answer xs (tt {0})) (answer ys v)
+pub answer-append : {A E : Type 0} (xs ys : List (Test E)) (v : A) → answer (xs ++ ys) v ≡ result_and (answer xs (tt {0})) (answer ys v)
 unfolding answer
 answer-append [] ys v = refl
 answer-append ((true, e) ∷ xs) ys v = refl

@@ -1,1 +1,5 @@
 pub mod Refusals
+pub mod Statement
+pub mod StatementOf
+pub mod Accepts
+pub mod Rows

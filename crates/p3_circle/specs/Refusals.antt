@@ -1,21 +1,39 @@
 -- What is refused of a proof before the challenger is seeded, in order.
-use Rattle.std.specs.Prelude.{ℕ, ◌+◌, ◌==◌, Bool, not, ◌&&◌, if◌then◌else◌, List, [], ◌∷◌, ◌++◌, length, map, Result, Ok, Err, nat_lt}
+use Rattle.std.specs.Prelude.{ℕ, ◌+◌, ◌-◌, ◌^◌, ◌==◌, Bool, not, ◌&&◌, if◌then◌else◌, List, [], ◌∷◌, ◌++◌, length, map, min, Result, Ok, Err, nat_lt, nat_le}
 use Rattle.std.specs.List.{list_all, list_any}
 use Rattle.circle_commit.specs.declared.error.FriError.{FriError}
-use Rattle.circle_commit.specs.declared.error.FriError.TheVariants.{UnsupportedGrinding, ZeroQueries, ZeroBlowup, UnsupportedFoldingCap, CommitRoundCountMismatch, CommitPowWitnessCountMismatch, NonCanonicalPowWitness, CommitPhaseOpeningsCountMismatch, CommitPhaseQueryCountMismatch, SiblingValuesLengthMismatch, PointAtInfinity}
+use Rattle.circle_field.specs.Field.{FieldOps}
+use Rattle.circle_commit.specs.Mmcs.{greatest}
+use Rattle.circle_commit.specs.declared.error.FriError.TheVariants.{NoCommittedMatrices, GlobalMaxHeightTooLarge, InputError as OfInput, UnsupportedGrinding, ZeroQueries, ZeroBlowup, UnsupportedFoldingCap, CommitRoundCountMismatch, CommitPowWitnessCountMismatch, NonCanonicalPowWitness, CommitPhaseOpeningsCountMismatch, CommitPhaseQueryCountMismatch, SiblingValuesLengthMismatch, PointAtInfinity}
 use Rattle.circle_commit.specs.declared.pcs.CommitmentOpening.{CommitmentOpening}
 use Rattle.circle_commit.specs.declared.params.FriParameters.{FriParameters}
 use Rattle.circle_commit.specs.declared.params.PowPhase.{PowPhase}
 use Rattle.circle_commit.specs.declared.params.PowPhase.TheVariants.{Batch, CommitPhase, Query}
+use Rattle.p3_circle.specs.declared.pcs.InputError.{InputError}
+use Rattle.p3_circle.specs.declared.pcs.InputError.TheVariants.{DomainTooSmall}
 
 -- a refusal, and whether there is reason for it
 abbrev pub Test : Type 0 → Type 0
 Test E = Bool × E
 
--- the answer after tests: the first refusal that there is reason for, or the value where there is none
+-- the answer after tests: the first refusal that there is reason for, or the value where there is
+-- none
 unfoldable pub answer : {A E : Type 0} → List (Test E) → A → Result A E
 answer [] value = Ok value
 answer (test ∷ tests) value = if test.0 then Err test.1 else answer tests value
+
+module _ {C A B : Type 0} where
+  -- domains of so many points each, where folding stops at 2^final coefficients: one of too few
+  abbrev pub domain_tests : ℕ → List ℕ → List (Test (FriError C (InputError A B)))
+  domain_tests final log_sizes = map (λ n. (nat_le n final, OfInput (DomainTooSmall n))) log_sizes
+
+  -- no matrix; a domain of too few points; a greatest height that the group has no domain of
+  abbrev pub claim_tests : ℕ → ℕ → ℕ → List ℕ → List (Test (FriError C (InputError A B)))
+  claim_tests two_adicity blowup final log_sizes =
+      let top = greatest log_sizes + blowup in
+      (length log_sizes == 0, NoCommittedMatrices)
+      ∷ (domain_tests final log_sizes
+      ++ (nat_le two_adicity top, GlobalMaxHeightTooLarge (min top (2 ^ 64 - 1)) two_adicity) ∷ [])
 
 module _ {C I : Type 0} where
   -- a difficulty past 30 bits
@@ -39,21 +57,25 @@ module _ {C I : Type 0} where
 
   -- the queries of a round, told by the numbers of their siblings
   abbrev pub sibling_tests : ℕ → List ℕ → List (Test (FriError C I))
-  sibling_tests round siblings = map (λ got. (not (got == 1), SiblingValuesLengthMismatch round 1 got)) siblings
+  sibling_tests round siblings =
+      map (λ got. (not (got == 1), SiblingValuesLengthMismatch round 1 got)) siblings
 
   abbrev pub round_tests : ℕ → ℕ → List ℕ → List (Test (FriError C I))
   round_tests queries round siblings =
-      (not (length siblings == queries), CommitPhaseQueryCountMismatch round queries (length siblings))
+      let got = length siblings in
+      (not (got == queries), CommitPhaseQueryCountMismatch round queries got)
       ∷ sibling_tests round siblings
 
   -- the rounds from one on
   unfoldable pub rounds_tests : ℕ → ℕ → List (List ℕ) → List (Test (FriError C I))
   rounds_tests queries round [] = []
-  rounds_tests queries round (siblings ∷ rest) = round_tests queries round siblings ++ rounds_tests queries (round + 1) rest
+  rounds_tests queries round (siblings ∷ rest) =
+      round_tests queries round siblings ++ rounds_tests queries (round + 1) rest
 
   -- the shape of a proof where so many rounds are due: the number of commitments of rounds, their
   -- witnesses, that of the queries, and for each round and query the number of siblings
-  abbrev pub shape_tests : {M W : Type 0} → (W → Bool) → FriParameters M → ℕ → ℕ → List W → W → List (List ℕ) → List (Test (FriError C I))
+  abbrev pub shape_tests : {M W : Type 0} → (W → Bool) → FriParameters M → ℕ → ℕ → List W → W →
+      List (List ℕ) → List (Test (FriError C I))
   shape_tests is_zero p rounds commits witnesses query_witness siblings =
       (not (commits == rounds), CommitRoundCountMismatch rounds commits)
       ∷ (not (length witnesses == rounds), CommitPowWitnessCountMismatch rounds (length witnesses))
@@ -64,8 +86,16 @@ module _ {C I : Type 0} where
 
   -- the witness of the proof of work before the batching challenge, and the claimed points
   abbrev pub point_tests : {M : Type 0} → FriParameters M → Bool → Bool → List (Test (FriError C I))
-  point_tests p is_zero some_at_infinity = witness_test Batch p.batch_proof_of_work_bits is_zero ∷ (some_at_infinity, PointAtInfinity) ∷ []
+  point_tests p is_zero some_at_infinity =
+      witness_test Batch p.batch_proof_of_work_bits is_zero ∷ (some_at_infinity, PointAtInfinity)
+      ∷ []
+
+-- whether a coordinate of the projective line belongs to no point: t^2 = -1
+abbrev pub is_at_infinity : {E : Type 0} → (E → E → Bool) → FieldOps E → E → Bool
+is_at_infinity eq k t = eq (k.mul t t) (k.neg k.one)
 
 -- whether some claimed coordinate passes a test
 abbrev pub some_point : {E Com D : Type 0} → (E → Bool) → List (CommitmentOpening E Com D) → Bool
-some_point passes claims = list_any (λ b. list_any (λ m. list_any (λ p. passes p.point) m.points.items) b.matrices.items) claims
+some_point passes claims =
+    list_any (λ b. list_any
+    (λ m. list_any (λ p. passes p.point) m.points.items) b.matrices.items) claims

@@ -9,7 +9,8 @@ use thiserror::Error;
 
 /// The polynomial commitment scheme over the circle of the field `Val`.
 ///
-/// `InputMmcs` commits to batches of matrices, `FriMmcs` to the words that an opening makes of them.
+/// `InputMmcs` commits to batches of matrices, `FriMmcs` to the words that an opening makes of
+/// them.
 #[derive(Debug, Drop)]
 pub struct CirclePcs<Val: Field, InputMmcs, FriMmcs> {
     /// The commitment scheme of batches of matrices.

@@ -5,8 +5,8 @@ use circle_field::Field;
 
 /// A proof that the folded words of a run end in a constant one.
 ///
-/// `M` commits to the folded words, `Witness` shows a proof of work, and `InputProof` opens what the first
-/// of these words was made of.
+/// `M` commits to the folded words, `Witness` shows a proof of work, and `InputProof` opens what
+/// the first of these words was made of.
 #[derive(Drop)]
 pub struct CircleFriProof<F: Field, M: Mmcs<F>, Witness, InputProof> {
     /// For each round, the commitment to its word.
@@ -28,7 +28,8 @@ pub struct CircleFriProof<F: Field, M: Mmcs<F>, Witness, InputProof> {
 #[derive(Drop)]
 #[derive_where(Debug)]
 pub struct CircleCommitPhaseMultiStep<F: Field, M: Mmcs<F>> {
-    /// For each query, the other entries of the row that it falls into: one, as two entries fold into one.
+    /// For each query, the other entries of the row that it falls into: one, as two entries fold
+    /// into one.
     pub sibling_values: Vec<Vec<F>>,
     /// The proof that the rows are those of the word.
     pub opening_proof: M::MultiProof,
@@ -44,8 +45,8 @@ pub struct CircleInputProof<
 > {
     /// For each batch, its rows at all queries.
     pub input_openings: Vec<BatchMultiOpening<Val, InputMmcs>>,
-    /// For each query, for each height of a batch's matrix from the least up, the other entry of the pair
-    /// of the first layer that the query falls into.
+    /// For each query, for each height of a batch's matrix from the least up, the other entry of
+    /// the pair of the first layer that the query falls into.
     pub first_layer_siblings: Vec<Vec<Challenge>>,
     /// The proof that the pairs are those of the first layer.
     pub first_layer_proof: FriMmcs::MultiProof,
@@ -62,13 +63,13 @@ pub struct CirclePcsProof<
     FriMmcs: Mmcs<Challenge>,
     Witness,
 > {
-    /// The witness of the proof of work before the challenge that batches the claims; zero where it has no
-    /// difficulty.
+    /// The witness of the proof of work before the challenge that batches the claims; zero where it
+    /// has no difficulty.
     pub batch_pow_witness: Witness,
     /// The commitment to the first layer: the reduced words of all heights, by pairs.
     pub first_layer_commitment: FriMmcs::Commitment,
-    /// For each height of a batch's matrix from the least up, the multiple of the vanishing polynomial that
-    /// was taken away from the reduced word.
+    /// For each height of a batch's matrix from the least up, the multiple of the vanishing
+    /// polynomial that was taken away from the reduced word.
     pub lambdas: Vec<Challenge>,
     /// The proof that the words of the first layer, folded and joined, end in a constant one.
     pub fri_proof: CircleFriProof<

@@ -1,16 +1,93 @@
 //! What is refused of a proof before the challenger is seeded.
 ghost use Rattle.std.specs.Prelude.{◌≡◌, [], ◌∷◌, map, vec_len};
 ghost use Rattle.std.specs.List.{list_all, list_any};
-ghost use Rattle.p3_circle.specs.Refusals.{answer, grinding_test, parameter_tests, witness_test, sibling_tests, round_tests, rounds_tests, shape_tests, point_tests, some_point};
+ghost use Rattle.circle_commit.specs.Mmcs.{greatest};
+ghost use Rattle.p3_circle.specs.Statement.{all_matrices, log_sizes, log_max_height};
+ghost use Rattle.p3_circle.specs.StatementOf.{matrix_claims, batch_claims};
+ghost use Rattle.p3_circle.specs.Refusals.{answer, domain_tests, claim_tests, grinding_test, parameter_tests, witness_test, sibling_tests, round_tests, rounds_tests, shape_tests, is_at_infinity, point_tests, some_point};
 
+use crate::pcs::InputError;
 use crate::proof::{CircleCommitPhaseMultiStep, CircleFriProof};
 use circle_commit::{
     CommitmentOpening, FriError, FriParameters, MatrixOpening, Mmcs, PointOpening, PowPhase,
 };
-use circle_field::Field;
+use circle_domain::CircleDomain;
+use circle_field::{ComplexExtendable, Field};
 
 /// The greatest difficulty, in bits, of a proof of work that is supported.
 const MAX_PROOF_OF_WORK_BITS: usize = 30;
+
+// The greatest logarithm of a domain of a batch, or 0 where it claims no matrix. Refuses the first
+// domain that leaves nothing to fold.
+#[tactic(auto, unfolding(crate::specs::Refusals::answer))]
+fn greatest_domain_of<F: ComplexExtendable, E, CommitErr, InputMmcsErr, FriMmcsErr>(
+    matrices: &[MatrixOpening<E, CircleDomain<F>>],
+    log_final_poly_len: usize,
+) -> Result<usize, FriError<CommitErr, InputError<InputMmcsErr, FriMmcsErr>>>
+    ensures { let sizes = log_sizes (matrix_claims matrices.now) in
+        result ≡ answer (domain_tests log_final_poly_len sizes) (greatest sizes) }
+{
+    let mut greatest = 0;
+    for matrix in matrices {
+        let log_n = matrix.domain.log_n();
+        if log_n <= log_final_poly_len {
+            return Err(FriError::InputError(InputError::DomainTooSmall { log_n }));
+        }
+        greatest = greatest.max(log_n);
+    }
+    Ok(greatest)
+}
+
+// The greatest logarithm of a claimed domain, or 0 where no matrix is claimed. Refuses the first
+// domain that leaves nothing to fold.
+#[tactic(auto, unfolding(crate::specs::Refusals::answer))]
+fn greatest_domain<F: ComplexExtendable, E, Com, CommitErr, InputMmcsErr, FriMmcsErr>(
+    claims: &[CommitmentOpening<E, Com, CircleDomain<F>>],
+    log_final_poly_len: usize,
+) -> Result<usize, FriError<CommitErr, InputError<InputMmcsErr, FriMmcsErr>>>
+    ensures { let sizes = log_sizes (all_matrices (batch_claims claims.now)) in
+        result ≡ answer (domain_tests log_final_poly_len sizes) (greatest sizes) }
+{
+    let mut greatest = 0;
+    for batch in claims {
+        greatest = greatest.max(greatest_domain_of(&batch.matrices, log_final_poly_len)?);
+    }
+    Ok(greatest)
+}
+
+/// Refuses claims by the first of these that holds, and answers the logarithm of the greatest
+/// height that is claimed, which is below that of the circle's group.
+///
+/// - `NoCommittedMatrices` where no matrix is claimed.
+/// - `DomainTooSmall` for the first domain that leaves nothing to fold: its logarithm is at most
+///   that of the number of coefficients at which folding stops.
+/// - `GlobalMaxHeightTooLarge` where the group has no domain of the greatest height's points.
+///
+/// Takes no memory.
+#[tactic(auto, unfolding(crate::specs::Refusals::answer))]
+pub fn validate_claims<F: ComplexExtendable, E, Com, CommitErr, InputMmcsErr, FriMmcsErr>(
+    claims: &[CommitmentOpening<E, Com, CircleDomain<F>>],
+    log_blowup: usize,
+    log_final_poly_len: usize,
+) -> Result<usize, FriError<CommitErr, InputError<InputMmcsErr, FriMmcsErr>>>
+    ensures { let matrices = all_matrices (batch_claims claims.now) in
+        result ≡ answer
+        (claim_tests F.CIRCLE_TWO_ADICITY log_blowup log_final_poly_len (log_sizes matrices))
+        (log_max_height log_blowup matrices) }
+{
+    let greatest = greatest_domain(claims, log_final_poly_len)?;
+    if greatest == 0 {
+        return Err(FriError::NoCommittedMatrices);
+    }
+    let log_global_max_height = greatest.saturating_add(log_blowup);
+    if log_global_max_height >= F::CIRCLE_TWO_ADICITY {
+        return Err(FriError::GlobalMaxHeightTooLarge {
+            log_global_max_height,
+            two_adicity: F::CIRCLE_TWO_ADICITY,
+        });
+    }
+    Ok(log_global_max_height)
+}
 
 // Refuses a difficulty past what is supported.
 #[tactic(auto, unfolding(crate::specs::Refusals::answer))]
@@ -104,7 +181,8 @@ fn check_round<F: Field, M: Mmcs<F>, CommitErr, InputErr>(
     round: usize,
     opening: &CircleCommitPhaseMultiStep<F, M>,
 ) -> Result<(), FriError<CommitErr, InputErr>>
-    ensures { result ≡ answer (round_tests num_queries round (map vec_len opening.now.sibling_values.items)) tt }
+    ensures { result
+        ≡ answer (round_tests num_queries round (map vec_len opening.now.sibling_values.items)) tt }
 {
     let got = opening.sibling_values.len();
     if got != num_queries {
@@ -123,7 +201,9 @@ fn check_rounds<F: Field, M: Mmcs<F>, CommitErr, InputErr>(
     num_queries: usize,
     openings: &[CircleCommitPhaseMultiStep<F, M>],
 ) -> Result<(), FriError<CommitErr, InputErr>>
-    ensures { result ≡ answer (rounds_tests num_queries 0 (map (λ o. map vec_len o.sibling_values.items) openings.now)) tt }
+    ensures { result
+        ≡ answer (rounds_tests num_queries 0
+        (map (λ o. map vec_len o.sibling_values.items) openings.now)) tt }
 {
     for (round, opening) in openings.iter().enumerate() {
         check_round(num_queries, round, opening)?;
@@ -131,23 +211,24 @@ fn check_rounds<F: Field, M: Mmcs<F>, CommitErr, InputErr>(
     Ok(())
 }
 
-/// Refuses a proof of another shape than the parameters and the number of rounds ask, by the first of
-/// these that holds.
+/// Refuses a proof of another shape than the parameters and the number of rounds ask, by the first
+/// of these that holds.
 ///
 /// - `CommitRoundCountMismatch` where there isn't one commitment for each round.
 /// - `CommitPowWitnessCountMismatch` where there isn't one witness for each round.
-/// - `NonCanonicalPowWitness` where a witness of a round, or that of the queries, isn't zero though its
-///   proof of work has no difficulty.
+/// - `NonCanonicalPowWitness` where a witness of a round, or that of the queries, isn't zero though
+///   its proof of work has no difficulty.
 /// - `CommitPhaseOpeningsCountMismatch` where there isn't one opening for each round.
-/// - For each round in turn, `CommitPhaseQueryCountMismatch` where it isn't opened at every query, and
-///   `SiblingValuesLengthMismatch` where a query has another number of siblings than one.
+/// - For each round in turn, `CommitPhaseQueryCountMismatch` where it isn't opened at every query,
+///   and `SiblingValuesLengthMismatch` where a query has another number of siblings than one.
 #[tactic(auto, unfolding(crate::specs::Refusals::answer))]
 pub fn validate_proof_shape<F: Field, M: Mmcs<F>, Witness: Field, InputProof, InputErr>(
     params: &FriParameters<M>,
     proof: &CircleFriProof<F, M, Witness, InputProof>,
     num_commit_rounds: usize,
 ) -> Result<(), FriError<M::Error, InputErr>>
-    ensures { result ≡ answer (shape_tests (λ w. Witness.eq w Witness.ZERO) params.now num_commit_rounds
+    ensures { result
+        ≡ answer (shape_tests (λ w. Witness.eq w Witness.ZERO) params.now num_commit_rounds
         (vec_len proof.now.commit_phase_commits) proof.now.commit_pow_witnesses.items proof.now.pow_witness
         (map (λ o. map vec_len o.sibling_values.items) proof.now.commit_phase_openings.items)) tt }
 {
@@ -179,28 +260,29 @@ pub fn validate_proof_shape<F: Field, M: Mmcs<F>, Witness: Field, InputProof, In
 
 // Whether the coordinate is that of a point at infinity: `t^2 = -1`.
 fn is_at_infinity<F: Field>(t: &F) -> bool
-    ensures { result ≡ F.eq (F.ops.mul t.now t.now) (F.ops.neg F.ops.one) }
+    ensures { result ≡ is_at_infinity F.eq F.ops t.now }
 {
     t.square() == -F::ONE
 }
 
 // Whether a matrix is claimed at infinity.
 fn matrix_at_infinity<F: Field>(points: &[PointOpening<F>]) -> bool
-    ensures { result ≡ list_any (λ p. F.eq (F.ops.mul p.point p.point) (F.ops.neg F.ops.one)) points.now }
+    ensures { result ≡ list_any (λ p. is_at_infinity F.eq F.ops p.point) points.now }
 {
     points.iter().any(|p| is_at_infinity(&p.point))
 }
 
 // Whether a matrix of a batch is claimed at infinity.
 fn batch_at_infinity<F: Field, D>(matrices: &[MatrixOpening<F, D>]) -> bool
-    ensures { result ≡ list_any (λ m. list_any (λ p. F.eq (F.ops.mul p.point p.point) (F.ops.neg F.ops.one)) m.points.items) matrices.now }
+    ensures { result ≡ list_any (λ m. list_any (λ p. is_at_infinity F.eq F.ops p.point)
+        m.points.items) matrices.now }
 {
     matrices.iter().any(|m| matrix_at_infinity(&m.points))
 }
 
 // Whether some claimed point is at infinity.
 fn some_at_infinity<F: Field, Commitment, D>(claims: &[CommitmentOpening<F, Commitment, D>]) -> bool
-    ensures { result ≡ some_point (λ t. F.eq (F.ops.mul t t) (F.ops.neg F.ops.one)) claims.now }
+    ensures { result ≡ some_point (is_at_infinity F.eq F.ops) claims.now }
 {
     claims.iter().any(|b| batch_at_infinity(&b.matrices))
 }
@@ -212,18 +294,22 @@ fn is_zero<Witness: Field>(witness: &Witness) -> bool
     *witness == Witness::ZERO
 }
 
-/// Refuses a witness of the batching challenge and claimed points, by the first of these that holds.
+/// Refuses a witness of the batching challenge and claimed points, by the first of these that
+/// holds.
 ///
-/// - `NonCanonicalPowWitness` where the witness isn't zero though its proof of work has no difficulty.
-/// - `PointAtInfinity` where a claimed coordinate `t` has `t^2 = -1`, so that it belongs to no point.
+/// - `NonCanonicalPowWitness` where the witness isn't zero though its proof of work has no
+///   difficulty.
+/// - `PointAtInfinity` where a claimed coordinate `t` has `t^2 = -1`, so that it belongs to no
+///   point.
 #[tactic(auto, unfolding(crate::specs::Refusals::answer))]
 pub fn validate_points<F: Field, Commitment, D, M, Witness: Field, CommitErr, InputErr>(
     params: &FriParameters<M>,
     batch_pow_witness: &Witness,
     claims: &[CommitmentOpening<F, Commitment, D>],
 ) -> Result<(), FriError<CommitErr, InputErr>>
-    ensures { result ≡ answer (point_tests params.now (Witness.eq batch_pow_witness.now Witness.ZERO)
-        (some_point (λ t. F.eq (F.ops.mul t t) (F.ops.neg F.ops.one)) claims.now)) tt }
+    ensures { result
+        ≡ answer (point_tests params.now (Witness.eq batch_pow_witness.now Witness.ZERO)
+        (some_point (is_at_infinity F.eq F.ops) claims.now)) tt }
 {
     check_witnesses(
         PowPhase::Batch,

@@ -1,0 +1,249 @@
+-- When a verifier accepts: Circle STARKs (ePrint 2024/278), sections 4 to 6, as a relation between
+-- claims, a proof and the challenges that are drawn.
+use Rattle.std.specs.Prelude.{◌≡◌, ◌≢◌, ℕ, ◌+◌, ◌-◌, ◌*◌, ◌/◌, ◌^◌, ◌<◌, ◌≤◌, Bool, ◌==◌, if◌then◌else◌, List, [], ◌∷◌, length, map, flat_map, zip, All, slice_index_or, nat_lt}
+use Rattle.std.specs.List.{filter, list_any, range_with_len}
+use Rattle.std.proofs.Common.{zero, suc}
+use Rattle.circle_field.specs.Field.{FieldOps, sub, nth_power}
+use Rattle.circle_field.specs.Circle.{Coordinates, lifted}
+use Rattle.circle_point.specs.Basis.{vanishing, x_value}
+use Rattle.circle_point.specs.Projective.{from_line}
+use Rattle.circle_domain.specs.Order.{coset}
+use Rattle.circle_domain.specs.Selectors.{IsFinite}
+use Rattle.circle_commit.specs.declared.matrix.Dimensions.{Dimensions}
+use Rattle.circle_commit.specs.declared.params.FriParameters.{FriParameters}
+use Rattle.circle_folding.specs.Quotient.{claim_quotient}
+use Rattle.circle_folding.specs.Queries.{query_point}
+use Rattle.circle_folding.specs.Fold.{fold_pair}
+use Rattle.circle_folding.specs.Chain.{pair_of, first_layer_twiddle, round_twiddle}
+use Rattle.p3_circle.specs.Statement.{PointClaim, MatrixClaim, BatchClaim, Opened, OpeningProof, Challenges, all_matrices, log_height, log_max_height}
+
+-- the field with its circle, the extension, and the logarithms of the blowup and of the number of
+-- coefficients of the final polynomial
+pub record Setting (F E : Type 0) : Type 0 where
+  pub field : FieldOps F
+  pub gen : ℕ → Coordinates F
+  pub extension : FieldOps E
+  pub embed : F → E
+  pub blowup : ℕ
+  pub final : ℕ
+
+-- what is claimed, what is opened of it, and what is drawn
+pub record Run (F E Com InputCom InputProof WordProof : Type 0) : Type 0 where
+  pub batches : List (BatchClaim InputCom E)
+  pub proof : OpeningProof F E Com InputProof WordProof
+  pub drawn : Challenges E
+
+module _ {F E Com InputCom InputProof WordProof : Type 0} (s : Setting F E)
+    (r : Run F E Com InputCom InputProof WordProof) where
+  -- the claimed matrices, and the logarithm of the greatest height
+  abbrev pub matrices : List (MatrixClaim E)
+  matrices = all_matrices r.batches
+
+  abbrev pub top : ℕ
+  top = log_max_height s.blowup matrices
+
+  -- whether a matrix of height 2^h is claimed; all such h, ascending; the place of h among them
+  abbrev pub is_claimed : ℕ → Bool
+  is_claimed h = list_any (λ m. log_height s.blowup m == h) matrices
+
+  abbrev pub claimed_heights : List ℕ
+  claimed_heights = filter is_claimed (range_with_len 0 (suc top))
+
+  abbrev pub place_of : ℕ → ℕ
+  place_of h = length (filter (λ g. nat_lt g h) claimed_heights)
+
+  -- the number of rounds
+  abbrev pub rounds : ℕ
+  rounds = top - 1 - s.blowup - s.final
+
+  -- the claims on matrices of height 2^h, each with the row that is opened of its matrix at the
+  -- query in place j: those of one batch, and those of all
+  abbrev pub claims_in : ℕ → List (MatrixClaim E × List F) → List (PointClaim E × List F)
+  claims_in h pairs =
+      flat_map (λ p. if log_height s.blowup p.0 == h then map
+      (λ c. (c, p.1)) p.0.claims else []) pairs
+
+  abbrev pub claims_of : ℕ → ℕ → List (PointClaim E × List F)
+  claims_of h j =
+      let rows_of = λ (o : Opened (List (List F)) InputProof). slice_index_or o.entries j [] in
+      flat_map (λ p. claims_in h (zip p.0.matrices (rows_of p.1))) (zip r.batches r.proof.inputs)
+
+  -- the quotients of claims at a point x, each times alpha to twice the number of columns that are
+  -- claimed before it, added up
+  abbrev pub quotient_at : Coordinates F → PointClaim E × List F → E
+  quotient_at x c =
+      let z = from_line s.extension c.0.point in
+      claim_quotient s.extension s.embed r.drawn.alpha x z c.1 c.0.values
+
+  abbrev pub reduced_from : ℕ → Coordinates F → List (PointClaim E × List F) → E
+  reduced_from columns x [] = s.extension.zero
+  reduced_from columns x (c ∷ rest) =
+      let offset = nth_power s.extension r.drawn.alpha (2 * columns) in
+      s.extension.add (s.extension.mul offset (quotient_at x c))
+      (reduced_from (columns + length c.0.values) x rest)
+
+  -- the query q, in place j
+  module _ (j q : ℕ) where
+    -- its place and its point among 2^h
+    abbrev pub place_among : ℕ → ℕ
+    place_among h = q / 2 ^ (top - h)
+
+    abbrev pub point_among : ℕ → Coordinates F
+    point_among h = query_point s.field s.gen h top q
+
+    -- the reduced value of the height 2^h, less lambda times the vanishing polynomial
+    abbrev pub first_value : ℕ → E
+    first_value h =
+        let lambda = slice_index_or r.proof.lambdas (place_of h) s.extension.zero in
+        sub s.extension (reduced_from 0 (point_among h) (claims_of h j))
+        (s.extension.mul lambda (s.embed (vanishing s.field (h - s.blowup) (point_among h))))
+
+    -- its pair in the first layer, and the fold of that pair
+    abbrev pub first_pair : ℕ → List E
+    first_pair h =
+        let siblings = slice_index_or r.proof.first_layer_opened.entries j [] in
+        let sibling = slice_index_or siblings (place_of h) s.extension.zero in
+        pair_of (place_among h) (first_value h) sibling
+
+    abbrev pub folded : ℕ → E
+    folded h =
+        let twiddle = first_layer_twiddle s.field s.gen h top q in
+        fold_pair s.extension r.drawn.bivariate (s.embed twiddle) (first_pair h)
+
+    -- what joins the rounds at a height: the folded value, where a matrix of the height is claimed
+    abbrev pub joining : ℕ → E
+    joining h = if is_claimed h then folded h else s.extension.zero
+
+    -- its sibling in the word of a round
+    abbrev pub sibling_in : ℕ → E
+    sibling_in round =
+        let siblings = slice_index_or (map (λ o. o.entries) r.proof.rounds_opened) round [] in
+        slice_index_or (slice_index_or siblings j []) 0 s.extension.zero
+
+    -- its value in the word of a round: that of the greatest height in the first round, then the
+    -- fold of the pair of the round before, and the height that joins there
+    abbrev pub round_value : ℕ → E
+    round_value zero = folded top
+    round_value (suc n) =
+        let beta = slice_index_or r.drawn.betas n s.extension.zero in
+        let pair = pair_of (q / 2 ^ (n + 1)) (round_value n) (sibling_in n) in
+        let twiddle = round_twiddle s.field s.gen top n q in
+        s.extension.add (fold_pair s.extension beta (s.embed twiddle) pair) (joining (top - 1 - n))
+
+    -- its pair in the word of a round
+    abbrev pub round_pair : ℕ → List E
+    round_pair n = pair_of (q / 2 ^ (n + 1)) (round_value n) (sibling_in n)
+
+    -- the x coordinate of its entry of the last word, and the final polynomial's value there
+    abbrev pub last_x : F
+    last_x =
+        let m = s.blowup + s.final in
+        let xs = map (λ p. p.x) (coset s.field s.gen m (s.gen (m + 2))) in
+        slice_index_or xs (q / 2 ^ (rounds + 1)) s.field.zero
+
+    abbrev pub final_value : E
+    final_value = x_value s.extension r.proof.final_poly (s.embed last_x)
+
+  -- pairs, so many
+  abbrev pub pairs : ℕ → Dimensions
+  pairs height = record { width = 2; height = height }
+
+  -- the queries with their places, and what is asked for at each
+  abbrev pub placed_queries : List (ℕ × ℕ)
+  placed_queries = zip (range_with_len 0 (length r.drawn.queries)) r.drawn.queries
+
+  abbrev pub at_queries : {T : Type 0} → (ℕ → ℕ → T) → List T
+  at_queries f = map (λ p. f p.0 p.1) placed_queries
+
+  -- (a) the parameters and the claims are such that a verifier can judge them
+  pub record IsFit {M : Type 0} (p : FriParameters M) (two_adicity : ℕ) : Type 0 where
+    pub some_matrix : 1 ≤ length matrices
+    pub large : All (λ m. s.final + 2 ≤ m.log_n) matrices
+    pub in_group : top < two_adicity
+    pub batch_work : p.batch_proof_of_work_bits ≤ 30
+    pub commit_work : p.commit_proof_of_work_bits ≤ 30
+    pub query_work : p.query_proof_of_work_bits ≤ 30
+    pub queries : 1 ≤ p.num_queries
+    pub blowup : 1 ≤ p.log_blowup
+    pub arity : p.max_log_arity ≡ 1
+    pub finite : All (λ m. All (λ c. IsFinite s.extension c.point) m.claims) matrices
+    pub claimed : All (λ m. 1 ≤ length m.claims) matrices
+
+  -- a row is as long as each claim of its matrix
+  abbrev pub IsAsLongAsClaims : MatrixClaim E × List F → Type 0
+  IsAsLongAsClaims p = All (λ c. length p.1 ≡ length c.values) p.0.claims
+
+  -- the rows that are opened of a batch: for each query a row of each matrix, as long as its claims
+  abbrev pub HasRows : BatchClaim InputCom E × Opened (List (List F)) InputProof → Type 0
+  HasRows p = (length p.1.entries ≡ length r.drawn.queries)
+      × All (λ rows. (length rows ≡ length p.0.matrices)
+      × All IsAsLongAsClaims (zip p.0.matrices rows)) p.1.entries
+
+  -- so many siblings at each query
+  abbrev pub HasSiblings : ℕ → Opened (List E) WordProof → Type 0
+  HasSiblings count o =
+      (length o.entries ≡ length r.drawn.queries)
+      × All (λ siblings. length siblings ≡ count) o.entries
+
+  -- (b) the proof's lists have the lengths that the claims and the queries fix
+  pub record HasShape : Type 0 where
+    pub commitments : length r.proof.commitments ≡ rounds
+    pub witnesses : length r.proof.witnesses ≡ rounds
+    pub rounds_opened : length r.proof.rounds_opened ≡ rounds
+    pub siblings : All (HasSiblings 1) r.proof.rounds_opened
+    pub inputs : length r.proof.inputs ≡ length r.batches
+    pub rows : All HasRows (zip r.batches r.proof.inputs)
+    pub first_siblings : HasSiblings (length claimed_heights) r.proof.first_layer_opened
+    pub lambdas : length r.proof.lambdas ≡ length claimed_heights
+    pub final_poly : length r.proof.final_poly ≡ 2 ^ s.final
+
+  -- (c) a witness of no difficulty is zero
+  pub record AreCanonical {M : Type 0} (p : FriParameters M) : Type 0 where
+    pub batch : p.batch_proof_of_work_bits ≡ 0 → r.proof.batch_witness ≡ s.field.zero
+    pub commit : p.commit_proof_of_work_bits ≡ 0 → All (λ w. w ≡ s.field.zero) r.proof.witnesses
+    pub query : p.query_proof_of_work_bits ≡ 0 → r.proof.query_witness ≡ s.field.zero
+
+  -- (e) the rows of a batch authenticate at the queries, as rows of matrices of the claimed widths
+  -- and heights
+  abbrev pub dimensions : MatrixClaim E → Dimensions
+  dimensions m = record {
+    width = length (slice_index_or (map (λ c. c.values) m.claims) 0 []);
+    height = 2 ^ log_height s.blowup m;
+  }
+
+  abbrev pub InputAuthenticates :
+      (InputCom → List Dimensions → List ℕ → List (List (List F)) → InputProof → Type 0) →
+      BatchClaim InputCom E × Opened (List (List F)) InputProof → Type 0
+  InputAuthenticates authenticates p =
+      let shift = top - log_max_height s.blowup p.0.matrices in
+      let places = map (λ q. q / 2 ^ shift) r.drawn.queries in
+      authenticates p.0.commitment (map dimensions p.0.matrices) places p.1.entries p.1.proof
+
+  -- (f) no claimed point is that of a query
+  abbrev pub IsApart : ℕ → MatrixClaim E → Type 0
+  IsApart q m =
+      let x = lifted s.embed (query_point s.field s.gen (log_height s.blowup m) top q) in
+      All (λ c. x ≢ from_line s.extension c.point) m.claims
+
+  abbrev pub AreApart : Type 0
+  AreApart = All (λ q. All (IsApart q) matrices) r.drawn.queries
+
+  -- (g) the pairs of the first layer and of a round authenticate
+  abbrev pub FirstLayerAuthenticates :
+      (Com → List Dimensions → List ℕ → List (List (List E)) → WordProof → Type 0) → Type 0
+  FirstLayerAuthenticates authenticates =
+      let shapes = map (λ h. pairs (2 ^ (h - 1))) claimed_heights in
+      authenticates r.proof.first_layer shapes (map (λ q. q / 2) r.drawn.queries)
+      (at_queries (λ j q. map (first_pair j q) claimed_heights)) r.proof.first_layer_opened.proof
+
+  abbrev pub RoundAuthenticates :
+      (Com → List Dimensions → List ℕ → List (List (List E)) → WordProof → Type 0) →
+      ℕ → Com × Opened (List E) WordProof → Type 0
+  RoundAuthenticates authenticates n round =
+      let places = map (λ q. q / 2 ^ (n + 2)) r.drawn.queries in
+      authenticates round.0 (pairs (2 ^ (top - 2 - n)) ∷ []) places
+      (at_queries (λ j q. round_pair j q n ∷ [])) round.1.proof
+
+  -- (h) each query's chain ends in the value of the final polynomial
+  abbrev pub ChainsEnd : Type 0
+  ChainsEnd = All (λ p. round_value p.0 p.1 rounds ≡ final_value p.0 p.1) placed_queries
