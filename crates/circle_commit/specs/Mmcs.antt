@@ -1,6 +1,7 @@
 -- Words for commitments to several matrices at once.
-use Rattle.std.specs.Prelude.{ℕ, ◌/◌, List, [], ◌∷◌, map, slice_index_or, max, Vec}
+use Rattle.std.specs.Prelude.{ℕ, ◌/◌, List, [], ◌∷◌, map, All, slice_index_or, max, Vec}
 use Rattle.std.specs.declared.alloc.Global.{Global}
+use Rattle.circle_commit.specs.Matrix.{IsPowerOfTwo}
 use Rattle.circle_commit.specs.declared.matrix.Dimensions.{Dimensions}
 use Rattle.circle_commit.specs.declared.matrix.RowMajorMatrix.{RowMajorMatrix}
 use Rattle.circle_commit.specs.RowMajorMatrix.{rows, width_of, height_of}
@@ -22,6 +23,10 @@ heights dims = map (λ dim. dim.height) dims
 module _ {T : Type 0} where
   abbrev pub dimensions_of : List (RowMajorMatrix T) → List Dimensions
   dimensions_of matrices = map (λ m. record { width = width_of m; height = height_of m }) matrices
+
+  -- the heights of all matrices are powers of two
+  abbrev pub HaveHeightsOfPowers : List (RowMajorMatrix T) → Type 0
+  HaveHeightsOfPowers matrices = All (λ m. IsPowerOfTwo (height_of m)) matrices
 
   abbrev pub max_height : List (RowMajorMatrix T) → ℕ
   max_height matrices = greatest (heights (dimensions_of matrices))

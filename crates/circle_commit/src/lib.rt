@@ -20,7 +20,9 @@ pub use error::FriError;
 pub use folding::FriFoldingStrategy;
 pub use json::{JsonError, JsonForm};
 pub use matrix::{Dimensions, Matrix, RowIndexMap, RowIndexMappedView, RowMajorMatrix, Shape};
-pub use mmcs::{Mmcs, OpenedRows, heights_are_powers_of_two, is_power_of_two, log2_strict};
+pub use mmcs::{
+    Mmcs, OpenedRows, are_below, heights_are_powers_of_two, is_power_of_two, log2_strict,
+};
 pub use params::{FriParameters, PowPhase};
 pub use pcs::{
     BatchMultiOpening, CommitmentOpening, MatrixOpening, OpenedValues, OpenedValuesForMatrix,

@@ -2,8 +2,7 @@
 ghost use Rattle.std.specs.Prelude.{◌≡◌, ℕ, ◌<◌, ◌≤◌, List, length, map, All, IfOk, IfErr, OnOk, IsTrue, vec_len};
 ghost use Rattle.sha2.specs.Sha256.{sha256};
 ghost use Rattle.circle_commit.specs.Matrix.{IsPowerOfTwo};
-ghost use Rattle.circle_commit.specs.RowMajorMatrix.{height_of};
-ghost use Rattle.circle_commit.specs.Mmcs.{dimensions_of, max_height, row_at as row_at_of, rows_at, rows_at_each, opened_rows};
+ghost use Rattle.circle_commit.specs.Mmcs.{HaveHeightsOfPowers, dimensions_of, max_height, row_at as row_at_of, rows_at, rows_at_each, opened_rows};
 ghost use Rattle.circle_merkle.specs.Authentication.{Authenticates, IsRoot};
 ghost use Rattle.circle_merkle.specs.Verdict.{IsRight, says_memory};
 
@@ -27,7 +26,7 @@ pub struct ShaMmcs<T> {
 }
 
 impl<T> ShaMmcs<T> {
-    /// The scheme for entries of this type.
+    /// The scheme for entries of this type, which a caller names: `ShaMmcs::<Mersenne31>::new()`.
     pub fn new() -> Self {
         ShaMmcs {
             entries: PhantomData,
@@ -53,7 +52,7 @@ fn rows_of<T: ElementBytes>(
     index: usize,
 ) -> Result<Vec<Vec<T>>, AllocError>
     requires greatest { top ≡ max_height matrices.now }
-    requires powers_of_two { All (λ m. IsPowerOfTwo (height_of m)) matrices.now }
+    requires powers_of_two { HaveHeightsOfPowers matrices.now }
     requires in_range { index < top }
     ensures { IfOk result (λ rows. map (λ row. row.items) rows.items ≡ rows_at matrices.now index) }
 {
@@ -66,7 +65,7 @@ fn rows_of<T: ElementBytes>(
 }
 
 impl<T: ElementBytes> Mmcs<T> for ShaMmcs<T> {
-    ghost use Rattle.circle_merkle.specs.ProverData.{matrices_of, some_matrix, powers_of_two};
+    ghost use Rattle.circle_merkle.specs.ProverData.{matrices_of};
 
     type Commitment = [u8; 32];
 
@@ -84,17 +83,13 @@ impl<T: ElementBytes> Mmcs<T> for ShaMmcs<T> {
 
     ghost is_memory = { says_memory };
 
-    ghost some_matrix = { some_matrix };
-
-    ghost powers_of_two = { powers_of_two };
-
     fn commit(
         &self,
         alloc: Global,
         inputs: Vec<RowMajorMatrix<T>>,
     ) -> Result<(Hash, ShaProverData<T>), AllocError>
         requires some { 1 ≤ vec_len inputs }
-        requires powers_of_two { All (λ m. IsPowerOfTwo (height_of m)) inputs.items }
+        requires powers_of_two { HaveHeightsOfPowers inputs.items }
         ensures commitment { IfOk result (λ r. IsRoot sha256 T.bytes inputs.items r.0) }
         ensures data { IfOk result (λ r. matrices_of r.1 ≡ inputs.items) }
     {
