@@ -122,3 +122,10 @@ module _ (Refuses : Data → JsonError → Type 0) where
   RefusesArray (string _) error = error ≡ WrongKind
   RefusesArray (array items) error = (error ≡ Memory) ⊎ RefusesItem items error
   RefusesArray (object _) error = error ≡ WrongKind
+
+-- as many items on each side, which are the same one by one
+abbrev pub SameItems : {T : Type 0} → (T → T → Type 0) → List T → List T → Type 0
+SameItems Same [] [] = Unit {0}
+SameItems Same [] (y ∷ ys) = ⊥
+SameItems Same (x ∷ xs) [] = ⊥
+SameItems Same (x ∷ xs) (y ∷ ys) = Same x y × SameItems Same xs ys
