@@ -11,7 +11,7 @@ use crate::hashing::Hash;
 use crate::kept::ShaProverData;
 use crate::verify::verify;
 use circle_commit::{Dimensions, Matrix, Mmcs, OpenedRows, RowMajorMatrix};
-use circle_field::ElementBytes;
+use circle_field::{ElementBytes, Field};
 use std::alloc::{AllocError, Global};
 use std::marker::PhantomData;
 
@@ -64,7 +64,7 @@ fn rows_of<T: ElementBytes>(
     Ok(rows)
 }
 
-impl<T: ElementBytes> Mmcs<T> for ShaMmcs<T> {
+impl<T: Field + ElementBytes> Mmcs<T> for ShaMmcs<T> {
     ghost use Rattle.circle_merkle.specs.ProverData.{matrices_of};
 
     type Commitment = [u8; 32];

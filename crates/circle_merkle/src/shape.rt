@@ -7,8 +7,7 @@ ghost use Rattle.circle_merkle.specs.Order.{IsOrdered};
 ghost use Rattle.circle_merkle.specs.Shape.{NeighborsAgree};
 
 use circle_commit::{Dimensions, is_power_of_two};
-use circle_field::ElementBytes;
-use std::convert::AsSlice;
+use circle_field::Field;
 
 /// The greatest of the heights, 0 where there are no shapes.
 pub fn greatest_height(dimensions: &[Dimensions]) -> usize
@@ -86,29 +85,14 @@ pub fn has_indices<T>(
 }
 
 // Whether two rows have the same entries.
-fn same_row<T: ElementBytes>(row: &[T], other: &[T]) -> bool
+fn same_row<T: Field>(row: &[T], other: &[T]) -> bool
     ensures { IsTrue result ↔ (row.now ≡ other.now) }
 {
-    if row.len() != other.len() {
-        return false;
-    }
-    for k in 0..row.len() {
-        if !same_entry(&row[k], &other[k]) {
-            return false;
-        }
-    }
-    true
-}
-
-// Whether two entries are the same.
-fn same_entry<T: ElementBytes>(entry: &T, other: &T) -> bool
-    ensures { IsTrue result ↔ (entry.now ≡ other.now) }
-{
-    entry.to_bytes().as_slice() == other.to_bytes().as_slice()
+    row == other
 }
 
 // Whether the rows of matrix `j` agree at neighboring indices that stand for one row of it.
-fn column_agrees<T: ElementBytes>(
+fn column_agrees<T: Field>(
     order: &[(usize, usize)],
     opened: &[Vec<Vec<T>>],
     j: usize,
@@ -133,7 +117,7 @@ fn column_agrees<T: ElementBytes>(
 /// Whether the rows of one matrix at one position are equal.
 ///
 /// Takes the indices in ascending order with their places.
-pub fn agrees<T: ElementBytes>(
+pub fn agrees<T: Field>(
     dimensions: &[Dimensions],
     order: &[(usize, usize)],
     opened: &[Vec<Vec<T>>],

@@ -14,7 +14,7 @@ use crate::positions::climb;
 use crate::root::Opening;
 use crate::shape::{agrees, greatest_height, has_indices, has_shape};
 use circle_commit::Dimensions;
-use circle_field::ElementBytes;
+use circle_field::{ElementBytes, Field};
 use std::alloc::{AllocError, Global};
 use std::mem;
 
@@ -50,7 +50,7 @@ fn same_digest(digest: &Hash, other: &Hash) -> bool
 }
 
 /// Whether the rows at the indices are those that the root was made of.
-pub fn verify<T: ElementBytes>(
+pub fn verify<T: Field + ElementBytes>(
     alloc: Global,
     commitment: &Hash,
     dimensions: &[Dimensions],
