@@ -51,7 +51,8 @@ abbrev pub residues_of_items : Items → Result (List ℕ) JsonError
 residues_of_items no_items = Err WrongKind
 residues_of_items (item a no_items) = Err WrongKind
 residues_of_items (item a (item b no_items)) = Err WrongKind
-residues_of_items (item a (item b (item c no_items))) = in_front (residue_of a) (in_front (residue_of b) (in_front (residue_of c) (Ok [])))
+residues_of_items (item a (item b (item c no_items))) =
+    in_front (residue_of a) (in_front (residue_of b) (in_front (residue_of c) (Ok [])))
 residues_of_items (item a (item b (item c (item d rest)))) = Err WrongKind
 
 abbrev pub residues_of : Data → Result (List ℕ) JsonError

@@ -33,7 +33,16 @@ module _ {T : Type 0} where
 
   -- the rows of the matrices at an index, one for each matrix
   abbrev pub rows_at : List (RowMajorMatrix T) → ℕ → List (List T)
-  rows_at matrices index = map (λ m. slice_index_or (rows m) (row_at (max_height matrices) (height_of m) index) []) matrices
+  rows_at matrices index = map (λ m. slice_index_or (rows m)
+      (row_at (max_height matrices) (height_of m) index) []) matrices
+
+  -- under each commitment of the matrices, the opened rows are shown to be theirs
+  abbrev pub IsShownOf : {C P : Type 0} → (List (RowMajorMatrix T) → C → Type 0)
+      → (C → List Dimensions → List ℕ → List (List (List T)) → P → Type 0)
+      → List (RowMajorMatrix T) → List ℕ → List (List (List T)) → P → Type 0
+  IsShownOf {C = C} Commits Authenticates matrices indices opened proof =
+      (commitment : C) → Commits matrices commitment
+      → Authenticates commitment (dimensions_of matrices) indices opened proof
 
   -- the rows of the matrices at each of the indices
   abbrev pub rows_at_each : List (RowMajorMatrix T) → List ℕ → List (List (List T))

@@ -49,8 +49,8 @@ impl From<AllocError> for JsonError {
 
 /// A type whose values have a form in JSON.
 ///
-/// What is written is read back as the value that it was written of, where memory isn't refused, and
-/// no JSON value stands for two values.
+/// What is written is read back as the value that it was written of, where memory isn't refused,
+/// and no JSON value stands for two values.
 pub trait JsonForm: Sized {
     ghost use Rattle.circle_commit.specs.declared.json.JsonError.TheVariants.{Memory};
 
@@ -85,7 +85,8 @@ pub trait JsonForm: Sized {
     ghost writes_same: { (x y : Self) → same x y → written x ≡ written y };
 
     // What stands for a value isn't refused, but for want of memory.
-    ghost refuses_others: { (value : Data) (x : Self) (error : JsonError) → reads value x → refuses value error → error ≡ Memory };
+    ghost refuses_others: { (value : Data) (x : Self) (error : JsonError) → reads value x
+        → refuses value error → error ≡ Memory };
 }
 
 // A whole number below 2^64.
@@ -110,7 +111,8 @@ fn items(value: &Value) -> Result<&[Value], JsonError>
 
 // The array of the forms of values.
 fn array_of<T: JsonForm>(alloc: Global, values: &[T]) -> Result<Value, AllocError>
-    ensures written { IfOk result (λ value. view value ≡ array (items_of (map T.written values.now))) }
+    ensures written { IfOk result (λ value. view value
+        ≡ array (items_of (map T.written values.now))) }
     ensures reads { IfOk result (λ value. ReadsArray T.reads (view value) values.now) }
 {
     let mut items = Vec::with_capacity(alloc, values.len())?;
@@ -196,7 +198,8 @@ impl JsonForm for Mersenne31 {
 
     ghost refuses = { IsRefused residue_of };
 
-    ghost reads_one = { λ value a b p q. same_residue a b (read_one residue_of residue value a b p q) };
+    ghost reads_one = { λ value a b p q. same_residue a b
+        (read_one residue_of residue value a b p q) };
 
     ghost writes_same = { λ a b e. ap (λ c. count_written (residue c)) e };
 
@@ -299,11 +302,14 @@ impl<T: JsonForm + Drop> JsonForm for Vec<T> {
 
     ghost refuses = { RefusesArray T.refuses };
 
-    ghost reads_one = { λ value v w. array_reads_one T.same T.reads T.reads_one value v.items w.items };
+    ghost reads_one = { λ value v w. array_reads_one T.same T.reads T.reads_one value
+        v.items w.items };
 
-    ghost writes_same = { λ v w. items_written_alike T.same T.written T.writes_same v.items w.items };
+    ghost writes_same = { λ v w. items_written_alike T.same T.written T.writes_same
+        v.items w.items };
 
-    ghost refuses_others = { λ value x. array_refuses_others T.reads T.refuses T.refuses_others value x.items };
+    ghost refuses_others = { λ value x. array_refuses_others T.reads T.refuses T.refuses_others
+        value x.items };
 
     fn to_json(&self, alloc: Global) -> Result<Value, AllocError> {
         array_of(alloc, self)

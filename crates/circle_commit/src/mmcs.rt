@@ -1,7 +1,7 @@
 //! Commitments to several matrices at once, opened at many rows.
 ghost use Rattle.std.specs.Prelude.{◌≡◌, ℕ, ◌^◌, ◌≤◌, ◌<◌, ◌↔◌, Bool, List, length, All, IsTrue, OnOk, IfOk, IfErr, vec_len};
 ghost use Rattle.circle_commit.specs.Matrix.{IsPowerOfTwo};
-ghost use Rattle.circle_commit.specs.Mmcs.{HaveHeightsOfPowers, dimensions_of, max_height, rows_at_each, opened_rows};
+ghost use Rattle.circle_commit.specs.Mmcs.{HaveHeightsOfPowers, IsShownOf, max_height, rows_at_each, opened_rows};
 ghost use Rattle.circle_commit.specs.declared.matrix.Dimensions.{Dimensions};
 ghost use Rattle.circle_commit.specs.declared.matrix.RowMajorMatrix.{RowMajorMatrix};
 
@@ -16,8 +16,8 @@ pub type OpenedRows<T> = Vec<Vec<Vec<T>>>;
 ///
 /// Its laws: data is its list of matrices; rows are accepted exactly where they are shown, memory
 /// aside; what is opened is shown; and the row of a matrix of height `2^h` at index `i` under the
-/// greatest height `2^H` is its row `i >> (H - h)`. `commit` alone asks for heights that are powers of
-/// two: data may be of any matrices, and of none.
+/// greatest height `2^H` is its row `i >> (H - h)`. `commit` alone asks for heights that are powers
+/// of two: data may be of any matrices, and of none.
 pub trait Mmcs<T: Copy> {
     /// What is published of the matrices.
     type Commitment: Debug + Drop;
@@ -37,7 +37,8 @@ pub trait Mmcs<T: Copy> {
     // The matrices have this commitment.
     ghost commits: { Self → List (RowMajorMatrix T) → Self.Commitment → Type 0 };
 
-    // The rows at the indices, one for each of these shapes, are shown to be those of the commitment.
+    // The rows at the indices, one for each of these shapes, are shown to be those of the
+    // commitment.
     ghost authenticates: { Self → Self.Commitment → List Dimensions → List ℕ → List (List (List T))
         → Self.MultiProof → Type 0 };
 
@@ -46,8 +47,8 @@ pub trait Mmcs<T: Copy> {
 
     /// Commits to matrices.
     ///
-    /// Asks at least one, and heights that are powers of two: [`heights_are_powers_of_two`] tests the
-    /// second of a `Vec` too. Fails where memory is refused.
+    /// Asks at least one, and heights that are powers of two: [`heights_are_powers_of_two`] tests
+    /// the second of a `Vec` too. Fails where memory is refused.
     fn commit(
         &self,
         alloc: Global,
@@ -68,8 +69,8 @@ pub trait Mmcs<T: Copy> {
 
     /// The rows at the indices, and a proof that they are those that were committed to.
     ///
-    /// Asks at least one index, each below the greatest height, as [`are_below`] tests; an index may
-    /// stand there more than once. Fails where memory is refused.
+    /// Asks at least one index, each below the greatest height, as [`are_below`] tests; an index
+    /// may stand there more than once. Fails where memory is refused.
     fn open_multi_batch(
         &self,
         alloc: Global,
@@ -81,12 +82,11 @@ pub trait Mmcs<T: Copy> {
         // At heights that are powers of two an index names a row of each matrix.
         ensures rows { IfOk result (λ r. HaveHeightsOfPowers (matrices prover_data.now)
             → opened_rows r.0.items ≡ rows_at_each (matrices prover_data.now) indices.now) }
-        ensures proof { IfOk result (λ r. (commitment : Self.Commitment)
-            → commits self.now (matrices prover_data.now) commitment
-            → authenticates self.now commitment (dimensions_of (matrices prover_data.now)) indices.now (opened_rows r.0.items) r.1) };
+        ensures proof { IfOk result (λ r. IsShownOf (commits self.now) (authenticates self.now)
+            (matrices prover_data.now) indices.now (opened_rows r.0.items) r.1) };
 
-    /// Whether the rows at the indices are those of matrices of these shapes that the commitment was
-    /// made of.
+    /// Whether the rows at the indices are those of matrices of these shapes that the commitment
+    /// was made of.
     ///
     /// Takes any input: what is malformed is refused.
     fn verify_multi_batch(
@@ -98,9 +98,10 @@ pub trait Mmcs<T: Copy> {
         opened_values: &[Vec<Vec<T>>],
         proof: &Self::MultiProof,
     ) -> Result<(), Self::Error>
-        ensures accepted { OnOk result (authenticates self.now commitment.now dimensions.now indices.now (opened_rows opened_values.now) proof.now) }
-        ensures refused { IfErr result (λ e. authenticates self.now commitment.now dimensions.now indices.now (opened_rows opened_values.now) proof.now
-            → IsTrue (is_memory e)) };
+        ensures accepted { OnOk result (authenticates self.now commitment.now dimensions.now
+            indices.now (opened_rows opened_values.now) proof.now) }
+        ensures refused { IfErr result (λ e. authenticates self.now commitment.now dimensions.now
+            indices.now (opened_rows opened_values.now) proof.now → IsTrue (is_memory e)) };
 
     /// Whether the error says that memory was refused.
     fn is_memory(error: &Self::Error) -> bool

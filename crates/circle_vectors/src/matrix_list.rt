@@ -57,7 +57,8 @@ impl<T: Copy> MatrixList<T> {
         alloc: Global,
         indices: &[usize],
     ) -> Result<OpenedRows<T>, AllocError>
-        ensures { IfOk result (λ opened. opened_rows opened.items ≡ rows_at_each (matrices_of self.now) indices.now) }
+        ensures { IfOk result (λ opened. opened_rows opened.items
+            ≡ rows_at_each (matrices_of self.now) indices.now) }
     {
         let mut opened = Vec::with_capacity(alloc, indices.len())?;
         for index in indices {

@@ -80,7 +80,8 @@ impl<T: Field> Mmcs<T> for ListMmcs {
 
     ghost commits = { λ s matrices commitment. HaveSameRows matrices (matrices_of commitment) };
 
-    ghost authenticates = { λ s commitment dims indices opened proof. Shows (matrices_of commitment) dims indices opened };
+    ghost authenticates = { λ s commitment dims indices opened proof.
+        Shows (matrices_of commitment) dims indices opened };
 
     ghost is_memory = { says_memory };
 
@@ -118,9 +119,12 @@ impl<T: Field> Mmcs<T> for ListMmcs {
     ) -> Result<(OpenedRows<T>, Nothing), AllocError>
         requires some { 1 ≤ length indices.now }
         requires in_range { All (λ i. i < max_height (matrices_of prover_data.now)) indices.now }
-        ensures rows { IfOk result (λ r. opened_rows r.0.items ≡ rows_at_each (matrices_of prover_data.now) indices.now) }
-        ensures proof { IfOk result (λ r. (commitment : MatrixList T) → HaveSameRows (matrices_of prover_data.now) (matrices_of commitment)
-            → Shows (matrices_of commitment) (dimensions_of (matrices_of prover_data.now)) indices.now (opened_rows r.0.items)) }
+        ensures rows { IfOk result (λ r. opened_rows r.0.items
+            ≡ rows_at_each (matrices_of prover_data.now) indices.now) }
+        ensures proof { IfOk result (λ r. (commitment : MatrixList T)
+            → HaveSameRows (matrices_of prover_data.now) (matrices_of commitment)
+            → Shows (matrices_of commitment) (dimensions_of (matrices_of prover_data.now))
+            indices.now (opened_rows r.0.items)) }
     {
         Ok((prover_data.rows_at_each(alloc, indices)?, Nothing))
     }
@@ -134,8 +138,10 @@ impl<T: Field> Mmcs<T> for ListMmcs {
         opened_values: &[Vec<Vec<T>>],
         _proof: &Nothing,
     ) -> Result<(), ListError>
-        ensures accepted { OnOk result (Shows (matrices_of commitment.now) dimensions.now indices.now (opened_rows opened_values.now)) }
-        ensures refused { IfErr result (λ e. Shows (matrices_of commitment.now) dimensions.now indices.now (opened_rows opened_values.now) → IsTrue (says_memory e)) }
+        ensures accepted { OnOk result (Shows (matrices_of commitment.now) dimensions.now
+            indices.now (opened_rows opened_values.now)) }
+        ensures refused { IfErr result (λ e. Shows (matrices_of commitment.now) dimensions.now
+            indices.now (opened_rows opened_values.now) → IsTrue (says_memory e)) }
     {
         if indices.is_empty() || !are_below(indices, commitment.max_height()) {
             return Err(ListError::WrongIndex);
@@ -209,7 +215,8 @@ impl<T: Copy> Mmcs<T> for TrustingMmcs {
     ) -> Result<(OpenedRows<T>, Nothing), AllocError>
         requires some { 1 ≤ length indices.now }
         requires in_range { All (λ i. i < max_height (matrices_of prover_data.now)) indices.now }
-        ensures { IfOk result (λ r. opened_rows r.0.items ≡ rows_at_each (matrices_of prover_data.now) indices.now) }
+        ensures { IfOk result (λ r. opened_rows r.0.items
+            ≡ rows_at_each (matrices_of prover_data.now) indices.now) }
     {
         Ok((prover_data.rows_at_each(alloc, indices)?, Nothing))
     }
