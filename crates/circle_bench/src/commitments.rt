@@ -1,9 +1,9 @@
 //! Lines about commitments to matrices over SHA-256: what they come to, and how long they take.
-ghost use Rattle.std.specs.Prelude.{◌<◌, ◌↔◌, All, IsTrue};
-
 use crate::timing::{self, Mode};
 use crate::transforms::Size;
-use circle_commit::{Dimensions, Mmcs, OpenedRows, RowMajorMatrix, heights_are_powers_of_two};
+use circle_commit::{
+    Dimensions, Mmcs, OpenedRows, RowMajorMatrix, are_below, heights_are_powers_of_two,
+};
 use circle_field::Mersenne31;
 use circle_merkle::{ShaMmcs, ShaProverData};
 use std::alloc::{AllocError, Global};
@@ -120,13 +120,6 @@ fn indices(alloc: Global, rows: usize) -> Result<Vec<usize>, AllocError> {
     (0..INDICES)
         .map(|k| k.wrapping_mul(FACTOR) % rows.max(1))
         .collect(alloc)
-}
-
-// Whether each of the indices is below a height.
-fn are_below(indices: &[usize], top: usize) -> bool
-    ensures { IsTrue result ↔ All (λ i. i < top) indices.now }
-{
-    indices.iter().all(|i| *i < top)
 }
 
 /// The shortest time of an opening, and the last one.

@@ -51,7 +51,8 @@ abbrev pub residues_of_items : Items → Result (List ℕ) JsonError
 residues_of_items no_items = Err WrongKind
 residues_of_items (item a no_items) = Err WrongKind
 residues_of_items (item a (item b no_items)) = Err WrongKind
-residues_of_items (item a (item b (item c no_items))) = in_front (residue_of a) (in_front (residue_of b) (in_front (residue_of c) (Ok [])))
+residues_of_items (item a (item b (item c no_items))) =
+    in_front (residue_of a) (in_front (residue_of b) (in_front (residue_of c) (Ok [])))
 residues_of_items (item a (item b (item c (item d rest)))) = Err WrongKind
 
 abbrev pub residues_of : Data → Result (List ℕ) JsonError
@@ -122,3 +123,10 @@ module _ (Refuses : Data → JsonError → Type 0) where
   RefusesArray (string _) error = error ≡ WrongKind
   RefusesArray (array items) error = (error ≡ Memory) ⊎ RefusesItem items error
   RefusesArray (object _) error = error ≡ WrongKind
+
+-- as many items on each side, which are the same one by one
+abbrev pub SameItems : {T : Type 0} → (T → T → Type 0) → List T → List T → Type 0
+SameItems Same [] [] = Unit {0}
+SameItems Same [] (y ∷ ys) = ⊥
+SameItems Same (x ∷ xs) [] = ⊥
+SameItems Same (x ∷ xs) (y ∷ ys) = Same x y × SameItems Same xs ys

@@ -7,5 +7,6 @@ pub mod Mmcs
 pub mod MmcsFacts
 pub mod PeriodicLdeTable
 pub mod Pcs
+pub mod Selectors
 pub mod JsonForms
 pub mod JsonFormFacts

@@ -1,10 +1,15 @@
 -- What a table of periodic columns is to contracts.
-use Rattle.std.specs.Prelude.{ℕ, ◌%◌, List, [], Option, Some, None, slice_get, slice_index_or}
+use Rattle.std.specs.Prelude.{ℕ, ◌%◌, List, [], Option, Some, None, Vec, map, slice_get, slice_index_or}
+use Rattle.std.specs.declared.alloc.Global.{Global}
 use Rattle.circle_commit.specs.RowMajorMatrix.{rows as matrix_rows, width_of as matrix_width, height_of as matrix_height}
 use Rattle.circle_commit.specs.declared.matrix.RowMajorMatrix.{RowMajorMatrix}
 use Rattle.circle_commit.specs.declared.periodic.PeriodicLdeTable.{PeriodicLdeTable}
 
 module _ {T : Type 0} where
+  -- columns as lists of their entries
+  abbrev pub columns_of : List (Vec T Global) → List (List T)
+  columns_of columns = map (λ column. column.items) columns
+
   -- of the matrix, where there is one
   abbrev pub width_in : Option (RowMajorMatrix T) → ℕ
   width_in None = 0

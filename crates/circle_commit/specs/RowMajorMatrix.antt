@@ -24,7 +24,8 @@ module _ {T : Type 0} where
   positive_width m = m.width_positive
 
   pub length-values : (m : RowMajorMatrix T) → length (values_of m) ≡ height_of m * width_of m
-  length-values m = let positive : 1 ≤ m.width = m.width_positive in omega (arith, m.values.ok.0, m.whole_rows)
+  length-values m = let positive : 1 ≤ m.width = m.width_positive in
+      omega (arith, m.values.ok.0, m.whole_rows)
 
   pub length-rows : (m : RowMajorMatrix T) → length (rows m) ≡ height_of m
   length-rows m = length-rows_from m.width (height_of m) m.values.items

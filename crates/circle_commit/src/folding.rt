@@ -5,8 +5,8 @@ use crate::matrix::Matrix;
 use circle_field::{ExtensionField, Field};
 use std::alloc::{AllocError, Global};
 
-/// How a word of an extension field's elements is folded by a challenge: so many neighbouring entries, a
-/// row of a matrix, become one. What each call asks and gives is said by each strategy.
+/// How a word of an extension field's elements is folded by a challenge: so many neighbouring
+/// entries, a row of a matrix, become one. What each call asks and gives is said by each strategy.
 pub trait FriFoldingStrategy<F: Field, EF: ExtensionField<F>> {
     ghost extra_query_index_bits: { Self → ℕ };
 
@@ -45,5 +45,6 @@ pub trait FriFoldingStrategy<F: Field, EF: ExtensionField<F>> {
         evals: M,
     ) -> Result<Vec<EF>, AllocError>
         requires { fold_matrix_asks self.now log_arity (M.width evals) (M.height evals) }
-        ensures { IfOk result (λ folded. fold_matrix_gives self.now beta log_arity (M.rows evals) folded.items) };
+        ensures { IfOk result (λ folded. fold_matrix_gives self.now beta log_arity (M.rows evals)
+            folded.items) };
 }

@@ -1,5 +1,6 @@
 //! Values read from JSON and written as JSON.
 ghost use Rattle.std.specs.Prelude.{◌≡◌, ◌<◌, map, IfOk, IfErr, MatchResult, Ok, Err, Some, None};
+ghost use Rattle.std.proofs.Common.{ap};
 ghost use Rattle.serde_json.specs.Data.{Data, array};
 ghost use Rattle.serde_json.specs.Find.{as_array};
 ghost use Rattle.serde_json.specs.View.{view, items_of, items_view};
@@ -48,9 +49,13 @@ impl From<AllocError> for JsonError {
 
 /// A type whose values have a form in JSON.
 ///
-/// What is written is read back as the value that it was written of, where memory isn't refused.
+/// What is written is read back as the value that it was written of, where memory isn't refused,
+/// and no JSON value stands for two values.
 pub trait JsonForm: Sized {
     ghost use Rattle.circle_commit.specs.declared.json.JsonError.TheVariants.{Memory};
+
+    // Two values are the same.
+    ghost same: { Self → Self → Type 0 };
 
     // What a value is written as.
     ghost written: { Self → Data };
@@ -73,11 +78,15 @@ pub trait JsonForm: Sized {
         ensures reads { IfOk result (λ read. reads (view value.now) read) }
         ensures refuses { IfErr result (λ error. refuses (view value.now) error) };
 
-    // A JSON value stands for one value at most, as far as it is written.
-    ghost reads_one: { (value : Data) (x y : Self) → reads value x → reads value y → written x ≡ written y };
+    // A JSON value stands for one value at most.
+    ghost reads_one: { (value : Data) (x y : Self) → reads value x → reads value y → same x y };
+
+    // What is the same is written alike.
+    ghost writes_same: { (x y : Self) → same x y → written x ≡ written y };
 
     // What stands for a value isn't refused, but for want of memory.
-    ghost refuses_others: { (value : Data) (x : Self) (error : JsonError) → reads value x → refuses value error → error ≡ Memory };
+    ghost refuses_others: { (value : Data) (x : Self) (error : JsonError) → reads value x
+        → refuses value error → error ≡ Memory };
 }
 
 // A whole number below 2^64.
@@ -102,7 +111,8 @@ fn items(value: &Value) -> Result<&[Value], JsonError>
 
 // The array of the forms of values.
 fn array_of<T: JsonForm>(alloc: Global, values: &[T]) -> Result<Value, AllocError>
-    ensures written { IfOk result (λ value. view value ≡ array (items_of (map T.written values.now))) }
+    ensures written { IfOk result (λ value. view value
+        ≡ array (items_of (map T.written values.now))) }
     ensures reads { IfOk result (λ value. ReadsArray T.reads (view value) values.now) }
 {
     let mut items = Vec::with_capacity(alloc, values.len())?;
@@ -119,13 +129,17 @@ fn array_of<T: JsonForm>(alloc: Global, values: &[T]) -> Result<Value, AllocErro
 impl JsonForm for u64 {
     ghost use Rattle.circle_commit.specs.JsonFormFacts.{read_one, refused_others};
 
+    ghost same = { λ m n. m ≡ n };
+
     ghost written = { count_written };
 
     ghost reads = { IsRead count_of (λ n. n) };
 
     ghost refuses = { IsRefused count_of };
 
-    ghost reads_one = { read_one count_of (λ n. n) count_written };
+    ghost reads_one = { read_one count_of (λ n. n) };
+
+    ghost writes_same = { λ m n e. ap count_written e };
 
     ghost refuses_others = { refused_others count_of (λ n. n) };
 
@@ -145,13 +159,17 @@ impl JsonForm for u64 {
 impl JsonForm for usize {
     ghost use Rattle.circle_commit.specs.JsonFormFacts.{read_one, refused_others};
 
+    ghost same = { λ m n. m ≡ n };
+
     ghost written = { count_written };
 
     ghost reads = { IsRead count_of (λ n. n) };
 
     ghost refuses = { IsRefused count_of };
 
-    ghost reads_one = { read_one count_of (λ n. n) count_written };
+    ghost reads_one = { read_one count_of (λ n. n) };
+
+    ghost writes_same = { λ m n e. ap count_written e };
 
     ghost refuses_others = { refused_others count_of (λ n. n) };
 
@@ -170,6 +188,9 @@ impl JsonForm for usize {
 /// `OutOfRange` where it is negative or not below the order.
 impl JsonForm for Mersenne31 {
     ghost use Rattle.circle_commit.specs.JsonFormFacts.{read_one, refused_others};
+    ghost use Rattle.circle_field.specs.Mersenne31Laws.{same_residue};
+
+    ghost same = { λ a b. a ≡ b };
 
     ghost written = { λ a. count_written (residue a) };
 
@@ -177,7 +198,10 @@ impl JsonForm for Mersenne31 {
 
     ghost refuses = { IsRefused residue_of };
 
-    ghost reads_one = { read_one residue_of residue count_written };
+    ghost reads_one = { λ value a b p q. same_residue a b
+        (read_one residue_of residue value a b p q) };
+
+    ghost writes_same = { λ a b e. ap (λ c. count_written (residue c)) e };
 
     ghost refuses_others = { refused_others residue_of residue };
 
@@ -196,7 +220,9 @@ impl JsonForm for Mersenne31 {
 /// Fails as `WrongKind` where the value is no array of three, and as for the base field's elements.
 impl JsonForm for Cubic {
     ghost use Rattle.circle_commit.specs.JsonForms.{coefficient_residues};
-    ghost use Rattle.circle_commit.specs.JsonFormFacts.{read_one, refused_others};
+    ghost use Rattle.circle_commit.specs.JsonFormFacts.{read_one, refused_others, same_coefficients};
+
+    ghost same = { λ a b. a ≡ b };
 
     ghost written = { λ a. residues_written (coefficient_residues a) };
 
@@ -204,7 +230,10 @@ impl JsonForm for Cubic {
 
     ghost refuses = { IsRefused residues_of };
 
-    ghost reads_one = { read_one residues_of coefficient_residues residues_written };
+    ghost reads_one = { λ value a b p q.
+        same_coefficients a b (read_one residues_of coefficient_residues value a b p q) };
+
+    ghost writes_same = { λ a b e. ap (λ c. residues_written (coefficient_residues c)) e };
 
     ghost refuses_others = { refused_others residues_of coefficient_residues };
 
@@ -234,13 +263,17 @@ impl JsonForm for Cubic {
 impl JsonForm for [u8; 32] {
     ghost use Rattle.circle_commit.specs.JsonFormFacts.{read_one, refused_others};
 
+    ghost same = { λ x y. x ≡ y };
+
     ghost written = { digest_written };
 
     ghost reads = { IsRead digest_of (λ digest. digest) };
 
     ghost refuses = { IsRefused digest_of };
 
-    ghost reads_one = { read_one digest_of (λ digest. digest) digest_written };
+    ghost reads_one = { read_one digest_of (λ digest. digest) };
+
+    ghost writes_same = { λ x y e. ap digest_written e };
 
     ghost refuses_others = { refused_others digest_of (λ digest. digest) };
 
@@ -258,7 +291,10 @@ impl JsonForm for [u8; 32] {
 ///
 /// Fails as `WrongKind` where the value is no array, as `Memory`, and as an element does.
 impl<T: JsonForm + Drop> JsonForm for Vec<T> {
-    ghost use Rattle.circle_commit.specs.JsonFormFacts.{array_reads_one, array_refuses_others};
+    ghost use Rattle.circle_commit.specs.JsonForms.{SameItems};
+    ghost use Rattle.circle_commit.specs.JsonFormFacts.{array_reads_one, array_refuses_others, items_written_alike};
+
+    ghost same = { λ v w. SameItems T.same v.items w.items };
 
     ghost written = { λ v. array (items_of (map T.written v.items)) };
 
@@ -266,9 +302,14 @@ impl<T: JsonForm + Drop> JsonForm for Vec<T> {
 
     ghost refuses = { RefusesArray T.refuses };
 
-    ghost reads_one = { λ value x y. array_reads_one T.written T.reads T.reads_one value x.items y.items };
+    ghost reads_one = { λ value v w. array_reads_one T.same T.reads T.reads_one value
+        v.items w.items };
 
-    ghost refuses_others = { λ value x. array_refuses_others T.reads T.refuses T.refuses_others value x.items };
+    ghost writes_same = { λ v w. items_written_alike T.same T.written T.writes_same
+        v.items w.items };
+
+    ghost refuses_others = { λ value x. array_refuses_others T.reads T.refuses T.refuses_others
+        value x.items };
 
     fn to_json(&self, alloc: Global) -> Result<Value, AllocError> {
         array_of(alloc, self)

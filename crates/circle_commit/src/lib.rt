@@ -1,6 +1,6 @@
-//! What commitment schemes stand on: matrices by rows, views of them, domains that polynomials are given
-//! on, what is opened and claimed of them, the parameters of FRI, how it folds and why it refuses, and the
-//! forms of values in JSON.
+//! What commitment schemes stand on: matrices by rows, views of them, domains that polynomials are
+//! given on, what is opened and claimed of them, the parameters of FRI, how it folds and why it
+//! refuses, and the forms of values in JSON.
 #![tactic(auto)]
 
 pub mod error;
@@ -19,8 +19,12 @@ pub mod view;
 pub use error::FriError;
 pub use folding::FriFoldingStrategy;
 pub use json::{JsonError, JsonForm};
-pub use matrix::{Dimensions, Matrix, RowIndexMap, RowIndexMappedView, RowMajorMatrix, Shape};
-pub use mmcs::{Mmcs, OpenedRows, heights_are_powers_of_two, is_power_of_two, log2_strict};
+pub use matrix::{
+    Dimensions, Matrix, MatrixShape, RowIndexMap, RowIndexMappedView, RowMajorMatrix,
+};
+pub use mmcs::{
+    Mmcs, OpenedRows, are_below, heights_are_powers_of_two, is_power_of_two, log2_strict,
+};
 pub use params::{FriParameters, PowPhase};
 pub use pcs::{
     BatchMultiOpening, CommitmentOpening, MatrixOpening, OpenedValues, OpenedValuesForMatrix,

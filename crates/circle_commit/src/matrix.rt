@@ -9,14 +9,14 @@ use std::alloc::{AllocError, Global};
 ///
 /// It stands in a trait of its own, without the type of the entries, so that a type can name it in
 /// an invariant.
-pub trait Shape {
+pub trait MatrixShape {
     ghost width: { Self → ℕ };
 
     ghost height: { Self → ℕ };
 }
 
 /// A matrix that lends its rows.
-pub trait Matrix<T>: Shape {
+pub trait Matrix<T>: MatrixShape {
     ghost rows: { Self → List (List T) };
 
     /// The number of columns, at least 1.
@@ -125,7 +125,8 @@ impl<T: Copy> RowMajorMatrix<T> {
     /// Asks that `n` is at most the height.
     pub fn split_rows(&self, n: usize) -> (RowMajorMatrixView<'_, T>, RowMajorMatrixView<'_, T>)
         requires { n ≤ height_of self.now }
-        ensures widths { (view_width result.0 ≡ width_of self.now) × (view_width result.1 ≡ width_of self.now) }
+        ensures widths { (view_width result.0 ≡ width_of self.now)
+            × (view_width result.1 ≡ width_of self.now) }
         ensures first { view_rows result.0 ≡ take n (rows self.now) }
         ensures others { view_rows result.1 ≡ drop n (rows self.now) }
     {
@@ -138,7 +139,7 @@ impl<T: Copy> RowMajorMatrix<T> {
     }
 }
 
-impl<T> Shape for RowMajorMatrix<T> {
+impl<T> MatrixShape for RowMajorMatrix<T> {
     ghost use Rattle.circle_commit.specs.RowMajorMatrix.{width_of, height_of};
 
     ghost width = { width_of };
@@ -191,15 +192,16 @@ pub trait RowIndexMap {
 
 /// A matrix seen under another order of its rows, which are not copied.
 #[derive(Drop)]
-pub struct RowIndexMappedView<Map: RowIndexMap, M: Shape> {
+pub struct RowIndexMappedView<Map: RowIndexMap, M: MatrixShape> {
     /// Which row of `inner` stands at each row.
     pub index_map: Map,
     /// The underlying matrix.
     pub inner: M,
-    pub ghost in_range: { (r : ℕ) → r < Map.height index_map → Map.map_row_index index_map r < M.height inner },
+    pub ghost in_range: { (r : ℕ) → r < Map.height index_map
+        → Map.map_row_index index_map r < M.height inner },
 }
 
-impl<Map: RowIndexMap, M: Shape> Shape for RowIndexMappedView<Map, M> {
+impl<Map: RowIndexMap, M: MatrixShape> MatrixShape for RowIndexMappedView<Map, M> {
     ghost width = { λ v. M.width v.inner };
 
     ghost height = { λ v. Map.height v.index_map };
@@ -209,14 +211,18 @@ impl<T, Map: RowIndexMap, M: Matrix<T>> Matrix<T> for RowIndexMappedView<Map, M>
     ghost use Rattle.circle_commit.specs.RowFacts.{length-mapped_rows, mapped_rows-widths};
     ghost use Rattle.std.proofs.Common.{subst, sym};
 
-    ghost rows = { λ v. mapped_rows (Map.map_row_index v.index_map) (Map.height v.index_map) (M.rows v.inner) };
+    ghost rows = { λ v. mapped_rows (Map.map_row_index v.index_map) (Map.height v.index_map)
+        (M.rows v.inner) };
 
     ghost width_positive = { λ v. M.width_positive v.inner };
 
-    ghost height_law = { λ v. length-mapped_rows (Map.map_row_index v.index_map) (Map.height v.index_map) (M.rows v.inner) };
+    ghost height_law = { λ v. length-mapped_rows (Map.map_row_index v.index_map)
+        (Map.height v.index_map) (M.rows v.inner) };
 
-    ghost width_law = { λ v. mapped_rows-widths (Map.map_row_index v.index_map) (Map.height v.index_map) (M.width v.inner) (M.rows v.inner)
-        (λ r h. subst (λ n. Map.map_row_index v.index_map r < n) (sym (M.height_law v.inner)) (v.in_range r h))
+    ghost width_law = { λ v. mapped_rows-widths (Map.map_row_index v.index_map)
+        (Map.height v.index_map) (M.width v.inner) (M.rows v.inner)
+        (λ r h. subst (λ n. Map.map_row_index v.index_map r < n) (sym (M.height_law v.inner))
+        (v.in_range r h))
         (M.width_law v.inner) };
 
     fn width(&self) -> usize {
@@ -232,7 +238,7 @@ impl<T, Map: RowIndexMap, M: Matrix<T>> Matrix<T> for RowIndexMappedView<Map, M>
     }
 }
 
-impl<Map: RowIndexMap, M: Shape> RowIndexMappedView<Map, M> {
+impl<Map: RowIndexMap, M: MatrixShape> RowIndexMappedView<Map, M> {
     ghost use Rattle.circle_commit.specs.RowMajorMatrix.{rows, width_of};
 
     /// A stored copy of the rows as they are seen. Fails where memory is refused.
@@ -243,7 +249,8 @@ impl<Map: RowIndexMap, M: Shape> RowIndexMappedView<Map, M> {
     where
         M: Matrix<T>,
         ensures width { IfOk result (λ m. width_of m ≡ M.width self.now.inner) }
-        ensures rows { IfOk result (λ m. rows m ≡ ⟦<RowIndexMappedView<Map, M> as Matrix<T>>⟧.rows self.now) }
+        ensures rows { IfOk result (λ m. rows m
+            ≡ ⟦<RowIndexMappedView<Map, M> as Matrix<T>>⟧.rows self.now) }
     {
         RowMajorMatrix::copy_of(alloc, self)
     }

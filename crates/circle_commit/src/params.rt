@@ -4,8 +4,9 @@ ghost use Rattle.circle_commit.specs.declared.params.PowPhase.TheVariants.{Batch
 
 use std::fmt;
 
-/// The parameters of FRI: how much the codewords are longer than what they encode, how they are folded
-/// and queried, the difficulties of the proofs of work, and the commitment scheme of the folded words.
+/// The parameters of FRI: how much the codewords are longer than what they encode, how they are
+/// folded and queried, the difficulties of the proofs of work, and the commitment scheme of the
+/// folded words.
 #[derive(Debug, Drop)]
 pub struct FriParameters<M> {
     /// The binary logarithm of the blowup, by which a codeword is longer than what it encodes.
@@ -14,7 +15,8 @@ pub struct FriParameters<M> {
     pub max_log_arity: usize,
     /// The number of queries.
     pub num_queries: usize,
-    /// The difficulty, in bits, of the proof of work before the challenge that batches the openings.
+    /// The difficulty, in bits, of the proof of work before the challenge that batches the
+    /// openings.
     pub batch_proof_of_work_bits: usize,
     /// The difficulty, in bits, of the proof of work before the folding challenge of each round.
     pub commit_proof_of_work_bits: usize,
@@ -36,7 +38,11 @@ pub enum PowPhase {
 }
 
 impl fmt::Display for PowPhase {
-    ghost output = { elim [ Batch ↦ Some (codes "batch") | CommitPhase ↦ Some (codes "commit phase") | Query ↦ Some (codes "query") ] };
+    ghost output = { elim [
+      | Batch ↦ Some (codes "batch")
+      | CommitPhase ↦ Some (codes "commit phase")
+      | Query ↦ Some (codes "query")
+    ] };
 
     fn fmt<W: fmt::Write>(&self, f: &mut fmt::Formatter<W>) -> fmt::Result {
         f.write_str(match self {

@@ -1,4 +1,5 @@
-//! Polynomial commitment schemes over domains: what is opened, what is claimed, and the scheme's calls.
+//! Polynomial commitment schemes over domains: what is opened, what is claimed, and the scheme's
+//! calls.
 ghost use Rattle.std.specs.Prelude.{ℕ, List, IfOk, IfErr, OnOk};
 ghost use Rattle.circle_commit.specs.Pcs.{Openings, openings};
 ghost use Rattle.circle_commit.specs.declared.matrix.RowMajorMatrix.{RowMajorMatrix};
@@ -30,8 +31,8 @@ pub type OpenedValuesForMatrix<F> = Vec<OpenedValuesForPoint<F>>;
 /// The values of one batch of matrices, by matrix and point.
 pub type OpenedValuesForRound<F> = Vec<OpenedValuesForMatrix<F>>;
 
-/// The values that an opening answers: for each batch, for each of its matrices, for each of its points,
-/// the values of the columns.
+/// The values that an opening answers: for each batch, for each of its matrices, for each of its
+/// points, the values of the columns.
 pub type OpenedValues<F> = Vec<OpenedValuesForRound<F>>;
 
 /// One committed batch of matrices, with the points that each is to be opened at.
@@ -70,10 +71,11 @@ pub struct CommitmentOpening<Challenge, Commitment, Domain> {
     pub matrices: Vec<MatrixOpening<Challenge, Domain>>,
 }
 
-/// A scheme that commits to polynomials, given by their values on domains, and opens them at points of a
-/// challenge field.
+/// A scheme that commits to polynomials, given by their values on domains, and opens them at points
+/// of a challenge field.
 ///
-/// `Challenger` draws the challenges of a run. What each call asks and gives is said by each scheme.
+/// `Challenger` draws the challenges of a run. What each call asks and gives is said by each
+/// scheme.
 pub trait Pcs<Challenge, Challenger>
 where
     Challenge: ExtensionField<<Self::Domain as PolynomialSpace>::Val>,
@@ -102,31 +104,37 @@ where
 
     ghost commit_asks: { Self → List (Self.Domain × RowMajorMatrix Self.Domain.Val) → Type 0 };
 
-    ghost commit_gives: { Self → List (Self.Domain × RowMajorMatrix Self.Domain.Val) → Self.Commitment → Self.ProverData → Type 0 };
+    ghost commit_gives: { Self → List (Self.Domain × RowMajorMatrix Self.Domain.Val)
+        → Self.Commitment → Self.ProverData → Type 0 };
 
-    ghost commit_refuses: { Self → List (Self.Domain × RowMajorMatrix Self.Domain.Val) → Self.ProverError → Type 0 };
+    ghost commit_refuses: { Self → List (Self.Domain × RowMajorMatrix Self.Domain.Val)
+        → Self.ProverError → Type 0 };
 
     ghost open_asks: { Self → List (OpeningRequest Self.ProverData Challenge) → Type 0 };
 
     // Of the requests and the challenger before: the values, the proof and the challenger after.
-    ghost open_gives: { Self → List (OpeningRequest Self.ProverData Challenge) → Challenger → Openings Challenge → Self.Proof → Challenger → Type 0 };
+    ghost open_gives: { Self → List (OpeningRequest Self.ProverData Challenge) → Challenger
+        → Openings Challenge → Self.Proof → Challenger → Type 0 };
 
     // Of the requests and the challenger before: the error and the challenger after.
-    ghost open_refuses: { Self → List (OpeningRequest Self.ProverData Challenge) → Challenger → Self.ProverError → Challenger → Type 0 };
+    ghost open_refuses: { Self → List (OpeningRequest Self.ProverData Challenge) → Challenger
+        → Self.ProverError → Challenger → Type 0 };
 
     // The claims and the proof are accepted from one state of the challenger, which leaves another.
-    ghost verify_accepts: { Self → List (CommitmentOpening Challenge Self.Commitment Self.Domain) → Self.Proof → Challenger → Challenger → Type 0 };
+    ghost verify_accepts: { Self → List (CommitmentOpening Challenge Self.Commitment Self.Domain)
+        → Self.Proof → Challenger → Challenger → Type 0 };
 
     // Of the claims, the proof and the challenger before: the error and the challenger after.
-    ghost verify_refuses: { Self → List (CommitmentOpening Challenge Self.Commitment Self.Domain) → Self.Proof → Challenger → Self.Error → Challenger → Type 0 };
+    ghost verify_refuses: { Self → List (CommitmentOpening Challenge Self.Commitment Self.Domain)
+        → Self.Proof → Challenger → Self.Error → Challenger → Type 0 };
 
     /// The domain on which a polynomial of so many coefficients is given.
     fn natural_domain_for_degree(&self, degree: usize) -> Self::Domain
         requires { natural_domain_for_degree_asks self.now degree }
         ensures { natural_domain_for_degree_gives self.now degree result };
 
-    /// Commits to a batch of matrices, each with the domain that its columns are values on, a row for
-    /// each point. Fails where memory is refused.
+    /// Commits to a batch of matrices, each with the domain that its columns are values on, a row
+    /// for each point. Fails where memory is refused.
     fn commit(
         &self,
         alloc: Global,
@@ -141,8 +149,8 @@ where
         ensures committed { IfOk result (λ r. commit_gives self.now evaluations.items r.0 r.1) }
         ensures refused { IfErr result (commit_refuses self.now evaluations.items) };
 
-    /// The values of the committed polynomials at the requested points, and a proof that they are. Fails
-    /// where memory is refused.
+    /// The values of the committed polynomials at the requested points, and a proof that they are.
+    /// Fails where memory is refused.
     fn open(
         &self,
         alloc: Global,
@@ -150,8 +158,10 @@ where
         challenger: &mut Challenger,
     ) -> Result<(OpenedValues<Challenge>, Self::Proof), Self::ProverError>
         requires { open_asks self.now requests.items }
-        ensures opened { IfOk result (λ r. open_gives self.now requests.entry.items challenger.old (openings r.0.items) r.1 challenger.new) }
-        ensures refused { IfErr result (λ e. open_refuses self.now requests.entry.items challenger.old e challenger.new) };
+        ensures opened { IfOk result (λ r. open_gives self.now requests.entry.items challenger.old
+            (openings r.0.items) r.1 challenger.new) }
+        ensures refused { IfErr result (λ e. open_refuses self.now requests.entry.items
+            challenger.old e challenger.new) };
 
     /// Whether the claimed values are those of the committed polynomials.
     ///
@@ -163,6 +173,8 @@ where
         proof: &Self::Proof,
         challenger: &mut Challenger,
     ) -> Result<(), Self::Error>
-        ensures accepted { OnOk result (verify_accepts self.now claims.items proof.now challenger.old challenger.new) }
-        ensures refused { IfErr result (λ e. verify_refuses self.now claims.items proof.now challenger.old e challenger.new) };
+        ensures accepted { OnOk result (verify_accepts self.now claims.items proof.now
+            challenger.old challenger.new) }
+        ensures refused { IfErr result (λ e. verify_refuses self.now claims.items proof.now
+            challenger.old e challenger.new) };
 }

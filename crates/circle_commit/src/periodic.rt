@@ -1,6 +1,7 @@
 //! Columns that repeat over a domain, and their values on an extension of it.
-ghost use Rattle.std.specs.Prelude.{◌≡◌, ◌≤◌, ◌<◌, List, [], map, Some, IfOk, IfErr};
+ghost use Rattle.std.specs.Prelude.{◌≡◌, ◌≤◌, ◌<◌, List, [], Some, IfOk, IfErr};
 ghost use Rattle.circle_field.specs.Field.{FieldOps};
+ghost use Rattle.circle_commit.specs.PeriodicLdeTable.{columns_of};
 ghost use Rattle.circle_commit.specs.declared.periodic.PeriodicLdeTable.{PeriodicLdeTable};
 
 use crate::matrix::{Matrix, RowMajorMatrix};
@@ -8,8 +9,9 @@ use crate::space::PolynomialSpace;
 use circle_field::{ExtensionField, Field};
 use std::alloc::{AllocError, Global};
 
-/// The values of periodic columns at the points of an extension of the trace's domain, in its order: a
-/// column of the table for each. They repeat, so the table has only as many rows as differ.
+/// The values of periodic columns at the points of an extension of the trace's domain, in its
+/// order: a column of the table for each. They repeat, so the table has only as many rows as
+/// differ.
 #[derive(Drop)]
 pub struct PeriodicLdeTable<T> {
     // Without columns there is no matrix.
@@ -60,7 +62,8 @@ impl<T: Copy> PeriodicLdeTable<T> {
         }
     }
 
-    /// The value of column `c` at point `i` of the extension, which stands in row `i` modulo the height.
+    /// The value of column `c` at point `i` of the extension, which stands in row `i` modulo the
+    /// height.
     ///
     /// Asks `c < width` and a table of at least one row.
     pub fn get(&self, i: usize, c: usize) -> T
@@ -86,9 +89,11 @@ pub trait PeriodicEvaluator<F: Field, D: PolynomialSpace> {
 
     ghost eval_on_lde_refuses: { List (List F) → D → D → Self.Error → Type 0 };
 
-    ghost eval_at_point_asks: { (E : Type 0) → FieldOps E → (F → E) → List (List F) → D → E → Type 0 };
+    ghost eval_at_point_asks: { (E : Type 0) → FieldOps E → (F → E) → List (List F) → D → E
+        → Type 0 };
 
-    ghost eval_at_point_gives: { (E : Type 0) → FieldOps E → (F → E) → List (List F) → D → E → List E → Type 0 };
+    ghost eval_at_point_gives: { (E : Type 0) → FieldOps E → (F → E) → List (List F) → D → E
+        → List E → Type 0 };
 
     /// The values of the columns on an extension of the trace's domain.
     fn eval_on_lde(
@@ -98,8 +103,10 @@ pub trait PeriodicEvaluator<F: Field, D: PolynomialSpace> {
         lde_domain: &D,
     ) -> Result<PeriodicLdeTable<F>, Self::Error>
         requires { eval_on_lde_asks trace_domain.now lde_domain.now }
-        ensures table { IfOk result (λ table. eval_on_lde_gives (map (λ column. column.items) periodic_table.now) trace_domain.now lde_domain.now table) }
-        ensures refusal { IfErr result (λ e. eval_on_lde_refuses (map (λ column. column.items) periodic_table.now) trace_domain.now lde_domain.now e) };
+        ensures table { IfOk result (λ table. eval_on_lde_gives (columns_of periodic_table.now)
+            trace_domain.now lde_domain.now table) }
+        ensures refusal { IfErr result (λ e. eval_on_lde_refuses (columns_of periodic_table.now)
+            trace_domain.now lde_domain.now e) };
 
     /// The values of the columns at one point, in their order. Fails where memory is refused.
     fn eval_at_point<EF: ExtensionField<F>>(
@@ -108,6 +115,8 @@ pub trait PeriodicEvaluator<F: Field, D: PolynomialSpace> {
         trace_domain: &D,
         point: EF,
     ) -> Result<Vec<EF>, AllocError>
-        requires { eval_at_point_asks EF EF.ops EF.embed (map (λ column. column.items) periodic_table.now) trace_domain.now point }
-        ensures { IfOk result (λ values. eval_at_point_gives EF EF.ops EF.embed (map (λ column. column.items) periodic_table.now) trace_domain.now point values.items) };
+        requires { eval_at_point_asks EF EF.ops EF.embed (columns_of periodic_table.now)
+            trace_domain.now point }
+        ensures { IfOk result (λ values. eval_at_point_gives EF EF.ops EF.embed
+            (columns_of periodic_table.now) trace_domain.now point values.items) };
 }

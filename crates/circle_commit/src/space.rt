@@ -1,4 +1,5 @@
 //! Domains that polynomials are given on by their values.
+ghost use Rattle.circle_commit.specs.Selectors.{selector_lists};
 ghost use Rattle.std.specs.Prelude.{◌≡◌, ℕ, Option, IfOk, List};
 ghost use Rattle.circle_field.specs.Field.{FieldOps};
 ghost use Rattle.circle_commit.specs.declared.matrix.RowMajorMatrix.{RowMajorMatrix};
@@ -8,8 +9,8 @@ use crate::matrix::RowMajorMatrix;
 use circle_field::{ExtensionField, Field};
 use std::alloc::{AllocError, Global};
 
-/// The selectors of a domain's rows, by which a constraint is laid on some rows alone: at a point, or
-/// at each point of a coset.
+/// The selectors of a domain's rows, by which a constraint is laid on some rows alone: at a point,
+/// or at each point of a coset.
 #[derive(Debug, Drop)]
 pub struct LagrangeSelectors<T> {
     /// Zero at each point of the domain but the first.
@@ -42,7 +43,8 @@ pub trait PolynomialSpace: Copy {
 
     ghost next_point_asks: { Self → Type 0 };
 
-    ghost next_point_gives: { (E : Type 0) → FieldOps E → (Self.Val → E) → Self → E → Option E → Type 0 };
+    ghost next_point_gives: { (E : Type 0) → FieldOps E → (Self.Val → E) → Self → E → Option E
+        → Type 0 };
 
     ghost try_create_disjoint_domain_asks: { Self → Type 0 };
 
@@ -54,27 +56,36 @@ pub trait PolynomialSpace: Copy {
 
     ghost split_evals_asks: { Self → ℕ → RowMajorMatrix Self.Val → Type 0 };
 
-    ghost split_evals_gives: { Self → ℕ → RowMajorMatrix Self.Val → List (RowMajorMatrix Self.Val) → Type 0 };
+    ghost split_evals_gives: { Self → ℕ → RowMajorMatrix Self.Val → List (RowMajorMatrix Self.Val)
+        → Type 0 };
 
-    ghost vanishing_poly_at_point_asks: { (E : Type 0) → FieldOps E → (Self.Val → E) → Self → E → Type 0 };
+    ghost vanishing_poly_at_point_asks: { (E : Type 0) → FieldOps E → (Self.Val → E) → Self → E
+        → Type 0 };
 
-    ghost vanishing_poly_at_point_gives: { (E : Type 0) → FieldOps E → (Self.Val → E) → Self → E → E → Type 0 };
+    ghost vanishing_poly_at_point_gives: { (E : Type 0) → FieldOps E → (Self.Val → E) → Self → E → E
+        → Type 0 };
 
-    ghost selectors_at_point_asks: { (E : Type 0) → FieldOps E → (Self.Val → E) → Self → E → Type 0 };
+    ghost selectors_at_point_asks: { (E : Type 0) → FieldOps E → (Self.Val → E) → Self → E
+        → Type 0 };
 
-    ghost selectors_at_point_gives: { (E : Type 0) → FieldOps E → (Self.Val → E) → Self → E → LagrangeSelectors E → Type 0 };
+    ghost selectors_at_point_gives: { (E : Type 0) → FieldOps E → (Self.Val → E) → Self → E
+        → LagrangeSelectors E → Type 0 };
 
     ghost selectors_on_coset_asks: { Self → Self → Type 0 };
 
     ghost selectors_on_coset_gives: { Self → Self → LagrangeSelectors (List Self.Val) → Type 0 };
 
-    ghost evaluate_polynomial_at_asks: { (E : Type 0) → FieldOps E → (Self.Val → E) → Self → List Self.Val → E → Type 0 };
+    ghost evaluate_polynomial_at_asks: { (E : Type 0) → FieldOps E → (Self.Val → E) → Self
+        → List Self.Val → E → Type 0 };
 
-    ghost evaluate_polynomial_at_gives: { (E : Type 0) → FieldOps E → (Self.Val → E) → Self → List Self.Val → E → E → Type 0 };
+    ghost evaluate_polynomial_at_gives: { (E : Type 0) → FieldOps E → (Self.Val → E) → Self
+        → List Self.Val → E → E → Type 0 };
 
-    ghost evaluate_periodic_column_at_asks: { (E : Type 0) → FieldOps E → (Self.Val → E) → Self → List Self.Val → E → Type 0 };
+    ghost evaluate_periodic_column_at_asks: { (E : Type 0) → FieldOps E → (Self.Val → E) → Self
+        → List Self.Val → E → Type 0 };
 
-    ghost evaluate_periodic_column_at_gives: { (E : Type 0) → FieldOps E → (Self.Val → E) → Self → List Self.Val → E → E → Type 0 };
+    ghost evaluate_periodic_column_at_gives: { (E : Type 0) → FieldOps E → (Self.Val → E) → Self
+        → List Self.Val → E → E → Type 0 };
 
     /// The number of points.
     fn size(&self) -> usize
@@ -100,7 +111,8 @@ pub trait PolynomialSpace: Copy {
         requires { try_create_disjoint_domain_asks self.now }
         ensures { try_create_disjoint_domain_gives self.now min_size result };
 
-    /// So many disjoint domains of equal sizes that make up this one. Fails where memory is refused.
+    /// So many disjoint domains of equal sizes that make up this one. Fails where memory is
+    /// refused.
     fn split_domains(&self, alloc: Global, num_chunks: usize) -> Result<Vec<Self>, AllocError>
         requires { split_domains_asks self.now num_chunks }
         ensures { IfOk result (λ parts. split_domains_gives self.now num_chunks parts.items) };
@@ -128,23 +140,18 @@ pub trait PolynomialSpace: Copy {
         requires { selectors_at_point_asks Ext Ext.ops Ext.embed self.now point }
         ensures { selectors_at_point_gives Ext Ext.ops Ext.embed self.now point result };
 
-    /// The selectors of the rows at each point of another domain, in its order. Fails where memory is
-    /// refused.
+    /// The selectors of the rows at each point of another domain, in its order. Fails where memory
+    /// is refused.
     fn selectors_on_coset(
         &self,
         alloc: Global,
         coset: Self,
     ) -> Result<LagrangeSelectors<Vec<Self::Val>>, AllocError>
         requires { selectors_on_coset_asks self.now coset }
-        ensures { IfOk result (λ selectors. selectors_on_coset_gives self.now coset (record {
-          is_first_row = selectors.is_first_row.items;
-          is_last_row = selectors.is_last_row.items;
-          is_transition = selectors.is_transition.items;
-          inv_vanishing = selectors.inv_vanishing.items;
-        })) };
+        ensures { IfOk result (λ s. selectors_on_coset_gives self.now coset (selector_lists s)) };
 
-    /// The value at this point of the polynomial with these values on the domain, in its order. Fails
-    /// where memory is refused.
+    /// The value at this point of the polynomial with these values on the domain, in its order.
+    /// Fails where memory is refused.
     fn evaluate_polynomial_at<Ext: ExtensionField<Self::Val>>(
         &self,
         alloc: Global,
@@ -152,7 +159,8 @@ pub trait PolynomialSpace: Copy {
         point: Ext,
     ) -> Result<Ext, AllocError>
         requires { evaluate_polynomial_at_asks Ext Ext.ops Ext.embed self.now evals.now point }
-        ensures { IfOk result (λ value. evaluate_polynomial_at_gives Ext Ext.ops Ext.embed self.now evals.now point value) };
+        ensures { IfOk result (λ value. evaluate_polynomial_at_gives Ext Ext.ops Ext.embed self.now
+            evals.now point value) };
 
     /// The value at this point of a column that repeats these entries over the domain. Fails where
     /// memory is refused.
@@ -163,5 +171,6 @@ pub trait PolynomialSpace: Copy {
         point: Ext,
     ) -> Result<Ext, AllocError>
         requires { evaluate_periodic_column_at_asks Ext Ext.ops Ext.embed self.now col.now point }
-        ensures { IfOk result (λ value. evaluate_periodic_column_at_gives Ext Ext.ops Ext.embed self.now col.now point value) };
+        ensures { IfOk result (λ value. evaluate_periodic_column_at_gives Ext Ext.ops Ext.embed
+            self.now col.now point value) };
 }

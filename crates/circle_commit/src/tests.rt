@@ -3,7 +3,7 @@ ghost use Rattle.std.specs.Prelude.{◌-◌};
 
 use crate::{
     Dimensions, Matrix, PeriodicLdeTable, RowIndexMap, RowIndexMappedView, RowMajorMatrix,
-    RowMajorMatrixView, is_power_of_two, log2_strict,
+    RowMajorMatrixView, are_below, heights_are_powers_of_two, is_power_of_two, log2_strict,
 };
 use std::alloc::{AllocError, Global};
 use std::test::Fail;
@@ -163,4 +163,21 @@ fn the_logarithm_of_powers_of_two(rt: HostRuntime) {
     }
     assert!(rt; !is_power_of_two(0));
     assert!(rt; !is_power_of_two((1 << 20) + 1));
+}
+
+#[test]
+fn numbers_below_a_bound(rt: HostRuntime) {
+    assert!(rt; are_below(&[7, 0, 2, 7], 8));
+    assert!(rt; !are_below(&[7, 0, 8, 7], 8));
+    assert!(rt; are_below(&[], 0));
+}
+
+#[test]
+fn heights_of_powers_of_two(rt: HostRuntime) -> Result<(), Fail> {
+    let column = RowMajorMatrix::new_col(vec![in rt.alloc(); 5u32, 6, 7]?);
+    let matrices = vec![in rt.alloc(); four_rows(rt.alloc())?, column]?;
+    assert!(rt; !heights_are_powers_of_two(&matrices));
+    assert!(rt; heights_are_powers_of_two(&matrices[..1]));
+    assert!(rt; heights_are_powers_of_two(&matrices[..0]));
+    Ok(())
 }

@@ -2,7 +2,7 @@
 ghost use Rattle.std.specs.Prelude.{◌≡◌, ◌≤◌, ◌%◌, ◌/◌, length};
 ghost use Rattle.circle_commit.specs.Matrix.{rows_from};
 
-use crate::matrix::{Matrix, Shape};
+use crate::matrix::{Matrix, MatrixShape};
 
 /// Rows of a matrix that is stored elsewhere, which are not copied.
 #[derive(Drop)]
@@ -23,13 +23,14 @@ impl<'a, T> RowMajorMatrixView<'a, T> {
         requires positive { 1 ≤ width }
         requires whole { length values.now % width ≡ 0 }
         ensures shape { width_of result ≡ width }
-        ensures content { rows result ≡ rows_from width (length values.entry.now / width) values.entry.now }
+        ensures content { rows result ≡ rows_from width (length values.entry.now / width)
+            values.entry.now }
     {
         RowMajorMatrixView { values, width }
     }
 }
 
-impl<T> Shape for RowMajorMatrixView<'_, T> {
+impl<T> MatrixShape for RowMajorMatrixView<'_, T> {
     ghost use Rattle.circle_commit.specs.RowMajorMatrixView.{width_of, height_of};
 
     ghost width = { width_of };

@@ -6,7 +6,7 @@ use Rattle.std.proofs.lemmas.List.{length-map, get_or-map}
 use Rattle.std.proofs.lemmas.List.Elements.{All-nil, All-cons, All-head, All-tail, All-weaker, All-map}
 use Rattle.std.proofs.lemmas.Bool.{eq-eqb, ne_eqb, cases_eq, cases_Bool}
 use Rattle.std.proofs.Math.Bool.{or-false}
-use Rattle.std.proofs.lemmas.Nat.{shr_below, pow_pos}
+use Rattle.std.proofs.lemmas.Nat.{shr_below}
 use Rattle.circle_commit.specs.Matrix.{IsPowerOfTwo}
 use Rattle.circle_commit.specs.declared.matrix.RowMajorMatrix.{RowMajorMatrix}
 use Rattle.circle_commit.specs.RowMajorMatrix.{rows, width_of, height_of, length-rows, rows-width}
@@ -15,7 +15,8 @@ use Rattle.circle_commit.specs.MmcsFacts.{row_at-powers}
 use Rattle.circle_merkle.specs.Tree.{digest, computed, node_digest, joined_digest, with_rows, is_known, is_taken, given, proof_of}
 use Rattle.circle_merkle.specs.Rows.{size_of, bytes_of_height, tree_rows, rows_of, opened_at, matrix_rows}
 use Rattle.circle_merkle.specs.Authentication.{Authenticates, IsRoot}
-use Rattle.circle_merkle.proofs.Powers.{exponent, exponent_within, quotient_twice, level_size, halves}
+use Rattle.circle_commit.proofs.Powers.{exponent_unique}
+use Rattle.circle_merkle.proofs.Powers.{exponent_within, quotient_twice, level_size, halves}
 use Rattle.circle_merkle.proofs.Pairs.{sibling-even, sibling-odd, above}
 use Rattle.circle_merkle.proofs.Known.{is_known-above, known-root}
 use Rattle.circle_merkle.proofs.Honest.{length-proof, given-proof}
@@ -166,7 +167,7 @@ module _ (hash : List ℕ → List ℕ) {T : Type 0} (bytes : T → List ℕ) (m
       top = top;
       count = length-proof honest indices levels levels;
       root =
-          let same : levels ≡ isroot.levels = exponent (max_height matrices) levels isroot.levels top (omega (arith, isroot.top)) (omega (arith, isroot.top, pow_pos isroot.levels)) in
+          let same : levels ≡ isroot.levels = exponent_unique levels isroot.levels (sym top ∙ isroot.top) in
           let one : 2 ^ (levels - levels) ≡ 1 = (let z : levels - levels ≡ 0 = omega arith in ap (λ k. 2 ^ k) z) in
           partial-known levels 0 (omega arith) (omega arith) (known-root indices levels some (All-weaker (λ i. i < max_height matrices) (λ i. i < 2 ^ levels) (λ i lt. omega (arith, top)) indices below)) ∙ ap (λ l. honest l 0) same ∙ isroot.root;
     }

@@ -10,7 +10,6 @@ use Rattle.circle_commit.specs.Matrix.{IsPowerOfTwo}
 use Rattle.circle_commit.specs.declared.matrix.Dimensions.{Dimensions}
 use Rattle.circle_commit.specs.Mmcs.{greatest, heights, opened_rows}
 use Rattle.circle_merkle.specs.Authentication.{HasShape}
-use Rattle.circle_merkle.proofs.Powers.{logarithm}
 
 pub greatest-append : (ns : List ℕ) (n : ℕ) → greatest (ns ++ n ∷ []) ≡ max n (greatest ns)
 greatest-append [] n = refl
@@ -80,8 +79,6 @@ greatest-power (dim ∷ next ∷ dims) some powers =
     (cases_lt dim.height rest)
 
 -- indices below the greatest height are below the power of two that it is
-pub below-power : {T : Type 0} {opened : List (List (List T))} (dims : List Dimensions) (indices : List ℕ) (top r : ℕ) → HasShape dims opened → top ≡ greatest (heights dims) → 2 ^ r ≤ top → top < 2 * 2 ^ r →
+pub below-power : (dims : List Dimensions) (indices : List ℕ) (r : ℕ) → 2 ^ r ≡ greatest (heights dims) →
     All (λ i. i < greatest (heights dims)) indices → All (λ i. i < 2 ^ r) indices
-below-power dims indices top r shape e low high below =
-    let power = greatest-power dims shape.some shape.powers_of_two in
-    subst (λ n. All (λ i. i < n) indices) (sym (logarithm top r (power.0, e ∙ power.1) low high ∙ e)) below
+below-power dims indices r power below = subst (λ n. All (λ i. i < n) indices) (sym power) below

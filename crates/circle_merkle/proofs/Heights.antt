@@ -29,6 +29,9 @@ module _ {T : Type 0} (matrices : List (RowMajorMatrix T)) where
       let count : length (dimensions_of matrices) ≡ length matrices = length-map matrices (λ m. record { width = width_of m; height = height_of m }) in
       greatest-power (dimensions_of matrices) (omega arith) (All-map (λ (dim : Dimensions). IsPowerOfTwo dim.height) (λ m. record { width = width_of m; height = height_of m }) matrices powers)
 
+  pub bounded-at : (k : ℕ) (m : RowMajorMatrix T) → k < length matrices → m ≡ get_or matrices k m → height_of m ≤ max_height matrices
+  bounded-at k m lt e = subst (λ h. h ≤ max_height matrices) (sym (ap height_of e)) (heights-bounded matrices k m lt)
+
   module _ (powers : All (λ m. IsPowerOfTwo (height_of m)) matrices) (k : ℕ) (m : RowMajorMatrix T) (lt : k < length matrices) (e : m ≡ get_or matrices k m) where
     pub power-at : IsPowerOfTwo (height_of m)
     power-at = let power = powers k m lt in (power.0, ap height_of e ∙ power.1)
@@ -36,15 +39,12 @@ module _ {T : Type 0} (matrices : List (RowMajorMatrix T)) where
     pub positive-at : 0 < height_of m
     positive-at = let power = power-at in omega (arith, power.1, pow_pos power.0)
 
-    pub bounded-at : height_of m ≤ max_height matrices
-    bounded-at = subst (λ h. h ≤ max_height matrices) (sym (ap height_of e)) (heights-bounded matrices k m lt)
-
     -- the row at an index is one of the matrix
     pub row-at : (index : ℕ) → index < max_height matrices → row_at (max_height matrices) (height_of m) index < height_of m
     row-at index below =
         let power = power-at in
         let top = max-power (omega arith) powers in
-        let le : power.0 ≤ top.0 = exponent_within power.0 top.0 (omega (arith, bounded-at, power.1, top.1)) in
+        let le : power.0 ≤ top.0 = exponent_within power.0 top.0 (omega (arith, bounded-at k m lt e, power.1, top.1)) in
         let same : row_at (max_height matrices) (height_of m) index ≡ index / 2 ^ (top.0 - power.0) =
         ap (λ t. row_at t (height_of m) index) top.1 ∙ ap (λ n. row_at (2 ^ top.0) n index) power.1 ∙ row_at-powers top.0 power.0 index le in
         let whole : 2 ^ top.0 ≡ 2 ^ (power.0 + (top.0 - power.0)) = (let s : top.0 ≡ power.0 + (top.0 - power.0) = omega arith in ap (λ k. 2 ^ k) s) in

@@ -5,7 +5,7 @@ use Rattle.std.proofs.Math.Nat.{le-div_iff_mul-le, div-mul-le_self}
 use Rattle.std.proofs.lemmas.Bool.{cases_lt}
 use Rattle.std.proofs.lemmas.List.{get_or_default}
 use Rattle.circle_merkle.specs.Order.{IsOrdered, entry_at}
-use Rattle.circle_merkle.specs.Shape.{nth, row_of, NeighborsAgree}
+use Rattle.circle_merkle.specs.SamePosition.{nth, row_of, NeighborsAgree}
 use Rattle.circle_merkle.proofs.Ordered.{order-placed, order-contains, order-rises}
 
 -- of numbers in ascending order the equal ones stand together, so what neighbors share they all share

@@ -5,18 +5,18 @@ use Rattle.circle_commit.specs.declared.matrix.Dimensions.{Dimensions}
 use Rattle.circle_merkle.specs.declared.error.MerkleTreeError.{MerkleTreeError}
 use Rattle.circle_merkle.specs.declared.error.MerkleTreeError.TheVariants.{WrongIndex, WrongWidth, WrongProofLength, DisagreeingRows, RootMismatch, Memory}
 use Rattle.circle_merkle.specs.Authentication.{Authenticates}
-use Rattle.circle_merkle.specs.Verdict.{IsRight, says_memory}
+use Rattle.circle_merkle.specs.Verdict.{IsFirstRefusal, says_memory}
 
 module _ {T : Type 0} (hash : List ℕ → List ℕ) (bytes : T → List ℕ) (commitment : List ℕ) (dims : List Dimensions) (indices : List ℕ) (opened : List (List (List T))) (proof : List (List ℕ)) where
-  right-excludes : (e : MerkleTreeError) → IsRight hash bytes commitment dims indices opened proof e → Authenticates hash bytes commitment dims indices opened proof → IsTrue (says_memory e)
-  right-excludes WrongIndex h a = absurd (h.1 a.known)
-  right-excludes WrongWidth h a = absurd (h a.shape)
-  right-excludes WrongProofLength h a = absurd (h.3 a.levels a.top a.count)
-  right-excludes DisagreeingRows h a = absurd (h.2 a.agreeing)
-  right-excludes RootMismatch h a = absurd (h.4 a.levels a.top a.root)
-  right-excludes Memory h a = refl
+  refusal-excludes : (e : MerkleTreeError) → IsFirstRefusal hash bytes commitment dims indices opened proof e → Authenticates hash bytes commitment dims indices opened proof → IsTrue (says_memory e)
+  refusal-excludes WrongIndex h a = absurd (h.1 a.known)
+  refusal-excludes WrongWidth h a = absurd (h a.shape)
+  refusal-excludes WrongProofLength h a = absurd (h.3 a.levels a.top a.count)
+  refusal-excludes DisagreeingRows h a = absurd (h.2 a.agreeing)
+  refusal-excludes RootMismatch h a = absurd (h.4 a.levels a.top a.root)
+  refusal-excludes Memory h a = refl
 
-  pub refused-right : {A : Type 0} (r : Result A MerkleTreeError) → IfErr r (IsRight hash bytes commitment dims indices opened proof) →
+  pub refused-first : {A : Type 0} (r : Result A MerkleTreeError) → IfErr r (IsFirstRefusal hash bytes commitment dims indices opened proof) →
       IfErr r (λ e. Authenticates hash bytes commitment dims indices opened proof → IsTrue (says_memory e))
-  refused-right (Ok x) h = tt
-  refused-right (Err e) h = right-excludes e h
+  refused-first (Ok x) h = tt
+  refused-first (Err e) h = refusal-excludes e h

@@ -1,6 +1,7 @@
 -- What the scheme shows: which matrices have a root, and which opened rows are those of a root.
 use Rattle.std.specs.Prelude.{◌≡◌, ℕ, ◌<◌, ◌≤◌, ◌^◌, ◌-◌, ◌+◌, List, [], length, map, All, slice_index, slice_index_or}
 use Rattle.std.specs.List.{range_with_len}
+use Rattle.sha2.specs.Sha256.{sha256}
 use Rattle.circle_commit.specs.Matrix.{IsPowerOfTwo}
 use Rattle.circle_commit.specs.declared.matrix.Dimensions.{Dimensions}
 use Rattle.circle_commit.specs.declared.matrix.RowMajorMatrix.{RowMajorMatrix}
@@ -17,7 +18,8 @@ module _ {T : Type 0} where
     pub widths : All (λ rows. map length rows ≡ map (λ dim. dim.width) dims) opened
 
   -- there are indices, each below the greatest height and with its rows
-  pub record HasIndices (dims : List Dimensions) (indices : List ℕ) (opened : List (List (List T))) : Type 0 where
+  pub record HasIndices (dims : List Dimensions) (indices : List ℕ)
+      (opened : List (List (List T))) : Type 0 where
     pub some : 1 ≤ length indices
     pub one_each : length opened ≡ length indices
     pub in_range : All (λ index. index < greatest (heights dims)) indices
@@ -25,18 +27,23 @@ module _ {T : Type 0} where
   -- the rows of one matrix at one position are equal
   abbrev pub Agrees : List Dimensions → List ℕ → List (List (List T)) → Type 0
   Agrees dims indices opened =
-      let position = λ (j k : ℕ). row_at (greatest (heights dims)) (slice_index (heights dims) j) (slice_index indices k) in
+      let position = λ (j k : ℕ). row_at (greatest (heights dims)) (slice_index (heights dims) j)
+      (slice_index indices k) in
       let row = λ (j k : ℕ). slice_index_or (slice_index_or opened k []) j [] in
-      (j k l : ℕ) → j < length dims → k < length indices → l < length indices → position j k ≡ position j l → row j k ≡ row j l
+      (j k l : ℕ) → j < length dims → k < length indices → l < length indices →
+      position j k ≡ position j l → row j k ≡ row j l
 
   module _ (hash : List ℕ → List ℕ) (bytes : T → List ℕ) where
     -- the root of a tree over opened rows and the digests of a proof
-    abbrev pub opened_root : List Dimensions → List ℕ → List (List (List T)) → List (List ℕ) → ℕ → List ℕ
+    abbrev pub opened_root : List Dimensions → List ℕ → List (List (List T)) → List (List ℕ) → ℕ →
+        List ℕ
     opened_root dims indices opened proof levels =
-        computed hash (tree_rows bytes dims (opened_at indices opened)) (is_known indices) (given indices levels proof) levels 0
+        computed hash (tree_rows bytes dims (opened_at indices opened)) (is_known indices)
+        (given indices levels proof) levels 0
 
     -- the opened rows and the digests of the proof give the commitment
-    pub record Authenticates (commitment : List ℕ) (dims : List Dimensions) (indices : List ℕ) (opened : List (List (List T))) (proof : List (List ℕ)) : Type 0 where
+    pub record Authenticates (commitment : List ℕ) (dims : List Dimensions) (indices : List ℕ)
+        (opened : List (List (List T))) (proof : List (List ℕ)) : Type 0 where
       pub shape : HasShape dims opened
       pub known : HasIndices dims indices opened
       pub agreeing : Agrees dims indices opened
@@ -45,12 +52,27 @@ module _ {T : Type 0} where
       pub count : length proof ≡ taken_below indices levels levels
       pub root : opened_root dims indices opened proof levels ≡ commitment
 
+    -- the digests of the first positions of a level of the tree over matrices, so many
+    abbrev pub level_digests : List (RowMajorMatrix T) → ℕ → ℕ → List (List ℕ)
+    level_digests matrices level count =
+        map (digest hash (matrix_rows bytes matrices) level) (range_with_len 0 count)
+
     -- the levels of the tree over matrices, the lowest first
     abbrev pub tree_levels : List (RowMajorMatrix T) → ℕ → List (List (List ℕ))
-    tree_levels matrices levels = map (λ level. map (digest hash (matrix_rows bytes matrices) level) (range_with_len 0 (2 ^ (levels - level)))) (range_with_len 0 (levels + 1))
+    tree_levels matrices levels =
+        map (λ level. level_digests matrices level (2 ^ (levels - level)))
+        (range_with_len 0 (levels + 1))
 
     -- the root of the tree over matrices
     pub record IsRoot (matrices : List (RowMajorMatrix T)) (commitment : List ℕ) : Type 0 where
       pub levels : ℕ
       pub top : max_height matrices ≡ 2 ^ levels
       pub root : digest hash (matrix_rows bytes matrices) levels 0 ≡ commitment
+
+  -- the same with SHA-256
+  abbrev pub ShaAuthenticates : (T → List ℕ) → List ℕ → List Dimensions → List ℕ →
+      List (List (List T)) → List (List ℕ) → Type 0
+  ShaAuthenticates bytes = Authenticates sha256 bytes
+
+  abbrev pub IsShaRoot : (T → List ℕ) → List (RowMajorMatrix T) → List ℕ → Type 0
+  IsShaRoot bytes = IsRoot sha256 bytes

@@ -3,7 +3,8 @@ use Rattle.std.specs.Prelude.{ℕ, ◌/◌, ◌%◌, ◌==◌, List, [], ◌∷�
 use Rattle.circle_merkle.specs.declared.root.Node.{Node}
 use Rattle.circle_merkle.specs.Tree.{sibling}
 
--- `up` is the digest over two of the level below, by the place of the first index that stands below it
+-- `up` is the digest over two of the level below, by the place of the first index that stands below
+-- it
 module _ (up : ℕ → List ℕ → List ℕ → List ℕ) where
   -- the node above a pair
   abbrev pub joined : Node → Node → Node
@@ -18,7 +19,8 @@ module _ (up : ℕ → List ℕ → List ℕ → List ℕ) where
   lone node given = record {
     position = node.position / 2;
     place = node.place;
-    digest = if node.position % 2 == 0 then up node.place node.digest given else up node.place given node.digest;
+    digest = if node.position % 2 == 0 then up node.place node.digest given else up node.place given
+        node.digest;
   }
 
   -- the nodes above, which take a given digest for each sibling that isn't known

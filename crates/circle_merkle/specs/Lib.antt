@@ -8,6 +8,6 @@ pub mod PowerTest
 pub mod ProverData
 pub mod Climb
 pub mod Opening
-pub mod Shape
+pub mod SamePosition
 pub mod Verdict
 pub mod Worked

@@ -15,20 +15,28 @@ module _ {T : Type 0} (bytes : T → List ℕ) where
 
   -- the same by the place of an index that stands below
   abbrev pub placed_rows : Opening T → Tree.Rows
-  placed_rows o = tree_rows bytes o.dimensions.now (λ level place. slice_index_or (opened_rows o.opened.now) place [])
+  placed_rows o = tree_rows bytes o.dimensions.now
+      (λ level place. slice_index_or (opened_rows o.opened.now) place [])
 
   -- the digest of the node over two of the level below, by that place
   abbrev pub parent_in : Opening T → ℕ → ℕ → List ℕ → List ℕ → List ℕ
-  parent_in o level place left right = with_rows sha256 (placed_rows o) level place (node_digest sha256 left right)
+  parent_in o level place left right = with_rows sha256 (placed_rows o) level place
+      (node_digest sha256 left right)
 
   -- the node of the lowest level at an index that has this place
   abbrev pub lowest_node : Opening T → ℕ × ℕ → Node
-  lowest_node o entry = record { position = entry.0; place = entry.1; digest = rows_digest sha256 ((placed_rows o).bytes 0 entry.1) }
+  lowest_node o entry = record {
+    position = entry.0;
+    place = entry.1;
+    digest =
+        rows_digest sha256 ((placed_rows o).bytes 0 entry.1);
+  }
 
   -- the nodes at the known positions of a level
   abbrev pub level_nodes : Opening T → List (List ℕ) → ℕ → ℕ → List Node
   level_nodes o proof levels level = map (λ p. record {
     position = p;
     place = place_of o.indices.now level p;
-    digest = computed sha256 (rows_in o) (is_known o.indices.now) (given o.indices.now levels proof) level p;
+    digest = computed sha256 (rows_in o) (is_known o.indices.now) (given o.indices.now levels proof)
+        level p;
   }) (known o.indices.now levels level)

@@ -24,11 +24,12 @@ pub record IsOrdered (indices : List ℕ) (order : List (ℕ × ℕ)) : Type 0 w
   pub permuted : IsPermutation (placed indices) order
   pub ascending : IsSorted compared order
 
--- the place of the first of the indices that stands below this position of a level, and their number
--- where none does
+-- the place of the first of the indices that stands below this position of a level, and their
+-- number where none does
 abbrev pub place_of : List ℕ → ℕ → ℕ → ℕ
 place_of [] level i = 0
-place_of (index ∷ indices) level i = if index / 2 ^ level == i then 0 else suc (place_of indices level i)
+place_of (index ∷ indices) level i = if index / 2 ^ level == i then 0 else suc
+    (place_of indices level i)
 
 -- the distinct indices in ascending order, each with the place of the first that equals it
 abbrev pub first_places : List ℕ → ℕ → List (ℕ × ℕ)

@@ -4,8 +4,11 @@ use Rattle.std.proofs.Common.{arith}
 use Rattle.circle_commit.specs.Matrix.{IsPowerOfTwo}
 use Rattle.circle_commit.specs.RowMajorMatrix.{height_of}
 use Rattle.circle_commit.specs.declared.matrix.RowMajorMatrix.{RowMajorMatrix}
+use Rattle.sha2.specs.Sha256.{sha256}
+use Rattle.circle_merkle.specs.Rows.{matrix_rows}
+use Rattle.circle_merkle.specs.Tree.{digest, proof_of}
 use Rattle.circle_merkle.specs.PowerTest.{power_of}
-use Rattle.circle_merkle.specs.declared.kept.ShaProverData.{ShaProverData}
+use Rattle.circle_merkle.specs.declared.prover_data.ShaProverData.{ShaProverData}
 
 module _ {T B : Type 0} {g h : _} where
   abbrev pub matrices_of : ShaProverData T B g h → List (RowMajorMatrix T)
@@ -14,8 +17,16 @@ module _ {T B : Type 0} {g h : _} where
   abbrev pub level_count : ShaProverData T B g h → ℕ
   level_count d = vec_len d.levels - 1
 
+  -- the digests of a proof for these indices
+  abbrev pub due_proof : (T → List ℕ) → ShaProverData T B g h → List ℕ → List (List ℕ)
+  due_proof bytes d indices =
+      proof_of (digest sha256 (matrix_rows bytes (matrices_of d))) indices
+      (level_count d) (level_count d)
+
   pub some_matrix : (d : ShaProverData T B g h) → 1 ≤ length (matrices_of d)
   some_matrix d = omega (arith, d.some_matrix, d.matrices.ok.0)
 
-  pub powers_of_two : (d : ShaProverData T B g h) → All (λ m. IsPowerOfTwo (height_of m)) (matrices_of d)
-  powers_of_two d = λ k e lt. power_of (height_of (slice_index_or (matrices_of d) k e)) (d.powers_of_two k e lt)
+  pub powers_of_two : (d : ShaProverData T B g h) →
+      All (λ m. IsPowerOfTwo (height_of m)) (matrices_of d)
+  powers_of_two d = λ k e lt. power_of (height_of (slice_index_or (matrices_of d) k e))
+      (d.powers_of_two k e lt)

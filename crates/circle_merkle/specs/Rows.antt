@@ -15,7 +15,8 @@ size_of dims level = greatest (heights dims) / 2 ^ level
 module _ {T : Type 0} (bytes : T → List ℕ) (dims : List Dimensions) where
   -- the bytes of those of the rows, one for each matrix, whose matrices have this height
   abbrev pub bytes_of_height : ℕ → List (List T) → List ℕ
-  bytes_of_height height rows = flat_map (λ p. if p.0.height == height then flat_map bytes p.1 else []) (zip dims rows)
+  bytes_of_height height rows = flat_map (λ p. if p.0.height == height then flat_map bytes
+      p.1 else []) (zip dims rows)
 
   -- the rows of a tree, by the list of rows at a level's position
   abbrev pub tree_rows : (ℕ → ℕ → List (List T)) → Tree.Rows
@@ -33,8 +34,10 @@ module _ {T : Type 0} where
   abbrev pub opened_at : List ℕ → List (List (List T)) → ℕ → ℕ → List (List T)
   opened_at [] opened level i = []
   opened_at (index ∷ indices) [] level i = []
-  opened_at (index ∷ indices) (rows ∷ opened) level i = if index / 2 ^ level == i then rows else opened_at indices opened level i
+  opened_at (index ∷ indices) (rows ∷ opened) level i =
+      if index / 2 ^ level == i then rows else opened_at indices opened level i
 
 -- the rows of the tree over matrices
 abbrev pub matrix_rows : {T : Type 0} → (T → List ℕ) → List (RowMajorMatrix T) → Tree.Rows
-matrix_rows bytes matrices = tree_rows bytes (dimensions_of matrices) (λ level i. rows_of matrices i)
+matrix_rows bytes matrices = tree_rows bytes (dimensions_of matrices)
+    (λ level i. rows_of matrices i)

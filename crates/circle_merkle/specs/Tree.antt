@@ -25,19 +25,23 @@ pub record Rows : Type 0 where
 module _ (hash : List ℕ → List ℕ) (rows : Rows) where
   -- a node of a level, with the rows at its position where rows stand on that level
   abbrev pub with_rows : ℕ → ℕ → List ℕ → List ℕ
-  with_rows level i node = if rows.stand level then joined_digest hash node (rows.bytes level i) else node
+  with_rows level i node = if rows.stand level then joined_digest hash node
+      (rows.bytes level i) else node
 
   -- the digest at position i of a level
   abbrev pub digest : ℕ → ℕ → List ℕ
   digest zero i = rows_digest hash (rows.bytes 0 i)
-  digest (suc level) i = with_rows (suc level) i (node_digest hash (digest level (2 * i)) (digest level (2 * i + 1)))
+  digest (suc level) i = with_rows (suc level) i
+      (node_digest hash (digest level (2 * i)) (digest level (2 * i + 1)))
 
   -- the digest at position i of a level, where the digests at positions that aren't known are given
   abbrev pub computed : (ℕ → ℕ → Bool) → (ℕ → ℕ → List ℕ) → ℕ → ℕ → List ℕ
   computed known given zero i = rows_digest hash (rows.bytes 0 i)
   computed known given (suc level) i = with_rows (suc level) i
-      (node_digest hash (if known level (2 * i) then computed known given level (2 * i) else given level (2 * i))
-      (if known level (2 * i + 1) then computed known given level (2 * i + 1) else given level (2 * i + 1)))
+      (node_digest hash (if known level (2 * i) then computed known given level (2 * i) else given
+      level (2 * i))
+      (if known level (2 * i + 1) then computed known given level (2 * i + 1) else given level
+      (2 * i + 1)))
 
 -- the other position of a pair
 abbrev pub sibling : ℕ → ℕ
@@ -73,11 +77,13 @@ at_place_of i [] digests = []
 at_place_of i (p ∷ places) [] = []
 at_place_of i (p ∷ places) (d ∷ digests) = if p == i then d else at_place_of i places digests
 
--- the digest that a proof has for a position: level after level from the lowest, the taken positions
--- in ascending order
+-- the digest that a proof has for a position: level after level from the lowest, the taken
+-- positions in ascending order
 abbrev pub given : List ℕ → ℕ → List (List ℕ) → ℕ → ℕ → List ℕ
-given indices levels proof level i = at_place_of i (taken indices levels level) (drop (taken_below indices levels level) proof)
+given indices levels proof level i = at_place_of i (taken indices levels level)
+    (drop (taken_below indices levels level) proof)
 
 -- the digests of a proof, level after level from the lowest, for these many levels
 abbrev pub proof_of : (ℕ → ℕ → List ℕ) → List ℕ → ℕ → ℕ → List (List ℕ)
-proof_of at indices levels count = flat_map (λ level. map (at level) (taken indices levels level)) (range_with_len 0 count)
+proof_of at indices levels count = flat_map (λ level. map (at level) (taken indices levels level))
+    (range_with_len 0 count)

@@ -6,10 +6,12 @@ use Rattle.circle_merkle.specs.Tree.{sibling}
 abbrev pub parents_of : List ℕ → List ℕ
 parents_of [] = []
 parents_of (p ∷ []) = p / 2 ∷ []
-parents_of (p ∷ q ∷ rest) = p / 2 ∷ (if q == sibling p then parents_of rest else parents_of (q ∷ rest))
+parents_of (p ∷ q ∷ rest) = p / 2 ∷ (if q == sibling p then parents_of rest else parents_of
+    (q ∷ rest))
 
 -- the siblings that aren't known
 abbrev pub siblings_of : List ℕ → List ℕ
 siblings_of [] = []
 siblings_of (p ∷ []) = sibling p ∷ []
-siblings_of (p ∷ q ∷ rest) = if q == sibling p then siblings_of rest else sibling p ∷ siblings_of (q ∷ rest)
+siblings_of (p ∷ q ∷ rest) = if q == sibling p then siblings_of rest else sibling p ∷ siblings_of
+    (q ∷ rest)

@@ -9,11 +9,12 @@ use thiserror::Error;
 /// DisagreeingRows, WrongProofLength, RootMismatch.
 #[derive(Clone, Copy, Debug, Drop, Error, PartialEq, Eq)]
 pub enum MerkleTreeError {
-    /// There are no indices, one isn't below the greatest height, or there isn't one list of rows for
-    /// each.
+    /// There are no indices, one isn't below the greatest height, or there isn't one list of rows
+    /// for each.
     #[error("an index is out of range, or not each has its rows")]
     WrongIndex,
-    /// There are no shapes, a height isn't a power of two, or some rows don't have the shapes' widths.
+    /// There are no shapes, a height isn't a power of two, or some rows don't have the shapes'
+    /// widths.
     #[error("the rows don't have the shapes of the matrices")]
     WrongWidth,
     /// The proof doesn't have as many digests as the indices leave open.

@@ -15,7 +15,8 @@ pub type Hash = [u8; 32];
 
 /// Adds the bytes of a row's entries to the message.
 pub fn absorb_row<T: ElementBytes>(hasher: &mut Sha256, row: &[T])
-    ensures { (m : List ℕ) → Holds256 hasher.old m → Holds256 hasher.new (m ++ flat_map T.bytes row.now) }
+    ensures { (m : List ℕ) → Holds256 hasher.old m
+        → Holds256 hasher.new (m ++ flat_map T.bytes row.now) }
 {
     for entry in row {
         hasher.update(entry.to_bytes());
@@ -30,7 +31,8 @@ fn absorb_rows<T: ElementBytes>(
     i: usize,
 )
     requires { i < height }
-    ensures { (m : List ℕ) → Holds256 hasher.old m → Holds256 hasher.new (m ++ matrix_bytes T.bytes height i matrices.now) }
+    ensures { (m : List ℕ) → Holds256 hasher.old m
+        → Holds256 hasher.new (m ++ matrix_bytes T.bytes height i matrices.now) }
 {
     for matrix in matrices {
         if matrix.height() == height {

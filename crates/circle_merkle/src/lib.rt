@@ -3,17 +3,17 @@
 
 mod error;
 mod hashing;
-mod kept;
 mod mmcs;
 mod order;
 mod positions;
+mod prover_data;
 mod root;
-mod shape;
 #[cfg(test)]
 mod tests;
 mod tree;
 mod verify;
+mod well_formed;
 
 pub use error::MerkleTreeError;
-pub use kept::ShaProverData;
 pub use mmcs::ShaMmcs;
+pub use prover_data::ShaProverData;

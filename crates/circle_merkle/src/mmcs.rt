@@ -2,17 +2,16 @@
 ghost use Rattle.std.specs.Prelude.{◌≡◌, ℕ, ◌<◌, ◌≤◌, List, length, map, All, IfOk, IfErr, OnOk, IsTrue, vec_len};
 ghost use Rattle.sha2.specs.Sha256.{sha256};
 ghost use Rattle.circle_commit.specs.Matrix.{IsPowerOfTwo};
-ghost use Rattle.circle_commit.specs.RowMajorMatrix.{height_of};
-ghost use Rattle.circle_commit.specs.Mmcs.{dimensions_of, max_height, row_at as row_at_of, rows_at, rows_at_each, opened_rows};
-ghost use Rattle.circle_merkle.specs.Authentication.{Authenticates, IsRoot};
-ghost use Rattle.circle_merkle.specs.Verdict.{IsRight, says_memory};
+ghost use Rattle.circle_commit.specs.Mmcs.{HaveHeightsOfPowers, IsShownOf, max_height, row_at as row_at_of, rows_at, rows_at_each, opened_rows};
+ghost use Rattle.circle_merkle.specs.Authentication.{ShaAuthenticates, IsShaRoot};
+ghost use Rattle.circle_merkle.specs.Verdict.{IsFirstRefusal, says_memory};
 
 use crate::error::MerkleTreeError;
 use crate::hashing::Hash;
-use crate::kept::ShaProverData;
+use crate::prover_data::ShaProverData;
 use crate::verify::verify;
-use circle_commit::{Dimensions, Matrix, Mmcs, OpenedRows, RowMajorMatrix};
-use circle_field::ElementBytes;
+use circle_commit::{Dimensions, Matrix, Mmcs, OpenedRows, RowMajorMatrix, log2_strict};
+use circle_field::{ElementBytes, Field};
 use std::alloc::{AllocError, Global};
 use std::marker::PhantomData;
 
@@ -27,7 +26,7 @@ pub struct ShaMmcs<T> {
 }
 
 impl<T> ShaMmcs<T> {
-    /// The scheme for entries of this type.
+    /// The scheme for entries of this type, which a caller names: `ShaMmcs::<Mersenne31>::new()`.
     pub fn new() -> Self {
         ShaMmcs {
             entries: PhantomData,
@@ -42,7 +41,7 @@ fn row_at(top: usize, height: usize, index: usize) -> usize
     requires within { height ≤ top }
     ensures { result ≡ row_at_of top height index }
 {
-    index >> (top.ilog2() - height.ilog2())
+    index >> (log2_strict(top) - log2_strict(height))
 }
 
 // The rows of the matrices at an index, one for each.
@@ -53,7 +52,7 @@ fn rows_of<T: ElementBytes>(
     index: usize,
 ) -> Result<Vec<Vec<T>>, AllocError>
     requires greatest { top ≡ max_height matrices.now }
-    requires powers_of_two { All (λ m. IsPowerOfTwo (height_of m)) matrices.now }
+    requires powers_of_two { HaveHeightsOfPowers matrices.now }
     requires in_range { index < top }
     ensures { IfOk result (λ rows. map (λ row. row.items) rows.items ≡ rows_at matrices.now index) }
 {
@@ -65,8 +64,8 @@ fn rows_of<T: ElementBytes>(
     Ok(rows)
 }
 
-impl<T: ElementBytes> Mmcs<T> for ShaMmcs<T> {
-    ghost use Rattle.circle_merkle.specs.ProverData.{matrices_of, some_matrix, powers_of_two};
+impl<T: Field + ElementBytes> Mmcs<T> for ShaMmcs<T> {
+    ghost use Rattle.circle_merkle.specs.ProverData.{matrices_of};
 
     type Commitment = [u8; 32];
 
@@ -78,15 +77,12 @@ impl<T: ElementBytes> Mmcs<T> for ShaMmcs<T> {
 
     ghost matrices = { matrices_of };
 
-    ghost commits = { λ s matrices commitment. IsRoot sha256 T.bytes matrices commitment };
+    ghost commits = { λ s matrices commitment. IsShaRoot T.bytes matrices commitment };
 
-    ghost authenticates = { λ s commitment dims indices opened proof. Authenticates sha256 T.bytes commitment dims indices opened proof.items };
+    ghost authenticates = { λ s commitment dims indices opened proof.
+        ShaAuthenticates T.bytes commitment dims indices opened proof.items };
 
     ghost is_memory = { says_memory };
-
-    ghost some_matrix = { some_matrix };
-
-    ghost powers_of_two = { powers_of_two };
 
     fn commit(
         &self,
@@ -94,8 +90,8 @@ impl<T: ElementBytes> Mmcs<T> for ShaMmcs<T> {
         inputs: Vec<RowMajorMatrix<T>>,
     ) -> Result<(Hash, ShaProverData<T>), AllocError>
         requires some { 1 ≤ vec_len inputs }
-        requires powers_of_two { All (λ m. IsPowerOfTwo (height_of m)) inputs.items }
-        ensures commitment { IfOk result (λ r. IsRoot sha256 T.bytes inputs.items r.0) }
+        requires powers_of_two { HaveHeightsOfPowers inputs.items }
+        ensures commitment { IfOk result (λ r. IsShaRoot T.bytes inputs.items r.0) }
         ensures data { IfOk result (λ r. matrices_of r.1 ≡ inputs.items) }
     {
         ShaProverData::new(alloc, inputs)
@@ -121,9 +117,10 @@ impl<T: ElementBytes> Mmcs<T> for ShaMmcs<T> {
     ) -> Result<(OpenedRows<T>, Vec<Hash>), AllocError>
         requires some { 1 ≤ length indices.now }
         requires in_range { All (λ i. i < max_height (matrices_of prover_data.now)) indices.now }
-        ensures rows { IfOk result (λ r. opened_rows r.0.items ≡ rows_at_each (matrices_of prover_data.now) indices.now) }
-        ensures proof { IfOk result (λ r. (commitment : List ℕ) → IsRoot sha256 T.bytes (matrices_of prover_data.now) commitment
-            → Authenticates sha256 T.bytes commitment (dimensions_of (matrices_of prover_data.now)) indices.now (opened_rows r.0.items) r.1.items) }
+        ensures rows { IfOk result (λ r. opened_rows r.0.items
+            ≡ rows_at_each (matrices_of prover_data.now) indices.now) }
+        ensures proof { IfOk result (λ r. IsShownOf (IsShaRoot T.bytes) (ShaAuthenticates T.bytes)
+            (matrices_of prover_data.now) indices.now (opened_rows r.0.items) r.1.items) }
     {
         let top = prover_data.max_height();
         let mut opened = Vec::with_capacity(alloc, indices.len())?;
@@ -142,11 +139,13 @@ impl<T: ElementBytes> Mmcs<T> for ShaMmcs<T> {
         opened_values: &[Vec<Vec<T>>],
         proof: &Vec<Hash>,
     ) -> Result<(), MerkleTreeError>
-        ensures accepted { OnOk result (Authenticates sha256 T.bytes commitment.now dimensions.now indices.now (opened_rows opened_values.now) proof.now.items) }
+        ensures accepted { OnOk result (ShaAuthenticates T.bytes commitment.now dimensions.now
+            indices.now (opened_rows opened_values.now) proof.now.items) }
         // Each refusal comes exactly where its condition is the first that holds.
-        ensures right { IfErr result (IsRight sha256 T.bytes commitment.now dimensions.now indices.now (opened_rows opened_values.now) proof.now.items) }
-        ensures refused { IfErr result (λ e. Authenticates sha256 T.bytes commitment.now dimensions.now indices.now (opened_rows opened_values.now) proof.now.items
-            → IsTrue (says_memory e)) }
+        ensures first { IfErr result (IsFirstRefusal sha256 T.bytes commitment.now dimensions.now
+            indices.now (opened_rows opened_values.now) proof.now.items) }
+        ensures refused { IfErr result (λ e. ShaAuthenticates T.bytes commitment.now dimensions.now
+            indices.now (opened_rows opened_values.now) proof.now.items → IsTrue (says_memory e)) }
     {
         verify(alloc, commitment, dimensions, indices, opened_values, proof)
     }

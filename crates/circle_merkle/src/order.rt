@@ -20,7 +20,8 @@ pub fn in_order(alloc: Global, indices: &[usize]) -> Result<Vec<(usize, usize)>,
 
 /// Of indices in ascending order with their places, leaves the first of equal ones.
 pub fn leave_firsts(order: &mut Vec<(usize, usize)>)
-    ensures { (indices : List ℕ) (levels : ℕ) → IsOrdered indices order.old.items → All (λ i. i < 2 ^ levels) indices
+    ensures { (indices : List ℕ) (levels : ℕ) → IsOrdered indices order.old.items
+        → All (λ i. i < 2 ^ levels) indices
         → order.new.items ≡ first_places indices levels }
 {
     order.dedup_by_key(|entry| entry.0);

@@ -7,7 +7,8 @@ use std::alloc::{AllocError, Global};
 
 /// The distinct indices in ascending order.
 pub fn distinct(alloc: Global, indices: &[usize]) -> Result<Vec<usize>, AllocError>
-    ensures { IfOk result (λ positions. (levels : ℕ) → All (λ i. i < 2 ^ levels) indices.now → positions.items ≡ known indices.now levels 0) }
+    ensures { IfOk result (λ positions. (levels : ℕ) → All (λ i. i < 2 ^ levels) indices.now
+        → positions.items ≡ known indices.now levels 0) }
 {
     let mut positions = Vec::from_slice(alloc, indices)?;
     positions.sort_unstable();
@@ -28,7 +29,8 @@ pub fn sibling(position: usize) -> usize
 pub fn split_pair(position: usize, others: &[usize]) -> (Option<usize>, &[usize])
     ensures shorter { length result.1.now ≤ length others.now }
     ensures parents { parents_of (position ∷ others.now) ≡ position / 2 ∷ parents_of result.1.now }
-    ensures siblings { siblings_of (position ∷ others.now) ≡ option_to_list result.0 ++ siblings_of result.1.now }
+    ensures siblings { siblings_of (position ∷ others.now)
+        ≡ option_to_list result.0 ++ siblings_of result.1.now }
 {
     let sibling = sibling(position);
     match others.split_first() {

@@ -10,7 +10,7 @@ ghost use Rattle.circle_merkle.specs.Order.{first_places};
 
 use crate::hashing::{Hash, absorb_row, joined_digest, node_digest};
 use crate::positions::sibling;
-use circle_commit::Dimensions;
+use circle_commit::{Dimensions, log2_strict};
 use circle_field::ElementBytes;
 use sha2::{Digest, Sha256};
 use std::alloc::{AllocError, Global};
@@ -51,7 +51,8 @@ fn absorb_opened<T: ElementBytes>(
 )
     requires { length rows.now ≡ length dimensions.now }
     ensures { (m : List ℕ) → Holds256 hasher.old m
-        → Holds256 hasher.new (m ++ bytes_of_height T.bytes dimensions.now height (map (λ row. row.items) rows.now)) }
+        → Holds256 hasher.new (m ++ bytes_of_height T.bytes dimensions.now height
+        (map (λ row. row.items) rows.now)) }
 {
     for j in 0..dimensions.len() {
         if dimensions[j].height == height {
@@ -69,7 +70,8 @@ impl<T: ElementBytes> Opening<'_, T> {
     // The digest of those of the rows at an index, named by its place, that stand on a level.
     fn rows_digest(&self, level: usize, place: usize) -> Hash
         requires { level < 64 }
-        ensures { result ≡ rows_digest_of sha256 ((placed_rows T.bytes self.now).bytes level place) }
+        ensures { result
+            ≡ rows_digest_of sha256 ((placed_rows T.bytes self.now).bytes level place) }
     {
         let mut hasher = Sha256::new();
         hasher.update([0u8].as_slice());
@@ -149,12 +151,15 @@ impl<T: ElementBytes> Opening<'_, T> {
     ) -> (Node, &'n [Node], &'g [Hash])
         requires small { level < 64 }
         requires rows { has_rows ≡ (placed_rows T.bytes self.now).stand level }
-        requires enough { length (siblings_of (positions_of (node.now ∷ others.now))) ≤ length given.now }
+        requires enough { length (siblings_of (positions_of (node.now ∷ others.now)))
+            ≤ length given.now }
         ensures shorter { length result.1.now ≤ length others.entry.now }
         ensures enough { length (siblings_of (positions_of result.1.now)) ≤ length result.2.now }
-        ensures parents { climbed (parent_in T.bytes self.now level) (node.now ∷ others.entry.now) given.entry.now
+        ensures parents { climbed (parent_in T.bytes self.now level) (node.now ∷ others.entry.now)
+            given.entry.now
             ≡ result.0 ∷ climbed (parent_in T.bytes self.now level) result.1.now result.2.now }
-        ensures left { drop (length (siblings_of (positions_of (node.now ∷ others.entry.now)))) given.entry.now
+        ensures left { drop (length (siblings_of (positions_of (node.now ∷ others.entry.now))))
+            given.entry.now
             ≡ drop (length (siblings_of (positions_of result.1.now))) result.2.now }
     {
         match others.split_first() {
@@ -178,8 +183,10 @@ impl<T: ElementBytes> Opening<'_, T> {
     ) -> Result<(Vec<Node>, &'g [Hash]), AllocError>
         requires small { level < 64 }
         requires enough { length (siblings_of (positions_of nodes.now)) ≤ length given.now }
-        ensures parents { IfOk result (λ r. r.0.items ≡ climbed (parent_in T.bytes self.now level) nodes.now given.entry.now) }
-        ensures rest { IfOk result (λ r. r.1.now ≡ drop (length (siblings_of (positions_of nodes.now))) given.entry.now) }
+        ensures parents { IfOk result (λ r. r.0.items
+            ≡ climbed (parent_in T.bytes self.now level) nodes.now given.entry.now) }
+        ensures rest { IfOk result (λ r. r.1.now
+            ≡ drop (length (siblings_of (positions_of nodes.now))) given.entry.now) }
     {
         let has_rows = self.has_rows(level);
         let mut parents = Vec::with_capacity(alloc, nodes.len())?;
@@ -196,7 +203,8 @@ impl<T: ElementBytes> Opening<'_, T> {
 
     // The nodes of the lowest level at these indices, each with its place.
     fn lowest(&self, alloc: Global, firsts: &[(usize, usize)]) -> Result<Vec<Node>, AllocError>
-        ensures { IfOk result (λ nodes. nodes.items ≡ map (lowest_node T.bytes self.now) firsts.now) }
+        ensures { IfOk result
+            (λ nodes. nodes.items ≡ map (lowest_node T.bytes self.now) firsts.now) }
     {
         let mut nodes = Vec::with_capacity(alloc, firsts.len())?;
         for (position, place) in firsts {
@@ -211,9 +219,9 @@ impl<T: ElementBytes> Opening<'_, T> {
 
     /// The root of the tree over the rows, with these digests for the positions that aren't known.
     ///
-    /// Takes the distinct indices in ascending order, each with the place of the first that equals it.
-    /// Asks at least one index, each below the greatest height, which is a power of two, and as many
-    /// digests as are missing. Fails where memory is refused.
+    /// Takes the distinct indices in ascending order, each with the place of the first that equals
+    /// it. Asks at least one index, each below the greatest height, which is a power of two, and as
+    /// many digests as are missing. Fails where memory is refused.
     pub fn root(
         &self,
         alloc: Global,
@@ -223,12 +231,15 @@ impl<T: ElementBytes> Opening<'_, T> {
         requires some { 1 ≤ length self.now.indices.now }
         requires in_range { All (λ i. i < self.now.top) self.now.indices.now }
         requires power { IsPowerOfTwo self.now.top }
-        requires firsts { (levels : ℕ) → self.now.top ≡ 2 ^ levels → firsts.now ≡ first_places self.now.indices.now levels }
-        requires count { (levels : ℕ) → self.now.top ≡ 2 ^ levels → length proof.now ≡ taken_below self.now.indices.now levels levels }
+        requires firsts { (levels : ℕ) → self.now.top ≡ 2 ^ levels
+            → firsts.now ≡ first_places self.now.indices.now levels }
+        requires count { (levels : ℕ) → self.now.top ≡ 2 ^ levels
+            → length proof.now ≡ taken_below self.now.indices.now levels levels }
         ensures { IfOk result (λ root. (levels : ℕ) → self.now.top ≡ 2 ^ levels
-            → root ≡ opened_root sha256 T.bytes self.now.dimensions.now self.now.indices.now (opened_rows self.now.opened.now) proof.now levels) }
+            → root ≡ opened_root sha256 T.bytes self.now.dimensions.now self.now.indices.now
+            (opened_rows self.now.opened.now) proof.now levels) }
     {
-        let count = self.top.ilog2() as usize;
+        let count = log2_strict(self.top);
         let mut nodes = self.lowest(alloc, firsts)?;
         let mut given = proof;
         for level in 0..count {

@@ -1,8 +1,8 @@
 //! Roots, proofs and refusals, with expected values from outside.
-ghost use Rattle.std.specs.Prelude.{◌<◌, ◌↔◌, All, IsTrue};
-
 use crate::{MerkleTreeError, ShaMmcs, ShaProverData};
-use circle_commit::{Dimensions, Mmcs, OpenedRows, RowMajorMatrix, heights_are_powers_of_two};
+use circle_commit::{
+    Dimensions, Mmcs, OpenedRows, RowMajorMatrix, are_below, heights_are_powers_of_two,
+};
 use circle_field::{Field, Mersenne31};
 use sha2::{Digest, Sha256};
 use std::alloc::{AllocError, Global};
@@ -68,12 +68,6 @@ fn commit(
         return Err(AllocError);
     }
     ShaMmcs::<Mersenne31>::new().commit(alloc, inputs)
-}
-
-fn are_below(indices: &[usize], top: usize) -> bool
-    ensures { IsTrue result ↔ All (λ i. i < top) indices.now }
-{
-    indices.iter().all(|i| *i < top)
 }
 
 fn open(

@@ -8,10 +8,10 @@ ghost use Rattle.circle_commit.specs.RowMajorMatrix.{height_of};
 ghost use Rattle.circle_commit.specs.Mmcs.{dimensions_of, max_height};
 ghost use Rattle.circle_merkle.specs.Tree.{digest};
 ghost use Rattle.circle_merkle.specs.Rows.{size_of, matrix_rows};
-ghost use Rattle.circle_merkle.specs.Authentication.{tree_levels};
+ghost use Rattle.circle_merkle.specs.Authentication.{level_digests, tree_levels};
 
 use crate::hashing::{Hash, joined_digest, node_digest, rows_digest};
-use circle_commit::{Matrix, RowMajorMatrix};
+use circle_commit::{Matrix, RowMajorMatrix, log2_strict};
 use circle_field::ElementBytes;
 use std::alloc::{AllocError, Global};
 
@@ -22,7 +22,7 @@ fn lowest_level<T: ElementBytes>(
     height: usize,
 ) -> Result<Vec<Hash>, AllocError>
     ensures { size_of (dimensions_of matrices.now) 0 ≡ height
-        → IfOk result (λ level. level.items ≡ map (digest sha256 (matrix_rows T.bytes matrices.now) 0) (range_with_len 0 height)) }
+        → IfOk result (λ level. level.items ≡ level_digests sha256 T.bytes matrices.now 0 height) }
 {
     let mut level = Vec::with_capacity(alloc, height)?;
     for i in 0..height {
@@ -38,8 +38,8 @@ fn some_has_height<T: ElementBytes>(matrices: &[RowMajorMatrix<T>], height: usiz
     matrices.iter().any(|m| m.height() == height)
 }
 
-// The digest of the node over `left` and `right`, with row `i` of the matrices of this height if there
-// are some.
+// The digest of the node over `left` and `right`, with row `i` of the matrices of this height if
+// there are some.
 fn parent_digest<T: ElementBytes>(
     matrices: &[RowMajorMatrix<T>],
     height: usize,
@@ -72,8 +72,9 @@ fn next_level<T: ElementBytes>(
 ) -> Result<Vec<Hash>, AllocError>
     requires { length below.now ≡ 2 * height }
     ensures { (level : ℕ) → size_of (dimensions_of matrices.now) (suc level) ≡ height
-        → below.now ≡ map (digest sha256 (matrix_rows T.bytes matrices.now) level) (range_with_len 0 (2 * height))
-        → IfOk result (λ next. next.items ≡ map (digest sha256 (matrix_rows T.bytes matrices.now) (suc level)) (range_with_len 0 height)) }
+        → below.now ≡ level_digests sha256 T.bytes matrices.now level (2 * height)
+        → IfOk result (λ next. next.items
+        ≡ level_digests sha256 T.bytes matrices.now (suc level) height) }
 {
     let some_row = some_has_height(matrices, height);
     let mut next = Vec::with_capacity(alloc, height)?;
@@ -97,7 +98,7 @@ pub fn levels_of<T: ElementBytes>(
     ensures { IfOk result (λ levels. (count : ℕ) → top ≡ 2 ^ count
         → map (λ level. level.items) levels.items ≡ tree_levels sha256 T.bytes matrices.now count) }
 {
-    let count = top.ilog2() as usize;
+    let count = log2_strict(top);
     let mut levels = Vec::with_capacity(alloc, count + 1)?;
     levels.push(lowest_level(alloc, matrices, top)?)?;
     for level in 0..count {

@@ -5,28 +5,29 @@ ghost use Rattle.circle_commit.specs.Mmcs.{opened_rows};
 ghost use Rattle.circle_merkle.specs.Order.{first_places};
 ghost use Rattle.circle_merkle.specs.Tree.{taken_below};
 ghost use Rattle.circle_merkle.specs.Authentication.{Authenticates};
-ghost use Rattle.circle_merkle.specs.Verdict.{IsRight};
+ghost use Rattle.circle_merkle.specs.Verdict.{IsFirstRefusal};
 
 use crate::error::MerkleTreeError;
 use crate::hashing::Hash;
 use crate::order::{in_order, leave_firsts};
 use crate::positions::climb;
 use crate::root::Opening;
-use crate::shape::{agrees, greatest_height, has_indices, has_shape};
-use circle_commit::Dimensions;
-use circle_field::ElementBytes;
+use crate::well_formed::{agrees, greatest_height, has_indices, has_shape};
+use circle_commit::{Dimensions, log2_strict};
+use circle_field::{ElementBytes, Field};
 use std::alloc::{AllocError, Global};
 use std::mem;
 
-// Whether a proof has so many digests, under so many levels above the lowest. Takes the distinct indices in
-// ascending order, each with its place.
+// Whether a proof has so many digests, under so many levels above the lowest. Takes the distinct
+// indices in ascending order, each with its place.
 fn has_count(
     alloc: Global,
     firsts: &[(usize, usize)],
     levels: usize,
     count: usize,
 ) -> Result<bool, AllocError>
-    ensures { (indices : List ℕ) → firsts.now ≡ first_places indices levels → IfOk result (λ b. IsTrue b ↔ (count ≡ taken_below indices levels levels)) }
+    ensures { (indices : List ℕ) → firsts.now ≡ first_places indices levels
+        → IfOk result (λ b. IsTrue b ↔ (count ≡ taken_below indices levels levels)) }
 {
     let mut known: Vec<usize> = firsts.iter().map(|first| first.0).collect(alloc)?;
     let mut parents = Vec::with_capacity(alloc, known.len())?;
@@ -50,7 +51,7 @@ fn same_digest(digest: &Hash, other: &Hash) -> bool
 }
 
 /// Whether the rows at the indices are those that the root was made of.
-pub fn verify<T: ElementBytes>(
+pub fn verify<T: Field + ElementBytes>(
     alloc: Global,
     commitment: &Hash,
     dimensions: &[Dimensions],
@@ -58,8 +59,10 @@ pub fn verify<T: ElementBytes>(
     opened: &[Vec<Vec<T>>],
     proof: &[Hash],
 ) -> Result<(), MerkleTreeError>
-    ensures accepted { OnOk result (Authenticates sha256 T.bytes commitment.now dimensions.now indices.now (opened_rows opened.now) proof.now) }
-    ensures refused { IfErr result (IsRight sha256 T.bytes commitment.now dimensions.now indices.now (opened_rows opened.now) proof.now) }
+    ensures accepted { OnOk result (Authenticates sha256 T.bytes commitment.now dimensions.now
+        indices.now (opened_rows opened.now) proof.now) }
+    ensures refused { IfErr result (IsFirstRefusal sha256 T.bytes commitment.now dimensions.now
+        indices.now (opened_rows opened.now) proof.now) }
 {
     if !has_shape(dimensions, opened) {
         return Err(MerkleTreeError::WrongWidth);
@@ -73,7 +76,7 @@ pub fn verify<T: ElementBytes>(
         return Err(MerkleTreeError::DisagreeingRows);
     }
     leave_firsts(&mut order);
-    if !has_count(alloc, &order, top.ilog2() as usize, proof.len())? {
+    if !has_count(alloc, &order, log2_strict(top), proof.len())? {
         return Err(MerkleTreeError::WrongProofLength);
     }
     let opening = Opening {

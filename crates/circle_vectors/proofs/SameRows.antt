@@ -1,9 +1,6 @@
 -- Matrices with the same rows.
-use Rattle.std.proofs.Common.{◌≡◌, ℕ, List, [], ◌∷◌, ◌++◌, map, refl, ap, sym, ◌∙◌, get_or, All, subst, ◌<◌, ◌≤◌, ◌+◌, length, take, arith}
-use Rattle.std.proofs.lemmas.List.{map-append, take_more, length-map}
-use Rattle.std.proofs.Math.ListN.{get_or-map}
-use Rattle.std.proofs.lemmas.List.Elements.{All-map}
-use Rattle.circle_commit.specs.Matrix.{IsPowerOfTwo}
+use Rattle.std.proofs.Common.{◌≡◌, ℕ, List, [], ◌∷◌, ◌++◌, map, refl, ap, sym, ◌∙◌, get_or, All, subst, ◌<◌, ◌≤◌, ◌+◌, length, take}
+use Rattle.std.proofs.lemmas.List.{map-append, take_more}
 use Rattle.circle_commit.specs.declared.matrix.Dimensions.{Dimensions}
 use Rattle.circle_commit.specs.declared.matrix.RowMajorMatrix.{RowMajorMatrix}
 use Rattle.circle_commit.specs.RowMajorMatrix.{rows, width_of, height_of}
@@ -56,14 +53,6 @@ module _ {T : Type 0} where
         rows = ap (map rows) next ∙ map-append rows (take k xs) (m ∷ []) ∙ ap (λ ls. ls ++ rows m ∷ []) same.rows ∙ ap (λ l. map rows ys ++ l ∷ []) (sym content)
             ∙ sym (map-append rows ys (copy ∷ [])) ∙ sym (ap (map rows) grown);
       }
-
-  -- heights that are powers of two on one side are so on the other
-  pub same-powers : (xs ys : List (RowMajorMatrix T)) → HaveSameRows xs ys → All (λ m. IsPowerOfTwo (height_of m)) xs → All (λ m. IsPowerOfTwo (height_of m)) ys
-  same-powers xs ys same powers k d h =
-      let dims : All (λ (dim : Dimensions). IsPowerOfTwo dim.height) (dimensions_of ys) =
-      subst (λ (ds : List Dimensions). All (λ dim. IsPowerOfTwo dim.height) ds) same.shapes (All-map (λ (dim : Dimensions). IsPowerOfTwo dim.height) shape xs powers) in
-      let here = dims k (shape d) (omega (arith, h, length-map ys shape)) in
-      subst (λ (dim : Dimensions). IsPowerOfTwo dim.height) (get_or-map shape ys k d) here
 
   -- what is opened is shown
   pub shows-opened : (matrices others : List (RowMajorMatrix T)) (indices : List ℕ) (opened : List (List (List T))) → 1 ≤ length indices →

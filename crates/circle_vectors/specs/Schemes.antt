@@ -7,7 +7,8 @@ use Rattle.circle_vectors.specs.declared.schemes.ListError.{ListError}
 use Rattle.circle_vectors.specs.declared.schemes.ListError.TheVariants.{WrongIndex, WrongShape, WrongRows, Memory}
 
 -- the opened rows are those of the matrices, whose shapes these are
-pub record Shows {T : Type 0} (matrices : List (RowMajorMatrix T)) (dims : List Dimensions) (indices : List ℕ) (opened : List (List (List T))) : Type 0 where
+pub record Shows {T : Type 0} (matrices : List (RowMajorMatrix T)) (dims : List Dimensions)
+    (indices : List ℕ) (opened : List (List (List T))) : Type 0 where
   pub shapes : dims ≡ dimensions_of matrices
   pub some : 1 ≤ length indices
   pub in_range : All (λ index. index < max_height matrices) indices

@@ -10,6 +10,8 @@ mod domains;
 mod extensions;
 #[cfg(test)]
 mod fields;
+#[cfg(test)]
+mod first_program;
 pub mod matrix_list;
 #[cfg(test)]
 mod off_domain;

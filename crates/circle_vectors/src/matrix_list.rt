@@ -1,34 +1,26 @@
-//! Matrices whose heights are powers of two, as a list.
-ghost use Rattle.std.specs.Prelude.{◌≡◌, ◌<◌, ◌≤◌, true, All, IfOk, map, vec_len};
-ghost use Rattle.circle_commit.specs.Matrix.{IsPowerOfTwo};
+//! Matrices of any heights, as a list.
+ghost use Rattle.std.specs.Prelude.{◌≡◌, ◌<◌, ◌≤◌, All, IfOk, [], map, slice_index_or};
 ghost use Rattle.circle_commit.specs.RowMajorMatrix.{height_of, rows};
-ghost use Rattle.circle_commit.specs.Mmcs.{dimensions_of, max_height, rows_at, rows_at_each, opened_rows};
-ghost use Rattle.circle_merkle.specs.PowerTest.{is_power};
+ghost use Rattle.circle_commit.specs.Mmcs.{dimensions_of, max_height, row_at, rows_at, rows_at_each, opened_rows};
 ghost use Rattle.circle_vectors.specs.SameRows.{HaveSameRows};
 
 use circle_commit::{Dimensions, Matrix, OpenedRows, RowMajorMatrix};
 use std::alloc::{AllocError, Global};
 use std::fmt;
 
-/// At least one matrix, of heights that are powers of two.
+/// Matrices of any number and any heights.
 #[derive(Drop)]
 pub struct MatrixList<T: Copy> {
     matrices: Vec<RowMajorMatrix<T>>,
     top: usize,
     ghost greatest_height: { top ≡ max_height matrices.items },
-    ghost some_matrix: { 1 ≤ vec_len matrices },
-    ghost powers_of_two: { All (λ m. is_power (height_of m) ≡ true) matrices.items },
 }
 
 impl<T: Copy> MatrixList<T> {
     ghost use Rattle.circle_vectors.specs.MatrixList.{matrices_of};
 
     /// The list of these matrices.
-    ///
-    /// Asks at least one, and heights that are powers of two.
     pub fn new(matrices: Vec<RowMajorMatrix<T>>) -> Self
-        requires some { 1 ≤ vec_len matrices }
-        requires powers_of_two { All (λ m. IsPowerOfTwo (height_of m)) matrices.items }
         ensures { matrices_of result ≡ matrices.items }
     {
         let top = greatest_height(&matrices);
@@ -42,7 +34,7 @@ impl<T: Copy> MatrixList<T> {
         &self.matrices
     }
 
-    /// The greatest height of the matrices.
+    /// The greatest height of the matrices, 0 where there are none.
     pub fn max_height(&self) -> usize
         ensures { result ≡ max_height (matrices_of self.now) }
     {
@@ -57,16 +49,16 @@ impl<T: Copy> MatrixList<T> {
         Ok(MatrixList::new(matrices))
     }
 
-    /// The rows of the matrices at each of the indices.
+    /// The rows of the matrices at each of the indices, empty ones where a matrix has none there.
     ///
-    /// Asks indices below the greatest height. Fails where memory is refused.
+    /// Fails where memory is refused.
     pub fn rows_at_each(
         &self,
         alloc: Global,
         indices: &[usize],
     ) -> Result<OpenedRows<T>, AllocError>
-        requires { All (λ i. i < max_height (matrices_of self.now)) indices.now }
-        ensures { IfOk result (λ opened. opened_rows opened.items ≡ rows_at_each (matrices_of self.now) indices.now) }
+        ensures { IfOk result (λ opened. opened_rows opened.items
+            ≡ rows_at_each (matrices_of self.now) indices.now) }
     {
         let mut opened = Vec::with_capacity(alloc, indices.len())?;
         for index in indices {
@@ -125,6 +117,29 @@ pub fn shapes<T: Copy>(
     Ok(shapes)
 }
 
+// The row of a matrix at an index under a greatest height, an empty one where it has none there.
+fn row_of<T: Copy>(
+    alloc: Global,
+    matrix: &RowMajorMatrix<T>,
+    top: usize,
+    index: usize,
+) -> Result<Vec<T>, AllocError>
+    requires { height_of matrix.now ≤ top }
+    ensures { IfOk result (λ row. row.items
+        ≡ slice_index_or (rows matrix.now) (row_at top (height_of matrix.now) index) []) }
+{
+    let height = matrix.height();
+    if height == 0 {
+        return Ok(Vec::new(alloc));
+    }
+    let r = index / (top / height);
+    if r >= height {
+        return Ok(Vec::new(alloc));
+    }
+    let row = Vec::from_slice(alloc, matrix.row(r))?;
+    Ok(row)
+}
+
 // The rows of the matrices at an index, one for each.
 fn rows_of<T: Copy>(
     alloc: Global,
@@ -132,15 +147,12 @@ fn rows_of<T: Copy>(
     top: usize,
     index: usize,
 ) -> Result<Vec<Vec<T>>, AllocError>
-    requires greatest { top ≡ max_height matrices.now }
-    requires powers_of_two { All (λ m. IsPowerOfTwo (height_of m)) matrices.now }
-    requires in_range { index < top }
+    requires { top ≡ max_height matrices.now }
     ensures { IfOk result (λ rows. map (λ row. row.items) rows.items ≡ rows_at matrices.now index) }
 {
     let mut rows = Vec::with_capacity(alloc, matrices.len())?;
     for matrix in matrices {
-        let row = matrix.row(index / (top / matrix.height()));
-        rows.push(Vec::from_slice(alloc, row)?)?;
+        rows.push(row_of(alloc, matrix, top, index)?)?;
     }
     Ok(rows)
 }

@@ -1,18 +1,16 @@
 //! Commitment schemes for tests: one that publishes the matrices, and one that shows nothing.
 ghost use Rattle.std.specs.Prelude.{◌≡◌, ◌<◌, ◌≤◌, ◌↔◌, true, All, IfOk, IfErr, OnOk, IsOk, IsTrue, length, vec_len};
-ghost use Rattle.circle_commit.specs.Matrix.{IsPowerOfTwo};
-ghost use Rattle.circle_commit.specs.RowMajorMatrix.{height_of};
 ghost use Rattle.circle_vectors.specs.declared.matrix_list.MatrixList.{MatrixList};
-ghost use Rattle.circle_commit.specs.Mmcs.{dimensions_of, max_height, rows_at_each, opened_rows};
+ghost use Rattle.circle_commit.specs.Mmcs.{HaveHeightsOfPowers, dimensions_of, max_height, rows_at_each, opened_rows};
 
 use crate::matrix_list::{MatrixList, shapes};
-use circle_commit::{Dimensions, Mmcs, OpenedRows, RowMajorMatrix};
+use circle_commit::{Dimensions, Mmcs, OpenedRows, RowMajorMatrix, are_below};
 use circle_field::Field;
 use std::alloc::{AllocError, Global};
 use thiserror::Error;
 
 /// The scheme whose commitment is the list of matrices and whose proof is empty: opened rows are
-/// compared with those of the matrices.
+/// compared with those of the matrices. Its data is any list of matrices, an empty one too.
 #[derive(Clone, Copy, Debug)]
 pub struct ListMmcs;
 
@@ -51,13 +49,6 @@ impl From<AllocError> for ListError {
 #[derive(Clone, Copy, Debug)]
 pub struct Nothing;
 
-/// Whether each of the indices is below a height.
-pub fn are_below(indices: &[usize], top: usize) -> bool
-    ensures { IsTrue result ↔ All (λ i. i < top) indices.now }
-{
-    indices.iter().all(|i| *i < top)
-}
-
 // Whether the shapes are the same.
 fn same_shapes(shapes: &[Dimensions], others: &[Dimensions]) -> bool
     ensures { IsTrue result ↔ (shapes.now ≡ others.now) }
@@ -73,7 +64,7 @@ fn same_rows<T: Field>(opened: &[Vec<Vec<T>>], others: &[Vec<Vec<T>>]) -> bool
 }
 
 impl<T: Field> Mmcs<T> for ListMmcs {
-    ghost use Rattle.circle_vectors.specs.MatrixList.{matrices_of, some_matrix, powers_of_two};
+    ghost use Rattle.circle_vectors.specs.MatrixList.{matrices_of};
     ghost use Rattle.circle_vectors.specs.Schemes.{Shows, says_memory};
     ghost use Rattle.circle_vectors.specs.SameRows.{HaveSameRows};
 
@@ -89,13 +80,10 @@ impl<T: Field> Mmcs<T> for ListMmcs {
 
     ghost commits = { λ s matrices commitment. HaveSameRows matrices (matrices_of commitment) };
 
-    ghost authenticates = { λ s commitment dims indices opened proof. Shows (matrices_of commitment) dims indices opened };
+    ghost authenticates = { λ s commitment dims indices opened proof.
+        Shows (matrices_of commitment) dims indices opened };
 
     ghost is_memory = { says_memory };
-
-    ghost some_matrix = { some_matrix };
-
-    ghost powers_of_two = { powers_of_two };
 
     fn commit(
         &self,
@@ -103,7 +91,7 @@ impl<T: Field> Mmcs<T> for ListMmcs {
         inputs: Vec<RowMajorMatrix<T>>,
     ) -> Result<(MatrixList<T>, MatrixList<T>), AllocError>
         requires some { 1 ≤ vec_len inputs }
-        requires powers_of_two { All (λ m. IsPowerOfTwo (height_of m)) inputs.items }
+        requires powers_of_two { HaveHeightsOfPowers inputs.items }
         ensures commitment { IfOk result (λ r. HaveSameRows inputs.items (matrices_of r.0)) }
         ensures data { IfOk result (λ r. matrices_of r.1 ≡ inputs.items) }
     {
@@ -131,9 +119,12 @@ impl<T: Field> Mmcs<T> for ListMmcs {
     ) -> Result<(OpenedRows<T>, Nothing), AllocError>
         requires some { 1 ≤ length indices.now }
         requires in_range { All (λ i. i < max_height (matrices_of prover_data.now)) indices.now }
-        ensures rows { IfOk result (λ r. opened_rows r.0.items ≡ rows_at_each (matrices_of prover_data.now) indices.now) }
-        ensures proof { IfOk result (λ r. (commitment : MatrixList T) → HaveSameRows (matrices_of prover_data.now) (matrices_of commitment)
-            → Shows (matrices_of commitment) (dimensions_of (matrices_of prover_data.now)) indices.now (opened_rows r.0.items)) }
+        ensures rows { IfOk result (λ r. opened_rows r.0.items
+            ≡ rows_at_each (matrices_of prover_data.now) indices.now) }
+        ensures proof { IfOk result (λ r. (commitment : MatrixList T)
+            → HaveSameRows (matrices_of prover_data.now) (matrices_of commitment)
+            → Shows (matrices_of commitment) (dimensions_of (matrices_of prover_data.now))
+            indices.now (opened_rows r.0.items)) }
     {
         Ok((prover_data.rows_at_each(alloc, indices)?, Nothing))
     }
@@ -147,8 +138,10 @@ impl<T: Field> Mmcs<T> for ListMmcs {
         opened_values: &[Vec<Vec<T>>],
         _proof: &Nothing,
     ) -> Result<(), ListError>
-        ensures accepted { OnOk result (Shows (matrices_of commitment.now) dimensions.now indices.now (opened_rows opened_values.now)) }
-        ensures refused { IfErr result (λ e. Shows (matrices_of commitment.now) dimensions.now indices.now (opened_rows opened_values.now) → IsTrue (says_memory e)) }
+        ensures accepted { OnOk result (Shows (matrices_of commitment.now) dimensions.now
+            indices.now (opened_rows opened_values.now)) }
+        ensures refused { IfErr result (λ e. Shows (matrices_of commitment.now) dimensions.now
+            indices.now (opened_rows opened_values.now) → IsTrue (says_memory e)) }
     {
         if indices.is_empty() || !are_below(indices, commitment.max_height()) {
             return Err(ListError::WrongIndex);
@@ -172,7 +165,7 @@ impl<T: Field> Mmcs<T> for ListMmcs {
 }
 
 impl<T: Copy> Mmcs<T> for TrustingMmcs {
-    ghost use Rattle.circle_vectors.specs.MatrixList.{matrices_of, some_matrix, powers_of_two};
+    ghost use Rattle.circle_vectors.specs.MatrixList.{matrices_of};
 
     type Commitment = Nothing;
 
@@ -190,17 +183,13 @@ impl<T: Copy> Mmcs<T> for TrustingMmcs {
 
     ghost is_memory = { λ error. true };
 
-    ghost some_matrix = { some_matrix };
-
-    ghost powers_of_two = { powers_of_two };
-
     fn commit(
         &self,
         _alloc: Global,
         inputs: Vec<RowMajorMatrix<T>>,
     ) -> Result<(Nothing, MatrixList<T>), AllocError>
         requires some { 1 ≤ vec_len inputs }
-        requires powers_of_two { All (λ m. IsPowerOfTwo (height_of m)) inputs.items }
+        requires powers_of_two { HaveHeightsOfPowers inputs.items }
         ensures { IfOk result (λ r. matrices_of r.1 ≡ inputs.items) }
     {
         Ok((Nothing, MatrixList::new(inputs)))
@@ -226,7 +215,8 @@ impl<T: Copy> Mmcs<T> for TrustingMmcs {
     ) -> Result<(OpenedRows<T>, Nothing), AllocError>
         requires some { 1 ≤ length indices.now }
         requires in_range { All (λ i. i < max_height (matrices_of prover_data.now)) indices.now }
-        ensures { IfOk result (λ r. opened_rows r.0.items ≡ rows_at_each (matrices_of prover_data.now) indices.now) }
+        ensures { IfOk result (λ r. opened_rows r.0.items
+            ≡ rows_at_each (matrices_of prover_data.now) indices.now) }
     {
         Ok((prover_data.rows_at_each(alloc, indices)?, Nothing))
     }

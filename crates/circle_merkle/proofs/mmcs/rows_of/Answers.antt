@@ -18,7 +18,7 @@ row_at-requires-clause-power g c =
 
 pub row_at-requires-clause-within : goal.row_at-requires-clause-within
 row_at-requires-clause-within g c =
-    omega (arith, c.height.ensures, c.requires.greatest, bounded-at c.args.matrices.now c.requires.powers_of_two c.loop-matrix.matrix-index c.matrix-item.result c.loop-matrix-test.true c.matrix-item.is)
+    omega (arith, c.height.ensures, c.requires.greatest, bounded-at c.args.matrices.now c.loop-matrix.matrix-index c.matrix-item.result c.loop-matrix-test.true c.matrix-item.is)
 
 pub row-row-requires : goal.row-row-requires
 row-row-requires g c =

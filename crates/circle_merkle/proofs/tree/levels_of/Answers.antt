@@ -6,13 +6,13 @@ use Rattle.circle_commit.specs.Mmcs.{dimensions_of}
 use Rattle.circle_merkle.specs.Tree.{digest}
 use Rattle.circle_merkle.specs.Rows.{size_of, matrix_rows}
 use Rattle.circle_merkle.proofs.Maps.{items-at, items-count, items-more}
-use Rattle.circle_merkle.proofs.Powers.{exponent, logarithm, halves, level_size}
+use Rattle.circle_merkle.proofs.Powers.{halves, level_size}
 use Rattle.circle_merkle.proofs.tree.levels_of.Goals as goal
 
 pub loop-level-init : goal.loop-level-init
 loop-level-init g c =
-    let count = c.ilog2-count.result in
-    let power : 2 ^ count ≡ c.args.top = logarithm c.args.top count c.requires.power c.ilog2-count.ensures.power_le c.ilog2-count.ensures.next_power_gt in
+    let count = c.log2_strict-count.result in
+    let power : 2 ^ count ≡ c.args.top = c.log2_strict-count.ensures.power in
     let h = digest sha256 (matrix_rows g.T.ElementBytes.bytes c.args.matrices.now) 0 in
     let size : size_of (dimensions_of c.args.matrices.now) 0 ≡ c.args.top = omega (arith, c.requires.greatest) in
     let whole : c.args.top ≡ 2 ^ (count - 0) = sym power ∙ (let same : count ≡ count - 0 = omega arith in ap (λ k. 2 ^ k) same) in
@@ -22,27 +22,27 @@ loop-level-init g c =
 
 pub index-requires : goal.index-requires
 index-requires g c =
-    let count = c.ilog2-count.result in
+    let count = c.log2_strict-count.result in
     let f = λ (level : ℕ). map (digest sha256 (matrix_rows g.T.ElementBytes.bytes c.args.matrices.now) level) (range_with_len 0 (2 ^ (count - level))) in
     omega (arith, items-count f (c.loop-level.level + 1) c.loop-level.levels.items c.loop-level.invariant, c.loop-level.levels.ok.0)
 
 pub next_level-requires : goal.next_level-requires
 next_level-requires g c =
-    let count = c.ilog2-count.result in
+    let count = c.log2_strict-count.result in
     let level = c.loop-level.level in
     let f = λ (level : ℕ). map (digest sha256 (matrix_rows g.T.ElementBytes.bytes c.args.matrices.now) level) (range_with_len 0 (2 ^ (count - level))) in
-    let power : 2 ^ count ≡ c.args.top = logarithm c.args.top count c.requires.power c.ilog2-count.ensures.power_le c.ilog2-count.ensures.next_power_gt in
+    let power : 2 ^ count ≡ c.args.top = c.log2_strict-count.ensures.power in
     let below = c.deref.ensures.value ∙ items-at f (level + 1) level c.loop-level.levels.items c.index.result.now c.loop-level.invariant (omega arith) c.index.ensures in
     ap length below ∙ length-map-range_with_len (digest sha256 (matrix_rows g.T.ElementBytes.bytes c.args.matrices.now) level) 0 (2 ^ (count - level))
     ∙ halves count level (omega arith) ∙ ap (λ n. 2 * n) (sym (level_size c.args.top count (level + 1) (sym power) (omega arith)))
 
 pub loop-level-preserved : goal.loop-level-preserved
 loop-level-preserved g c =
-    let count = c.ilog2-count.result in
+    let count = c.log2_strict-count.result in
     let level = c.loop-level.level in
     let rows = matrix_rows g.T.ElementBytes.bytes c.args.matrices.now in
     let f = λ (level : ℕ). map (digest sha256 rows level) (range_with_len 0 (2 ^ (count - level))) in
-    let power : 2 ^ count ≡ c.args.top = logarithm c.args.top count c.requires.power c.ilog2-count.ensures.power_le c.ilog2-count.ensures.next_power_gt in
+    let power : 2 ^ count ≡ c.args.top = c.log2_strict-count.ensures.power in
     let size = level_size c.args.top count (level + 1) (sym power) (omega arith) in
     let above : size_of (dimensions_of c.args.matrices.now) (suc level) ≡ c.args.top / 2 ^ (level + 1) =
     ap (λ n. n / 2 ^ suc level) (sym c.requires.greatest) ∙ ap (λ k. c.args.top / 2 ^ k) (sym (add-one level)) in
@@ -56,9 +56,9 @@ loop-level-preserved g c =
 
 pub returns : goal.returns
 returns g c count e =
-    let r = c.ilog2-count.result in
+    let r = c.log2_strict-count.result in
     let rows = matrix_rows g.T.ElementBytes.bytes c.args.matrices.now in
-    let same : count ≡ r = exponent c.args.top count r e c.ilog2-count.ensures.power_le c.ilog2-count.ensures.next_power_gt in
+    let same : count ≡ r = sym (c.log2_strict-count.ensures.only count e) in
     let end : c.loop-level.level ≡ count = omega arith in
     c.loop-level.invariant
     ∙ ap (λ n. map (λ level. map (digest sha256 rows level) (range_with_len 0 (2 ^ (n - level)))) (range_with_len 0 (c.loop-level.level + 1))) (sym same)

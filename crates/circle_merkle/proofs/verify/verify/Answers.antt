@@ -4,7 +4,6 @@ use Rattle.circle_commit.specs.Matrix.{IsPowerOfTwo}
 use Rattle.circle_commit.specs.Mmcs.{greatest, heights}
 use Rattle.circle_merkle.specs.Tree.{taken_below}
 use Rattle.circle_merkle.specs.Order.{IsOrdered}
-use Rattle.circle_merkle.proofs.Powers.{exponent}
 use Rattle.circle_merkle.proofs.Ordered.{order-placed}
 use Rattle.circle_merkle.proofs.Fits.{whole-rows, greatest-power, below-power}
 use Rattle.circle_merkle.proofs.verify.verify.Goals as goal
@@ -32,15 +31,15 @@ returns-then-not-branch-clause-refused g c =
     let dims = c.args.dimensions.now in
     let indices = c.args.indices.now in
     let counted = c.in_ok-has_count.ensures indices
-    (c.deref-2.ensures.value ∙ c.leave_firsts.ensures indices c.ilog2.result c.in_ok-order.ensures
-    (below-power dims indices c.greatest_height-top.result c.ilog2.result shape c.greatest_height-top.ensures c.ilog2.ensures.power_le c.ilog2.ensures.next_power_gt known.in_range)) in
+    (c.deref-2.ensures.value ∙ c.leave_firsts.ensures indices c.log2_strict.result c.in_ok-order.ensures
+    (below-power dims indices c.log2_strict.result (c.log2_strict.ensures.power ∙ c.greatest_height-top.ensures) known.in_range)) in
     let agree = (c.if-not-agrees.ensures c.args.indices.now (subst (IsOrdered c.args.indices.now) (sym c.deref.ensures.value) c.in_ok-order.ensures)).0 refl in (
       shape,
       known,
       agree,
       λ levels e h.
           let top = c.greatest_height-top.ensures in
-          let same : levels ≡ c.ilog2.result = exponent c.greatest_height-top.result levels c.ilog2.result (top ∙ e) c.ilog2.ensures.power_le c.ilog2.ensures.next_power_gt in
+          let same : levels ≡ c.log2_strict.result = sym (c.log2_strict.ensures.only levels (top ∙ e)) in
           let yes = counted.1 (h ∙ ap (λ l. taken_below c.args.indices.now l l) same) in absurd (let false_is = c.if-not-branch.true in cc),
     )
 
@@ -55,11 +54,14 @@ invariant_of-opening g c =
       whole = whole-rows c.args.dimensions.now opened shape;
     }
 
-pub root-requires-clause-power : goal.root-requires-clause-power
-root-requires-clause-power g c =
+pub log2_strict-requires : goal.log2_strict-requires
+log2_strict-requires g c =
     let shape = c.if-not-has_shape.ensures.0 refl in
     let power : IsPowerOfTwo (greatest (heights c.args.dimensions.now)) = greatest-power c.args.dimensions.now shape.some shape.powers_of_two in
     (power.0, c.greatest_height-top.ensures ∙ power.1)
+
+pub root-requires-clause-power : goal.root-requires-clause-power
+root-requires-clause-power g c = (c.log2_strict.result, sym c.log2_strict.ensures.power)
 
 pub root-requires-clause-firsts : goal.root-requires-clause-firsts
 root-requires-clause-firsts g c = λ levels e.
@@ -75,9 +77,9 @@ root-requires-clause-count g c = λ levels e.
     let dims = c.args.dimensions.now in
     let indices = c.args.indices.now in
     let counted = c.in_ok-has_count.ensures indices
-    (c.deref-2.ensures.value ∙ c.leave_firsts.ensures indices c.ilog2.result c.in_ok-order.ensures
-    (below-power dims indices c.greatest_height-top.result c.ilog2.result shape c.greatest_height-top.ensures c.ilog2.ensures.power_le c.ilog2.ensures.next_power_gt known.in_range)) in
-    let same : levels ≡ c.ilog2.result = exponent c.greatest_height-top.result levels c.ilog2.result e c.ilog2.ensures.power_le c.ilog2.ensures.next_power_gt in
+    (c.deref-2.ensures.value ∙ c.leave_firsts.ensures indices c.log2_strict.result c.in_ok-order.ensures
+    (below-power dims indices c.log2_strict.result (c.log2_strict.ensures.power ∙ c.greatest_height-top.ensures) known.in_range)) in
+    let same : levels ≡ c.log2_strict.result = sym (c.log2_strict.ensures.only levels e) in
     counted.0 c.if-not-branch.false ∙ ap (λ l. taken_below indices l l) (sym same)
 
 pub returns-then-not-same_digest-clause-refused : goal.returns-then-not-same_digest-clause-refused
@@ -87,15 +89,15 @@ returns-then-not-same_digest-clause-refused g c =
     let dims = c.args.dimensions.now in
     let indices = c.args.indices.now in
     let counted = c.in_ok-has_count.ensures indices
-    (c.deref-2.ensures.value ∙ c.leave_firsts.ensures indices c.ilog2.result c.in_ok-order.ensures
-    (below-power dims indices c.greatest_height-top.result c.ilog2.result shape c.greatest_height-top.ensures c.ilog2.ensures.power_le c.ilog2.ensures.next_power_gt known.in_range)) in
+    (c.deref-2.ensures.value ∙ c.leave_firsts.ensures indices c.log2_strict.result c.in_ok-order.ensures
+    (below-power dims indices c.log2_strict.result (c.log2_strict.ensures.power ∙ c.greatest_height-top.ensures) known.in_range)) in
     let agree = (c.if-not-agrees.ensures c.args.indices.now (subst (IsOrdered c.args.indices.now) (sym c.deref.ensures.value) c.in_ok-order.ensures)).0 refl in
     let top = c.greatest_height-top.ensures in (
       shape,
       known,
       agree,
       (λ levels e.
-          let same : levels ≡ c.ilog2.result = exponent c.greatest_height-top.result levels c.ilog2.result (top ∙ e) c.ilog2.ensures.power_le c.ilog2.ensures.next_power_gt in
+          let same : levels ≡ c.log2_strict.result = sym (c.log2_strict.ensures.only levels (top ∙ e)) in
           counted.0 c.if-not-branch.false ∙ ap (λ l. taken_below c.args.indices.now l l) (sym same)),
       (λ levels e h. absurd (let yes = c.if-not-same_digest.ensures.1 (c.in_ok-root.ensures levels (top ∙ e) ∙ h) in cc)),
     )
@@ -107,12 +109,12 @@ returns-clause-accepted g c =
     let dims = c.args.dimensions.now in
     let indices = c.args.indices.now in
     let counted = c.in_ok-has_count.ensures indices
-    (c.deref-2.ensures.value ∙ c.leave_firsts.ensures indices c.ilog2.result c.in_ok-order.ensures
-    (below-power dims indices c.greatest_height-top.result c.ilog2.result shape c.greatest_height-top.ensures c.ilog2.ensures.power_le c.ilog2.ensures.next_power_gt known.in_range)) in
+    (c.deref-2.ensures.value ∙ c.leave_firsts.ensures indices c.log2_strict.result c.in_ok-order.ensures
+    (below-power dims indices c.log2_strict.result (c.log2_strict.ensures.power ∙ c.greatest_height-top.ensures) known.in_range)) in
     let agree = (c.if-not-agrees.ensures c.args.indices.now (subst (IsOrdered c.args.indices.now) (sym c.deref.ensures.value) c.in_ok-order.ensures)).0 refl in
     let power : IsPowerOfTwo (greatest (heights c.args.dimensions.now)) = greatest-power c.args.dimensions.now shape.some shape.powers_of_two in
     let top = c.greatest_height-top.ensures in
-    let same : power.0 ≡ c.ilog2.result = exponent c.greatest_height-top.result power.0 c.ilog2.result (top ∙ power.1) c.ilog2.ensures.power_le c.ilog2.ensures.next_power_gt in
+    let same : power.0 ≡ c.log2_strict.result = sym (c.log2_strict.ensures.only power.0 (top ∙ power.1)) in
     record {
       shape = shape;
       known = known;

@@ -28,21 +28,21 @@ new-requires-clause-whole g c =
     let matrix = c.args.matrix.now in
     let all = g.M.Matrix.rows matrix in
     let row = λ (i : ℕ). slice_index_or all i [] in
-    let height = g.M.Shape.height matrix in
+    let height = g.M.MatrixShape.height matrix in
     let values = c.loop-r.values in
     let end : c.loop-r.r ≡ height = omega (arith, c.height-height.ensures) in
     let made : values.items ≡ flat_map row (range_with_len 0 height) = c.loop-r.invariant ∙ ap (λ m. flat_map row (range_with_len 0 m)) end in
     let wide = λ (i : ℕ) (lt : i < 0 + height). g.met.M.Matrix.width_law matrix i [] (omega (arith, lt, g.met.M.Matrix.height_law matrix)) in
     let positive = g.met.M.Matrix.width_positive matrix in
-    ap (λ w. vec_len values % w) c.width-width.ensures ∙ whole_rows row values.items values.len height (g.M.Shape.width matrix) made values.ok.0 wide positive
+    ap (λ w. vec_len values % w) c.width-width.ensures ∙ whole_rows row values.items values.len height (g.M.MatrixShape.width matrix) made values.ok.0 wide positive
 
 pub returns-clause-rows : goal.returns-clause-rows
 returns-clause-rows g c =
     let matrix = c.args.matrix.now in
     let all = g.M.Matrix.rows matrix in
     let row = λ (i : ℕ). slice_index_or all i [] in
-    let height = g.M.Shape.height matrix in
-    let width = g.M.Shape.width matrix in
+    let height = g.M.MatrixShape.height matrix in
+    let width = g.M.MatrixShape.width matrix in
     let values = c.loop-r.values in
     let end : c.loop-r.r ≡ height = omega (arith, c.height-height.ensures) in
     let made : values.items ≡ flat_map row (range_with_len 0 height) = c.loop-r.invariant ∙ ap (λ m. flat_map row (range_with_len 0 m)) end in

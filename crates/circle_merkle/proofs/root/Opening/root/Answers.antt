@@ -6,15 +6,14 @@ use Rattle.circle_merkle.specs.Walk.{siblings_of}
 use Rattle.circle_merkle.specs.Climb.{climbed, positions_of}
 use Rattle.circle_merkle.specs.Opening.{lowest_node, level_nodes, parent_in}
 use Rattle.circle_merkle.specs.Authentication.{opened_root}
-use Rattle.circle_merkle.proofs.Powers.{exponent, logarithm}
 use Rattle.circle_merkle.proofs.LevelNodes.{nodes-lowest, nodes-fit, nodes-left, nodes-climbed, nodes-root}
 use Rattle.circle_merkle.proofs.root.Opening.root.Goals as goal
 
 pub loop-level-init : goal.loop-level-init
 loop-level-init g c =
     let o = c.args.self.now in
-    let count = c.ilog2-count.result in
-    let power : 2 ^ count ≡ o.top = logarithm o.top count c.requires.power c.ilog2-count.ensures.power_le c.ilog2-count.ensures.next_power_gt in
+    let count = c.log2_strict-count.result in
+    let power : 2 ^ count ≡ o.top = c.log2_strict-count.ensures.power in
     let bytes = g.T.ElementBytes.bytes in
     record {
       nodes = c.in_ok-nodes.ensures ∙ ap (map (lowest_node bytes o)) (c.requires.firsts count (sym power)) ∙ nodes-lowest bytes o c.args.proof.now count;
@@ -24,8 +23,8 @@ loop-level-init g c =
 pub climb-requires-clause-enough : goal.climb-requires-clause-enough
 climb-requires-clause-enough g c =
     let o = c.args.self.now in
-    let count = c.ilog2-count.result in
-    let power : 2 ^ count ≡ o.top = logarithm o.top count c.requires.power c.ilog2-count.ensures.power_le c.ilog2-count.ensures.next_power_gt in
+    let count = c.log2_strict-count.result in
+    let power : 2 ^ count ≡ o.top = c.log2_strict-count.ensures.power in
     let fit = nodes-fit g.T.ElementBytes.bytes o c.args.proof.now count (c.requires.count count (sym power)) c.loop-level.level (omega arith) in
     let nodes : length (siblings_of (positions_of c.deref.result.now)) ≡ length (siblings_of (positions_of (level_nodes g.T.ElementBytes.bytes o c.args.proof.now count c.loop-level.level))) =
     ap (λ ns. length (siblings_of (positions_of ns))) (c.deref.ensures.value ∙ c.loop-level.invariant.nodes) in
@@ -38,8 +37,8 @@ loop-level-preserved g c =
     let bytes = g.T.ElementBytes.bytes in
     let proof = c.args.proof.now in
     let level = c.loop-level.level in
-    let count = c.ilog2-count.result in
-    let power : 2 ^ count ≡ o.top = logarithm o.top count c.requires.power c.ilog2-count.ensures.power_le c.ilog2-count.ensures.next_power_gt in
+    let count = c.log2_strict-count.result in
+    let power : 2 ^ count ≡ o.top = c.log2_strict-count.ensures.power in
     let whole = c.requires.count count (sym power) in
     let here = c.deref.ensures.value ∙ c.loop-level.invariant.nodes in
     record {
@@ -63,8 +62,8 @@ index-requires g c =
     let o = c.args.self.now in
     let bytes = g.T.ElementBytes.bytes in
     let proof = c.args.proof.now in
-    let count = c.ilog2-count.result in
-    let power : 2 ^ count ≡ o.top = logarithm o.top count c.requires.power c.ilog2-count.ensures.power_le c.ilog2-count.ensures.next_power_gt in
+    let count = c.log2_strict-count.result in
+    let power : 2 ^ count ≡ o.top = c.log2_strict-count.ensures.power in
     let below : All (λ i. i < 2 ^ count) o.indices.now = subst (λ n. All (λ i. i < n) o.indices.now) (sym power) c.requires.in_range in
     let end : c.loop-level.level ≡ count = omega arith in
     let one : length c.loop-level.nodes.items ≡ 1 = ap length (c.loop-level.invariant.nodes ∙ ap (level_nodes bytes o proof count) end ∙ nodes-root bytes o proof count c.requires.some below) in
@@ -75,11 +74,11 @@ returns g c levels e =
     let o = c.args.self.now in
     let bytes = g.T.ElementBytes.bytes in
     let proof = c.args.proof.now in
-    let count = c.ilog2-count.result in
-    let power : 2 ^ count ≡ o.top = logarithm o.top count c.requires.power c.ilog2-count.ensures.power_le c.ilog2-count.ensures.next_power_gt in
+    let count = c.log2_strict-count.result in
+    let power : 2 ^ count ≡ o.top = c.log2_strict-count.ensures.power in
     let below : All (λ i. i < 2 ^ count) o.indices.now = subst (λ n. All (λ i. i < n) o.indices.now) (sym power) c.requires.in_range in
     let end : c.loop-level.level ≡ count = omega arith in
-    let same : count ≡ levels = sym (exponent o.top levels count e c.ilog2-count.ensures.power_le c.ilog2-count.ensures.next_power_gt) in
+    let same : count ≡ levels = c.log2_strict-count.ensures.only levels e in
     let nodes = c.loop-level.invariant.nodes ∙ ap (level_nodes bytes o proof count) end ∙ nodes-root bytes o proof count c.requires.some below in
     ap (λ n. n.digest) c.index.ensures
     ∙ ap (λ ns. (get_or ns 0 c.index.result.now).digest) nodes

@@ -1,0 +1,67 @@
+//! A caller's first program: it commits to two matrices, opens them at some indices and verifies
+//! what was opened.
+use circle_commit::{Dimensions, Mmcs, RowMajorMatrix, are_below, heights_are_powers_of_two};
+use circle_field::{Field, Mersenne31};
+use circle_merkle::{MerkleTreeError, ShaMmcs};
+use std::alloc::{AllocError, Global};
+use std::ops::Range;
+use std::test::Fail;
+
+// The matrix of one column with these entries.
+fn column(alloc: Global, entries: Range<u64>) -> Result<RowMajorMatrix<Mersenne31>, AllocError> {
+    let entries: Vec<Mersenne31> = entries.map(Mersenne31::from_u64).collect(alloc)?;
+    Ok(RowMajorMatrix::new_col(entries))
+}
+
+// A column of eight rows and one of four.
+fn columns(alloc: Global) -> Result<Vec<RowMajorMatrix<Mersenne31>>, AllocError> {
+    Ok(vec![in alloc; column(alloc, 10..18)?, column(alloc, 20..24)?]?)
+}
+
+// Commits to the columns, opens them at the indices and verifies what was opened. Gives no answer
+// where the indices or the heights aren't what the calls ask.
+fn commit_open_verify(
+    alloc: Global,
+    indices: &[usize],
+) -> Result<Option<Vec<Vec<Vec<Mersenne31>>>>, MerkleTreeError> {
+    let mmcs = ShaMmcs::<Mersenne31>::new();
+    let inputs = columns(alloc)?;
+    if inputs.is_empty() || !heights_are_powers_of_two(&inputs) {
+        return Ok(None);
+    }
+    let (commitment, data) = mmcs.commit(alloc, inputs)?;
+    if indices.is_empty() || !are_below(indices, mmcs.get_max_height(&data)) {
+        return Ok(None);
+    }
+    let (rows, proof) = mmcs.open_multi_batch(alloc, indices, &data)?;
+    let tall = Dimensions {
+        width: 1,
+        height: 8,
+    };
+    let low = Dimensions {
+        width: 1,
+        height: 4,
+    };
+    mmcs.verify_multi_batch(alloc, &commitment, &[tall, low], indices, &rows, &proof)?;
+    Ok(Some(rows))
+}
+
+// The only entry of the row of a matrix at the index of a place.
+fn entry(rows: &[Vec<Vec<Mersenne31>>], place: usize, matrix: usize) -> Option<Mersenne31> {
+    rows.get(place)?.get(matrix)?.first().copied()
+}
+
+#[test]
+fn opens_two_columns(rt: HostRuntime) -> Result<(), Fail> {
+    let Some(rows) = commit_open_verify(rt.alloc(), &[5, 0, 5])? else {
+        return Err(Fail::new("refused"));
+    };
+    assert_eq!(rt; entry(&rows, 0, 0), Some(Mersenne31::from_u64(15)));
+    assert_eq!(rt; entry(&rows, 0, 1), Some(Mersenne31::from_u64(22)));
+    assert_eq!(rt; entry(&rows, 1, 0), Some(Mersenne31::from_u64(10)));
+    assert_eq!(rt; entry(&rows, 1, 1), Some(Mersenne31::from_u64(20)));
+    assert_eq!(rt; rows.len(), 3);
+    assert!(rt; commit_open_verify(rt.alloc(), &[8])?.is_none());
+    assert!(rt; commit_open_verify(rt.alloc(), &[])?.is_none());
+    Ok(())
+}
