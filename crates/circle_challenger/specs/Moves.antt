@@ -19,10 +19,33 @@ pub record Moves (C S F E : Type 0) : Type 0 where
   pub of_nat : ℕ → F
   pub zero : F
 
+-- such a challenger from its parts
+abbrev pub moves : {C S F E : Type 0} → (C → S) → (S → F → S) → (S → F) → (S → S) → (S → ℕ → ℕ) → (S → ℕ → S)
+    → ℕ → (E → List F) → (ℕ → F) → F → Moves C S F E
+moves state after_observe sampled after_sample sampled_bits after_bits degree coefficients of_nat zero = record {
+  state = state;
+  after_observe = after_observe;
+  sampled = sampled;
+  after_sample = after_sample;
+  sampled_bits = sampled_bits;
+  after_bits = after_bits;
+  degree = degree;
+  coefficients = coefficients;
+  of_nat = of_nat;
+  zero = zero;
+}
+
 -- the same, and the state after a commitment is taken in
 pub record RunMoves (C S F E Com : Type 0) : Type 0 where
-  pub elements : Moves C S F E
+  pub base : Moves C S F E
   pub after_commitment : S → Com → S
+
+abbrev pub run_moves : {C S F E Com : Type 0} → (C → S) → (S → F → S) → (S → Com → S) → (S → F) → (S → S) → (S → ℕ → ℕ)
+    → (S → ℕ → S) → ℕ → (E → List F) → (ℕ → F) → F → RunMoves C S F E Com
+run_moves state after_observe after_commitment sampled after_sample sampled_bits after_bits degree coefficients of_nat zero = record {
+  base = moves state after_observe sampled after_sample sampled_bits after_bits degree coefficients of_nat zero;
+  after_commitment = after_commitment;
+}
 
 module _ {C S F E : Type 0} (m : Moves C S F E) where
   -- the state after bytes were taken in, each as an element of the base field

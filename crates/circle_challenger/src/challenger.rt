@@ -117,10 +117,10 @@ impl<F: Field, EF: ExtensionField<F>, C: CanSample<F> + GrindingChallenger<F>> F
 }
 
 /// The same of a challenger that takes in commitments of the type `Com` too: a clause cites
-/// `⟦<C as RunChallenger<F, EF, Com>>⟧.run_moves`.
+/// `⟦<C as RunChallenger<F, EF, Com>>⟧.run`.
 pub trait RunChallenger<F: Field, EF: ExtensionField<F>, Com>: FieldChallenger<F, EF>
     + CanObserve<Com> {
-    ghost run_moves: { RunMoves Self Self.State F EF Com };
+    ghost run: { RunMoves Self Self.State F EF Com };
 }
 
 impl<
@@ -129,8 +129,8 @@ impl<
     Com,
     C: CanSample<F> + GrindingChallenger<F> + CanObserve<Com>,
 > RunChallenger<F, EF, Com> for C {
-    ghost run_moves = { record {
-      elements = ⟦<C as FieldChallenger<F, EF>>⟧.moves;
+    ghost run = { record {
+      base = ⟦<C as FieldChallenger<F, EF>>⟧.moves;
       after_commitment = ⟦<C as CanObserve<Com>>⟧.after_observe;
     } };
 }

@@ -1,11 +1,12 @@
 -- Steps that are played, one after another.
-use Rattle.std.proofs.Common.{◌≡◌, ℕ, ◌+◌, ◌<◌, List, [], ◌∷◌, ◌++◌, length, drop, take, flat_map, get_or, Some, slice_get, sym, ap, subst, ◌∙◌, append_assoc}
-use Rattle.std.specs.Prelude.{Result, Ok, Err, OnOk, IsErrAnd, IfErr}
+use Rattle.std.proofs.Common.{◌≡◌, ℕ, ◌+◌, ◌<◌, List, [], ◌∷◌, ◌++◌, length, drop, take, flat_map, get_or, Some, slice_get, refl, sym, ap, subst, inl, inr, ◌∙◌, append_assoc}
+use Rattle.std.specs.Prelude.{Result, Ok, Err, OnOk, IsErrAnd, IfErr, Option, None, IsNone, unwrap_or, All, ◌⊎◌}
 use Rattle.std.proofs.lemmas.List.{append-nil, drop_more, take_more}
+use Rattle.std.proofs.lemmas.List.Elements.{All-push}
 use Rattle.std.proofs.lemmas.Grind.{flat_map-append}
 use Rattle.circle_challenger.specs.Observing.{after_all}
 use Rattle.circle_challenger.proofs.Draws.{after_all-append}
-use Rattle.circle_transcript.specs.Draw.{Claim, claim_elements, after_claims}
+use Rattle.circle_transcript.specs.Draw.{Claim, claim_elements, after_claims_by}
 
 module _ {A : Type 0} where
   -- the first of the steps that are due
@@ -33,8 +34,8 @@ module _ {S F E : Type 0} (f : S → F → S) (coefficients : E → List F) wher
       ∙ ap (λ v. after_all f s (coefficients x ++ (coefficients v ++ flat_map coefficients (vs ++ [])))) same_y
 
   -- claims are taken in after others
-  pub claims-append : (s : S) (cs ds : List (Claim E)) → after_claims f coefficients s (cs ++ ds) ≡ after_claims f coefficients (after_claims f coefficients s cs) ds
-  unfolding after_claims
+  pub claims-append : (s : S) (cs ds : List (Claim E)) → after_claims_by f coefficients s (cs ++ ds) ≡ after_claims_by f coefficients (after_claims_by f coefficients s cs) ds
+  unfolding after_claims_by
   claims-append s cs ds =
       ap (λ v. after_all f s (flat_map coefficients v)) (flat_map-append claim_elements cs ds)
       ∙ ap (after_all f s) (flat_map-append coefficients (flat_map claim_elements cs) (flat_map claim_elements ds))
@@ -57,3 +58,25 @@ on_ok (Err e) f p = tt
 pub handed_on : {A E : Type 0} (r : Result A E) (e : E) (P : E → Type 0) → IsErrAnd r (λ x. x ≡ e) → P e → IfErr r P
 handed_on (Ok x) e P h p = tt
 handed_on (Err x) e P h p = subst P (sym h) p
+
+-- where there is none, the other
+pub unwrap_none : {A : Type 0} (zero : A) (o : Option A) → IsNone o → unwrap_or o zero ≡ zero
+unwrap_none zero None none = refl
+unwrap_none zero (Some x) none = cc
+
+-- one more zero
+pub zeros_pushed : {A : Type 0} (zero : A) (xs ys : List A) (x : A) → All (λ y. y ≡ zero) xs → x ≡ zero → ys ≡ xs ++ x ∷ [] → All (λ y. y ≡ zero) ys
+zeros_pushed zero xs ys x zeros here pushed = subst (All (λ y. y ≡ zero)) (sym pushed) (All-push (λ y. y ≡ zero) xs x zeros here)
+
+-- a fact of two values, where the values are the same
+pub or_moved : {X A B : Type 0} (P : A → B → Type 0) (a c : A) (b d : B) → a ≡ c → b ≡ d → X ⊎ P a b → X ⊎ P c d
+or_moved P a c b d same too (inl x) = inl x
+or_moved P a c b d same too (inr p) = inr (subst (P c) too (subst (λ v. P v b) same p))
+
+-- equal answers hold equal values
+pub same_ok : {A E : Type 0} (x y : Result A E) (a b : A) → x ≡ Ok a → y ≡ Ok b → x ≡ y → b ≡ a
+same_ok x y a b first second same = cc
+
+-- no answer is both
+pub not_both : {A E : Type 0} (x y : Result A E) (a : A) (e : E) → x ≡ Ok a → y ≡ Err e → x ≡ y → ⊥
+not_both x y a e first second same = cc

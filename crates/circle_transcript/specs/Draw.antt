@@ -4,9 +4,8 @@ use Rattle.circle_field.specs.Circle.{Coordinates}
 use Rattle.circle_commit.specs.declared.params.PowPhase.{PowPhase}
 use Rattle.circle_commit.specs.declared.params.PowPhase.TheVariants.{Batch, CommitPhase, Query}
 use Rattle.circle_challenger.specs.Observing.{after_all}
-use Rattle.circle_challenger.specs.Sampling.{samples, after_samples}
-use Rattle.circle_challenger.specs.Grinding.{passes, after_check}
-use Rattle.circle_transcript.specs.declared.sides.Numbers.{Numbers}
+use Rattle.circle_challenger.specs.Moves.{Moves, RunMoves, after_bytes, drawn_element, after_element, drawn_numbers, after_numbers, is_passed, after_pow}
+use Rattle.circle_transcript.specs.declared.transcript.Numbers.{Numbers}
 use Rattle.circle_transcript.specs.Shape.{Shape, text_of}
 use Rattle.circle_transcript.specs.Numbers.{numbers_of}
 
@@ -25,30 +24,6 @@ widths_of claims = map (λ c. length c.values) claims
 -- what is taken in of a claim: the point's coordinates, and the values
 abbrev pub claim_elements : {E : Type 0} → Claim E → List E
 claim_elements c = c.point.x ∷ c.point.y ∷ c.values
-
--- the state after the claims
-unfoldable pub after_claims : {S F E : Type 0} → (S → F → S) → (E → List F) → S → List (Claim E) → S
-after_claims after_observe coefficients s claims = after_all after_observe s (flat_map coefficients (flat_map claim_elements claims))
-
--- what a challenger is to a run: the state after an element or a commitment is taken in, and what is
--- drawn, of elements and of bits, with the state after it
-pub record Moves (S F Com : Type 0) : Type 0 where
-  pub after_observe : S → F → S
-  pub after_commitment : S → Com → S
-  pub sampled : S → F
-  pub after_sample : S → S
-  pub sampled_bits : S → ℕ → ℕ
-  pub after_bits : S → ℕ → S
-
-abbrev pub moves : {S F Com : Type 0} → (S → F → S) → (S → Com → S) → (S → F) → (S → S) → (S → ℕ → ℕ) → (S → ℕ → S) → Moves S F Com
-moves after_observe after_commitment sampled after_sample sampled_bits after_bits = record {
-  after_observe = after_observe;
-  after_commitment = after_commitment;
-  sampled = sampled;
-  after_sample = after_sample;
-  sampled_bits = sampled_bits;
-  after_bits = after_bits;
-}
 
 -- what a run takes in: the claims and the witness after them, the commitment to the first layer, each
 -- round's commitment and witness, and the last word's value and the witness after it
@@ -78,27 +53,36 @@ pub record Drawn (S F : Type 0) : Type 0 where
   pub indices : List ℕ
   pub state : S
 
-module _ {S F Com : Type 0} (m : Moves S F Com) (degree : ℕ) where
-  -- an element that is drawn, and the state after it
-  abbrev pub drawn_element : S → List F
-  drawn_element s = samples m.sampled m.after_sample degree s
+-- the state after the claims, whose elements are taken in by their coefficients
+unfoldable pub after_claims_by : {S F E : Type 0} → (S → F → S) → (E → List F) → S → List (Claim E) → S
+after_claims_by after_observe coefficients s claims =
+    after_all after_observe s (flat_map coefficients (flat_map claim_elements claims))
 
-  abbrev pub after_element : S → S
-  after_element s = after_samples m.after_sample degree s
+module _ {C S F E : Type 0} (m : Moves C S F E) where
+  -- the state after the claims
+  abbrev pub after_claims : S → List (Claim E) → S
+  after_claims s claims = after_claims_by m.after_observe m.coefficients s claims
 
-  -- whether a witness passes, and the state after its check
-  abbrev pub is_passed : S → ℕ → F → Bool
-  is_passed s bits w = passes m.after_observe m.sampled_bits s bits w
+  -- the state after the last word's value
+  abbrev pub after_final_poly : S → E → S
+  after_final_poly s final_poly = after_all m.after_observe s (m.coefficients final_poly)
 
-  abbrev pub after_pow : S → ℕ → F → S
-  after_pow s bits w = after_check m.after_observe m.after_bits s bits w
+  -- the query indices, and the state after them
+  abbrev pub drawn_indices : Numbers → S → List ℕ
+  drawn_indices n s = drawn_numbers m n.index_bits n.num_queries s
 
+  abbrev pub after_indices : Numbers → S → S
+  after_indices n s = after_numbers m n.index_bits n.num_queries s
+
+module _ {C S F E Com : Type 0} (r : RunMoves C S F E Com) where
   -- the state after a round, and its challenge
   abbrev pub after_round : ℕ → S → Com × F → S
-  after_round bits s round = after_element (after_pow (m.after_commitment s round.0) bits round.1)
+  after_round bits s round =
+      after_element r.base (after_pow r.base (r.after_commitment s round.0) bits round.1)
 
   abbrev pub fold_challenge : ℕ → S → Com × F → List F
-  fold_challenge bits s round = drawn_element (after_pow (m.after_commitment s round.0) bits round.1)
+  fold_challenge bits s round =
+      drawn_element r.base (after_pow r.base (r.after_commitment s round.0) bits round.1)
 
   -- the state after rounds, and their challenges
   unfoldable pub after_rounds : ℕ → S → List (Com × F) → S
@@ -107,57 +91,62 @@ module _ {S F Com : Type 0} (m : Moves S F Com) (degree : ℕ) where
 
   unfoldable pub fold_challenges : ℕ → S → List (Com × F) → List (List F)
   fold_challenges bits s [] = []
-  fold_challenges bits s (round ∷ rounds) = fold_challenge bits s round ∷ fold_challenges bits (after_round bits s round) rounds
+  fold_challenges bits s (round ∷ rounds) =
+      fold_challenge bits s round ∷ fold_challenges bits (after_round bits s round) rounds
 
   -- whether each round's witness passes
   unfoldable pub rounds_pass : ℕ → S → List (Com × F) → Bool
   rounds_pass bits s [] = true
   rounds_pass bits s (round ∷ rounds) =
-      is_passed (m.after_commitment s round.0) bits round.1 && rounds_pass bits (after_round bits s round) rounds
+      is_passed r.base (r.after_commitment s round.0) bits round.1
+      && rounds_pass bits (after_round bits s round) rounds
 
-  module _ {E : Type 0} (coefficients : E → List F) (n : Numbers) (taken : Taken F E Com) (s : S) where
+  module _ (n : Numbers) (taken : Taken F E Com) (s : S) where
     -- from the state after the seed, the claims and their witness
     abbrev pub claimed : S
-    claimed = after_claims m.after_observe coefficients s taken.claims
+    claimed = after_claims r.base s taken.claims
 
     abbrev pub batched : S
-    batched = after_pow claimed n.batch_pow_bits taken.batch_witness
+    batched = after_pow r.base claimed n.batch_pow_bits taken.batch_witness
 
     -- after the challenge, the commitment to the first layer
     abbrev pub layered : S
-    layered = m.after_commitment (after_element batched) taken.first_layer
+    layered = r.after_commitment (after_element r.base batched) taken.first_layer
 
     -- after the challenge, the rounds
     abbrev pub folded : S
-    folded = after_rounds n.commit_pow_bits (after_element layered) taken.rounds
+    folded = after_rounds n.commit_pow_bits (after_element r.base layered) taken.rounds
 
     -- then the last word's value, and the witness
     abbrev pub closed : S
-    closed = after_all m.after_observe folded (coefficients taken.final_poly)
+    closed = after_final_poly r.base folded taken.final_poly
 
     abbrev pub queried : S
-    queried = after_pow closed n.query_pow_bits taken.query_witness
+    queried = after_pow r.base closed n.query_pow_bits taken.query_witness
 
     -- what is drawn, and the state after it
     abbrev pub drawn : Drawn S F
     drawn = record {
-      alpha = drawn_element batched;
-      bivariate = drawn_element layered;
-      betas = fold_challenges n.commit_pow_bits (after_element layered) taken.rounds;
-      indices = samples (λ t. m.sampled_bits t n.index_bits) (λ t. m.after_bits t n.index_bits) n.num_queries queried;
-      state = after_samples (λ t. m.after_bits t n.index_bits) n.num_queries queried;
+      alpha = drawn_element r.base batched;
+      bivariate = drawn_element r.base layered;
+      betas = fold_challenges n.commit_pow_bits (after_element r.base layered) taken.rounds;
+      indices = drawn_indices r.base n queried;
+      state = after_indices r.base n queried;
     }
 
     -- what the run draws, or the phase of the first witness that doesn't pass
     unfoldable pub draw_seeded : Result (Drawn S F) PowPhase
     draw_seeded =
-        if is_passed claimed n.batch_pow_bits taken.batch_witness then
-        (if rounds_pass n.commit_pow_bits (after_element layered) taken.rounds then
-        (if is_passed closed n.query_pow_bits taken.query_witness then Ok drawn else Err Query)
+        if is_passed r.base claimed n.batch_pow_bits taken.batch_witness then
+        (if rounds_pass n.commit_pow_bits (after_element r.base layered) taken.rounds then
+        (if is_passed r.base closed n.query_pow_bits taken.query_witness then Ok drawn else Err Query)
         else Err CommitPhase)
         else Err Batch
 
+  -- the state after the seed's text
+  abbrev pub seeded : Shape → S → S
+  seeded shape s = after_bytes r.base s (text_of r.base.degree shape)
+
   -- the whole run, which begins with the seed's text, each byte as an element
-  abbrev pub draw : {E : Type 0} → (E → List F) → (ℕ → F) → Shape → Taken F E Com → S → Result (Drawn S F) PowPhase
-  draw coefficients of_byte shape taken s =
-      draw_seeded coefficients (numbers_of shape) taken (after_all m.after_observe s (map of_byte (text_of degree shape)))
+  abbrev pub draw : Shape → Taken F E Com → S → Result (Drawn S F) PowPhase
+  draw shape taken s = draw_seeded (numbers_of shape) taken (seeded shape s)

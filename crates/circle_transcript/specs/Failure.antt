@@ -9,9 +9,3 @@ abbrev pub phase_of : CircleTranscriptFailure → PowPhase
 phase_of (PowWitness phase bits) = phase
 phase_of (NoWitness phase bits) = phase
 phase_of Memory = Query
-
--- whether it is that no witness passes
-abbrev pub IsNoWitness : CircleTranscriptFailure → Type 0
-IsNoWitness (PowWitness phase bits) = ⊥
-IsNoWitness (NoWitness phase bits) = Unit {0}
-IsNoWitness Memory = ⊥

@@ -22,6 +22,15 @@ pub record Shape : Type 0 where
 abbrev pub pow_steps : List ℕ → ℕ → List Step
 pow_steps label bits = if bits == 0 then [] else pow_step label bits ∷ []
 
+-- a challenge that a proof of work guards
+abbrev pub guarded_challenge_steps : ℕ → List ℕ → ℕ → List ℕ → List Step
+guarded_challenge_steps degree pow_label bits label = pow_steps pow_label bits ++ element_challenge degree label ∷ []
+
+-- numbers that a proof of work guards
+abbrev pub guarded_numbers_steps : List ℕ → ℕ → List ℕ → ℕ → ℕ → List Step
+guarded_numbers_steps pow_label bits label width count =
+    pow_steps pow_label bits ++ numbers_challenge label width count ∷ []
+
 -- a claim of so many columns: its point's two coordinates, and its values
 unfoldable pub claim_steps : ℕ → ℕ → List Step
 claim_steps degree width =
@@ -31,7 +40,7 @@ claim_steps degree width =
 unfoldable pub batch_steps : ℕ → List ℕ → ℕ → List Step
 batch_steps degree widths bits =
     flat_map (claim_steps degree) widths
-    ++ (pow_steps (codes "batch_pow") bits ++ element_challenge degree (codes "batch_challenge") ∷ [])
+    ++ guarded_challenge_steps degree (codes "batch_pow") bits (codes "batch_challenge")
 
 -- the commitment to the first layer, and the challenge that folds it
 unfoldable pub first_layer_steps : ℕ → List Step
@@ -42,7 +51,7 @@ first_layer_steps degree =
 unfoldable pub round_steps : ℕ → ℕ → List Step
 round_steps degree bits =
     opaque_message (codes "commit_phase_commitment")
-    ∷ (pow_steps (codes "commit_pow") bits ++ element_challenge degree (codes "fold_challenge") ∷ [])
+    ∷ guarded_challenge_steps degree (codes "commit_pow") bits (codes "fold_challenge")
 
 -- so many rounds
 unfoldable pub rounds_steps : ℕ → ℕ → ℕ → List Step
@@ -53,7 +62,7 @@ rounds_steps degree bits (suc n) = round_steps degree bits ++ rounds_steps degre
 unfoldable pub query_steps : ℕ → ℕ → ℕ → ℕ → List Step
 query_steps degree bits width count =
     element_message degree (codes "final_poly")
-    ∷ (pow_steps (codes "query_pow") bits ++ numbers_challenge (codes "query_indices") width count ∷ [])
+    ∷ guarded_numbers_steps (codes "query_pow") bits (codes "query_indices") width count
 
 -- the number of columns of each claim, one claim after another
 abbrev pub claimed_widths : Shape → List ℕ

@@ -1,9 +1,14 @@
 -- What contracts see of a transcript of the scheme.
-use Rattle.std.specs.Prelude.{◌≡◌, List}
-use Rattle.std.specs.Borrow.{MutBor}
+use Rattle.std.specs.Prelude.{◌≡◌, ℕ, Bool, List}
+use Rattle.std.specs.Borrow.{Bor, MutBor}
+use Rattle.circle_challenger.specs.Moves.{Moves, RunMoves, is_passed, after_pow, drawn_element, after_element}
 use Rattle.circle_challenger.specs.Step.{Step}
-use Rattle.circle_transcript.specs.declared.sides.CircleTranscript.{CircleTranscript}
-use Rattle.circle_transcript.specs.declared.sides.Numbers.{Numbers}
+use Rattle.circle_point.specs.declared.point.Point.{Point}
+use Rattle.circle_transcript.specs.Claims.{claims_of}
+use Rattle.circle_transcript.specs.Shape.{batch_steps}
+use Rattle.circle_transcript.specs.Draw.{widths_of, after_claims, after_final_poly, drawn_indices, after_indices}
+use Rattle.circle_transcript.specs.declared.transcript.CircleTranscript.{CircleTranscript}
+use Rattle.circle_transcript.specs.declared.transcript.Numbers.{Numbers}
 
 module _ {C F EF S : Type 0} where
   -- the challenger as it is now
@@ -26,3 +31,47 @@ module _ {C F EF S : Type 0} where
   -- what its calls read of the shape
   abbrev pub numbers : CircleTranscript C F EF S → Numbers
   numbers t = t.shape
+
+-- the phases as functions of a transcript that is about to play them: the steps, the state in which the
+-- witness is checked, whether it passes, what is drawn then, and the state after it
+module _ {C S F EF Side : Type 0} {g : _} (m : Moves C S F EF) (t : CircleTranscript C F EF Side) (claims : List (Point EF g × Bor (List EF))) where
+  abbrev pub steps_of_batch : List Step
+  steps_of_batch = batch_steps m.degree (widths_of (claims_of claims)) t.shape.batch_pow_bits
+
+  abbrev pub at_batch_pow : S
+  at_batch_pow = after_claims m (m.state (current t)) (claims_of claims)
+
+  abbrev pub batch_passes : F → Bool
+  batch_passes w = is_passed m at_batch_pow t.shape.batch_pow_bits w
+
+  abbrev pub batch_challenge : F → List F
+  batch_challenge w = drawn_element m (after_pow m at_batch_pow t.shape.batch_pow_bits w)
+
+  abbrev pub after_batch : F → S
+  after_batch w = after_element m (after_pow m at_batch_pow t.shape.batch_pow_bits w)
+
+module _ {C S F EF Com Side : Type 0} (r : RunMoves C S F EF Com) (t : CircleTranscript C F EF Side) (commitment : Com) where
+  abbrev pub at_commitment : S
+  at_commitment = r.after_commitment (r.base.state (current t)) commitment
+
+  abbrev pub commit_passes : F → Bool
+  commit_passes w = is_passed r.base at_commitment t.shape.commit_pow_bits w
+
+  abbrev pub commit_challenge : F → List F
+  commit_challenge w = drawn_element r.base (after_pow r.base at_commitment t.shape.commit_pow_bits w)
+
+  abbrev pub after_commit : F → S
+  after_commit w = after_element r.base (after_pow r.base at_commitment t.shape.commit_pow_bits w)
+
+module _ {C S F EF Side : Type 0} (m : Moves C S F EF) (t : CircleTranscript C F EF Side) (final_poly : EF) where
+  abbrev pub at_query_pow : S
+  at_query_pow = after_final_poly m (m.state (current t)) final_poly
+
+  abbrev pub query_passes : F → Bool
+  query_passes w = is_passed m at_query_pow t.shape.query_pow_bits w
+
+  abbrev pub query_indices : F → List ℕ
+  query_indices w = drawn_indices m t.shape (after_pow m at_query_pow t.shape.query_pow_bits w)
+
+  abbrev pub after_query : F → S
+  after_query w = after_indices m t.shape (after_pow m at_query_pow t.shape.query_pow_bits w)

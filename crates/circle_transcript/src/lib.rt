@@ -11,11 +11,13 @@ pub mod failure;
 mod play;
 pub mod run;
 pub mod shape;
-pub mod sides;
 #[cfg(test)]
 mod tests;
+pub mod transcript;
 
 pub use failure::CircleTranscriptFailure;
-pub use run::{CircleDraws, CircleWitnesses, both_runs, prover_run, verifier_run};
+pub use run::{CircleDraws, CircleMessages, CircleWitnesses, both_runs, prover_run, verifier_run};
 pub use shape::CirclePcsShape;
-pub use sides::{CircleProverTranscript, CircleTranscript, CircleVerifierTranscript, OpeningClaim};
+pub use transcript::{
+    CircleProverTranscript, CircleTranscript, CircleVerifierTranscript, OpeningClaim,
+};

@@ -1,21 +1,22 @@
 //! Steps that both sides of a transcript play.
-ghost use Rattle.std.specs.Prelude.{◌≡◌, ◌<◌, ◌≤◌, ◌^◌, ◌↔◌, ◌⊎◌, Err, List, length, [], ◌∷◌, ◌++◌, flat_map, false, IsTrue, IsNone, IfOk, IfErr, OnOk, OnErr, All, unwrap_or};
+ghost use Rattle.std.specs.Prelude.{◌≡◌, ◌<◌, ◌≤◌, ◌^◌, ◌↔◌, ◌⊎◌, Err, length, [], ◌∷◌, ◌++◌, flat_map, false, IsTrue, IsNone, IfOk, IfErr, OnOk, OnErr, All, unwrap_or};
+ghost use Rattle.circle_challenger.specs.Due.{AreNext, HasPlayed};
 ghost use Rattle.circle_challenger.specs.Grinding.{passes, after_check};
+ghost use Rattle.circle_challenger.specs.Moves.{is_passed, after_pow, drawn_element, after_element, or_zero};
 ghost use Rattle.circle_challenger.specs.Played.{element_challenge, numbers_challenge};
 ghost use Rattle.circle_challenger.specs.Sampling.{samples, after_samples};
-ghost use Rattle.circle_challenger.specs.Step.{Step};
 ghost use Rattle.circle_challenger.specs.TranscriptState.{current, due, SameChallenger};
 ghost use Rattle.circle_commit.specs.declared.params.PowPhase.TheVariants.{Query};
 ghost use Rattle.circle_point.specs.Point.{coordinates};
 ghost use Rattle.circle_transcript.specs.Draw.{claim, widths_of, after_claims};
 ghost use Rattle.circle_transcript.specs.Claims.{claims_of};
-ghost use Rattle.circle_transcript.specs.Shape.{claim_steps, pow_steps};
+ghost use Rattle.circle_transcript.specs.Shape.{claim_steps, pow_steps, guarded_challenge_steps, guarded_numbers_steps};
 ghost use Rattle.circle_transcript.specs.declared.failure.CircleTranscriptFailure.TheVariants.{NoWitness, PowWitness, Memory};
 
 use crate::failure::CircleTranscriptFailure;
 use crate::shape::{OPENED_VALUES, OPENING_POINT, QUERY_INDICES, QUERY_POW};
 use circle_challenger::{
-    CanSample, GrindingChallenger, ProverState, TranscriptState, VerifierState,
+    CanSample, FieldChallenger, GrindingChallenger, ProverState, TranscriptState, VerifierState,
 };
 use circle_commit::PowPhase;
 use circle_field::{ExtensionField, Field};
@@ -30,10 +31,12 @@ fn observe_claim<'a, C, F: Field, EF: ExtensionField<F>, S>(
 )
 where
     C: CanSample<F> + GrindingChallenger<F>,
-    requires next { (rest : List Step) × (due transcript.old ≡ claim_steps EF.DEGREE (length values.now) ++ rest) }
+    requires next { AreNext (claim_steps EF.DEGREE (length values.now)) (due transcript.old) }
     ensures same_reference { SameChallenger transcript.old transcript.new }
-    ensures due { (rest : List Step) → due transcript.old ≡ claim_steps EF.DEGREE (length values.now) ++ rest → due transcript.new ≡ rest }
-    ensures state { C.state (current transcript.new) ≡ after_claims C.after_observe EF.coefficients (C.state (current transcript.old)) (claim (coordinates point) values.now ∷ []) }
+    ensures due { HasPlayed (claim_steps EF.DEGREE (length values.now)) (due transcript.old)
+        (due transcript.new) }
+    ensures state { C.state (current transcript.new) ≡ after_claims ⟦<C as FieldChallenger<F, EF>>⟧.moves
+        (C.state (current transcript.old)) (claim (coordinates point) values.now ∷ []) }
 {
     transcript.observe_extension_pair(OPENING_POINT, &point.x(), &point.y());
     transcript.observe_extensions(OPENED_VALUES, values);
@@ -46,10 +49,13 @@ pub(crate) fn observe_claims<'a, C, F: Field, EF: ExtensionField<F>, S>(
 )
 where
     C: CanSample<F> + GrindingChallenger<F>,
-    requires next { (rest : List Step) × (due transcript.old ≡ flat_map (claim_steps EF.DEGREE) (widths_of (claims_of claims.now)) ++ rest) }
+    requires next { AreNext (flat_map (claim_steps EF.DEGREE) (widths_of (claims_of claims.now)))
+        (due transcript.old) }
     ensures same_reference { SameChallenger transcript.old transcript.new }
-    ensures due { (rest : List Step) → due transcript.old ≡ flat_map (claim_steps EF.DEGREE) (widths_of (claims_of claims.now)) ++ rest → due transcript.new ≡ rest }
-    ensures state { C.state (current transcript.new) ≡ after_claims C.after_observe EF.coefficients (C.state (current transcript.old)) (claims_of claims.now) }
+    ensures due { HasPlayed (flat_map (claim_steps EF.DEGREE) (widths_of (claims_of claims.now)))
+        (due transcript.old) (due transcript.new) }
+    ensures state { C.state (current transcript.new) ≡ after_claims ⟦<C as FieldChallenger<F, EF>>⟧.moves
+        (C.state (current transcript.old)) (claims_of claims.now) }
 {
     for (point, values) in claims {
         observe_claim::<C, F, EF, S>(transcript, *point, values);
@@ -67,15 +73,19 @@ pub(crate) fn grind<'a, C, F: Field>(
 ) -> Result<Option<F>, CircleTranscriptFailure>
 where
     C: CanSample<F> + GrindingChallenger<F>,
-    requires next { (rest : List Step) × (due transcript.old ≡ pow_steps label.now bits ++ rest) }
+    requires next { AreNext (pow_steps label.now bits) (due transcript.old) }
     requires small { bits ≤ 63 }
     ensures same_reference { SameChallenger transcript.old transcript.new }
-    ensures due { OnOk result ((rest : List Step) → due transcript.old ≡ pow_steps label.now bits ++ rest → due transcript.new ≡ rest) }
+    ensures due { OnOk result (HasPlayed (pow_steps label.now bits) (due transcript.old)
+        (due transcript.new)) }
     ensures needed { IfOk result (λ w. IsNone w ↔ (bits ≡ 0)) }
-    ensures passes { IfOk result (λ w. IsTrue (passes C.after_observe C.sampled_bits (C.state (current transcript.old)) bits (unwrap_or w F.ops.zero))) }
-    ensures state { IfOk result (λ w. C.state (current transcript.new) ≡ after_check C.after_observe C.after_bits (C.state (current transcript.old)) bits (unwrap_or w F.ops.zero)) }
+    ensures passes { let s = C.state (current transcript.old) in IfOk result (λ w.
+        IsTrue (passes C.after_observe C.sampled_bits s bits (unwrap_or w F.ops.zero))) }
+    ensures state { let s = C.state (current transcript.old) in IfOk result (λ w. C.state (current transcript.new) ≡
+        after_check C.after_observe C.after_bits s bits (unwrap_or w F.ops.zero)) }
     ensures failure { IfErr result (λ e. e ≡ NoWitness phase bits) }
-    ensures none { OnErr result ((w : F) → passes C.after_observe C.sampled_bits (C.state (current transcript.old)) bits w ≡ false) }
+    ensures none { let s = C.state (current transcript.old) in OnErr result ((w : F) →
+        passes C.after_observe C.sampled_bits s bits w ≡ false) }
     ensures unchanged { OnErr result (C.state (current transcript.new) ≡ C.state (current transcript.old)) }
 {
     if bits == 0 {
@@ -99,14 +109,18 @@ pub(crate) fn check<'a, C, F: Field>(
 ) -> Result<(), CircleTranscriptFailure>
 where
     C: CanSample<F> + GrindingChallenger<F>,
-    requires next { (rest : List Step) × (due transcript.old ≡ pow_steps label.now bits ++ rest) }
+    requires next { AreNext (pow_steps label.now bits) (due transcript.old) }
     requires small { bits ≤ 63 }
     ensures same_reference { SameChallenger transcript.old transcript.new }
-    ensures due { OnOk result ((rest : List Step) → due transcript.old ≡ pow_steps label.now bits ++ rest → due transcript.new ≡ rest) }
-    ensures passes { OnOk result (IsTrue (passes C.after_observe C.sampled_bits (C.state (current transcript.old)) bits witness)) }
-    ensures state { C.state (current transcript.new) ≡ after_check C.after_observe C.after_bits (C.state (current transcript.old)) bits witness }
+    ensures due { OnOk result (HasPlayed (pow_steps label.now bits) (due transcript.old)
+        (due transcript.new)) }
+    ensures passes { let s = C.state (current transcript.old) in OnOk result (IsTrue
+        (passes C.after_observe C.sampled_bits s bits witness)) }
+    ensures state { let s = C.state (current transcript.old) in C.state (current transcript.new) ≡
+        after_check C.after_observe C.after_bits s bits witness }
     ensures failure { IfErr result (λ e. e ≡ PowWitness phase bits) }
-    ensures missed { OnErr result (passes C.after_observe C.sampled_bits (C.state (current transcript.old)) bits witness ≡ false) }
+    ensures missed { let s = C.state (current transcript.old) in OnErr result
+        (passes C.after_observe C.sampled_bits s bits witness ≡ false) }
 {
     if bits == 0 {
         return Ok(());
@@ -121,7 +135,7 @@ where
 /// Draws a challenge that is guarded by a proof of work: looks for the witness first.
 ///
 /// Asks that these are the next steps, and that `bits <= 63`.
-pub(crate) fn ground_challenge<'a, C, F: Field, EF: ExtensionField<F>>(
+pub(crate) fn grinding_challenge<'a, C, F: Field, EF: ExtensionField<F>>(
     transcript: &mut ProverState<'a, C, F>,
     pow_label: &str,
     phase: PowPhase,
@@ -130,16 +144,22 @@ pub(crate) fn ground_challenge<'a, C, F: Field, EF: ExtensionField<F>>(
 ) -> Result<(EF, Option<F>), CircleTranscriptFailure>
 where
     C: CanSample<F> + GrindingChallenger<F>,
-    requires next { (rest : List Step) × (due transcript.old ≡ (pow_steps pow_label.now bits ++ element_challenge EF.DEGREE label.now ∷ []) ++ rest) }
+    requires next { AreNext (guarded_challenge_steps EF.DEGREE pow_label.now bits label.now)
+        (due transcript.old) }
     requires small { bits ≤ 63 }
     ensures same_reference { SameChallenger transcript.old transcript.new }
-    ensures due { OnOk result ((rest : List Step) → due transcript.old ≡ (pow_steps pow_label.now bits ++ element_challenge EF.DEGREE label.now ∷ []) ++ rest → due transcript.new ≡ rest) }
+    ensures due { OnOk result (HasPlayed (guarded_challenge_steps EF.DEGREE pow_label.now bits label.now)
+        (due transcript.old) (due transcript.new)) }
     ensures needed { IfOk result (λ r. IsNone r.1 ↔ (bits ≡ 0)) }
-    ensures passes { IfOk result (λ r. IsTrue (passes C.after_observe C.sampled_bits (C.state (current transcript.old)) bits (unwrap_or r.1 F.ops.zero))) }
-    ensures challenge { IfOk result (λ r. EF.coefficients r.0 ≡ samples C.sampled C.after_sample EF.DEGREE (after_check C.after_observe C.after_bits (C.state (current transcript.old)) bits (unwrap_or r.1 F.ops.zero))) }
-    ensures state { IfOk result (λ r. C.state (current transcript.new) ≡ after_samples C.after_sample EF.DEGREE (after_check C.after_observe C.after_bits (C.state (current transcript.old)) bits (unwrap_or r.1 F.ops.zero))) }
+    ensures passes { let m = ⟦<C as FieldChallenger<F, EF>>⟧.moves in IfOk result (λ r.
+        IsTrue (is_passed m (C.state (current transcript.old)) bits (or_zero m r.1))) }
+    ensures challenge { let m = ⟦<C as FieldChallenger<F, EF>>⟧.moves in IfOk result (λ r. EF.coefficients r.0 ≡
+        drawn_element m (after_pow m (C.state (current transcript.old)) bits (or_zero m r.1))) }
+    ensures state { let m = ⟦<C as FieldChallenger<F, EF>>⟧.moves in IfOk result (λ r. C.state (current transcript.new) ≡
+        after_element m (after_pow m (C.state (current transcript.old)) bits (or_zero m r.1))) }
     ensures failure { IfErr result (λ e. e ≡ NoWitness phase bits) }
-    ensures none { OnErr result ((w : F) → passes C.after_observe C.sampled_bits (C.state (current transcript.old)) bits w ≡ false) }
+    ensures none { let m = ⟦<C as FieldChallenger<F, EF>>⟧.moves in OnErr result ((w : F) →
+        is_passed m (C.state (current transcript.old)) bits w ≡ false) }
     ensures unchanged { OnErr result (C.state (current transcript.new) ≡ C.state (current transcript.old)) }
 {
     let witness = grind(transcript, pow_label, phase, bits)?;
@@ -149,7 +169,7 @@ where
 /// Draws a challenge that is guarded by a proof of work: checks the witness first.
 ///
 /// Asks that these are the next steps, and that `bits <= 63`.
-pub(crate) fn checked_challenge<'a, C, F: Field, EF: ExtensionField<F>>(
+pub(crate) fn checking_challenge<'a, C, F: Field, EF: ExtensionField<F>>(
     transcript: &mut VerifierState<'a, C, F>,
     pow_label: &str,
     phase: PowPhase,
@@ -159,15 +179,21 @@ pub(crate) fn checked_challenge<'a, C, F: Field, EF: ExtensionField<F>>(
 ) -> Result<EF, CircleTranscriptFailure>
 where
     C: CanSample<F> + GrindingChallenger<F>,
-    requires next { (rest : List Step) × (due transcript.old ≡ (pow_steps pow_label.now bits ++ element_challenge EF.DEGREE label.now ∷ []) ++ rest) }
+    requires next { AreNext (guarded_challenge_steps EF.DEGREE pow_label.now bits label.now)
+        (due transcript.old) }
     requires small { bits ≤ 63 }
     ensures same_reference { SameChallenger transcript.old transcript.new }
-    ensures due { OnOk result ((rest : List Step) → due transcript.old ≡ (pow_steps pow_label.now bits ++ element_challenge EF.DEGREE label.now ∷ []) ++ rest → due transcript.new ≡ rest) }
-    ensures passes { OnOk result (IsTrue (passes C.after_observe C.sampled_bits (C.state (current transcript.old)) bits witness)) }
-    ensures challenge { IfOk result (λ a. EF.coefficients a ≡ samples C.sampled C.after_sample EF.DEGREE (after_check C.after_observe C.after_bits (C.state (current transcript.old)) bits witness)) }
-    ensures state { OnOk result (C.state (current transcript.new) ≡ after_samples C.after_sample EF.DEGREE (after_check C.after_observe C.after_bits (C.state (current transcript.old)) bits witness)) }
+    ensures due { OnOk result (HasPlayed (guarded_challenge_steps EF.DEGREE pow_label.now bits label.now)
+        (due transcript.old) (due transcript.new)) }
+    ensures passes { let m = ⟦<C as FieldChallenger<F, EF>>⟧.moves in OnOk result (IsTrue
+        (is_passed m (C.state (current transcript.old)) bits witness)) }
+    ensures challenge { let m = ⟦<C as FieldChallenger<F, EF>>⟧.moves in IfOk result (λ a. EF.coefficients a ≡
+        drawn_element m (after_pow m (C.state (current transcript.old)) bits witness)) }
+    ensures state { let m = ⟦<C as FieldChallenger<F, EF>>⟧.moves in OnOk result (C.state (current transcript.new) ≡
+        after_element m (after_pow m (C.state (current transcript.old)) bits witness)) }
     ensures failure { IfErr result (λ e. e ≡ PowWitness phase bits) }
-    ensures missed { OnErr result (passes C.after_observe C.sampled_bits (C.state (current transcript.old)) bits witness ≡ false) }
+    ensures missed { let m = ⟦<C as FieldChallenger<F, EF>>⟧.moves in OnErr result
+        (is_passed m (C.state (current transcript.old)) bits witness ≡ false) }
 {
     check(transcript, pow_label, phase, bits, witness)?;
     Ok(transcript.challenge_extension(label))
@@ -176,7 +202,7 @@ where
 /// Draws the query indices, guarded by a proof of work: looks for the witness first.
 ///
 /// Asks that these are the next steps, and that `bits <= 63` and `width <= 63`.
-pub(crate) fn ground_indices<'a, C, F: Field>(
+pub(crate) fn grinding_indices<'a, C, F: Field>(
     alloc: Global,
     transcript: &mut ProverState<'a, C, F>,
     bits: usize,
@@ -185,19 +211,29 @@ pub(crate) fn ground_indices<'a, C, F: Field>(
 ) -> Result<(Vec<usize>, Option<F>), CircleTranscriptFailure>
 where
     C: CanSample<F> + GrindingChallenger<F>,
-    requires next { (rest : List Step) × (due transcript.old ≡ (pow_steps QUERY_POW.now bits ++ numbers_challenge QUERY_INDICES.now width count ∷ []) ++ rest) }
+    requires next { AreNext (guarded_numbers_steps QUERY_POW.now bits QUERY_INDICES.now width count)
+        (due transcript.old) }
     requires small { bits ≤ 63 }
     requires narrow { width ≤ 63 }
     ensures same_reference { SameChallenger transcript.old transcript.new }
-    ensures due { OnOk result ((rest : List Step) → due transcript.old ≡ (pow_steps QUERY_POW.now bits ++ numbers_challenge QUERY_INDICES.now width count ∷ []) ++ rest → due transcript.new ≡ rest) }
+    ensures due { OnOk result (HasPlayed
+        (guarded_numbers_steps QUERY_POW.now bits QUERY_INDICES.now width count) (due transcript.old)
+        (due transcript.new)) }
     ensures needed { IfOk result (λ r. IsNone r.1 ↔ (bits ≡ 0)) }
-    ensures passes { IfOk result (λ r. IsTrue (passes C.after_observe C.sampled_bits (C.state (current transcript.old)) bits (unwrap_or r.1 F.ops.zero))) }
-    ensures indices { IfOk result (λ r. r.0.items ≡ samples (λ s. C.sampled_bits s width) (λ s. C.after_bits s width) count (after_check C.after_observe C.after_bits (C.state (current transcript.old)) bits (unwrap_or r.1 F.ops.zero))) }
+    ensures passes { let s = C.state (current transcript.old) in IfOk result (λ r.
+        IsTrue (passes C.after_observe C.sampled_bits s bits (unwrap_or r.1 F.ops.zero))) }
+    ensures indices { let s = C.state (current transcript.old) in IfOk result (λ r.
+        r.0.items ≡ samples (λ t. C.sampled_bits t width) (λ t. C.after_bits t width) count
+        (after_check C.after_observe C.after_bits s bits (unwrap_or r.1 F.ops.zero))) }
     ensures below { IfOk result (λ r. All (λ i. i < 2 ^ width) r.0.items) }
-    ensures state { IfOk result (λ r. C.state (current transcript.new) ≡ after_samples (λ s. C.after_bits s width) count (after_check C.after_observe C.after_bits (C.state (current transcript.old)) bits (unwrap_or r.1 F.ops.zero))) }
+    ensures state { let s = C.state (current transcript.old) in IfOk result (λ r.
+        C.state (current transcript.new) ≡ after_samples (λ t. C.after_bits t width) count
+        (after_check C.after_observe C.after_bits s bits (unwrap_or r.1 F.ops.zero))) }
     ensures failure { IfErr result (λ e. (e ≡ Memory) ⊎ (e ≡ NoWitness Query bits)) }
-    ensures none { result ≡ Err (NoWitness Query bits) → (w : F) → passes C.after_observe C.sampled_bits (C.state (current transcript.old)) bits w ≡ false }
-    ensures unchanged { result ≡ Err (NoWitness Query bits) → C.state (current transcript.new) ≡ C.state (current transcript.old) }
+    ensures none { let s = C.state (current transcript.old) in result ≡ Err (NoWitness Query bits) → (w : F) →
+        passes C.after_observe C.sampled_bits s bits w ≡ false }
+    ensures unchanged { result ≡ Err (NoWitness Query bits) →
+        C.state (current transcript.new) ≡ C.state (current transcript.old) }
 {
     let witness = grind(transcript, QUERY_POW, PowPhase::Query, bits)?;
     match transcript.challenge_bits(alloc, QUERY_INDICES, width, count) {
@@ -209,7 +245,7 @@ where
 /// Draws the query indices, guarded by a proof of work: checks the witness first.
 ///
 /// Asks that these are the next steps, and that `bits <= 63` and `width <= 63`.
-pub(crate) fn checked_indices<'a, C, F: Field>(
+pub(crate) fn checking_indices<'a, C, F: Field>(
     alloc: Global,
     transcript: &mut VerifierState<'a, C, F>,
     bits: usize,
@@ -219,18 +255,27 @@ pub(crate) fn checked_indices<'a, C, F: Field>(
 ) -> Result<Vec<usize>, CircleTranscriptFailure>
 where
     C: CanSample<F> + GrindingChallenger<F>,
-    requires next { (rest : List Step) × (due transcript.old ≡ (pow_steps QUERY_POW.now bits ++ numbers_challenge QUERY_INDICES.now width count ∷ []) ++ rest) }
+    requires next { AreNext (guarded_numbers_steps QUERY_POW.now bits QUERY_INDICES.now width count)
+        (due transcript.old) }
     requires small { bits ≤ 63 }
     requires narrow { width ≤ 63 }
     ensures same_reference { SameChallenger transcript.old transcript.new }
-    ensures due { OnOk result ((rest : List Step) → due transcript.old ≡ (pow_steps QUERY_POW.now bits ++ numbers_challenge QUERY_INDICES.now width count ∷ []) ++ rest → due transcript.new ≡ rest) }
-    ensures passes { OnOk result (IsTrue (passes C.after_observe C.sampled_bits (C.state (current transcript.old)) bits witness)) }
-    ensures indices { IfOk result (λ r. r.items ≡ samples (λ s. C.sampled_bits s width) (λ s. C.after_bits s width) count (after_check C.after_observe C.after_bits (C.state (current transcript.old)) bits witness)) }
+    ensures due { OnOk result (HasPlayed
+        (guarded_numbers_steps QUERY_POW.now bits QUERY_INDICES.now width count) (due transcript.old)
+        (due transcript.new)) }
+    ensures passes { let s = C.state (current transcript.old) in OnOk result (IsTrue
+        (passes C.after_observe C.sampled_bits s bits witness)) }
+    ensures indices { let s = C.state (current transcript.old) in IfOk result (λ r.
+        r.items ≡ samples (λ t. C.sampled_bits t width) (λ t. C.after_bits t width) count
+        (after_check C.after_observe C.after_bits s bits witness)) }
     ensures below { IfOk result (λ r. All (λ i. i < 2 ^ width) r.items) }
-    ensures state { OnOk result (C.state (current transcript.new) ≡ after_samples (λ s. C.after_bits s width) count (after_check C.after_observe C.after_bits (C.state (current transcript.old)) bits witness)) }
+    ensures state { let s = C.state (current transcript.old) in OnOk result (C.state (current transcript.new) ≡
+        after_samples (λ t. C.after_bits t width) count (after_check C.after_observe C.after_bits s bits witness)) }
     ensures failure { IfErr result (λ e. (e ≡ Memory) ⊎ (e ≡ PowWitness Query bits)) }
-    ensures missed { result ≡ Err (PowWitness Query bits) → passes C.after_observe C.sampled_bits (C.state (current transcript.old)) bits witness ≡ false }
-    ensures passed { result ≡ Err Memory → IsTrue (passes C.after_observe C.sampled_bits (C.state (current transcript.old)) bits witness) }
+    ensures missed { let s = C.state (current transcript.old) in result ≡ Err (PowWitness Query bits) →
+        passes C.after_observe C.sampled_bits s bits witness ≡ false }
+    ensures passed { let s = C.state (current transcript.old) in result ≡ Err Memory →
+        IsTrue (passes C.after_observe C.sampled_bits s bits witness) }
 {
     check(transcript, QUERY_POW, PowPhase::Query, bits, witness)?;
     match transcript.challenge_bits(alloc, QUERY_INDICES, width, count) {

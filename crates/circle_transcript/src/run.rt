@@ -1,21 +1,21 @@
 //! Whole runs of a transcript, on both sides.
-ghost use Rattle.std.specs.Prelude.{◌≡◌, ◌≤◌, ◌⊎◌, List, [], ◌++◌, length, map, zip, true, false, IfOk, IfErr, OnOk, Ok, Err, unwrap_or};
-ghost use Rattle.circle_field.specs.Field.{of_nat};
+ghost use Rattle.std.specs.Prelude.{◌≡◌, ◌^◌, ◌<◌, ◌≤◌, ◌⊎◌, [], length, map, zip, true, false, IfOk, IfErr, OnOk, Ok, All, unwrap_or};
+ghost use Rattle.circle_challenger.specs.Due.{AreNext, HasPlayed};
 ghost use Rattle.circle_commit.specs.declared.params.PowPhase.TheVariants.{CommitPhase};
-ghost use Rattle.circle_challenger.specs.Step.{Step};
-ghost use Rattle.circle_transcript.specs.Shape.{batch_steps, first_layer_steps, rounds_steps, query_steps, claimed_widths};
+ghost use Rattle.circle_transcript.specs.Shape.{rounds_steps, claimed_widths};
 ghost use Rattle.circle_transcript.specs.ShapeOf.{shape_of};
-ghost use Rattle.circle_transcript.specs.Draw.{moves, taken, widths_of, after_rounds, fold_challenges, rounds_pass, draw_seeded, draw};
+ghost use Rattle.circle_transcript.specs.Draw.{widths_of, after_rounds, fold_challenges, rounds_pass, draw_seeded};
 ghost use Rattle.circle_transcript.specs.Claims.{claims_of};
+ghost use Rattle.circle_transcript.specs.Numbers.{numbers_of, run_steps};
 ghost use Rattle.circle_transcript.specs.Transcript.{current, due, numbers, IsSame};
-ghost use Rattle.circle_transcript.specs.Failure.{phase_of, IsNoWitness};
-ghost use Rattle.circle_transcript.specs.Runs.{drawn_of};
+ghost use Rattle.circle_transcript.specs.Runs.{ArePlayable, taken_of, drawn_of, IsMiss, HasStuckRound, IsStuck, Draws, Misses, FindsNone};
+ghost use Rattle.circle_transcript.specs.declared.run.CircleWitnesses.{CircleWitnesses};
 ghost use Rattle.circle_transcript.specs.declared.failure.CircleTranscriptFailure.TheVariants.{PowWitness, NoWitness, Memory};
 
 use crate::failure::CircleTranscriptFailure;
 use crate::shape::CirclePcsShape;
-use crate::sides::{CircleProverTranscript, CircleVerifierTranscript, OpeningClaim};
-use circle_challenger::{CanObserve, CanSample, GrindingChallenger};
+use crate::transcript::{CircleProverTranscript, CircleVerifierTranscript, OpeningClaim};
+use circle_challenger::{CanObserve, CanSample, GrindingChallenger, RunChallenger};
 use circle_field::{ExtensionField, Field};
 use std::alloc::Global;
 
@@ -32,6 +32,17 @@ pub struct CircleDraws<EF> {
     pub indices: Vec<usize>,
 }
 
+/// What the prover sends in a run, beside its claims and its witnesses.
+#[derive(Debug, Drop)]
+pub struct CircleMessages<'a, EF, Com> {
+    /// The commitment to the first layer.
+    pub first_layer: &'a Com,
+    /// The commitment of each round.
+    pub commitments: &'a [Com],
+    /// The last word's value.
+    pub final_poly: EF,
+}
+
 /// The witnesses of a run's proofs of work, 0 where there is no difficulty.
 #[derive(Debug, Drop)]
 pub struct CircleWitnesses<F> {
@@ -46,7 +57,7 @@ pub struct CircleWitnesses<F> {
 /// Plays rounds with their witnesses, and draws their challenges.
 ///
 /// Asks that these are the next steps, one witness for each commitment, and a difficulty of at most 63.
-fn checked_rounds<'a, F: Field, EF: ExtensionField<F>, C, Com>(
+fn checking_rounds<'a, F: Field, EF: ExtensionField<F>, C, Com>(
     alloc: Global,
     transcript: &mut CircleVerifierTranscript<'a, C, F, EF>,
     commitments: &[Com],
@@ -54,15 +65,26 @@ fn checked_rounds<'a, F: Field, EF: ExtensionField<F>, C, Com>(
 ) -> Result<Vec<EF>, CircleTranscriptFailure>
 where
     C: CanSample<F> + GrindingChallenger<F> + CanObserve<Com>,
-    requires next { (rest : List Step) × (due transcript.old ≡ rounds_steps EF.DEGREE (numbers transcript.old).commit_pow_bits (length commitments.now) ++ rest) }
+    requires next { let bits = (numbers transcript.old).commit_pow_bits in
+        AreNext (rounds_steps EF.DEGREE bits (length commitments.now)) (due transcript.old) }
     requires paired { length witnesses.now ≡ length commitments.now }
     requires small { (numbers transcript.old).commit_pow_bits ≤ 63 }
     ensures same { IsSame transcript.old transcript.new }
-    ensures due { OnOk result ((rest : List Step) → due transcript.old ≡ rounds_steps EF.DEGREE (numbers transcript.old).commit_pow_bits (length commitments.now) ++ rest → due transcript.new ≡ rest) }
-    ensures passes { OnOk result (rounds_pass (moves ⟦<C as CanObserve<F>>⟧.after_observe ⟦<C as CanObserve<Com>>⟧.after_observe C.sampled C.after_sample C.sampled_bits C.after_bits) EF.DEGREE (numbers transcript.old).commit_pow_bits (C.state (current transcript.old)) (zip commitments.now witnesses.now) ≡ true) }
-    ensures challenges { IfOk result (λ v. map EF.coefficients v.items ≡ fold_challenges (moves ⟦<C as CanObserve<F>>⟧.after_observe ⟦<C as CanObserve<Com>>⟧.after_observe C.sampled C.after_sample C.sampled_bits C.after_bits) EF.DEGREE (numbers transcript.old).commit_pow_bits (C.state (current transcript.old)) (zip commitments.now witnesses.now)) }
-    ensures state { OnOk result (C.state (current transcript.new) ≡ after_rounds (moves ⟦<C as CanObserve<F>>⟧.after_observe ⟦<C as CanObserve<Com>>⟧.after_observe C.sampled C.after_sample C.sampled_bits C.after_bits) EF.DEGREE (numbers transcript.old).commit_pow_bits (C.state (current transcript.old)) (zip commitments.now witnesses.now)) }
-    ensures failure { IfErr result (λ e. (e ≡ Memory) ⊎ ((e ≡ PowWitness CommitPhase (numbers transcript.old).commit_pow_bits) × (rounds_pass (moves ⟦<C as CanObserve<F>>⟧.after_observe ⟦<C as CanObserve<Com>>⟧.after_observe C.sampled C.after_sample C.sampled_bits C.after_bits) EF.DEGREE (numbers transcript.old).commit_pow_bits (C.state (current transcript.old)) (zip commitments.now witnesses.now) ≡ false))) }
+    ensures due { let bits = (numbers transcript.old).commit_pow_bits in OnOk result (HasPlayed
+        (rounds_steps EF.DEGREE bits (length commitments.now)) (due transcript.old) (due transcript.new)) }
+    ensures passes { let m = ⟦<C as RunChallenger<F, EF, Com>>⟧.run in
+        let bits = (numbers transcript.old).commit_pow_bits in OnOk result (rounds_pass m bits
+        (C.state (current transcript.old)) (zip commitments.now witnesses.now) ≡ true) }
+    ensures challenges { let m = ⟦<C as RunChallenger<F, EF, Com>>⟧.run in
+        let bits = (numbers transcript.old).commit_pow_bits in IfOk result (λ v. map EF.coefficients v.items ≡
+        fold_challenges m bits (C.state (current transcript.old)) (zip commitments.now witnesses.now)) }
+    ensures state { let m = ⟦<C as RunChallenger<F, EF, Com>>⟧.run in
+        let bits = (numbers transcript.old).commit_pow_bits in OnOk result (C.state (current transcript.new) ≡
+        after_rounds m bits (C.state (current transcript.old)) (zip commitments.now witnesses.now)) }
+    ensures failure { let m = ⟦<C as RunChallenger<F, EF, Com>>⟧.run in
+        let bits = (numbers transcript.old).commit_pow_bits in IfErr result (λ e. (e ≡ Memory)
+        ⊎ ((e ≡ PowWitness CommitPhase bits) × (rounds_pass m bits
+        (C.state (current transcript.old)) (zip commitments.now witnesses.now) ≡ false))) }
 {
     let mut betas = Vec::new(alloc);
     for (i, commitment) in commitments.iter().enumerate() {
@@ -79,34 +101,33 @@ where
 ///
 /// Asks that these are all the steps due, one witness for each commitment, and difficulties and a number
 /// of bits of an index of at most 63.
-fn checked_run<'a, F: Field, EF: ExtensionField<F>, C, Com>(
+fn checking_run<'a, F: Field, EF: ExtensionField<F>, C, Com>(
     alloc: Global,
     transcript: &mut CircleVerifierTranscript<'a, C, F, EF>,
     claims: &[OpeningClaim<EF>],
-    batch_witness: F,
-    first_layer: &Com,
-    commitments: &[Com],
-    witnesses: &[F],
-    final_poly: EF,
-    query_witness: F,
+    messages: &CircleMessages<EF, Com>,
+    witnesses: &CircleWitnesses<F>,
 ) -> Result<CircleDraws<EF>, CircleTranscriptFailure>
 where
     C: CanSample<F> + GrindingChallenger<F> + CanObserve<Com>,
-    requires next { due transcript.old ≡ batch_steps EF.DEGREE (widths_of (claims_of claims.now)) (numbers transcript.old).batch_pow_bits ++ (first_layer_steps EF.DEGREE ++ (rounds_steps EF.DEGREE (numbers transcript.old).commit_pow_bits (length commitments.now) ++ query_steps EF.DEGREE (numbers transcript.old).query_pow_bits (numbers transcript.old).index_bits (numbers transcript.old).num_queries)) }
-    requires paired { length witnesses.now ≡ length commitments.now }
-    requires batch_small { (numbers transcript.old).batch_pow_bits ≤ 63 }
-    requires commit_small { (numbers transcript.old).commit_pow_bits ≤ 63 }
-    requires query_small { (numbers transcript.old).query_pow_bits ≤ 63 }
-    requires narrow { (numbers transcript.old).index_bits ≤ 63 }
+    requires next { due transcript.old ≡ run_steps EF.DEGREE (widths_of (claims_of claims.now))
+        (length messages.now.commitments.now) (numbers transcript.old) }
+    requires paired { length witnesses.now.rounds.items ≡ length messages.now.commitments.now }
+    requires small { ArePlayable (numbers transcript.old) }
     ensures same { IsSame transcript.old transcript.new }
     ensures due { OnOk result (due transcript.new ≡ []) }
-    ensures draws { IfOk result (λ d. draw_seeded (moves ⟦<C as CanObserve<F>>⟧.after_observe ⟦<C as CanObserve<Com>>⟧.after_observe C.sampled C.after_sample C.sampled_bits C.after_bits) EF.DEGREE EF.coefficients (numbers transcript.old) (taken (claims_of claims.now) batch_witness first_layer.now (zip commitments.now witnesses.now) final_poly query_witness) (C.state (current transcript.old)) ≡ Ok (drawn_of EF.coefficients d (C.state (current transcript.new)))) }
-    ensures failure { IfErr result (λ e. (e ≡ Memory) ⊎ (draw_seeded (moves ⟦<C as CanObserve<F>>⟧.after_observe ⟦<C as CanObserve<Com>>⟧.after_observe C.sampled C.after_sample C.sampled_bits C.after_bits) EF.DEGREE EF.coefficients (numbers transcript.old) (taken (claims_of claims.now) batch_witness first_layer.now (zip commitments.now witnesses.now) final_poly query_witness) (C.state (current transcript.old)) ≡ Err (phase_of e))) }
+    ensures below { IfOk result (λ d. All (λ i. i < 2 ^ (numbers transcript.old).index_bits) d.indices.items) }
+    ensures draws { let m = ⟦<C as RunChallenger<F, EF, Com>>⟧.run in IfOk result (λ d.
+        draw_seeded m (numbers transcript.old) (taken_of claims.now messages.now witnesses.now)
+        (C.state (current transcript.old)) ≡ Ok (drawn_of EF.coefficients d (C.state (current transcript.new)))) }
+    ensures failure { let m = ⟦<C as RunChallenger<F, EF, Com>>⟧.run in let n = numbers transcript.old in
+        IfErr result (λ e. (e ≡ Memory) ⊎ IsMiss n (draw_seeded m n (taken_of claims.now messages.now witnesses.now)
+        (C.state (current transcript.old))) e) }
 {
-    let alpha = transcript.batch_phase(claims, batch_witness)?;
-    let bivariate = transcript.first_layer(first_layer);
-    let betas = checked_rounds(alloc, transcript, commitments, witnesses)?;
-    let indices = transcript.query_phase(alloc, final_poly, query_witness)?;
+    let alpha = transcript.batch_phase(claims, witnesses.batch)?;
+    let bivariate = transcript.first_layer(messages.first_layer);
+    let betas = checking_rounds(alloc, transcript, messages.commitments, &witnesses.rounds)?;
+    let indices = transcript.query_phase(alloc, messages.final_poly, witnesses.query)?;
     Ok(CircleDraws {
         alpha,
         bivariate,
@@ -126,38 +147,23 @@ pub fn verifier_run<F: Field, EF: ExtensionField<F>, C, Com>(
     challenger: &mut C,
     shape: CirclePcsShape,
     claims: &[OpeningClaim<EF>],
-    batch_witness: F,
-    first_layer: &Com,
-    commitments: &[Com],
-    witnesses: &[F],
-    final_poly: EF,
-    query_witness: F,
+    messages: &CircleMessages<EF, Com>,
+    witnesses: &CircleWitnesses<F>,
 ) -> Result<CircleDraws<EF>, CircleTranscriptFailure>
 where
     C: CanSample<F> + GrindingChallenger<F> + CanObserve<Com>,
     requires claims { widths_of (claims_of claims.now) ≡ claimed_widths (shape_of shape) }
-    requires rounds { length commitments.now ≡ shape.num_commit_rounds }
-    requires paired { length witnesses.now ≡ length commitments.now }
-    requires batch_small { shape.batch_pow_bits ≤ 63 }
-    requires commit_small { shape.commit_pow_bits ≤ 63 }
-    requires query_small { shape.query_pow_bits ≤ 63 }
-    requires narrow { shape.index_bits ≤ 63 }
-    ensures draws { IfOk result (λ d. draw (moves ⟦<C as CanObserve<F>>⟧.after_observe ⟦<C as CanObserve<Com>>⟧.after_observe C.sampled C.after_sample C.sampled_bits C.after_bits) EF.DEGREE EF.coefficients (of_nat F.ops) (shape_of shape) (taken (claims_of claims.now) batch_witness first_layer.now (zip commitments.now witnesses.now) final_poly query_witness) (C.state challenger.old) ≡ Ok (drawn_of EF.coefficients d (C.state challenger.new))) }
-    ensures failure { IfErr result (λ e. (e ≡ Memory) ⊎ (draw (moves ⟦<C as CanObserve<F>>⟧.after_observe ⟦<C as CanObserve<Com>>⟧.after_observe C.sampled C.after_sample C.sampled_bits C.after_bits) EF.DEGREE EF.coefficients (of_nat F.ops) (shape_of shape) (taken (claims_of claims.now) batch_witness first_layer.now (zip commitments.now witnesses.now) final_poly query_witness) (C.state challenger.old) ≡ Err (phase_of e))) }
+    requires rounds { length messages.now.commitments.now ≡ shape.num_commit_rounds }
+    requires paired { length witnesses.now.rounds.items ≡ length messages.now.commitments.now }
+    requires small { ArePlayable (numbers_of (shape_of shape)) }
+    ensures draws { let m = ⟦<C as RunChallenger<F, EF, Com>>⟧.run in IfOk result (λ d.
+        Draws m shape (taken_of claims.now messages.now witnesses.now) challenger.old d challenger.new) }
+    ensures below { IfOk result (λ d. All (λ i. i < 2 ^ shape.index_bits) d.indices.items) }
+    ensures failure { let m = ⟦<C as RunChallenger<F, EF, Com>>⟧.run in IfErr result (λ e.
+        (e ≡ Memory) ⊎ Misses m shape (taken_of claims.now messages.now witnesses.now) challenger.old e) }
 {
     let mut transcript = CircleVerifierTranscript::<C, F, EF>::new(alloc, challenger, shape)?;
-    let drawn = checked_run(
-        alloc,
-        &mut transcript,
-        claims,
-        batch_witness,
-        first_layer,
-        commitments,
-        witnesses,
-        final_poly,
-        query_witness,
-    );
-    match drawn {
+    match checking_run(alloc, &mut transcript, claims, messages, witnesses) {
         Ok(draws) => {
             transcript.finish();
             Ok(draws)
@@ -172,22 +178,35 @@ where
 /// Plays rounds, looking for their witnesses, and draws their challenges.
 ///
 /// Asks that these are the next steps, and a difficulty of at most 63.
-fn ground_rounds<'a, F: Field, EF: ExtensionField<F>, C, Com>(
+fn grinding_rounds<'a, F: Field, EF: ExtensionField<F>, C, Com>(
     alloc: Global,
     transcript: &mut CircleProverTranscript<'a, C, F, EF>,
     commitments: &[Com],
 ) -> Result<(Vec<EF>, Vec<F>), CircleTranscriptFailure>
 where
     C: CanSample<F> + GrindingChallenger<F> + CanObserve<Com>,
-    requires next { (rest : List Step) × (due transcript.old ≡ rounds_steps EF.DEGREE (numbers transcript.old).commit_pow_bits (length commitments.now) ++ rest) }
+    requires next { let bits = (numbers transcript.old).commit_pow_bits in
+        AreNext (rounds_steps EF.DEGREE bits (length commitments.now)) (due transcript.old) }
     requires small { (numbers transcript.old).commit_pow_bits ≤ 63 }
     ensures same { IsSame transcript.old transcript.new }
-    ensures due { OnOk result ((rest : List Step) → due transcript.old ≡ rounds_steps EF.DEGREE (numbers transcript.old).commit_pow_bits (length commitments.now) ++ rest → due transcript.new ≡ rest) }
+    ensures due { let bits = (numbers transcript.old).commit_pow_bits in OnOk result (HasPlayed
+        (rounds_steps EF.DEGREE bits (length commitments.now)) (due transcript.old) (due transcript.new)) }
     ensures count { IfOk result (λ r. length r.1.items ≡ length commitments.now) }
-    ensures passes { IfOk result (λ r. rounds_pass (moves ⟦<C as CanObserve<F>>⟧.after_observe ⟦<C as CanObserve<Com>>⟧.after_observe C.sampled C.after_sample C.sampled_bits C.after_bits) EF.DEGREE (numbers transcript.old).commit_pow_bits (C.state (current transcript.old)) (zip commitments.now r.1.items) ≡ true) }
-    ensures challenges { IfOk result (λ r. map EF.coefficients r.0.items ≡ fold_challenges (moves ⟦<C as CanObserve<F>>⟧.after_observe ⟦<C as CanObserve<Com>>⟧.after_observe C.sampled C.after_sample C.sampled_bits C.after_bits) EF.DEGREE (numbers transcript.old).commit_pow_bits (C.state (current transcript.old)) (zip commitments.now r.1.items)) }
-    ensures state { IfOk result (λ r. C.state (current transcript.new) ≡ after_rounds (moves ⟦<C as CanObserve<F>>⟧.after_observe ⟦<C as CanObserve<Com>>⟧.after_observe C.sampled C.after_sample C.sampled_bits C.after_bits) EF.DEGREE (numbers transcript.old).commit_pow_bits (C.state (current transcript.old)) (zip commitments.now r.1.items)) }
-    ensures failure { IfErr result (λ e. (e ≡ Memory) ⊎ (e ≡ NoWitness CommitPhase (numbers transcript.old).commit_pow_bits)) }
+    ensures easy { IfOk result (λ r. (numbers transcript.old).commit_pow_bits ≡ 0 →
+        All (λ w. w ≡ F.ops.zero) r.1.items) }
+    ensures passes { let m = ⟦<C as RunChallenger<F, EF, Com>>⟧.run in
+        let bits = (numbers transcript.old).commit_pow_bits in IfOk result (λ r. rounds_pass m bits
+        (C.state (current transcript.old)) (zip commitments.now r.1.items) ≡ true) }
+    ensures challenges { let m = ⟦<C as RunChallenger<F, EF, Com>>⟧.run in
+        let bits = (numbers transcript.old).commit_pow_bits in IfOk result (λ r. map EF.coefficients r.0.items ≡
+        fold_challenges m bits (C.state (current transcript.old)) (zip commitments.now r.1.items)) }
+    ensures state { let m = ⟦<C as RunChallenger<F, EF, Com>>⟧.run in
+        let bits = (numbers transcript.old).commit_pow_bits in IfOk result (λ r. C.state (current transcript.new) ≡
+        after_rounds m bits (C.state (current transcript.old)) (zip commitments.now r.1.items)) }
+    ensures failure { let m = ⟦<C as RunChallenger<F, EF, Com>>⟧.run in
+        let bits = (numbers transcript.old).commit_pow_bits in IfErr result (λ e. (e ≡ Memory)
+        ⊎ ((e ≡ NoWitness CommitPhase bits)
+        × HasStuckRound m bits (C.state (current transcript.old)) commitments.now)) }
 {
     let mut betas = Vec::new(alloc);
     let mut witnesses = Vec::new(alloc);
@@ -217,31 +236,36 @@ fn or_zero<F: Field>(witness: Option<F>) -> F
 ///
 /// Asks that these are all the steps due, and difficulties and a number of bits of an index of at most
 /// 63.
-fn ground_run<'a, F: Field, EF: ExtensionField<F>, C, Com>(
+fn grinding_run<'a, F: Field, EF: ExtensionField<F>, C, Com>(
     alloc: Global,
     transcript: &mut CircleProverTranscript<'a, C, F, EF>,
     claims: &[OpeningClaim<EF>],
-    first_layer: &Com,
-    commitments: &[Com],
-    final_poly: EF,
+    messages: &CircleMessages<EF, Com>,
 ) -> Result<(CircleDraws<EF>, CircleWitnesses<F>), CircleTranscriptFailure>
 where
     C: CanSample<F> + GrindingChallenger<F> + CanObserve<Com>,
-    requires next { due transcript.old ≡ batch_steps EF.DEGREE (widths_of (claims_of claims.now)) (numbers transcript.old).batch_pow_bits ++ (first_layer_steps EF.DEGREE ++ (rounds_steps EF.DEGREE (numbers transcript.old).commit_pow_bits (length commitments.now) ++ query_steps EF.DEGREE (numbers transcript.old).query_pow_bits (numbers transcript.old).index_bits (numbers transcript.old).num_queries)) }
-    requires batch_small { (numbers transcript.old).batch_pow_bits ≤ 63 }
-    requires commit_small { (numbers transcript.old).commit_pow_bits ≤ 63 }
-    requires query_small { (numbers transcript.old).query_pow_bits ≤ 63 }
-    requires narrow { (numbers transcript.old).index_bits ≤ 63 }
+    requires next { due transcript.old ≡ run_steps EF.DEGREE (widths_of (claims_of claims.now))
+        (length messages.now.commitments.now) (numbers transcript.old) }
+    requires small { ArePlayable (numbers transcript.old) }
     ensures same { IsSame transcript.old transcript.new }
     ensures due { OnOk result (due transcript.new ≡ []) }
-    ensures count { IfOk result (λ r. length r.1.rounds.items ≡ length commitments.now) }
-    ensures draws { IfOk result (λ r. draw_seeded (moves ⟦<C as CanObserve<F>>⟧.after_observe ⟦<C as CanObserve<Com>>⟧.after_observe C.sampled C.after_sample C.sampled_bits C.after_bits) EF.DEGREE EF.coefficients (numbers transcript.old) (taken (claims_of claims.now) r.1.batch first_layer.now (zip commitments.now r.1.rounds.items) final_poly r.1.query) (C.state (current transcript.old)) ≡ Ok (drawn_of EF.coefficients r.0 (C.state (current transcript.new)))) }
-    ensures failure { IfErr result (λ e. (e ≡ Memory) ⊎ IsNoWitness e) }
+    ensures count { IfOk result (λ r. length r.1.rounds.items ≡ length messages.now.commitments.now) }
+    ensures easy_batch { IfOk result (λ r. (numbers transcript.old).batch_pow_bits ≡ 0 → r.1.batch ≡ F.ops.zero) }
+    ensures easy_rounds { IfOk result (λ r. (numbers transcript.old).commit_pow_bits ≡ 0 →
+        All (λ w. w ≡ F.ops.zero) r.1.rounds.items) }
+    ensures easy_query { IfOk result (λ r. (numbers transcript.old).query_pow_bits ≡ 0 → r.1.query ≡ F.ops.zero) }
+    ensures below { IfOk result (λ r. All (λ i. i < 2 ^ (numbers transcript.old).index_bits) r.0.indices.items) }
+    ensures draws { let m = ⟦<C as RunChallenger<F, EF, Com>>⟧.run in IfOk result (λ r.
+        draw_seeded m (numbers transcript.old) (taken_of claims.now messages.now r.1)
+        (C.state (current transcript.old)) ≡ Ok (drawn_of EF.coefficients r.0 (C.state (current transcript.new)))) }
+    ensures failure { let m = ⟦<C as RunChallenger<F, EF, Com>>⟧.run in IfErr result (λ e.
+        (e ≡ Memory) ⊎ IsStuck m (numbers transcript.old) (claims_of claims.now) messages.now
+        (C.state (current transcript.old)) e) }
 {
     let (alpha, batch) = transcript.batch_phase(claims)?;
-    let bivariate = transcript.first_layer(first_layer);
-    let (betas, rounds) = ground_rounds(alloc, transcript, commitments)?;
-    let (indices, query) = transcript.query_phase(alloc, final_poly)?;
+    let bivariate = transcript.first_layer(messages.first_layer);
+    let (betas, rounds) = grinding_rounds(alloc, transcript, messages.commitments)?;
+    let (indices, query) = transcript.query_phase(alloc, messages.final_poly)?;
     let batch_witness = or_zero(batch);
     let query_witness = or_zero(query);
     Ok((
@@ -270,32 +294,26 @@ pub fn prover_run<F: Field, EF: ExtensionField<F>, C, Com>(
     challenger: &mut C,
     shape: CirclePcsShape,
     claims: &[OpeningClaim<EF>],
-    first_layer: &Com,
-    commitments: &[Com],
-    final_poly: EF,
+    messages: &CircleMessages<EF, Com>,
 ) -> Result<(CircleDraws<EF>, CircleWitnesses<F>), CircleTranscriptFailure>
 where
     C: CanSample<F> + GrindingChallenger<F> + CanObserve<Com>,
     requires claims { widths_of (claims_of claims.now) ≡ claimed_widths (shape_of shape) }
-    requires rounds { length commitments.now ≡ shape.num_commit_rounds }
-    requires batch_small { shape.batch_pow_bits ≤ 63 }
-    requires commit_small { shape.commit_pow_bits ≤ 63 }
-    requires query_small { shape.query_pow_bits ≤ 63 }
-    requires narrow { shape.index_bits ≤ 63 }
-    ensures count { IfOk result (λ r. length r.1.rounds.items ≡ length commitments.now) }
-    ensures draws { IfOk result (λ r. draw (moves ⟦<C as CanObserve<F>>⟧.after_observe ⟦<C as CanObserve<Com>>⟧.after_observe C.sampled C.after_sample C.sampled_bits C.after_bits) EF.DEGREE EF.coefficients (of_nat F.ops) (shape_of shape) (taken (claims_of claims.now) r.1.batch first_layer.now (zip commitments.now r.1.rounds.items) final_poly r.1.query) (C.state challenger.old) ≡ Ok (drawn_of EF.coefficients r.0 (C.state challenger.new))) }
-    ensures failure { IfErr result (λ e. (e ≡ Memory) ⊎ IsNoWitness e) }
+    requires rounds { length messages.now.commitments.now ≡ shape.num_commit_rounds }
+    requires small { ArePlayable (numbers_of (shape_of shape)) }
+    ensures count { IfOk result (λ r. length r.1.rounds.items ≡ length messages.now.commitments.now) }
+    ensures draws { let m = ⟦<C as RunChallenger<F, EF, Com>>⟧.run in IfOk result (λ r.
+        Draws m shape (taken_of claims.now messages.now r.1) challenger.old r.0 challenger.new) }
+    ensures below { IfOk result (λ r. All (λ i. i < 2 ^ shape.index_bits) r.0.indices.items) }
+    ensures easy_batch { IfOk result (λ r. shape.batch_pow_bits ≡ 0 → r.1.batch ≡ F.ops.zero) }
+    ensures easy_rounds { IfOk result (λ r. shape.commit_pow_bits ≡ 0 →
+        All (λ w. w ≡ F.ops.zero) r.1.rounds.items) }
+    ensures easy_query { IfOk result (λ r. shape.query_pow_bits ≡ 0 → r.1.query ≡ F.ops.zero) }
+    ensures failure { let m = ⟦<C as RunChallenger<F, EF, Com>>⟧.run in IfErr result (λ e.
+        (e ≡ Memory) ⊎ FindsNone m shape claims.now messages.now challenger.old e) }
 {
     let mut transcript = CircleProverTranscript::<C, F, EF>::new(alloc, challenger, shape)?;
-    let drawn = ground_run(
-        alloc,
-        &mut transcript,
-        claims,
-        first_layer,
-        commitments,
-        final_poly,
-    );
-    match drawn {
+    match grinding_run(alloc, &mut transcript, claims, messages) {
         Ok(draws) => {
             transcript.finish();
             Ok(draws)
@@ -317,43 +335,25 @@ pub fn both_runs<F: Field, EF: ExtensionField<F>, C, Com>(
     verifier: &mut C,
     shape: CirclePcsShape,
     claims: &[OpeningClaim<EF>],
-    first_layer: &Com,
-    commitments: &[Com],
-    final_poly: EF,
+    messages: &CircleMessages<EF, Com>,
 ) -> Result<(CircleDraws<EF>, CircleDraws<EF>), CircleTranscriptFailure>
 where
     C: CanSample<F> + GrindingChallenger<F> + CanObserve<Com>,
     requires equal { C.state prover.old ≡ C.state verifier.old }
     requires claims { widths_of (claims_of claims.now) ≡ claimed_widths (shape_of shape) }
-    requires rounds { length commitments.now ≡ shape.num_commit_rounds }
-    requires batch_small { shape.batch_pow_bits ≤ 63 }
-    requires commit_small { shape.commit_pow_bits ≤ 63 }
-    requires query_small { shape.query_pow_bits ≤ 63 }
-    requires narrow { shape.index_bits ≤ 63 }
-    ensures alike { IfOk result (λ r. drawn_of EF.coefficients r.1 (C.state verifier.new) ≡ drawn_of EF.coefficients r.0 (C.state prover.new)) }
-    ensures failure { IfErr result (λ e. (e ≡ Memory) ⊎ IsNoWitness e) }
+    requires rounds { length messages.now.commitments.now ≡ shape.num_commit_rounds }
+    requires small { ArePlayable (numbers_of (shape_of shape)) }
+    ensures draws { let m = ⟦<C as RunChallenger<F, EF, Com>>⟧.run in IfOk result (λ r. (w : CircleWitnesses F)
+        × Draws m shape (taken_of claims.now messages.now w) prover.old r.0 prover.new) }
+    ensures redraws { let m = ⟦<C as RunChallenger<F, EF, Com>>⟧.run in IfOk result (λ r. (w : CircleWitnesses F)
+        × Draws m shape (taken_of claims.now messages.now w) verifier.old r.1 verifier.new) }
+    ensures alike { IfOk result (λ r.
+        drawn_of EF.coefficients r.1 (C.state verifier.new) ≡ drawn_of EF.coefficients r.0 (C.state prover.new)) }
+    ensures failure { let m = ⟦<C as RunChallenger<F, EF, Com>>⟧.run in IfErr result (λ e.
+        (e ≡ Memory) ⊎ FindsNone m shape claims.now messages.now prover.old e) }
 {
     let copy = shape.try_clone(alloc)?;
-    let (drawn, witnesses) = prover_run(
-        alloc,
-        prover,
-        copy,
-        claims,
-        first_layer,
-        commitments,
-        final_poly,
-    )?;
-    let redrawn = verifier_run(
-        alloc,
-        verifier,
-        shape,
-        claims,
-        witnesses.batch,
-        first_layer,
-        commitments,
-        &witnesses.rounds,
-        final_poly,
-        witnesses.query,
-    )?;
+    let (drawn, witnesses) = prover_run(alloc, prover, copy, claims, messages)?;
+    let redrawn = verifier_run(alloc, verifier, shape, claims, messages, &witnesses)?;
     Ok((drawn, redrawn))
 }

@@ -4,8 +4,8 @@ ghost use Rattle.circle_transcript.specs.Shape.{claimed_widths};
 ghost use Rattle.circle_transcript.specs.ShapeOf.{shape_of, batches_of};
 
 use crate::{
-    CircleDraws, CirclePcsShape, CircleTranscriptFailure, CircleWitnesses, both_runs, prover_run,
-    verifier_run,
+    CircleDraws, CircleMessages, CirclePcsShape, CircleTranscriptFailure, CircleWitnesses,
+    both_runs, prover_run, verifier_run,
 };
 use circle_challenger::{CanObserve, CanSample, GrindingChallenger, Sha256Challenger};
 use circle_commit::{FriParameters, PowPhase};
@@ -108,15 +108,12 @@ where
     let shape = shape(alloc, commitments.len(), bits)?;
     let values = [cubic(5, 6, 7)];
     let claims = [(Point::<Cubic>::ZERO, values.as_slice())];
-    prover_run(
-        alloc,
-        challenger,
-        shape,
-        claims.as_slice(),
-        &[7; 32],
+    let messages = CircleMessages {
+        first_layer: &[7; 32],
         commitments,
-        cubic(1, 2, 3),
-    )
+        final_poly: cubic(1, 2, 3),
+    };
+    prover_run(alloc, challenger, shape, claims.as_slice(), &messages)
 }
 
 /// The verifier's side of a run over one claim.
@@ -138,17 +135,18 @@ where
     let shape = shape(alloc, commitments.len(), bits)?;
     let values = [cubic(5, 6, 7)];
     let claims = [(Point::<Cubic>::ZERO, values.as_slice())];
+    let messages = CircleMessages {
+        first_layer: &[7; 32],
+        commitments,
+        final_poly: cubic(1, 2, 3),
+    };
     verifier_run(
         alloc,
         challenger,
         shape,
         claims.as_slice(),
-        witnesses.batch,
-        &[7; 32],
-        commitments,
-        &witnesses.rounds,
-        cubic(1, 2, 3),
-        witnesses.query,
+        &messages,
+        witnesses,
     )
 }
 
@@ -250,15 +248,18 @@ fn both_runs_draw_alike(rt: HostRuntime) -> Result<(), Fail> {
     let claims = [(Point::<Cubic>::ZERO, values.as_slice())];
     let mut prover = Sha256Challenger::new();
     let mut verifier = Sha256Challenger::new();
+    let messages = CircleMessages {
+        first_layer: &[7; 32],
+        commitments: &[[9; 32], [8; 32]],
+        final_poly: cubic(1, 2, 3),
+    };
     let runs = both_runs(
         alloc,
         &mut prover,
         &mut verifier,
         shape,
         claims.as_slice(),
-        &[7; 32],
-        &[[9; 32], [8; 32]],
-        cubic(1, 2, 3),
+        &messages,
     );
     let (first, second) = runs.map_err(|_| "no run")?;
     assert_eq!(rt; first.betas.len(), 2);

@@ -3,8 +3,8 @@
 use crate::tests::stubborn::Stubborn;
 use crate::tests::{Difficulties, NONE, cubic, element, params, prove, shape, verify};
 use crate::{
-    CirclePcsShape, CircleProverTranscript, CircleTranscriptFailure, CircleVerifierTranscript,
-    CircleWitnesses, prover_run,
+    CircleMessages, CirclePcsShape, CircleProverTranscript, CircleTranscriptFailure,
+    CircleVerifierTranscript, CircleWitnesses, prover_run,
 };
 use circle_challenger::{CanSample, Sha256Challenger};
 use circle_commit::PowPhase;
@@ -22,15 +22,12 @@ fn batching_challenge(alloc: Global, t: u64, value: u64) -> Result<Cubic, Fail> 
     let claims = [(point, values.as_slice())];
     let commitments: [[u8; 32]; 0] = [];
     let mut challenger = Sha256Challenger::new();
-    let run = prover_run(
-        alloc,
-        &mut challenger,
-        shape,
-        claims.as_slice(),
-        &[7; 32],
-        commitments.as_slice(),
-        cubic(1, 2, 3),
-    );
+    let messages = CircleMessages {
+        first_layer: &[7; 32],
+        commitments: commitments.as_slice(),
+        final_poly: cubic(1, 2, 3),
+    };
+    let run = prover_run(alloc, &mut challenger, shape, claims.as_slice(), &messages);
     let (draws, _) = run.map_err(|_| "no run")?;
     Ok(draws.alpha)
 }

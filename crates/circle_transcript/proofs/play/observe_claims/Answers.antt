@@ -1,13 +1,13 @@
 use Rattle.std.proofs.Common.{◌+◌, ◌<◌, ◌++◌, ◌∷◌, [], length, drop, take, flat_map, refl, sym, ap, ◌∙◌, append_assoc, arith}
 use Rattle.std.proofs.lemmas.List.{map-append}
 use Rattle.circle_transcript.specs.Shape.{claim_steps}
-use Rattle.circle_transcript.specs.Draw.{widths_of, after_claims}
+use Rattle.circle_transcript.specs.Draw.{widths_of, after_claims_by}
 use Rattle.circle_transcript.specs.Claims.{claim_of, claims_of}
 use Rattle.circle_transcript.proofs.Playing.{claims-append, drop_read, take_read}
 use Rattle.circle_transcript.proofs.play.observe_claims.Goals as goal
 
 pub loop-point-init : goal.loop-point-init
-unfolding after_claims
+unfolding after_claims_by
 loop-point-init g c = record { same_reference = refl; due = λ rest e. e; state = refl }
 
 pub loop-point-preserved : goal.loop-point-preserved
@@ -30,7 +30,7 @@ loop-point-preserved g c =
           ∙ append_assoc (claim_steps degree (length item.1.now)) (flat_map (claim_steps degree) (widths_of (claims_of (drop (i + 1) claims)))) rest);
       state =
           c.observe_claim.ensures.state
-          ∙ ap (λ s. after_claims observe coefficients s (claim_of item ∷ [])) c.loop-point.invariant.state
+          ∙ ap (λ s. after_claims_by observe coefficients s (claim_of item ∷ [])) c.loop-point.invariant.state
           ∙ sym (claims-append observe coefficients begun (claims_of (take i claims)) (claim_of item ∷ []))
-          ∙ ap (after_claims observe coefficients begun) (sym (ap claims_of front_of ∙ map-append claim_of (take i claims) (item ∷ [])));
+          ∙ ap (after_claims_by observe coefficients begun) (sym (ap claims_of front_of ∙ map-append claim_of (take i claims) (item ∷ [])));
     }
