@@ -32,7 +32,8 @@ module _ {F : Type 0} (k : FieldOps F) (gen : ℕ → Coordinates F) where
   abbrev pub fold_x_twiddles : ℕ → List F
   fold_x_twiddles m = map (λ p. p.x) (every_second (coset k gen (m + 1) (gen (m + 3))))
 
-module _ {F E : Type 0} (k : FieldOps F) (gen : ℕ → Coordinates F) (l : FieldOps E) (embed : F → E) where
+module _ {F E : Type 0} (k : FieldOps F) (gen : ℕ → Coordinates F)
+    (l : FieldOps E) (embed : F → E) where
   -- a first word of 2^(m + 1) entries, as 2^m rows of two, folded by y
   abbrev pub y_folds : ℕ → E → List (List E) → List E
   y_folds m beta rows = folds l beta (map embed (fold_y_twiddles k gen m)) rows

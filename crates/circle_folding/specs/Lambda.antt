@@ -8,7 +8,8 @@ use Rattle.circle_domain.specs.Lagrange.{dot}
 use Rattle.circle_domain.specs.Layers.{pairwise}
 use Rattle.circle_domain.specs.Order.{cfft_order}
 
-module _ {F E : Type 0} (k : FieldOps F) (gen : ℕ → Coordinates F) (l : FieldOps E) (embed : F → E) where
+module _ {F E : Type 0} (k : FieldOps F) (gen : ℕ → Coordinates F)
+    (l : FieldOps E) (embed : F → E) where
   -- v_n at the points of the standard domain of 2^m points in the transform's order, where n is m
   -- less the blowup's logarithm
   abbrev pub vanishing_values : ℕ → ℕ → List E

@@ -1,5 +1,6 @@
 -- The points of queries, and quotients of the rows that are opened there.
-use Rattle.std.specs.Prelude.{◌≡◌, ◌≢◌, ℕ, ◌+◌, ◌-◌, ◌/◌, ◌^◌, ◌<◌, List, [], All, length, map, slice_index_or}
+use Rattle.std.specs.Prelude.{◌≡◌, ◌≢◌, ℕ, ◌+◌, ◌-◌, ◌/◌, ◌^◌, ◌<◌, List, [], All}
+use Rattle.std.specs.Prelude.{length, map, slice_index_or}
 use Rattle.std.specs.List.{Any}
 use Rattle.circle_field.specs.Field.{FieldOps}
 use Rattle.circle_field.specs.Circle.{Coordinates, origin, lifted}
@@ -32,7 +33,8 @@ module _ {F : Type 0} where
 
 module _ {F E : Type 0} (l : FieldOps E) (embed : F → E) where
   -- at each point the quotient of its row under values claimed at z
-  abbrev pub claim_quotients : E → List (Coordinates F) → Coordinates E → List (List F) → List E → List E
+  abbrev pub claim_quotients :
+      E → List (Coordinates F) → Coordinates E → List (List F) → List E → List E
   claim_quotients alpha points z rows values =
       pairwise (λ x row. claim_quotient l embed alpha x z row values) points rows
 

@@ -148,12 +148,9 @@ fn the_factors_of_the_layers(rt: HostRuntime) -> Result<(), Fail> {
     assert!(&rt; layers.len() == 4);
     assert!(&rt; layers[0].as_slice() == y_twiddles(alloc, domain)?.as_slice());
     assert!(&rt; layers[1].as_slice() == x_twiddles(alloc, domain)?.as_slice());
-    let (half, quarter) = (
-        Point::<Mersenne31>::generator(4).x(),
-        Point::generator(3).x(),
-    );
-    assert!(&rt; layers[2].as_slice() == [half, -half].as_slice());
-    assert!(&rt; layers[3].as_slice() == [quarter].as_slice());
+    let (double, turn) = (Point::<Mersenne31>::generator(4), Point::generator(2));
+    assert!(&rt; layers[2].as_slice() == [double.x(), (double + turn).x()].as_slice());
+    assert!(&rt; layers[3].as_slice() == [double.double().x()].as_slice());
     Ok(())
 }
 

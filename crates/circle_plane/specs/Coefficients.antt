@@ -12,7 +12,8 @@ module _ {F : Type 0} {g : _} (k : FieldOps F) (gen : ℕ → Coordinates F) whe
   -- as many coefficients as the domain has points, a row for each index, whose polynomials' values
   -- at the points in the transform's order are the rows
   abbrev pub AreCoefficients : CircleDomain F g → ℕ → List (List F) → List (List F) → Type 0
-  AreCoefficients d width coeffs given = HasValues k gen (log_size d) (shift_of d) width coeffs given
+  AreCoefficients d width coeffs given =
+      HasValues k gen (log_size d) (shift_of d) width coeffs given
 
   -- the polynomials' values on a domain, in the transform's order
   abbrev pub cfft_values_on : CircleDomain F g → ℕ → List (List F) → List (List F)
@@ -30,7 +31,8 @@ module _ {F : Type 0} {g : _} (k : FieldOps F) (gen : ℕ → Coordinates F) whe
 
   -- the values on a larger domain of the polynomials with given values on a domain, both in the
   -- transform's order
-  pub record Extrapolates (d target : CircleDomain F g) (width : ℕ) (given made : List (List F)) : Type 0 where
+  pub record Extrapolates (d target : CircleDomain F g) (width : ℕ) (given made : List (List F))
+      : Type 0 where
     pub coeffs : List (List F)
     pub told : AreCoefficients d width coeffs given
     pub cfft : made ≡ cfft_values_on target width coeffs
@@ -39,9 +41,11 @@ module _ {F : Type 0} {g : _} (k : FieldOps F) (gen : ℕ → Coordinates F) whe
     pub padded : AreCoefficients target width
         (with_zero_rows k.zero width (2 ^ log_size target - 2 ^ log_size d) coeffs) made
 
-module _ {F E : Type 0} {g : _} (k : FieldOps F) (gen : ℕ → Coordinates F) (l : FieldOps E) (embed : F → E) where
+module _ {F E : Type 0} {g : _} (k : FieldOps F) (gen : ℕ → Coordinates F)
+    (l : FieldOps E) (embed : F → E) where
   -- the values at a point of the polynomials with given values on a domain
-  pub record AreValuesAt (p : Coordinates E) (d : CircleDomain F g) (width : ℕ) (given : List (List F)) (found : List E) : Type 0 where
+  pub record AreValuesAt (p : Coordinates E) (d : CircleDomain F g) (width : ℕ)
+      (given : List (List F)) (found : List E) : Type 0 where
     pub coeffs : List (List F)
     pub told : AreCoefficients k gen d width coeffs given
     pub at_point : found ≡ lifted_values_at k.zero l embed coeffs width p

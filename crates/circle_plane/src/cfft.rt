@@ -164,7 +164,7 @@ impl<F: ComplexExtendable, M: Matrix<F>> CircleEvaluations<F, M> {
         alloc: Global,
         point: Point<EF>,
     ) -> Result<Vec<EF>, AllocError>
-        requires genuine { IsGenuine F.ops (log_size (domain_of self.now)) (shift_of (domain_of self.now)) }
+        requires genuine { let d = domain_of self.now in IsGenuine F.ops (log_size d) (shift_of d) }
         requires in_group { log_size (domain_of self.now) ≤ F.CIRCLE_TWO_ADICITY }
         requires clear { IsClearOf EF.ops EF.embed
             (points_of F.ops F.generators (domain_of self.now)) (coordinates point) }
@@ -218,6 +218,8 @@ impl<F: ComplexExtendable> CircleEvaluations<F, RowMajorMatrix<F>> {
         let log_height = log2_strict(coeffs.height());
         let twiddles = layer_twiddles(alloc, domain)?;
         let mut half = coeffs.values().len();
+        // The further coefficients are zeros, and a layer whose upper halves are zeros is a copy:
+        // `a + 0 t` and `a - 0 t` are `a`. So the layers above the height copy the coefficients.
         let mut entries = repeat(
             alloc,
             coeffs.into_values(),
