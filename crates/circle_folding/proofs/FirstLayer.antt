@@ -12,12 +12,12 @@ use Rattle.circle_domain.specs.Order.{coset, with_opposites}
 use Rattle.circle_domain.specs.Layers.{pairwise}
 use Rattle.circle_domain.proofs.CosetOrder.{with_opposites-even, with_opposites-odd}
 use Rattle.circle_domain.proofs.Twiddles.{length-coset}
-use Rattle.circle_folding.specs.Fold.{y_twiddles}
+use Rattle.circle_folding.specs.Fold.{fold_y_twiddles}
 use Rattle.circle_folding.specs.Queries.{query_point}
 use Rattle.circle_folding.specs.Chain.{first_layer_twiddle}
 use Rattle.circle_folding.proofs.Places.{place-below}
 use Rattle.circle_folding.proofs.Queries.{signed, signed-even, signed-odd}
-use Rattle.circle_folding.proofs.Twiddles.{length-y_twiddles, y_twiddles-nonzero}
+use Rattle.circle_folding.proofs.Twiddles.{length-fold_y_twiddles, fold_y_twiddles-nonzero}
 
 -- what is pushed onto nothing
 pub pushed-onto_nothing : {A B : Type 0} (qs : List A) (pairs : List B) → length pairs ≡ length qs →
@@ -79,6 +79,6 @@ module _ {F : Type 0} {k : FieldOps F} (laws : FieldLaws k) {bits : ℕ} {gen : 
       (All-weaker (λ q. q < 2 ^ high) (λ q. first_layer_twiddle k gen h high q ≢ k.zero)
       (λ q below.
       let low : q / 2 ^ (high - h) < 2 ^ h = place-below q h high within below in
-      let inside : q / 2 ^ (high - h) / 2 < length (y_twiddles k gen m) = omega (arith, low, ap (λ n. 2 ^ n) top, pow-suc 2 m, length-y_twiddles k gen m) in
-      y_twiddles-nonzero laws gens m (omega (arith, positive, fits)) (q / 2 ^ (high - h) / 2) k.zero inside)
+      let inside : q / 2 ^ (high - h) / 2 < length (fold_y_twiddles k gen m) = omega (arith, low, ap (λ n. 2 ^ n) top, pow-suc 2 m, length-fold_y_twiddles k gen m) in
+      fold_y_twiddles-nonzero laws gens m (omega (arith, positive, fits)) (q / 2 ^ (high - h) / 2) k.zero inside)
       queries all)

@@ -1,5 +1,8 @@
 -- Folding by inverse twiddles.
-use Rattle.std.specs.Prelude.{◌≡◌, List, [], ◌∷◌, length, slice_index_or, refl}
+use Rattle.std.specs.Prelude.{◌≡◌, ℕ, ◌^◌, List, [], ◌∷◌, length, map, slice_index_or, refl, IfOk, Vec}
+use Rattle.std.specs.declared.alloc.Global.{Global}
+use Rattle.std.specs.declared.result.Result.{Result}
+use Rattle.std.proofs.lemmas.Result.{IfOk-weaker}
 use Rattle.std.proofs.Common.{sym, ap, ◌∙◌, arith}
 use Rattle.circle_field.specs.Field.{FieldOps, FieldLaws, sub, two}
 use Rattle.circle_field.specs.Ring.{var, plus as sum, times as prod, minus}
@@ -8,7 +11,7 @@ use Rattle.circle_field.specs.RingFacts.{mul_one}
 use Rattle.circle_field.proofs.Halves.{doubled_half}
 use Rattle.circle_field.proofs.Inverses.{inverse_unique, nonzero_factor}
 use Rattle.circle_domain.proofs.LagrangePolynomials.{twice-nonzero}
-use Rattle.circle_folding.specs.Fold.{fold, fold_pair}
+use Rattle.circle_folding.specs.Fold.{fold, fold_pair, folds}
 
 module _ {E : Type 0} {l : FieldOps E} (laws : FieldLaws l) where
   -- the inverse of t + t
@@ -37,3 +40,10 @@ by-entries l beta t (x ∷ y ∷ rest) a b two = refl
 
 pub two-entries : {E : Type 0} (l : FieldOps E) (beta t : E) (row : List E) (a b : E) → length row ≡ 2 → a ≡ slice_index_or row 0 a → b ≡ slice_index_or row 1 b → fold_pair l beta t row ≡ fold l a b t beta
 two-entries l beta t row a b two ea eb = by-entries l beta t row a b two ∙ ap (λ v. fold l v (slice_index_or row 1 b) t beta) (sym ea) ∙ ap (λ v. fold l a v t beta) (sym eb)
+
+-- the folds by the twiddles of a logarithm are those by its height
+pub folds-of : {F E X : Type 0} (l : FieldOps E) (beta : E) (m : F → E) (rows : List (List E)) (twiddles : ℕ → List F) (ts : List F) (r height : ℕ) (result : Result (Vec E Global) X) →
+    ts ≡ twiddles r → ((n : ℕ) → height ≡ 2 ^ n → r ≡ n) → IfOk result (λ made. made.items ≡ folds l beta (map m ts) rows) →
+    IfOk result (λ made. (n : ℕ) → height ≡ 2 ^ n → made.items ≡ folds l beta (map m (twiddles n)) rows)
+folds-of l beta m rows twiddles ts r height result are only =
+    IfOk-weaker result _ _ (λ made e n tall. e ∙ ap (λ us. folds l beta (map m us) rows) (are ∙ ap twiddles (only n tall)))

@@ -19,9 +19,9 @@ use Rattle.circle_domain.specs.Layers.{block_starts, second_half, factor, pairwi
 use Rattle.circle_domain.proofs.Layering.{halves, block_starts-halves}
 use Rattle.circle_domain.proofs.Twiddles.{map-map}
 use Rattle.circle_domain.proofs.Written.{length-pairwise, pairwise-read}
-use Rattle.circle_folding.specs.Fold.{x_twiddles, folds, fold_pair}
+use Rattle.circle_folding.specs.Fold.{fold_x_twiddles, folds, fold_pair}
 use Rattle.circle_folding.specs.Chain.{round_twiddle, pair_of, asked_pairs, next_value}
-use Rattle.circle_folding.proofs.Twiddles.{x_factors, length-x_twiddles, x_twiddles-nonzero, x_twiddle-of}
+use Rattle.circle_folding.proofs.Twiddles.{x_factors, length-fold_x_twiddles, fold_x_twiddles-nonzero, x_twiddle-of}
 
 module _ {F : Type 0} (k : FieldOps F) where
   -- each followed by its opposite
@@ -91,13 +91,13 @@ module _ {F : Type 0} {k : FieldOps F} (laws : RingLaws k) {bits : ℕ} {gen : �
       ap (λ (g : Coordinates F). (plus k q g).x) gens.half_turn ∙ ring laws (q.x ∷ q.y ∷ []) (sum (prod (var 0) (minus unit)) (minus (prod (var 1) (con 0)))) (minus (var 0)) refl in
       ap (λ t. q.x ∷ t ∷ map (λ p. p.x) (halves k gen 1 qs)) turned ∙ ap (λ rest. q.x ∷ k.neg q.x ∷ rest) (x-halves qs)
 
-  twiddles-starts : (r : ℕ) → x_twiddles k gen r ≡ map (λ p. p.x) (block_starts k gen r 2 (gen (r + 3)))
+  twiddles-starts : (r : ℕ) → fold_x_twiddles k gen r ≡ map (λ p. p.x) (block_starts k gen r 2 (gen (r + 3)))
   twiddles-starts r =
       let e : r + 2 - (1 + 1) ≡ r = omega arith in
       sym (x_factors k gen r) ∙ ap (λ a. map (factor k 1) (block_starts k gen a 2 (gen (r + 3)))) e
 
   -- twice the squares less one of twiddles are the twiddles of half as many pairs and their opposites
-  twiddles-doubled : (m : ℕ) → m + 4 ≤ bits → map (doubled_x k) (x_twiddles k gen (suc m)) ≡ with_negatives k (x_twiddles k gen m)
+  twiddles-doubled : (m : ℕ) → m + 4 ≤ bits → map (doubled_x k) (fold_x_twiddles k gen (suc m)) ≡ with_negatives k (fold_x_twiddles k gen m)
   twiddles-doubled m fits =
       let s = gen (suc m + 3) in
       let next : suc m + 3 ≡ suc (m + 3) = omega arith in
@@ -116,19 +116,19 @@ module _ {F : Type 0} {k : FieldOps F} (laws : RingLaws k) {bits : ℕ} {gen : �
   next-twiddle h r q enough fits below =
       let m = h - 2 - (r + 1) in
       let j = q / 2 ^ (r + 2) in
-      let ts = x_twiddles k gen (suc m) in
+      let ts = fold_x_twiddles k gen (suc m) in
       let here : h - 2 - r ≡ suc m = omega (arith, enough) in
       let whole : h ≡ suc m + (r + 2) = omega (arith, enough) in
       let low : j < 2 ^ suc m = shr_below q (suc m) (r + 2) (rw (← whole) below) in
       let places : r + 1 + 2 ≡ r + 2 + 1 = omega arith in
       let next : q / 2 ^ (r + 1 + 2) ≡ j / 2 = ap (λ n. q / 2 ^ n) places ∙ sym (shr-shr q (r + 2) 1) in
-      let inside : j < length ts = omega (arith, low, length-x_twiddles k gen (suc m)) in
-      let of_half : j < length (x_twiddles k gen m) + length (x_twiddles k gen m) = omega (arith, low, length-x_twiddles k gen m, pow-suc 2 m) in
-      ap (λ n. signed k j (doubled_x k (slice_index_or (x_twiddles k gen n) j k.zero))) here
+      let inside : j < length ts = omega (arith, low, length-fold_x_twiddles k gen (suc m)) in
+      let of_half : j < length (fold_x_twiddles k gen m) + length (fold_x_twiddles k gen m) = omega (arith, low, length-fold_x_twiddles k gen m, pow-suc 2 m) in
+      ap (λ n. signed k j (doubled_x k (slice_index_or (fold_x_twiddles k gen n) j k.zero))) here
       ∙ ap (signed k j) (sym (get_or-map (doubled_x k) ts j k.zero k.zero inside)
-      ∙ ap (λ xs. slice_index_or xs j k.zero) (twiddles-doubled m (omega (arith, enough, fits))) ∙ with_negatives-read k (x_twiddles k gen m) j k.zero of_half)
-      ∙ signed-signed k laws j (slice_index_or (x_twiddles k gen m) (j / 2) k.zero)
-      ∙ ap (λ i. slice_index_or (x_twiddles k gen m) i k.zero) (sym next)
+      ∙ ap (λ xs. slice_index_or xs j k.zero) (twiddles-doubled m (omega (arith, enough, fits))) ∙ with_negatives-read k (fold_x_twiddles k gen m) j k.zero of_half)
+      ∙ signed-signed k laws j (slice_index_or (fold_x_twiddles k gen m) (j / 2) k.zero)
+      ∙ ap (λ i. slice_index_or (fold_x_twiddles k gen m) i k.zero) (sym next)
 
   -- the twiddles of queries in the next round
   pub next-twiddles : (h r : ℕ) (queries : List ℕ) → r + 3 ≤ h → h < bits → All (λ q. q < 2 ^ h) queries →
@@ -151,7 +151,7 @@ module _ {F : Type 0} {k : FieldOps F} (laws : FieldLaws k) {bits : ℕ} {gen : 
       let none : m ≡ h - 2 - 0 = omega arith in
       x_twiddle-of laws gens m 1 n (q / 4) place s p (shr_below q m 2 (rw (← whole) below)) (omega (arith, enough, fits)) small refl (size ∙ top) (shift ∙ ap gen next)
       (is_place ∙ ap (λ i. cfft_index i (q / 4 * 4 % 2 ^ 64)) top) here
-      ∙ ap (λ i. slice_index_or (x_twiddles k gen i) (q / 4) k.zero) none
+      ∙ ap (λ i. slice_index_or (fold_x_twiddles k gen i) (q / 4) k.zero) none
 
   -- the twiddles of queries are not 0
   pub round_twiddles-nonzero : (h r : ℕ) (queries : List ℕ) → r + 2 ≤ h → h < bits → All (λ q. q < 2 ^ h) queries →
@@ -163,7 +163,7 @@ module _ {F : Type 0} {k : FieldOps F} (laws : FieldLaws k) {bits : ℕ} {gen : 
       (All-weaker (λ q. q < 2 ^ h) (λ q. round_twiddle k gen h r q ≢ k.zero)
       (λ q below.
       let low : q / 2 ^ (r + 2) < 2 ^ m = shr_below q m (r + 2) (rw (← whole) below) in
-      x_twiddles-nonzero laws gens m (omega (arith, enough, fits)) (q / 2 ^ (r + 2)) k.zero (omega (arith, low, length-x_twiddles k gen m)))
+      fold_x_twiddles-nonzero laws gens m (omega (arith, enough, fits)) (q / 2 ^ (r + 2)) k.zero (omega (arith, low, length-fold_x_twiddles k gen m)))
       queries all)
 
 module _ {E : Type 0} (bits : ℕ) (queries : List ℕ) (values siblings : List E) (of_values : length values ≡ length queries) (of_siblings : length siblings ≡ length queries) where

@@ -10,48 +10,44 @@ use Rattle.circle_field.specs.Circle.{Coordinates, AreGenerators}
 use Rattle.circle_domain.specs.Order.{coset, natural_order, natural_from}
 use Rattle.circle_domain.specs.Ordering.{cfft_index}
 use Rattle.circle_domain.specs.Layers.{every_second, layer_factors}
-use Rattle.circle_domain.proofs.Powers.{log_of_power, pow_within}
+use Rattle.circle_domain.proofs.Powers.{pow_within}
 use Rattle.circle_domain.proofs.StandardDomain.{standard-genuine}
 use Rattle.circle_domain.proofs.Twiddles.{first_factors, second_factors, length-layer_factors, length-coset}
 use Rattle.circle_domain.proofs.CosetOrder.{cfft-place, with_opposites-even}
 use Rattle.circle_domain.proofs.LayerFactors.{layer_factors-nonzero}
-use Rattle.circle_folding.specs.Fold.{y_twiddles, x_twiddles}
-
--- the logarithm of a height that is a power of two
-pub logarithm : (height r n : ℕ) → height ≡ 2 ^ n → 2 ^ r ≤ height → height < 2 * 2 ^ r → r ≡ n
-logarithm height r n e low high = log_of_power r n (omega (arith, e, low)) (omega (arith, e, high))
+use Rattle.circle_folding.specs.Fold.{fold_y_twiddles, fold_x_twiddles}
 
 module _ {F : Type 0} (k : FieldOps F) (gen : ℕ → Coordinates F) where
-  y_factors : (r : ℕ) → layer_factors k gen (r + 1) (gen (r + 2)) 0 ≡ y_twiddles k gen r
+  y_factors : (r : ℕ) → layer_factors k gen (r + 1) (gen (r + 2)) 0 ≡ fold_y_twiddles k gen r
   y_factors r =
       let e : r + 1 - 1 ≡ r = omega arith in
       first_factors k gen (r + 1) (gen (r + 2)) ∙ ap (λ m. map (λ p. p.y) (coset k gen m (gen (r + 2)))) e
 
-  pub x_factors : (r : ℕ) → layer_factors k gen (r + 2) (gen (r + 3)) 1 ≡ x_twiddles k gen r
+  pub x_factors : (r : ℕ) → layer_factors k gen (r + 2) (gen (r + 3)) 1 ≡ fold_x_twiddles k gen r
   x_factors r =
       let e : r + 2 - 1 ≡ r + 1 = omega arith in
       second_factors k gen (r + 2) (gen (r + 3)) (omega arith) ∙ ap (λ m. map (λ p. p.x) (every_second (coset k gen m (gen (r + 3))))) e
 
-  pub length-y_twiddles : (r : ℕ) → length (y_twiddles k gen r) ≡ 2 ^ r
-  length-y_twiddles r =
+  pub length-fold_y_twiddles : (r : ℕ) → length (fold_y_twiddles k gen r) ≡ 2 ^ r
+  length-fold_y_twiddles r =
       let e : r + 1 - (0 + 1) ≡ r = omega arith in
       sym (ap length (y_factors r)) ∙ length-layer_factors k gen (r + 1) 0 (gen (r + 2)) ∙ ap (λ n. 2 ^ n) e
 
-  pub length-x_twiddles : (r : ℕ) → length (x_twiddles k gen r) ≡ 2 ^ r
-  length-x_twiddles r =
+  pub length-fold_x_twiddles : (r : ℕ) → length (fold_x_twiddles k gen r) ≡ 2 ^ r
+  length-fold_x_twiddles r =
       let e : r + 2 - (1 + 1) ≡ r = omega arith in
       sym (ap length (x_factors r)) ∙ length-layer_factors k gen (r + 2) 1 (gen (r + 3)) ∙ ap (λ n. 2 ^ n) e
 
   -- the twiddles of a standard domain, as they are computed
-  pub y_twiddles-of : (r n : ℕ) (s : Coordinates F) (ts : List F) → n ≡ r + 1 → s ≡ gen (r + 1 + 1) → ts ≡ map (λ p. p.y) (coset k gen (n - 1) s) → ts ≡ y_twiddles k gen r
-  y_twiddles-of r n s ts size shift e =
+  pub fold_y_twiddles-of : (r n : ℕ) (s : Coordinates F) (ts : List F) → n ≡ r + 1 → s ≡ gen (r + 1 + 1) → ts ≡ map (λ p. p.y) (coset k gen (n - 1) s) → ts ≡ fold_y_twiddles k gen r
+  fold_y_twiddles-of r n s ts size shift e =
       let m : n - 1 ≡ r = omega (arith, size) in
       let order : r + 1 + 1 ≡ r + 2 = omega arith in
       e ∙ ap (λ i. map (λ p. p.y) (coset k gen i s)) m ∙ ap (λ q. map (λ p. p.y) (coset k gen r q)) (shift ∙ ap gen order)
 
-  pub x_twiddles-of : (r arity n : ℕ) (s : Coordinates F) (ts : List F) → arity ≡ 1 → n ≡ r + arity + 1 → s ≡ gen (r + arity + 1 + 1) → ts ≡ map (λ p. p.x) (every_second (coset k gen (n - 1) s)) →
-      ts ≡ x_twiddles k gen r
-  x_twiddles-of r arity n s ts one size shift e =
+  pub fold_x_twiddles-of : (r arity n : ℕ) (s : Coordinates F) (ts : List F) → arity ≡ 1 → n ≡ r + arity + 1 → s ≡ gen (r + arity + 1 + 1) → ts ≡ map (λ p. p.x) (every_second (coset k gen (n - 1) s)) →
+      ts ≡ fold_x_twiddles k gen r
+  fold_x_twiddles-of r arity n s ts one size shift e =
       let m : n - 1 ≡ r + 1 = omega (arith, size, one) in
       let order : r + arity + 1 + 1 ≡ r + 3 = omega (arith, one) in
       e ∙ ap (λ i. map (λ p. p.x) (every_second (coset k gen i s))) m ∙ ap (λ q. map (λ p. p.x) (every_second (coset k gen (r + 1) q))) (shift ∙ ap gen order)
@@ -63,13 +59,13 @@ module _ {F : Type 0} {k : FieldOps F} (laws : FieldLaws k) {bits : ℕ} {gen : 
       All-from_recursion (λ t. t ≢ k.zero) (layer_factors k gen n (gen (n + 1)) m)
       (layer_factors-nonzero laws gens n (gen (n + 1)) (omega (arith, fits)) (gens.on_circle (n + 1) fits) genuine.1 m lt)
 
-  pub y_twiddles-nonzero : (r : ℕ) → r + 2 ≤ bits → All (λ t. t ≢ k.zero) (y_twiddles k gen r)
-  y_twiddles-nonzero r fits =
+  pub fold_y_twiddles-nonzero : (r : ℕ) → r + 2 ≤ bits → All (λ t. t ≢ k.zero) (fold_y_twiddles k gen r)
+  fold_y_twiddles-nonzero r fits =
       let order : r + 1 + 1 ≡ r + 2 = omega arith in
       subst (All (λ t. t ≢ k.zero)) (ap (λ i. layer_factors k gen (r + 1) (gen i) 0) order ∙ y_factors k gen r) (nonzero (r + 1) 0 (omega arith) (omega (arith, fits)))
 
-  pub x_twiddles-nonzero : (r : ℕ) → r + 3 ≤ bits → All (λ t. t ≢ k.zero) (x_twiddles k gen r)
-  x_twiddles-nonzero r fits =
+  pub fold_x_twiddles-nonzero : (r : ℕ) → r + 3 ≤ bits → All (λ t. t ≢ k.zero) (fold_x_twiddles k gen r)
+  fold_x_twiddles-nonzero r fits =
       let order : r + 2 + 1 ≡ r + 3 = omega arith in
       subst (All (λ t. t ≢ k.zero)) (ap (λ i. layer_factors k gen (r + 2) (gen i) 1) order ∙ x_factors k gen r) (nonzero (r + 2) 1 (omega arith) (omega (arith, fits)))
 
@@ -85,7 +81,7 @@ every_second-read (x ∷ y ∷ xs) (suc h) d =
 
 module _ {F : Type 0} {k : FieldOps F} (laws : FieldLaws k) {bits : ℕ} {gen : ℕ → Coordinates F} (gens : AreGenerators k bits gen) where
   x_twiddle : (r index : ℕ) (d : Coordinates F) → index < 2 ^ r → r + 3 ≤ bits →
-      (slice_index_or (natural_order k gen (r + 2) (gen (r + 3))) (cfft_index (r + 2) (index * 4)) d).x ≡ slice_index_or (x_twiddles k gen r) index k.zero
+      (slice_index_or (natural_order k gen (r + 2) (gen (r + 3))) (cfft_index (r + 2) (index * 4)) d).x ≡ slice_index_or (fold_x_twiddles k gen r) index k.zero
   x_twiddle r index d lt fits =
       let s = gen (r + 3) in
       let points = coset k gen (r + 1) s in
@@ -95,7 +91,7 @@ module _ {F : Type 0} {k : FieldOps F} (laws : FieldLaws k) {bits : ℕ} {gen : 
       let first : r + 1 ≡ suc r = omega arith in
       let low : index + index < 2 ^ (r + 1) = omega (arith, lt, ap (λ n. 2 ^ n) first, pow-suc 2 r) in
       let within : index * 4 < 2 ^ suc (r + 1) = omega (arith, low, pow-suc 2 (r + 1)) in
-      let counted : index < length (every_second points) = omega (arith, lt, length-x_twiddles k gen r, length-map (every_second points) x) in
+      let counted : index < length (every_second points) = omega (arith, lt, length-fold_x_twiddles k gen r, length-map (every_second points) x) in
       ap (λ m. x (slice_index_or (natural_from k (2 ^ m) (gen m) s 0) (cfft_index (r + 2) (index * 4)) d)) (sym before)
       ∙ ap (λ n. x (slice_index_or (natural_from k (2 ^ (r + 1)) (gen (r + 1)) s 0) (cfft_index n (index * 4)) d)) (sym size)
       ∙ ap x (sym (cfft-place laws.ring gens (r + 1) (index * 4) s d within (omega (arith, fits)))
@@ -105,7 +101,7 @@ module _ {F : Type 0} {k : FieldOps F} (laws : FieldLaws k) {bits : ℕ} {gen : 
 
   -- the x coordinate of the point that is computed for a row
   pub x_twiddle-of : (r arity n index place : ℕ) (s p : Coordinates F) → index < 2 ^ r → r + 3 ≤ bits → bits ≤ 62 → arity ≡ 1 → n ≡ r + arity + 1 → s ≡ gen (r + arity + 1 + 1) →
-      place ≡ cfft_index (r + arity + 1) (index * 4 % 2 ^ 64) → slice_get (natural_order k gen n s) place ≡ Some p → p.x ≡ slice_index_or (x_twiddles k gen r) index k.zero
+      place ≡ cfft_index (r + arity + 1) (index * 4 % 2 ^ 64) → slice_get (natural_order k gen n s) place ≡ Some p → p.x ≡ slice_index_or (fold_x_twiddles k gen r) index k.zero
   x_twiddle-of r arity n index place s p lt fits small one size shift is_place here =
       let two : r + arity + 1 ≡ r + 2 = omega (arith, one) in
       let three : r + arity + 1 + 1 ≡ r + 3 = omega (arith, one) in

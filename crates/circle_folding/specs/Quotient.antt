@@ -1,5 +1,6 @@
--- The quotient of claimed values at a point of the circle: Circle STARKs (ePrint 2024/278), section 6, Remark 21.
-use Rattle.std.specs.Prelude.{List, length, map}
+-- The quotient of claimed values at a point of the circle: Circle STARKs (ePrint 2024/278), section
+-- 6, Remark 21.
+use Rattle.std.specs.Prelude.{◌≡◌, List, length, map}
 use Rattle.std.specs.List.{range_with_len}
 use Rattle.circle_field.specs.Field.{FieldOps, sub, nth_power}
 use Rattle.circle_field.specs.Circle.{Coordinates}
@@ -8,7 +9,8 @@ use Rattle.circle_domain.specs.Lagrange.{dot}
 use Rattle.circle_domain.specs.Layers.{pairwise}
 
 module _ {F E : Type 0} (l : FieldOps E) (embed : F → E) where
-  -- the real and the imaginary part of the vanishing function of z at x: 1 - d.x and -d.y, where d is x - z
+  -- the real and the imaginary part of the vanishing function of z at x: 1 - d.x and -d.y, where d
+  -- is x - z
   abbrev pub real_part : Coordinates F → Coordinates E → E
   real_part x z = sub l l.one (difference_from l embed x z).x
 
@@ -22,11 +24,16 @@ module _ {F E : Type 0} (l : FieldOps E) (embed : F → E) where
   -- (re - top * im) / (2 re) times the sum of the differences, each times its weight
   abbrev pub weighted_quotient : E → List E → Coordinates F → Coordinates E → List F → List E → E
   weighted_quotient top weights x z row values =
-      l.mul (l.mul (sub l (real_part x z) (l.mul top (imaginary_part x z))) (l.inv (l.add (real_part x z) (real_part x z))))
-      (dot l weights (differences row values))
+      l.mul (l.mul (sub l (real_part x z) (l.mul top (imaginary_part x z)))
+      (l.inv (l.add (real_part x z) (real_part x z)))) (dot l weights (differences row values))
 
-  -- the quotient at x of a row under values claimed at z: the weights are 1, alpha, alpha^2, .., and the top one is alpha to
-  -- the row's width
+  -- the quotient at x of a row under values claimed at z: the weights are 1, alpha, alpha^2, ..,
+  -- and the top one is alpha to the row's width
   abbrev pub claim_quotient : E → Coordinates F → Coordinates E → List F → List E → E
   claim_quotient alpha x z row values =
-      weighted_quotient (nth_power l alpha (length row)) (map (nth_power l alpha) (range_with_len 0 (length row))) x z row values
+      weighted_quotient (nth_power l alpha (length row))
+      (map (nth_power l alpha) (range_with_len 0 (length row))) x z row values
+
+-- 1, alpha, alpha^2, ..
+abbrev pub ArePowers : {E : Type 0} → FieldOps E → E → List E → Type 0
+ArePowers l alpha powers = powers ≡ map (nth_power l alpha) (range_with_len 0 (length powers))

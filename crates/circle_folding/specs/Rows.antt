@@ -3,7 +3,7 @@ use Rattle.std.specs.Prelude.{◌≡◌, ℕ, ◌+◌, ◌*◌, ◌-◌, ◌%◌
 use Rattle.std.proofs.Common.{zero, suc}
 use Rattle.circle_field.specs.Field.{FieldOps}
 use Rattle.circle_field.specs.Circle.{Coordinates, at, plus}
-use Rattle.circle_folding.specs.Fold.{folds, x_twiddles}
+use Rattle.circle_folding.specs.Fold.{folds, fold_x_twiddles}
 use Rattle.circle_folding.specs.Chain.{first_layer_twiddle, round_twiddle, asked_pairs, next_value}
 
 abbrev ops : FieldOps ℕ
@@ -25,18 +25,24 @@ abbrev gen : ℕ → Coordinates ℕ
 gen n = doubled_times (5 - n) (at 2 11)
 
 -- twice the square less one of each twiddle is, up to the sign, one of the next round's
-twiddles_row : map (x_twiddles ops gen) (2 ∷ 1 ∷ 0 ∷ []) ≡ (2 ∷ 11 ∷ 21 ∷ 5 ∷ []) ∷ (7 ∷ 13 ∷ []) ∷ (4 ∷ []) ∷ []
+twiddles_row : map (fold_x_twiddles ops gen) (2 ∷ 1 ∷ 0 ∷ [])
+    ≡ (2 ∷ 11 ∷ 21 ∷ 5 ∷ []) ∷ (7 ∷ 13 ∷ []) ∷ (4 ∷ []) ∷ []
 twiddles_row = refl
 
 -- a word of 8 entries folded twice
-folded_row : folds ops 2 (x_twiddles ops gen 2) ((3 ∷ 1 ∷ []) ∷ (4 ∷ 1 ∷ []) ∷ (5 ∷ 9 ∷ []) ∷ (2 ∷ 6 ∷ []) ∷ []) ≡ 3 ∷ 7 ∷ 26 ∷ 28 ∷ []
+folded_row : folds ops 2 (fold_x_twiddles ops gen 2)
+    ((3 ∷ 1 ∷ []) ∷ (4 ∷ 1 ∷ []) ∷ (5 ∷ 9 ∷ []) ∷ (2 ∷ 6 ∷ []) ∷ []) ≡ 3 ∷ 7 ∷ 26 ∷ 28 ∷ []
 folded_row = refl
 
-folded_again_row : folds ops 7 (x_twiddles ops gen 1) ((3 ∷ 7 ∷ []) ∷ (26 ∷ 28 ∷ []) ∷ []) ≡ 3 ∷ 5 ∷ []
+folded_again_row : folds ops 7 (fold_x_twiddles ops gen 1)
+    ((3 ∷ 7 ∷ []) ∷ (26 ∷ 28 ∷ []) ∷ []) ≡ 3 ∷ 5 ∷ []
 folded_again_row = refl
 
--- queries 13, 2 and 7 of 16 ask for the pairs 6, 1 and 3 of the first word of 16 entries, and for 3, 0 and 1 of that of 8
-first_layer_twiddles_row : map (λ h. map (first_layer_twiddle ops gen h 4) (13 ∷ 2 ∷ 7 ∷ [])) (4 ∷ 3 ∷ []) ≡ (10 ∷ 20 ∷ 2 ∷ []) ∷ (7 ∷ 13 ∷ 18 ∷ []) ∷ []
+-- queries 13, 2 and 7 of 16 ask for the pairs 6, 1 and 3 of the first word of 16 entries, and for
+-- 3, 0 and 1 of that of 8
+first_layer_twiddles_row :
+    map (λ h. map (first_layer_twiddle ops gen h 4) (13 ∷ 2 ∷ 7 ∷ [])) (4 ∷ 3 ∷ [])
+    ≡ (10 ∷ 20 ∷ 2 ∷ []) ∷ (7 ∷ 13 ∷ 18 ∷ []) ∷ []
 first_layer_twiddles_row = refl
 
 -- in the rounds they ask for the entries 6, 1 and 3 of that word, and then for entries 3, 0 and 1
@@ -46,11 +52,14 @@ query_twiddles_row = refl
 next_twiddles_row : map (round_twiddle ops gen 4 1) (13 ∷ 2 ∷ 7 ∷ []) ≡ 13 ∷ 7 ∷ 7 ∷ []
 next_twiddles_row = refl
 
-asked_pairs_row : asked_pairs {E = ℕ} 1 (13 ∷ 2 ∷ 7 ∷ []) (2 ∷ 1 ∷ 1 ∷ []) (6 ∷ 3 ∷ 4 ∷ []) ≡ (2 ∷ 6 ∷ []) ∷ (3 ∷ 1 ∷ []) ∷ (4 ∷ 1 ∷ []) ∷ []
+asked_pairs_row : asked_pairs {E = ℕ} 1 (13 ∷ 2 ∷ 7 ∷ []) (2 ∷ 1 ∷ 1 ∷ []) (6 ∷ 3 ∷ 4 ∷ [])
+    ≡ (2 ∷ 6 ∷ []) ∷ (3 ∷ 1 ∷ []) ∷ (4 ∷ 1 ∷ []) ∷ []
 asked_pairs_row = refl
 
 -- of a word that has as many entries as there are indices a query is itself the place
-asked_pairs-themselves_row : asked_pairs {E = ℕ} 0 (13 ∷ 2 ∷ 7 ∷ []) (2 ∷ 1 ∷ 1 ∷ []) (6 ∷ 3 ∷ 4 ∷ []) ≡ (6 ∷ 2 ∷ []) ∷ (1 ∷ 3 ∷ []) ∷ (4 ∷ 1 ∷ []) ∷ []
+asked_pairs-themselves_row :
+    asked_pairs {E = ℕ} 0 (13 ∷ 2 ∷ 7 ∷ []) (2 ∷ 1 ∷ 1 ∷ []) (6 ∷ 3 ∷ 4 ∷ [])
+    ≡ (6 ∷ 2 ∷ []) ∷ (1 ∷ 3 ∷ []) ∷ (4 ∷ 1 ∷ []) ∷ []
 asked_pairs-themselves_row = refl
 
 -- query 13 meets entry 3 of the word folded once, and entry 1 of the word folded twice

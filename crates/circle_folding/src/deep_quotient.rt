@@ -1,6 +1,7 @@
-//! Quotients that bind claimed values to a row, and the multiple of the vanishing polynomial in a word.
-ghost use Rattle.std.specs.Prelude.{◌≡◌, ℕ, ◌+◌, ◌-◌, ◌*◌, ◌^◌, ◌<◌, ◌≤◌, ◌↔◌, length, map, IsNone, IfSome, IfOk, OnErr};
-ghost use Rattle.std.specs.List.{range_with_len};
+//! Quotients that bind claimed values to a row, and the multiple of the vanishing polynomial in a
+//! word.
+ghost use Rattle.std.specs.Prelude.{◌≡◌, ℕ, ◌+◌, ◌*◌, ◌^◌, ◌<◌, ◌≤◌, ◌↔◌};
+ghost use Rattle.std.specs.Prelude.{length, map, IsNone, IfSome, IfOk, OnErr};
 ghost use Rattle.circle_field.specs.Field.{nth_power, sub};
 ghost use Rattle.circle_field.specs.Circle.{lifted};
 ghost use Rattle.circle_point.specs.Point.{coordinates};
@@ -9,18 +10,21 @@ ghost use Rattle.circle_domain.specs.Layers.{pairwise};
 ghost use Rattle.circle_folding.specs.Blocks.{spread, sum_of};
 ghost use Rattle.circle_folding.specs.Lambda.{lambda_of, remainder_of};
 ghost use Rattle.circle_folding.specs.Quotient.{differences, weighted_quotient, claim_quotient};
+ghost use Rattle.circle_folding.specs.Quotient.{ArePowers};
 
+use circle_commit::log2_strict;
 use circle_domain::{CircleDomain, first_points};
 use circle_field::{ComplexExtendable, ExtensionField, Field};
 use circle_point::Point;
 use std::alloc::{AllocError, Global};
 
-/// The quotient of one row, at the point `x` of a domain, under values that are claimed at `zeta` (Circle
-/// STARKs, section 6, Remark 21): `(re - alpha_pow_width * im) / (2 re)`, with `(re, im)` of
-/// [`Point::v_p`], times the sum of `alpha_powers[j] * (ps_at_x[j] - ps_at_zeta[j])`. `None` exactly where
-/// `x` is `zeta`.
+/// The quotient of one row, at the point `x` of a domain, under values that are claimed at `zeta`
+/// (Circle STARKs, section 6, Remark 21): `(re - alpha_pow_width * im) / (2 re)`, with `(re, im)`
+/// of [`Point::v_p`], times the sum of `alpha_powers[j] * (ps_at_x[j] - ps_at_zeta[j])`. `None`
+/// exactly where `x` is `zeta`.
 ///
-/// Asks as many claimed values as the row has entries, and at least as many powers. Takes no memory.
+/// Asks as many claimed values as the row has entries, and at least as many powers. Takes no
+/// memory.
 pub fn deep_quotient_reduce_row<F: ComplexExtendable, EF: ExtensionField<F>>(
     alpha_pow_width: EF,
     alpha_powers: &[EF],
@@ -32,10 +36,12 @@ pub fn deep_quotient_reduce_row<F: ComplexExtendable, EF: ExtensionField<F>>(
     requires widths { length ps_at_x.now ≡ length ps_at_zeta.now }
     requires enough { length ps_at_x.now ≤ length alpha_powers.now }
     ensures none { IsNone result ↔ (lifted EF.embed (coordinates x) ≡ coordinates zeta) }
-    ensures value { IfSome result (λ q. q ≡ weighted_quotient EF.ops EF.embed alpha_pow_width alpha_powers.now (coordinates x) (coordinates zeta) ps_at_x.now ps_at_zeta.now) }
-    ensures claim { IfSome result (λ q. (alpha : EF) → alpha_pow_width ≡ nth_power EF.ops alpha (length ps_at_x.now) →
-        alpha_powers.now ≡ map (nth_power EF.ops alpha) (range_with_len 0 (length alpha_powers.now)) →
-        q ≡ claim_quotient EF.ops EF.embed alpha (coordinates x) (coordinates zeta) ps_at_x.now ps_at_zeta.now) }
+    ensures value { IfSome result (λ q. q ≡ weighted_quotient EF.ops EF.embed alpha_pow_width
+        alpha_powers.now (coordinates x) (coordinates zeta) ps_at_x.now ps_at_zeta.now) }
+    ensures claim { IfSome result (λ q. (alpha : EF) →
+        alpha_pow_width ≡ nth_power EF.ops alpha (length ps_at_x.now) →
+        ArePowers EF.ops alpha alpha_powers.now → q ≡ claim_quotient EF.ops EF.embed alpha
+        (coordinates x) (coordinates zeta) ps_at_x.now ps_at_zeta.now) }
 {
     let (re, im) = x.v_p(zeta);
     let inverse = re.double().try_inverse()?;
@@ -60,24 +66,28 @@ fn weighted_differences<F: ComplexExtendable, EF: ExtensionField<F>>(
     sum
 }
 
-/// The multiple of the vanishing polynomial in a word over the standard domain of its length, in the order
-/// of the transform, which the word then loses (Circle STARKs, section 4.3, Lemma 6): with `2^L` entries
-/// and `n = L - log_blowup`, the sum of the entries times `v_n`, divided by `2^(L - 1)`.
+/// The multiple of the vanishing polynomial in a word over the standard domain of its length, in
+/// the order of the transform, which the word then loses (Circle STARKs, section 4.3, Lemma 6):
+/// with `2^L` entries and `n = L - log_blowup`, the sum of the entries times `v_n`, divided by
+/// `2^(L - 1)`.
 ///
-/// Asks `2^L` entries with `L + 1 <= CIRCLE_TWO_ADICITY` and `1 <= log_blowup < L`. Where memory is refused
-/// the word stays as it was.
+/// Asks `2^L` entries with `L + 1 <= CIRCLE_TWO_ADICITY` and `1 <= log_blowup < L`. Where memory is
+/// refused the word stays as it was.
 pub fn extract_lambda<F: ComplexExtendable, EF: ExtensionField<F>>(
     alloc: Global,
     lde: &mut [EF],
     log_blowup: usize,
 ) -> Result<EF, AllocError>
-    requires size { (m : ℕ) × (length lde.old ≡ 2 ^ m) × (log_blowup < m) × (m + 1 ≤ F.CIRCLE_TWO_ADICITY) }
+    requires size { (m : ℕ) × (length lde.old ≡ 2 ^ m) × (log_blowup < m)
+        × (m + 1 ≤ F.CIRCLE_TWO_ADICITY) }
     requires blowup { 1 ≤ log_blowup }
-    ensures lambda { IfOk result (λ lambda. (m : ℕ) → length lde.old ≡ 2 ^ m → lambda ≡ lambda_of F.ops F.generators EF.ops EF.embed log_blowup m lde.old) }
-    ensures remainder { IfOk result (λ lambda. (m : ℕ) → length lde.old ≡ 2 ^ m → lde.new ≡ remainder_of F.ops F.generators EF.ops EF.embed log_blowup m lambda lde.old) }
+    ensures lambda { IfOk result (λ lambda. (m : ℕ) → length lde.old ≡ 2 ^ m →
+        lambda ≡ lambda_of F.ops F.generators EF.ops EF.embed log_blowup m lde.old) }
+    ensures remainder { IfOk result (λ lambda. (m : ℕ) → length lde.old ≡ 2 ^ m →
+        lde.new ≡ remainder_of F.ops F.generators EF.ops EF.embed log_blowup m lambda lde.old) }
     ensures refused { OnErr result (lde.new ≡ lde.old) }
 {
-    let log_lde_size = lde.len().ilog2() as usize;
+    let log_lde_size = log2_strict(lde.len());
     let points = first_points(alloc, CircleDomain::<F>::standard(log_blowup + 1))?;
     let block = 1 << (log_lde_size - log_blowup);
     let lambda = product_with_blocks(lde, block, &points).div_2exp_u64((log_lde_size - 1) as u64);
@@ -92,7 +102,8 @@ fn product_with_blocks<F: Field, EF: ExtensionField<F>>(
     points: &[Point<F>],
 ) -> EF
     requires { length word.now ≡ length points.now * size }
-    ensures { result ≡ dot EF.ops word.now (spread size (map (λ p. EF.embed (coordinates p).x) points.now)) }
+    ensures { result
+        ≡ dot EF.ops word.now (spread size (map (λ p. EF.embed (coordinates p).x) points.now)) }
 {
     let mut sum = EF::ZERO;
     for (i, point) in points.iter().enumerate() {
@@ -121,7 +132,8 @@ fn subtract_from_blocks<F: Field, EF: ExtensionField<F>>(
     multiple: EF,
 )
     requires { length word.old ≡ length points.now * size }
-    ensures { word.new ≡ pairwise (λ a v. sub EF.ops a (EF.ops.mul multiple v)) word.old (spread size (map (λ p. EF.embed (coordinates p).x) points.now)) }
+    ensures { word.new ≡ pairwise (λ a v. sub EF.ops a (EF.ops.mul multiple v)) word.old
+        (spread size (map (λ p. EF.embed (coordinates p).x) points.now)) }
 {
     for (i, point) in points.iter().enumerate() {
         let start = i * size;

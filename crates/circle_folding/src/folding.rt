@@ -1,14 +1,13 @@
-//! Folding a word to half its length by a challenge: each pair of entries becomes one (Circle STARKs,
-//! section 4.2).
+//! Folding a word to half its length by a challenge: each pair of entries becomes one (Circle
+//! STARKs, section 4.2).
 //!
-//! The entries of the first word belong to the points of a standard domain, in the order of the transform,
-//! and a pair to two opposite points. The entries of a later word belong to x coordinates, and a pair to
-//! two opposite ones.
-ghost use Rattle.std.specs.Prelude.{◌≡◌, ◌≢◌, ℕ, ◌+◌, ◌^◌, ◌<◌, ◌≤◌, length, map, All, IfOk, slice_index_or};
-ghost use Rattle.circle_field.specs.Circle.{Coordinates};
-ghost use Rattle.circle_folding.specs.Fold.{fold, fold_pair, folds, y_twiddles, x_twiddles};
+//! The entries of the first word belong to the points of a standard domain, in the order of the
+//! transform, and a pair to two opposite points. The entries of a later word belong to x
+//! coordinates, and a pair to two opposite ones.
+ghost use Rattle.std.specs.Prelude.{◌≡◌, ◌≢◌, ℕ, ◌+◌, ◌^◌, ◌<◌, ◌≤◌, length, map, All, IfOk};
+ghost use Rattle.circle_folding.specs.Fold.{fold, folds, y_folds, x_folds, x_fold};
 
-use circle_commit::Matrix;
+use circle_commit::{Matrix, log2_strict};
 use circle_domain::{CircleDomain, cfft_permute_index, x_twiddles, y_twiddles};
 use circle_field::{ComplexExtendable, ExtensionField, Field, batch_multiplicative_inverse};
 use std::alloc::{AllocError, Global};
@@ -16,7 +15,8 @@ use std::alloc::{AllocError, Global};
 /// The first word of `2^(k + 1)` entries, as `2^k` rows of two, folded by y: a row `(a, b)` becomes
 /// `(a + b) / 2 + beta * (a - b) / (2 t)`, where `t` is the y coordinate of the row's first point.
 ///
-/// Asks width 2 and a height `2^k` with `k + 2 <= CIRCLE_TWO_ADICITY`. Fails where memory is refused.
+/// Asks width 2 and a height `2^k` with `k + 2 <= CIRCLE_TWO_ADICITY`. Fails where memory is
+/// refused.
 pub fn fold_y<F: ComplexExtendable, EF: ExtensionField<F>, M: Matrix<EF>>(
     alloc: Global,
     beta: EF,
@@ -25,19 +25,19 @@ pub fn fold_y<F: ComplexExtendable, EF: ExtensionField<F>, M: Matrix<EF>>(
     requires width { M.width evals.now ≡ 2 }
     requires height { (k : ℕ) × (M.height evals.now ≡ 2 ^ k) × (k + 2 ≤ F.CIRCLE_TWO_ADICITY) }
     ensures { IfOk result (λ folded. (k : ℕ) → M.height evals.now ≡ 2 ^ k →
-        folded.items ≡ folds EF.ops beta (map EF.embed (y_twiddles F.ops F.generators k)) (M.rows evals.now)) }
+        folded.items ≡ y_folds F.ops F.generators EF.ops EF.embed k beta (M.rows evals.now)) }
 {
-    let log_height = evals.height().ilog2() as usize;
+    let log_height = log2_strict(evals.height());
     let twiddles = y_twiddles(alloc, CircleDomain::<F>::standard(log_height + 1))?;
     fold_rows(alloc, beta, &twiddles, evals)
 }
 
 /// A later word of `2^(k + 1)` entries, as `2^k` rows of two, folded by x: a row `(a, b)` becomes
-/// `(a + b) / 2 + beta * (a - b) / (2 t)`, where `t` is the x coordinate that the row's first entry belongs
-/// to.
+/// `(a + b) / 2 + beta * (a - b) / (2 t)`, where `t` is the x coordinate that the row's first entry
+/// belongs to.
 ///
-/// Asks width 2, `log_arity` 1, and a height `2^k` with `k + 3 <= CIRCLE_TWO_ADICITY`. Fails where memory
-/// is refused.
+/// Asks width 2, `log_arity` 1, and a height `2^k` with `k + 3 <= CIRCLE_TWO_ADICITY`. Fails where
+/// memory is refused.
 pub fn fold_x<F: ComplexExtendable, EF: ExtensionField<F>, M: Matrix<EF>>(
     alloc: Global,
     beta: EF,
@@ -48,9 +48,9 @@ pub fn fold_x<F: ComplexExtendable, EF: ExtensionField<F>, M: Matrix<EF>>(
     requires arity { log_arity ≡ 1 }
     requires height { (k : ℕ) × (M.height evals.now ≡ 2 ^ k) × (k + 3 ≤ F.CIRCLE_TWO_ADICITY) }
     ensures { IfOk result (λ folded. (k : ℕ) → M.height evals.now ≡ 2 ^ k →
-        folded.items ≡ folds EF.ops beta (map EF.embed (x_twiddles F.ops F.generators k)) (M.rows evals.now)) }
+        folded.items ≡ x_folds F.ops F.generators EF.ops EF.embed k beta (M.rows evals.now)) }
 {
-    let log_height = evals.height().ilog2() as usize;
+    let log_height = log2_strict(evals.height());
     let domain = CircleDomain::<F>::standard(log_height + log_arity + 1);
     fold_rows(alloc, beta, &x_twiddles(alloc, domain)?, evals)
 }
@@ -69,7 +69,8 @@ pub fn fold_x_row<F: ComplexExtendable, EF: ExtensionField<F>>(
     requires arity { log_arity ≡ 1 }
     requires in_group { log_folded_height + 3 ≤ F.CIRCLE_TWO_ADICITY }
     requires index { index < 2 ^ log_folded_height }
-    ensures { result ≡ fold_pair EF.ops beta (EF.embed (slice_index_or (x_twiddles F.ops F.generators log_folded_height) index F.ops.zero)) evals }
+    ensures { result
+        ≡ x_fold F.ops F.generators EF.ops EF.embed log_folded_height index beta evals }
 {
     let log_n = log_folded_height + log_arity + 1;
     let domain = CircleDomain::<F>::standard(log_n);
@@ -85,7 +86,8 @@ pub fn fold_row_with_inv_twiddle<F: Field, EF: ExtensionField<F>>(
     low: EF,
     high: EF,
 ) -> EF
-    ensures { (t : F) → t ≢ F.ops.zero → inv_twiddle ≡ F.ops.inv t → result ≡ fold EF.ops low high (EF.embed t) beta }
+    ensures { (t : F) → t ≢ F.ops.zero → inv_twiddle ≡ F.ops.inv t →
+        result ≡ fold EF.ops low high (EF.embed t) beta }
 {
     (low + high + beta * (low - high).times_base(inv_twiddle)).halve()
 }
@@ -100,7 +102,8 @@ fn fold_rows<F: Field, EF: ExtensionField<F>, M: Matrix<EF>>(
     requires width { M.width evals.now ≡ 2 }
     requires height { M.height evals.now ≡ length twiddles.now }
     requires nonzero { All (λ t. t ≢ F.ops.zero) twiddles.now }
-    ensures { IfOk result (λ folded. folded.items ≡ folds EF.ops beta (map EF.embed twiddles.now) (M.rows evals.now)) }
+    ensures { IfOk result (λ folded. folded.items
+        ≡ folds EF.ops beta (map EF.embed twiddles.now) (M.rows evals.now)) }
 {
     let inverses = batch_multiplicative_inverse(alloc, twiddles)?;
     let mut folded = Vec::with_capacity(alloc, inverses.len())?;

@@ -1,5 +1,5 @@
-//! What the opening argument of Circle STARKs (IACR ePrint 2024/278) does with words: quotients that bind
-//! claimed values, and folding by pairs.
+//! What the opening argument of Circle STARKs (IACR ePrint 2024/278) does with words: quotients
+//! that bind claimed values, and folding by pairs.
 #![tactic(auto)]
 
 pub mod deep_quotient;
@@ -16,5 +16,5 @@ pub use query::{
     first_layer_twiddles, first_x_twiddles, fold_query_values, next_x_twiddles, push_query_pairs,
     query_pairs,
 };
-pub use reduced::{add_quotients, query_points, subtract_vanishing};
+pub use reduced::{Claim, MatrixRows, add_quotients, query_points, subtract_vanishing};
 pub use strategy::CircleFriFolding;

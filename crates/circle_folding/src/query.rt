@@ -1,16 +1,18 @@
 //! Folding the values that queries ask for, all queries of a word together.
 //!
-//! A query is an index below `2^log_max_height`, the greatest height that is committed. Of a word of
-//! `2^(log_max_height - bits)` entries it asks for the one at place `index >> bits`; its pair has the index
-//! `index >> (bits + 1)`, and its sibling is the other entry of the pair. Round `r` folds a word of
-//! `2^(log_max_height - 1 - r)` entries, so there `bits` is `r + 1`.
-ghost use Rattle.std.specs.Prelude.{◌≡◌, ◌≢◌, ℕ, ◌+◌, ◌-◌, ◌/◌, ◌^◌, ◌<◌, ◌≤◌, [], ◌∷◌, ◌++◌, length, map, All, IfOk, OnOk, OnErr, slice_index_or};
+//! A query is an index below `2^log_max_height`, the greatest height that is committed. Of a word
+//! of `2^(log_max_height - bits)` entries it asks for the one at place `index >> bits`; its pair
+//! has the index `index >> (bits + 1)`, and its sibling is the other entry of the pair. Round `r`
+//! folds a word of `2^(log_max_height - 1 - r)` entries, so there `bits` is `r + 1`.
+ghost use Rattle.std.specs.Prelude.{◌≡◌, ◌≢◌, ℕ, ◌+◌, ◌/◌, ◌^◌, ◌<◌, ◌≤◌, [], ◌∷◌, ◌++◌};
+ghost use Rattle.std.specs.Prelude.{length, map, All, IfOk, OnOk, OnErr, slice_index_or};
 ghost use Rattle.circle_commit.specs.Mmcs.{opened_rows};
 ghost use Rattle.circle_point.specs.Point.{coordinates};
 ghost use Rattle.circle_domain.specs.Layers.{pairwise};
 ghost use Rattle.circle_folding.specs.Fold.{folds};
 ghost use Rattle.circle_folding.specs.Queries.{query_point};
-ghost use Rattle.circle_folding.specs.Chain.{first_layer_twiddle, round_twiddle, pair_of, asked_pairs, next_value};
+ghost use Rattle.circle_folding.specs.Chain.{first_layer_twiddle, round_twiddle, round_twiddles};
+ghost use Rattle.circle_folding.specs.Chain.{pair_of, asked_pairs, next_value};
 
 use crate::folding::fold_row_with_inv_twiddle;
 use circle_commit::OpenedRows;
@@ -19,23 +21,32 @@ use circle_field::{ComplexExtendable, ExtensionField, Field, batch_multiplicativ
 use circle_point::Point;
 use std::alloc::{AllocError, Global};
 
-/// For each query the twiddle of its pair in a word of the first layer, the y coordinate of the pair's first
-/// point: that of the query's own point, or its opposite where the point stands at an odd place. The place
-/// is the query without its `bits` lowest bits.
+/// For each query the twiddle of its pair in a word of `2^log_height` entries of the first layer,
+/// the y coordinate of the pair's first point: that of the query's own point, or its opposite where
+/// the point stands at an odd place. The place is the query without its lowest
+/// `log_max_height - log_height` bits.
 ///
-/// Asks a point for each query, and `bits < 63`. Fails where memory is refused.
+/// Asks `1 <= log_height <= log_max_height <= 62`, `log_height < CIRCLE_TWO_ADICITY`, queries below
+/// `2^log_max_height`, and their points, as [`query_points`](crate::query_points) gives them. Fails
+/// where memory is refused.
 pub fn first_layer_twiddles<F: ComplexExtendable>(
     alloc: Global,
-    bits: usize,
+    log_height: usize,
+    log_max_height: usize,
     indices: &[usize],
     points: &[Point<F>],
 ) -> Result<Vec<F>, AllocError>
-    requires points { length points.now ≡ length indices.now }
-    requires bits { bits < 63 }
-    ensures { IfOk result (λ twiddles. (h high : ℕ) → 1 ≤ h → h ≤ high → h < F.CIRCLE_TWO_ADICITY → bits ≡ high - h → All (λ q. q < 2 ^ high) indices.now →
-        map coordinates points.now ≡ map (query_point F.ops F.generators h high) indices.now →
-        twiddles.items ≡ map (first_layer_twiddle F.ops F.generators h high) indices.now) }
+    requires positive { 1 ≤ log_height }
+    requires within { log_height ≤ log_max_height }
+    requires in_group { log_height < F.CIRCLE_TWO_ADICITY }
+    requires small { log_max_height ≤ 62 }
+    requires below { All (λ q. q < 2 ^ log_max_height) indices.now }
+    requires points { map coordinates points.now
+        ≡ map (query_point F.ops F.generators log_height log_max_height) indices.now }
+    ensures { IfOk result (λ twiddles. twiddles.items
+        ≡ map (first_layer_twiddle F.ops F.generators log_height log_max_height) indices.now) }
 {
+    let bits = log_max_height - log_height;
     let mut twiddles = Vec::with_capacity(alloc, indices.len())?;
     for (i, index) in indices.iter().enumerate() {
         let y = points[i].y();
@@ -46,11 +57,11 @@ pub fn first_layer_twiddles<F: ComplexExtendable>(
     Ok(twiddles)
 }
 
-/// For each query the twiddle of its pair in round 0, the x coordinate that the pair's first entry belongs
-/// to.
+/// For each query the twiddle of its pair in round 0, the x coordinate that the pair's first entry
+/// belongs to.
 ///
-/// Asks `2 <= log_max_height < CIRCLE_TWO_ADICITY` and indices below `2^log_max_height`. Fails where memory
-/// is refused.
+/// Asks `2 <= log_max_height < CIRCLE_TWO_ADICITY` and indices below `2^log_max_height`. Fails
+/// where memory is refused.
 pub fn first_x_twiddles<F: ComplexExtendable>(
     alloc: Global,
     log_max_height: usize,
@@ -59,7 +70,8 @@ pub fn first_x_twiddles<F: ComplexExtendable>(
     requires height { 2 ≤ log_max_height }
     requires in_group { log_max_height < F.CIRCLE_TWO_ADICITY }
     requires in_range { All (λ q. q < 2 ^ log_max_height) indices.now }
-    ensures { IfOk result (λ twiddles. twiddles.items ≡ map (round_twiddle F.ops F.generators log_max_height 0) indices.now) }
+    ensures { IfOk result (λ twiddles. twiddles.items
+        ≡ round_twiddles F.ops F.generators log_max_height 0 indices.now) }
 {
     let domain = CircleDomain::<F>::standard(log_max_height);
     let mut twiddles = Vec::with_capacity(alloc, indices.len())?;
@@ -71,16 +83,16 @@ pub fn first_x_twiddles<F: ComplexExtendable>(
     Ok(twiddles)
 }
 
-/// Takes the queries' twiddles of this round to those of the next: `t` becomes `2 t^2 - 1`, or its opposite
-/// where the pair stands at an odd place among the pairs.
+/// Takes the queries' twiddles of this round to those of the next: `t` becomes `2 t^2 - 1`, or its
+/// opposite where the pair stands at an odd place among the pairs.
 ///
 /// Asks a twiddle for each query, and `round < 62`. Takes no memory.
 pub fn next_x_twiddles<F: ComplexExtendable>(round: usize, indices: &[usize], twiddles: &mut [F])
     requires count { length twiddles.old ≡ length indices.now }
     requires round { round < 62 }
-    ensures { (h : ℕ) → round + 3 ≤ h → h < F.CIRCLE_TWO_ADICITY → All (λ q. q < 2 ^ h) indices.now →
-        twiddles.old ≡ map (round_twiddle F.ops F.generators h round) indices.now →
-        twiddles.new ≡ map (round_twiddle F.ops F.generators h (round + 1)) indices.now }
+    ensures { (h : ℕ) → round + 3 ≤ h → h < F.CIRCLE_TWO_ADICITY → All (λ q. q < 2 ^ h) indices.now
+        → twiddles.old ≡ round_twiddles F.ops F.generators h round indices.now
+        → twiddles.new ≡ round_twiddles F.ops F.generators h (round + 1) indices.now }
 {
     for (i, twiddle) in twiddles.iter_mut().enumerate() {
         let doubled = twiddle.square().double() - F::ONE;
@@ -89,8 +101,9 @@ pub fn next_x_twiddles<F: ComplexExtendable>(round: usize, indices: &[usize], tw
     }
 }
 
-/// For each query the one row that a word's commitment is asked for: the pair of the query's value and its
-/// sibling. The value is the word's entry at the place that the query is without its `bits` lowest bits.
+/// For each query the one row that a word's commitment is asked for: the pair of the query's value
+/// and its sibling. The value is the word's entry at the place that the query is without its `bits`
+/// lowest bits.
 ///
 /// Asks a value and a sibling for each query, and `bits < 63`. Fails where memory is refused.
 pub fn query_pairs<T: Copy>(
@@ -103,7 +116,8 @@ pub fn query_pairs<T: Copy>(
     requires values { length values.now ≡ length indices.now }
     requires siblings { length siblings.now ≡ length indices.now }
     requires bits { bits < 63 }
-    ensures { IfOk result (λ rows. opened_rows rows.items ≡ map (λ pair. pair ∷ []) (asked_pairs bits indices.now values.now siblings.now)) }
+    ensures { IfOk result (λ rows. opened_rows rows.items
+        ≡ map (λ pair. pair ∷ []) (asked_pairs bits indices.now values.now siblings.now)) }
 {
     let mut rows = Vec::with_capacity(alloc, indices.len())?;
     for _ in indices {
@@ -113,12 +127,12 @@ pub fn query_pairs<T: Copy>(
     Ok(rows)
 }
 
-/// Adds to each query's rows the one that the commitment to one more word is asked for: the pair of the
-/// query's value and its sibling. The value is the word's entry at the place that the query is without its
-/// `bits` lowest bits.
+/// Adds to each query's rows the one that the commitment to one more word is asked for: the pair of
+/// the query's value and its sibling. The value is the word's entry at the place that the query is
+/// without its `bits` lowest bits.
 ///
-/// Asks a list of rows, a value and a sibling for each query, and `bits < 63`. Where memory is refused the
-/// rows are of no use.
+/// Asks a list of rows, a value and a sibling for each query, and `bits < 63`. Where memory is
+/// refused the rows are of no use.
 pub fn push_query_pairs<T: Copy>(
     alloc: Global,
     rows: &mut [Vec<Vec<T>>],
@@ -131,7 +145,8 @@ pub fn push_query_pairs<T: Copy>(
     requires values { length values.now ≡ length indices.now }
     requires siblings { length siblings.now ≡ length indices.now }
     requires bits { bits < 63 }
-    ensures { OnOk result (opened_rows rows.new ≡ pairwise (λ rs pair. rs ++ pair ∷ []) (opened_rows rows.old) (asked_pairs bits indices.now values.now siblings.now)) }
+    ensures { OnOk result (opened_rows rows.new ≡ pairwise (λ rs pair. rs ++ pair ∷ [])
+        (opened_rows rows.old) (asked_pairs bits indices.now values.now siblings.now)) }
 {
     for (i, row) in rows.iter_mut().enumerate() {
         row.push(pair_row(alloc, indices[i] >> bits, values[i], siblings[i])?)?;
@@ -139,11 +154,12 @@ pub fn push_query_pairs<T: Copy>(
     Ok(())
 }
 
-/// Folds each query's pair by `beta`, where the query without its `bits` lowest bits is the place of its
-/// value: the values become those of the folded word, to which whoever calls adds what joins it.
+/// Folds each query's pair by `beta`, where the query without its `bits` lowest bits is the place
+/// of its value: the values become those of the folded word, to which whoever calls adds what
+/// joins it.
 ///
-/// Asks a twiddle that isn't 0, a value and a sibling for each query, and `bits < 63`. Where memory is
-/// refused the values stay as they were.
+/// Asks a twiddle that isn't 0, a value and a sibling for each query, and `bits < 63`. Where
+/// memory is refused the values stay as they were.
 pub fn fold_query_values<F: Field, EF: ExtensionField<F>>(
     alloc: Global,
     beta: EF,
@@ -158,10 +174,13 @@ pub fn fold_query_values<F: Field, EF: ExtensionField<F>>(
     requires values { length values.old ≡ length indices.now }
     requires siblings { length siblings.now ≡ length indices.now }
     requires bits { bits < 63 }
-    ensures folded { OnOk result (values.new ≡ folds EF.ops beta (map EF.embed twiddles.now) (asked_pairs bits indices.now values.old siblings.now)) }
-    ensures each { OnOk result ((i : ℕ) (d : EF) → i < length indices.now → slice_index_or values.new i d ≡ next_value EF.ops beta
-        (EF.embed (slice_index_or twiddles.now i F.ops.zero)) (slice_index_or indices.now i 0 / 2 ^ bits)
-        (slice_index_or values.old i d) (slice_index_or siblings.now i d)) }
+    ensures folded { OnOk result (values.new ≡ folds EF.ops beta (map EF.embed twiddles.now)
+        (asked_pairs bits indices.now values.old siblings.now)) }
+    ensures each { OnOk result ((i : ℕ) (d : EF) → i < length indices.now →
+        slice_index_or values.new i d ≡ next_value EF.ops beta
+        (EF.embed (slice_index_or twiddles.now i F.ops.zero))
+        (slice_index_or indices.now i 0 / 2 ^ bits) (slice_index_or values.old i d)
+        (slice_index_or siblings.now i d)) }
     ensures refused { OnErr result (values.new ≡ values.old) }
 {
     let inverses = batch_multiplicative_inverse(alloc, twiddles)?;

@@ -1,26 +1,44 @@
-//! Reduced values: the quotients of the rows that are opened at the queries, under all claims of one height.
-ghost use Rattle.std.specs.Prelude.{◌≡◌, ◌≢◌, ℕ, ◌^◌, ◌<◌, ◌≤◌, [], length, map, All, IsNone, IfSome, IfOk, slice_index_or};
-ghost use Rattle.std.specs.List.{Any, range_with_len};
-ghost use Rattle.circle_field.specs.Field.{sub, nth_power};
-ghost use Rattle.circle_field.specs.Circle.{lifted};
-ghost use Rattle.circle_commit.specs.Mmcs.{opened_rows};
+//! Reduced values: the quotients of the rows that are opened at the queries, under all claims of
+//! one height.
+ghost use Rattle.std.specs.Prelude.{◌≡◌, ◌^◌, ◌<◌, ◌≤◌, length, map, All, IsNone, IfSome, IfOk};
+ghost use Rattle.circle_field.specs.Field.{sub};
 ghost use Rattle.circle_point.specs.Point.{coordinates};
 ghost use Rattle.circle_point.specs.Basis.{vanishing};
 ghost use Rattle.circle_domain.specs.Layers.{pairwise};
-ghost use Rattle.circle_folding.specs.Queries.{query_point, rows_of, claim_quotients};
+ghost use Rattle.circle_folding.specs.Queries.{query_point, matrix_rows, HaveWidth};
+ghost use Rattle.circle_folding.specs.Queries.{claim_quotients, Meets, IsApart, with_multiples};
+ghost use Rattle.circle_folding.specs.Quotient.{ArePowers};
 
 use crate::deep_quotient::deep_quotient_reduce_row;
 use circle_domain::{CircleDomain, cfft_permute_index};
-use circle_field::{ComplexExtendable, ExtensionField, Field};
+use circle_field::{ComplexExtendable, ExtensionField, Field, Operations};
 use circle_point::Point;
 use std::alloc::{AllocError, Global};
 
+/// The rows of one matrix among those that are opened.
+#[derive(Drop)]
+pub struct MatrixRows<'a, F> {
+    /// For each query, for each matrix, the entries of its row.
+    pub opened: &'a [Vec<Vec<F>>],
+    /// Which matrix it is.
+    pub matrix: usize,
+}
+
+/// The values that are claimed of a matrix's columns at a point.
+#[derive(Drop)]
+pub struct Claim<'a, EF: Operations> {
+    /// The point.
+    pub point: Point<EF>,
+    /// The values, one for each column.
+    pub values: &'a [EF],
+}
+
 /// The point of each query in the standard domain of `2^log_height` points: a query below
-/// `2^log_max_height` without its lowest `log_max_height - log_height` bits is a place in the order of the
-/// transform.
+/// `2^log_max_height` without its lowest `log_max_height - log_height` bits is a place in the order
+/// of the transform.
 ///
-/// Asks `1 <= log_height <= log_max_height <= 62`, `log_height < CIRCLE_TWO_ADICITY`, and queries below
-/// `2^log_max_height`. Fails where memory is refused.
+/// Asks `1 <= log_height <= log_max_height <= 62`, `log_height < CIRCLE_TWO_ADICITY`, and queries
+/// below `2^log_max_height`. Fails where memory is refused.
 pub fn query_points<F: ComplexExtendable>(
     alloc: Global,
     log_height: usize,
@@ -32,7 +50,8 @@ pub fn query_points<F: ComplexExtendable>(
     requires in_group { log_height < F.CIRCLE_TWO_ADICITY }
     requires small { log_max_height ≤ 62 }
     requires below { All (λ q. q < 2 ^ log_max_height) queries.now }
-    ensures { IfOk result (λ points. map coordinates points.items ≡ map (query_point F.ops F.generators log_height log_max_height) queries.now) }
+    ensures { IfOk result (λ points. map coordinates points.items
+        ≡ map (query_point F.ops F.generators log_height log_max_height) queries.now) }
 {
     let domain = CircleDomain::<F>::standard(log_height);
     let mut points = Vec::with_capacity(alloc, queries.len())?;
@@ -43,39 +62,41 @@ pub fn query_points<F: ComplexExtendable>(
     Ok(points)
 }
 
-/// Adds to the sum of each query the quotient of its row under values that are claimed at `zeta`, times
-/// `offset`. `None` exactly where `zeta` is the point of a query; the sums are of no use then.
+/// Adds to the sum of each query the quotient of its row under the claim, times `offset`. `None`
+/// exactly where the claim's point is that of a query; the sums are of no use then.
 ///
-/// Asks a point and opened rows for each sum, in these a row of `matrix` of as many entries as there are
-/// claimed values, and more powers. Takes no memory.
+/// Asks a point and opened rows for each sum, in these a row of the matrix of as many entries as
+/// there are claimed values, and more powers. Takes no memory.
 pub fn add_quotients<F: ComplexExtendable, EF: ExtensionField<F>>(
     sums: &mut [EF],
     offset: EF,
     alpha_powers: &[EF],
     points: &[Point<F>],
-    zeta: Point<EF>,
-    opened_values: &[Vec<Vec<F>>],
-    matrix: usize,
-    values: &[EF],
+    rows: &MatrixRows<F>,
+    claim: &Claim<EF>,
 ) -> Option<()>
     requires points { length points.now ≡ length sums.old }
-    requires opened { length opened_values.now ≡ length sums.old }
-    requires rows { All (λ rows. (matrix < length rows) × (length (slice_index_or rows matrix []) ≡ length values.now)) (opened_rows opened_values.now) }
-    requires enough { length values.now < length alpha_powers.now }
-    ensures none { IsNone result → Any (λ p. lifted EF.embed p ≡ coordinates zeta) (map coordinates points.now) }
-    ensures apart { IfSome result (λ _. All (λ p. lifted EF.embed p ≢ coordinates zeta) (map coordinates points.now)) }
-    ensures sums { IfSome result (λ _. (alpha : EF) → alpha_powers.now ≡ map (nth_power EF.ops alpha) (range_with_len 0 (length alpha_powers.now)) →
-        sums.new ≡ pairwise (λ s q. EF.ops.add s (EF.ops.mul offset q)) sums.old
-        (claim_quotients EF.ops EF.embed alpha (map coordinates points.now) (coordinates zeta) (rows_of matrix (opened_rows opened_values.now)) values.now)) }
+    requires opened { length rows.now.opened.now ≡ length sums.old }
+    requires rows { HaveWidth (length claim.now.values.now) rows.now }
+    requires enough { length claim.now.values.now < length alpha_powers.now }
+    ensures none { IsNone result →
+        Meets EF.embed (map coordinates points.now) (coordinates claim.now.point) }
+    ensures apart { IfSome result (λ _.
+        IsApart EF.embed (map coordinates points.now) (coordinates claim.now.point)) }
+    ensures sums { IfSome result (λ _. (alpha : EF) → ArePowers EF.ops alpha alpha_powers.now →
+        sums.new ≡ with_multiples EF.ops offset sums.old (claim_quotients EF.ops EF.embed alpha
+        (map coordinates points.now) (coordinates claim.now.point) (matrix_rows rows.now)
+        claim.now.values.now)) }
 {
+    let (opened, values) = (rows.opened, claim.values);
     let alpha_pow_width = alpha_powers[values.len()];
     for (i, sum) in sums.iter_mut().enumerate() {
-        let row = &opened_values[i][matrix];
+        let row = &opened[i][rows.matrix];
         let quotient = deep_quotient_reduce_row(
             alpha_pow_width,
             alpha_powers,
             points[i],
-            zeta,
+            claim.point,
             row,
             values,
         )?;
@@ -84,8 +105,8 @@ pub fn add_quotients<F: ComplexExtendable, EF: ExtensionField<F>>(
     Some(())
 }
 
-/// Takes from each value `lambda` times `v_n` of its point, the vanishing polynomial of the standard domain
-/// of `2^n` points.
+/// Takes from each value `lambda` times `v_n` of its point, the vanishing polynomial of the
+/// standard domain of `2^n` points.
 ///
 /// Asks a point for each value, and `n >= 1`. Takes no memory.
 pub fn subtract_vanishing<F: Field, EF: ExtensionField<F>>(
@@ -96,7 +117,8 @@ pub fn subtract_vanishing<F: Field, EF: ExtensionField<F>>(
 )
     requires points { length points.now ≡ length values.old }
     requires positive { 1 ≤ n }
-    ensures { values.new ≡ pairwise (λ v p. sub EF.ops v (EF.ops.mul lambda (EF.embed (vanishing F.ops n p)))) values.old (map coordinates points.now) }
+    ensures { values.new ≡ pairwise (λ v p. sub EF.ops v (EF.ops.mul lambda
+        (EF.embed (vanishing F.ops n p)))) values.old (map coordinates points.now) }
 {
     for (i, value) in values.iter_mut().enumerate() {
         *value = *value - lambda.times_base(points[i].v_n(n));

@@ -1,10 +1,11 @@
-//! Tests of the crate over Mersenne31 and its cubic extension. What is expected was worked out by hand.
+//! Tests of the crate over Mersenne31 and its cubic extension. What is expected was worked out by
+//! hand.
 use crate::{
     deep_quotient_reduce_row, extract_lambda, fold_row_with_inv_twiddle, fold_x, fold_x_row, fold_y,
 };
 use circle_commit::{Matrix, RowMajorMatrix};
+use circle_domain::{CircleDomain, cfft_permute_index, layer_twiddles, x_twiddles, y_twiddles};
 use circle_field::{Cubic, ExtensionField, Field, Mersenne31};
-use circle_domain::{CircleDomain, cfft_permute_index, x_twiddles, y_twiddles};
 use circle_point::{Neutral, Point};
 use std::alloc::{AllocError, Global};
 use std::process::Abort;
@@ -140,6 +141,19 @@ fn a_line_folds_to_its_value_at_the_challenge(rt: HostRuntime) -> Result<(), Fai
     Ok(())
 }
 
+#[test]
+fn the_factors_of_the_layers(rt: HostRuntime) -> Result<(), Fail> {
+    let (alloc, domain) = (rt.alloc(), CircleDomain::<Mersenne31>::standard(4));
+    let layers = layer_twiddles(alloc, domain)?;
+    assert!(&rt; layers.len() == 4);
+    assert!(&rt; layers[0].as_slice() == y_twiddles(alloc, domain)?.as_slice());
+    assert!(&rt; layers[1].as_slice() == x_twiddles(alloc, domain)?.as_slice());
+    let (double, turn) = (Point::<Mersenne31>::generator(4), Point::generator(2));
+    assert!(&rt; layers[2].as_slice() == [double.x(), (double + turn).x()].as_slice());
+    assert!(&rt; layers[3].as_slice() == [double.double().x()].as_slice());
+    Ok(())
+}
+
 // Entries that follow no pattern, in rows of two.
 fn scattered(
     rt: &impl Abort,
@@ -215,8 +229,8 @@ fn the_multiple_of_a_small_word(rt: HostRuntime) -> Result<(), Fail> {
     Ok(())
 }
 
-// So many times the values of the vanishing polynomial of `2^(log_size - log_blowup)` points, and a line
-// in y, in the order of the transform.
+// So many times the values of the vanishing polynomial of `2^(log_size - log_blowup)` points, and
+// a line in y, in the order of the transform.
 fn line_and_multiple(
     rt: &impl Abort,
     alloc: Global,

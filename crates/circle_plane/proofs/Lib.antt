@@ -1,3 +1,4 @@
+pub mod Checked
 pub mod DoubledPoints
 pub mod DoubledValues
 pub mod EachMore
@@ -7,3 +8,4 @@ pub mod PeriodicTables
 pub mod PeriodicValues
 pub mod Periods
 pub mod Refused
+pub mod Steps

@@ -1,6 +1,6 @@
 -- The layers of the transform over stored entries, one pass after another.
 use Rattle.std.specs.Prelude.{◌≡◌, ◌≢◌, ℕ, ◌+◌, ◌-◌, ◌*◌, ◌^◌, ◌<◌, ◌≤◌, List, [], ◌∷◌, length, map}
-use Rattle.std.proofs.Common.{suc, sym, ◌∙◌, ap, refl, arith, subst}
+use Rattle.std.proofs.Common.{suc, sym, ◌∙◌, ap, refl, arith}
 use Rattle.std.proofs.Math.Nat.{pow-suc}
 use Rattle.std.proofs.lemmas.Nat.{pow-add}
 use Rattle.std.proofs.lemmas.List.{length-map}

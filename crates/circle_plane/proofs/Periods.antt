@@ -8,7 +8,7 @@ use Rattle.std.proofs.lemmas.List.{length-map, take_more}
 use Rattle.std.proofs.lemmas.List.Elements.{All-head, All-tail}
 use Rattle.circle_commit.specs.Matrix.{IsPowerOfTwo}
 use Rattle.circle_commit.specs.Mmcs.{greatest}
-use Rattle.circle_domain.proofs.Powers.{pow_order, power_is}
+use Rattle.circle_domain.proofs.Powers.{pow_order}
 use Rattle.circle_plane.specs.PeriodicColumns.{IsPeriod, table_height}
 
 greatest-append : (ns : List ℕ) (n : ℕ) → greatest (ns ++ n ∷ []) ≡ max n (greatest ns)
@@ -59,13 +59,18 @@ entries-counted periods period a b m n width e_p e_a e_b e_w =
 pub low-bits : (r n : ℕ) → IsPowerOfTwo n → bit_and r (n - 1) ≡ r % n
 low-bits r n power = ap (λ m. bit_and r (m - 1)) power.1 ∙ and_mask r power.0 ∙ ap (λ m. r % m) (sym power.1)
 
--- the logarithm of the longest period, as it is computed
+-- the logarithm of the longest period
 pub log_period : {F : Type 0} (n period r : ℕ) (columns : List (List F)) → 1 ≤ length columns → All (IsPeriod (2 ^ n)) (map length columns) →
-    period ≡ greatest (map length columns) → 2 ^ r ≤ period → period < 2 * 2 ^ r → (period ≡ 2 ^ r) × (r ≤ n)
-log_period n period r columns some periods longest low high =
+    period ≡ greatest (map length columns) → 2 ^ r ≡ period → (period ≡ 2 ^ r) × (r ≤ n)
+log_period n period r columns some periods longest power =
     let h = greatest-period (2 ^ n) (map length columns) (omega (arith, some, length-map columns length)) periods in
-    let is : period ≡ 2 ^ r = power_is period r (h.0.0, longest ∙ h.0.1) low high in
-    (is, pow_order r n (omega (arith, is, longest, h.1)))
+    (sym power, pow_order r n (omega (arith, power, longest, h.1)))
+
+-- the longest period is a power of two
+pub longest-power : {F : Type 0} (size period : ℕ) (columns : List (List F)) → 1 ≤ length columns → All (IsPeriod size) (map length columns) →
+    period ≡ greatest (map length columns) → IsPowerOfTwo period
+longest-power size period columns some periods longest =
+    subst IsPowerOfTwo (sym longest) (greatest-period size (map length columns) (omega (arith, some, length-map columns length)) periods).0
 
 pub log_positive : (period r : ℕ) → period ≡ 2 ^ r → 2 ≤ period → 1 ≤ r
 log_positive period zero is two = absurd (omega (arith, is, two))

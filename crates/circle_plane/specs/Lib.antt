@@ -1,3 +1,4 @@
 pub mod CircleEvaluations
+pub mod Coefficients
 pub mod PeriodicColumns
 pub mod PeriodicRows

@@ -1,15 +1,25 @@
 -- Columns that repeat over a trace, and the table of their values on an extension of its domain.
-use Rattle.std.specs.Prelude.{◌≡◌, ℕ, ◌-◌, ◌*◌, ◌^◌, ◌≤◌, ◌<◌, List, [], All, Some, length, map, take, slice_get, slice_index_or}
+use Rattle.std.specs.Prelude.{◌≡◌, ℕ, ◌-◌, ◌*◌, ◌^◌, ◌≤◌, ◌<◌, List, [], All, Some}
+use Rattle.std.specs.Prelude.{length, map, take, slice_get, slice_index_or, Vec}
+use Rattle.std.specs.declared.alloc.Global.{Global}
 use Rattle.circle_field.specs.Field.{FieldOps}
 use Rattle.circle_field.specs.Circle.{Coordinates}
 use Rattle.circle_commit.specs.Matrix.{IsPowerOfTwo}
 use Rattle.circle_commit.specs.Mmcs.{greatest}
 use Rattle.circle_commit.specs.PeriodicLdeTable.{width_of, height_of, entry_at}
 use Rattle.circle_commit.specs.declared.periodic.PeriodicLdeTable.{PeriodicLdeTable}
+use Rattle.circle_domain.specs.Domain.{log_size, shift_of}
 use Rattle.circle_domain.specs.Order.{natural_order}
 use Rattle.circle_domain.specs.Periodic.{IsPeriodicValue}
+use Rattle.circle_domain.specs.declared.domain.CircleDomain.{CircleDomain}
 use Rattle.circle_plane.specs.declared.periodic.PeriodicError.{PeriodicError}
-use Rattle.circle_plane.specs.declared.periodic.PeriodicError.TheVariants.{Empty, NotPowerOfTwo, LongerThanTrace, HeightTooLarge, Memory}
+use Rattle.circle_plane.specs.declared.periodic.PeriodicError.TheVariants.{Empty, NotPowerOfTwo}
+use Rattle.circle_plane.specs.declared.periodic.PeriodicError.TheVariants.{LongerThanTrace}
+use Rattle.circle_plane.specs.declared.periodic.PeriodicError.TheVariants.{HeightTooLarge, Memory}
+
+-- the columns that vectors hold
+abbrev pub columns_of : {F : Type 0} → List (Vec F Global) → List (List F)
+columns_of table = map (λ column. column.items) table
 
 -- a number of entries that repeat over so many rows
 abbrev pub IsPeriod : ℕ → ℕ → Type 0
@@ -25,7 +35,8 @@ IsFault size n Memory = ⊥
 
 -- the first of the numbers of entries with a fault has this one
 abbrev pub IsFirstFault : ℕ → List ℕ → PeriodicError → Type 0
-IsFirstFault size periods e = (j : ℕ) × (j < length periods) × All (IsPeriod size) (take j periods) × IsFault size (slice_index_or periods j 0) e
+IsFirstFault size periods e = (j : ℕ) × (j < length periods)
+    × All (IsPeriod size) (take j periods) × IsFault size (slice_index_or periods j 0) e
 
 -- the longest period, 2^blowup times over
 abbrev pub table_height : List ℕ → ℕ → ℕ
@@ -36,15 +47,33 @@ abbrev pub IsRefusal : ℕ → List ℕ → ℕ → PeriodicError → Type 0
 IsRefusal size periods blowup Empty = IsFirstFault size periods Empty
 IsRefusal size periods blowup NotPowerOfTwo = IsFirstFault size periods NotPowerOfTwo
 IsRefusal size periods blowup LongerThanTrace = IsFirstFault size periods LongerThanTrace
-IsRefusal size periods blowup HeightTooLarge = All (IsPeriod size) periods × (2 ^ 64 ≤ table_height periods blowup * length periods)
-IsRefusal size periods blowup Memory = All (IsPeriod size) periods × (table_height periods blowup * length periods < 2 ^ 64)
+IsRefusal size periods blowup HeightTooLarge =
+    All (IsPeriod size) periods × (2 ^ 64 ≤ table_height periods blowup * length periods)
+IsRefusal size periods blowup Memory =
+    All (IsPeriod size) periods × (table_height periods blowup * length periods < 2 ^ 64)
 
 module _ {F : Type 0} (k : FieldOps F) (gen : ℕ → Coordinates F) where
-  -- the columns' values at the points in natural order of the domain (m, s), an extension of a trace of 2^n rows
-  pub record IsPeriodicTable (two_adicity n m : ℕ) (s : Coordinates F) (columns : List (List F)) (table : PeriodicLdeTable F) : Type 0 where
+  -- the columns' values at the points in natural order of the domain (m, s), an extension of a
+  -- trace of 2^n rows
+  pub record IsPeriodicTable (two_adicity n m : ℕ) (s : Coordinates F) (columns : List (List F))
+      (table : PeriodicLdeTable F) : Type 0 where
     pub width : width_of table ≡ length columns
     pub height : height_of table ≡ table_height (map length columns) (m - n)
     pub columns_fit : All (IsPeriod (2 ^ n)) (map length columns)
     pub counted : table_height (map length columns) (m - n) * length columns < 2 ^ 64
-    pub values : m ≤ two_adicity → (i c : ℕ) (p : Coordinates F) → slice_get (natural_order k gen m s) i ≡ Some p → c < length columns →
-        (v : F) × (entry_at table i c ≡ Some v) × IsPeriodicValue k gen k (λ x. x) n (slice_index_or columns c []) p v
+    pub values : m ≤ two_adicity → (i c : ℕ) (p : Coordinates F) →
+        slice_get (natural_order k gen m s) i ≡ Some p → c < length columns →
+        (v : F) × (entry_at table i c ≡ Some v)
+        × IsPeriodicValue k gen k (λ x. x) n (slice_index_or columns c []) p v
+
+module _ {F : Type 0} {g : _} where
+  -- the columns' table on an extension of the trace's domain
+  abbrev pub IsTableOn : FieldOps F → (ℕ → Coordinates F) → ℕ → (trace lde : CircleDomain F g) →
+      List (List F) → PeriodicLdeTable F → Type 0
+  IsTableOn k gen two_adicity trace lde columns table =
+      IsPeriodicTable k gen two_adicity (log_size trace) (log_size lde) (shift_of lde) columns table
+
+  -- why there is none
+  abbrev pub IsRefusedOn : (trace lde : CircleDomain F g) → List (List F) → PeriodicError → Type 0
+  IsRefusedOn trace lde columns e =
+      IsRefusal (2 ^ log_size trace) (map length columns) (log_size lde - log_size trace) e

@@ -1,19 +1,19 @@
-//! Polynomials on the circle: the transform between their coefficients and their values on a domain.
-ghost use Rattle.std.specs.Prelude.{◌≡◌, ℕ, ◌≤◌, ◌^◌, ◌-◌, ◌++◌, List, map, take, IfOk, OnOk};
+//! Polynomials on the circle: the transform between their coefficients and values on a domain.
+ghost use Rattle.std.specs.Prelude.{◌≡◌, ℕ, ◌≤◌, ◌^◌, ◌++◌, List, map, IfOk, OnOk};
 ghost use Rattle.circle_commit.specs.Matrix.{IsPowerOfTwo};
 ghost use Rattle.circle_commit.specs.RowMajorMatrix.{rows, width_of, height_of};
 ghost use Rattle.circle_point.specs.Basis.{basis_values};
-ghost use Rattle.circle_domain.specs.Order.{natural_order, cfft_order, IsGenuine};
 ghost use Rattle.circle_point.specs.Point.{coordinates};
 ghost use Rattle.circle_domain.specs.Clear.{IsClearOf};
-ghost use Rattle.circle_domain.specs.Domain.{log_size, shift_of};
-ghost use Rattle.circle_domain.specs.Ordering.{other_order};
-ghost use Rattle.circle_domain.specs.Values.{HasValues, with_zero_rows, lifted_values_at, values_at};
+ghost use Rattle.circle_domain.specs.Domain.{log_size, shift_of, points_of};
 ghost use Rattle.circle_domain.specs.Layers.{copies};
+ghost use Rattle.circle_domain.specs.Order.{IsGenuine};
+ghost use Rattle.circle_domain.specs.Ordering.{other_order};
+ghost use Rattle.circle_domain.specs.Values.{lifted_values_at};
 
 use crate::dot_product::columnwise_dot_product;
 use crate::layers::{Backward, Forward, apply_layer};
-use circle_commit::{Matrix, RowMajorMatrix, Shape};
+use circle_commit::{Matrix, RowMajorMatrix, Shape, log2_strict};
 use circle_domain::{CfftPermutable, CfftView, CircleDomain, lagrange_weights, layer_twiddles};
 use circle_field::{
     ComplexExtendable, ExtensionField, Field, Operations, batch_multiplicative_inverse,
@@ -56,8 +56,10 @@ impl<F: Operations, M: Matrix<F>> CircleEvaluations<F, M> {
         requires small { log_size domain ≤ 63 }
         requires size { M.height values ≡ 2 ^ log_size domain }
         ensures domain { domain_of result ≡ domain }
-        ensures rows { ⟦<CfftView<M> as Matrix<F>>⟧.rows (cfft_values result) ≡ other_order (log_size domain) (M.rows values) }
-        ensures back { other_order (log_size domain) (⟦<CfftView<M> as Matrix<F>>⟧.rows (cfft_values result)) ≡ M.rows values }
+        ensures rows { ⟦<CfftView<M> as Matrix<F>>⟧.rows (cfft_values result)
+            ≡ other_order (log_size domain) (M.rows values) }
+        ensures back { other_order (log_size domain)
+            (⟦<CfftView<M> as Matrix<F>>⟧.rows (cfft_values result)) ≡ M.rows values }
         ensures width { ⟦<CfftView<M> as Shape>⟧.width (cfft_values result) ≡ M.width values }
     {
         CircleEvaluations::from_cfft_order(domain, values.cfft_perm_rows())
@@ -75,8 +77,8 @@ impl<F: Operations, M: Matrix<F>> CircleEvaluations<F, M> {
     pub fn to_natural_order(self) -> CfftView<M>
         ensures rows { ⟦<CfftView<M> as Matrix<F>>⟧.rows result
             ≡ other_order (log_size (domain_of self)) (M.rows (cfft_values self)) }
-        ensures back { other_order (log_size (domain_of self)) (⟦<CfftView<M> as Matrix<F>>⟧.rows result)
-            ≡ M.rows (cfft_values self) }
+        ensures back { other_order (log_size (domain_of self))
+            (⟦<CfftView<M> as Matrix<F>>⟧.rows result) ≡ M.rows (cfft_values self) }
         ensures width { ⟦<CfftView<M> as Shape>⟧.width result ≡ M.width (cfft_values self) }
     {
         let CircleEvaluations { domain: _, values } = self;
@@ -85,10 +87,13 @@ impl<F: Operations, M: Matrix<F>> CircleEvaluations<F, M> {
 }
 
 impl<F: ComplexExtendable, M: Matrix<F> + Drop> CircleEvaluations<F, M> {
-    ghost use Rattle.circle_plane.specs.CircleEvaluations.{domain_of, cfft_values};
+    ghost use Rattle.circle_plane.specs.CircleEvaluations.{domain_of, cfft_values, natural_rows};
+    ghost use Rattle.circle_plane.specs.Coefficients.{AreCoefficients, natural_values_on};
+    ghost use Rattle.circle_plane.specs.Coefficients.{Extrapolates};
 
-    /// The coefficients in the circle basis of the only polynomials with these values, a column for
-    /// each: as many as the domain has points (Circle STARKs, section 4.2).
+    /// The coefficients in the circle basis of the only polynomials with these values, a column
+    /// for each: as many as the domain has points (Circle STARKs, section 4.2). Their values at the
+    /// points in natural order are the rows in natural order.
     ///
     /// Asks a genuine domain with `log_n <= CIRCLE_TWO_ADICITY`. Fails where memory is refused.
     pub fn interpolate(self, alloc: Global) -> Result<RowMajorMatrix<F>, AllocError>
@@ -96,11 +101,13 @@ impl<F: ComplexExtendable, M: Matrix<F> + Drop> CircleEvaluations<F, M> {
         requires in_group { log_size (domain_of self) ≤ F.CIRCLE_TWO_ADICITY }
         ensures width { IfOk result (λ coeffs. width_of coeffs ≡ M.width (cfft_values self)) }
         ensures height { IfOk result (λ coeffs. height_of coeffs ≡ 2 ^ log_size (domain_of self)) }
-        ensures values { IfOk result (λ coeffs. HasValues F.ops F.generators (log_size (domain_of self)) (shift_of (domain_of self))
+        ensures values { IfOk result (λ coeffs. AreCoefficients F.ops F.generators (domain_of self)
             (M.width (cfft_values self)) (rows coeffs) (M.rows (cfft_values self))) }
+        ensures natural { IfOk result (λ coeffs. natural_values_on F.ops F.generators
+            (domain_of self) (width_of coeffs) (rows coeffs) ≡ natural_rows M.rows self) }
         ensures only { IfOk result (λ coeffs. (others : List (List F)) →
-            HasValues F.ops F.generators (log_size (domain_of self)) (shift_of (domain_of self))
-            (M.width (cfft_values self)) others (M.rows (cfft_values self)) → rows coeffs ≡ others) }
+            AreCoefficients F.ops F.generators (domain_of self) (M.width (cfft_values self)) others
+            (M.rows (cfft_values self)) → rows coeffs ≡ others) }
     {
         let CircleEvaluations { domain, values } = self;
         let matrix = RowMajorMatrix::copy_of(alloc, &values)?;
@@ -117,8 +124,10 @@ impl<F: ComplexExtendable, M: Matrix<F> + Drop> CircleEvaluations<F, M> {
         Ok(RowMajorMatrix::new(entries, width))
     }
 
-    /// The values on `target` of the only polynomials with these values (Circle STARKs, section 4.3):
-    /// their coefficients, with zeros for the further ones, have these values there.
+    /// The values on `target` of the only polynomials with these values (Circle STARKs, section
+    /// 4.3): their coefficients, with zeros for the further ones, have these values there. In the
+    /// order of the transform the first `2^m` rows are the values on the domain of `2^m` points
+    /// with the target's shift.
     ///
     /// Asks a genuine domain and a target that is at least as large, with
     /// `log_n <= CIRCLE_TWO_ADICITY`. Fails where memory is refused.
@@ -132,13 +141,9 @@ impl<F: ComplexExtendable, M: Matrix<F> + Drop> CircleEvaluations<F, M> {
         requires in_group { log_size target ≤ F.CIRCLE_TWO_ADICITY }
         ensures domain { IfOk result (λ e. domain_of e ≡ target) }
         ensures width { IfOk result (λ e. width_of (cfft_values e) ≡ M.width (cfft_values self)) }
-        ensures values { IfOk result (λ e. (coeffs : List (List F)) ×
-            HasValues F.ops F.generators (log_size (domain_of self)) (shift_of (domain_of self)) (M.width (cfft_values self)) coeffs (M.rows (cfft_values self)) ×
-            (rows (cfft_values e) ≡ map (values_at F.ops coeffs (M.width (cfft_values self))) (cfft_order F.ops F.generators (log_size target) (shift_of target))) ×
-            (other_order (log_size target) (rows (cfft_values e))
-            ≡ map (values_at F.ops coeffs (M.width (cfft_values self))) (natural_order F.ops F.generators (log_size target) (shift_of target))) ×
-            HasValues F.ops F.generators (log_size target) (shift_of target) (M.width (cfft_values self))
-            (with_zero_rows F.ops.zero (M.width (cfft_values self)) (2 ^ log_size target - 2 ^ log_size (domain_of self)) coeffs) (rows (cfft_values e))) }
+        ensures values { let given = cfft_values self in IfOk result (λ e.
+            Extrapolates F.ops F.generators (domain_of self) target
+            (M.width given) (M.rows given) (rows (cfft_values e))) }
     {
         let coeffs = self.interpolate(alloc)?;
         CircleEvaluations::evaluate(alloc, target, coeffs)
@@ -147,27 +152,29 @@ impl<F: ComplexExtendable, M: Matrix<F> + Drop> CircleEvaluations<F, M> {
 
 impl<F: ComplexExtendable, M: Matrix<F>> CircleEvaluations<F, M> {
     ghost use Rattle.circle_plane.specs.CircleEvaluations.{domain_of, cfft_values};
+    ghost use Rattle.circle_plane.specs.Coefficients.{AreCoefficients, AreValuesAt};
 
-    /// The values at `point` of the only polynomials with these values, for each column (Circle STARKs,
-    /// section 4.3).
+    /// The values at `point` of the only polynomials with these values, for each column (Circle
+    /// STARKs, section 4.3).
     ///
-    /// Asks a genuine domain with `log_n <= CIRCLE_TWO_ADICITY` that `point` is clear of. Fails where
-    /// memory is refused.
+    /// Asks a genuine domain with `log_n <= CIRCLE_TWO_ADICITY` that `point` is clear of. Fails
+    /// where memory is refused.
     pub fn evaluate_at_point<EF: ExtensionField<F>>(
         &self,
         alloc: Global,
         point: Point<EF>,
     ) -> Result<Vec<EF>, AllocError>
-        requires genuine { IsGenuine F.ops (log_size (domain_of self.now)) (shift_of (domain_of self.now)) }
+        requires genuine { let d = domain_of self.now in IsGenuine F.ops (log_size d) (shift_of d) }
         requires in_group { log_size (domain_of self.now) ≤ F.CIRCLE_TWO_ADICITY }
         requires clear { IsClearOf EF.ops EF.embed
-            (natural_order F.ops F.generators (log_size (domain_of self.now)) (shift_of (domain_of self.now))) (coordinates point) }
-        ensures values { IfOk result (λ values. (coeffs : List (List F)) ×
-            HasValues F.ops F.generators (log_size (domain_of self.now)) (shift_of (domain_of self.now)) (M.width (cfft_values self.now)) coeffs (M.rows (cfft_values self.now)) ×
-            (values.items ≡ lifted_values_at F.ops.zero EF.ops EF.embed coeffs (M.width (cfft_values self.now)) (coordinates point))) }
-        ensures only { IfOk result (λ values. (coeffs : List (List F)) →
-            HasValues F.ops F.generators (log_size (domain_of self.now)) (shift_of (domain_of self.now)) (M.width (cfft_values self.now)) coeffs (M.rows (cfft_values self.now)) →
-            values.items ≡ lifted_values_at F.ops.zero EF.ops EF.embed coeffs (M.width (cfft_values self.now)) (coordinates point)) }
+            (points_of F.ops F.generators (domain_of self.now)) (coordinates point) }
+        ensures values { let given = cfft_values self.now in IfOk result (λ found. AreValuesAt
+            F.ops F.generators EF.ops EF.embed (coordinates point) (domain_of self.now)
+            (M.width given) (M.rows given) found.items) }
+        ensures only { let given = cfft_values self.now in (cs : List (List F)) → AreCoefficients
+            F.ops F.generators (domain_of self.now) (M.width given) cs (M.rows given) → IfOk result
+            (λ found. found.items ≡ lifted_values_at F.ops.zero EF.ops EF.embed cs (M.width given)
+            (coordinates point)) }
     {
         let weights = lagrange_weights(alloc, self.domain, point)?;
         let mut values = columnwise_dot_product(alloc, &self.values, &weights.shares)?;
@@ -178,15 +185,17 @@ impl<F: ComplexExtendable, M: Matrix<F>> CircleEvaluations<F, M> {
 
 impl<F: ComplexExtendable> CircleEvaluations<F, RowMajorMatrix<F>> {
     ghost use Rattle.circle_plane.specs.CircleEvaluations.{domain_of, cfft_values};
+    ghost use Rattle.circle_plane.specs.Coefficients.{cfft_values_on, natural_values_on};
+    ghost use Rattle.circle_plane.specs.Coefficients.{BeginsWithSmaller};
 
     /// The values on `domain` of the polynomials whose coefficients in the circle basis are the
     /// columns of `coeffs` (Circle STARKs, section 4.2).
     ///
-    /// In the order of the transform the first `2^m` rows are the values on the domain of `2^m` points
-    /// with the same shift.
+    /// In the order of the transform the first `2^m` rows are the values on the domain of `2^m`
+    /// points with the same shift.
     ///
-    /// Asks `1 <= log_n <= CIRCLE_TWO_ADICITY` of the domain, with any shift, and of `coeffs` a height
-    /// that is a power of two and at most the domain's size. Fails where memory is refused.
+    /// Asks `1 <= log_n <= CIRCLE_TWO_ADICITY` of the domain, with any shift, and of `coeffs` a
+    /// height that is a power of two and at most the domain's size. Fails where memory is refused.
     pub fn evaluate(
         alloc: Global,
         domain: CircleDomain<F>,
@@ -199,18 +208,18 @@ impl<F: ComplexExtendable> CircleEvaluations<F, RowMajorMatrix<F>> {
         ensures domain { IfOk result (λ e. domain_of e ≡ domain) }
         ensures width { IfOk result (λ e. width_of (cfft_values e) ≡ width_of coeffs) }
         ensures cfft { IfOk result (λ e. rows (cfft_values e)
-            ≡ map (values_at F.ops (rows coeffs) (width_of coeffs))
-            (cfft_order F.ops F.generators (log_size domain) (shift_of domain))) }
+            ≡ cfft_values_on F.ops F.generators domain (width_of coeffs) (rows coeffs)) }
         ensures values { IfOk result (λ e. other_order (log_size domain) (rows (cfft_values e))
-            ≡ map (values_at F.ops (rows coeffs) (width_of coeffs))
-            (natural_order F.ops F.generators (log_size domain) (shift_of domain))) }
-        ensures prefix { IfOk result (λ e. (m : ℕ) → 1 ≤ m → m ≤ log_size domain → take (2 ^ m) (rows (cfft_values e))
-            ≡ map (values_at F.ops (rows coeffs) (width_of coeffs)) (cfft_order F.ops F.generators m (shift_of domain))) }
+            ≡ natural_values_on F.ops F.generators domain (width_of coeffs) (rows coeffs)) }
+        ensures prefix { IfOk result (λ e. BeginsWithSmaller F.ops F.generators domain
+            (width_of coeffs) (rows coeffs) (rows (cfft_values e))) }
     {
         let width = coeffs.width();
-        let log_height = coeffs.height().ilog2() as usize;
+        let log_height = log2_strict(coeffs.height());
         let twiddles = layer_twiddles(alloc, domain)?;
         let mut half = coeffs.values().len();
+        // The further coefficients are zeros, and a layer whose upper halves are zeros is a copy:
+        // `a + 0 t` and `a - 0 t` are `a`. So the layers above the height copy the coefficients.
         let mut entries = repeat(
             alloc,
             coeffs.into_values(),
@@ -226,7 +235,8 @@ impl<F: ComplexExtendable> CircleEvaluations<F, RowMajorMatrix<F>> {
     /// Equal evaluations. Fails where memory is refused.
     pub fn try_clone(&self, alloc: Global) -> Result<Self, AllocError>
         ensures domain { IfOk result (λ e. domain_of e ≡ domain_of self.now) }
-        ensures width { IfOk result (λ e. width_of (cfft_values e) ≡ width_of (cfft_values self.now)) }
+        ensures width { IfOk result (λ e.
+            width_of (cfft_values e) ≡ width_of (cfft_values self.now)) }
         ensures rows { IfOk result (λ e. rows (cfft_values e) ≡ rows (cfft_values self.now)) }
     {
         let values = self.values.try_clone(alloc)?;
@@ -261,7 +271,8 @@ pub fn circle_basis<F: Field>(
 
 // Appends to the entries each of them times `factor`.
 fn append_scaled<F: Field>(entries: &mut Vec<F>, factor: F) -> Result<(), AllocError>
-    ensures { OnOk result (entries.new.items ≡ entries.old.items ++ map (λ b. F.ops.mul b factor) entries.old.items) }
+    ensures { OnOk result (entries.new.items
+        ≡ entries.old.items ++ map (λ b. F.ops.mul b factor) entries.old.items) }
 {
     for i in 0..entries.len() {
         let scaled = entries[i] * factor;

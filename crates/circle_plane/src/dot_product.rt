@@ -18,8 +18,9 @@ pub(crate) fn columnwise_dot_product<F: Field, EF: ExtensionField<F>, M: Matrix<
     weights: &[EF],
 ) -> Result<Vec<EF>, AllocError>
     requires { length weights.now ≡ M.height matrix.now }
-    ensures { IfOk result (λ sums. sums.items
-        ≡ map (λ j. dot EF.ops weights.now (map EF.embed (column F.ops.zero (M.rows matrix.now) j))) (range_with_len 0 (M.width matrix.now))) }
+    ensures { IfOk result (λ sums. sums.items ≡ map (λ j. dot EF.ops weights.now
+        (map EF.embed (column F.ops.zero (M.rows matrix.now) j)))
+        (range_with_len 0 (M.width matrix.now))) }
 {
     let mut sums = zeros::<F, EF>(alloc, matrix.width())?;
     for (i, weight) in weights.iter().enumerate() {
@@ -45,7 +46,8 @@ fn zeros<F: Field, EF: ExtensionField<F>>(
 // Adds to each sum the entry of the row times the weight.
 fn add_multiple<F: Field, EF: ExtensionField<F>>(sums: &mut [EF], row: &[F], weight: EF)
     requires { length sums.old ≡ length row.now }
-    ensures { sums.new ≡ pairwise (λ a x. EF.ops.add a (EF.ops.mul (EF.embed x) weight)) sums.old row.now }
+    ensures { sums.new
+        ≡ pairwise (λ a x. EF.ops.add a (EF.ops.mul (EF.embed x) weight)) sums.old row.now }
 {
     for (i, entry) in row.iter().enumerate() {
         sums[i] = sums[i] + weight.times_base(*entry);

@@ -34,7 +34,8 @@ impl<F: Field> Butterfly<F> for Forward {
     }
 }
 
-/// From values to twice the coefficients, by the inverse `t` of the factor: `a + b` and `(a - b) t`.
+/// From values to twice the coefficients, by the inverse `t` of the factor: `a + b` and `(a - b)
+/// t`.
 pub(crate) struct Backward;
 
 impl<F: Field> Butterfly<F> for Backward {

@@ -1,9 +1,10 @@
-//! Columns of a trace that repeat: their values off the trace's domain (Circle STARKs, section 4.3).
+//! Columns of a trace that repeat: their values off its domain (Circle STARKs, section 4.3).
 //!
-//! A column of `2^k` entries that repeats over a trace of `2^n` rows is a polynomial in the point that is
-//! doubled `n - k` times, which is the polynomial with these entries as values on the standard domain of
-//! `2^k` points. On an extension of the trace's domain its values repeat too.
-ghost use Rattle.std.specs.Prelude.{◌≡◌, ℕ, ◌≤◌, ◌<◌, ◌-◌, ◌*◌, ◌^◌, ◌++◌, List, [], All, IfOk, IfErr, OnOk, length, map, slice_index_or};
+//! A column of `2^k` entries that repeats over a trace of `2^n` rows is a polynomial in the point
+//! that is doubled `n - k` times, which is the polynomial with these entries as values on the
+//! standard domain of `2^k` points. On an extension of the trace's domain its values repeat too.
+ghost use Rattle.std.specs.Prelude.{◌≡◌, ℕ, ◌≤◌, ◌<◌, ◌-◌, ◌*◌, ◌^◌, ◌++◌};
+ghost use Rattle.std.specs.Prelude.{[], All, IfOk, IfErr, OnOk, length, map, slice_index_or};
 ghost use Rattle.std.specs.List.{range_with_len};
 ghost use Rattle.circle_commit.specs.Matrix.{IsPowerOfTwo};
 ghost use Rattle.circle_commit.specs.Mmcs.{greatest};
@@ -11,21 +12,24 @@ ghost use Rattle.circle_commit.specs.RowMajorMatrix.{rows, width_of, height_of};
 ghost use Rattle.circle_domain.specs.Domain.{log_size, shift_of};
 ghost use Rattle.circle_domain.specs.Periodic.{IsPeriodicValue};
 ghost use Rattle.circle_point.specs.Projective.{from_line};
-ghost use Rattle.circle_plane.specs.PeriodicColumns.{IsPeriod, IsFault, IsFirstFault, IsRefusal, IsPeriodicTable};
+ghost use Rattle.circle_plane.specs.PeriodicColumns.{IsPeriod, IsFault, IsFirstFault, IsRefusal};
+ghost use Rattle.circle_plane.specs.PeriodicColumns.{columns_of, IsTableOn, IsRefusedOn};
 ghost use Rattle.circle_plane.specs.PeriodicRows.{AreExtended, table_row};
-ghost use Rattle.circle_plane.specs.declared.periodic.PeriodicError.TheVariants.{HeightTooLarge, Memory};
+ghost use Rattle.circle_plane.specs.declared.periodic.PeriodicError.TheVariants.{HeightTooLarge};
+ghost use Rattle.circle_plane.specs.declared.periodic.PeriodicError.TheVariants.{Memory};
 
 use crate::cfft::CircleEvaluations;
 use circle_commit::{
     PeriodicEvaluator, PeriodicLdeTable, PolynomialSpace, RowMajorMatrix, is_power_of_two,
+    log2_strict,
 };
 use circle_domain::CircleDomain;
 use circle_field::{ComplexExtendable, ExtensionField, Field};
 use std::alloc::{AllocError, Global};
 use thiserror::Error;
 
-/// Why the table of periodic columns is refused: the first that holds. The columns are tested in order, each
-/// by the first three.
+/// Why the table of periodic columns is refused: the first that holds. The columns are tested in
+/// order, each by the first three.
 #[derive(Clone, Copy, Debug, Drop, Error, PartialEq, Eq)]
 pub enum PeriodicError {
     /// A column has no entries.
@@ -60,29 +64,31 @@ pub struct CirclePeriodicEvaluator;
 impl<F: ComplexExtendable> PeriodicEvaluator<F, CircleDomain<F>> for CirclePeriodicEvaluator {
     type Error = PeriodicError;
 
-    ghost eval_on_lde_asks = { λ trace lde. (log_size trace ≤ log_size lde) × (log_size trace < F.CIRCLE_TWO_ADICITY) };
+    ghost eval_on_lde_asks = { λ trace lde.
+        (log_size trace ≤ log_size lde) × (log_size trace < F.CIRCLE_TWO_ADICITY) };
 
     ghost eval_on_lde_gives = { λ columns trace lde table.
-        IsPeriodicTable F.ops F.generators F.CIRCLE_TWO_ADICITY (log_size trace) (log_size lde) (shift_of lde) columns table };
+        IsTableOn F.ops F.generators F.CIRCLE_TWO_ADICITY trace lde columns table };
 
-    ghost eval_on_lde_refuses = { λ columns trace lde e.
-        IsRefusal (2 ^ log_size trace) (map length columns) (log_size lde - log_size trace) e };
+    ghost eval_on_lde_refuses = { λ columns trace lde e. IsRefusedOn trace lde columns e };
 
     ghost eval_at_point_asks = { λ e l embed columns trace point. (c : ℕ) → c < length columns →
-        ⟦<CircleDomain<F> as PolynomialSpace>⟧.evaluate_periodic_column_at_asks e l embed trace (slice_index_or columns c []) point };
+        ⟦<CircleDomain<F> as PolynomialSpace>⟧.evaluate_periodic_column_at_asks
+        e l embed trace (slice_index_or columns c []) point };
 
-    ghost eval_at_point_gives = { λ e l embed columns trace point values. (length values ≡ length columns)
-        × ((c : ℕ) → c < length columns →
-        IsPeriodicValue F.ops F.generators l embed (log_size trace) (slice_index_or columns c []) (from_line l point) (slice_index_or values c l.zero)) };
+    ghost eval_at_point_gives = { λ e l embed columns trace point values.
+        (length values ≡ length columns) × ((c : ℕ) → c < length columns →
+        IsPeriodicValue F.ops F.generators l embed (log_size trace) (slice_index_or columns c [])
+        (from_line l point) (slice_index_or values c l.zero)) };
 
-    /// The values of the columns at the points of `lde_domain` in natural order: the table's height is the
-    /// longest period times how many times larger `lde_domain` is than the trace.
+    /// The values of the columns at the points of `lde_domain` in natural order: the table's height
+    /// is the longest period times how many times larger `lde_domain` is than the trace. Where
+    /// `lde_domain` has more points than the group, only the table's height and width are promised.
     ///
     /// Asks that `lde_domain` is at least as large as the trace's domain, and of the latter
-    /// `log_n < CIRCLE_TWO_ADICITY`. Refuses the first column that is empty, isn't of a power of two of
-    /// entries, or is longer than the trace, then a table of more entries than `usize` counts; fails where
-    /// memory is refused, and where the table, unless each column is constant, had more rows than there are
-    /// points in the group.
+    /// `log_n < CIRCLE_TWO_ADICITY`. Refuses the first column that is empty, isn't of a power of
+    /// two of entries, or is longer than the trace, then a table of more entries than `usize`
+    /// counts; fails where memory is refused.
     fn eval_on_lde(
         alloc: Global,
         periodic_table: &[Vec<F>],
@@ -91,8 +97,10 @@ impl<F: ComplexExtendable> PeriodicEvaluator<F, CircleDomain<F>> for CirclePerio
     ) -> Result<PeriodicLdeTable<F>, PeriodicError>
         requires larger { log_size trace_domain.now ≤ log_size lde_domain.now }
         requires in_group { log_size trace_domain.now < F.CIRCLE_TWO_ADICITY }
-        ensures table { IfOk result (IsPeriodicTable F.ops F.generators F.CIRCLE_TWO_ADICITY (log_size trace_domain.now) (log_size lde_domain.now) (shift_of lde_domain.now) (map (λ column. column.items) periodic_table.now)) }
-        ensures refusal { IfErr result (IsRefusal (2 ^ log_size trace_domain.now) (map length (map (λ column. column.items) periodic_table.now)) (log_size lde_domain.now - log_size trace_domain.now)) }
+        ensures table { IfOk result (IsTableOn F.ops F.generators F.CIRCLE_TWO_ADICITY
+            trace_domain.now lde_domain.now (columns_of periodic_table.now)) }
+        ensures refusal { IfErr result (IsRefusedOn
+            trace_domain.now lde_domain.now (columns_of periodic_table.now)) }
     {
         if periodic_table.is_empty() {
             return Ok(PeriodicLdeTable::empty());
@@ -100,12 +108,20 @@ impl<F: ComplexExtendable> PeriodicEvaluator<F, CircleDomain<F>> for CirclePerio
         let log_blowup = lde_domain.log_n() - trace_domain.log_n();
         let period = longest_period(periodic_table, CircleDomain::size(trace_domain))?;
         let height = checked_height(period, log_blowup, periodic_table.len())?;
+        // The values of a constant are the constant, on any domain.
         if period == 1 {
             let constants = repeated_rows(alloc, periodic_table, height)?;
             return Ok(PeriodicLdeTable::new(constants));
         }
         let trace_log_n = trace_domain.log_n();
-        let rows = extended_rows(alloc, periodic_table, period, trace_log_n, *lde_domain)?;
+        let rows = extended_rows(
+            alloc,
+            periodic_table,
+            period,
+            height,
+            trace_log_n,
+            *lde_domain,
+        )?;
         Ok(PeriodicLdeTable::new(rows))
     }
 
@@ -119,10 +135,13 @@ impl<F: ComplexExtendable> PeriodicEvaluator<F, CircleDomain<F>> for CirclePerio
         point: EF,
     ) -> Result<Vec<EF>, AllocError>
         requires { (c : ℕ) → c < length periodic_table.now →
-            ⟦<CircleDomain<F> as PolynomialSpace>⟧.evaluate_periodic_column_at_asks EF EF.ops EF.embed trace_domain.now (slice_index_or (map (λ column. column.items) periodic_table.now) c []) point }
+            ⟦<CircleDomain<F> as PolynomialSpace>⟧.evaluate_periodic_column_at_asks EF EF.ops
+            EF.embed trace_domain.now (slice_index_or (columns_of periodic_table.now) c []) point }
         ensures count { IfOk result (λ values. length values.items ≡ length periodic_table.now) }
         ensures values { IfOk result (λ values. (c : ℕ) → c < length periodic_table.now →
-            IsPeriodicValue F.ops F.generators EF.ops EF.embed (log_size trace_domain.now) (slice_index_or (map (λ column. column.items) periodic_table.now) c []) (from_line EF.ops point) (slice_index_or values.items c EF.ops.zero)) }
+            IsPeriodicValue F.ops F.generators EF.ops EF.embed (log_size trace_domain.now)
+            (slice_index_or (columns_of periodic_table.now) c []) (from_line EF.ops point)
+            (slice_index_or values.items c EF.ops.zero)) }
     {
         let mut values = Vec::with_capacity(alloc, periodic_table.len())?;
         for column in periodic_table {
@@ -142,8 +161,10 @@ pub fn build_periodic_lde_table_circle<F: ComplexExtendable>(
 ) -> Result<PeriodicLdeTable<F>, PeriodicError>
     requires larger { log_size trace_domain.now ≤ log_size lde_domain.now }
     requires in_group { log_size trace_domain.now < F.CIRCLE_TWO_ADICITY }
-    ensures table { IfOk result (IsPeriodicTable F.ops F.generators F.CIRCLE_TWO_ADICITY (log_size trace_domain.now) (log_size lde_domain.now) (shift_of lde_domain.now) (map (λ column. column.items) periodic_table.now)) }
-    ensures refusal { IfErr result (IsRefusal (2 ^ log_size trace_domain.now) (map length (map (λ column. column.items) periodic_table.now)) (log_size lde_domain.now - log_size trace_domain.now)) }
+    ensures table { IfOk result (IsTableOn F.ops F.generators F.CIRCLE_TWO_ADICITY
+        trace_domain.now lde_domain.now (columns_of periodic_table.now)) }
+    ensures refusal { IfErr result (IsRefusedOn
+        trace_domain.now lde_domain.now (columns_of periodic_table.now)) }
 {
     CirclePeriodicEvaluator::eval_on_lde(alloc, periodic_table, trace_domain, lde_domain)
 }
@@ -153,9 +174,12 @@ fn longest_period<F: Field>(
     periodic_table: &[Vec<F>],
     trace_len: usize,
 ) -> Result<usize, PeriodicError>
-    ensures fit { IfOk result (λ period. All (IsPeriod trace_len) (map length (map (λ column. column.items) periodic_table.now))) }
-    ensures longest { IfOk result (λ period. period ≡ greatest (map length (map (λ column. column.items) periodic_table.now))) }
-    ensures refusal { IfErr result (IsFirstFault trace_len (map length (map (λ column. column.items) periodic_table.now))) }
+    ensures fit { IfOk result (λ _.
+        All (IsPeriod trace_len) (map length (columns_of periodic_table.now))) }
+    ensures longest { IfOk result (λ period.
+        period ≡ greatest (map length (columns_of periodic_table.now))) }
+    ensures refusal { IfErr result
+        (IsFirstFault trace_len (map length (columns_of periodic_table.now))) }
 {
     let mut longest = 0;
     for column in periodic_table {
@@ -188,7 +212,8 @@ fn checked_height(period: usize, log_blowup: usize, width: usize) -> Result<usiz
     requires width { 1 ≤ width }
     ensures height { IfOk result (λ height. height ≡ period * 2 ^ log_blowup) }
     ensures counted { IfOk result (λ height. period * 2 ^ log_blowup * width < 2 ^ 64) }
-    ensures refusal { IfErr result (λ e. (e ≡ HeightTooLarge) × (2 ^ 64 ≤ period * 2 ^ log_blowup * width)) }
+    ensures refusal { IfErr result (λ e.
+        (e ≡ HeightTooLarge) × (2 ^ 64 ≤ period * 2 ^ log_blowup * width)) }
 {
     if log_blowup > 63 {
         return Err(PeriodicError::HeightTooLarge);
@@ -202,30 +227,34 @@ fn checked_height(period: usize, log_blowup: usize, width: usize) -> Result<usiz
     Ok(height)
 }
 
-// The values of the columns, of which the longest has `period` entries, on an extension of a trace of
-// `2^trace_log_n` rows, as far as they differ.
+// The values of the columns, of which the longest has `period` entries, on an extension of a trace
+// of `2^trace_log_n` rows, as far as they differ: `height` rows.
 fn extended_rows<F: ComplexExtendable>(
     alloc: Global,
     periodic_table: &[Vec<F>],
     period: usize,
+    height: usize,
     trace_log_n: usize,
     lde_domain: CircleDomain<F>,
 ) -> Result<RowMajorMatrix<F>, AllocError>
     requires some { 1 ≤ length periodic_table.now }
-    requires fit { All (IsPeriod (2 ^ trace_log_n)) (map length (map (λ column. column.items) periodic_table.now)) }
-    requires longest { period ≡ greatest (map length (map (λ column. column.items) periodic_table.now)) }
+    requires fit { All (IsPeriod (2 ^ trace_log_n)) (map length (columns_of periodic_table.now)) }
+    requires longest { period ≡ greatest (map length (columns_of periodic_table.now)) }
     requires repeats { 2 ≤ period }
+    requires height { height ≡ period * 2 ^ (log_size lde_domain - trace_log_n) }
     requires larger { trace_log_n ≤ log_size lde_domain }
     requires in_group { trace_log_n < F.CIRCLE_TWO_ADICITY }
     ensures width { IfOk result (λ made. width_of made ≡ length periodic_table.now) }
-    ensures height { IfOk result (λ made. height_of made ≡ period * 2 ^ (log_size lde_domain - trace_log_n)) }
-    ensures values { IfOk result (λ made. AreExtended F.ops F.generators F.CIRCLE_TWO_ADICITY trace_log_n (log_size lde_domain) (shift_of lde_domain)
-        (map (λ column. column.items) periodic_table.now) (rows made)) }
+    ensures height { IfOk result (λ made. height_of made ≡ height) }
+    ensures values { IfOk result (λ made. AreExtended F.ops F.generators F.CIRCLE_TWO_ADICITY
+        trace_log_n (log_size lde_domain) (shift_of lde_domain) (columns_of periodic_table.now)
+        (rows made)) }
 {
-    let log_period = period.ilog2() as usize;
+    let log_period = log2_strict(period);
     let log_blowup = lde_domain.log_n() - trace_log_n;
+    // No domain has so many points, so there are no values that the rows could have to be.
     if log_blowup > F::CIRCLE_TWO_ADICITY - log_period {
-        return Err(AllocError);
+        return repeated_rows(alloc, periodic_table, height);
     }
     let shift = lde_domain.shift().repeated_double(trace_log_n - log_period);
     let extension = CircleDomain::new(log_period + log_blowup, shift);
@@ -244,9 +273,10 @@ fn repeated_rows<F: Field>(
     height: usize,
 ) -> Result<RowMajorMatrix<F>, AllocError>
     requires some { 1 ≤ length columns.now }
-    requires powers { All (λ column. IsPowerOfTwo (length column)) (map (λ column. column.items) columns.now) }
+    requires powers { All (λ column. IsPowerOfTwo (length column)) (columns_of columns.now) }
     ensures width { IfOk result (λ made. width_of made ≡ length columns.now) }
-    ensures rows { IfOk result (λ made. rows made ≡ map (table_row F.ops.zero (map (λ column. column.items) columns.now)) (range_with_len 0 height)) }
+    ensures rows { IfOk result (λ made. rows made
+        ≡ map (table_row F.ops.zero (columns_of columns.now)) (range_with_len 0 height)) }
 {
     let len = height.checked_mul(columns.len()).ok_or(AllocError)?;
     let mut values = Vec::with_capacity(alloc, len)?;
@@ -258,8 +288,9 @@ fn repeated_rows<F: Field>(
 
 // Appends the entry of each column at row `r` of its repetition.
 fn append_row<F: Field>(values: &mut Vec<F>, columns: &[Vec<F>], r: usize) -> Result<(), AllocError>
-    requires powers { All (λ column. IsPowerOfTwo (length column)) (map (λ column. column.items) columns.now) }
-    ensures { OnOk result (values.new.items ≡ values.old.items ++ table_row F.ops.zero (map (λ column. column.items) columns.now) r) }
+    requires powers { All (λ column. IsPowerOfTwo (length column)) (columns_of columns.now) }
+    ensures { OnOk result (values.new.items
+        ≡ values.old.items ++ table_row F.ops.zero (columns_of columns.now) r) }
 {
     for column in columns {
         values.push(column[r & (column.len() - 1)])?;

@@ -231,3 +231,15 @@ fn tables_hold_the_values_at_doubled_points(rt: HostRuntime) -> Result<(), Fail>
     assert_doubled(&rt, alloc, 8, 2, 4)?;
     Ok(())
 }
+
+// 64 rows over an extension of 2^35 points, where the group has 2^31.
+#[test]
+fn a_table_over_an_extension_past_the_group(rt: HostRuntime) -> Result<(), Fail> {
+    let alloc = rt.alloc();
+    let columns = vec![in alloc; counting(alloc, 2)?, counting(alloc, 1)?]?;
+    let extension = CircleDomain::new(35, Point::generator(5));
+    let table = build(&rt, alloc, &columns, CircleDomain::standard(30), extension)?;
+    assert!(&rt; table.width() == 2 && table.height() == 64);
+    assert!(&rt; get(&rt, &table, 0, 1) == element(1) && get(&rt, &table, 63, 1) == element(1));
+    Ok(())
+}

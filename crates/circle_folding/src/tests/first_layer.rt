@@ -28,8 +28,8 @@ fn folded<F: ComplexExtendable, EF: ExtensionField<F>>(
     fold_y::<F, EF, RowMajorMatrix<EF>>(alloc, beta, rows)
 }
 
-// Folds what the queries ask for in a word of `2^log_height` entries, and asserts that the values are those
-// of the whole word folded.
+// Folds what the queries ask for in a word of `2^log_height` entries, and asserts that the values
+// are those of the whole word folded.
 fn assert_queries_fold_alike<F: ComplexExtendable, EF: ExtensionField<F>>(
     rt: &impl Abort,
     alloc: Global,
@@ -49,7 +49,7 @@ fn assert_queries_fold_alike<F: ComplexExtendable, EF: ExtensionField<F>>(
     let mut values = asked(rt, alloc, bits, 0, indices, &word)?;
     let siblings = asked(rt, alloc, bits, 1, indices, &word)?;
     let points = query_points::<F>(alloc, log_height, log_max_height, indices)?;
-    let twiddles = first_layer_twiddles(alloc, bits, indices, &points)?;
+    let twiddles = first_layer_twiddles(alloc, log_height, log_max_height, indices, &points)?;
     fold_query_values(
         alloc,
         beta,
@@ -67,34 +67,16 @@ fn assert_queries_fold_alike<F: ComplexExtendable, EF: ExtensionField<F>>(
 }
 
 #[test]
-fn queries_of_the_tallest_word(rt: HostRuntime) -> Result<(), Fail> {
+fn queries_of_the_tallest_word_and_of_a_lower_one(rt: HostRuntime) -> Result<(), Fail> {
     let alloc = rt.alloc();
-    let (indices, word) = (repeated_indices(alloc, 4)?, scattered_word(alloc, 16)?);
-    assert_queries_fold_alike::<Mersenne31, Cubic>(
-        &rt,
-        alloc,
-        4,
-        4,
-        &indices,
-        cubic(3, 1, 4),
-        word,
-    )?;
-    Ok(())
-}
-
-#[test]
-fn queries_of_a_lower_word(rt: HostRuntime) -> Result<(), Fail> {
-    let alloc = rt.alloc();
-    let (indices, word) = (repeated_indices(alloc, 4)?, scattered_word(alloc, 8)?);
-    assert_queries_fold_alike::<Mersenne31, Cubic>(
-        &rt,
-        alloc,
-        3,
-        4,
-        &indices,
-        cubic(3, 1, 4),
-        word,
-    )?;
+    let indices = repeated_indices(alloc, 4)?;
+    for log_height in 3..5 {
+        let word = scattered_word(alloc, 1 << log_height)?;
+        let beta = cubic(3, 1, 4);
+        assert_queries_fold_alike::<Mersenne31, Cubic>(
+            &rt, alloc, log_height, 4, &indices, beta, word,
+        )?;
+    }
     Ok(())
 }
 

@@ -34,8 +34,8 @@ pub fn scattered_word(alloc: Global, len: usize) -> Result<Vec<Cubic>, AllocErro
     Ok(entries)
 }
 
-// The entries of a word that the indices without so many lowest bits ask for, or with `flip` 1 their
-// siblings.
+// The entries of a word that the indices without so many lowest bits ask for, or with `flip` 1
+// their siblings.
 pub fn asked<EF: Field>(
     rt: &impl Abort,
     alloc: Global,
@@ -56,7 +56,8 @@ pub fn asked<EF: Field>(
     Ok(entries)
 }
 
-// Asserts that each query has so many rows, and that its last is the pair of the word that it asks for.
+// Asserts that each query has so many rows, and that its last is the pair of the word that it asks
+// for.
 pub fn assert_pairs<EF: Field>(
     rt: &impl Abort,
     bits: usize,
@@ -87,8 +88,8 @@ fn folded<F: ComplexExtendable, EF: ExtensionField<F>>(
     fold_x::<F, EF, RowMajorMatrix<EF>>(alloc, beta, 1, rows)
 }
 
-// Folds a word of `2^(log_max_height - 1)` entries until two are left, and what the queries ask for beside
-// it, and asserts in each round that the values are the entries that are asked for.
+// Folds a word of `2^(log_max_height - 1)` entries until two are left, and what the queries ask
+// for beside it, and asserts in each round that the values are the entries that are asked for.
 fn assert_queries_fold_alike<F: ComplexExtendable, EF: ExtensionField<F>>(
     rt: &impl Abort,
     alloc: Global,
@@ -106,7 +107,8 @@ fn assert_queries_fold_alike<F: ComplexExtendable, EF: ExtensionField<F>>(
     assert_rounds::<F, EF>(rt, alloc, log_max_height, indices, twiddles, values, word)
 }
 
-// All rounds, from the twiddles and the values of round 0. An entry of the word serves as the challenge.
+// All rounds, from the twiddles and the values of round 0. An entry of the word serves as the
+// challenge.
 fn assert_rounds<F: ComplexExtendable, EF: ExtensionField<F>>(
     rt: &impl Abort,
     alloc: Global,
@@ -119,7 +121,8 @@ fn assert_rounds<F: ComplexExtendable, EF: ExtensionField<F>>(
     requires height { 3 ≤ log_max_height }
     requires in_group { log_max_height < F.CIRCLE_TWO_ADICITY }
     requires in_range { All (λ q. q < 2 ^ log_max_height) indices.now }
-    requires twiddles { twiddles.old ≡ map (round_twiddle F.ops F.generators log_max_height 0) indices.now }
+    requires twiddles { twiddles.old
+        ≡ map (round_twiddle F.ops F.generators log_max_height 0) indices.now }
     requires values { length values.old ≡ length indices.now }
 {
     let mut word = word;

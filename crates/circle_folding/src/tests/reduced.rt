@@ -3,7 +3,7 @@ ghost use Rattle.std.specs.Prelude.{◌≡◌, ◌<◌, ◌≤◌, ◌^◌, [], 
 ghost use Rattle.circle_commit.specs.Mmcs.{opened_rows};
 
 use crate::tests::element;
-use crate::{add_quotients, query_points};
+use crate::{Claim, MatrixRows, add_quotients, query_points};
 use circle_commit::OpenedRows;
 use circle_field::{Cubic, ExtensionField, Field, Mersenne31};
 use circle_point::{Neutral, Point};
@@ -32,27 +32,27 @@ fn opened(alloc: Global, entry: Mersenne31) -> Result<OpenedRows<Mersenne31>, Al
     Ok(vec![in alloc; rows]?)
 }
 
-// The sum of 10 and 3 times the quotient at (1, 0) of a row of one entry under a value claimed at `zeta`, with
-// 2 for the batching challenge.
+// The sum of 10 and 3 times the quotient at (1, 0) of a row of one entry under a value claimed at
+// `zeta`, with 2 for the batching challenge.
 fn sum_with_quotient(
     alloc: Global,
     zeta: Point<Cubic>,
     entry: u64,
     value: u64,
 ) -> Result<Option<Cubic>, AllocError> {
-    let rows = opened(alloc, element(entry))?;
+    let opened = opened(alloc, element(entry))?;
+    let rows = MatrixRows {
+        opened: &opened,
+        matrix: 0,
+    };
+    let claim = Claim {
+        point: zeta,
+        values: &[Cubic::from_u64(value)],
+    };
     let mut sums = [Cubic::from_u64(10)];
     let powers = [Cubic::ONE, Cubic::from_u64(2)];
-    let added = add_quotients::<Mersenne31, Cubic>(
-        &mut sums,
-        Cubic::from_u64(3),
-        &powers,
-        &[Point::ZERO],
-        zeta,
-        &rows,
-        0,
-        &[Cubic::from_u64(value)],
-    );
+    let offset = Cubic::from_u64(3);
+    let added = add_quotients(&mut sums, offset, &powers, &[Point::ZERO], &rows, &claim);
     Ok(added.map(|()| sums[0]))
 }
 

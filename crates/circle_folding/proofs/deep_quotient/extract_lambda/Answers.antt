@@ -10,41 +10,43 @@ use Rattle.circle_domain.specs.Layers.{pairwise}
 use Rattle.circle_domain.proofs.Twiddles.{map-map}
 use Rattle.circle_folding.specs.Blocks.{spread}
 use Rattle.circle_folding.specs.Lambda.{vanishing_values}
-use Rattle.circle_folding.proofs.Twiddles.{logarithm}
 use Rattle.circle_folding.proofs.Vanished.{word-blocks, word-length, halved_power}
 use Rattle.circle_folding.proofs.deep_quotient.extract_lambda.Goals as goal
+
+pub log2_strict-log_lde_size-requires : goal.log2_strict-log_lde_size-requires
+log2_strict-log_lde_size-requires g c = (c.requires.size.0, c.requires.size.1)
 
 pub overflow_sub-block : goal.overflow_sub-block
 overflow_sub-block g c =
     let size = c.requires.size in
-    let r = logarithm _ c.ilog2-log_lde_size.result size.0 size.1 c.ilog2-log_lde_size.ensures.power_le c.ilog2-log_lde_size.ensures.next_power_gt in
+    let r = c.log2_strict-log_lde_size.ensures.only size.0 size.1 in
     omega (arith, r, size.2)
 
 pub overflow_sub-log_lde_size : goal.overflow_sub-log_lde_size
 overflow_sub-log_lde_size g c =
     let size = c.requires.size in
-    let r = logarithm _ c.ilog2-log_lde_size.result size.0 size.1 c.ilog2-log_lde_size.ensures.power_le c.ilog2-log_lde_size.ensures.next_power_gt in
+    let r = c.log2_strict-log_lde_size.ensures.only size.0 size.1 in
     omega (arith, r, size.2)
 
 pub product_with_blocks-requires : goal.product_with_blocks-requires
 product_with_blocks-requires g c =
     let size = c.requires.size in
     let points = c.in_ok-points.points.items in
-    let r = logarithm _ c.ilog2-log_lde_size.result size.0 size.1 c.ilog2-log_lde_size.ensures.power_le c.ilog2-log_lde_size.ensures.next_power_gt in
+    let r = c.log2_strict-log_lde_size.ensures.only size.0 size.1 in
     size.1
-    ∙ word-length g.EF.Operations.ops g.EF.ExtensionField.embed g.F.Operations.laws.ring g.met.F.ComplexExtendable.generators_law c.ilog2-log_lde_size.result size.0 c.args.log_blowup (log_size c.standard.result) (shift_of c.standard.result) (map coordinates points)
+    ∙ word-length g.EF.Operations.ops g.EF.ExtensionField.embed g.F.Operations.laws.ring g.met.F.ComplexExtendable.generators_law c.log2_strict-log_lde_size.result size.0 c.args.log_blowup (log_size c.standard.result) (shift_of c.standard.result) (map coordinates points)
     r size.2 size.3 g.met.F.ComplexExtendable.at_most_62 c.standard.ensures.size c.standard.ensures.shift c.in_ok-points.ensures
-    ∙ ap (λ i. i * (1 * 2 ^ (c.ilog2-log_lde_size.result - c.args.log_blowup) % 2 ^ 64)) (length-map points coordinates ∙ sym (ap length c.deref.ensures.value))
+    ∙ ap (λ i. i * (1 * 2 ^ (c.log2_strict-log_lde_size.result - c.args.log_blowup) % 2 ^ 64)) (length-map points coordinates ∙ sym (ap length c.deref.ensures.value))
 
 pub subtract_from_blocks-requires : goal.subtract_from_blocks-requires
 subtract_from_blocks-requires g c =
     let size = c.requires.size in
     let points = c.in_ok-points.points.items in
-    let r = logarithm _ c.ilog2-log_lde_size.result size.0 size.1 c.ilog2-log_lde_size.ensures.power_le c.ilog2-log_lde_size.ensures.next_power_gt in
+    let r = c.log2_strict-log_lde_size.ensures.only size.0 size.1 in
     size.1
-    ∙ word-length g.EF.Operations.ops g.EF.ExtensionField.embed g.F.Operations.laws.ring g.met.F.ComplexExtendable.generators_law c.ilog2-log_lde_size.result size.0 c.args.log_blowup (log_size c.standard.result) (shift_of c.standard.result) (map coordinates points)
+    ∙ word-length g.EF.Operations.ops g.EF.ExtensionField.embed g.F.Operations.laws.ring g.met.F.ComplexExtendable.generators_law c.log2_strict-log_lde_size.result size.0 c.args.log_blowup (log_size c.standard.result) (shift_of c.standard.result) (map coordinates points)
     r size.2 size.3 g.met.F.ComplexExtendable.at_most_62 c.standard.ensures.size c.standard.ensures.shift c.in_ok-points.ensures
-    ∙ ap (λ i. i * (1 * 2 ^ (c.ilog2-log_lde_size.result - c.args.log_blowup) % 2 ^ 64)) (length-map points coordinates ∙ sym (ap length c.deref-2.ensures.value))
+    ∙ ap (λ i. i * (1 * 2 ^ (c.log2_strict-log_lde_size.result - c.args.log_blowup) % 2 ^ 64)) (length-map points coordinates ∙ sym (ap length c.deref-2.ensures.value))
 
 pub returns : goal.returns
 returns g c =
@@ -54,13 +56,13 @@ returns g c =
     let gen = g.F.ComplexExtendable.generators in
     let size = c.requires.size in
     let word = c.args.lde.now in
-    let log = c.ilog2-log_lde_size.result in
+    let log = c.log2_strict-log_lde_size.result in
     let points = c.in_ok-points.points.items in
     let x = λ (p : Coordinates g.row.F.Denot). embed p.x in
     let y = λ (p : Point g.row.F.Denot g.F.Operations). embed (coordinates p).x in
     let block = 1 * 2 ^ (log - c.args.log_blowup) % 2 ^ 64 in
-    let r = logarithm _ log size.0 size.1 c.ilog2-log_lde_size.ensures.power_le c.ilog2-log_lde_size.ensures.next_power_gt in
-    let m_is = λ (m : ℕ) (e : length word ≡ 2 ^ m). logarithm _ log m e c.ilog2-log_lde_size.ensures.power_le c.ilog2-log_lde_size.ensures.next_power_gt in
+    let r = c.log2_strict-log_lde_size.ensures.only size.0 size.1 in
+    let m_is = λ (m : ℕ) (e : length word ≡ 2 ^ m). c.log2_strict-log_lde_size.ensures.only m e in
     let values : (m : ℕ) → length word ≡ 2 ^ m → spread block (map y points) ≡ vanishing_values k gen l embed c.args.log_blowup m =
     λ m e. ap (spread block) (sym (map-map x coordinates points))
     ∙ word-blocks l embed g.F.Operations.laws.ring g.met.F.ComplexExtendable.generators_law log m c.args.log_blowup (log_size c.standard.result) (shift_of c.standard.result) (map coordinates points)

@@ -23,20 +23,20 @@ add-requires g c = g.met.EF.Field.can_add_law _ c.mul.result
 pub index-row-requires : goal.index-row-requires
 index-row-requires g c =
     let i = c.loop-i.i in
-    let within : i < length c.args.opened_values.now = omega (arith, c.loop-i-test.true, c.requires.opened) in
-    let rows = c.index-opened_values-i.result in
-    let count = opened-count c.args.opened_values.now i c.args.matrix rows within c.index-opened_values-i.is in
-    let asked = c.requires.rows i [] (omega (arith, within, length-map c.args.opened_values.now (λ rows. map (λ row. row.items) rows.items))) in
+    let within : i < length c.args.rows.now.opened.now = omega (arith, c.loop-i-test.true, c.requires.opened) in
+    let rows = c.index-opened-i.result in
+    let count = opened-count c.args.rows.now.opened.now i c.args.rows.now.matrix rows within c.index-opened-i.is in
+    let asked = c.requires.rows i [] (omega (arith, within, length-map c.args.rows.now.opened.now (λ rows. map (λ row. row.items) rows.items))) in
     omega (arith, asked.0, count, rows.ok.0)
 
 pub deep_quotient_reduce_row-requires-clause-widths : goal.deep_quotient_reduce_row-requires-clause-widths
 deep_quotient_reduce_row-requires-clause-widths g c =
     let i = c.loop-i.i in
-    let within : i < length c.args.opened_values.now = omega (arith, c.loop-i-test.true, c.requires.opened) in
-    let rows = c.index-opened_values-i.result in
-    let count = opened-count c.args.opened_values.now i c.args.matrix rows within c.index-opened_values-i.is in
-    let asked = c.requires.rows i [] (omega (arith, within, length-map c.args.opened_values.now (λ rows. map (λ row. row.items) rows.items))) in
-    let row = opened-row c.args.opened_values.now i c.args.matrix rows within c.index-opened_values-i.is c.index-row.result.now (omega (arith, asked.0, count)) c.index-row.ensures in
+    let within : i < length c.args.rows.now.opened.now = omega (arith, c.loop-i-test.true, c.requires.opened) in
+    let rows = c.index-opened-i.result in
+    let count = opened-count c.args.rows.now.opened.now i c.args.rows.now.matrix rows within c.index-opened-i.is in
+    let asked = c.requires.rows i [] (omega (arith, within, length-map c.args.rows.now.opened.now (λ rows. map (λ row. row.items) rows.items))) in
+    let row = opened-row c.args.rows.now.opened.now i c.args.rows.now.matrix rows within c.index-opened-i.is c.index-row.result.now (omega (arith, asked.0, count)) c.index-row.ensures in
     ap length (c.deref.ensures.value ∙ row) ∙ asked.1
 
 pub deep_quotient_reduce_row-requires-clause-enough : goal.deep_quotient_reduce_row-requires-clause-enough
@@ -55,26 +55,26 @@ pub loop-i-preserved : goal.loop-i-preserved
 loop-i-preserved g c =
     let l = g.EF.Operations.ops in
     let m = g.EF.ExtensionField.embed in
-    let z = coordinates c.args.zeta in
+    let z = coordinates c.args.claim.now.point in
     let i = c.loop-i.i in
     let old = c.args.sums.now in
     let here : i < length old = c.loop-i-test.true in
     let points = c.args.points.now in
     let p = c.index-points-i.result in
     let at_points : i < length points = omega (arith, here, c.requires.points) in
-    let at_opened : i < length c.args.opened_values.now = omega (arith, here, c.requires.opened) in
-    let opened = opened_rows c.args.opened_values.now in
-    let listed : length opened ≡ length c.args.opened_values.now = length-map c.args.opened_values.now (λ rows. map (λ row. row.items) rows.items) in
+    let at_opened : i < length c.args.rows.now.opened.now = omega (arith, here, c.requires.opened) in
+    let opened = opened_rows c.args.rows.now.opened.now in
+    let listed : length opened ≡ length c.args.rows.now.opened.now = length-map c.args.rows.now.opened.now (λ rows. map (λ row. row.items) rows.items) in
     let within : i < length opened = omega (arith, at_opened, listed) in
-    let rows = c.index-opened_values-i.result in
-    let count = opened-count c.args.opened_values.now i c.args.matrix rows at_opened c.index-opened_values-i.is in
+    let rows = c.index-opened-i.result in
+    let count = opened-count c.args.rows.now.opened.now i c.args.rows.now.matrix rows at_opened c.index-opened-i.is in
     let asked = c.requires.rows i [] within in
-    let row = opened-row c.args.opened_values.now i c.args.matrix rows at_opened c.index-opened_values-i.is c.index-row.result.now (omega (arith, asked.0, count)) c.index-row.ensures in
+    let row = opened-row c.args.rows.now.opened.now i c.args.rows.now.matrix rows at_opened c.index-opened-i.is c.index-row.result.now (omega (arith, asked.0, count)) c.index-row.ensures in
     let f = λ (s q : g.row.EF.Denot). l.add s (l.mul c.args.offset q) in
-    let w = λ (x : Coordinates g.row.F.Denot) (r : List g.row.F.Denot). weighted_quotient l m c.index-alpha_powers-values.result c.args.alpha_powers.now x z r c.args.values.now in
+    let w = λ (x : Coordinates g.row.F.Denot) (r : List g.row.F.Denot). weighted_quotient l m c.index-alpha_powers-values.result c.args.alpha_powers.now x z r c.args.claim.now.values.now in
     let xs = map coordinates points in
-    let rs = rows_of c.args.matrix opened in
-    let counted : length rs ≡ length opened = length-map opened (λ rows. slice_index_or rows c.args.matrix []) in
+    let rs = rows_of c.args.rows.now.matrix opened in
+    let counted : length rs ≡ length opened = length-map opened (λ rows. slice_index_or rows c.args.rows.now.matrix []) in
     let xs_counted : length xs ≡ length points = length-map points coordinates in
     let qs = pairwise w xs rs in
     let qs_counted : length qs ≡ length xs = length-pairwise w xs rs (omega (arith, xs_counted, counted, listed, c.requires.points, c.requires.opened)) in
@@ -86,7 +86,7 @@ loop-i-preserved g c =
     let read : slice_index_or c.loop-i.sums i a ≡ slice_index_or old i a = ap (λ ss. slice_index_or ss i a) c.loop-i.invariant.sums ∙ written-read i new old a long in
     let x : coordinates p ≡ slice_index_or xs i (coordinates p) = ap coordinates c.index-points-i.is ∙ sym (get_or-map coordinates points i p (coordinates p) at_points) in
     let r : c.deref.result.now ≡ slice_index_or rs i [] =
-    c.deref.ensures.value ∙ row ∙ sym (get_or-map (λ (rows : List (List g.row.F.Denot)). slice_index_or rows c.args.matrix []) opened i [] [] within) in
+    c.deref.ensures.value ∙ row ∙ sym (get_or-map (λ (rows : List (List g.row.F.Denot)). slice_index_or rows c.args.rows.now.matrix []) opened i [] [] within) in
     let is : q ≡ slice_index_or qs i q =
     c.in_ok-quotient.ensures.value ∙ ap (λ y. w y c.deref.result.now) x ∙ ap (w (slice_index_or xs i (coordinates p))) r
     ∙ sym (pairwise-read w xs rs i (coordinates p) [] q (omega (arith, at_points, xs_counted)) (omega (arith, within, counted))) in
@@ -110,29 +110,29 @@ pub returns-clause-sums : goal.returns-clause-sums
 returns-clause-sums g c = λ alpha are.
     let l = g.EF.Operations.ops in
     let m = g.EF.ExtensionField.embed in
-    let z = coordinates c.args.zeta in
+    let z = coordinates c.args.claim.now.point in
     let i = c.loop-i.i in
     let old = c.args.sums.now in
     let points = c.args.points.now in
-    let opened = opened_rows c.args.opened_values.now in
-    let listed : length opened ≡ length c.args.opened_values.now = length-map c.args.opened_values.now (λ rows. map (λ row. row.items) rows.items) in
+    let opened = opened_rows c.args.rows.now.opened.now in
+    let listed : length opened ≡ length c.args.rows.now.opened.now = length-map c.args.rows.now.opened.now (λ rows. map (λ row. row.items) rows.items) in
     let f = λ (s q : g.row.EF.Denot). l.add s (l.mul c.args.offset q) in
     let top = c.index-alpha_powers-values.result in
-    let w = λ (x : Coordinates g.row.F.Denot) (r : List g.row.F.Denot). weighted_quotient l m top c.args.alpha_powers.now x z r c.args.values.now in
+    let w = λ (x : Coordinates g.row.F.Denot) (r : List g.row.F.Denot). weighted_quotient l m top c.args.alpha_powers.now x z r c.args.claim.now.values.now in
     let xs = map coordinates points in
-    let rs = rows_of c.args.matrix opened in
-    let counted : length rs ≡ length opened = length-map opened (λ rows. slice_index_or rows c.args.matrix []) in
+    let rs = rows_of c.args.rows.now.matrix opened in
+    let counted : length rs ≡ length opened = length-map opened (λ rows. slice_index_or rows c.args.rows.now.matrix []) in
     let xs_counted : length xs ≡ length points = length-map points coordinates in
     let qs = pairwise w xs rs in
     let qs_counted : length qs ≡ length xs = length-pairwise w xs rs (omega (arith, xs_counted, counted, listed, c.requires.points, c.requires.opened)) in
     let new = pairwise f old qs in
     let long : length new ≡ length old = length-pairwise f old qs (omega (arith, qs_counted, xs_counted, c.requires.points)) in
-    let n = length c.args.values.now in
+    let n = length c.args.claim.now.values.now in
     let is_top : top ≡ nth_power l alpha n =
     c.index-alpha_powers-values.is ∙ ap (λ ws. slice_index_or ws n top) are
     ∙ get_or-map-range_with_len (nth_power l alpha) 0 (length c.args.alpha_powers.now) n n top c.requires.enough (omega arith) in
     c.loop-i.invariant.sums ∙ written-all i new old long (omega (arith, c.loop-i-test.false))
-    ∙ ap (pairwise f old) (claimed_quotients l m alpha top c.args.alpha_powers.now xs z rs c.args.values.now
+    ∙ ap (pairwise f old) (claimed_quotients l m alpha top c.args.alpha_powers.now xs z rs c.args.claim.now.values.now
     (λ j lt. let within : j < length opened = omega (arith, lt, counted) in
-    ap length (get_or-map (λ (rows : List (List g.row.F.Denot)). slice_index_or rows c.args.matrix []) opened j [] [] within) ∙ (c.requires.rows j [] within).1)
+    ap length (get_or-map (λ (rows : List (List g.row.F.Denot)). slice_index_or rows c.args.rows.now.matrix []) opened j [] [] within) ∙ (c.requires.rows j [] within).1)
     (omega (arith, c.requires.enough)) is_top are)

@@ -12,7 +12,6 @@ fold_query_values-requires-clause-nonzero g c =
     let high = c.args.log_max_height in
     let qs = c.args.indices.now in
     let are : c.deref-4.result.now ≡ map (first_layer_twiddle k gen h high) qs =
-    c.deref-4.ensures.value
-    ∙ c.in_ok-twiddles.ensures h high c.requires.positive c.requires.within c.requires.in_group refl c.requires.in_range (ap (map coordinates) c.deref-3.ensures.value ∙ c.in_ok-points.ensures) in
+    c.deref-4.ensures.value ∙ c.in_ok-twiddles.ensures in
     subst (All (λ t. t ≢ k.zero)) (sym are)
     (first_layer_twiddles-nonzero g.F.Operations.laws g.met.F.ComplexExtendable.generators_law h high qs c.requires.positive c.requires.within (omega (arith, c.requires.in_group)) c.requires.in_range)

@@ -1,4 +1,4 @@
-use Rattle.std.proofs.Common.{rules, ◌≡◌, ◌-◌, ◌+◌, ◌*◌, ◌/◌, ◌%◌, ◌^◌, ◌<◌, ◌≤◌, ◌++◌, ◌∙◌, sym, ap, map, take, drop, length, arith}
+use Rattle.std.proofs.Common.{rules, ◌≡◌, ◌-◌, ◌+◌, ◌*◌, ◌/◌, ◌%◌, ◌^◌, ◌≤◌, ◌++◌, ◌∙◌, sym, ap, map, take, drop, length, arith}
 use Rattle.std.proofs.lemmas.List.{take-map}
 use Rattle.std.proofs.lemmas.Nat.{pow-add}
 use Rattle.circle_field.proofs.Inverses.{take-whole}
@@ -15,20 +15,20 @@ use Rattle.circle_domain.proofs.Blocks.{cfft_order-prefix}
 use Rattle.circle_domain.proofs.Columns.{stored_column, length-stored_column}
 use Rattle.circle_domain.proofs.CosetOrder.{other_order-points}
 use Rattle.circle_domain.proofs.Layering.{length-copies}
-use Rattle.circle_plane.proofs.Passes.{remaining, remaining-none, blocks-entries, part-more, forward-pass, copies-values}
-use Rattle.circle_domain.proofs.Powers.{pow_within, pow_order, power_is}
+use Rattle.circle_plane.proofs.Passes.{remaining, remaining-none, blocks-entries, forward-pass, copies-values}
+use Rattle.circle_domain.proofs.Powers.{pow_within, pow_order}
 use Rattle.circle_domain.proofs.Stored.{whole, height, rows-values, stored-wide}
 use Rattle.circle_domain.proofs.Twiddles.{length-layer_factors, made-count, made-read}
 use Rattle.circle_domain.proofs.Undoing.{forward}
+use Rattle.circle_plane.proofs.Steps.{step}
 use Rattle.circle_plane.proofs.cfft.CircleEvaluations+F+RowMajorMatrix+F.evaluate.Goals as goal
 
 pub overflow_sub-log_n : goal.overflow_sub-log_n
 overflow_sub-log_n g c =
     let n = log_size c.args.domain in
     let coeffs = c.args.coeffs in
-    let h = c.ilog2-log_height.result in
-    let tall : height_of coeffs ≡ 2 ^ h =
-    power_is (height_of coeffs) h c.requires.power (omega (arith, c.ilog2-log_height.ensures.power_le, c.height.ensures)) (omega (arith, c.ilog2-log_height.ensures.next_power_gt, c.height.ensures)) in
+    let h = c.log2_strict-log_height.result in
+    let tall : height_of coeffs ≡ 2 ^ h = sym (c.log2_strict-log_height.ensures.power ∙ c.height.ensures) in
     let le : h ≤ n = pow_order h n (omega (arith, tall, c.requires.at_most_size)) in
     omega (arith, le, c.log_n.ensures)
 
@@ -40,9 +40,8 @@ loop-layer-init g c =
     let s = shift_of c.args.domain in
     let coeffs = c.args.coeffs in
     let width = width_of coeffs in
-    let h = c.ilog2-log_height.result in
-    let tall : height_of coeffs ≡ 2 ^ h =
-    power_is (height_of coeffs) h c.requires.power (omega (arith, c.ilog2-log_height.ensures.power_le, c.height.ensures)) (omega (arith, c.ilog2-log_height.ensures.next_power_gt, c.height.ensures)) in
+    let h = c.log2_strict-log_height.result in
+    let tall : height_of coeffs ≡ 2 ^ h = sym (c.log2_strict-log_height.ensures.power ∙ c.height.ensures) in
     let le : h ≤ n = pow_order h n (omega (arith, tall, c.requires.at_most_size)) in
     let entries = c.in_ok-entries.entries.items in
     let stored = values_of coeffs in
@@ -67,21 +66,13 @@ loop-layer-init g c =
 
 pub index-requires : goal.index-requires
 index-requires g c =
-    let k = g.F.Operations.ops in
-    let gen = g.F.ComplexExtendable.generators in
     let n = log_size c.args.domain in
-    let s = shift_of c.args.domain in
-    let coeffs = c.args.coeffs in
-    let h = c.ilog2-log_height.result in
-    let tall : height_of coeffs ≡ 2 ^ h =
-    power_is (height_of coeffs) h c.requires.power (omega (arith, c.ilog2-log_height.ensures.power_le, c.height.ensures)) (omega (arith, c.ilog2-log_height.ensures.next_power_gt, c.height.ensures)) in
+    let h = c.log2_strict-log_height.result in
+    let tall : height_of c.args.coeffs ≡ 2 ^ h = sym (c.log2_strict-log_height.ensures.power ∙ c.height.ensures) in
     let le : h ≤ n = pow_order h n (omega (arith, tall, c.requires.at_most_size)) in
-    let f = layer_factors k gen n s in
-    let items = c.in_ok-twiddles.twiddles.items in
-    let i = c.loop-layer.layer - 1 in
-    let at : i + 1 ≡ c.loop-layer.layer = omega (arith, c.loop-layer-test.true) in
-    let below : i < n = omega (arith, le, c.loop-layer-test.true, c.loop-layer.auto.layer) in
-    omega (arith, below, made-count (λ w. w.items) f items n c.in_ok-twiddles.ensures, c.in_ok-twiddles.twiddles.ok.0)
+    let f = layer_factors g.F.Operations.ops g.F.ComplexExtendable.generators n (shift_of c.args.domain) in
+    let count = made-count (λ w. w.items) f c.in_ok-twiddles.twiddles.items n c.in_ok-twiddles.ensures in
+    omega (arith, le, c.loop-layer-test.true, c.loop-layer.auto.layer, count, c.in_ok-twiddles.twiddles.ok.0)
 
 pub apply_layer-requires : goal.apply_layer-requires
 apply_layer-requires g c =
@@ -89,24 +80,17 @@ apply_layer-requires g c =
     let gen = g.F.ComplexExtendable.generators in
     let n = log_size c.args.domain in
     let s = shift_of c.args.domain in
-    let coeffs = c.args.coeffs in
-    let width = width_of coeffs in
-    let h = c.ilog2-log_height.result in
-    let tall : height_of coeffs ≡ 2 ^ h =
-    power_is (height_of coeffs) h c.requires.power (omega (arith, c.ilog2-log_height.ensures.power_le, c.height.ensures)) (omega (arith, c.ilog2-log_height.ensures.next_power_gt, c.height.ensures)) in
+    let width = width_of c.args.coeffs in
+    let h = c.log2_strict-log_height.result in
+    let tall : height_of c.args.coeffs ≡ 2 ^ h = sym (c.log2_strict-log_height.ensures.power ∙ c.height.ensures) in
     let le : h ≤ n = pow_order h n (omega (arith, tall, c.requires.at_most_size)) in
-    let f = layer_factors k gen n s in
-    let items = c.in_ok-twiddles.twiddles.items in
     let i = c.loop-layer.layer - 1 in
-    let at : i + 1 ≡ c.loop-layer.layer = omega (arith, c.loop-layer-test.true) in
-    let below : i < n = omega (arith, le, c.loop-layer-test.true, c.loop-layer.auto.layer) in
+    let here = step n h c.loop-layer.layer c.loop-layer.half width le c.loop-layer.auto.layer c.loop-layer-test.true c.loop-layer.invariant.part in
     let v = c.index.result.now in
-    let read : v.items ≡ f i = made-read (λ w. w.items) f items n c.in_ok-twiddles.ensures i v c.index.ensures below in
-    let halved : c.loop-layer.half / 2 ≡ 2 ^ i * width =
-    let twice : c.loop-layer.half ≡ 2 ^ i * width * 2 = c.loop-layer.invariant.part ∙ ap (λ l. 2 ^ l * width) (sym at) ∙ sym (part-more i width) in omega (arith, twice) in
+    let read : v.items ≡ layer_factors k gen n s i = made-read (λ w. w.items) (layer_factors k gen n s) c.in_ok-twiddles.twiddles.items n c.in_ok-twiddles.ensures i v c.index.ensures here.below in
     let blocks : length c.deref.result.now ≡ 2 ^ (n - (i + 1)) = ap length (c.deref.ensures.value ∙ read) ∙ length-layer_factors k gen n i s in
-    ap length c.deref_mut.ensures.value ∙ c.loop-layer.invariant.long ∙ sym (blocks-entries n i width below)
-    ∙ ap (λ t. 2 ^ (n - (i + 1)) * (t + t)) (sym halved) ∙ ap (λ t. t * (c.loop-layer.half / 2 + c.loop-layer.half / 2)) (sym blocks)
+    ap length c.deref_mut.ensures.value ∙ c.loop-layer.invariant.long ∙ sym (blocks-entries n i width here.below)
+    ∙ ap (λ t. 2 ^ (n - (i + 1)) * (t + t)) (sym here.halved) ∙ ap (λ t. t * (c.loop-layer.half / 2 + c.loop-layer.half / 2)) (sym blocks)
 
 pub loop-layer-preserved : goal.loop-layer-preserved
 loop-layer-preserved g c =
@@ -114,35 +98,29 @@ loop-layer-preserved g c =
     let gen = g.F.ComplexExtendable.generators in
     let n = log_size c.args.domain in
     let s = shift_of c.args.domain in
-    let coeffs = c.args.coeffs in
-    let width = width_of coeffs in
-    let h = c.ilog2-log_height.result in
-    let tall : height_of coeffs ≡ 2 ^ h =
-    power_is (height_of coeffs) h c.requires.power (omega (arith, c.ilog2-log_height.ensures.power_le, c.height.ensures)) (omega (arith, c.ilog2-log_height.ensures.next_power_gt, c.height.ensures)) in
+    let width = width_of c.args.coeffs in
+    let h = c.log2_strict-log_height.result in
+    let tall : height_of c.args.coeffs ≡ 2 ^ h = sym (c.log2_strict-log_height.ensures.power ∙ c.height.ensures) in
     let le : h ≤ n = pow_order h n (omega (arith, tall, c.requires.at_most_size)) in
     let f = layer_factors k gen n s in
-    let items = c.in_ok-twiddles.twiddles.items in
     let i = c.loop-layer.layer - 1 in
-    let at : i + 1 ≡ c.loop-layer.layer = omega (arith, c.loop-layer-test.true) in
-    let below : i < n = omega (arith, le, c.loop-layer-test.true, c.loop-layer.auto.layer) in
+    let here = step n h c.loop-layer.layer c.loop-layer.half width le c.loop-layer.auto.layer c.loop-layer-test.true c.loop-layer.invariant.part in
     let v = c.index.result.now in
-    let read : v.items ≡ f i = made-read (λ w. w.items) f items n c.in_ok-twiddles.ensures i v c.index.ensures below in
-    let halved : c.loop-layer.half / 2 ≡ 2 ^ i * width =
-    let twice : c.loop-layer.half ≡ 2 ^ i * width * 2 = c.loop-layer.invariant.part ∙ ap (λ l. 2 ^ l * width) (sym at) ∙ sym (part-more i width) in omega (arith, twice) in
+    let read : v.items ≡ f i = made-read (λ w. w.items) f c.in_ok-twiddles.twiddles.items n c.in_ok-twiddles.ensures i v c.index.ensures here.below in
     let old = c.loop-layer.entries in
     let new = c.apply_layer.new.values in
     let made : new ≡ forward k (2 ^ i * width) (f i) old.items =
-    c.apply_layer.ensures ∙ ap (λ t. forward k t c.deref.result.now c.deref_mut.result.now) halved
+    c.apply_layer.ensures ∙ ap (λ t. forward k t c.deref.result.now c.deref_mut.result.now) here.halved
     ∙ ap (λ ts. forward k (2 ^ i * width) ts c.deref_mut.result.now) (c.deref.ensures.value ∙ read) ∙ ap (forward k (2 ^ i * width) (f i)) c.deref_mut.ensures.value in
     let kept : length new ≡ length old.items = c.apply_layer.auto.values ∙ ap length c.deref_mut.ensures.value in
     let all : take old.len (new ++ drop (length new) old.items) ≡ new = take-whole old.len new old.items old.ok.0 kept in
     record {
-      part = halved;
+      part = here.halved;
       long = ap length all ∙ kept ∙ c.loop-layer.invariant.long;
       passed = λ j lt.
           ap (λ xs. remaining k gen n s i (stored_column k.zero width j (2 ^ n) xs)) (all ∙ made)
-          ∙ forward-pass k gen n s width j lt i old.items below c.loop-layer.invariant.long
-          ∙ ap (λ l. remaining k gen n s l (stored_column k.zero width j (2 ^ n) old.items)) at
+          ∙ forward-pass k gen n s width j lt i old.items here.below c.loop-layer.invariant.long
+          ∙ ap (λ l. remaining k gen n s l (stored_column k.zero width j (2 ^ n) old.items)) here.next
           ∙ c.loop-layer.invariant.passed j lt;
     }
 

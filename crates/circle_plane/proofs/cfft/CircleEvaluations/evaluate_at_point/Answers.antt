@@ -42,4 +42,4 @@ returns-clause-values g c =
     let s = shift_of c.args.self.now.domain in
     let told = rows-told g.F.Operations.laws g.met.F.ComplexExtendable.generators_law n s (let fits = c.requires.in_group in omega (arith, fits)) c.args.self.now.domain.shift.on_circle c.requires.genuine
     (g.M.Shape.width values) (g.M.Matrix.rows values) (g.met.M.Matrix.width_positive values) (g.met.M.Matrix.height_law values ∙ c.args.self.now.row_for_each_point) (g.met.M.Matrix.width_law values) in
-    (told.0, told.1, returns-clause-only g c told.0 told.1)
+    record { coeffs = told.0; told = told.1; at_point = returns-clause-only g c told.0 told.1 }

@@ -9,16 +9,20 @@ use Rattle.circle_commit.specs.RowFacts.{length-rows_from}
 use Rattle.circle_commit.specs.RowMajorMatrix.{rows, width_of, height_of, values_of, length-rows, rows-width, length-values}
 use Rattle.circle_point.specs.Basis.{value}
 use Rattle.circle_domain.specs.Domain.{log_size, shift_of}
-use Rattle.circle_domain.specs.Order.{cfft_order}
+use Rattle.circle_domain.specs.Order.{cfft_order, natural_order}
+use Rattle.circle_domain.specs.Ordering.{other_order}
+use Rattle.circle_domain.specs.Values.{values_at}
 use Rattle.circle_domain.specs.Layers.{layer_factors}
 use Rattle.circle_domain.proofs.Columns.{stored_column, rows-same_columns}
 use Rattle.circle_domain.proofs.TwoPowers.{inverse_power}
 use Rattle.circle_plane.proofs.Passes.{remaining, blocks-entries, part-more, backward-pass, before-passes, after-passes, values-tell}
+use Rattle.circle_domain.proofs.CosetOrder.{other_order-points}
 use Rattle.circle_domain.proofs.LayerFactors.{layer_factors-nonzero}
 use Rattle.circle_domain.proofs.Powers.{pow_within}
 use Rattle.circle_domain.proofs.Stored.{whole, height, rows-values, column-values}
-use Rattle.circle_domain.proofs.Twiddles.{length-layer_factors, made-count, made-read}
+use Rattle.circle_domain.proofs.Twiddles.{length-layer_factors, made-count}
 use Rattle.circle_domain.proofs.Undoing.{backward}
+use Rattle.circle_plane.proofs.Steps.{made-at}
 use Rattle.circle_plane.proofs.cfft.CircleEvaluations.interpolate.Goals as goal
 
 pub loop-factors-init : goal.loop-factors-init
@@ -50,14 +54,10 @@ batch_multiplicative_inverse-requires g c =
     let f = layer_factors k g.F.ComplexExtendable.generators n s in
     let items = c.in_ok-twiddles.twiddles.items in
     let m = c.loop-factors.factors-index in
-    let v = c.factors-item.result in
-    let count : length items ≡ n = made-count (λ w. w.items) f items n c.in_ok-twiddles.ensures in
-    let below : m < n = omega (arith, c.loop-factors-test.true, count, ap length c.deref-factors-items.ensures.value) in
-    let read : v.items ≡ f m =
-    made-read (λ w. w.items) f items n c.in_ok-twiddles.ensures m v (c.factors-item.is ∙ ap (λ xs. slice_index_or xs m v) c.deref-factors-items.ensures.value) below in
+    let at = made-at (λ w. w.items) f items n c.in_ok-twiddles.ensures _ m c.factors-item.result c.deref-factors-items.ensures.value c.loop-factors-test.true c.factors-item.is in
     let NonZero : g.row.F.Denot → Type 0 = λ t. t ≢ k.zero in
-    subst (All NonZero) (sym (c.deref.ensures.value ∙ read))
-    (All-from_recursion NonZero (f m) (layer_factors-nonzero g.F.Operations.laws g.met.F.ComplexExtendable.generators_law n s c.requires.in_group c.args.self.domain.shift.on_circle c.requires.genuine.1 m below))
+    subst (All NonZero) (sym (c.deref.ensures.value ∙ at.1))
+    (All-from_recursion NonZero (f m) (layer_factors-nonzero g.F.Operations.laws g.met.F.ComplexExtendable.generators_law n s c.requires.in_group c.args.self.domain.shift.on_circle c.requires.genuine.1 m at.0))
 
 pub apply_layer-requires : goal.apply_layer-requires
 apply_layer-requires g c =
@@ -68,14 +68,10 @@ apply_layer-requires g c =
     let f = layer_factors k g.F.ComplexExtendable.generators n s in
     let items = c.in_ok-twiddles.twiddles.items in
     let m = c.loop-factors.factors-index in
-    let v = c.factors-item.result in
-    let count : length items ≡ n = made-count (λ w. w.items) f items n c.in_ok-twiddles.ensures in
-    let below : m < n = omega (arith, c.loop-factors-test.true, count, ap length c.deref-factors-items.ensures.value) in
-    let read : v.items ≡ f m =
-    made-read (λ w. w.items) f items n c.in_ok-twiddles.ensures m v (c.factors-item.is ∙ ap (λ xs. slice_index_or xs m v) c.deref-factors-items.ensures.value) below in
+    let at = made-at (λ w. w.items) f items n c.in_ok-twiddles.ensures _ m c.factors-item.result c.deref-factors-items.ensures.value c.loop-factors-test.true c.factors-item.is in
     let blocks : length c.deref-in-loop-factors.result.now ≡ 2 ^ (n - (m + 1)) =
-    ap length (c.deref-in-loop-factors.ensures.value ∙ c.in_ok-inverses.ensures ∙ ap (map k.inv) (c.deref.ensures.value ∙ read)) ∙ length-map (f m) k.inv ∙ length-layer_factors k g.F.ComplexExtendable.generators n m s in
-    ap length c.deref_mut.ensures.value ∙ c.loop-factors.invariant.long ∙ sym (blocks-entries n m width below)
+    ap length (c.deref-in-loop-factors.ensures.value ∙ c.in_ok-inverses.ensures ∙ ap (map k.inv) (c.deref.ensures.value ∙ at.1)) ∙ length-map (f m) k.inv ∙ length-layer_factors k g.F.ComplexExtendable.generators n m s in
+    ap length c.deref_mut.ensures.value ∙ c.loop-factors.invariant.long ∙ sym (blocks-entries n m width at.0)
     ∙ ap (λ h. 2 ^ (n - (m + 1)) * (h + h)) (sym c.loop-factors.invariant.part) ∙ ap (λ i. i * (c.loop-factors.half + c.loop-factors.half)) (sym blocks)
 
 pub overflow_mul-half : goal.overflow_mul-half
@@ -101,14 +97,10 @@ loop-factors-preserved g c =
     let f = layer_factors k g.F.ComplexExtendable.generators n s in
     let items = c.in_ok-twiddles.twiddles.items in
     let m = c.loop-factors.factors-index in
-    let v = c.factors-item.result in
-    let count : length items ≡ n = made-count (λ w. w.items) f items n c.in_ok-twiddles.ensures in
-    let below : m < n = omega (arith, c.loop-factors-test.true, count, ap length c.deref-factors-items.ensures.value) in
-    let read : v.items ≡ f m =
-    made-read (λ w. w.items) f items n c.in_ok-twiddles.ensures m v (c.factors-item.is ∙ ap (λ xs. slice_index_or xs m v) c.deref-factors-items.ensures.value) below in
+    let at = made-at (λ w. w.items) f items n c.in_ok-twiddles.ensures _ m c.factors-item.result c.deref-factors-items.ensures.value c.loop-factors-test.true c.factors-item.is in
     let old = c.loop-factors.entries in
     let new = c.apply_layer.new.values in
-    let inverses : c.deref-in-loop-factors.result.now ≡ map k.inv (f m) = c.deref-in-loop-factors.ensures.value ∙ c.in_ok-inverses.ensures ∙ ap (map k.inv) (c.deref.ensures.value ∙ read) in
+    let inverses : c.deref-in-loop-factors.result.now ≡ map k.inv (f m) = c.deref-in-loop-factors.ensures.value ∙ c.in_ok-inverses.ensures ∙ ap (map k.inv) (c.deref.ensures.value ∙ at.1) in
     let made : new ≡ backward k (2 ^ m * width) (map k.inv (f m)) old.items =
     c.apply_layer.ensures ∙ ap (λ h. backward k h c.deref-in-loop-factors.result.now c.deref_mut.result.now) c.loop-factors.invariant.part
     ∙ ap (λ ts. backward k (2 ^ m * width) ts c.deref_mut.result.now) inverses ∙ ap (backward k (2 ^ m * width) (map k.inv (f m))) c.deref_mut.ensures.value in
@@ -120,7 +112,7 @@ loop-factors-preserved g c =
       passed = λ j lt.
           ap (λ xs. remaining k g.F.ComplexExtendable.generators n s (m + 1) (stored_column k.zero width j (2 ^ n) xs)) (all ∙ made)
           ∙ backward-pass g.F.Operations.laws g.met.F.ComplexExtendable.generators_law n s c.requires.in_group c.args.self.domain.shift.on_circle c.requires.genuine.1 width j lt m old.items
-          (column k.zero (g.M.Matrix.rows values) j) below c.loop-factors.invariant.long (c.loop-factors.invariant.passed j lt);
+          (column k.zero (g.M.Matrix.rows values) j) at.0 c.loop-factors.invariant.long (c.loop-factors.invariant.passed j lt);
     }
 
 pub new-requires-clause-whole : goal.new-requires-clause-whole
@@ -170,15 +162,15 @@ returns g c =
     let shape : width_of r ≡ width = c.new.ensures.shape ∙ wide in
     let own_wide : All (λ row. length row ≡ width) (rows r) = subst (λ w. All (λ row. length row ≡ w) (rows r)) shape (rows-width r) in
     let long : length (rows r) ≡ 2 ^ n = ap length content ∙ length-rows_from width (2 ^ n) (map (λ a. k.mul a factor) old.items) in
+    let there : map (values_at k (rows r) width) (cfft_order k g.F.ComplexExtendable.generators n s) ≡ g.M.Matrix.rows values =
+    sym (rows-values k width (2 ^ n) positive (g.M.Matrix.rows values) (rows r) (cfft_order k g.F.ComplexExtendable.generators n s) (g.met.M.Matrix.width_law values) (λ j lt. sym (column_values j lt))) in
     record {
       width = search rules;
       height = sym (length-rows r) ∙ long;
-      values = record {
-        height = long;
-        widths = own_wide;
-        values = sym (rows-values k width (2 ^ n) positive (g.M.Matrix.rows values) (rows r) (cfft_order k g.F.ComplexExtendable.generators n s) (g.met.M.Matrix.width_law values)
-            (λ j lt. sym (column_values j lt)));
-      };
+      values = record { height = long; widths = own_wide; values = there };
+      natural = ap (λ w. map (values_at k (rows r) w) (natural_order k g.F.ComplexExtendable.generators n s)) shape
+          ∙ sym (other_order-points g.F.Operations.laws.ring g.met.F.ComplexExtendable.generators_law (values_at k (rows r) width) n s c.requires.genuine.0 (let fits = c.requires.in_group in omega (arith, fits)))
+          ∙ ap (other_order n) there;
       only = λ others has. rows-same_columns k.zero width (rows r) others positive own_wide has.widths (λ j lt.
           values-tell g.F.Operations.laws g.met.F.ComplexExtendable.generators_law n s c.requires.in_group c.args.self.domain.shift.on_circle c.requires.genuine.1
           (column k.zero (rows r) j) (column k.zero others j) c.requires.genuine.0
