@@ -1,5 +1,9 @@
--- The status that tells a failure.
-use Rattle.std.specs.Prelude.{ℕ}
+-- The status that tells a failure, and what failures of the input are.
+use Rattle.std.specs.Prelude.{◌≡◌, ℕ}
+use Rattle.std.specs.declared.io.kind.ErrorKind.{ErrorKind}
+use Rattle.std.specs.declared.io.kind.ErrorKind.TheVariants.{OutOfMemory}
+use Rattle.serde_json.specs.Errors.{IsMemory}
+use Rattle.serde_json.specs.declared.error.Error.{Error}
 use Rattle.circle_tool.specs.declared.failure.Failure.{Failure}
 use Rattle.circle_tool.specs.declared.failure.Failure.TheVariants.{Usage, Input, Json, Unfit, Refused, Memory}
 
@@ -11,3 +15,13 @@ status_of Json = 2
 status_of (Unfit error) = 2
 status_of (Refused refusal) = 1
 status_of Memory = 1
+
+-- what a failure of a reader is
+abbrev pub failure_of_reading : ErrorKind → Failure
+failure_of_reading OutOfMemory = Memory
+failure_of_reading _ = Input
+
+-- what a failure to read JSON of a text is
+pub record IsFailureOfText (error : Error) (failure : Failure) : Type 0 where
+  pub memory : IsMemory error → failure ≡ Memory
+  pub text : (¬ IsMemory error) → failure ≡ Json

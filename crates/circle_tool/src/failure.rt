@@ -4,7 +4,10 @@ ghost use Rattle.circle_tool.specs.Failure.{status_of};
 
 use crate::values::Refusal;
 use circle_commit::JsonError;
+use serde_json::Error as TextError;
 use std::alloc::AllocError;
+use std::io;
+use std::io::ErrorKind;
 use thiserror::Error;
 
 /// Why there is no result. Its text is the JSON that the program answers.
@@ -39,6 +42,36 @@ impl Failure {
         match self {
             Failure::Usage | Failure::Input | Failure::Json | Failure::Unfit(_) => 2,
             Failure::Refused(_) | Failure::Memory => 1,
+        }
+    }
+}
+
+/// A failure of the input, but where it is memory that is refused.
+impl From<io::Error> for Failure {
+    ghost use Rattle.circle_tool.specs.Failure.{failure_of_reading};
+    ghost use Rattle.std.specs.IoError.{error_kind};
+
+    ghost from_gives = { λ error failure. failure ≡ failure_of_reading (error_kind error) };
+
+    fn from(error: io::Error) -> Failure {
+        match error.kind() {
+            ErrorKind::OutOfMemory => Failure::Memory,
+            _ => Failure::Input,
+        }
+    }
+}
+
+/// A text that isn't JSON, but where it is memory that is refused.
+impl From<TextError> for Failure {
+    ghost use Rattle.circle_tool.specs.Failure.{IsFailureOfText};
+
+    ghost from_gives = { IsFailureOfText };
+
+    fn from(error: TextError) -> Failure {
+        if error.is_memory() {
+            Failure::Memory
+        } else {
+            Failure::Json
         }
     }
 }

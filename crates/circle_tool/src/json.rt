@@ -9,30 +9,17 @@ ghost use Rattle.circle_tool.specs.Json.{pair_of};
 use crate::failure::Failure;
 use circle_commit::{JsonError, JsonForm};
 use circle_field::Mersenne31;
-use serde_json::error::Category;
 use serde_json::{Map, Value};
 use std::alloc::Global;
-use std::io::{ErrorKind, Read};
+use std::io::Read;
 
 /// Reads `input` to its end as one JSON value.
 ///
 /// Fails as `Input` where reading fails, as `Json` where the bytes aren't JSON, and as `Memory`.
 pub fn read<R: Read>(alloc: Global, input: &mut R) -> Result<Value, Failure> {
     let mut bytes = Vec::new(alloc);
-    if let Err(error) = input.read_to_end(&mut bytes) {
-        return Err(if error.kind() == ErrorKind::OutOfMemory {
-            Failure::Memory
-        } else {
-            Failure::Input
-        });
-    }
-    Value::from_slice(alloc, &bytes).map_err(|error| {
-        if error.classify() == Category::Memory {
-            Failure::Memory
-        } else {
-            Failure::Json
-        }
-    })
+    input.read_to_end(&mut bytes)?;
+    Ok(Value::from_slice(alloc, &bytes)?)
 }
 
 /// The members of an object.

@@ -1,6 +1,8 @@
 //! The program over memory.
+use crate::failure::Failure;
 use crate::run::run;
 use std::alloc::{AllocError, Global};
+use std::fmt::InlineText;
 use std::io;
 use std::io::{ErrorKind, Read, Write};
 use std::process::Abort;
@@ -8,14 +10,14 @@ use std::test::Fail;
 
 const FIRST: &str = r#"{"coefficients":[[1],[2],[3],[4]],"log_n":2,"shift":[32768,32768]}"#;
 
-// A reader that gives these bytes one at a time, and then fails.
+// A reader that gives these bytes one at a time, and then fails with an error of this kind.
 #[derive(Drop)]
-struct FailingReader<'a>(&'a [u8]);
+struct FailingReader<'a>(&'a [u8], ErrorKind);
 
 impl Read for FailingReader<'_> {
     fn read(&mut self, buf: &mut [u8]) -> io::Result<usize> {
         let Some((first, others)) = self.0.split_first() else {
-            return Err(io::Error::from(ErrorKind::ConnectionReset));
+            return Err(io::Error::from(self.1));
         };
         if buf.is_empty() {
             return Ok(0);
@@ -71,198 +73,178 @@ fn arguments(alloc: Global, words: &[&str]) -> Result<Vec<String>, AllocError> {
     Ok(args)
 }
 
-// Runs `values` on each input, whose line and status are given.
-fn expect_answers(
+// Runs `values` on the input, whose line and status are given.
+fn expect_answer(
     rt: &impl Abort,
     alloc: Global,
-    cases: &[(&str, &str, u8)],
+    input: &str,
+    line: &str,
+    want: u8,
 ) -> Result<(), AllocError> {
     let args = values_args(alloc)?;
-    for (input, line, want) in cases {
-        let mut output = Vec::new(alloc);
-        let status = run(alloc, &args, &mut input.as_bytes(), &mut output);
-        let text = std::str::from_utf8(&output).unwrap_or("not UTF-8");
-        let answer = text.strip_suffix("\n").unwrap_or("no line");
-        assert_eq!(rt; answer, *line, "of {input}");
-        assert_eq!(rt; status, *want, "of {input}");
+    let mut output = Vec::new(alloc);
+    let status = run(alloc, &args, &mut input.as_bytes(), &mut output);
+    let text = std::str::from_utf8(&output).unwrap_or("not UTF-8");
+    let answer = text.strip_suffix("\n").unwrap_or("no line");
+    assert_eq!(rt; answer, line, "of {input}");
+    assert_eq!(rt; status, want, "of {input}");
+    Ok(())
+}
+
+// Runs `values` on each input, whose rows are given.
+fn expect_rows(rt: &impl Abort, alloc: Global, cases: &[(&str, &str)]) -> Result<(), AllocError> {
+    for (input, rows) in cases {
+        let line = format!(in alloc; "{{\"rows\":{rows}}}")?;
+        expect_answer(rt, alloc, input, &line, 0)?;
+    }
+    Ok(())
+}
+
+// Runs `values` on each input, which is refused for the reason given.
+fn expect_refusals(
+    rt: &impl Abort,
+    alloc: Global,
+    cases: &[(&str, &str)],
+) -> Result<(), AllocError> {
+    for (input, reason) in cases {
+        let line = format!(in alloc; "{{\"refused\":\"{reason}\"}}")?;
+        expect_answer(rt, alloc, input, &line, 1)?;
+    }
+    Ok(())
+}
+
+// Runs `values` on each input, which can't be read for this reason.
+fn expect_unreadable(
+    rt: &impl Abort,
+    alloc: Global,
+    reason: &str,
+    inputs: &[&str],
+) -> Result<(), AllocError> {
+    let line = format!(in alloc; "{{\"unreadable\":\"{reason}\"}}")?;
+    for input in inputs {
+        expect_answer(rt, alloc, input, &line, 2)?;
     }
     Ok(())
 }
 
 #[test]
 fn values_of_polynomials(rt: HostRuntime) -> Result<(), Fail> {
-    expect_answers(
-        &rt,
-        rt.alloc(),
-        &[
-            (
-                FIRST,
-                r#"{"rows":[[163843],[2147450878],[2147319810],[32767]]}"#,
-                0,
-            ),
-            (
-                r#"{"coefficients":[[3],[2]],"log_n":1,"shift":[0,1]}"#,
-                r#"{"rows":[[5],[1]]}"#,
-                0,
-            ),
-            (
-                r#"{"coefficients":[[7]],"log_n":1,"shift":[0,1]}"#,
-                r#"{"rows":[[7],[7]]}"#,
-                0,
-            ),
-            (
-                r#"{"coefficients":[[1],[2],[3],[4]],"log_n":2,"shift":[1,0]}"#,
-                r#"{"rows":[[4],[2147483645],[2147483645],[4]]}"#,
-                0,
-            ),
-            // two columns side by side, and white space
-            (
-                "\n{ \"shift\" : [0, 1], \"coefficients\" : [[3, 7], [2, 0]],\t\"log_n\" : 1 }\n",
-                r#"{"rows":[[5,7],[1,7]]}"#,
-                0,
-            ),
-        ],
-    )?;
+    let cases = [
+        (FIRST, "[[163843],[2147450878],[2147319810],[32767]]"),
+        (
+            r#"{"coefficients":[[3],[2]],"log_n":1,"shift":[0,1]}"#,
+            "[[5],[1]]",
+        ),
+        (
+            r#"{"coefficients":[[7]],"log_n":1,"shift":[0,1]}"#,
+            "[[7],[7]]",
+        ),
+        (
+            r#"{"coefficients":[[1],[2],[3],[4]],"log_n":2,"shift":[1,0]}"#,
+            "[[4],[2147483645],[2147483645],[4]]",
+        ),
+        // two columns side by side, and white space
+        (
+            "\n{ \"shift\" : [0, 1], \"coefficients\" : [[3, 7], [2, 0]],\t\"log_n\" : 1 }\n",
+            "[[5,7],[1,7]]",
+        ),
+    ];
+    expect_rows(&rt, rt.alloc(), &cases)?;
     Ok(())
 }
 
 #[test]
 fn refusals(rt: HostRuntime) -> Result<(), Fail> {
-    expect_answers(
-        &rt,
-        rt.alloc(),
-        &[
-            (
-                r#"{"coefficients":[[1],[2],[3],[4]],"log_n":2,"shift":[1,1]}"#,
-                r#"{"refused":"NotOnCircle"}"#,
-                1,
-            ),
-            (
-                r#"{"coefficients":[[7]],"log_n":0,"shift":[0,1]}"#,
-                r#"{"refused":"DomainTooSmall"}"#,
-                1,
-            ),
-            (
-                r#"{"coefficients":[],"log_n":1,"shift":[0,1]}"#,
-                r#"{"refused":"BadHeight"}"#,
-                1,
-            ),
-            (
-                r#"{"coefficients":[[1],[2,3]],"log_n":1,"shift":[0,1]}"#,
-                r#"{"refused":"RaggedRows"}"#,
-                1,
-            ),
-            (
-                r#"{"coefficients":[[7]],"log_n":25,"shift":[0,1]}"#,
-                r#"{"refused":"DomainTooLarge"}"#,
-                1,
-            ),
-            (
-                r#"{"coefficients":[[7]],"log_n":9223372036854775808,"shift":[0,1]}"#,
-                r#"{"refused":"DomainTooLarge"}"#,
-                1,
-            ),
-            (
-                r#"{"coefficients":[[7]],"log_n":18446744073709551615,"shift":[0,1]}"#,
-                r#"{"refused":"DomainTooLarge"}"#,
-                1,
-            ),
-            (
-                r#"{"coefficients":[[]],"log_n":1,"shift":[0,1]}"#,
-                r#"{"refused":"RaggedRows"}"#,
-                1,
-            ),
-            (
-                r#"{"coefficients":[[1],[]],"log_n":1,"shift":[0,1]}"#,
-                r#"{"refused":"RaggedRows"}"#,
-                1,
-            ),
-            (
-                r#"{"coefficients":[[1],[2],[3]],"log_n":2,"shift":[0,1]}"#,
-                r#"{"refused":"BadHeight"}"#,
-                1,
-            ),
-            (
-                r#"{"coefficients":[[1],[2],[3],[4]],"log_n":1,"shift":[0,1]}"#,
-                r#"{"refused":"BadHeight"}"#,
-                1,
-            ),
-        ],
-    )?;
+    let cases = [
+        (
+            r#"{"coefficients":[[1],[2],[3],[4]],"log_n":2,"shift":[1,1]}"#,
+            "NotOnCircle",
+        ),
+        (
+            r#"{"coefficients":[[7]],"log_n":0,"shift":[0,1]}"#,
+            "DomainTooSmall",
+        ),
+        (
+            r#"{"coefficients":[],"log_n":1,"shift":[0,1]}"#,
+            "BadHeight",
+        ),
+        (
+            r#"{"coefficients":[[1],[2,3]],"log_n":1,"shift":[0,1]}"#,
+            "RaggedRows",
+        ),
+        (
+            r#"{"coefficients":[[7]],"log_n":25,"shift":[0,1]}"#,
+            "DomainTooLarge",
+        ),
+        (
+            r#"{"coefficients":[[7]],"log_n":9223372036854775808,"shift":[0,1]}"#,
+            "DomainTooLarge",
+        ),
+        (
+            r#"{"coefficients":[[7]],"log_n":18446744073709551615,"shift":[0,1]}"#,
+            "DomainTooLarge",
+        ),
+        (
+            r#"{"coefficients":[[]],"log_n":1,"shift":[0,1]}"#,
+            "RaggedRows",
+        ),
+        (
+            r#"{"coefficients":[[1],[]],"log_n":1,"shift":[0,1]}"#,
+            "RaggedRows",
+        ),
+        (
+            r#"{"coefficients":[[1],[2],[3]],"log_n":2,"shift":[0,1]}"#,
+            "BadHeight",
+        ),
+        (
+            r#"{"coefficients":[[1],[2],[3],[4]],"log_n":1,"shift":[0,1]}"#,
+            "BadHeight",
+        ),
+    ];
+    expect_refusals(&rt, rt.alloc(), &cases)?;
     Ok(())
 }
 
 // Where several refusals hold, the first counts.
 #[test]
 fn order_of_refusals(rt: HostRuntime) -> Result<(), Fail> {
-    expect_answers(
-        &rt,
-        rt.alloc(),
-        &[
-            (
-                r#"{"coefficients":[[1],[2,3],[]],"log_n":0,"shift":[1,1]}"#,
-                r#"{"refused":"DomainTooSmall"}"#,
-                1,
-            ),
-            (
-                r#"{"coefficients":[[1],[2,3],[]],"log_n":25,"shift":[1,1]}"#,
-                r#"{"refused":"DomainTooLarge"}"#,
-                1,
-            ),
-            (
-                r#"{"coefficients":[[1],[2,3],[]],"log_n":1,"shift":[1,1]}"#,
-                r#"{"refused":"NotOnCircle"}"#,
-                1,
-            ),
-            (
-                r#"{"coefficients":[[1],[2,3],[]],"log_n":1,"shift":[0,1]}"#,
-                r#"{"refused":"RaggedRows"}"#,
-                1,
-            ),
-        ],
-    )?;
+    let cases = [
+        (
+            r#"{"coefficients":[[1],[2,3],[]],"log_n":0,"shift":[1,1]}"#,
+            "DomainTooSmall",
+        ),
+        (
+            r#"{"coefficients":[[1],[2,3],[]],"log_n":25,"shift":[1,1]}"#,
+            "DomainTooLarge",
+        ),
+        (
+            r#"{"coefficients":[[1],[2,3],[]],"log_n":1,"shift":[1,1]}"#,
+            "NotOnCircle",
+        ),
+        (
+            r#"{"coefficients":[[1],[2,3],[]],"log_n":1,"shift":[0,1]}"#,
+            "RaggedRows",
+        ),
+    ];
+    expect_refusals(&rt, rt.alloc(), &cases)?;
     Ok(())
 }
 
 #[test]
 fn text_that_is_no_json(rt: HostRuntime) -> Result<(), Fail> {
-    let json = r#"{"unreadable":"json"}"#;
-    expect_answers(
-        &rt,
-        rt.alloc(),
-        &[
-            (r#"{"log_n":2"#, json, 2),
-            ("", json, 2),
-            (" \n", json, 2),
-            (
-                r#"{"coefficients":[[7]],"log_n":1,"shift":[0,1]} 1"#,
-                json,
-                2,
-            ),
-            (
-                r#"{"coefficients":[[7]],"log_n":1,"shift":[0,1]}{}"#,
-                json,
-                2,
-            ),
-            (
-                r#"{"coefficients":[[7]],"log_n":1,"shift":[0,1],}"#,
-                json,
-                2,
-            ),
-            (
-                r#"{"coefficients":[[7]],"log_n":01,"shift":[0,1]}"#,
-                json,
-                2,
-            ),
-            (r#"{'log_n':2}"#, json, 2),
-            // a number that no float reaches
-            (
-                r#"{"coefficients":[[7]],"log_n":1e400,"shift":[0,1]}"#,
-                json,
-                2,
-            ),
-        ],
-    )?;
+    let texts = [
+        r#"{"log_n":2"#,
+        "",
+        " \n",
+        r#"{"coefficients":[[7]],"log_n":1,"shift":[0,1]} 1"#,
+        r#"{"coefficients":[[7]],"log_n":1,"shift":[0,1]}{}"#,
+        r#"{"coefficients":[[7]],"log_n":1,"shift":[0,1],}"#,
+        r#"{"coefficients":[[7]],"log_n":01,"shift":[0,1]}"#,
+        r#"{'log_n':2}"#,
+        // a number that no float reaches
+        r#"{"coefficients":[[7]],"log_n":1e400,"shift":[0,1]}"#,
+    ];
+    expect_unreadable(&rt, rt.alloc(), "json", &texts)?;
     Ok(())
 }
 
@@ -283,11 +265,7 @@ fn bytes_that_are_no_text(rt: HostRuntime) -> Result<(), Fail> {
 #[test]
 fn nesting(rt: HostRuntime) -> Result<(), Fail> {
     let alloc = rt.alloc();
-    for (depth, line) in [
-        (127, r#"{"unreadable":"WrongKind"}"#),
-        (128, r#"{"unreadable":"json"}"#),
-        (100000, r#"{"unreadable":"json"}"#),
-    ] {
+    for (depth, reason) in [(127, "WrongKind"), (128, "json"), (100000, "json")] {
         let mut text = String::new(alloc);
         for _ in 0..depth {
             text.push('[')?;
@@ -295,75 +273,52 @@ fn nesting(rt: HostRuntime) -> Result<(), Fail> {
         for _ in 0..depth {
             text.push(']')?;
         }
-        expect_answers(&rt, alloc, &[(text.as_str(), line, 2)])?;
+        expect_unreadable(&rt, alloc, reason, &[text.as_str()])?;
     }
     Ok(())
 }
 
 #[test]
-fn keys(rt: HostRuntime) -> Result<(), Fail> {
-    expect_answers(
-        &rt,
-        rt.alloc(),
-        &[
-            ("{}", r#"{"unreadable":"MissingKey"}"#, 2),
-            (
-                r#"{"coefficients":[[7]],"log_n":1}"#,
-                r#"{"unreadable":"MissingKey"}"#,
-                2,
-            ),
-            (
-                r#"{"coefficients":[[7]],"shift":[0,1]}"#,
-                r#"{"unreadable":"MissingKey"}"#,
-                2,
-            ),
-            (
-                r#"{"log_n":1,"shift":[0,1]}"#,
-                r#"{"unreadable":"MissingKey"}"#,
-                2,
-            ),
-            // a missing key comes before a further one, and keys come before what they hold
-            (
-                r#"{"a":null,"coefficients":[[7]],"log_n":1}"#,
-                r#"{"unreadable":"MissingKey"}"#,
-                2,
-            ),
-            (
-                r#"{"coefficients":7,"log_n":-1}"#,
-                r#"{"unreadable":"MissingKey"}"#,
-                2,
-            ),
-            (
-                r#"{"coefficients":[[7]],"extra":0,"log_n":1,"shift":[0,1]}"#,
-                r#"{"unreadable":"UnknownKey"}"#,
-                2,
-            ),
-            (
-                r#"{"Log_n":0,"coefficients":7,"log_n":-1,"shift":[]}"#,
-                r#"{"unreadable":"UnknownKey"}"#,
-                2,
-            ),
-            // of a key that is given twice the last counts
-            (
-                r#"{"coefficients":[[7]],"log_n":"x","log_n":1,"shift":[0,1]}"#,
-                r#"{"rows":[[7],[7]]}"#,
-                0,
-            ),
-            (
-                r#"{"coefficients":[[7]],"log_n":1,"log_n":0,"shift":[0,1]}"#,
-                r#"{"refused":"DomainTooSmall"}"#,
-                1,
-            ),
-        ],
-    )?;
+fn missing_keys(rt: HostRuntime) -> Result<(), Fail> {
+    let texts = [
+        "{}",
+        r#"{"coefficients":[[7]],"log_n":1}"#,
+        r#"{"coefficients":[[7]],"shift":[0,1]}"#,
+        r#"{"log_n":1,"shift":[0,1]}"#,
+        // a missing key comes before further ones, and keys come before what they hold
+        r#"{"a":null,"coefficients":[[7]],"log_n":1}"#,
+        r#"{"coefficients":7,"log_n":-1}"#,
+        r#"{"a":null,"b":null,"coefficients":[[7]],"log_n":1}"#,
+        r#"{"a":null,"b":null,"coefficients":[[7]],"shift":[0,1]}"#,
+        r#"{"a":null,"b":null,"log_n":1,"shift":[0,1]}"#,
+    ];
+    expect_unreadable(&rt, rt.alloc(), "MissingKey", &texts)?;
+    Ok(())
+}
+
+#[test]
+fn further_keys(rt: HostRuntime) -> Result<(), Fail> {
+    let texts = [
+        r#"{"coefficients":[[7]],"extra":0,"log_n":1,"shift":[0,1]}"#,
+        r#"{"Log_n":0,"coefficients":7,"log_n":-1,"shift":[]}"#,
+    ];
+    expect_unreadable(&rt, rt.alloc(), "UnknownKey", &texts)?;
+    Ok(())
+}
+
+// Of a key that is given twice the last counts.
+#[test]
+fn repeated_keys(rt: HostRuntime) -> Result<(), Fail> {
+    let taken = r#"{"coefficients":[[7]],"log_n":"x","log_n":1,"shift":[0,1]}"#;
+    expect_rows(&rt, rt.alloc(), &[(taken, "[[7],[7]]")])?;
+    let refused = r#"{"coefficients":[[7]],"log_n":1,"log_n":0,"shift":[0,1]}"#;
+    expect_refusals(&rt, rt.alloc(), &[(refused, "DomainTooSmall")])?;
     Ok(())
 }
 
 #[test]
 fn kinds(rt: HostRuntime) -> Result<(), Fail> {
-    let alloc = rt.alloc();
-    let wrong = r#"{"unreadable":"WrongKind"}"#;
-    for text in [
+    let texts = [
         "[]",
         "7",
         "null",
@@ -388,17 +343,14 @@ fn kinds(rt: HostRuntime) -> Result<(), Fail> {
         // the reader takes a whole number of more than 64 bits for a float
         r#"{"coefficients":[[7]],"log_n":18446744073709551616,"shift":[0,1]}"#,
         r#"{"coefficients":[[18446744073709551616]],"log_n":1,"shift":[0,1]}"#,
-    ] {
-        expect_answers(&rt, alloc, &[(text, wrong, 2)])?;
-    }
+    ];
+    expect_unreadable(&rt, rt.alloc(), "WrongKind", &texts)?;
     Ok(())
 }
 
 #[test]
 fn ranges(rt: HostRuntime) -> Result<(), Fail> {
-    let alloc = rt.alloc();
-    let out = r#"{"unreadable":"OutOfRange"}"#;
-    for text in [
+    let texts = [
         r#"{"coefficients":[[-1]],"log_n":1,"shift":[0,1]}"#,
         r#"{"coefficients":[[2147483647]],"log_n":1,"shift":[0,1]}"#,
         r#"{"coefficients":[[4294967296]],"log_n":1,"shift":[0,1]}"#,
@@ -406,17 +358,13 @@ fn ranges(rt: HostRuntime) -> Result<(), Fail> {
         r#"{"coefficients":[[7]],"log_n":-1,"shift":[0,1]}"#,
         r#"{"coefficients":[[7]],"log_n":1,"shift":[0,2147483647]}"#,
         r#"{"coefficients":[[7]],"log_n":1,"shift":[-1,0]}"#,
-    ] {
-        expect_answers(&rt, alloc, &[(text, out, 2)])?;
-    }
-    expect_answers(
+    ];
+    expect_unreadable(&rt, rt.alloc(), "OutOfRange", &texts)?;
+    let greatest = r#"{"coefficients":[[2147483646]],"log_n":1,"shift":[0,2147483646]}"#;
+    expect_rows(
         &rt,
-        alloc,
-        &[(
-            r#"{"coefficients":[[2147483646]],"log_n":1,"shift":[0,2147483646]}"#,
-            r#"{"rows":[[2147483646],[2147483646]]}"#,
-            0,
-        )],
+        rt.alloc(),
+        &[(greatest, "[[2147483646],[2147483646]]")],
     )?;
     Ok(())
 }
@@ -425,7 +373,7 @@ fn ranges(rt: HostRuntime) -> Result<(), Fail> {
 fn expect_usage(rt: &impl Abort, alloc: Global, words: &[&str]) -> Result<(), AllocError> {
     let args = arguments(alloc, words)?;
     let mut output = Vec::new(alloc);
-    let mut unreadable = FailingReader(b"");
+    let mut unreadable = FailingReader(b"", ErrorKind::ConnectionReset);
     let status = run(alloc, &args, &mut unreadable, &mut output);
     assert_eq!(rt; status, 2, "of {words:?}");
     assert_eq!(rt;
@@ -452,20 +400,43 @@ fn usage(rt: HostRuntime) -> Result<(), Fail> {
     Ok(())
 }
 
-#[test]
-fn input_that_fails(rt: HostRuntime) -> Result<(), Fail> {
-    let alloc = rt.alloc();
+// Runs `values` on a reader that fails after each part of an input, and expects this line.
+fn expect_failure(
+    rt: &impl Abort,
+    alloc: Global,
+    kind: ErrorKind,
+    line: &str,
+    want: u8,
+) -> Result<(), AllocError> {
     let args = values_args(alloc)?;
     let text = FIRST.as_bytes();
     for len in 0..text.len() + 1 {
         let mut output = Vec::new(alloc);
-        let status = run(alloc, &args, &mut FailingReader(&text[..len]), &mut output);
-        assert_eq!(rt; status, 2, "after {len} bytes");
-        assert_eq!(rt;
-            output.as_slice(),
-            b"{\"unreadable\":\"input\"}\n".as_slice()
-        );
+        let mut input = FailingReader(&text[..len], kind);
+        let status = run(alloc, &args, &mut input, &mut output);
+        assert_eq!(rt; status, want, "after {len} bytes");
+        assert_eq!(rt; output.as_slice(), line.as_bytes(), "after {len} bytes");
     }
+    Ok(())
+}
+
+#[test]
+fn input_that_fails(rt: HostRuntime) -> Result<(), Fail> {
+    let line = "{\"unreadable\":\"input\"}\n";
+    expect_failure(&rt, rt.alloc(), ErrorKind::ConnectionReset, line, 2)?;
+    Ok(())
+}
+
+// Memory that is refused, to the bytes of the input and then to the text's values, is no fault of
+// the input.
+#[test]
+fn memory_that_is_refused(rt: HostRuntime) -> Result<(), Fail> {
+    let line = "{\"refused\":\"Memory\"}\n";
+    expect_failure(&rt, rt.alloc(), ErrorKind::OutOfMemory, line, 1)?;
+    let failure = Failure::from(serde_json::Error::from(AllocError));
+    assert_eq!(rt; failure.status(), 1);
+    let shown = InlineText::<64>::of(failure);
+    assert_eq!(rt; shown.as_str(), r#"{"refused":"Memory"}"#);
     Ok(())
 }
 
