@@ -13,7 +13,7 @@ ghost use Rattle.circle_domain.specs.Values.{lifted_values_at};
 
 use crate::dot_product::columnwise_dot_product;
 use crate::layers::{Backward, Forward, apply_layer};
-use circle_commit::{Matrix, RowMajorMatrix, Shape, log2_strict};
+use circle_commit::{Matrix, MatrixShape, RowMajorMatrix, log2_strict};
 use circle_domain::{CfftPermutable, CfftView, CircleDomain, lagrange_weights, layer_twiddles};
 use circle_field::{
     ComplexExtendable, ExtensionField, Field, Operations, batch_multiplicative_inverse,
@@ -24,7 +24,7 @@ use std::alloc::{AllocError, Global};
 /// The values of functions at the points of a domain, a column for each function: the rows stand in
 /// the order of the circle transform.
 #[derive(Drop)]
-pub struct CircleEvaluations<F: Operations, M: Shape> {
+pub struct CircleEvaluations<F: Operations, M: MatrixShape> {
     domain: CircleDomain<F>,
     values: M,
     pub ghost small: { log_size domain ≤ 63 },
@@ -60,7 +60,7 @@ impl<F: Operations, M: Matrix<F>> CircleEvaluations<F, M> {
             ≡ other_order (log_size domain) (M.rows values) }
         ensures back { other_order (log_size domain)
             (⟦<CfftView<M> as Matrix<F>>⟧.rows (cfft_values result)) ≡ M.rows values }
-        ensures width { ⟦<CfftView<M> as Shape>⟧.width (cfft_values result) ≡ M.width values }
+        ensures width { ⟦<CfftView<M> as MatrixShape>⟧.width (cfft_values result) ≡ M.width values }
     {
         CircleEvaluations::from_cfft_order(domain, values.cfft_perm_rows())
     }
@@ -79,7 +79,7 @@ impl<F: Operations, M: Matrix<F>> CircleEvaluations<F, M> {
             ≡ other_order (log_size (domain_of self)) (M.rows (cfft_values self)) }
         ensures back { other_order (log_size (domain_of self))
             (⟦<CfftView<M> as Matrix<F>>⟧.rows result) ≡ M.rows (cfft_values self) }
-        ensures width { ⟦<CfftView<M> as Shape>⟧.width result ≡ M.width (cfft_values self) }
+        ensures width { ⟦<CfftView<M> as MatrixShape>⟧.width result ≡ M.width (cfft_values self) }
     {
         let CircleEvaluations { domain: _, values } = self;
         values.cfft_perm_rows()

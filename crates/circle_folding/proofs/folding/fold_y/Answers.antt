@@ -39,6 +39,6 @@ returns g c =
     let k = g.F.Operations.ops in
     let gen = g.F.ComplexExtendable.generators in
     let r = c.log2_strict-log_height.result in
-    folds-of g.EF.Operations.ops c.args.beta g.EF.ExtensionField.embed (g.M.Matrix.rows c.args.evals.now) (fold_y_twiddles k gen) c.deref.result.now r (g.M.Shape.height c.args.evals.now) c.fold_rows.result
+    folds-of g.EF.Operations.ops c.args.beta g.EF.ExtensionField.embed (g.M.Matrix.rows c.args.evals.now) (fold_y_twiddles k gen) c.deref.result.now r (g.M.MatrixShape.height c.args.evals.now) c.fold_rows.result
     (c.deref.ensures.value ∙ fold_y_twiddles-of k gen r (log_size c.standard.result) (shift_of c.standard.result) c.in_ok-twiddles.twiddles.items c.standard.ensures.size c.standard.ensures.shift c.in_ok-twiddles.ensures)
     (λ n height. c.log2_strict-log_height.ensures.only n (c.height.ensures ∙ height)) c.fold_rows.ensures
