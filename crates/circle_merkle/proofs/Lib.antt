@@ -1,4 +1,3 @@
-pub mod RowBytesMore
 pub mod TreeSteps
 pub mod Maps
 pub mod SplitPair

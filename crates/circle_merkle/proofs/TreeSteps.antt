@@ -7,8 +7,8 @@ use Rattle.circle_commit.specs.RowMajorMatrix.{height_of}
 use Rattle.circle_commit.specs.Mmcs.{dimensions_of}
 use Rattle.circle_merkle.specs.Tree as Tree
 use Rattle.circle_merkle.specs.Tree.{rows_digest, node_digest, digest}
-use Rattle.circle_merkle.specs.Rows.{size_of, rows_of, bytes_of_height, matrix_rows}
-use Rattle.circle_merkle.specs.RowBytes.{matrix_bytes, bytes_of_height-rows_of}
+use Rattle.circle_merkle.specs.Rows.{size_of, matrix_rows}
+use Rattle.circle_merkle.specs.RowBytes.{matrix_bytes}
 
 list_any-dimensions : {T : Type 0} (height : ℕ) (matrices : List (RowMajorMatrix T)) → list_any (λ dim. dim.height == height) (dimensions_of matrices) ≡ list_any (λ m. height_of m == height) matrices
 list_any-dimensions height [] = refl
@@ -19,8 +19,7 @@ module _ (hash : List ℕ → List ℕ) {T : Type 0} (bytes : T → List ℕ) (m
   rows = matrix_rows bytes matrices
 
   bytes-at : (level height i : ℕ) → size_of (dimensions_of matrices) level ≡ height → rows.bytes level i ≡ matrix_bytes bytes height i matrices
-  bytes-at level height i e =
-      ap (λ h. bytes_of_height bytes (dimensions_of matrices) h (rows_of matrices i)) e ∙ bytes_of_height-rows_of bytes height i matrices
+  bytes-at level height i e = ap (λ h. matrix_bytes bytes h i matrices) e
 
   stand-at : (level height : ℕ) → size_of (dimensions_of matrices) level ≡ height → rows.stand level ≡ list_any (λ m. height_of m == height) matrices
   stand-at level height e = ap (λ h. list_any (λ dim. dim.height == h) (dimensions_of matrices)) e ∙ list_any-dimensions height matrices

@@ -4,17 +4,17 @@ ghost use Rattle.std.specs.List.{flat_map};
 ghost use Rattle.sha2.specs.Hashers.{Holds256};
 ghost use Rattle.sha2.specs.Sha256.{sha256};
 ghost use Rattle.circle_merkle.specs.Tree.{node_digest as node_digest_of, rows_digest as rows_digest_of};
-ghost use Rattle.circle_merkle.specs.RowBytes.{matrix_bytes};
+ghost use Rattle.circle_merkle.specs.Rows.{bytes_of_height};
 
-use circle_commit::{Matrix, RowMajorMatrix};
+use crate::rows::RowOfEach;
 use circle_field::ElementBytes;
 use sha2::{Digest, Sha256};
 
 /// A digest of SHA-256.
 pub type Hash = [u8; 32];
 
-/// Adds the bytes of a row's entries to the message.
-pub fn absorb_row<T: ElementBytes>(hasher: &mut Sha256, row: &[T])
+// Adds the bytes of a row's entries to the message.
+fn absorb_row<T: ElementBytes>(hasher: &mut Sha256, row: &[T])
     ensures { (m : List ℕ) → Holds256 hasher.old m
         → Holds256 hasher.new (m ++ flat_map T.bytes row.now) }
 {
@@ -23,32 +23,26 @@ pub fn absorb_row<T: ElementBytes>(hasher: &mut Sha256, row: &[T])
     }
 }
 
-// Adds the bytes of row `i` of each matrix of this height to the message.
-fn absorb_rows<T: ElementBytes>(
-    hasher: &mut Sha256,
-    matrices: &[RowMajorMatrix<T>],
-    height: usize,
-    i: usize,
-)
-    requires { i < height }
-    ensures { (m : List ℕ) → Holds256 hasher.old m
-        → Holds256 hasher.new (m ++ matrix_bytes T.bytes height i matrices.now) }
+// Adds the bytes of those of the rows whose matrices have this height to the message.
+fn absorb_rows<T: ElementBytes, R: RowOfEach<T>>(hasher: &mut Sha256, rows: &R, height: usize)
+    ensures { (m : List ℕ) → Holds256 hasher.old m → Holds256 hasher.new
+        (m ++ bytes_of_height T.bytes (R.dimensions rows.now) height (R.rows rows.now)) }
 {
-    for matrix in matrices {
-        if matrix.height() == height {
-            absorb_row(hasher, matrix.row(i));
+    for j in 0..rows.count() {
+        if rows.height(j) == height {
+            absorb_row(hasher, rows.row(j));
         }
     }
 }
 
-/// The digest of row `i` of the matrices of this height.
-pub fn rows_digest<T: ElementBytes>(matrices: &[RowMajorMatrix<T>], height: usize, i: usize) -> Hash
-    requires { i < height }
-    ensures { result ≡ rows_digest_of sha256 (matrix_bytes T.bytes height i matrices.now) }
+/// The digest of those of the rows whose matrices have this height.
+pub fn rows_digest<T: ElementBytes, R: RowOfEach<T>>(rows: &R, height: usize) -> Hash
+    ensures { result ≡ rows_digest_of sha256
+        (bytes_of_height T.bytes (R.dimensions rows.now) height (R.rows rows.now)) }
 {
     let mut hasher = Sha256::new();
     hasher.update([0u8].as_slice());
-    absorb_rows(&mut hasher, matrices, height, i);
+    absorb_rows(&mut hasher, rows, height);
     hasher.finalize()
 }
 

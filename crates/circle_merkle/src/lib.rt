@@ -8,6 +8,7 @@ mod order;
 mod positions;
 mod prover_data;
 mod root;
+mod rows;
 #[cfg(test)]
 mod tests;
 mod tree;

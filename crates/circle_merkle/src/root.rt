@@ -1,18 +1,16 @@
 //! The root of a tree of which some rows are opened.
 ghost use Rattle.std.specs.Prelude.{◌≡◌, ℕ, ◌+◌, ◌*◌, ◌/◌, ◌^◌, ◌<◌, ◌≤◌, ◌==◌, ◌++◌, List, ◌∷◌, length, map, drop, All, IfOk, vec_len};
-ghost use Rattle.sha2.specs.Hashers.{Holds256};
 ghost use Rattle.sha2.specs.Sha256.{sha256};
 ghost use Rattle.circle_commit.specs.Mmcs.{greatest, heights, opened_rows};
 ghost use Rattle.circle_merkle.specs.Tree.{rows_digest as rows_digest_of, taken_below};
-ghost use Rattle.circle_merkle.specs.Rows.{bytes_of_height};
 ghost use Rattle.circle_merkle.specs.Walk.{siblings_of};
 ghost use Rattle.circle_merkle.specs.Order.{first_places};
 
-use crate::hashing::{Hash, absorb_row, joined_digest, node_digest};
+use crate::hashing::{Hash, joined_digest, node_digest, rows_digest};
 use crate::positions::sibling;
+use crate::rows::OpenedAt;
 use circle_commit::{Dimensions, log2_strict};
 use circle_field::ElementBytes;
-use sha2::{Digest, Sha256};
 use std::alloc::{AllocError, Global};
 
 /// The digest at a known position of a level.
@@ -42,25 +40,6 @@ pub struct Opening<'a, T> {
     ghost whole: { All (λ rows. vec_len rows ≡ length dimensions.now) opened.now },
 }
 
-// Adds the bytes of those of the rows whose matrices have this height to the message.
-fn absorb_opened<T: ElementBytes>(
-    hasher: &mut Sha256,
-    dimensions: &[Dimensions],
-    rows: &[Vec<T>],
-    height: usize,
-)
-    requires { length rows.now ≡ length dimensions.now }
-    ensures { (m : List ℕ) → Holds256 hasher.old m
-        → Holds256 hasher.new (m ++ bytes_of_height T.bytes dimensions.now height
-        (map (λ row. row.items) rows.now)) }
-{
-    for j in 0..dimensions.len() {
-        if dimensions[j].height == height {
-            absorb_row(hasher, &rows[j]);
-        }
-    }
-}
-
 impl<T: ElementBytes> Opening<'_, T> {
     ghost use Rattle.circle_merkle.specs.Opening.{placed_rows, parent_in, lowest_node};
     ghost use Rattle.circle_commit.specs.Matrix.{IsPowerOfTwo};
@@ -73,15 +52,20 @@ impl<T: ElementBytes> Opening<'_, T> {
         ensures { result
             ≡ rows_digest_of sha256 ((placed_rows T.bytes self.now).bytes level place) }
     {
-        let mut hasher = Sha256::new();
-        hasher.update([0u8].as_slice());
+        let height = self.top >> level;
         match self.opened.get(place) {
             Some(rows) => {
-                absorb_opened(&mut hasher, self.dimensions, rows, self.top >> level);
+                let dimensions = self.dimensions;
+                rows_digest(&OpenedAt { dimensions, rows }, height)
             }
-            None => {}
+            None => {
+                let none = OpenedAt::<'_, T> {
+                    dimensions: &[],
+                    rows: &[],
+                };
+                rows_digest(&none, height)
+            }
         }
-        hasher.finalize()
     }
 
     // Whether rows stand on a level.

@@ -11,6 +11,7 @@ ghost use Rattle.circle_merkle.specs.Rows.{size_of, matrix_rows};
 ghost use Rattle.circle_merkle.specs.Authentication.{level_digests, tree_levels};
 
 use crate::hashing::{Hash, joined_digest, node_digest, rows_digest};
+use crate::rows::MatrixRows;
 use circle_commit::{Matrix, RowMajorMatrix, log2_strict};
 use circle_field::ElementBytes;
 use std::alloc::{AllocError, Global};
@@ -26,7 +27,7 @@ fn lowest_level<T: ElementBytes>(
 {
     let mut level = Vec::with_capacity(alloc, height)?;
     for i in 0..height {
-        level.push(rows_digest(matrices, height, i))?;
+        level.push(rows_digest(&MatrixRows { matrices, i }, height))?;
     }
     Ok(level)
 }
@@ -48,7 +49,6 @@ fn parent_digest<T: ElementBytes>(
     right: &Hash,
     some_row: bool,
 ) -> Hash
-    requires below { i < height }
     requires rows { some_row ≡ list_any (λ m. height_of m == height) matrices.now }
     ensures { (level : ℕ) → size_of (dimensions_of matrices.now) (suc level) ≡ height
         → digest sha256 (matrix_rows T.bytes matrices.now) level (2 * i) ≡ left.now
@@ -57,7 +57,7 @@ fn parent_digest<T: ElementBytes>(
 {
     let node = node_digest(left, right);
     if some_row {
-        joined_digest(&node, &rows_digest(matrices, height, i))
+        joined_digest(&node, &rows_digest(&MatrixRows { matrices, i }, height))
     } else {
         node
     }

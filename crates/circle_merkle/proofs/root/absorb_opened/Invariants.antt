@@ -1,8 +1,0 @@
-use Rattle.std.proofs.Common.{ℕ, List, ◌++◌, take, map}
-use Rattle.sha2.specs.Hashers.{Holds256}
-use Rattle.circle_merkle.specs.Rows.{bytes_of_height}
-use Rattle.circle_merkle.proofs.root.absorb_opened.Given as goal
-
-abbrev pub invariant-loop-j : goal.invariant-loop-j
-invariant-loop-j g l = (m : List ℕ) → Holds256 l.initial.hasher m →
-    Holds256 l.hasher (m ++ bytes_of_height g.T.ElementBytes.bytes (take l.j l.dimensions) l.height (take l.j (map (λ row. row.items) l.rows)))
