@@ -4,9 +4,9 @@ use Rattle.circle_challenger.specs.Grinding.{passes, after_check}
 use Rattle.circle_challenger.specs.Observing.{after_all}
 use Rattle.circle_challenger.specs.Sampling.{samples, after_samples}
 
--- a challenger of type C, with states S, over the base field F, in a transcript whose challenges are in
--- the extension E: its state, the state after an element is taken in, what is drawn, of elements and of
--- bits, with the state after it, and what is known of the fields
+-- a challenger of type C, with states S, over the base field F, in a transcript whose challenges
+-- are in the extension E: its state, the state after an element is taken in, what is drawn, of
+-- elements and of bits, with the state after it, and what is known of the fields
 pub record Moves (C S F E : Type 0) : Type 0 where
   pub state : C → S
   pub after_observe : S → F → S
@@ -20,32 +20,37 @@ pub record Moves (C S F E : Type 0) : Type 0 where
   pub zero : F
 
 -- such a challenger from its parts
-abbrev pub moves : {C S F E : Type 0} → (C → S) → (S → F → S) → (S → F) → (S → S) → (S → ℕ → ℕ) → (S → ℕ → S)
-    → ℕ → (E → List F) → (ℕ → F) → F → Moves C S F E
-moves state after_observe sampled after_sample sampled_bits after_bits degree coefficients of_nat zero = record {
-  state = state;
-  after_observe = after_observe;
-  sampled = sampled;
-  after_sample = after_sample;
-  sampled_bits = sampled_bits;
-  after_bits = after_bits;
-  degree = degree;
-  coefficients = coefficients;
-  of_nat = of_nat;
-  zero = zero;
-}
+abbrev pub moves : {C S F E : Type 0} → (C → S) → (S → F → S) → (S → F) → (S → S) → (S → ℕ → ℕ)
+    → (S → ℕ → S) → ℕ → (E → List F) → (ℕ → F) → F → Moves C S F E
+moves state after_observe sampled after_sample sampled_bits after_bits
+    degree coefficients of_nat zero = record {
+      state = state;
+      after_observe = after_observe;
+      sampled = sampled;
+      after_sample = after_sample;
+      sampled_bits = sampled_bits;
+      after_bits = after_bits;
+      degree = degree;
+      coefficients = coefficients;
+      of_nat = of_nat;
+      zero = zero;
+    }
 
 -- the same, and the state after a commitment is taken in
 pub record RunMoves (C S F E Com : Type 0) : Type 0 where
   pub base : Moves C S F E
   pub after_commitment : S → Com → S
 
-abbrev pub run_moves : {C S F E Com : Type 0} → (C → S) → (S → F → S) → (S → Com → S) → (S → F) → (S → S) → (S → ℕ → ℕ)
-    → (S → ℕ → S) → ℕ → (E → List F) → (ℕ → F) → F → RunMoves C S F E Com
-run_moves state after_observe after_commitment sampled after_sample sampled_bits after_bits degree coefficients of_nat zero = record {
-  base = moves state after_observe sampled after_sample sampled_bits after_bits degree coefficients of_nat zero;
-  after_commitment = after_commitment;
-}
+abbrev pub run_moves : {C S F E Com : Type 0} → (C → S) → (S → F → S) → (S → Com → S)
+    → (S → F) → (S → S)
+    → (S → ℕ → ℕ) → (S → ℕ → S) → ℕ → (E → List F) → (ℕ → F) → F → RunMoves C S F E Com
+run_moves state after_observe after_commitment sampled after_sample sampled_bits after_bits
+    degree coefficients of_nat zero = record {
+      base =
+          moves state after_observe sampled after_sample sampled_bits after_bits
+          degree coefficients of_nat zero;
+      after_commitment = after_commitment;
+    }
 
 module _ {C S F E : Type 0} (m : Moves C S F E) where
   -- the state after bytes were taken in, each as an element of the base field
@@ -65,7 +70,8 @@ module _ {C S F E : Type 0} (m : Moves C S F E) where
 
   -- so many numbers of so many bits that are drawn, and the state after them
   abbrev pub drawn_numbers : ℕ → ℕ → S → List ℕ
-  drawn_numbers width count s = samples (λ t. m.sampled_bits t width) (λ t. m.after_bits t width) count s
+  drawn_numbers width count s =
+      samples (λ t. m.sampled_bits t width) (λ t. m.after_bits t width) count s
 
   abbrev pub after_numbers : ℕ → ℕ → S → S
   after_numbers width count s = after_samples (λ t. m.after_bits t width) count s

@@ -6,7 +6,8 @@ module _ {S A : Type 0} where
   -- the next so many values
   unfoldable pub samples : (S → A) → (S → S) → ℕ → S → List A
   samples sampled after_sample zero s = []
-  samples sampled after_sample (suc n) s = sampled s ∷ samples sampled after_sample n (after_sample s)
+  samples sampled after_sample (suc n) s =
+      sampled s ∷ samples sampled after_sample n (after_sample s)
 
 -- the state after so many values
 unfoldable pub after_samples : {S : Type 0} → (S → S) → ℕ → S → S

@@ -11,7 +11,12 @@ pub record Separator : Type 0 where
 
 -- a separator from its parts
 abbrev pub separator : ℕ → List ℕ → List Step → List (List ℕ) → Separator
-separator version name steps labels = record { version = version; name = name; steps = steps; labels = labels }
+separator version name steps labels = record {
+  version = version;
+  name = name;
+  steps = steps;
+  labels = labels;
+}
 
 -- the part of the seed text that the protocol and the steps fix
 unfoldable pub steps_text : ℕ → List ℕ → List Step → List ℕ

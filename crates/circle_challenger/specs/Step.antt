@@ -10,7 +10,8 @@ use Rattle.circle_challenger.specs.declared.interaction.ValueType.TheVariants.{A
 use Rattle.circle_challenger.specs.declared.interaction.Length.{Length}
 use Rattle.circle_challenger.specs.declared.interaction.Length.TheVariants.{Scalar, Fixed}
 
--- a step: how it stands among the others, what it does, what its values are, their label, and how many
+-- a step: how it stands among the others, what it does, what its values are, their label, and how
+-- many
 pub record Step : Type 0 where
   pub hierarchy : Hierarchy
   pub kind : Kind
@@ -20,7 +21,13 @@ pub record Step : Type 0 where
 
 -- a step from its parts
 abbrev pub step : Hierarchy → Kind → ValueType → List ℕ → Length → Step
-step hierarchy kind value_type label size = record { hierarchy = hierarchy; kind = kind; value_type = value_type; label = label; size = size }
+step hierarchy kind value_type label size = record {
+  hierarchy = hierarchy;
+  kind = kind;
+  value_type = value_type;
+  label = label;
+  size = size;
+}
 
 -- the byte of each choice
 abbrev pub hierarchy_byte : Hierarchy → ℕ
@@ -62,7 +69,8 @@ counted bytes = be64 (length bytes) ++ bytes
 -- a step's text: three bytes for what it is, the parameter, the label, and how many values
 unfoldable pub step_text : Step → List ℕ
 step_text s =
-    (hierarchy_byte s.hierarchy ∷ kind_byte s.kind ∷ type_byte s.value_type ∷ be64 (parameter_of s.value_type))
+    (hierarchy_byte s.hierarchy ∷ kind_byte s.kind ∷ type_byte s.value_type ∷ be64
+    (parameter_of s.value_type))
     ++ (counted s.label ++ form_byte s.size ∷ be64 (value_count s.size))
 
 -- the numbers of a step have eight bytes

@@ -54,19 +54,21 @@ pub trait CanSampleBits: ChallengerState {
     ghost bits_below: { (s : Self.State) (bits : ℕ) → bits ≤ 63 → sampled_bits s bits < 2 ^ bits };
 }
 
-/// A challenger with proofs of work: a witness passes at a difficulty of `bits` bits where after it was
-/// taken in so many sampled bits are zero.
+/// A challenger with proofs of work: a witness passes at a difficulty of `bits` bits where after it
+/// was taken in so many sampled bits are zero.
 pub trait GrindingChallenger<F: Field>: CanObserve<F> + CanSampleBits {
     ghost found_witness: { Self.State → ℕ → Option F };
 
-    /// Takes in the witness, and answers whether `bits` bits sampled then are zero. A difficulty of no
-    /// bits passes with every witness, and nothing changes.
+    /// Takes in the witness, and answers whether `bits` bits sampled then are zero. A difficulty of
+    /// no bits passes with every witness, and nothing changes.
     ///
     /// Asks `bits <= 63`.
     fn check_witness(&mut self, bits: usize, witness: F) -> bool
         requires { bits ≤ 63 }
-        ensures answer { result ≡ passes Self.after_observe Self.sampled_bits (Self.state self.old) bits witness }
-        ensures after { Self.state self.new ≡ after_check Self.after_observe Self.after_bits (Self.state self.old) bits witness }
+        ensures answer { result ≡ passes Self.after_observe Self.sampled_bits (Self.state self.old)
+            bits witness }
+        ensures after { Self.state self.new ≡ after_check Self.after_observe Self.after_bits
+            (Self.state self.old) bits witness }
     {
         if bits == 0 {
             return true;
@@ -75,25 +77,28 @@ pub trait GrindingChallenger<F: Field>: CanObserve<F> + CanSampleBits {
         self.sample_bits(bits) == 0
     }
 
-    /// Looks for a witness that passes, and takes it in as `check_witness` does. `None` where none does,
-    /// and then nothing changes. A difficulty of no bits gives 0.
+    /// Looks for a witness that passes, and takes it in as `check_witness` does. `None` where none
+    /// does, and then nothing changes. A difficulty of no bits gives 0.
     ///
     /// Asks `bits <= 63`.
     fn grind(&mut self, bits: usize) -> Option<F>
         requires { bits ≤ 63 }
         ensures answer { result ≡ found_witness (Self.state self.old) bits }
-        ensures passes { IfSome result (λ w. IsTrue (passes Self.after_observe Self.sampled_bits (Self.state self.old) bits w)) }
-        ensures after { IfSome result (λ w. Self.state self.new ≡ after_check Self.after_observe Self.after_bits (Self.state self.old) bits w) }
-        ensures none { IfNone result ((w : F) → passes Self.after_observe Self.sampled_bits (Self.state self.old) bits w ≡ false) }
+        ensures passes { IfSome result (λ w. IsTrue (passes Self.after_observe Self.sampled_bits
+            (Self.state self.old) bits w)) }
+        ensures after { IfSome result (λ w. Self.state self.new ≡ after_check Self.after_observe
+            Self.after_bits (Self.state self.old) bits w) }
+        ensures none { IfNone result ((w : F) → passes Self.after_observe Self.sampled_bits
+            (Self.state self.old) bits w ≡ false) }
         ensures unchanged { IfNone result (Self.state self.new ≡ Self.state self.old) }
         ensures easy { bits ≡ 0 → result ≡ Some F.ops.zero };
 }
 
-/// What a challenger over the field `F` is to a transcript whose challenges are in the extension `EF`,
-/// for contracts alone.
+/// What a challenger over the field `F` is to a transcript whose challenges are in the extension
+/// `EF`, for contracts alone.
 ///
-/// Each challenger that samples and grinds has it, so no function asks for it: a clause cites
-/// `⟦<C as FieldChallenger<F, EF>>⟧.moves`.
+/// Each challenger that samples and grinds has it, so no function asks for it: a clause cites `⟦<C
+/// as FieldChallenger<F, EF>>⟧.moves`.
 pub trait FieldChallenger<F: Field, EF: ExtensionField<F>>: CanSample<F> + GrindingChallenger<F> {
     ghost moves: { Moves Self Self.State F EF };
 }

@@ -13,8 +13,8 @@ use circle_field::Field;
 use std::alloc::{AllocError, Global};
 use std::marker::Model;
 
-/// What a transcript is seeded with: the protocol's version and name, the steps of the run, and labels
-/// of the instance, with the text that spells them.
+/// What a transcript is seeded with: the protocol's version and name, the steps of the run, and
+/// labels of the instance, with the text that spells them.
 #[derive(Debug, Drop)]
 pub struct DomainSeparator {
     version: u8,
@@ -32,9 +32,11 @@ impl Model for DomainSeparator {
 
     ghost Value = { Separator };
 
-    ghost view = { λ s. separator s.version s.name.now s.pattern (map (λ l. l.items) s.labels.items) };
+    ghost view = { λ s. separator s.version s.name.now s.pattern
+        (map (λ l. l.items) s.labels.items) };
 
-    ghost invariant = { λ s. IsSpelled (separator s.version s.name.now s.pattern (map (λ l. l.items) s.labels.items)) s.labels_at s.text.items };
+    ghost invariant = { λ s. IsSpelled (separator s.version s.name.now s.pattern
+        (map (λ l. l.items) s.labels.items)) s.labels_at s.text.items };
 }
 
 /// Appends a number in eight bytes, the greatest first.
@@ -57,7 +59,8 @@ fn put_counted(text: &mut Vec<u8>, bytes: &[u8]) -> Result<(), AllocError>
 /// Appends the text of a step.
 #[tactic(auto, unfolding(crate::specs::Step::step_text))]
 fn put_step(text: &mut Vec<u8>, step: &Interaction) -> Result<(), AllocError>
-    ensures written { OnOk result (text.new.items ≡ text.old.items ++ step_text (step_of step.now)) }
+    ensures written { OnOk result (text.new.items ≡ text.old.items ++ step_text
+        (step_of step.now)) }
     ensures writable { OnOk result (IsWritableStep (step_of step.now)) }
 {
     let Interaction {
@@ -76,7 +79,8 @@ fn put_step(text: &mut Vec<u8>, step: &Interaction) -> Result<(), AllocError>
 
 /// Appends the texts of steps, in order.
 fn put_each_step(text: &mut Vec<u8>, steps: &[Interaction]) -> Result<(), AllocError>
-    ensures written { OnOk result (text.new.items ≡ text.old.items ++ flat_map step_text (map step_of steps.now)) }
+    ensures written { OnOk result (text.new.items ≡ text.old.items ++ flat_map step_text
+        (map step_of steps.now)) }
     ensures writable { OnOk result (All IsWritableStep (map step_of steps.now)) }
 {
     for step in steps {
@@ -93,7 +97,8 @@ fn put_steps(
     name: &str,
     steps: &[Interaction],
 ) -> Result<(), AllocError>
-    ensures written { OnOk result (text.new.items ≡ text.old.items ++ steps_text version name.now (map step_of steps.now)) }
+    ensures written { OnOk result (text.new.items ≡ text.old.items ++ steps_text version name.now
+        (map step_of steps.now)) }
     ensures name { length name.now < 2 ^ 64 }
     ensures count { length (map step_of steps.now) < 2 ^ 64 }
     ensures each { OnOk result (All IsWritableStep (map step_of steps.now)) }
@@ -106,7 +111,8 @@ fn put_steps(
 
 /// Appends the labels, each after its length.
 fn put_each_label(text: &mut Vec<u8>, labels: &[Vec<u8>]) -> Result<(), AllocError>
-    ensures written { OnOk result (text.new.items ≡ text.old.items ++ flat_map counted (map (λ l. l.items) labels.now)) }
+    ensures written { OnOk result (text.new.items ≡ text.old.items ++ flat_map counted
+        (map (λ l. l.items) labels.now)) }
     ensures each { OnOk result (All (λ l. length l < 2 ^ 64) (map (λ l. l.items) labels.now)) }
 {
     for label in labels {
@@ -118,7 +124,8 @@ fn put_each_label(text: &mut Vec<u8>, labels: &[Vec<u8>]) -> Result<(), AllocErr
 /// Appends the labels after their number.
 #[tactic(auto, unfolding(crate::specs::Separator::labels_text))]
 fn put_labels(text: &mut Vec<u8>, labels: &[Vec<u8>]) -> Result<(), AllocError>
-    ensures written { OnOk result (text.new.items ≡ text.old.items ++ labels_text (map (λ l. l.items) labels.now)) }
+    ensures written { OnOk result (text.new.items ≡ text.old.items ++ labels_text
+        (map (λ l. l.items) labels.now)) }
     ensures count { length (map (λ l. l.items) labels.now) < 2 ^ 64 }
     ensures each { OnOk result (All (λ l. length l < 2 ^ 64) (map (λ l. l.items) labels.now)) }
 {
@@ -197,14 +204,16 @@ impl DomainSeparator {
     pub fn text(&self) -> &[u8]
         ensures text { result.now ≡ seed_text self.now }
         ensures writable { IsWritable self.now }
-        ensures only { (other : Separator) → IsWritable other → seed_text other ≡ result.now → other ≡ self.now }
+        ensures only { (other : Separator) → IsWritable other → seed_text other ≡ result.now → other
+            ≡ self.now }
     {
         &self.text
     }
 
     /// Has the challenger take in the text, each byte as an element of the base field, in order.
     pub fn seed<F: Field, C: CanObserve<F>>(&self, challenger: &mut C)
-        ensures { C.state challenger.new ≡ after_all C.after_observe (C.state challenger.old) (map (of_nat F.ops) (seed_text self.now)) }
+        ensures { C.state challenger.new ≡ after_all C.after_observe (C.state challenger.old)
+            (map (of_nat F.ops) (seed_text self.now)) }
     {
         observe_bytes::<F, C>(challenger, self.text());
     }
@@ -212,7 +221,8 @@ impl DomainSeparator {
 
 /// Has the challenger take in each byte as an element of the base field, in order.
 fn observe_bytes<F: Field, C: CanObserve<F>>(challenger: &mut C, bytes: &[u8])
-    ensures { C.state challenger.new ≡ after_all C.after_observe (C.state challenger.old) (map (of_nat F.ops) bytes.now) }
+    ensures { C.state challenger.new ≡ after_all C.after_observe (C.state challenger.old)
+        (map (of_nat F.ops) bytes.now) }
 {
     for byte in bytes {
         challenger.observe(&F::from_u64(u64::from(*byte)));

@@ -1,6 +1,6 @@
-//! Challengers for Fiat-Shamir transcripts: traits whose calls are functions of an abstract state, the
-//! description of a transcript and its seed, drivers that play a described transcript, and a challenger
-//! over SHA-256.
+//! Challengers for Fiat-Shamir transcripts: traits whose calls are functions of an abstract state,
+//! the description of a transcript and its seed, drivers that play a described transcript, and a
+//! challenger over SHA-256.
 #![tactic(auto)]
 
 pub mod challenger;

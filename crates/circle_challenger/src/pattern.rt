@@ -4,7 +4,8 @@ ghost use Rattle.std.specs.Prelude.{◌≡◌, map};
 use crate::interaction::Interaction;
 use std::marker::Model;
 
-/// The steps of a transcript, in the order in which they are played. Contracts see the list of steps.
+/// The steps of a transcript, in the order in which they are played. Contracts see the list of
+/// steps.
 #[derive(Debug, Drop)]
 pub struct InteractionPattern {
     steps: Vec<Interaction>,

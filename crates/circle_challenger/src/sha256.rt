@@ -10,8 +10,8 @@ use crate::challenger::{
 use circle_field::{ElementBytes, Field, Mersenne31};
 use sha2::{Digest, Sha256};
 
-/// A challenger over SHA-256 whose state is 32 bytes, zeros at first. What it takes in, and each draw,
-/// replaces the state by a digest of it (FIPS 180-4).
+/// A challenger over SHA-256 whose state is 32 bytes, zeros at first. What it takes in, and each
+/// draw, replaces the state by a digest of it (FIPS 180-4).
 #[derive(Clone, PartialEq, Eq, Debug, Drop)]
 pub struct Sha256Challenger {
     state: [u8; 32],
@@ -45,8 +45,8 @@ impl Sha256Challenger {
         self.state = tagged_digest(0, &self.state, bytes);
     }
 
-    /// The number that is drawn next: the first eight bytes of what is squeezed out of the state, the
-    /// greatest first.
+    /// The number that is drawn next: the first eight bytes of what is squeezed out of the state,
+    /// the greatest first.
     fn number(&self) -> u64
         ensures { result ≡ number_of (state_of self.now) }
     {
@@ -60,8 +60,10 @@ impl Sha256Challenger {
     fn passed(&self, bits: usize, witness: &Mersenne31) -> Option<Self>
         requires some { 0 < bits }
         requires small { bits ≤ 63 }
-        ensures answer { is_some result ≡ passes absorbed_element sampled_number (state_of self.now) bits witness.now }
-        ensures after { IfSome result (λ c. state_of c ≡ after_check absorbed_element (λ s n. after_squeeze s) (state_of self.now) bits witness.now) }
+        ensures answer { is_some result ≡ passes absorbed_element sampled_number (state_of self.now)
+            bits witness.now }
+        ensures after { IfSome result (λ c. state_of c ≡ after_check absorbed_element
+            (λ s n. after_squeeze s) (state_of self.now) bits witness.now) }
     {
         let mut trial = Sha256Challenger { state: self.state };
         trial.observe(witness);

@@ -15,11 +15,11 @@ use circle_field::{ExtensionField, Field};
 use std::alloc::{AllocError, Global};
 use std::marker::PhantomData;
 
-/// A transcript that is played: the challenger that it borrows, and for contracts alone the steps that
-/// are still due.
+/// A transcript that is played: the challenger that it borrows, and for contracts alone the steps
+/// that are still due.
 ///
-/// `S` is the side that plays it. It has no `Drop`: it is spent by `finish` or `abort`, or handed on by
-/// `pause`.
+/// `S` is the side that plays it. It has no `Drop`: it is spent by `finish` or `abort`, or handed
+/// on by `pause`.
 pub struct TranscriptState<'a, C, F, S> {
     challenger: &'a mut C,
     due: StepsDue,
@@ -39,12 +39,13 @@ pub type ProverState<'a, C, F> = TranscriptState<'a, C, F, ProverSide>;
 pub type VerifierState<'a, C, F> = TranscriptState<'a, C, F, VerifierSide>;
 
 impl<'a, F: Field, C: CanSample<F> + GrindingChallenger<F>, S> TranscriptState<'a, C, F, S> {
-    /// Begins the described transcript: the challenger takes in the seed's text, each byte as an element
-    /// of the base field.
+    /// Begins the described transcript: the challenger takes in the seed's text, each byte as an
+    /// element of the base field.
     pub fn new(challenger: &'a mut C, separator: &DomainSeparator) -> Self
         ensures same_reference { Borrows result challenger.entry }
         ensures due { due result ≡ separator.now.steps }
-        ensures state { C.state (current result) ≡ after_all C.after_observe (C.state challenger.old) (map (of_nat F.ops) (seed_text separator.now)) }
+        ensures state { C.state (current result) ≡ after_all C.after_observe
+            (C.state challenger.old) (map (of_nat F.ops) (seed_text separator.now)) }
     {
         separator.seed::<F, C>(challenger);
         let due = StepsDue::of(separator);
@@ -55,9 +56,9 @@ impl<'a, F: Field, C: CanSample<F> + GrindingChallenger<F>, S> TranscriptState<'
         }
     }
 
-    /// Goes on with a transcript that was paused, with these steps due. So a caller's own type can keep
-    /// the challenger and the steps that are due, and have the transcript at hand while it plays some: it
-    /// takes the steps out, which `pause` gives back.
+    /// Goes on with a transcript that was paused, with these steps due. So a caller's own type can
+    /// keep the challenger and the steps that are due, and have the transcript at hand while it
+    /// plays some: it takes the steps out, which `pause` gives back.
     pub fn resume(challenger: &'a mut C, kept: StepsDue) -> Self
         ensures same_reference { Borrows result challenger.entry }
         ensures due { due result ≡ kept.steps }
@@ -90,7 +91,8 @@ impl<'a, F: Field, C: CanSample<F> + GrindingChallenger<F>, S> TranscriptState<'
         requires next { slice_get (due self.old) 0 ≡ Some (element_message EF.DEGREE label.now) }
         ensures same_reference { SameChallenger self.old self.new }
         ensures due { due self.new ≡ drop 1 (due self.old) }
-        ensures state { C.state (current self.new) ≡ after_all C.after_observe (C.state (current self.old)) (EF.coefficients value.now) }
+        ensures state { C.state (current self.new) ≡ after_all C.after_observe
+            (C.state (current self.old)) (EF.coefficients value.now) }
     {
         observe_coefficients::<F, EF, C>(self.challenger, value);
         self.due = self.due.after_first();
@@ -100,10 +102,12 @@ impl<'a, F: Field, C: CanSample<F> + GrindingChallenger<F>, S> TranscriptState<'
     ///
     /// Asks that this is the next step.
     pub fn observe_extensions<EF: ExtensionField<F>>(&mut self, label: &str, values: &[EF])
-        requires next { slice_get (due self.old) 0 ≡ Some (elements_message EF.DEGREE label.now (length values.now)) }
+        requires next { slice_get (due self.old) 0 ≡ Some (elements_message EF.DEGREE label.now
+            (length values.now)) }
         ensures same_reference { SameChallenger self.old self.new }
         ensures due { due self.new ≡ drop 1 (due self.old) }
-        ensures state { C.state (current self.new) ≡ after_all C.after_observe (C.state (current self.old)) (flat_map EF.coefficients values.now) }
+        ensures state { C.state (current self.new) ≡ after_all C.after_observe
+            (C.state (current self.old)) (flat_map EF.coefficients values.now) }
     {
         observe_each::<F, EF, C>(self.challenger, values);
         self.due = self.due.after_first();
@@ -121,7 +125,8 @@ impl<'a, F: Field, C: CanSample<F> + GrindingChallenger<F>, S> TranscriptState<'
         requires next { slice_get (due self.old) 0 ≡ Some (elements_message EF.DEGREE label.now 2) }
         ensures same_reference { SameChallenger self.old self.new }
         ensures due { due self.new ≡ drop 1 (due self.old) }
-        ensures state { C.state (current self.new) ≡ after_all C.after_observe (C.state (current self.old)) (flat_map EF.coefficients (first.now ∷ second.now ∷ [])) }
+        ensures state { C.state (current self.new) ≡ after_all C.after_observe
+            (C.state (current self.old)) (flat_map EF.coefficients (first.now ∷ second.now ∷ [])) }
     {
         observe_coefficients::<F, EF, C>(self.challenger, first);
         observe_coefficients::<F, EF, C>(self.challenger, second);
@@ -137,7 +142,8 @@ impl<'a, F: Field, C: CanSample<F> + GrindingChallenger<F>, S> TranscriptState<'
         requires next { slice_get (due self.old) 0 ≡ Some (opaque_message label.now) }
         ensures same_reference { SameChallenger self.old self.new }
         ensures due { due self.new ≡ drop 1 (due self.old) }
-        ensures state { C.state (current self.new) ≡ ⟦<C as CanObserve<Com>>⟧.after_observe (C.state (current self.old)) value.now }
+        ensures state { C.state (current self.new) ≡ ⟦<C as CanObserve<Com>>⟧.after_observe
+            (C.state (current self.old)) value.now }
     {
         self.challenger.observe(value);
         self.due = self.due.after_first();
@@ -150,16 +156,18 @@ impl<'a, F: Field, C: CanSample<F> + GrindingChallenger<F>, S> TranscriptState<'
         requires next { slice_get (due self.old) 0 ≡ Some (element_challenge EF.DEGREE label.now) }
         ensures same_reference { SameChallenger self.old self.new }
         ensures due { due self.new ≡ drop 1 (due self.old) }
-        ensures value { EF.coefficients result ≡ samples C.sampled C.after_sample EF.DEGREE (C.state (current self.old)) }
-        ensures state { C.state (current self.new) ≡ after_samples C.after_sample EF.DEGREE (C.state (current self.old)) }
+        ensures value { EF.coefficients result ≡ samples C.sampled C.after_sample EF.DEGREE
+            (C.state (current self.old)) }
+        ensures state { C.state (current self.new) ≡ after_samples C.after_sample EF.DEGREE
+            (C.state (current self.old)) }
     {
         let value = sample_extension::<F, EF, C>(self.challenger);
         self.due = self.due.after_first();
         value
     }
 
-    /// Draws `count` numbers of `width` bits. Fails where memory is refused, and then only `abort` may
-    /// follow.
+    /// Draws `count` numbers of `width` bits. Fails where memory is refused, and then only `abort`
+    /// may follow.
     ///
     /// Asks that this is the next step, and that `width <= 63`.
     pub fn challenge_bits(
@@ -169,13 +177,16 @@ impl<'a, F: Field, C: CanSample<F> + GrindingChallenger<F>, S> TranscriptState<'
         width: usize,
         count: usize,
     ) -> Result<Vec<usize>, AllocError>
-        requires next { slice_get (due self.old) 0 ≡ Some (numbers_challenge label.now width count) }
+        requires next { slice_get (due self.old) 0 ≡ Some
+            (numbers_challenge label.now width count) }
         requires small { width ≤ 63 }
         ensures same_reference { SameChallenger self.old self.new }
         ensures due { OnOk result (due self.new ≡ drop 1 (due self.old)) }
-        ensures values { IfOk result (λ v. v.items ≡ samples (λ s. C.sampled_bits s width) (λ s. C.after_bits s width) count (C.state (current self.old))) }
+        ensures values { IfOk result (λ v. v.items ≡ samples (λ s. C.sampled_bits s width)
+            (λ s. C.after_bits s width) count (C.state (current self.old))) }
         ensures below { IfOk result (λ v. All (λ i. i < 2 ^ width) v.items) }
-        ensures state { OnOk result (C.state (current self.new) ≡ after_samples (λ s. C.after_bits s width) count (C.state (current self.old))) }
+        ensures state { OnOk result (C.state (current self.new) ≡ after_samples
+            (λ s. C.after_bits s width) count (C.state (current self.old))) }
     {
         let numbers = sample_numbers(alloc, self.challenger, width, count)?;
         self.due = self.due.after_first();
@@ -205,8 +216,8 @@ impl<'a, F: Field, C: CanSample<F> + GrindingChallenger<F>, S> TranscriptState<'
 }
 
 impl<'a, F: Field, C: CanSample<F> + GrindingChallenger<F>> TranscriptState<'a, C, F, ProverSide> {
-    /// Looks for a witness at a difficulty of `bits` bits and takes it in. `None` where none passes, and
-    /// then only `abort` may follow.
+    /// Looks for a witness at a difficulty of `bits` bits and takes it in. `None` where none
+    /// passes, and then only `abort` may follow.
     ///
     /// Asks that this is the next step, and that `bits <= 63`.
     pub fn observe_pow(&mut self, label: &str, bits: usize) -> Option<F>
@@ -215,10 +226,14 @@ impl<'a, F: Field, C: CanSample<F> + GrindingChallenger<F>> TranscriptState<'a, 
         ensures same_reference { SameChallenger self.old self.new }
         ensures due { due self.new ≡ drop 1 (due self.old) }
         ensures answer { result ≡ C.found_witness (C.state (current self.old)) bits }
-        ensures passes { IfSome result (λ w. IsTrue (passes C.after_observe C.sampled_bits (C.state (current self.old)) bits w)) }
-        ensures state { IfSome result (λ w. C.state (current self.new) ≡ after_check C.after_observe C.after_bits (C.state (current self.old)) bits w) }
-        ensures none { IfNone result ((w : F) → passes C.after_observe C.sampled_bits (C.state (current self.old)) bits w ≡ false) }
-        ensures unchanged { IfNone result (C.state (current self.new) ≡ C.state (current self.old)) }
+        ensures passes { IfSome result (λ w. IsTrue (passes C.after_observe C.sampled_bits
+            (C.state (current self.old)) bits w)) }
+        ensures state { IfSome result (λ w. C.state (current self.new) ≡ after_check C.after_observe
+            C.after_bits (C.state (current self.old)) bits w) }
+        ensures none { IfNone result ((w : F) → passes C.after_observe C.sampled_bits
+            (C.state (current self.old)) bits w ≡ false) }
+        ensures unchanged { IfNone result
+            (C.state (current self.new) ≡ C.state (current self.old)) }
     {
         self.due = self.due.after_first();
         self.challenger.grind(bits)
@@ -240,8 +255,10 @@ impl<'a, F: Field, C: CanSample<F> + GrindingChallenger<F>> TranscriptState<
         requires small { bits ≤ 63 }
         ensures same_reference { SameChallenger self.old self.new }
         ensures due { due self.new ≡ drop 1 (due self.old) }
-        ensures answer { result ≡ passes C.after_observe C.sampled_bits (C.state (current self.old)) bits witness }
-        ensures state { C.state (current self.new) ≡ after_check C.after_observe C.after_bits (C.state (current self.old)) bits witness }
+        ensures answer { result ≡ passes C.after_observe C.sampled_bits (C.state (current self.old))
+            bits witness }
+        ensures state { C.state (current self.new) ≡ after_check C.after_observe C.after_bits
+            (C.state (current self.old)) bits witness }
     {
         self.due = self.due.after_first();
         self.challenger.check_witness(bits, witness)
@@ -253,7 +270,8 @@ fn observe_coefficients<F: Field, EF: ExtensionField<F>, C: CanObserve<F>>(
     challenger: &mut C,
     value: &EF,
 )
-    ensures { C.state challenger.new ≡ after_all C.after_observe (C.state challenger.old) (EF.coefficients value.now) }
+    ensures { C.state challenger.new ≡ after_all C.after_observe (C.state challenger.old)
+        (EF.coefficients value.now) }
 {
     for i in 0..EF::DEGREE {
         challenger.observe(&value.coefficient(i));
@@ -265,7 +283,8 @@ fn observe_each<F: Field, EF: ExtensionField<F>, C: CanObserve<F>>(
     challenger: &mut C,
     values: &[EF],
 )
-    ensures { C.state challenger.new ≡ after_all C.after_observe (C.state challenger.old) (flat_map EF.coefficients values.now) }
+    ensures { C.state challenger.new ≡ after_all C.after_observe (C.state challenger.old)
+        (flat_map EF.coefficients values.now) }
 {
     for value in values {
         observe_coefficients::<F, EF, C>(challenger, value);
@@ -274,8 +293,10 @@ fn observe_each<F: Field, EF: ExtensionField<F>, C: CanObserve<F>>(
 
 /// An element of the extension whose coefficients are the challenger's next elements, in order.
 fn sample_extension<F: Field, EF: ExtensionField<F>, C: CanSample<F>>(challenger: &mut C) -> EF
-    ensures value { EF.coefficients result ≡ samples C.sampled C.after_sample EF.DEGREE (C.state challenger.old) }
-    ensures state { C.state challenger.new ≡ after_samples C.after_sample EF.DEGREE (C.state challenger.old) }
+    ensures value { EF.coefficients result ≡ samples C.sampled C.after_sample EF.DEGREE
+        (C.state challenger.old) }
+    ensures state { C.state challenger.new ≡ after_samples C.after_sample EF.DEGREE
+        (C.state challenger.old) }
 {
     let mut value = EF::ZERO;
     for i in 0..EF::DEGREE {
@@ -292,9 +313,11 @@ fn sample_numbers<C: CanSampleBits>(
     count: usize,
 ) -> Result<Vec<usize>, AllocError>
     requires { width ≤ 63 }
-    ensures values { IfOk result (λ v. v.items ≡ samples (λ s. C.sampled_bits s width) (λ s. C.after_bits s width) count (C.state challenger.old)) }
+    ensures values { IfOk result (λ v. v.items ≡ samples (λ s. C.sampled_bits s width)
+        (λ s. C.after_bits s width) count (C.state challenger.old)) }
     ensures below { IfOk result (λ v. All (λ i. i < 2 ^ width) v.items) }
-    ensures state { OnOk result (C.state challenger.new ≡ after_samples (λ s. C.after_bits s width) count (C.state challenger.old)) }
+    ensures state { OnOk result (C.state challenger.new ≡ after_samples (λ s. C.after_bits s width)
+        count (C.state challenger.old)) }
 {
     let mut numbers = Vec::with_capacity(alloc, count)?;
     for _i in 0..count {

@@ -65,7 +65,11 @@ fn cubic_step(kind: Kind, label: &'static str, length: Length) -> Interaction {
 
 /// The steps of one claim of one column, one round and no grinding.
 fn pattern(alloc: Global) -> Result<InteractionPattern, AllocError>
-    ensures { IfOk result (λ p. p ≡ elements_message 3 OPENING_POINT.now 2 ∷ elements_message 3 OPENED_VALUES.now 1 ∷ element_challenge 3 BATCH_CHALLENGE.now ∷ opaque_message FIRST_LAYER_COMMITMENT.now ∷ element_challenge 3 BIVARIATE_CHALLENGE.now ∷ opaque_message COMMITMENT.now ∷ element_challenge 3 FOLD_CHALLENGE.now ∷ element_message 3 FINAL_POLY.now ∷ numbers_challenge QUERY_INDICES.now 3 2 ∷ []) }
+    ensures { IfOk result (λ p. p ≡ elements_message 3 OPENING_POINT.now 2 ∷ elements_message 3
+        OPENED_VALUES.now 1 ∷ element_challenge 3 BATCH_CHALLENGE.now ∷ opaque_message
+        FIRST_LAYER_COMMITMENT.now ∷ element_challenge 3 BIVARIATE_CHALLENGE.now ∷ opaque_message
+        COMMITMENT.now ∷ element_challenge 3 FOLD_CHALLENGE.now ∷ element_message 3 FINAL_POLY.now
+        ∷ numbers_challenge QUERY_INDICES.now 3 2 ∷ []) }
 {
     let steps = vec![in alloc;
         Interaction::algebra(
@@ -138,7 +142,9 @@ fn one_message<F: Field, C: CanSample<F> + GrindingChallenger<F>, Com>(
 where
     C: CanObserve<Com>,
     requires { separator.now.steps ≡ opaque_message label.now ∷ [] }
-    ensures { C.state challenger.new ≡ ⟦<C as CanObserve<Com>>⟧.after_observe (after_all ⟦<C as CanObserve<F>>⟧.after_observe (C.state challenger.old) (map (of_nat F.ops) (seed_text separator.now))) value.now }
+    ensures { C.state challenger.new ≡ ⟦<C as CanObserve<Com>>⟧.after_observe
+        (after_all ⟦<C as CanObserve<F>>⟧.after_observe (C.state challenger.old)
+        (map (of_nat F.ops) (seed_text separator.now))) value.now }
 {
     let mut transcript = ProverState::<C, F>::new(challenger, separator);
     transcript.observe_opaque(label, value);

@@ -25,8 +25,8 @@ widths_of claims = map (λ c. length c.values) claims
 abbrev pub claim_elements : {E : Type 0} → Claim E → List E
 claim_elements c = c.point.x ∷ c.point.y ∷ c.values
 
--- what a run takes in: the claims and the witness after them, the commitment to the first layer, each
--- round's commitment and witness, and the last word's value and the witness after it
+-- what a run takes in: the claims and the witness after them, the commitment to the first layer,
+-- each round's commitment and witness, and the last word's value and the witness after it
 pub record Taken (F E Com : Type 0) : Type 0 where
   pub claims : List (Claim E)
   pub batch_witness : F
@@ -35,7 +35,8 @@ pub record Taken (F E Com : Type 0) : Type 0 where
   pub final_poly : E
   pub query_witness : F
 
-abbrev pub taken : {F E Com : Type 0} → List (Claim E) → F → Com → List (Com × F) → E → F → Taken F E Com
+abbrev pub taken : {F E Com : Type 0} → List (Claim E) → F → Com → List (Com × F) → E → F
+    → Taken F E Com
 taken claims batch_witness first_layer rounds final_poly query_witness = record {
   claims = claims;
   batch_witness = batch_witness;
@@ -54,7 +55,8 @@ pub record Drawn (S F : Type 0) : Type 0 where
   pub state : S
 
 -- the state after the claims, whose elements are taken in by their coefficients
-unfoldable pub after_claims_by : {S F E : Type 0} → (S → F → S) → (E → List F) → S → List (Claim E) → S
+unfoldable pub after_claims_by : {S F E : Type 0} → (S → F → S) → (E → List F) → S → List (Claim E)
+    → S
 after_claims_by after_observe coefficients s claims =
     after_all after_observe s (flat_map coefficients (flat_map claim_elements claims))
 
@@ -139,7 +141,8 @@ module _ {C S F E Com : Type 0} (r : RunMoves C S F E Com) where
     draw_seeded =
         if is_passed r.base claimed n.batch_pow_bits taken.batch_witness then
         (if rounds_pass n.commit_pow_bits (after_element r.base layered) taken.rounds then
-        (if is_passed r.base closed n.query_pow_bits taken.query_witness then Ok drawn else Err Query)
+        (if is_passed r.base closed n.query_pow_bits taken.query_witness then Ok drawn
+        else Err Query)
         else Err CommitPhase)
         else Err Batch
 

@@ -30,4 +30,5 @@ indices_steps degree n = query_steps degree n.query_pow_bits n.index_bits n.num_
 abbrev pub run_steps : ℕ → List ℕ → ℕ → Numbers → List Step
 run_steps degree widths rounds n =
     batch_steps degree widths n.batch_pow_bits
-    ++ (first_layer_steps degree ++ (rounds_steps degree n.commit_pow_bits rounds ++ indices_steps degree n))
+    ++ (first_layer_steps degree
+    ++ (rounds_steps degree n.commit_pow_bits rounds ++ indices_steps degree n))

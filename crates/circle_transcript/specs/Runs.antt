@@ -26,11 +26,14 @@ pub record ArePlayable (n : Numbers) : Type 0 where
   pub index : n.index_bits ≤ 63
 
 -- what a run takes in, of claims, messages and witnesses
-abbrev pub taken_with : {F E Com : Type 0} → List (Claim E) → CircleMessages E Com → F → List F → F → Taken F E Com
+abbrev pub taken_with : {F E Com : Type 0} → List (Claim E) → CircleMessages E Com → F → List F → F
+    → Taken F E Com
 taken_with claims messages batch rounds query =
-    taken claims batch messages.first_layer.now (zip messages.commitments.now rounds) messages.final_poly query
+    taken claims batch messages.first_layer.now (zip messages.commitments.now rounds)
+    messages.final_poly query
 
-abbrev pub taken_of : {F E Com : Type 0} {g : _} → List (Point E g × Bor (List E)) → CircleMessages E Com
+abbrev pub taken_of : {F E Com : Type 0} {g : _} → List (Point E g × Bor (List E))
+    → CircleMessages E Com
     → CircleWitnesses F → Taken F E Com
 taken_of claims messages witnesses =
     taken_with (claims_of claims) messages witnesses.batch witnesses.rounds.items witnesses.query
@@ -46,7 +49,8 @@ drawn_of coefficients d state = record {
 }
 
 -- the draw fails in the phase that the failure names, with that phase's difficulty
-pub record IsMiss {S F : Type 0} (n : Numbers) (drawn : Result (Drawn S F) PowPhase) (e : CircleTranscriptFailure) : Type 0 where
+pub record IsMiss {S F : Type 0} (n : Numbers) (drawn : Result (Drawn S F) PowPhase)
+    (e : CircleTranscriptFailure) : Type 0 where
   pub named : e ≡ PowWitness (phase_of e) (difficulty_of n (phase_of e))
   pub failed : drawn ≡ Err (phase_of e)
 
@@ -61,27 +65,45 @@ module _ {C S F E Com : Type 0} (r : RunMoves C S F E Com) where
     pub commitment : Com
     pub next : slice_get commitments (length witnesses) ≡ Some commitment
     pub passed : rounds_pass r bits s (zip commitments witnesses) ≡ true
-    pub none : NonePasses r.base (r.after_commitment (after_rounds r bits s (zip commitments witnesses)) commitment) bits
+    pub none :
+        NonePasses r.base (r.after_commitment (after_rounds r bits s (zip commitments witnesses))
+        commitment) bits
 
   module _ (n : Numbers) (claims : List (Claim E)) (messages : CircleMessages E Com) (s : S) where
+    -- what is taken in with these witnesses, before that of the indices
+    abbrev pub with_found : F → List F → Taken F E Com
+    with_found batch rounds = taken_with claims messages batch rounds r.base.zero
+
+    -- whether a witness of the batching challenge passes
+    abbrev pub Starts : F → Type 0
+    Starts batch = IsTrue (is_passed r.base (claimed r n (with_found batch []) s)
+        n.batch_pow_bits batch)
+
+    -- the state before the rounds
+    abbrev pub before_rounds : F → S
+    before_rounds batch = after_element r.base (layered r n (with_found batch []) s)
+
     -- the witness of the batching challenge passes, and a round after it is stuck
     pub record IsStuckInRounds : Type 0 where
       pub batch : F
-      pub passed : IsTrue (is_passed r.base (claimed r n (taken_with claims messages batch [] r.base.zero) s) n.batch_pow_bits batch)
-      pub stuck : HasStuckRound n.commit_pow_bits (after_element r.base (layered r n (taken_with claims messages batch [] r.base.zero) s)) messages.commitments.now
+      pub passed : Starts batch
+      pub stuck : HasStuckRound n.commit_pow_bits (before_rounds batch) messages.commitments.now
 
-    -- the witnesses of the batching challenge and of the rounds pass, and none does before the indices
+    -- the witnesses of the batching challenge and of the rounds pass, and none does before the
+    -- indices
     pub record IsStuckInQuery : Type 0 where
       pub batch : F
       pub rounds : List F
-      pub passed : IsTrue (is_passed r.base (claimed r n (taken_with claims messages batch rounds r.base.zero) s) n.batch_pow_bits batch)
+      pub passed : Starts batch
       pub count : length rounds ≡ length messages.commitments.now
-      pub rounds_passed : rounds_pass r n.commit_pow_bits (after_element r.base (layered r n (taken_with claims messages batch rounds r.base.zero) s)) (zip messages.commitments.now rounds) ≡ true
-      pub none : NonePasses r.base (closed r n (taken_with claims messages batch rounds r.base.zero) s) n.query_pow_bits
+      pub rounds_passed :
+          rounds_pass r n.commit_pow_bits (before_rounds batch) (zip messages.commitments.now rounds)
+          ≡ true
+      pub none : NonePasses r.base (closed r n (with_found batch rounds) s) n.query_pow_bits
 
     -- no witness passes in the state in which this phase looks for one
     abbrev pub IsStuckIn : PowPhase → Type 0
-    IsStuckIn Batch = NonePasses r.base (claimed r n (taken_with claims messages r.base.zero [] r.base.zero) s) n.batch_pow_bits
+    IsStuckIn Batch = NonePasses r.base (claimed r n (with_found r.base.zero []) s) n.batch_pow_bits
     IsStuckIn CommitPhase = IsStuckInRounds
     IsStuckIn Query = IsStuckInQuery
 
@@ -93,14 +115,18 @@ module _ {C S F E Com : Type 0} (r : RunMoves C S F E Com) where
   -- the run of this shape draws these from the first challenger, and leaves the other
   abbrev pub Draws : CirclePcsShape → Taken F E Com → C → CircleDraws E → C → Type 0
   Draws shape taken old d new =
-      draw r (shape_of shape) taken (r.base.state old) ≡ Ok (drawn_of r.base.coefficients d (r.base.state new))
+      draw r (shape_of shape) taken (r.base.state old)
+      ≡ Ok (drawn_of r.base.coefficients d (r.base.state new))
 
   -- the run of this shape fails where a witness doesn't pass
   abbrev pub Misses : CirclePcsShape → Taken F E Com → C → CircleTranscriptFailure → Type 0
-  Misses shape taken old e = IsMiss (numbers_of (shape_of shape)) (draw r (shape_of shape) taken (r.base.state old)) e
+  Misses shape taken old e =
+      IsMiss (numbers_of (shape_of shape)) (draw r (shape_of shape) taken (r.base.state old)) e
 
   -- the run of this shape fails where no witness passes
-  abbrev pub FindsNone : {g : _} → CirclePcsShape → List (Point E g × Bor (List E)) → CircleMessages E Com → C
+  abbrev pub FindsNone : {g : _} → CirclePcsShape → List (Point E g × Bor (List E))
+      → CircleMessages E Com → C
       → CircleTranscriptFailure → Type 0
   FindsNone shape claims messages old e =
-      IsStuck (numbers_of (shape_of shape)) (claims_of claims) messages (seeded r (shape_of shape) (r.base.state old)) e
+      IsStuck (numbers_of (shape_of shape)) (claims_of claims) messages
+      (seeded r (shape_of shape) (r.base.state old)) e

@@ -5,9 +5,9 @@ use Rattle.circle_challenger.specs.Step.{Step, be64}
 use Rattle.circle_challenger.specs.Played.{element_message, elements_message, opaque_message, pow_step, element_challenge, numbers_challenge}
 use Rattle.circle_challenger.specs.Separator.{Separator, separator, seed_text}
 
--- the numbers that fix the transcript of a run: the number of columns of each claim, by batch, matrix
--- and point; the number of rounds; the difficulties of the proofs of work; how many indices are drawn,
--- and of how many bits; the logarithm of the blowup
+-- the numbers that fix the transcript of a run: the number of columns of each claim, by batch,
+-- matrix and point; the number of rounds; the difficulties of the proofs of work; how many indices
+-- are drawn, and of how many bits; the logarithm of the blowup
 pub record Shape : Type 0 where
   pub opened_widths : List (List (List ℕ))
   pub num_commit_rounds : ℕ
@@ -24,7 +24,8 @@ pow_steps label bits = if bits == 0 then [] else pow_step label bits ∷ []
 
 -- a challenge that a proof of work guards
 abbrev pub guarded_challenge_steps : ℕ → List ℕ → ℕ → List ℕ → List Step
-guarded_challenge_steps degree pow_label bits label = pow_steps pow_label bits ++ element_challenge degree label ∷ []
+guarded_challenge_steps degree pow_label bits label =
+    pow_steps pow_label bits ++ element_challenge degree label ∷ []
 
 -- numbers that a proof of work guards
 abbrev pub guarded_numbers_steps : List ℕ → ℕ → List ℕ → ℕ → ℕ → List Step
@@ -34,7 +35,8 @@ guarded_numbers_steps pow_label bits label width count =
 -- a claim of so many columns: its point's two coordinates, and its values
 unfoldable pub claim_steps : ℕ → ℕ → List Step
 claim_steps degree width =
-    elements_message degree (codes "opening_point") 2 ∷ elements_message degree (codes "opened_values") width ∷ []
+    elements_message degree (codes "opening_point") 2
+    ∷ elements_message degree (codes "opened_values") width ∷ []
 
 -- the claims, and the challenge that batches them
 unfoldable pub batch_steps : ℕ → List ℕ → ℕ → List Step
@@ -45,7 +47,8 @@ batch_steps degree widths bits =
 -- the commitment to the first layer, and the challenge that folds it
 unfoldable pub first_layer_steps : ℕ → List Step
 first_layer_steps degree =
-    opaque_message (codes "first_layer_commitment") ∷ element_challenge degree (codes "bivariate_challenge") ∷ []
+    opaque_message (codes "first_layer_commitment")
+    ∷ element_challenge degree (codes "bivariate_challenge") ∷ []
 
 -- a round: a commitment, and the challenge that folds what it commits to
 unfoldable pub round_steps : ℕ → ℕ → List Step
@@ -87,7 +90,8 @@ layout batches = be64 (length batches) ++ flat_map batch_layout batches
 -- what the run is seeded with
 abbrev pub separator_of : ℕ → Shape → Separator
 separator_of degree s =
-    separator 1 (codes "p3-circle-pcs") (steps_of degree s) (be64 s.log_blowup ∷ layout s.opened_widths ∷ [])
+    separator 1 (codes "p3-circle-pcs") (steps_of degree s)
+    (be64 s.log_blowup ∷ layout s.opened_widths ∷ [])
 
 -- the seed's text
 abbrev pub text_of : ℕ → Shape → List ℕ

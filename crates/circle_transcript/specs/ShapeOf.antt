@@ -1,5 +1,8 @@
 -- A `CirclePcsShape` as contracts see it.
-use Rattle.std.specs.Prelude.{ℕ, List, map, Vec}
+use Rattle.std.specs.Prelude.{◌≡◌, ℕ, List, ◌++◌, map, Vec}
+use Rattle.circle_challenger.specs.Interaction.{step_of}
+use Rattle.circle_challenger.specs.Step.{Step}
+use Rattle.circle_challenger.specs.declared.interaction.Interaction.{Interaction}
 use Rattle.circle_transcript.specs.declared.shape.CirclePcsShape.{CirclePcsShape}
 use Rattle.circle_transcript.specs.Shape.{Shape}
 
@@ -22,3 +25,7 @@ shape_of s = record {
   index_bits = s.index_bits;
   log_blowup = s.log_blowup;
 }
+
+-- these steps stand after those that were there
+abbrev pub Appends : List Interaction → List Interaction → List Step → Type 0
+Appends old new more = map step_of new ≡ map step_of old ++ more

@@ -32,9 +32,10 @@ module _ {C F EF S : Type 0} where
   abbrev pub numbers : CircleTranscript C F EF S → Numbers
   numbers t = t.shape
 
--- the phases as functions of a transcript that is about to play them: the steps, the state in which the
--- witness is checked, whether it passes, what is drawn then, and the state after it
-module _ {C S F EF Side : Type 0} {g : _} (m : Moves C S F EF) (t : CircleTranscript C F EF Side) (claims : List (Point EF g × Bor (List EF))) where
+-- the phases as functions of a transcript that is about to play them: the steps, the state in which
+-- the witness is checked, whether it passes, what is drawn then, and the state after it
+module _ {C S F EF Side : Type 0} {g : _} (m : Moves C S F EF) (t : CircleTranscript C F EF Side)
+    (claims : List (Point EF g × Bor (List EF))) where
   abbrev pub steps_of_batch : List Step
   steps_of_batch = batch_steps m.degree (widths_of (claims_of claims)) t.shape.batch_pow_bits
 
@@ -50,7 +51,8 @@ module _ {C S F EF Side : Type 0} {g : _} (m : Moves C S F EF) (t : CircleTransc
   abbrev pub after_batch : F → S
   after_batch w = after_element m (after_pow m at_batch_pow t.shape.batch_pow_bits w)
 
-module _ {C S F EF Com Side : Type 0} (r : RunMoves C S F EF Com) (t : CircleTranscript C F EF Side) (commitment : Com) where
+module _ {C S F EF Com Side : Type 0} (r : RunMoves C S F EF Com) (t : CircleTranscript C F EF Side)
+    (commitment : Com) where
   abbrev pub at_commitment : S
   at_commitment = r.after_commitment (r.base.state (current t)) commitment
 
@@ -58,12 +60,14 @@ module _ {C S F EF Com Side : Type 0} (r : RunMoves C S F EF Com) (t : CircleTra
   commit_passes w = is_passed r.base at_commitment t.shape.commit_pow_bits w
 
   abbrev pub commit_challenge : F → List F
-  commit_challenge w = drawn_element r.base (after_pow r.base at_commitment t.shape.commit_pow_bits w)
+  commit_challenge w = drawn_element r.base (after_pow r.base at_commitment
+      t.shape.commit_pow_bits w)
 
   abbrev pub after_commit : F → S
   after_commit w = after_element r.base (after_pow r.base at_commitment t.shape.commit_pow_bits w)
 
-module _ {C S F EF Side : Type 0} (m : Moves C S F EF) (t : CircleTranscript C F EF Side) (final_poly : EF) where
+module _ {C S F EF Side : Type 0} (m : Moves C S F EF) (t : CircleTranscript C F EF Side)
+    (final_poly : EF) where
   abbrev pub at_query_pow : S
   at_query_pow = after_final_poly m (m.state (current t)) final_poly
 

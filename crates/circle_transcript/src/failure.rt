@@ -11,7 +11,7 @@ use thiserror::Error;
 #[derive(Clone, Copy, Debug, Error, PartialEq, Eq)]
 pub enum CircleTranscriptFailure {
     /// The witness of a proof of work doesn't pass.
-    #[error("invalid proof-of-work witness ({phase}): {bits} bits required")]
+    #[error("invalid proof-of-work witness for the {phase} phase: {bits} bits required")]
     PowWitness {
         /// The phase that the proof of work guards.
         phase: PowPhase,
@@ -19,7 +19,7 @@ pub enum CircleTranscriptFailure {
         bits: usize,
     },
     /// No witness passes.
-    #[error("no proof-of-work witness ({phase}): {bits} bits required")]
+    #[error("no proof-of-work witness for the {phase} phase: {bits} bits required")]
     NoWitness {
         /// The phase that the proof of work guards.
         phase: PowPhase,

@@ -1,5 +1,5 @@
-//! The Fiat-Shamir transcript of the Circle STARK polynomial commitment scheme (IACR ePrint 2024/278):
-//! what a run is described by, and both sides of it.
+//! The Fiat-Shamir transcript of the Circle STARK polynomial commitment scheme (IACR ePrint
+//! 2024/278): what a run is described by, and both sides of it.
 //!
 //! A run takes in the claimed openings and draws the challenge that batches them, takes in the
 //! commitment to the first layer and draws the challenge that folds it, takes in a commitment and

@@ -81,12 +81,14 @@ where
     ensures needed { IfOk result (λ w. IsNone w ↔ (bits ≡ 0)) }
     ensures passes { let s = C.state (current transcript.old) in IfOk result (λ w.
         IsTrue (passes C.after_observe C.sampled_bits s bits (unwrap_or w F.ops.zero))) }
-    ensures state { let s = C.state (current transcript.old) in IfOk result (λ w. C.state (current transcript.new) ≡
+    ensures state { let s = C.state (current transcript.old) in IfOk result
+        (λ w. C.state (current transcript.new) ≡
         after_check C.after_observe C.after_bits s bits (unwrap_or w F.ops.zero)) }
     ensures failure { IfErr result (λ e. e ≡ NoWitness phase bits) }
     ensures none { let s = C.state (current transcript.old) in OnErr result ((w : F) →
         passes C.after_observe C.sampled_bits s bits w ≡ false) }
-    ensures unchanged { OnErr result (C.state (current transcript.new) ≡ C.state (current transcript.old)) }
+    ensures unchanged { OnErr result
+        (C.state (current transcript.new) ≡ C.state (current transcript.old)) }
 {
     if bits == 0 {
         return Ok(None);
@@ -148,19 +150,23 @@ where
         (due transcript.old) }
     requires small { bits ≤ 63 }
     ensures same_reference { SameChallenger transcript.old transcript.new }
-    ensures due { OnOk result (HasPlayed (guarded_challenge_steps EF.DEGREE pow_label.now bits label.now)
+    ensures due { OnOk result (HasPlayed (guarded_challenge_steps EF.DEGREE pow_label.now bits
+        label.now)
         (due transcript.old) (due transcript.new)) }
     ensures needed { IfOk result (λ r. IsNone r.1 ↔ (bits ≡ 0)) }
     ensures passes { let m = ⟦<C as FieldChallenger<F, EF>>⟧.moves in IfOk result (λ r.
         IsTrue (is_passed m (C.state (current transcript.old)) bits (or_zero m r.1))) }
-    ensures challenge { let m = ⟦<C as FieldChallenger<F, EF>>⟧.moves in IfOk result (λ r. EF.coefficients r.0 ≡
+    ensures challenge { let m = ⟦<C as FieldChallenger<F, EF>>⟧.moves in IfOk result
+        (λ r. EF.coefficients r.0 ≡
         drawn_element m (after_pow m (C.state (current transcript.old)) bits (or_zero m r.1))) }
-    ensures state { let m = ⟦<C as FieldChallenger<F, EF>>⟧.moves in IfOk result (λ r. C.state (current transcript.new) ≡
+    ensures state { let m = ⟦<C as FieldChallenger<F, EF>>⟧.moves in IfOk result
+        (λ r. C.state (current transcript.new) ≡
         after_element m (after_pow m (C.state (current transcript.old)) bits (or_zero m r.1))) }
     ensures failure { IfErr result (λ e. e ≡ NoWitness phase bits) }
     ensures none { let m = ⟦<C as FieldChallenger<F, EF>>⟧.moves in OnErr result ((w : F) →
         is_passed m (C.state (current transcript.old)) bits w ≡ false) }
-    ensures unchanged { OnErr result (C.state (current transcript.new) ≡ C.state (current transcript.old)) }
+    ensures unchanged { OnErr result
+        (C.state (current transcript.new) ≡ C.state (current transcript.old)) }
 {
     let witness = grind(transcript, pow_label, phase, bits)?;
     Ok((transcript.challenge_extension(label), witness))
@@ -183,13 +189,16 @@ where
         (due transcript.old) }
     requires small { bits ≤ 63 }
     ensures same_reference { SameChallenger transcript.old transcript.new }
-    ensures due { OnOk result (HasPlayed (guarded_challenge_steps EF.DEGREE pow_label.now bits label.now)
+    ensures due { OnOk result (HasPlayed (guarded_challenge_steps EF.DEGREE pow_label.now bits
+        label.now)
         (due transcript.old) (due transcript.new)) }
     ensures passes { let m = ⟦<C as FieldChallenger<F, EF>>⟧.moves in OnOk result (IsTrue
         (is_passed m (C.state (current transcript.old)) bits witness)) }
-    ensures challenge { let m = ⟦<C as FieldChallenger<F, EF>>⟧.moves in IfOk result (λ a. EF.coefficients a ≡
+    ensures challenge { let m = ⟦<C as FieldChallenger<F, EF>>⟧.moves in IfOk result
+        (λ a. EF.coefficients a ≡
         drawn_element m (after_pow m (C.state (current transcript.old)) bits witness)) }
-    ensures state { let m = ⟦<C as FieldChallenger<F, EF>>⟧.moves in OnOk result (C.state (current transcript.new) ≡
+    ensures state { let m = ⟦<C as FieldChallenger<F, EF>>⟧.moves in OnOk result
+        (C.state (current transcript.new) ≡
         after_element m (after_pow m (C.state (current transcript.old)) bits witness)) }
     ensures failure { IfErr result (λ e. e ≡ PowWitness phase bits) }
     ensures missed { let m = ⟦<C as FieldChallenger<F, EF>>⟧.moves in OnErr result
@@ -230,7 +239,8 @@ where
         C.state (current transcript.new) ≡ after_samples (λ t. C.after_bits t width) count
         (after_check C.after_observe C.after_bits s bits (unwrap_or r.1 F.ops.zero))) }
     ensures failure { IfErr result (λ e. (e ≡ Memory) ⊎ (e ≡ NoWitness Query bits)) }
-    ensures none { let s = C.state (current transcript.old) in result ≡ Err (NoWitness Query bits) → (w : F) →
+    ensures none { let s = C.state (current transcript.old) in
+        result ≡ Err (NoWitness Query bits) → (w : F) →
         passes C.after_observe C.sampled_bits s bits w ≡ false }
     ensures unchanged { result ≡ Err (NoWitness Query bits) →
         C.state (current transcript.new) ≡ C.state (current transcript.old) }
@@ -269,10 +279,13 @@ where
         r.items ≡ samples (λ t. C.sampled_bits t width) (λ t. C.after_bits t width) count
         (after_check C.after_observe C.after_bits s bits witness)) }
     ensures below { IfOk result (λ r. All (λ i. i < 2 ^ width) r.items) }
-    ensures state { let s = C.state (current transcript.old) in OnOk result (C.state (current transcript.new) ≡
-        after_samples (λ t. C.after_bits t width) count (after_check C.after_observe C.after_bits s bits witness)) }
+    ensures state { let s = C.state (current transcript.old) in OnOk result
+        (C.state (current transcript.new) ≡
+        after_samples (λ t. C.after_bits t width) count
+        (after_check C.after_observe C.after_bits s bits witness)) }
     ensures failure { IfErr result (λ e. (e ≡ Memory) ⊎ (e ≡ PowWitness Query bits)) }
-    ensures missed { let s = C.state (current transcript.old) in result ≡ Err (PowWitness Query bits) →
+    ensures missed { let s = C.state (current transcript.old) in
+        result ≡ Err (PowWitness Query bits) →
         passes C.after_observe C.sampled_bits s bits witness ≡ false }
     ensures passed { let s = C.state (current transcript.old) in result ≡ Err Memory →
         IsTrue (passes C.after_observe C.sampled_bits s bits witness) }

@@ -56,7 +56,8 @@ pub struct CircleWitnesses<F> {
 
 /// Plays rounds with their witnesses, and draws their challenges.
 ///
-/// Asks that these are the next steps, one witness for each commitment, and a difficulty of at most 63.
+/// Asks that these are the next steps, one witness for each commitment, and a difficulty of at most
+/// 63.
 fn checking_rounds<'a, F: Field, EF: ExtensionField<F>, C, Com>(
     alloc: Global,
     transcript: &mut CircleVerifierTranscript<'a, C, F, EF>,
@@ -76,10 +77,12 @@ where
         let bits = (numbers transcript.old).commit_pow_bits in OnOk result (rounds_pass m bits
         (C.state (current transcript.old)) (zip commitments.now witnesses.now) ≡ true) }
     ensures challenges { let m = ⟦<C as RunChallenger<F, EF, Com>>⟧.run in
-        let bits = (numbers transcript.old).commit_pow_bits in IfOk result (λ v. map EF.coefficients v.items ≡
+        let bits = (numbers transcript.old).commit_pow_bits in IfOk result (λ v.
+        map EF.coefficients v.items ≡
         fold_challenges m bits (C.state (current transcript.old)) (zip commitments.now witnesses.now)) }
     ensures state { let m = ⟦<C as RunChallenger<F, EF, Com>>⟧.run in
-        let bits = (numbers transcript.old).commit_pow_bits in OnOk result (C.state (current transcript.new) ≡
+        let bits = (numbers transcript.old).commit_pow_bits in OnOk result
+        (C.state (current transcript.new) ≡
         after_rounds m bits (C.state (current transcript.old)) (zip commitments.now witnesses.now)) }
     ensures failure { let m = ⟦<C as RunChallenger<F, EF, Com>>⟧.run in
         let bits = (numbers transcript.old).commit_pow_bits in IfErr result (λ e. (e ≡ Memory)
@@ -99,8 +102,8 @@ where
 
 /// Plays a run with its witnesses, and draws what it draws.
 ///
-/// Asks that these are all the steps due, one witness for each commitment, and difficulties and a number
-/// of bits of an index of at most 63.
+/// Asks that these are all the steps due, one witness for each commitment, and difficulties and a
+/// number of bits of an index of at most 63.
 fn checking_run<'a, F: Field, EF: ExtensionField<F>, C, Com>(
     alloc: Global,
     transcript: &mut CircleVerifierTranscript<'a, C, F, EF>,
@@ -116,12 +119,15 @@ where
     requires small { ArePlayable (numbers transcript.old) }
     ensures same { IsSame transcript.old transcript.new }
     ensures due { OnOk result (due transcript.new ≡ []) }
-    ensures below { IfOk result (λ d. All (λ i. i < 2 ^ (numbers transcript.old).index_bits) d.indices.items) }
+    ensures below { IfOk result (λ d. All (λ i. i < 2 ^ (numbers transcript.old).index_bits)
+        d.indices.items) }
     ensures draws { let m = ⟦<C as RunChallenger<F, EF, Com>>⟧.run in IfOk result (λ d.
         draw_seeded m (numbers transcript.old) (taken_of claims.now messages.now witnesses.now)
-        (C.state (current transcript.old)) ≡ Ok (drawn_of EF.coefficients d (C.state (current transcript.new)))) }
-    ensures failure { let m = ⟦<C as RunChallenger<F, EF, Com>>⟧.run in let n = numbers transcript.old in
-        IfErr result (λ e. (e ≡ Memory) ⊎ IsMiss n (draw_seeded m n (taken_of claims.now messages.now witnesses.now)
+        (C.state (current transcript.old)) ≡
+        Ok (drawn_of EF.coefficients d (C.state (current transcript.new)))) }
+    ensures failure { let m = ⟦<C as RunChallenger<F, EF, Com>>⟧.run in
+        let n = numbers transcript.old in IfErr result (λ e. (e ≡ Memory) ⊎ IsMiss n
+        (draw_seeded m n (taken_of claims.now messages.now witnesses.now)
         (C.state (current transcript.old))) e) }
 {
     let alpha = transcript.batch_phase(claims, witnesses.batch)?;
@@ -136,9 +142,9 @@ where
     })
 }
 
-/// The verifier's side of a run: seeds the challenger, takes in the claims and what a proof holds, and
-/// draws the challenges. Fails with `PowWitness` where a witness doesn't pass, and with `Memory` where
-/// memory is refused.
+/// The verifier's side of a run: seeds the challenger, takes in the claims and what a proof holds,
+/// and draws the challenges. Fails with `PowWitness` where a witness doesn't pass, and with
+/// `Memory` where memory is refused.
 ///
 /// Asks claims of the described numbers of values, a commitment and a witness for each round, and
 /// difficulties and a number of bits of an index of at most 63.
@@ -159,8 +165,8 @@ where
     ensures draws { let m = ⟦<C as RunChallenger<F, EF, Com>>⟧.run in IfOk result (λ d.
         Draws m shape (taken_of claims.now messages.now witnesses.now) challenger.old d challenger.new) }
     ensures below { IfOk result (λ d. All (λ i. i < 2 ^ shape.index_bits) d.indices.items) }
-    ensures failure { let m = ⟦<C as RunChallenger<F, EF, Com>>⟧.run in IfErr result (λ e.
-        (e ≡ Memory) ⊎ Misses m shape (taken_of claims.now messages.now witnesses.now) challenger.old e) }
+    ensures failure { let taken = taken_of claims.now messages.now witnesses.now in IfErr result (λ e.
+        (e ≡ Memory) ⊎ Misses ⟦<C as RunChallenger<F, EF, Com>>⟧.run shape taken challenger.old e) }
 {
     let mut transcript = CircleVerifierTranscript::<C, F, EF>::new(alloc, challenger, shape)?;
     match checking_run(alloc, &mut transcript, claims, messages, witnesses) {
@@ -198,10 +204,12 @@ where
         let bits = (numbers transcript.old).commit_pow_bits in IfOk result (λ r. rounds_pass m bits
         (C.state (current transcript.old)) (zip commitments.now r.1.items) ≡ true) }
     ensures challenges { let m = ⟦<C as RunChallenger<F, EF, Com>>⟧.run in
-        let bits = (numbers transcript.old).commit_pow_bits in IfOk result (λ r. map EF.coefficients r.0.items ≡
+        let bits = (numbers transcript.old).commit_pow_bits in IfOk result (λ r.
+        map EF.coefficients r.0.items ≡
         fold_challenges m bits (C.state (current transcript.old)) (zip commitments.now r.1.items)) }
     ensures state { let m = ⟦<C as RunChallenger<F, EF, Com>>⟧.run in
-        let bits = (numbers transcript.old).commit_pow_bits in IfOk result (λ r. C.state (current transcript.new) ≡
+        let bits = (numbers transcript.old).commit_pow_bits in IfOk result
+        (λ r. C.state (current transcript.new) ≡
         after_rounds m bits (C.state (current transcript.old)) (zip commitments.now r.1.items)) }
     ensures failure { let m = ⟦<C as RunChallenger<F, EF, Com>>⟧.run in
         let bits = (numbers transcript.old).commit_pow_bits in IfErr result (λ e. (e ≡ Memory)
@@ -234,8 +242,8 @@ fn or_zero<F: Field>(witness: Option<F>) -> F
 
 /// Plays a run, looking for the witnesses, and draws what it draws.
 ///
-/// Asks that these are all the steps due, and difficulties and a number of bits of an index of at most
-/// 63.
+/// Asks that these are all the steps due, and difficulties and a number of bits of an index of at
+/// most 63.
 fn grinding_run<'a, F: Field, EF: ExtensionField<F>, C, Com>(
     alloc: Global,
     transcript: &mut CircleProverTranscript<'a, C, F, EF>,
@@ -249,15 +257,20 @@ where
     requires small { ArePlayable (numbers transcript.old) }
     ensures same { IsSame transcript.old transcript.new }
     ensures due { OnOk result (due transcript.new ≡ []) }
-    ensures count { IfOk result (λ r. length r.1.rounds.items ≡ length messages.now.commitments.now) }
-    ensures easy_batch { IfOk result (λ r. (numbers transcript.old).batch_pow_bits ≡ 0 → r.1.batch ≡ F.ops.zero) }
+    ensures count { IfOk result (λ r.
+        length r.1.rounds.items ≡ length messages.now.commitments.now) }
+    ensures easy_batch { IfOk result (λ r.
+        (numbers transcript.old).batch_pow_bits ≡ 0 → r.1.batch ≡ F.ops.zero) }
     ensures easy_rounds { IfOk result (λ r. (numbers transcript.old).commit_pow_bits ≡ 0 →
         All (λ w. w ≡ F.ops.zero) r.1.rounds.items) }
-    ensures easy_query { IfOk result (λ r. (numbers transcript.old).query_pow_bits ≡ 0 → r.1.query ≡ F.ops.zero) }
-    ensures below { IfOk result (λ r. All (λ i. i < 2 ^ (numbers transcript.old).index_bits) r.0.indices.items) }
+    ensures easy_query { IfOk result (λ r.
+        (numbers transcript.old).query_pow_bits ≡ 0 → r.1.query ≡ F.ops.zero) }
+    ensures below { IfOk result (λ r. All (λ i. i < 2 ^ (numbers transcript.old).index_bits)
+        r.0.indices.items) }
     ensures draws { let m = ⟦<C as RunChallenger<F, EF, Com>>⟧.run in IfOk result (λ r.
         draw_seeded m (numbers transcript.old) (taken_of claims.now messages.now r.1)
-        (C.state (current transcript.old)) ≡ Ok (drawn_of EF.coefficients r.0 (C.state (current transcript.new)))) }
+        (C.state (current transcript.old)) ≡
+        Ok (drawn_of EF.coefficients r.0 (C.state (current transcript.new)))) }
     ensures failure { let m = ⟦<C as RunChallenger<F, EF, Com>>⟧.run in IfErr result (λ e.
         (e ≡ Memory) ⊎ IsStuck m (numbers transcript.old) (claims_of claims.now) messages.now
         (C.state (current transcript.old)) e) }
@@ -283,12 +296,12 @@ where
     ))
 }
 
-/// The prover's side of a run whose messages are given: seeds the challenger, takes in the claims and the
-/// messages, looks for the witnesses, and draws the challenges. Fails with `NoWitness` where no witness
-/// passes, and with `Memory` where memory is refused.
+/// The prover's side of a run whose messages are given: seeds the challenger, takes in the claims
+/// and the messages, looks for the witnesses, and draws the challenges. Fails with `NoWitness`
+/// where no witness passes, and with `Memory` where memory is refused.
 ///
-/// Asks claims of the described numbers of values, a commitment for each round, and difficulties and a
-/// number of bits of an index of at most 63.
+/// Asks claims of the described numbers of values, a commitment for each round, and difficulties
+/// and a number of bits of an index of at most 63.
 pub fn prover_run<F: Field, EF: ExtensionField<F>, C, Com>(
     alloc: Global,
     challenger: &mut C,
@@ -301,7 +314,8 @@ where
     requires claims { widths_of (claims_of claims.now) ≡ claimed_widths (shape_of shape) }
     requires rounds { length messages.now.commitments.now ≡ shape.num_commit_rounds }
     requires small { ArePlayable (numbers_of (shape_of shape)) }
-    ensures count { IfOk result (λ r. length r.1.rounds.items ≡ length messages.now.commitments.now) }
+    ensures count { IfOk result (λ r.
+        length r.1.rounds.items ≡ length messages.now.commitments.now) }
     ensures draws { let m = ⟦<C as RunChallenger<F, EF, Com>>⟧.run in IfOk result (λ r.
         Draws m shape (taken_of claims.now messages.now r.1) challenger.old r.0 challenger.new) }
     ensures below { IfOk result (λ r. All (λ i. i < 2 ^ shape.index_bits) r.0.indices.items) }
@@ -325,8 +339,8 @@ where
     }
 }
 
-/// Both sides of a run from equal states, the verifier's with the prover's witnesses: they draw equal
-/// challenges and leave equal states, and no witness of the prover's fails to pass.
+/// Both sides of a run from equal states, the verifier's with the prover's witnesses: they draw
+/// equal challenges and leave equal states, and no witness of the prover's fails to pass.
 ///
 /// Asks what `prover_run` asks, and that the challengers' states are equal.
 pub fn both_runs<F: Field, EF: ExtensionField<F>, C, Com>(
@@ -343,12 +357,15 @@ where
     requires claims { widths_of (claims_of claims.now) ≡ claimed_widths (shape_of shape) }
     requires rounds { length messages.now.commitments.now ≡ shape.num_commit_rounds }
     requires small { ArePlayable (numbers_of (shape_of shape)) }
-    ensures draws { let m = ⟦<C as RunChallenger<F, EF, Com>>⟧.run in IfOk result (λ r. (w : CircleWitnesses F)
+    ensures draws { let m = ⟦<C as RunChallenger<F, EF, Com>>⟧.run in IfOk result
+        (λ r. (w : CircleWitnesses F)
         × Draws m shape (taken_of claims.now messages.now w) prover.old r.0 prover.new) }
-    ensures redraws { let m = ⟦<C as RunChallenger<F, EF, Com>>⟧.run in IfOk result (λ r. (w : CircleWitnesses F)
+    ensures redraws { let m = ⟦<C as RunChallenger<F, EF, Com>>⟧.run in IfOk result
+        (λ r. (w : CircleWitnesses F)
         × Draws m shape (taken_of claims.now messages.now w) verifier.old r.1 verifier.new) }
     ensures alike { IfOk result (λ r.
-        drawn_of EF.coefficients r.1 (C.state verifier.new) ≡ drawn_of EF.coefficients r.0 (C.state prover.new)) }
+        drawn_of EF.coefficients r.1 (C.state verifier.new) ≡ drawn_of EF.coefficients r.0
+        (C.state prover.new)) }
     ensures failure { let m = ⟦<C as RunChallenger<F, EF, Com>>⟧.run in IfErr result (λ e.
         (e ≡ Memory) ⊎ FindsNone m shape claims.now messages.now prover.old e) }
 {

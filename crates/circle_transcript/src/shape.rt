@@ -6,7 +6,7 @@ ghost use Rattle.circle_challenger.specs.Played.{element_challenge};
 ghost use Rattle.circle_challenger.specs.declared.interaction.Hierarchy.TheVariants.{Atomic};
 ghost use Rattle.circle_challenger.specs.declared.interaction.ValueType.TheVariants.{Algebra};
 ghost use Rattle.circle_transcript.specs.Shape.{Shape, claim_steps, batch_steps, first_layer_steps, round_steps, rounds_steps, query_steps, steps_of, pow_steps, batch_layout, layout, separator_of, text_of, IsSameRun};
-ghost use Rattle.circle_transcript.specs.ShapeOf.{matrices_of, batches_of};
+ghost use Rattle.circle_transcript.specs.ShapeOf.{Appends, matrices_of, batches_of};
 
 use circle_challenger::{
     DomainSeparator, Hierarchy, Interaction, InteractionPattern, Kind, Length,
@@ -65,8 +65,8 @@ const POINT_COORDINATES: usize = 2;
 /// Both sides make it of their own parameters and of the claims, never of a proof.
 #[derive(PartialEq, Eq, Debug, Drop)]
 pub struct CirclePcsShape {
-    /// The number of columns of every claim, by batch, matrix and point. A matrix that is opened at no
-    /// point has an empty list.
+    /// The number of columns of every claim, by batch, matrix and point. A matrix that is opened at
+    /// no point has an empty list.
     pub opened_widths: Vec<Vec<Vec<usize>>>,
     /// The number of rounds that fold the word after the first layer.
     pub num_commit_rounds: usize,
@@ -88,12 +88,11 @@ impl CirclePcsShape {
     ghost use Rattle.circle_transcript.specs.ShapeOf.{shape_of};
 
     /// The shape of a run with these parameters, over claims of these numbers of columns, where
-    /// `log_max_height` is the logarithm of the greatest committed height and the folding strategy asks
-    /// for so many further bits of an index.
+    /// `log_max_height` is the logarithm of the greatest committed height and the folding strategy
+    /// asks for so many further bits of an index.
     ///
-    /// Folding halves the word, and the first layer takes one bit, so there are
-    /// `log_max_height - 1 - log_blowup` rounds and `log_max_height - 1 + extra_query_index_bits` bits
-    /// of an index.
+    /// Folding halves the word, and the first layer takes one bit, so there are `log_max_height - 1
+    /// - log_blowup` rounds and `log_max_height - 1 + extra_query_index_bits` bits of an index.
     ///
     /// Asks `log_max_height > log_blowup`, and that the number of bits is below `2^64`.
     pub fn new<M>(
@@ -171,8 +170,8 @@ impl CirclePcsShape {
         Ok(InteractionPattern::new(steps))
     }
 
-    /// What the run is seeded with: the protocol, the steps, and two labels, the logarithm of the blowup
-    /// and how the claims are grouped.
+    /// What the run is seeded with: the protocol, the steps, and two labels, the logarithm of the
+    /// blowup and how the claims are grouped.
     #[tactic(auto, unfolding(circle_challenger::specs::Step::be64))]
     pub fn domain_separator<F: Field, EF: ExtensionField<F>>(
         &self,
@@ -187,24 +186,26 @@ impl CirclePcsShape {
             .instance(alloc, &self.opening_layout(alloc)?)
     }
 
-    /// Whether another shape has the same seed text, for challenges in this extension. Shapes of one seed
-    /// text agree in all but the difficulty of rounds that there aren't. Fails where memory is refused.
+    /// Whether another shape has the same seed text, for challenges in this extension. Shapes of
+    /// one seed text agree in all but the difficulty of rounds that there aren't. Fails where
+    /// memory is refused.
     pub fn has_seed_of<F: Field, EF: ExtensionField<F>>(
         &self,
         alloc: Global,
         other: &CirclePcsShape,
     ) -> Result<bool, AllocError>
-        ensures same { IfOk result (λ same. IsTrue same ↔ (text_of EF.DEGREE (shape_of self.now) ≡ text_of EF.DEGREE (shape_of other.now))) }
-        ensures told { IfOk result (λ same. text_of EF.DEGREE (shape_of self.now) ≡ text_of EF.DEGREE (shape_of other.now)
-            → IsSameRun (shape_of self.now) (shape_of other.now)) }
+        ensures same { IfOk result (λ same. IsTrue same ↔ (text_of EF.DEGREE (shape_of self.now)
+            ≡ text_of EF.DEGREE (shape_of other.now))) }
+        ensures told { IfOk result (λ same. text_of EF.DEGREE (shape_of self.now) ≡
+            text_of EF.DEGREE (shape_of other.now) → IsSameRun (shape_of self.now) (shape_of other.now)) }
     {
         let own = self.domain_separator::<F, EF>(alloc)?;
         let others = other.domain_separator::<F, EF>(alloc)?;
         Ok(own.text() == others.text())
     }
 
-    /// How the claims are grouped: the number of batches, for each its number of matrices, and for each
-    /// of these its number of points, in eight bytes each, the greatest first.
+    /// How the claims are grouped: the number of batches, for each its number of matrices, and for
+    /// each of these its number of points, in eight bytes each, the greatest first.
     #[tactic(auto, unfolding(crate::specs::Shape::layout))]
     fn opening_layout(&self, alloc: Global) -> Result<Vec<u8>, AllocError>
         ensures { IfOk result (λ v. v.items ≡ layout (shape_of self.now).opened_widths) }
@@ -229,7 +230,7 @@ fn push_pow(
     label: &'static str,
     bits: usize,
 ) -> Result<(), AllocError>
-    ensures { OnOk result (map step_of steps.new.items ≡ map step_of steps.old.items ++ pow_steps label.now bits) }
+    ensures { OnOk result (Appends steps.old.items steps.new.items (pow_steps label.now bits)) }
 {
     if bits == 0 {
         return Ok(());
@@ -241,7 +242,7 @@ fn push_pow(
 /// Appends the steps of a claim.
 #[tactic(auto, unfolding(crate::specs::Shape::claim_steps))]
 fn push_claim(steps: &mut Vec<Interaction>, degree: usize, width: usize) -> Result<(), AllocError>
-    ensures { OnOk result (map step_of steps.new.items ≡ map step_of steps.old.items ++ claim_steps degree width) }
+    ensures { OnOk result (Appends steps.old.items steps.new.items (claim_steps degree width)) }
 {
     steps.push(algebra(
         Kind::Message,
@@ -259,7 +260,8 @@ fn push_claims(
     degree: usize,
     widths: &[usize],
 ) -> Result<(), AllocError>
-    ensures { OnOk result (map step_of steps.new.items ≡ map step_of steps.old.items ++ flat_map (claim_steps degree) widths.now) }
+    ensures { OnOk result (Appends steps.old.items steps.new.items
+        (flat_map (claim_steps degree) widths.now)) }
 {
     for width in widths {
         push_claim(steps, degree, *width)?;
@@ -273,7 +275,8 @@ fn push_matrices(
     degree: usize,
     matrices: &[Vec<usize>],
 ) -> Result<(), AllocError>
-    ensures { OnOk result (map step_of steps.new.items ≡ map step_of steps.old.items ++ flat_map (claim_steps degree) (flat_map (λ m. m) (matrices_of matrices.now))) }
+    ensures { OnOk result (Appends steps.old.items steps.new.items
+        (flat_map (claim_steps degree) (flat_map (λ m. m) (matrices_of matrices.now)))) }
 {
     for matrix in matrices {
         push_claims(steps, degree, matrix)?;
@@ -287,7 +290,8 @@ fn push_batches(
     degree: usize,
     batches: &[Vec<Vec<usize>>],
 ) -> Result<(), AllocError>
-    ensures { OnOk result (map step_of steps.new.items ≡ map step_of steps.old.items ++ flat_map (claim_steps degree) (flat_map (λ m. m) (flat_map (λ b. b) (batches_of batches.now)))) }
+    ensures { OnOk result (Appends steps.old.items steps.new.items
+        (flat_map (claim_steps degree) (flat_map (λ m. m) (flat_map (λ b. b) (batches_of batches.now))))) }
 {
     for batch in batches {
         push_matrices(steps, degree, batch)?;
@@ -301,7 +305,8 @@ fn push_batch_challenge(
     degree: usize,
     bits: usize,
 ) -> Result<(), AllocError>
-    ensures { OnOk result (map step_of steps.new.items ≡ map step_of steps.old.items ++ (pow_steps (codes "batch_pow") bits ++ element_challenge degree (codes "batch_challenge") ∷ [])) }
+    ensures { OnOk result (Appends steps.old.items steps.new.items
+        (pow_steps (codes "batch_pow") bits ++ element_challenge degree (codes "batch_challenge") ∷ [])) }
 {
     push_pow(steps, BATCH_POW, bits)?;
     steps.push(algebra(Kind::Challenge, BATCH_CHALLENGE, degree, Length::Scalar))?;
@@ -311,7 +316,7 @@ fn push_batch_challenge(
 /// Appends the steps of the first layer.
 #[tactic(auto, unfolding(crate::specs::Shape::first_layer_steps))]
 fn push_first_layer(steps: &mut Vec<Interaction>, degree: usize) -> Result<(), AllocError>
-    ensures { OnOk result (map step_of steps.new.items ≡ map step_of steps.old.items ++ first_layer_steps degree) }
+    ensures { OnOk result (Appends steps.old.items steps.new.items (first_layer_steps degree)) }
 {
     steps.push(Interaction::opaque(
         Hierarchy::Atomic,
@@ -325,7 +330,7 @@ fn push_first_layer(steps: &mut Vec<Interaction>, degree: usize) -> Result<(), A
 
 /// Appends the steps of a round.
 fn push_round(steps: &mut Vec<Interaction>, degree: usize, bits: usize) -> Result<(), AllocError>
-    ensures { OnOk result (map step_of steps.new.items ≡ map step_of steps.old.items ++ round_steps degree bits) }
+    ensures { OnOk result (Appends steps.old.items steps.new.items (round_steps degree bits)) }
 {
     steps.push(Interaction::opaque(Hierarchy::Atomic, Kind::Message, COMMITMENT, Length::Scalar))?;
     push_pow(steps, COMMIT_POW, bits)?;
@@ -340,7 +345,8 @@ fn push_rounds(
     bits: usize,
     rounds: usize,
 ) -> Result<(), AllocError>
-    ensures { OnOk result (map step_of steps.new.items ≡ map step_of steps.old.items ++ rounds_steps degree bits rounds) }
+    ensures { OnOk result (Appends steps.old.items steps.new.items
+        (rounds_steps degree bits rounds)) }
 {
     for _round in 0..rounds {
         push_round(steps, degree, bits)?;
@@ -356,7 +362,8 @@ fn push_query(
     width: usize,
     count: usize,
 ) -> Result<(), AllocError>
-    ensures { OnOk result (map step_of steps.new.items ≡ map step_of steps.old.items ++ query_steps degree bits width count) }
+    ensures { OnOk result (Appends steps.old.items steps.new.items
+        (query_steps degree bits width count)) }
 {
     steps.push(algebra(Kind::Message, FINAL_POLY, degree, Length::Scalar))?;
     push_pow(steps, QUERY_POW, bits)?;
@@ -389,7 +396,8 @@ fn put_number(text: &mut Vec<u8>, number: usize) -> Result<(), AllocError>
 
 /// Appends the numbers of points of matrices.
 fn put_matrices(text: &mut Vec<u8>, matrices: &[Vec<usize>]) -> Result<(), AllocError>
-    ensures { OnOk result (text.new.items ≡ text.old.items ++ flat_map (λ m. be64 (length m)) (matrices_of matrices.now)) }
+    ensures { OnOk result (text.new.items ≡ text.old.items ++ flat_map (λ m. be64 (length m))
+        (matrices_of matrices.now)) }
 {
     for matrix in matrices {
         put_number(text, matrix.len())?;
@@ -400,7 +408,8 @@ fn put_matrices(text: &mut Vec<u8>, matrices: &[Vec<usize>]) -> Result<(), Alloc
 /// Appends how the claims of a batch are grouped.
 #[tactic(auto, unfolding(crate::specs::Shape::batch_layout))]
 fn put_batch(text: &mut Vec<u8>, batch: &[Vec<usize>]) -> Result<(), AllocError>
-    ensures { OnOk result (text.new.items ≡ text.old.items ++ batch_layout (matrices_of batch.now)) }
+    ensures { OnOk result (text.new.items ≡ text.old.items ++ batch_layout
+        (matrices_of batch.now)) }
 {
     put_number(text, batch.len())?;
     put_matrices(text, batch)
@@ -408,7 +417,8 @@ fn put_batch(text: &mut Vec<u8>, batch: &[Vec<usize>]) -> Result<(), AllocError>
 
 /// Appends how the claims of each batch are grouped.
 fn put_batches(text: &mut Vec<u8>, batches: &[Vec<Vec<usize>>]) -> Result<(), AllocError>
-    ensures { OnOk result (text.new.items ≡ text.old.items ++ flat_map batch_layout (batches_of batches.now)) }
+    ensures { OnOk result (text.new.items ≡ text.old.items ++ flat_map batch_layout
+        (batches_of batches.now)) }
 {
     for batch in batches {
         put_batch(text, batch)?;

@@ -62,7 +62,8 @@ fn params(log_blowup: usize, bits: Difficulties) -> FriParameters<()>
 
 /// One batch of one matrix, opened at points with these numbers of columns.
 fn one_matrix(alloc: Global, widths: Vec<usize>) -> Result<Vec<Vec<Vec<usize>>>, AllocError>
-    ensures { IfOk result (λ v. flat_map (λ m. m) (flat_map (λ b. b) (batches_of v.items)) ≡ widths.items) }
+    ensures { IfOk result (λ v. flat_map (λ m. m) (flat_map (λ b. b) (batches_of v.items))
+        ≡ widths.items) }
 {
     let matrices = vec![in alloc; widths]?;
     Ok(vec![in alloc; matrices]?)

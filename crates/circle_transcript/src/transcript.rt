@@ -47,8 +47,8 @@ struct Seeded {
     shape: Numbers,
 }
 
-/// The transcript of one run: the challenger that it borrows, what its calls read of the shape that the
-/// run was described by, and for contracts alone the steps that are still due.
+/// The transcript of one run: the challenger that it borrows, what its calls read of the shape that
+/// the run was described by, and for contracts alone the steps that are still due.
 ///
 /// `S` is the side that plays it. It has no `Drop`: it is spent by `finish` or `abort`.
 pub struct CircleTranscript<'a, C, F, EF, S> {
@@ -78,7 +78,8 @@ impl<
         challenger: &'a mut C,
         shape: CirclePcsShape,
     ) -> Result<Self, AllocError>
-        ensures* refused { sem 𝓛 (RestsIfErr C.row challenger.entry (λ t. t.challenger.ghost_name) result
+        ensures* refused { sem 𝓛 (RestsIfErr C.row challenger.entry
+            (λ t. t.challenger.ghost_name) result
             (λ n. n ≡ challenger.old)) }
         ensures same_reference { IfOk result (λ t. Borrows t challenger.entry) }
         ensures shape { IfOk result (λ t. t.shape ≡ numbers_of (shape_of shape)) }
@@ -108,8 +109,8 @@ impl<
         }
     }
 
-    /// Seeds a challenger with the text of a run of this shape, and answers what the run begins with.
-    /// Where memory is refused the challenger is left as it was.
+    /// Seeds a challenger with the text of a run of this shape, and answers what the run begins
+    /// with. Where memory is refused the challenger is left as it was.
     fn seeded(
         alloc: Global,
         challenger: &mut C,
@@ -187,12 +188,12 @@ impl<'a, F: Field, EF: ExtensionField<F>, C: CanSample<F> + GrindingChallenger<F
     EF,
     ProverSide,
 > {
-    /// Takes in the claims, by batch, matrix and point, looks for a witness where the proof of work has a
-    /// difficulty, and draws the challenge that batches the claims. Fails with `NoWitness` exactly where
-    /// no witness passes, and then only `abort` may follow.
+    /// Takes in the claims, by batch, matrix and point, looks for a witness where the proof of work
+    /// has a difficulty, and draws the challenge that batches the claims. Fails with `NoWitness`
+    /// exactly where no witness passes, and then only `abort` may follow.
     ///
-    /// Asks that these are the next steps, so that the claims have the described numbers of values, and
-    /// that the difficulty is at most 63.
+    /// Asks that these are the next steps, so that the claims have the described numbers of values,
+    /// and that the difficulty is at most 63.
     pub fn batch_phase(
         &mut self,
         claims: &[OpeningClaim<EF>],
@@ -229,9 +230,9 @@ impl<'a, F: Field, EF: ExtensionField<F>, C: CanSample<F> + GrindingChallenger<F
         drawn
     }
 
-    /// Takes in a round's commitment, looks for a witness where the proof of work has a difficulty, and
-    /// draws the folding challenge. Fails with `NoWitness` exactly where no witness passes, and then only
-    /// `abort` may follow.
+    /// Takes in a round's commitment, looks for a witness where the proof of work has a difficulty,
+    /// and draws the folding challenge. Fails with `NoWitness` exactly where no witness passes, and
+    /// then only `abort` may follow.
     ///
     /// Asks that these are the next steps, and that the difficulty is at most 63.
     pub fn commit_round<Com>(
@@ -251,8 +252,8 @@ impl<'a, F: Field, EF: ExtensionField<F>, C: CanSample<F> + GrindingChallenger<F
             IsTrue (commit_passes m self.old commitment.now (or_zero m.base r.1))) }
         ensures challenge { let m = ⟦<C as RunChallenger<F, EF, Com>>⟧.run in IfOk result (λ r.
             EF.coefficients r.0 ≡ commit_challenge m self.old commitment.now (or_zero m.base r.1)) }
-        ensures state { let m = ⟦<C as RunChallenger<F, EF, Com>>⟧.run in IfOk result (λ r.
-            C.state (current self.new) ≡ after_commit m self.old commitment.now (or_zero m.base r.1)) }
+        ensures state { let m = ⟦<C as RunChallenger<F, EF, Com>>⟧.run in IfOk result (λ r. C.state
+            (current self.new) ≡ after_commit m self.old commitment.now (or_zero m.base r.1)) }
         ensures failure { let bits = self.old.shape.commit_pow_bits in
             IfErr result (λ e. e ≡ NoWitness CommitPhase bits) }
         ensures none { let m = ⟦<C as RunChallenger<F, EF, Com>>⟧.run in OnErr result
@@ -273,12 +274,12 @@ impl<'a, F: Field, EF: ExtensionField<F>, C: CanSample<F> + GrindingChallenger<F
         drawn
     }
 
-    /// Takes in the last word's value, looks for a witness where the proof of work has a difficulty, and
-    /// draws the query indices. Fails with `NoWitness` exactly where no witness passes, and with `Memory`
-    /// where memory is refused; then only `abort` may follow.
+    /// Takes in the last word's value, looks for a witness where the proof of work has a
+    /// difficulty, and draws the query indices. Fails with `NoWitness` exactly where no witness
+    /// passes, and with `Memory` where memory is refused; then only `abort` may follow.
     ///
-    /// Asks that these are the next steps, and that the difficulty and the number of bits of an index are
-    /// at most 63.
+    /// Asks that these are the next steps, and that the difficulty and the number of bits of an
+    /// index are at most 63.
     pub fn query_phase(
         &mut self,
         alloc: Global,
@@ -328,12 +329,12 @@ impl<'a, F: Field, EF: ExtensionField<F>, C: CanSample<F> + GrindingChallenger<F
     EF,
     VerifierSide,
 > {
-    /// Takes in the claims, by batch, matrix and point, checks the witness where the proof of work has a
-    /// difficulty, and draws the challenge that batches the claims. Fails with `PowWitness` exactly where
-    /// the witness doesn't pass, and then only `abort` may follow.
+    /// Takes in the claims, by batch, matrix and point, checks the witness where the proof of work
+    /// has a difficulty, and draws the challenge that batches the claims. Fails with `PowWitness`
+    /// exactly where the witness doesn't pass, and then only `abort` may follow.
     ///
-    /// Asks that these are the next steps, so that the claims have the described numbers of values, and
-    /// that the difficulty is at most 63.
+    /// Asks that these are the next steps, so that the claims have the described numbers of values,
+    /// and that the difficulty is at most 63.
     pub fn batch_phase(
         &mut self,
         claims: &[OpeningClaim<EF>],
@@ -369,9 +370,9 @@ impl<'a, F: Field, EF: ExtensionField<F>, C: CanSample<F> + GrindingChallenger<F
         drawn
     }
 
-    /// Takes in a round's commitment, checks the witness where the proof of work has a difficulty, and
-    /// draws the folding challenge. Fails with `PowWitness` exactly where the witness doesn't pass, and
-    /// then only `abort` may follow.
+    /// Takes in a round's commitment, checks the witness where the proof of work has a difficulty,
+    /// and draws the folding challenge. Fails with `PowWitness` exactly where the witness doesn't
+    /// pass, and then only `abort` may follow.
     ///
     /// Asks that these are the next steps, and that the difficulty is at most 63.
     pub fn commit_round<Com>(
@@ -412,12 +413,12 @@ impl<'a, F: Field, EF: ExtensionField<F>, C: CanSample<F> + GrindingChallenger<F
         drawn
     }
 
-    /// Takes in the last word's value, checks the witness where the proof of work has a difficulty, and
-    /// draws the query indices. Fails with `PowWitness` exactly where the witness doesn't pass, and with
-    /// `Memory` where memory is refused; then only `abort` may follow.
+    /// Takes in the last word's value, checks the witness where the proof of work has a difficulty,
+    /// and draws the query indices. Fails with `PowWitness` exactly where the witness doesn't pass,
+    /// and with `Memory` where memory is refused; then only `abort` may follow.
     ///
-    /// Asks that these are the next steps, and that the difficulty and the number of bits of an index are
-    /// at most 63.
+    /// Asks that these are the next steps, and that the difficulty and the number of bits of an
+    /// index are at most 63.
     pub fn query_phase(
         &mut self,
         alloc: Global,

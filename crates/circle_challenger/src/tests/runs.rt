@@ -33,7 +33,9 @@ pub struct Drawn {
 
 /// The separator of a run with a proof of work of 8 bits.
 pub fn separator(alloc: Global) -> Result<DomainSeparator, AllocError>
-    ensures { IfOk result (λ s. s.steps ≡ elements_message 3 POINT.now 2 ∷ elements_message 3 VALUES.now 1 ∷ pow_step POW.now 8 ∷ element_challenge 3 ALPHA.now ∷ opaque_message COMMITMENT.now ∷ element_message 3 FINAL.now ∷ numbers_challenge INDICES.now 3 2 ∷ []) }
+    ensures { IfOk result (λ s. s.steps ≡ elements_message 3 POINT.now 2 ∷ elements_message 3
+        VALUES.now 1 ∷ pow_step POW.now 8 ∷ element_challenge 3 ALPHA.now ∷ opaque_message
+        COMMITMENT.now ∷ element_message 3 FINAL.now ∷ numbers_challenge INDICES.now 3 2 ∷ []) }
 {
     let steps = vec![in alloc;
         Interaction::algebra(Hierarchy::Atomic, Kind::Message, POINT, 3, Length::Fixed(2)),

@@ -6,8 +6,8 @@ ghost use Rattle.std.proofs.Math.Pow.{ones_lt};
 use crate::{CanObserve, CanSample, CanSampleBits, ChallengerState, GrindingChallenger};
 use circle_field::{Field, Mersenne31};
 
-/// A challenger with one state, so that its answers never change: its elements are 0 and its numbers
-/// are the greatest. It counts what it takes in, which its state doesn't show.
+/// A challenger with one state, so that its answers never change: its elements are 0 and its
+/// numbers are the greatest. It counts what it takes in, which its state doesn't show.
 #[derive(Debug, Drop)]
 pub struct Stubborn {
     pub taken: u64,

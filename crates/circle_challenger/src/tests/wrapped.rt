@@ -22,7 +22,8 @@ impl<'a, F: Field, C: CanSample<F> + GrindingChallenger<F>> Counted<'a, C, F> {
     pub fn new(challenger: &'a mut C, separator: &DomainSeparator) -> Self
         ensures same_reference { result.challenger.ghost_name ≡ challenger.entry.ghost_name }
         ensures due { result.due.steps ≡ separator.now.steps }
-        ensures state { C.state result.challenger.now ≡ after_all C.after_observe (C.state challenger.old) (map (of_nat F.ops) (seed_text separator.now)) }
+        ensures state { C.state result.challenger.now ≡ after_all C.after_observe
+            (C.state challenger.old) (map (of_nat F.ops) (seed_text separator.now)) }
     {
         let due = ProverState::<C, F>::new(challenger, separator).pause();
         Counted {
@@ -37,8 +38,10 @@ impl<'a, F: Field, C: CanSample<F> + GrindingChallenger<F>> Counted<'a, C, F> {
         requires { slice_get self.old.due.steps 0 ≡ Some (element_challenge EF.DEGREE label.now) }
         ensures same_reference { self.new.challenger.ghost_name ≡ self.old.challenger.ghost_name }
         ensures due { self.new.due.steps ≡ drop 1 self.old.due.steps }
-        ensures value { EF.coefficients result ≡ samples C.sampled C.after_sample EF.DEGREE (C.state self.old.challenger.now) }
-        ensures state { C.state self.new.challenger.now ≡ after_samples C.after_sample EF.DEGREE (C.state self.old.challenger.now) }
+        ensures value { EF.coefficients result ≡ samples C.sampled C.after_sample EF.DEGREE
+            (C.state self.old.challenger.now) }
+        ensures state { C.state self.new.challenger.now ≡ after_samples C.after_sample EF.DEGREE
+            (C.state self.old.challenger.now) }
     {
         let mut transcript = ProverState::<C, F>::resume(self.challenger, self.due.take());
         let value = transcript.challenge_extension(label);
@@ -69,7 +72,9 @@ pub fn one_draw<EF: ExtensionField<F>, F: Field, C: CanSample<F> + GrindingChall
     label: &str,
 ) -> (EF, u64)
     requires { separator.now.steps ≡ element_challenge EF.DEGREE label.now ∷ [] }
-    ensures { C.state challenger.new ≡ after_samples C.after_sample EF.DEGREE (after_all C.after_observe (C.state challenger.old) (map (of_nat F.ops) (seed_text separator.now))) }
+    ensures { C.state challenger.new ≡ after_samples C.after_sample EF.DEGREE
+        (after_all C.after_observe (C.state challenger.old)
+        (map (of_nat F.ops) (seed_text separator.now))) }
 {
     let mut counted = Counted::<C, F>::new(challenger, separator);
     let value = counted.draw::<EF>(label);

@@ -13,8 +13,8 @@ use circle_point::Point;
 use std::alloc::Global;
 use std::test::Fail;
 
-/// The challenge that batches the claim of one value at the point of this coordinate of the projective
-/// line.
+/// The challenge that batches the claim of one value at the point of this coordinate of the
+/// projective line.
 fn batching_challenge(alloc: Global, t: u64, value: u64) -> Result<Cubic, Fail> {
     let point = Point::from_projective_line(cubic(t, 0, 0)).ok_or("no point")?;
     let shape = shape(alloc, 0, NONE)?;
@@ -91,8 +91,8 @@ fn a_run_with_proofs_of_work_draws_these(rt: HostRuntime) -> Result<(), Fail> {
     Ok(())
 }
 
-/// The verifier's side of a run without rounds whose batching challenge has a difficulty of 2 bits, with
-/// this witness.
+/// The verifier's side of a run without rounds whose batching challenge has a difficulty of 2 bits,
+/// with this witness.
 fn checked(alloc: Global, witness: u64) -> Result<(), CircleTranscriptFailure> {
     let bits = Difficulties { batch: 2, ..NONE };
     let witnesses = CircleWitnesses {

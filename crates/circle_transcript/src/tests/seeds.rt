@@ -1,5 +1,5 @@
-//! Each number of a shape reaches the seed. The first elements that challengers draw after the seed were
-//! computed apart from this code.
+//! Each number of a shape reaches the seed. The first elements that challengers draw after the seed
+//! were computed apart from this code.
 
 use crate::CirclePcsShape;
 use crate::tests::{element, one_matrix};
@@ -35,8 +35,8 @@ fn first_drawn(alloc: Global, shape: &CirclePcsShape) -> Result<Mersenne31, Allo
     Ok(challenger.sample())
 }
 
-/// Whether a shape has another seed than the one over one claim of four columns, and this element is
-/// drawn first after it.
+/// Whether a shape has another seed than the one over one claim of four columns, and this element
+/// is drawn first after it.
 fn is_apart(alloc: Global, shape: &CirclePcsShape, first: u64) -> Result<bool, AllocError> {
     let plain = over_one(alloc, 4)?;
     if plain.has_seed_of::<Mersenne31, Cubic>(alloc, shape)? {

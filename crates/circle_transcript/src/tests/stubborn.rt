@@ -8,8 +8,8 @@ use circle_challenger::{
 };
 use circle_field::{Field, Mersenne31};
 
-/// A challenger with one state, so that its answers never change: its elements are 0 and its numbers
-/// are the greatest.
+/// A challenger with one state, so that its answers never change: its elements are 0 and its
+/// numbers are the greatest.
 #[derive(Debug, Drop)]
 pub struct Stubborn {
     pub taken: u64,
