@@ -19,7 +19,7 @@ fn numbers(point: Circle) -> (u32, u32) {
 // The point with these coordinates, which must be on the circle.
 fn point(rt: &impl Abort, x: u64, y: u64) -> Circle {
     let (x, y) = (element(x), element(y));
-    assert!(rt; x * x + y * y == Mersenne31::ONE);
+    assert!(rt; Circle::is_on_circle(x, y));
     Point::new(x, y)
 }
 
@@ -48,6 +48,14 @@ fn arithmetic(rt: HostRuntime) {
     assert_eq!(rt; sum, one.double());
     assert_eq!(rt; hash_of(sum), hash_of(one.double()));
     assert_eq!(rt; one.repeated_double(2), one * 4);
+}
+
+#[test]
+fn coordinates_on_the_circle(rt: HostRuntime) {
+    assert!(rt; Circle::is_on_circle(element(0), element(2147483646)));
+    assert!(rt; Circle::is_on_circle(element(1717986917), element(1288490189)));
+    assert!(rt; !Circle::is_on_circle(element(1), element(1)));
+    assert!(rt; !Circle::is_on_circle(element(0), element(0)));
 }
 
 #[test]

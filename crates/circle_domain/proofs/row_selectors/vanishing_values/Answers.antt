@@ -1,4 +1,5 @@
-use Rattle.std.proofs.Common.{◌∙◌, ap}
+use Rattle.std.proofs.Common.{◌∙◌, ap, arith, map}
+use Rattle.std.proofs.lemmas.List.{take_all}
 use Rattle.circle_field.specs.Field.{sub}
 use Rattle.circle_point.specs.Point.{coordinates}
 use Rattle.circle_point.specs.Basis.{vanishing}
@@ -18,3 +19,11 @@ loop-point-preserved g c =
     ∙ ap (λ a. sub k a c.v_n-at_shift.result) (c.v_n.ensures.polynomial ∙ ap (λ m. vanishing k m p) c.log_n-log_n.ensures)
     ∙ ap (sub k (vanishing k n p)) (c.v_n-at_shift.ensures.polynomial ∙ ap (λ m. vanishing k m (coordinates c.shift.result)) c.log_n-log_n.ensures
     ∙ ap (vanishing k n) c.shift.ensures))
+
+pub loop-point-init : goal.loop-point-init
+loop-point-init g c = c.in_ok-values.ensures.items
+
+pub returns : goal.returns
+returns g c =
+    c.loop-point.invariant
+    ∙ ap (map (λ p. vanishing_on g.F.Operations.ops (log_size c.args.domain) (shift_of c.args.domain) (coordinates p))) (take_all c.loop-point.point-index c.args.points.now (omega (arith, c.loop-point-test.false)))
