@@ -1,7 +1,7 @@
--- The status that tells a failure, and what failures of the input are.
+-- The status that tells a failure, and what a text that can't be read is.
 use Rattle.std.specs.Prelude.{◌≡◌, ℕ}
-use Rattle.std.specs.declared.io.kind.ErrorKind.{ErrorKind}
-use Rattle.std.specs.declared.io.kind.ErrorKind.TheVariants.{OutOfMemory}
+use Rattle.std.specs.declared.io.ErrorKind.{ErrorKind}
+use Rattle.std.specs.declared.io.ErrorKind.TheVariants.{OutOfMemory}
 use Rattle.serde_json.specs.Errors.{IsMemory}
 use Rattle.serde_json.specs.declared.error.Error.{Error}
 use Rattle.circle_tool.specs.declared.failure.Failure.{Failure}

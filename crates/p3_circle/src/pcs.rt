@@ -41,19 +41,19 @@ impl<Val: Field, InputMmcs, FriMmcs> CirclePcs<Val, InputMmcs, FriMmcs> {
 #[error_bound(InputMmcsError: Debug, FriMmcsError: Debug)]
 pub enum InputError<InputMmcsError, FriMmcsError> {
     /// The rows of a batch are not those of its commitment.
-    #[error("the rows of a batch are refused: {0:?}")]
+    #[error("input MMCS error: {0:?}")]
     InputMmcsError(InputMmcsError),
     /// The pairs of the first layer are not those of its commitment.
-    #[error("the pairs of the first layer are refused: {0:?}")]
+    #[error("first layer MMCS error: {0:?}")]
     FirstLayerMmcsError(FriMmcsError),
     /// The lists of a proof don't have the lengths that the claims and the queries fix.
-    #[error("the openings do not have the shapes of what is claimed")]
+    #[error("input shape error: mismatched dimensions")]
     InputShapeError,
     /// A claimed point is one of the queried points, where the claim has no quotient.
-    #[error("a claimed point is a queried one")]
+    #[error("opening point coincides with a query point")]
     OpeningPointMatchesQueryPoint,
     /// A matrix is claimed at no point, so that its width is not known.
-    #[error("matrix {matrix} of batch {batch} is claimed at no point")]
+    #[error("batch {batch}, matrix {matrix}: opened at no points; its width cannot be authenticated")]
     MatrixWithoutOpeningPoints {
         /// The batch, from 0.
         batch: usize,
@@ -61,7 +61,7 @@ pub enum InputError<InputMmcsError, FriMmcsError> {
         matrix: usize,
     },
     /// A claimed domain leaves no room for the fold of the first layer.
-    #[error("a claimed domain of 2^{log_n} points is too small")]
+    #[error("tallest claimed domain is 2^{log_n} rows; the first-layer fold needs at least 2")]
     DomainTooSmall {
         /// The binary logarithm of the domain's number of points.
         log_n: usize,

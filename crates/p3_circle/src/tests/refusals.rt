@@ -19,32 +19,32 @@ fn assert_shown<E: Error>(rt: &impl Abort, error: E, expected: &str) {
 #[test]
 fn refusals_of_schemes(rt: HostRuntime) {
     let rows = Refusal::InputMmcsError(JsonError::BadHex);
-    assert_shown(&rt, rows, "the rows of a batch are refused: BadHex");
+    assert_shown(&rt, rows, "input MMCS error: BadHex");
     let pairs = Refusal::FirstLayerMmcsError(AllocError);
-    assert_shown(
-        &rt,
-        pairs,
-        "the pairs of the first layer are refused: AllocError",
-    );
+    assert_shown(&rt, pairs, "first layer MMCS error: AllocError");
 }
 
 #[test]
 fn refusals_of_claims(rt: HostRuntime) {
     let shape = Refusal::InputShapeError;
-    assert_shown(
-        &rt,
-        shape,
-        "the openings do not have the shapes of what is claimed",
-    );
+    assert_shown(&rt, shape, "input shape error: mismatched dimensions");
     let same = Refusal::OpeningPointMatchesQueryPoint;
-    assert_shown(&rt, same, "a claimed point is a queried one");
+    assert_shown(&rt, same, "opening point coincides with a query point");
     let none = Refusal::MatrixWithoutOpeningPoints {
         batch: 0,
         matrix: 1,
     };
-    assert_shown(&rt, none, "matrix 1 of batch 0 is claimed at no point");
+    assert_shown(
+        &rt,
+        none,
+        "batch 0, matrix 1: opened at no points; its width cannot be authenticated",
+    );
     let small = Refusal::DomainTooSmall { log_n: 0 };
-    assert_shown(&rt, small, "a claimed domain of 2^0 points is too small");
+    assert_shown(
+        &rt,
+        small,
+        "tallest claimed domain is 2^0 rows; the first-layer fold needs at least 2",
+    );
 }
 
 #[test]
