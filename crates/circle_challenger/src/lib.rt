@@ -10,8 +10,6 @@ pub mod interaction;
 pub mod pattern;
 pub mod sha256;
 pub mod state;
-#[cfg(test)]
-mod tests;
 
 pub use challenger::{
     CanObserve, CanSample, CanSampleBits, ChallengerState, FieldChallenger, GrindingChallenger,

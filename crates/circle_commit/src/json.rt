@@ -326,5 +326,3 @@ impl<T: JsonForm + Drop> JsonForm for Vec<T> {
     }
 }
 
-#[cfg(test)]
-mod tests;

@@ -12,8 +12,6 @@ pub mod params;
 pub mod pcs;
 pub mod periodic;
 pub mod space;
-#[cfg(test)]
-mod tests;
 pub mod view;
 
 pub use error::FriError;

@@ -4,8 +4,6 @@
 
 pub mod evaluation;
 pub mod interpolation;
-#[cfg(test)]
-mod tests;
 
 pub use evaluation::x_value;
 pub use interpolation::x_interpolate;

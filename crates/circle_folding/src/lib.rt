@@ -7,8 +7,6 @@ pub mod folding;
 pub mod query;
 pub mod reduced;
 pub mod strategy;
-#[cfg(test)]
-mod tests;
 
 pub use deep_quotient::{deep_quotient_reduce_row, extract_lambda};
 pub use folding::{fold_row_with_inv_twiddle, fold_x, fold_x_row, fold_y};

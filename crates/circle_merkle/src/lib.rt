@@ -9,8 +9,6 @@ mod positions;
 mod prover_data;
 mod root;
 mod rows;
-#[cfg(test)]
-mod tests;
 mod tree;
 mod verify;
 mod well_formed;

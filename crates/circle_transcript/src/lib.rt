@@ -11,8 +11,6 @@ pub mod failure;
 mod play;
 pub mod run;
 pub mod shape;
-#[cfg(test)]
-mod tests;
 pub mod transcript;
 
 pub use failure::CircleTranscriptFailure;

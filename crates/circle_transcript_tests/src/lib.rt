@@ -1,0 +1,10 @@
+//! Tests of the challengers and of the transcript, by their public calls. They stand here so that the
+//! crates themselves are proved once.
+#![tactic(auto)]
+
+#[cfg(test)]
+mod challenger;
+#[cfg(test)]
+mod stubborn;
+#[cfg(test)]
+mod transcript;
