@@ -1,6 +1,7 @@
-use Rattle.std.proofs.Common.{◌≡◌, ◌+◌, ◌-◌, ◌^◌, ◌<◌, ◌∙◌, ◌∷◌, [], ap, sym, map, length, vec_len, arith, get_or}
+use Rattle.std.proofs.Common.{◌≤◌, ℕ, List, Vec, Global, All, ◌≡◌, ◌+◌, ◌-◌, ◌^◌, ◌<◌, ◌∙◌, ◌∷◌, [], ap, sym, map, length, vec_len, arith, get_or}
 use Rattle.sha2.specs.Sha256.{sha256}
 use Rattle.circle_commit.specs.Matrix.{IsPowerOfTwo}
+use Rattle.circle_commit.specs.declared.matrix.RowMajorMatrix.{RowMajorMatrix}
 use Rattle.circle_commit.specs.RowMajorMatrix.{height_of}
 use Rattle.circle_commit.specs.Mmcs.{max_height}
 use Rattle.circle_merkle.specs.PowerTest.{power_passes}
@@ -11,6 +12,26 @@ use Rattle.circle_merkle.proofs.KeptTree.{kept-length, kept-root}
 use Rattle.circle_merkle.proofs.Heights.{max-power}
 use Rattle.circle_merkle.proofs.Completeness.{heights-bounded}
 use Rattle.circle_merkle.proofs.prover_data.ShaProverData.new.Goals as goal
+
+-- the levels are those of the tree over matrices
+record IsTree {T : Type 0} (bytes : T → List ℕ) (matrices : List (RowMajorMatrix T)) (levels : Vec (Vec (List ℕ) Global) Global) : Type 0 where
+  count : ℕ
+  top : max_height matrices ≡ 2 ^ count
+  tree : map (λ level. level.items) levels.items ≡ tree_levels sha256 bytes matrices count
+  long : vec_len levels ≡ count + 1
+
+is_tree : {T : Type 0} (bytes : T → List ℕ) (matrices : List (RowMajorMatrix T)) {n : ℕ} → 1 ≤ n → n ≡ length matrices → All (λ m. IsPowerOfTwo (height_of m)) matrices →
+    (levels : Vec (Vec (List ℕ) Global) Global) (top : ℕ) → top ≡ max_height matrices →
+    ((count : ℕ) → top ≡ 2 ^ count → map (λ level. level.items) levels.items ≡ tree_levels sha256 bytes matrices count) → IsTree bytes matrices levels
+is_tree bytes matrices some len powers levels top greatest tree =
+    let power : IsPowerOfTwo (max_height matrices) = max-power matrices (omega arith) powers in
+    let whole = tree power.0 (greatest ∙ power.1) in
+    record {
+      count = power.0;
+      top = power.1;
+      tree = whole;
+      long = levels.ok.0 ∙ kept-length sha256 bytes matrices power.0 levels.items whole;
+    }
 
 pub levels_of-requires-clause-power : goal.levels_of-requires-clause-power
 levels_of-requires-clause-power g c =
@@ -23,39 +44,30 @@ overflow_sub-len g c =
     let matrices = c.args.matrices.items in
     let bytes = g.T.ElementBytes.bytes in
     let levels = c.in_ok-levels.levels in
-    let power : IsPowerOfTwo (max_height matrices) = max-power matrices (omega (arith, c.requires.some, c.args.matrices.ok.0)) c.requires.powers_of_two in
-    let top : c.greatest_height-top.result ≡ 2 ^ power.0 = c.greatest_height-top.ensures ∙ ap max_height c.deref.ensures.value ∙ power.1 in
-    let tree : map (λ level. level.items) levels.items ≡ tree_levels sha256 bytes matrices power.0 =
-    c.in_ok-levels.ensures power.0 top ∙ ap (λ ms. tree_levels sha256 bytes ms power.0) c.deref-2.ensures.value in
-    let long : length levels.items ≡ power.0 + 1 = kept-length sha256 bytes matrices power.0 levels.items tree in
-    omega (arith, long, levels.ok.0, c.len.ensures)
+    let t : IsTree bytes matrices levels = is_tree bytes matrices c.requires.some c.args.matrices.ok.0 c.requires.powers_of_two levels c.greatest_height-top.result
+    (c.greatest_height-top.ensures ∙ ap max_height c.deref.ensures.value) (λ count e. c.in_ok-levels.ensures count e ∙ ap (λ ms. tree_levels sha256 bytes ms count) c.deref-2.ensures.value) in
+    omega (arith, t.long, c.len.ensures)
 
 pub index-requires : goal.index-requires
 index-requires g c =
     let matrices = c.args.matrices.items in
     let bytes = g.T.ElementBytes.bytes in
     let levels = c.in_ok-levels.levels in
-    let power : IsPowerOfTwo (max_height matrices) = max-power matrices (omega (arith, c.requires.some, c.args.matrices.ok.0)) c.requires.powers_of_two in
-    let top : c.greatest_height-top.result ≡ 2 ^ power.0 = c.greatest_height-top.ensures ∙ ap max_height c.deref.ensures.value ∙ power.1 in
-    let tree : map (λ level. level.items) levels.items ≡ tree_levels sha256 bytes matrices power.0 =
-    c.in_ok-levels.ensures power.0 top ∙ ap (λ ms. tree_levels sha256 bytes ms power.0) c.deref-2.ensures.value in
-    let long : length levels.items ≡ power.0 + 1 = kept-length sha256 bytes matrices power.0 levels.items tree in
-    omega (arith, long, levels.ok.0, c.len.ensures)
+    let t : IsTree bytes matrices levels = is_tree bytes matrices c.requires.some c.args.matrices.ok.0 c.requires.powers_of_two levels c.greatest_height-top.result
+    (c.greatest_height-top.ensures ∙ ap max_height c.deref.ensures.value) (λ count e. c.in_ok-levels.ensures count e ∙ ap (λ ms. tree_levels sha256 bytes ms count) c.deref-2.ensures.value) in
+    omega (arith, t.long, c.len.ensures)
 
 pub index-root-requires : goal.index-root-requires
 index-root-requires g c =
     let matrices = c.args.matrices.items in
     let bytes = g.T.ElementBytes.bytes in
     let levels = c.in_ok-levels.levels in
-    let power : IsPowerOfTwo (max_height matrices) = max-power matrices (omega (arith, c.requires.some, c.args.matrices.ok.0)) c.requires.powers_of_two in
-    let top : c.greatest_height-top.result ≡ 2 ^ power.0 = c.greatest_height-top.ensures ∙ ap max_height c.deref.ensures.value ∙ power.1 in
-    let tree : map (λ level. level.items) levels.items ≡ tree_levels sha256 bytes matrices power.0 =
-    c.in_ok-levels.ensures power.0 top ∙ ap (λ ms. tree_levels sha256 bytes ms power.0) c.deref-2.ensures.value in
-    let long : length levels.items ≡ power.0 + 1 = kept-length sha256 bytes matrices power.0 levels.items tree in
-    let last : c.len.result - 1 ≡ power.0 = omega (arith, long, levels.ok.0, c.len.ensures) in
+    let t : IsTree bytes matrices levels = is_tree bytes matrices c.requires.some c.args.matrices.ok.0 c.requires.powers_of_two levels c.greatest_height-top.result
+    (c.greatest_height-top.ensures ∙ ap max_height c.deref.ensures.value) (λ count e. c.in_ok-levels.ensures count e ∙ ap (λ ms. tree_levels sha256 bytes ms count) c.deref-2.ensures.value) in
+    let last : c.len.result - 1 ≡ t.count = omega (arith, t.long, c.len.ensures) in
     let v = c.index.result.now in
-    let root : v.items ≡ digest sha256 (matrix_rows bytes matrices) power.0 0 ∷ [] =
-    kept-root sha256 bytes matrices power.0 levels.items tree v (c.index.ensures ∙ ap (λ k. get_or levels.items k v) last) in
+    let root : v.items ≡ digest sha256 (matrix_rows bytes matrices) t.count 0 ∷ [] =
+    kept-root sha256 bytes matrices t.count levels.items t.tree v (c.index.ensures ∙ ap (λ k. get_or levels.items k v) last) in
     omega (arith, ap length root, v.ok.0)
 
 pub invariant_of-result : goal.invariant_of-result
@@ -63,19 +75,16 @@ invariant_of-result g c =
     let matrices = c.args.matrices.items in
     let bytes = g.T.ElementBytes.bytes in
     let levels = c.in_ok-levels.levels in
-    let power : IsPowerOfTwo (max_height matrices) = max-power matrices (omega (arith, c.requires.some, c.args.matrices.ok.0)) c.requires.powers_of_two in
-    let top : c.greatest_height-top.result ≡ 2 ^ power.0 = c.greatest_height-top.ensures ∙ ap max_height c.deref.ensures.value ∙ power.1 in
-    let tree : map (λ level. level.items) levels.items ≡ tree_levels sha256 bytes matrices power.0 =
-    c.in_ok-levels.ensures power.0 top ∙ ap (λ ms. tree_levels sha256 bytes ms power.0) c.deref-2.ensures.value in
-    let long : length levels.items ≡ power.0 + 1 = kept-length sha256 bytes matrices power.0 levels.items tree in
-    let last : power.0 ≡ vec_len levels - 1 = omega (arith, long, levels.ok.0) in
+    let t : IsTree bytes matrices levels = is_tree bytes matrices c.requires.some c.args.matrices.ok.0 c.requires.powers_of_two levels c.greatest_height-top.result
+    (c.greatest_height-top.ensures ∙ ap max_height c.deref.ensures.value) (λ count e. c.in_ok-levels.ensures count e ∙ ap (λ ms. tree_levels sha256 bytes ms count) c.deref-2.ensures.value) in
+    let last : t.count ≡ vec_len levels - 1 = omega (arith, t.long) in
     let fits : max_height matrices < 2 ^ 64 = omega (arith, c.greatest_height-top.type_inv, c.greatest_height-top.ensures, ap max_height c.deref.ensures.value) in
     record {
       some_matrix = c.requires.some;
       powers_of_two = λ k d lt. power_passes (height_of (get_or matrices k d)) (omega (arith, heights-bounded matrices k d lt, fits)) (c.requires.powers_of_two k d lt);
-      some_level = omega (arith, long, levels.ok.0);
-      top = power.1 ∙ ap (λ k. 2 ^ k) last;
-      tree = tree ∙ ap (tree_levels sha256 bytes matrices) last;
+      some_level = omega (arith, t.long);
+      top = t.top ∙ ap (λ k. 2 ^ k) last;
+      tree = t.tree ∙ ap (tree_levels sha256 bytes matrices) last;
     }
 
 pub returns-clause-root : goal.returns-clause-root
@@ -83,17 +92,14 @@ returns-clause-root g c =
     let matrices = c.args.matrices.items in
     let bytes = g.T.ElementBytes.bytes in
     let levels = c.in_ok-levels.levels in
-    let power : IsPowerOfTwo (max_height matrices) = max-power matrices (omega (arith, c.requires.some, c.args.matrices.ok.0)) c.requires.powers_of_two in
-    let top : c.greatest_height-top.result ≡ 2 ^ power.0 = c.greatest_height-top.ensures ∙ ap max_height c.deref.ensures.value ∙ power.1 in
-    let tree : map (λ level. level.items) levels.items ≡ tree_levels sha256 bytes matrices power.0 =
-    c.in_ok-levels.ensures power.0 top ∙ ap (λ ms. tree_levels sha256 bytes ms power.0) c.deref-2.ensures.value in
-    let long : length levels.items ≡ power.0 + 1 = kept-length sha256 bytes matrices power.0 levels.items tree in
-    let last : c.len.result - 1 ≡ power.0 = omega (arith, long, levels.ok.0, c.len.ensures) in
+    let t : IsTree bytes matrices levels = is_tree bytes matrices c.requires.some c.args.matrices.ok.0 c.requires.powers_of_two levels c.greatest_height-top.result
+    (c.greatest_height-top.ensures ∙ ap max_height c.deref.ensures.value) (λ count e. c.in_ok-levels.ensures count e ∙ ap (λ ms. tree_levels sha256 bytes ms count) c.deref-2.ensures.value) in
+    let last : c.len.result - 1 ≡ t.count = omega (arith, t.long, c.len.ensures) in
     let v = c.index.result.now in
-    let root : v.items ≡ digest sha256 (matrix_rows bytes matrices) power.0 0 ∷ [] =
-    kept-root sha256 bytes matrices power.0 levels.items tree v (c.index.ensures ∙ ap (λ k. get_or levels.items k v) last) in
+    let root : v.items ≡ digest sha256 (matrix_rows bytes matrices) t.count 0 ∷ [] =
+    kept-root sha256 bytes matrices t.count levels.items t.tree v (c.index.ensures ∙ ap (λ k. get_or levels.items k v) last) in
     record {
-      levels = power.0;
-      top = power.1;
+      levels = t.count;
+      top = t.top;
       root = sym (c.index-root.ensures ∙ ap (λ ds. get_or ds 0 c.index-root.result.now) root);
     }
