@@ -20,6 +20,11 @@ map-same f h P [] all e = refl
 map-same f h P (x ∷ xs) all e = ap (λ y. y ∷ map f xs) (e x all.0)
     ∙ ap (λ ys. h x ∷ ys) (map-same f h P xs all.1 e)
 
+-- the first half of a list of even length
+pub first-long : {X : Type 0} (h n : ℕ) (xs : List X) → length xs ≡ n → n ≡ h + h →
+    length (take h xs) ≡ h
+first-long h n xs e d = length-take-le h xs (omega (arith, e, d))
+
 module _ {F : Type 0} (k : FieldOps F) where
   -- the halves of a block, made anew on the way from coefficients to values
   abbrev pub lower : F → List F → List F → List F
@@ -42,7 +47,7 @@ module _ {F : Type 0} (k : FieldOps F) where
       let lo = take h xs in
       let hi = take h (drop h xs) in
       let d : length xs ≡ h + h = omega (arith, e, pow-suc 2 m) in
-      let a : length lo ≡ h = length-take-le h xs (omega (arith, d)) in
+      let a : length lo ≡ h = first-long h (length xs) xs refl d in
       let b : length hi ≡ h = length-take-le h (drop h xs) (omega (arith, d, length-drop h xs)) in
       record {
         low = a;
