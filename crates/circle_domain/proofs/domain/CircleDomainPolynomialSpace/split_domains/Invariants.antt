@@ -5,5 +5,6 @@ use Rattle.circle_domain.proofs.domain.CircleDomainPolynomialSpace.split_domains
 abbrev pub invariant-loop-i : goal.invariant-loop-i
 invariant-loop-i g l = record {
   sizes : All (λ part. log_size part ≡ l.log_n) l.parts.items;
-  shifts : map shift_of l.parts.items ≡ take l.i (points_of g.F.Operations.ops g.F.ComplexExtendable.generators l.self);
+  shifts : map shift_of l.parts.items ≡ take l.i
+      (points_of g.F.Operations.ops g.F.ComplexExtendable.generators l.self);
 }
