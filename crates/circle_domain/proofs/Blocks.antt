@@ -63,9 +63,6 @@ module _ {F : Type 0} {k : FieldOps F} (laws : RingLaws k) where
   times-origin zero = refl
   times-origin (suc n) = ap (plus k (origin k)) (times-origin n) ∙ plus-origin laws (origin k)
 
-  pub times-opposite_x : (n : ℕ) (p : Coordinates F) → IsOnCircle k p → (times k (2 ^ n) (opposite k p)).x ≡ (times k (2 ^ n) p).x
-  times-opposite_x n p h = sym (iterated_x-times laws n (opposite k p) (opposite-on_circle laws p h)) ∙ iterated_x-times laws n p h
-
 module _ {F : Type 0} {k : FieldOps F} (laws : RingLaws k) {gen : ℕ → Coordinates F} {bits : ℕ} (gens : AreGenerators k bits gen) where
   -- doublings of a generator
   pub times-generator : (a b : ℕ) → a + b ≤ bits → times k (2 ^ a) (gen (a + b)) ≡ gen b

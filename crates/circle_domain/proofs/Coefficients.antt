@@ -1,5 +1,5 @@
 -- Values on a genuine domain have coefficients.
-use Rattle.std.specs.Prelude.{◌≡◌, ◌≢◌, ℕ, ◌+◌, ◌^◌, ◌<◌, ◌≤◌, List, [], ◌∷◌, ◌++◌, length, map, take, drop, slice_index_or, All}
+use Rattle.std.specs.Prelude.{◌≡◌, ◌≢◌, ℕ, ◌^◌, ◌<◌, ◌≤◌, List, [], ◌∷◌, ◌++◌, length, map, take, drop, slice_index_or, All}
 use Rattle.std.specs.List.{range_with_len}
 use Rattle.std.proofs.Common.{zero, suc, sym, ◌∙◌, ap, refl, arith, length-append}
 use Rattle.std.proofs.Math.Nat.{pow-suc}
@@ -19,7 +19,7 @@ use Rattle.circle_domain.proofs.Columns.{column-made}
 use Rattle.circle_domain.proofs.Inversion.{factor-nonzero, first-genuine, second-genuine}
 use Rattle.circle_domain.proofs.LagrangePolynomials.{twice-nonzero}
 use Rattle.circle_domain.proofs.Stored.{rows-values}
-use Rattle.circle_domain.proofs.Transform.{lower, upper, finish, finish-value, first-long, second-long, both-halves}
+use Rattle.circle_domain.proofs.Transform.{lower, upper, finish, finish-value, halves_of}
 use Rattle.circle_domain.proofs.Written.{length-pairwise}
 
 module _ {F : Type 0} {k : FieldOps F} (laws : FieldLaws k) where
@@ -68,9 +68,9 @@ module _ {F : Type 0} {k : FieldOps F} (laws : FieldLaws k) where
         let half = 2 ^ m in
         let t = factor k m q in
         let q' = second_half k gen m q in
-        let d : 2 ^ suc m ≡ half + half = omega (arith, pow-suc 2 m) in
-        let first = told m q (take half ws) (first-long half (2 ^ suc m) ws e d) (omega arith) on_circle (first-genuine laws m q genuine) in
-        let second = told m q' (take half (drop half ws)) (second-long half (2 ^ suc m) ws e d) (omega arith)
+        let halves = halves_of k m t ws e in
+        let first = told m q (take half ws) halves.low (omega arith) on_circle (first-genuine laws m q genuine) in
+        let second = told m q' (take half (drop half ws)) halves.high (omega arith)
         (second_half-on_circle laws.ring gens m q (omega arith) on_circle) (second-genuine laws gens m q (omega arith) on_circle genuine) in
         let a = first.0 in
         let b = second.0 in
@@ -83,13 +83,13 @@ module _ {F : Type 0} {k : FieldOps F} (laws : FieldLaws k) where
         let take_lo : take half (lo ++ hi) ≡ lo = take_at lo hi half llo in
         let take_hi : take half (drop half (lo ++ hi)) ≡ hi = ap (take half) (drop_at lo hi half llo) ∙ take_all half hi (omega (arith, lhi)) in (
           lo ++ hi,
-          length-append lo hi ∙ omega (arith, llo, lhi, d),
+          length-append lo hi ∙ omega (arith, llo, lhi, pow-suc 2 m),
           ap (λ xs. finish k gen m q (lower k t xs (take half (drop half (lo ++ hi)))) ++ finish k gen m q' (upper k t xs (take half (drop half (lo ++ hi))))) take_lo
               ∙ ap (λ xs. finish k gen m q (lower k t lo xs) ++ finish k gen m q' (upper k t lo xs)) take_hi
               ∙ ap (λ xs. finish k gen m q xs ++ finish k gen m q' (upper k t lo hi)) back.0
               ∙ ap (λ xs. finish k gen m q a ++ finish k gen m q' xs) back.1
               ∙ ap (λ xs. xs ++ finish k gen m q' b) first.2 ∙ ap (λ xs. take half ws ++ xs) second.2
-              ∙ both-halves half (2 ^ suc m) ws e d,
+              ∙ halves.joined,
         )
 
     module _ (n : ℕ) (s : Coordinates F) (fits : n ≤ suc bits) (on_circle : IsOnCircle k s) (genuine : IsGenuine k n s) where

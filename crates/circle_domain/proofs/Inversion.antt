@@ -1,7 +1,6 @@
 -- The layers of a genuine block can be undone, and multiples go through them.
-use Rattle.std.specs.Prelude.{◌≡◌, ◌≢◌, ℕ, ◌+◌, ◌^◌, ◌≤◌, List, [], ◌∷◌, ◌++◌, length, map, take, drop}
+use Rattle.std.specs.Prelude.{◌≡◌, ◌≢◌, ℕ, ◌^◌, ◌≤◌, List, [], ◌∷◌, ◌++◌, length, map, take, drop}
 use Rattle.std.proofs.Common.{zero, suc, sym, ◌∙◌, ap, refl, arith}
-use Rattle.std.proofs.Math.Nat.{pow-suc}
 use Rattle.std.proofs.lemmas.List.{map-append, take-map, take_at, drop_at}
 use Rattle.circle_field.specs.Field.{FieldOps, RingLaws, FieldLaws, sub}
 use Rattle.circle_field.specs.Ring.{Expr, var, con, unit, plus as sum, times as prod, minus}
@@ -13,9 +12,8 @@ use Rattle.circle_field.specs.CircleGroup.{plus-on_circle, plus-origin, plus-opp
 use Rattle.circle_domain.specs.Layers.{factor, second_half}
 use Rattle.circle_point.proofs.Multiples.{times-one, times-on_circle, iterated_x-times}
 use Rattle.circle_domain.proofs.Columns.{drop-map}
-use Rattle.circle_domain.proofs.Written.{length-pairwise}
 use Rattle.circle_domain.proofs.Blocks.{times-plus, times-pow-suc, times-generator-past, second_half-on_circle}
-use Rattle.circle_domain.proofs.Transform.{lower, upper, finish, length-finish, first-long, second-long, both-halves}
+use Rattle.circle_domain.proofs.Transform.{lower, upper, finish, length-finish, halves_of}
 
 module _ {F : Type 0} {k : FieldOps F} (laws : RingLaws k) (a : F) where
   lower-scaled : (t : F) (xs ys : List F) → lower k t (map (k.mul a) xs) (map (k.mul a) ys) ≡ map (k.mul a) (lower k t xs ys)
@@ -137,31 +135,22 @@ module _ {F : Type 0} {k : FieldOps F} (laws : FieldLaws k) where
         let half = 2 ^ m in
         let t = factor k m q in
         let q' = second_half k gen m q in
-        let twofold : 2 ^ suc m ≡ half + half = omega (arith, pow-suc 2 m) in
         let a = take half xs in
         let b = take half (drop half xs) in
         let u = take half ys in
         let v = take half (drop half ys) in
-        let la : length a ≡ half = first-long half (2 ^ suc m) xs d twofold in
-        let lb : length b ≡ half = second-long half (2 ^ suc m) xs d twofold in
-        let lu : length u ≡ half = first-long half (2 ^ suc m) ys e twofold in
-        let lv : length v ≡ half = second-long half (2 ^ suc m) ys e twofold in
-        let low = λ (x y : F). k.add x (k.mul y t) in
-        let high = λ (x y : F). sub k x (k.mul y t) in
-        let low_ab : length (lower k t a b) ≡ half = length-pairwise low a b (la ∙ sym lb) ∙ la in
-        let low_uv : length (lower k t u v) ≡ half = length-pairwise low u v (lu ∙ sym lv) ∙ lu in
-        let high_ab : length (upper k t a b) ≡ half = length-pairwise high a b (la ∙ sym lb) ∙ la in
-        let high_uv : length (upper k t u v) ≡ half = length-pairwise high u v (lu ∙ sym lv) ∙ lu in
+        let of_xs = halves_of k m t xs d in
+        let of_ys = halves_of k m t ys e in
         let f = finish k gen m q (lower k t a b) in
         let f' = finish k gen m q' (upper k t a b) in
         let i = finish k gen m q (lower k t u v) in
         let i' = finish k gen m q' (upper k t u v) in
-        let lf : length f ≡ half = length-finish k gen m q (lower k t a b) low_ab in
-        let li : length i ≡ half = length-finish k gen m q (lower k t u v) low_uv in
+        let lf : length f ≡ half = length-finish k gen m q (lower k t a b) of_xs.lower in
+        let li : length i ≡ half = length-finish k gen m q (lower k t u v) of_ys.lower in
         let first : f ≡ i = sym (take_at f f' half lf) ∙ ap (take half) same ∙ take_at i i' half li in
         let second : f' ≡ i' = sym (drop_at f f' half lf) ∙ ap (drop half) same ∙ drop_at i i' half li in
-        let told = halves_told t a b u v (factor-nonzero m q c h) (la ∙ sym lb) (lu ∙ sym lv) (la ∙ sym lu)
-        (finish-injective m q (lower k t a b) (lower k t u v) low_ab low_uv (omega arith) c (first-genuine m q h) first)
-        (finish-injective m q' (upper k t a b) (upper k t u v) high_ab high_uv (omega arith)
+        let told = halves_told t a b u v (factor-nonzero m q c h) (of_xs.low ∙ sym of_xs.high) (of_ys.low ∙ sym of_ys.high) (of_xs.low ∙ sym of_ys.low)
+        (finish-injective m q (lower k t a b) (lower k t u v) of_xs.lower of_ys.lower (omega arith) c (first-genuine m q h) first)
+        (finish-injective m q' (upper k t a b) (upper k t u v) of_xs.upper of_ys.upper (omega arith)
         (second_half-on_circle laws.ring gens m q (omega arith) c) (second-genuine m q (omega arith) c h) second) in
-        sym (both-halves half (2 ^ suc m) xs d twofold) ∙ ap (λ l. l ++ b) told.0 ∙ ap (λ r. u ++ r) told.1 ∙ both-halves half (2 ^ suc m) ys e twofold
+        sym of_xs.joined ∙ ap (λ l. l ++ b) told.0 ∙ ap (λ r. u ++ r) told.1 ∙ of_ys.joined

@@ -1,10 +1,9 @@
 -- The Lagrange polynomials of a genuine block of points, as products over the factors of its halves.
-use Rattle.std.specs.Prelude.{◌≡◌, ◌≢◌, ℕ, ◌+◌, ◌^◌, ◌≤◌, List, [], ◌∷◌, ◌++◌, length, map, take, drop}
+use Rattle.std.specs.Prelude.{◌≡◌, ◌≢◌, ℕ, ◌^◌, ◌≤◌, List, [], ◌∷◌, ◌++◌, length, map, take, drop}
 use Rattle.std.specs.List.{AllByRecursion}
 use Rattle.std.proofs.Common.{zero, suc, sym, ◌∙◌, ap, refl, arith}
-use Rattle.std.proofs.Math.Nat.{pow-suc}
 use Rattle.std.proofs.lemmas.List.{map-append, length-map}
-use Rattle.circle_field.specs.Field.{FieldOps, RingLaws, FieldLaws, sub}
+use Rattle.circle_field.specs.Field.{FieldOps, RingLaws, FieldLaws}
 use Rattle.circle_field.specs.Ring.{Expr, var, con, unit, plus as sum, times as prod, minus}
 use Rattle.circle_field.specs.RingSound.{ring}
 use Rattle.circle_field.specs.RingCombine.{given, combine}
@@ -14,10 +13,9 @@ use Rattle.circle_field.proofs.Inverses.{nonzero_product}
 use Rattle.circle_point.specs.Basis.{value}
 use Rattle.circle_domain.specs.Layers.{factor, second_half}
 use Rattle.circle_domain.specs.Lagrange.{dot}
-use Rattle.circle_domain.proofs.Written.{length-pairwise}
-use Rattle.circle_domain.proofs.HalfSums.{value-halves, value-low, high-low}
-use Rattle.circle_domain.proofs.Blocks.{points, factor-points, factor-opposite, second_half-on_circle}
-use Rattle.circle_domain.proofs.Transform.{lower, upper, map-same, first-long, second-long, both-halves}
+use Rattle.circle_domain.proofs.HalfSums.{value-low, high-low}
+use Rattle.circle_domain.proofs.Blocks.{points, second_half-on_circle}
+use Rattle.circle_domain.proofs.Transform.{lower, upper, map-same, halves_of, split_values}
 use Rattle.circle_domain.proofs.Inversion.{factor-nonzero, first-genuine, second-genuine}
 
 module _ {F : Type 0} (k : FieldOps F) where
@@ -98,42 +96,28 @@ module _ {F : Type 0} {k : FieldOps F} (laws : FieldLaws k) where
     lagrange zero q at (x ∷ y ∷ c) e h on_circle genuine = absurd (omega (arith, e))
     lagrange (suc m) q at c e h on_circle genuine =
         let ring_laws = laws.ring in
-        let half = 2 ^ m in
         let t = factor k m q in
         let v = factor k m at in
-        let d : 2 ^ suc m ≡ half + half = omega (arith, pow-suc 2 m) in
-        let lo = take half c in
-        let hi = take half (drop half c) in
-        let a : length lo ≡ half = first-long half (2 ^ suc m) c e d in
-        let b : length hi ≡ half = second-long half (2 ^ suc m) c e d in
-        let l : length (lower k t lo hi) ≡ half = length-pairwise (λ a b. k.add a (k.mul b t)) lo hi (a ∙ sym b) ∙ a in
-        let u : length (upper k t lo hi) ≡ half = length-pairwise (λ a b. sub k a (k.mul b t)) lo hi (a ∙ sym b) ∙ a in
+        let lo = take (2 ^ m) c in
+        let hi = take (2 ^ m) (drop (2 ^ m) c) in
+        let halves = halves_of k m t c e in
+        let same : length lo ≡ length hi = halves.low ∙ sym halves.high in
         let q' = second_half k gen m q in
         let there = second_half-on_circle ring_laws gens m q (omega arith) on_circle in
         let first = points k gen m q in
         let second = points k gen m q' in
-        let whole : (p : Coordinates F) → k.add (value k lo p) (k.mul (value k hi p) (factor k m p)) ≡ value k c p =
-        λ p. sym (value-halves ring_laws m lo hi p a (omega (arith, b))) ∙ ap (λ xs. value k xs p) (both-halves half (2 ^ suc m) c e d) in
-        let on_first : AllByRecursion (λ p. factor k m p ≡ t) first = factor-points ring_laws gens m m q t (omega arith) (omega arith) on_circle refl in
-        let on_second : AllByRecursion (λ p. factor k m p ≡ k.neg t) second =
-        factor-points ring_laws gens m m q' (k.neg t) (omega arith) (omega arith) there (factor-opposite ring_laws gens m q (omega arith) on_circle) in
-        let low_same : map (value k (lower k t lo hi)) first ≡ map (value k c) first =
-        map-same (value k (lower k t lo hi)) (value k c) (λ p. factor k m p ≡ t) first on_first
-        (λ p is_t. value-low ring_laws t lo hi p (a ∙ sym b) ∙ ap (λ r. k.add (value k lo p) (k.mul (value k hi p) r)) (sym is_t) ∙ whole p) in
-        let high_same : map (value k (upper k t lo hi)) second ≡ map (value k c) second =
-        map-same (value k (upper k t lo hi)) (value k c) (λ p. factor k m p ≡ k.neg t) second on_second
-        (λ p is_t. ap (λ xs. value k xs p) (high-low ring_laws t lo hi) ∙ value-low ring_laws (k.neg t) lo hi p (a ∙ sym b) ∙ ap (λ r. k.add (value k lo p) (k.mul (value k hi p) r)) (sym is_t) ∙ whole p) in
+        let split = split_values ring_laws gens m q c e (omega arith) on_circle in
         let low_value : dot k (map (weight k m at) first) (map (value k (lower k t lo hi)) first) ≡ k.add (value k lo at) (k.mul (value k hi at) t) =
-        lagrange m q at (lower k t lo hi) l (omega arith) on_circle (first-genuine laws m q genuine) ∙ value-low ring_laws t lo hi at (a ∙ sym b) in
+        lagrange m q at (lower k t lo hi) halves.lower (omega arith) on_circle (first-genuine laws m q genuine) ∙ value-low ring_laws t lo hi at same in
         let high_value : dot k (map (weight k m at) second) (map (value k (upper k t lo hi)) second) ≡ k.add (value k lo at) (k.mul (value k hi at) (k.neg t)) =
-        lagrange m q' at (upper k t lo hi) u (omega arith) there (second-genuine laws gens m q (omega arith) on_circle genuine)
-        ∙ ap (λ xs. value k xs at) (high-low ring_laws t lo hi) ∙ value-low ring_laws (k.neg t) lo hi at (a ∙ sym b) in
+        lagrange m q' at (upper k t lo hi) halves.upper (omega arith) there (second-genuine laws gens m q (omega arith) on_circle genuine)
+        ∙ ap (λ xs. value k xs at) (high-low ring_laws t lo hi) ∙ value-low ring_laws (k.neg t) lo hi at same in
         let w1 = k.mul (k.add t v) (k.inv (k.add t t)) in
         let w2 = k.mul (k.add (k.neg t) v) (k.inv (k.add (k.neg t) (k.neg t))) in
         let sum1 : dot k (map (weight k (suc m) at) first) (map (value k c) first) ≡ k.mul (k.add (value k lo at) (k.mul (value k hi at) t)) w1 =
-        half-sum m q at t c (lower k t lo hi) on_first low_same ∙ ap (λ s. k.mul s w1) low_value in
+        half-sum m q at t c (lower k t lo hi) split.on_first split.first ∙ ap (λ s. k.mul s w1) low_value in
         let sum2 : dot k (map (weight k (suc m) at) second) (map (value k c) second) ≡ k.mul (k.add (value k lo at) (k.mul (value k hi at) (k.neg t))) w2 =
-        half-sum m q' at (k.neg t) c (upper k t lo hi) on_second high_same ∙ ap (λ s. k.mul s w2) high_value in
+        half-sum m q' at (k.neg t) c (upper k t lo hi) split.on_second split.second ∙ ap (λ s. k.mul s w2) high_value in
         ap (λ ws. dot k ws (map (value k c) (first ++ second))) (map-append (weight k (suc m) at) first second)
         ∙ ap (dot k (map (weight k (suc m) at) first ++ map (weight k (suc m) at) second)) (map-append (value k c) first second)
         ∙ dot-append ring_laws (map (weight k (suc m) at) first) (map (weight k (suc m) at) second) (map (value k c) first) (map (value k c) second)
@@ -141,4 +125,4 @@ module _ {F : Type 0} {k : FieldOps F} (laws : FieldLaws k) where
         ∙ ap (λ s. k.add s (dot k (map (weight k (suc m) at) second) (map (value k c) second))) sum1
         ∙ ap (k.add (k.mul (k.add (value k lo at) (k.mul (value k hi at) t)) w1)) sum2
         ∙ halves-add_up (value k lo at) (value k hi at) t v (factor-nonzero laws m q on_circle genuine)
-        ∙ whole at
+        ∙ split.whole at

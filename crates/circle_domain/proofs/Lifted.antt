@@ -79,9 +79,6 @@ module _ {F E : Type 0} {k : FieldOps F} {l : FieldOps E} {m : F → E} (e : IsE
   lifted-factor zero p = refl
   lifted-factor (suc n) p = lifted-iterated_x n p.x
 
-  pub lifted-sub : (a b : F) → m (sub k a b) ≡ sub l (m a) (m b)
-  lifted-sub a b = e.add a (k.neg b) ∙ ap (l.add (m a)) (e.neg b)
-
   pub lifted-two : m (two k) ≡ two l
   lifted-two = e.add k.one k.one ∙ ap (λ v. l.add v v) e.one
 

@@ -1,8 +1,9 @@
 -- The Lagrange polynomials of a domain: values at its points add up to the value at any point.
 -- Circle STARKs (ePrint 2024/278), section 4.3.
-use Rattle.std.specs.Prelude.{List, [], ◌∷◌}
+use Rattle.std.specs.Prelude.{◌≡◌, ℕ, ◌^◌, List, [], ◌∷◌, length, map}
 use Rattle.circle_field.specs.Field.{FieldOps, sub}
 use Rattle.circle_field.specs.Circle.{Coordinates}
+use Rattle.circle_point.specs.Basis.{value}
 
 module _ {F : Type 0} (k : FieldOps F) where
   -- the sum of the products of the entries at each place
@@ -11,8 +12,24 @@ module _ {F : Type 0} (k : FieldOps F) where
   dot (x ∷ xs) [] = k.zero
   dot (x ∷ xs) (y ∷ ys) = k.add (k.mul x y) (dot xs ys)
 
-  -- for each point p the shares (y_p + y_q) / (x_p - x_q) of p and (y_p - y_q) / (x_p - x_q) of its opposite
+  -- for each point p its share (y_p + y_q) / (x_p - x_q), and its opposite's, which is
+  -- (y_p - y_q) / (x_p - x_q)
   abbrev pub shares : Coordinates F → List (Coordinates F) → List F
   shares q [] = []
   shares q (p ∷ ps) =
-      k.mul (k.add p.y q.y) (k.inv (sub k p.x q.x)) ∷ k.mul (sub k p.y q.y) (k.inv (sub k p.x q.x)) ∷ shares q ps
+      k.mul (k.add p.y q.y) (k.inv (sub k p.x q.x))
+      ∷ k.mul (sub k p.y q.y) (k.inv (sub k p.x q.x)) ∷ shares q ps
+
+module _ {F E : Type 0} (l : FieldOps E) (embed : F → E) where
+  -- how far the x coordinate of p is from that of q
+  abbrev pub x_difference : Coordinates E → Coordinates F → E
+  x_difference q p = sub l (embed p.x) q.x
+
+  -- of each polynomial of 2^n coefficients, its values at the points, each times the point's share,
+  -- add up to its value at q once they are multiplied by the scale
+  abbrev pub AreLagrangeWeights :
+      FieldOps F → ℕ → List (Coordinates F) → Coordinates E → List E → E → Type 0
+  AreLagrangeWeights k n points q shares scale =
+      (coeffs : List F) → length coeffs ≡ 2 ^ n →
+      l.mul (dot l shares (map embed (map (value k coeffs) points))) scale
+      ≡ value l (map embed coeffs) q

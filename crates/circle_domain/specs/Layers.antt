@@ -1,4 +1,5 @@
--- The layers of the circle FFT: the blocks of a column, the factors of the blocks, and one layer's sums and differences.
+-- The layers of the circle FFT: the blocks of a column, the factors of the blocks, and one layer's
+-- sums and differences.
 use Rattle.std.specs.Prelude.{ℕ, ◌+◌, ◌-◌, List, [], ◌∷◌, ◌++◌, map, take, drop}
 use Rattle.std.proofs.Common.{zero, suc}
 use Rattle.circle_field.specs.Field.{FieldOps}
@@ -12,10 +13,12 @@ pairwise f (x ∷ xs) [] = []
 pairwise f (x ∷ xs) (y ∷ ys) = f x y ∷ pairwise f xs ys
 
 -- the halves of each block of 2 * half entries, made anew of both halves and the block's factor
-abbrev pub layer : {F : Type 0} → (F → F → F → F) → (F → F → F → F) → ℕ → List F → List F → List F
+abbrev pub layer : {F : Type 0} →
+    (F → F → F → F) → (F → F → F → F) → ℕ → List F → List F → List F
 layer low high half [] xs = []
 layer low high half (t ∷ ts) xs =
-    (pairwise (low t) (take half xs) (take half (drop half xs)) ++ pairwise (high t) (take half xs) (take half (drop half xs)))
+    (pairwise (low t) (take half xs) (take half (drop half xs))
+    ++ pairwise (high t) (take half xs) (take half (drop half xs)))
     ++ layer low high half ts (drop (half + half) xs)
 
 module _ {F : Type 0} (k : FieldOps F) where

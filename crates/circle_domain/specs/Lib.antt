@@ -8,5 +8,6 @@ pub mod Ordering
 pub mod Periodic
 pub mod Rows
 pub mod Selectors
+pub mod Space
 pub mod Splitting
 pub mod Values

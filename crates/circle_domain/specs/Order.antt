@@ -20,7 +20,8 @@ module _ {F : Type 0} (k : FieldOps F) where
   abbrev pub natural_from : ℕ → Coordinates F → Coordinates F → ℕ → List (Coordinates F)
   natural_from zero g s a = []
   natural_from (suc count) g s a =
-      plus k s (times k a g) ∷ plus k (opposite k s) (times k (suc a) g) ∷ natural_from count g s (suc a)
+      plus k s (times k a g) ∷ plus k (opposite k s) (times k (suc a) g)
+      ∷ natural_from count g s (suc a)
 
   -- a domain of at least two points whose halves are disjoint
   abbrev pub IsGenuine : ℕ → Coordinates F → Type 0

@@ -1,6 +1,8 @@
--- What is asked of a domain at points off it: its vanishing polynomial, its selectors, and its next points.
+-- What is asked of a domain at points off it: its vanishing polynomial, its selectors, and its next
+-- points.
 -- Circle STARKs (ePrint 2024/278), sections 3.3 and 5.1.
-use Rattle.std.specs.Prelude.{◌≡◌, ◌≢◌, ℕ, ◌+◌, ◌-◌, ◌^◌, ◌<◌, ◌≤◌, nat_eq, if◌then◌else◌, List, All}
+use Rattle.std.specs.Prelude.{◌≡◌, ◌≢◌, ℕ, ◌+◌, ◌-◌, ◌^◌, ◌<◌, ◌≤◌}
+use Rattle.std.specs.Prelude.{nat_eq, if◌then◌else◌, List, All}
 use Rattle.circle_field.specs.Field.{FieldOps, nth_power, two, sub}
 use Rattle.circle_field.specs.Circle.{Coordinates, plus, opposite, times, lifted}
 use Rattle.circle_point.specs.Basis.{vanishing}
@@ -36,7 +38,8 @@ module _ {F : Type 0} (k : FieldOps F) where
   transition n s q = sub k k.one (k.mul (last_row n s q) (k.inv (normaliser n (opposite k s))))
 
 -- the point of coordinate t and one step by the generator of 2^n points
-abbrev pub next_from : {F E : Type 0} → FieldOps E → (F → E) → (ℕ → Coordinates F) → ℕ → E → Coordinates E
+abbrev pub next_from : {F E : Type 0} →
+    FieldOps E → (F → E) → (ℕ → Coordinates F) → ℕ → E → Coordinates E
 next_from l embed gen n t = plus l (from_line l t) (lifted embed (gen n))
 
 -- the domain (n, s) is the standard one of its size

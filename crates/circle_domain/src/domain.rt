@@ -1,9 +1,13 @@
 //! Domains of the circle transform: twin cosets of a cyclic group of points.
-ghost use Rattle.std.specs.Prelude.{◌≡◌, ◌≢◌, ◌↔◌, ◌⊎◌, ℕ, List, ◌≤◌, ◌<◌, ◌+◌, ◌-◌, ◌%◌, ◌/◌, ◌^◌, ◌*◌, IsTrue, IsNone, IfSome, IfOk, Some, Ok, All, AllPairs, Any, Contains, length, map, take, slice_get};
+ghost use Rattle.std.specs.Prelude.{◌≡◌, ◌≢◌, ◌↔◌, ◌≤◌, ◌<◌, ◌+◌, ◌-◌, ◌*◌, ◌^◌, ℕ, length, map, take};
+ghost use Rattle.std.specs.Prelude.{IsTrue, IsNone, IfSome, IfOk, Some, Ok, All, AllPairs, slice_get};
 ghost use Rattle.std.specs.Iterator.{YieldsFirstBy, item_count};
-ghost use Rattle.circle_field.specs.Circle.{opposite, plus, lifted};
-ghost use Rattle.circle_domain.specs.Domain.{points_of};
-ghost use Rattle.circle_domain.specs.Order.{IsGenuine, natural_order, half};
+ghost use Rattle.circle_field.specs.Circle.{opposite, lifted};
+ghost use Rattle.circle_point.specs.Projective.{minus};
+ghost use Rattle.circle_domain.specs.Domain.{points_of, IsStandardDomain, IsGenuineDomain};
+ghost use Rattle.circle_domain.specs.Order.{half};
+ghost use Rattle.circle_domain.specs.Space.{vanishing_of, inverse_vanishing_of};
+ghost use Rattle.circle_domain.specs.Space.{first_row_of, last_row_of, transition_of};
 ghost use Rattle.circle_point.specs.Point.{coordinates};
 ghost use Rattle.circle_point.specs.Projective.{from_line};
 ghost use Rattle.circle_domain.specs.Selectors.{IsFinite, IsLeastLog, zero_at};
@@ -22,7 +26,21 @@ use std::alloc::{AllocError, Global};
 /// `-shift + (a + 1) * g`, where `g` generates the group of `2^(log_n - 1)` points
 /// (Circle STARKs, IACR ePrint 2024/278, section 3.1).
 ///
-/// In natural order the points of the two halves take turns, beginning with the shift.
+/// In natural order the points of the two halves take turns, beginning with the shift. Eight points
+/// by their places in this order, where the first half has the even places:
+///
+/// ```text
+///        2     1
+///     3           0 = shift
+///     4           7 = -shift
+///        5     6
+/// ```
+///
+/// `2 = shift + g` and so on are the first half, `1 = -shift + g`, `3 = -shift + 2 * g` and so on
+/// the second. Each point's opposite, across the x axis, is in the other half, so that the first
+/// step of the transform, which pairs opposite points, has a point of each half in every pair. For
+/// a standard domain, as here, the order is once round the circle; for another shift the halves are
+/// turned against each other, and where they meet the domain isn't genuine.
 #[derive(PartialEq, Eq, Debug)]
 pub struct CircleDomain<F: Operations> {
     log_n: usize,
@@ -74,7 +92,6 @@ impl<F: ComplexExtendable> CircleDomain<F> {
     ghost use Rattle.circle_point.specs.Point.{coordinates};
     ghost use Rattle.circle_domain.specs.Domain.{log_size, shift_of, points_left, coset_left};
     ghost use Rattle.circle_domain.specs.Clear.{IsClearOf};
-    ghost use Rattle.circle_domain.specs.Selectors.{vanishing_on, first_row, last_row, transition};
 
     /// The standard domain of `2^log_n` points: all points of order `2^(log_n + 1)`.
     ///
@@ -92,7 +109,7 @@ impl<F: ComplexExtendable> CircleDomain<F> {
 
     /// Whether the two halves are disjoint, so that the domain has `2^log_n` different points.
     pub fn is_genuine(&self) -> bool
-        ensures { IsTrue result ↔ IsGenuine F.ops (log_size self.now) (shift_of self.now) }
+        ensures { IsTrue result ↔ IsGenuineDomain F.ops self.now }
     {
         1 <= self.log_n && self.shift.repeated_double(self.log_n) != Point::<F>::ZERO
     }
@@ -103,15 +120,18 @@ impl<F: ComplexExtendable> CircleDomain<F> {
     pub fn is_standard(&self) -> bool
         requires positive { 1 ≤ log_size self.now }
         requires in_group { log_size self.now ≤ F.CIRCLE_TWO_ADICITY }
-        ensures { IsTrue result ↔ ((log_size self.now < F.CIRCLE_TWO_ADICITY)
-            × (shift_of self.now ≡ F.generators (log_size self.now + 1))) }
+        ensures { IsTrue result ↔ IsStandardDomain F.CIRCLE_TWO_ADICITY F.generators self.now }
     {
         let next = self.log_n + 1;
         next <= F::CIRCLE_TWO_ADICITY && self.shift == Point::generator(next)
     }
 
-    /// Whether `(at - P).y` is not zero for every point `P` of the domain: `at` is none of the points,
-    /// and none plus `(-1, 0)`.
+    /// Whether `(at - P).y` is not zero for every point `P` of the domain: `at` is none of the
+    /// points, and none plus `(-1, 0)`.
+    ///
+    /// It costs `log_n` doublings, not a step for each point. The point of a coordinate `t` of the
+    /// projective line is `Point::from_projective_line(t)`, which is also the test for a coordinate
+    /// that is not at infinity.
     ///
     /// Asks `1 <= log_n <= CIRCLE_TWO_ADICITY`.
     pub fn is_clear_of<EF: ExtensionField<F>>(&self, at: Point<EF>) -> bool
@@ -158,7 +178,8 @@ impl<F: ComplexExtendable> CircleDomain<F> {
     pub fn coset0(&self) -> CircleCoset<F>
         requires positive { 1 ≤ log_size self.now }
         requires in_group { log_size self.now ≤ F.CIRCLE_TWO_ADICITY }
-        ensures { coset_left F.ops result ≡ half F.ops F.generators (log_size self.now) (shift_of self.now) 0 }
+        ensures { coset_left F.ops result
+            ≡ half F.ops F.generators (log_size self.now) (shift_of self.now) 0 }
     {
         CircleCoset {
             current: self.shift,
@@ -173,7 +194,8 @@ impl<F: ComplexExtendable> CircleDomain<F> {
     pub fn coset1(&self) -> CircleCoset<F>
         requires positive { 1 ≤ log_size self.now }
         requires in_group { log_size self.now ≤ F.CIRCLE_TWO_ADICITY }
-        ensures { coset_left F.ops result ≡ half F.ops F.generators (log_size self.now) (opposite F.ops (shift_of self.now)) 1 }
+        ensures { coset_left F.ops result
+            ≡ half F.ops F.generators (log_size self.now) (opposite F.ops (shift_of self.now)) 1 }
     {
         let step = self.subgroup_generator();
         CircleCoset {
@@ -204,7 +226,7 @@ impl<F: ComplexExtendable> CircleDomain<F> {
     // The vanishing polynomial of the domain at a point.
     fn vanishing_poly<EF: ExtensionField<F>>(&self, at: Point<EF>) -> EF
         requires { 1 ≤ log_size self.now }
-        ensures { result ≡ vanishing_on EF.ops (log_size self.now) (lifted EF.embed (shift_of self.now)) (coordinates at) }
+        ensures { result ≡ vanishing_of EF.ops EF.embed self.now (coordinates at) }
     {
         at.v_n(self.log_n) - EF::from_base(self.shift.v_n(self.log_n))
     }
@@ -212,12 +234,17 @@ impl<F: ComplexExtendable> CircleDomain<F> {
     // The selectors of the rows at a point.
     fn selectors_at<EF: ExtensionField<F>>(&self, at: Point<EF>) -> LagrangeSelectors<EF>
         requires in_group { log_size self.now ≤ F.CIRCLE_TWO_ADICITY }
-        requires genuine { IsGenuine F.ops (log_size self.now) (shift_of self.now) }
-        requires clear { IsClearOf EF.ops EF.embed (points_of F.ops F.generators self.now) (coordinates at) }
-        ensures first { result.is_first_row ≡ first_row EF.ops (log_size self.now) (lifted EF.embed (shift_of self.now)) (coordinates at) }
-        ensures last { result.is_last_row ≡ last_row EF.ops (log_size self.now) (lifted EF.embed (shift_of self.now)) (coordinates at) }
-        ensures transition { result.is_transition ≡ transition EF.ops (log_size self.now) (lifted EF.embed (shift_of self.now)) (coordinates at) }
-        ensures inverse { result.inv_vanishing ≡ EF.ops.inv (vanishing_on EF.ops (log_size self.now) (lifted EF.embed (shift_of self.now)) (coordinates at)) }
+        requires genuine { IsGenuineDomain F.ops self.now }
+        requires clear { IsClearOf EF.ops EF.embed
+            (points_of F.ops F.generators self.now) (coordinates at) }
+        ensures first { result.is_first_row
+            ≡ first_row_of EF.ops EF.embed self.now (coordinates at) }
+        ensures last { result.is_last_row
+            ≡ last_row_of EF.ops EF.embed self.now (coordinates at) }
+        ensures transition { result.is_transition
+            ≡ transition_of EF.ops EF.embed self.now (coordinates at) }
+        ensures inverse { result.inv_vanishing
+            ≡ inverse_vanishing_of EF.ops EF.embed self.now (coordinates at) }
     {
         let vanishing = self.vanishing_poly(at);
         let normaliser = inverse((-self.shift).s_p_at_p(self.log_n));
@@ -244,18 +271,17 @@ impl<F: ComplexExtendable> CircleDomain<F> {
 impl<F: ComplexExtendable> PolynomialSpace for CircleDomain<F> {
     type Val = F;
 
-    ghost use Rattle.circle_field.specs.Circle.{Coordinates};
     ghost use Rattle.circle_point.specs.Projective.{to_line, from_line, half_turn};
-    ghost use Rattle.circle_domain.specs.Domain.{log_size, shift_of, IsStandardDomain};
-    ghost use Rattle.circle_commit.specs.Matrix.{IsPowerOfTwo, mapped_rows};
+    ghost use Rattle.circle_domain.specs.Domain.{log_size, shift_of, IsStandardOf};
+    ghost use Rattle.circle_commit.specs.Matrix.{IsPowerOfTwo};
     ghost use Rattle.circle_commit.specs.RowMajorMatrix.{rows, width_of, height_of};
-    ghost use Rattle.circle_domain.specs.Splitting.{part_of, place_in, place_of};
-    ghost use Rattle.std.specs.List.{range_with_len};
-    ghost use Rattle.circle_point.specs.Basis.{value};
-    ghost use Rattle.circle_field.specs.Circle.{times};
-    ghost use Rattle.circle_domain.specs.Periodic.{IsPeriodicValue};
-    ghost use Rattle.circle_domain.specs.Values.{Interpolates};
-    ghost use Rattle.circle_domain.specs.Selectors.{IsFinite, IsLeastLog, AreDisjoint, other_than, next_from, vanishing_on, first_row, last_row, transition};
+    ghost use Rattle.circle_domain.specs.Splitting.{split_rows, EachRowGoes};
+    ghost use Rattle.circle_domain.specs.Periodic.{IsPeriodicValue, IsClearOfPeriod};
+    ghost use Rattle.circle_domain.specs.Values.{IsValueOfOne, IsValueOfEach};
+    ghost use Rattle.circle_domain.specs.Selectors.{IsFinite, IsLeastLog, other_than};
+    ghost use Rattle.circle_domain.specs.Space.{next_in, HasNoNext, StepsAlong, HasNoOther};
+    ghost use Rattle.circle_domain.specs.Space.{AreApart, AreMadeUpOf};
+    ghost use Rattle.circle_domain.specs.Space.{EachPointGoes, EachPointWouldGo};
     ghost use Rattle.circle_domain.specs.Clear.{IsClearOf};
 
     ghost size_asks = { λ d. log_size d ≤ 63 };
@@ -271,66 +297,75 @@ impl<F: ComplexExtendable> PolynomialSpace for CircleDomain<F> {
     ghost next_point_asks = { λ d. (1 ≤ log_size d) × (log_size d ≤ F.CIRCLE_TWO_ADICITY) };
 
     ghost next_point_gives = { λ e l embed d t r.
-        (IsNone r ↔ ((IsStandardDomain F.CIRCLE_TWO_ADICITY F.generators d → ⊥)
-        ⊎ (IsFinite l t → ⊥)
-        ⊎ (next_from l embed F.generators (log_size d) t ≡ half_turn l)))
-        × IfSome r (λ next. next ≡ to_line l (next_from l embed F.generators (log_size d) t)) };
+        (IsNone r ↔ HasNoNext l embed d F.CIRCLE_TWO_ADICITY F.generators t)
+        × IfSome r (λ next. next ≡ to_line l (next_in l embed d F.generators t)) };
 
-    ghost try_create_disjoint_domain_asks = { λ d. (1 ≤ log_size d) × (log_size d ≤ F.CIRCLE_TWO_ADICITY) };
+    ghost try_create_disjoint_domain_asks = { λ d.
+        (1 ≤ log_size d) × (log_size d ≤ F.CIRCLE_TWO_ADICITY) };
 
     ghost try_create_disjoint_domain_gives = { λ d m r.
-        ((k : ℕ) → IsLeastLog m k → (IsNone r ↔ ((IsStandardDomain F.CIRCLE_TWO_ADICITY F.generators d → ⊥)
-        ⊎ (F.CIRCLE_TWO_ADICITY < other_than (log_size d) k + 1))))
-        × IfSome r (λ other. (k : ℕ) → IsLeastLog m k → (log_size other ≡ other_than (log_size d) k)
-        × (shift_of other ≡ F.generators (log_size other + 1))) };
+        ((k : ℕ) → IsLeastLog m k →
+        (IsNone r ↔ HasNoOther F.CIRCLE_TWO_ADICITY F.generators d k))
+        × IfSome r (λ other. (k : ℕ) → IsLeastLog m k →
+        IsStandardOf F.generators (other_than (log_size d) k) other) };
 
     ghost split_domains_asks = { λ d c. IsStandardDomain F.CIRCLE_TWO_ADICITY F.generators d
         × IsPowerOfTwo c × (2 * c ≤ 2 ^ log_size d) };
 
-    ghost split_domains_gives = { λ d c parts. All (λ part. 2 ^ log_size part * c ≡ 2 ^ log_size d) parts
+    ghost split_domains_gives = { λ d c parts.
+        All (λ part. 2 ^ log_size part * c ≡ 2 ^ log_size d) parts
         × (map shift_of parts ≡ take c (points_of F.ops F.generators d)) };
 
-    ghost split_evals_asks = { λ d c evals. (log_size d ≤ 63) × (height_of evals ≡ 2 ^ log_size d) × IsPowerOfTwo c
-        × (2 * c ≤ 2 ^ log_size d) };
+    ghost split_evals_asks = { λ d c evals. (log_size d ≤ 63)
+        × (height_of evals ≡ 2 ^ log_size d) × IsPowerOfTwo c × (2 * c ≤ 2 ^ log_size d) };
 
-    ghost split_evals_gives = { λ d c evals parts. map rows parts
-        ≡ map (λ j. mapped_rows (place_of c j) (2 ^ log_size d / c) (rows evals)) (range_with_len 0 c) };
+    ghost split_evals_gives = { λ d c evals parts.
+        map rows parts ≡ split_rows c (2 ^ log_size d) (rows evals) };
 
     ghost vanishing_poly_at_point_asks = { λ e l embed d t. (1 ≤ log_size d) × IsFinite l t };
 
     ghost vanishing_poly_at_point_gives = { λ e l embed d t r.
-        r ≡ vanishing_on l (log_size d) (lifted embed (shift_of d)) (from_line l t) };
+        r ≡ vanishing_of l embed d (from_line l t) };
 
-    ghost selectors_at_point_asks = { λ e l embed d t. (log_size d ≤ F.CIRCLE_TWO_ADICITY) × IsGenuine F.ops (log_size d) (shift_of d)
-        × IsFinite l t × IsClearOf l embed (points_of F.ops F.generators d) (from_line l t) };
+    ghost selectors_at_point_asks = { λ e l embed d t. (log_size d ≤ F.CIRCLE_TWO_ADICITY)
+        × IsGenuineDomain F.ops d × IsFinite l t
+        × IsClearOf l embed (points_of F.ops F.generators d) (from_line l t) };
 
-    ghost selectors_at_point_gives = { λ e l embed d t r. let n = log_size d in let s = lifted embed (shift_of d) in let at = from_line l t in
-        (r.is_first_row ≡ first_row l n s at) × (r.is_last_row ≡ last_row l n s at)
-        × (r.is_transition ≡ transition l n s at) × (r.inv_vanishing ≡ l.inv (vanishing_on l n s at)) };
+    ghost selectors_at_point_gives = { λ e l embed d t r.
+        (r.is_first_row ≡ first_row_of l embed d (from_line l t))
+        × (r.is_last_row ≡ last_row_of l embed d (from_line l t))
+        × (r.is_transition ≡ transition_of l embed d (from_line l t))
+        × (r.inv_vanishing ≡ inverse_vanishing_of l embed d (from_line l t)) };
 
-    ghost selectors_on_coset_asks = { λ d coset. (log_size d ≤ F.CIRCLE_TWO_ADICITY) × IsGenuine F.ops (log_size d) (shift_of d)
+    ghost selectors_on_coset_asks = { λ d coset. (log_size d ≤ F.CIRCLE_TWO_ADICITY)
+        × IsGenuineDomain F.ops d
         × (1 ≤ log_size coset) × (log_size coset ≤ F.CIRCLE_TWO_ADICITY)
-        × All (λ at. IsClearOf F.ops (λ x. x) (points_of F.ops F.generators d) at)
+        × All (IsClearOf F.ops (λ x. x) (points_of F.ops F.generators d))
         (points_of F.ops F.generators coset) };
 
-    ghost selectors_on_coset_gives = { λ d coset r. let points = points_of F.ops F.generators coset in
-        (r.is_first_row ≡ map (first_row F.ops (log_size d) (shift_of d)) points)
-        × (r.is_last_row ≡ map (last_row F.ops (log_size d) (shift_of d)) points)
-        × (r.is_transition ≡ map (transition F.ops (log_size d) (shift_of d)) points)
-        × (r.inv_vanishing ≡ map (λ at. F.ops.inv (vanishing_on F.ops (log_size d) (shift_of d) at)) points) };
+    ghost selectors_on_coset_gives = { λ d coset r.
+        let points = points_of F.ops F.generators coset in
+        (r.is_first_row ≡ map (first_row_of F.ops (λ x. x) d) points)
+        × (r.is_last_row ≡ map (last_row_of F.ops (λ x. x) d) points)
+        × (r.is_transition ≡ map (transition_of F.ops (λ x. x) d) points)
+        × (r.inv_vanishing ≡ map (inverse_vanishing_of F.ops (λ x. x) d) points) };
 
-    ghost evaluate_polynomial_at_asks = { λ e l embed d evals t. IsStandardDomain F.CIRCLE_TWO_ADICITY F.generators d
+    ghost evaluate_polynomial_at_asks = { λ e l embed d evals t.
+        IsStandardDomain F.CIRCLE_TWO_ADICITY F.generators d
         × (1 ≤ log_size d) × (length evals ≡ 2 ^ log_size d) × IsFinite l t
         × IsClearOf l embed (points_of F.ops F.generators d) (from_line l t) };
 
-    ghost evaluate_polynomial_at_gives = { λ e l embed d evals t v. (coeffs : List F) × Interpolates F.ops F.generators (log_size d) (shift_of d) coeffs evals
-        × (v ≡ value l (map embed coeffs) (from_line l t)) };
+    ghost evaluate_polynomial_at_gives = { λ e l embed d evals t v.
+        IsValueOfOne F.ops F.generators l embed
+        (log_size d) (shift_of d) evals (from_line l t) v };
 
     ghost evaluate_periodic_column_at_asks = { λ e l embed d col t. 2 ≤ length col →
-        IsStandardDomain F.CIRCLE_TWO_ADICITY F.generators d × IsPowerOfTwo (length col) × (length col ≤ 2 ^ log_size d) × IsFinite l t
-        × ((j : ℕ) → 1 ≤ j → length col ≡ 2 ^ j → IsClearOf l embed (natural_order F.ops F.generators j (F.generators (j + 1))) (times l (2 ^ (log_size d - j)) (from_line l t))) };
+        IsStandardDomain F.CIRCLE_TWO_ADICITY F.generators d
+        × IsPowerOfTwo (length col) × (length col ≤ 2 ^ log_size d) × IsFinite l t
+        × IsClearOfPeriod F.ops F.generators l embed (log_size d) col (from_line l t) };
 
-    ghost evaluate_periodic_column_at_gives = { λ e l embed d col t v. IsPeriodicValue F.ops F.generators l embed (log_size d) col (from_line l t) v };
+    ghost evaluate_periodic_column_at_gives = { λ e l embed d col t v.
+        IsPeriodicValue F.ops F.generators l embed (log_size d) col (from_line l t) v };
 
     fn size(&self) -> usize {
         CircleDomain::size(self)
@@ -343,7 +378,7 @@ impl<F: ComplexExtendable> PolynomialSpace for CircleDomain<F> {
 
     /// The coordinate of the shift.
     ///
-    /// Asks that the shift is not `(-1, 0)`.
+    /// Asks that the shift is not `(-1, 0)`, so that `self.shift().to_projective_line()` is `Some`.
     fn first_point(&self) -> F {
         self.shift.to_projective_line().unwrap()
     }
@@ -356,14 +391,12 @@ impl<F: ComplexExtendable> PolynomialSpace for CircleDomain<F> {
     fn next_point<Ext: ExtensionField<F>>(&self, point: Ext) -> Option<Ext>
         requires positive { 1 ≤ log_size self.now }
         requires in_group { log_size self.now ≤ F.CIRCLE_TWO_ADICITY }
-        ensures none { IsNone result ↔ ((IsStandardDomain F.CIRCLE_TWO_ADICITY F.generators self.now → ⊥)
-            ⊎ (IsFinite Ext.ops point → ⊥)
-            ⊎ (next_from Ext.ops Ext.embed F.generators (log_size self.now) point ≡ half_turn Ext.ops)) }
-        ensures value { IfSome result (λ next. next ≡ to_line Ext.ops (next_from Ext.ops Ext.embed F.generators (log_size self.now) point)) }
-        ensures walk { IsStandardDomain F.CIRCLE_TWO_ADICITY F.generators self.now → (i : ℕ) (p q : Coordinates F)
-            → slice_get (points_of F.ops F.generators self.now) i ≡ Some p
-            → slice_get (points_of F.ops F.generators self.now) ((i + 1) % 2 ^ log_size self.now) ≡ Some q
-            → point ≡ to_line Ext.ops (lifted Ext.embed p) → result ≡ Some (to_line Ext.ops (lifted Ext.embed q)) }
+        ensures none { IsNone result
+            ↔ HasNoNext Ext.ops Ext.embed self.now F.CIRCLE_TWO_ADICITY F.generators point }
+        ensures value { IfSome result (λ next.
+            next ≡ to_line Ext.ops (next_in Ext.ops Ext.embed self.now F.generators point)) }
+        ensures walk { IsStandardDomain F.CIRCLE_TWO_ADICITY F.generators self.now →
+            StepsAlong Ext.ops Ext.embed self.now F.ops F.generators point result }
     {
         if !self.is_standard() {
             return None;
@@ -379,15 +412,12 @@ impl<F: ComplexExtendable> PolynomialSpace for CircleDomain<F> {
     fn try_create_disjoint_domain(&self, min_size: usize) -> Option<Self>
         requires positive { 1 ≤ log_size self.now }
         requires in_group { log_size self.now ≤ F.CIRCLE_TWO_ADICITY }
-        ensures none { (k : ℕ) → IsLeastLog min_size k → (IsNone result
-            ↔ ((IsStandardDomain F.CIRCLE_TWO_ADICITY F.generators self.now → ⊥)
-            ⊎ (F.CIRCLE_TWO_ADICITY < other_than (log_size self.now) k + 1))) }
-        ensures standard { IfSome result (λ other. (k : ℕ) → IsLeastLog min_size k → (log_size other ≡ other_than (log_size self.now) k)
-            × (shift_of other ≡ F.generators (log_size other + 1))) }
+        ensures none { (k : ℕ) → IsLeastLog min_size k →
+            (IsNone result ↔ HasNoOther F.CIRCLE_TWO_ADICITY F.generators self.now k) }
+        ensures standard { IfSome result (λ other. (k : ℕ) → IsLeastLog min_size k →
+            IsStandardOf F.generators (other_than (log_size self.now) k) other) }
         ensures enough { IfSome result (λ other. min_size ≤ 2 ^ log_size other) }
-        ensures disjoint { IfSome result (λ other. AreDisjoint
-            (points_of F.ops F.generators other)
-            (points_of F.ops F.generators self.now)) }
+        ensures disjoint { IfSome result (λ other. AreApart F.ops F.generators other self.now) }
     {
         if !self.is_standard() {
             return None;
@@ -407,25 +437,26 @@ impl<F: ComplexExtendable> PolynomialSpace for CircleDomain<F> {
 
     /// Domains of equal sizes, whose shifts are the first `num_chunks` points in natural order.
     ///
-    /// Asks a standard domain, and a number of parts that is a power of two and leaves at least two
-    /// points for each. Fails where memory is refused.
+    /// The parts of a standard domain are disjoint and make it up: each point goes to the part that
+    /// `split_evals` gives its row to.
+    ///
+    /// Asks a standard domain, as [`CircleDomain::is_standard`] tests, and a number of parts that
+    /// is a power of two, as `is_power_of_two` tests, and leaves at least two points for each.
+    /// Fails where memory is refused.
     fn split_domains(&self, alloc: Global, num_chunks: usize) -> Result<Vec<Self>, AllocError>
         requires standard { IsStandardDomain F.CIRCLE_TWO_ADICITY F.generators self.now }
         requires power { IsPowerOfTwo num_chunks }
         requires room { 2 * num_chunks ≤ 2 ^ log_size self.now }
-        ensures sizes { IfOk result (λ parts. All (λ part. 2 ^ log_size part * num_chunks ≡ 2 ^ log_size self.now) parts.items) }
+        ensures sizes { IfOk result (λ parts.
+            All (λ part. 2 ^ log_size part * num_chunks ≡ 2 ^ log_size self.now) parts.items) }
         ensures shifts { IfOk result (λ parts. map shift_of parts.items
             ≡ take num_chunks (points_of F.ops F.generators self.now)) }
-        ensures disjoint { IfOk result (λ parts. AllPairs (λ one other. AreDisjoint
-            (points_of F.ops F.generators one)
-            (points_of F.ops F.generators other)) parts.items) }
-        ensures whole { IfOk result (λ parts. (p : Coordinates F) →
-            Contains (points_of F.ops F.generators self.now) p
-            ↔ Any (λ part. Contains (points_of F.ops F.generators part) p) parts.items) }
-        ensures places { IfOk result (λ parts. (i : ℕ) (p : Coordinates F)
-            → slice_get (points_of F.ops F.generators self.now) i ≡ Some p
-            → IfSome (slice_get parts.items (part_of num_chunks i)) (λ part.
-            slice_get (points_of F.ops F.generators part) (place_in num_chunks i) ≡ Some p)) }
+        ensures disjoint { IfOk result (λ parts.
+            AllPairs (AreApart F.ops F.generators) parts.items) }
+        ensures whole { IfOk result (λ parts.
+            AreMadeUpOf F.ops F.generators self.now parts.items) }
+        ensures places { IfOk result (λ parts.
+            EachPointGoes F.ops F.generators self.now num_chunks parts.items) }
     {
         let log_n = self.log_n - log2_strict(num_chunks);
         let mut parts = Vec::with_capacity(alloc, num_chunks)?;
@@ -435,11 +466,24 @@ impl<F: ComplexExtendable> PolynomialSpace for CircleDomain<F> {
         Ok(parts)
     }
 
-    /// Row `i` goes to part `j = i mod 2c` of the `c` parts, or to `2c - 1 - j` where that `j` is at
-    /// least `c`: to the part of a standard domain that holds its point, at the point's natural place.
+    /// Row `i` goes to part `j = i mod 2c` of the `c` parts, or to `2c - 1 - j` where that `j` is
+    /// at least `c`: to the part of a standard domain that holds its point, at the point's natural
+    /// place. So the rows go forth and back over the parts. Of 16 rows with 4 parts:
     ///
-    /// Asks as many rows as points, and a number of parts that is a power of two and leaves at least
-    /// two rows for each. Fails where memory is refused.
+    /// ```text
+    ///     part 0:  0              7  8              15
+    ///     part 1:     1        6        9        14
+    ///     part 2:        2  5              10 13
+    ///     part 3:        3  4              11 12
+    /// ```
+    ///
+    /// They turn because the natural order alternates between the halves of the domain: part 0 has
+    /// shift `0` of the first half, and its second half begins at the opposite of the shift and one
+    /// step of its own, which is place `7` of the whole.
+    ///
+    /// Asks as many rows as points, and a number of parts that is a power of two, as
+    /// `is_power_of_two` tests, and leaves at least two rows for each. Fails where memory is
+    /// refused.
     fn split_evals(
         &self,
         alloc: Global,
@@ -449,17 +493,15 @@ impl<F: ComplexExtendable> PolynomialSpace for CircleDomain<F> {
         requires size { height_of evals ≡ 2 ^ log_size self.now }
         requires power { IsPowerOfTwo num_chunks }
         requires room { 2 * num_chunks ≤ 2 ^ log_size self.now }
-        ensures rows { IfOk result (λ parts. map rows parts.items
-            ≡ map (λ j. mapped_rows (place_of num_chunks j) (2 ^ log_size self.now / num_chunks) (rows evals)) (range_with_len 0 num_chunks)) }
-        ensures widths { IfOk result (λ parts. All (λ part. width_of part ≡ width_of evals) parts.items) }
-        ensures goes { IfOk result (λ parts. (i : ℕ) → i < 2 ^ log_size self.now →
-            IfSome (slice_get parts.items (part_of num_chunks i)) (λ part.
-            slice_get (rows part) (place_in num_chunks i) ≡ slice_get (rows evals) i)) }
-        ensures points { IfOk result (λ parts. IsStandardDomain F.CIRCLE_TWO_ADICITY F.generators self.now
-            → (i m : ℕ) (p s : Coordinates F) → 2 ^ m * num_chunks ≡ 2 ^ log_size self.now
-            → slice_get (points_of F.ops F.generators self.now) i ≡ Some p
-            → slice_get (points_of F.ops F.generators self.now) (part_of num_chunks i) ≡ Some s
-            → slice_get (natural_order F.ops F.generators m s) (place_in num_chunks i) ≡ Some p) }
+        ensures rows { IfOk result (λ parts.
+            map rows parts.items ≡ split_rows num_chunks (2 ^ log_size self.now) (rows evals)) }
+        ensures widths { IfOk result (λ parts.
+            All (λ part. width_of part ≡ width_of evals) parts.items) }
+        ensures goes { IfOk result (λ parts.
+            EachRowGoes num_chunks (2 ^ log_size self.now) evals parts.items) }
+        ensures points { IfOk result (λ parts.
+            IsStandardDomain F.CIRCLE_TWO_ADICITY F.generators self.now
+            → EachPointWouldGo F.ops F.generators self.now num_chunks) }
     {
         let mut parts = Vec::with_capacity(alloc, num_chunks)?;
         for part in 0..num_chunks {
@@ -471,34 +513,42 @@ impl<F: ComplexExtendable> PolynomialSpace for CircleDomain<F> {
     /// `v_n(point) - v_n(shift)` for `n = log_n`, where `v_n` is the vanishing polynomial of the
     /// standard domain (section 3.3, equation 8).
     ///
-    /// Asks `log_n >= 1` and a point that is not at infinity.
+    /// Asks `log_n >= 1` and a point that is not at infinity: `Point::from_projective_line(point)`
+    /// is `Some`.
     fn vanishing_poly_at_point<Ext: ExtensionField<F>>(&self, point: Ext) -> Ext {
         self.vanishing_poly(finite_point(point))
     }
 
-    /// The selectors at this point, with `z` the vanishing polynomial there: `z / v_tilde_shift` for
-    /// the first row, `z / v_tilde_(-shift)`, not normalised, for the last, `1` less the normalised
-    /// one of the last for the transition, and `1 / z` (section 5.1).
+    /// The selectors at this point, with `z` the vanishing polynomial there: `z / v_tilde_shift`
+    /// for the first row, `z / v_tilde_(-shift)`, not normalised, for the last, `1` less the
+    /// normalised one of the last for the transition, and `1 / z` (section 5.1).
     ///
-    /// Asks a genuine domain with `log_n <= CIRCLE_TWO_ADICITY`, and a point that is not at infinity
-    /// and is clear of the domain.
+    /// Asks a genuine domain, as [`CircleDomain::is_genuine`] tests, with `log_n <=
+    /// CIRCLE_TWO_ADICITY`, and a point that is not at infinity and is clear of the domain, as
+    /// [`CircleDomain::is_clear_of`] tests of `Point::from_projective_line(point)`.
     fn selectors_at_point<Ext: ExtensionField<F>>(&self, point: Ext) -> LagrangeSelectors<Ext>
         requires in_group { log_size self.now ≤ F.CIRCLE_TWO_ADICITY }
-        requires genuine { IsGenuine F.ops (log_size self.now) (shift_of self.now) }
+        requires genuine { IsGenuineDomain F.ops self.now }
         requires finite { IsFinite Ext.ops point }
-        requires clear { IsClearOf Ext.ops Ext.embed (points_of F.ops F.generators self.now) (from_line Ext.ops point) }
-        ensures first { result.is_first_row ≡ first_row Ext.ops (log_size self.now) (lifted Ext.embed (shift_of self.now)) (from_line Ext.ops point) }
-        ensures last { result.is_last_row ≡ last_row Ext.ops (log_size self.now) (lifted Ext.embed (shift_of self.now)) (from_line Ext.ops point) }
-        ensures transition { result.is_transition ≡ transition Ext.ops (log_size self.now) (lifted Ext.embed (shift_of self.now)) (from_line Ext.ops point) }
-        ensures inverse { result.inv_vanishing ≡ Ext.ops.inv (vanishing_on Ext.ops (log_size self.now) (lifted Ext.embed (shift_of self.now)) (from_line Ext.ops point)) }
+        requires clear { IsClearOf Ext.ops Ext.embed
+            (points_of F.ops F.generators self.now) (from_line Ext.ops point) }
+        ensures first { result.is_first_row
+            ≡ first_row_of Ext.ops Ext.embed self.now (from_line Ext.ops point) }
+        ensures last { result.is_last_row
+            ≡ last_row_of Ext.ops Ext.embed self.now (from_line Ext.ops point) }
+        ensures transition { result.is_transition
+            ≡ transition_of Ext.ops Ext.embed self.now (from_line Ext.ops point) }
+        ensures inverse { result.inv_vanishing
+            ≡ inverse_vanishing_of Ext.ops Ext.embed self.now (from_line Ext.ops point) }
     {
         self.selectors_at(finite_point(point))
     }
 
     /// The selectors at each point of another domain, in natural order.
     ///
-    /// Asks a genuine domain with `log_n <= CIRCLE_TWO_ADICITY`, and a coset with
-    /// `1 <= log_n <= CIRCLE_TWO_ADICITY` each of whose points is clear of the domain. Fails where
+    /// Asks a genuine domain, as [`CircleDomain::is_genuine`] tests, with `log_n <=
+    /// CIRCLE_TWO_ADICITY`, and a coset with `1 <= log_n <= CIRCLE_TWO_ADICITY` each of whose
+    /// points is clear of the domain, as [`CircleDomain::is_clear_of`] tests of one. Fails where
     /// memory is refused.
     fn selectors_on_coset(
         &self,
@@ -506,19 +556,19 @@ impl<F: ComplexExtendable> PolynomialSpace for CircleDomain<F> {
         coset: Self,
     ) -> Result<LagrangeSelectors<Vec<F>>, AllocError>
         requires in_group { log_size self.now ≤ F.CIRCLE_TWO_ADICITY }
-        requires genuine { IsGenuine F.ops (log_size self.now) (shift_of self.now) }
+        requires genuine { IsGenuineDomain F.ops self.now }
         requires coset_positive { 1 ≤ log_size coset }
         requires coset_in_group { log_size coset ≤ F.CIRCLE_TWO_ADICITY }
-        requires clear { All (λ at. IsClearOf F.ops (λ x. x) (points_of F.ops F.generators self.now) at)
+        requires clear { All (IsClearOf F.ops (λ x. x) (points_of F.ops F.generators self.now))
             (points_of F.ops F.generators coset) }
         ensures first { IfOk result (λ selectors. selectors.is_first_row.items
-            ≡ map (first_row F.ops (log_size self.now) (shift_of self.now)) (points_of F.ops F.generators coset)) }
+            ≡ map (first_row_of F.ops (λ x. x) self.now) (points_of F.ops F.generators coset)) }
         ensures last { IfOk result (λ selectors. selectors.is_last_row.items
-            ≡ map (last_row F.ops (log_size self.now) (shift_of self.now)) (points_of F.ops F.generators coset)) }
+            ≡ map (last_row_of F.ops (λ x. x) self.now) (points_of F.ops F.generators coset)) }
         ensures transition { IfOk result (λ selectors. selectors.is_transition.items
-            ≡ map (transition F.ops (log_size self.now) (shift_of self.now)) (points_of F.ops F.generators coset)) }
-        ensures inverse { IfOk result (λ selectors. selectors.inv_vanishing.items
-            ≡ map (λ at. F.ops.inv (vanishing_on F.ops (log_size self.now) (shift_of self.now) at)) (points_of F.ops F.generators coset)) }
+            ≡ map (transition_of F.ops (λ x. x) self.now) (points_of F.ops F.generators coset)) }
+        ensures inverse { IfOk result (λ selectors. selectors.inv_vanishing.items ≡ map
+            (inverse_vanishing_of F.ops (λ x. x) self.now) (points_of F.ops F.generators coset)) }
     {
         let points = natural_points(alloc, coset)?;
         let vanishing = vanishing_values(alloc, *self, &points)?;
@@ -535,8 +585,10 @@ impl<F: ComplexExtendable> PolynomialSpace for CircleDomain<F> {
     /// The value at this point of the only polynomial with these values in natural order (Circle
     /// STARKs, section 4.3).
     ///
-    /// Asks a standard domain of at least two points, a value for each of them, and a point that is not
-    /// at infinity and that is clear of the domain. Fails where memory is refused.
+    /// Asks a standard domain of at least two points, as [`CircleDomain::is_standard`] tests, a
+    /// value for each of them, and a point that is not at infinity and that is clear of the domain,
+    /// as [`CircleDomain::is_clear_of`] tests of `Point::from_projective_line(point)`. Fails where
+    /// memory is refused.
     fn evaluate_polynomial_at<Ext: ExtensionField<F>>(
         &self,
         alloc: Global,
@@ -547,35 +599,39 @@ impl<F: ComplexExtendable> PolynomialSpace for CircleDomain<F> {
         requires positive { 1 ≤ log_size self.now }
         requires size { length evals.now ≡ 2 ^ log_size self.now }
         requires finite { IsFinite Ext.ops point }
-        requires clear { IsClearOf Ext.ops Ext.embed (points_of F.ops F.generators self.now) (from_line Ext.ops point) }
-        ensures value { IfOk result (λ v. (coeffs : List F) × Interpolates F.ops F.generators (log_size self.now) (shift_of self.now) coeffs evals.now
-            × (v ≡ value Ext.ops (map Ext.embed coeffs) (from_line Ext.ops point))) }
-        ensures only { IfOk result (λ v. (coeffs : List F) → Interpolates F.ops F.generators (log_size self.now) (shift_of self.now) coeffs evals.now →
-            v ≡ value Ext.ops (map Ext.embed coeffs) (from_line Ext.ops point)) }
+        requires clear { IsClearOf Ext.ops Ext.embed
+            (points_of F.ops F.generators self.now) (from_line Ext.ops point) }
+        ensures value { IfOk result (IsValueOfOne F.ops F.generators Ext.ops Ext.embed
+            (log_size self.now) (shift_of self.now) evals.now (from_line Ext.ops point)) }
+        ensures only { IfOk result (IsValueOfEach F.ops F.generators Ext.ops Ext.embed
+            (log_size self.now) (shift_of self.now) evals.now (from_line Ext.ops point)) }
     {
         value_off_domain(alloc, *self, evals, finite_point(point))
     }
 
-    /// The value at this point of a column that repeats these entries over the domain: 0 for no entries,
-    /// the entry for one, and for `2^k` entries the value at the point, doubled `log_n - k` times, of the
-    /// only polynomial with these values on the standard domain of `2^k` points.
+    /// The value at this point of a column that repeats these entries over the domain: 0 for no
+    /// entries, the entry for one, and for `2^k` entries the value at the point, doubled `log_n -
+    /// k` times, of the only polynomial with these values on the standard domain of `2^k` points.
     ///
-    /// Asks nothing of a column of at most one entry. Of others asks a standard domain, a length that is
-    /// a power of two and at most the size, and a point that is not at infinity and, once doubled, clear of
-    /// that smaller domain. Fails where memory is refused.
+    /// Asks nothing of a column of at most one entry. Of others asks a standard domain, as
+    /// [`CircleDomain::is_standard`] tests, a length that is a power of two, as `is_power_of_two`
+    /// tests, and at most the size, and a point that is not at infinity and, once doubled, clear of
+    /// that smaller domain, as [`CircleDomain::is_clear_of`] tests. Fails where memory is refused.
     fn evaluate_periodic_column_at<Ext: ExtensionField<F>>(
         &self,
         alloc: Global,
         col: &[F],
         point: Ext,
     ) -> Result<Ext, AllocError>
-        requires standard { 2 ≤ length col.now → IsStandardDomain F.CIRCLE_TWO_ADICITY F.generators self.now }
+        requires standard { 2 ≤ length col.now →
+            IsStandardDomain F.CIRCLE_TWO_ADICITY F.generators self.now }
         requires power { 2 ≤ length col.now → IsPowerOfTwo (length col.now) }
         requires at_most_size { 2 ≤ length col.now → length col.now ≤ 2 ^ log_size self.now }
         requires finite { 2 ≤ length col.now → IsFinite Ext.ops point }
-        requires clear { 2 ≤ length col.now → (j : ℕ) → 1 ≤ j → length col.now ≡ 2 ^ j →
-            IsClearOf Ext.ops Ext.embed (natural_order F.ops F.generators j (F.generators (j + 1))) (times Ext.ops (2 ^ (log_size self.now - j)) (from_line Ext.ops point)) }
-        ensures { IfOk result (λ v. IsPeriodicValue F.ops F.generators Ext.ops Ext.embed (log_size self.now) col.now (from_line Ext.ops point) v) }
+        requires clear { 2 ≤ length col.now → IsClearOfPeriod F.ops F.generators Ext.ops Ext.embed
+            (log_size self.now) col.now (from_line Ext.ops point) }
+        ensures { IfOk result (IsPeriodicValue F.ops F.generators Ext.ops Ext.embed
+            (log_size self.now) col.now (from_line Ext.ops point)) }
     {
         if col.len() == 0 {
             return Ok(Ext::ZERO);
@@ -660,8 +716,9 @@ fn finite_point<F: Field>(t: F) -> Point<F>
 // The inverse of the selector that is zero at `point` alone, at `at`: `(d.x + 1) / d.y` for
 // `d = at - point`, which has no pole where `d.y` is not 0.
 fn inverse_zero_at<F: Field, EF: ExtensionField<F>>(point: Point<F>, at: Point<EF>) -> EF
-    requires { (plus EF.ops (coordinates at) (opposite EF.ops (lifted EF.embed (coordinates point)))).y ≢ EF.ops.zero }
-    ensures { result ≡ EF.ops.inv (zero_at EF.ops (lifted EF.embed (coordinates point)) (coordinates at)) }
+    requires { (minus EF.ops EF.embed (coordinates at) (coordinates point)).y ≢ EF.ops.zero }
+    ensures { result
+        ≡ EF.ops.inv (zero_at EF.ops (lifted EF.embed (coordinates point)) (coordinates at)) }
 {
     let difference = at - point;
     (difference.x() + EF::ONE) * inverse(difference.y())

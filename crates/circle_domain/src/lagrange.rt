@@ -1,20 +1,18 @@
 //! Values off a domain from those on it, by the Lagrange polynomials of the domain's points
 //! (Circle STARKs, IACR ePrint 2024/278, section 4.3).
 //!
-//! At `at` the Lagrange polynomial of a point `p` is `(y_p + y_at) / (x_p - x_at)` times a factor that,
-//! but for its sign, all points of the domain share. The signs of `p` and of its opposite differ, so that
-//! one division serves both.
-ghost use Rattle.std.specs.Prelude.{◌≡◌, ◌≢◌, ◌≤◌, ◌^◌, ◌-◌, List, length, map, All, IfOk};
-ghost use Rattle.circle_field.specs.Field.{sub};
+//! At `at` the Lagrange polynomial of a point `p` is `(y_p + y_at) / (x_p - x_at)` times a factor
+//! that, but for its sign, all points of the domain share. The signs of `p` and of its opposite
+//! differ, so that one division serves both.
+ghost use Rattle.std.specs.Prelude.{◌≡◌, ◌≢◌, ◌≤◌, ◌^◌, ◌-◌, length, map, All, IfOk};
 ghost use Rattle.circle_field.specs.Circle.{lifted};
-ghost use Rattle.circle_point.specs.Basis.{value};
 ghost use Rattle.circle_point.specs.Point.{coordinates};
 ghost use Rattle.circle_domain.specs.Clear.{IsClearOf};
-ghost use Rattle.circle_domain.specs.Domain.{log_size, shift_of, points_of};
-ghost use Rattle.circle_domain.specs.Lagrange.{dot, shares};
-ghost use Rattle.circle_domain.specs.Order.{IsGenuine, cfft_order};
+ghost use Rattle.circle_domain.specs.Domain.{log_size, shift_of};
+ghost use Rattle.circle_domain.specs.Domain.{points_of, cfft_points_of, IsGenuineDomain};
+ghost use Rattle.circle_domain.specs.Lagrange.{dot, shares, x_difference, AreLagrangeWeights};
 ghost use Rattle.circle_domain.specs.Ordering.{reordered};
-ghost use Rattle.circle_domain.specs.Values.{Interpolates};
+ghost use Rattle.circle_domain.specs.Values.{IsValueOfOne, IsValueOfEach};
 
 use crate::domain::CircleDomain;
 use crate::ordering::{cfft_permute_index, first_points};
@@ -31,24 +29,26 @@ pub struct LagrangeWeights<EF> {
     pub scale: EF,
 }
 
-/// The Lagrange polynomials of the domain's points at `at`: the values of a polynomial with a coefficient
-/// for each point, each times its point's share, add up to its value at `at` once they are multiplied by
-/// the scale.
+/// The Lagrange polynomials of the domain's points at `at`: the values of a polynomial with a
+/// coefficient for each point, each times its point's share, add up to its value at `at` once they
+/// are multiplied by the scale.
 ///
-/// Asks a genuine domain with `log_n <= CIRCLE_TWO_ADICITY` that `at` is clear of. Fails where memory is
-/// refused.
+/// Asks a genuine domain, as [`CircleDomain::is_genuine`] tests, with `log_n <=
+/// CIRCLE_TWO_ADICITY`, that `at` is clear of, as [`CircleDomain::is_clear_of`] tests. Fails where
+/// memory is refused.
 pub fn lagrange_weights<F: ComplexExtendable, EF: ExtensionField<F>>(
     alloc: Global,
     domain: CircleDomain<F>,
     at: Point<EF>,
 ) -> Result<LagrangeWeights<EF>, AllocError>
-    requires genuine { IsGenuine F.ops (log_size domain) (shift_of domain) }
+    requires genuine { IsGenuineDomain F.ops domain }
     requires in_group { log_size domain ≤ F.CIRCLE_TWO_ADICITY }
-    requires clear { IsClearOf EF.ops EF.embed (points_of F.ops F.generators domain) (coordinates at) }
+    requires clear { IsClearOf EF.ops EF.embed
+        (points_of F.ops F.generators domain) (coordinates at) }
     ensures count { IfOk result (λ weights. length weights.shares.items ≡ 2 ^ log_size domain) }
-    ensures sum { IfOk result (λ weights. (coeffs : List F) → length coeffs ≡ 2 ^ log_size domain →
-        EF.ops.mul (dot EF.ops weights.shares.items (map EF.embed (map (value F.ops coeffs) (cfft_order F.ops F.generators (log_size domain) (shift_of domain))))) weights.scale
-        ≡ value EF.ops (map EF.embed coeffs) (coordinates at)) }
+    ensures sum { let points = cfft_points_of F.ops F.generators domain in
+        IfOk result (λ weights. AreLagrangeWeights EF.ops EF.embed F.ops (log_size domain)
+        points (coordinates at) weights.shares.items weights.scale) }
 {
     let points = first_points(alloc, domain)?;
     let shares = shares_of(alloc, &points, at)?;
@@ -61,25 +61,27 @@ pub fn lagrange_weights<F: ComplexExtendable, EF: ExtensionField<F>>(
     })
 }
 
-/// The value at `at` of the only polynomial with a coefficient for each point of the domain that has these
-/// values there, in natural order.
+/// The value at `at` of the only polynomial with a coefficient for each point of the domain that
+/// has these values there, in natural order.
 ///
-/// Asks a genuine domain with `log_n <= CIRCLE_TWO_ADICITY` that `at` is clear of, and a value for each
-/// point. Fails where memory is refused.
+/// Asks a genuine domain, as [`CircleDomain::is_genuine`] tests, with `log_n <=
+/// CIRCLE_TWO_ADICITY`, that `at` is clear of, as [`CircleDomain::is_clear_of`] tests, and a value
+/// for each point. Fails where memory is refused.
 pub fn value_off_domain<F: ComplexExtendable, EF: ExtensionField<F>>(
     alloc: Global,
     domain: CircleDomain<F>,
     evals: &[F],
     at: Point<EF>,
 ) -> Result<EF, AllocError>
-    requires genuine { IsGenuine F.ops (log_size domain) (shift_of domain) }
+    requires genuine { IsGenuineDomain F.ops domain }
     requires in_group { log_size domain ≤ F.CIRCLE_TWO_ADICITY }
     requires size { length evals.now ≡ 2 ^ log_size domain }
-    requires clear { IsClearOf EF.ops EF.embed (points_of F.ops F.generators domain) (coordinates at) }
-    ensures value { IfOk result (λ v. (coeffs : List F) × Interpolates F.ops F.generators (log_size domain) (shift_of domain) coeffs evals.now
-        × (v ≡ value EF.ops (map EF.embed coeffs) (coordinates at))) }
-    ensures only { IfOk result (λ v. (coeffs : List F) → Interpolates F.ops F.generators (log_size domain) (shift_of domain) coeffs evals.now →
-        v ≡ value EF.ops (map EF.embed coeffs) (coordinates at)) }
+    requires clear { IsClearOf EF.ops EF.embed
+        (points_of F.ops F.generators domain) (coordinates at) }
+    ensures value { IfOk result (IsValueOfOne F.ops F.generators EF.ops EF.embed
+        (log_size domain) (shift_of domain) evals.now (coordinates at)) }
+    ensures only { IfOk result (IsValueOfEach F.ops F.generators EF.ops EF.embed
+        (log_size domain) (shift_of domain) evals.now (coordinates at)) }
 {
     let weights = lagrange_weights(alloc, domain, at)?;
     Ok(reordered_dot_product(&weights.shares, evals, domain.log_n()) * weights.scale)
@@ -109,8 +111,10 @@ fn shares_of<F: Field, EF: ExtensionField<F>>(
     points: &[Point<F>],
     at: Point<EF>,
 ) -> Result<Vec<EF>, AllocError>
-    requires { All (λ d. d ≢ EF.ops.zero) (map (λ p. sub EF.ops (EF.embed (coordinates p).x) (coordinates at).x) points.now) }
-    ensures { IfOk result (λ made. made.items ≡ shares EF.ops (coordinates at) (map (λ p. lifted EF.embed (coordinates p)) points.now)) }
+    requires { All (λ d. d ≢ EF.ops.zero)
+        (map (λ p. x_difference EF.ops EF.embed (coordinates at) (coordinates p)) points.now) }
+    ensures { IfOk result (λ made. made.items ≡ shares EF.ops (coordinates at)
+        (map (λ p. lifted EF.embed (coordinates p)) points.now)) }
 {
     let differences = differences(alloc, points, at)?;
     let inverses = batch_multiplicative_inverse(alloc, &differences)?;
@@ -130,7 +134,8 @@ fn differences<F: Field, EF: ExtensionField<F>>(
     points: &[Point<F>],
     at: Point<EF>,
 ) -> Result<Vec<EF>, AllocError>
-    ensures { IfOk result (λ made. made.items ≡ map (λ p. sub EF.ops (EF.embed (coordinates p).x) (coordinates at).x) points.now) }
+    ensures { IfOk result (λ made. made.items
+        ≡ map (λ p. x_difference EF.ops EF.embed (coordinates at) (coordinates p)) points.now) }
 {
     let mut differences = Vec::with_capacity(alloc, points.len())?;
     for point in points {

@@ -13,11 +13,13 @@ use circle_field::{ComplexExtendable, Field};
 use circle_point::Point;
 use std::alloc::{AllocError, Global};
 
-/// The natural place of the point at place `index` of the transform's order, among `2^log_n` points:
-/// with `h = index / 2`, the `log_n`-bit reversal of `h` where `index` is even, and of
+/// The natural place of the point at place `index` of the transform's order, among `2^log_n`
+/// points: with `h = index / 2`, the `log_n`-bit reversal of `h` where `index` is even, and of
 /// `2^log_n - 1 - h` where it is odd.
 ///
-/// It is its own inverse. Asks `log_n <= 63` and `index < 2^log_n`.
+/// It is its own inverse, so that the rows of either order are found in the other by it.
+///
+/// Asks `log_n <= 63` and `index < 2^log_n`.
 pub fn cfft_permute_index(index: usize, log_n: usize) -> usize
     requires small { log_n ≤ 63 }
     requires in_range { index < 2 ^ log_n }
@@ -36,7 +38,8 @@ pub fn cfft_permute_index(index: usize, log_n: usize) -> usize
 
 // The number whose lowest `bit_len` bits are those of `x` in the other order.
 //
-// The halves of each block of 2 bits are exchanged, then those of 4 bits, and so on up to the whole word.
+// The halves of each block of 2 bits are exchanged, then those of 4 bits, and so on up to the whole
+// word.
 fn reverse_bits_len(x: usize, bit_len: usize) -> usize
     requires small { bit_len ≤ 63 }
     requires in_range { x < 2 ^ bit_len }
@@ -105,7 +108,7 @@ pub type CfftView<M> = RowIndexMappedView<CfftPerm, M>;
 pub trait CfftPermutable<T>: Matrix<T> {
     /// The rows in the other order of a domain, without copying them.
     ///
-    /// Asks a height that is a power of two.
+    /// Asks a height that is a power of two, as `is_power_of_two` tests.
     fn cfft_perm_rows(self) -> CfftView<Self>
         requires { IsPowerOfTwo (Self.height self) }
         ensures rows { (n : ℕ) → Self.height self ≡ 2 ^ n →
@@ -147,7 +150,8 @@ pub fn first_points<F: ComplexExtendable>(
 // Appends to the points each of them moved by `step`.
 fn append_moved<F: Field>(points: &mut Vec<Point<F>>, step: Point<F>) -> Result<(), AllocError>
     ensures { OnOk result (map coordinates points.new.items
-        ≡ map coordinates points.old.items ++ map (λ p. plus F.ops p (coordinates step)) (map coordinates points.old.items)) }
+        ≡ map coordinates points.old.items
+        ++ map (λ p. plus F.ops p (coordinates step)) (map coordinates points.old.items)) }
 {
     for i in 0..points.len() {
         let moved = points[i] + step;

@@ -3,9 +3,10 @@ ghost use Rattle.std.specs.Prelude.{◌≡◌, ◌≢◌, ◌≤◌, length, map
 ghost use Rattle.circle_field.specs.Circle.{plus, opposite};
 ghost use Rattle.circle_field.specs.Field.{sub};
 ghost use Rattle.circle_point.specs.Point.{coordinates};
-ghost use Rattle.circle_domain.specs.Domain.{log_size, shift_of, points_of};
+ghost use Rattle.circle_domain.specs.Domain.{log_size, points_of};
+ghost use Rattle.circle_domain.specs.Space.{vanishing_of};
 ghost use Rattle.circle_domain.specs.Layers.{pairwise};
-ghost use Rattle.circle_domain.specs.Selectors.{vanishing_on, zero_at};
+ghost use Rattle.circle_domain.specs.Selectors.{zero_at};
 
 use crate::domain::CircleDomain;
 use circle_field::{ComplexExtendable, Field, batch_multiplicative_inverse};
@@ -37,7 +38,7 @@ pub(crate) fn vanishing_values<F: ComplexExtendable>(
 ) -> Result<Vec<F>, AllocError>
     requires { 1 ≤ log_size domain }
     ensures { IfOk result (λ values. values.items
-        ≡ map (λ p. vanishing_on F.ops (log_size domain) (shift_of domain) (coordinates p)) points.now) }
+        ≡ map (λ p. vanishing_of F.ops (λ x. x) domain (coordinates p)) points.now) }
 {
     let log_n = domain.log_n();
     let at_shift = domain.shift().v_n(log_n);
@@ -48,11 +49,11 @@ pub(crate) fn vanishing_values<F: ComplexExtendable>(
     Ok(values)
 }
 
-/// For each point the value of the vanishing polynomial over the coordinate of the point less that of
-/// the row: the selector of the row.
+/// For each point the value of the vanishing polynomial over the coordinate of the point less that
+/// of the row: the selector of the row.
 ///
-/// Asks a value for each point, and points that differ from the row's by no y coordinate of 0. Fails
-/// where memory is refused.
+/// Asks a value for each point, and points that differ from the row's by no y coordinate of 0.
+/// Fails where memory is refused.
 pub(crate) fn row_selector<F: Field>(
     alloc: Global,
     row: Point<F>,
@@ -63,7 +64,9 @@ pub(crate) fn row_selector<F: Field>(
     requires apart { All (λ y. y ≢ F.ops.zero)
         (map (λ p. (plus F.ops (coordinates p) (opposite F.ops (coordinates row))).y) points.now) }
     ensures { IfOk result (λ values. values.items
-        ≡ pairwise (λ z p. F.ops.mul z (F.ops.inv (zero_at F.ops (coordinates row) (coordinates p)))) vanishing.now points.now) }
+        ≡ pairwise
+        (λ z p. F.ops.mul z (F.ops.inv (zero_at F.ops (coordinates row) (coordinates p))))
+        vanishing.now points.now) }
 {
     let differences = differences_in_y(alloc, row, points)?;
     let inverses = batch_multiplicative_inverse(alloc, &differences)?;
@@ -97,7 +100,8 @@ pub(crate) fn one_less_scaled<F: Field>(
     values: &[F],
     scale: F,
 ) -> Result<Vec<F>, AllocError>
-    ensures { IfOk result (λ made. made.items ≡ map (λ v. sub F.ops F.ops.one (F.ops.mul v scale)) values.now) }
+    ensures { IfOk result (λ made. made.items
+        ≡ map (λ v. sub F.ops F.ops.one (F.ops.mul v scale)) values.now) }
 {
     let mut made = Vec::with_capacity(alloc, values.len())?;
     for value in values {

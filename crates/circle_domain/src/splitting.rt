@@ -18,8 +18,8 @@ pub(crate) fn rows_of_part<F: Field>(
     requires in_range { part < num_chunks }
     requires whole { (m : ℕ) × (height_of evals.now ≡ m * (2 * num_chunks)) }
     ensures width { IfOk result (λ chunk. width_of chunk ≡ width_of evals.now) }
-    ensures rows { IfOk result (λ chunk. rows chunk
-        ≡ mapped_rows (place_of num_chunks part) (height_of evals.now / num_chunks) (rows evals.now)) }
+    ensures rows { IfOk result (λ chunk. rows chunk ≡ mapped_rows
+        (place_of num_chunks part) (height_of evals.now / num_chunks) (rows evals.now)) }
 {
     let mut values = Vec::with_capacity(alloc, evals.values().len() / num_chunks)?;
     for r in 0..evals.height() / num_chunks {

@@ -24,7 +24,8 @@ module _ {F : Type 0} (k : FieldOps F) where
   -- the product of u_i (x) over the lowest bits i of j that are 1
   abbrev pub low_bits_product : ℕ → ℕ → F → F
   low_bits_product zero j x = k.one
-  low_bits_product (suc bits) j x = k.mul (low_bits_product bits j x) (bit_factor (j / 2 ^ bits % 2) (iterated_x bits x))
+  low_bits_product (suc bits) j x =
+      k.mul (low_bits_product bits j x) (bit_factor (j / 2 ^ bits % 2) (iterated_x bits x))
 
   -- e_j: the product of u_i (x) over the bits i of j that are 1, all of which are below j
   abbrev pub x_basis : ℕ → F → F

@@ -1,4 +1,5 @@
--- The projective line as coordinates of the circle: Circle STARKs (ePrint 2024/278), section 3, Lemma 1.
+-- The projective line as coordinates of the circle.
+-- Circle STARKs (ePrint 2024/278), section 3, Lemma 1.
 use Rattle.circle_field.specs.Field.{FieldOps, sub}
 use Rattle.circle_field.specs.Circle.{Coordinates, at, plus, opposite, lifted}
 
@@ -9,7 +10,8 @@ module _ {F : Type 0} (k : FieldOps F) where
 
   -- the point ((1 - t^2) / (1 + t^2), 2 t / (1 + t^2))
   abbrev pub from_line : F → Coordinates F
-  from_line t = at (k.mul (sub k k.one (k.mul t t)) (k.inv (line_norm t))) (k.mul (k.add t t) (k.inv (line_norm t)))
+  from_line t =
+      at (k.mul (sub k k.one (k.mul t t)) (k.inv (line_norm t))) (k.mul (k.add t t) (k.inv (line_norm t)))
 
   -- the coordinate y / (x + 1)
   abbrev pub to_line : Coordinates F → F
@@ -19,6 +21,11 @@ module _ {F : Type 0} (k : FieldOps F) where
   abbrev pub half_turn : Coordinates F
   half_turn = at (k.neg k.one) k.zero
 
--- the difference p - z of a point of a field and one of its extension
-abbrev pub difference_from : {F E : Type 0} → FieldOps E → (F → E) → Coordinates F → Coordinates E → Coordinates E
-difference_from l embed p z = plus l (opposite l z) (lifted embed p)
+module _ {F E : Type 0} (l : FieldOps E) (embed : F → E) where
+  -- the difference q - p of a point of an extension and one of its field
+  abbrev pub minus : Coordinates E → Coordinates F → Coordinates E
+  minus q p = plus l q (opposite l (lifted embed p))
+
+  -- the difference p - z of a point of a field and one of its extension
+  abbrev pub difference_from : Coordinates F → Coordinates E → Coordinates E
+  difference_from p z = plus l (opposite l z) (lifted embed p)

@@ -1,6 +1,8 @@
 //! Points of the unit circle and their group (Circle STARKs, IACR ePrint 2024/278, section 3).
-ghost use Rattle.std.specs.Prelude.{◌≡◌, ◌≢◌, ◌↔◌, IsNone, IfSome, ◌≤◌, ◌<◌, ◌^◌, ◌-◌, Ok};
-ghost use Rattle.circle_field.specs.Circle.{Coordinates, IsOnCircle, at, origin, plus, opposite, times, lifted};
+ghost use Rattle.std.specs.Prelude.{◌≡◌, ◌≢◌, ◌↔◌, IsTrue, IsNone, IfSome, ◌≤◌, ◌<◌, ◌^◌, ◌-◌, Ok};
+ghost use Rattle.circle_field.specs.Circle.{Coordinates, IsOnCircle, at, origin, lifted};
+ghost use Rattle.circle_field.specs.Circle.{plus, opposite, times};
+ghost use Rattle.circle_point.specs.Projective.{minus};
 ghost use Rattle.circle_field.specs.Field.{nth_power, two, sub};
 
 use circle_field::{ComplexExtendable, ExtensionField, Field, Operations};
@@ -46,7 +48,11 @@ impl<F: Field> Neutral for Point<F> {
         y: F::ZERO,
     };
 
-    ghost ZERO = { record { x = F.ops.one; y = F.ops.zero; on_circle = origin-on_circle F.Operations.laws.ring } };
+    ghost ZERO = { record {
+      x = F.ops.one;
+      y = F.ops.zero;
+      on_circle = origin-on_circle F.Operations.laws.ring;
+    } };
 }
 
 impl<F: Field> Point<F> {
@@ -54,9 +60,16 @@ impl<F: Field> Point<F> {
     ghost use Rattle.circle_point.specs.Projective.{from_line, to_line, half_turn, difference_from};
     ghost use Rattle.circle_point.specs.Point.{coordinates};
 
+    /// Whether `x^2 + y^2 = 1`, as [`Point::new`] asks.
+    pub fn is_on_circle(x: F, y: F) -> bool
+        ensures { IsTrue result ↔ IsOnCircle F.ops (at x y) }
+    {
+        x * x + y * y == F::ONE
+    }
+
     /// The point with these coordinates.
     ///
-    /// Asks `x^2 + y^2 = 1`.
+    /// Asks `x^2 + y^2 = 1`, as [`Point::is_on_circle`] tests.
     pub fn new(x: F, y: F) -> Self
         requires { IsOnCircle F.ops (at x y) }
         ensures { coordinates result ≡ at x y }
@@ -93,7 +106,8 @@ impl<F: Field> Point<F> {
         })
     }
 
-    /// The coordinate `y / (x + 1)` of the projective line (section 3, Lemma 1). `None` at `x = -1`.
+    /// The coordinate `y / (x + 1)` of the projective line (section 3, Lemma 1). `None` at `x = -1`,
+    /// which is the point `(-1, 0)` alone.
     pub fn to_projective_line(self) -> Option<F>
         ensures none { IsNone result ↔ ((coordinates self).x ≡ F.ops.neg F.ops.one) }
         ensures value { IfSome result (λ t. t ≡ to_line F.ops (coordinates self)) }
@@ -156,10 +170,13 @@ impl<F: Field> Point<F> {
     /// The selector that is zero at this point alone, at the point `at`: the coordinate of
     /// `at - self` on the projective line (section 5.1, Lemma 11).
     ///
-    /// Asks that `at` is not `self + (-1, 0)`, the pole.
+    /// Asks that `at` is not `self + (-1, 0)`, the pole: where it isn't,
+    /// `(at - self).to_projective_line()` is `Some`, the answer.
     pub fn v_tilde_p<EF: ExtensionField<F>>(self, at: Point<EF>) -> EF
-        requires { coordinates at ≢ plus EF.ops (half_turn EF.ops) (lifted EF.embed (coordinates self)) }
-        ensures { result ≡ to_line EF.ops (plus EF.ops (coordinates at) (opposite EF.ops (lifted EF.embed (coordinates self)))) }
+        requires { coordinates at
+            ≢ plus EF.ops (half_turn EF.ops) (lifted EF.embed (coordinates self)) }
+        ensures { result
+            ≡ to_line EF.ops (minus EF.ops EF.embed (coordinates at) (coordinates self)) }
     {
         (at - self).to_projective_line().unwrap()
     }
@@ -182,9 +199,12 @@ impl<F: Field> Point<F> {
     /// simple zero there, as the real and the imaginary part of a complex number (section 3.3,
     /// equation 11): `(1 - d.x, -d.y)` with `d = self - at`.
     pub fn v_p<EF: ExtensionField<F>>(self, at: Point<EF>) -> (EF, EF)
-        ensures re { result.0 ≡ sub EF.ops EF.ops.one (difference_from EF.ops EF.embed (coordinates self) (coordinates at)).x }
-        ensures im { result.1 ≡ EF.ops.neg (difference_from EF.ops EF.embed (coordinates self) (coordinates at)).y }
-        ensures norm { EF.ops.add (EF.ops.mul result.0 result.0) (EF.ops.mul result.1 result.1) ≡ EF.ops.add result.0 result.0 }
+        ensures re { let d = difference_from EF.ops EF.embed (coordinates self) (coordinates at) in
+            result.0 ≡ sub EF.ops EF.ops.one d.x }
+        ensures im { let d = difference_from EF.ops EF.embed (coordinates self) (coordinates at) in
+            result.1 ≡ EF.ops.neg d.y }
+        ensures norm { EF.ops.add (EF.ops.mul result.0 result.0) (EF.ops.mul result.1 result.1)
+            ≡ EF.ops.add result.0 result.0 }
     {
         let difference = -at + self;
         (EF::ONE - difference.x, -difference.y)
@@ -226,18 +246,25 @@ impl<F: Field> Neg for Point<F> {
 }
 
 /// `(a, b) + (c, d) = (ac - bd, ad + bc)`, where the second point may be over a smaller field.
+///
+/// The point of the larger field stands on the left: `at + p`, since `p + at` has no operator. In a
+/// generic function the type of a constructor on the right is written out, as
+/// `at + Point::<F>::generator(n)`: each field that `EF` extends could stand there, itself too.
 impl<F: Field, EF: ExtensionField<F>> Add<Point<F>> for Point<EF> {
     type Output = Point<EF>;
 
     ghost use Rattle.circle_point.specs.Point.{coordinates};
 
-    ghost add_gives = { λ p q r. coordinates r ≡ plus EF.ops (coordinates p) (lifted EF.embed (coordinates q)) };
+    ghost add_gives = { λ p q r.
+        coordinates r ≡ plus EF.ops (coordinates p) (lifted EF.embed (coordinates q)) };
 
     fn add(self, rhs: Point<F>) -> Point<EF>
-        ensures sum { coordinates result ≡ plus EF.ops (coordinates self) (lifted EF.embed (coordinates rhs)) }
-        ensures commutes { coordinates result ≡ plus EF.ops (lifted EF.embed (coordinates rhs)) (coordinates self) }
-        ensures associates { (r : Coordinates EF) →
-            plus EF.ops (coordinates result) r ≡ plus EF.ops (coordinates self) (plus EF.ops (lifted EF.embed (coordinates rhs)) r) }
+        ensures sum { coordinates result
+            ≡ plus EF.ops (coordinates self) (lifted EF.embed (coordinates rhs)) }
+        ensures commutes { coordinates result
+            ≡ plus EF.ops (lifted EF.embed (coordinates rhs)) (coordinates self) }
+        ensures associates { let q = lifted EF.embed (coordinates rhs) in (r : Coordinates EF) →
+            plus EF.ops (coordinates result) r ≡ plus EF.ops (coordinates self) (plus EF.ops q r) }
         ensures neutral { plus EF.ops (coordinates self) (origin EF.ops) ≡ coordinates self }
     {
         let (x, y) = (EF::from_base(rhs.x), EF::from_base(rhs.y));
@@ -249,16 +276,22 @@ impl<F: Field, EF: ExtensionField<F>> Add<Point<F>> for Point<EF> {
 }
 
 /// The sum with the opposite of `rhs`, which may be over a smaller field.
+///
+/// As for the sum, the point of the larger field stands on the left; the difference the other way
+/// is `-at + p`.
 impl<F: Field, EF: ExtensionField<F>> Sub<Point<F>> for Point<EF> {
     type Output = Point<EF>;
 
     ghost use Rattle.circle_point.specs.Point.{coordinates};
 
-    ghost sub_gives = { λ p q r. coordinates r ≡ plus EF.ops (coordinates p) (opposite EF.ops (lifted EF.embed (coordinates q))) };
+    ghost sub_gives = { λ p q r.
+        coordinates r ≡ minus EF.ops EF.embed (coordinates p) (coordinates q) };
 
     fn sub(self, rhs: Point<F>) -> Point<EF>
-        ensures difference { coordinates result ≡ plus EF.ops (coordinates self) (opposite EF.ops (lifted EF.embed (coordinates rhs))) }
-        ensures undoes { plus EF.ops (coordinates result) (lifted EF.embed (coordinates rhs)) ≡ coordinates self }
+        ensures difference { coordinates result
+            ≡ minus EF.ops EF.embed (coordinates self) (coordinates rhs) }
+        ensures undoes { plus EF.ops (coordinates result) (lifted EF.embed (coordinates rhs))
+            ≡ coordinates self }
     {
         let (x, y) = (EF::from_base(rhs.x), EF::from_base(rhs.y));
         Point {
@@ -271,7 +304,8 @@ impl<F: Field, EF: ExtensionField<F>> Sub<Point<F>> for Point<EF> {
 impl<F: Field> AddAssign<Point<F>> for Point<F> {
     ghost use Rattle.circle_point.specs.Point.{coordinates};
 
-    ghost add_assign_gives = { λ p q r. coordinates r ≡ plus F.ops (coordinates p) (coordinates q) };
+    ghost add_assign_gives = { λ p q r.
+        coordinates r ≡ plus F.ops (coordinates p) (coordinates q) };
 
     fn add_assign(&mut self, rhs: Point<F>) {
         *self = *self + rhs;
