@@ -13,8 +13,8 @@ use circle_field::{ComplexExtendable, Field};
 use circle_point::Point;
 use std::alloc::{AllocError, Global};
 
-/// The factors of the blocks of each layer, beginning with the smallest blocks: entry `m` has those of
-/// the layer whose blocks have `2^(m + 1)` points.
+/// The factors of the blocks of each layer, beginning with the smallest blocks: entry `m` has
+/// those of the layer whose blocks have `2^(m + 1)` points.
 ///
 /// Asks `1 <= log_n <= CIRCLE_TWO_ADICITY`. Fails where memory is refused.
 pub fn layer_twiddles<F: ComplexExtendable>(
@@ -23,8 +23,9 @@ pub fn layer_twiddles<F: ComplexExtendable>(
 ) -> Result<Vec<Vec<F>>, AllocError>
     requires positive { 1 ≤ log_size domain }
     requires in_group { log_size domain ≤ F.CIRCLE_TWO_ADICITY }
-    ensures { IfOk result (λ twiddles. map (λ factors. factors.items) twiddles.items ≡ map (layer_factors
-        F.ops F.generators (log_size domain) (shift_of domain)) (range_with_len 0 (log_size domain))) }
+    ensures { IfOk result (λ twiddles. map (λ factors. factors.items) twiddles.items
+        ≡ map (layer_factors F.ops F.generators (log_size domain) (shift_of domain))
+        (range_with_len 0 (log_size domain))) }
 {
     let points = first_points(alloc, domain)?;
     let mut twiddles = Vec::with_capacity(alloc, domain.log_n())?;
@@ -36,7 +37,8 @@ pub fn layer_twiddles<F: ComplexExtendable>(
     Ok(twiddles)
 }
 
-/// The y coordinate of the first point of each pair of opposite points, in the order of the transform.
+/// The y coordinate of the first point of each pair of opposite points, in the order of the
+/// transform.
 ///
 /// Asks `1 <= log_n <= CIRCLE_TWO_ADICITY`. Fails where memory is refused.
 pub fn y_twiddles<F: ComplexExtendable>(
@@ -67,7 +69,8 @@ pub fn x_twiddles<F: ComplexExtendable>(
     every_second_abscissa(alloc, &first_points(alloc, domain)?)
 }
 
-// The factors of a layer, from the first points of the pairs or from the factors of the layer before.
+// The factors of a layer, from the first points of the pairs or from the factors of the layer
+// before.
 fn layer_after<F: Field>(
     alloc: Global,
     layer: usize,

@@ -76,9 +76,6 @@ module _ {F : Type 0} (k : FieldOps F) (gen : ℕ → Coordinates F) (n : ℕ) (
       ap (λ i. finish_all k gen n (2 ^ n) (block_starts k gen i n s) xs) e ∙ finish_all-one k gen n (2 ^ n) s xs (omega (arith, long))
 
   module _ (width j : ℕ) (h : j < width) where
-    column_of : List F → List F
-    column_of = stored_column k.zero width j (2 ^ n)
-
     pass-column : (low high : F → F → F → F) (m : ℕ) (ts entries : List F) → m < n → length ts ≡ 2 ^ (n - (m + 1)) → length entries ≡ 2 ^ n * width →
         stored_column k.zero width j (2 ^ n) (layer low high (2 ^ m * width) ts entries) ≡ layer low high (2 ^ m) ts (stored_column k.zero width j (2 ^ n) entries)
     pass-column low high m ts entries lt count long =
