@@ -8,6 +8,7 @@ mod tests;
 pub mod transcript;
 pub mod verifier;
 
+pub use circle_final::{x_interpolate, x_value};
 pub use circle_folding::{
     CircleFriFolding, deep_quotient_reduce_row, extract_lambda, fold_x, fold_x_row, fold_y,
 };
