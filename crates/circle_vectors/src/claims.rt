@@ -55,10 +55,12 @@ fn assert_too_small(rt: &impl Abort, answer: Answer, expected: usize) {
 // Asserts that the greatest height is past the group's.
 fn assert_too_high(rt: &impl Abort, answer: Answer, expected: usize) {
     match answer {
-        Err(FriError::GlobalMaxHeightTooLarge {
-            log_global_max_height,
-            two_adicity,
-        }) => {
+        Err(
+            FriError::GlobalMaxHeightTooLarge {
+                log_global_max_height,
+                two_adicity,
+            },
+        ) => {
             assert_eq!(rt; log_global_max_height, expected);
             assert_eq!(rt; two_adicity, 31);
         }
@@ -72,16 +74,33 @@ fn no_matrix_is_claimed(rt: HostRuntime) -> Result<(), Fail> {
     assert!(rt; matches!(answer(&nothing, 1, 0), Err(FriError::NoCommittedMatrices)));
     let empty = two_batches(rt.alloc(), &[], &[])?;
     assert!(rt; matches!(answer(&empty, 1, 0), Err(FriError::NoCommittedMatrices)));
-    assert!(rt; matches!(answer(&empty, usize::MAX, 5), Err(FriError::NoCommittedMatrices)));
+    assert!(rt;
+        matches!(
+            answer(&empty, usize::MAX, 5),
+            Err(FriError::NoCommittedMatrices)
+        )
+    );
     Ok(())
 }
 
 #[test]
 fn the_first_domain_that_is_too_small(rt: HostRuntime) -> Result<(), Fail> {
-    assert_too_small(&rt, answer(&two_batches(rt.alloc(), &[0, 4], &[])?, 1, 0), 0);
+    assert_too_small(
+        &rt,
+        answer(&two_batches(rt.alloc(), &[0, 4], &[])?, 1, 0),
+        0,
+    );
     assert_too_small(&rt, answer(&two_batches(rt.alloc(), &[3], &[1])?, 1, 1), 1);
-    assert_too_small(&rt, answer(&two_batches(rt.alloc(), &[40, 2], &[0])?, 1, 2), 2);
-    assert_too_small(&rt, answer(&two_batches(rt.alloc(), &[7], &[])?, 1, usize::MAX), 7);
+    assert_too_small(
+        &rt,
+        answer(&two_batches(rt.alloc(), &[40, 2], &[0])?, 1, 2),
+        2,
+    );
+    assert_too_small(
+        &rt,
+        answer(&two_batches(rt.alloc(), &[7], &[])?, 1, usize::MAX),
+        7,
+    );
     Ok(())
 }
 

@@ -24,6 +24,8 @@ mod points;
 pub mod quadratic;
 #[cfg(test)]
 mod records;
+#[cfg(test)]
+mod refusals;
 pub mod schemes;
 #[cfg(test)]
 mod selectors;

@@ -3,8 +3,6 @@
 
 pub mod pcs;
 pub mod proof;
-#[cfg(test)]
-mod tests;
 pub mod transcript;
 pub mod verifier;
 

@@ -1,7 +1,7 @@
 //! The texts of what is refused of an opening, and the scheme's parts.
-use crate::{CirclePcs, InputError};
 use circle_commit::{FriError, FriParameters, JsonError};
 use circle_field::Mersenne31;
+use p3_circle::{CirclePcs, InputError};
 use std::alloc::AllocError;
 use std::error::Error;
 use std::fmt::InlineText;

@@ -1,3 +1,0 @@
-//! Tests of the scheme's declarations.
-
-mod refusals;
