@@ -8,7 +8,7 @@ ghost use Rattle.circle_domain.specs.Domain.{log_size, shift_of};
 ghost use Rattle.circle_domain.specs.Order.{coset};
 
 use crate::domain::CircleDomain;
-use circle_commit::{Matrix, RowIndexMap, RowIndexMappedView, Shape};
+use circle_commit::{Matrix, MatrixShape, RowIndexMap, RowIndexMappedView};
 use circle_field::{ComplexExtendable, Field};
 use circle_point::Point;
 use std::alloc::{AllocError, Global};
@@ -110,8 +110,8 @@ pub trait CfftPermutable<T>: Matrix<T> {
         requires { IsPowerOfTwo (Self.height self) }
         ensures rows { (n : ℕ) → Self.height self ≡ 2 ^ n →
             ⟦<CfftView<Self> as Matrix<T>>⟧.rows result ≡ other_order n (Self.rows self) }
-        ensures height { ⟦<CfftView<Self> as Shape>⟧.height result ≡ Self.height self }
-        ensures width { ⟦<CfftView<Self> as Shape>⟧.width result ≡ Self.width self };
+        ensures height { ⟦<CfftView<Self> as MatrixShape>⟧.height result ≡ Self.height self }
+        ensures width { ⟦<CfftView<Self> as MatrixShape>⟧.width result ≡ Self.width self };
 }
 
 impl<T, M: Matrix<T>> CfftPermutable<T> for M {

@@ -14,7 +14,7 @@ ghost use Rattle.circle_domain.specs.Layers.{copies, every_second, layer_factors
 
 use crate::dot_product::columnwise_dot_product;
 use crate::layers::{Backward, Forward, apply_layer};
-use circle_commit::{Matrix, RowMajorMatrix, Shape};
+use circle_commit::{Matrix, MatrixShape, RowMajorMatrix};
 use circle_domain::{CfftPermutable, CfftView, CircleDomain, first_points, lagrange_weights};
 use circle_field::{
     ComplexExtendable, ExtensionField, Field, Operations, batch_multiplicative_inverse,
@@ -25,7 +25,7 @@ use std::alloc::{AllocError, Global};
 /// The values of functions at the points of a domain, a column for each function: the rows stand in
 /// the order of the circle transform.
 #[derive(Drop)]
-pub struct CircleEvaluations<F: Operations, M: Shape> {
+pub struct CircleEvaluations<F: Operations, M: MatrixShape> {
     domain: CircleDomain<F>,
     values: M,
     pub ghost small: { log_size domain ≤ 63 },
@@ -59,7 +59,7 @@ impl<F: Operations, M: Matrix<F>> CircleEvaluations<F, M> {
         ensures domain { domain_of result ≡ domain }
         ensures rows { ⟦<CfftView<M> as Matrix<F>>⟧.rows (cfft_values result) ≡ other_order (log_size domain) (M.rows values) }
         ensures back { other_order (log_size domain) (⟦<CfftView<M> as Matrix<F>>⟧.rows (cfft_values result)) ≡ M.rows values }
-        ensures width { ⟦<CfftView<M> as Shape>⟧.width (cfft_values result) ≡ M.width values }
+        ensures width { ⟦<CfftView<M> as MatrixShape>⟧.width (cfft_values result) ≡ M.width values }
     {
         CircleEvaluations::from_cfft_order(domain, values.cfft_perm_rows())
     }
@@ -78,7 +78,7 @@ impl<F: Operations, M: Matrix<F>> CircleEvaluations<F, M> {
             ≡ other_order (log_size (domain_of self)) (M.rows (cfft_values self)) }
         ensures back { other_order (log_size (domain_of self)) (⟦<CfftView<M> as Matrix<F>>⟧.rows result)
             ≡ M.rows (cfft_values self) }
-        ensures width { ⟦<CfftView<M> as Shape>⟧.width result ≡ M.width (cfft_values self) }
+        ensures width { ⟦<CfftView<M> as MatrixShape>⟧.width result ≡ M.width (cfft_values self) }
     {
         let CircleEvaluations { domain: _, values } = self;
         values.cfft_perm_rows()

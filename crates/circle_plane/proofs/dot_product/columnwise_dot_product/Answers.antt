@@ -18,7 +18,7 @@ add_multiple-requires g c =
     let i = c.loop-i.i in
     let here : i < length rows = omega (arith, c.loop-i-test.true, c.requires, g.met.M.Matrix.height_law m) in
     let there : slice_index_or rows i row ≡ row = get_or_from_slice_get rows i row row c.row.ensures in
-    ap length c.deref_mut.ensures.value ∙ ap length c.loop-i.invariant ∙ length-map-range_with_len _ 0 (g.M.Shape.width m)
+    ap length c.deref_mut.ensures.value ∙ ap length c.loop-i.invariant ∙ length-map-range_with_len _ 0 (g.M.MatrixShape.width m)
     ∙ sym (ap length (sym there) ∙ g.met.M.Matrix.width_law m i row here)
 
 pub loop-i-preserved : goal.loop-i-preserved
@@ -27,7 +27,7 @@ loop-i-preserved g c =
     let z = g.F.Operations.ops.zero in
     let matrix = c.args.matrix.now in
     let rows = g.M.Matrix.rows matrix in
-    let width = g.M.Shape.width matrix in
+    let width = g.M.MatrixShape.width matrix in
     let ws = c.args.weights.now in
     let row = c.row.result.now in
     let i = c.loop-i.i in
@@ -50,7 +50,7 @@ returns g c =
     let z = g.F.Operations.ops.zero in
     let matrix = c.args.matrix.now in
     let rows = g.M.Matrix.rows matrix in
-    let width = g.M.Shape.width matrix in
+    let width = g.M.MatrixShape.width matrix in
     let ws = c.args.weights.now in
     let i = c.loop-i.i in
     let part = partial l m g.EF.Operations.laws.ring z ws rows i in

@@ -20,7 +20,7 @@ invariant_of-result g c =
     let m = c.requires.0 in
     let same : h ≡ m = c.new.ensures ∙ log_of_power c.ilog2-log_height.result m (omega (arith, c.ilog2-log_height.ensures.power_le, c.requires.1, c.height.ensures))
     (omega (arith, c.ilog2-log_height.ensures.next_power_gt, c.requires.1, c.height.ensures)) in
-    let rows : 2 ^ h ≡ g.M.Shape.height c.args.self = ap (λ n. 2 ^ n) same ∙ sym c.requires.1 in
+    let rows : 2 ^ h ≡ g.M.MatrixShape.height c.args.self = ap (λ n. 2 ^ n) same ∙ sym c.requires.1 in
     record { in_range = λ r lt. subst (λ n. cfft_index h r < n) rows (cfft_index-below h r) }
 
 pub returns-clause-rows : goal.returns-clause-rows

@@ -21,7 +21,7 @@ returns-clause-only g c =
     let values = c.args.self.now.values in
     let n = log_size c.args.self.now.domain in
     let s = shift_of c.args.self.now.domain in
-    let width = g.M.Shape.width values in
+    let width = g.M.MatrixShape.width values in
     let rows = g.M.Matrix.rows values in
     let weights = c.in_ok-weights.weights in
     let old = c.in_ok-values.values in
@@ -41,5 +41,5 @@ returns-clause-values g c =
     let n = log_size c.args.self.now.domain in
     let s = shift_of c.args.self.now.domain in
     let told = rows-told g.F.Operations.laws g.met.F.ComplexExtendable.generators_law n s (let fits = c.requires.in_group in omega (arith, fits)) c.args.self.now.domain.shift.on_circle c.requires.genuine
-    (g.M.Shape.width values) (g.M.Matrix.rows values) (g.met.M.Matrix.width_positive values) (g.met.M.Matrix.height_law values ∙ c.args.self.now.row_for_each_point) (g.met.M.Matrix.width_law values) in
+    (g.M.MatrixShape.width values) (g.M.Matrix.rows values) (g.met.M.Matrix.width_positive values) (g.met.M.Matrix.height_law values ∙ c.args.self.now.row_for_each_point) (g.met.M.Matrix.width_law values) in
     (told.0, told.1, returns-clause-only g c told.0 told.1)

@@ -11,7 +11,7 @@ invariant-loop-factors g l =
     let k = g.F.Operations.ops in
     let n = log_size l.fn.self.domain in
     let s = shift_of l.fn.self.domain in
-    let width = g.M.Shape.width l.fn.self.values in
+    let width = g.M.MatrixShape.width l.fn.self.values in
     record {
       part : l.half ≡ 2 ^ l.factors-index * width;
       long : length l.entries.items ≡ 2 ^ n * width;
