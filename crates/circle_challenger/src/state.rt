@@ -18,10 +18,10 @@ use std::marker::PhantomData;
 /// A transcript that is played: the challenger that it borrows, and for contracts alone the steps
 /// that are still due.
 ///
-/// `S` is the side that plays it. It has no `Drop`: it is spent by `finish` or `abort`, or handed on
-/// by `pause`. So a `?` may not leave the function that owns one. Play it in a function that takes it
-/// by `&mut`, where `?` is free; then `finish` it where that function answered and `abort` it where
-/// it failed; and then `?` on the answer.
+/// `S` is the side that plays it. It has no `Drop`: it is spent by `finish` or `abort`, or handed
+/// on by `pause`. So a `?` may not leave the function that owns one. Play it in a function that
+/// takes it by `&mut`, where `?` is free; then `finish` it where that function answered and `abort`
+/// it where it failed; and then `?` on the answer.
 pub struct TranscriptState<'a, C, F, S> {
     challenger: &'a mut C,
     due: StepsDue,

@@ -35,8 +35,9 @@ where
     ensures same_reference { SameChallenger transcript.old transcript.new }
     ensures due { HasPlayed (claim_steps EF.DEGREE (length values.now)) (due transcript.old)
         (due transcript.new) }
-    ensures state { C.state (current transcript.new) ≡ after_claims ⟦<C as FieldChallenger<F, EF>>⟧.moves
-        (C.state (current transcript.old)) (claim (coordinates point) values.now ∷ []) }
+    ensures state { C.state (current transcript.new) ≡ after_claims
+        ⟦<C as FieldChallenger<F, EF>>⟧.moves (C.state (current transcript.old))
+        (claim (coordinates point) values.now ∷ []) }
 {
     transcript.observe_extension_pair(OPENING_POINT, &point.x(), &point.y());
     transcript.observe_extensions(OPENED_VALUES, values);
@@ -54,8 +55,9 @@ where
     ensures same_reference { SameChallenger transcript.old transcript.new }
     ensures due { HasPlayed (flat_map (claim_steps EF.DEGREE) (widths_of (claims_of claims.now)))
         (due transcript.old) (due transcript.new) }
-    ensures state { C.state (current transcript.new) ≡ after_claims ⟦<C as FieldChallenger<F, EF>>⟧.moves
-        (C.state (current transcript.old)) (claims_of claims.now) }
+    ensures state { C.state (current transcript.new) ≡ after_claims
+        ⟦<C as FieldChallenger<F, EF>>⟧.moves (C.state (current transcript.old))
+        (claims_of claims.now) }
 {
     for (point, values) in claims {
         observe_claim::<C, F, EF, S>(transcript, *point, values);
@@ -226,8 +228,8 @@ where
     requires narrow { width ≤ 63 }
     ensures same_reference { SameChallenger transcript.old transcript.new }
     ensures due { OnOk result (HasPlayed
-        (guarded_numbers_steps QUERY_POW.now bits QUERY_INDICES.now width count) (due transcript.old)
-        (due transcript.new)) }
+        (guarded_numbers_steps QUERY_POW.now bits QUERY_INDICES.now width count)
+        (due transcript.old) (due transcript.new)) }
     ensures needed { IfOk result (λ r. IsNone r.1 ↔ (bits ≡ 0)) }
     ensures passes { let s = C.state (current transcript.old) in IfOk result (λ r.
         IsTrue (passes C.after_observe C.sampled_bits s bits (unwrap_or r.1 F.ops.zero))) }
@@ -271,8 +273,8 @@ where
     requires narrow { width ≤ 63 }
     ensures same_reference { SameChallenger transcript.old transcript.new }
     ensures due { OnOk result (HasPlayed
-        (guarded_numbers_steps QUERY_POW.now bits QUERY_INDICES.now width count) (due transcript.old)
-        (due transcript.new)) }
+        (guarded_numbers_steps QUERY_POW.now bits QUERY_INDICES.now width count)
+        (due transcript.old) (due transcript.new)) }
     ensures passes { let s = C.state (current transcript.old) in OnOk result (IsTrue
         (passes C.after_observe C.sampled_bits s bits witness)) }
     ensures indices { let s = C.state (current transcript.old) in IfOk result (λ r.

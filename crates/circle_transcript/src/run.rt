@@ -72,18 +72,21 @@ where
     requires small { (numbers transcript.old).commit_pow_bits ≤ 63 }
     ensures same { IsSame transcript.old transcript.new }
     ensures due { let bits = (numbers transcript.old).commit_pow_bits in OnOk result (HasPlayed
-        (rounds_steps EF.DEGREE bits (length commitments.now)) (due transcript.old) (due transcript.new)) }
+        (rounds_steps EF.DEGREE bits (length commitments.now))
+        (due transcript.old) (due transcript.new)) }
     ensures passes { let m = ⟦<C as RunChallenger<F, EF, Com>>⟧.run in
         let bits = (numbers transcript.old).commit_pow_bits in OnOk result (rounds_pass m bits
         (C.state (current transcript.old)) (zip commitments.now witnesses.now) ≡ true) }
     ensures challenges { let m = ⟦<C as RunChallenger<F, EF, Com>>⟧.run in
         let bits = (numbers transcript.old).commit_pow_bits in IfOk result (λ v.
         map EF.coefficients v.items ≡
-        fold_challenges m bits (C.state (current transcript.old)) (zip commitments.now witnesses.now)) }
+        fold_challenges m bits (C.state (current transcript.old))
+        (zip commitments.now witnesses.now)) }
     ensures state { let m = ⟦<C as RunChallenger<F, EF, Com>>⟧.run in
         let bits = (numbers transcript.old).commit_pow_bits in OnOk result
         (C.state (current transcript.new) ≡
-        after_rounds m bits (C.state (current transcript.old)) (zip commitments.now witnesses.now)) }
+        after_rounds m bits (C.state (current transcript.old))
+        (zip commitments.now witnesses.now)) }
     ensures failure { let m = ⟦<C as RunChallenger<F, EF, Com>>⟧.run in
         let bits = (numbers transcript.old).commit_pow_bits in IfErr result (λ e. (e ≡ Memory)
         ⊎ ((e ≡ PowWitness CommitPhase bits) × (rounds_pass m bits
@@ -162,11 +165,11 @@ where
     requires rounds { length messages.now.commitments.now ≡ shape.num_commit_rounds }
     requires paired { length witnesses.now.rounds.items ≡ length messages.now.commitments.now }
     requires small { ArePlayable (numbers_of (shape_of shape)) }
-    ensures draws { let m = ⟦<C as RunChallenger<F, EF, Com>>⟧.run in IfOk result (λ d.
-        Draws m shape (taken_of claims.now messages.now witnesses.now) challenger.old d challenger.new) }
+    ensures draws { let taken = taken_of claims.now messages.now witnesses.now in IfOk result (λ d.
+        Draws ⟦<C as RunChallenger<F, EF, Com>>⟧.run shape taken challenger.old d challenger.new) }
     ensures below { IfOk result (λ d. All (λ i. i < 2 ^ shape.index_bits) d.indices.items) }
-    ensures failure { let taken = taken_of claims.now messages.now witnesses.now in IfErr result (λ e.
-        (e ≡ Memory) ⊎ Misses ⟦<C as RunChallenger<F, EF, Com>>⟧.run shape taken challenger.old e) }
+    ensures failure { let taken = taken_of claims.now messages.now witnesses.now in IfErr result
+        (λ e. (e ≡ Memory) ⊎ Misses ⟦<C as RunChallenger<F, EF, Com>>⟧.run shape taken challenger.old e) }
 {
     let mut transcript = CircleVerifierTranscript::<C, F, EF>::new(alloc, challenger, shape)?;
     match checking_run(alloc, &mut transcript, claims, messages, witnesses) {
@@ -196,7 +199,8 @@ where
     requires small { (numbers transcript.old).commit_pow_bits ≤ 63 }
     ensures same { IsSame transcript.old transcript.new }
     ensures due { let bits = (numbers transcript.old).commit_pow_bits in OnOk result (HasPlayed
-        (rounds_steps EF.DEGREE bits (length commitments.now)) (due transcript.old) (due transcript.new)) }
+        (rounds_steps EF.DEGREE bits (length commitments.now))
+        (due transcript.old) (due transcript.new)) }
     ensures count { IfOk result (λ r. length r.1.items ≡ length commitments.now) }
     ensures easy { IfOk result (λ r. (numbers transcript.old).commit_pow_bits ≡ 0 →
         All (λ w. w ≡ F.ops.zero) r.1.items) }

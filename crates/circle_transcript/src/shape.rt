@@ -196,8 +196,8 @@ impl CirclePcsShape {
     ) -> Result<bool, AllocError>
         ensures same { IfOk result (λ same. IsTrue same ↔ (text_of EF.DEGREE (shape_of self.now)
             ≡ text_of EF.DEGREE (shape_of other.now))) }
-        ensures told { IfOk result (λ same. text_of EF.DEGREE (shape_of self.now) ≡
-            text_of EF.DEGREE (shape_of other.now) → IsSameRun (shape_of self.now) (shape_of other.now)) }
+        ensures told { IfOk result (λ same. text_of EF.DEGREE (shape_of self.now) ≡ text_of
+            EF.DEGREE (shape_of other.now) → IsSameRun (shape_of self.now) (shape_of other.now)) }
     {
         let own = self.domain_separator::<F, EF>(alloc)?;
         let others = other.domain_separator::<F, EF>(alloc)?;
@@ -291,7 +291,8 @@ fn push_batches(
     batches: &[Vec<Vec<usize>>],
 ) -> Result<(), AllocError>
     ensures { OnOk result (Appends steps.old.items steps.new.items
-        (flat_map (claim_steps degree) (flat_map (λ m. m) (flat_map (λ b. b) (batches_of batches.now))))) }
+        (flat_map (claim_steps degree)
+        (flat_map (λ m. m) (flat_map (λ b. b) (batches_of batches.now))))) }
 {
     for batch in batches {
         push_matrices(steps, degree, batch)?;
@@ -306,7 +307,8 @@ fn push_batch_challenge(
     bits: usize,
 ) -> Result<(), AllocError>
     ensures { OnOk result (Appends steps.old.items steps.new.items
-        (pow_steps (codes "batch_pow") bits ++ element_challenge degree (codes "batch_challenge") ∷ [])) }
+        (pow_steps (codes "batch_pow") bits
+        ++ element_challenge degree (codes "batch_challenge") ∷ [])) }
 {
     push_pow(steps, BATCH_POW, bits)?;
     steps.push(algebra(Kind::Challenge, BATCH_CHALLENGE, degree, Length::Scalar))?;

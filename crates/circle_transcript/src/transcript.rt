@@ -50,10 +50,10 @@ struct Seeded {
 /// The transcript of one run: the challenger that it borrows, what its calls read of the shape that
 /// the run was described by, and for contracts alone the steps that are still due.
 ///
-/// `S` is the side that plays it. It has no `Drop`: it is spent by `finish` or `abort`. So a `?` may
-/// not leave the function that owns one. Play it in a function that takes it by `&mut`, where `?` is
-/// free; then `finish` it where that function answered and `abort` it where it failed; and then `?`
-/// on the answer, as `verifier_run` and `prover_run` do.
+/// `S` is the side that plays it. It has no `Drop`: it is spent by `finish` or `abort`. So a `?`
+/// may not leave the function that owns one. Play it in a function that takes it by `&mut`, where
+/// `?` is free; then `finish` it where that function answered and `abort` it where it failed; and
+/// then `?` on the answer, as `verifier_run` and `prover_run` do.
 pub struct CircleTranscript<'a, C, F, EF, S> {
     challenger: &'a mut C,
     due: StepsDue,
