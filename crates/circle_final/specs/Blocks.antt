@@ -1,5 +1,5 @@
--- From values at the points of a block to coefficients: the factors of the blocks, and the halves of
--- each block combined by its factor.
+-- From values at the points of a block to coefficients: the factors of the blocks, and the halves
+-- of each block combined by its factor.
 use Rattle.std.specs.Prelude.{ℕ, ◌-◌, ◌^◌, List, [], ◌∷◌, ◌++◌, take, drop, slice_index_or}
 use Rattle.std.proofs.Common.{zero, suc}
 use Rattle.circle_field.specs.Field.{FieldOps, sub}

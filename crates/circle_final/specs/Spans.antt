@@ -5,9 +5,10 @@ use Rattle.circle_field.specs.Circle.{Coordinates, lifted}
 use Rattle.circle_point.specs.Basis.{value, x_value}
 use Rattle.circle_domain.specs.Order.{coset, cfft_order}
 
-module _ {F E : Type 0} (k : FieldOps F) (gen : ℕ → Coordinates F) (l : FieldOps E) (embed : F → E) where
-  -- 2^b coefficients of a polynomial whose values on the domain (n, s), in the transform's order, are
-  -- the word
+module _ {F E : Type 0} (k : FieldOps F) (gen : ℕ → Coordinates F) (l : FieldOps E)
+    (embed : F → E) where
+  -- 2^b coefficients of a polynomial whose values on the domain (n, s), in the transform's order,
+  -- are the word
   pub record HasValues (b n : ℕ) (s : Coordinates F) (word c : List E) : Type 0 where
     pub count : length c ≡ 2 ^ b
     pub values : map (λ p. value l c (lifted embed p)) (cfft_order k gen n s) ≡ word

@@ -25,10 +25,12 @@ pub fn x_interpolate<F: ComplexExtendable, EF: ExtensionField<F>>(
     word: &[EF],
     log_len: usize,
 ) -> Result<Option<Vec<EF>>, AllocError>
-    requires { (m : ℕ) × (length word.now ≡ 2 ^ m) × (log_len ≤ m) × (m + 2 ≤ F.CIRCLE_TWO_ADICITY) }
+    requires { (m : ℕ) × (length word.now ≡ 2 ^ m) × (log_len ≤ m)
+        × (m + 2 ≤ F.CIRCLE_TWO_ADICITY) }
     ensures values { IfOk result (λ found. IfSome found (λ c. (m : ℕ) → length word.now ≡ 2 ^ m →
         HasXValues F.ops F.generators EF.ops EF.embed log_len m word.now c.items)) }
-    ensures only { IfOk result (λ found. IfSome found (λ c. (m : ℕ) (d : List EF) → length word.now ≡ 2 ^ m →
+    ensures only { IfOk result (λ found. IfSome found (λ c.
+        (m : ℕ) (d : List EF) → length word.now ≡ 2 ^ m →
         HasXValues F.ops F.generators EF.ops EF.embed log_len m word.now d → d ≡ c.items)) }
     ensures none { IfOk result (λ found. IfNone found ((m : ℕ) → length word.now ≡ 2 ^ m →
         ¬ XSpan F.ops F.generators EF.ops EF.embed log_len m word.now)) }
