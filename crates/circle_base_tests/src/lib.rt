@@ -1,5 +1,5 @@
-//! Tests of the fields, matrices, forms in JSON, refusals and Merkle trees, by their public calls. They
-//! stand here so that the crates themselves are proved once.
+//! Tests of the fields, matrices, forms in JSON, refusals and Merkle trees, by their public calls.
+//! They stand here so that the crates themselves are proved once.
 #![tactic(auto)]
 
 #[cfg(test)]

@@ -41,8 +41,8 @@ pub fn report(rt: &HostRuntime, mode: Mode) -> io::Result<()> {
     }
 }
 
-/// The nanoseconds of an element that is taken in, in the fastest run, and the element drawn at last.
-/// Each run begins in the state where the one before it ended.
+/// The nanoseconds of an element that is taken in, in the fastest run, and the element drawn at
+/// last. Each run begins in the state where the one before it ended.
 fn observe(rt: &HostRuntime, count: u32, runs: u32) -> io::Result<(u128, Mersenne31)> {
     let mut challenger = Sha256Challenger::new();
     let mut best = Duration::MAX;
@@ -57,8 +57,8 @@ fn observe(rt: &HostRuntime, count: u32, runs: u32) -> io::Result<(u128, Mersenn
 }
 
 /// The nanoseconds of a trial in the fastest of several proofs of work, and the last witness. Each
-/// begins in the state where the one before it ended. The witness is the least, so there is a trial for
-/// each number up to it.
+/// begins in the state where the one before it ended. The witness is the least, so there is a trial
+/// for each number up to it.
 fn grind(rt: &HostRuntime, bits: usize, runs: u32) -> io::Result<(u128, u32)>
     requires { bits ≤ 63 }
 {

@@ -1,5 +1,6 @@
-//! Chains of field operations, circle transforms, values at a point, tables of periodic columns, commitments
-//! and the challenger over SHA-256: what they come to, or with the argument `time` how long they take.
+//! Chains of field operations, circle transforms, values at a point, tables of periodic columns,
+//! commitments and the challenger over SHA-256: what they come to, or with the argument `time` how
+//! long they take.
 #![tactic(auto)]
 
 mod chains;

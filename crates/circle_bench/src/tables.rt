@@ -10,8 +10,8 @@ use std::alloc::{AllocError, Global};
 use std::io::{self, ErrorKind};
 use std::time::{Duration, Instant};
 
-/// Prints a line for the columns of a matrix of each size, over a trace of four times its rows and an
-/// extension of twice the trace's.
+/// Prints a line for the columns of a matrix of each size, over a trace of four times its rows and
+/// an extension of twice the trace's.
 pub fn report(
     rt: &HostRuntime,
     mode: Mode,

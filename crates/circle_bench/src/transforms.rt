@@ -72,7 +72,8 @@ impl Transform {
         }
     }
 
-    /// What comes of a matrix with a row for each point of the standard domain of `2^log_rows` points.
+    /// What comes of a matrix with a row for each point of the standard domain of `2^log_rows`
+    /// points.
     pub fn run(
         self,
         alloc: Global,

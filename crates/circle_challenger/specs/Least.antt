@@ -20,16 +20,21 @@ module _ (test : ℕ → Bool) where
   unfolding least
   least-none zero h = refl
   least-none (suc n) h =
-      ap (λ o. found_or o (test n) n) (least-none n (λ k below. h k (omega arith))) ∙ ap (λ b. found_or None b n) (h n (omega arith))
+      ap (λ o. found_or o (test n) n) (least-none n (λ k below. h k (omega arith)))
+      ∙ ap (λ b. found_or None b n) (h n (omega arith))
 
   -- what passes, where none below does, is the least
-  pub least-some : (n m : ℕ) → m < n → test m ≡ true → ((k : ℕ) → k < m → test k ≡ false) → least test n ≡ Some m
+  pub least-some : (n m : ℕ) → m < n → test m ≡ true → ((k : ℕ) → k < m → test k ≡ false) →
+      least test n ≡ Some m
   unfolding least
   least-some zero m below passes h = absurd (omega arith)
   least-some (suc n) m below passes h =
       elim (cases_eq m n) [
         | inl same ↦
-            let none : least test n ≡ None = subst (λ x. least test x ≡ None) same (least-none m h) in
-            ap (λ o. found_or o (test n) n) none ∙ ap (λ b. found_or None b n) (subst (λ x. test x ≡ true) same passes) ∙ ap Some (sym same)
+            let none : least test n ≡ None =
+            subst (λ x. least test x ≡ None) same (least-none m h) in
+            ap (λ o. found_or o (test n) n) none
+            ∙ ap (λ b. found_or None b n) (subst (λ x. test x ≡ true) same passes)
+            ∙ ap Some (sym same)
         | inr other ↦ ap (λ o. found_or o (test n) n) (least-some n m (omega arith) passes h)
       ]

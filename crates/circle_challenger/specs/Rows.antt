@@ -30,14 +30,16 @@ example : Separator
 example = separator 1 (codes "p3-circle-pcs") example_steps example_labels
 
 -- there are nine steps, and their texts have these lengths
-step_lengths : map (λ s. length (step_text s)) example_steps ≡ 41 ∷ 41 ∷ 43 ∷ 50 ∷ 47 ∷ 51 ∷ 42 ∷ 38 ∷ 41 ∷ []
+step_lengths : map (λ s. length (step_text s)) example_steps ≡ 41 ∷ 41 ∷ 43 ∷ 50 ∷ 47 ∷ 51 ∷ 42 ∷ 38
+    ∷ 41 ∷ []
 unfolding example_steps step_text be64
 step_lengths = refl
 
 -- the last step's text
 last_step : step_text (numbers_challenge (codes "query_indices") 3 2)
     ≡ 0 ∷ 1 ∷ 2 ∷ 0 ∷ 0 ∷ 0 ∷ 0 ∷ 0 ∷ 0 ∷ 0 ∷ 3 ∷ 0 ∷ 0 ∷ 0 ∷ 0 ∷ 0 ∷ 0 ∷ 0 ∷ 13
-    ∷ 113 ∷ 117 ∷ 101 ∷ 114 ∷ 121 ∷ 95 ∷ 105 ∷ 110 ∷ 100 ∷ 105 ∷ 99 ∷ 101 ∷ 115 ∷ 1 ∷ 0 ∷ 0 ∷ 0 ∷ 0 ∷ 0 ∷ 0 ∷ 0 ∷ 2 ∷ []
+    ∷ 113 ∷ 117 ∷ 101 ∷ 114 ∷ 121 ∷ 95 ∷ 105 ∷ 110 ∷ 100 ∷ 105 ∷ 99 ∷ 101 ∷ 115 ∷ 1 ∷ 0 ∷ 0 ∷ 0 ∷ 0
+    ∷ 0 ∷ 0 ∷ 0 ∷ 2 ∷ []
 unfolding step_text be64
 last_step = refl
 
@@ -50,7 +52,8 @@ pow_text = refl
 
 -- the seed text begins with the version, the name and the number of steps
 header : take 30 (seed_text example)
-    ≡ 1 ∷ 0 ∷ 0 ∷ 0 ∷ 0 ∷ 0 ∷ 0 ∷ 0 ∷ 13 ∷ 112 ∷ 51 ∷ 45 ∷ 99 ∷ 105 ∷ 114 ∷ 99 ∷ 108 ∷ 101 ∷ 45 ∷ 112 ∷ 99 ∷ 115
+    ≡ 1 ∷ 0 ∷ 0 ∷ 0 ∷ 0 ∷ 0 ∷ 0 ∷ 0 ∷ 13 ∷ 112 ∷ 51 ∷ 45 ∷ 99 ∷ 105 ∷ 114 ∷ 99 ∷ 108 ∷ 101 ∷ 45
+    ∷ 112 ∷ 99 ∷ 115
     ∷ 0 ∷ 0 ∷ 0 ∷ 0 ∷ 0 ∷ 0 ∷ 0 ∷ 9 ∷ []
 unfolding example example_steps example_labels steps_text labels_text step_text be64
 header = refl

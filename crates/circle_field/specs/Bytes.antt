@@ -22,8 +22,10 @@ read_back a = from_be_bytes-to_be_bytes_4 (residue a) (residue_small a)
 
 -- elements of the same bytes are equal
 pub bytes_told_apart : (a b : Mersenne31) → bytes a ≡ bytes b → a ≡ b
-bytes_told_apart a b h = same_residue a b (sym (read_back a) ∙ ap (from_be_bytes w32) h ∙ read_back b)
+bytes_told_apart a b h =
+    same_residue a b (sym (read_back a) ∙ ap (from_be_bytes w32) h ∙ read_back b)
 
 -- an element is the sum of as many ones as its residue
 pub ones : (a : Mersenne31) → of_nat operations (residue a) ≡ a
-ones a = same_residue (of_nat operations (residue a)) a (residue_of_nat (residue a) ∙ residue_reduced a)
+ones a = same_residue (of_nat operations (residue a)) a
+    (residue_of_nat (residue a) ∙ residue_reduced a)

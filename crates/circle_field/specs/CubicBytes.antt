@@ -15,4 +15,5 @@ pub cubic_told_apart : (a b : Cubic) → cubic_bytes a ≡ cubic_bytes b → a �
 cubic_told_apart a b same =
     let first = four_and_rest _ _ _ _ _ _ _ _ _ _ same in
     let second = four_and_rest _ _ _ _ _ _ _ _ _ _ first.1 in
-    same_cubic a b (bytes_told_apart a.c0 b.c0 first.0) (bytes_told_apart a.c1 b.c1 second.0) (bytes_told_apart a.c2 b.c2 second.1)
+    same_cubic a b (bytes_told_apart a.c0 b.c0 first.0) (bytes_told_apart a.c1 b.c1 second.0)
+    (bytes_told_apart a.c2 b.c2 second.1)

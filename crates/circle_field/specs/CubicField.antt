@@ -48,7 +48,8 @@ module _ {F : Type 0} (k : FieldOps F) where
 
     -- the product of a with its adjugate, which is in the base field
     abbrev pub norm : Triple F → F
-    norm a = k.add (k.mul a.c0 (adjugate a).c0) (k.mul w (k.add (k.mul a.c2 (adjugate a).c1) (k.mul a.c1 (adjugate a).c2)))
+    norm a = k.add (k.mul a.c0 (adjugate a).c0)
+        (k.mul w (k.add (k.mul a.c2 (adjugate a).c1) (k.mul a.c1 (adjugate a).c2)))
 
     -- the extension's operations
     abbrev pub cubic : FieldOps (Triple F)

@@ -13,7 +13,8 @@ module _ {F : Type 0} {k : FieldOps F} (laws : FieldLaws k) where
   other_factor a b h nonzero =
       let a' : Expr = var 0 in let b' : Expr = var 1 in let i : Expr = var 2 in
       combine laws.ring (a ∷ b ∷ k.inv a ∷ []) b' (con 0)
-      (given (minus b') (times a' i) unit ∷ given i (times a' b') (con 0) ∷ []) refl (laws.mul_inv a nonzero, (h, tt))
+      (given (minus b') (times a' i) unit ∷ given i (times a' b') (con 0) ∷ []) refl
+      (laws.mul_inv a nonzero, (h, tt))
 
   module _ (decide : (a : F) → (a ≡ k.zero) ⊎ (a ≢ k.zero)) where
     -- a square is zero only where its root is
@@ -30,8 +31,10 @@ module _ {F : Type 0} {k : FieldOps F} (laws : FieldLaws k) where
           k.mul a.c1 (k.mul a.c1 a.c1) ≡ k.mul v (k.mul a.c2 (k.mul a.c2 a.c2))
       cubes a h =
           let d : Triple Expr = adjugate expr w x in
-          combine laws.ring (values a) (times x.c1 (times x.c1 x.c1)) (times w (times x.c2 (times x.c2 x.c2)))
-          (given x.c1 d.c2 (con 0) ∷ given (minus x.c2) d.c1 (con 0) ∷ []) refl (ap (λ t. t.c2) h, (ap (λ t. t.c1) h, tt))
+          combine laws.ring (values a) (times x.c1 (times x.c1 x.c1))
+          (times w (times x.c2 (times x.c2 x.c2)))
+          (given x.c1 d.c2 (con 0) ∷ given (minus x.c2) d.c1 (con 0) ∷ []) refl
+          (ap (λ t. t.c2) h, (ap (λ t. t.c1) h, tt))
 
       -- w would be the cube of a1 / a2
       quotient_cube : (b c : F) → k.mul b (k.mul b b) ≡ k.mul v (k.mul c (k.mul c c)) → c ≢ k.zero →
@@ -41,7 +44,8 @@ module _ {F : Type 0} {k : FieldOps F} (laws : FieldLaws k) where
           let q : Expr = times b' i in let p : Expr = times c' i in
           combine laws.ring (v ∷ b ∷ c ∷ k.inv c ∷ []) (times q (times q q)) w
           (given (times i (times i i)) (times b' (times b' b')) (times w (times c' (times c' c')))
-          ∷ given (times w (plus (times p p) (plus p unit))) p unit ∷ []) refl (h, (laws.mul_inv c nonzero, tt))
+          ∷ given (times w (plus (times p p) (plus p unit))) p unit ∷ []) refl
+          (h, (laws.mul_inv c nonzero, tt))
 
       -- the last coefficient is 0, where the adjugate is 0
       last_zero : (a : Triple F) → adjugate k v a ≡ constant k k.zero → a.c2 ≡ k.zero
@@ -55,14 +59,19 @@ module _ {F : Type 0} {k : FieldOps F} (laws : FieldLaws k) where
       adjugate_zero a h =
           let d : Triple Expr = adjugate expr w x in
           let e2 : a.c2 ≡ k.zero = last_zero a h in
-          let e1 : a.c1 ≡ k.zero = zero_square a.c1 (combine laws.ring (values a) (times x.c1 x.c1) (con 0)
-          (given unit d.c2 (con 0) ∷ given x.c0 x.c2 (con 0) ∷ []) refl (ap (λ t. t.c2) h, (e2, tt))) in
-          let e0 : a.c0 ≡ k.zero = zero_square a.c0 (combine laws.ring (values a) (times x.c0 x.c0) (con 0)
-          (given unit d.c0 (con 0) ∷ given (times w x.c1) x.c2 (con 0) ∷ []) refl (ap (λ t. t.c0) h, (e2, tt))) in
+          let e1 : a.c1 ≡ k.zero =
+          zero_square a.c1 (combine laws.ring (values a) (times x.c1 x.c1) (con 0)
+          (given unit d.c2 (con 0) ∷ given x.c0 x.c2 (con 0) ∷ []) refl
+          (ap (λ t. t.c2) h, (e2, tt))) in
+          let e0 : a.c0 ≡ k.zero =
+          zero_square a.c0 (combine laws.ring (values a) (times x.c0 x.c0) (con 0)
+          (given unit d.c0 (con 0) ∷ given (times w x.c1) x.c2 (con 0) ∷ []) refl
+          (ap (λ t. t.c0) h, (e2, tt))) in
           same_triple e0 e1 e2
 
       -- the adjugate's adjugate is the norm times the element
-      twice_zero : (a : Triple F) → norm k v a ≡ k.zero → adjugate k v (adjugate k v a) ≡ constant k k.zero
+      twice_zero : (a : Triple F) → norm k v a ≡ k.zero →
+          adjugate k v (adjugate k v a) ≡ constant k k.zero
       twice_zero a h =
           let d : Triple Expr = adjugate expr w (adjugate expr w x) in
           let n : Expr = norm expr w x in
@@ -83,7 +92,8 @@ module _ {F : Type 0} {k : FieldOps F} (laws : FieldLaws k) where
           let env : List F = v ∷ a.c0 ∷ a.c1 ∷ a.c2 ∷ i ∷ [] in
           let p : Triple Expr = product expr w x (multiple expr i' (adjugate expr w x)) in
           same_triple
-          (combine laws.ring env p.c0 unit (given unit (times (norm expr w x) i') unit ∷ []) refl (h, tt))
+          (combine laws.ring env p.c0 unit (given unit (times (norm expr w x) i') unit ∷ []) refl
+          (h, tt))
           (combine laws.ring env p.c1 (con 0) [] refl tt)
           (combine laws.ring env p.c2 (con 0) [] refl tt)
 
@@ -91,7 +101,9 @@ module _ {F : Type 0} {k : FieldOps F} (laws : FieldLaws k) where
       pub cubic_laws : FieldLaws (cubic k v)
       cubic_laws = record {
         ring = cubic_ring laws.ring v;
-        mul_inv = λ a nonzero. unit_product a (k.inv (norm k v a)) (laws.mul_inv (norm k v a) (λ h. nonzero (norm_zero a h)));
+        mul_inv =
+            λ a nonzero. unit_product a (k.inv (norm k v a))
+            (laws.mul_inv (norm k v a) (λ h. nonzero (norm_zero a h)));
         two_nonzero = λ h. laws.two_nonzero (ap (λ t. t.c0) h);
       }
 

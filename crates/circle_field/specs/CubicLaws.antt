@@ -6,7 +6,8 @@ use Rattle.circle_field.specs.RingSound.{ring}
 use Rattle.circle_field.specs.CubicField.{Triple, triple, sum, opposite, multiple, constant, crossed, product, cubic}
 
 -- triples with the same coefficients are one
-pub same_triple : {F : Type 0} {a b c d e f : F} → a ≡ d → b ≡ e → c ≡ f → triple a b c ≡ triple d e f
+pub same_triple : {F : Type 0} {a b c d e f : F} → a ≡ d → b ≡ e → c ≡ f →
+    triple a b c ≡ triple d e f
 same_triple p q r = cc
 
 -- expressions as operations
@@ -39,8 +40,11 @@ module _ {F : Type 0} {k : FieldOps F} (laws : RingLaws k) where
   denoted env a = triple (denote k env a.c0) (denote k env a.c1) (denote k env a.c2)
 
   -- equations at each place, by computation
-  rings : (env : List F) (a b : Triple Expr) → AreSame a.c0 b.c0 → AreSame a.c1 b.c1 → AreSame a.c2 b.c2 → denoted env a ≡ denoted env b
-  rings env a b p q r = same_triple (ring laws env a.c0 b.c0 p) (ring laws env a.c1 b.c1 q) (ring laws env a.c2 b.c2 r)
+  rings : (env : List F) (a b : Triple Expr) → AreSame a.c0 b.c0 → AreSame a.c1 b.c1 →
+      AreSame a.c2 b.c2 → denoted env a ≡ denoted env b
+  rings env a b p q r =
+      same_triple (ring laws env a.c0 b.c0 p) (ring laws env a.c1 b.c1 q)
+      (ring laws env a.c2 b.c2 r)
 
   -- w and the coefficients of three elements
   abbrev pub values : F → Triple F → Triple F → Triple F → List F
@@ -49,27 +53,39 @@ module _ {F : Type 0} {k : FieldOps F} (laws : RingLaws k) where
   -- the extension is a commutative ring
   pub cubic_ring : (v : F) → RingLaws (cubic k v)
   cubic_ring v = record {
-    add_assoc = λ a b c. rings (values v a b c) (sum expr (sum expr x y) z) (sum expr x (sum expr y z)) refl refl refl;
+    add_assoc =
+        λ a b c. rings (values v a b c) (sum expr (sum expr x y) z)
+        (sum expr x (sum expr y z)) refl refl refl;
     add_comm = λ a b. rings (values v a b a) (sum expr x y) (sum expr y x) refl refl refl;
     zero_add = λ a. rings (values v a a a) (sum expr (constant expr (con 0)) x) x refl refl refl;
-    neg_add = λ a. rings (values v a a a) (sum expr (opposite expr x) x) (constant expr (con 0)) refl refl refl;
-    mul_assoc = λ a b c. rings (values v a b c) (product expr w (product expr w x y) z) (product expr w x (product expr w y z)) refl refl refl;
-    mul_comm = λ a b. rings (values v a b a) (product expr w x y) (product expr w y x) refl refl refl;
+    neg_add =
+        λ a. rings (values v a a a) (sum expr (opposite expr x) x)
+        (constant expr (con 0)) refl refl refl;
+    mul_assoc =
+        λ a b c. rings (values v a b c) (product expr w (product expr w x y) z)
+        (product expr w x (product expr w y z)) refl refl refl;
+    mul_comm =
+        λ a b. rings (values v a b a) (product expr w x y) (product expr w y x) refl refl refl;
     one_mul = λ a. rings (values v a a a) (product expr w (constant expr unit) x) x refl refl refl;
-    mul_add = λ a b c. rings (values v a b c) (product expr w x (sum expr y z)) (sum expr (product expr w x y) (product expr w x z)) refl refl refl;
+    mul_add =
+        λ a b c. rings (values v a b c) (product expr w x (sum expr y z))
+        (sum expr (product expr w x y) (product expr w x z)) refl refl refl;
   }
 
   -- the embedding of the base field keeps sums
   pub constant_add : (a b : F) → constant k (k.add a b) ≡ sum k (constant k a) (constant k b)
   constant_add a b =
       let c : Expr = var 0 in let d : Expr = var 1 in
-      rings (a ∷ b ∷ []) (constant expr (plus c d)) (sum expr (constant expr c) (constant expr d)) refl refl refl
+      rings (a ∷ b ∷ []) (constant expr (plus c d))
+      (sum expr (constant expr c) (constant expr d)) refl refl refl
 
   -- .. and products
-  pub constant_mul : (v a b : F) → constant k (k.mul a b) ≡ product k v (constant k a) (constant k b)
+  pub constant_mul : (v a b : F) →
+      constant k (k.mul a b) ≡ product k v (constant k a) (constant k b)
   constant_mul v a b =
       let c : Expr = var 1 in let d : Expr = var 2 in
-      rings (v ∷ a ∷ b ∷ []) (constant expr (times c d)) (product expr w (constant expr c) (constant expr d)) refl refl refl
+      rings (v ∷ a ∷ b ∷ []) (constant expr (times c d))
+      (product expr w (constant expr c) (constant expr d)) refl refl refl
 
   -- .. and opposites
   pub constant_neg : (a : F) → constant k (k.neg a) ≡ opposite k (constant k a)
@@ -81,12 +97,15 @@ module _ {F : Type 0} {k : FieldOps F} (laws : RingLaws k) where
   pub constant_product : (v b : F) (a : Triple F) → product k v (constant k b) a ≡ multiple k b a
   constant_product v b a =
       let c : Expr = var 4 in
-      rings (v ∷ a.c0 ∷ a.c1 ∷ a.c2 ∷ b ∷ []) (product expr w (constant expr c) x) (multiple expr c x) refl refl refl
+      rings (v ∷ a.c0 ∷ a.c1 ∷ a.c2 ∷ b ∷ []) (product expr w (constant expr c) x)
+      (multiple expr c x) refl refl refl
 
   -- the middle coefficient by one product, from the outer ones
   pub crossed_products : (a b c d : F) →
       sub k (sub k (k.mul (k.add a b) (k.add c d)) (k.mul a c)) (k.mul b d) ≡ crossed k a b c d
   crossed_products a b c d =
-      let a' : Expr = var 0 in let b' : Expr = var 1 in let c' : Expr = var 2 in let d' : Expr = var 3 in
+      let a' : Expr = var 0 in let b' : Expr = var 1 in let c' : Expr = var 2 in
+      let d' : Expr = var 3 in
       ring laws (a ∷ b ∷ c ∷ d ∷ [])
-      (sub expr (sub expr (times (plus a' b') (plus c' d')) (times a' c')) (times b' d')) (crossed expr a' b' c' d') refl
+      (sub expr (sub expr (times (plus a' b') (plus c' d')) (times a' c')) (times b' d'))
+      (crossed expr a' b' c' d') refl

@@ -18,7 +18,8 @@ use Rattle.circle_field.specs.Cubic.{triple_of, of_triple, triples, operations, 
 -- whether an element is 0, by the test of its residue
 decided : (a : Mersenne31) (b : Bool) → nat_eq (residue a) 0 ≡ b → (a ≡ base.zero) ⊎ (a ≢ base.zero)
 decided a true h = inl ((base_equal a base.zero).0 h)
-decided a false h = inr (λ e. let t : nat_eq (residue a) 0 ≡ true = (base_equal a base.zero).1 e in cc)
+decided a false h =
+    inr (λ e. let t : nat_eq (residue a) 0 ≡ true = (base_equal a base.zero).1 e in cc)
 
 -- an element is 0 or not
 decide : (a : Mersenne31) → (a ≡ base.zero) ⊎ (a ≢ base.zero)
@@ -34,11 +35,13 @@ laws =
     let t : FieldLaws triples = triple_laws in
     record {
       ring = record {
-        add_assoc = λ a b c. ap of_triple (t.ring.add_assoc (triple_of a) (triple_of b) (triple_of c));
+        add_assoc =
+            λ a b c. ap of_triple (t.ring.add_assoc (triple_of a) (triple_of b) (triple_of c));
         add_comm = λ a b. ap of_triple (t.ring.add_comm (triple_of a) (triple_of b));
         zero_add = λ a. ap of_triple (t.ring.zero_add (triple_of a));
         neg_add = λ a. ap of_triple (t.ring.neg_add (triple_of a));
-        mul_assoc = λ a b c. ap of_triple (t.ring.mul_assoc (triple_of a) (triple_of b) (triple_of c));
+        mul_assoc =
+            λ a b c. ap of_triple (t.ring.mul_assoc (triple_of a) (triple_of b) (triple_of c));
         mul_comm = λ a b. ap of_triple (t.ring.mul_comm (triple_of a) (triple_of b));
         one_mul = λ a. ap of_triple (t.ring.one_mul (triple_of a));
         mul_add = λ a b c. ap of_triple (t.ring.mul_add (triple_of a) (triple_of b) (triple_of c));
@@ -72,7 +75,9 @@ unfolding entry
 are_coefficients = record {
   count = λ a. refl;
   of_sum = λ a b. refl;
-  of_multiple = λ x a. ap (λ t. coefficients (of_triple t)) (constant_product base_laws.ring five x (triple_of a));
+  of_multiple =
+      λ x a. ap (λ t. coefficients (of_triple t))
+      (constant_product base_laws.ring five x (triple_of a));
   determined = λ a b h. same_cubic a b (ap (entry 0) h) (ap (entry 1) h) (ap (entry 2) h);
 }
 
@@ -82,12 +87,20 @@ and_parts true q h = (refl, h)
 and_parts false q h = cc
 
 -- `==` compares coefficients
-pub equal_exactly : (a b : Cubic) → ((nat_eq (residue a.c0) (residue b.c0) && (nat_eq (residue a.c1) (residue b.c1) && nat_eq (residue a.c2) (residue b.c2))) ≡ true) ↔ (a ≡ b)
+pub equal_exactly : (a b : Cubic) →
+    ((nat_eq (residue a.c0) (residue b.c0) &&
+    (nat_eq (residue a.c1) (residue b.c1) && nat_eq (residue a.c2) (residue b.c2))) ≡ true)
+    ↔ (a ≡ b)
 equal_exactly a b = (
   λ h.
-      let first = and_parts (nat_eq (residue a.c0) (residue b.c0)) (nat_eq (residue a.c1) (residue b.c1) && nat_eq (residue a.c2) (residue b.c2)) h in
-      let rest = and_parts (nat_eq (residue a.c1) (residue b.c1)) (nat_eq (residue a.c2) (residue b.c2)) first.1 in
-      same_cubic a b ((base_equal a.c0 b.c0).0 first.0) ((base_equal a.c1 b.c1).0 rest.0) ((base_equal a.c2 b.c2).0 rest.1),
+      let first =
+      and_parts (nat_eq (residue a.c0) (residue b.c0))
+      (nat_eq (residue a.c1) (residue b.c1) && nat_eq (residue a.c2) (residue b.c2)) h in
+      let rest =
+      and_parts (nat_eq (residue a.c1) (residue b.c1))
+      (nat_eq (residue a.c2) (residue b.c2)) first.1 in
+      same_cubic a b ((base_equal a.c0 b.c0).0 first.0) ((base_equal a.c1 b.c1).0 rest.0)
+      ((base_equal a.c2 b.c2).0 rest.1),
   λ e.
       let e0 = (base_equal a.c0 b.c0).1 (ap (λ c. c.c0) e) in
       let e1 = (base_equal a.c1 b.c1).1 (ap (λ c. c.c1) e) in
@@ -96,17 +109,23 @@ equal_exactly a b = (
 )
 
 -- elements of equal residues are equal
-pub same_residues : (a b : Cubic) → residue a.c0 ≡ residue b.c0 → residue a.c1 ≡ residue b.c1 → residue a.c2 ≡ residue b.c2 → a ≡ b
-same_residues a b p q r = same_cubic a b (same_residue a.c0 b.c0 p) (same_residue a.c1 b.c1 q) (same_residue a.c2 b.c2 r)
+pub same_residues : (a b : Cubic) → residue a.c0 ≡ residue b.c0 → residue a.c1 ≡ residue b.c1 →
+    residue a.c2 ≡ residue b.c2 → a ≡ b
+same_residues a b p q r =
+    same_cubic a b (same_residue a.c0 b.c0 p) (same_residue a.c1 b.c1 q) (same_residue a.c2 b.c2 r)
 
 -- the sum of n ones is that of the base field
 pub embedded_of_nat : (n : ℕ) → embed (of_nat base n) ≡ of_nat operations n
 embedded_of_nat zero = refl
-embedded_of_nat (suc n) = is_embedding.add base.one (of_nat base n) ∙ ap (operations.add operations.one) (embedded_of_nat n)
+embedded_of_nat (suc n) =
+    is_embedding.add base.one (of_nat base n)
+    ∙ ap (operations.add operations.one) (embedded_of_nat n)
 
 -- the norm is 0 exactly at 0
-pub norm_zero_exactly : (a : Cubic) → (norm base five (triple_of a) ≡ base.zero) ↔ (a ≡ operations.zero)
+pub norm_zero_exactly : (a : Cubic) →
+    (norm base five (triple_of a) ≡ base.zero) ↔ (a ≡ operations.zero)
 norm_zero_exactly a = (
   λ h. ap of_triple (norm_zero base_laws decide five five_is_no_cube (triple_of a) h),
-  λ e. ap (λ c. norm base five (triple_of c)) e ∙ norm_of_zero base_laws decide five five_is_no_cube,
+  λ e. ap (λ c. norm base five (triple_of c)) e
+      ∙ norm_of_zero base_laws decide five five_is_no_cube,
 )

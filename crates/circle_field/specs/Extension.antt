@@ -10,10 +10,12 @@ sums k (x ∷ xs) [] = []
 sums k (x ∷ xs) (y ∷ ys) = k.add x y ∷ sums k xs ys
 
 -- coefficients of elements of l in k: of a fixed number, linear, and told by no other element
-pub record AreCoefficients {F E : Type 0} (k : FieldOps F) (l : FieldOps E) (embed : F → E) (degree : ℕ) (coefficients : E → List F) : Type 0 where
+pub record AreCoefficients {F E : Type 0} (k : FieldOps F) (l : FieldOps E) (embed : F → E)
+    (degree : ℕ) (coefficients : E → List F) : Type 0 where
   pub count : (a : E) → length (coefficients a) ≡ degree
   pub of_sum : (a b : E) → coefficients (l.add a b) ≡ sums k (coefficients a) (coefficients b)
-  pub of_multiple : (x : F) (a : E) → coefficients (l.mul (embed x) a) ≡ map (k.mul x) (coefficients a)
+  pub of_multiple : (x : F) (a : E) →
+      coefficients (l.mul (embed x) a) ≡ map (k.mul x) (coefficients a)
   pub determined : (a b : E) → coefficients a ≡ coefficients b → a ≡ b
 
 pub identity_embedding : {F : Type 0} (k : FieldOps F) → IsEmbedding k k (λ x. x)

@@ -48,7 +48,8 @@ module _ {F : Type 0} (k : FieldOps F) where
   sub a b = k.add a (k.neg b)
 
 -- a map of fields that keeps sums, products, opposites, 0 and 1, and tells elements apart
-pub record IsEmbedding {F E : Type 0} (k : FieldOps F) (l : FieldOps E) (embed : F → E) : Type 0 where
+pub record IsEmbedding {F E : Type 0} (k : FieldOps F) (l : FieldOps E)
+    (embed : F → E) : Type 0 where
   pub zero : embed k.zero ≡ l.zero
   pub one : embed k.one ≡ l.one
   pub add : (a b : F) → embed (k.add a b) ≡ l.add (embed a) (embed b)

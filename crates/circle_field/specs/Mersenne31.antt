@@ -26,7 +26,8 @@ element n = record { value = n % order; below_order = reduced-below n }
 unfoldable pub power : Mersenne31 → ℕ → Mersenne31
 power a n = element (residue a ^ n)
 
--- the field's operations: sums, products and opposites of residues, modulo the order, and inverses as powers
+-- the field's operations: sums, products and opposites of residues, modulo the order, and inverses
+-- as powers
 abbrev pub operations : FieldOps Mersenne31
 operations = record {
   zero = element 0;

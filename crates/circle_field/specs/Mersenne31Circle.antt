@@ -30,7 +30,8 @@ number_doubled_times zero q = q
 number_doubled_times (suc n) q = number_doubled_times n (plus modulo q q)
 
 -- doubling numbers gives the residues of what doubling elements does
-residues_doubled : (n : ℕ) (q : Coordinates Mersenne31) → residues (doubled_times n q) ≡ number_doubled_times n (residues q)
+residues_doubled : (n : ℕ) (q : Coordinates Mersenne31) →
+    residues (doubled_times n q) ≡ number_doubled_times n (residues q)
 residues_doubled zero q = refl
 residues_doubled (suc n) q = residues_doubled n (plus operations q q)
 
@@ -51,21 +52,25 @@ pub doubled_number : (n : ℕ) (q : Coordinates Mersenne31) →
 doubled_number n q e = same_residues (doubled_times n start) q (residues_doubled n start ∙ e)
 
 -- doubles stay on the circle
-doubled-on_circle : (n : ℕ) (q : Coordinates Mersenne31) → IsOnCircle operations q → IsOnCircle operations (doubled_times n q)
+doubled-on_circle : (n : ℕ) (q : Coordinates Mersenne31) → IsOnCircle operations q →
+    IsOnCircle operations (doubled_times n q)
 doubled-on_circle zero q h = h
-doubled-on_circle (suc n) q h = doubled-on_circle n (plus operations q q) (plus-on_circle laws.ring q q h h)
+doubled-on_circle (suc n) q h =
+    doubled-on_circle n (plus operations q q) (plus-on_circle laws.ring q q h h)
 
 -- the generator is on the circle
 start-on_circle : IsOnCircle operations start
 start-on_circle = same_residue _ _ refl
 
 -- the last doubling may come first
-doubled_last : (n : ℕ) (q : Coordinates Mersenne31) → doubled_times (suc n) q ≡ plus operations (doubled_times n q) (doubled_times n q)
+doubled_last : (n : ℕ) (q : Coordinates Mersenne31) →
+    doubled_times (suc n) q ≡ plus operations (doubled_times n q) (doubled_times n q)
 doubled_last zero q = refl
 doubled_last (suc n) q = doubled_last n (plus operations q q)
 
 -- each generator is the double of the next
-generators-doubled : (n : ℕ) → n < 31 → plus operations (generators (suc n)) (generators (suc n)) ≡ generators n
+generators-doubled : (n : ℕ) → n < 31 →
+    plus operations (generators (suc n)) (generators (suc n)) ≡ generators n
 generators-doubled n h =
     let e : suc (31 - suc n) ≡ 31 - n = omega arith in
     sym (doubled_last (31 - suc n) start) ∙ ap (λ k. doubled_times k start) e

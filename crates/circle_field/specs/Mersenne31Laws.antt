@@ -36,7 +36,9 @@ residue_nonzero a h = λ e. h (same_residue a (element 0) (sym (residue_reduced 
 -- an element times its power of the order less 2 is 1
 mul-inverse : (a : Mersenne31) → a ≢ element 0 → operations.mul a (power a 2147483645) ≡ element 1
 unfolding power
-mul-inverse a h = same_residue _ _ (inverse_power order 2147483645 order_prime refl (residue a) (residue_nonzero a h))
+mul-inverse a h =
+    same_residue _ _
+    (inverse_power order 2147483645 order_prime refl (residue a) (residue_nonzero a h))
 
 -- the field's laws
 pub laws : FieldLaws operations
@@ -44,7 +46,8 @@ laws = record {
   ring = record {
     add_assoc = λ a b c. same_residue _ _ (sum_assoc order (residue a) (residue b) (residue c));
     add_comm = λ a b. ap element (add_comm (residue a) (residue b));
-    zero_add = λ a. same_residue _ _ (ap (λ x. x % order) (zero-add (residue a)) ∙ residue_reduced a);
+    zero_add =
+        λ a. same_residue _ _ (ap (λ x. x % order) (zero-add (residue a)) ∙ residue_reduced a);
     neg_add = λ a. same_residue _ _ (opposite_sum order (residue a) (omega arith));
     mul_assoc = λ a b c. same_residue _ _ (product_assoc order (residue a) (residue b) (residue c));
     mul_comm = λ a b. ap element (mul_comm (residue a) (residue b));
@@ -63,15 +66,22 @@ residue_of_nat (suc n) =
     ap (λ x. (1 + x) % order) (residue_of_nat n) ∙ add-mod-mod 1 n order ∙ ap (λ x. x % order) e
 
 -- numbers below the order are told apart as sums of ones
-pub numbers_told_apart : (m n : ℕ) → m < order → n < order → of_nat operations m ≡ of_nat operations n → m ≡ n
+pub numbers_told_apart : (m n : ℕ) → m < order → n < order →
+    of_nat operations m ≡ of_nat operations n → m ≡ n
 numbers_told_apart m n p q h =
     sym (mod-eq_of_lt p) ∙ sym (residue_of_nat m) ∙ ap residue h ∙ residue_of_nat n ∙ mod-eq_of_lt q
 
 -- the element of the folded bits of n is the sum of n ones
-pub folded_of_nat : (n f : ℕ) (r : Mersenne31) → f ≡ n % 2 ^ 31 + n / 2 ^ 31 → r ≡ element f → r ≡ of_nat operations n
+pub folded_of_nat : (n f : ℕ) (r : Mersenne31) → f ≡ n % 2 ^ 31 + n / 2 ^ 31 → r ≡ element f →
+    r ≡ of_nat operations n
 folded_of_nat n f r e h =
-    h ∙ same_residue (element f) (of_nat operations n) (ap (λ x. x % order) e ∙ folded_bits n ∙ sym (residue_of_nat n))
+    h ∙ same_residue (element f) (of_nat operations n)
+    (ap (λ x. x % order) e ∙ folded_bits n ∙ sym (residue_of_nat n))
 
 -- `==` compares residues
 pub equal_exactly : (a b : Mersenne31) → (nat_eq (residue a) (residue b) ≡ true) ↔ (a ≡ b)
-equal_exactly a b = (λ h. same_residue a b (eqb-true (residue a) (residue b) h), λ e. eq-eqb (residue a) (residue b) (ap residue e))
+equal_exactly a b = (
+  λ h. same_residue a b (eqb-true (residue a) (residue b) h),
+  λ e. eq-eqb (residue a) (residue b)
+      (ap residue e),
+)

@@ -38,7 +38,11 @@ same_vars (x ∷ xs) (y ∷ ys) = nat_eq x y && same_vars xs ys
 abbrev pub add_term : Term → List Term → List Term
 add_term t [] = t ∷ []
 add_term t (s ∷ p) =
-    elim (same_vars t.vars s.vars) [ true ↦ term (t.up + s.up) (t.down + s.down) s.vars ∷ p | false ↦ s ∷ add_term t p ]
+    elim (same_vars t.vars s.vars) [
+      | true ↦ term (t.up + s.up) (t.down + s.down) s.vars
+          ∷ p
+      | false ↦ s ∷ add_term t p
+    ]
 
 abbrev pub add_poly : List Term → List Term → List Term
 add_poly [] q = q
@@ -47,7 +51,8 @@ add_poly (t ∷ p) q = add_term t (add_poly p q)
 abbrev pub mul_term : Term → List Term → List Term
 mul_term t [] = []
 mul_term t (s ∷ p) =
-    add_term (term (t.up * s.up + t.down * s.down) (t.up * s.down + t.down * s.up) (merge_vars t.vars s.vars)) (mul_term t p)
+    add_term (term (t.up * s.up + t.down * s.down) (t.up * s.down + t.down * s.up)
+    (merge_vars t.vars s.vars)) (mul_term t p)
 
 abbrev pub mul_poly : List Term → List Term → List Term
 mul_poly [] q = []

@@ -132,7 +132,8 @@ pub trait PrimeField64: Field {
 
     ghost order_prime: { IsPrime ORDER };
 
-    ghost numbers_told_apart: { (m n : ℕ) → m < ORDER → n < ORDER → of_nat Self.ops m ≡ of_nat Self.ops n → m ≡ n };
+    ghost numbers_told_apart: { (m n : ℕ) → m < ORDER → n < ORDER → of_nat Self.ops m
+        ≡ of_nat Self.ops n → m ≡ n };
 }
 
 /// Elements with a fixed number of bytes.

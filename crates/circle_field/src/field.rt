@@ -101,14 +101,16 @@ pub trait Field: Operations
 
     /// The element divided by `2^exp`.
     fn div_2exp_u64(&self, exp: u64) -> Self
-        ensures { result ≡ Self.ops.mul self.now (nth_power Self.ops (Self.ops.inv (two Self.ops)) exp) }
+        ensures { result
+            ≡ Self.ops.mul self.now (nth_power Self.ops (Self.ops.inv (two Self.ops)) exp) }
     {
         *self * Self::ONE.halve().exp_u64(exp)
     }
 
     /// The powers of `base` from 0 to `n - 1`. Fails where memory is refused.
     fn powers(alloc: Global, base: Self, n: usize) -> Result<Vec<Self>, AllocError>
-        ensures { IfOk result (λ powers. powers.items ≡ map (λ i. nth_power Self.ops base i) (range_with_len 0 n)) }
+        ensures { IfOk result
+            (λ powers. powers.items ≡ map (λ i. nth_power Self.ops base i) (range_with_len 0 n)) }
     {
         let mut powers = Vec::with_capacity(alloc, n)?;
         let mut power = Self::ONE;

@@ -22,5 +22,8 @@ module _ {F E : Type 0} (l : FieldOps E) (embed : F → E) where
   multiples zero inverses ws = ws
   multiples (suc m) [] ws = ws
   multiples (suc m) (i ∷ is) ws =
-      pairwise l.add (multiples m (take (2 ^ m - 1) is) (take (2 ^ m) ws)) (multiples m (drop (2 ^ m - 1) is) (drop (2 ^ m) ws))
-      ++ pairwise (λ a b. l.mul (embed i) (sub l a b)) (multiples m (take (2 ^ m - 1) is) (take (2 ^ m) ws)) (multiples m (drop (2 ^ m - 1) is) (drop (2 ^ m) ws))
+      pairwise l.add (multiples m (take (2 ^ m - 1) is) (take (2 ^ m) ws))
+      (multiples m (drop (2 ^ m - 1) is) (drop (2 ^ m) ws))
+      ++ pairwise (λ a b. l.mul (embed i) (sub l a b))
+      (multiples m (take (2 ^ m - 1) is) (take (2 ^ m) ws))
+      (multiples m (drop (2 ^ m - 1) is) (drop (2 ^ m) ws))

@@ -33,11 +33,13 @@ value_row : x_value ops (1 ∷ 2 ∷ 3 ∷ 4 ∷ []) 2 ≡ 82
 value_row = refl
 
 -- the x coordinates of four points: a, -a, b, -b
-points_row : map (λ q. q.x) (coset ops gen 2 (gen 4)) ≡ 590768354 ∷ 1556715293 ∷ 978592373 ∷ 1168891274 ∷ []
+points_row : map (λ q. q.x) (coset ops gen 2 (gen 4)) ≡ 590768354 ∷ 1556715293 ∷ 978592373
+    ∷ 1168891274 ∷ []
 points_row = refl
 
 -- they are the values of the polynomial x
-abscissas_row : HasXValues ops gen ops (λ a. a) 1 2 (590768354 ∷ 1556715293 ∷ 978592373 ∷ 1168891274 ∷ []) (0 ∷ 1 ∷ [])
+abscissas_row : HasXValues ops gen ops (λ a. a) 1 2
+    (590768354 ∷ 1556715293 ∷ 978592373 ∷ 1168891274 ∷ []) (0 ∷ 1 ∷ [])
 abscissas_row = record { count = refl; values = refl }
 
 -- and equal entries those of a constant one

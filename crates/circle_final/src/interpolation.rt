@@ -55,7 +55,8 @@ fn all_multiples<F: ComplexExtendable, EF: ExtensionField<F>>(
     requires in_group { log_points + 2 ≤ F.CIRCLE_TWO_ADICITY }
     ensures { IfOk result (λ made. made.items ≡ multiples EF.ops EF.embed log_points
         (map F.ops.inv (block_factors F.ops log_points
-        (map (λ p. p.x) (coset F.ops F.generators log_points (F.generators (log_points + 2)))))) word.now) }
+        (map (λ p. p.x)
+        (coset F.ops F.generators log_points (F.generators (log_points + 2)))))) word.now) }
 {
     let inverses = inverse_factors::<F>(alloc, log_points)?;
     let mut values = Vec::with_capacity(alloc, word.len())?;
@@ -70,7 +71,8 @@ fn inverse_factors<F: ComplexExtendable>(
     log_points: usize,
 ) -> Result<Vec<F>, AllocError>
     requires { log_points + 2 ≤ F.CIRCLE_TWO_ADICITY }
-    ensures { IfOk result (λ inverses. inverses.items ≡ map F.ops.inv (block_factors F.ops log_points
+    ensures { IfOk result
+        (λ inverses. inverses.items ≡ map F.ops.inv (block_factors F.ops log_points
         (map (λ p. p.x) (coset F.ops F.generators log_points (F.generators (log_points + 2)))))) }
 {
     let points = first_points(alloc, CircleDomain::standard(log_points + 1))?;
@@ -152,7 +154,8 @@ fn scaled<F: Field, EF: ExtensionField<F>>(
     entries: &[EF],
     factor: F,
 ) -> Result<Vec<EF>, AllocError>
-    ensures { IfOk result (λ scaled. scaled.items ≡ map (EF.ops.mul (EF.embed factor)) entries.now) }
+    ensures { IfOk result
+        (λ scaled. scaled.items ≡ map (EF.ops.mul (EF.embed factor)) entries.now) }
 {
     let mut scaled = Vec::with_capacity(alloc, entries.len())?;
     for entry in entries {

@@ -12,8 +12,8 @@ fn element(value: u64) -> Mersenne31 {
     Mersenne31::from_u64(value)
 }
 
-// Asserts that `2^log_len` coefficients have the values of a word of four entries exactly where some
-// are expected, and that they are these.
+// Asserts that `2^log_len` coefficients have the values of a word of four entries exactly where
+// some are expected, and that they are these.
 fn expect(
     rt: &impl Abort,
     alloc: Global,

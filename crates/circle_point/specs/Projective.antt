@@ -11,7 +11,8 @@ module _ {F : Type 0} (k : FieldOps F) where
   -- the point ((1 - t^2) / (1 + t^2), 2 t / (1 + t^2))
   abbrev pub from_line : F → Coordinates F
   from_line t =
-      at (k.mul (sub k k.one (k.mul t t)) (k.inv (line_norm t))) (k.mul (k.add t t) (k.inv (line_norm t)))
+      at (k.mul (sub k k.one (k.mul t t)) (k.inv (line_norm t)))
+      (k.mul (k.add t t) (k.inv (line_norm t)))
 
   -- the coordinate y / (x + 1)
   abbrev pub to_line : Coordinates F → F

@@ -106,8 +106,8 @@ impl<F: Field> Point<F> {
         })
     }
 
-    /// The coordinate `y / (x + 1)` of the projective line (section 3, Lemma 1). `None` at `x = -1`,
-    /// which is the point `(-1, 0)` alone.
+    /// The coordinate `y / (x + 1)` of the projective line (section 3, Lemma 1). `None` at `x =
+    /// -1`, which is the point `(-1, 0)` alone.
     pub fn to_projective_line(self) -> Option<F>
         ensures none { IsNone result ↔ ((coordinates self).x ≡ F.ops.neg F.ops.one) }
         ensures value { IfSome result (λ t. t ≡ to_line F.ops (coordinates self)) }

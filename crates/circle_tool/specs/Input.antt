@@ -41,6 +41,9 @@ ReadsRow value row = ReadsArray (IsRead residue_of residue) value row.items
 
 -- the object's members stand for what the command is given
 pub record IsInput (value : Data) (input : Input) : Type 0 where
-  pub coefficients : (rows : Data) × (get (codes "coefficients") value ≡ Some rows) × ReadsArray ReadsRow rows input.coefficients.items
-  pub log_n : (count : Data) × (get (codes "log_n") value ≡ Some count) × (count_of count ≡ Ok input.log_n)
-  pub shift : (pair : Data) × (get (codes "shift") value ≡ Some pair) × (pair_of pair ≡ Ok (residue input.shift.0 ∷ residue input.shift.1 ∷ []))
+  pub coefficients : (rows : Data) × (get (codes "coefficients") value ≡ Some rows)
+      × ReadsArray ReadsRow rows input.coefficients.items
+  pub log_n : (count : Data) × (get (codes "log_n") value ≡ Some count)
+      × (count_of count ≡ Ok input.log_n)
+  pub shift : (pair : Data) × (get (codes "shift") value ≡ Some pair)
+      × (pair_of pair ≡ Ok (residue input.shift.0 ∷ residue input.shift.1 ∷ []))

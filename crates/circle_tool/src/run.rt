@@ -70,7 +70,8 @@ pub fn finish<W: Write>(answer: Result<String, Failure>, output: &mut W) -> u8
 // Writes the whole line at once; the status is 1 where that fails.
 fn write_line<W: Write>(output: &mut W, line: &[u8], status: u8) -> u8
     ensures status { (result ≡ status) ⊎ (result ≡ 1) }
-    ensures written { ¬ (result ≡ 1) → Appends (W.contents output.old) (W.contents output.new) line.now }
+    ensures written { ¬ (result ≡ 1)
+        → Appends (W.contents output.old) (W.contents output.new) line.now }
 {
     if output.write_all(line).is_err() || output.flush().is_err() {
         return 1;

@@ -369,7 +369,8 @@ fn ranges(rt: HostRuntime) -> Result<(), Fail> {
     Ok(())
 }
 
-// Runs the program with these arguments, on a reader that fails and on one that it must leave as it is.
+// Runs the program with these arguments, on a reader that fails and on one that it must leave as it
+// is.
 fn expect_usage(rt: &impl Abort, alloc: Global, words: &[&str]) -> Result<(), AllocError> {
     let args = arguments(alloc, words)?;
     let mut output = Vec::new(alloc);

@@ -114,7 +114,8 @@ pub fn values_at_points(alloc: Global, input: &Input) -> Result<Values, Refusal>
         ↔ (HasFittingSize input.now × HasPoint input.now × IsRectangular (coefficients_of input.now)
         × (¬ HasFittingHeight input.now)) }
     ensures rows { IfOk result (λ values. ⟦<Values as Matrix<Mersenne31>>⟧.rows values
-        ≡ map (values_at operations (coefficients_of input.now) (row_length (coefficients_of input.now)))
+        ≡ map (values_at operations (coefficients_of input.now)
+        (row_length (coefficients_of input.now)))
         (natural_order operations generators input.now.log_n (shift_of input.now))) }
 {
     if input.log_n == 0 {

@@ -39,14 +39,16 @@ unfolding example claim_steps batch_steps first_layer_steps round_steps rounds_s
 text_length = refl
 
 text_header : take 30 (text_of 3 example)
-    ≡ 1 ∷ 0 ∷ 0 ∷ 0 ∷ 0 ∷ 0 ∷ 0 ∷ 0 ∷ 13 ∷ 112 ∷ 51 ∷ 45 ∷ 99 ∷ 105 ∷ 114 ∷ 99 ∷ 108 ∷ 101 ∷ 45 ∷ 112 ∷ 99 ∷ 115
+    ≡ 1 ∷ 0 ∷ 0 ∷ 0 ∷ 0 ∷ 0 ∷ 0 ∷ 0 ∷ 13 ∷ 112 ∷ 51 ∷ 45 ∷ 99 ∷ 105 ∷ 114 ∷ 99 ∷ 108 ∷ 101 ∷ 45
+    ∷ 112 ∷ 99 ∷ 115
     ∷ 0 ∷ 0 ∷ 0 ∷ 0 ∷ 0 ∷ 0 ∷ 0 ∷ 9 ∷ []
 unfolding example claim_steps batch_steps first_layer_steps round_steps rounds_steps query_steps layout batch_layout steps_text labels_text step_text be64
 text_header = refl
 
 -- proofs of work are steps where they have a difficulty
 guarded_round : round_steps 3 8
-    ≡ opaque_message (codes "commit_phase_commitment") ∷ pow_step (codes "commit_pow") 8 ∷ element_challenge 3 (codes "fold_challenge") ∷ []
+    ≡ opaque_message (codes "commit_phase_commitment") ∷ pow_step (codes "commit_pow") 8
+    ∷ element_challenge 3 (codes "fold_challenge") ∷ []
 unfolding round_steps
 guarded_round = refl
 
@@ -55,6 +57,7 @@ two_matrices : layout (((4 ∷ []) ∷ (4 ∷ []) ∷ []) ∷ []) ≡ be64 1 ++ 
 unfolding layout batch_layout be64
 two_matrices = refl
 
-two_points : layout (((4 ∷ 4 ∷ []) ∷ []) ∷ []) ≡ 0 ∷ 0 ∷ 0 ∷ 0 ∷ 0 ∷ 0 ∷ 0 ∷ 1 ∷ 0 ∷ 0 ∷ 0 ∷ 0 ∷ 0 ∷ 0 ∷ 0 ∷ 1 ∷ 0 ∷ 0 ∷ 0 ∷ 0 ∷ 0 ∷ 0 ∷ 0 ∷ 2 ∷ []
+two_points : layout (((4 ∷ 4 ∷ []) ∷ []) ∷ []) ≡ 0 ∷ 0 ∷ 0 ∷ 0 ∷ 0 ∷ 0 ∷ 0 ∷ 1 ∷ 0 ∷ 0 ∷ 0 ∷ 0 ∷ 0
+    ∷ 0 ∷ 0 ∷ 1 ∷ 0 ∷ 0 ∷ 0 ∷ 0 ∷ 0 ∷ 0 ∷ 0 ∷ 2 ∷ []
 unfolding layout batch_layout be64
 two_points = refl

@@ -97,7 +97,8 @@ module _ {C S F E Com : Type 0} (r : RunMoves C S F E Com) where
       pub passed : Starts batch
       pub count : length rounds ≡ length messages.commitments.now
       pub rounds_passed :
-          rounds_pass r n.commit_pow_bits (before_rounds batch) (zip messages.commitments.now rounds)
+          rounds_pass r n.commit_pow_bits (before_rounds batch)
+          (zip messages.commitments.now rounds)
           ≡ true
       pub none : NonePasses r.base (closed r n (with_found batch rounds) s) n.query_pow_bits
 

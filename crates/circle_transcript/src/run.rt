@@ -169,7 +169,8 @@ where
         Draws ⟦<C as RunChallenger<F, EF, Com>>⟧.run shape taken challenger.old d challenger.new) }
     ensures below { IfOk result (λ d. All (λ i. i < 2 ^ shape.index_bits) d.indices.items) }
     ensures failure { let taken = taken_of claims.now messages.now witnesses.now in IfErr result
-        (λ e. (e ≡ Memory) ⊎ Misses ⟦<C as RunChallenger<F, EF, Com>>⟧.run shape taken challenger.old e) }
+        (λ e. (e ≡ Memory)
+        ⊎ Misses ⟦<C as RunChallenger<F, EF, Com>>⟧.run shape taken challenger.old e) }
 {
     let mut transcript = CircleVerifierTranscript::<C, F, EF>::new(alloc, challenger, shape)?;
     match checking_run(alloc, &mut transcript, claims, messages, witnesses) {

@@ -8,7 +8,8 @@ use Rattle.circle_field.specs.Mersenne31Powers.{power-one, power-+, power-*, pow
 -- a square's power is a power of twice the exponent
 square_power : (b : Mersenne31) (n : ℕ) → power (operations.mul b b) n ≡ power b (2 * n)
 square_power b n =
-    let square : operations.mul b b ≡ power b 2 = ap (λ x. operations.mul x x) (sym (power-one b)) ∙ power-+ b 1 1 in
+    let square : operations.mul b b ≡ power b 2 =
+    ap (λ x. operations.mul x x) (sym (power-one b)) ∙ power-+ b 1 1 in
     ap (λ x. power x n) square ∙ power-* b 2 n
 
 -- -1 is not the square of an element
@@ -21,6 +22,7 @@ minus_one_is_no_square b h =
     let left : power (operations.neg operations.one) 1073741823 ≡ element 2147483646 =
     power_number (operations.neg operations.one) 1073741823 2147483646 30 (lit< tt) refl in
     let right : power (operations.neg operations.one) 1073741823 ≡ element 1 =
-    ap (λ x. power x 1073741823) (sym h) ∙ square_power b 1073741823 ∙ power-fermat b 2147483646 refl nonzero in
+    ap (λ x. power x 1073741823) (sym h) ∙ square_power b 1073741823
+    ∙ power-fermat b 2147483646 refl nonzero in
     let clash : ◌≡◌ {A = ℕ} 2147483646 1 = ap residue (sym left ∙ right) in
     cc

@@ -14,7 +14,8 @@ module _ {F : Type 0} {k : FieldOps F} (laws : FieldLaws k) where
   other_factor a b h nonzero =
       let a' : Expr = var 0 in let b' : Expr = var 1 in let i : Expr = var 2 in
       combine laws.ring (a ∷ b ∷ k.inv a ∷ []) b' (con 0)
-      (given (minus b') (times a' i) unit ∷ given i (times a' b') (con 0) ∷ []) refl (laws.mul_inv a nonzero, (h, tt))
+      (given (minus b') (times a' i) unit ∷ given i (times a' b') (con 0) ∷ []) refl
+      (laws.mul_inv a nonzero, (h, tt))
 
   module _ (decide : (a : F) → (a ≡ k.zero) ⊎ (a ≢ k.zero)) where
     -- a square is zero only where its root is
@@ -33,7 +34,8 @@ module _ {F : Type 0} {k : FieldOps F} (laws : FieldLaws k) where
           let i : Expr = var 2 in
           let q : Expr = times x.c0 i in let p : Expr = times x.c1 i in
           combine laws.ring (a.c0 ∷ a.c1 ∷ k.inv a.c1 ∷ []) (times q q) (minus unit)
-          (given (times i i) (norm expr x) (con 0) ∷ given (minus (plus p unit)) p unit ∷ []) refl (h, (laws.mul_inv a.c1 nonzero, tt))
+          (given (times i i) (norm expr x) (con 0) ∷ given (minus (plus p unit)) p unit ∷ []) refl
+          (h, (laws.mul_inv a.c1 nonzero, tt))
 
       last_zero : (a : Pair F) → norm k a ≡ k.zero → a.c1 ≡ k.zero
       last_zero a h = elim (decide a.c1) [
@@ -45,8 +47,10 @@ module _ {F : Type 0} {k : FieldOps F} (laws : FieldLaws k) where
       pub norm_zero : (a : Pair F) → norm k a ≡ k.zero → a ≡ constant k k.zero
       norm_zero a h =
           let e1 : a.c1 ≡ k.zero = last_zero a h in
-          let e0 : a.c0 ≡ k.zero = zero_square a.c0 (combine laws.ring (values a) (times x.c0 x.c0) (con 0)
-          (given unit (norm expr x) (con 0) ∷ given (minus x.c1) x.c1 (con 0) ∷ []) refl (h, (e1, tt))) in
+          let e0 : a.c0 ≡ k.zero =
+          zero_square a.c0 (combine laws.ring (values a) (times x.c0 x.c0) (con 0)
+          (given unit (norm expr x) (con 0) ∷ given (minus x.c1) x.c1 (con 0) ∷ []) refl
+          (h, (e1, tt))) in
           same_pair e0 e1
 
       -- an element times its inverse, where i is the norm's
@@ -57,14 +61,17 @@ module _ {F : Type 0} {k : FieldOps F} (laws : FieldLaws k) where
           let env : List F = a.c0 ∷ a.c1 ∷ i ∷ [] in
           let p : Pair Expr = product expr x (multiple expr i' (conjugate expr x)) in
           same_pair
-          (combine laws.ring env p.c0 unit (given unit (times (norm expr x) i') unit ∷ []) refl (h, tt))
+          (combine laws.ring env p.c0 unit (given unit (times (norm expr x) i') unit ∷ []) refl
+          (h, tt))
           (combine laws.ring env p.c1 (con 0) [] refl tt)
 
       -- the laws of the extension
       pub quadratic_laws : FieldLaws (quadratic k)
       quadratic_laws = record {
         ring = quadratic_ring laws.ring;
-        mul_inv = λ a nonzero. unit_product a (k.inv (norm k a)) (laws.mul_inv (norm k a) (λ h. nonzero (norm_zero a h)));
+        mul_inv =
+            λ a nonzero. unit_product a (k.inv (norm k a))
+            (laws.mul_inv (norm k a) (λ h. nonzero (norm_zero a h)));
         two_nonzero = λ h. laws.two_nonzero (ap (λ t. t.c0) h);
       }
 

@@ -25,7 +25,8 @@ module _ {F : Type 0} {k : FieldOps F} (laws : RingLaws k) where
   abbrev pub denoted : List F → Pair Expr → Pair F
   denoted env a = pair (denote k env a.c0) (denote k env a.c1)
 
-  rings : (env : List F) (a b : Pair Expr) → AreSame a.c0 b.c0 → AreSame a.c1 b.c1 → denoted env a ≡ denoted env b
+  rings : (env : List F) (a b : Pair Expr) → AreSame a.c0 b.c0 → AreSame a.c1 b.c1 →
+      denoted env a ≡ denoted env b
   rings env a b p q = same_pair (ring laws env a.c0 b.c0 p) (ring laws env a.c1 b.c1 q)
 
   -- the coefficients of three elements
@@ -34,26 +35,35 @@ module _ {F : Type 0} {k : FieldOps F} (laws : RingLaws k) where
 
   pub quadratic_ring : RingLaws (quadratic k)
   quadratic_ring = record {
-    add_assoc = λ a b c. rings (values a b c) (sum expr (sum expr x y) z) (sum expr x (sum expr y z)) refl refl;
+    add_assoc =
+        λ a b c. rings (values a b c) (sum expr (sum expr x y) z)
+        (sum expr x (sum expr y z)) refl refl;
     add_comm = λ a b. rings (values a b a) (sum expr x y) (sum expr y x) refl refl;
     zero_add = λ a. rings (values a a a) (sum expr (constant expr (con 0)) x) x refl refl;
-    neg_add = λ a. rings (values a a a) (sum expr (opposite expr x) x) (constant expr (con 0)) refl refl;
-    mul_assoc = λ a b c. rings (values a b c) (product expr (product expr x y) z) (product expr x (product expr y z)) refl refl;
+    neg_add =
+        λ a. rings (values a a a) (sum expr (opposite expr x) x) (constant expr (con 0)) refl refl;
+    mul_assoc =
+        λ a b c. rings (values a b c) (product expr (product expr x y) z)
+        (product expr x (product expr y z)) refl refl;
     mul_comm = λ a b. rings (values a b a) (product expr x y) (product expr y x) refl refl;
     one_mul = λ a. rings (values a a a) (product expr (constant expr unit) x) x refl refl;
-    mul_add = λ a b c. rings (values a b c) (product expr x (sum expr y z)) (sum expr (product expr x y) (product expr x z)) refl refl;
+    mul_add =
+        λ a b c. rings (values a b c) (product expr x (sum expr y z))
+        (sum expr (product expr x y) (product expr x z)) refl refl;
   }
 
   -- the embedding of the base field keeps sums, products and opposites
   pub constant_add : (a b : F) → constant k (k.add a b) ≡ sum k (constant k a) (constant k b)
   constant_add a b =
       let c : Expr = var 0 in let d : Expr = var 1 in
-      rings (a ∷ b ∷ []) (constant expr (plus c d)) (sum expr (constant expr c) (constant expr d)) refl refl
+      rings (a ∷ b ∷ []) (constant expr (plus c d))
+      (sum expr (constant expr c) (constant expr d)) refl refl
 
   pub constant_mul : (a b : F) → constant k (k.mul a b) ≡ product k (constant k a) (constant k b)
   constant_mul a b =
       let c : Expr = var 0 in let d : Expr = var 1 in
-      rings (a ∷ b ∷ []) (constant expr (times c d)) (product expr (constant expr c) (constant expr d)) refl refl
+      rings (a ∷ b ∷ []) (constant expr (times c d))
+      (product expr (constant expr c) (constant expr d)) refl refl
 
   pub constant_neg : (a : F) → constant k (k.neg a) ≡ opposite k (constant k a)
   constant_neg a =

@@ -17,7 +17,8 @@ use Rattle.circle_vectors.specs.Quadratic.{pair_of, of_pair, pairs, operations, 
 -- whether an element is 0
 decided : (a : Mersenne31) (b : Bool) → nat_eq (residue a) 0 ≡ b → (a ≡ base.zero) ⊎ (a ≢ base.zero)
 decided a true h = inl ((base_equal a base.zero).0 h)
-decided a false h = inr (λ e. let t : nat_eq (residue a) 0 ≡ true = (base_equal a base.zero).1 e in cc)
+decided a false h =
+    inr (λ e. let t : nat_eq (residue a) 0 ≡ true = (base_equal a base.zero).1 e in cc)
 
 decide : (a : Mersenne31) → (a ≡ base.zero) ⊎ (a ≢ base.zero)
 decide a = decided a (nat_eq (residue a) 0) refl
@@ -69,7 +70,8 @@ unfolding entry
 are_coefficients = record {
   count = λ a. refl;
   of_sum = λ a b. refl;
-  of_multiple = λ x a. ap (λ t. coefficients (of_pair t)) (constant_product base_laws.ring x (pair_of a));
+  of_multiple =
+      λ x a. ap (λ t. coefficients (of_pair t)) (constant_product base_laws.ring x (pair_of a));
   determined = λ a b h. same_quadratic a b (ap (entry 0) h) (ap (entry 1) h);
 }
 
@@ -79,10 +81,14 @@ and_parts true q h = (refl, h)
 and_parts false q h = cc
 
 -- `==` compares coefficients
-pub equal_exactly : (a b : Quadratic) → ((nat_eq (residue a.c0) (residue b.c0) && nat_eq (residue a.c1) (residue b.c1)) ≡ true) ↔ (a ≡ b)
+pub equal_exactly : (a b : Quadratic) →
+    ((nat_eq (residue a.c0) (residue b.c0) && nat_eq (residue a.c1) (residue b.c1)) ≡ true)
+    ↔ (a ≡ b)
 equal_exactly a b = (
   λ h.
-      let parts = and_parts (nat_eq (residue a.c0) (residue b.c0)) (nat_eq (residue a.c1) (residue b.c1)) h in
+      let parts =
+      and_parts (nat_eq (residue a.c0) (residue b.c0))
+      (nat_eq (residue a.c1) (residue b.c1)) h in
       same_quadratic a b ((base_equal a.c0 b.c0).0 parts.0) ((base_equal a.c1 b.c1).0 parts.1),
   λ e.
       let e0 = (base_equal a.c0 b.c0).1 (ap (λ c. c.c0) e) in
@@ -91,16 +97,20 @@ equal_exactly a b = (
 )
 
 -- elements of equal residues are equal
-pub same_residues : (a b : Quadratic) → residue a.c0 ≡ residue b.c0 → residue a.c1 ≡ residue b.c1 → a ≡ b
+pub same_residues : (a b : Quadratic) → residue a.c0 ≡ residue b.c0 → residue a.c1 ≡ residue b.c1 →
+    a ≡ b
 same_residues a b p q = same_quadratic a b (same_residue a.c0 b.c0 p) (same_residue a.c1 b.c1 q)
 
 -- the sum of n ones is that of the base field
 pub embedded_of_nat : (n : ℕ) → embed (of_nat base n) ≡ of_nat operations n
 embedded_of_nat zero = refl
-embedded_of_nat (suc n) = is_embedding.add base.one (of_nat base n) ∙ ap (operations.add operations.one) (embedded_of_nat n)
+embedded_of_nat (suc n) =
+    is_embedding.add base.one (of_nat base n)
+    ∙ ap (operations.add operations.one) (embedded_of_nat n)
 
 -- the norm is 0 exactly at 0
-pub norm_zero_exactly : (a : Quadratic) → (norm base (pair_of a) ≡ base.zero) ↔ (a ≡ operations.zero)
+pub norm_zero_exactly : (a : Quadratic) →
+    (norm base (pair_of a) ≡ base.zero) ↔ (a ≡ operations.zero)
 norm_zero_exactly a = (
   λ h. ap of_pair (norm_zero base_laws decide minus_one_is_no_square (pair_of a) h),
   λ e. ap (λ c. norm base (pair_of c)) e ∙ norm_of_zero base_laws decide minus_one_is_no_square,

@@ -153,8 +153,8 @@ fn split_evals(
     domain.split_evals(alloc, count, rows)
 }
 
-// Asserts that the rows are the coordinates of the points, and that the points, from the last on, are
-// the opposites of those from the first on.
+// Asserts that the rows are the coordinates of the points, and that the points, from the last on,
+// are the opposites of those from the first on.
 fn assert_coordinates(rt: &impl Abort, domain: Domain, rows: &Rows) {
     assert!(rt; domain.log_n() >= 1 && domain.log_n() <= 31 && rows.height() == domain.size());
     for (i, point) in domain.points().enumerate() {

@@ -1,5 +1,5 @@
-//! Values off a domain over Mersenne31 and its cubic extension: worked examples, and the sum over the
-//! basis at the point, times the coefficients, beside them.
+//! Values off a domain over Mersenne31 and its cubic extension: worked examples, and the sum over
+//! the basis at the point, times the coefficients, beside them.
 use crate::transform::{Rows, column, evaluate, extrapolate, interpolate, point, scattered};
 use circle_commit::{Matrix, PolynomialSpace};
 use circle_domain::{LagrangeWeights, lagrange_weights};
@@ -148,8 +148,8 @@ fn weights(
     lagrange_weights(alloc, domain, at)
 }
 
-// Asserts that each weight is the vanishing polynomial at `at` over the product of the selector of the
-// weight's point and what normalises it.
+// Asserts that each weight is the vanishing polynomial at `at` over the product of the selector of
+// the weight's point and what normalises it.
 fn assert_weights(
     rt: &impl Abort,
     alloc: Global,

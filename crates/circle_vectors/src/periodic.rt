@@ -138,7 +138,8 @@ fn no_columns(rt: HostRuntime) -> Result<(), Fail> {
     Ok(())
 }
 
-// The value at a point of the only polynomial with these values on the standard domain of four points.
+// The value at a point of the only polynomial with these values on the standard domain of four
+// points.
 fn value_of_four(
     rt: &impl Abort,
     alloc: Global,
@@ -149,7 +150,8 @@ fn value_of_four(
     evaluate_at_point(rt, alloc, CircleDomain::standard(2), rows, at)
 }
 
-// `eval_at_point` of a column of four entries over a trace of 16 rows, after a test of what it asks.
+// `eval_at_point` of a column of four entries over a trace of 16 rows, after a test of what it
+// asks.
 fn four_at_point<F: ComplexExtendable, EF: ExtensionField<F>>(
     rt: &impl Abort,
     alloc: Global,

@@ -45,8 +45,8 @@ fn coefficients(
     )
 }
 
-// The values on the standard domain of 2^8 points of the polynomial with these values on that of 2^9,
-// which must have no more than 2^8 coefficients.
+// The values on the standard domain of 2^8 points of the polynomial with these values on that of
+// 2^9, which must have no more than 2^8 coefficients.
 fn on_the_smaller_domain(
     rt: &impl Abort,
     alloc: Global,

@@ -109,7 +109,8 @@ fn proof(alloc: Global, witnesses: [u64; 2]) -> Result<Proof, AllocError> {
     })
 }
 
-// Asserts what is answered to a proof under proofs of work of so many bits, where so many rounds are due.
+// Asserts what is answered to a proof under proofs of work of so many bits, where so many rounds
+// are due.
 fn assert_shape(rt: &impl Abort, bits: [usize; 3], proof: Proof, rounds: usize, expected: &str) {
     let params = parameters(bits);
     let answer = validate_proof_shape::<Cubic, TrustingMmcs, Mersenne31, (), AllocError>(
@@ -168,7 +169,8 @@ fn queries_and_siblings_of_rounds(rt: HostRuntime) -> Result<(), Fail> {
     Ok(())
 }
 
-// Asserts what is answered to a claim at the coordinate 1, with this witness of the batching challenge.
+// Asserts what is answered to a claim at the coordinate 1, with this witness of the batching
+// challenge.
 fn assert_point(
     rt: &impl Abort,
     alloc: Global,
