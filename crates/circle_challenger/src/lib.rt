@@ -1,6 +1,20 @@
 //! Challengers for Fiat-Shamir transcripts: traits whose calls are functions of an abstract state,
 //! the description of a transcript and its seed, drivers that play a described transcript, and a
 //! challenger over SHA-256.
+//!
+//! What is proved:
+//!
+//! - What a challenger answers and the state after it are functions of the state before, for any
+//!   lawful challenger. A witness of a proof of work passes exactly where the sampled bits are
+//!   zero, `grind` finds one where some passes, and at no difficulty nothing changes (the trait
+//!   `GrindingChallenger`).
+//! - The text of a `DomainSeparator` is that of its version, name, steps and labels, and of no
+//!   other (`DomainSeparator::text`, clause `only`).
+//! - A `ProverState` or `VerifierState` takes the text in byte by byte (`new`), each further call
+//!   asks to be the next described step, and says exactly what is taken in or drawn and the state
+//!   after it; `finish` asks that no step is left.
+//! - `Sha256Challenger` is the sponge over the digest that the crate `sha2` defines, and its
+//!   `grind` gives the least element that passes.
 #![tactic(auto)]
 
 pub mod challenger;

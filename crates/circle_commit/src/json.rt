@@ -325,4 +325,3 @@ impl<T: JsonForm + Drop> JsonForm for Vec<T> {
         Ok(list)
     }
 }
-

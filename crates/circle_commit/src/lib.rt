@@ -1,6 +1,20 @@
 //! What commitment schemes stand on: matrices by rows, views of them, domains that polynomials are
 //! given on, what is opened and claimed of them, the parameters of FRI, how it folds and why it
 //! refuses, and the forms of values in JSON.
+//!
+//! What is proved:
+//!
+//! - A matrix is its list of rows: `row`, `split_rows`, `new_col`, `copy_of`, the mapped view and
+//!   `to_row_major_matrix` say exactly which rows.
+//! - The trait `Mmcs` says what a scheme that commits to matrices promises, and `PolynomialSpace`
+//!   what a domain is asked and gives; `Pcs` and `FriFoldingStrategy` leave that to their
+//!   instances.
+//! - A `PeriodicLdeTable` answers the entry of its row i modulo its height (`get`).
+//! - `JsonForm` reads counts, elements, digests and lists from JSON and writes them: `from_json`
+//!   of a count, an element or a digest is Ok exactly on their forms and fails by one stated error
+//!   elsewhere, one of a list fails only as one of its items does or for want of memory, and what
+//!   `to_json` wrote stands for the value that it was written of and for no other (`reads`,
+//!   `reads_one`, `refuses_others`).
 #![tactic(auto)]
 
 pub mod error;

@@ -1,4 +1,24 @@
 //! Domains of the circle transform, the two orders of their points, and their Lagrange polynomials.
+//!
+//! What is proved, for every lawful field:
+//!
+//! - `points`, `coset0`, `coset1` and `nth_point` give the points of a domain in natural order,
+//!   `2^log_n` of them; `is_genuine` is true exactly where the halves are disjoint, `is_standard`
+//!   exactly on standard domains, and `is_clear_of` exactly at points whose difference from each
+//!   of the domain's points has a y coordinate that is not 0.
+//! - `cfft_permute_index` is the bit reversal between the two orders and its own inverse.
+//! - On a standard domain `next_point` from `first_point` walks all points in natural order and
+//!   returns (`walk`); `try_create_disjoint_domain` answers a standard domain of at least so many
+//!   points that has no point of this one (`enough`, `disjoint`) and says exactly when there is
+//!   none.
+//! - The parts of `split_domains` are disjoint and make up the whole (`disjoint`, `whole`), and
+//!   `split_evals` sends each row to the part that holds its point, at the point's natural place
+//!   there (`goes`, `points`).
+//! - `vanishing_poly_at_point`, `selectors_at_point` and `selectors_on_coset` are by their
+//!   formulas, under conditions that exclude the poles and no more.
+//! - `evaluate_polynomial_at` is the value at any point that the domain is clear of of the only
+//!   polynomial with these values, also over an extension (`value`, `only`), and
+//!   `evaluate_periodic_column_at` that of a column that repeats (`IsPeriodicValue`).
 #![tactic(auto)]
 
 pub mod domain;

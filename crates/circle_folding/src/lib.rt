@@ -1,5 +1,22 @@
 //! What the opening argument of Circle STARKs (IACR ePrint 2024/278) does with words: quotients
 //! that bind claimed values, and folding by pairs.
+//!
+//! What is proved, for every lawful field and extension:
+//!
+//! - `deep_quotient_reduce_row` is the quotient of a row under values claimed at a point, by its
+//!   formula, and `None` exactly where that point is the row's own (`value`, `claim`, `none`).
+//! - `extract_lambda` answers the multiple of the vanishing polynomial in a word and takes it
+//!   away, and leaves the word where memory is refused (`lambda`, `remainder`, `refused`).
+//! - `fold_y` and `fold_x` fold each pair of a word by the first coordinate that belongs to it,
+//!   and `fold_x_row` and `fold_row_with_inv_twiddle` one pair by itself; `CircleFriFolding` is
+//!   the latter as a strategy.
+//! - Of queries: `query_points` answers the point of each, `add_quotients` adds the quotients of
+//!   their rows under a claim and is `None` exactly where the claimed point is one of theirs
+//!   (`none`, `apart`, `sums`), `subtract_vanishing` takes lambda times the vanishing polynomial
+//!   away. `first_layer_twiddles`, `first_x_twiddles` and `next_x_twiddles` answer each query's
+//!   twiddle in the first layer and round after round, `query_pairs` and `push_query_pairs` the
+//!   rows that a word's commitment, and one more word's, is asked for, and `fold_query_values`
+//!   folds each query's pair, leaving the values where memory is refused.
 #![tactic(auto)]
 
 pub mod deep_quotient;

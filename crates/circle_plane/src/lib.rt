@@ -1,4 +1,26 @@
 //! The plane of Circle STARKs: points of the unit circle, domains, and polynomials on them.
+//!
+//! What is proved, for every lawful field:
+//!
+//! - `circle_basis` answers the first `2^n` polynomials of the circle basis at a point.
+//! - `CircleEvaluations::evaluate` gives in row i of the transform's order, column by column, the
+//!   value of the column's polynomial at point i of that order, for any shift (the clause `cfft`),
+//!   and in natural order at point i of the natural order (`values`, with the clause `rows` of
+//!   `to_natural_order`); the first `2^m` rows are the values on the smaller domain with the same
+//!   shift (`prefix`).
+//! - On a genuine domain `interpolate` answers coefficients that have the rows as their values, in
+//!   both orders, and all that have them are these (`values`, `natural`, `only`); so each of the
+//!   two undoes the other. `extrapolate` gives the values of these coefficients on the target in
+//!   both orders and on smaller domains, and the coefficients of what it gives are the same with
+//!   zeros after them (`values`, by `Extrapolates`).
+//! - `from_natural_order` and `to_natural_order` show the rows in the other order without copying,
+//!   and twice is back (`back`).
+//! - `evaluate_at_point` answers, for each column, the value of the only polynomial with these
+//!   values at any point that the domain is clear of, also over an extension (`values`, `only`).
+//! - The table that `eval_on_lde` and `build_periodic_lde_table_circle` answer has the columns'
+//!   values at the points of the extension in natural order, in as many rows as differ (`table`,
+//!   by `IsPeriodicTable`), and each refusal is the first whose condition holds (`refusal`, by
+//!   `IsRefusal`). `eval_at_point` answers the columns' values at a point (`values`).
 #![tactic(auto)]
 
 pub mod cfft;

@@ -56,7 +56,8 @@ pub fn finish<W: Write>(answer: Result<String, Failure>, output: &mut W) -> u8
         (λ _. (result ≡ 0) ⊎ (result ≡ 1))
         (λ failure. (result ≡ status_of failure) ⊎ (result ≡ 1)) }
     ensures written { IfOk answer (λ text.
-        ¬ (result ≡ 1) → Appends (W.contents output.old) (W.contents output.new) (string_bytes text)) }
+        ¬ (result ≡ 1) →
+        Appends (W.contents output.old) (W.contents output.new) (string_bytes text)) }
 {
     match answer {
         Ok(text) => write_line(output, text.as_bytes(), 0),

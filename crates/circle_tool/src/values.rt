@@ -109,7 +109,8 @@ pub fn values_at_points(alloc: Global, input: &Input) -> Result<Values, Refusal>
     ensures not_on_circle { IsErrOf result Refusal.NotOnCircle
         ↔ (HasFittingSize input.now × (¬ HasPoint input.now)) }
     ensures ragged { IsErrOf result Refusal.RaggedRows
-        ↔ (HasFittingSize input.now × HasPoint input.now × (¬ IsRectangular (coefficients_of input.now))) }
+        ↔ (HasFittingSize input.now × HasPoint input.now
+        × (¬ IsRectangular (coefficients_of input.now))) }
     ensures bad_height { IsErrOf result Refusal.BadHeight
         ↔ (HasFittingSize input.now × HasPoint input.now × IsRectangular (coefficients_of input.now)
         × (¬ HasFittingHeight input.now)) }

@@ -5,6 +5,21 @@
 //! commitment to the first layer and draws the challenge that folds it, takes in a commitment and
 //! draws a folding challenge in each round, and takes in the last word's value and draws the query
 //! indices. Proofs of work guard the batching challenge, the folding challenges and the indices.
+//!
+//! What is proved, for any field, extension, commitment and lawful challenger:
+//!
+//! - The steps that `CirclePcsShape::pattern` answers and the separator that `domain_separator`
+//!   answers are those of the definition, byte for byte; shapes with equal seed texts are equal,
+//!   but for a difficulty of rounds that there aren't (`has_seed_of`, clause `told`).
+//! - Both sides of the transcript ask each call to be the next described step and say what it
+//!   draws and the state after it; `NoWitness` and `PowWitness` come exactly where no witness
+//!   passes, and where the one at hand doesn't, and a transcript that is refused for want of
+//!   memory leaves the challenger as it was (`new`, clause `refused`).
+//! - Over a whole run (`prover_run`, `verifier_run`) the challenges, the indices and the state
+//!   after are those of the definition `Draw.draw`; a failure names the phase in which no witness
+//!   passes, or the first whose witness doesn't, and its difficulty; both sides, from equal states
+//!   and with the prover's witnesses, draw equal challenges and leave equal states (`both_runs`,
+//!   clause `alike`).
 #![tactic(auto)]
 
 pub mod failure;

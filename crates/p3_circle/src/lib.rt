@@ -1,4 +1,12 @@
 //! The Circle STARK polynomial commitment scheme (IACR ePrint 2024/278).
+//!
+//! It shows the names of the crates below it at one place. What is proved of its own calls:
+//! `validate_claims`, `validate_parameters`, `validate_proof_shape` and `validate_points` answer
+//! the first refusal, in order, for which there is reason, and where there is reason for none the
+//! greatest height and Ok (`claim_tests`, `parameter_tests`, `shape_tests`, `point_tests`).
+//! `CirclePcs::new` keeps what it is given. The records of a proof and its other refusals are
+//! declared, and nothing verifies a proof yet; when a verifier is to accept one is written in
+//! `specs/Accepts.antt`.
 #![tactic(auto)]
 
 pub mod pcs;

@@ -229,7 +229,8 @@ pub fn validate_proof_shape<F: Field, M: Mmcs<F>, Witness: Field, InputProof, In
 ) -> Result<(), FriError<M::Error, InputErr>>
     ensures { result
         ≡ answer (shape_tests (λ w. Witness.eq w Witness.ZERO) params.now num_commit_rounds
-        (vec_len proof.now.commit_phase_commits) proof.now.commit_pow_witnesses.items proof.now.pow_witness
+        (vec_len proof.now.commit_phase_commits) proof.now.commit_pow_witnesses.items
+        proof.now.pow_witness
         (map (λ o. map vec_len o.sibling_values.items) proof.now.commit_phase_openings.items)) tt }
 {
     let expected = num_commit_rounds;
