@@ -40,14 +40,14 @@ pub enum PowPhase {
 impl fmt::Display for PowPhase {
     ghost output = { elim [
       | Batch ↦ Some (codes "batch")
-      | CommitPhase ↦ Some (codes "commit phase")
+      | CommitPhase ↦ Some (codes "commit")
       | Query ↦ Some (codes "query")
     ] };
 
     fn fmt<W: fmt::Write>(&self, f: &mut fmt::Formatter<W>) -> fmt::Result {
         f.write_str(match self {
             PowPhase::Batch => "batch",
-            PowPhase::CommitPhase => "commit phase",
+            PowPhase::CommitPhase => "commit",
             PowPhase::Query => "query",
         })
     }

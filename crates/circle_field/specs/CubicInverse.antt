@@ -4,23 +4,12 @@ use Rattle.std.proofs.Common.{ap, inl, inr}
 use Rattle.circle_field.specs.Field.{FieldOps, FieldLaws}
 use Rattle.circle_field.specs.Ring.{Expr, var, con, unit, plus, times, minus}
 use Rattle.circle_field.specs.RingCombine.{given, combine}
+use Rattle.circle_field.specs.Carried.{other_factor, zero_square}
 use Rattle.circle_field.specs.CubicField.{Triple, multiple, constant, product, adjugate, norm, cubic}
 use Rattle.circle_field.specs.CubicLaws.{same_triple, expr, cubic_ring, w, x}
 
 module _ {F : Type 0} {k : FieldOps F} (laws : FieldLaws k) where
-  -- a product is zero only where a factor is
-  other_factor : (a b : F) → k.mul a b ≡ k.zero → a ≢ k.zero → b ≡ k.zero
-  other_factor a b h nonzero =
-      let a' : Expr = var 0 in let b' : Expr = var 1 in let i : Expr = var 2 in
-      combine laws.ring (a ∷ b ∷ k.inv a ∷ []) b' (con 0)
-      (given (minus b') (times a' i) unit ∷ given i (times a' b') (con 0) ∷ []) refl
-      (laws.mul_inv a nonzero, (h, tt))
-
   module _ (decide : (a : F) → (a ≡ k.zero) ⊎ (a ≢ k.zero)) where
-    -- a square is zero only where its root is
-    zero_square : (a : F) → k.mul a a ≡ k.zero → a ≡ k.zero
-    zero_square a h = elim (decide a) [ inl e ↦ e | inr n ↦ other_factor a a h n ]
-
     module _ (v : F) (no_cube : (b : F) → k.mul b (k.mul b b) ≢ v) where
       -- w and the coefficients of an element
       abbrev values : Triple F → List F
@@ -60,11 +49,11 @@ module _ {F : Type 0} {k : FieldOps F} (laws : FieldLaws k) where
           let d : Triple Expr = adjugate expr w x in
           let e2 : a.c2 ≡ k.zero = last_zero a h in
           let e1 : a.c1 ≡ k.zero =
-          zero_square a.c1 (combine laws.ring (values a) (times x.c1 x.c1) (con 0)
+          zero_square laws decide a.c1 (combine laws.ring (values a) (times x.c1 x.c1) (con 0)
           (given unit d.c2 (con 0) ∷ given x.c0 x.c2 (con 0) ∷ []) refl
           (ap (λ t. t.c2) h, (e2, tt))) in
           let e0 : a.c0 ≡ k.zero =
-          zero_square a.c0 (combine laws.ring (values a) (times x.c0 x.c0) (con 0)
+          zero_square laws decide a.c0 (combine laws.ring (values a) (times x.c0 x.c0) (con 0)
           (given unit d.c0 (con 0) ∷ given (times w x.c1) x.c2 (con 0) ∷ []) refl
           (ap (λ t. t.c0) h, (e2, tt))) in
           same_triple e0 e1 e2

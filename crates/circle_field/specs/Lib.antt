@@ -18,6 +18,7 @@ pub mod Mersenne31Powers
 pub mod Mersenne31Circle
 pub mod Mersenne31Rows
 pub mod Bytes
+pub mod Carried
 pub mod CubicField
 pub mod CubicLaws
 pub mod CubicInverse

@@ -107,7 +107,8 @@ pub trait Field: Operations
         *self * Self::ONE.halve().exp_u64(exp)
     }
 
-    /// The powers of `base` from 0 to `n - 1`. Fails where memory is refused.
+    /// The powers of `base` from 0 to `n - 1`, called as `F::powers(alloc, base, n)`. Fails where
+    /// memory is refused.
     fn powers(alloc: Global, base: Self, n: usize) -> Result<Vec<Self>, AllocError>
         ensures { IfOk result
             (λ powers. powers.items ≡ map (λ i. nth_power Self.ops base i) (range_with_len 0 n)) }

@@ -3,6 +3,7 @@ ghost use Rattle.std.specs.Prelude.{◌≡◌, length};
 ghost use Rattle.circle_commit.specs.Matrix.{IsPowerOfTwo};
 ghost use Rattle.circle_point.specs.Basis.{iterated_x, x_value};
 
+use circle_commit::log2_strict;
 use circle_field::{ExtensionField, Field};
 
 /// The value at `x` of the polynomial with these coefficients: the sum of `c_j` times the product
@@ -19,11 +20,11 @@ pub fn x_value<F: Field, EF: ExtensionField<F>>(coefficients: &[EF], x: F) -> EF
         return coefficients[0];
     }
     let (low, high) = coefficients.split_at(half);
-    x_value(low, x) + x_value(high, x).times_base(iterated_x(x, half.ilog2()))
+    x_value(low, x) + x_value(high, x).times_base(iterated_x(x, log2_strict(half)))
 }
 
 /// The x coordinate of the point that one with x coordinate `x` becomes by so many doublings.
-pub(crate) fn iterated_x<F: Field>(x: F, times: u32) -> F
+pub(crate) fn iterated_x<F: Field>(x: F, times: usize) -> F
     ensures { result ≡ iterated_x F.ops times x }
 {
     let mut iterated = x;

@@ -9,6 +9,7 @@ ghost use Rattle.circle_final.specs.Blocks.{block_factors, multiples};
 ghost use Rattle.circle_final.specs.Spans.{HasXValues, XSpan};
 
 use crate::evaluation::iterated_x;
+use circle_commit::log2_strict;
 use circle_domain::{CircleDomain, first_points};
 use circle_field::{ComplexExtendable, ExtensionField, Field, batch_multiplicative_inverse};
 use circle_point::Point;
@@ -35,7 +36,7 @@ pub fn x_interpolate<F: ComplexExtendable, EF: ExtensionField<F>>(
     ensures none { IfOk result (λ found. IfNone found ((m : ℕ) → length word.now ≡ 2 ^ m →
         ¬ XSpan F.ops F.generators EF.ops EF.embed log_len m word.now)) }
 {
-    let log_points = word.len().ilog2() as usize;
+    let log_points = log2_strict(word.len());
     let multiples = all_multiples::<F, EF>(alloc, word, log_points)?;
     let (first, others) = multiples.split_at(1 << log_len);
     if !are_zero(others) {
@@ -103,7 +104,7 @@ fn push_factors<F: Field>(factors: &mut Vec<F>, xs: &[F]) -> Result<(), AllocErr
     if half == 0 {
         return Ok(());
     }
-    factors.push(iterated_x(xs[0], half.ilog2()))?;
+    factors.push(iterated_x(xs[0], log2_strict(half)))?;
     let (low, high) = xs.split_at(half);
     push_factors(factors, low)?;
     push_factors(factors, high)

@@ -4,24 +4,13 @@ use Rattle.std.proofs.Common.{ap, inl, inr}
 use Rattle.circle_field.specs.Field.{FieldOps, FieldLaws}
 use Rattle.circle_field.specs.Ring.{Expr, var, con, unit, plus, times, minus}
 use Rattle.circle_field.specs.RingCombine.{given, combine}
+use Rattle.circle_field.specs.Carried.{zero_square}
 use Rattle.circle_field.specs.CubicLaws.{expr}
 use Rattle.circle_vectors.specs.QuadraticField.{Pair, multiple, constant, product, conjugate, norm, quadratic}
 use Rattle.circle_vectors.specs.QuadraticLaws.{same_pair, quadratic_ring, x}
 
 module _ {F : Type 0} {k : FieldOps F} (laws : FieldLaws k) where
-  -- a product is zero only where a factor is
-  other_factor : (a b : F) → k.mul a b ≡ k.zero → a ≢ k.zero → b ≡ k.zero
-  other_factor a b h nonzero =
-      let a' : Expr = var 0 in let b' : Expr = var 1 in let i : Expr = var 2 in
-      combine laws.ring (a ∷ b ∷ k.inv a ∷ []) b' (con 0)
-      (given (minus b') (times a' i) unit ∷ given i (times a' b') (con 0) ∷ []) refl
-      (laws.mul_inv a nonzero, (h, tt))
-
   module _ (decide : (a : F) → (a ≡ k.zero) ⊎ (a ≢ k.zero)) where
-    -- a square is zero only where its root is
-    zero_square : (a : F) → k.mul a a ≡ k.zero → a ≡ k.zero
-    zero_square a h = elim (decide a) [ inl e ↦ e | inr n ↦ other_factor a a h n ]
-
     module _ (no_square : (b : F) → k.mul b b ≢ k.neg k.one) where
       -- the coefficients of an element
       abbrev values : Pair F → List F
@@ -48,7 +37,7 @@ module _ {F : Type 0} {k : FieldOps F} (laws : FieldLaws k) where
       norm_zero a h =
           let e1 : a.c1 ≡ k.zero = last_zero a h in
           let e0 : a.c0 ≡ k.zero =
-          zero_square a.c0 (combine laws.ring (values a) (times x.c0 x.c0) (con 0)
+          zero_square laws decide a.c0 (combine laws.ring (values a) (times x.c0 x.c0) (con 0)
           (given unit (norm expr x) (con 0) ∷ given (minus x.c1) x.c1 (con 0) ∷ []) refl
           (h, (e1, tt))) in
           same_pair e0 e1

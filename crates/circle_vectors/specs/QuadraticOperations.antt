@@ -1,11 +1,12 @@
 -- The laws of the quadratic extension of Mersenne31.
-use Rattle.std.specs.Prelude.{◌≡◌, ◌≢◌, ◌⊎◌, ℕ, List, refl, nat_eq, Bool, true, false, ◌&&◌, ◌↔◌}
-use Rattle.std.proofs.Math.ListN.{get_or}
-use Rattle.std.proofs.Common.{zero, suc, ◌∙◌, ap, inl, inr}
+use Rattle.std.specs.Prelude.{◌≡◌, ℕ, refl, nat_eq, true, ◌&&◌, ◌↔◌}
+use Rattle.std.proofs.Common.{◌∙◌, ap}
+use Rattle.std.proofs.lemmas.Bool.{and_parts}
 use Rattle.circle_field.specs.declared.mersenne31.Mersenne31.{Mersenne31}
 use Rattle.circle_vectors.specs.declared.quadratic.Quadratic.{Quadratic}
 use Rattle.circle_field.specs.Field.{FieldLaws, IsEmbedding, of_nat}
 use Rattle.circle_field.specs.Extension.{AreCoefficients}
+use Rattle.circle_field.specs.Carried.{carried_laws, embedding-of_nat, decide, entry}
 use Rattle.circle_field.specs.Mersenne31.{residue, operations as base}
 use Rattle.circle_field.specs.Mersenne31Laws.{same_residue, equal_exactly as base_equal, laws as base_laws}
 use Rattle.circle_vectors.specs.NoSquare.{minus_one_is_no_square}
@@ -14,36 +15,12 @@ use Rattle.circle_vectors.specs.QuadraticLaws.{same_pair, constant_add, constant
 use Rattle.circle_vectors.specs.QuadraticInverse.{quadratic_laws, norm_zero, norm_of_zero}
 use Rattle.circle_vectors.specs.Quadratic.{pair_of, of_pair, pairs, operations, embed, coefficients}
 
--- whether an element is 0
-decided : (a : Mersenne31) (b : Bool) → nat_eq (residue a) 0 ≡ b → (a ≡ base.zero) ⊎ (a ≢ base.zero)
-decided a true h = inl ((base_equal a base.zero).0 h)
-decided a false h =
-    inr (λ e. let t : nat_eq (residue a) 0 ≡ true = (base_equal a base.zero).1 e in cc)
-
-decide : (a : Mersenne31) → (a ≡ base.zero) ⊎ (a ≢ base.zero)
-decide a = decided a (nat_eq (residue a) 0) refl
-
 pair_laws : FieldLaws pairs
 pair_laws = quadratic_laws base_laws decide minus_one_is_no_square
 
 -- the field's laws
 pub laws : FieldLaws operations
-laws =
-    let t : FieldLaws pairs = pair_laws in
-    record {
-      ring = record {
-        add_assoc = λ a b c. ap of_pair (t.ring.add_assoc (pair_of a) (pair_of b) (pair_of c));
-        add_comm = λ a b. ap of_pair (t.ring.add_comm (pair_of a) (pair_of b));
-        zero_add = λ a. ap of_pair (t.ring.zero_add (pair_of a));
-        neg_add = λ a. ap of_pair (t.ring.neg_add (pair_of a));
-        mul_assoc = λ a b c. ap of_pair (t.ring.mul_assoc (pair_of a) (pair_of b) (pair_of c));
-        mul_comm = λ a b. ap of_pair (t.ring.mul_comm (pair_of a) (pair_of b));
-        one_mul = λ a. ap of_pair (t.ring.one_mul (pair_of a));
-        mul_add = λ a b c. ap of_pair (t.ring.mul_add (pair_of a) (pair_of b) (pair_of c));
-      };
-      mul_inv = λ a nonzero. ap of_pair (t.mul_inv (pair_of a) (λ h. nonzero (ap of_pair h)));
-      two_nonzero = λ h. t.two_nonzero (ap pair_of h);
-    }
+laws = carried_laws of_pair pair_of (λ t. refl) (λ a. refl) pair_laws
 
 -- what holds of coefficients holds of elements
 pub same_quadratic : (a b : Quadratic) → a.c0 ≡ b.c0 → a.c1 ≡ b.c1 → a ≡ b
@@ -60,10 +37,6 @@ is_embedding = record {
   injective = λ a b h. ap (λ c. c.c0) h;
 }
 
--- the entry at place i of a list, or 0 where there is none
-entry : ℕ → List Mersenne31 → Mersenne31
-entry i xs = get_or xs i base.zero
-
 -- the coefficients are linear and tell elements apart
 pub are_coefficients : AreCoefficients base operations embed 2 coefficients
 unfolding entry
@@ -74,11 +47,6 @@ are_coefficients = record {
       λ x a. ap (λ t. coefficients (of_pair t)) (constant_product base_laws.ring x (pair_of a));
   determined = λ a b h. same_quadratic a b (ap (entry 0) h) (ap (entry 1) h);
 }
-
--- the first and the other of two tests that both hold
-and_parts : (p q : Bool) → (p && q) ≡ true → (p ≡ true) × (q ≡ true)
-and_parts true q h = (refl, h)
-and_parts false q h = cc
 
 -- `==` compares coefficients
 pub equal_exactly : (a b : Quadratic) →
@@ -103,10 +71,7 @@ same_residues a b p q = same_quadratic a b (same_residue a.c0 b.c0 p) (same_resi
 
 -- the sum of n ones is that of the base field
 pub embedded_of_nat : (n : ℕ) → embed (of_nat base n) ≡ of_nat operations n
-embedded_of_nat zero = refl
-embedded_of_nat (suc n) =
-    is_embedding.add base.one (of_nat base n)
-    ∙ ap (operations.add operations.one) (embedded_of_nat n)
+embedded_of_nat n = embedding-of_nat is_embedding n
 
 -- the norm is 0 exactly at 0
 pub norm_zero_exactly : (a : Quadratic) →

@@ -48,7 +48,7 @@ fn difficulties_in_the_order_of_the_run(rt: HostRuntime) {
     assert_parameters(&rt, parameters([30, 30, 30]), "");
     let batch = "a proof of work of 31 bits is not supported (batch)";
     assert_parameters(&rt, parameters([31, 32, 33]), batch);
-    let commit = "a proof of work of 32 bits is not supported (commit phase)";
+    let commit = "a proof of work of 32 bits is not supported (commit)";
     assert_parameters(&rt, parameters([30, 32, 33]), commit);
     let query = "a proof of work of 33 bits is not supported (query)";
     assert_parameters(&rt, parameters([30, 30, 33]), query);
@@ -124,7 +124,7 @@ fn witnesses_without_difficulty(rt: HostRuntime) -> Result<(), Fail> {
     let alloc = rt.alloc();
     assert_shape(&rt, [0; 3], proof(alloc, [0, 0])?, 1, "");
     assert_shape(&rt, [0, 1, 1], proof(alloc, [5, 6])?, 1, "");
-    let commit = "a witness of a proof of work without difficulty is not zero (commit phase)";
+    let commit = "a witness of a proof of work without difficulty is not zero (commit)";
     assert_shape(&rt, [0; 3], proof(alloc, [5, 6])?, 1, commit);
     let query = "a witness of a proof of work without difficulty is not zero (query)";
     assert_shape(&rt, [0; 3], proof(alloc, [0, 6])?, 1, query);

@@ -139,7 +139,9 @@ fn are_zero<Witness: Field>(witnesses: &[Witness]) -> bool
     witnesses.iter().all(|w| *w == Witness::ZERO)
 }
 
-// Refuses witnesses that are not zero where the proof of work has no difficulty.
+// Refuses witnesses that are not zero where the proof of work has no difficulty: the transcript
+// takes such a witness in nowhere and every value passes, so that without this test anyone could
+// change the bytes of an accepted proof.
 #[tactic(auto, unfolding(crate::specs::Refusals::answer))]
 fn check_witnesses<CommitErr, InputErr>(
     phase: PowPhase,

@@ -110,7 +110,7 @@ fn refusals_of_witnesses(rt: HostRuntime) {
     assert_shown(
         &rt,
         wrong,
-        "a witness of a proof of work does not pass (commit phase)",
+        "a witness of a proof of work does not pass (commit)",
     );
 }
 

@@ -33,9 +33,9 @@ returns g t c =
     let lo = c.split_at.result.0.now in
     let hi = c.split_at.result.1.now in
     let half = half-power (length c.args.coefficients.now) c.requires.0 c.requires.1 c.if-half-eq0.false in
-    let log : c.ilog2.result ≡ half.0 = log_of_power c.ilog2.result half.0 (omega (arith, c.ilog2.ensures.power_le, half.2)) (omega (arith, c.ilog2.ensures.next_power_gt, half.2)) in
+    let log : c.log2_strict.result ≡ half.0 = c.log2_strict.ensures.only half.0 half.2 in
     let factor : embed c.iterated_x.result ≡ iterated_x l half.0 (embed x) =
-    ap embed c.iterated_x.ensures ∙ lifted-iterated_x g.met.EF.ExtensionField.embedding c.ilog2.result x ∙ ap (λ n. iterated_x l n (embed x)) log in
+    ap embed c.iterated_x.ensures ∙ lifted-iterated_x g.met.EF.ExtensionField.embedding c.log2_strict.result x ∙ ap (λ n. iterated_x l n (embed x)) log in
     let upper : c.times_base.result ≡ l.mul (x_value l hi (embed x)) (iterated_x l half.0 (embed x)) =
     c.times_base.ensures ∙ ap (λ v. l.mul v c.x_value-2.result) factor ∙ ring.mul_comm _ _ ∙ ap (λ v. l.mul v (iterated_x l half.0 (embed x))) c.x_value-2.ensures in
     g.met.EF.Field.add_law _ _ _ c.add.ensures

@@ -11,16 +11,16 @@ use Rattle.circle_final.proofs.interpolation.x_interpolate.Goals as goal
 pub all_multiples-requires : goal.all_multiples-requires
 all_multiples-requires g c =
     let m = c.requires.0 in
-    let log : c.ilog2-log_points.result ≡ m = log_of_power c.ilog2-log_points.result m (omega (arith, c.ilog2-log_points.ensures.power_le, c.requires.1)) (omega (arith, c.ilog2-log_points.ensures.next_power_gt, c.requires.1)) in
+    let log : c.log2_strict-log_points.result ≡ m = c.log2_strict-log_points.ensures.only m (omega (arith, c.requires.1)) in
     record { length = c.requires.1 ∙ ap (λ n. 2 ^ n) (sym log); in_group = omega (arith, log, c.requires.3) }
 
 pub split_at-requires : goal.split_at-requires
 split_at-requires g c =
     let m = c.requires.0 in
-    let log : c.ilog2-log_points.result ≡ m = log_of_power c.ilog2-log_points.result m (omega (arith, c.ilog2-log_points.ensures.power_le, c.requires.1)) (omega (arith, c.ilog2-log_points.ensures.next_power_gt, c.requires.1)) in
+    let log : c.log2_strict-log_points.result ≡ m = c.log2_strict-log_points.ensures.only m (omega (arith, c.requires.1)) in
     let long : length c.deref.result.now ≡ 2 ^ m =
     ap length (c.deref.ensures.value ∙ c.in_ok-multiples.ensures)
-    ∙ length-multiples g.EF.Operations.ops g.EF.ExtensionField.embed c.ilog2-log_points.result _ c.args.word.now (c.requires.1 ∙ ap (λ n. 2 ^ n) (sym log)) ∙ ap (λ n. 2 ^ n) log in
+    ∙ length-multiples g.EF.Operations.ops g.EF.ExtensionField.embed c.log2_strict-log_points.result _ c.args.word.now (c.requires.1 ∙ ap (λ n. 2 ^ n) (sym log)) ∙ ap (λ n. 2 ^ n) log in
     omega (arith, long, shifted-one c.args.log_len m g.F.ComplexExtendable.CIRCLE_TWO_ADICITY c.requires.2 c.requires.3 g.met.F.ComplexExtendable.at_most_62, pow_within c.args.log_len m c.requires.2)
 
 pub returns-then-not-are_zero-clause-none : goal.returns-then-not-are_zero-clause-none
@@ -32,7 +32,7 @@ returns-then-not-are_zero-clause-none g c m long span =
     let word = c.args.word.now in
     let made = c.deref.result.now in
     let b = c.args.log_len in
-    let log : c.ilog2-log_points.result ≡ m = log_of_power c.ilog2-log_points.result m (omega (arith, c.ilog2-log_points.ensures.power_le, long)) (omega (arith, c.ilog2-log_points.ensures.next_power_gt, long)) in
+    let log : c.log2_strict-log_points.result ≡ m = c.log2_strict-log_points.ensures.only m (omega (arith, long)) in
     let same : c.requires.0 ≡ m = pow_injective c.requires.0 m (sym c.requires.1 ∙ long) in
     let fits : m + 2 ≤ g.F.ComplexExtendable.CIRCLE_TWO_ADICITY = omega (arith, same, c.requires.3) in
     let few : b ≤ m = omega (arith, same, c.requires.2) in
@@ -55,7 +55,7 @@ returns-clause-values g c m long =
     let word = c.args.word.now in
     let made = c.deref.result.now in
     let b = c.args.log_len in
-    let log : c.ilog2-log_points.result ≡ m = log_of_power c.ilog2-log_points.result m (omega (arith, c.ilog2-log_points.ensures.power_le, long)) (omega (arith, c.ilog2-log_points.ensures.next_power_gt, long)) in
+    let log : c.log2_strict-log_points.result ≡ m = c.log2_strict-log_points.ensures.only m (omega (arith, long)) in
     let same : c.requires.0 ≡ m = pow_injective c.requires.0 m (sym c.requires.1 ∙ long) in
     let fits : m + 2 ≤ g.F.ComplexExtendable.CIRCLE_TWO_ADICITY = omega (arith, same, c.requires.3) in
     let few : b ≤ m = omega (arith, same, c.requires.2) in
@@ -64,7 +64,7 @@ returns-clause-values g c m long =
     c.deref.ensures.value ∙ c.in_ok-multiples.ensures
     ∙ ap (λ n. multiples l embed n (map k.inv (block_factors k n (map (λ p. p.x) (coset k gen n (gen (n + 2)))))) word) log in
     let factor : c.div_2exp_u64-factor.result ≡ k.mul k.one (nth_power k (k.inv (two k)) m) =
-    c.div_2exp_u64-factor.ensures ∙ ap (λ v. k.mul v (nth_power k (k.inv (two k)) c.ilog2-log_points.result)) (c.ONE.ensures ∙ g.met.F.Field.one_law)
+    c.div_2exp_u64-factor.ensures ∙ ap (λ v. k.mul v (nth_power k (k.inv (two k)) c.log2_strict-log_points.result)) (c.ONE.ensures ∙ g.met.F.Field.one_law)
     ∙ ap (λ n. k.mul k.one (nth_power k (k.inv (two k)) n)) log in
     let unit = half-power-inverse g.F.Operations.laws g.EF.Operations.laws g.met.EF.ExtensionField.embedding g.met.F.ComplexExtendable.generators_law m c.div_2exp_u64-factor.result factor in
     let scaled : c.in_ok-scaled.field-0.items ≡ map (l.mul (embed c.div_2exp_u64-factor.result)) (take (2 ^ b) made) =
@@ -83,7 +83,7 @@ returns-clause-only g c m d long has =
     let word = c.args.word.now in
     let made = c.deref.result.now in
     let b = c.args.log_len in
-    let log : c.ilog2-log_points.result ≡ m = log_of_power c.ilog2-log_points.result m (omega (arith, c.ilog2-log_points.ensures.power_le, long)) (omega (arith, c.ilog2-log_points.ensures.next_power_gt, long)) in
+    let log : c.log2_strict-log_points.result ≡ m = c.log2_strict-log_points.ensures.only m (omega (arith, long)) in
     let same : c.requires.0 ≡ m = pow_injective c.requires.0 m (sym c.requires.1 ∙ long) in
     let fits : m + 2 ≤ g.F.ComplexExtendable.CIRCLE_TWO_ADICITY = omega (arith, same, c.requires.3) in
     let few : b ≤ m = omega (arith, same, c.requires.2) in
@@ -92,7 +92,7 @@ returns-clause-only g c m d long has =
     c.deref.ensures.value ∙ c.in_ok-multiples.ensures
     ∙ ap (λ n. multiples l embed n (map k.inv (block_factors k n (map (λ p. p.x) (coset k gen n (gen (n + 2)))))) word) log in
     let factor : c.div_2exp_u64-factor.result ≡ k.mul k.one (nth_power k (k.inv (two k)) m) =
-    c.div_2exp_u64-factor.ensures ∙ ap (λ v. k.mul v (nth_power k (k.inv (two k)) c.ilog2-log_points.result)) (c.ONE.ensures ∙ g.met.F.Field.one_law)
+    c.div_2exp_u64-factor.ensures ∙ ap (λ v. k.mul v (nth_power k (k.inv (two k)) c.log2_strict-log_points.result)) (c.ONE.ensures ∙ g.met.F.Field.one_law)
     ∙ ap (λ n. k.mul k.one (nth_power k (k.inv (two k)) n)) log in
     let unit = half-power-inverse g.F.Operations.laws g.EF.Operations.laws g.met.EF.ExtensionField.embedding g.met.F.ComplexExtendable.generators_law m c.div_2exp_u64-factor.result factor in
     let scaled : c.in_ok-scaled.field-0.items ≡ map (l.mul (embed c.div_2exp_u64-factor.result)) (take (2 ^ b) made) =
