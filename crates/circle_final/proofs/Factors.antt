@@ -1,15 +1,14 @@
 -- The factors of the blocks of a coset: one for all points of a block's first half, its opposite in the second, and never 0.
 use Rattle.std.specs.Prelude.{◌≡◌, ◌≢◌, ℕ, ◌+◌, ◌-◌, ◌^◌, ◌≤◌, List, [], ◌∷◌, ◌++◌, length, map, take, drop, slice_index_or}
 use Rattle.std.specs.List.{AllByRecursion}
-use Rattle.std.proofs.Common.{zero, suc, sym, ◌∙◌, ap, refl, arith, subst, length-append}
+use Rattle.std.proofs.Common.{zero, suc, ◌∙◌, ap, refl, arith, subst, length-append}
 use Rattle.std.proofs.Math.Nat.{pow-suc}
 use Rattle.std.proofs.lemmas.Nat.{pow_pos}
 use Rattle.std.proofs.lemmas.List.{map-append, take_at, drop_at, length-map}
 use Rattle.circle_field.specs.Field.{FieldOps, FieldLaws}
-use Rattle.circle_field.specs.Circle.{Coordinates, IsOnCircle, AreGenerators, plus, opposite, origin, times}
+use Rattle.circle_field.specs.Circle.{Coordinates, IsOnCircle, AreGenerators, plus, origin, times}
 use Rattle.circle_point.specs.Basis.{iterated_x}
 use Rattle.circle_domain.specs.Order.{coset, with_opposites}
-use Rattle.circle_domain.specs.Layers.{factor, second_half}
 use Rattle.circle_domain.proofs.Blocks.{points, points-cfft_order, factor-points, factor-opposite, second_half-on_circle, all-append}
 use Rattle.circle_domain.proofs.Inversion.{factor-nonzero, first-genuine, second-genuine}
 use Rattle.circle_domain.proofs.Twiddles.{length-coset}

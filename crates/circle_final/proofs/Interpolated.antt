@@ -4,7 +4,6 @@ use Rattle.std.proofs.Common.{zero, suc, sym, ◌∙◌, ap, refl, arith, length
 use Rattle.std.proofs.Math.Nat.{pow-suc}
 use Rattle.std.proofs.lemmas.List.{map-append, take_at, drop_at, length-map, take-append-drop}
 use Rattle.circle_field.specs.Field.{FieldOps, FieldLaws, IsEmbedding, sub, two, nth_power}
-use Rattle.circle_field.specs.RingFacts.{mul_one}
 use Rattle.circle_field.specs.Circle.{Coordinates, IsOnCircle, AreGenerators, plus, origin, times}
 use Rattle.circle_point.specs.Basis.{iterated_x, x_value}
 use Rattle.circle_domain.specs.Order.{coset}

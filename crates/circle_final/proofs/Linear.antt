@@ -1,12 +1,11 @@
 -- Values of sums, differences and multiples of coefficients.
-use Rattle.std.specs.Prelude.{◌≡◌, ◌≢◌, ℕ, List, [], ◌∷◌, ◌++◌, length, map, replicate}
+use Rattle.std.specs.Prelude.{◌≡◌, ℕ, List, [], ◌∷◌, ◌++◌, length, map}
 use Rattle.std.specs.List.{AllByRecursion}
-use Rattle.std.proofs.Common.{zero, suc, sym, ◌∙◌, ap, refl, arith}
-use Rattle.circle_field.specs.Field.{FieldOps, RingLaws, FieldLaws, sub, two, nth_power}
+use Rattle.std.proofs.Common.{suc, sym, ◌∙◌, ap, refl, arith}
+use Rattle.circle_field.specs.Field.{FieldOps, RingLaws, sub, two}
 use Rattle.circle_field.specs.Ring.{var, con, unit, plus as sum, times as prod, minus}
 use Rattle.circle_field.specs.RingSound.{ring}
 use Rattle.circle_field.specs.RingCombine.{given, combine}
-use Rattle.circle_field.specs.RingFacts.{zero_mul}
 use Rattle.circle_point.specs.Basis.{x_basis, weighted_sum, x_value}
 use Rattle.circle_domain.specs.Layers.{pairwise}
 

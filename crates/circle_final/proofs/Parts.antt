@@ -1,6 +1,6 @@
 -- What a call on a block does, from what the calls on its halves do.
 use Rattle.std.specs.Prelude.{◌≡◌, ℕ, ◌-◌, ◌^◌, ◌≤◌, List, [], ◌∷◌, ◌++◌, length, take, drop, slice_index_or}
-use Rattle.std.proofs.Common.{suc, sym, ◌∙◌, ap, refl, arith, append_assoc, length-drop}
+use Rattle.std.proofs.Common.{suc, sym, ◌∙◌, ap, arith, append_assoc, length-drop}
 use Rattle.std.proofs.lemmas.List.{take_all}
 use Rattle.circle_field.specs.Field.{FieldOps, sub}
 use Rattle.circle_point.specs.Basis.{iterated_x}

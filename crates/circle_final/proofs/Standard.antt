@@ -1,12 +1,12 @@
 -- Words on half of a standard domain, and the only coefficients that have their values.
 use Rattle.std.specs.Prelude.{◌≡◌, ◌≢◌, ℕ, ◌+◌, ◌-◌, ◌*◌, ◌%◌, ◌^◌, ◌≤◌, List, [], ◌∷◌, ◌++◌, length, map, take, drop, replicate, All}
 use Rattle.std.specs.List.{AllByRecursion}
-use Rattle.std.proofs.Common.{zero, suc, sym, ◌∙◌, ap, refl, arith, subst, length-append, length-drop}
+use Rattle.std.proofs.Common.{zero, suc, sym, ◌∙◌, ap, refl, arith, subst, length-append}
 use Rattle.std.proofs.Math.Nat.{mod-eq_of_lt}
 use Rattle.std.proofs.lemmas.List.{length-map, map-append, take_at, drop_at, take-append-drop, length-take-le}
 use Rattle.std.proofs.lemmas.List.Elements.{All-from_recursion}
 use Rattle.circle_field.specs.Field.{FieldOps, RingLaws, FieldLaws, IsEmbedding, two, nth_power}
-use Rattle.circle_field.specs.RingFacts.{mul_swap, mul_zero, mul_one}
+use Rattle.circle_field.specs.RingFacts.{mul_swap, mul_zero}
 use Rattle.circle_field.specs.Circle.{Coordinates, AreGenerators, origin, times}
 use Rattle.circle_point.specs.Basis.{x_value}
 use Rattle.circle_domain.specs.Order.{coset}

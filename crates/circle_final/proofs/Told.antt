@@ -1,6 +1,6 @@
 -- Values at the points of a block tell the coefficients.
-use Rattle.std.specs.Prelude.{◌≡◌, ◌≢◌, ℕ, ◌+◌, ◌-◌, ◌*◌, ◌^◌, ◌≤◌, List, [], ◌∷◌, ◌++◌, length, map}
-use Rattle.std.proofs.Common.{zero, suc, sym, ◌∙◌, ap, refl, arith}
+use Rattle.std.specs.Prelude.{◌≡◌, ◌≢◌, ℕ, ◌^◌, ◌≤◌, List, [], ◌∷◌, length, map}
+use Rattle.std.proofs.Common.{suc, sym, ◌∙◌, ap, refl, arith}
 use Rattle.std.proofs.Math.Nat.{pow-suc}
 use Rattle.circle_field.specs.Field.{FieldOps, FieldLaws, IsEmbedding}
 use Rattle.circle_field.specs.Circle.{Coordinates, IsOnCircle, AreGenerators, lifted, origin, times}

@@ -1,5 +1,5 @@
 -- The definitions at worked examples over the numbers modulo 2^31 - 1.
-use Rattle.std.specs.Prelude.{◌≡◌, ℕ, ◌+◌, ◌*◌, ◌-◌, ◌%◌, List, [], ◌∷◌, refl, map}
+use Rattle.std.specs.Prelude.{◌≡◌, ℕ, ◌+◌, ◌*◌, ◌-◌, ◌%◌, [], ◌∷◌, refl, map}
 use Rattle.std.proofs.Common.{zero, suc}
 use Rattle.circle_field.specs.Field.{FieldOps}
 use Rattle.circle_field.specs.Circle.{Coordinates, at, plus}

@@ -1,8 +1,7 @@
-use Rattle.std.proofs.Common.{◌≡◌, ◌≤◌, ◌<◌, ◌^◌, ◌∙◌, sym, ap, arith, rules, length, ◌++◌}
+use Rattle.std.proofs.Common.{◌≡◌, ◌≤◌, ◌<◌, ◌∙◌, sym, ap, arith, rules, length}
 use Rattle.std.proofs.lemmas.Nat.{pow_pos}
 use Rattle.circle_point.specs.Basis.{iterated_x, x_value}
 use Rattle.circle_domain.proofs.Lifted.{lifted-iterated_x}
-use Rattle.circle_domain.proofs.Powers.{log_of_power}
 use Rattle.circle_final.proofs.Halves.{x_value-single, x_value-halves, half-power}
 use Rattle.circle_final.proofs.evaluation.+x_value.Goals as goal
 
@@ -22,6 +21,11 @@ x_value-requires-2 g t c =
     let half = half-power (length c.args.coefficients.now) c.requires.0 c.requires.1 c.if-half-eq0.false in
     let smaller : length c.split_at.result.1.now < length c.args.coefficients.now = omega (arith, c.split_at.ensures.back_len, half.3, c.if-half-eq0.false) in
     λ κs outlives. (search (rules, smaller), (outlives.0, (outlives.1, (half.0, omega (arith, c.split_at.ensures.back_len, half.3, half.2)))))
+
+pub log2_strict-requires : goal.log2_strict-requires
+log2_strict-requires g t c =
+    let half = half-power (length c.args.coefficients.now) c.requires.0 c.requires.1 c.if-half-eq0.false in
+    (half.0, half.2)
 
 pub returns : goal.returns
 returns g t c =

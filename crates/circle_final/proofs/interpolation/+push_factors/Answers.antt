@@ -1,9 +1,9 @@
-use Rattle.std.proofs.Common.{◌≡◌, ◌≤◌, ◌<◌, ◌^◌, ◌∙◌, sym, ap, refl, arith, rules, suc, length, ◌++◌, append-nil, take, drop}
+use Rattle.std.proofs.Common.{◌≡◌, ◌≤◌, ◌<◌, ◌^◌, ◌∙◌, sym, ap, arith, rules, suc, length, ◌++◌, append-nil, take, drop}
 use Rattle.std.proofs.Math.Nat.{pow-suc}
 use Rattle.std.proofs.lemmas.Nat.{pow_pos}
 use Rattle.std.proofs.lemmas.Result.{on_ok_weaker}
 use Rattle.circle_point.specs.Basis.{iterated_x}
-use Rattle.circle_domain.proofs.Powers.{log_of_power, pow_injective}
+use Rattle.circle_domain.proofs.Powers.{pow_injective}
 use Rattle.circle_final.specs.Blocks.{block_factors}
 use Rattle.circle_final.proofs.Halves.{half-power}
 use Rattle.circle_final.proofs.Parts.{joined-factors}
@@ -25,6 +25,11 @@ push_factors-requires-2 g t c =
     let half = half-power (length c.args.xs.now) c.requires.0 c.requires.1 c.if-half-eq0.false in
     let smaller : length c.split_at.result.1.now < length c.args.xs.now = omega (arith, c.split_at.ensures.back_len, half.3, c.if-half-eq0.false) in
     λ κs outlives. (search (rules, smaller), (outlives, (half.0, omega (arith, c.split_at.ensures.back_len, half.3, half.2))))
+
+pub log2_strict-requires : goal.log2_strict-requires
+log2_strict-requires g t c =
+    let half = half-power (length c.args.xs.now) c.requires.0 c.requires.1 c.if-half-eq0.false in
+    (half.0, half.2)
 
 pub returns : goal.returns
 returns g t c =

@@ -1,9 +1,9 @@
-use Rattle.std.proofs.Common.{◌≡◌, ℕ, ◌+◌, ◌*◌, ◌%◌, ◌≤◌, ◌^◌, All, length, map, take, drop, ◌∙◌, sym, ap, subst, arith, rules}
+use Rattle.std.proofs.Common.{◌≡◌, ◌+◌, ◌*◌, ◌%◌, ◌≤◌, ◌^◌, All, length, map, take, drop, ◌∙◌, sym, ap, subst, arith, rules}
 use Rattle.std.proofs.lemmas.List.Elements.{All-from_recursion, recursion_from_All}
 use Rattle.circle_field.specs.Field.{nth_power, two}
 use Rattle.circle_domain.specs.Order.{coset}
 use Rattle.circle_final.specs.Blocks.{multiples, block_factors}
-use Rattle.circle_domain.proofs.Powers.{log_of_power, pow_injective, pow_within}
+use Rattle.circle_domain.proofs.Powers.{pow_injective, pow_within}
 use Rattle.circle_final.proofs.Lengths.{length-multiples}
 use Rattle.circle_final.proofs.Standard.{shifted-one, found-values, others-zero, only-ones, half-power-inverse}
 use Rattle.circle_final.proofs.interpolation.x_interpolate.Goals as goal
