@@ -96,14 +96,22 @@ pub enum FriError<CommitErr, InputErr> {
         /// The number of siblings that there are.
         got: usize,
     },
+    /// The final polynomial has a wrong number of coefficients.
+    #[error("the final polynomial has {got} coefficients, and {expected} are due")]
+    FinalPolyLengthMismatch {
+        /// The number of coefficients that are due.
+        expected: usize,
+        /// The number of coefficients that there are.
+        got: usize,
+    },
     /// A claimed point is at infinity: its coordinate belongs to no point of the circle.
     #[error("a claimed point is at infinity")]
     PointAtInfinity,
     /// The witness of a proof of work doesn't pass.
     #[error("a witness of a proof of work does not pass ({0})")]
     InvalidPowWitness(PowPhase),
-    /// A query is folded to another value than the last word's.
-    #[error("a query is folded to another value than the last word's")]
+    /// A query is folded to another value than the final polynomial's.
+    #[error("a query is folded to another value than the final polynomial's")]
     FinalPolyMismatch,
     /// Values of some height are left over after the last round.
     #[error("{remaining} values are left over, the next of height 2^{next_log_height}")]

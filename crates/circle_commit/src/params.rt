@@ -11,6 +11,9 @@ use std::fmt;
 pub struct FriParameters<M> {
     /// The binary logarithm of the blowup, by which a codeword is longer than what it encodes.
     pub log_blowup: usize,
+    /// The binary logarithm of the number of coefficients of the final polynomial, at which folding
+    /// stops.
+    pub log_final_poly_len: usize,
     /// The binary logarithm of the greatest number of entries that one round folds into one.
     pub max_log_arity: usize,
     /// The number of queries.
