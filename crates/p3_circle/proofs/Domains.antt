@@ -7,8 +7,8 @@ use Rattle.circle_commit.specs.Mmcs.{greatest}
 use Rattle.circle_commit.specs.declared.pcs.CommitmentOpening.{CommitmentOpening}
 use Rattle.circle_domain.specs.declared.domain.CircleDomain.{CircleDomain}
 use Rattle.p3_circle.specs.Refusals.{Test, answer, domain_tests}
-use Rattle.p3_circle.specs.Statement.{all_matrices, log_sizes}
-use Rattle.p3_circle.specs.StatementOf.{matrix_claims, batch_claims}
+use Rattle.circle_relation.specs.Statement.{all_matrices, log_sizes}
+use Rattle.circle_relation.specs.StatementOf.{matrix_claims, batch_claims}
 use Rattle.p3_circle.proofs.Answering.{answer-append}
 
 max_assoc : (a b c : ℕ) → max (max a b) c ≡ max a (max b c)

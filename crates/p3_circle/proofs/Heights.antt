@@ -6,9 +6,9 @@ use Rattle.std.specs.Result.{result_and}
 use Rattle.circle_commit.specs.Mmcs.{greatest}
 use Rattle.circle_commit.specs.declared.error.FriError.{FriError}
 use Rattle.circle_commit.specs.declared.error.FriError.TheVariants.{NoCommittedMatrices, GlobalMaxHeightTooLarge}
-use Rattle.p3_circle.specs.declared.pcs.InputError.{InputError}
+use Rattle.circle_relation.specs.declared.error.InputError.{InputError}
 use Rattle.p3_circle.specs.Refusals.{Test, answer, domain_tests, claim_tests}
-use Rattle.p3_circle.specs.Statement.{MatrixClaim, log_sizes, log_max_height}
+use Rattle.circle_relation.specs.Statement.{MatrixClaim, log_sizes, log_max_height}
 use Rattle.p3_circle.proofs.Answering.{answer-append}
 use Rattle.p3_circle.proofs.Domains.{passed-value, refused-value}
 

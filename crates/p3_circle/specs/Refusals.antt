@@ -9,8 +9,8 @@ use Rattle.circle_commit.specs.declared.pcs.CommitmentOpening.{CommitmentOpening
 use Rattle.circle_commit.specs.declared.params.FriParameters.{FriParameters}
 use Rattle.circle_commit.specs.declared.params.PowPhase.{PowPhase}
 use Rattle.circle_commit.specs.declared.params.PowPhase.TheVariants.{Batch, CommitPhase, Query}
-use Rattle.p3_circle.specs.declared.pcs.InputError.{InputError}
-use Rattle.p3_circle.specs.declared.pcs.InputError.TheVariants.{DomainTooSmall}
+use Rattle.circle_relation.specs.declared.error.InputError.{InputError}
+use Rattle.circle_relation.specs.declared.error.InputError.TheVariants.{DomainTooSmall}
 
 -- a refusal, and whether there is reason for it
 abbrev pub Test : Type 0 → Type 0

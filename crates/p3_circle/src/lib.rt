@@ -10,7 +10,6 @@
 #![tactic(auto)]
 
 pub mod pcs;
-pub mod proof;
 pub mod transcript;
 pub mod verifier;
 
@@ -23,8 +22,10 @@ pub use circle_plane::{
     CirclePeriodicEvaluator, CirclePoints, Neutral, PeriodicError, Point,
     build_periodic_lde_table_circle, cfft_permute_index, circle_basis,
 };
-pub use pcs::{CirclePcs, InputError};
-pub use proof::{CircleCommitPhaseMultiStep, CircleFriProof, CircleInputProof, CirclePcsProof};
+pub use circle_relation::{
+    CircleCommitPhaseMultiStep, CircleFriProof, CircleInputProof, CirclePcsProof, InputError,
+};
+pub use pcs::CirclePcs;
 pub use transcript::{
     CircleDraws, CirclePcsShape, CircleProverTranscript, CircleTranscript, CircleTranscriptFailure,
     CircleVerifierTranscript, CircleWitnesses, OpeningClaim, both_runs, prover_run, verifier_run,

@@ -2,17 +2,16 @@
 ghost use Rattle.std.specs.Prelude.{◌≡◌, [], ◌∷◌, map, vec_len};
 ghost use Rattle.std.specs.List.{list_all, list_any};
 ghost use Rattle.circle_commit.specs.Mmcs.{greatest};
-ghost use Rattle.p3_circle.specs.Statement.{all_matrices, log_sizes, log_max_height};
-ghost use Rattle.p3_circle.specs.StatementOf.{matrix_claims, batch_claims};
+ghost use Rattle.circle_relation.specs.Statement.{all_matrices, log_sizes, log_max_height};
+ghost use Rattle.circle_relation.specs.StatementOf.{matrix_claims, batch_claims};
 ghost use Rattle.p3_circle.specs.Refusals.{answer, domain_tests, claim_tests, grinding_test, parameter_tests, witness_test, sibling_tests, round_tests, rounds_tests, shape_tests, is_at_infinity, point_tests, some_point};
 
-use crate::pcs::InputError;
-use crate::proof::{CircleCommitPhaseMultiStep, CircleFriProof};
 use circle_commit::{
     CommitmentOpening, FriError, FriParameters, MatrixOpening, Mmcs, PointOpening, PowPhase,
 };
 use circle_domain::CircleDomain;
 use circle_field::{ComplexExtendable, Field};
+use circle_relation::{CircleCommitPhaseMultiStep, CircleFriProof, InputError};
 
 /// The greatest difficulty, in bits, of a proof of work that is supported.
 const MAX_PROOF_OF_WORK_BITS: usize = 30;

@@ -2,8 +2,8 @@ use Rattle.std.proofs.Common.{◌≡◌, drop}
 use Rattle.std.specs.Prelude.{max}
 use Rattle.circle_commit.specs.Mmcs.{greatest}
 use Rattle.p3_circle.specs.Refusals.{answer, domain_tests}
-use Rattle.p3_circle.specs.Statement.{all_matrices, log_sizes}
-use Rattle.p3_circle.specs.StatementOf.{batch_claims}
+use Rattle.circle_relation.specs.Statement.{all_matrices, log_sizes}
+use Rattle.circle_relation.specs.StatementOf.{batch_claims}
 use Rattle.p3_circle.proofs.verifier.greatest_domain.Given as goal
 
 -- the answer is that to the batches that are left, beside the greatest of the others

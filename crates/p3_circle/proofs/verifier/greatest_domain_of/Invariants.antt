@@ -1,8 +1,8 @@
 use Rattle.std.proofs.Common.{◌≡◌, drop}
 use Rattle.std.specs.Prelude.{max}
 use Rattle.circle_commit.specs.Mmcs.{greatest}
-use Rattle.p3_circle.specs.Statement.{log_sizes}
-use Rattle.p3_circle.specs.StatementOf.{matrix_claims}
+use Rattle.circle_relation.specs.Statement.{log_sizes}
+use Rattle.circle_relation.specs.StatementOf.{matrix_claims}
 use Rattle.p3_circle.specs.Refusals.{answer, domain_tests}
 use Rattle.p3_circle.proofs.verifier.greatest_domain_of.Given as goal
 

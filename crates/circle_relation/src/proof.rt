@@ -3,7 +3,7 @@
 use circle_commit::{BatchMultiOpening, Mmcs};
 use circle_field::Field;
 
-/// A proof that the folded words of a run end in a constant one.
+/// A proof that the folded words of a run end in the values of a polynomial.
 ///
 /// `M` commits to the folded words, `Witness` shows a proof of work, and `InputProof` opens what
 /// the first of these words was made of.
@@ -18,8 +18,8 @@ pub struct CircleFriProof<F: Field, M: Mmcs<F>, Witness, InputProof> {
     pub input_openings: InputProof,
     /// For each round, the openings of its word at all queries.
     pub commit_phase_openings: Vec<CircleCommitPhaseMultiStep<F, M>>,
-    /// The value of every entry of the last word.
-    pub final_poly: F,
+    /// The coefficients, in the basis in x, of the polynomial whose values the last word is.
+    pub final_poly: Vec<F>,
     /// The witness of the proof of work before the query indices; zero where it has no difficulty.
     pub pow_witness: Witness,
 }
@@ -71,7 +71,8 @@ pub struct CirclePcsProof<
     /// For each height of a batch's matrix from the least up, the multiple of the vanishing
     /// polynomial that was taken away from the reduced word.
     pub lambdas: Vec<Challenge>,
-    /// The proof that the words of the first layer, folded and joined, end in a constant one.
+    /// The proof that the words of the first layer, folded and joined, end in the values of a
+    /// polynomial.
     pub fri_proof: CircleFriProof<
         Challenge,
         FriMmcs,

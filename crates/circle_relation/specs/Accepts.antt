@@ -15,10 +15,17 @@ use Rattle.circle_folding.specs.Quotient.{claim_quotient}
 use Rattle.circle_folding.specs.Queries.{query_point}
 use Rattle.circle_folding.specs.Fold.{fold_pair}
 use Rattle.circle_folding.specs.Chain.{pair_of, first_layer_twiddle, round_twiddle}
-use Rattle.p3_circle.specs.Statement.{PointClaim, MatrixClaim, BatchClaim, Opened, OpeningProof, Challenges, all_matrices, log_height, log_max_height}
+use Rattle.circle_relation.specs.Statement.{PointClaim, MatrixClaim, BatchClaim, Opened, OpeningProof, Challenges, all_matrices, log_height, log_max_height}
 
--- the field with its circle, the extension, and the logarithms of the blowup and of the number of
--- coefficients of the final polynomial
+-- a field with the generators of its circle's group, and an extension of it
+pub record Fields (F E : Type 0) : Type 0 where
+  pub field : FieldOps F
+  pub gen : ℕ → Coordinates F
+  pub extension : FieldOps E
+  pub embed : F → E
+
+-- the fields, and the logarithms of the blowup and of the number of coefficients of the final
+-- polynomial
 pub record Setting (F E : Type 0) : Type 0 where
   pub field : FieldOps F
   pub gen : ℕ → Coordinates F
@@ -32,6 +39,10 @@ pub record Run (F E Com InputCom InputProof WordProof : Type 0) : Type 0 where
   pub batches : List (BatchClaim InputCom E)
   pub proof : OpeningProof F E Com InputProof WordProof
   pub drawn : Challenges E
+
+-- when a scheme shows rows at indices, of matrices of these shapes, to be those of a commitment
+abbrev pub Authenticates : Type 0 → Type 0 → Type 0 → Type 1
+Authenticates C T P = C → List Dimensions → List ℕ → List (List (List T)) → P → Type 0
 
 module _ {F E Com InputCom InputProof WordProof : Type 0} (s : Setting F E)
     (r : Run F E Com InputCom InputProof WordProof) where
@@ -185,17 +196,20 @@ module _ {F E Com InputCom InputProof WordProof : Type 0} (s : Setting F E)
       (length o.entries ≡ length r.drawn.queries)
       × All (λ siblings. length siblings ≡ count) o.entries
 
-  -- (b) the proof's lists have the lengths that the claims and the queries fix
-  pub record HasShape : Type 0 where
+  -- (b) the proof's lists have the lengths that the claims and the queries fix: those of the rounds
+  -- and of the final polynomial, and those of what was committed to before
+  pub record HasRounds : Type 0 where
     pub commitments : length r.proof.commitments ≡ rounds
     pub witnesses : length r.proof.witnesses ≡ rounds
-    pub rounds_opened : length r.proof.rounds_opened ≡ rounds
+    pub opened : length r.proof.rounds_opened ≡ rounds
     pub siblings : All (HasSiblings 1) r.proof.rounds_opened
+    pub final_poly : length r.proof.final_poly ≡ 2 ^ s.final
+
+  pub record HasInputs : Type 0 where
     pub inputs : length r.proof.inputs ≡ length r.batches
     pub rows : All HasRows (zip r.batches r.proof.inputs)
     pub first_siblings : HasSiblings (length claimed_heights) r.proof.first_layer_opened
     pub lambdas : length r.proof.lambdas ≡ length claimed_heights
-    pub final_poly : length r.proof.final_poly ≡ 2 ^ s.final
 
   -- (c) a witness of no difficulty is zero
   pub record AreCanonical {M : Type 0} (p : FriParameters M) : Type 0 where
@@ -212,12 +226,16 @@ module _ {F E Com InputCom InputProof WordProof : Type 0} (s : Setting F E)
   }
 
   abbrev pub InputAuthenticates :
-      (InputCom → List Dimensions → List ℕ → List (List (List F)) → InputProof → Type 0) →
-      BatchClaim InputCom E × Opened (List (List F)) InputProof → Type 0
+      Authenticates InputCom F InputProof → BatchClaim InputCom E × Opened (List (List F)) InputProof
+      → Type 0
   InputAuthenticates authenticates p =
       let shift = top - log_max_height s.blowup p.0.matrices in
       let places = map (λ q. q / 2 ^ shift) r.drawn.queries in
       authenticates p.0.commitment (map dimensions p.0.matrices) places p.1.entries p.1.proof
+
+  abbrev pub InputsAuthenticate : Authenticates InputCom F InputProof → Type 0
+  InputsAuthenticate authenticates =
+      All (InputAuthenticates authenticates) (zip r.batches r.proof.inputs)
 
   -- (f) no claimed point is that of a query
   abbrev pub IsApart : ℕ → MatrixClaim E → Type 0
@@ -229,21 +247,46 @@ module _ {F E Com InputCom InputProof WordProof : Type 0} (s : Setting F E)
   AreApart = All (λ q. All (IsApart q) matrices) r.drawn.queries
 
   -- (g) the pairs of the first layer and of a round authenticate
-  abbrev pub FirstLayerAuthenticates :
-      (Com → List Dimensions → List ℕ → List (List (List E)) → WordProof → Type 0) → Type 0
+  abbrev pub FirstLayerAuthenticates : Authenticates Com E WordProof → Type 0
   FirstLayerAuthenticates authenticates =
       let shapes = map (λ h. pairs (2 ^ (h - 1))) claimed_heights in
       authenticates r.proof.first_layer shapes (map (λ q. q / 2) r.drawn.queries)
       (at_queries (λ j q. map (first_pair j q) claimed_heights)) r.proof.first_layer_opened.proof
 
   abbrev pub RoundAuthenticates :
-      (Com → List Dimensions → List ℕ → List (List (List E)) → WordProof → Type 0) →
-      ℕ → Com × Opened (List E) WordProof → Type 0
-  RoundAuthenticates authenticates n round =
+      Authenticates Com E WordProof → ℕ × (Com × Opened (List E) WordProof) → Type 0
+  RoundAuthenticates authenticates p =
+      let n = p.0 in
       let places = map (λ q. q / 2 ^ (n + 2)) r.drawn.queries in
-      authenticates round.0 (pairs (2 ^ (top - 2 - n)) ∷ []) places
-      (at_queries (λ j q. round_pair j q n ∷ [])) round.1.proof
+      authenticates p.1.0 (pairs (2 ^ (top - 2 - n)) ∷ []) places
+      (at_queries (λ j q. round_pair j q n ∷ [])) p.1.1.proof
+
+  abbrev pub RoundsAuthenticate : Authenticates Com E WordProof → Type 0
+  RoundsAuthenticate authenticates =
+      let opened = zip r.proof.commitments r.proof.rounds_opened in
+      All (RoundAuthenticates authenticates) (zip (range_with_len 0 (length opened)) opened)
 
   -- (h) each query's chain ends in the value of the final polynomial
   abbrev pub ChainsEnd : Type 0
   ChainsEnd = All (λ p. round_value p.0 p.1 rounds ≡ final_value p.0 p.1) placed_queries
+
+  -- what the relation says of a run once its challenges are drawn, under the schemes of the batches
+  -- and of the words
+  pub record HoldsWith (inputs : Authenticates InputCom F InputProof)
+      (words : Authenticates Com E WordProof) : Type 0 where
+    pub inputs_authenticate : InputsAuthenticate inputs
+    pub apart : AreApart
+    pub first_layer : FirstLayerAuthenticates words
+    pub rounds_authenticate : RoundsAuthenticate words
+    pub chains : ChainsEnd
+
+  -- the verifier accepts: with the parts above (d), that these challenges are what the transcript
+  -- draws of the claims and the proof
+  pub record Accepts {M : Type 0} (p : FriParameters M) (two_adicity : ℕ)
+      (inputs : Authenticates InputCom F InputProof)
+      (words : Authenticates Com E WordProof) : Type 0 where
+    pub fit : IsFit p two_adicity
+    pub rounds_shape : HasRounds
+    pub inputs_shape : HasInputs
+    pub canonical : AreCanonical p
+    pub holds : HoldsWith inputs words

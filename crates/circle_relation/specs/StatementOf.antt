@@ -5,7 +5,7 @@ use Rattle.circle_commit.specs.declared.pcs.MatrixOpening.{MatrixOpening}
 use Rattle.circle_commit.specs.declared.pcs.CommitmentOpening.{CommitmentOpening}
 use Rattle.circle_domain.specs.declared.domain.CircleDomain.{CircleDomain}
 use Rattle.circle_domain.specs.Domain.{log_size}
-use Rattle.p3_circle.specs.Statement.{PointClaim, MatrixClaim, BatchClaim}
+use Rattle.circle_relation.specs.Statement.{PointClaim, MatrixClaim, BatchClaim}
 
 module _ {E : Type 0} where
   abbrev pub point_claim : PointOpening E → PointClaim E

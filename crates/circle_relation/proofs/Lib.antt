@@ -1,0 +1,2 @@
+pub mod AtQueries
+pub mod Contradictions

@@ -1,0 +1,6 @@
+pub mod Statement
+pub mod StatementOf
+pub mod Accepts
+pub mod Reasons
+pub mod RunOf
+pub mod Rows

@@ -1,0 +1,41 @@
+-- Why a run is refused once its challenges are drawn.
+use Rattle.std.specs.Prelude.{◌≡◌, ℕ, ◌+◌, [], slice_get, Some}
+use Rattle.std.specs.List.{Any}
+use Rattle.circle_commit.specs.declared.error.FriError.{FriError}
+use Rattle.circle_commit.specs.declared.error.FriError.TheVariants.{InputError as OfInput, FinalPolyMismatch, UnconsumedReducedOpenings, CommitPhaseMmcsError, Memory}
+use Rattle.circle_relation.specs.declared.error.InputError.{InputError}
+use Rattle.circle_relation.specs.declared.error.InputError.TheVariants.{InputMmcsError, FirstLayerMmcsError, InputShapeError, OpeningPointMatchesQueryPoint, MatrixWithoutOpeningPoints}
+use Rattle.circle_relation.specs.Statement.{BatchClaim, MatrixClaim}
+use Rattle.circle_relation.specs.Accepts.{Setting, Run, Authenticates, matrices, HasInputs, InputsAuthenticate, AreApart, FirstLayerAuthenticates, RoundsAuthenticate, ChainsEnd}
+
+module _ {F E Com InputCom InputProof WordProof : Type 0} (s : Setting F E)
+    (r : Run F E Com InputCom InputProof WordProof) where
+  -- the matrix in this batch is claimed at no point
+  pub record IsUnclaimed (batch matrix : ℕ) : Type 0 where
+    pub of : BatchClaim InputCom E
+    pub claim : MatrixClaim E
+    pub there : slice_get r.batches batch ≡ Some of
+    pub here : slice_get of.matrices matrix ≡ Some claim
+    pub none : claim.claims ≡ []
+
+  -- a domain is claimed on which nothing is left to fold: the first layer's fold of such a word has
+  -- as many entries as the last word
+  pub record IsLeftOver (next_log_height remaining : ℕ) : Type 0 where
+    pub next : next_log_height ≡ s.blowup + s.final
+    pub one : remaining ≡ 1
+    pub some : Any (λ m. m.log_n ≡ s.final + 1) (matrices s r)
+
+  module _ {IE WE : Type 0} (inputs : Authenticates InputCom F InputProof)
+      (words : Authenticates Com E WordProof) where
+    -- there is reason for the refusal; that memory was refused no contract sees
+    unfoldable pub IsReason : FriError WE (InputError IE WE) → Type 0
+    IsReason (OfInput InputShapeError) = HasInputs s r → ⊥
+    IsReason (OfInput (MatrixWithoutOpeningPoints batch matrix)) = IsUnclaimed batch matrix
+    IsReason (OfInput (InputMmcsError e)) = InputsAuthenticate s r inputs → ⊥
+    IsReason (OfInput OpeningPointMatchesQueryPoint) = AreApart s r → ⊥
+    IsReason (OfInput (FirstLayerMmcsError e)) = FirstLayerAuthenticates s r words → ⊥
+    IsReason FinalPolyMismatch = ChainsEnd s r → ⊥
+    IsReason (UnconsumedReducedOpenings next remaining) = IsLeftOver next remaining
+    IsReason (CommitPhaseMmcsError e) = RoundsAuthenticate s r words → ⊥
+    IsReason Memory = Unit {0}
+    IsReason _ = ⊥

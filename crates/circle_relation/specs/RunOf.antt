@@ -1,0 +1,168 @@
+-- A run as contracts see it: what the records of a proof and of a run are to the relation.
+use Rattle.std.specs.Prelude.{◌≡◌, ℕ, ◌+◌, ◌<◌, ◌≤◌, ◌^◌, List, length, map, All}
+use Rattle.circle_field.specs.Circle.{Coordinates}
+use Rattle.circle_commit.specs.Mmcs.{opened_rows}
+use Rattle.circle_commit.specs.declared.error.FriError.{FriError}
+use Rattle.circle_commit.specs.declared.params.FriParameters.{FriParameters}
+use Rattle.circle_commit.specs.declared.pcs.BatchMultiOpening.{BatchMultiOpening}
+use Rattle.circle_point.specs.Point.{coordinates}
+use Rattle.circle_relation.specs.declared.proof.CircleCommitPhaseMultiStep.{CircleCommitPhaseMultiStep}
+use Rattle.circle_relation.specs.declared.proof.CirclePcsProof.{CirclePcsProof}
+use Rattle.circle_relation.specs.declared.run.OpenedRun.{OpenedRun}
+use Rattle.circle_relation.specs.Statement.{Opened, OpeningProof}
+use Rattle.circle_relation.specs.StatementOf.{batch_claims}
+use Rattle.circle_relation.specs.declared.run.QueriedWord.{QueriedWord}
+use Rattle.circle_relation.specs.declared.run.QueryValues.{QueryValues}
+use Rattle.circle_relation.specs.declared.error.InputError.{InputError}
+use Rattle.circle_relation.specs.Accepts.{Fields, Setting, Run, Authenticates, HasRounds, HasInputs, matrices, rounds, top, claimed_heights, at_queries, point_among, reduced_from, claims_of, first_pair, folded, round_value, InputsAuthenticate, FirstLayerAuthenticates, RoundsAuthenticate}
+use Rattle.circle_relation.specs.Reasons.{IsReason}
+
+-- the fields, with the numbers of the parameters
+abbrev pub setting_of : {F E M : Type 0} → Fields F E → FriParameters M → Setting F E
+setting_of k params = record {
+  field = k.field;
+  gen = k.gen;
+  extension = k.extension;
+  embed = k.embed;
+  blowup = params.log_blowup;
+  final = params.log_final_poly_len;
+}
+
+-- I and W are the schemes of the batches and of the words, each with its commitments, data, proofs
+-- and errors
+abbrev pub opened_batch : {F I IC ID IP IE : Type 0} → BatchMultiOpening F I IC ID IP IE
+    → Opened (List (List F)) IP
+opened_batch b = record { entries = opened_rows b.opened_values.items; proof = b.opening_proof }
+
+abbrev pub opened_round : {E W WC WD WP WE : Type 0} → CircleCommitPhaseMultiStep E W WC WD WP WE
+    → Opened (List E) WP
+opened_round o = record {
+  entries = map (λ siblings. siblings.items) o.sibling_values.items;
+  proof = o.opening_proof;
+}
+
+module _ {F E I W IC ID IP IE WC WD WP WE : Type 0} where
+  abbrev pub proof_of :
+      CirclePcsProof F E I W F IC ID IP IE WC WD WP WE → OpeningProof F E WC IP WP
+  proof_of p =
+      let fri = p.fri_proof in
+      let inputs = fri.input_openings in
+      record {
+        batch_witness = p.batch_pow_witness;
+        first_layer = p.first_layer_commitment;
+        lambdas = p.lambdas.items;
+        commitments = fri.commit_phase_commits.items;
+        witnesses = fri.commit_pow_witnesses.items;
+        final_poly = fri.final_poly.items;
+        query_witness = fri.pow_witness;
+        inputs = map opened_batch inputs.input_openings.items;
+        first_layer_opened = record {
+          entries = map (λ siblings. siblings.items) inputs.first_layer_siblings.items;
+          proof = inputs.first_layer_proof;
+        };
+        rounds_opened = map opened_round fri.commit_phase_openings.items;
+      }
+
+  abbrev pub run_of : {g : _} → OpenedRun F E I W IC ID IP IE WC WD WP WE g → Run F E WC IC IP WP
+  run_of o = record {
+    batches = batch_claims o.claims.now;
+    proof = proof_of o.proof.now;
+    drawn = record {
+      alpha = o.alpha;
+      bivariate = o.bivariate;
+      betas = o.betas.now;
+      queries = o.indices.now;
+    };
+  }
+
+  -- the fields and the numbers of its parameters
+  abbrev pub setting_in :
+      {g : _} → Fields F E → OpenedRun F E I W IC ID IP IE WC WD WP WE g → Setting F E
+  setting_in k o = setting_of k o.params.now
+
+  -- what is tested before anything is drawn, and what is known of what is drawn
+  pub record IsDrawn {g : _} (k : Fields F E) (two_adicity : ℕ)
+      (o : OpenedRun F E I W IC ID IP IE WC WD WP WE g) : Type 0 where
+    pub top : o.log_max_height ≡ top (setting_in k o) (run_of o)
+    pub in_group : o.log_max_height < two_adicity
+    pub blowup : 1 ≤ o.params.now.log_blowup
+    pub some_matrix : 1 ≤ length (matrices (setting_in k o) (run_of o))
+    pub large :
+        All (λ m. o.params.now.log_final_poly_len + 1 ≤ m.log_n)
+        (matrices (setting_in k o) (run_of o))
+    pub shape : HasRounds (setting_in k o) (run_of o)
+    pub betas : length o.betas.now ≡ rounds (setting_in k o) (run_of o)
+    pub below : All (λ q. q < 2 ^ o.log_max_height) o.indices.now
+
+  module _ {g : _} (k : Fields F E) (o : OpenedRun F E I W IC ID IP IE WC WD WP WE g) where
+    -- the lists of a proof have the lengths that the claims and the queries fix, each matrix is
+    -- claimed at a point, and each leaves something to fold
+    pub record IsOpened : Type 0 where
+      pub shape : HasInputs (setting_in k o) (run_of o)
+      pub claimed : All (λ m. 1 ≤ length m.claims) (matrices (setting_in k o) (run_of o))
+      pub large :
+          All (λ m. o.params.now.log_final_poly_len + 2 ≤ m.log_n)
+          (matrices (setting_in k o) (run_of o))
+
+    -- the logarithms of all heights that are claimed, ascending
+    abbrev pub heights_of : List ℕ
+    heights_of = claimed_heights (setting_in k o) (run_of o)
+
+    -- for each of them the points of the queries, and the sums of the quotients of their rows
+    abbrev pub reduced_words : List (ℕ × (List (Coordinates F) × List E))
+    reduced_words =
+        let s = setting_in k o in
+        let r = run_of o in
+        map (λ h. (
+          h,
+          (
+            at_queries s r (λ j q. point_among s r j q h),
+            at_queries s r (λ j q. reduced_from s r 0 (point_among s r j q h) (claims_of s r h j)),
+          ),
+        ))
+        heights_of
+
+    -- for each query its pairs in the first layer
+    abbrev pub first_pairs : List (List (List E))
+    first_pairs =
+        let s = setting_in k o in
+        let r = run_of o in
+        at_queries s r (λ j q. map (first_pair s r j q) heights_of)
+
+    -- for each height the folds of these pairs
+    abbrev pub folded_words : List (ℕ × List E)
+    folded_words =
+        let s = setting_in k o in
+        let r = run_of o in
+        map (λ h. (h, at_queries s r (λ j q. folded s r j q h))) heights_of
+
+    -- the queries' values in the last word
+    abbrev pub last_values : List E
+    last_values =
+        let s = setting_in k o in
+        let r = run_of o in
+        at_queries s r (λ j q. round_value s r j q (rounds s r))
+
+    -- the relation's parts that a scheme of batches, and one of words, decides
+    module _ (inputs : I → Authenticates IC F IP) (words : W → Authenticates WC E WP) where
+      abbrev pub HasInputsOf : Type 0
+      HasInputsOf = InputsAuthenticate (setting_in k o) (run_of o) (inputs o.mmcs.now)
+
+      abbrev pub HasFirstLayerOf : Type 0
+      HasFirstLayerOf =
+          FirstLayerAuthenticates (setting_in k o) (run_of o) (words o.params.now.mmcs)
+
+      abbrev pub HasRoundsOf : Type 0
+      HasRoundsOf = RoundsAuthenticate (setting_in k o) (run_of o) (words o.params.now.mmcs)
+
+      -- the run is refused for this reason
+      abbrev pub Refuses : FriError WE (InputError IE WE) → Type 0
+      Refuses e =
+          IsReason (setting_in k o) (run_of o) (inputs o.mmcs.now) (words o.params.now.mmcs) e
+
+-- what contracts see of the queries of a word, and of those that join the rounds
+abbrev pub queried : {F E : Type 0} {g : _} → QueriedWord F E g → ℕ × (List (Coordinates F) × List E)
+queried w = (w.log_height, (map coordinates w.points.items, w.values.items))
+
+abbrev pub joining_of : {E : Type 0} → QueryValues E → ℕ × List E
+joining_of w = (w.log_height, w.values.items)
