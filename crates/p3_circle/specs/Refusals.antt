@@ -4,8 +4,9 @@ use Rattle.std.specs.List.{list_all, list_any}
 use Rattle.circle_commit.specs.declared.error.FriError.{FriError}
 use Rattle.circle_field.specs.Field.{FieldOps}
 use Rattle.circle_commit.specs.Mmcs.{greatest}
-use Rattle.circle_commit.specs.declared.error.FriError.TheVariants.{NoCommittedMatrices, GlobalMaxHeightTooLarge, InputError as OfInput, UnsupportedGrinding, ZeroQueries, ZeroBlowup, UnsupportedFoldingCap, CommitRoundCountMismatch, CommitPowWitnessCountMismatch, NonCanonicalPowWitness, CommitPhaseOpeningsCountMismatch, CommitPhaseQueryCountMismatch, SiblingValuesLengthMismatch, PointAtInfinity}
+use Rattle.circle_commit.specs.declared.error.FriError.TheVariants.{NoCommittedMatrices, GlobalMaxHeightTooLarge, InputError as OfInput, UnsupportedGrinding, ZeroQueries, ZeroBlowup, UnsupportedFoldingCap, CommitRoundCountMismatch, CommitPowWitnessCountMismatch, NonCanonicalPowWitness, CommitPhaseOpeningsCountMismatch, CommitPhaseQueryCountMismatch, SiblingValuesLengthMismatch, FinalPolyLengthMismatch, PointAtInfinity}
 use Rattle.circle_commit.specs.declared.pcs.CommitmentOpening.{CommitmentOpening}
+use Rattle.circle_relation.specs.Statement.{MatrixClaim, BatchClaim, OpeningProof, all_matrices, log_sizes, log_max_height}
 use Rattle.circle_commit.specs.declared.params.FriParameters.{FriParameters}
 use Rattle.circle_commit.specs.declared.params.PowPhase.{PowPhase}
 use Rattle.circle_commit.specs.declared.params.PowPhase.TheVariants.{Batch, CommitPhase, Query}
@@ -84,11 +85,35 @@ module _ {C I : Type 0} where
       ∷ (not (length siblings == rounds), CommitPhaseOpeningsCountMismatch rounds (length siblings))
       ∷ rounds_tests p.num_queries 0 siblings
 
+  -- the number of coefficients of the final polynomial
+  abbrev pub final_test : ℕ → ℕ → Test (FriError C I)
+  final_test final got = (not (got == 2 ^ final), FinalPolyLengthMismatch (2 ^ final) got)
+
   -- the witness of the proof of work before the batching challenge, and the claimed points
   abbrev pub point_tests : {M : Type 0} → FriParameters M → Bool → Bool → List (Test (FriError C I))
   point_tests p is_zero some_at_infinity =
       witness_test Batch p.batch_proof_of_work_bits is_zero ∷ (some_at_infinity, PointAtInfinity)
       ∷ []
+
+-- whether some matrix is claimed at a coordinate that passes a test
+abbrev pub some_claim : {E : Type 0} → (E → Bool) → List (MatrixClaim E) → Bool
+some_claim passes matrices = list_any (λ m. list_any (λ c. passes c.point) m.claims) matrices
+
+-- all that is tested before the challenger is seeded, in order
+unfoldable pub seeding_tests : {F E M Com WordCom InputProof WordProof C A B : Type 0} → ℕ
+    → (F → Bool) → (E → Bool) → FriParameters M → List (BatchClaim Com E)
+    → OpeningProof F E WordCom InputProof WordProof → List (Test (FriError C (InputError A B)))
+seeding_tests two_adicity is_zero is_infinite p batches proof =
+    let matrices = all_matrices batches in
+    let final = p.log_final_poly_len in
+    let rounds = log_max_height p.log_blowup matrices - 1 - p.log_blowup - final in
+    let siblings = map (λ o. map (λ values. length values) o.entries) proof.rounds_opened in
+    claim_tests two_adicity p.log_blowup final (log_sizes matrices)
+    ++ (parameter_tests p
+    ++ (shape_tests is_zero p rounds (length proof.commitments) proof.witnesses
+    proof.query_witness siblings
+    ++ (final_test final (length proof.final_poly)
+    ∷ point_tests p (is_zero proof.batch_witness) (some_claim is_infinite matrices))))
 
 -- whether a coordinate of the projective line belongs to no point: t^2 = -1
 abbrev pub is_at_infinity : {E : Type 0} → (E → E → Bool) → FieldOps E → E → Bool

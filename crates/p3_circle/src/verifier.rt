@@ -1,17 +1,18 @@
 //! What is refused of a proof before the challenger is seeded.
-ghost use Rattle.std.specs.Prelude.{◌≡◌, [], ◌∷◌, map, vec_len};
+ghost use Rattle.std.specs.Prelude.{◌≡◌, ◌≤◌, [], ◌∷◌, map, vec_len};
 ghost use Rattle.std.specs.List.{list_all, list_any};
 ghost use Rattle.circle_commit.specs.Mmcs.{greatest};
 ghost use Rattle.circle_relation.specs.Statement.{all_matrices, log_sizes, log_max_height};
 ghost use Rattle.circle_relation.specs.StatementOf.{matrix_claims, batch_claims};
-ghost use Rattle.p3_circle.specs.Refusals.{answer, domain_tests, claim_tests, grinding_test, parameter_tests, witness_test, sibling_tests, round_tests, rounds_tests, shape_tests, is_at_infinity, point_tests, some_point};
+ghost use Rattle.p3_circle.specs.Refusals.{answer, domain_tests, claim_tests, grinding_test, parameter_tests, witness_test, sibling_tests, round_tests, rounds_tests, shape_tests, final_test, is_at_infinity, point_tests, some_point, seeding_tests};
+ghost use Rattle.circle_relation.specs.RunOf.{proof_of};
 
 use circle_commit::{
     CommitmentOpening, FriError, FriParameters, MatrixOpening, Mmcs, PointOpening, PowPhase,
 };
 use circle_domain::CircleDomain;
-use circle_field::{ComplexExtendable, Field};
-use circle_relation::{CircleCommitPhaseMultiStep, CircleFriProof, InputError};
+use circle_field::{ComplexExtendable, ExtensionField, Field};
+use circle_relation::{CircleCommitPhaseMultiStep, CircleFriProof, CirclePcsProof, InputError};
 
 /// The greatest difficulty, in bits, of a proof of work that is supported.
 const MAX_PROOF_OF_WORK_BITS: usize = 30;
@@ -296,6 +297,23 @@ fn is_zero<Witness: Field>(witness: &Witness) -> bool
     *witness == Witness::ZERO
 }
 
+// Refuses a final polynomial of another number of coefficients than `2^log_final_poly_len`, which
+// is to be a number.
+#[tactic(auto, unfolding(crate::specs::Refusals::answer))]
+fn check_final_poly<CommitErr, InputErr>(
+    log_final_poly_len: usize,
+    got: usize,
+) -> Result<(), FriError<CommitErr, InputErr>>
+    requires { log_final_poly_len ≤ 63 }
+    ensures { result ≡ answer (final_test log_final_poly_len got ∷ []) tt }
+{
+    let expected = 1 << log_final_poly_len;
+    if got != expected {
+        return Err(FriError::FinalPolyLengthMismatch { expected, got });
+    }
+    Ok(())
+}
+
 /// Refuses a witness of the batching challenge and claimed points, by the first of these that
 /// holds.
 ///
@@ -322,4 +340,37 @@ pub fn validate_points<F: Field, Commitment, D, M, Witness: Field, CommitErr, In
         return Err(FriError::PointAtInfinity);
     }
     Ok(())
+}
+
+/// Refuses claims and a proof by the first reason in the one order in which a verifier tests them
+/// before it seeds the challenger, and answers the logarithm of the greatest height that is claimed:
+/// the claims ([`validate_claims`]), the parameters ([`validate_parameters`]), the lengths and the
+/// witnesses of the proof ([`validate_proof_shape`]), the number of coefficients of the final
+/// polynomial (`FinalPolyLengthMismatch`), and the witness of the batching challenge and the claimed
+/// points ([`validate_points`]).
+///
+/// Takes no memory.
+pub fn validate_run<
+    Val: ComplexExtendable,
+    EF: ExtensionField<Val>,
+    InputMmcs: Mmcs<Val>,
+    FriMmcs: Mmcs<EF>,
+>(
+    params: &FriParameters<FriMmcs>,
+    claims: &[CommitmentOpening<EF, InputMmcs::Commitment, CircleDomain<Val>>],
+    proof: &CirclePcsProof<Val, EF, InputMmcs, FriMmcs, Val>,
+) -> Result<usize, FriError<FriMmcs::Error, InputError<InputMmcs::Error, FriMmcs::Error>>>
+    ensures { let batches = batch_claims claims.now in result ≡ answer
+        (seeding_tests Val.CIRCLE_TWO_ADICITY (λ w. Val.eq w Val.ZERO)
+        (is_at_infinity EF.eq EF.ops) params.now batches (proof_of proof.now))
+        (log_max_height params.now.log_blowup (all_matrices batches)) }
+{
+    let log_final_poly_len = params.log_final_poly_len;
+    let log_max_height = validate_claims(claims, params.log_blowup, log_final_poly_len)?;
+    validate_parameters(params)?;
+    let num_commit_rounds = log_max_height - 1 - params.log_blowup - log_final_poly_len;
+    validate_proof_shape(params, &proof.fri_proof, num_commit_rounds)?;
+    check_final_poly(log_final_poly_len, proof.fri_proof.final_poly.len())?;
+    validate_points(params, &proof.batch_pow_witness, claims)?;
+    Ok(log_max_height)
 }
