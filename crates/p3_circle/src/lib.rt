@@ -10,6 +10,7 @@
 #![tactic(auto)]
 
 pub mod pcs;
+mod replay;
 pub mod transcript;
 pub mod verifier;
 
