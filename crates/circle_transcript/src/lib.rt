@@ -3,8 +3,9 @@
 //!
 //! A run takes in the claimed openings and draws the challenge that batches them, takes in the
 //! commitment to the first layer and draws the challenge that folds it, takes in a commitment and
-//! draws a folding challenge in each round, and takes in the last word's value and draws the query
-//! indices. Proofs of work guard the batching challenge, the folding challenges and the indices.
+//! draws a folding challenge in each round, and takes in the final polynomial's coefficients and
+//! draws the query indices. Proofs of work guard the batching challenge, the folding challenges and
+//! the indices.
 //!
 //! What is proved, for any field, extension, commitment and lawful challenger:
 //!
