@@ -26,8 +26,8 @@ abbrev pub claim_elements : {E : Type 0} → Claim E → List E
 claim_elements c = c.point.x ∷ c.point.y ∷ c.values
 
 -- what a run takes in: the claims and the witness after them, the commitment to the first layer,
--- each round's commitment and witness, and the final polynomial's coefficients and the witness after
--- them
+-- each round's commitment and witness, and the coefficients of the final polynomial and the witness
+-- after them
 pub record Taken (F E Com : Type 0) : Type 0 where
   pub claims : List (Claim E)
   pub batch_witness : F

@@ -88,7 +88,7 @@ two_coefficients_header : take 30 (text_of 3 two_coefficients)
 unfolding two_coefficients claim_steps batch_steps first_layer_steps round_steps rounds_steps query_steps layout batch_layout steps_text labels_text step_text be64
 two_coefficients_header = refl
 
--- and end with the third label: its length, and the one bit of the number of coefficients
+-- and end with the third label: its length, and the logarithm of the number of coefficients
 two_coefficients_end : drop 480 (text_of 3 two_coefficients) ≡ be64 8 ++ be64 1
 unfolding two_coefficients claim_steps batch_steps first_layer_steps round_steps rounds_steps query_steps layout batch_layout steps_text labels_text step_text be64
 two_coefficients_end = refl

@@ -99,12 +99,12 @@ batch_layout batch = be64 (length batch) ++ flat_map (λ matrix. be64 (length ma
 unfoldable pub layout : List (List (List ℕ)) → List ℕ
 layout batches = be64 (length batches) ++ flat_map batch_layout batches
 
--- the version that the seed names: another one where the final polynomial has several coefficients
+-- the version that the seed names, another one where the final polynomial has several coefficients
 abbrev pub version_of : Shape → ℕ
 version_of s = if s.log_final_poly_len == 0 then 1 else 2
 
--- the labels: the blowup, how the claims are grouped, and how many coefficients the final polynomial
--- has where it has several
+-- the labels: the logarithm of the blowup, how the claims are grouped, and the logarithm of the
+-- number of coefficients where it is not 0
 abbrev pub labels_of : Shape → List (List ℕ)
 labels_of s =
     be64 s.log_blowup ∷ layout s.opened_widths

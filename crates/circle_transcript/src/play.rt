@@ -64,8 +64,8 @@ where
     }
 }
 
-/// Takes in the coefficients of the final polynomial in order, each by its own coefficients over the
-/// base field.
+/// Takes in the coefficients of the final polynomial in order, each by its own coefficients over
+/// the base field.
 ///
 /// Asks that this is the next step, and that there are as many as it says.
 pub(crate) fn observe_final_poly<'a, C, F: Field, EF: ExtensionField<F>, S>(

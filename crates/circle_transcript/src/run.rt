@@ -39,7 +39,7 @@ pub struct CircleMessages<'a, EF, Com> {
     pub first_layer: &'a Com,
     /// The commitment of each round.
     pub commitments: &'a [Com],
-    /// The coefficients of the final polynomial.
+    /// The coefficients of the final polynomial, `2^log_final_poly_len` of them.
     pub final_poly: &'a [EF],
 }
 
@@ -153,7 +153,7 @@ where
 ///
 /// Asks claims of the described numbers of values, a commitment and a witness for each round, as
 /// many coefficients as the shape says, and difficulties, a number of bits of an index and a
-/// logarithm of the number of coefficients of at most 63.
+/// `log_final_poly_len` of at most 63.
 pub fn verifier_run<F: Field, EF: ExtensionField<F>, C, Com>(
     alloc: Global,
     challenger: &mut C,
@@ -311,9 +311,9 @@ where
 /// and the messages, looks for the witnesses, and draws the challenges. Fails with `NoWitness`
 /// where no witness passes, and with `Memory` where memory is refused.
 ///
-/// Asks claims of the described numbers of values, a commitment for each round, as many coefficients
-/// as the shape says, and difficulties, a number of bits of an index and a logarithm of the number of
-/// coefficients of at most 63.
+/// Asks claims of the described numbers of values, a commitment for each round, as many
+/// coefficients as the shape says, and difficulties, a number of bits of an index and a
+/// `log_final_poly_len` of at most 63.
 pub fn prover_run<F: Field, EF: ExtensionField<F>, C, Com>(
     alloc: Global,
     challenger: &mut C,

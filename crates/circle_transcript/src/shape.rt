@@ -96,9 +96,9 @@ impl CirclePcsShape {
     /// `log_max_height` is the logarithm of the greatest committed height and the folding strategy
     /// asks for so many further bits of an index.
     ///
-    /// Folding halves the word, the first layer takes one bit, and the last word is that of the final
-    /// polynomial, so there are `log_max_height - 1 - log_blowup - log_final_poly_len` rounds and
-    /// `log_max_height - 1 + extra_query_index_bits` bits of an index.
+    /// Folding halves the word, the first layer takes one bit, and folding stops at the word of the
+    /// final polynomial, so there are `log_max_height - 1 - log_blowup - log_final_poly_len` rounds
+    /// and `log_max_height - 1 + extra_query_index_bits` bits of an index.
     ///
     /// Asks `log_max_height > log_blowup + log_final_poly_len`, and that the number of bits is below
     /// `2^64`.
@@ -155,7 +155,7 @@ impl CirclePcsShape {
 
     /// The steps of the run, in order.
     ///
-    /// Asks that the logarithm of the final polynomial's number of coefficients is at most 63.
+    /// Asks `log_final_poly_len <= 63`.
     #[tactic(auto, unfolding(crate::specs::Shape::batch_steps))]
     pub fn pattern<F: Field, EF: ExtensionField<F>>(
         &self,
@@ -185,11 +185,11 @@ impl CirclePcsShape {
         Ok(InteractionPattern::new(steps))
     }
 
-    /// What the run is seeded with: the protocol, the steps, and the labels, the logarithm of the
-    /// blowup, how the claims are grouped, and the logarithm of the final polynomial's number of
-    /// coefficients where it has several, which has a version of its own.
+    /// What the run is seeded with: the protocol, the steps, and two labels, the logarithm of the
+    /// blowup and how the claims are grouped. Where the final polynomial has several coefficients
+    /// there is a third label, `log_final_poly_len`, and the version is another one.
     ///
-    /// Asks that this logarithm is at most 63.
+    /// Asks `log_final_poly_len <= 63`.
     #[tactic(auto, unfolding(circle_challenger::specs::Step::be64))]
     pub fn domain_separator<F: Field, EF: ExtensionField<F>>(
         &self,
@@ -224,8 +224,7 @@ impl CirclePcsShape {
     /// one seed text agree in all but the difficulty of rounds that there aren't. Fails where
     /// memory is refused.
     ///
-    /// Asks of both that the logarithm of the final polynomial's number of coefficients is at most
-    /// 63.
+    /// Asks `log_final_poly_len <= 63` of both.
     pub fn has_seed_of<F: Field, EF: ExtensionField<F>>(
         &self,
         alloc: Global,

@@ -78,7 +78,7 @@ impl<
     /// Begins the transcript of a run of this shape: the challenger takes in the seed's text. Where
     /// memory is refused it is left as it was.
     ///
-    /// Asks that the logarithm of the final polynomial's number of coefficients is at most 63.
+    /// Asks `log_final_poly_len <= 63`.
     pub fn new(
         alloc: Global,
         challenger: &'a mut C,
@@ -119,7 +119,7 @@ impl<
     /// Seeds a challenger with the text of a run of this shape, and answers what the run begins
     /// with. Where memory is refused the challenger is left as it was.
     ///
-    /// Asks that the logarithm of the final polynomial's number of coefficients is at most 63.
+    /// Asks `log_final_poly_len <= 63`.
     fn seeded(
         alloc: Global,
         challenger: &mut C,
@@ -285,12 +285,13 @@ impl<'a, F: Field, EF: ExtensionField<F>, C: CanSample<F> + GrindingChallenger<F
         drawn
     }
 
-    /// Takes in the final polynomial's coefficients in order, looks for a witness where the proof of
-    /// work has a difficulty, and draws the query indices. Fails with `NoWitness` exactly where no
-    /// witness passes, and with `Memory` where memory is refused; then only `abort` may follow.
+    /// Takes in the coefficients of the final polynomial in order, looks for a witness where the
+    /// proof of work has a difficulty, and draws the query indices. Fails with `NoWitness` exactly
+    /// where no witness passes, and with `Memory` where memory is refused; then only `abort` may
+    /// follow.
     ///
-    /// Asks that these are the next steps, that the difficulty and the number of bits of an index are
-    /// at most 63, and that there are as many coefficients as the shape says.
+    /// Asks that these are the next steps, that the difficulty and the number of bits of an index
+    /// are at most 63, and that there are as many coefficients as the shape says.
     pub fn query_phase(
         &mut self,
         alloc: Global,
@@ -429,12 +430,13 @@ impl<'a, F: Field, EF: ExtensionField<F>, C: CanSample<F> + GrindingChallenger<F
         drawn
     }
 
-    /// Takes in the final polynomial's coefficients in order, checks the witness where the proof of
-    /// work has a difficulty, and draws the query indices. Fails with `PowWitness` exactly where the
-    /// witness doesn't pass, and with `Memory` where memory is refused; then only `abort` may follow.
+    /// Takes in the coefficients of the final polynomial in order, checks the witness where the
+    /// proof of work has a difficulty, and draws the query indices. Fails with `PowWitness` exactly
+    /// where the witness doesn't pass, and with `Memory` where memory is refused; then only `abort`
+    /// may follow.
     ///
-    /// Asks that these are the next steps, that the difficulty and the number of bits of an index are
-    /// at most 63, and that there are as many coefficients as the shape says.
+    /// Asks that these are the next steps, that the difficulty and the number of bits of an index
+    /// are at most 63, and that there are as many coefficients as the shape says.
     pub fn query_phase(
         &mut self,
         alloc: Global,
