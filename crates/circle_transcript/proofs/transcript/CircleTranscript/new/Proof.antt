@@ -153,7 +153,7 @@ module _ (R : Rows) (w : Says R) {M : Type 1} {𝓤 : Ura M} (𝓛 : Logic 𝓤)
 
   -- the types outlive their lifetimes, and what else is asked
   abbrev Asked : Lft → Lft → Lft → Lft → Lft → SProp 𝓤 → SProp 𝓤
-  Asked κF κE κC κS κT else = sep 𝓤 (fact 𝓤 (κF ⊑ R.F.lives)) (sep 𝓤 (fact 𝓤 (κE ⊑ R.EF.lives)) (sep 𝓤 (fact 𝓤 (κC ⊑ R.C.lives)) (sep 𝓤 (fact 𝓤 (κS ⊑ R.S.lives)) (sep 𝓤 (fact 𝓤 (κT ⊑ R.State.lives)) else))))
+  Asked κF κE κC κS κT also = sep 𝓤 (fact 𝓤 (κF ⊑ R.F.lives)) (sep 𝓤 (fact 𝓤 (κE ⊑ R.EF.lives)) (sep 𝓤 (fact 𝓤 (κC ⊑ R.C.lives)) (sep 𝓤 (fact 𝓤 (κS ⊑ R.S.lives)) (sep 𝓤 (fact 𝓤 (κT ⊑ R.State.lives)) also))))
 
   abbrev held : Clauses 𝓤 (ended R)
   held κs a = record {
@@ -191,9 +191,9 @@ module _ (R : Rows) (w : Says R) {M : Type 1} {𝓤 : Ura M} (𝓛 : Logic 𝓤)
   abbrev lent : Lft → ℕ × ℕ → GName → R.C.Denot → Fml
   lent κ p δ c = (MutRef (named 0) κ (C-row R)).own_val (record { ref_ptr = p; ghost_name = δ; now = c }) (vptr p.0 p.1 ∷ [])
 
-  asked : (κF κE κC κS κT : Lft) (else : SProp 𝓤) → κF ⊑ R.F.lives → κE ⊑ R.EF.lives → κC ⊑ R.C.lives → κS ⊑ R.S.lives → κT ⊑ R.State.lives → ent 𝓤 (emp 𝓤) else → ent 𝓤 (emp 𝓤) (Asked κF κE κC κS κT else)
-  asked κF κE κC κS κT else f e c s t x =
-      qed 𝓛 [] ∵ use0 𝓛 (raw else) x $ use0 𝓛 (raw (fact 𝓤 (κT ⊑ R.State.lives))) (fact_i 𝓤 _ (emp 𝓤) t) $ use0 𝓛 (raw (fact 𝓤 (κS ⊑ R.S.lives))) (fact_i 𝓤 _ (emp 𝓤) s) $
+  asked : (κF κE κC κS κT : Lft) (also : SProp 𝓤) → κF ⊑ R.F.lives → κE ⊑ R.EF.lives → κC ⊑ R.C.lives → κS ⊑ R.S.lives → κT ⊑ R.State.lives → ent 𝓤 (emp 𝓤) also → ent 𝓤 (emp 𝓤) (Asked κF κE κC κS κT also)
+  asked κF κE κC κS κT also f e c s t x =
+      qed 𝓛 [] ∵ use0 𝓛 (raw also) x $ use0 𝓛 (raw (fact 𝓤 (κT ⊑ R.State.lives))) (fact_i 𝓤 _ (emp 𝓤) t) $ use0 𝓛 (raw (fact 𝓤 (κS ⊑ R.S.lives))) (fact_i 𝓤 _ (emp 𝓤) s) $
       use0 𝓛 (raw (fact 𝓤 (κC ⊑ R.C.lives))) (fact_i 𝓤 _ (emp 𝓤) c) $ use0 𝓛 (raw (fact 𝓤 (κE ⊑ R.EF.lives))) (fact_i 𝓤 _ (emp 𝓤) e) $
       use0 𝓛 (raw (fact 𝓤 (κF ⊑ R.F.lives))) (fact_i 𝓤 _ (emp 𝓤) f) $ done !
 
