@@ -138,7 +138,7 @@ module _ {C S F E Com : Type 0} (r : RunMoves C S F E Com) (n : Numbers) (claims
 
   pub stuck_query : (batch : F) (rounds : List F) (m : Numbers) (s3 : S) → AtQuery r n (taken_with claims messages batch rounds r.base.zero) s m s3
       → length rounds ≡ length messages.commitments.now
-      → NonePasses r.base (after_final_poly r.base s3 messages.final_poly) m.query_pow_bits → IsStuckInQuery r n claims messages s
+      → NonePasses r.base (after_final_poly r.base s3 messages.final_poly.now) m.query_pow_bits → IsStuckInQuery r n claims messages s
   stuck_query batch rounds m s3 at count none = record {
     batch = batch;
     rounds = rounds;
@@ -146,5 +146,5 @@ module _ {C S F E Com : Type 0} (r : RunMoves C S F E Com) (n : Numbers) (claims
     count = count;
     rounds_passed = at.rounds;
     none = subst (λ (v : Numbers). NonePasses r.base (closed r n (taken_with claims messages batch rounds r.base.zero) s) v.query_pow_bits) at.same
-        (subst (λ t. NonePasses r.base (after_final_poly r.base t messages.final_poly) m.query_pow_bits) at.state none);
+        (subst (λ t. NonePasses r.base (after_final_poly r.base t messages.final_poly.now) m.query_pow_bits) at.state none);
   }

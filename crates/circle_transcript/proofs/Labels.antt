@@ -1,5 +1,5 @@
 -- The numbers of a shape's labels have eight bytes.
-use Rattle.std.specs.Prelude.{ℕ, ◌<◌, ◌^◌, List, [], ◌∷◌, length, All, Vec}
+use Rattle.std.specs.Prelude.{ℕ, ◌<◌, ◌≤◌, ◌^◌, List, [], ◌∷◌, length, All, Vec}
 use Rattle.std.specs.List.{AllByRecursion}
 use Rattle.std.proofs.Common.{arith}
 use Rattle.std.proofs.lemmas.List.{length-map}
@@ -24,11 +24,12 @@ module _ {R : Type 0} where
   batch_points [] = tt
   batch_points (b ∷ bs) = (All-from_recursion (λ matrix. length matrix < 2 ^ 64) (matrices_of b.items) (points b.items), batch_points bs)
 
-pub writable_labels : (s : CirclePcsShape) → s.log_blowup < 2 ^ 64 → HasWritableLabels (shape_of s)
-writable_labels s low =
+pub writable_labels : (s : CirclePcsShape) → s.log_blowup < 2 ^ 64 → s.log_final_poly_len ≤ 63 → HasWritableLabels (shape_of s)
+writable_labels s low few_coefficients =
     let batches = s.opened_widths.items in
     record {
       log_blowup = low;
+      log_final_poly_len = omega (arith, few_coefficients);
       batch_count = let n = few s.opened_widths in omega (arith, n, length-map batches (λ b. matrices_of b.items));
       matrix_counts = All-from_recursion (λ batch. length batch < 2 ^ 64) (batches_of batches) (batch_sizes batches);
       point_counts = All-from_recursion (λ batch. All (λ matrix. length matrix < 2 ^ 64) batch) (batches_of batches) (batch_points batches);

@@ -1,15 +1,15 @@
 -- The text of a seed tells the shape of the run.
 use Rattle.std.proofs.Math.Dec.{eqb-suc-zero}
-use Rattle.std.specs.Prelude.{if◌then◌else◌, ◌≡◌, ℕ, ◌<◌, ◌^◌, List, [], ◌∷◌, ◌++◌, length, map, flat_map, All, codes}
+use Rattle.std.specs.Prelude.{if◌then◌else◌, ◌≡◌, ◌==◌, ℕ, ◌<◌, ◌^◌, List, [], ◌∷◌, ◌++◌, length, map, flat_map, All, codes}
 use Rattle.std.specs.List.{AllByRecursion}
 use Rattle.std.proofs.Common.{zero, suc, refl, sym, ap, ◌∙◌, arith, append_assoc}
 use Rattle.std.proofs.lemmas.List.{length-map}
 use Rattle.std.proofs.lemmas.List.Elements.{recursion_from_All}
 use Rattle.circle_challenger.specs.Step.{Step, be64, kind_byte, type_byte, value_count, parameter_of}
-use Rattle.circle_challenger.specs.Played.{element_message, pow_step, element_challenge, numbers_challenge}
+use Rattle.circle_challenger.specs.Played.{pow_step, element_challenge, numbers_challenge}
 use Rattle.circle_challenger.specs.Separator.{Separator, IsWritable}
 use Rattle.circle_challenger.proofs.Readings.{number_front, same_number, each_front, same_separator}
-use Rattle.circle_transcript.specs.Shape.{Shape, pow_steps, claim_steps, batch_steps, first_layer_steps, round_steps, rounds_steps, query_steps, claimed_widths, steps_of, batch_layout, layout, separator_of, text_of, HasWritableLabels, IsSameRun}
+use Rattle.circle_transcript.specs.Shape.{Shape, pow_steps, claim_steps, batch_steps, first_layer_steps, round_steps, rounds_steps, final_poly_step, query_steps, claimed_widths, steps_of, batch_layout, layout, labels_of, separator_of, text_of, HasWritableLabels, IsSameRun}
 
 -- the first entry and the others
 parts : {A : Type 0} (x y : A) (xs ys : List A) → x ∷ xs ≡ y ∷ ys → (x ≡ y) × (xs ≡ ys)
@@ -98,16 +98,16 @@ module _ (degree : ℕ) where
       (ap suc rest.0, λ _. first.0, rest.2)
 
   -- the last steps
-  query_front : (a b w v c e : ℕ) → query_steps degree a w c ≡ query_steps degree b v e → (a ≡ b) × (w ≡ v) × (c ≡ e)
+  query_front : (f g a b w v c e : ℕ) → query_steps degree f a w c ≡ query_steps degree g b v e → (a ≡ b) × (w ≡ v) × (c ≡ e)
   unfolding query_steps
-  query_front a b w v c e same =
+  query_front f g a b w v c e same =
       let label = codes "query_indices" in
       let message = parts _ _ _ _ same in
       let first = pow_front (codes "query_pow") a b (numbers_challenge label w c) (numbers_challenge label v e) [] [] refl refl message.1 in
       let numbers = (parts (numbers_challenge label w c) (numbers_challenge label v e) [] [] first.1).0 in
       (first.0, ap (λ (s : Step). parameter_of s.value_type) numbers, ap (λ (s : Step). value_count s.size) numbers)
 
-  -- the steps tell all numbers but how the claims are grouped, and the blowup
+  -- the steps tell all numbers but how the claims are grouped, the blowup, and that of coefficients
   pub steps_told : (a b : Shape) → steps_of degree a ≡ steps_of degree b →
       (claimed_widths a ≡ claimed_widths b) × (a.batch_pow_bits ≡ b.batch_pow_bits) × (a.num_commit_rounds ≡ b.num_commit_rounds)
       × (0 < a.num_commit_rounds → a.commit_pow_bits ≡ b.commit_pow_bits) × (a.query_pow_bits ≡ b.query_pow_bits) × (a.index_bits ≡ b.index_bits) × (a.num_queries ≡ b.num_queries)
@@ -115,17 +115,17 @@ module _ (degree : ℕ) where
   steps_told a b same =
       let challenge = element_challenge degree (codes "batch_challenge") in
       let label = codes "batch_pow" in
-      let rest : Shape → List Step = λ s. rounds_steps degree s.commit_pow_bits s.num_commit_rounds ++ query_steps degree s.query_pow_bits s.index_bits s.num_queries in
+      let rest : Shape → List Step = λ s. rounds_steps degree s.commit_pow_bits s.num_commit_rounds ++ query_steps degree s.log_final_poly_len s.query_pow_bits s.index_bits s.num_queries in
       let grouped : (s : Shape) → steps_of degree s ≡ flat_map (claim_steps degree) (claimed_widths s) ++ (pow_steps label s.batch_pow_bits ++ challenge ∷ (first_layer_steps degree ++ rest s)) =
       λ s. append_assoc (flat_map (claim_steps degree) (claimed_widths s)) (pow_steps label s.batch_pow_bits ++ challenge ∷ []) (first_layer_steps degree ++ rest s)
       ∙ ap (λ zs. flat_map (claim_steps degree) (claimed_widths s) ++ zs) (append_assoc (pow_steps label s.batch_pow_bits) (challenge ∷ []) (first_layer_steps degree ++ rest s)) in
       let claims = claims_front (claimed_widths a) (claimed_widths b) a.batch_pow_bits b.batch_pow_bits (first_layer_steps degree ++ rest a) (first_layer_steps degree ++ rest b)
       (sym (grouped a) ∙ same ∙ grouped b) in
       let layer = (parts _ _ _ _ (parts _ _ _ _ claims.2).1).1 in
-      let message = element_message degree (codes "final_poly") in
+      let message : Shape → Step = λ s. final_poly_step degree s.log_final_poly_len in
       let last : Shape → List Step = λ s. pow_steps (codes "query_pow") s.query_pow_bits ++ numbers_challenge (codes "query_indices") s.index_bits s.num_queries ∷ [] in
-      let rounds = rounds_front a.num_commit_rounds b.num_commit_rounds a.commit_pow_bits b.commit_pow_bits message message (last a) (last b) refl refl layer in
-      let query = query_front a.query_pow_bits b.query_pow_bits a.index_bits b.index_bits a.num_queries b.num_queries rounds.2 in
+      let rounds = rounds_front a.num_commit_rounds b.num_commit_rounds a.commit_pow_bits b.commit_pow_bits (message a) (message b) (last a) (last b) refl refl layer in
+      let query = query_front a.log_final_poly_len b.log_final_poly_len a.query_pow_bits b.query_pow_bits a.index_bits b.index_bits a.num_queries b.num_queries rounds.2 in
       (claims.0, claims.1, rounds.0, rounds.1, query.0, query.1, query.2)
 
 -- how claims are grouped, by their numbers
@@ -207,13 +207,30 @@ same_widths xs ys counts same =
     sizes [] = refl
     sizes (b ∷ bs) = ap (λ n. n ∷ map (λ c. length c) (map (λ batch. map (λ matrix. length matrix) batch) bs)) (length-map b (λ m. length m)) ∙ ap (λ r. length b ∷ r) (sizes bs)
 
+-- the third label, which is there where the final polynomial has several coefficients, tells how many
+same_coefficients : (a b : Shape) → HasWritableLabels a → HasWritableLabels b → labels_of a ≡ labels_of b → a.log_final_poly_len ≡ b.log_final_poly_len
+same_coefficients a b p q same =
+    told a.log_final_poly_len b.log_final_poly_len p.log_final_poly_len q.log_final_poly_len (parts _ _ _ _ (parts _ _ _ _ same).1).1
+  where
+    third : ℕ → List (List ℕ)
+    third f = if f == 0 then [] else be64 f ∷ []
+
+    third_some : (f : ℕ) → third (suc f) ≡ be64 (suc f) ∷ []
+    third_some f = ap (λ t. if t then [] else be64 (suc f) ∷ []) (eqb-suc-zero f)
+
+    told : (f g : ℕ) → f < 2 ^ 64 → g < 2 ^ 64 → third f ≡ third g → f ≡ g
+    told zero zero p q same = refl
+    told zero (suc g) p q same = absurd (let k = ap (λ l. length l) (same ∙ third_some g) in omega (arith, k))
+    told (suc f) zero p q same = absurd (let k = ap (λ l. length l) (sym (third_some f) ∙ same) in omega (arith, k))
+    told (suc f) (suc g) p q same = same_number (suc f) (suc g) p q (parts _ _ _ _ (sym (third_some f) ∙ same ∙ third_some g)).0
+
 -- shapes of one seed text are of one run
 pub same_runs : (degree : ℕ) (a b : Shape) → IsWritable (separator_of degree a) → IsWritable (separator_of degree b) → HasWritableLabels a → HasWritableLabels b →
     text_of degree a ≡ text_of degree b → IsSameRun a b
 same_runs degree a b wa wb p q same =
     let whole : separator_of degree a ≡ separator_of degree b = same_separator (separator_of degree a) (separator_of degree b) wa wb same in
     let steps = steps_told degree a b (ap (λ (s : Separator). s.steps) whole) in
-    let labels : be64 a.log_blowup ∷ layout a.opened_widths ∷ [] ≡ be64 b.log_blowup ∷ layout b.opened_widths ∷ [] = ap (λ (s : Separator). s.labels) whole in
+    let labels : labels_of a ≡ labels_of b = ap (λ (s : Separator). s.labels) whole in
     let blowup = parts _ _ _ _ labels in
     let grouping = parts _ _ _ _ blowup.1 in
     record {
@@ -225,4 +242,5 @@ same_runs degree a b wa wb p q same =
       num_queries = steps.6;
       index_bits = steps.5;
       log_blowup = same_number a.log_blowup b.log_blowup p.log_blowup q.log_blowup blowup.0;
+      log_final_poly_len = same_coefficients a b p q labels;
     }

@@ -4,7 +4,7 @@ use Rattle.circle_field.specs.Circle.{Coordinates}
 use Rattle.circle_commit.specs.declared.params.PowPhase.{PowPhase}
 use Rattle.circle_commit.specs.declared.params.PowPhase.TheVariants.{Batch, CommitPhase, Query}
 use Rattle.circle_challenger.specs.Observing.{after_all}
-use Rattle.circle_challenger.specs.Moves.{Moves, RunMoves, after_bytes, drawn_element, after_element, drawn_numbers, after_numbers, is_passed, after_pow}
+use Rattle.circle_challenger.specs.Moves.{Moves, RunMoves, after_bytes, after_elements, drawn_element, after_element, drawn_numbers, after_numbers, is_passed, after_pow}
 use Rattle.circle_transcript.specs.declared.transcript.Numbers.{Numbers}
 use Rattle.circle_transcript.specs.Shape.{Shape, text_of}
 use Rattle.circle_transcript.specs.Numbers.{numbers_of}
@@ -26,16 +26,17 @@ abbrev pub claim_elements : {E : Type 0} → Claim E → List E
 claim_elements c = c.point.x ∷ c.point.y ∷ c.values
 
 -- what a run takes in: the claims and the witness after them, the commitment to the first layer,
--- each round's commitment and witness, and the last word's value and the witness after it
+-- each round's commitment and witness, and the coefficients of the final polynomial and the witness
+-- after them
 pub record Taken (F E Com : Type 0) : Type 0 where
   pub claims : List (Claim E)
   pub batch_witness : F
   pub first_layer : Com
   pub rounds : List (Com × F)
-  pub final_poly : E
+  pub final_poly : List E
   pub query_witness : F
 
-abbrev pub taken : {F E Com : Type 0} → List (Claim E) → F → Com → List (Com × F) → E → F
+abbrev pub taken : {F E Com : Type 0} → List (Claim E) → F → Com → List (Com × F) → List E → F
     → Taken F E Com
 taken claims batch_witness first_layer rounds final_poly query_witness = record {
   claims = claims;
@@ -65,9 +66,9 @@ module _ {C S F E : Type 0} (m : Moves C S F E) where
   abbrev pub after_claims : S → List (Claim E) → S
   after_claims s claims = after_claims_by m.after_observe m.coefficients s claims
 
-  -- the state after the last word's value
-  abbrev pub after_final_poly : S → E → S
-  after_final_poly s final_poly = after_all m.after_observe s (m.coefficients final_poly)
+  -- the state after the final polynomial's coefficients
+  abbrev pub after_final_poly : S → List E → S
+  after_final_poly s final_poly = after_elements m s final_poly
 
   -- the query indices, and the state after them
   abbrev pub drawn_indices : Numbers → S → List ℕ
@@ -119,7 +120,7 @@ module _ {C S F E Com : Type 0} (r : RunMoves C S F E Com) where
     abbrev pub folded : S
     folded = after_rounds n.commit_pow_bits (after_element r.base layered) taken.rounds
 
-    -- then the last word's value, and the witness
+    -- then the final polynomial's coefficients, and the witness
     abbrev pub closed : S
     closed = after_final_poly r.base folded taken.final_poly
 

@@ -14,6 +14,7 @@ numbers_of s = record {
   query_pow_bits = s.query_pow_bits;
   num_queries = s.num_queries;
   index_bits = s.index_bits;
+  log_final_poly_len = s.log_final_poly_len;
 }
 
 -- the difficulty of a phase's proof of work, in bits
@@ -22,9 +23,10 @@ difficulty_of n Batch = n.batch_pow_bits
 difficulty_of n CommitPhase = n.commit_pow_bits
 difficulty_of n Query = n.query_pow_bits
 
--- the steps of the query indices
+-- the steps of the final polynomial and of the query indices
 abbrev pub indices_steps : ℕ → Numbers → List Step
-indices_steps degree n = query_steps degree n.query_pow_bits n.index_bits n.num_queries
+indices_steps degree n =
+    query_steps degree n.log_final_poly_len n.query_pow_bits n.index_bits n.num_queries
 
 -- the steps of a run with claims of these numbers of columns, and so many rounds
 abbrev pub run_steps : ℕ → List ℕ → ℕ → Numbers → List Step

@@ -1,5 +1,5 @@
 -- The definitions at worked examples. Expected values were computed apart from these definitions.
-use Rattle.std.specs.Prelude.{◌≡◌, [], ◌∷◌, ◌++◌, length, take, codes, refl}
+use Rattle.std.specs.Prelude.{◌≡◌, [], ◌∷◌, ◌++◌, length, take, drop, codes, refl}
 use Rattle.circle_challenger.specs.Step.{be64, step_text}
 use Rattle.circle_challenger.specs.Separator.{steps_text, labels_text}
 use Rattle.circle_challenger.specs.Played.{element_message, elements_message, opaque_message, pow_step, element_challenge, numbers_challenge}
@@ -16,6 +16,7 @@ example = record {
   num_queries = 2;
   index_bits = 3;
   log_blowup = 1;
+  log_final_poly_len = 0;
 }
 
 -- in the extension of degree 3 it has these nine steps
@@ -44,6 +45,53 @@ text_header : take 30 (text_of 3 example)
     ∷ 0 ∷ 0 ∷ 0 ∷ 0 ∷ 0 ∷ 0 ∷ 0 ∷ 9 ∷ []
 unfolding example claim_steps batch_steps first_layer_steps round_steps rounds_steps query_steps layout batch_layout steps_text labels_text step_text be64
 text_header = refl
+
+-- one claim of one column at a tallest logarithm of 4, with a final polynomial of two coefficients:
+-- one round too, no proofs of work, and two indices of four bits
+two_coefficients : Shape
+two_coefficients = record {
+  opened_widths = ((1 ∷ []) ∷ []) ∷ [];
+  num_commit_rounds = 1;
+  batch_pow_bits = 0;
+  commit_pow_bits = 0;
+  query_pow_bits = 0;
+  num_queries = 2;
+  index_bits = 4;
+  log_blowup = 1;
+  log_final_poly_len = 1;
+}
+
+-- it has nine steps too, the last but one for both coefficients
+two_coefficients_steps : steps_of 3 two_coefficients
+    ≡ elements_message 3 (codes "opening_point") 2
+    ∷ elements_message 3 (codes "opened_values") 1
+    ∷ element_challenge 3 (codes "batch_challenge")
+    ∷ opaque_message (codes "first_layer_commitment")
+    ∷ element_challenge 3 (codes "bivariate_challenge")
+    ∷ opaque_message (codes "commit_phase_commitment")
+    ∷ element_challenge 3 (codes "fold_challenge")
+    ∷ elements_message 3 (codes "final_poly") 2
+    ∷ numbers_challenge (codes "query_indices") 4 2
+    ∷ []
+unfolding two_coefficients claim_steps batch_steps first_layer_steps round_steps rounds_steps query_steps
+two_coefficients_steps = refl
+
+-- its seed's text is of 496 bytes, which begin with another version
+two_coefficients_length : length (text_of 3 two_coefficients) ≡ 496
+unfolding two_coefficients claim_steps batch_steps first_layer_steps round_steps rounds_steps query_steps layout batch_layout steps_text labels_text step_text be64
+two_coefficients_length = refl
+
+two_coefficients_header : take 30 (text_of 3 two_coefficients)
+    ≡ 2 ∷ 0 ∷ 0 ∷ 0 ∷ 0 ∷ 0 ∷ 0 ∷ 0 ∷ 13 ∷ 112 ∷ 51 ∷ 45 ∷ 99 ∷ 105 ∷ 114 ∷ 99 ∷ 108 ∷ 101 ∷ 45
+    ∷ 112 ∷ 99 ∷ 115
+    ∷ 0 ∷ 0 ∷ 0 ∷ 0 ∷ 0 ∷ 0 ∷ 0 ∷ 9 ∷ []
+unfolding two_coefficients claim_steps batch_steps first_layer_steps round_steps rounds_steps query_steps layout batch_layout steps_text labels_text step_text be64
+two_coefficients_header = refl
+
+-- and end with the third label: its length, and the logarithm of the number of coefficients
+two_coefficients_end : drop 480 (text_of 3 two_coefficients) ≡ be64 8 ++ be64 1
+unfolding two_coefficients claim_steps batch_steps first_layer_steps round_steps rounds_steps query_steps layout batch_layout steps_text labels_text step_text be64
+two_coefficients_end = refl
 
 -- proofs of work are steps where they have a difficulty
 guarded_round : round_steps 3 8

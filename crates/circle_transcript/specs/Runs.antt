@@ -24,13 +24,14 @@ pub record ArePlayable (n : Numbers) : Type 0 where
   pub commit : n.commit_pow_bits ≤ 63
   pub query : n.query_pow_bits ≤ 63
   pub index : n.index_bits ≤ 63
+  pub final_poly : n.log_final_poly_len ≤ 63
 
 -- what a run takes in, of claims, messages and witnesses
 abbrev pub taken_with : {F E Com : Type 0} → List (Claim E) → CircleMessages E Com → F → List F → F
     → Taken F E Com
 taken_with claims messages batch rounds query =
     taken claims batch messages.first_layer.now (zip messages.commitments.now rounds)
-    messages.final_poly query
+    messages.final_poly.now query
 
 abbrev pub taken_of : {F E Com : Type 0} {g : _} → List (Point E g × Bor (List E))
     → CircleMessages E Com

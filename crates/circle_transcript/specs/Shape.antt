@@ -1,13 +1,18 @@
 -- The shape of a run of the scheme, the steps of its transcript and its seed.
 use Rattle.std.specs.Prelude.{◌≡◌, ℕ, ◌<◌, ◌^◌, ◌==◌, if◌then◌else◌, List, [], ◌∷◌, ◌++◌, length, flat_map, All, codes}
 use Rattle.std.proofs.Common.{zero, suc}
-use Rattle.circle_challenger.specs.Step.{Step, be64}
-use Rattle.circle_challenger.specs.Played.{element_message, elements_message, opaque_message, pow_step, element_challenge, numbers_challenge}
+use Rattle.circle_challenger.specs.Step.{Step, step, be64}
+use Rattle.circle_challenger.specs.Played.{elements_message, opaque_message, pow_step, element_challenge, numbers_challenge}
 use Rattle.circle_challenger.specs.Separator.{Separator, separator, seed_text}
+use Rattle.circle_challenger.specs.declared.interaction.Hierarchy.TheVariants.{Atomic}
+use Rattle.circle_challenger.specs.declared.interaction.Kind.TheVariants.{Message}
+use Rattle.circle_challenger.specs.declared.interaction.ValueType.TheVariants.{Algebra}
+use Rattle.circle_challenger.specs.declared.interaction.Length.TheVariants.{Scalar, Fixed}
 
 -- the numbers that fix the transcript of a run: the number of columns of each claim, by batch,
 -- matrix and point; the number of rounds; the difficulties of the proofs of work; how many indices
--- are drawn, and of how many bits; the logarithm of the blowup
+-- are drawn, and of how many bits; the logarithms of the blowup and of the number of coefficients
+-- of the final polynomial
 pub record Shape : Type 0 where
   pub opened_widths : List (List (List ℕ))
   pub num_commit_rounds : ℕ
@@ -17,6 +22,7 @@ pub record Shape : Type 0 where
   pub num_queries : ℕ
   pub index_bits : ℕ
   pub log_blowup : ℕ
+  pub log_final_poly_len : ℕ
 
 -- a proof of work is a step where it has a difficulty
 abbrev pub pow_steps : List ℕ → ℕ → List Step
@@ -61,10 +67,16 @@ unfoldable pub rounds_steps : ℕ → ℕ → ℕ → List Step
 rounds_steps degree bits zero = []
 rounds_steps degree bits (suc n) = round_steps degree bits ++ rounds_steps degree bits n
 
--- the last word's value, and so many indices of so many bits
-unfoldable pub query_steps : ℕ → ℕ → ℕ → ℕ → List Step
-query_steps degree bits width count =
-    element_message degree (codes "final_poly")
+-- the final polynomial: its one coefficient, or its 2^f coefficients where f is not 0
+abbrev pub final_poly_step : ℕ → ℕ → Step
+final_poly_step degree f =
+    step Atomic Message (Algebra degree) (codes "final_poly")
+    (if f == 0 then Scalar else Fixed (2 ^ f))
+
+-- the final polynomial, and so many indices of so many bits
+unfoldable pub query_steps : ℕ → ℕ → ℕ → ℕ → ℕ → List Step
+query_steps degree f bits width count =
+    final_poly_step degree f
     ∷ guarded_numbers_steps (codes "query_pow") bits (codes "query_indices") width count
 
 -- the number of columns of each claim, one claim after another
@@ -77,7 +89,7 @@ steps_of degree s =
     batch_steps degree (claimed_widths s) s.batch_pow_bits
     ++ (first_layer_steps degree
     ++ (rounds_steps degree s.commit_pow_bits s.num_commit_rounds
-    ++ query_steps degree s.query_pow_bits s.index_bits s.num_queries))
+    ++ query_steps degree s.log_final_poly_len s.query_pow_bits s.index_bits s.num_queries))
 
 -- how the claims are grouped: the number of batches, for each batch its number of matrices, and for
 -- each of these its number of points
@@ -87,11 +99,21 @@ batch_layout batch = be64 (length batch) ++ flat_map (λ matrix. be64 (length ma
 unfoldable pub layout : List (List (List ℕ)) → List ℕ
 layout batches = be64 (length batches) ++ flat_map batch_layout batches
 
+-- the version that the seed names, another one where the final polynomial has several coefficients
+abbrev pub version_of : Shape → ℕ
+version_of s = if s.log_final_poly_len == 0 then 1 else 2
+
+-- the labels: the logarithm of the blowup, how the claims are grouped, and the logarithm of the
+-- number of coefficients where it is not 0
+abbrev pub labels_of : Shape → List (List ℕ)
+labels_of s =
+    be64 s.log_blowup ∷ layout s.opened_widths
+    ∷ (if s.log_final_poly_len == 0 then [] else be64 s.log_final_poly_len ∷ [])
+
 -- what the run is seeded with
 abbrev pub separator_of : ℕ → Shape → Separator
 separator_of degree s =
-    separator 1 (codes "p3-circle-pcs") (steps_of degree s)
-    (be64 s.log_blowup ∷ layout s.opened_widths ∷ [])
+    separator (version_of s) (codes "p3-circle-pcs") (steps_of degree s) (labels_of s)
 
 -- the seed's text
 abbrev pub text_of : ℕ → Shape → List ℕ
@@ -100,6 +122,7 @@ text_of degree s = seed_text (separator_of degree s)
 -- the numbers that the labels hold have eight bytes
 pub record HasWritableLabels (s : Shape) : Type 0 where
   pub log_blowup : s.log_blowup < 2 ^ 64
+  pub log_final_poly_len : s.log_final_poly_len < 2 ^ 64
   pub batch_count : length s.opened_widths < 2 ^ 64
   pub matrix_counts : All (λ batch. length batch < 2 ^ 64) s.opened_widths
   pub point_counts : All (λ batch. All (λ matrix. length matrix < 2 ^ 64) batch) s.opened_widths
@@ -114,3 +137,4 @@ pub record IsSameRun (a b : Shape) : Type 0 where
   pub num_queries : a.num_queries ≡ b.num_queries
   pub index_bits : a.index_bits ≡ b.index_bits
   pub log_blowup : a.log_blowup ≡ b.log_blowup
+  pub log_final_poly_len : a.log_final_poly_len ≡ b.log_final_poly_len

@@ -24,6 +24,7 @@ shape_of s = record {
   num_queries = s.num_queries;
   index_bits = s.index_bits;
   log_blowup = s.log_blowup;
+  log_final_poly_len = s.log_final_poly_len;
 }
 
 -- these steps stand after those that were there

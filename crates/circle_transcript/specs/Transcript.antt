@@ -67,7 +67,7 @@ module _ {C S F EF Com Side : Type 0} (r : RunMoves C S F EF Com) (t : CircleTra
   after_commit w = after_element r.base (after_pow r.base at_commitment t.shape.commit_pow_bits w)
 
 module _ {C S F EF Side : Type 0} (m : Moves C S F EF) (t : CircleTranscript C F EF Side)
-    (final_poly : EF) where
+    (final_poly : List EF) where
   abbrev pub at_query_pow : S
   at_query_pow = after_final_poly m (m.state (current t)) final_poly
 

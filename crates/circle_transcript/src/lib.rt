@@ -3,14 +3,16 @@
 //!
 //! A run takes in the claimed openings and draws the challenge that batches them, takes in the
 //! commitment to the first layer and draws the challenge that folds it, takes in a commitment and
-//! draws a folding challenge in each round, and takes in the last word's value and draws the query
-//! indices. Proofs of work guard the batching challenge, the folding challenges and the indices.
+//! draws a folding challenge in each round, and takes in the final polynomial's coefficients and
+//! draws the query indices. Proofs of work guard the batching challenge, the folding challenges and
+//! the indices.
 //!
 //! What is proved, for any field, extension, commitment and lawful challenger:
 //!
 //! - The steps that `CirclePcsShape::pattern` answers and the separator that `domain_separator`
 //!   answers are those of the definition, byte for byte; shapes with equal seed texts are equal,
-//!   but for a difficulty of rounds that there aren't (`has_seed_of`, clause `told`).
+//!   but for a difficulty of rounds that there aren't (`has_seed_of`, clause `told`). That is so for
+//!   final polynomials of any number of coefficients that is a power of two.
 //! - Both sides of the transcript ask each call to be the next described step and say what it
 //!   draws and the state after it; `NoWitness` and `PowWitness` come exactly where no witness
 //!   passes, and where the one at hand doesn't, and a transcript that is refused for want of

@@ -1,8 +1,8 @@
 //! Steps that both sides of a transcript play.
-ghost use Rattle.std.specs.Prelude.{◌≡◌, ◌<◌, ◌≤◌, ◌^◌, ◌↔◌, ◌⊎◌, Err, length, [], ◌∷◌, ◌++◌, flat_map, false, IsTrue, IsNone, IfOk, IfErr, OnOk, OnErr, All, unwrap_or};
+ghost use Rattle.std.specs.Prelude.{◌≡◌, ◌<◌, ◌≤◌, ◌^◌, ◌↔◌, ◌⊎◌, Err, Some, slice_get, drop, length, [], ◌∷◌, ◌++◌, flat_map, false, IsTrue, IsNone, IfOk, IfErr, OnOk, OnErr, All, unwrap_or};
 ghost use Rattle.circle_challenger.specs.Due.{AreNext, HasPlayed};
 ghost use Rattle.circle_challenger.specs.Grinding.{passes, after_check};
-ghost use Rattle.circle_challenger.specs.Moves.{is_passed, after_pow, drawn_element, after_element, or_zero};
+ghost use Rattle.circle_challenger.specs.Moves.{is_passed, after_pow, after_elements, drawn_element, after_element, or_zero};
 ghost use Rattle.circle_challenger.specs.Played.{element_challenge, numbers_challenge};
 ghost use Rattle.circle_challenger.specs.Sampling.{samples, after_samples};
 ghost use Rattle.circle_challenger.specs.TranscriptState.{current, due, SameChallenger};
@@ -10,11 +10,11 @@ ghost use Rattle.circle_commit.specs.declared.params.PowPhase.TheVariants.{Query
 ghost use Rattle.circle_point.specs.Point.{coordinates};
 ghost use Rattle.circle_transcript.specs.Draw.{claim, widths_of, after_claims};
 ghost use Rattle.circle_transcript.specs.Claims.{claims_of};
-ghost use Rattle.circle_transcript.specs.Shape.{claim_steps, pow_steps, guarded_challenge_steps, guarded_numbers_steps};
+ghost use Rattle.circle_transcript.specs.Shape.{claim_steps, final_poly_step, pow_steps, guarded_challenge_steps, guarded_numbers_steps};
 ghost use Rattle.circle_transcript.specs.declared.failure.CircleTranscriptFailure.TheVariants.{NoWitness, PowWitness, Memory};
 
 use crate::failure::CircleTranscriptFailure;
-use crate::shape::{OPENED_VALUES, OPENING_POINT, QUERY_INDICES, QUERY_POW};
+use crate::shape::{FINAL_POLY, OPENED_VALUES, OPENING_POINT, QUERY_INDICES, QUERY_POW};
 use circle_challenger::{
     CanSample, FieldChallenger, GrindingChallenger, ProverState, TranscriptState, VerifierState,
 };
@@ -61,6 +61,31 @@ where
 {
     for (point, values) in claims {
         observe_claim::<C, F, EF, S>(transcript, *point, values);
+    }
+}
+
+/// Takes in the coefficients of the final polynomial in order, each by its own coefficients over
+/// the base field.
+///
+/// Asks that this is the next step, and that there are as many as it says.
+pub(crate) fn observe_final_poly<'a, C, F: Field, EF: ExtensionField<F>, S>(
+    transcript: &mut TranscriptState<'a, C, F, S>,
+    final_poly: &[EF],
+    log_len: usize,
+)
+where
+    C: CanSample<F> + GrindingChallenger<F>,
+    requires next { slice_get (due transcript.old) 0 ≡ Some (final_poly_step EF.DEGREE log_len) }
+    requires count { length final_poly.now ≡ 2 ^ log_len }
+    ensures same_reference { SameChallenger transcript.old transcript.new }
+    ensures due { due transcript.new ≡ drop 1 (due transcript.old) }
+    ensures state { C.state (current transcript.new) ≡ after_elements
+        ⟦<C as FieldChallenger<F, EF>>⟧.moves (C.state (current transcript.old)) final_poly.now }
+{
+    if log_len == 0 {
+        transcript.observe_extension(FINAL_POLY, &final_poly[0]);
+    } else {
+        transcript.observe_extensions(FINAL_POLY, final_poly);
     }
 }
 

@@ -39,8 +39,8 @@ pub struct CircleMessages<'a, EF, Com> {
     pub first_layer: &'a Com,
     /// The commitment of each round.
     pub commitments: &'a [Com],
-    /// The last word's value.
-    pub final_poly: EF,
+    /// The coefficients of the final polynomial, `2^log_final_poly_len` of them.
+    pub final_poly: &'a [EF],
 }
 
 /// The witnesses of a run's proofs of work, 0 where there is no difficulty.
@@ -105,8 +105,8 @@ where
 
 /// Plays a run with its witnesses, and draws what it draws.
 ///
-/// Asks that these are all the steps due, one witness for each commitment, and difficulties and a
-/// number of bits of an index of at most 63.
+/// Asks that these are all the steps due, one witness for each commitment, as many coefficients as
+/// the shape says, and difficulties and a number of bits of an index of at most 63.
 fn checking_run<'a, F: Field, EF: ExtensionField<F>, C, Com>(
     alloc: Global,
     transcript: &mut CircleVerifierTranscript<'a, C, F, EF>,
@@ -120,6 +120,8 @@ where
         (length messages.now.commitments.now) (numbers transcript.old) }
     requires paired { length witnesses.now.rounds.items ≡ length messages.now.commitments.now }
     requires small { ArePlayable (numbers transcript.old) }
+    requires count { length messages.now.final_poly.now ≡
+        2 ^ (numbers transcript.old).log_final_poly_len }
     ensures same { IsSame transcript.old transcript.new }
     ensures due { OnOk result (due transcript.new ≡ []) }
     ensures below { IfOk result (λ d. All (λ i. i < 2 ^ (numbers transcript.old).index_bits)
@@ -149,8 +151,9 @@ where
 /// and draws the challenges. Fails with `PowWitness` where a witness doesn't pass, and with
 /// `Memory` where memory is refused.
 ///
-/// Asks claims of the described numbers of values, a commitment and a witness for each round, and
-/// difficulties and a number of bits of an index of at most 63.
+/// Asks claims of the described numbers of values, a commitment and a witness for each round, as
+/// many coefficients as the shape says, and difficulties, a number of bits of an index and a
+/// `log_final_poly_len` of at most 63.
 pub fn verifier_run<F: Field, EF: ExtensionField<F>, C, Com>(
     alloc: Global,
     challenger: &mut C,
@@ -165,6 +168,7 @@ where
     requires rounds { length messages.now.commitments.now ≡ shape.num_commit_rounds }
     requires paired { length witnesses.now.rounds.items ≡ length messages.now.commitments.now }
     requires small { ArePlayable (numbers_of (shape_of shape)) }
+    requires count { length messages.now.final_poly.now ≡ 2 ^ shape.log_final_poly_len }
     ensures draws { let taken = taken_of claims.now messages.now witnesses.now in IfOk result (λ d.
         Draws ⟦<C as RunChallenger<F, EF, Com>>⟧.run shape taken challenger.old d challenger.new) }
     ensures below { IfOk result (λ d. All (λ i. i < 2 ^ shape.index_bits) d.indices.items) }
@@ -247,8 +251,8 @@ fn or_zero<F: Field>(witness: Option<F>) -> F
 
 /// Plays a run, looking for the witnesses, and draws what it draws.
 ///
-/// Asks that these are all the steps due, and difficulties and a number of bits of an index of at
-/// most 63.
+/// Asks that these are all the steps due, as many coefficients as the shape says, and difficulties
+/// and a number of bits of an index of at most 63.
 fn grinding_run<'a, F: Field, EF: ExtensionField<F>, C, Com>(
     alloc: Global,
     transcript: &mut CircleProverTranscript<'a, C, F, EF>,
@@ -260,6 +264,8 @@ where
     requires next { due transcript.old ≡ run_steps EF.DEGREE (widths_of (claims_of claims.now))
         (length messages.now.commitments.now) (numbers transcript.old) }
     requires small { ArePlayable (numbers transcript.old) }
+    requires count { length messages.now.final_poly.now ≡
+        2 ^ (numbers transcript.old).log_final_poly_len }
     ensures same { IsSame transcript.old transcript.new }
     ensures due { OnOk result (due transcript.new ≡ []) }
     ensures count { IfOk result (λ r.
@@ -305,8 +311,9 @@ where
 /// and the messages, looks for the witnesses, and draws the challenges. Fails with `NoWitness`
 /// where no witness passes, and with `Memory` where memory is refused.
 ///
-/// Asks claims of the described numbers of values, a commitment for each round, and difficulties
-/// and a number of bits of an index of at most 63.
+/// Asks claims of the described numbers of values, a commitment for each round, as many
+/// coefficients as the shape says, and difficulties, a number of bits of an index and a
+/// `log_final_poly_len` of at most 63.
 pub fn prover_run<F: Field, EF: ExtensionField<F>, C, Com>(
     alloc: Global,
     challenger: &mut C,
@@ -319,6 +326,7 @@ where
     requires claims { widths_of (claims_of claims.now) ≡ claimed_widths (shape_of shape) }
     requires rounds { length messages.now.commitments.now ≡ shape.num_commit_rounds }
     requires small { ArePlayable (numbers_of (shape_of shape)) }
+    requires count { length messages.now.final_poly.now ≡ 2 ^ shape.log_final_poly_len }
     ensures count { IfOk result (λ r.
         length r.1.rounds.items ≡ length messages.now.commitments.now) }
     ensures draws { let m = ⟦<C as RunChallenger<F, EF, Com>>⟧.run in IfOk result (λ r.
@@ -362,6 +370,7 @@ where
     requires claims { widths_of (claims_of claims.now) ≡ claimed_widths (shape_of shape) }
     requires rounds { length messages.now.commitments.now ≡ shape.num_commit_rounds }
     requires small { ArePlayable (numbers_of (shape_of shape)) }
+    requires count { length messages.now.final_poly.now ≡ 2 ^ shape.log_final_poly_len }
     ensures draws { let m = ⟦<C as RunChallenger<F, EF, Com>>⟧.run in IfOk result
         (λ r. (w : CircleWitnesses F)
         × Draws m shape (taken_of claims.now messages.now w) prover.old r.0 prover.new) }

@@ -1,11 +1,11 @@
 //! The shape of a run, which fixes its transcript.
-ghost use Rattle.std.specs.Prelude.{◌≡◌, ◌↔◌, IsTrue, ◌-◌, ◌+◌, ◌<◌, ◌^◌, [], ◌∷◌, ◌++◌, IfOk, OnOk, map, flat_map, length, codes};
+ghost use Rattle.std.specs.Prelude.{◌≡◌, ◌↔◌, IsTrue, ◌-◌, ◌+◌, ◌<◌, ◌≤◌, ◌^◌, [], ◌∷◌, ◌++◌, IfOk, OnOk, map, flat_map, length, codes};
 ghost use Rattle.circle_challenger.specs.Interaction.{step_of};
 ghost use Rattle.circle_challenger.specs.Step.{be64, step};
 ghost use Rattle.circle_challenger.specs.Played.{element_challenge};
 ghost use Rattle.circle_challenger.specs.declared.interaction.Hierarchy.TheVariants.{Atomic};
 ghost use Rattle.circle_challenger.specs.declared.interaction.ValueType.TheVariants.{Algebra};
-ghost use Rattle.circle_transcript.specs.Shape.{Shape, claim_steps, batch_steps, first_layer_steps, round_steps, rounds_steps, query_steps, steps_of, pow_steps, batch_layout, layout, separator_of, text_of, IsSameRun};
+ghost use Rattle.circle_transcript.specs.Shape.{Shape, claim_steps, batch_steps, first_layer_steps, round_steps, rounds_steps, final_poly_step, query_steps, steps_of, pow_steps, batch_layout, layout, version_of, separator_of, text_of, IsSameRun};
 ghost use Rattle.circle_transcript.specs.ShapeOf.{Appends, matrices_of, batches_of};
 
 use circle_challenger::{
@@ -17,6 +17,9 @@ use std::alloc::{AllocError, Global};
 
 /// The version that the seed names.
 const VERSION: u8 = 1;
+
+/// The version that the seed names where the final polynomial has several coefficients.
+const VERSION_OF_SEVERAL: u8 = 2;
 
 /// The protocol's name in the seed.
 const NAME: &str = "p3-circle-pcs";
@@ -48,7 +51,7 @@ pub const COMMIT_POW: &str = "commit_pow";
 /// The folding challenge of a round.
 pub const FOLD_CHALLENGE: &str = "fold_challenge";
 
-/// The value of the last word.
+/// The coefficients of the final polynomial.
 pub const FINAL_POLY: &str = "final_poly";
 
 /// The proof of work before the query indices.
@@ -82,6 +85,8 @@ pub struct CirclePcsShape {
     pub index_bits: usize,
     /// The binary logarithm of the blowup.
     pub log_blowup: usize,
+    /// The binary logarithm of the number of coefficients of the final polynomial.
+    pub log_final_poly_len: usize,
 }
 
 impl CirclePcsShape {
@@ -91,38 +96,43 @@ impl CirclePcsShape {
     /// `log_max_height` is the logarithm of the greatest committed height and the folding strategy
     /// asks for so many further bits of an index.
     ///
-    /// Folding halves the word, and the first layer takes one bit, so there are `log_max_height - 1
-    /// - log_blowup` rounds and `log_max_height - 1 + extra_query_index_bits` bits of an index.
+    /// Folding halves the word, the first layer takes one bit, and folding stops at the word of the
+    /// final polynomial, so there are `log_max_height - 1 - log_blowup - log_final_poly_len` rounds
+    /// and `log_max_height - 1 + extra_query_index_bits` bits of an index.
     ///
-    /// Asks `log_max_height > log_blowup`, and that the number of bits is below `2^64`.
+    /// Asks `log_max_height > log_blowup + log_final_poly_len`, and that the number of bits is below
+    /// `2^64`.
     pub fn new<M>(
         params: &FriParameters<M>,
         opened_widths: Vec<Vec<Vec<usize>>>,
         log_max_height: usize,
         extra_query_index_bits: usize,
     ) -> Self
-        requires high { params.now.log_blowup < log_max_height }
+        requires high { params.now.log_blowup + params.now.log_final_poly_len < log_max_height }
         requires small { log_max_height - 1 + extra_query_index_bits < 2 ^ 64 }
         ensures { result ≡ record {
           opened_widths = opened_widths;
-          num_commit_rounds = log_max_height - 1 - params.now.log_blowup;
+          num_commit_rounds =
+              log_max_height - 1 - params.now.log_blowup - params.now.log_final_poly_len;
           batch_pow_bits = params.now.batch_proof_of_work_bits;
           commit_pow_bits = params.now.commit_proof_of_work_bits;
           query_pow_bits = params.now.query_proof_of_work_bits;
           num_queries = params.now.num_queries;
           index_bits = log_max_height - 1 + extra_query_index_bits;
           log_blowup = params.now.log_blowup;
+          log_final_poly_len = params.now.log_final_poly_len;
         } }
     {
         CirclePcsShape {
             opened_widths,
-            num_commit_rounds: log_max_height - 1 - params.log_blowup,
+            num_commit_rounds: log_max_height - 1 - params.log_blowup - params.log_final_poly_len,
             batch_pow_bits: params.batch_proof_of_work_bits,
             commit_pow_bits: params.commit_proof_of_work_bits,
             query_pow_bits: params.query_proof_of_work_bits,
             num_queries: params.num_queries,
             index_bits: log_max_height - 1 + extra_query_index_bits,
             log_blowup: params.log_blowup,
+            log_final_poly_len: params.log_final_poly_len,
         }
     }
 
@@ -139,15 +149,19 @@ impl CirclePcsShape {
             num_queries: self.num_queries,
             index_bits: self.index_bits,
             log_blowup: self.log_blowup,
+            log_final_poly_len: self.log_final_poly_len,
         })
     }
 
     /// The steps of the run, in order.
+    ///
+    /// Asks `log_final_poly_len <= 63`.
     #[tactic(auto, unfolding(crate::specs::Shape::batch_steps))]
     pub fn pattern<F: Field, EF: ExtensionField<F>>(
         &self,
         alloc: Global,
     ) -> Result<InteractionPattern, AllocError>
+        requires final_poly { self.now.log_final_poly_len ≤ 63 }
         ensures { IfOk result (λ p. p ≡ steps_of EF.DEGREE (shape_of self.now)) }
     {
         let mut steps = Vec::new(alloc);
@@ -163,6 +177,7 @@ impl CirclePcsShape {
         push_query(
             &mut steps,
             EF::DEGREE,
+            self.log_final_poly_len,
             self.query_pow_bits,
             self.index_bits,
             self.num_queries,
@@ -171,29 +186,52 @@ impl CirclePcsShape {
     }
 
     /// What the run is seeded with: the protocol, the steps, and two labels, the logarithm of the
-    /// blowup and how the claims are grouped.
+    /// blowup and how the claims are grouped. Where the final polynomial has several coefficients
+    /// there is a third label, `log_final_poly_len`, and the version is another one.
+    ///
+    /// Asks `log_final_poly_len <= 63`.
     #[tactic(auto, unfolding(circle_challenger::specs::Step::be64))]
     pub fn domain_separator<F: Field, EF: ExtensionField<F>>(
         &self,
         alloc: Global,
     ) -> Result<DomainSeparator, AllocError>
+        requires final_poly { self.now.log_final_poly_len ≤ 63 }
         ensures separator { IfOk result (λ s. s ≡ separator_of EF.DEGREE (shape_of self.now)) }
         ensures fits { IfOk result (λ _. self.now.log_blowup < 2 ^ 64) }
     {
         let pattern = self.pattern::<F, EF>(alloc)?;
-        DomainSeparator::new(alloc, VERSION, NAME, pattern)?
+        let separator = DomainSeparator::new(alloc, self.version(), NAME, pattern)?
             .instance(alloc, &in_eight_bytes(self.log_blowup))?
-            .instance(alloc, &self.opening_layout(alloc)?)
+            .instance(alloc, &self.opening_layout(alloc)?)?;
+        if self.log_final_poly_len == 0 {
+            return Ok(separator);
+        }
+        separator.instance(alloc, &in_eight_bytes(self.log_final_poly_len))
+    }
+
+    /// The version that the seed names.
+    fn version(&self) -> u8
+        ensures { result ≡ version_of (shape_of self.now) }
+    {
+        if self.log_final_poly_len == 0 {
+            VERSION
+        } else {
+            VERSION_OF_SEVERAL
+        }
     }
 
     /// Whether another shape has the same seed text, for challenges in this extension. Shapes of
     /// one seed text agree in all but the difficulty of rounds that there aren't. Fails where
     /// memory is refused.
+    ///
+    /// Asks `log_final_poly_len <= 63` of both.
     pub fn has_seed_of<F: Field, EF: ExtensionField<F>>(
         &self,
         alloc: Global,
         other: &CirclePcsShape,
     ) -> Result<bool, AllocError>
+        requires final_poly { self.now.log_final_poly_len ≤ 63 }
+        requires others { other.now.log_final_poly_len ≤ 63 }
         ensures same { IfOk result (λ same. IsTrue same ↔ (text_of EF.DEGREE (shape_of self.now)
             ≡ text_of EF.DEGREE (shape_of other.now))) }
         ensures told { IfOk result (λ same. text_of EF.DEGREE (shape_of self.now) ≡ text_of
@@ -356,18 +394,33 @@ fn push_rounds(
     Ok(())
 }
 
-/// Appends the steps of the last word's value and of the query indices.
+/// The step of the final polynomial.
+fn final_poly(degree: usize, log_len: usize) -> Interaction
+    requires { log_len ≤ 63 }
+    ensures { step_of result ≡ final_poly_step degree log_len }
+{
+    let length = if log_len == 0 {
+        Length::Scalar
+    } else {
+        Length::Fixed(1 << log_len)
+    };
+    algebra(Kind::Message, FINAL_POLY, degree, length)
+}
+
+/// Appends the steps of the final polynomial and of the query indices.
 fn push_query(
     steps: &mut Vec<Interaction>,
     degree: usize,
+    log_len: usize,
     bits: usize,
     width: usize,
     count: usize,
 ) -> Result<(), AllocError>
+    requires { log_len ≤ 63 }
     ensures { OnOk result (Appends steps.old.items steps.new.items
-        (query_steps degree bits width count)) }
+        (query_steps degree log_len bits width count)) }
 {
-    steps.push(algebra(Kind::Message, FINAL_POLY, degree, Length::Scalar))?;
+    steps.push(final_poly(degree, log_len))?;
     push_pow(steps, QUERY_POW, bits)?;
     steps.push(Interaction::bits(
         Hierarchy::Atomic,

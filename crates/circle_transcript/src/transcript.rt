@@ -1,5 +1,5 @@
 //! Both sides of a transcript.
-ghost use Rattle.std.specs.Prelude.{◌≡◌, ◌<◌, ◌≤◌, ◌^◌, ◌↔◌, ◌⊎◌, [], map, IsTrue, false, IsNone, IfOk, IfErr, OnOk, OnErr, Err, All};
+ghost use Rattle.std.specs.Prelude.{◌≡◌, ◌<◌, ◌≤◌, ◌^◌, ◌↔◌, ◌⊎◌, [], length, map, IsTrue, false, IsNone, IfOk, IfErr, OnOk, OnErr, Err, All};
 ghost use Rattle.std.specs.Borrow.{sem, RestsIfErr};
 ghost use Rattle.circle_field.specs.Field.{of_nat};
 ghost use Rattle.circle_challenger.specs.Due.{AreNext, HasPlayed};
@@ -16,7 +16,7 @@ use crate::failure::CircleTranscriptFailure;
 use crate::play;
 use crate::shape::{
     BATCH_CHALLENGE, BATCH_POW, BIVARIATE_CHALLENGE, COMMIT_POW, COMMITMENT, CirclePcsShape,
-    FINAL_POLY, FIRST_LAYER_COMMITMENT, FOLD_CHALLENGE,
+    FIRST_LAYER_COMMITMENT, FOLD_CHALLENGE,
 };
 use circle_challenger::{
     CanObserve, CanSample, FieldChallenger, GrindingChallenger, ProverSide, ProverState,
@@ -39,6 +39,7 @@ struct Numbers {
     query_pow_bits: usize,
     num_queries: usize,
     index_bits: usize,
+    log_final_poly_len: usize,
 }
 
 /// What a run begins with: the steps that are due, and the numbers that its calls read.
@@ -76,11 +77,14 @@ impl<
 > CircleTranscript<'a, C, F, EF, S> {
     /// Begins the transcript of a run of this shape: the challenger takes in the seed's text. Where
     /// memory is refused it is left as it was.
+    ///
+    /// Asks `log_final_poly_len <= 63`.
     pub fn new(
         alloc: Global,
         challenger: &'a mut C,
         shape: CirclePcsShape,
     ) -> Result<Self, AllocError>
+        requires final_poly { shape.log_final_poly_len ≤ 63 }
         ensures* refused { sem 𝓛 (RestsIfErr C.row challenger.entry
             (λ t. t.challenger.ghost_name) result
             (λ n. n ≡ challenger.old)) }
@@ -114,11 +118,14 @@ impl<
 
     /// Seeds a challenger with the text of a run of this shape, and answers what the run begins
     /// with. Where memory is refused the challenger is left as it was.
+    ///
+    /// Asks `log_final_poly_len <= 63`.
     fn seeded(
         alloc: Global,
         challenger: &mut C,
         shape: CirclePcsShape,
     ) -> Result<Seeded, AllocError>
+        requires final_poly { shape.log_final_poly_len ≤ 63 }
         ensures refused { OnErr result (challenger.new ≡ challenger.old) }
         ensures due { IfOk result (λ s. s.due.steps ≡ steps_of EF.DEGREE (shape_of shape)) }
         ensures shape { IfOk result (λ s. s.shape ≡ numbers_of (shape_of shape)) }
@@ -134,6 +141,7 @@ impl<
                 query_pow_bits: shape.query_pow_bits,
                 num_queries: shape.num_queries,
                 index_bits: shape.index_bits,
+                log_final_poly_len: shape.log_final_poly_len,
             },
         })
     }
@@ -277,42 +285,48 @@ impl<'a, F: Field, EF: ExtensionField<F>, C: CanSample<F> + GrindingChallenger<F
         drawn
     }
 
-    /// Takes in the last word's value, looks for a witness where the proof of work has a
-    /// difficulty, and draws the query indices. Fails with `NoWitness` exactly where no witness
-    /// passes, and with `Memory` where memory is refused; then only `abort` may follow.
+    /// Takes in the coefficients of the final polynomial in order, looks for a witness where the
+    /// proof of work has a difficulty, and draws the query indices. Fails with `NoWitness` exactly
+    /// where no witness passes, and with `Memory` where memory is refused; then only `abort` may
+    /// follow.
     ///
-    /// Asks that these are the next steps, and that the difficulty and the number of bits of an
-    /// index are at most 63.
+    /// Asks that these are the next steps, that the difficulty and the number of bits of an index
+    /// are at most 63, and that there are as many coefficients as the shape says.
     pub fn query_phase(
         &mut self,
         alloc: Global,
-        final_poly: EF,
+        final_poly: &[EF],
     ) -> Result<(Vec<usize>, Option<F>), CircleTranscriptFailure>
         requires next { AreNext (indices_steps EF.DEGREE self.old.shape) (due self.old) }
         requires small { self.old.shape.query_pow_bits ≤ 63 }
         requires narrow { self.old.shape.index_bits ≤ 63 }
+        requires count { length final_poly.now ≡ 2 ^ self.old.shape.log_final_poly_len }
         ensures same { IsSame self.old self.new }
         ensures due { OnOk result (HasPlayed (indices_steps EF.DEGREE self.old.shape) (due self.old)
             (due self.new)) }
         ensures needed { IfOk result (λ r. IsNone r.1 ↔ (self.old.shape.query_pow_bits ≡ 0)) }
         ensures passes { let m = ⟦<C as FieldChallenger<F, EF>>⟧.moves in IfOk result (λ r.
-            IsTrue (query_passes m self.old final_poly (or_zero m r.1))) }
+            IsTrue (query_passes m self.old final_poly.now (or_zero m r.1))) }
         ensures indices { let m = ⟦<C as FieldChallenger<F, EF>>⟧.moves in IfOk result (λ r.
-            r.0.items ≡ query_indices m self.old final_poly (or_zero m r.1)) }
+            r.0.items ≡ query_indices m self.old final_poly.now (or_zero m r.1)) }
         ensures below { IfOk result (λ r. All (λ i. i < 2 ^ self.old.shape.index_bits) r.0.items) }
         ensures state { let m = ⟦<C as FieldChallenger<F, EF>>⟧.moves in IfOk result (λ r.
-            C.state (current self.new) ≡ after_query m self.old final_poly (or_zero m r.1)) }
+            C.state (current self.new) ≡ after_query m self.old final_poly.now (or_zero m r.1)) }
         ensures failure { let bits = self.old.shape.query_pow_bits in
             IfErr result (λ e. (e ≡ Memory) ⊎ (e ≡ NoWitness Query bits)) }
         ensures none { let m = ⟦<C as FieldChallenger<F, EF>>⟧.moves in
             result ≡ Err (NoWitness Query self.old.shape.query_pow_bits) →
-            (w : F) → query_passes m self.old final_poly w ≡ false }
+            (w : F) → query_passes m self.old final_poly.now w ≡ false }
         ensures unchanged { let m = ⟦<C as FieldChallenger<F, EF>>⟧.moves in
             result ≡ Err (NoWitness Query self.old.shape.query_pow_bits) →
-            C.state (current self.new) ≡ at_query_pow m self.old final_poly }
+            C.state (current self.new) ≡ at_query_pow m self.old final_poly.now }
     {
         let mut transcript = ProverState::<C, F>::resume(self.challenger, self.due.take());
-        transcript.observe_extension(FINAL_POLY, &final_poly);
+        play::observe_final_poly::<C, F, EF, ProverSide>(
+            &mut transcript,
+            final_poly,
+            self.shape.log_final_poly_len,
+        );
         let drawn = play::grinding_indices::<C, F>(
             alloc,
             &mut transcript,
@@ -416,41 +430,47 @@ impl<'a, F: Field, EF: ExtensionField<F>, C: CanSample<F> + GrindingChallenger<F
         drawn
     }
 
-    /// Takes in the last word's value, checks the witness where the proof of work has a difficulty,
-    /// and draws the query indices. Fails with `PowWitness` exactly where the witness doesn't pass,
-    /// and with `Memory` where memory is refused; then only `abort` may follow.
+    /// Takes in the coefficients of the final polynomial in order, checks the witness where the
+    /// proof of work has a difficulty, and draws the query indices. Fails with `PowWitness` exactly
+    /// where the witness doesn't pass, and with `Memory` where memory is refused; then only `abort`
+    /// may follow.
     ///
-    /// Asks that these are the next steps, and that the difficulty and the number of bits of an
-    /// index are at most 63.
+    /// Asks that these are the next steps, that the difficulty and the number of bits of an index
+    /// are at most 63, and that there are as many coefficients as the shape says.
     pub fn query_phase(
         &mut self,
         alloc: Global,
-        final_poly: EF,
+        final_poly: &[EF],
         witness: F,
     ) -> Result<Vec<usize>, CircleTranscriptFailure>
         requires next { AreNext (indices_steps EF.DEGREE self.old.shape) (due self.old) }
         requires small { self.old.shape.query_pow_bits ≤ 63 }
         requires narrow { self.old.shape.index_bits ≤ 63 }
+        requires count { length final_poly.now ≡ 2 ^ self.old.shape.log_final_poly_len }
         ensures same { IsSame self.old self.new }
         ensures due { OnOk result (HasPlayed (indices_steps EF.DEGREE self.old.shape) (due self.old)
             (due self.new)) }
         ensures passes { let m = ⟦<C as FieldChallenger<F, EF>>⟧.moves in OnOk result
-            (IsTrue (query_passes m self.old final_poly witness)) }
+            (IsTrue (query_passes m self.old final_poly.now witness)) }
         ensures indices { let m = ⟦<C as FieldChallenger<F, EF>>⟧.moves in IfOk result (λ a.
-            a.items ≡ query_indices m self.old final_poly witness) }
+            a.items ≡ query_indices m self.old final_poly.now witness) }
         ensures below { IfOk result (λ a. All (λ i. i < 2 ^ self.old.shape.index_bits) a.items) }
         ensures state { let m = ⟦<C as FieldChallenger<F, EF>>⟧.moves in OnOk result
-            (C.state (current self.new) ≡ after_query m self.old final_poly witness) }
+            (C.state (current self.new) ≡ after_query m self.old final_poly.now witness) }
         ensures failure { let bits = self.old.shape.query_pow_bits in
             IfErr result (λ e. (e ≡ Memory) ⊎ (e ≡ PowWitness Query bits)) }
         ensures missed { let m = ⟦<C as FieldChallenger<F, EF>>⟧.moves in
             result ≡ Err (PowWitness Query self.old.shape.query_pow_bits) →
-            query_passes m self.old final_poly witness ≡ false }
+            query_passes m self.old final_poly.now witness ≡ false }
         ensures passed { let m = ⟦<C as FieldChallenger<F, EF>>⟧.moves in
-            result ≡ Err Memory → IsTrue (query_passes m self.old final_poly witness) }
+            result ≡ Err Memory → IsTrue (query_passes m self.old final_poly.now witness) }
     {
         let mut transcript = VerifierState::<C, F>::resume(self.challenger, self.due.take());
-        transcript.observe_extension(FINAL_POLY, &final_poly);
+        play::observe_final_poly::<C, F, EF, VerifierSide>(
+            &mut transcript,
+            final_poly,
+            self.shape.log_final_poly_len,
+        );
         let drawn = play::checking_indices::<C, F>(
             alloc,
             &mut transcript,

@@ -15,6 +15,7 @@ use circle_transcript::{
 use std::alloc::{AllocError, Global};
 use std::test::Fail;
 
+mod coefficients;
 mod runs;
 mod seeds;
 
@@ -40,6 +41,7 @@ const NONE: Difficulties = Difficulties {
 fn params(log_blowup: usize, bits: Difficulties) -> FriParameters<()>
     ensures { result ≡ record {
       log_blowup = log_blowup;
+      log_final_poly_len = 0;
       max_log_arity = 1;
       num_queries = 2;
       batch_proof_of_work_bits = bits.batch;
@@ -50,6 +52,7 @@ fn params(log_blowup: usize, bits: Difficulties) -> FriParameters<()>
 {
     FriParameters {
         log_blowup,
+        log_final_poly_len: 0,
         max_log_arity: 1,
         num_queries: 2,
         batch_proof_of_work_bits: bits.batch,
@@ -77,6 +80,7 @@ fn shape(alloc: Global, rounds: usize, bits: Difficulties) -> Result<CirclePcsSh
     ensures commit { IfOk result (λ s. s.commit_pow_bits ≡ bits.commit) }
     ensures query { IfOk result (λ s. s.query_pow_bits ≡ bits.query) }
     ensures index { IfOk result (λ s. s.index_bits ≤ 63) }
+    ensures final_poly { IfOk result (λ s. s.log_final_poly_len ≡ 0) }
 {
     let opened_widths = one_matrix(alloc, vec![in alloc; 1]?)?;
     Ok(CirclePcsShape::new(&params(1, bits), opened_widths, rounds + 2, 1))
@@ -108,10 +112,11 @@ where
     let shape = shape(alloc, commitments.len(), bits)?;
     let values = [cubic(5, 6, 7)];
     let claims = [(Point::<Cubic>::ZERO, values.as_slice())];
+    let final_poly = [cubic(1, 2, 3)];
     let messages = CircleMessages {
         first_layer: &[7; 32],
         commitments,
-        final_poly: cubic(1, 2, 3),
+        final_poly: final_poly.as_slice(),
     };
     prover_run(alloc, challenger, shape, claims.as_slice(), &messages)
 }
@@ -135,10 +140,11 @@ where
     let shape = shape(alloc, commitments.len(), bits)?;
     let values = [cubic(5, 6, 7)];
     let claims = [(Point::<Cubic>::ZERO, values.as_slice())];
+    let final_poly = [cubic(1, 2, 3)];
     let messages = CircleMessages {
         first_layer: &[7; 32],
         commitments,
-        final_poly: cubic(1, 2, 3),
+        final_poly: final_poly.as_slice(),
     };
     verifier_run(
         alloc,
@@ -248,10 +254,11 @@ fn both_runs_draw_alike(rt: HostRuntime) -> Result<(), Fail> {
     let claims = [(Point::<Cubic>::ZERO, values.as_slice())];
     let mut prover = Sha256Challenger::new();
     let mut verifier = Sha256Challenger::new();
+    let final_poly = [cubic(1, 2, 3)];
     let messages = CircleMessages {
         first_layer: &[7; 32],
         commitments: &[[9; 32], [8; 32]],
-        final_poly: cubic(1, 2, 3),
+        final_poly: final_poly.as_slice(),
     };
     let runs = both_runs(
         alloc,

@@ -17,6 +17,7 @@ type Proof = CircleFriProof<Cubic, TrustingMmcs, Mersenne31, ()>;
 fn parameters(bits: [usize; 3]) -> FriParameters<TrustingMmcs> {
     FriParameters {
         log_blowup: 1,
+        log_final_poly_len: 0,
         max_log_arity: 1,
         num_queries: 2,
         batch_proof_of_work_bits: bits[0],
@@ -104,7 +105,7 @@ fn proof(alloc: Global, witnesses: [u64; 2]) -> Result<Proof, AllocError> {
         commit_pow_witnesses: copies(alloc, Mersenne31::from_u64(witnesses[0]), 1)?,
         input_openings: (),
         commit_phase_openings: openings,
-        final_poly: Cubic::ZERO,
+        final_poly: copies(alloc, Cubic::ZERO, 1)?,
         pow_witness: Mersenne31::from_u64(witnesses[1]),
     })
 }

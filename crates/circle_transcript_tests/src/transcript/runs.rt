@@ -22,10 +22,11 @@ fn batching_challenge(alloc: Global, t: u64, value: u64) -> Result<Cubic, Fail> 
     let claims = [(point, values.as_slice())];
     let commitments: [[u8; 32]; 0] = [];
     let mut challenger = Sha256Challenger::new();
+    let final_poly = [cubic(1, 2, 3)];
     let messages = CircleMessages {
         first_layer: &[7; 32],
         commitments: commitments.as_slice(),
-        final_poly: cubic(1, 2, 3),
+        final_poly: final_poly.as_slice(),
     };
     let run = prover_run(alloc, &mut challenger, shape, claims.as_slice(), &messages);
     let (draws, _) = run.map_err(|_| "no run")?;

@@ -1,5 +1,6 @@
 //! Each number of a shape reaches the seed. The first elements that challengers draw after the seed
 //! were computed apart from this code.
+ghost use Rattle.std.specs.Prelude.{◌≡◌, ◌≤◌, IfOk};
 
 use crate::transcript::{element, one_matrix};
 use circle_challenger::{CanSample, Sha256Challenger};
@@ -9,7 +10,9 @@ use std::alloc::{AllocError, Global};
 use std::test::Fail;
 
 /// A shape over claims of these numbers of columns, one round, no proofs of work.
-fn over(opened_widths: Vec<Vec<Vec<usize>>>) -> CirclePcsShape {
+fn over(opened_widths: Vec<Vec<Vec<usize>>>) -> CirclePcsShape
+    ensures { result.log_final_poly_len ≡ 0 }
+{
     CirclePcsShape {
         opened_widths,
         num_commit_rounds: 1,
@@ -19,16 +22,21 @@ fn over(opened_widths: Vec<Vec<Vec<usize>>>) -> CirclePcsShape {
         num_queries: 2,
         index_bits: 8,
         log_blowup: 1,
+        log_final_poly_len: 0,
     }
 }
 
 /// The shape over one claim of so many columns.
-fn over_one(alloc: Global, width: usize) -> Result<CirclePcsShape, AllocError> {
+fn over_one(alloc: Global, width: usize) -> Result<CirclePcsShape, AllocError>
+    ensures { IfOk result (λ s. s.log_final_poly_len ≡ 0) }
+{
     Ok(over(one_matrix(alloc, vec![in alloc; width]?)?))
 }
 
 /// The first element that a challenger draws after the seed of a shape.
-fn first_drawn(alloc: Global, shape: &CirclePcsShape) -> Result<Mersenne31, AllocError> {
+fn first_drawn(alloc: Global, shape: &CirclePcsShape) -> Result<Mersenne31, AllocError>
+    requires { shape.now.log_final_poly_len ≤ 63 }
+{
     let mut challenger = Sha256Challenger::new();
     let separator = shape.domain_separator::<Mersenne31, Cubic>(alloc)?;
     separator.seed::<Mersenne31, Sha256Challenger>(&mut challenger);
@@ -37,7 +45,9 @@ fn first_drawn(alloc: Global, shape: &CirclePcsShape) -> Result<Mersenne31, Allo
 
 /// Whether a shape has another seed than the one over one claim of four columns, and this element
 /// is drawn first after it.
-fn is_apart(alloc: Global, shape: &CirclePcsShape, first: u64) -> Result<bool, AllocError> {
+fn is_apart(alloc: Global, shape: &CirclePcsShape, first: u64) -> Result<bool, AllocError>
+    requires { shape.now.log_final_poly_len ≤ 63 }
+{
     let plain = over_one(alloc, 4)?;
     if plain.has_seed_of::<Mersenne31, Cubic>(alloc, shape)? {
         return Ok(false);

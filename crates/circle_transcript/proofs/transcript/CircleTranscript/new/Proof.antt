@@ -43,7 +43,7 @@ use Rattle.std.proofs.RcSteps.{first_Good, some_Good}
 use Rattle.std.proofs.VecSteps.Shapes.{after, head, arm_body}
 use Rattle.std.proofs.alloc.AllocError.TheLaws as RefusedLaws
 use Rattle.std.proofs.alloc.Global.TheLaws as GlobalLaws
-use Rattle.std.specs.Prelude.{IfOk, OnOk, OnErr, Ok, Err, map}
+use Rattle.std.specs.Prelude.{◌≤◌, IfOk, OnOk, OnErr, Ok, Err, map}
 use Rattle.std.specs.Borrow.{RestsIfErr, name_if_ok}
 use Rattle.std.specs.contracts.alloc.AllocError as Refused
 use Rattle.std.specs.contracts.alloc.Global as Global
@@ -87,6 +87,10 @@ record Says (R : Rows) : Type 0 where
   numbers : CirclePcsShape → Numbers
   state : R.C.Denot → R.State.Denot
   after : R.C.Denot → CirclePcsShape → R.State.Denot
+
+-- what is asked of the shape
+abbrev few : CirclePcsShape → Type 0
+few d = d.log_final_poly_len ≤ 63
 
 -- ---- the code
 abbrev none : Dict
@@ -147,14 +151,14 @@ module _ (R : Rows) where
 module _ (R : Rows) (w : Says R) {M : Type 1} {𝓤 : Ura M} (𝓛 : Logic 𝓤) where
   open 𝓛 use {H, A}
 
-  -- the types outlive their lifetimes
-  abbrev Asked : Lft → Lft → Lft → Lft → Lft → SProp 𝓤
-  Asked κF κE κC κS κT = sep 𝓤 (fact 𝓤 (κF ⊑ R.F.lives)) (sep 𝓤 (fact 𝓤 (κE ⊑ R.EF.lives)) (sep 𝓤 (fact 𝓤 (κC ⊑ R.C.lives)) (sep 𝓤 (fact 𝓤 (κS ⊑ R.S.lives)) (sep 𝓤 (fact 𝓤 (κT ⊑ R.State.lives)) (emp 𝓤)))))
+  -- the types outlive their lifetimes, and what else is asked
+  abbrev Asked : Lft → Lft → Lft → Lft → Lft → SProp 𝓤 → SProp 𝓤
+  Asked κF κE κC κS κT also = sep 𝓤 (fact 𝓤 (κF ⊑ R.F.lives)) (sep 𝓤 (fact 𝓤 (κE ⊑ R.EF.lives)) (sep 𝓤 (fact 𝓤 (κC ⊑ R.C.lives)) (sep 𝓤 (fact 𝓤 (κS ⊑ R.S.lives)) (sep 𝓤 (fact 𝓤 (κT ⊑ R.State.lives)) also))))
 
   abbrev held : Clauses 𝓤 (ended R)
   held κs a = record {
     ghost = Unit {0};
-    requires = λ _. Asked κs.1.0 κs.1.1.0 κs.1.1.1.0 κs.1.1.1.1.0 κs.1.1.1.1.1.0;
+    requires = λ _. Asked κs.1.0 κs.1.1.0 κs.1.1.1.0 κs.1.1.1.1.0 κs.1.1.1.1.1.0 (fact 𝓤 (few a.1.1.0));
     ensures = λ _ r _. sep 𝓤 (sem 𝓛 (RestsIfErr (C-row R) a.1.0 (λ t. t.challenger.ghost_name) r (λ n. n ≡ a.1.0.now)))
         (sep 𝓤 (fact 𝓤 (IfOk r (λ t. Borrows t a.1.0))) (sep 𝓤 (fact 𝓤 (IfOk r (λ t. t.shape ≡ w.numbers a.1.1.0)))
         (sep 𝓤 (fact 𝓤 (IfOk r (λ t. t.due.steps ≡ w.steps a.1.1.0))) (fact 𝓤 (IfOk r (λ t. w.state t.challenger.now ≡ w.after a.1.0.now a.1.1.0))))));
@@ -163,7 +167,7 @@ module _ (R : Rows) (w : Says R) {M : Type 1} {𝓤 : Ura M} (𝓛 : Logic 𝓤)
   abbrev seeds : Clauses 𝓤 (seeding R)
   seeds κs a = record {
     ghost = Unit {0};
-    requires = λ _. Asked κs.1.1.0 κs.1.1.1.0 κs.1.1.1.1.0 κs.1.1.1.1.1.0 κs.1.1.1.1.1.1.0;
+    requires = λ _. Asked κs.1.1.0 κs.1.1.1.0 κs.1.1.1.1.0 κs.1.1.1.1.1.0 κs.1.1.1.1.1.1.0 (fact 𝓤 (few a.1.1.0));
     ensures = λ _ r e. sep 𝓤 (fact 𝓤 (OnErr r (e.1.0.now ≡ a.1.0.now))) (sep 𝓤 (fact 𝓤 (IfOk r (λ s. s.due.steps ≡ w.steps a.1.1.0)))
         (sep 𝓤 (fact 𝓤 (IfOk r (λ s. s.shape ≡ w.numbers a.1.1.0))) (fact 𝓤 (OnOk r (w.state e.1.0.now ≡ w.after a.1.0.now a.1.1.0)))));
   }
@@ -171,7 +175,7 @@ module _ (R : Rows) (w : Says R) {M : Type 1} {𝓤 : Ura M} (𝓛 : Logic 𝓤)
   abbrev makes : Clauses 𝓤 (making R)
   makes κs a = record {
     ghost = Unit {0};
-    requires = λ _. Asked κs.1.0 κs.1.1.0 κs.1.1.1.0 κs.1.1.1.1.0 κs.1.1.1.1.1.0;
+    requires = λ _. Asked κs.1.0 κs.1.1.0 κs.1.1.1.0 κs.1.1.1.1.0 κs.1.1.1.1.1.0 (emp 𝓤);
     ensures = λ _ t _. sep 𝓤 (fact 𝓤 (Borrows t a.0)) (sep 𝓤 (fact 𝓤 (t.challenger.now ≡ a.0.now)) (sep 𝓤 (fact 𝓤 (t.due.steps ≡ a.1.0.due.steps)) (fact 𝓤 (t.shape ≡ a.1.0.shape))));
   }
 
@@ -187,14 +191,14 @@ module _ (R : Rows) (w : Says R) {M : Type 1} {𝓤 : Ura M} (𝓛 : Logic 𝓤)
   abbrev lent : Lft → ℕ × ℕ → GName → R.C.Denot → Fml
   lent κ p δ c = (MutRef (named 0) κ (C-row R)).own_val (record { ref_ptr = p; ghost_name = δ; now = c }) (vptr p.0 p.1 ∷ [])
 
-  asked : (κF κE κC κS κT : Lft) → κF ⊑ R.F.lives → κE ⊑ R.EF.lives → κC ⊑ R.C.lives → κS ⊑ R.S.lives → κT ⊑ R.State.lives → ent 𝓤 (emp 𝓤) (Asked κF κE κC κS κT)
-  asked κF κE κC κS κT f e c s t =
-      qed 𝓛 [] ∵ nothing ! $ use0 𝓛 (raw (fact 𝓤 (κT ⊑ R.State.lives))) (fact_i 𝓤 _ (emp 𝓤) t) $ use0 𝓛 (raw (fact 𝓤 (κS ⊑ R.S.lives))) (fact_i 𝓤 _ (emp 𝓤) s) $
+  asked : (κF κE κC κS κT : Lft) (also : SProp 𝓤) → κF ⊑ R.F.lives → κE ⊑ R.EF.lives → κC ⊑ R.C.lives → κS ⊑ R.S.lives → κT ⊑ R.State.lives → ent 𝓤 (emp 𝓤) also → ent 𝓤 (emp 𝓤) (Asked κF κE κC κS κT also)
+  asked κF κE κC κS κT also f e c s t x =
+      qed 𝓛 [] ∵ use0 𝓛 (raw also) x $ use0 𝓛 (raw (fact 𝓤 (κT ⊑ R.State.lives))) (fact_i 𝓤 _ (emp 𝓤) t) $ use0 𝓛 (raw (fact 𝓤 (κS ⊑ R.S.lives))) (fact_i 𝓤 _ (emp 𝓤) s) $
       use0 𝓛 (raw (fact 𝓤 (κC ⊑ R.C.lives))) (fact_i 𝓤 _ (emp 𝓤) c) $ use0 𝓛 (raw (fact 𝓤 (κE ⊑ R.EF.lives))) (fact_i 𝓤 _ (emp 𝓤) e) $
       use0 𝓛 (raw (fact 𝓤 (κF ⊑ R.F.lives))) (fact_i 𝓤 _ (emp 𝓤) f) $ done !
 
   module _ (κs : Lfts 6) (qs : Shares 6) (bounds : AllOutlive 6 (making R).signature.outlives κs) (iF : κs.1.0 ⊑ R.F.lives) (iE : κs.1.1.0 ⊑ R.EF.lives) (iC : κs.1.1.1.0 ⊑ R.C.lives) (iS : κs.1.1.1.1.0 ⊑ R.S.lives) (iT : κs.1.1.1.1.1.0 ⊑ R.State.lives)
-      (p : ℕ × ℕ) (γ : GName) (c : R.C.Denot) (g : (Global.the_row).Denot) (d : CirclePcsShape) (v₀ v₂ : Val) where
+      (p : ℕ × ℕ) (γ : GName) (c : R.C.Denot) (g : (Global.the_row).Denot) (d : CirclePcsShape) (v₀ v₂ : Val) (is_few : few d) where
     abbrev Tokens : Item 𝓤
     Tokens = ‵ (flft κs.0 qs.0) ⊛ ‵ (flft κs.1.0 qs.1.0) ⊛ ‵ (flft κs.1.1.0 qs.1.1.0) ⊛ ‵ (flft κs.1.1.1.0 qs.1.1.1.0) ⊛ ‵ (flft κs.1.1.1.1.0 qs.1.1.1.1.0) ⊛ ‵ (flft κs.1.1.1.1.1.0 qs.1.1.1.1.1.0) ⊛ ‵ ftrue
 
@@ -222,7 +226,7 @@ module _ (R : Rows) (w : Says R) {M : Type 1} {𝓤 : Ura M} (𝓛 : Logic 𝓤)
       seeds_goes i =
           qed 𝓛 Brings ∵ use1 𝓛 (‵ (flft κ (Share.left q)) ⊛ ‵ (flft κ (Share.right q))) (𝓛.lfts.lft_split κ q) $ split ! $ move ! (1 ∷ []) $
           use1 𝓛 (‵ (flft κ (Share.left (Share.right q))) ⊛ ‵ (flft κ (Share.right (Share.right q)))) (𝓛.lfts.lft_split κ (Share.right q)) $ split ! $
-          use0 𝓛 (raw (Asked κs.1.0 κs.1.1.0 κ κs.1.1.1.1.0 κs.1.1.1.1.1.0)) (asked κs.1.0 κs.1.1.0 κ κs.1.1.1.1.0 κs.1.1.1.1.1.0 iF iE i iS iT) $ nothing ! $ nothing ! $
+          use0 𝓛 (raw (Asked κs.1.0 κs.1.1.0 κ κs.1.1.1.1.0 κs.1.1.1.1.1.0 (fact 𝓤 (few d)))) (asked κs.1.0 κs.1.1.0 κ κs.1.1.1.1.0 κs.1.1.1.1.1.0 (fact 𝓤 (few d)) iF iE i iS iT (fact_i 𝓤 _ (emp 𝓤) is_few)) $ nothing ! $ nothing ! $
           move ! (11 ∷ 6 ∷ 12 ∷ 0 ∷ []) $ group ! 4 $ move ! (5 ∷ 3 ∷ 6 ∷ 7 ∷ 4 ∷ 8 ∷ 9 ∷ 1 ∷ []) $ group ! 8 $ join ! $ done !
 
       abbrev Out : RattleType
@@ -255,7 +259,7 @@ module _ (R : Rows) (w : Says R) {M : Type 1} {𝓤 : Ura M} (𝓛 : Logic 𝓤)
       makes_goes : ent 𝓤 (⋆ 𝓛 (Tokens ∷ ‵ (lent κs.0 p γ n) ∷ ‵ ((Seeded.the_row).own_val x (u ∷ [])) ∷ [])) (Making.pre at_makes)
       makes_goes =
           qed 𝓛 (Tokens ∷ ‵ (lent κs.0 p γ n) ∷ ‵ ((Seeded.the_row).own_val x (u ∷ [])) ∷ []) ∵
-          use0 𝓛 (raw (Asked κs.1.0 κs.1.1.0 κs.1.1.1.0 κs.1.1.1.1.0 κs.1.1.1.1.1.0)) (asked κs.1.0 κs.1.1.0 κs.1.1.1.0 κs.1.1.1.1.0 κs.1.1.1.1.1.0 iF iE iC iS iT) $
+          use0 𝓛 (raw (Asked κs.1.0 κs.1.1.0 κs.1.1.1.0 κs.1.1.1.1.0 κs.1.1.1.1.1.0 (emp 𝓤))) (asked κs.1.0 κs.1.1.0 κs.1.1.1.0 κs.1.1.1.1.0 κs.1.1.1.1.1.0 (emp 𝓤) iF iE iC iS iT (id⊢ 𝓤 (emp 𝓤))) $
           nothing ! $ move ! (3 ∷ 4 ∷ 0 ∷ []) $ group ! 3 $ move ! (2 ∷ 0 ∷ []) $ join ! $ done !
 
       abbrev Formed : Val → (Made R κs).Denot → Item 𝓤
@@ -376,12 +380,12 @@ module _ (R : Rows) (w : Says R) {M : Type 1} {𝓤 : Ura M} (𝓛 : Logic 𝓤)
         walk_Meets 𝓛 (ended R) (stayed R) (Goes-blank 𝓛 6 (plain (λ _. Global.the_row)) yes (λ κs x f. tt), (Goes-spent_ref 𝓛 6 (0 ∷ []) tt (plain (λ _. C-row R)), (Goes-blank 𝓛 6 (plain (λ _. Shape.the_row)) yes (λ κs x f. tt), tt)))
         held runs-it (WpFn-mono 𝓤 H 𝓛.laws 𝓣 (function R ds)) (λ z. let κs = z.0.0 in let qs = z.0.1 in let a = z.0.3 in let vss = z.0.4 in let p = a.1.0.ref_ptr in
         qed 𝓛 (((‵ (flft κs.0 qs.0) ⊛ ‵ (flft κs.1.0 qs.1.0) ⊛ ‵ (flft κs.1.1.0 qs.1.1.0) ⊛ ‵ (flft κs.1.1.1.0 qs.1.1.1.0) ⊛ ‵ (flft κs.1.1.1.1.0 qs.1.1.1.1.0) ⊛ ‵ (flft κs.1.1.1.1.1.0 qs.1.1.1.1.1.0) ⊛ ‵ ftrue) ⊛ ‵ (owns (types_at (ended R).signature.params κs) a vss))
-        ∷ (given (κs.1.0 ⊑ R.F.lives) (‵ ftrue) ⊛ given (κs.1.1.0 ⊑ R.EF.lives) (‵ ftrue) ⊛ given (κs.1.1.1.0 ⊑ R.C.lives) (‵ ftrue) ⊛ given (κs.1.1.1.1.0 ⊑ R.S.lives) (‵ ftrue) ⊛ given (κs.1.1.1.1.1.0 ⊑ R.State.lives) (‵ ftrue) ⊛ ‵ ftrue) ∷ []) ∵
-        move ! (1 ∷ []) $ split ! $ learn ! (λ iF. drop ! $ split ! $ learn ! (λ iE. drop ! $ split ! $ learn ! (λ iC. drop ! $ split ! $ learn ! (λ iS. drop ! $ split ! $ learn ! (λ iT. drop ! $ drop ! $
+        ∷ (given (κs.1.0 ⊑ R.F.lives) (‵ ftrue) ⊛ given (κs.1.1.0 ⊑ R.EF.lives) (‵ ftrue) ⊛ given (κs.1.1.1.0 ⊑ R.C.lives) (‵ ftrue) ⊛ given (κs.1.1.1.1.0 ⊑ R.S.lives) (‵ ftrue) ⊛ given (κs.1.1.1.1.1.0 ⊑ R.State.lives) (‵ ftrue) ⊛ given (few a.1.1.0) (‵ ftrue)) ∷ []) ∵
+        move ! (1 ∷ []) $ split ! $ learn ! (λ iF. drop ! $ split ! $ learn ! (λ iE. drop ! $ split ! $ learn ! (λ iC. drop ! $ split ! $ learn ! (λ iS. drop ! $ split ! $ learn ! (λ iT. drop ! $ learn ! (λ is_few. drop ! $
         split ! $ move ! (1 ∷ []) $ fsplit ! $ one_value ! Global.the_row GlobalLaws.the_row_laws a.0 vss.0 (λ v₀ e₀ ok₀. move ! (1 ∷ []) $ fsplit ! $ fsplit ! $ feq_l ! (λ e₁.
         feq_i ! (List Val) (vptr p.0 p.1 ∷ []) (vptr p.0 p.1 ∷ []) refl $ fjoin ! $ move ! (1 ∷ []) $ fsplit ! $ one_value ! Shape.the_row ShapeLaws.the_row_laws a.1.1.0 vss.1.1.0 (λ v₂ e₂ ok₂.
         regoal ! (λ (us : List Val × List Val × List Val). prop (runs-it (us.0 ++ (us.1 ++ (us.2 ++ []))) (Walked.post ((κs, qs, z.0.2, a, (us.0, (us.1, (us.2, tt)))), tt)))) (λ i. (e₀ i, e₁ i, e₂ i)) refl $
-        keep ! (4 ∷ 3 ∷ 2 ∷ 0 ∷ []) $ by ! (walk κs qs z.0.2 iF iE iC iS iT p a.1.0.ghost_name a.1.0.now a.0 a.1.1.0 v₀ v₂ ds LF LE LC LS 𝓣 seeds-met makes-met ok₀ ok₂))))))))))
+        keep ! (4 ∷ 3 ∷ 2 ∷ 0 ∷ []) $ by ! (walk κs qs z.0.2 iF iE iC iS iT p a.1.0.ghost_name a.1.0.now a.0 a.1.1.0 v₀ v₂ is_few ds LF LE LC LS 𝓣 seeds-met makes-met ok₀ ok₂)))))))))))
 
 pub new_spec : {M : Type 1} → statement M
 unfolding tables_of
