@@ -15,7 +15,7 @@ use Rattle.circle_relation.specs.StatementOf.{batch_claims}
 use Rattle.circle_relation.specs.declared.run.QueriedWord.{QueriedWord}
 use Rattle.circle_relation.specs.declared.run.QueryValues.{QueryValues}
 use Rattle.circle_relation.specs.declared.error.InputError.{InputError}
-use Rattle.circle_relation.specs.Accepts.{Fields, Setting, Run, Authenticates, HasRounds, HasInputs, matrices, rounds, top, claimed_heights, at_queries, point_among, reduced_from, claims_of, first_pair, folded, round_value, InputsAuthenticate, FirstLayerAuthenticates, RoundsAuthenticate}
+use Rattle.circle_relation.specs.Accepts.{Fields, Setting, Run, Authenticates, HasRounds, HasInputs, matrices, rounds, top, claimed_heights, at_queries, point_among, reduced_from, claims_of, first_pair, folded, round_value, InputsAuthenticate, FirstLayerAuthenticates, RoundsAuthenticate, HoldsWith}
 use Rattle.circle_relation.specs.Reasons.{IsReason}
 
 -- the fields, with the numbers of the parameters
@@ -158,6 +158,11 @@ module _ {F E I W IC ID IP IE WC WD WP WE : Type 0} where
 
       abbrev pub HasRoundsOf : Type 0
       HasRoundsOf = RoundsAuthenticate (setting_in k o) (run_of o) (words o.params.now.mmcs)
+
+      -- all that the relation says of the run once its challenges are drawn
+      abbrev pub Holds : Type 0
+      Holds =
+          HoldsWith (setting_in k o) (run_of o) (inputs o.mmcs.now) (words o.params.now.mmcs)
 
       -- the run is refused for this reason
       abbrev pub Refuses : FriError WE (InputError IE WE) → Type 0

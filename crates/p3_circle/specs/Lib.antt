@@ -1,2 +1,4 @@
 pub mod Refusals
 pub mod Taken
+pub mod Tested
+pub mod Verdict

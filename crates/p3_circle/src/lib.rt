@@ -10,8 +10,10 @@
 #![tactic(auto)]
 
 pub mod pcs;
+pub mod queries;
 mod replay;
 pub mod transcript;
+mod verdict;
 pub mod verifier;
 
 pub use circle_final::{x_interpolate, x_value};

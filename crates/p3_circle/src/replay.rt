@@ -1,17 +1,32 @@
 //! The verifier's side of the transcript: what it is described by, and what it takes in.
-ghost use Rattle.std.specs.Prelude.{◌≡◌, ◌<◌, ◌≤◌, ◌^◌, ◌++◌, ◌⊎◌, map, flat_map, length, All, IfOk, IfErr, OnOk};
+ghost use Rattle.std.specs.Prelude.{◌≡◌, ◌<◌, ◌^◌, ◌++◌, ◌⊎◌, map, flat_map, length, All, IfOk, IfErr, OnOk, Ok};
+ghost use Rattle.circle_commit.specs.declared.error.FriError.TheVariants.{Memory};
 ghost use Rattle.circle_domain.specs.Selectors.{IsFinite};
 ghost use Rattle.circle_relation.specs.Statement.{all_matrices};
+ghost use Rattle.circle_relation.specs.RunOf.{proof_of};
 ghost use Rattle.circle_relation.specs.StatementOf.{point_claim, matrix_claims, batch_claims};
 ghost use Rattle.circle_transcript.specs.Claims.{claims_of};
 ghost use Rattle.circle_transcript.specs.ShapeOf.{matrices_of, batches_of};
+ghost use Rattle.circle_transcript.specs.Runs.{drawn_of};
+ghost use Rattle.p3_circle.specs.Refusals.{is_at_infinity};
 ghost use Rattle.p3_circle.specs.Taken.{widths_by, point_taken, claims_taken};
+ghost use Rattle.p3_circle.specs.Tested.{claimed_top, IsTested};
+ghost use Rattle.p3_circle.specs.Verdict.{drawing, refusal_of, IsMissedIn};
 
-use crate::transcript::OpeningClaim;
-use circle_commit::{CommitmentOpening, MatrixOpening, PointOpening};
+use circle_challenger::{CanObserve, CanSample, GrindingChallenger, RunChallenger};
+use circle_commit::{
+    CommitmentOpening, FriError, FriFoldingStrategy, FriParameters, MatrixOpening, Mmcs,
+    PointOpening,
+};
 use circle_domain::CircleDomain;
-use circle_field::{ComplexExtendable, Field};
+use circle_field::{ComplexExtendable, ExtensionField, Field};
+use circle_folding::CircleFriFolding;
 use circle_point::Point;
+use circle_relation::{CirclePcsProof, InputError};
+use circle_transcript::{
+    CircleDraws, CircleMessages, CirclePcsShape, CircleTranscriptFailure, CircleWitnesses,
+    OpeningClaim, verifier_run,
+};
 use std::alloc::{AllocError, Global};
 
 // The number of values that are claimed of a matrix at each of its points.
@@ -105,4 +120,74 @@ pub(crate) fn opening_claims<'a, F: ComplexExtendable, EF: Field, Com>(
         push_batch(&mut claims, &batch.matrices)?;
     }
     Ok(claims)
+}
+
+// The refusal by which a transcript's failure is answered.
+fn refusal_of<CommitErr, InputErr>(
+    failure: CircleTranscriptFailure,
+) -> FriError<CommitErr, InputErr>
+    ensures { result ≡ refusal_of failure }
+{
+    match failure {
+        CircleTranscriptFailure::PowWitness { phase, .. }
+        | CircleTranscriptFailure::NoWitness { phase, .. } => FriError::InvalidPowWitness(phase),
+        CircleTranscriptFailure::Memory => FriError::Memory,
+    }
+}
+
+/// Plays the transcript of a run that was tested, and draws its challenges: the seed is made of the
+/// claims and the parameters, never of the proof.
+///
+/// Asks the binary logarithm of the greatest height that is claimed. Fails with `InvalidPowWitness`
+/// of the first phase whose witness doesn't pass, and with `Memory` where memory is refused.
+pub(crate) fn replay_transcript<
+    Val: ComplexExtendable,
+    EF: ExtensionField<Val>,
+    InputMmcs: Mmcs<Val>,
+    FriMmcs: Mmcs<EF>,
+    C,
+>(
+    alloc: Global,
+    params: &FriParameters<FriMmcs>,
+    claims: &[CommitmentOpening<EF, InputMmcs::Commitment, CircleDomain<Val>>],
+    proof: &CirclePcsProof<Val, EF, InputMmcs, FriMmcs, Val>,
+    log_max_height: usize,
+    challenger: &mut C,
+) -> Result<
+    CircleDraws<EF>,
+    FriError<FriMmcs::Error, InputError<InputMmcs::Error, FriMmcs::Error>>,
+>
+where
+    C: CanSample<Val> + GrindingChallenger<Val> + CanObserve<FriMmcs::Commitment>,
+    requires tested { IsTested Val.CIRCLE_TWO_ADICITY (λ w. Val.eq w Val.ZERO)
+        (is_at_infinity EF.eq EF.ops) params.now (batch_claims claims.now) (proof_of proof.now) }
+    requires top { log_max_height ≡ claimed_top params.now (batch_claims claims.now) }
+    ensures drawn { let m = ⟦<C as RunChallenger<Val, EF, FriMmcs::Commitment>>⟧.run in
+        let drawn = drawing m params.now EF.ops (batch_claims claims.now) (proof_of proof.now) in
+        IfOk result (λ d. drawn challenger.old
+        ≡ Ok (drawn_of EF.coefficients d (C.state challenger.new))) }
+    ensures below { IfOk result (λ d. All (λ q. q < 2 ^ log_max_height) d.indices.items) }
+    ensures failure { let m = ⟦<C as RunChallenger<Val, EF, FriMmcs::Commitment>>⟧.run in
+        let drawn = drawing m params.now EF.ops (batch_claims claims.now) (proof_of proof.now) in
+        IfErr result (λ e. (e ≡ Memory) ⊎ IsMissedIn (drawn challenger.old) e) }
+{
+    let widths = opened_widths(alloc, claims)?;
+    let extra_bits = FriFoldingStrategy::<Val, EF>::extra_query_index_bits(&CircleFriFolding);
+    let shape = CirclePcsShape::new(params, widths, log_max_height, extra_bits);
+    let fri_proof = &proof.fri_proof;
+    let messages = CircleMessages {
+        first_layer: &proof.first_layer_commitment,
+        commitments: &fri_proof.commit_phase_commits,
+        final_poly: &fri_proof.final_poly,
+    };
+    let witnesses = CircleWitnesses {
+        batch: proof.batch_pow_witness,
+        rounds: Vec::from_slice(alloc, &fri_proof.commit_pow_witnesses)?,
+        query: fri_proof.pow_witness,
+    };
+    let claimed = opening_claims(alloc, claims)?;
+    match verifier_run(alloc, challenger, shape, &claimed, &messages, &witnesses) {
+        Ok(draws) => Ok(draws),
+        Err(failure) => Err(refusal_of(failure)),
+    }
 }

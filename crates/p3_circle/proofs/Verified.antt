@@ -1,0 +1,151 @@
+-- From what is tested, drawn and checked to the relation, and back.
+use Rattle.std.proofs.Common.{◌≡◌, ◌≢◌, ℕ, Bool, true, false, ◌+◌, ◌-◌, ◌≤◌, ◌<◌, List, [], ◌∷◌, length, map, zip, refl, sym, ap, subst, ◌∙◌, arith, zero, suc}
+use Rattle.std.specs.Prelude.{All, Result, Ok, Err, if◌then◌else◌}
+use Rattle.std.proofs.lemmas.List.Elements.{All-weaker}
+use Rattle.circle_challenger.specs.Moves.{RunMoves, is_passed, after_element}
+use Rattle.circle_challenger.proofs.Draws.{length-samples}
+use Rattle.circle_commit.specs.declared.params.FriParameters.{FriParameters}
+use Rattle.circle_commit.specs.declared.params.PowPhase.{PowPhase}
+use Rattle.circle_commit.specs.declared.params.PowPhase.TheVariants.{Batch, CommitPhase, Query}
+use Rattle.circle_domain.specs.Selectors.{IsFinite}
+use Rattle.circle_relation.specs.Statement.{BatchClaim, OpeningProof, Challenges, all_matrices}
+use Rattle.circle_relation.specs.Accepts.{Fields, Setting, Run, Authenticates, HasRounds, HasInputs, HasSiblings, HoldsWith, Accepts, matrices}
+use Rattle.circle_relation.specs.RunOf.{setting_of}
+use Rattle.circle_transcript.specs.declared.transcript.Numbers.{Numbers}
+use Rattle.circle_transcript.specs.Draw.{Taken, Drawn, drawn, draw_seeded, fold_challenges, after_round, claimed, layered, closed, rounds_pass}
+use Rattle.p3_circle.specs.Tested.{IsTested}
+use Rattle.p3_circle.specs.Verdict.{drawn_by}
+
+module _ {F E M Com WordCom InputProof WordProof : Type 0} (k : Fields F E) (two : ℕ) (is_zero : F → Bool) (is_infinite : E → Bool) (p : FriParameters M)
+    (batches : List (BatchClaim Com E)) (proof : OpeningProof F E WordCom InputProof WordProof) (drawn : Challenges E) where
+  abbrev s : Setting F E
+  s = setting_of k p
+
+  abbrev r : Run F E WordCom Com InputProof WordProof
+  r = record { batches = batches; proof = proof; drawn = drawn }
+
+  module _ (count : length drawn.queries ≡ p.num_queries) where
+    pub has_rounds : IsTested two is_zero is_infinite p batches proof → HasRounds s r
+    has_rounds t = record {
+      commitments = t.commitments;
+      witnesses = t.witnesses;
+      opened = t.opened;
+      siblings = All-weaker (λ o. (length o.entries ≡ p.num_queries) × All (λ values. length values ≡ 1) o.entries) (HasSiblings s r 1)
+          (λ o h. (h.0 ∙ sym count, h.1)) proof.rounds_opened t.siblings;
+      final_poly = t.final_poly;
+    }
+
+    pub accepted : {inputs : Authenticates Com F InputProof} {words : Authenticates WordCom E WordProof} →
+        ((w : F) → is_zero w ≡ true → w ≡ k.field.zero) → ((t : E) → is_infinite t ≡ false → IsFinite k.extension t) →
+        IsTested two is_zero is_infinite p batches proof → HasInputs s r → All (λ m. 1 ≤ length m.claims) (matrices s r) →
+        All (λ m. p.log_final_poly_len + 2 ≤ m.log_n) (matrices s r) → HoldsWith s r inputs words → Accepts s r p two inputs words
+    accepted null finite t shape claimed large holds = record {
+      fit = record {
+        some_matrix = t.some_matrix;
+        large = large;
+        in_group = t.in_group;
+        batch_work = t.batch_work;
+        commit_work = t.commit_work;
+        query_work = t.query_work;
+        queries = t.queries;
+        blowup = t.blowup;
+        arity = t.arity;
+        finite = λ i d lt j e lt'. finite _ (t.finite i d lt j e lt');
+        claimed = claimed;
+      };
+      rounds_shape = has_rounds t;
+      inputs_shape = shape;
+      canonical = record {
+        batch = λ none. null proof.batch_witness (t.batch_zero none);
+        commit = λ none. All-weaker (λ w. is_zero w ≡ true) (λ w. w ≡ k.field.zero) null proof.witnesses (t.commit_zero none);
+        query = λ none. null proof.query_witness (t.query_zero none);
+      };
+      holds = holds;
+    }
+
+    pub tested : {inputs : Authenticates Com F InputProof} {words : Authenticates WordCom E WordProof} →
+        ((w : F) → w ≡ k.field.zero → is_zero w ≡ true) → ((t : E) → IsFinite k.extension t → is_infinite t ≡ false) →
+        Accepts s r p two inputs words → IsTested two is_zero is_infinite p batches proof
+    tested null finite a =
+        let f = a.fit in
+        let shape = a.rounds_shape in
+        record {
+          some_matrix = f.some_matrix;
+          large = All-weaker (λ m. p.log_final_poly_len + 2 ≤ m.log_n) (λ m. p.log_final_poly_len + 1 ≤ m.log_n) (λ m h. omega (arith, h)) (all_matrices batches) f.large;
+          in_group = f.in_group;
+          batch_work = f.batch_work;
+          commit_work = f.commit_work;
+          query_work = f.query_work;
+          queries = f.queries;
+          blowup = f.blowup;
+          arity = f.arity;
+          commitments = shape.commitments;
+          witnesses = shape.witnesses;
+          opened = shape.opened;
+          siblings = All-weaker (HasSiblings s r 1) (λ o. (length o.entries ≡ p.num_queries) × All (λ values. length values ≡ 1) o.entries)
+              (λ o h. (h.0 ∙ count, h.1)) proof.rounds_opened shape.siblings;
+          final_poly = shape.final_poly;
+          batch_zero = λ none. null proof.batch_witness (a.canonical.batch none);
+          commit_zero = λ none. All-weaker (λ w. w ≡ k.field.zero) (λ w. is_zero w ≡ true) null proof.witnesses (a.canonical.commit none);
+          query_zero = λ none. null proof.query_witness (a.canonical.query none);
+          finite = λ i d lt j e lt'. finite _ (f.finite i d lt j e lt');
+        }
+
+-- a test that isn't true is false
+pub not_true : (b : Bool) → (b ≡ true → ⊥) → b ≡ false
+not_true true h = absurd (h refl)
+not_true false h = refl
+
+pub false_not : (b : Bool) → b ≡ false → b ≡ true → ⊥
+false_not b negative positive = let both : true ≡ false = sym positive ∙ negative in cc
+
+-- what is drawn
+pick : {S F : Type 0} (a b c : Bool) (d x : Drawn S F) →
+    (if a then (if b then (if c then Ok d else Err Query) else Err CommitPhase) else Err Batch) ≡ Ok x → x ≡ d
+pick true true true d x is = cc
+pick true true false d x is = cc
+pick true false c d x is = cc
+pick false b c d x is = cc
+
+module _ {C S F E Com : Type 0} (m : RunMoves C S F E Com) where
+  length-fold_challenges : (bits : ℕ) (s : S) (rounds : List (Com × F)) → length (fold_challenges m bits s rounds) ≡ length rounds
+  unfolding fold_challenges
+  length-fold_challenges bits s [] = refl
+  length-fold_challenges bits s (round ∷ rounds) = ap suc (length-fold_challenges bits (after_round m bits s round) rounds)
+
+  module _ (n : Numbers) (t : Taken F E Com) (s : S) (x : Drawn S F) (is : draw_seeded m n t s ≡ Ok x) where
+    drawn-is : x ≡ drawn m n t s
+    unfolding draw_seeded
+    drawn-is =
+        pick (is_passed m.base (claimed m n t s) n.batch_pow_bits t.batch_witness)
+        (rounds_pass m n.commit_pow_bits (after_element m.base (layered m n t s)) t.rounds)
+        (is_passed m.base (closed m n t s) n.query_pow_bits t.query_witness) (drawn m n t s) x is
+
+    -- a challenge for each round, and so many queries
+    pub betas-count : length x.betas ≡ length t.rounds
+    betas-count = ap (λ (d : Drawn S F). length d.betas) drawn-is ∙ length-fold_challenges _ _ t.rounds
+
+    pub queries-count : length x.indices ≡ n.num_queries
+    queries-count = ap (λ (d : Drawn S F). length d.indices) drawn-is ∙ length-samples _ _ n.num_queries _
+
+-- challenges are told by their coefficients
+map-told : {F E : Type 0} (coefficients : E → List F) → ((a b : E) → coefficients a ≡ coefficients b → a ≡ b) → (xs ys : List E) → map coefficients xs ≡ map coefficients ys → xs ≡ ys
+map-told f told [] [] same = refl
+map-told f told [] (y ∷ ys) same = cc
+map-told f told (x ∷ xs) [] same = cc
+map-told f told (x ∷ xs) (y ∷ ys) same =
+    let first : f x ≡ f y = cc in
+    let rest : map f xs ≡ map f ys = cc in
+    ap (λ z. z ∷ xs) (told x y first) ∙ ap (λ zs. y ∷ zs) (map-told f told xs ys rest)
+
+pub challenges-told : {S F E : Type 0} (coefficients : E → List F) → ((a b : E) → coefficients a ≡ coefficients b → a ≡ b) → (c d : Challenges E) (s t : S) →
+    drawn_by coefficients c s ≡ drawn_by coefficients d t → c ≡ d
+challenges-told {S = S} {F = F} f told c d s t same =
+    let alpha = told c.alpha d.alpha (ap (λ (x : Drawn S F). x.alpha) same) in
+    let bivariate = told c.bivariate d.bivariate (ap (λ (x : Drawn S F). x.bivariate) same) in
+    let betas = map-told f told c.betas d.betas (ap (λ (x : Drawn S F). x.betas) same) in
+    let queries : c.queries ≡ d.queries = ap (λ (x : Drawn S F). x.indices) same in
+    ap (λ x. record { alpha = x; bivariate = c.bivariate; betas = c.betas; queries = c.queries }) alpha
+    ∙ ap (λ x. record { alpha = d.alpha; bivariate = x; betas = c.betas; queries = c.queries }) bivariate
+    ∙ ap (λ x. record { alpha = d.alpha; bivariate = d.bivariate; betas = x; queries = c.queries }) betas
+    ∙ ap (λ x. record { alpha = d.alpha; bivariate = d.bivariate; betas = d.betas; queries = x }) queries

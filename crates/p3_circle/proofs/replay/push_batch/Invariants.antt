@@ -1,0 +1,11 @@
+use Rattle.std.proofs.Common.{◌≡◌, ◌++◌, length, map, take, flat_map}
+use Rattle.circle_relation.specs.StatementOf.{point_claim, matrix_claims, batch_claims}
+use Rattle.circle_transcript.specs.Claims.{claims_of}
+use Rattle.circle_transcript.specs.ShapeOf.{matrices_of, batches_of}
+use Rattle.p3_circle.specs.Taken.{widths_by, point_taken, claims_taken}
+use Rattle.p3_circle.proofs.replay.push_batch.Given as goal
+
+-- the claims of the matrices so far are there
+abbrev pub invariant-loop-matrix : goal.invariant-loop-matrix
+invariant-loop-matrix g l =
+    claims_of l.claims.items ≡ claims_of l.initial.claims.items ++ flat_map (λ m. map (point_taken g.EF.Operations.ops) m.claims) (matrix_claims (take l.matrix-index l.matrices))

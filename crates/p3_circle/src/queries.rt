@@ -1,0 +1,89 @@
+//! What a verifier checks once the challenges of a run are drawn.
+ghost use Rattle.std.specs.Prelude.{◌≡◌, ◌<◌, ◌^◌, length, All, OnOk, IfErr};
+ghost use Rattle.circle_relation.specs.StatementOf.{batch_claims};
+ghost use Rattle.circle_relation.specs.Accepts.{Accepts};
+ghost use Rattle.circle_relation.specs.Reasons.{IsReason};
+ghost use Rattle.circle_relation.specs.RunOf.{setting_of, proof_of, IsDrawn, IsOpened, Holds, Refuses};
+ghost use Rattle.p3_circle.specs.Refusals.{is_at_infinity};
+ghost use Rattle.p3_circle.specs.Tested.{claimed_top, rounds_due, IsTested};
+ghost use Rattle.p3_circle.specs.Verdict.{challenges_of, run_with};
+
+use circle_commit::{CommitmentOpening, FriError, FriParameters, Mmcs};
+use circle_domain::CircleDomain;
+use circle_field::{ComplexExtendable, ExtensionField};
+use circle_relation::{CirclePcsProof, InputError, OpenedRun, OverCircle};
+use circle_transcript::CircleDraws;
+use std::alloc::Global;
+
+/// Refuses a run by the first of these that fails: the lists of the proof have the lengths that are
+/// due, each batch's rows authenticate, no claimed point is that of a query, the pairs of the first
+/// layer and of each round authenticate, and each query ends in the value of the final polynomial.
+///
+/// Asks a run that was tested before its challenges were drawn. Fails with `Memory` where memory is
+/// refused.
+#[tactic(auto, unfolding(circle_relation::specs::Reasons::IsReason))]
+pub fn verify_queries<
+    Val: ComplexExtendable,
+    EF: ExtensionField<Val>,
+    InputMmcs: Mmcs<Val>,
+    FriMmcs: Mmcs<EF>,
+>(
+    alloc: Global,
+    run: &OpenedRun<Val, EF, InputMmcs, FriMmcs>,
+) -> Result<(), FriError<FriMmcs::Error, InputError<InputMmcs::Error, FriMmcs::Error>>>
+    requires drawn { IsDrawn ⟦<EF as OverCircle<Val>>⟧.fields Val.CIRCLE_TWO_ADICITY run.now }
+    ensures opened { OnOk result (IsOpened ⟦<EF as OverCircle<Val>>⟧.fields run.now) }
+    ensures holds { OnOk result (Holds ⟦<EF as OverCircle<Val>>⟧.fields run.now
+        InputMmcs.authenticates FriMmcs.authenticates) }
+    ensures refused { IfErr result (Refuses ⟦<EF as OverCircle<Val>>⟧.fields run.now
+        InputMmcs.authenticates FriMmcs.authenticates) }
+{
+    Err(FriError::Memory)
+}
+
+/// Refuses a run that was tested, once its challenges are drawn, as [`verify_queries`] does.
+///
+/// Asks the binary logarithm of the greatest height that is claimed, a challenge for each round, as
+/// many queries as the parameters say, and queries below that height.
+pub(crate) fn verify_drawn<
+    Val: ComplexExtendable,
+    EF: ExtensionField<Val>,
+    InputMmcs: Mmcs<Val>,
+    FriMmcs: Mmcs<EF>,
+>(
+    alloc: Global,
+    mmcs: &InputMmcs,
+    params: &FriParameters<FriMmcs>,
+    claims: &[CommitmentOpening<EF, InputMmcs::Commitment, CircleDomain<Val>>],
+    proof: &CirclePcsProof<Val, EF, InputMmcs, FriMmcs, Val>,
+    log_max_height: usize,
+    draws: &CircleDraws<EF>,
+) -> Result<(), FriError<FriMmcs::Error, InputError<InputMmcs::Error, FriMmcs::Error>>>
+    requires tested { IsTested Val.CIRCLE_TWO_ADICITY (λ w. Val.eq w Val.ZERO)
+        (is_at_infinity EF.eq EF.ops) params.now (batch_claims claims.now) (proof_of proof.now) }
+    requires top { log_max_height ≡ claimed_top params.now (batch_claims claims.now) }
+    requires betas { length draws.now.betas.items
+        ≡ rounds_due params.now (batch_claims claims.now) }
+    requires count { length draws.now.indices.items ≡ params.now.num_queries }
+    requires below { All (λ q. q < 2 ^ log_max_height) draws.now.indices.items }
+    ensures accepted { let s = setting_of ⟦<EF as OverCircle<Val>>⟧.fields params.now in
+        let r = run_with claims.now proof.now (challenges_of draws.now) in OnOk result (Accepts s r
+        params.now Val.CIRCLE_TWO_ADICITY (InputMmcs.authenticates mmcs.now)
+        (FriMmcs.authenticates params.now.mmcs)) }
+    ensures refused { let s = setting_of ⟦<EF as OverCircle<Val>>⟧.fields params.now in
+        let r = run_with claims.now proof.now (challenges_of draws.now) in IfErr result (IsReason s
+        r (InputMmcs.authenticates mmcs.now) (FriMmcs.authenticates params.now.mmcs)) }
+{
+    let run = OpenedRun {
+        mmcs,
+        params,
+        claims,
+        proof,
+        log_max_height,
+        alpha: draws.alpha,
+        bivariate: draws.bivariate,
+        betas: &draws.betas,
+        indices: &draws.indices,
+    };
+    verify_queries(alloc, &run)
+}
