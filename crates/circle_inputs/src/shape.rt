@@ -1,10 +1,61 @@
 //! The lengths of what a proof opens of the batches and of the first layer.
 ghost use Rattle.std.specs.Prelude.{◌≡◌, OnOk, IfErr};
 ghost use Rattle.circle_relation.specs.RunOf.{IsDrawn, IsOpened, heights_of, Refuses};
+ghost use Rattle.circle_inputs.specs.Shape.{have_values, rows_fit, opened_fit, inputs_fit, siblings_fit};
 
-use circle_commit::{FriError, Mmcs};
+use circle_commit::{
+    BatchMultiOpening, CommitmentOpening, FriError, MatrixOpening, Mmcs, PointOpening,
+};
 use circle_field::{ComplexExtendable, ExtensionField};
 use circle_relation::{InputError, OpenedRun, OverCircle};
+
+// Whether all claims on a matrix have so many values.
+fn have_values<E>(points: &[PointOpening<E>], count: usize) -> bool
+    ensures { result ≡ have_values points.now count }
+{
+    points.iter().all(|p| p.values.len() == count)
+}
+
+// Whether there is a row of each matrix, as long as the claims of its values.
+fn rows_fit<E, D, T>(matrices: &[MatrixOpening<E, D>], rows: &[Vec<T>]) -> bool
+    ensures { result ≡ rows_fit matrices.now rows.now }
+{
+    rows.len() == matrices.len()
+        && matrices.iter().zip(rows).all(|(m, row)| have_values(&m.points, row.len()))
+}
+
+// Whether there are such rows for each query.
+fn opened_fit<E, D, T>(
+    num_queries: usize,
+    matrices: &[MatrixOpening<E, D>],
+    opened: &[Vec<Vec<T>>],
+) -> bool
+    ensures { result ≡ opened_fit num_queries matrices.now opened.now }
+{
+    opened.len() == num_queries && opened.iter().all(|rows| rows_fit(matrices, rows))
+}
+
+// Whether there are such rows of each batch.
+fn inputs_fit<E, Com, D, T: Copy, M: Mmcs<T>>(
+    num_queries: usize,
+    claims: &[CommitmentOpening<E, Com, D>],
+    inputs: &[BatchMultiOpening<T, M>],
+) -> bool
+    ensures { result ≡ inputs_fit num_queries claims.now inputs.now }
+{
+    inputs.len() == claims.len()
+        && claims
+            .iter()
+            .zip(inputs)
+            .all(|(b, o)| opened_fit(num_queries, &b.matrices, &o.opened_values))
+}
+
+// Whether there are so many siblings for each query.
+fn siblings_fit<T>(num_queries: usize, count: usize, siblings: &[Vec<T>]) -> bool
+    ensures { result ≡ siblings_fit num_queries count siblings.now }
+{
+    siblings.len() == num_queries && siblings.iter().all(|s| s.len() == count)
+}
 
 /// Refuses a run whose proof opens other numbers of batches, rows, entries, siblings or lambdas than
 /// the claims and the queries fix (`InputShapeError`), a matrix that is claimed at no point
