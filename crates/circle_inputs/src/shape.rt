@@ -1,6 +1,7 @@
 //! The lengths of what a proof opens of the batches and of the first layer.
-ghost use Rattle.std.specs.Prelude.{◌≡◌, OnOk, IfErr};
-ghost use Rattle.circle_relation.specs.RunOf.{IsDrawn, IsOpened, heights_of, Refuses};
+ghost use Rattle.std.specs.Prelude.{◌≡◌, ◌↔◌, IsTrue, OnOk, IfErr, length};
+ghost use Rattle.circle_relation.specs.Accepts.{HasInputs};
+ghost use Rattle.circle_relation.specs.RunOf.{setting_in, run_of, IsDrawn, IsOpened, heights_of, Refuses};
 ghost use Rattle.circle_inputs.specs.Shape.{have_values, rows_fit, opened_fit, inputs_fit, siblings_fit};
 
 use circle_commit::{
@@ -55,6 +56,28 @@ fn siblings_fit<T>(num_queries: usize, count: usize, siblings: &[Vec<T>]) -> boo
     ensures { result ≡ siblings_fit num_queries count siblings.now }
 {
     siblings.len() == num_queries && siblings.iter().all(|s| s.len() == count)
+}
+
+// Whether the lists that a proof opens of the batches and of the first layer have the lengths that
+// the claims and the queries fix.
+fn has_inputs<
+    Val: ComplexExtendable,
+    EF: ExtensionField<Val>,
+    InputMmcs: Mmcs<Val>,
+    FriMmcs: Mmcs<EF>,
+>(
+    run: &OpenedRun<Val, EF, InputMmcs, FriMmcs>,
+    num_heights: usize,
+) -> bool
+    requires { num_heights ≡ length (heights_of ⟦<EF as OverCircle<Val>>⟧.fields run.now) }
+    ensures { let k = ⟦<EF as OverCircle<Val>>⟧.fields in
+        IsTrue result ↔ HasInputs (setting_in k run.now) (run_of run.now) }
+{
+    let num_queries = run.indices.len();
+    let inputs = &run.proof.fri_proof.input_openings;
+    inputs_fit(num_queries, run.claims, &inputs.input_openings)
+        && siblings_fit(num_queries, num_heights, &inputs.first_layer_siblings)
+        && run.proof.lambdas.len() == num_heights
 }
 
 /// Refuses a run whose proof opens other numbers of batches, rows, entries, siblings or lambdas than
