@@ -1,2 +1,4 @@
 pub mod Claimed
 pub mod Lengths
+pub mod Points
+pub mod Sizes

@@ -1,9 +1,14 @@
 //! The lengths of what a proof opens of the batches and of the first layer.
-ghost use Rattle.std.specs.Prelude.{◌≡◌, ◌↔◌, IsTrue, OnOk, IfErr, length};
+ghost use Rattle.std.specs.Prelude.{◌≡◌, ◌+◌, ◌≤◌, ◌==◌, ◌↔◌};
+ghost use Rattle.std.specs.Prelude.{IsTrue, OnOk, IfErr, All, length, vec_len};
+ghost use Rattle.std.specs.List.{position};
+ghost use Rattle.circle_relation.specs.Statement.{all_matrices};
+ghost use Rattle.circle_relation.specs.StatementOf.{batch_claims};
 ghost use Rattle.circle_relation.specs.Accepts.{HasInputs};
 ghost use Rattle.circle_relation.specs.RunOf.{setting_in, run_of, IsDrawn, IsOpened, heights_of, Refuses};
 ghost use Rattle.circle_inputs.specs.Shape.{have_values, rows_fit, opened_fit, inputs_fit, siblings_fit};
 
+use crate::heights::has_domain;
 use circle_commit::{
     BatchMultiOpening, CommitmentOpening, FriError, MatrixOpening, Mmcs, PointOpening,
 };
@@ -80,6 +85,63 @@ fn has_inputs<
         && run.proof.lambdas.len() == num_heights
 }
 
+// The first of a batch's matrices that is claimed at no point.
+fn first_unclaimed<E, D>(matrices: &[MatrixOpening<E, D>]) -> Option<usize>
+    ensures { result ≡ position (λ m. vec_len m.points == 0) matrices.now }
+{
+    matrices.iter().position(|m| m.points.is_empty())
+}
+
+// Refuses the first matrix that is claimed at no point.
+#[tactic(auto, unfolding(circle_relation::specs::Reasons::IsReason))]
+fn check_points<
+    Val: ComplexExtendable,
+    EF: ExtensionField<Val>,
+    InputMmcs: Mmcs<Val>,
+    FriMmcs: Mmcs<EF>,
+>(
+    run: &OpenedRun<Val, EF, InputMmcs, FriMmcs>,
+) -> Result<(), FriError<FriMmcs::Error, InputError<InputMmcs::Error, FriMmcs::Error>>>
+    ensures claimed { OnOk result
+        (All (λ m. 1 ≤ length m.claims) (all_matrices (batch_claims run.now.claims.now))) }
+    ensures refused { IfErr result (Refuses ⟦<EF as OverCircle<Val>>⟧.fields run.now
+        InputMmcs.authenticates FriMmcs.authenticates) }
+{
+    for (batch, claim) in run.claims.iter().enumerate() {
+        if let Some(matrix) = first_unclaimed(&claim.matrices) {
+            let unclaimed = InputError::MatrixWithoutOpeningPoints { batch, matrix };
+            return Err(FriError::InputError(unclaimed));
+        }
+    }
+    Ok(())
+}
+
+// Refuses a domain on which nothing is left to fold.
+#[tactic(auto, unfolding(circle_relation::specs::Reasons::IsReason))]
+fn check_sizes<
+    Val: ComplexExtendable,
+    EF: ExtensionField<Val>,
+    InputMmcs: Mmcs<Val>,
+    FriMmcs: Mmcs<EF>,
+>(
+    run: &OpenedRun<Val, EF, InputMmcs, FriMmcs>,
+) -> Result<(), FriError<FriMmcs::Error, InputError<InputMmcs::Error, FriMmcs::Error>>>
+    requires drawn { IsDrawn ⟦<EF as OverCircle<Val>>⟧.fields Val.CIRCLE_TWO_ADICITY run.now }
+    ensures large { OnOk result (All (λ m. run.now.params.now.log_final_poly_len + 2 ≤ m.log_n)
+        (all_matrices (batch_claims run.now.claims.now))) }
+    ensures refused { IfErr result (Refuses ⟦<EF as OverCircle<Val>>⟧.fields run.now
+        InputMmcs.authenticates FriMmcs.authenticates) }
+{
+    let next_log_height = run.params.log_blowup + run.params.log_final_poly_len;
+    if has_domain(run.claims, run.params.log_final_poly_len + 1) {
+        return Err(FriError::UnconsumedReducedOpenings {
+            next_log_height,
+            remaining: 1,
+        });
+    }
+    Ok(())
+}
+
 /// Refuses a run whose proof opens other numbers of batches, rows, entries, siblings or lambdas than
 /// the claims and the queries fix (`InputShapeError`), a matrix that is claimed at no point
 /// (`MatrixWithoutOpeningPoints`), and a domain on which nothing is left to fold
@@ -87,6 +149,7 @@ fn has_inputs<
 ///
 /// Asks a run that was tested before its challenges were drawn, and the heights that are claimed.
 /// Takes no memory.
+#[tactic(auto, unfolding(circle_relation::specs::Reasons::IsReason))]
 pub fn validate_input_shape<
     Val: ComplexExtendable,
     EF: ExtensionField<Val>,
@@ -102,5 +165,9 @@ pub fn validate_input_shape<
     ensures refused { IfErr result (Refuses ⟦<EF as OverCircle<Val>>⟧.fields run.now
         InputMmcs.authenticates FriMmcs.authenticates) }
 {
-    Err(FriError::InputError(InputError::InputShapeError))
+    if !has_inputs(run, heights.len()) {
+        return Err(FriError::InputError(InputError::InputShapeError));
+    }
+    check_points(run)?;
+    check_sizes(run)
 }
