@@ -1,11 +1,88 @@
 //! The rows that a proof opens of the committed batches.
-ghost use Rattle.std.specs.Prelude.{OnOk, IfErr};
+ghost use Rattle.std.specs.Prelude.{◌≡◌, ◌+◌, ◌/◌, ◌^◌, ◌≤◌, if◌then◌else◌};
+ghost use Rattle.std.specs.Prelude.{map, All, OnOk, IfOk, IfErr};
+ghost use Rattle.circle_domain.specs.Domain.{log_size};
+ghost use Rattle.circle_relation.specs.Accepts.{InputAuthenticates};
+ghost use Rattle.circle_relation.specs.RunOf.{setting_in, run_of, opened_batch};
 ghost use Rattle.circle_relation.specs.RunOf.{IsDrawn, IsOpened, HasInputsOf, Refuses};
+ghost use Rattle.circle_relation.specs.Statement.{log_max_height};
+ghost use Rattle.circle_relation.specs.StatementOf.{matrix_claim, matrix_claims, batch_claim};
+ghost use Rattle.circle_inputs.specs.Batches.{claimed_width, claimed_shape, RefusesRows};
 
-use circle_commit::{FriError, Mmcs};
+use circle_commit::{
+    BatchMultiOpening, CommitmentOpening, Dimensions, FriError, MatrixOpening, Mmcs,
+};
+use circle_domain::CircleDomain;
 use circle_field::{ComplexExtendable, ExtensionField};
 use circle_relation::{InputError, OpenedRun, OverCircle};
-use std::alloc::Global;
+use std::alloc::{AllocError, Global};
+
+// The greatest logarithm of a height of a batch's matrices, or 0 where there is none.
+fn log_max_height<F: ComplexExtendable, E>(
+    log_blowup: usize,
+    matrices: &[MatrixOpening<E, CircleDomain<F>>],
+) -> usize
+    requires { All (λ m. log_size m.domain + log_blowup ≤ 62) matrices.now }
+    ensures { result ≡ log_max_height log_blowup (matrix_claims matrices.now) }
+{
+    let mut greatest = 0;
+    for matrix in matrices {
+        greatest = greatest.max(matrix.domain.log_n() + log_blowup);
+    }
+    greatest
+}
+
+// The number of values of the first claim on a matrix, or 0 where there is none.
+fn claimed_width<F: ComplexExtendable, E>(matrix: &MatrixOpening<E, CircleDomain<F>>) -> usize
+    ensures { result ≡ claimed_width (matrix_claim matrix.now) }
+{
+    match matrix.points.first() {
+        Some(point) => point.values.len(),
+        None => 0,
+    }
+}
+
+// The shapes of a batch's matrices.
+fn claimed_shapes<F: ComplexExtendable, E>(
+    alloc: Global,
+    log_blowup: usize,
+    matrices: &[MatrixOpening<E, CircleDomain<F>>],
+) -> Result<Vec<Dimensions>, AllocError>
+    requires { All (λ m. log_size m.domain + log_blowup ≤ 62) matrices.now }
+    ensures { IfOk result (λ shapes. shapes.items
+        ≡ map (claimed_shape log_blowup) (matrix_claims matrices.now)) }
+{
+    let mut shapes = Vec::with_capacity(alloc, matrices.len())?;
+    for matrix in matrices {
+        shapes.push(Dimensions {
+            width: claimed_width(matrix),
+            height: 1 << (matrix.domain.log_n() + log_blowup),
+        })?;
+    }
+    Ok(shapes)
+}
+
+// The queries without so many of their lowest bits.
+fn shifted(alloc: Global, indices: &[usize], bits: usize) -> Result<Vec<usize>, AllocError>
+    requires { bits ≤ 62 }
+    ensures { IfOk result (λ places. places.items ≡ map (λ q. q / 2 ^ bits) indices.now) }
+{
+    indices.iter().map(|index| *index >> bits).collect(alloc)
+}
+
+// What a scheme's refusal of a batch's rows is answered as.
+fn refusal<T: Copy, M: Mmcs<T>, WordsErr>(
+    error: M::Error,
+) -> FriError<WordsErr, InputError<M::Error, WordsErr>>
+    ensures { result ≡ (if M.is_memory error then FriError.Memory
+        else FriError.InputError (InputError.InputMmcsError error)) }
+{
+    if M::is_memory(&error) {
+        FriError::Memory
+    } else {
+        FriError::InputError(InputError::InputMmcsError(error))
+    }
+}
 
 /// Refuses a run of which the rows of some batch don't authenticate at the queries, by
 /// `InputMmcsError`. The shapes of a batch's matrices are the numbers of values that are claimed at
