@@ -84,6 +84,46 @@ fn refusal<T: Copy, M: Mmcs<T>, WordsErr>(
     }
 }
 
+// Refuses a batch of which the rows don't authenticate at the queries.
+fn authenticate_batch<
+    Val: ComplexExtendable,
+    EF: ExtensionField<Val>,
+    InputMmcs: Mmcs<Val>,
+    FriMmcs: Mmcs<EF>,
+>(
+    alloc: Global,
+    run: &OpenedRun<Val, EF, InputMmcs, FriMmcs>,
+    batch: &CommitmentOpening<EF, InputMmcs::Commitment, CircleDomain<Val>>,
+    opening: &BatchMultiOpening<Val, InputMmcs>,
+) -> Result<(), FriError<FriMmcs::Error, InputError<InputMmcs::Error, FriMmcs::Error>>>
+    requires drawn { IsDrawn ⟦<EF as OverCircle<Val>>⟧.fields Val.CIRCLE_TWO_ADICITY run.now }
+    requires heights { All (λ m. log_size m.domain + run.now.params.now.log_blowup
+        ≤ run.now.log_max_height) batch.now.matrices.items }
+    ensures shown { let k = ⟦<EF as OverCircle<Val>>⟧.fields in
+        OnOk result (InputAuthenticates (setting_in k run.now) (run_of run.now)
+        (InputMmcs.authenticates run.now.mmcs.now) (batch_claim batch.now, opened_batch opening.now)) }
+    ensures refused { let k = ⟦<EF as OverCircle<Val>>⟧.fields in
+        IfErr result (RefusesRows (InputAuthenticates (setting_in k run.now) (run_of run.now)
+        (InputMmcs.authenticates run.now.mmcs.now) (batch_claim batch.now, opened_batch opening.now))) }
+{
+    let log_blowup = run.params.log_blowup;
+    let shapes = claimed_shapes(alloc, log_blowup, &batch.matrices)?;
+    let height = log_max_height(log_blowup, &batch.matrices);
+    let places = shifted(alloc, run.indices, run.log_max_height - height)?;
+    let verified = run.mmcs.verify_multi_batch(
+        alloc,
+        &batch.commitment,
+        &shapes,
+        &places,
+        &opening.opened_values,
+        &opening.opening_proof,
+    );
+    match verified {
+        Ok(()) => Ok(()),
+        Err(error) => Err(refusal::<Val, InputMmcs, FriMmcs::Error>(error)),
+    }
+}
+
 /// Refuses a run of which the rows of some batch don't authenticate at the queries, by
 /// `InputMmcsError`. The shapes of a batch's matrices are the numbers of values that are claimed at
 /// their first points, and the claimed heights; its rows stand at the queries without the bits by
@@ -107,5 +147,9 @@ pub fn authenticate_inputs<
     ensures refused { IfErr result (Refuses ⟦<EF as OverCircle<Val>>⟧.fields run.now
         InputMmcs.authenticates FriMmcs.authenticates) }
 {
-    Err(FriError::Memory)
+    let inputs = &run.proof.fri_proof.input_openings.input_openings;
+    for (batch, opening) in run.claims.iter().zip(inputs) {
+        authenticate_batch(alloc, run, batch, opening)?;
+    }
+    Ok(())
 }
