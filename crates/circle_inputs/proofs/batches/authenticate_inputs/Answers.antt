@@ -14,7 +14,7 @@ authenticate_batch-requires-clause-heights g c =
     let run = c.args.run.now in
     let claims = run.claims.now in
     let opened = run.proof.now.fri_proof.input_openings.input_openings.items in
-    let turn = zip_turn claims opened c.loop-batch.yielded _ _ _ _ cc cc c.loop-batch.yielded_by _ c.in-Some.is c.next.ensures.steps in
+    let turn = zip_turn claims opened c.loop-batch.yielded _ _ c.next.new.self _ (cc) (cc) c.loop-batch.yielded_by _ c.in-Some.is c.next.ensures.steps in
     let b = c.in-Some.batch.now in
     let most : log_max_height run.params.now.log_blowup (all_matrices (batch_claims claims)) ≤ run.log_max_height = omega (arith, c.requires.drawn.top) in
     batch-within run.params.now.log_blowup run.log_max_height claims (length c.loop-batch.yielded) b most turn.0 (turn.2 b)
@@ -22,12 +22,13 @@ authenticate_batch-requires-clause-heights g c =
 pub loop-batch-preserved : goal.loop-batch-preserved
 loop-batch-preserved g c =
     let run = c.args.run.now in
+    let k : Fields g.row.Val.Denot g.row.EF.Denot = record { field = g.Val.Operations.ops; gen = g.Val.ComplexExtendable.generators; extension = g.EF.Operations.ops; embed = g.EF.ExtensionField.embed } in
     let claims = run.claims.now in
     let opened = run.proof.now.fri_proof.input_openings.input_openings.items in
-    let turn = zip_turn claims opened c.loop-batch.yielded _ _ _ _ cc cc c.loop-batch.yielded_by _ c.in-Some.is c.next.ensures.steps in
+    let turn = zip_turn claims opened c.loop-batch.yielded _ _ c.next.new.self _ (cc) (cc) c.loop-batch.yielded_by _ c.in-Some.is c.next.ensures.steps in
     let b = c.in-Some.batch.now in
     let o = c.in-Some.opening.now in
-    pair-more batch_claim opened_batch claims opened _ (length c.loop-batch.yielded) b o turn.0 turn.1 (turn.2 b) (turn.3 o) _ (length_push c.loop-batch.yielded (c.in-Some.batch, c.in-Some.opening))
+    pair-more batch_claim opened_batch claims opened (InputAuthenticates (setting_in k run) (run_of run) (g.InputMmcs.Mmcs.authenticates run.mmcs.now)) (length c.loop-batch.yielded) b o turn.0 turn.1 (turn.2 b) (turn.3 o) _ (length_push c.loop-batch.yielded (c.in-Some.batch, c.in-Some.opening))
     c.loop-batch.invariant c.in_ok-authenticate_batch.ensures.shown
 
 pub returns-in_err-authenticate_batch-clause-refused : goal.returns-in_err-authenticate_batch-clause-refused
@@ -39,7 +40,7 @@ returns-in_err-authenticate_batch-clause-refused g c =
     let A = g.InputMmcs.Mmcs.authenticates run.mmcs.now in
     let claims = run.claims.now in
     let opened = run.proof.now.fri_proof.input_openings.input_openings.items in
-    let turn = zip_turn claims opened c.loop-batch.yielded _ _ _ _ cc cc c.loop-batch.yielded_by _ c.in-Some.is c.next.ensures.steps in
+    let turn = zip_turn claims opened c.loop-batch.yielded _ _ c.next.new.self _ (cc) (cc) c.loop-batch.yielded_by _ c.in-Some.is c.next.ensures.steps in
     let b = c.in-Some.batch.now in
     let o = c.in-Some.opening.now in
     handed-on (Refuses k run g.InputMmcs.Mmcs.authenticates g.FriMmcs.Mmcs.authenticates) c.from_residual.result c.in_err-authenticate_batch.field-0.0 c.from_residual.ensures.1
@@ -53,7 +54,7 @@ returns-clause-shown g c =
     let k : Fields g.row.Val.Denot g.row.EF.Denot = record { field = g.Val.Operations.ops; gen = g.Val.ComplexExtendable.generators; extension = g.EF.Operations.ops; embed = g.EF.ExtensionField.embed } in
     let claims = run.claims.now in
     let opened = run.proof.now.fri_proof.input_openings.input_openings.items in
-    let last = zip_end claims opened c.loop-batch.yielded _ _ _ _ cc cc c.loop-batch.yielded_by c.in-None.is c.next.ensures.steps in
+    let last = zip_end claims opened c.loop-batch.yielded _ _ c.next.new.self _ (cc) (cc) c.loop-batch.yielded_by c.in-None.is c.next.ensures.steps in
     let pairs = zip (batch_claims claims) (map opened_batch opened) in
     subst (All (InputAuthenticates (setting_in k run) (run_of run) (g.InputMmcs.Mmcs.authenticates run.mmcs.now)))
     (take_all (length c.loop-batch.yielded) pairs (omega (arith, last, pairs-length batch_claim opened_batch claims opened))) c.loop-batch.invariant
