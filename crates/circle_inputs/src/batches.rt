@@ -2,12 +2,10 @@
 ghost use Rattle.std.specs.Prelude.{◌≡◌, ◌+◌, ◌/◌, ◌^◌, ◌≤◌, if◌then◌else◌};
 ghost use Rattle.std.specs.Prelude.{map, All, OnOk, IfOk, IfErr};
 ghost use Rattle.circle_domain.specs.Domain.{log_size};
-ghost use Rattle.circle_relation.specs.Accepts.{InputAuthenticates};
-ghost use Rattle.circle_relation.specs.RunOf.{setting_in, run_of, opened_batch};
 ghost use Rattle.circle_relation.specs.RunOf.{IsDrawn, IsOpened, HasInputsOf, Refuses};
 ghost use Rattle.circle_relation.specs.Statement.{log_max_height};
-ghost use Rattle.circle_relation.specs.StatementOf.{matrix_claim, matrix_claims, batch_claim};
-ghost use Rattle.circle_inputs.specs.Batches.{claimed_width, claimed_shape, RefusesRows};
+ghost use Rattle.circle_relation.specs.StatementOf.{matrix_claim, matrix_claims};
+ghost use Rattle.circle_inputs.specs.Batches.{claimed_width, claimed_shape, AreShown, RefusesRows};
 
 use circle_commit::{
     BatchMultiOpening, CommitmentOpening, Dimensions, FriError, MatrixOpening, Mmcs,
@@ -99,12 +97,10 @@ fn authenticate_batch<
     requires drawn { IsDrawn ⟦<EF as OverCircle<Val>>⟧.fields Val.CIRCLE_TWO_ADICITY run.now }
     requires heights { All (λ m. log_size m.domain + run.now.params.now.log_blowup
         ≤ run.now.log_max_height) batch.now.matrices.items }
-    ensures shown { let k = ⟦<EF as OverCircle<Val>>⟧.fields in
-        OnOk result (InputAuthenticates (setting_in k run.now) (run_of run.now)
-        (InputMmcs.authenticates run.now.mmcs.now) (batch_claim batch.now, opened_batch opening.now)) }
-    ensures refused { let k = ⟦<EF as OverCircle<Val>>⟧.fields in
-        IfErr result (RefusesRows (InputAuthenticates (setting_in k run.now) (run_of run.now)
-        (InputMmcs.authenticates run.now.mmcs.now) (batch_claim batch.now, opened_batch opening.now))) }
+    ensures shown { OnOk result (AreShown ⟦<EF as OverCircle<Val>>⟧.fields run.now
+        InputMmcs.authenticates batch.now opening.now) }
+    ensures refused { IfErr result (RefusesRows (AreShown ⟦<EF as OverCircle<Val>>⟧.fields run.now
+        InputMmcs.authenticates batch.now opening.now)) }
 {
     let log_blowup = run.params.log_blowup;
     let shapes = claimed_shapes(alloc, log_blowup, &batch.matrices)?;

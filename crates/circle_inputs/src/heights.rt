@@ -43,10 +43,7 @@ fn is_claimed<
     EF: ExtensionField<Val>,
     InputMmcs: Mmcs<Val>,
     FriMmcs: Mmcs<EF>,
->(
-    run: &OpenedRun<Val, EF, InputMmcs, FriMmcs>,
-    log_height: usize,
-) -> bool
+>(run: &OpenedRun<Val, EF, InputMmcs, FriMmcs>, log_height: usize) -> bool
     ensures { let k = ⟦<EF as OverCircle<Val>>⟧.fields in
         result ≡ is_claimed (setting_in k run.now) (run_of run.now) log_height }
 {
@@ -62,10 +59,7 @@ pub fn claimed_heights<
     EF: ExtensionField<Val>,
     InputMmcs: Mmcs<Val>,
     FriMmcs: Mmcs<EF>,
->(
-    alloc: Global,
-    run: &OpenedRun<Val, EF, InputMmcs, FriMmcs>,
-) -> Result<Vec<usize>, AllocError>
+>(alloc: Global, run: &OpenedRun<Val, EF, InputMmcs, FriMmcs>) -> Result<Vec<usize>, AllocError>
     requires drawn { IsDrawn ⟦<EF as OverCircle<Val>>⟧.fields Val.CIRCLE_TWO_ADICITY run.now }
     ensures { IfOk result (λ v. v.items ≡ heights_of ⟦<EF as OverCircle<Val>>⟧.fields run.now) }
 {

@@ -27,7 +27,10 @@ fn rows_fit<E, D, T>(matrices: &[MatrixOpening<E, D>], rows: &[Vec<T>]) -> bool
     ensures { result ≡ rows_fit matrices.now rows.now }
 {
     rows.len() == matrices.len()
-        && matrices.iter().zip(rows).all(|(m, row)| have_values(&m.points, row.len()))
+        && matrices
+            .iter()
+            .zip(rows)
+            .all(|(m, row)| have_values(&m.points, row.len()))
 }
 
 // Whether there are such rows for each query.
@@ -50,10 +53,11 @@ fn inputs_fit<E, Com, D, T: Copy, M: Mmcs<T>>(
     ensures { result ≡ inputs_fit num_queries claims.now inputs.now }
 {
     inputs.len() == claims.len()
-        && claims
-            .iter()
-            .zip(inputs)
-            .all(|(b, o)| opened_fit(num_queries, &b.matrices, &o.opened_values))
+        && claims.iter().zip(inputs).all(|(b, o)| opened_fit(
+            num_queries,
+            &b.matrices,
+            &o.opened_values,
+        ))
 }
 
 // Whether there are so many siblings for each query.
@@ -70,10 +74,7 @@ fn has_inputs<
     EF: ExtensionField<Val>,
     InputMmcs: Mmcs<Val>,
     FriMmcs: Mmcs<EF>,
->(
-    run: &OpenedRun<Val, EF, InputMmcs, FriMmcs>,
-    num_heights: usize,
-) -> bool
+>(run: &OpenedRun<Val, EF, InputMmcs, FriMmcs>, num_heights: usize) -> bool
     requires { num_heights ≡ length (heights_of ⟦<EF as OverCircle<Val>>⟧.fields run.now) }
     ensures { let k = ⟦<EF as OverCircle<Val>>⟧.fields in
         IsTrue result ↔ HasInputs (setting_in k run.now) (run_of run.now) }
@@ -142,8 +143,8 @@ fn check_sizes<
     Ok(())
 }
 
-/// Refuses a run whose proof opens other numbers of batches, rows, entries, siblings or lambdas than
-/// the claims and the queries fix (`InputShapeError`), a matrix that is claimed at no point
+/// Refuses a run whose proof opens other numbers of batches, rows, entries, siblings or lambdas
+/// than the claims and the queries fix (`InputShapeError`), a matrix that is claimed at no point
 /// (`MatrixWithoutOpeningPoints`), and a domain on which nothing is left to fold
 /// (`UnconsumedReducedOpenings`).
 ///

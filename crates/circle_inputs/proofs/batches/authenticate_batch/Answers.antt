@@ -1,6 +1,6 @@
-use Rattle.std.proofs.Common.{◌≡◌, ℕ, ◌-◌, ◌/◌, ◌^◌, ◌≤◌, ◌∙◌, true, map, sym, ap, subst, arith}
+use Rattle.std.proofs.Common.{◌≡◌, ◌∙◌, map, sym, ap, subst, arith}
 use Rattle.circle_commit.specs.Mmcs.{opened_rows}
-use Rattle.circle_relation.specs.Accepts.{Fields, InputAuthenticates, top}
+use Rattle.circle_relation.specs.Accepts.{Fields, InputAuthenticates}
 use Rattle.circle_relation.specs.RunOf.{setting_in, run_of, opened_batch}
 use Rattle.circle_relation.specs.Statement.{log_max_height}
 use Rattle.circle_relation.specs.StatementOf.{matrix_claims, batch_claim}

@@ -1,4 +1,4 @@
-use Rattle.std.proofs.Common.{◌≡◌, ◌≤◌, ◌∙◌, length, take, sym, ap, subst, refl, arith}
+use Rattle.std.proofs.Common.{◌≤◌, length, subst, arith}
 use Rattle.std.specs.Prelude.{All, map, zip}
 use Rattle.std.proofs.lemmas.List.{take_all, length_push}
 use Rattle.std.proofs.lemmas.Slice.Zip.{zip_turn, zip_end}

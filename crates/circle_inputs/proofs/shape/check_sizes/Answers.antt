@@ -1,4 +1,4 @@
-use Rattle.std.proofs.Common.{◌≡◌, ◌==◌, ◌+◌, ◌≤◌, ◌∙◌, true, false, sym, refl, arith}
+use Rattle.std.proofs.Common.{◌==◌, ◌+◌, ◌∙◌, sym, refl, arith}
 use Rattle.circle_relation.specs.Statement.{all_matrices}
 use Rattle.circle_relation.specs.StatementOf.{batch_claims}
 use Rattle.circle_relation.specs.Reasons.{IsReason}

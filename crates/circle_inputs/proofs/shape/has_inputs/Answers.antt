@@ -12,8 +12,8 @@ returns-then-siblings_fit g c =
     let k : Fields g.row.Val.Denot g.row.EF.Denot = record { field = g.Val.Operations.ops; gen = g.Val.ComplexExtendable.generators; extension = g.EF.Operations.ops; embed = g.EF.ExtensionField.embed } in
     let rows : rows_test k run n ≡ c.inputs_fit.result = ap (inputs_fit _ run.claims.now) (sym c.deref.ensures.value) ∙ sym c.inputs_fit.ensures in
     let joined : (rows_test k run n && (siblings_test k run n && lambdas_test k run n)) ≡ lambdas_test k run n = elim c.if-inputs_fit.branch [
-    | then-inputs_fit w ↦ all-pass _ _ (lambdas_test k run n) (rows ∙ w.if-inputs_fit.true) (ap (siblings_fit _ n) (sym w.deref-then-inputs_fit.ensures.value) ∙ sym w.siblings_fit.ensures ∙ sym w.value-is ∙ c.if-siblings_fit.true)
-    | else-inputs_fit w ↦ absurd (let no : true ≡ false = sym c.if-siblings_fit.true ∙ w.value-is ∙ w.if-inputs_fit.false in cc)
+      | then-inputs_fit w ↦ all-pass _ _ (lambdas_test k run n) (rows ∙ w.if-inputs_fit.true) (ap (siblings_fit _ n) (sym w.deref-then-inputs_fit.ensures.value) ∙ sym w.siblings_fit.ensures ∙ sym w.value-is ∙ c.if-siblings_fit.true)
+      | else-inputs_fit w ↦ absurd (let no : true ≡ false = sym c.if-siblings_fit.true ∙ w.value-is ∙ w.if-inputs_fit.false in cc)
     ] in
     run-decides k run n _ c.requires (joined ∙ ap (λ m. m == n) (sym c.len.ensures))
 
@@ -24,7 +24,7 @@ returns-else-siblings_fit g c =
     let k : Fields g.row.Val.Denot g.row.EF.Denot = record { field = g.Val.Operations.ops; gen = g.Val.ComplexExtendable.generators; extension = g.EF.Operations.ops; embed = g.EF.ExtensionField.embed } in
     let rows : rows_test k run n ≡ c.inputs_fit.result = ap (inputs_fit _ run.claims.now) (sym c.deref.ensures.value) ∙ sym c.inputs_fit.ensures in
     let joined : (rows_test k run n && (siblings_test k run n && lambdas_test k run n)) ≡ false = elim c.if-inputs_fit.branch [
-    | then-inputs_fit w ↦ second-fails _ _ (lambdas_test k run n) (rows ∙ w.if-inputs_fit.true) (ap (siblings_fit _ n) (sym w.deref-then-inputs_fit.ensures.value) ∙ sym w.siblings_fit.ensures ∙ sym w.value-is ∙ c.if-siblings_fit.false)
-    | else-inputs_fit w ↦ first-fails _ (siblings_test k run n) (lambdas_test k run n) (rows ∙ w.if-inputs_fit.false)
+      | then-inputs_fit w ↦ second-fails _ _ (lambdas_test k run n) (rows ∙ w.if-inputs_fit.true) (ap (siblings_fit _ n) (sym w.deref-then-inputs_fit.ensures.value) ∙ sym w.siblings_fit.ensures ∙ sym w.value-is ∙ c.if-siblings_fit.false)
+      | else-inputs_fit w ↦ first-fails _ (siblings_test k run n) (lambdas_test k run n) (rows ∙ w.if-inputs_fit.false)
     ] in
     run-decides k run n _ c.requires (joined ∙ sym c.if-siblings_fit.false)
