@@ -11,7 +11,7 @@ use Rattle.circle_commit.specs.declared.pcs.CommitmentOpening.{CommitmentOpening
 use Rattle.circle_domain.specs.declared.domain.CircleDomain.{CircleDomain}
 use Rattle.circle_domain.specs.Domain.{log_size}
 use Rattle.circle_relation.specs.Statement.{MatrixClaim, all_matrices, log_height}
-use Rattle.circle_relation.specs.StatementOf.{matrix_claims, batch_claim, batch_claims}
+use Rattle.circle_relation.specs.StatementOf.{matrix_claims, batch_claims}
 
 module _ {E F : Type 0} {g : _} (p : ℕ → Bool) where
   any-batch : (ms : List (MatrixOpening E (CircleDomain F g))) → list_any (λ m. p (log_size m.domain)) ms ≡ list_any (λ m. p m.log_n) (matrix_claims ms)

@@ -15,7 +15,7 @@ use Rattle.circle_domain.specs.declared.domain.CircleDomain.{CircleDomain}
 use Rattle.circle_domain.specs.Domain.{log_size}
 use Rattle.circle_relation.specs.declared.error.InputError.{InputError}
 use Rattle.circle_relation.specs.declared.error.InputError.TheVariants.{InputMmcsError}
-use Rattle.circle_relation.specs.Accepts.{Setting, Run, Authenticates, InputAuthenticates, InputsAuthenticate}
+use Rattle.circle_relation.specs.Accepts.{Setting, Run, Authenticates, InputsAuthenticate}
 use Rattle.circle_relation.specs.Reasons.{IsReason}
 use Rattle.circle_relation.specs.Statement.{MatrixClaim, all_matrices, log_height, log_max_height}
 use Rattle.circle_relation.specs.StatementOf.{matrix_claim, matrix_claims, batch_claim, batch_claims}

@@ -1,5 +1,5 @@
 -- Whether each claimed domain leaves something to fold.
-use Rattle.std.proofs.Common.{◌≡◌, ℕ, ◌+◌, ◌<◌, ◌≤◌, ◌==◌, Bool, true, false, List, [], ◌∷◌, length, get_or, refl, sym, ◌∙◌, arith, eq-eqb, ⊎_elim}
+use Rattle.std.proofs.Common.{◌≡◌, ℕ, ◌+◌, ◌≤◌, ◌==◌, true, false, List, [], ◌∷◌, length, get_or, sym, ◌∙◌, arith, eq-eqb, ⊎_elim}
 use Rattle.std.proofs.lemmas.Bool.{cases_eq, eqb-true}
 use Rattle.std.specs.Prelude.{All}
 use Rattle.std.specs.List.{list_any, Any}

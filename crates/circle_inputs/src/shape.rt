@@ -5,8 +5,10 @@ ghost use Rattle.std.specs.List.{position};
 ghost use Rattle.circle_relation.specs.Statement.{all_matrices};
 ghost use Rattle.circle_relation.specs.StatementOf.{batch_claims};
 ghost use Rattle.circle_relation.specs.Accepts.{HasInputs};
-ghost use Rattle.circle_relation.specs.RunOf.{setting_in, run_of, IsDrawn, IsOpened, heights_of, Refuses};
-ghost use Rattle.circle_inputs.specs.Shape.{have_values, rows_fit, opened_fit, inputs_fit, siblings_fit};
+ghost use Rattle.circle_relation.specs.RunOf.{setting_in, run_of, heights_of};
+ghost use Rattle.circle_relation.specs.RunOf.{IsDrawn, IsOpened, Refuses};
+ghost use Rattle.circle_inputs.specs.Shape.{have_values, rows_fit, opened_fit};
+ghost use Rattle.circle_inputs.specs.Shape.{inputs_fit, siblings_fit};
 
 use crate::heights::has_domain;
 use circle_commit::{
