@@ -8,10 +8,10 @@
 //! - `validate_input_shape` is Ok exactly where the lists of the proof have the lengths that the
 //!   claims and the queries fix, each matrix is claimed at a point, and each leaves something to
 //!   fold.
-//! - `authenticate_inputs` is Ok exactly where each batch's rows authenticate at the queries, memory
-//!   aside.
-//! - `reduced_words` answers for each height the sums of the quotients of all claims at the queries,
-//!   and is Ok exactly where no claimed point is that of a query, memory aside.
+//! - `authenticate_inputs` is Ok exactly where each batch's rows authenticate at the queries,
+//!   memory aside.
+//! - `reduced_words` answers for each height the sums of the quotients of all claims at the
+//!   queries, and is Ok exactly where no claimed point is that of a query, memory aside.
 #![tactic(auto)]
 
 pub mod batches;
