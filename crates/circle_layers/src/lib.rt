@@ -4,8 +4,8 @@
 //! What is proved, for every lawful field, extension and schemes, by the relation of
 //! `circle_relation`:
 //!
-//! - `fold_first_layer` answers the pairs that the queries ask of the first layer, and what they fold
-//!   into.
+//! - `fold_first_layer` answers the pairs that the queries ask of the first layer, and what they
+//!   fold into.
 //! - `authenticate_first_layer` is Ok exactly where these pairs authenticate, memory aside.
 //! - `fold_rounds` folds the queries' values round by round, joining each height where it is due, and
 //!   is Ok exactly where the pairs of all rounds authenticate, memory aside.

@@ -1,0 +1,3 @@
+mod FirstLayerPlaces
+mod FirstLayerRun
+mod FirstLayerWords
