@@ -1,16 +1,21 @@
 -- From what is tested, drawn and checked to the relation, and back.
-use Rattle.std.proofs.Common.{◌≡◌, ◌≢◌, ℕ, Bool, true, false, ◌+◌, ◌-◌, ◌≤◌, ◌<◌, List, [], ◌∷◌, length, map, zip, refl, sym, ap, subst, ◌∙◌, arith, zero, suc}
+use Rattle.std.proofs.Common.{◌≡◌, ◌≢◌, ℕ, Bool, true, false, ◌+◌, ◌-◌, ◌≤◌, ◌<◌, ◌^◌, List, [], ◌∷◌, length, map, zip, refl, sym, ap, subst, ◌∙◌, arith, zero, suc}
 use Rattle.std.specs.Prelude.{All, Result, Ok, Err, if◌then◌else◌}
 use Rattle.std.proofs.lemmas.List.Elements.{All-weaker}
 use Rattle.circle_challenger.specs.Moves.{RunMoves, is_passed, after_element}
 use Rattle.circle_challenger.proofs.Draws.{length-samples}
+use Rattle.circle_field.specs.declared.field.Operations.{Ghosts}
+use Rattle.circle_commit.specs.declared.error.FriError.{FriError}
 use Rattle.circle_commit.specs.declared.params.FriParameters.{FriParameters}
 use Rattle.circle_commit.specs.declared.params.PowPhase.{PowPhase}
 use Rattle.circle_commit.specs.declared.params.PowPhase.TheVariants.{Batch, CommitPhase, Query}
 use Rattle.circle_domain.specs.Selectors.{IsFinite}
 use Rattle.circle_relation.specs.Statement.{BatchClaim, OpeningProof, Challenges, all_matrices}
-use Rattle.circle_relation.specs.Accepts.{Fields, Setting, Run, Authenticates, HasRounds, HasInputs, HasSiblings, HoldsWith, Accepts, matrices}
-use Rattle.circle_relation.specs.RunOf.{setting_of}
+use Rattle.circle_relation.specs.Accepts.{Fields, Setting, Run, Authenticates, HasRounds, HasInputs, HasSiblings, HoldsWith, Accepts, matrices, top, rounds}
+use Rattle.circle_relation.specs.Reasons.{IsReason}
+use Rattle.circle_relation.specs.RunOf.{setting_of, run_of, IsDrawn, IsOpened, Holds, Refuses}
+use Rattle.circle_relation.specs.declared.error.InputError.{InputError}
+use Rattle.circle_relation.specs.declared.run.OpenedRun.{OpenedRun}
 use Rattle.circle_transcript.specs.declared.transcript.Numbers.{Numbers}
 use Rattle.circle_transcript.specs.Draw.{Taken, Drawn, drawn, draw_seeded, fold_challenges, after_round, claimed, layered, closed, rounds_pass}
 use Rattle.p3_circle.specs.Tested.{IsTested}
@@ -149,3 +154,43 @@ challenges-told {S = S} {F = F} f told c d s t same =
     ∙ ap (λ x. record { alpha = d.alpha; bivariate = x; betas = c.betas; queries = c.queries }) bivariate
     ∙ ap (λ x. record { alpha = d.alpha; bivariate = d.bivariate; betas = x; queries = c.queries }) betas
     ∙ ap (λ x. record { alpha = d.alpha; bivariate = d.bivariate; betas = d.betas; queries = x }) queries
+
+module _ {F E I W IC ID IP IE WC WD WP WE : Type 0} {g : Ghosts F} (k : Fields F E) (two : ℕ) (o : OpenedRun F E I W IC ID IP IE WC WD WP WE g)
+    (p : FriParameters W) (r : Run F E WC IC IP WP) (params : o.params.now ≡ p) (run : run_of o ≡ r) where
+  -- a run of which all is known that is tested before its challenges are drawn
+  pub is_drawn : o.log_max_height ≡ top (setting_of k p) r → o.log_max_height < two → 1 ≤ p.log_blowup → 1 ≤ length (matrices (setting_of k p) r) →
+      All (λ m. p.log_final_poly_len + 1 ≤ m.log_n) (matrices (setting_of k p) r) → All (λ m. All (λ c. IsFinite k.extension c.point) m.claims) (matrices (setting_of k p) r) →
+      HasRounds (setting_of k p) r → length r.drawn.betas ≡ rounds (setting_of k p) r → All (λ q. q < 2 ^ o.log_max_height) r.drawn.queries → IsDrawn k two o
+  is_drawn high low blowup some large finite shape betas below =
+      let at = λ (P : FriParameters W → Run F E WC IC IP WP → Type 0) (h : P p r). subst (λ q. P q (run_of o)) (sym params) (subst (P p) (sym run) h) in
+      record {
+        top = at (λ q x. o.log_max_height ≡ top (setting_of k q) x) high;
+        in_group = low;
+        blowup = at (λ q x. 1 ≤ q.log_blowup) blowup;
+        some_matrix = at (λ q x. 1 ≤ length (matrices (setting_of k q) x)) some;
+        large = at (λ q x. All (λ m. q.log_final_poly_len + 1 ≤ m.log_n) (matrices (setting_of k q) x)) large;
+        finite = at (λ q x. All (λ m. All (λ c. IsFinite k.extension c.point) m.claims) (matrices (setting_of k q) x)) finite;
+        shape = at (λ q x. HasRounds (setting_of k q) x) shape;
+        betas = at (λ q x. length x.drawn.betas ≡ rounds (setting_of k q) x) betas;
+        below = at (λ q x. All (λ i. i < 2 ^ o.log_max_height) x.drawn.queries) below;
+      }
+
+  module _ (mmcs : I) (same : o.mmcs.now ≡ mmcs) (inputs : I → Authenticates IC F IP) (words : W → Authenticates WC E WP) where
+    -- what holds of the run, in terms of its parts
+    moved : (P : I → FriParameters W → Run F E WC IC IP WP → Type 0) → P o.mmcs.now o.params.now (run_of o) → P mmcs p r
+    moved P h = subst (λ x. P mmcs p x) run (subst (λ q. P mmcs q (run_of o)) params (subst (λ x. P x o.params.now (run_of o)) same h))
+
+    pub shape-of : IsOpened k o → HasInputs (setting_of k p) r
+    shape-of h = moved (λ x q y. HasInputs (setting_of k q) y) h.shape
+
+    pub claimed-of : IsOpened k o → All (λ m. 1 ≤ length m.claims) (matrices (setting_of k p) r)
+    claimed-of h = moved (λ x q y. All (λ m. 1 ≤ length m.claims) (matrices (setting_of k q) y)) h.claimed
+
+    pub large-of : IsOpened k o → All (λ m. p.log_final_poly_len + 2 ≤ m.log_n) (matrices (setting_of k p) r)
+    large-of h = moved (λ x q y. All (λ m. q.log_final_poly_len + 2 ≤ m.log_n) (matrices (setting_of k q) y)) h.large
+
+    pub holds-of : Holds k o inputs words → HoldsWith (setting_of k p) r (inputs mmcs) (words p.mmcs)
+    holds-of h = moved (λ x q y. HoldsWith (setting_of k q) y (inputs x) (words q.mmcs)) h
+
+    pub reason-of : (e : FriError WE (InputError IE WE)) → Refuses k o inputs words e → IsReason (setting_of k p) r (inputs mmcs) (words p.mmcs) e
+    reason-of e h = moved (λ x q y. IsReason (setting_of k q) y (inputs x) (words q.mmcs) e) h

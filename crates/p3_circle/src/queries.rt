@@ -3,7 +3,7 @@ ghost use Rattle.std.specs.Prelude.{◌≡◌, ◌<◌, ◌^◌, length, All, On
 ghost use Rattle.circle_relation.specs.StatementOf.{batch_claims};
 ghost use Rattle.circle_relation.specs.Accepts.{Accepts};
 ghost use Rattle.circle_relation.specs.Reasons.{IsReason};
-ghost use Rattle.circle_relation.specs.RunOf.{setting_of, proof_of, IsDrawn, IsOpened, Holds, Refuses};
+ghost use Rattle.circle_relation.specs.RunOf.{setting_of, proof_of, run_of, IsDrawn, IsOpened, Holds, Refuses};
 ghost use Rattle.p3_circle.specs.Refusals.{is_at_infinity};
 ghost use Rattle.p3_circle.specs.Tested.{claimed_top, rounds_due, IsTested};
 ghost use Rattle.p3_circle.specs.Verdict.{challenges_of, run_with};
@@ -41,6 +41,39 @@ pub fn verify_queries<
     Err(FriError::Memory)
 }
 
+// The run of claims and a proof, with what was drawn.
+fn opened_run<
+    'a,
+    Val: ComplexExtendable,
+    EF: ExtensionField<Val>,
+    InputMmcs: Mmcs<Val>,
+    FriMmcs: Mmcs<EF>,
+>(
+    mmcs: &'a InputMmcs,
+    params: &'a FriParameters<FriMmcs>,
+    claims: &'a [CommitmentOpening<EF, InputMmcs::Commitment, CircleDomain<Val>>],
+    proof: &'a CirclePcsProof<Val, EF, InputMmcs, FriMmcs, Val>,
+    log_max_height: usize,
+    draws: &'a CircleDraws<EF>,
+) -> OpenedRun<'a, Val, EF, InputMmcs, FriMmcs>
+    ensures mmcs { result.mmcs.now ≡ mmcs.now }
+    ensures params { result.params.now ≡ params.now }
+    ensures top { result.log_max_height ≡ log_max_height }
+    ensures run { run_of result ≡ run_with claims.now proof.now (challenges_of draws.now) }
+{
+    OpenedRun {
+        mmcs,
+        params,
+        claims,
+        proof,
+        log_max_height,
+        alpha: draws.alpha,
+        bivariate: draws.bivariate,
+        betas: &draws.betas,
+        indices: &draws.indices,
+    }
+}
+
 /// Refuses a run that was tested, once its challenges are drawn, as [`verify_queries`] does.
 ///
 /// Asks the binary logarithm of the greatest height that is claimed, a challenge for each round, as
@@ -74,16 +107,6 @@ pub(crate) fn verify_drawn<
         let r = run_with claims.now proof.now (challenges_of draws.now) in IfErr result (IsReason s
         r (InputMmcs.authenticates mmcs.now) (FriMmcs.authenticates params.now.mmcs)) }
 {
-    let run = OpenedRun {
-        mmcs,
-        params,
-        claims,
-        proof,
-        log_max_height,
-        alpha: draws.alpha,
-        bivariate: draws.bivariate,
-        betas: &draws.betas,
-        indices: &draws.indices,
-    };
+    let run = opened_run(mmcs, params, claims, proof, log_max_height, draws);
     verify_queries(alloc, &run)
 }
