@@ -4,7 +4,9 @@ ghost use Rattle.circle_relation.specs.Accepts.{ChainsEnd};
 ghost use Rattle.circle_relation.specs.RunOf.{setting_in, run_of, IsDrawn, last_values, Refuses};
 
 use circle_commit::{FriError, Mmcs};
+use circle_domain::{CircleDomain, cfft_permute_index};
 use circle_field::{ComplexExtendable, ExtensionField};
+use circle_final::x_value;
 use circle_relation::{InputError, OpenedRun, OverCircle};
 
 /// Refuses a run of which some query ends in another value than that of the final polynomial at its
@@ -12,6 +14,7 @@ use circle_relation::{InputError, OpenedRun, OverCircle};
 ///
 /// Asks a run that was tested before its challenges were drawn, and the queries' values in the last
 /// word. Takes no memory.
+#[tactic(auto, unfolding(circle_relation::specs::Reasons::IsReason))]
 pub fn check_final<
     Val: ComplexExtendable,
     EF: ExtensionField<Val>,
@@ -28,5 +31,15 @@ pub fn check_final<
     ensures refused { IfErr result (Refuses ⟦<EF as OverCircle<Val>>⟧.fields run.now
         InputMmcs.authenticates FriMmcs.authenticates) }
 {
-    Err(FriError::FinalPolyMismatch)
+    let log_len = run.params.log_blowup + run.params.log_final_poly_len;
+    let bits = run.log_max_height - log_len;
+    let domain = CircleDomain::<Val>::standard(log_len + 1);
+    for (j, index) in run.indices.iter().enumerate() {
+        let place = 2 * (*index >> bits);
+        let point = domain.nth_point(cfft_permute_index(place, log_len + 1));
+        if values[j] != x_value(&run.proof.fri_proof.final_poly, point.x()) {
+            return Err(FriError::FinalPolyMismatch);
+        }
+    }
+    Ok(())
 }
