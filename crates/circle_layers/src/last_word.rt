@@ -1,5 +1,6 @@
 //! The end of the queries' chains.
-ghost use Rattle.std.specs.Prelude.{◌≡◌, OnOk, IfErr};
+ghost use Rattle.std.specs.Prelude.{◌≡◌, ◌+◌, ◌^◌, ◌<◌, ◌≤◌, map, slice_index_or, OnOk, IfErr};
+ghost use Rattle.circle_domain.specs.Order.{coset};
 ghost use Rattle.circle_relation.specs.Accepts.{ChainsEnd};
 ghost use Rattle.circle_relation.specs.RunOf.{setting_in, run_of, IsDrawn, last_values, Refuses};
 
@@ -33,13 +34,23 @@ pub fn check_final<
 {
     let log_len = run.params.log_blowup + run.params.log_final_poly_len;
     let bits = run.log_max_height - log_len;
-    let domain = CircleDomain::<Val>::standard(log_len + 1);
     for (j, index) in run.indices.iter().enumerate() {
-        let place = 2 * (*index >> bits);
-        let point = domain.nth_point(cfft_permute_index(place, log_len + 1));
-        if values[j] != x_value(&run.proof.fri_proof.final_poly, point.x()) {
+        let x = x_at::<Val>(log_len, *index >> bits);
+        if values[j] != x_value(&run.proof.fri_proof.final_poly, x) {
             return Err(FriError::FinalPolyMismatch);
         }
     }
     Ok(())
+}
+
+// The x coordinate that an entry of a word of 2^log_len entries belongs to: that of every second
+// point of a standard domain in the order of the transform.
+fn x_at<F: ComplexExtendable>(log_len: usize, place: usize) -> F
+    requires in_group { log_len + 2 ≤ F.CIRCLE_TWO_ADICITY }
+    requires within { place < 2 ^ log_len }
+    ensures { result ≡ slice_index_or (map (λ p. p.x)
+        (coset F.ops F.generators log_len (F.generators (log_len + 2)))) place F.ops.zero }
+{
+    let domain = CircleDomain::<F>::standard(log_len + 1);
+    domain.nth_point(cfft_permute_index(2 * place, log_len + 1)).x()
 }
