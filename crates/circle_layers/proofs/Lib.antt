@@ -1,1 +1,2 @@
 pub mod LastWord
+pub mod RoundsWaiting
