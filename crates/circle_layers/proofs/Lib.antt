@@ -1,2 +1,3 @@
 pub mod LastWord
+pub mod RoundsValues
 pub mod RoundsWaiting

@@ -38,10 +38,10 @@ module _ {T : Type 0} (p : ℕ → Bool) (word : ℕ → T) where
       ∙ map-append pair (filter p (range_with_len 0 b)) (filter p (b ∷ []))
 
   pub claimed-more : (b : ℕ) → p b ≡ true → below (suc b) ≡ below b ++ (b, word b) ∷ []
-  claimed-more b yes = one-more b ∙ ap (λ c. below b ++ map (λ h. (h, word h)) (cond c (b ∷ []) [])) yes
+  claimed-more b is = one-more b ∙ ap (λ c. below b ++ map (λ h. (h, word h)) (cond c (b ∷ []) [])) is
 
   pub unclaimed-more : (b : ℕ) → p b ≡ false → below (suc b) ≡ below b
-  unclaimed-more b no = one-more b ∙ ap (λ c. below b ++ map (λ h. (h, word h)) (cond c (b ∷ []) [])) no ∙ append-nil (below b)
+  unclaimed-more b isnt = one-more b ∙ ap (λ c. below b ++ map (λ h. (h, word h)) (cond c (b ∷ []) [])) isnt ∙ append-nil (below b)
 
   all-below : (b : ℕ) → All (λ w. w.0 < b) (below b)
   all-below b =
@@ -59,20 +59,20 @@ module _ {T : Type 0} (p : ℕ → Bool) (word : ℕ → T) where
   pub last-due : (b : ℕ) (front : List (ℕ × T)) (w : ℕ × T) → front ++ w ∷ [] ≡ below (suc b) → w.0 ≡ b → (p b ≡ true) × (front ≡ below b) × (w.1 ≡ word b)
   last-due b front w e due =
       ⊎_elim
-      (λ yes. let same = last-same front (below b) w (b, word b) (e ∙ claimed-more b yes) in (yes, same.0, ap (λ (v : ℕ × T). v.1) same.1))
-      (λ no. let lt = last-below b front w (e ∙ unclaimed-more b no) in absurd (omega (arith, lt, due)))
+      (λ is. let same = last-same front (below b) w (b, word b) (e ∙ claimed-more b is) in (is, same.0, ap (λ (v : ℕ × T). v.1) same.1))
+      (λ isnt. let lt = last-below b front w (e ∙ unclaimed-more b isnt) in absurd (omega (arith, lt, due)))
       (cases_Bool (p b))
 
   pub last-later : (b : ℕ) (front : List (ℕ × T)) (w : ℕ × T) → front ++ w ∷ [] ≡ below (suc b) → w.0 ≢ b → (p b ≡ false) × (front ++ w ∷ [] ≡ below b)
   last-later b front w e later =
       ⊎_elim
-      (λ yes. let same = last-same front (below b) w (b, word b) (e ∙ claimed-more b yes) in absurd (later (ap (λ (v : ℕ × T). v.0) same.1)))
-      (λ no. (no, e ∙ unclaimed-more b no))
+      (λ is. let same = last-same front (below b) w (b, word b) (e ∙ claimed-more b is) in absurd (later (ap (λ (v : ℕ × T). v.0) same.1)))
+      (λ isnt. (isnt, e ∙ unclaimed-more b isnt))
       (cases_Bool (p b))
 
   pub none-left : (b : ℕ) → [] ≡ below (suc b) → (p b ≡ false) × ([] ≡ below b)
   none-left b e =
       ⊎_elim
-      (λ yes. absurd (omega (arith, ap length (e ∙ claimed-more b yes), length-append (below b) ((b, word b) ∷ []))))
-      (λ no. (no, e ∙ unclaimed-more b no))
+      (λ is. absurd (omega (arith, ap length (e ∙ claimed-more b is), length-append (below b) ((b, word b) ∷ []))))
+      (λ isnt. (isnt, e ∙ unclaimed-more b isnt))
       (cases_Bool (p b))
