@@ -1,3 +1,4 @@
 pub mod LastWord
+pub mod RoundsOpened
 pub mod RoundsValues
 pub mod RoundsWaiting
