@@ -20,6 +20,7 @@ use std::alloc::{AllocError, Global};
 /// Asks a run that was tested before its challenges were drawn, with lists of fitting lengths, and
 /// what the first layer folds into. Each round is asked once, for all queries, and its twiddles are
 /// inverted together. Fails with `Memory` where memory is refused.
+#[tactic(auto, unfolding(circle_relation::specs::Reasons::IsReason))]
 pub fn fold_rounds<
     Val: ComplexExtendable,
     EF: ExtensionField<Val>,
@@ -57,6 +58,7 @@ pub fn fold_rounds<
 }
 
 // Folds the queries' values in the word of a round, where their pairs authenticate.
+#[tactic(auto, unfolding(circle_relation::specs::Reasons::IsReason))]
 fn fold_round<
     Val: ComplexExtendable,
     EF: ExtensionField<Val>,
