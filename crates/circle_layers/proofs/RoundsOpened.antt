@@ -46,6 +46,12 @@ module _ {F E I W IC ID IP IE WC WD WP WE : Type 0} {g : _} (k : Fields F E) (bi
   pub of-steps : (n : ℕ) → n < length o.betas.now → n < length steps
   of-steps n lt = omega (arith, lt, drawn.betas, drawn.shape.opened, length-map steps opened_round)
 
+  pub of-rounds : (n : ℕ) → n < length all_rounds → n < length o.betas.now
+  of-rounds n lt =
+      let long = length-zip (range_with_len 0 (length opened)) opened in
+      let counted = length-zip commits (map opened_round steps) in
+      omega (arith, lt, long, length-range_with_len 0 (length opened), counted, drawn.betas, drawn.shape.commitments)
+
   module _ (n : ℕ) (lt : n < length o.betas.now) (c : WC) (p : CircleCommitPhaseMultiStep E W WC WD WP WE) (is_c : c ≡ slice_index_or commits n c) (is_p : p ≡ slice_index_or steps n p) where
     step-here : slice_index_or (map opened_round steps) n (opened_round p) ≡ opened_round p
     step-here = get_or-map opened_round steps n p (opened_round p) (of-steps n lt) ∙ ap opened_round (sym is_p)

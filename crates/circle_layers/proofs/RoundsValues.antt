@@ -1,7 +1,7 @@
 -- The queries' values from round to round.
-use Rattle.std.specs.Prelude.{◌≡◌, ◌≢◌, ℕ, ◌+◌, ◌-◌, ◌*◌, ◌/◌, ◌^◌, ◌≤◌, ◌<◌, Bool, true, false, ◌==◌, if◌then◌else◌, List, [], ◌∷◌, ◌++◌, length, map, zip, All, slice_index_or, max}
+use Rattle.std.specs.Prelude.{◌≡◌, ◌≢◌, ℕ, ◌+◌, ◌-◌, ◌*◌, ◌/◌, ◌^◌, ◌≤◌, ◌<◌, Bool, true, false, ◌==◌, if◌then◌else◌, List, [], ◌∷◌, ◌++◌, length, map, zip, All, slice_index_or, take, drop, max}
 use Rattle.std.specs.List.{range_with_len, list_any}
-use Rattle.std.proofs.Common.{zero, suc, refl, sym, ◌∙◌, ap, subst, ⊎_elim, arith, eq-eqb}
+use Rattle.std.proofs.Common.{zero, suc, refl, sym, ◌∙◌, ap, subst, ⊎_elim, arith, eq-eqb, length-append}
 use Rattle.std.proofs.lemmas.Bool.{cases_lt}
 use Rattle.std.proofs.lemmas.List.{length-map, get_or-map}
 use Rattle.std.proofs.lemmas.List.Folds.{list_any_at}
@@ -9,6 +9,7 @@ use Rattle.std.proofs.lemmas.List.FromFn.{length-range_with_len, get_or-range_wi
 use Rattle.std.proofs.lemmas.Slice.Zip.{length-zip, get_or-zip}
 use Rattle.circle_field.specs.Field.{FieldOps, RingLaws}
 use Rattle.circle_field.specs.RingFacts.{add_zero}
+use Rattle.circle_field.proofs.Inverses.{take-whole}
 use Rattle.circle_domain.specs.Layers.{pairwise}
 use Rattle.circle_domain.proofs.Twiddles.{map-map}
 use Rattle.circle_commit.specs.Mmcs.{greatest}
@@ -21,12 +22,19 @@ use Rattle.circle_relation.specs.declared.run.OpenedRun.{OpenedRun}
 use Rattle.circle_relation.specs.RunOf.{setting_in, run_of, opened_round, IsDrawn}
 use Rattle.circle_relation.proofs.AtQueries.{placed, zip-placed, length-placed, pairwise-placed, map-placed, itself-placed, same-placed, listed-placed}
 use Rattle.circle_layers.specs.Rounds.{values_in, siblings_in, folds_in, words_below, HasRoundOf}
-use Rattle.circle_layers.proofs.RoundsWaiting.{last-due, last-later, none-left}
+use Rattle.circle_layers.proofs.RoundsWaiting.{last-same, claimed-more, last-due, last-later, none-left}
 
 -- what is made of each query and its entry in a list
 pairwise-queries : {A B : Type 0} (h : ℕ → A → B) (f : ℕ → ℕ → A) (n : ℕ) (qs : List ℕ) → pairwise h qs (placed f n qs) ≡ placed (λ j q. h q (f j q)) n qs
 pairwise-queries h f n [] = refl
 pairwise-queries h f n (q ∷ qs) = ap (λ rest. h q (f n q) ∷ rest) (pairwise-queries h f (n + 1) qs)
+
+-- a list that is written over twice
+pub written-twice : {T : Type 0} (n : ℕ) (last first items : List T) → n ≡ length items → length first ≡ length items → length last ≡ length items →
+    take n (last ++ drop (length last) (take n (first ++ drop (length first) items))) ≡ last
+written-twice n last first items long of_first of_last =
+    ap (λ xs. take n (last ++ drop (length last) xs)) (take-whole n first items long of_first)
+    ∙ take-whole n last first (long ∙ sym of_first) (of_last ∙ sym of_first)
 
 -- the greatest of numbers is one of them
 greatest-there : (ns : List ℕ) → 1 ≤ length ns → (i : ℕ) × (i < length ns) × (slice_index_or ns i 0 ≡ greatest ns)
@@ -133,6 +141,28 @@ module _ {F E I W IC ID IP IE WC WD WP WE : Type 0} {g : _} (k : Fields F E) (o 
       ∙ ap (folds l b (placed (λ j q. k.embed (twiddle n q)) 0 queries)) (asked n values siblings vs ss)
       ∙ pairwise-placed (fold_pair l b) (λ j q. k.embed (twiddle n q)) (pair n) 0 queries
       ∙ sym (zip-placed (fold n) 0 queries)
+
+  -- the words begin with that of the greatest height
+  module _ (height : o.log_max_height ≡ top (setting_in k o) (run_of o)) (some : 1 ≤ length (matrices (setting_in k o) (run_of o))) where
+    abbrev highest : ℕ
+    highest = top (setting_in k o) (run_of o)
+
+    abbrev word_of : ℕ → List E
+    word_of h = at_queries (setting_in k o) (run_of o) (λ j q. folded (setting_in k o) (run_of o) j q h)
+
+    highest-last : words_below k o (suc highest) ≡ words_below k o highest ++ (highest, word_of highest) ∷ []
+    highest-last = claimed-more (is_claimed (setting_in k o) (run_of o)) word_of highest (top-claimed o.params.now.log_blowup (matrices (setting_in k o) (run_of o)) some)
+
+    pub first-left : (front : List (ℕ × List E)) (w : ℕ × List E) → front ++ w ∷ [] ≡ words_below k o (suc highest) → front ≡ words_below k o (o.log_max_height - 0)
+    first-left front w e =
+        let same : highest ≡ o.log_max_height - 0 = omega (arith, height) in
+        (last-same front (words_below k o highest) w (highest, word_of highest) (e ∙ highest-last)).0 ∙ ap (words_below k o) same
+
+    pub first-values : (front : List (ℕ × List E)) (w : ℕ × List E) → front ++ w ∷ [] ≡ words_below k o (suc highest) → w.1 ≡ values_in k o 0
+    first-values front w e = ap (λ (v : ℕ × List E). v.1) (last-same front (words_below k o highest) w (highest, word_of highest) (e ∙ highest-last)).1
+
+    pub first-there : (ws : List (ℕ × List E)) → length ws ≡ 0 → ws ≡ words_below k o (suc highest) → ⊥
+    first-there ws none e = omega (arith, none, ap length (e ∙ highest-last), length-append (words_below k o highest) ((highest, word_of highest) ∷ []))
 
   -- what is left, and what has joined, after the round before the height b
   module _ (height : o.log_max_height ≡ top (setting_in k o) (run_of o)) (n : ℕ) (enough : n + 2 ≤ o.log_max_height) where

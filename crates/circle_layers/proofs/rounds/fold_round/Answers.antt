@@ -53,6 +53,5 @@ returns-clause-folded g c =
     let are = c.in_ok-siblings.ensures ∙ ap (map head) c.deref.ensures.value ∙ siblings-are (fields g) _ o c.requires.drawn c.args.round c.requires.round c.index-opening.result.now c.index-opening.ensures in
     let beta = c.index-run-round.result in
     c.in_ok-fold_query_values.ensures.folded
-    ∙ folds-of (fields g) o c.args.round beta c.args.twiddles.now c.args.values.now c.deref-3.result.now c.requires.drawn.top
-    (c.index-run-round.is ∙ get_or_default o.betas.now c.args.round beta g.EF.Operations.ops.zero c.requires.round)
-    c.requires.twiddles c.requires.values (c.deref-3.ensures.value ∙ are)
+    ∙ folds-of (fields g) o c.args.round (slice_index_or o.betas.now c.args.round beta) c.args.twiddles.now c.args.values.now c.deref-3.result.now c.requires.drawn.top
+    (get_or_default o.betas.now c.args.round beta g.EF.Operations.ops.zero c.requires.round) c.requires.twiddles c.requires.values (c.deref-3.ensures.value ∙ are)
