@@ -1,8 +1,7 @@
 -- What is opened of a round.
 use Rattle.std.specs.Prelude.{◌≡◌, ℕ, ◌+◌, ◌-◌, ◌*◌, ◌/◌, ◌%◌, ◌^◌, ◌<◌, ◌≤◌, List, [], ◌∷◌, length, map, zip, All, slice_index_or}
 use Rattle.std.specs.List.{range_with_len}
-use Rattle.std.specs.declared.alloc.Global.{Global}
-use Rattle.std.proofs.Common.{suc, refl, sym, ◌∙◌, ap, subst, arith, Vec}
+use Rattle.std.proofs.Common.{suc, sym, ◌∙◌, ap, subst, arith}
 use Rattle.std.proofs.Math.Nat.{pow-suc, mod-eq_of_lt}
 use Rattle.std.proofs.lemmas.List.{length-map, get_or-map, get_or_default}
 use Rattle.std.proofs.lemmas.List.FromFn.{length-range_with_len, get_or-range_with_len}
@@ -10,7 +9,7 @@ use Rattle.std.proofs.lemmas.Slice.Zip.{length-zip, get_or-zip}
 use Rattle.circle_domain.proofs.Powers.{pow_within}
 use Rattle.circle_domain.proofs.Twiddles.{map-map}
 use Rattle.circle_relation.specs.Statement.{Opened}
-use Rattle.circle_relation.specs.Accepts.{Fields, Authenticates, top, at_queries, sibling_in, round_pair, pairs, HasSiblings, RoundAuthenticates, RoundsAuthenticate}
+use Rattle.circle_relation.specs.Accepts.{Fields, Authenticates, top, at_queries, round_pair, HasSiblings, RoundAuthenticates, RoundsAuthenticate}
 use Rattle.circle_relation.specs.declared.proof.CircleCommitPhaseMultiStep.{CircleCommitPhaseMultiStep}
 use Rattle.circle_relation.specs.declared.run.OpenedRun.{OpenedRun}
 use Rattle.circle_relation.specs.RunOf.{setting_in, run_of, opened_round, IsDrawn}

@@ -1,27 +1,23 @@
 -- The queries' values from round to round.
-use Rattle.std.specs.Prelude.{◌≡◌, ◌≢◌, ℕ, ◌+◌, ◌-◌, ◌*◌, ◌/◌, ◌^◌, ◌≤◌, ◌<◌, Bool, true, false, ◌==◌, if◌then◌else◌, List, [], ◌∷◌, ◌++◌, length, map, zip, All, slice_index_or, take, drop, max}
-use Rattle.std.specs.List.{range_with_len, list_any}
-use Rattle.std.proofs.Common.{zero, suc, refl, sym, ◌∙◌, ap, subst, ⊎_elim, arith, eq-eqb, length-append}
+use Rattle.std.specs.Prelude.{◌≡◌, ◌≢◌, ℕ, ◌+◌, ◌-◌, ◌/◌, ◌^◌, ◌≤◌, ◌<◌, true, false, ◌==◌, if◌then◌else◌, List, [], ◌∷◌, ◌++◌, length, map, slice_index_or, take, drop, max}
+use Rattle.std.specs.List.{list_any}
+use Rattle.std.proofs.Common.{suc, refl, sym, ◌∙◌, ap, ⊎_elim, arith, eq-eqb, length-append}
 use Rattle.std.proofs.lemmas.Bool.{cases_lt}
 use Rattle.std.proofs.lemmas.List.{length-map, get_or-map}
 use Rattle.std.proofs.lemmas.List.Folds.{list_any_at}
-use Rattle.std.proofs.lemmas.List.FromFn.{length-range_with_len, get_or-range_with_len}
-use Rattle.std.proofs.lemmas.Slice.Zip.{length-zip, get_or-zip}
-use Rattle.circle_field.specs.Field.{FieldOps, RingLaws}
+use Rattle.circle_field.specs.Field.{RingLaws}
 use Rattle.circle_field.specs.RingFacts.{add_zero}
 use Rattle.circle_field.proofs.Inverses.{take-whole}
 use Rattle.circle_domain.specs.Layers.{pairwise}
-use Rattle.circle_domain.proofs.Twiddles.{map-map}
 use Rattle.circle_commit.specs.Mmcs.{greatest}
 use Rattle.circle_folding.specs.Fold.{fold_pair, folds}
 use Rattle.circle_folding.specs.Chain.{pair_of, asked_pairs, round_twiddle}
-use Rattle.circle_relation.specs.Statement.{MatrixClaim, Opened, log_height}
-use Rattle.circle_relation.specs.Accepts.{Fields, Authenticates, top, is_claimed, matrices, at_queries, folded, joining, sibling_in, round_value, round_pair, rounds, pairs, RoundAuthenticates, RoundsAuthenticate}
-use Rattle.circle_relation.specs.declared.proof.CircleCommitPhaseMultiStep.{CircleCommitPhaseMultiStep}
+use Rattle.circle_relation.specs.Statement.{MatrixClaim, log_height}
+use Rattle.circle_relation.specs.Accepts.{Fields, top, is_claimed, matrices, at_queries, folded, joining, sibling_in, round_value, round_pair, rounds}
 use Rattle.circle_relation.specs.declared.run.OpenedRun.{OpenedRun}
-use Rattle.circle_relation.specs.RunOf.{setting_in, run_of, opened_round, IsDrawn}
-use Rattle.circle_relation.proofs.AtQueries.{placed, zip-placed, length-placed, pairwise-placed, map-placed, itself-placed, same-placed, listed-placed}
-use Rattle.circle_layers.specs.Rounds.{values_in, siblings_in, folds_in, words_below, HasRoundOf}
+use Rattle.circle_relation.specs.RunOf.{setting_in, run_of, IsDrawn}
+use Rattle.circle_relation.proofs.AtQueries.{placed, zip-placed, length-placed, pairwise-placed, map-placed, itself-placed, same-placed}
+use Rattle.circle_layers.specs.Rounds.{values_in, siblings_in, folds_in, words_below}
 use Rattle.circle_layers.proofs.RoundsWaiting.{last-same, claimed-more, last-due, last-later, none-left}
 
 -- what is made of each query and its entry in a list

@@ -52,5 +52,7 @@ fn x_at<F: ComplexExtendable>(log_len: usize, place: usize) -> F
         (coset F.ops F.generators log_len (F.generators (log_len + 2)))) place F.ops.zero }
 {
     let domain = CircleDomain::<F>::standard(log_len + 1);
-    domain.nth_point(cfft_permute_index(2 * place, log_len + 1)).x()
+    domain
+        .nth_point(cfft_permute_index(2 * place, log_len + 1))
+        .x()
 }

@@ -87,7 +87,15 @@ fn fold_round<
     let siblings = first_entries(alloc, &opening.sibling_values)?;
     authenticate_round(alloc, run, round, values, &siblings)?;
     let beta = run.betas[round];
-    fold_query_values(alloc, beta, round + 1, run.indices, twiddles, values, &siblings)?;
+    fold_query_values(
+        alloc,
+        beta,
+        round + 1,
+        run.indices,
+        twiddles,
+        values,
+        &siblings,
+    )?;
     Ok(())
 }
 

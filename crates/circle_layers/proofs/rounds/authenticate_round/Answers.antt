@@ -1,4 +1,4 @@
-use Rattle.std.proofs.Common.{◌≡◌, ◌∙◌, sym, ap, true, ◌-◌, length, arith}
+use Rattle.std.proofs.Common.{◌≡◌, ◌∙◌, ap, true, ◌-◌, length, arith}
 use Rattle.circle_commit.specs.Mmcs.{opened_rows}
 use Rattle.circle_relation.specs.Accepts.{Fields}
 use Rattle.circle_relation.specs.Reasons.{IsReason}

@@ -1,4 +1,4 @@
-use Rattle.std.proofs.Common.{◌≡◌, ◌++◌, ◌∷◌, [], ◌<◌, ◌∙◌, List, Vec, Global, sym, ap, length, map, take, slice_index_or, arith}
+use Rattle.std.proofs.Common.{◌≡◌, ◌++◌, ◌∷◌, [], ◌∙◌, List, Vec, Global, sym, ap, length, map, take, slice_index_or, arith}
 use Rattle.std.proofs.lemmas.List.{take_more, length-map, get_or-map, get_or_default}
 use Rattle.circle_layers.proofs.rounds.first_entries.Goals as goal
 

@@ -1,8 +1,6 @@
 use Rattle.std.proofs.Common.{◌≡◌, ◌∙◌, Vec, Global, sym, ap, subst, length, map, slice_index_or, arith}
-use Rattle.std.proofs.lemmas.List.{length-map, get_or_default}
+use Rattle.std.proofs.lemmas.List.{get_or_default}
 use Rattle.std.specs.List.{All}
-use Rattle.circle_folding.specs.Chain.{round_twiddle, asked_pairs}
-use Rattle.circle_folding.specs.Fold.{folds}
 use Rattle.circle_folding.proofs.Queries.{round_twiddles-nonzero}
 use Rattle.circle_relation.specs.Accepts.{Fields}
 use Rattle.circle_layers.proofs.RoundsValues.{length-values_in, length-siblings_in, folds-of, round-within}

@@ -1,4 +1,4 @@
-use Rattle.std.proofs.Common.{◌≡◌, ℕ, ◌+◌, ◌≤◌, ◌++◌, [], ◌∷◌, ◌∙◌, suc, sym, ap, length, map, below_more, arith}
+use Rattle.std.proofs.Common.{◌+◌, ◌≤◌, [], ◌∷◌, ◌∙◌, sym, ap, length, map, below_more, arith}
 use Rattle.std.proofs.lemmas.List.{map-append, length-map}
 use Rattle.circle_field.proofs.Inverses.{take-whole}
 use Rattle.circle_folding.specs.Chain.{round_twiddle}

@@ -1,4 +1,4 @@
-use Rattle.std.proofs.Common.{◌≡◌, ◌≢◌, ◌+◌, ◌≤◌, ◌++◌, ◌∷◌, [], ◌∙◌, sym, ap, length, map, arith}
+use Rattle.std.proofs.Common.{◌+◌, ◌≤◌, ◌∷◌, [], ◌∙◌, sym, ap, length, map, arith}
 use Rattle.std.proofs.lemmas.List.{map-append, length-map}
 use Rattle.circle_domain.specs.Layers.{pairwise}
 use Rattle.circle_relation.specs.Accepts.{Fields}
