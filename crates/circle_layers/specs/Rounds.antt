@@ -10,7 +10,7 @@ use Rattle.circle_relation.specs.RunOf.{setting_in, run_of}
 
 module _ {F E I W IC ID IP IE WC WD WP WE : Type 0} {g : _} (k : Fields F E)
     (o : OpenedRun F E I W IC ID IP IE WC WD WP WE g) where
-  -- the queries' values in the word of a round, their siblings there, and what their pairs fold into
+  -- the queries' values in the word of a round, their siblings there, and the folds of their pairs
   abbrev pub values_in : ℕ → List E
   values_in n =
       let s = setting_in k o in

@@ -3,8 +3,10 @@ ghost use Rattle.std.specs.Prelude.{◌≡◌, ◌+◌, ◌-◌, ◌/◌, ◌^�
 ghost use Rattle.std.specs.Prelude.{slice_index_or, OnOk, IfOk, IfErr};
 ghost use Rattle.circle_domain.specs.Layers.{pairwise};
 ghost use Rattle.circle_folding.specs.Chain.{round_twiddles};
-ghost use Rattle.circle_layers.specs.Rounds.{values_in, siblings_in, folds_in, words_below, HasRoundOf};
-ghost use Rattle.circle_relation.specs.RunOf.{IsDrawn, IsOpened, folded_words, joining_of, last_values, HasRoundsOf, Refuses};
+ghost use Rattle.circle_layers.specs.Rounds.{values_in, siblings_in, folds_in};
+ghost use Rattle.circle_layers.specs.Rounds.{words_below, HasRoundOf};
+ghost use Rattle.circle_relation.specs.RunOf.{IsDrawn, IsOpened, folded_words, joining_of};
+ghost use Rattle.circle_relation.specs.RunOf.{last_values, HasRoundsOf, Refuses};
 
 use circle_commit::{Dimensions, FriError, Mmcs};
 use circle_field::{ComplexExtendable, ExtensionField, Field};
@@ -43,6 +45,7 @@ pub fn fold_rounds<
         InputMmcs.authenticates FriMmcs.authenticates) }
 {
     let mut waiting = folded;
+    // The greatest height is one of those that are claimed, so there is a last one.
     let Some(first) = waiting.pop() else {
         return Ok(Vec::new(alloc));
     };
