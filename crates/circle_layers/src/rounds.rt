@@ -139,13 +139,8 @@ fn authenticate_round<
         .verify_multi_batch(alloc, commitment, &[shape], &places, &pairs, proof);
     match verdict {
         Ok(()) => Ok(()),
-        Err(error) => {
-            if FriMmcs::is_memory(&error) {
-                Err(FriError::Memory)
-            } else {
-                Err(FriError::CommitPhaseMmcsError(error))
-            }
-        }
+        Err(error) if FriMmcs::is_memory(&error) => Err(FriError::Memory),
+        Err(error) => Err(FriError::CommitPhaseMmcsError(error)),
     }
 }
 
@@ -174,13 +169,13 @@ fn join<
         values.new ≡ values_in k run.now (round + 1) }
 {
     let height = run.log_max_height - 1 - round;
-    if let Some((word, rest)) = waiting.split_last() {
-        if word.log_height == height {
+    match waiting.split_last() {
+        Some((word, rest)) if word.log_height == height => {
             add_each(values, &word.values);
-            return rest;
+            rest
         }
+        _ => waiting,
     }
-    waiting
 }
 
 // The first entry of each row.

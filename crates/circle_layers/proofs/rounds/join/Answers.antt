@@ -23,8 +23,8 @@ add_each-requires g c =
     ap length c.deref.ensures.value ∙ length-due k o c.requires.drawn.top c.args.round within (map joining_of rest) (joining_of word) e c.if-word-height.true
     ∙ sym (ap length c.requires.values ∙ length-folds_in k o c.args.round)
 
-pub returns-then-word-height-clause-left : goal.returns-then-word-height-clause-left
-returns-then-word-height-clause-left g c =
+pub returns-in-Some-clause-left : goal.returns-in-Some-clause-left
+returns-in-Some-clause-left g c =
     let k = fields g in
     let o = c.args.run.now in
     let within : c.args.round + 2 ≤ o.log_max_height = omega (arith, round-within k _ o c.requires.drawn c.args.round c.requires.round) in
@@ -34,8 +34,8 @@ returns-then-word-height-clause-left g c =
     let e = sym split ∙ ap (map joining_of) (sym c.in-Some.ensures.cases.0) ∙ c.requires.waiting in
     left-due k o c.requires.drawn.top c.args.round within (map joining_of rest) (joining_of word) e c.if-word-height.true
 
-pub returns-then-word-height-clause-values : goal.returns-then-word-height-clause-values
-returns-then-word-height-clause-values g c =
+pub returns-in-Some-clause-values : goal.returns-in-Some-clause-values
+returns-in-Some-clause-values g c =
     let k = fields g in
     let o = c.args.run.now in
     let within : c.args.round + 2 ≤ o.log_max_height = omega (arith, round-within k _ o c.requires.drawn c.args.round c.requires.round) in
@@ -47,8 +47,8 @@ returns-then-word-height-clause-values g c =
     c.add_each.ensures ∙ ap (λ vs. pairwise add vs c.deref.result.now) c.requires.values ∙ ap (pairwise add (folds_in k o c.args.round)) c.deref.ensures.value
     ∙ values-due k o c.requires.drawn.top c.args.round within (map joining_of rest) (joining_of word) e c.if-word-height.true
 
-pub returns-else-word-height-clause-left : goal.returns-else-word-height-clause-left
-returns-else-word-height-clause-left g c =
+pub returns-in_default-clause-left : goal.returns-in_default-clause-left
+returns-in_default-clause-left g c =
     let k = fields g in
     let o = c.args.run.now in
     let within : c.args.round + 2 ≤ o.log_max_height = omega (arith, round-within k _ o c.requires.drawn c.args.round c.requires.round) in
@@ -59,8 +59,8 @@ returns-else-word-height-clause-left g c =
     ap (map joining_of) c.in-Some.ensures.cases.0 ∙ split
     ∙ left-later k o c.requires.drawn.top c.args.round within (map joining_of rest) (joining_of word) e c.if-word-height.false
 
-pub returns-else-word-height-clause-values : goal.returns-else-word-height-clause-values
-returns-else-word-height-clause-values g c =
+pub returns-in_default-clause-values : goal.returns-in_default-clause-values
+returns-in_default-clause-values g c =
     let k = fields g in
     let o = c.args.run.now in
     let within : c.args.round + 2 ≤ o.log_max_height = omega (arith, round-within k _ o c.requires.drawn c.args.round c.requires.round) in
@@ -70,18 +70,20 @@ returns-else-word-height-clause-values g c =
     let e = sym split ∙ ap (map joining_of) (sym c.in-Some.ensures.cases.0) ∙ c.requires.waiting in
     c.requires.values ∙ values-later k o c.requires.drawn.top c.args.round within g.EF.Operations.laws.ring (map joining_of rest) (joining_of word) e c.if-word-height.false
 
-pub returns-in_default-clause-left : goal.returns-in_default-clause-left
-returns-in_default-clause-left g c =
+pub returns-in_default-2-clause-left : goal.returns-in_default-2-clause-left
+returns-in_default-2-clause-left g c =
     let k = fields g in
     let o = c.args.run.now in
     let within : c.args.round + 2 ≤ o.log_max_height = omega (arith, round-within k _ o c.requires.drawn c.args.round c.requires.round) in
     let waiting = map joining_of c.args.waiting.now in
-    left-none k o c.requires.drawn.top c.args.round within waiting (length-map c.args.waiting.now joining_of ∙ c.in_default.ensures.cases) c.requires.waiting
+    let none = rw c.in_default.is at c.split_last.ensures.cases in
+    left-none k o c.requires.drawn.top c.args.round within waiting (length-map c.args.waiting.now joining_of ∙ none) c.requires.waiting
 
-pub returns-in_default-clause-values : goal.returns-in_default-clause-values
-returns-in_default-clause-values g c =
+pub returns-in_default-2-clause-values : goal.returns-in_default-2-clause-values
+returns-in_default-2-clause-values g c =
     let k = fields g in
     let o = c.args.run.now in
     let within : c.args.round + 2 ≤ o.log_max_height = omega (arith, round-within k _ o c.requires.drawn c.args.round c.requires.round) in
     let waiting = map joining_of c.args.waiting.now in
-    c.requires.values ∙ values-none k o c.requires.drawn.top c.args.round within g.EF.Operations.laws.ring waiting (length-map c.args.waiting.now joining_of ∙ c.in_default.ensures.cases) c.requires.waiting
+    let none = rw c.in_default.is at c.split_last.ensures.cases in
+    c.requires.values ∙ values-none k o c.requires.drawn.top c.args.round within g.EF.Operations.laws.ring waiting (length-map c.args.waiting.now joining_of ∙ none) c.requires.waiting
