@@ -1,3 +1,7 @@
 mod FirstLayerPlaces
 mod FirstLayerRun
 mod FirstLayerWords
+pub mod LastWord
+pub mod RoundsOpened
+pub mod RoundsValues
+pub mod RoundsWaiting

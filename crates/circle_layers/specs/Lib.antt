@@ -1,1 +1,2 @@
 pub mod FirstLayer
+pub mod Rounds
