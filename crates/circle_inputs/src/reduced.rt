@@ -1,12 +1,109 @@
 //! The sums of the quotients of all claims, for each height at all queries.
-ghost use Rattle.std.specs.Prelude.{◌≡◌, map, OnOk, IfOk, IfErr};
+ghost use Rattle.std.specs.Prelude.{◌≡◌, ℕ, ◌+◌, ◌^◌, ◌<◌, ◌≤◌, length, map, All};
+ghost use Rattle.std.specs.Prelude.{IsNone, IfSome, OnOk, IfOk, IfErr};
+ghost use Rattle.circle_field.specs.Circle.{origin};
+ghost use Rattle.circle_commit.specs.Mmcs.{opened_rows};
+ghost use Rattle.circle_point.specs.Point.{coordinates};
+ghost use Rattle.circle_domain.specs.Selectors.{IsFinite};
+ghost use Rattle.circle_folding.specs.Quotient.{ArePowers};
+ghost use Rattle.circle_folding.specs.Queries.{HaveWidth};
+ghost use Rattle.circle_relation.specs.Statement.{log_height};
+ghost use Rattle.circle_relation.specs.StatementOf.{point_claim, matrix_claims};
 ghost use Rattle.circle_relation.specs.Accepts.{AreApart};
 ghost use Rattle.circle_relation.specs.RunOf.{setting_in, run_of, IsDrawn, IsOpened, heights_of, reduced_words, queried, Refuses};
+ghost use Rattle.circle_inputs.specs.Sums.{claims_on, claims_at, HasRowsOf, AreApartFrom, AreApartAt, Adds};
 
-use circle_commit::{FriError, Mmcs};
-use circle_field::{ComplexExtendable, ExtensionField};
+use circle_commit::{CommitmentOpening, FriError, MatrixOpening, Mmcs, PointOpening};
+use circle_domain::CircleDomain;
+use circle_field::{ComplexExtendable, ExtensionField, Field};
+use circle_folding::{Claim, MatrixRows, add_quotients, query_points};
+use circle_point::Point;
 use circle_relation::{InputError, OpenedRun, OverCircle, QueriedWord};
-use std::alloc::Global;
+use std::alloc::{AllocError, Global};
+
+// The word of one height, at the queries.
+#[derive(Drop)]
+struct Word<'a, F: Field, EF> {
+    // The binary logarithms of its length, and of the blowup.
+    log_height: usize,
+    log_blowup: usize,
+    // The powers of the batching challenge, from the first on.
+    powers: &'a [EF],
+    // The point of each query.
+    points: &'a [Point<F>],
+}
+
+// Adds to the sums the quotients of a matrix's rows under its claims, and answers the offset behind
+// them. `None` exactly where a claimed point is that of a query.
+fn add_matrix<Val: ComplexExtendable, EF: ExtensionField<Val>>(
+    sums: &mut [EF],
+    offset: EF,
+    word: &Word<Val, EF>,
+    rows: &MatrixRows<Val>,
+    claims: &[PointOpening<EF>],
+) -> Option<EF>
+    requires points { length word.now.points.now ≡ length sums.old }
+    requires opened { length rows.now.opened.now ≡ length sums.old }
+    requires rows { All (λ c. HaveWidth (length c.values.items) rows.now) claims.now }
+    requires enough { All (λ c. length c.values.items < length word.now.powers.now) claims.now }
+    requires finite { All (λ c. IsFinite EF.ops c.point) claims.now }
+    ensures none { IsNone result → AreApartFrom EF.ops EF.embed
+        (map coordinates word.now.points.now) (map point_claim claims.now) → ⊥ }
+    ensures apart { IfSome result (λ _. AreApartFrom EF.ops EF.embed
+        (map coordinates word.now.points.now) (map point_claim claims.now)) }
+    ensures sums { IfSome result (λ after. (alpha : EF) → ArePowers EF.ops alpha word.now.powers.now
+        → Adds EF.ops EF.embed alpha (map coordinates word.now.points.now) (origin Val.ops)
+        (claims_on rows.now (map point_claim claims.now)) offset after sums.old sums.new) }
+{
+    let mut after = offset;
+    for opening in claims {
+        let values = &opening.values;
+        let point = Point::from_projective_line(opening.point).unwrap();
+        add_quotients(sums, after, word.powers, word.points, rows, &Claim { point, values })?;
+        let power = word.powers[values.len()];
+        after = after * power * power;
+    }
+    Some(after)
+}
+
+// Adds to the sums the quotients of a batch's rows under the claims on matrices of the word's
+// height, and answers the offset behind them. `None` exactly where a claimed point is that of a
+// query.
+fn add_batch<Val: ComplexExtendable, EF: ExtensionField<Val>>(
+    sums: &mut [EF],
+    offset: EF,
+    word: &Word<Val, EF>,
+    opened: &[Vec<Vec<Val>>],
+    matrices: &[MatrixOpening<EF, CircleDomain<Val>>],
+) -> Option<EF>
+    requires points { length word.now.points.now ≡ length sums.old }
+    requires opened { length opened.now ≡ length sums.old }
+    requires rows { All (HasRowsOf (matrix_claims matrices.now)) (opened_rows opened.now) }
+    requires enough { All (λ m. All (λ c. length c.values < length word.now.powers.now) m.claims)
+        (matrix_claims matrices.now) }
+    requires finite { All (λ m. All (λ c. IsFinite EF.ops c.point) m.claims)
+        (matrix_claims matrices.now) }
+    requires small { All (λ m. log_height word.now.log_blowup m ≤ 62) (matrix_claims matrices.now) }
+    ensures none { IsNone result →
+        AreApartAt EF.ops EF.embed word.now.log_blowup word.now.log_height
+        (map coordinates word.now.points.now) (matrix_claims matrices.now) → ⊥ }
+    ensures apart { IfSome result (λ _.
+        AreApartAt EF.ops EF.embed word.now.log_blowup word.now.log_height
+        (map coordinates word.now.points.now) (matrix_claims matrices.now)) }
+    ensures sums { IfSome result (λ after. (alpha : EF) → ArePowers EF.ops alpha word.now.powers.now
+        → Adds EF.ops EF.embed alpha (map coordinates word.now.points.now) (origin Val.ops)
+        (claims_at word.now.log_blowup word.now.log_height (matrix_claims matrices.now)
+        (opened_rows opened.now)) offset after sums.old sums.new) }
+{
+    let mut after = offset;
+    for (i, matrix) in matrices.iter().enumerate() {
+        if matrix.domain.log_n() + word.log_blowup == word.log_height {
+            let rows = MatrixRows { opened, matrix: i };
+            after = add_matrix(sums, after, word, &rows, &matrix.points)?;
+        }
+    }
+    Some(after)
+}
 
 /// For each claimed height the points of the queries, and at each of them the sum of the quotients
 /// of its rows under the claims on matrices of that height, in order, each times the power of the

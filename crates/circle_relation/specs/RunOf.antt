@@ -5,6 +5,7 @@ use Rattle.circle_commit.specs.Mmcs.{opened_rows}
 use Rattle.circle_commit.specs.declared.error.FriError.{FriError}
 use Rattle.circle_commit.specs.declared.params.FriParameters.{FriParameters}
 use Rattle.circle_commit.specs.declared.pcs.BatchMultiOpening.{BatchMultiOpening}
+use Rattle.circle_domain.specs.Selectors.{IsFinite}
 use Rattle.circle_point.specs.Point.{coordinates}
 use Rattle.circle_relation.specs.declared.proof.CircleCommitPhaseMultiStep.{CircleCommitPhaseMultiStep}
 use Rattle.circle_relation.specs.declared.proof.CirclePcsProof.{CirclePcsProof}
@@ -89,6 +90,9 @@ module _ {F E I W IC ID IP IE WC WD WP WE : Type 0} where
     pub some_matrix : 1 ≤ length (matrices (setting_in k o) (run_of o))
     pub large :
         All (λ m. o.params.now.log_final_poly_len + 1 ≤ m.log_n)
+        (matrices (setting_in k o) (run_of o))
+    pub finite :
+        All (λ m. All (λ c. IsFinite k.extension c.point) m.claims)
         (matrices (setting_in k o) (run_of o))
     pub shape : HasRounds (setting_in k o) (run_of o)
     pub betas : length o.betas.now ≡ rounds (setting_in k o) (run_of o)
