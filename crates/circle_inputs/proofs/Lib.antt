@@ -1,1 +1,2 @@
 pub mod ReducedSums
+pub mod ReducedRows

@@ -1,0 +1,76 @@
+-- The rows of a batch, matrix after matrix.
+use Rattle.std.specs.Prelude.{◌≡◌, ◌≢◌, ℕ, ◌+◌, ◌<◌, ◌==◌, Bool, false, if◌then◌else◌, List, [], ◌∷◌, ◌++◌, length, map, flat_map, zip, All, slice_index_or}
+use Rattle.std.proofs.Common.{zero, suc, refl, sym, ◌∙◌, ap, subst, take, arith}
+use Rattle.std.proofs.lemmas.Bool.{eq-eqb, ne_eqb}
+use Rattle.std.proofs.lemmas.List.{append-nil, length-map, get_or-map, get_or_default}
+use Rattle.std.proofs.lemmas.Grind.{flat_map-append}
+use Rattle.std.proofs.lemmas.Slice.Zip.{get_or-zip, length-zip}
+use Rattle.circle_folding.specs.Queries.{rows_of}
+use Rattle.circle_relation.specs.Statement.{PointClaim, MatrixClaim, log_height}
+use Rattle.circle_inputs.specs.Sums.{on_row, of_height, claims_at, HasRowsOf}
+
+-- what holds of all entries holds of the one in a place, and of what they are made from
+pub All-there : {T : Type 0} (P : T → Type 0) (xs : List T) (i : ℕ) (x : T) → All P xs → i < length xs → slice_index_or xs i x ≡ x → P x
+All-there P xs i x all lt is = subst P is (all i x lt)
+
+pub All-under : {S T : Type 0} (P : T → Type 0) (f : S → T) (xs : List S) → All P (map f xs) → All (λ x. P (f x)) xs
+All-under P f xs all = λ i d lt. subst P (get_or-map f xs i d (f d) lt) (all i (f d) (omega (arith, lt, length-map xs f)))
+
+-- one more of a list beside another
+zip-more : {A B : Type 0} (xs : List A) (ys : List B) (i : ℕ) (d : A) (e : B) → i < length xs → i < length ys →
+    zip (take (suc i) xs) ys ≡ zip (take i xs) ys ++ (slice_index_or xs i d, slice_index_or ys i e) ∷ []
+zip-more [] ys i d e inside within = absurd (omega (arith, inside))
+zip-more (x ∷ xs) [] i d e inside within = absurd (omega (arith, within))
+zip-more (x ∷ xs) (y ∷ ys) zero d e inside within = refl
+zip-more (x ∷ xs) (y ∷ ys) (suc i) d e inside within = ap (λ rest. (x, y) ∷ rest) (zip-more xs ys i d e (omega (arith, inside)) (omega (arith, within)))
+
+module _ {F E : Type 0} (blowup h : ℕ) (m : MatrixClaim E) (row : List F) where
+  abbrev part : Bool → List (PointClaim E × List F)
+  part b = (if b then on_row row m.claims else []) ++ []
+
+  of_height-same : (pairs : List (MatrixClaim E × List F)) → log_height blowup m ≡ h → of_height blowup h (pairs ++ (m, row) ∷ []) ≡ of_height blowup h pairs ++ on_row row m.claims
+  of_height-same pairs same =
+      flat_map-append (λ (p : MatrixClaim E × List F). if log_height blowup p.0 == h then on_row p.1 p.0.claims else []) pairs ((m, row) ∷ [])
+      ∙ ap (λ b. of_height blowup h pairs ++ part b) (eq-eqb (log_height blowup m) h same)
+      ∙ ap (λ cs. of_height blowup h pairs ++ cs) (append-nil (on_row row m.claims))
+
+  of_height-other : (pairs : List (MatrixClaim E × List F)) → log_height blowup m ≢ h → of_height blowup h (pairs ++ (m, row) ∷ []) ≡ of_height blowup h pairs
+  of_height-other pairs other =
+      flat_map-append (λ (p : MatrixClaim E × List F). if log_height blowup p.0 == h then on_row p.1 p.0.claims else []) pairs ((m, row) ∷ [])
+      ∙ ap (λ b. of_height blowup h pairs ++ part b) (ne_eqb (log_height blowup m) h other)
+      ∙ append-nil (of_height blowup h pairs)
+
+module _ {F E : Type 0} (blowup h : ℕ) (ms : List (MatrixClaim E)) (entries : List (List (List F))) (all : All (HasRowsOf ms) entries) (i : ℕ) (m : MatrixClaim E) (inside : i < length ms) (is : slice_index_or ms i m ≡ m) where
+  -- the matrix has a row at each query, as long as its claims
+  pub row-there : (j : ℕ) (d : List (List F)) → j < length entries → i < length (slice_index_or entries j d)
+  row-there j d lt = let has = all j d lt in omega (arith, inside, has.0)
+
+  pub rows-wide : All (λ c. All (λ rows. (i < length rows) × (length (slice_index_or rows i []) ≡ length c.values)) entries) m.claims
+  rows-wide = λ k c lt j d within.
+      let rows = slice_index_or entries j d in
+      let has = all j d within in
+      let there = row-there j d within in
+      let both : i < length (zip ms rows) = omega (arith, inside, there, has.0, length-zip ms rows) in
+      let wide : All (λ c. length (slice_index_or rows i []) ≡ length c.values) m.claims =
+      All-there (λ (p : MatrixClaim E × List F). All (λ c. length p.1 ≡ length c.values) p.0.claims) (zip ms rows) i (m, slice_index_or rows i []) has.1 both
+      (get_or-zip ms rows i (m, slice_index_or rows i []) inside there
+      ∙ ap (λ n. (n, slice_index_or rows i (slice_index_or rows i []))) is ∙ ap (λ r. (m, r)) (get_or_default rows i (slice_index_or rows i []) [] there)) in
+      (there, wide k c lt)
+
+  more : (j : ℕ) → j < length entries → zip (take (i + 1) ms) (slice_index_or entries j []) ≡ zip (take i ms) (slice_index_or entries j []) ++ (m, slice_index_or (rows_of i entries) j []) ∷ []
+  more j lt =
+      let rows = slice_index_or entries j [] in
+      let next : i + 1 ≡ suc i = omega arith in
+      ap (λ n. zip (take n ms) rows) next ∙ zip-more ms rows i m [] inside (row-there j [] lt)
+      ∙ ap (λ n. zip (take i ms) rows ++ (n, slice_index_or rows i []) ∷ []) is
+      ∙ ap (λ r. zip (take i ms) rows ++ (m, r) ∷ []) (sym (get_or-map (λ (rows : List (List F)). slice_index_or rows i []) entries j [] [] lt))
+
+  -- the claims on one more matrix
+  pub claims-more : log_height blowup m ≡ h → (j : ℕ) → j < length entries →
+      claims_at blowup h (take i ms) entries j ++ on_row (slice_index_or (rows_of i entries) j []) m.claims ≡ claims_at blowup h (take (i + 1) ms) entries j
+  claims-more same j lt =
+      sym (ap (of_height blowup h) (more j lt) ∙ of_height-same blowup h m (slice_index_or (rows_of i entries) j []) (zip (take i ms) (slice_index_or entries j [])) same)
+
+  pub claims-other : log_height blowup m ≢ h → (j : ℕ) → j < length entries → claims_at blowup h (take i ms) entries j ≡ claims_at blowup h (take (i + 1) ms) entries j
+  claims-other other j lt =
+      sym (ap (of_height blowup h) (more j lt) ∙ of_height-other blowup h m (slice_index_or (rows_of i entries) j []) (zip (take i ms) (slice_index_or entries j [])) other)
