@@ -1,13 +1,16 @@
 -- The rows of a batch, matrix after matrix.
-use Rattle.std.specs.Prelude.{◌≡◌, ◌≢◌, ℕ, ◌+◌, ◌<◌, ◌==◌, Bool, false, if◌then◌else◌, List, [], ◌∷◌, ◌++◌, length, map, flat_map, zip, All, slice_index_or}
+use Rattle.std.specs.Prelude.{◌≡◌, ◌≢◌, ℕ, ◌+◌, ◌<◌, ◌==◌, Bool, false, if◌then◌else◌, List, [], ◌∷◌, ◌++◌, length, map, flat_map, zip, All, Some, slice_index_or}
 use Rattle.std.proofs.Common.{zero, suc, refl, sym, ◌∙◌, ap, subst, take, arith}
 use Rattle.std.proofs.lemmas.Bool.{eq-eqb, ne_eqb}
-use Rattle.std.proofs.lemmas.List.{append-nil, length-map, get_or-map, get_or_default}
+use Rattle.std.proofs.lemmas.List.{append-nil, length-map, get_or-map, get_or_default, take_more}
+use Rattle.std.proofs.lemmas.List.Elements.{All-nil, All-append, All-head, All-tail}
+use Rattle.std.proofs.lemmas.Option.{slice_get-get_or}
 use Rattle.std.proofs.lemmas.Grind.{flat_map-append}
 use Rattle.std.proofs.lemmas.Slice.Zip.{get_or-zip, length-zip}
 use Rattle.circle_folding.specs.Queries.{rows_of}
-use Rattle.circle_relation.specs.Statement.{PointClaim, MatrixClaim, log_height}
-use Rattle.circle_inputs.specs.Sums.{on_row, of_height, claims_at, HasRowsOf}
+use Rattle.circle_relation.specs.Statement.{PointClaim, MatrixClaim, BatchClaim, Opened, all_matrices, log_height}
+use Rattle.circle_relation.proofs.Contradictions.{All-part}
+use Rattle.circle_inputs.specs.Sums.{on_row, of_height, claims_at, all_claims_at, HasRowsOf}
 
 -- what holds of all entries holds of the one in a place, and of what they are made from
 pub All-there : {T : Type 0} (P : T → Type 0) (xs : List T) (i : ℕ) (x : T) → All P xs → i < length xs → slice_index_or xs i x ≡ x → P x
@@ -74,3 +77,36 @@ module _ {F E : Type 0} (blowup h : ℕ) (ms : List (MatrixClaim E)) (entries : 
   pub claims-other : log_height blowup m ≢ h → (j : ℕ) → j < length entries → claims_at blowup h (take i ms) entries j ≡ claims_at blowup h (take (i + 1) ms) entries j
   claims-other other j lt =
       sym (ap (of_height blowup h) (more j lt) ∙ of_height-other blowup h m (slice_index_or (rows_of i entries) j []) (zip (take i ms) (slice_index_or entries j [])) other)
+
+-- entries beside one another
+pub pair-read : {A B : Type 0} (xs : List A) (ys : List B) (i : ℕ) (a : A) (b : B) → i < length xs → i < length ys → slice_index_or xs i a ≡ a → slice_index_or ys i b ≡ b →
+    slice_index_or (zip xs ys) i (a, b) ≡ (a, b)
+pair-read xs ys i a b inside within is_a is_b = get_or-zip xs ys i (a, b) inside within ∙ ap (λ x. (x, slice_index_or ys i b)) is_a ∙ ap (λ y. (a, y)) is_b
+
+-- what holds of the entries of each list holds of those of all
+pub All-flat : {S T : Type 0} (P : T → Type 0) (f : S → List T) (xs : List S) → All (λ x. All P (f x)) xs → All P (flat_map f xs)
+All-flat P f [] all = All-nil P
+All-flat P f (x ∷ xs) all = All-append P (f x) (flat_map f xs) (All-head (λ x. All P (f x)) x xs all) (All-flat P f xs (All-tail (λ x. All P (f x)) x xs all))
+
+module _ {Com E : Type 0} (batches : List (BatchClaim Com E)) (i : ℕ) (b : BatchClaim Com E) (inside : i < length batches) (is : slice_index_or batches i b ≡ b) where
+  pub of-batch : (P : MatrixClaim E → Type 0) → All P (all_matrices batches) → All P b.matrices
+  of-batch P all = All-part P (λ b. b.matrices) batches i b all (slice_get-get_or batches i b inside ∙ ap Some is)
+
+  -- the matrices of one more batch
+  pub all_matrices-more : all_matrices (take (i + 1) batches) ≡ all_matrices (take i batches) ++ b.matrices
+  all_matrices-more =
+      ap all_matrices (take_more batches i b inside ∙ ap (λ c. take i batches ++ c ∷ []) is)
+      ∙ flat_map-append (λ (b : BatchClaim Com E). b.matrices) (take i batches) (b ∷ [])
+      ∙ ap (λ ms. all_matrices (take i batches) ++ ms) (append-nil b.matrices)
+
+  -- and the claims on them
+  pub all_claims-more : {F Proof : Type 0} (blowup h : ℕ) (inputs : List (Opened (List (List F)) Proof)) (o : Opened (List (List F)) Proof) → i < length inputs → slice_index_or inputs i o ≡ o → (j : ℕ) →
+      all_claims_at blowup h (zip (take i batches) inputs) j ++ claims_at blowup h b.matrices o.entries j ≡ all_claims_at blowup h (zip (take (i + 1) batches) inputs) j
+  all_claims-more {F} {Proof} blowup h inputs o within is_o j =
+      let next : i + 1 ≡ suc i = omega arith in
+      let one = λ (p : BatchClaim Com E × Opened (List (List F)) Proof). claims_at blowup h p.0.matrices p.1.entries j in
+      sym (ap (λ n. all_claims_at blowup h (zip (take n batches) inputs) j) next
+      ∙ ap (λ ps. all_claims_at blowup h ps j) (zip-more batches inputs i b o inside within
+      ∙ ap (λ c. zip (take i batches) inputs ++ (c, slice_index_or inputs i o) ∷ []) is ∙ ap (λ p. zip (take i batches) inputs ++ (b, p) ∷ []) is_o)
+      ∙ flat_map-append one (zip (take i batches) inputs) ((b, o) ∷ [])
+      ∙ ap (λ cs. all_claims_at blowup h (zip (take i batches) inputs) j ++ cs) (append-nil (one (b, o))))

@@ -9,7 +9,7 @@ use Rattle.circle_point.specs.Projective.{from_line}
 use Rattle.circle_folding.specs.Quotient.{claim_quotient}
 use Rattle.circle_folding.specs.Queries.{IsApart, matrix_rows}
 use Rattle.circle_folding.specs.declared.reduced.MatrixRows.{MatrixRows}
-use Rattle.circle_relation.specs.Statement.{PointClaim, MatrixClaim, log_height}
+use Rattle.circle_relation.specs.Statement.{PointClaim, MatrixClaim, BatchClaim, Opened, log_height}
 use Rattle.circle_inputs.specs.declared.reduced.Word.{Word}
 
 module _ {F E : Type 0} where
@@ -30,6 +30,12 @@ module _ {F E : Type 0} where
       ℕ → ℕ → List (MatrixClaim E) → List (List (List F)) → ℕ → List (PointClaim E × List F)
   claims_at blowup h matrices entries j =
       of_height blowup h (zip matrices (slice_index_or entries j []))
+
+  -- and those on the matrices of all batches
+  abbrev pub all_claims_at : {Com Proof : Type 0} →
+      ℕ → ℕ → List (BatchClaim Com E × Opened (List (List F)) Proof) → ℕ → List (PointClaim E × List F)
+  all_claims_at blowup h pairs j =
+      flat_map (λ p. claims_at blowup h p.0.matrices p.1.entries j) pairs
 
   -- the rows that are opened at a query: one of each matrix, as long as its claims
   abbrev pub HasRowsOf : List (MatrixClaim E) → List (List F) → Type 0

@@ -1,5 +1,5 @@
 //! The sums of the quotients of all claims, for each height at all queries.
-ghost use Rattle.std.specs.Prelude.{◌≡◌, ℕ, ◌+◌, ◌^◌, ◌<◌, ◌≤◌, length, map, All};
+ghost use Rattle.std.specs.Prelude.{◌≡◌, ℕ, ◌+◌, ◌^◌, ◌<◌, ◌≤◌, length, map, zip, All};
 ghost use Rattle.std.specs.Prelude.{IsNone, IfSome, OnOk, IfOk, IfErr};
 ghost use Rattle.circle_field.specs.Circle.{origin};
 ghost use Rattle.circle_commit.specs.Mmcs.{opened_rows};
@@ -7,11 +7,11 @@ ghost use Rattle.circle_point.specs.Point.{coordinates};
 ghost use Rattle.circle_domain.specs.Selectors.{IsFinite};
 ghost use Rattle.circle_folding.specs.Quotient.{ArePowers};
 ghost use Rattle.circle_folding.specs.Queries.{HaveWidth};
-ghost use Rattle.circle_relation.specs.Statement.{log_height};
+ghost use Rattle.circle_relation.specs.Statement.{log_height, all_matrices};
 ghost use Rattle.circle_relation.specs.StatementOf.{point_claim, matrix_claims};
 ghost use Rattle.circle_relation.specs.Accepts.{AreApart};
 ghost use Rattle.circle_relation.specs.RunOf.{setting_in, run_of, IsDrawn, IsOpened, heights_of, reduced_words, queried, Refuses};
-ghost use Rattle.circle_inputs.specs.Sums.{claims_on, claims_at, HasRowsOf, AreApartFrom, AreApartAt, Adds};
+ghost use Rattle.circle_inputs.specs.Sums.{claims_on, claims_at, all_claims_at, HasRowsOf, AreApartFrom, AreApartAt, Adds};
 
 use circle_commit::{CommitmentOpening, FriError, MatrixOpening, Mmcs, PointOpening};
 use circle_domain::CircleDomain;
@@ -103,6 +103,49 @@ fn add_batch<Val: ComplexExtendable, EF: ExtensionField<Val>>(
         }
     }
     Some(after)
+}
+
+// Adds to the sums the quotients of all rows under the claims on matrices of the word's height.
+// `None` exactly where a claimed point is that of a query.
+fn add_batches<
+    Val: ComplexExtendable,
+    EF: ExtensionField<Val>,
+    InputMmcs: Mmcs<Val>,
+    FriMmcs: Mmcs<EF>,
+>(
+    sums: &mut [EF],
+    word: &Word<Val, EF>,
+    run: &OpenedRun<Val, EF, InputMmcs, FriMmcs>,
+) -> Option<()>
+    requires points { length word.now.points.now ≡ length sums.old }
+    requires queries { length run.now.indices.now ≡ length sums.old }
+    requires blowup { word.now.log_blowup ≡ run.now.params.now.log_blowup }
+    requires opened { IsOpened ⟦<EF as OverCircle<Val>>⟧.fields run.now }
+    requires enough { All (λ m. All (λ c. length c.values < length word.now.powers.now) m.claims)
+        (all_matrices (run_of run.now).batches) }
+    requires finite { All (λ m. All (λ c. IsFinite EF.ops c.point) m.claims)
+        (all_matrices (run_of run.now).batches) }
+    requires small { All (λ m. log_height word.now.log_blowup m ≤ 62)
+        (all_matrices (run_of run.now).batches) }
+    ensures none { IsNone result →
+        AreApartAt EF.ops EF.embed word.now.log_blowup word.now.log_height
+        (map coordinates word.now.points.now) (all_matrices (run_of run.now).batches) → ⊥ }
+    ensures apart { IfSome result (λ _.
+        AreApartAt EF.ops EF.embed word.now.log_blowup word.now.log_height
+        (map coordinates word.now.points.now) (all_matrices (run_of run.now).batches)) }
+    ensures sums { IfSome result (λ _. (alpha : EF) → ArePowers EF.ops alpha word.now.powers.now
+        → (after : EF) × Adds EF.ops EF.embed alpha (map coordinates word.now.points.now)
+        (origin Val.ops) (all_claims_at word.now.log_blowup word.now.log_height
+        (zip (run_of run.now).batches (run_of run.now).proof.inputs)) EF.ops.one after
+        sums.old sums.new) }
+{
+    let openings = &run.proof.fri_proof.input_openings.input_openings;
+    let mut offset = EF::ONE;
+    for (i, batch) in run.claims.iter().enumerate() {
+        let opened = &openings[i].opened_values;
+        offset = add_batch(sums, offset, word, opened, &batch.matrices)?;
+    }
+    Some(())
 }
 
 /// For each claimed height the points of the queries, and at each of them the sum of the quotients
