@@ -1,2 +1,3 @@
 pub mod ReducedSums
 pub mod ReducedRows
+pub mod ReducedWords

@@ -7,10 +7,12 @@ use Rattle.circle_commit.specs.Mmcs.{opened_rows}
 use Rattle.circle_point.specs.Point.{coordinates}
 use Rattle.circle_point.specs.Projective.{from_line}
 use Rattle.circle_folding.specs.Quotient.{claim_quotient}
-use Rattle.circle_folding.specs.Queries.{IsApart, matrix_rows}
+use Rattle.circle_folding.specs.Queries.{IsApart, matrix_rows, query_point}
 use Rattle.circle_folding.specs.declared.reduced.MatrixRows.{MatrixRows}
-use Rattle.circle_relation.specs.Statement.{PointClaim, MatrixClaim, BatchClaim, Opened, log_height}
-use Rattle.circle_inputs.specs.declared.reduced.Word.{Word}
+use Rattle.circle_relation.specs.Statement.{PointClaim, MatrixClaim, BatchClaim, Opened, all_matrices, log_height}
+use Rattle.circle_relation.specs.Accepts.{Fields, top, at_queries, point_among, reduced_from, claims_of}
+use Rattle.circle_relation.specs.RunOf.{setting_in, run_of}
+use Rattle.circle_relation.specs.declared.run.OpenedRun.{OpenedRun}
 
 module _ {F E : Type 0} where
   -- a row beside each claim on it
@@ -73,3 +75,25 @@ module _ {F E : Type 0} (l : FieldOps E) (embed : F → E) where
           l.add (slice_index_or new j l.zero) (reduced next (slice_index_or points j none) rest)
           ≡ l.add (slice_index_or old j l.zero)
           (reduced columns (slice_index_or points j none) (claims j ++ rest)))
+
+-- the word of height 2^h at the queries: their points, and the sums of the quotients of their rows
+abbrev pub word_at : {F E I W IC ID IP IE WC WD WP WE : Type 0} {g : _} →
+    Fields F E → OpenedRun F E I W IC ID IP IE WC WD WP WE g → ℕ → ℕ × (List (Coordinates F) × List E)
+word_at k o h =
+    let s = setting_in k o in
+    let r = run_of o in
+    (
+      h,
+      (
+        at_queries s r (λ j q. point_among s r j q h),
+        at_queries s r (λ j q. reduced_from s r 0 (point_among s r j q h) (claims_of s r h j)),
+      ),
+    )
+
+-- none of its points is claimed of a matrix of that height
+abbrev pub IsApartIn : {F E I W IC ID IP IE WC WD WP WE : Type 0} {g : _} →
+    Fields F E → OpenedRun F E I W IC ID IP IE WC WD WP WE g → ℕ → Type 0
+IsApartIn k o h =
+    let point = query_point k.field k.gen h (top (setting_in k o) (run_of o)) in
+    AreApartAt k.extension k.embed o.params.now.log_blowup h (map point o.indices.now)
+    (all_matrices (run_of o).batches)

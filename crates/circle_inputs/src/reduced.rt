@@ -8,10 +8,11 @@ ghost use Rattle.circle_domain.specs.Selectors.{IsFinite};
 ghost use Rattle.circle_folding.specs.Quotient.{ArePowers};
 ghost use Rattle.circle_folding.specs.Queries.{HaveWidth};
 ghost use Rattle.circle_relation.specs.Statement.{log_height, all_matrices};
-ghost use Rattle.circle_relation.specs.StatementOf.{point_claim, matrix_claims};
+ghost use Rattle.circle_relation.specs.StatementOf.{point_claim, matrix_claims, batch_claims};
 ghost use Rattle.circle_relation.specs.Accepts.{AreApart};
 ghost use Rattle.circle_relation.specs.RunOf.{setting_in, run_of, IsDrawn, IsOpened, heights_of, reduced_words, queried, Refuses};
 ghost use Rattle.circle_inputs.specs.Sums.{claims_on, claims_at, all_claims_at, HasRowsOf, AreApartFrom, AreApartAt, Adds};
+ghost use Rattle.circle_inputs.specs.Sums.{word_at, IsApartIn};
 
 use circle_commit::{CommitmentOpening, FriError, MatrixOpening, Mmcs, PointOpening};
 use circle_domain::CircleDomain;
@@ -148,6 +149,91 @@ fn add_batches<
     Some(())
 }
 
+// The greatest number of values of a claim: of one matrix, of a batch, of all batches.
+fn width_of_matrix<EF: Copy>(claims: &[PointOpening<EF>]) -> usize
+    ensures { All (λ c. length c.values.items ≤ result) claims.now }
+{
+    let mut width = 0;
+    for claim in claims {
+        width = claim.values.len().max(width);
+    }
+    width
+}
+
+fn width_of_batch<EF: Copy, Domain>(matrices: &[MatrixOpening<EF, Domain>]) -> usize
+    ensures { All (λ m. All (λ c. length c.values.items ≤ result) m.points.items) matrices.now }
+{
+    let mut width = 0;
+    for matrix in matrices {
+        width = width_of_matrix(&matrix.points).max(width);
+    }
+    width
+}
+
+fn width_of_batches<EF: Copy, Com, Domain>(batches: &[CommitmentOpening<EF, Com, Domain>]) -> usize
+    ensures { All (λ b. All (λ m. All (λ c. length c.values.items ≤ result) m.points.items)
+        b.matrices.items) batches.now }
+{
+    let mut width = 0;
+    for batch in batches {
+        width = width_of_batch(&batch.matrices).max(width);
+    }
+    width
+}
+
+// The powers of the batching challenge, one more than there are values of any claim.
+fn powers_for<Val: ComplexExtendable, EF: ExtensionField<Val>, Com>(
+    alloc: Global,
+    alpha: EF,
+    batches: &[CommitmentOpening<EF, Com, CircleDomain<Val>>],
+) -> Result<Vec<EF>, AllocError>
+    ensures powers { IfOk result (λ powers. ArePowers EF.ops alpha powers.items) }
+    ensures enough { IfOk result (λ powers. All (λ m. All (λ c. length c.values
+        < length powers.items) m.claims) (all_matrices (batch_claims batches.now))) }
+{
+    let count = width_of_batches(batches).checked_add(1).ok_or(AllocError)?;
+    EF::powers(alloc, alpha, count)
+}
+
+// The word of one height at the queries.
+fn reduced_word<
+    Val: ComplexExtendable,
+    EF: ExtensionField<Val>,
+    InputMmcs: Mmcs<Val>,
+    FriMmcs: Mmcs<EF>,
+>(
+    alloc: Global,
+    run: &OpenedRun<Val, EF, InputMmcs, FriMmcs>,
+    powers: &[EF],
+    log_height: usize,
+) -> Result<
+    QueriedWord<Val, EF>,
+    FriError<FriMmcs::Error, InputError<InputMmcs::Error, FriMmcs::Error>>,
+>
+    requires drawn { IsDrawn ⟦<EF as OverCircle<Val>>⟧.fields Val.CIRCLE_TWO_ADICITY run.now }
+    requires opened { IsOpened ⟦<EF as OverCircle<Val>>⟧.fields run.now }
+    requires positive { 1 ≤ log_height }
+    requires within { log_height ≤ run.now.log_max_height }
+    requires powers { ArePowers EF.ops run.now.alpha powers.now }
+    requires enough { All (λ m. All (λ c. length c.values < length powers.now) m.claims)
+        (all_matrices (run_of run.now).batches) }
+    ensures word { IfOk result (λ word. queried word
+        ≡ word_at ⟦<EF as OverCircle<Val>>⟧.fields run.now log_height) }
+    ensures apart { OnOk result
+        (IsApartIn ⟦<EF as OverCircle<Val>>⟧.fields run.now log_height) }
+    ensures refused { IfErr result (Refuses ⟦<EF as OverCircle<Val>>⟧.fields run.now
+        InputMmcs.authenticates FriMmcs.authenticates) }
+{
+    let points = query_points(alloc, log_height, run.log_max_height, run.indices)?;
+    let mut values = vec![in alloc; EF::ZERO; run.indices.len()]?;
+    let log_blowup = run.params.log_blowup;
+    let word = Word { log_height, log_blowup, powers, points: &points };
+    match add_batches(&mut values, &word, run) {
+        Some(()) => Ok(QueriedWord { log_height, points, values }),
+        None => Err(FriError::InputError(InputError::OpeningPointMatchesQueryPoint)),
+    }
+}
+
 /// For each claimed height the points of the queries, and at each of them the sum of the quotients
 /// of its rows under the claims on matrices of that height, in order, each times the power of the
 /// batching challenge of twice the number of columns that are claimed before it. Refuses a claim at
@@ -178,5 +264,11 @@ pub fn reduced_words<
     ensures refused { IfErr result (Refuses ⟦<EF as OverCircle<Val>>⟧.fields run.now
         InputMmcs.authenticates FriMmcs.authenticates) }
 {
-    Err(FriError::Memory)
+    let powers = powers_for(alloc, run.alpha, run.claims)?;
+    let mut words = Vec::with_capacity(alloc, heights.len())?;
+    for log_height in heights {
+        let word = reduced_word(alloc, run, &powers, *log_height)?;
+        words.push(word).map_err(AllocError::from)?;
+    }
+    Ok(words)
 }
