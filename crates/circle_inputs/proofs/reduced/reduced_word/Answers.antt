@@ -1,6 +1,7 @@
 use Rattle.std.proofs.Common.{◌≡◌, ℕ, ◌+◌, ◌≤◌, ◌<◌, List, [], ◌∷◌, ◌∙◌, refl, sym, ap, subst, length, map, All, arith, slice_index_or, replicate}
 use Rattle.std.specs.Prelude.{zip}
-use Rattle.std.proofs.lemmas.List.{length-map, length-replicate, get_or-replicate}
+use Rattle.std.specs.Vec.{with_items}
+use Rattle.std.proofs.lemmas.List.{length-map, length-replicate, get_or-replicate, with_items_is}
 use Rattle.circle_field.specs.Circle.{origin}
 use Rattle.circle_point.specs.Point.{coordinates}
 use Rattle.circle_commit.specs.declared.error.FriError.TheVariants.{Memory}
@@ -112,4 +113,6 @@ returns-in-Some-clause-word g c =
     λ j lt. ap (λ xs. slice_index_or xs j l.zero) is_old ∙ get_or-replicate (length queries) j c.ZERO.result l.zero lt ∙ c.ZERO.ensures ∙ g.met.EF.Field.zero_law in
     let sums = sums-at s r h new (map coordinates c.deref.result.now) none (adds.counted ∙ counted) listed
     (λ j lt. adds-all g.EF.Operations.laws.ring s.embed c.args.run.now.alpha (map coordinates c.deref.result.now) none claims added.0 old new adds j (omega (arith, lt, adds.counted)) (zero j (omega (arith, lt, adds.counted, counted)))) in
-    ap (λ xs. (h, (xs, new))) (of_points ∙ sym (points-at s r h)) ∙ ap (λ ss. (h, (at_queries s r (λ j q. point_among s r j q h), ss))) sums
+    let stored : (with_items c.in_ok-values.values new).items ≡ new =
+    with_items_is c.in_ok-values.values new (omega (arith, adds.counted, c.deref_mut.ensures.len)) in
+    ap (λ xs. (h, (map coordinates ps, xs))) stored ∙ ap (λ xs. (h, (xs, new))) (of_points ∙ sym (points-at s r h)) ∙ ap (λ ss. (h, (at_queries s r (λ j q. point_among s r j q h), ss))) sums
