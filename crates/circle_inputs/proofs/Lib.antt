@@ -1,3 +1,4 @@
 pub mod ReducedSums
 pub mod ReducedRows
 pub mod ReducedWords
+pub mod ReducedWidths

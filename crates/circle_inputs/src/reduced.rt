@@ -268,7 +268,10 @@ pub fn reduced_words<
     let mut words = Vec::with_capacity(alloc, heights.len())?;
     for log_height in heights {
         let word = reduced_word(alloc, run, &powers, *log_height)?;
-        words.push(word).map_err(AllocError::from)?;
+        match words.push(word) {
+            Ok(()) => {}
+            Err(_) => return Err(FriError::Memory),
+        }
     }
     Ok(words)
 }
