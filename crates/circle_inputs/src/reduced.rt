@@ -191,8 +191,11 @@ fn powers_for<Val: ComplexExtendable, EF: ExtensionField<Val>, Com>(
     ensures enough { IfOk result (λ powers. All (λ m. All (λ c. length c.values
         < length powers.items) m.claims) (all_matrices (batch_claims batches.now))) }
 {
-    let count = width_of_batches(batches).checked_add(1).ok_or(AllocError)?;
-    EF::powers(alloc, alpha, count)
+    let width = width_of_batches(batches);
+    if width == usize::MAX {
+        return Err(AllocError);
+    }
+    EF::powers(alloc, alpha, width + 1)
 }
 
 // The word of one height at the queries.
