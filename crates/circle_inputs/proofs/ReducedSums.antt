@@ -1,6 +1,6 @@
 -- Sums of quotients, claim after claim.
-use Rattle.std.specs.Prelude.{◌≡◌, ℕ, ◌+◌, ◌*◌, ◌<◌, List, [], ◌∷◌, ◌++◌, length, map, slice_index_or}
-use Rattle.std.proofs.Common.{zero, suc, refl, sym, ◌∙◌, ap, arith}
+use Rattle.std.specs.Prelude.{◌≡◌, ℕ, ◌+◌, ◌*◌, ◌<◌, List, [], ◌∷◌, ◌++◌, length, slice_index_or}
+use Rattle.std.proofs.Common.{refl, sym, ◌∙◌, ap, arith}
 use Rattle.std.proofs.lemmas.List.{append_assoc, append-nil}
 use Rattle.circle_field.specs.Field.{FieldOps, RingLaws, nth_power}
 use Rattle.circle_field.specs.RingFacts.{add_zero}

@@ -1,6 +1,6 @@
 -- The reduced words at the queries, and what they are apart from.
-use Rattle.std.specs.Prelude.{◌≡◌, ℕ, ◌+◌, ◌<◌, ◌≤◌, ◌==◌, if◌then◌else◌, Bool, true, false, List, [], ◌∷◌, length, map, zip, All, max, slice_index_or}
-use Rattle.std.specs.List.{filter, list_any, range_with_len}
+use Rattle.std.specs.Prelude.{◌≡◌, ℕ, ◌+◌, ◌<◌, ◌≤◌, ◌==◌, if◌then◌else◌, Bool, true, false, List, [], ◌∷◌, length, map, zip, All, slice_index_or}
+use Rattle.std.specs.List.{filter, range_with_len}
 use Rattle.std.specs.declared.result.Result.{Result}
 use Rattle.std.specs.Result.{IsErrAnd, IfErr}
 use Rattle.std.proofs.Common.{zero, suc, refl, sym, ◌∙◌, ap, subst, arith, Ok, Err}
@@ -10,11 +10,10 @@ use Rattle.std.proofs.lemmas.List.{length-map, get_or-map, get_or_default, ext_g
 use Rattle.std.proofs.lemmas.List.Elements.{All-head, All-tail, filter_passes, All-filter}
 use Rattle.std.proofs.lemmas.List.Folds.{list_any-from_Any, Any-from_list_any}
 use Rattle.std.proofs.lemmas.List.FromFn.{get_or-range_with_len, length-range_with_len}
-use Rattle.circle_field.specs.Circle.{Coordinates, lifted, origin}
+use Rattle.circle_field.specs.Circle.{Coordinates, lifted}
 use Rattle.circle_commit.specs.Mmcs.{greatest}
-use Rattle.circle_point.specs.Projective.{from_line}
 use Rattle.circle_folding.specs.Queries.{query_point}
-use Rattle.circle_relation.specs.Statement.{PointClaim, MatrixClaim, log_height, log_max_height}
+use Rattle.circle_relation.specs.Statement.{MatrixClaim, log_height, log_max_height}
 use Rattle.circle_relation.specs.Accepts.{Setting, Run, matrices, top, is_claimed, claimed_heights, at_queries, point_among, reduced_from, claims_of, AreApart}
 use Rattle.circle_relation.proofs.AtQueries.{placed, zip-placed, length-placed, placed-read, itself-placed}
 use Rattle.circle_inputs.specs.Sums.{reduced, all_claims_at, AreApartAt}

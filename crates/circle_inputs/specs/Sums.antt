@@ -1,10 +1,8 @@
 -- Sums of quotients at the queries, claim after claim.
-use Rattle.std.specs.Prelude.{◌≡◌, ◌≢◌, ℕ, ◌+◌, ◌*◌, ◌<◌, ◌==◌, List, [], ◌∷◌, ◌++◌}
+use Rattle.std.specs.Prelude.{◌≡◌, ℕ, ◌+◌, ◌*◌, ◌<◌, ◌==◌, List, [], ◌∷◌, ◌++◌}
 use Rattle.std.specs.Prelude.{if◌then◌else◌, length, map, flat_map, zip, All, slice_index_or}
 use Rattle.circle_field.specs.Field.{FieldOps, nth_power}
-use Rattle.circle_field.specs.Circle.{Coordinates, origin}
-use Rattle.circle_commit.specs.Mmcs.{opened_rows}
-use Rattle.circle_point.specs.Point.{coordinates}
+use Rattle.circle_field.specs.Circle.{Coordinates}
 use Rattle.circle_point.specs.Projective.{from_line}
 use Rattle.circle_folding.specs.Quotient.{claim_quotient}
 use Rattle.circle_folding.specs.Queries.{IsApart, matrix_rows, query_point}

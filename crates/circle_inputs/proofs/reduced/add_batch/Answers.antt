@@ -1,9 +1,8 @@
-use Rattle.std.proofs.Common.{◌≡◌, ◌≢◌, ℕ, ◌+◌, ◌≤◌, ◌<◌, List, [], ◌∷◌, ◌++◌, ◌∙◌, refl, sym, ap, subst, length, map, take, All, arith, slice_index_or}
+use Rattle.std.proofs.Common.{◌≡◌, ◌≢◌, ℕ, ◌+◌, ◌≤◌, ◌<◌, [], ◌++◌, ◌∙◌, refl, sym, ap, subst, length, map, take, All, arith, slice_index_or}
 use Rattle.std.proofs.lemmas.List.{length-map, get_or-map, take_all}
 use Rattle.std.proofs.lemmas.List.Elements.{All-more}
 use Rattle.circle_field.specs.Circle.{origin}
 use Rattle.circle_commit.specs.Mmcs.{opened_rows}
-use Rattle.circle_commit.specs.declared.pcs.PointOpening.{PointOpening}
 use Rattle.circle_domain.specs.Selectors.{IsFinite}
 use Rattle.circle_point.specs.Point.{coordinates}
 use Rattle.circle_folding.specs.Queries.{rows_of}

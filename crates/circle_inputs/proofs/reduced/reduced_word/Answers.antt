@@ -1,4 +1,4 @@
-use Rattle.std.proofs.Common.{◌≡◌, ℕ, ◌+◌, ◌≤◌, ◌<◌, List, [], ◌∷◌, ◌∙◌, refl, sym, ap, subst, length, map, All, arith, slice_index_or, replicate}
+use Rattle.std.proofs.Common.{◌≡◌, ℕ, ◌<◌, ◌∙◌, refl, sym, ap, subst, length, map, arith, slice_index_or, replicate}
 use Rattle.std.specs.Prelude.{zip}
 use Rattle.std.specs.Vec.{with_items}
 use Rattle.std.proofs.lemmas.List.{length-map, length-replicate, get_or-replicate, with_items_is}
@@ -6,7 +6,7 @@ use Rattle.circle_field.specs.Circle.{origin}
 use Rattle.circle_point.specs.Point.{coordinates}
 use Rattle.circle_commit.specs.declared.error.FriError.TheVariants.{Memory}
 use Rattle.circle_folding.specs.Queries.{query_point}
-use Rattle.circle_relation.specs.Statement.{all_matrices, log_height}
+use Rattle.circle_relation.specs.Statement.{all_matrices}
 use Rattle.circle_relation.specs.Accepts.{Fields, top, at_queries, point_among}
 use Rattle.circle_relation.specs.Reasons.{IsReason}
 use Rattle.circle_relation.specs.RunOf.{setting_in, run_of, Refuses}

@@ -1,8 +1,7 @@
-use Rattle.std.proofs.Common.{◌≡◌, ℕ, ◌+◌, ◌≤◌, ◌<◌, List, [], ◌∷◌, ◌++◌, ◌∙◌, refl, sym, ap, subst, length, map, take, All, arith, slice_index_or}
+use Rattle.std.proofs.Common.{◌≡◌, ◌+◌, ◌≤◌, [], ◌∷◌, ◌++◌, ◌∙◌, sym, ap, subst, map, take, All, arith, slice_index_or}
 use Rattle.std.proofs.lemmas.List.{map-append, map_more, take_all}
 use Rattle.std.proofs.lemmas.List.Elements.{All-more, All-weaker}
 use Rattle.circle_commit.specs.declared.error.FriError.TheVariants.{Memory}
-use Rattle.circle_relation.specs.Statement.{MatrixClaim}
 use Rattle.circle_relation.specs.Accepts.{Fields, matrices, top, claimed_heights}
 use Rattle.circle_relation.specs.Reasons.{IsReason}
 use Rattle.circle_relation.specs.RunOf.{setting_in, run_of, queried, Refuses}

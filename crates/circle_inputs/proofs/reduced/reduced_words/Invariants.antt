@@ -1,4 +1,4 @@
-use Rattle.std.proofs.Common.{◌≡◌, length, map, take, All}
+use Rattle.std.proofs.Common.{◌≡◌, map, take, All}
 use Rattle.circle_relation.specs.Accepts.{Fields}
 use Rattle.circle_relation.specs.RunOf.{queried}
 use Rattle.circle_inputs.specs.Sums.{word_at, IsApartIn}

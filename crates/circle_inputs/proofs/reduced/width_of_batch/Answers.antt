@@ -1,4 +1,4 @@
-use Rattle.std.proofs.Common.{◌≡◌, ℕ, ◌≤◌, sym, subst, length, take, All, arith}
+use Rattle.std.proofs.Common.{ℕ, ◌≤◌, subst, length, All, arith}
 use Rattle.std.proofs.lemmas.List.{take_all}
 use Rattle.std.proofs.lemmas.List.Elements.{All-weaker}
 use Rattle.circle_commit.specs.declared.pcs.MatrixOpening.{MatrixOpening}
