@@ -28,12 +28,15 @@ module _ {F E : Type 0} (l : FieldOps E) (embed : F → E) (alpha : E) (points :
   adds-both first second a b c xs ys zs p q = record {
     counted = q.counted ∙ p.counted;
     added = λ columns e.
-      let one = p.added columns e in
-      let two = q.added one.0 one.1 in
-      (two.0, two.1, λ j rest lt.
-      let x = slice_index_or points j none in
-      two.2 j rest (omega (arith, lt, p.counted)) ∙ one.2 j (second j ++ rest) lt
-      ∙ ap (λ cs. l.add (slice_index_or xs j l.zero) (reduced l embed alpha columns x cs)) (sym (append_assoc (first j) (second j) rest)));
+        let one = p.added columns e in
+        let two = q.added one.0 one.1 in (
+          two.0,
+          two.1,
+          λ j rest lt.
+              let x = slice_index_or points j none in
+              two.2 j rest (omega (arith, lt, p.counted)) ∙ one.2 j (second j ++ rest) lt
+              ∙ ap (λ cs. l.add (slice_index_or xs j l.zero) (reduced l embed alpha columns x cs)) (sym (append_assoc (first j) (second j) rest)),
+        );
   }
 
   -- the same claims at each query
@@ -42,10 +45,13 @@ module _ {F E : Type 0} (l : FieldOps E) (embed : F → E) (alpha : E) (points :
   adds-same first second a b xs ys p same = record {
     counted = p.counted;
     added = λ columns e.
-      let one = p.added columns e in
-      (one.0, one.1, λ j rest lt.
-      one.2 j rest lt
-      ∙ ap (λ cs. l.add (slice_index_or xs j l.zero) (reduced l embed alpha columns (slice_index_or points j none) (cs ++ rest))) (same j lt));
+        let one = p.added columns e in (
+          one.0,
+          one.1,
+          λ j rest lt.
+              one.2 j rest lt
+              ∙ ap (λ cs. l.add (slice_index_or xs j l.zero) (reduced l embed alpha columns (slice_index_or points j none) (cs ++ rest))) (same j lt),
+        );
   }
 
 module _ {F E : Type 0} {l : FieldOps E} (laws : RingLaws l) (embed : F → E) (alpha : E) (points : List (Coordinates F)) (none : Coordinates F) where
@@ -63,23 +69,26 @@ module _ {F E : Type 0} {l : FieldOps E} (laws : RingLaws l) (embed : F → E) (
       record {
         counted = ap length is ∙ length-pairwise f old qs (sym (counted_qs ∙ of_points));
         added = λ columns e.
-          let sum : 2 * columns + w + w ≡ 2 * (columns + w) = omega arith in
-          let after : l.mul (l.mul offset power) power ≡ nth_power l alpha (2 * (columns + w)) =
-          ap (λ o. l.mul (l.mul o power) power) e ∙ ap (λ p. l.mul (l.mul (nth_power l alpha (2 * columns)) p) p) is_power
-          ∙ ap (λ o. l.mul o (nth_power l alpha w)) (sym (nth_power-+ laws alpha (2 * columns) w))
-          ∙ sym (nth_power-+ laws alpha (2 * columns + w) w) ∙ ap (nth_power l alpha) sum in
-          (columns + w, after, λ j rest lt.
-          let x = slice_index_or points j none in
-          let row = slice_index_or rows j [] in
-          let s = slice_index_or old j l.zero in
-          let left = reduced l embed alpha (columns + w) x rest in
-          let read : slice_index_or new j l.zero ≡ l.add s (l.mul offset (q x row)) =
-          ap (λ ss. slice_index_or ss j l.zero) is
-          ∙ pairwise-read f old qs j l.zero l.zero l.zero lt (omega (arith, lt, counted_qs, of_points))
-          ∙ ap (f s) (pairwise-read q points rows j none [] l.zero (omega (arith, lt, of_points)) (omega (arith, lt, of_rows))) in
-          ap (λ t. l.add t left) read ∙ laws.add_assoc s (l.mul offset (q x row)) left
-          ∙ ap (λ o. l.add s (l.add (l.mul o (q x row)) left)) e
-          ∙ ap (λ y. l.add s (l.add (l.mul (nth_power l alpha (2 * columns)) (claim_quotient l embed alpha x y row claim.values)) left)) is_z);
+            let sum : 2 * columns + w + w ≡ 2 * (columns + w) = omega arith in
+            let after : l.mul (l.mul offset power) power ≡ nth_power l alpha (2 * (columns + w)) =
+            ap (λ o. l.mul (l.mul o power) power) e ∙ ap (λ p. l.mul (l.mul (nth_power l alpha (2 * columns)) p) p) is_power
+            ∙ ap (λ o. l.mul o (nth_power l alpha w)) (sym (nth_power-+ laws alpha (2 * columns) w))
+            ∙ sym (nth_power-+ laws alpha (2 * columns + w) w) ∙ ap (nth_power l alpha) sum in (
+              columns + w,
+              after,
+              λ j rest lt.
+                  let x = slice_index_or points j none in
+                  let row = slice_index_or rows j [] in
+                  let s = slice_index_or old j l.zero in
+                  let left = reduced l embed alpha (columns + w) x rest in
+                  let read : slice_index_or new j l.zero ≡ l.add s (l.mul offset (q x row)) =
+                  ap (λ ss. slice_index_or ss j l.zero) is
+                  ∙ pairwise-read f old qs j l.zero l.zero l.zero lt (omega (arith, lt, counted_qs, of_points))
+                  ∙ ap (f s) (pairwise-read q points rows j none [] l.zero (omega (arith, lt, of_points)) (omega (arith, lt, of_rows))) in
+                  ap (λ t. l.add t left) read ∙ laws.add_assoc s (l.mul offset (q x row)) left
+                  ∙ ap (λ o. l.add s (l.add (l.mul o (q x row)) left)) e
+                  ∙ ap (λ y. l.add s (l.add (l.mul (nth_power l alpha (2 * columns)) (claim_quotient l embed alpha x y row claim.values)) left)) is_z,
+            );
       }
 
   -- what is added to zero, from the first power on

@@ -79,8 +79,7 @@ abbrev pub word_at : {F E I W IC ID IP IE WC WD WP WE : Type 0} {g : _} →
     Fields F E → OpenedRun F E I W IC ID IP IE WC WD WP WE g → ℕ → ℕ × (List (Coordinates F) × List E)
 word_at k o h =
     let s = setting_in k o in
-    let r = run_of o in
-    (
+    let r = run_of o in (
       h,
       (
         at_queries s r (λ j q. point_among s r j q h),

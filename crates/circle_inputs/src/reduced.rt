@@ -60,7 +60,14 @@ fn add_matrix<Val: ComplexExtendable, EF: ExtensionField<Val>>(
     for opening in claims {
         let values = &opening.values;
         let point = Point::from_projective_line(opening.point).unwrap();
-        add_quotients(sums, after, word.powers, word.points, rows, &Claim { point, values })?;
+        add_quotients(
+            sums,
+            after,
+            word.powers,
+            word.points,
+            rows,
+            &Claim { point, values },
+        )?;
         let power = word.powers[values.len()];
         after = after * power * power;
     }
@@ -113,11 +120,7 @@ fn add_batches<
     EF: ExtensionField<Val>,
     InputMmcs: Mmcs<Val>,
     FriMmcs: Mmcs<EF>,
->(
-    sums: &mut [EF],
-    word: &Word<Val, EF>,
-    run: &OpenedRun<Val, EF, InputMmcs, FriMmcs>,
-) -> Option<()>
+>(sums: &mut [EF], word: &Word<Val, EF>, run: &OpenedRun<Val, EF, InputMmcs, FriMmcs>) -> Option<()>
     requires points { length word.now.points.now ≡ length sums.old }
     requires queries { length run.now.indices.now ≡ length sums.old }
     requires blowup { word.now.log_blowup ≡ run.now.params.now.log_blowup }
@@ -230,9 +233,18 @@ fn reduced_word<
     let points = query_points(alloc, log_height, run.log_max_height, run.indices)?;
     let mut values = vec![in alloc; EF::ZERO; run.indices.len()]?;
     let log_blowup = run.params.log_blowup;
-    let word = Word { log_height, log_blowup, powers, points: &points };
+    let word = Word {
+        log_height,
+        log_blowup,
+        powers,
+        points: &points,
+    };
     match add_batches(&mut values, &word, run) {
-        Some(()) => Ok(QueriedWord { log_height, points, values }),
+        Some(()) => Ok(QueriedWord {
+            log_height,
+            points,
+            values,
+        }),
         None => Err(FriError::InputError(InputError::OpeningPointMatchesQueryPoint)),
     }
 }

@@ -92,38 +92,39 @@ loop-i-preserved g c =
     let before = claims_at blowup h (take i ms) entries in
     let behind = claims_at blowup h (take (i + 1) ms) entries in
     elim c.if-log_n-word.branch [
-      then-log_n-word+in_ok-after w ↦
-        let same : log_height blowup m ≡ h = omega (arith, w.if-log_n-word.true, c.log_n.ensures) in
-        let now = w.add_matrix.new.sums in
-        let after = w.in_ok-after.after in
-        let here : far m = λ same. subst (λ ps. AreApartFrom l embed points (map point_claim ps)) w.deref.ensures.value w.in_ok-after.ensures.apart in
-        record {
-          counted = omega (arith, c.loop-i.invariant.counted, c.if-log_n-word.auto.sums);
-          apart = All-more far ms i m inside c.loop-i.invariant.apart (subst far (sym is) here);
-          adds = λ alpha are.
-            let one = λ (j : ℕ). on_row (slice_index_or (rows_of i entries) j []) m.claims in
-            let step : Adds l embed alpha points o one c.loop-i.after after c.loop-i.sums now =
-            subst (λ ps. Adds l embed alpha points o (λ j. on_row (slice_index_or (rows_of i entries) j []) (map point_claim ps)) c.loop-i.after after c.loop-i.sums now)
-              w.deref.ensures.value (w.in_ok-after.ensures.sums alpha are) in
-            let more : Adds l embed alpha points o behind c.args.offset after c.args.sums.now now =
-            adds-same l embed alpha points o (λ j. before j ++ one j) behind c.args.offset after c.args.sums.now now
-              (adds-both l embed alpha points o before one c.args.offset c.loop-i.after after c.args.sums.now c.loop-i.sums now (c.loop-i.invariant.adds alpha are) step)
-              (λ j lt. claims-more blowup h ms entries c.requires.rows i m inside is same j (omega (arith, lt, long))) in
-            subst (λ a. Adds l embed alpha points o behind c.args.offset a c.args.sums.now c.if-log_n-word.sums) (sym w.after-is)
-              (subst (λ ss. Adds l embed alpha points o behind c.args.offset after c.args.sums.now ss) (sym w.sums-is) more);
-        }
-    | else-log_n-word w ↦
-        let other : log_height blowup m ≢ h = λ same. w.if-log_n-word.false (omega (arith, same, c.log_n.ensures)) in
-        record {
-          counted = omega (arith, c.loop-i.invariant.counted, c.if-log_n-word.auto.sums);
-          apart = All-more far ms i m inside c.loop-i.invariant.apart (subst far (sym is) (λ same. absurd (other same)));
-          adds = λ alpha are.
-            let more : Adds l embed alpha points o behind c.args.offset c.loop-i.after c.args.sums.now c.loop-i.sums =
-            adds-same l embed alpha points o before behind c.args.offset c.loop-i.after c.args.sums.now c.loop-i.sums (c.loop-i.invariant.adds alpha are)
-              (λ j lt. claims-other blowup h ms entries c.requires.rows i m inside is other j (omega (arith, lt, long))) in
-            subst (λ a. Adds l embed alpha points o behind c.args.offset a c.args.sums.now c.if-log_n-word.sums) (sym w.after-is)
-              (subst (λ ss. Adds l embed alpha points o behind c.args.offset c.loop-i.after c.args.sums.now ss) (sym w.sums-is) more);
-        } ]
+      | then-log_n-word+in_ok-after w ↦
+          let same : log_height blowup m ≡ h = omega (arith, w.if-log_n-word.true, c.log_n.ensures) in
+          let now = w.add_matrix.new.sums in
+          let after = w.in_ok-after.after in
+          let here : far m = λ same. subst (λ ps. AreApartFrom l embed points (map point_claim ps)) w.deref.ensures.value w.in_ok-after.ensures.apart in
+          record {
+            counted = omega (arith, c.loop-i.invariant.counted, c.if-log_n-word.auto.sums);
+            apart = All-more far ms i m inside c.loop-i.invariant.apart (subst far (sym is) here);
+            adds = λ alpha are.
+                let one = λ (j : ℕ). on_row (slice_index_or (rows_of i entries) j []) m.claims in
+                let step : Adds l embed alpha points o one c.loop-i.after after c.loop-i.sums now =
+                subst (λ ps. Adds l embed alpha points o (λ j. on_row (slice_index_or (rows_of i entries) j []) (map point_claim ps)) c.loop-i.after after c.loop-i.sums now)
+                w.deref.ensures.value (w.in_ok-after.ensures.sums alpha are) in
+                let more : Adds l embed alpha points o behind c.args.offset after c.args.sums.now now =
+                adds-same l embed alpha points o (λ j. before j ++ one j) behind c.args.offset after c.args.sums.now now
+                (adds-both l embed alpha points o before one c.args.offset c.loop-i.after after c.args.sums.now c.loop-i.sums now (c.loop-i.invariant.adds alpha are) step)
+                (λ j lt. claims-more blowup h ms entries c.requires.rows i m inside is same j (omega (arith, lt, long))) in
+                subst (λ a. Adds l embed alpha points o behind c.args.offset a c.args.sums.now c.if-log_n-word.sums) (sym w.after-is)
+                (subst (λ ss. Adds l embed alpha points o behind c.args.offset after c.args.sums.now ss) (sym w.sums-is) more);
+          }
+      | else-log_n-word w ↦
+          let other : log_height blowup m ≢ h = λ same. w.if-log_n-word.false (omega (arith, same, c.log_n.ensures)) in
+          record {
+            counted = omega (arith, c.loop-i.invariant.counted, c.if-log_n-word.auto.sums);
+            apart = All-more far ms i m inside c.loop-i.invariant.apart (subst far (sym is) (λ same. absurd (other same)));
+            adds = λ alpha are.
+                let more : Adds l embed alpha points o behind c.args.offset c.loop-i.after c.args.sums.now c.loop-i.sums =
+                adds-same l embed alpha points o before behind c.args.offset c.loop-i.after c.args.sums.now c.loop-i.sums (c.loop-i.invariant.adds alpha are)
+                (λ j lt. claims-other blowup h ms entries c.requires.rows i m inside is other j (omega (arith, lt, long))) in
+                subst (λ a. Adds l embed alpha points o behind c.args.offset a c.args.sums.now c.if-log_n-word.sums) (sym w.after-is)
+                (subst (λ ss. Adds l embed alpha points o behind c.args.offset c.loop-i.after c.args.sums.now ss) (sym w.sums-is) more);
+          }
+    ]
 
 pub returns-clause-apart : goal.returns-clause-apart
 returns-clause-apart g c =
@@ -136,4 +137,4 @@ returns-clause-sums g c = λ alpha are.
     let ms = matrix_claims c.args.matrices.now in
     let whole : take c.loop-i.i ms ≡ ms = take_all c.loop-i.i ms (omega (arith, c.loop-i-test.false, length-map c.args.matrices.now matrix_claim)) in
     subst (λ ms. Adds g.EF.Operations.ops g.EF.ExtensionField.embed alpha (map coordinates c.args.word.now.points.now) (origin g.Val.Operations.ops)
-      (claims_at c.args.word.now.log_blowup c.args.word.now.log_height ms (opened_rows c.args.opened.now)) c.args.offset c.loop-i.after c.args.sums.now c.loop-i.sums) whole (c.loop-i.invariant.adds alpha are)
+    (claims_at c.args.word.now.log_blowup c.args.word.now.log_height ms (opened_rows c.args.opened.now)) c.args.offset c.loop-i.after c.args.sums.now c.loop-i.sums) whole (c.loop-i.invariant.adds alpha are)

@@ -132,11 +132,11 @@ loop-i-preserved g c =
       counted = omega (arith, c.loop-i.invariant.counted, c.add_batch.auto.sums);
       apart = subst (All far) (sym (all_matrices-more batches i b inside is)) (All-append far (all_matrices (take i batches)) b.matrices c.loop-i.invariant.apart here);
       adds = λ alpha are.
-        let step : Adds l embed alpha points z one c.loop-i.offset after c.loop-i.sums now =
-        subst (λ ms. Adds l embed alpha points z (claims_at blowup h (matrix_claims ms) o.entries) c.loop-i.offset after c.loop-i.sums now) c.deref-in-loop-i.ensures.value
+          let step : Adds l embed alpha points z one c.loop-i.offset after c.loop-i.sums now =
+          subst (λ ms. Adds l embed alpha points z (claims_at blowup h (matrix_claims ms) o.entries) c.loop-i.offset after c.loop-i.sums now) c.deref-in-loop-i.ensures.value
           (subst (λ rs. Adds l embed alpha points z (claims_at blowup h (matrix_claims c.deref-in-loop-i.result.now) (opened_rows rs)) c.loop-i.offset after c.loop-i.sums now) c.deref.ensures.value
           (c.in_ok-offset.ensures.sums alpha are)) in
-        adds-same l embed alpha points z (λ j. before j ++ one j) behind l.one after c.args.sums.now now
+          adds-same l embed alpha points z (λ j. before j ++ one j) behind l.one after c.args.sums.now now
           (adds-both l embed alpha points z before one l.one c.loop-i.offset after c.args.sums.now c.loop-i.sums now (c.loop-i.invariant.adds alpha are) step)
           (λ j lt. all_claims-more batches i b inside is blowup h inputs o within is_o j);
     }
@@ -151,7 +151,9 @@ returns-clause-apart g c =
 pub returns-clause-sums : goal.returns-clause-sums
 returns-clause-sums g c = λ alpha are.
     let batches = (run_of c.args.run.now).batches in
-    let whole : take c.loop-i.i batches ≡ batches = take_all c.loop-i.i batches (omega (arith, c.loop-i-test.false, length-map c.args.run.now.claims.now batch_claim)) in
-    (c.loop-i.offset, subst (λ bs. Adds g.EF.Operations.ops g.EF.ExtensionField.embed alpha (map coordinates c.args.word.now.points.now) (origin g.Val.Operations.ops)
-      (all_claims_at c.args.word.now.log_blowup c.args.word.now.log_height (zip bs (run_of c.args.run.now).proof.inputs)) g.EF.Operations.ops.one c.loop-i.offset c.args.sums.now c.loop-i.sums)
-      whole (c.loop-i.invariant.adds alpha are))
+    let whole : take c.loop-i.i batches ≡ batches = take_all c.loop-i.i batches (omega (arith, c.loop-i-test.false, length-map c.args.run.now.claims.now batch_claim)) in (
+      c.loop-i.offset,
+      subst (λ bs. Adds g.EF.Operations.ops g.EF.ExtensionField.embed alpha (map coordinates c.args.word.now.points.now) (origin g.Val.Operations.ops)
+          (all_claims_at c.args.word.now.log_blowup c.args.word.now.log_height (zip bs (run_of c.args.run.now).proof.inputs)) g.EF.Operations.ops.one c.loop-i.offset c.args.sums.now c.loop-i.sums)
+          whole (c.loop-i.invariant.adds alpha are),
+    )

@@ -68,28 +68,28 @@ loop-opening-preserved g c =
       counted = omega (arith, c.loop-opening.invariant.counted, c.add_quotients.auto.sums);
       apart = All-more (λ k. IsApart embed points (from_line l k.point)) all i claim inside c.loop-opening.invariant.apart apart;
       adds = λ alpha are.
-        let power : c.index-word-len.result ≡ nth_power l alpha (length claim.values) =
-        c.index-word-len.is ∙ ap (λ ws. slice_index_or ws c.len.result c.index-word-len.result) are
-        ∙ get_or-map-range_with_len (nth_power l alpha) 0 (length c.args.word.now.powers.now) c.len.result (length claim.values) c.index-word-len.result (omega (arith, long, enough)) (omega (arith, long)) in
-        let p = nth_power l alpha (length claim.values) in
-        let step : Adds l embed alpha points (origin g.Val.Operations.ops) (λ j. (claim, slice_index_or rows j []) ∷ []) c.loop-opening.after
+          let power : c.index-word-len.result ≡ nth_power l alpha (length claim.values) =
+          c.index-word-len.is ∙ ap (λ ws. slice_index_or ws c.len.result c.index-word-len.result) are
+          ∙ get_or-map-range_with_len (nth_power l alpha) 0 (length c.args.word.now.powers.now) c.len.result (length claim.values) c.index-word-len.result (omega (arith, long, enough)) (omega (arith, long)) in
+          let p = nth_power l alpha (length claim.values) in
+          let step : Adds l embed alpha points (origin g.Val.Operations.ops) (λ j. (claim, slice_index_or rows j []) ∷ []) c.loop-opening.after
           (l.mul (l.mul c.loop-opening.after c.index-word-len.result) c.index-word-len.result) c.loop-opening.sums c.add_quotients.new.sums =
-        adds-claim g.EF.Operations.laws.ring embed alpha points (origin g.Val.Operations.ops) claim z rows c.loop-opening.after c.index-word-len.result c.loop-opening.sums c.add_quotients.new.sums
+          adds-claim g.EF.Operations.laws.ring embed alpha points (origin g.Val.Operations.ops) claim z rows c.loop-opening.after c.index-word-len.result c.loop-opening.sums c.add_quotients.new.sums
           point power (omega (arith, counted, c.requires.points, length-map c.args.word.now.points.now coordinates)) (of_rows ∙ sym counted)
           (c.in_ok-add_quotients.ensures.sums alpha are
           ∙ ap (λ values. with_multiples l c.loop-opening.after c.loop-opening.sums (claim_quotients l embed alpha points z rows values)) c.deref.ensures.value) in
-        let one = λ (k : PointClaim g.row.EF.Denot) (j : ℕ). on_row (slice_index_or rows j []) (k ∷ []) in
-        let more : Adds l embed alpha points (origin g.Val.Operations.ops) (λ j. claims_on c.args.rows.now (take i all) j ++ one claim j) c.args.offset
+          let one = λ (k : PointClaim g.row.EF.Denot) (j : ℕ). on_row (slice_index_or rows j []) (k ∷ []) in
+          let more : Adds l embed alpha points (origin g.Val.Operations.ops) (λ j. claims_on c.args.rows.now (take i all) j ++ one claim j) c.args.offset
           (l.mul (l.mul c.loop-opening.after c.index-word-len.result) c.index-word-len.result) c.args.sums.now c.add_quotients.new.sums =
-        adds-both l embed alpha points (origin g.Val.Operations.ops) (claims_on c.args.rows.now (take i all)) (one claim) c.args.offset c.loop-opening.after
+          adds-both l embed alpha points (origin g.Val.Operations.ops) (claims_on c.args.rows.now (take i all)) (one claim) c.args.offset c.loop-opening.after
           (l.mul (l.mul c.loop-opening.after c.index-word-len.result) c.index-word-len.result) c.args.sums.now c.loop-opening.sums c.add_quotients.new.sums (c.loop-opening.invariant.adds alpha are) step in
-        let after : c.mul-after.result ≡ l.mul (l.mul c.loop-opening.after c.index-word-len.result) c.index-word-len.result =
+          let after : c.mul-after.result ≡ l.mul (l.mul c.loop-opening.after c.index-word-len.result) c.index-word-len.result =
           g.met.EF.Field.mul_law _ _ _ c.mul-after.ensures ∙ ap (l.mul c.mul.result) (sym c.index-word-len.is)
           ∙ ap (λ o. l.mul o c.index-word-len.result) (g.met.EF.Field.mul_law _ _ _ c.mul.ensures ∙ ap (l.mul c.loop-opening.after) (sym c.index-word-len.is)) in
-        let together : (j : ℕ) → claims_on c.args.rows.now (take i all) j ++ one claim j ≡ claims_on c.args.rows.now (take (i + 1) all) j =
-        λ j. sym (ap (on_row (slice_index_or rows j [])) (take_more all i claim inside ∙ ap (λ k. take i all ++ k ∷ []) claimed)
+          let together : (j : ℕ) → claims_on c.args.rows.now (take i all) j ++ one claim j ≡ claims_on c.args.rows.now (take (i + 1) all) j =
+          λ j. sym (ap (on_row (slice_index_or rows j [])) (take_more all i claim inside ∙ ap (λ k. take i all ++ k ∷ []) claimed)
           ∙ map-append (λ k. (k, slice_index_or rows j [])) (take i all) (claim ∷ [])) in
-        subst (λ o. Adds l embed alpha points (origin g.Val.Operations.ops) (claims_on c.args.rows.now (take (i + 1) all)) c.args.offset o c.args.sums.now c.add_quotients.new.sums) (sym after)
+          subst (λ o. Adds l embed alpha points (origin g.Val.Operations.ops) (claims_on c.args.rows.now (take (i + 1) all)) c.args.offset o c.args.sums.now c.add_quotients.new.sums) (sym after)
           (adds-same l embed alpha points (origin g.Val.Operations.ops) (λ j. claims_on c.args.rows.now (take i all) j ++ one claim j) (claims_on c.args.rows.now (take (i + 1) all)) c.args.offset
           (l.mul (l.mul c.loop-opening.after c.index-word-len.result) c.index-word-len.result) c.args.sums.now c.add_quotients.new.sums more (λ j lt. together j));
     }
@@ -105,4 +105,4 @@ returns-clause-sums g c = λ alpha are.
     let all = map point_claim c.args.claims.now in
     let whole : take c.loop-opening.opening-index all ≡ all = take_all c.loop-opening.opening-index all (omega (arith, c.loop-opening-test.false, length-map c.args.claims.now point_claim)) in
     subst (λ cs. Adds g.EF.Operations.ops g.EF.ExtensionField.embed alpha (map coordinates c.args.word.now.points.now) (origin g.Val.Operations.ops)
-      (claims_on c.args.rows.now cs) c.args.offset c.loop-opening.after c.args.sums.now c.loop-opening.sums) whole (c.loop-opening.invariant.adds alpha are)
+    (claims_on c.args.rows.now cs) c.args.offset c.loop-opening.after c.args.sums.now c.loop-opening.sums) whole (c.loop-opening.invariant.adds alpha are)

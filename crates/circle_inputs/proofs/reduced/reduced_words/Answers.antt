@@ -60,10 +60,10 @@ loop-log_height-preserved g c =
     let h = slice_index_or heights i 0 in
     record {
       words =
-        ap (map queried) c.in-Ok.ensures.items ∙ map-append queried c.loop-log_height.words.items (c.in_ok-word.word ∷ [])
-        ∙ ap (λ ws. ws ++ queried c.in_ok-word.word ∷ []) c.loop-log_height.invariant.words
-        ∙ ap (λ w. map (word_at k run) (take i heights) ++ w ∷ []) c.in_ok-word.ensures.word
-        ∙ sym (map_more (word_at k run) heights i 0 c.loop-log_height-test.true);
+          ap (map queried) c.in-Ok.ensures.items ∙ map-append queried c.loop-log_height.words.items (c.in_ok-word.word ∷ [])
+          ∙ ap (λ ws. ws ++ queried c.in_ok-word.word ∷ []) c.loop-log_height.invariant.words
+          ∙ ap (λ w. map (word_at k run) (take i heights) ++ w ∷ []) c.in_ok-word.ensures.word
+          ∙ sym (map_more (word_at k run) heights i 0 c.loop-log_height-test.true);
       apart = All-more (IsApartIn k run) heights i 0 c.loop-log_height-test.true c.loop-log_height.invariant.apart c.in_ok-word.ensures.apart;
     }
 
