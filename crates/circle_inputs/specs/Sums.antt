@@ -7,8 +7,10 @@ use Rattle.circle_point.specs.Projective.{from_line}
 use Rattle.circle_folding.specs.Quotient.{claim_quotient}
 use Rattle.circle_folding.specs.Queries.{IsApart, matrix_rows, query_point}
 use Rattle.circle_folding.specs.declared.reduced.MatrixRows.{MatrixRows}
-use Rattle.circle_relation.specs.Statement.{PointClaim, MatrixClaim, BatchClaim, Opened, all_matrices, log_height}
-use Rattle.circle_relation.specs.Accepts.{Fields, top, at_queries, point_among, reduced_from, claims_of}
+use Rattle.circle_relation.specs.Statement.{PointClaim, MatrixClaim, BatchClaim, Opened}
+use Rattle.circle_relation.specs.Statement.{all_matrices, log_height}
+use Rattle.circle_relation.specs.Accepts.{Fields, top, at_queries, point_among}
+use Rattle.circle_relation.specs.Accepts.{reduced_from, claims_of}
 use Rattle.circle_relation.specs.RunOf.{setting_in, run_of}
 use Rattle.circle_relation.specs.declared.run.OpenedRun.{OpenedRun}
 
@@ -33,7 +35,8 @@ module _ {F E : Type 0} where
 
   -- and those on the matrices of all batches
   abbrev pub all_claims_at : {Com Proof : Type 0} →
-      ℕ → ℕ → List (BatchClaim Com E × Opened (List (List F)) Proof) → ℕ → List (PointClaim E × List F)
+      ℕ → ℕ → List (BatchClaim Com E × Opened (List (List F)) Proof)
+      → ℕ → List (PointClaim E × List F)
   all_claims_at blowup h pairs j =
       flat_map (λ p. claims_at blowup h p.0.matrices p.1.entries j) pairs
 
@@ -63,20 +66,23 @@ module _ {F E : Type 0} (l : FieldOps E) (embed : F → E) where
         (claim_quotient l embed alpha x z c.1 c.0.values))
         (reduced (columns + length c.0.values) x rest)
 
-    -- sums, and the power of alpha for the next claim, once these claims were added at each point
+    -- from old sums to new, and from an offset to the one after, by what claims at each point add:
+    -- with whatever claims follow, both come to as much
     pub record Adds (points : List (Coordinates F)) (none : Coordinates F)
         (claims : ℕ → List (PointClaim E × List F)) (offset after : E)
         (old new : List E) : Type 0 where
       pub counted : length new ≡ length old
       pub added : (columns : ℕ) → offset ≡ nth_power l alpha (2 * columns) →
-          (next : ℕ) × (after ≡ nth_power l alpha (2 * next)) × ((j : ℕ) (rest : _) → j < length old →
+          (next : ℕ) × (after ≡ nth_power l alpha (2 * next))
+          × ((j : ℕ) (rest : _) → j < length old →
           l.add (slice_index_or new j l.zero) (reduced next (slice_index_or points j none) rest)
           ≡ l.add (slice_index_or old j l.zero)
           (reduced columns (slice_index_or points j none) (claims j ++ rest)))
 
 -- the word of height 2^h at the queries: their points, and the sums of the quotients of their rows
 abbrev pub word_at : {F E I W IC ID IP IE WC WD WP WE : Type 0} {g : _} →
-    Fields F E → OpenedRun F E I W IC ID IP IE WC WD WP WE g → ℕ → ℕ × (List (Coordinates F) × List E)
+    Fields F E → OpenedRun F E I W IC ID IP IE WC WD WP WE g → ℕ
+    → ℕ × (List (Coordinates F) × List E)
 word_at k o h =
     let s = setting_in k o in
     let r = run_of o in (

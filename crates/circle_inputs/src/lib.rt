@@ -14,12 +14,12 @@
 //!   and is Ok exactly where no claimed point is that of a query, memory aside.
 #![tactic(auto)]
 
-//pub mod batches;
-//pub mod heights;
+pub mod batches;
+pub mod heights;
 pub mod reduced;
-//pub mod shape;
+pub mod shape;
 
-//pub use batches::authenticate_inputs;
-//pub use heights::claimed_heights;
+pub use batches::authenticate_inputs;
+pub use heights::claimed_heights;
 pub use reduced::reduced_words;
-//pub use shape::validate_input_shape;
+pub use shape::validate_input_shape;

@@ -10,8 +10,10 @@ ghost use Rattle.circle_folding.specs.Queries.{HaveWidth};
 ghost use Rattle.circle_relation.specs.Statement.{log_height, all_matrices};
 ghost use Rattle.circle_relation.specs.StatementOf.{point_claim, matrix_claims, batch_claims};
 ghost use Rattle.circle_relation.specs.Accepts.{AreApart};
-ghost use Rattle.circle_relation.specs.RunOf.{setting_in, run_of, IsDrawn, IsOpened, heights_of, reduced_words, queried, Refuses};
-ghost use Rattle.circle_inputs.specs.Sums.{claims_on, claims_at, all_claims_at, HasRowsOf, AreApartFrom, AreApartAt, Adds};
+ghost use Rattle.circle_relation.specs.RunOf.{setting_in, run_of, IsDrawn, IsOpened, heights_of};
+ghost use Rattle.circle_relation.specs.RunOf.{reduced_words, queried, Refuses};
+ghost use Rattle.circle_inputs.specs.Sums.{claims_on, claims_at, all_claims_at, HasRowsOf};
+ghost use Rattle.circle_inputs.specs.Sums.{AreApartFrom, AreApartAt, Adds};
 ghost use Rattle.circle_inputs.specs.Sums.{word_at, IsApartIn};
 
 use circle_commit::{CommitmentOpening, FriError, MatrixOpening, Mmcs, PointOpening};
@@ -184,7 +186,8 @@ fn width_of_batches<EF: Copy, Com, Domain>(batches: &[CommitmentOpening<EF, Com,
     width
 }
 
-// The powers of the batching challenge, one more than there are values of any claim.
+// The powers of the batching challenge, one more than there are values of any claim; where these
+// can't be counted there is no memory for them.
 fn powers_for<Val: ComplexExtendable, EF: ExtensionField<Val>, Com>(
     alloc: Global,
     alpha: EF,
