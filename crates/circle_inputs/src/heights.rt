@@ -15,7 +15,10 @@ pub fn claimed_heights<
     EF: ExtensionField<Val>,
     InputMmcs: Mmcs<Val>,
     FriMmcs: Mmcs<EF>,
->(alloc: Global, run: &OpenedRun<Val, EF, InputMmcs, FriMmcs>) -> Result<Vec<usize>, AllocError>
+>(
+    alloc: Global,
+    run: &OpenedRun<Val, EF, InputMmcs, FriMmcs>,
+) -> Result<Vec<usize>, AllocError>
     requires drawn { IsDrawn ⟦<EF as OverCircle<Val>>⟧.fields Val.CIRCLE_TWO_ADICITY run.now }
     ensures { IfOk result (λ v. v.items ≡ heights_of ⟦<EF as OverCircle<Val>>⟧.fields run.now) }
 {
