@@ -3,3 +3,7 @@ pub mod Lengths
 pub mod Points
 pub mod Rows
 pub mod Sizes
+pub mod ReducedSums
+pub mod ReducedRows
+pub mod ReducedWords
+pub mod ReducedWidths

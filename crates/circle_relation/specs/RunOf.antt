@@ -5,6 +5,7 @@ use Rattle.circle_commit.specs.Mmcs.{opened_rows}
 use Rattle.circle_commit.specs.declared.error.FriError.{FriError}
 use Rattle.circle_commit.specs.declared.params.FriParameters.{FriParameters}
 use Rattle.circle_commit.specs.declared.pcs.BatchMultiOpening.{BatchMultiOpening}
+use Rattle.circle_domain.specs.Selectors.{IsFinite}
 use Rattle.circle_point.specs.Point.{coordinates}
 use Rattle.circle_domain.specs.Selectors.{IsFinite}
 use Rattle.circle_relation.specs.declared.proof.CircleCommitPhaseMultiStep.{CircleCommitPhaseMultiStep}
