@@ -11,6 +11,8 @@ ghost use Rattle.p3_circle.specs.Verdict.{challenges_of, run_with};
 use circle_commit::{CommitmentOpening, FriError, FriParameters, Mmcs};
 use circle_domain::CircleDomain;
 use circle_field::{ComplexExtendable, ExtensionField};
+use circle_inputs::{authenticate_inputs, claimed_heights, reduced_words, validate_input_shape};
+use circle_layers::{authenticate_first_layer, check_final, fold_first_layer, fold_rounds};
 use circle_relation::{CirclePcsProof, InputError, OpenedRun, OverCircle};
 use circle_transcript::CircleDraws;
 use std::alloc::Global;
@@ -38,7 +40,14 @@ pub fn verify_queries<
     ensures refused { IfErr result (Refuses ⟦<EF as OverCircle<Val>>⟧.fields run.now
         InputMmcs.authenticates FriMmcs.authenticates) }
 {
-    Err(FriError::Memory)
+    let heights = claimed_heights(alloc, run)?;
+    validate_input_shape(run, &heights)?;
+    authenticate_inputs(alloc, run)?;
+    let words = reduced_words(alloc, run, &heights)?;
+    let (pairs, folded) = fold_first_layer(alloc, run, words)?;
+    authenticate_first_layer(alloc, run, &heights, &pairs)?;
+    let values = fold_rounds(alloc, run, folded)?;
+    check_final(run, &values)
 }
 
 // The run of claims and a proof, with what was drawn.
