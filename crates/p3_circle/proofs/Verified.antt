@@ -96,6 +96,10 @@ module _ {F E M Com WordCom InputProof WordProof : Type 0} (k : Fields F E) (two
           finite = λ i d lt j e lt'. finite _ (f.finite i d lt j e lt');
         }
 
+-- challenges from their parts
+abbrev pub challenges : {E : Type 0} → E → E → List E → List ℕ → Challenges E
+challenges alpha bivariate betas queries = record { alpha = alpha; bivariate = bivariate; betas = betas; queries = queries }
+
 -- a test that isn't true is false
 pub not_true : (b : Bool) → (b ≡ true → ⊥) → b ≡ false
 not_true true h = absurd (h refl)

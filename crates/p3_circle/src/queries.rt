@@ -65,9 +65,16 @@ fn opened_run<
     log_max_height: usize,
     draws: &'a CircleDraws<EF>,
 ) -> OpenedRun<'a, Val, EF, InputMmcs, FriMmcs>
+    requires tested { IsTested Val.CIRCLE_TWO_ADICITY (λ w. Val.eq w Val.ZERO)
+        (is_at_infinity EF.eq EF.ops) params.now (batch_claims claims.now) (proof_of proof.now) }
+    requires top { log_max_height ≡ claimed_top params.now (batch_claims claims.now) }
+    requires betas { length draws.now.betas.items
+        ≡ rounds_due params.now (batch_claims claims.now) }
+    requires count { length draws.now.indices.items ≡ params.now.num_queries }
+    requires below { All (λ q. q < 2 ^ log_max_height) draws.now.indices.items }
+    ensures drawn { IsDrawn ⟦<EF as OverCircle<Val>>⟧.fields Val.CIRCLE_TWO_ADICITY result }
     ensures mmcs { result.mmcs.now ≡ mmcs.now }
     ensures params { result.params.now ≡ params.now }
-    ensures top { result.log_max_height ≡ log_max_height }
     ensures run { run_of result ≡ run_with claims.now proof.now (challenges_of draws.now) }
 {
     OpenedRun {

@@ -1,28 +1,45 @@
 use Rattle.std.proofs.Common.{◌≡◌, ◌+◌, ◌<◌, ◌^◌, length, refl, sym, ap, subst, ◌∙◌, arith}
 use Rattle.std.specs.Prelude.{All, OnOk, IfErr, Result, Ok, Err}
-use Rattle.circle_relation.specs.Statement.{all_matrices}
+use Rattle.circle_relation.specs.Statement.{all_matrices, Challenges}
 use Rattle.circle_relation.specs.StatementOf.{batch_claims}
+use Rattle.circle_relation.specs.Accepts.{Fields}
 use Rattle.circle_relation.specs.RunOf.{proof_of}
 use Rattle.p3_circle.specs.Verdict.{challenges_of, run_with}
-use Rattle.p3_circle.proofs.Replayed.{finite_from}
-use Rattle.p3_circle.proofs.Verified.{has_rounds, accepted, is_drawn, shape-of, claimed-of, large-of, holds-of, reason-of}
+use Rattle.p3_circle.proofs.Verified.{accepted, shape-of, claimed-of, large-of, holds-of, reason-of, false_not}
+use Rattle.p3_circle.proofs.Verdicts.{on_both, if_err}
 use Rattle.p3_circle.proofs.queries.verify_drawn.Goals as goal
 
-pub verify_queries-requires : goal.verify_queries-requires
-verify_queries-requires g c =
-    let k = record { field = g.Val.Operations.ops; gen = g.Val.ComplexExtendable.generators; extension = g.EF.Operations.ops; embed = g.EF.ExtensionField.embed } in
-    let o = c.opened_run-run.result in
-    let made = c.opened_run-run.ensures in
-    let t = c.requires.tested in
-    let r = run_with c.args.claims.now c.args.proof.now (challenges_of c.args.draws.now) in
-    is_drawn k g.Val.ComplexExtendable.CIRCLE_TWO_ADICITY o c.args.params.now r made.params made.run
-    (made.top ∙ c.requires.top) (let low = t.in_group in omega (arith, made.top, c.requires.top, low)) t.blowup t.some_matrix t.large
-    (finite_from g.EF.Operations.ops g.EF.PartialEq.eq (all_matrices (batch_claims c.args.claims.now)) g.met.EF.Field.eq_law t.finite)
-    (has_rounds k g.Val.ComplexExtendable.CIRCLE_TWO_ADICITY _ _ c.args.params.now (batch_claims c.args.claims.now) (proof_of c.args.proof.now) (challenges_of c.args.draws.now) c.requires.count t)
-    c.requires.betas (subst (λ n. All (λ q. q < 2 ^ n) c.args.draws.now.indices.items) (sym made.top) c.requires.below)
-
 pub returns-clause-accepted : goal.returns-clause-accepted
-returns-clause-accepted g c = ?
+returns-clause-accepted g c =
+    let k : Fields g.row.Val.Denot g.row.EF.Denot = record { field = g.Val.Operations.ops; gen = g.Val.ComplexExtendable.generators; extension = g.EF.Operations.ops; embed = g.EF.ExtensionField.embed } in
+    let two = g.Val.ComplexExtendable.CIRCLE_TWO_ADICITY in
+    let p = c.args.params.now in
+    let batches = batch_claims c.args.claims.now in
+    let r = run_with c.args.claims.now c.args.proof.now (challenges_of c.args.draws.now) in
+    let made = c.opened_run-run.ensures in
+    let o = c.opened_run-run.result in
+    let inputs = g.InputMmcs.Mmcs.authenticates in
+    let words = g.FriMmcs.Mmcs.authenticates in
+    let null = g.Val.Field.ZERO in
+    on_both c.verify_queries.result
+    (λ opened holds. accepted k two _ _ p batches (proof_of c.args.proof.now) (challenges_of c.args.draws.now) c.requires.count
+    (λ w h. (g.met.Val.Field.eq_law w null).0 h ∙ g.met.Val.Field.zero_law)
+    (λ t h at. false_not _ h ((g.met.EF.Field.eq_law _ _).1 at))
+    c.requires.tested
+    (shape-of k two o p r made.params made.run c.args.mmcs.now made.mmcs inputs words opened)
+    (claimed-of k two o p r made.params made.run c.args.mmcs.now made.mmcs inputs words opened)
+    (large-of k two o p r made.params made.run c.args.mmcs.now made.mmcs inputs words opened)
+    (holds-of k two o p r made.params made.run c.args.mmcs.now made.mmcs inputs words holds))
+    c.verify_queries.ensures.opened c.verify_queries.ensures.holds
 
 pub returns-clause-refused : goal.returns-clause-refused
-returns-clause-refused g c = ?
+returns-clause-refused g c =
+    let k : Fields g.row.Val.Denot g.row.EF.Denot = record { field = g.Val.Operations.ops; gen = g.Val.ComplexExtendable.generators; extension = g.EF.Operations.ops; embed = g.EF.ExtensionField.embed } in
+    let two = g.Val.ComplexExtendable.CIRCLE_TWO_ADICITY in
+    let p = c.args.params.now in
+    let batches = batch_claims c.args.claims.now in
+    let r = run_with c.args.claims.now c.args.proof.now (challenges_of c.args.draws.now) in
+    let made = c.opened_run-run.ensures in
+    if_err _ _ c.verify_queries.result
+    (reason-of k two c.opened_run-run.result p r made.params made.run c.args.mmcs.now made.mmcs g.InputMmcs.Mmcs.authenticates g.FriMmcs.Mmcs.authenticates)
+    c.verify_queries.ensures.refused

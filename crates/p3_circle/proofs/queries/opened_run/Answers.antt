@@ -1,0 +1,28 @@
+use Rattle.std.proofs.Common.{◌≡◌, ◌+◌, ◌<◌, ◌^◌, length, refl, sym, ap, subst, ◌∙◌, arith}
+use Rattle.std.specs.Prelude.{All, OnOk, IfErr, Result, Ok, Err}
+use Rattle.circle_relation.specs.Statement.{all_matrices, Challenges}
+use Rattle.circle_relation.specs.StatementOf.{batch_claims}
+use Rattle.circle_relation.specs.Accepts.{Fields}
+use Rattle.circle_relation.specs.RunOf.{proof_of}
+use Rattle.p3_circle.specs.Verdict.{challenges_of, run_with}
+use Rattle.p3_circle.proofs.Replayed.{finite_from}
+use Rattle.p3_circle.proofs.Verified.{challenges, has_rounds, is_drawn}
+use Rattle.p3_circle.proofs.queries.opened_run.Goals as goal
+
+pub returns-clause-run : goal.returns-clause-run
+returns-clause-run g c =
+    ap (λ bs. run_with c.args.claims.now c.args.proof.now (challenges c.args.draws.now.alpha c.args.draws.now.bivariate bs c.deref-2.result.now)) c.deref.ensures.value
+    ∙ ap (λ is. run_with c.args.claims.now c.args.proof.now (challenges c.args.draws.now.alpha c.args.draws.now.bivariate c.args.draws.now.betas.items is)) c.deref-2.ensures.value
+
+pub returns-clause-drawn : goal.returns-clause-drawn
+returns-clause-drawn g c =
+    let k : Fields g.row.Val.Denot g.row.EF.Denot = record { field = g.Val.Operations.ops; gen = g.Val.ComplexExtendable.generators; extension = g.EF.Operations.ops; embed = g.EF.ExtensionField.embed } in
+    let two = g.Val.ComplexExtendable.CIRCLE_TWO_ADICITY in
+    let p = c.args.params.now in
+    let batches = batch_claims c.args.claims.now in
+    let r = run_with c.args.claims.now c.args.proof.now (challenges_of c.args.draws.now) in
+    let t = c.requires.tested in
+    is_drawn k two _ p r refl (returns-clause-run g c) c.requires.top (let low = t.in_group in omega (arith, c.requires.top, low)) t.blowup t.some_matrix t.large
+    (finite_from g.EF.Operations.ops g.EF.PartialEq.eq (all_matrices batches) g.met.EF.Field.eq_law t.finite)
+    (has_rounds k two _ _ p batches (proof_of c.args.proof.now) (challenges_of c.args.draws.now) c.requires.count t)
+    c.requires.betas c.requires.below
