@@ -52,7 +52,7 @@ at_ok P x v is = subst (λ y. IfErr y P) (sym is) tt
 pub not_both : {T E : Type 0} (x : Result T E) (v : T) (e : E) → x ≡ Ok v → x ≡ Err e → ⊥
 not_both x v e ok err = let both : Ok v ≡ Err e = sym ok ∙ err in cc
 
-module _ {C S F E I W IC ID IP IE WC WD WP WE : Type 0} {g : Ghosts F} (k : Fields F E) (two : ℕ) (m : RunMoves C S F E WC) (p : FriParameters W)
+module _ {F E I W IC ID IP IE WC WD WP WE : Type 0} {g : Ghosts F} (k : Fields F E) (two : ℕ) (p : FriParameters W)
     (claims : List (CommitmentOpening E IC (CircleDomain F g))) (proof : CirclePcsProof F E I W F IC ID IP IE WC WD WP WE) (eq : F → F → Bool) (null : F) (same : E → E → Bool) where
   abbrev pub tests : List (Test (FriError WE (InputError IE WE)))
   tests = seeding_tests two (λ w. eq w null) (is_at_infinity same k.extension) p (batch_claims claims) (proof_of proof)
@@ -96,11 +96,19 @@ module _ {C S F E I W IC ID IP IE WC WD WP WE : Type 0} {g : Ghosts F} (k : Fiel
       (subst (AllPass {E = FriError WE (InputError IE WE)}) (sym (parts-are two z i p (batch_claims claims) (proof_of proof)))
       (pass-both _ _ parts.claims (pass-both _ _ parts.parameters (pass-both _ _ parts.shape (pass-both _ _ parts.final parts.points)))))
 
+module _ {C S F E I W IC ID IP IE WC WD WP WE : Type 0} {g : Ghosts F} (k : Fields F E) (two : ℕ) (m : RunMoves C S F E WC) (p : FriParameters W)
+    (claims : List (CommitmentOpening E IC (CircleDomain F g))) (proof : CirclePcsProof F E I W F IC ID IP IE WC WD WP WE) (eq : F → F → Bool) (null : F) (same : E → E → Bool) where
+  abbrev z' : F → Bool
+  z' w = eq w null
+
+  abbrev i' : E → Bool
+  i' t = is_at_infinity same k.extension t
+
   -- so many challenges and queries are drawn
   pub queries-drawn : (old new : C) (c : Challenges E) → IsDrawnFrom k m p claims proof old c new → length c.queries ≡ p.num_queries
   queries-drawn old new c is = queries-count m _ _ _ _ is
 
-  pub betas-drawn : (old new : C) (c : Challenges E) → Tested → IsDrawnFrom k m p claims proof old c new → length c.betas ≡ rounds_due p (batch_claims claims)
+  pub betas-drawn : (old new : C) (c : Challenges E) → Tested k two p claims proof eq null same → IsDrawnFrom k m p claims proof old c new → length c.betas ≡ rounds_due p (batch_claims claims)
   betas-drawn old new c t is =
       let count = betas-count m _ _ _ _ is in
       let listed = length-map c.betas m.base.coefficients in
@@ -108,23 +116,23 @@ module _ {C S F E I W IC ID IP IE WC WD WP WE : Type 0} {g : Ghosts F} (k : Fiel
       omega (arith, count, listed, zipped, t.commitments, t.witnesses)
 
   module _ (eq_law : (a b : F) → (eq a b ≡ true) ↔ (a ≡ b)) (null_law : null ≡ k.field.zero) (same_law : (a b : E) → (same a b ≡ true) ↔ (a ≡ b)) where
-    pub zero-of : (w : F) → z w ≡ true → w ≡ k.field.zero
+    pub zero-of : (w : F) → z' w ≡ true → w ≡ k.field.zero
     zero-of w h = (eq_law w null).0 h ∙ null_law
 
-    pub zero-from : (w : F) → w ≡ k.field.zero → z w ≡ true
+    pub zero-from : (w : F) → w ≡ k.field.zero → z' w ≡ true
     zero-from w h = (eq_law w null).1 (h ∙ sym null_law)
 
-    pub finite-of : (t : E) → i t ≡ false → IsFinite k.extension t
-    finite-of t h at = false_not (i t) h ((same_law _ _).1 at)
+    pub finite-of : (t : E) → i' t ≡ false → IsFinite k.extension t
+    finite-of t h at = false_not (i' t) h ((same_law _ _).1 at)
 
-    pub finite-from : (t : E) → IsFinite k.extension t → i t ≡ false
-    finite-from t h = not_true (i t) (λ at. h ((same_law _ _).0 at))
+    pub finite-from : (t : E) → IsFinite k.extension t → i' t ≡ false
+    finite-from t h = not_true (i' t) (λ at. h ((same_law _ _).0 at))
 
     module _ (inputs : I → Authenticates IC F IP) (words : W → Authenticates WC E WP) (mmcs : I) where
       -- what is accepted passes the tests
-      pub accepted-passes : (old left : C) → AcceptsFrom k m inputs words mmcs p claims proof two old left → answer tests (tt {0}) ≡ Ok (tt {0})
+      pub accepted-passes : (old left : C) → AcceptsFrom k m inputs words mmcs p claims proof two old left → answer (tests k two p claims proof eq null same) (tt {0}) ≡ Ok (tt {0})
       accepted-passes old left a =
-          answer-of (tested k two z i p (batch_claims claims) (proof_of proof) a.drawn (queries-drawn old left a.drawn a.draws) zero-from finite-from a.accepts)
+          answer-of k two p claims proof eq null same (tested k two z' i' p (batch_claims claims) (proof_of proof) a.drawn (queries-drawn old left a.drawn a.draws) zero-from finite-from a.accepts)
 
       -- a phase that is missed is not accepted
       pub missed-memory : (old left : C) (e : FriError WE (InputError IE WE)) → (e ≡ Memory) ⊎ IsMissedIn (draw_from k m p claims proof old) e →

@@ -95,9 +95,8 @@ run_with claims proof drawn = record {
 -- I and W are the schemes of the batches and of the words, each with its commitments, data, proofs
 -- and errors; r is what the challenger is to the transcript
 module _ {C S F E I W IC ID IP IE WC WD WP WE : Type 0} {g : _} (k : Fields F E)
-    (r : RunMoves C S F E WC)
-    (inputs : I → Authenticates IC F IP) (words : W → Authenticates WC E WP)
-    (mmcs : I) (p : FriParameters W) (claims : List (CommitmentOpening E IC (CircleDomain F g)))
+    (r : RunMoves C S F E WC) (p : FriParameters W)
+    (claims : List (CommitmentOpening E IC (CircleDomain F g)))
     (proof : CirclePcsProof F E I W F IC ID IP IE WC WD WP WE) where
   -- what is drawn from a challenger
   abbrev pub draw_from : C → Result (Drawn S F) PowPhase
@@ -108,10 +107,15 @@ module _ {C S F E I W IC ID IP IE WC WD WP WE : Type 0} {g : _} (k : Fields F E)
   IsDrawnFrom old drawn new =
       draw_from old ≡ Ok (drawn_by r.base.coefficients drawn (r.base.state new))
 
+module _ {C S F E I W IC ID IP IE WC WD WP WE : Type 0} {g : _} (k : Fields F E)
+    (r : RunMoves C S F E WC)
+    (inputs : I → Authenticates IC F IP) (words : W → Authenticates WC E WP)
+    (mmcs : I) (p : FriParameters W) (claims : List (CommitmentOpening E IC (CircleDomain F g)))
+    (proof : CirclePcsProof F E I W F IC ID IP IE WC WD WP WE) where
   -- from the one challenger the verifier accepts, and leaves the other
   pub record AcceptsFrom (two_adicity : ℕ) (old new : C) : Type 0 where
     pub drawn : Challenges E
-    pub draws : IsDrawnFrom old drawn new
+    pub draws : IsDrawnFrom k r p claims proof old drawn new
     pub accepts :
         Accepts (setting_of k p) (run_with claims proof drawn) p two_adicity
         (inputs mmcs) (words p.mmcs)
@@ -119,12 +123,12 @@ module _ {C S F E I W IC ID IP IE WC WD WP WE : Type 0} {g : _} (k : Fields F E)
   -- everything is drawn, and there is reason for the refusal then
   pub record IsRefusedAfter (old new : C) (e : FriError WE (InputError IE WE)) : Type 0 where
     pub drawn : Challenges E
-    pub draws : IsDrawnFrom old drawn new
+    pub draws : IsDrawnFrom k r p claims proof old drawn new
     pub reason :
-        IsReason (setting_of k p) (run_with claims proof drawn) (inputs mmcs)
-        (words p.mmcs) e
+        IsReason (setting_of k p) (run_with claims proof drawn) (inputs mmcs) (words p.mmcs) e
 
   -- why a run that was seeded is refused; that memory was refused no contract sees
   abbrev pub IsRefused : C → C → FriError WE (InputError IE WE) → Type 0
   IsRefused old new e =
-      (e ≡ Memory) ⊎ (IsMissedIn (draw_from old) e ⊎ IsRefusedAfter old new e)
+      (e ≡ Memory)
+      ⊎ (IsMissedIn (draw_from k r p claims proof old) e ⊎ IsRefusedAfter old new e)
