@@ -5,8 +5,9 @@
 //! `circle_relation`:
 //!
 //! - `claimed_heights` answers the heights that matrices are claimed of, ascending.
-//! - `validate_input_shape` is Ok only where the lists of the proof have the lengths that claims and
-//!   queries fix, each matrix is claimed at a point, and each leaves something to fold (`opened`).
+//! - `validate_input_shape` is Ok only where the proof's lists have the lengths that the claims and
+//!   the queries fix, each matrix is claimed at a point, and each leaves something to fold
+//!   (`opened`).
 //! - `authenticate_inputs` is Ok only where the rows of each batch authenticate at the queries
 //!   (`shown`).
 //! - `reduced_words` answers for each height the sums of the quotients of all claims at the queries
