@@ -4,14 +4,16 @@
 //! What is proved, for every lawful field, extension and schemes, by the relation of
 //! `circle_relation`:
 //!
-//! - `claimed_heights` answers the heights that matrices are claimed of.
-//! - `validate_input_shape` is Ok exactly where the lists of the proof have the lengths that the
-//!   claims and the queries fix, each matrix is claimed at a point, and each leaves something to
-//!   fold.
-//! - `authenticate_inputs` is Ok exactly where each batch's rows authenticate at the queries,
-//!   memory aside.
-//! - `reduced_words` answers for each height the sums of the quotients of all claims at the
-//!   queries, and is Ok exactly where no claimed point is that of a query, memory aside.
+//! - `claimed_heights` answers the heights that matrices are claimed of, ascending.
+//! - `validate_input_shape` is Ok only where the proof's lists have the lengths that the claims and
+//!   the queries fix, each matrix is claimed at a point, and each leaves something to fold
+//!   (`opened`).
+//! - `authenticate_inputs` is Ok only where the rows of each batch authenticate at the queries
+//!   (`shown`).
+//! - `reduced_words` answers for each height the sums of the quotients of all claims at the queries
+//!   (`words`), and is Ok only where no claimed point is that of a query (`apart`).
+//! - Whatever the last three refuse, the relation has a reason for, or memory was refused
+//!   (`refused`).
 #![tactic(auto)]
 
 pub mod batches;

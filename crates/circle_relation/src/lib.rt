@@ -2,8 +2,10 @@
 //! proof is made of, what is drawn, and the relation between them.
 //!
 //! `specs/Accepts` has the relation part by part, and `specs/Reasons` why a run is refused once the
-//! challenges are drawn. `specs/Statement` and `RunOf` say what the records of this crate are to
-//! them.
+//! challenges are drawn; where the relation holds, nothing but want of memory has a reason
+//! (`proofs/Contradictions`). `specs/Statement`, `StatementOf` and `RunOf` say what claims and the
+//! records of this crate are to them, and `specs/Rows` evaluates them at a worked opening. There is
+//! nothing to call here.
 #![tactic(auto)]
 
 pub mod error;
