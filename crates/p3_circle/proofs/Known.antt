@@ -98,18 +98,23 @@ module _ {T X : Type 0} (C I : Type 0) (entries : X → List (List T)) (queries 
   rounds-from round (o ∷ os) all =
       let lengths = map (λ v. length v) (entries o) in
       let first = pass-front (round_tests {C = C} {I = I} queries round lengths) (rounds_tests {C = C} {I = I} queries (round + 1) (map (λ o. map (λ v. length v) (entries o)) os)) all in
-      let rest = pass-back (round_tests {C = C} {I = I} queries round lengths) (rounds_tests {C = C} {I = I} queries (round + 1) (map (λ o. map (λ v. length v) (entries o)) os)) all in
-      ((sym (length-map (entries o) (λ v. length v)) ∙ same-from (length lengths) queries first.0,
-      All-from_recursion (λ v. length v ≡ 1) (entries o) (siblings-from C I round (entries o) first.1)), rounds-from (round + 1) os rest)
+      let rest = pass-back (round_tests {C = C} {I = I} queries round lengths) (rounds_tests {C = C} {I = I} queries (round + 1) (map (λ o. map (λ v. length v) (entries o)) os)) all in (
+        (
+          sym (length-map (entries o) (λ v. length v)) ∙ same-from (length lengths) queries first.0,
+          All-from_recursion (λ v. length v ≡ 1) (entries o) (siblings-from C I round (entries o) first.1),
+        ),
+        rounds-from (round + 1) os rest,
+      )
 
   rounds-to : (round : ℕ) (os : List X) → AllByRecursion (IsOpenedOnce entries queries) os → AllPass (rounds_tests {C = C} {I = I} queries round (map (λ o. map (λ v. length v) (entries o)) os))
   unfolding AllPass rounds_tests
   rounds-to round [] all = tt
   rounds-to round (o ∷ os) all =
       let lengths = map (λ v. length v) (entries o) in
-      pass-both (round_tests {C = C} {I = I} queries round lengths) (rounds_tests {C = C} {I = I} queries (round + 1) (map (λ o. map (λ v. length v) (entries o)) os))
-      (same-to (length lengths) queries (length-map (entries o) (λ v. length v) ∙ all.0.0),
-      siblings-to C I round (entries o) (recursion_from_All (λ v. length v ≡ 1) (entries o) all.0.1)) (rounds-to (round + 1) os all.1)
+      pass-both (round_tests {C = C} {I = I} queries round lengths) (rounds_tests {C = C} {I = I} queries (round + 1) (map (λ o. map (λ v. length v) (entries o)) os)) (
+        same-to (length lengths) queries (length-map (entries o) (λ v. length v) ∙ all.0.0),
+        siblings-to C I round (entries o) (recursion_from_All (λ v. length v ≡ 1) (entries o) all.0.1),
+      ) (rounds-to (round + 1) os all.1)
 
 -- no claim passes a test
 claims-from : {E : Type 0} (test : E → Bool) (ms : List (MatrixClaim E)) → some_claim test ms ≡ false → All (λ m. All (λ c. test c.point ≡ false) m.claims) ms
@@ -190,18 +195,41 @@ module _ {F E M Com WordCom InputProof WordProof : Type 0} (two : ℕ) (is_zero 
         let sizes = recursion_from_All (λ m. p.log_final_poly_len + 1 ≤ m.log_n) ms k.large in
         let top = top_known ms sizes k.some_matrix in
         record {
-          claims = (ne_eqb (length (log_sizes ms)) 0 (λ none. absurd (let some = k.some_matrix in omega (arith, none, some, counted))),
-              pass-both (domain_tests {C = C} {A = A} {B = B} p.log_final_poly_len (log_sizes ms)) _ (domains-to C A B p.log_final_poly_len ms sizes)
-              (lt-leb two (greatest (log_sizes ms) + p.log_blowup) (let low = k.in_group in omega (arith, low, top)), tt));
-          parameters = (le-ltb 30 p.batch_proof_of_work_bits k.batch_work, (le-ltb 30 p.commit_proof_of_work_bits k.commit_work, (le-ltb 30 p.query_proof_of_work_bits k.query_work,
-              (ne_eqb p.num_queries 0 (λ none. absurd (let some = k.queries in omega (arith, none, some))),
-              (ne_eqb p.log_blowup 0 (λ none. absurd (let some = k.blowup in omega (arith, none, some))), (same-to p.max_log_arity 1 k.arity, tt))))));
-          shape = (same-to (length proof.commitments) due k.commitments, (same-to (length proof.witnesses) due k.witnesses,
-              (zero-to p.commit_proof_of_work_bits (list_all is_zero proof.witnesses) (λ none. list_all-from_AllPass is_zero proof.witnesses (k.commit_zero none)),
-              (zero-to p.query_proof_of_work_bits (is_zero proof.query_witness) k.query_zero,
-              (same-to (length (map (λ o. map (λ v. length v) o.entries) proof.rounds_opened)) due (length-map proof.rounds_opened (λ o. map (λ v. length v) o.entries) ∙ k.opened),
-              rounds-to C (InputError A B) (λ o. o.entries) p.num_queries 0 proof.rounds_opened
-              (recursion_from_All (λ o. (length o.entries ≡ p.num_queries) × All (λ v. length v ≡ 1) o.entries) proof.rounds_opened k.siblings))))));
+          claims = (
+            ne_eqb (length (log_sizes ms)) 0 (λ none. absurd (let some = k.some_matrix in omega (arith, none, some, counted))),
+            pass-both (domain_tests {C = C} {A = A} {B = B} p.log_final_poly_len (log_sizes ms)) _ (domains-to C A B p.log_final_poly_len ms sizes)
+                (lt-leb two (greatest (log_sizes ms) + p.log_blowup) (let low = k.in_group in omega (arith, low, top)), tt),
+          );
+          parameters = (
+            le-ltb 30 p.batch_proof_of_work_bits k.batch_work,
+            (
+              le-ltb 30 p.commit_proof_of_work_bits k.commit_work,
+              (
+                le-ltb 30 p.query_proof_of_work_bits k.query_work,
+                (
+                  ne_eqb p.num_queries 0 (λ none. absurd (let some = k.queries in omega (arith, none, some))),
+                  (ne_eqb p.log_blowup 0 (λ none. absurd (let some = k.blowup in omega (arith, none, some))), (same-to p.max_log_arity 1 k.arity, tt)),
+                ),
+              ),
+            ),
+          );
+          shape = (
+            same-to (length proof.commitments) due k.commitments,
+            (
+              same-to (length proof.witnesses) due k.witnesses,
+              (
+                zero-to p.commit_proof_of_work_bits (list_all is_zero proof.witnesses) (λ none. list_all-from_AllPass is_zero proof.witnesses (k.commit_zero none)),
+                (
+                  zero-to p.query_proof_of_work_bits (is_zero proof.query_witness) k.query_zero,
+                  (
+                    same-to (length (map (λ o. map (λ v. length v) o.entries) proof.rounds_opened)) due (length-map proof.rounds_opened (λ o. map (λ v. length v) o.entries) ∙ k.opened),
+                    rounds-to C (InputError A B) (λ o. o.entries) p.num_queries 0 proof.rounds_opened
+                        (recursion_from_All (λ o. (length o.entries ≡ p.num_queries) × All (λ v. length v ≡ 1) o.entries) proof.rounds_opened k.siblings),
+                  ),
+                ),
+              ),
+            ),
+          );
           final = (same-to (length proof.final_poly) (2 ^ p.log_final_poly_len) k.final_poly, tt);
           points = (zero-to p.batch_proof_of_work_bits (is_zero proof.batch_witness) k.batch_zero, (claims-to is_infinite ms k.finite, tt));
         }

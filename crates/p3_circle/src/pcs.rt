@@ -89,6 +89,13 @@ impl<Val: ComplexExtendable, InputMmcs: Mmcs<Val>, FriMmcs> CirclePcs<Val, Input
             self.now.mmcs self.now.fri_params claims.items proof.now challenger.old
             challenger.new) }
     {
-        verify_claims(alloc, &self.mmcs, &self.fri_params, &claims, proof, challenger)
+        verify_claims(
+            alloc,
+            &self.mmcs,
+            &self.fri_params,
+            &claims,
+            proof,
+            challenger,
+        )
     }
 }

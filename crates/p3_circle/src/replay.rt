@@ -153,10 +153,7 @@ pub(crate) fn replay_transcript<
     proof: &CirclePcsProof<Val, EF, InputMmcs, FriMmcs, Val>,
     log_max_height: usize,
     challenger: &mut C,
-) -> Result<
-    CircleDraws<EF>,
-    FriError<FriMmcs::Error, InputError<InputMmcs::Error, FriMmcs::Error>>,
->
+) -> Result<CircleDraws<EF>, FriError<FriMmcs::Error, InputError<InputMmcs::Error, FriMmcs::Error>>>
 where
     C: CanSample<Val> + GrindingChallenger<Val> + CanObserve<FriMmcs::Commitment>,
     requires tested { IsTested Val.CIRCLE_TWO_ADICITY (λ w. Val.eq w Val.ZERO)

@@ -295,4 +295,3 @@ returns-clause-later g c =
     λ passed. if_err _ _ c.verify_drawn.result
     (λ e why. inr (inr (record { drawn = challenges_of c.in_ok-draws.draws; draws = c.in_ok-draws.ensures.drawn; reason = why })))
     c.verify_drawn.ensures.refused
-

@@ -31,16 +31,25 @@ returns-in_err-validate_parameters g c =
     (sym c.validate_parameters.ensures ∙ c.in_err-validate_parameters.was))
 
 pub overflow_sub-num_commit_rounds : goal.overflow_sub-num_commit_rounds
-overflow_sub-num_commit_rounds g c = omega (arith, (claims_known g.row.FriMmcs-Error.Denot g.row.InputMmcs-Error.Denot g.row.FriMmcs-Error.Denot g.Val.ComplexExtendable.CIRCLE_TWO_ADICITY
-    c.args.params.now.log_blowup c.args.params.now.log_final_poly_len (all_matrices (batch_claims c.args.claims.now)) _ (sym c.validate_claims.ensures ∙ c.in_ok-log_max_height.was)).0)
+overflow_sub-num_commit_rounds g c = omega (
+  arith,
+  (claims_known g.row.FriMmcs-Error.Denot g.row.InputMmcs-Error.Denot g.row.FriMmcs-Error.Denot g.Val.ComplexExtendable.CIRCLE_TWO_ADICITY
+      c.args.params.now.log_blowup c.args.params.now.log_final_poly_len (all_matrices (batch_claims c.args.claims.now)) _ (sym c.validate_claims.ensures ∙ c.in_ok-log_max_height.was)).0,
+)
 
 pub overflow_sub-num_commit_rounds-2 : goal.overflow_sub-num_commit_rounds-2
-overflow_sub-num_commit_rounds-2 g c = omega (arith, (claims_known g.row.FriMmcs-Error.Denot g.row.InputMmcs-Error.Denot g.row.FriMmcs-Error.Denot g.Val.ComplexExtendable.CIRCLE_TWO_ADICITY
-    c.args.params.now.log_blowup c.args.params.now.log_final_poly_len (all_matrices (batch_claims c.args.claims.now)) _ (sym c.validate_claims.ensures ∙ c.in_ok-log_max_height.was)).0)
+overflow_sub-num_commit_rounds-2 g c = omega (
+  arith,
+  (claims_known g.row.FriMmcs-Error.Denot g.row.InputMmcs-Error.Denot g.row.FriMmcs-Error.Denot g.Val.ComplexExtendable.CIRCLE_TWO_ADICITY
+      c.args.params.now.log_blowup c.args.params.now.log_final_poly_len (all_matrices (batch_claims c.args.claims.now)) _ (sym c.validate_claims.ensures ∙ c.in_ok-log_max_height.was)).0,
+)
 
 pub overflow_sub-num_commit_rounds-3 : goal.overflow_sub-num_commit_rounds-3
-overflow_sub-num_commit_rounds-3 g c = omega (arith, (claims_known g.row.FriMmcs-Error.Denot g.row.InputMmcs-Error.Denot g.row.FriMmcs-Error.Denot g.Val.ComplexExtendable.CIRCLE_TWO_ADICITY
-    c.args.params.now.log_blowup c.args.params.now.log_final_poly_len (all_matrices (batch_claims c.args.claims.now)) _ (sym c.validate_claims.ensures ∙ c.in_ok-log_max_height.was)).0)
+overflow_sub-num_commit_rounds-3 g c = omega (
+  arith,
+  (claims_known g.row.FriMmcs-Error.Denot g.row.InputMmcs-Error.Denot g.row.FriMmcs-Error.Denot g.Val.ComplexExtendable.CIRCLE_TWO_ADICITY
+      c.args.params.now.log_blowup c.args.params.now.log_final_poly_len (all_matrices (batch_claims c.args.claims.now)) _ (sym c.validate_claims.ensures ∙ c.in_ok-log_max_height.was)).0,
+)
 
 pub returns-in_err-validate_proof_shape : goal.returns-in_err-validate_proof_shape
 returns-in_err-validate_proof_shape g c =
@@ -55,7 +64,6 @@ returns-in_err-validate_proof_shape g c =
     (log_max_height p.log_blowup (all_matrices batches)) c.in_err-validate_proof_shape.field-0.0 _ _ first
     (sym c.validate_parameters.ensures ∙ c.in_ok-validate_parameters.was)
     (shape_same _ p fri batches _ known.2 ∙ sym c.validate_proof_shape.ensures ∙ c.in_err-validate_proof_shape.was))
-
 
 pub check_final_poly-requires : goal.check_final_poly-requires
 check_final_poly-requires g c =
