@@ -1,37 +1,74 @@
 //! What is answered to claims and proofs: zeros are accepted, and what was changed is refused.
+ghost use Rattle.std.specs.Prelude.{length};
+ghost use Rattle.std.specs.Int.{w64, to_be_bytes};
+ghost use Rattle.circle_vectors.specs.MatrixList.{matrices_of};
+
+use crate::matrix_list::MatrixList;
 use crate::schemes::ListMmcs;
-use circle_challenger::Sha256Challenger;
+use circle_challenger::{CanObserve, CanSample, GrindingChallenger, Sha256Challenger};
 use circle_commit::{FriError, MatrixOpening, Mmcs};
 use circle_field::{Cubic, Field, Mersenne31};
 use circle_merkle::{MerkleTreeError, ShaMmcs};
 use p3_circle::{CircleDomain, InputError};
-use std::alloc::Global;
+use std::alloc::{AllocError, Global};
 use std::fmt::InlineText;
 use std::process::Abort;
 use std::test::Fail;
 
 mod zeros;
 
-use zeros::{EIGHT, FOUR, Size, Zeros, claim, one, prove_zeros};
+use zeros::{EIGHT, FOUR, Size, Zeros, claim, one, prove};
 
 type Trees = ShaMmcs<Mersenne31>;
 
-type Answer<I> = Result<
+type WordTrees = ShaMmcs<Cubic>;
+
+type Answer<I, W> = Result<
     (),
-    FriError<MerkleTreeError, InputError<<I as Mmcs<Mersenne31>>::Error, MerkleTreeError>>,
+    FriError<
+        <W as Mmcs<Cubic>>::Error,
+        InputError<<I as Mmcs<Mersenne31>>::Error, <W as Mmcs<Cubic>>::Error>,
+    >,
 >;
 
+// A challenger takes in a list of matrices by their number alone: no answer of these tests hangs on
+// what is in them.
+impl<T: Copy> CanObserve<MatrixList<T>> for Sha256Challenger {
+    ghost use Rattle.circle_challenger.specs.Sponge.{absorbed};
+
+    ghost after_observe = { λ s list. absorbed s (to_be_bytes w64 (length (matrices_of list))) };
+
+    fn observe(&mut self, value: &MatrixList<T>) {
+        let count = value.matrices().len() as u64;
+        self.observe_bytes(&count.to_be_bytes());
+    }
+}
+
+// The coefficients of the honest final polynomial.
+fn zero_poly(alloc: Global, size: Size) -> Result<Vec<Cubic>, AllocError> {
+    vec![in alloc; Cubic::ZERO; size.coefficients]
+}
+
 // Zeros over trees, proved from the fresh challenger.
-fn honest(alloc: Global, size: Size) -> Result<Zeros<Trees>, Fail> {
-    prove_zeros(alloc, Trees::new(), size, &mut Sha256Challenger::new())
+fn honest(alloc: Global, size: Size) -> Result<Zeros<Trees, WordTrees>, Fail> {
+    let schemes = (Trees::new(), WordTrees::new());
+    let final_poly = zero_poly(alloc, size)?;
+    prove(
+        alloc,
+        schemes,
+        size,
+        final_poly,
+        &mut Sha256Challenger::new(),
+    )
 }
 
 // What is answered from the state of the challenger.
-fn verify<I: Mmcs<Mersenne31> + Drop>(
-    alloc: Global,
-    zeros: Zeros<I>,
-    challenger: &mut Sha256Challenger,
-) -> Answer<I> {
+fn verify<I, W, C>(alloc: Global, zeros: Zeros<I, W>, challenger: &mut C) -> Answer<I, W>
+where
+    I: Mmcs<Mersenne31> + Drop,
+    W: Mmcs<Cubic> + Drop,
+    C: CanSample<Mersenne31> + GrindingChallenger<Mersenne31> + CanObserve<W::Commitment>,
+{
     let Zeros {
         scheme,
         claims,
@@ -41,31 +78,20 @@ fn verify<I: Mmcs<Mersenne31> + Drop>(
 }
 
 // The text of the answer, `accepted` where it is Ok.
-fn shown(answer: Answer<Trees>) -> InlineText<128> {
+fn shown(answer: Answer<Trees, WordTrees>) -> InlineText<128> {
     match answer {
         Ok(()) => InlineText::of("accepted"),
         Err(refusal) => InlineText::of(refusal),
     }
 }
 
-// Asserts that both sides of a proof of zeros end in one state, and that it is accepted.
-fn assert_accepted<I: Mmcs<Mersenne31> + Drop>(
+// Asserts that a refusal with this text leaves the challenger as it was.
+fn assert_refused_first(
     rt: &impl Abort,
     alloc: Global,
-    mmcs: I,
-    size: Size,
-) -> Result<(), Fail> {
-    let mut prover = Sha256Challenger::new();
-    let honest = prove_zeros(alloc, mmcs, size, &mut prover)?;
-    let mut verifier = Sha256Challenger::new();
-    assert!(rt; verify(alloc, honest, &mut verifier).is_ok());
-    assert!(rt; verifier != Sha256Challenger::new());
-    assert_eq!(rt; verifier, prover);
-    Ok(())
-}
-
-// Asserts that a refusal with this text leaves the challenger as it was.
-fn assert_refused_first(rt: &impl Abort, alloc: Global, changed: Zeros<Trees>, expected: &str) {
+    changed: Zeros<Trees, WordTrees>,
+    expected: &str,
+) {
     let mut challenger = Sha256Challenger::new();
     let text = shown(verify(alloc, changed, &mut challenger));
     assert_eq!(rt; text.as_str(), expected);
@@ -73,7 +99,7 @@ fn assert_refused_first(rt: &impl Abort, alloc: Global, changed: Zeros<Trees>, e
 }
 
 // Asserts that the challenger is seeded and then something is refused, and not for memory.
-fn assert_refused_later(rt: &impl Abort, alloc: Global, changed: Zeros<Trees>) {
+fn assert_refused_later(rt: &impl Abort, alloc: Global, changed: Zeros<Trees, WordTrees>) {
     let mut challenger = Sha256Challenger::new();
     let answer = shown(verify(alloc, changed, &mut challenger));
     let text = answer.as_str();
@@ -84,7 +110,7 @@ fn assert_refused_later(rt: &impl Abort, alloc: Global, changed: Zeros<Trees>) {
 
 // Claims one more matrix of the first batch.
 fn push_claim(
-    zeros: &mut Zeros<Trees>,
+    zeros: &mut Zeros<Trees, WordTrees>,
     claim: MatrixOpening<Cubic, CircleDomain<Mersenne31>>,
 ) -> Result<(), Fail> {
     if zeros.claims.is_empty() {
@@ -97,7 +123,7 @@ fn push_claim(
 // Claims this in place of the first batch's matrices.
 fn replace_claim(
     alloc: Global,
-    zeros: &mut Zeros<Trees>,
+    zeros: &mut Zeros<Trees, WordTrees>,
     claim: MatrixOpening<Cubic, CircleDomain<Mersenne31>>,
 ) -> Result<(), Fail> {
     if zeros.claims.is_empty() {
@@ -107,12 +133,49 @@ fn replace_claim(
     Ok(())
 }
 
+// Asserts that zeros are accepted over trees, and that both sides end in one state.
+fn assert_trees(rt: &impl Abort, alloc: Global, size: Size) -> Result<(), Fail> {
+    let mut prover = Sha256Challenger::new();
+    let schemes = (Trees::new(), WordTrees::new());
+    let honest = prove(alloc, schemes, size, zero_poly(alloc, size)?, &mut prover)?;
+    let mut verifier = Sha256Challenger::new();
+    assert!(rt; verify(alloc, honest, &mut verifier).is_ok());
+    assert!(rt; verifier != Sha256Challenger::new());
+    assert_eq!(rt; verifier, prover);
+    Ok(())
+}
+
+// The same over lists.
+fn assert_lists(rt: &impl Abort, alloc: Global, size: Size) -> Result<(), Fail> {
+    let mut prover = Sha256Challenger::new();
+    let schemes = (ListMmcs, ListMmcs);
+    let honest = prove(alloc, schemes, size, zero_poly(alloc, size)?, &mut prover)?;
+    let mut verifier = Sha256Challenger::new();
+    assert!(rt; verify(alloc, honest, &mut verifier).is_ok());
+    assert!(rt; verifier != Sha256Challenger::new());
+    assert_eq!(rt; verifier, prover);
+    Ok(())
+}
+
 #[test]
 fn zeros_are_accepted(rt: HostRuntime) -> Result<(), Fail> {
-    assert_accepted(&rt, rt.alloc(), Trees::new(), FOUR)?;
-    assert_accepted(&rt, rt.alloc(), ListMmcs, FOUR)?;
-    assert_accepted(&rt, rt.alloc(), Trees::new(), EIGHT)?;
-    assert_accepted(&rt, rt.alloc(), ListMmcs, EIGHT)?;
+    assert_trees(&rt, rt.alloc(), FOUR)?;
+    assert_trees(&rt, rt.alloc(), EIGHT)?;
+    assert_lists(&rt, rt.alloc(), FOUR)?;
+    assert_lists(&rt, rt.alloc(), EIGHT)?;
+    Ok(())
+}
+
+// All is opened as it was committed to, and folds to 0.
+#[test]
+fn another_final_polynomial(rt: HostRuntime) -> Result<(), Fail> {
+    let alloc = rt.alloc();
+    let schemes = (Trees::new(), WordTrees::new());
+    let one = one(alloc, Cubic::ONE)?;
+    let proved = prove(alloc, schemes, FOUR, one, &mut Sha256Challenger::new())?;
+    let answer = shown(verify(alloc, proved, &mut Sha256Challenger::new()));
+    let mismatch = "a query is folded to another value than the final polynomial's";
+    assert_eq!(rt; answer.as_str(), mismatch);
     Ok(())
 }
 
@@ -191,6 +254,9 @@ fn changed_claims(rt: HostRuntime) -> Result<(), Fail> {
     let mut nowhere = claim(alloc, 2, Cubic::ZERO)?;
     nowhere.points = Vec::new(alloc);
     push_claim(&mut changed, nowhere)?;
+    assert_refused_later(&rt, alloc, changed);
+    let mut changed = honest(alloc, EIGHT)?;
+    push_claim(&mut changed, claim(alloc, 2, Cubic::ZERO)?)?;
     assert_refused_later(&rt, alloc, changed);
     Ok(())
 }

@@ -1,15 +1,15 @@
 //! Columns of zeros, claimed to be zero, with their proofs: what the prover would send, made here
 //! of the schemes' and the transcript's own calls.
-ghost use Rattle.std.specs.Prelude.{◌≡◌, [], ◌∷◌, IfOk, flat_map};
-ghost use Rattle.circle_transcript.specs.ShapeOf.{batches_of};
+ghost use Rattle.std.specs.Prelude.{◌≡◌, ◌<◌, ◌≤◌, [], ◌∷◌, IfOk, flat_map};
+ghost use Rattle.circle_transcript.specs.Shape.{claimed_widths};
+ghost use Rattle.circle_transcript.specs.ShapeOf.{shape_of, batches_of};
 
-use circle_challenger::Sha256Challenger;
+use circle_challenger::{CanObserve, CanSample, GrindingChallenger};
 use circle_commit::{
     BatchMultiOpening, CommitmentOpening, FriParameters, MatrixOpening, Mmcs, PointOpening,
     RowMajorMatrix, are_below, heights_are_powers_of_two,
 };
 use circle_field::{Cubic, ExtensionField, Field, Mersenne31};
-use circle_merkle::ShaMmcs;
 use circle_transcript::{CircleMessages, CirclePcsShape, prover_run};
 use p3_circle::{
     CircleCommitPhaseMultiStep, CircleDomain, CircleFriProof, CircleInputProof, CirclePcs,
@@ -23,8 +23,11 @@ pub(super) type Claims<I> = Vec<
     CommitmentOpening<Cubic, <I as Mmcs<Mersenne31>>::Commitment, CircleDomain<Mersenne31>>,
 >;
 
-/// The proofs over this scheme of batches.
-type Proof<I> = CirclePcsProof<Mersenne31, Cubic, I, ShaMmcs<Cubic>, Mersenne31>;
+/// The scheme over these schemes of batches and of words.
+type Scheme<I, W> = CirclePcs<Mersenne31, I, W>;
+
+/// The proofs over these schemes of batches and of words.
+type Proof<I, W> = CirclePcsProof<Mersenne31, Cubic, I, W, Mersenne31>;
 
 /// The numbers of a statement of zeros whose proof has one round.
 #[derive(Clone, Copy)]
@@ -35,6 +38,8 @@ pub(super) struct Size {
     height: usize,
     /// The binary logarithm of the number of coefficients of the final polynomial.
     log_final_poly_len: usize,
+    /// That number.
+    pub coefficients: usize,
 }
 
 /// Four zeros, folded to a constant.
@@ -42,6 +47,7 @@ pub(super) const FOUR: Size = Size {
     log_n: 2,
     height: 8,
     log_final_poly_len: 0,
+    coefficients: 1,
 };
 
 /// Eight zeros, folded to a polynomial of two coefficients.
@@ -49,25 +55,26 @@ pub(super) const EIGHT: Size = Size {
     log_n: 3,
     height: 16,
     log_final_poly_len: 1,
+    coefficients: 2,
 };
 
 /// A column of zeros, claimed to be zero at `[0, 1, 0]`, with its proof.
 #[derive(Drop)]
-pub(super) struct Zeros<I: Mmcs<Mersenne31>> {
+pub(super) struct Zeros<I: Mmcs<Mersenne31>, W: Mmcs<Cubic>> {
     /// The scheme.
-    pub scheme: CirclePcs<Mersenne31, I, ShaMmcs<Cubic>>,
+    pub scheme: Scheme<I, W>,
     /// What is claimed.
     pub claims: Claims<I>,
     /// The proof.
-    pub proof: Proof<I>,
+    pub proof: Proof<I, W>,
 }
 
 /// What the prover keeps of what it committed to.
 #[derive(Drop)]
-struct Kept<I: Mmcs<Mersenne31>> {
+struct Kept<I: Mmcs<Mersenne31>, W: Mmcs<Cubic>> {
     column: I::ProverData,
-    layer: <ShaMmcs<Cubic> as Mmcs<Cubic>>::ProverData,
-    word: <ShaMmcs<Cubic> as Mmcs<Cubic>>::ProverData,
+    layer: W::ProverData,
+    word: W::ProverData,
 }
 
 /// A list of one item.
@@ -78,7 +85,7 @@ pub(super) fn one<T: Drop>(alloc: Global, item: T) -> Result<Vec<T>, AllocError>
 }
 
 // Parameters of three queries, a blowup of two and no proofs of work.
-fn parameters(log_final_poly_len: usize) -> FriParameters<ShaMmcs<Cubic>>
+fn parameters<W>(log_final_poly_len: usize, mmcs: W) -> FriParameters<W>
     ensures blowup { result.log_blowup ≡ 1 }
     ensures final_poly { result.log_final_poly_len ≡ log_final_poly_len }
     ensures batch { result.batch_proof_of_work_bits ≡ 0 }
@@ -93,7 +100,7 @@ fn parameters(log_final_poly_len: usize) -> FriParameters<ShaMmcs<Cubic>>
         batch_proof_of_work_bits: 0,
         commit_proof_of_work_bits: 0,
         query_proof_of_work_bits: 0,
-        mmcs: ShaMmcs::<Cubic>::new(),
+        mmcs,
     }
 }
 
@@ -116,6 +123,19 @@ pub(super) fn claim(
         domain: CircleDomain::new(log_n, Point::ZERO),
         points: one(alloc, opening)?,
     })
+}
+
+// One batch of a column that is claimed to be zero.
+fn claimed_zero<Com: Drop>(
+    alloc: Global,
+    commitment: Com,
+    log_n: usize,
+) -> Result<Vec<CommitmentOpening<Cubic, Com, CircleDomain<Mersenne31>>>, AllocError> {
+    let batch = CommitmentOpening {
+        commitment,
+        matrices: one(alloc, claim(alloc, log_n, Cubic::ZERO)?)?,
+    };
+    one(alloc, batch)
 }
 
 // Commits to a matrix of so many zeros in rows of this width.
@@ -177,19 +197,40 @@ fn widths(alloc: Global) -> Result<Vec<Vec<Vec<usize>>>, AllocError>
     Ok(vec![in alloc; batch]?)
 }
 
+// The shape of a run over one claim of one value.
+fn shape(
+    alloc: Global,
+    log_n: usize,
+    log_final_poly_len: usize,
+) -> Result<CirclePcsShape, AllocError>
+    requires small { log_n ≤ 9 }
+    requires large { log_final_poly_len < log_n }
+    ensures widths { IfOk result (λ s. claimed_widths (shape_of s) ≡ 1 ∷ []) }
+    ensures batch { IfOk result (λ s. s.batch_pow_bits ≡ 0) }
+    ensures commit { IfOk result (λ s. s.commit_pow_bits ≡ 0) }
+    ensures query { IfOk result (λ s. s.query_pow_bits ≡ 0) }
+    ensures index { IfOk result (λ s. s.index_bits ≤ 63) }
+    ensures final_poly { IfOk result (λ s. s.log_final_poly_len ≡ log_final_poly_len) }
+{
+    let params = parameters(log_final_poly_len, ());
+    Ok(CirclePcsShape::new(&params, widths(alloc)?, log_n + 1, 1))
+}
+
 // Draws the queries on the prover's side.
-fn queries(
+fn queries<C, Com>(
     alloc: Global,
     size: Size,
-    messages: &CircleMessages<Cubic, [u8; 32]>,
-    challenger: &mut Sha256Challenger,
-) -> Result<Vec<usize>, Fail> {
+    messages: &CircleMessages<Cubic, Com>,
+    challenger: &mut C,
+) -> Result<Vec<usize>, Fail>
+where
+    C: CanSample<Mersenne31> + GrindingChallenger<Mersenne31> + CanObserve<Com>,
+{
     let log_len = size.log_final_poly_len;
     if size.log_n > 9 || log_len >= size.log_n {
         return Err(Fail::new("the size"));
     }
-    let params = parameters(log_len);
-    let shape = CirclePcsShape::new(&params, widths(alloc)?, size.log_n + 1, 1);
+    let shape = shape(alloc, size.log_n, log_len)?;
     if messages.commitments.len() != shape.num_commit_rounds {
         return Err(Fail::new("the number of rounds"));
     }
@@ -201,7 +242,7 @@ fn queries(
     };
     let values = [Cubic::ZERO];
     let claims = [(point, values.as_slice())];
-    let (draws, _) = prover_run::<Mersenne31, Cubic, Sha256Challenger, [u8; 32]>(
+    let (draws, _) = prover_run::<Mersenne31, Cubic, C, Com>(
         alloc,
         challenger,
         shape,
@@ -212,12 +253,12 @@ fn queries(
 }
 
 // Opens the column and the first layer at the queries.
-fn input_proof<I: Mmcs<Mersenne31>>(
+fn input_proof<I: Mmcs<Mersenne31>, W: Mmcs<Cubic>>(
     alloc: Global,
-    scheme: &CirclePcs<Mersenne31, I, ShaMmcs<Cubic>>,
-    kept: &Kept<I>,
+    scheme: &Scheme<I, W>,
+    kept: &Kept<I, W>,
     queries: &[usize],
-) -> Result<CircleInputProof<Mersenne31, Cubic, I, ShaMmcs<Cubic>>, Fail> {
+) -> Result<CircleInputProof<Mersenne31, Cubic, I, W>, Fail> {
     let batch = opened(alloc, &scheme.mmcs, &kept.column, queries)?;
     let words = &scheme.fri_params.mmcs;
     let pairs = opened(alloc, words, &kept.layer, &halves(alloc, queries)?)?;
@@ -229,12 +270,12 @@ fn input_proof<I: Mmcs<Mersenne31>>(
 }
 
 // Opens the word of the round at the queries.
-fn round<I: Mmcs<Mersenne31>>(
+fn round<I: Mmcs<Mersenne31>, W: Mmcs<Cubic>>(
     alloc: Global,
-    scheme: &CirclePcs<Mersenne31, I, ShaMmcs<Cubic>>,
-    kept: &Kept<I>,
+    scheme: &Scheme<I, W>,
+    kept: &Kept<I, W>,
     queries: &[usize],
-) -> Result<CircleCommitPhaseMultiStep<Cubic, ShaMmcs<Cubic>>, Fail> {
+) -> Result<CircleCommitPhaseMultiStep<Cubic, W>, Fail> {
     let indices = halves(alloc, &halves(alloc, queries)?)?;
     let pairs = opened(alloc, &scheme.fri_params.mmcs, &kept.word, &indices)?;
     Ok(CircleCommitPhaseMultiStep {
@@ -243,51 +284,65 @@ fn round<I: Mmcs<Mersenne31>>(
     })
 }
 
-// Answers the commitments, and draws and opens the queries.
-fn prove<I: Mmcs<Mersenne31>>(
+// The commitments to the first layer and to the word of the round, and the coefficients of the
+// final polynomial.
+#[derive(Drop)]
+struct Sent<W: Mmcs<Cubic>> {
+    first_layer: W::Commitment,
+    rounds: Vec<W::Commitment>,
+    final_poly: Vec<Cubic>,
+}
+
+// Draws and opens the queries.
+fn proof_of<I: Mmcs<Mersenne31>, W: Mmcs<Cubic>, C>(
     alloc: Global,
-    scheme: &CirclePcs<Mersenne31, I, ShaMmcs<Cubic>>,
+    scheme: &Scheme<I, W>,
     size: Size,
-    commitments: [[u8; 32]; 2],
-    kept: &Kept<I>,
-    challenger: &mut Sha256Challenger,
-) -> Result<Proof<I>, Fail> {
-    let [first_layer_commitment, word] = commitments;
-    let commit_phase_commits = one(alloc, word)?;
-    let mut final_poly = one(alloc, Cubic::ZERO)?;
-    if size.log_final_poly_len == 1 {
-        final_poly.push(Cubic::ZERO)?;
-    }
+    sent: Sent<W>,
+    kept: &Kept<I, W>,
+    challenger: &mut C,
+) -> Result<Proof<I, W>, Fail>
+where
+    C: CanSample<Mersenne31> + GrindingChallenger<Mersenne31> + CanObserve<W::Commitment>,
+{
     let messages = CircleMessages {
-        first_layer: &first_layer_commitment,
-        commitments: &commit_phase_commits,
-        final_poly: &final_poly,
+        first_layer: &sent.first_layer,
+        commitments: &sent.rounds,
+        final_poly: &sent.final_poly,
     };
     let queries = queries(alloc, size, &messages, challenger)?;
     let fri_proof = CircleFriProof {
-        commit_phase_commits,
+        commit_phase_commits: sent.rounds,
         commit_pow_witnesses: one(alloc, Mersenne31::ZERO)?,
         input_openings: input_proof(alloc, scheme, kept, &queries)?,
         commit_phase_openings: one(alloc, round(alloc, scheme, kept, &queries)?)?,
-        final_poly,
+        final_poly: sent.final_poly,
         pow_witness: Mersenne31::ZERO,
     };
     Ok(CirclePcsProof {
         batch_pow_witness: Mersenne31::ZERO,
-        first_layer_commitment,
+        first_layer_commitment: sent.first_layer,
         lambdas: one(alloc, Cubic::ZERO)?,
         fri_proof,
     })
 }
 
-/// The zeros of this size over this scheme of batches, proved from the challenger's state.
-pub(super) fn prove_zeros<I: Mmcs<Mersenne31> + Drop>(
+/// The zeros of this size, proved from the challenger's state with this final polynomial, which is
+/// zero where the prover is honest.
+pub(super) fn prove<I, W, C>(
     alloc: Global,
-    mmcs: I,
+    schemes: (I, W),
     size: Size,
-    challenger: &mut Sha256Challenger,
-) -> Result<Zeros<I>, Fail> {
-    let scheme = CirclePcs::new(mmcs, parameters(size.log_final_poly_len));
+    final_poly: Vec<Cubic>,
+    challenger: &mut C,
+) -> Result<Zeros<I, W>, Fail>
+where
+    I: Mmcs<Mersenne31> + Drop,
+    W: Mmcs<Cubic> + Drop,
+    C: CanSample<Mersenne31> + GrindingChallenger<Mersenne31> + CanObserve<W::Commitment>,
+{
+    let (mmcs, words) = schemes;
+    let scheme = CirclePcs::new(mmcs, parameters(size.log_final_poly_len, words));
     let words = &scheme.fri_params.mmcs;
     let (commitment, column) = commit_zeros(alloc, &scheme.mmcs, size.height, 1)?;
     let (first_layer, layer) = commit_zeros(alloc, words, size.height, 2)?;
@@ -297,19 +352,13 @@ pub(super) fn prove_zeros<I: Mmcs<Mersenne31> + Drop>(
         layer,
         word,
     };
-    let proof = prove(
-        alloc,
-        &scheme,
-        size,
-        [first_layer, round],
-        &kept,
-        challenger,
-    )?;
-    let batch = CommitmentOpening {
-        commitment,
-        matrices: one(alloc, claim(alloc, size.log_n, Cubic::ZERO)?)?,
+    let sent = Sent {
+        first_layer,
+        rounds: one(alloc, round)?,
+        final_poly,
     };
-    let claims = one(alloc, batch)?;
+    let proof = proof_of(alloc, &scheme, size, sent, &kept, challenger)?;
+    let claims = claimed_zero(alloc, commitment, size.log_n)?;
     Ok(Zeros {
         scheme,
         claims,
