@@ -35,3 +35,5 @@ mod shapes;
 mod transform;
 #[cfg(test)]
 mod values;
+#[cfg(test)]
+mod verify;

@@ -21,6 +21,7 @@ type ProofOver<I, W> = CirclePcsProof<Mersenne31, Cubic, I, W, Mersenne31>;
 fn scheme<I, W>(mmcs: I, words: W) -> SchemeOver<I, W> {
     let fri_params = FriParameters {
         log_blowup: 1,
+        log_final_poly_len: 0,
         max_log_arity: 1,
         num_queries: 1,
         batch_proof_of_work_bits: 0,
@@ -95,7 +96,7 @@ fn proof_of_zeros<I: Mmcs<Mersenne31>, W: Mmcs<Cubic>>(
         commit_pow_witnesses: one(alloc, Mersenne31::ZERO)?,
         input_openings: input_proof(alloc, scheme, layer)?,
         commit_phase_openings: one(alloc, step)?,
-        final_poly: Cubic::ZERO,
+        final_poly: one(alloc, Cubic::ZERO)?,
         pow_witness: Mersenne31::ZERO,
     };
     Ok(CirclePcsProof {

@@ -61,6 +61,7 @@ fn a_refused_input_shows_its_refusal(rt: HostRuntime) {
 fn the_scheme_keeps_its_parts(rt: HostRuntime) {
     let params = FriParameters {
         log_blowup: 2,
+        log_final_poly_len: 0,
         max_log_arity: 1,
         num_queries: 2,
         batch_proof_of_work_bits: 0,

@@ -115,17 +115,30 @@ fn refusals_of_witnesses(rt: HostRuntime) {
 }
 
 #[test]
-fn refusals_of_folds(rt: HostRuntime) {
+fn refusals_of_the_final_polynomial(rt: HostRuntime) {
+    let short = Refusal::FinalPolyLengthMismatch {
+        expected: 2,
+        got: 1,
+    };
     assert_shown(
         &rt,
-        Refusal::InputError(AllocError),
-        "the input is refused: AllocError",
+        short,
+        "the final polynomial has 1 coefficients, and 2 are due",
     );
     let other = Refusal::FinalPolyMismatch;
     assert_shown(
         &rt,
         other,
-        "a query is folded to another value than the last word's",
+        "a query is folded to another value than the final polynomial's",
+    );
+}
+
+#[test]
+fn refusals_of_folds(rt: HostRuntime) {
+    assert_shown(
+        &rt,
+        Refusal::InputError(AllocError),
+        "the input is refused: AllocError",
     );
     let left = Refusal::UnconsumedReducedOpenings {
         next_log_height: 1,
