@@ -169,8 +169,8 @@ fn zeros_are_accepted(rt: HostRuntime) -> Result<(), Fail> {
 fn another_final_polynomial(rt: HostRuntime) -> Result<(), Fail> {
     let alloc = rt.alloc();
     let schemes = (Trees::new(), WordTrees::new());
-    let one = one(alloc, Cubic::ONE)?;
-    let proved = prove(alloc, schemes, FOUR, one, &mut Sha256Challenger::new())?;
+    let last = one(alloc, Cubic::ONE)?;
+    let proved = prove(alloc, schemes, FOUR, last, &mut Sha256Challenger::new())?;
     let answer = shown(verify(alloc, proved, &mut Sha256Challenger::new()));
     let mismatch = "a query is folded to another value than the final polynomial's";
     assert_eq!(rt; answer.as_str(), mismatch);
