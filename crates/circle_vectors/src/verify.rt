@@ -133,22 +133,19 @@ fn replace_claim(
     Ok(())
 }
 
-// Asserts that zeros are accepted over trees, and that both sides end in one state.
-fn assert_trees(rt: &impl Abort, alloc: Global, size: Size) -> Result<(), Fail> {
+// Asserts that zeros over these schemes are accepted, and that both sides end in one state.
+fn assert_accepted<I, W>(
+    rt: &impl Abort,
+    alloc: Global,
+    schemes: (I, W),
+    size: Size,
+) -> Result<(), Fail>
+where
+    I: Mmcs<Mersenne31> + Drop,
+    W: Mmcs<Cubic> + Drop,
+    Sha256Challenger: CanObserve<W::Commitment>,
+{
     let mut prover = Sha256Challenger::new();
-    let schemes = (Trees::new(), WordTrees::new());
-    let honest = prove(alloc, schemes, size, zero_poly(alloc, size)?, &mut prover)?;
-    let mut verifier = Sha256Challenger::new();
-    assert!(rt; verify(alloc, honest, &mut verifier).is_ok());
-    assert!(rt; verifier != Sha256Challenger::new());
-    assert_eq!(rt; verifier, prover);
-    Ok(())
-}
-
-// The same over lists.
-fn assert_lists(rt: &impl Abort, alloc: Global, size: Size) -> Result<(), Fail> {
-    let mut prover = Sha256Challenger::new();
-    let schemes = (ListMmcs, ListMmcs);
     let honest = prove(alloc, schemes, size, zero_poly(alloc, size)?, &mut prover)?;
     let mut verifier = Sha256Challenger::new();
     assert!(rt; verify(alloc, honest, &mut verifier).is_ok());
@@ -159,10 +156,11 @@ fn assert_lists(rt: &impl Abort, alloc: Global, size: Size) -> Result<(), Fail> 
 
 #[test]
 fn zeros_are_accepted(rt: HostRuntime) -> Result<(), Fail> {
-    assert_trees(&rt, rt.alloc(), FOUR)?;
-    assert_trees(&rt, rt.alloc(), EIGHT)?;
-    assert_lists(&rt, rt.alloc(), FOUR)?;
-    assert_lists(&rt, rt.alloc(), EIGHT)?;
+    let alloc = rt.alloc();
+    assert_accepted(&rt, alloc, (Trees::new(), WordTrees::new()), FOUR)?;
+    assert_accepted(&rt, alloc, (Trees::new(), WordTrees::new()), EIGHT)?;
+    assert_accepted(&rt, alloc, (ListMmcs, ListMmcs), FOUR)?;
+    assert_accepted(&rt, alloc, (ListMmcs, ListMmcs), EIGHT)?;
     Ok(())
 }
 
@@ -171,8 +169,8 @@ fn zeros_are_accepted(rt: HostRuntime) -> Result<(), Fail> {
 fn another_final_polynomial(rt: HostRuntime) -> Result<(), Fail> {
     let alloc = rt.alloc();
     let schemes = (Trees::new(), WordTrees::new());
-    let one = one(alloc, Cubic::ONE)?;
-    let proved = prove(alloc, schemes, FOUR, one, &mut Sha256Challenger::new())?;
+    let last = one(alloc, Cubic::ONE)?;
+    let proved = prove(alloc, schemes, FOUR, last, &mut Sha256Challenger::new())?;
     let answer = shown(verify(alloc, proved, &mut Sha256Challenger::new()));
     let mismatch = "a query is folded to another value than the final polynomial's";
     assert_eq!(rt; answer.as_str(), mismatch);

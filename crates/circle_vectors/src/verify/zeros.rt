@@ -77,6 +77,15 @@ struct Kept<I: Mmcs<Mersenne31>, W: Mmcs<Cubic>> {
     word: W::ProverData,
 }
 
+// The commitments to the first layer and to the word of the round, and the coefficients of the
+// final polynomial.
+#[derive(Drop)]
+struct Sent<W: Mmcs<Cubic>> {
+    first_layer: W::Commitment,
+    rounds: Vec<W::Commitment>,
+    final_poly: Vec<Cubic>,
+}
+
 /// A list of one item.
 pub(super) fn one<T: Drop>(alloc: Global, item: T) -> Result<Vec<T>, AllocError> {
     let mut items = Vec::new(alloc);
@@ -282,15 +291,6 @@ fn round<I: Mmcs<Mersenne31>, W: Mmcs<Cubic>>(
         sibling_values: siblings(alloc, queries)?,
         opening_proof: pairs.opening_proof,
     })
-}
-
-// The commitments to the first layer and to the word of the round, and the coefficients of the
-// final polynomial.
-#[derive(Drop)]
-struct Sent<W: Mmcs<Cubic>> {
-    first_layer: W::Commitment,
-    rounds: Vec<W::Commitment>,
-    final_poly: Vec<Cubic>,
 }
 
 // Draws and opens the queries.
