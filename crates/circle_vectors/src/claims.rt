@@ -1,9 +1,10 @@
 //! Refusals of claims, before anything else of a proof is looked at.
-use circle_commit::{CommitmentOpening, FriError, MatrixOpening};
+use crate::quadratic::Quadratic;
+use circle_commit::{CommitmentOpening, FriError, FriParameters, MatrixOpening, PointOpening};
 use circle_domain::CircleDomain;
-use circle_field::{Cubic, Mersenne31};
+use circle_field::{Cubic, ExtensionField, Field, Mersenne31};
 use circle_point::Neutral;
-use p3_circle::verifier::validate_claims;
+use p3_circle::verifier::{validate_claims, validate_points};
 use p3_circle::{InputError, Point};
 use std::alloc::{AllocError, Global};
 use std::process::Abort;
@@ -113,5 +114,58 @@ fn the_greatest_height(rt: HostRuntime) -> Result<(), Fail> {
     assert_too_high(&rt, answer(&claims, usize::MAX, 0), usize::MAX);
     let endless = two_batches(rt.alloc(), &[4], &[usize::MAX])?;
     assert_too_high(&rt, answer(&endless, 1, 0), usize::MAX);
+    Ok(())
+}
+
+type QuadraticClaims = Vec<CommitmentOpening<Quadratic, (), CircleDomain<Mersenne31>>>;
+
+// A matrix that is claimed at the point of this coordinate.
+fn claimed_at(alloc: Global, point: Quadratic) -> Result<QuadraticClaims, AllocError> {
+    let mut points = Vec::new(alloc);
+    points.push(PointOpening {
+        point,
+        values: Vec::new(alloc),
+    })?;
+    let mut matrices = Vec::new(alloc);
+    matrices.push(MatrixOpening {
+        domain: CircleDomain::new(2, Point::ZERO),
+        points,
+    })?;
+    let mut claims = Vec::new(alloc);
+    claims.push(CommitmentOpening {
+        commitment: (),
+        matrices,
+    })?;
+    Ok(claims)
+}
+
+// The answer to claims at a point, where no proof of work has a difficulty.
+fn answer_at(alloc: Global, point: Quadratic) -> Result<bool, Fail> {
+    let params = FriParameters {
+        log_blowup: 1,
+        log_final_poly_len: 0,
+        max_log_arity: 1,
+        num_queries: 1,
+        batch_proof_of_work_bits: 0,
+        commit_proof_of_work_bits: 0,
+        query_proof_of_work_bits: 0,
+        mmcs: (),
+    };
+    let claims = claimed_at(alloc, point)?;
+    let answer: Result<(), FriError<AllocError, AllocError>> = validate_points(
+        &params,
+        &Mersenne31::ZERO,
+        &claims,
+    );
+    Ok(matches!(answer, Err(FriError::PointAtInfinity)))
+}
+
+// The square of the element `X` of the quadratic extension is -1.
+#[test]
+fn points_at_infinity(rt: HostRuntime) -> Result<(), Fail> {
+    let alloc = rt.alloc();
+    let infinity = Quadratic::from_coefficients(&[Mersenne31::ZERO, Mersenne31::ONE]);
+    assert!(&rt; answer_at(alloc, infinity)?);
+    assert!(&rt; !answer_at(alloc, Quadratic::ONE)?);
     Ok(())
 }
