@@ -1,19 +1,17 @@
 -- What is known where no test before the seeding has reason to refuse, and that none has where it is
 -- known.
-use Rattle.std.proofs.Common.{rules, not, ◌==◌, ◌&&◌, ◌||◌, ◌≡◌, ◌≢◌, ℕ, Bool, true, false, ◌+◌, ◌-◌, ◌^◌, ◌<◌, ◌≤◌, List, [], ◌∷◌, ◌++◌, length, map, refl, sym, ap, ◌∙◌, arith}
+use Rattle.std.proofs.Common.{not, ◌==◌, ◌&&◌, ◌||◌, ◌≡◌, ◌≢◌, ℕ, Bool, true, false, ◌+◌, ◌^◌, ◌≤◌, List, [], ◌∷◌, length, map, refl, sym, ap, ◌∙◌, arith}
 use Rattle.std.specs.Prelude.{All}
 use Rattle.std.specs.List.{list_all, list_any, AllByRecursion}
-use Rattle.std.proofs.lemmas.Bool.{leb-false, lt-leb, le-leb, ltb-false, le-ltb, eqb-true, eqb-false, eq-eqb, ne_eqb}
+use Rattle.std.proofs.lemmas.Bool.{leb-false, lt-leb, ltb-false, le-ltb, eqb-true, eqb-false, eq-eqb, ne_eqb}
 use Rattle.std.proofs.lemmas.List.{length-map}
 use Rattle.std.proofs.lemmas.List.Elements.{All-from_recursion, recursion_from_All}
 use Rattle.std.proofs.lemmas.List.Sums.{AllPass-from_list_all, list_all-from_AllPass}
 use Rattle.circle_commit.specs.Mmcs.{greatest}
-use Rattle.circle_commit.specs.declared.error.FriError.{FriError}
 use Rattle.circle_commit.specs.declared.params.FriParameters.{FriParameters}
-use Rattle.circle_commit.specs.declared.params.PowPhase.{PowPhase}
 use Rattle.circle_relation.specs.declared.error.InputError.{InputError}
 use Rattle.circle_relation.specs.Statement.{MatrixClaim, BatchClaim, OpeningProof, all_matrices, log_sizes, log_max_height}
-use Rattle.p3_circle.specs.Refusals.{Test, domain_tests, claim_tests, parameter_tests, witness_test, sibling_tests, round_tests, rounds_tests, shape_tests, final_test, point_tests, some_claim}
+use Rattle.p3_circle.specs.Refusals.{domain_tests, sibling_tests, round_tests, rounds_tests, some_claim}
 use Rattle.p3_circle.specs.Tested.{rounds_due, IsTested}
 use Rattle.p3_circle.proofs.Passed.{AllPass, pass-front, pass-back, pass-both}
 use Rattle.p3_circle.proofs.Seeding.{claims_part, parameters_part, shape_part, final_part, points_part, height_of_claims}

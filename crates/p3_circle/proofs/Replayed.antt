@@ -1,6 +1,6 @@
 -- What a verifier's transcript is described by, and what it takes in.
 use Rattle.std.proofs.Common.{◌≡◌, ℕ, Bool, true, false, ◌+◌, ◌-◌, ◌≤◌, List, [], ◌∷◌, ◌++◌, length, map, flat_map, zip, refl, sym, ap, ◌∙◌, append_assoc, arith, inl, inr}
-use Rattle.std.specs.Prelude.{All, Result, Err, ◌↔◌, ◌⊎◌}
+use Rattle.std.specs.Prelude.{All, Result, ◌↔◌, ◌⊎◌}
 use Rattle.std.proofs.lemmas.List.{map-append}
 use Rattle.std.proofs.lemmas.List.Elements.{All-head}
 use Rattle.circle_field.specs.Field.{FieldOps}

@@ -1,6 +1,6 @@
 -- The tests before the seeding, one part after another.
-use Rattle.std.proofs.Common.{rules, not, ◌==◌, ◌≡◌, ℕ, Bool, true, false, ◌+◌, ◌-◌, ◌^◌, ◌<◌, ◌≤◌, List, [], ◌∷◌, ◌++◌, length, map, vec_len, refl, sym, ap, ◌∙◌, arith}
-use Rattle.std.specs.Prelude.{Result, Ok, Err, Vec, ◌||◌}
+use Rattle.std.proofs.Common.{rules, ◌==◌, ◌≡◌, ℕ, Bool, true, false, ◌+◌, ◌-◌, ◌<◌, ◌≤◌, List, [], ◌∷◌, ◌++◌, length, map, vec_len, refl, sym, ap, ◌∙◌, arith}
+use Rattle.std.specs.Prelude.{Ok, Err, Vec, ◌||◌}
 use Rattle.std.specs.List.{list_any}
 use Rattle.std.proofs.lemmas.Bool.{leb-false}
 use Rattle.std.specs.declared.alloc.Global.{Global}
@@ -20,7 +20,7 @@ use Rattle.circle_relation.specs.StatementOf.{point_claim, matrix_claims, batch_
 use Rattle.circle_relation.specs.RunOf.{opened_round}
 use Rattle.p3_circle.specs.Refusals.{Test, answer, claim_tests, domain_tests, parameter_tests, shape_tests, final_test, point_tests, some_point, some_claim, seeding_tests}
 use Rattle.p3_circle.proofs.Domains.{passed-value}
-use Rattle.p3_circle.proofs.Passed.{AllPass, passed, passes, pass-front, pass-back, front_refuses, front_passes}
+use Rattle.p3_circle.proofs.Passed.{AllPass, passed, passes, pass-back, front_refuses, front_passes}
 use Rattle.p3_circle.proofs.Heights.{raised}
 
 module _ {F E M Com WordCom InputProof WordProof C A B : Type 0} (two : ℕ) (is_zero : F → Bool) (is_infinite : E → Bool)

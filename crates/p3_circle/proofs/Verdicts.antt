@@ -1,6 +1,6 @@
 -- The verifier's answers, from those of its parts.
-use Rattle.std.proofs.Common.{◌≡◌, ℕ, Bool, true, false, ◌+◌, ◌≤◌, ◌<◌, List, [], ◌∷◌, length, map, zip, min, refl, sym, ap, subst, ◌∙◌, arith, inl, inr}
-use Rattle.std.specs.Prelude.{All, Result, Ok, Err, OnOk, IfErr, ◌↔◌, ◌⊎◌}
+use Rattle.std.proofs.Common.{◌≡◌, ℕ, Bool, true, false, List, length, sym, subst, ◌∙◌, arith, inl, inr}
+use Rattle.std.specs.Prelude.{Result, Ok, Err, OnOk, IfErr, ◌↔◌, ◌⊎◌}
 use Rattle.std.proofs.lemmas.List.{length-map}
 use Rattle.std.proofs.lemmas.Slice.Zip.{length-zip}
 use Rattle.circle_field.specs.declared.field.Operations.{Ghosts}
@@ -13,18 +13,15 @@ use Rattle.circle_domain.specs.declared.domain.CircleDomain.{CircleDomain}
 use Rattle.circle_domain.specs.Selectors.{IsFinite}
 use Rattle.circle_relation.specs.declared.error.InputError.{InputError}
 use Rattle.circle_relation.specs.declared.proof.CirclePcsProof.{CirclePcsProof}
-use Rattle.circle_relation.specs.Statement.{Challenges, all_matrices, log_max_height}
+use Rattle.circle_relation.specs.Statement.{Challenges}
 use Rattle.circle_relation.specs.StatementOf.{batch_claims}
 use Rattle.circle_relation.specs.Accepts.{Fields, Authenticates, Accepts}
 use Rattle.circle_relation.specs.Reasons.{IsReason}
 use Rattle.circle_relation.specs.RunOf.{setting_of, proof_of}
 use Rattle.circle_relation.proofs.Contradictions.{only_memory}
-use Rattle.circle_transcript.specs.declared.run.CircleDraws.{CircleDraws}
-use Rattle.circle_transcript.specs.Draw.{Drawn}
 use Rattle.p3_circle.specs.Refusals.{Test, answer, seeding_tests, is_at_infinity}
-use Rattle.p3_circle.specs.Tested.{claimed_top, rounds_due, IsTested}
-use Rattle.p3_circle.specs.Verdict.{drawn_by, challenges_of, run_with, IsMissedIn, IsDrawnFrom, draw_from, AcceptsFrom, IsRefusedAfter, IsRefused}
-use Rattle.p3_circle.proofs.Domains.{passed-value, refused-value}
+use Rattle.p3_circle.specs.Tested.{rounds_due, IsTested}
+use Rattle.p3_circle.specs.Verdict.{drawn_by, run_with, IsMissedIn, IsDrawnFrom, draw_from, AcceptsFrom}
 use Rattle.p3_circle.proofs.Known.{PartsPass, known, all_pass}
 use Rattle.p3_circle.proofs.Passed.{AllPass, passed, passes, pass-front, pass-back, pass-both}
 use Rattle.p3_circle.proofs.Seeding.{claims_part, parameters_part, shape_part, final_part, points_part, parts-are}

@@ -50,7 +50,8 @@ module _ {F E M Com WordCom InputProof WordProof IE WE : Type 0} (eq : F → F �
       answer (seeding_tests two_adicity (λ w. eq w zero) (is_at_infinity same l) p batches proof)
       (tt {0})
 
-  -- where one of them has reason to refuse, the first is the answer, and the challenger is as it was
+  -- where one of them has reason to refuse, the first is the answer, and the challenger is as it
+  -- was
   abbrev pub IsFirstRefusal : {C : Type 0} → Result (Unit {0}) (FriError WE (InputError IE WE))
       → C → C → Type 0
   IsFirstRefusal result old new = IfErr seeding_answer (λ e. (result ≡ Err e) × (new ≡ old))

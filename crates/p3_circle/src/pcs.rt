@@ -42,10 +42,10 @@ impl<Val: Field, InputMmcs, FriMmcs> CirclePcs<Val, InputMmcs, FriMmcs> {
 }
 
 impl<Val: ComplexExtendable, InputMmcs: Mmcs<Val>, FriMmcs> CirclePcs<Val, InputMmcs, FriMmcs> {
-    /// Whether the claimed values are those of the committed polynomials (Circle STARKs, IACR ePrint
-    /// 2024/278, sections 4 to 6): Ok exactly where the relation `Accepts` holds of the claims, the
-    /// proof and the challenges that are drawn, memory aside. Takes any input: what is malformed is
-    /// refused.
+    /// Whether the claimed values are those of the committed polynomials (Circle STARKs, IACR
+    /// ePrint 2024/278, sections 4 to 6): Ok exactly where the relation `Accepts` holds of the
+    /// claims, the proof and the challenges that are drawn, memory aside. Takes any input: what is
+    /// malformed is refused.
     ///
     /// Before the challenger is seeded it is left as it was, and the first of these is answered, by
     /// tests that take no memory: `NoCommittedMatrices`, `InputError(DomainTooSmall)`,

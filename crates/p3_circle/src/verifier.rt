@@ -343,11 +343,11 @@ pub fn validate_points<F: Field, Commitment, D, M, Witness: Field, CommitErr, In
 }
 
 /// Refuses claims and a proof by the first reason in the one order in which a verifier tests them
-/// before it seeds the challenger, and answers the logarithm of the greatest height that is claimed:
-/// the claims ([`validate_claims`]), the parameters ([`validate_parameters`]), the lengths and the
-/// witnesses of the proof ([`validate_proof_shape`]), the number of coefficients of the final
-/// polynomial (`FinalPolyLengthMismatch`), and the witness of the batching challenge and the claimed
-/// points ([`validate_points`]).
+/// before it seeds the challenger, and answers the logarithm of the greatest height that is
+/// claimed: the claims ([`validate_claims`]), the parameters ([`validate_parameters`]), the lengths
+/// and the witnesses of the proof ([`validate_proof_shape`]), the number of coefficients of the
+/// final polynomial (`FinalPolyLengthMismatch`), and the witness of the batching challenge and the
+/// claimed points ([`validate_points`]).
 ///
 /// Takes no memory.
 pub fn validate_run<

@@ -1,6 +1,5 @@
-use Rattle.std.proofs.Common.{◌≡◌, ◌+◌, ◌<◌, ◌^◌, length, refl, sym, ap, subst, ◌∙◌, arith}
-use Rattle.std.specs.Prelude.{All, OnOk, IfErr, Result, Ok, Err}
-use Rattle.circle_relation.specs.Statement.{all_matrices, Challenges}
+use Rattle.std.proofs.Common.{refl, ap, ◌∙◌, arith}
+use Rattle.circle_relation.specs.Statement.{all_matrices}
 use Rattle.circle_relation.specs.StatementOf.{batch_claims}
 use Rattle.circle_relation.specs.Accepts.{Fields}
 use Rattle.circle_relation.specs.RunOf.{proof_of}

@@ -1,4 +1,4 @@
-use Rattle.std.proofs.Common.{length, map, ap, ◌∙◌, arith}
+use Rattle.std.proofs.Common.{length, map, ap, ◌∙◌}
 use Rattle.circle_relation.specs.StatementOf.{point_claim, matrix_claim}
 use Rattle.p3_circle.proofs.Items.{pushed-more}
 use Rattle.p3_circle.proofs.replay.batch_widths.Goals as goal

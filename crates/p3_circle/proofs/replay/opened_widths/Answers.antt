@@ -1,4 +1,4 @@
-use Rattle.std.proofs.Common.{length, map, ap, ◌∙◌, arith}
+use Rattle.std.proofs.Common.{length, map, ap, ◌∙◌}
 use Rattle.circle_relation.specs.StatementOf.{matrix_claims, batch_claim}
 use Rattle.circle_transcript.specs.ShapeOf.{matrices_of}
 use Rattle.p3_circle.proofs.Items.{pushed-more}

@@ -1,4 +1,4 @@
-use Rattle.std.proofs.Common.{All, sym, ap, subst, ◌∙◌}
+use Rattle.std.proofs.Common.{All, sym, subst}
 use Rattle.circle_domain.specs.Selectors.{IsFinite}
 use Rattle.circle_relation.specs.StatementOf.{batch_claim, matrix_claims}
 use Rattle.p3_circle.proofs.Items.{All-read-part}

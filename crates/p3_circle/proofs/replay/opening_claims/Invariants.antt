@@ -1,8 +1,7 @@
-use Rattle.std.proofs.Common.{◌≡◌, ◌++◌, length, map, take, flat_map}
-use Rattle.circle_relation.specs.StatementOf.{point_claim, matrix_claims, batch_claims}
+use Rattle.std.proofs.Common.{◌≡◌, take}
+use Rattle.circle_relation.specs.StatementOf.{batch_claims}
 use Rattle.circle_transcript.specs.Claims.{claims_of}
-use Rattle.circle_transcript.specs.ShapeOf.{matrices_of, batches_of}
-use Rattle.p3_circle.specs.Taken.{widths_by, point_taken, claims_taken}
+use Rattle.p3_circle.specs.Taken.{claims_taken}
 use Rattle.p3_circle.proofs.replay.opening_claims.Given as goal
 
 -- the claims of the batches so far are there

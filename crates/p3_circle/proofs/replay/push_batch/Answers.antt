@@ -1,4 +1,4 @@
-use Rattle.std.proofs.Common.{◌++◌, map, take, flat_map, All, sym, ap, subst, ◌∙◌}
+use Rattle.std.proofs.Common.{◌++◌, map, flat_map, All, sym, ap, subst, ◌∙◌}
 use Rattle.std.proofs.lemmas.List.{take_all}
 use Rattle.circle_domain.specs.Selectors.{IsFinite}
 use Rattle.circle_relation.specs.StatementOf.{point_claim, matrix_claim, matrix_claims}

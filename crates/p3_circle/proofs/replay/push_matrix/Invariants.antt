@@ -1,8 +1,7 @@
-use Rattle.std.proofs.Common.{◌≡◌, ◌++◌, length, map, take, flat_map}
-use Rattle.circle_relation.specs.StatementOf.{point_claim, matrix_claims, batch_claims}
+use Rattle.std.proofs.Common.{◌≡◌, ◌++◌, map, take}
+use Rattle.circle_relation.specs.StatementOf.{point_claim}
 use Rattle.circle_transcript.specs.Claims.{claims_of}
-use Rattle.circle_transcript.specs.ShapeOf.{matrices_of, batches_of}
-use Rattle.p3_circle.specs.Taken.{widths_by, point_taken, claims_taken}
+use Rattle.p3_circle.specs.Taken.{point_taken}
 use Rattle.p3_circle.proofs.replay.push_matrix.Given as goal
 
 -- the claims so far are there

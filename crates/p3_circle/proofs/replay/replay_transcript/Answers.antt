@@ -1,14 +1,11 @@
-use Rattle.std.proofs.Common.{◌≡◌, ◌+◌, ◌-◌, ◌^◌, ◌<◌, length, map, flat_map, refl, sym, ap, subst, ◌∙◌, arith, inl, inr}
-use Rattle.std.specs.Prelude.{All, Ok, Err}
+use Rattle.std.proofs.Common.{◌≡◌, ◌^◌, ◌<◌, flat_map, refl, sym, ap, subst, ◌∙◌, arith}
+use Rattle.std.specs.Prelude.{All}
 use Rattle.circle_relation.specs.Statement.{all_matrices}
 use Rattle.circle_relation.specs.StatementOf.{batch_claims}
-use Rattle.circle_relation.specs.RunOf.{proof_of}
 use Rattle.circle_transcript.specs.Claims.{claims_of}
 use Rattle.circle_transcript.specs.Draw.{widths_of}
 use Rattle.circle_transcript.specs.ShapeOf.{batches_of, shape_of}
-use Rattle.p3_circle.specs.Taken.{claims_taken}
 use Rattle.p3_circle.proofs.Replayed.{claims_widths, tested_high, finite_from, shape_is, taken_is, redrawn, refused_by}
-use Rattle.p3_circle.proofs.Known.{known, all_pass}
 use Rattle.p3_circle.proofs.replay.replay_transcript.Goals as goal
 
 pub new-shape-requires-clause-high : goal.new-shape-requires-clause-high

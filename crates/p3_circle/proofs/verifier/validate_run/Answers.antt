@@ -1,15 +1,8 @@
-use Rattle.std.proofs.Common.{◌≡◌, ℕ, ◌+◌, ◌-◌, ◌≤◌, ◌<◌, [], ◌∷◌, Ok, Err, length, map, vec_len, refl, sym, ap, ◌∙◌, arith}
-use Rattle.std.specs.Prelude.{Result}
-use Rattle.circle_commit.specs.Mmcs.{greatest}
-use Rattle.circle_commit.specs.declared.error.FriError.{FriError}
-use Rattle.circle_relation.specs.declared.error.InputError.{InputError}
-use Rattle.circle_relation.specs.Statement.{all_matrices, log_sizes, log_max_height}
+use Rattle.std.proofs.Common.{Ok, sym, ap, ◌∙◌, arith}
+use Rattle.circle_relation.specs.Statement.{all_matrices, log_max_height}
 use Rattle.circle_relation.specs.StatementOf.{batch_claims}
 use Rattle.circle_relation.specs.RunOf.{proof_of}
-use Rattle.p3_circle.specs.Refusals.{answer, shape_tests, final_test, point_tests, is_at_infinity, claim_tests}
 use Rattle.p3_circle.proofs.Answering.{refused-is}
-use Rattle.p3_circle.proofs.Domains.{passed-value}
-use Rattle.p3_circle.proofs.Passed.{passed}
 use Rattle.p3_circle.proofs.Seeding.{claims_refuse, parameters_refuse, shape_refuses, final_refuses, points_refuse, none_refuses, claims_known, shape_same, final_same, points_same_tests}
 use Rattle.p3_circle.proofs.verifier.validate_run.Goals as goal
 
