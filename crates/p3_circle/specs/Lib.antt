@@ -1,3 +1,4 @@
+pub mod Constant
 pub mod Refusals
 pub mod Taken
 pub mod Tested

@@ -20,6 +20,7 @@
 //! There is no `commit` and no `open` yet: nothing here makes a proof.
 #![tactic(auto)]
 
+pub mod laws;
 pub mod pcs;
 pub mod queries;
 mod replay;
