@@ -1,2 +1,1 @@
-pub mod JsonItems
 pub mod Powers

@@ -8,5 +8,3 @@ pub mod MmcsFacts
 pub mod PeriodicLdeTable
 pub mod Pcs
 pub mod Selectors
-pub mod JsonForms
-pub mod JsonFormFacts

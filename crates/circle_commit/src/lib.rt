@@ -10,16 +10,12 @@
 //!   what a domain is asked and gives; `Pcs` and `FriFoldingStrategy` leave that to their
 //!   instances.
 //! - A `PeriodicLdeTable` answers the entry of its row i modulo its height (`get`).
-//! - `JsonForm` reads counts, elements, digests and lists from JSON and writes them: `from_json`
-//!   of a count, an element or a digest is Ok exactly on their forms and fails by one stated error
-//!   elsewhere, one of a list fails only as one of its items does or for want of memory, and what
-//!   `to_json` wrote stands for the value that it was written of and for no other (`reads`,
-//!   `reads_one`, `refuses_others`).
+//! - `JsonForm` of `circle_json`, shown here too, reads a batch's opening and the parameters of FRI
+//!   from JSON and writes them.
 #![tactic(auto)]
 
 pub mod error;
 pub mod folding;
-pub mod json;
 pub mod matrix;
 pub mod mmcs;
 pub mod params;
@@ -28,9 +24,9 @@ pub mod periodic;
 pub mod space;
 pub mod view;
 
+pub use circle_json::{JsonError, JsonForm};
 pub use error::FriError;
 pub use folding::FriFoldingStrategy;
-pub use json::{JsonError, JsonForm};
 pub use matrix::{
     Dimensions, Matrix, MatrixShape, RowIndexMap, RowIndexMappedView, RowMajorMatrix,
 };

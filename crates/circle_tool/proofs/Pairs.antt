@@ -4,7 +4,7 @@ use Rattle.serde_json.specs.Data.{Data, null, boolean, number, string, array, ob
 use Rattle.serde_json.specs.Find.{as_array}
 use Rattle.serde_json.specs.View.{items_view}
 use Rattle.serde_json.specs.declared.value.Value.{Value}
-use Rattle.circle_commit.specs.declared.json.JsonError.TheVariants.{WrongKind}
+use Rattle.circle_json.specs.declared.error.JsonError.TheVariants.{WrongKind}
 use Rattle.circle_tool.specs.Json.{pair_of, pair_of_items}
 
 pair_of-array : (value : Data) (items : Items) → as_array value ≡ Some items → pair_of value ≡ pair_of_items items

@@ -5,7 +5,7 @@ use Rattle.circle_field.specs.declared.mersenne31.Mersenne31.{Mersenne31}
 use Rattle.circle_field.specs.Mersenne31.{operations, residue}
 use Rattle.circle_field.specs.Circle.{Coordinates, at, IsOnCircle}
 use Rattle.circle_commit.specs.Matrix.{IsPowerOfTwo}
-use Rattle.circle_commit.specs.JsonForms.{count_of, residue_of, IsRead, ReadsArray}
+use Rattle.circle_json.specs.Values.{count_of, residue_of, IsRead, ReadsArray}
 use Rattle.serde_json.specs.Data.{Data}
 use Rattle.serde_json.specs.Find.{get}
 use Rattle.circle_tool.specs.Json.{pair_of}

@@ -1,8 +1,8 @@
 -- Which elements a JSON array of two is read as.
 use Rattle.std.specs.Prelude.{ℕ, List, [], Result, Ok, Err}
-use Rattle.circle_commit.specs.declared.json.JsonError.{JsonError}
-use Rattle.circle_commit.specs.declared.json.JsonError.TheVariants.{WrongKind}
-use Rattle.circle_commit.specs.JsonForms.{residue_of, in_front}
+use Rattle.circle_json.specs.declared.error.JsonError.{JsonError}
+use Rattle.circle_json.specs.declared.error.JsonError.TheVariants.{WrongKind}
+use Rattle.circle_json.specs.Values.{residue_of, in_front}
 use Rattle.serde_json.specs.Data.{Data, null, boolean, number, string, array, object, Items, no_items, item}
 
 -- the residues of exactly two elements

@@ -1,0 +1,5 @@
+pub mod Values
+pub mod FormFacts
+pub mod Form
+pub mod Objects
+pub mod ObjectForm

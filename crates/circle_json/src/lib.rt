@@ -1,0 +1,17 @@
+//! The forms of values in JSON: what is written is read back, and nothing stands for two values.
+//!
+//! `JsonForm` reads counts, elements, digests and lists from JSON and writes them: `from_json` of a
+//! count, an element or a digest is Ok exactly on their forms and fails by one stated error
+//! elsewhere, one of a list fails only as one of its items does or for want of memory, and what
+//! `to_json` wrote stands for the value that it was written of and for no other. `specs/Form` has
+//! what a form is and its laws, `specs/Values` the forms of this crate, `specs/ObjectForm` that of
+//! an object with exactly the members of a list of fields, for records of the crates above.
+#![tactic(auto)]
+
+pub mod error;
+pub mod form;
+pub mod object;
+
+pub use error::JsonError;
+pub use form::JsonForm;
+pub use object::{has_keys, member};
