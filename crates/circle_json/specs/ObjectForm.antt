@@ -35,7 +35,8 @@ module _ {T : Type 0} where
       ReadsFields fields value x → RefusesFields fields value error → error ≡ Memory
   fields_refuse_others none_left value x error p r = absurd r
   fields_refuse_others (field key part form others) value x error p r = ⊎_elim
-      (λ m. ⊎_elim (λ lacks. let e = p.0.1 in let n = lacks.0 in absurd (cc)) (λ h. let same : p.0.0 ≡ h.0 = one_member key value p.0.0 h.0 p.0.1 h.1 in
+      (λ m. ⊎_elim (λ lacks. let e = p.0.1 in let n = lacks.0 in absurd (cc))
+      (λ h. let same : p.0.0 ≡ h.0 = one_member key value p.0.0 h.0 p.0.1 h.1 in
       form.refuses_others h.0 (part x) error
       (subst (λ (d : Data). form.reads d (part x)) same p.0.2) h.2) m)
       (λ h. fields_refuse_others others value x error p.1 h) r
