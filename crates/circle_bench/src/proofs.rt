@@ -1,0 +1,123 @@
+//! Lines about a stored proof: whether it is accepted, and how long reading and verifying it take.
+use crate::timing::Mode;
+use circle_challenger::{CanObserve, Sha256Challenger};
+use circle_commit::{CommitmentOpening, FriParameters, JsonForm, MatrixOpening};
+use circle_field::{Cubic, Field, Mersenne31};
+use circle_json::member;
+use circle_merkle::ShaMmcs;
+use p3_circle::{CircleDomain, CirclePcs, CirclePcsProof, Point};
+use serde_json::Value;
+use std::alloc::{AllocError, Global};
+use std::io::{self, ErrorKind};
+use std::time::{Duration, Instant};
+use std::fs;
+
+/// The file of the claims, the parameters and the proof, beside which the program is run.
+const FILE: &str = "two_batches_with_work.verify.json";
+
+/// How many times the proof is read and verified when that is timed.
+const RUNS: usize = 50;
+
+type Hash = [u8; 32];
+
+/// Claims about domains that are told by the logarithms of their sizes.
+type Claims = Vec<CommitmentOpening<Cubic, Hash, usize>>;
+
+type Opened = Vec<CommitmentOpening<Cubic, Hash, CircleDomain<Mersenne31>>>;
+
+type Proof = CirclePcsProof<Mersenne31, Cubic, ShaMmcs<Mersenne31>, ShaMmcs<Cubic>, Mersenne31>;
+
+/// What the verifier is handed.
+#[derive(Drop)]
+struct Input {
+    claims: Claims,
+    params: FriParameters<()>,
+    proof: Proof,
+}
+
+/// Prints a line for reading the proof, one for verifying it, and one for both.
+pub fn report(rt: &HostRuntime, mode: Mode) -> io::Result<()> {
+    let text = fs::read(rt, FILE)?;
+    let runs = match mode {
+        Mode::Digests => 1,
+        Mode::Times => RUNS,
+    };
+    let mut best = [Duration::MAX; 3];
+    let mut accepted = true;
+    for _ in 0..runs {
+        let begin = Instant::now(rt)?;
+        let input = read(rt.alloc(), &text)?;
+        let reading = begin.elapsed(rt)?;
+        let middle = Instant::now(rt)?;
+        accepted = accepted && is_accepted(rt.alloc(), input)?;
+        let verifying = middle.elapsed(rt)?;
+        let both = begin.elapsed(rt)?;
+        best = [best[0].min(reading), best[1].min(verifying), best[2].min(both)];
+    }
+    print_line(rt, mode, "read", best[0], accepted)?;
+    print_line(rt, mode, "verify", best[1], accepted)?;
+    print_line(rt, mode, "read and verify", best[2], accepted)
+}
+
+/// Prints the line of a pass: 1 where the proof was accepted each time, else 0.
+fn print_line(
+    rt: &HostRuntime,
+    mode: Mode,
+    name: &str,
+    time: Duration,
+    accepted: bool,
+) -> io::Result<()> {
+    print!(rt; "CirclePcsProof {name} {FILE}: ")?;
+    if mode == Mode::Times {
+        print!(rt; "{} ns, ", time.as_nanos())?;
+    }
+    println!(rt; "[{}]", u64::from(accepted))
+}
+
+/// What a text of JSON stands for.
+fn read(alloc: Global, text: &[u8]) -> io::Result<Input> {
+    let value = Value::from_slice(alloc, text).map_err(|_| unreadable())?;
+    Ok(Input {
+        claims: part(alloc, &value, "batches")?,
+        params: part(alloc, &value, "params")?,
+        proof: part(alloc, &value, "proof")?,
+    })
+}
+
+/// What the member of an object with this key stands for.
+fn part<T: JsonForm>(alloc: Global, value: &Value, key: &str) -> io::Result<T> {
+    member(alloc, value, key).map_err(|_| unreadable())
+}
+
+/// The failure of a text that isn't a proof.
+fn unreadable() -> io::Error {
+    io::Error::from(ErrorKind::InvalidData)
+}
+
+/// Whether the verifier accepts.
+fn is_accepted(alloc: Global, input: Input) -> io::Result<bool> {
+    let mut challenger = Sha256Challenger::new();
+    for claim in &input.claims {
+        challenger.observe(claim.commitment);
+    }
+    let pcs = CirclePcs::new(ShaMmcs::new(), with_scheme(input.params));
+    let claims = on_domains(alloc, input.claims)?;
+    match pcs.verify(alloc, claims, &input.proof, &mut challenger) {
+        Err(FriError::Memory) => Err(io::Error::from(AllocError)),
+        verdict => Ok(verdict.is_ok()),
+    }
+}
+
+/// The parameters with the scheme of the folded words.
+fn with_scheme(params: FriParameters<()>) -> FriParameters<ShaMmcs<Cubic>> {
+    FriParameters {
+        log_blowup: params.log_blowup,
+        log_final_poly_len: params.log_final_poly_len,
+        max_log_arity: params.max_log_arity,
+        num_queries: params.num_queries,
+        batch_proof_of_work_bits: params.batch_proof_of_work_bits,
+        commit_proof_of_work_bits: params.commit_proof_of_work_bits,
+        query_proof_of_work_bits: params.query_proof_of_work_bits,
+        mmcs: ShaMmcs::new(),
+    }
+}
