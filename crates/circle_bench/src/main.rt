@@ -1,12 +1,13 @@
 //! Chains of field operations, circle transforms, values at a point, tables of periodic columns,
-//! commitments and the challenger over SHA-256: what they come to, or with the argument `time` how
-//! long they take.
+//! commitments, the challenger over SHA-256 and a stored proof: what they come to, or with the
+//! argument `time` how long they take.
 #![tactic(auto)]
 
 mod chains;
 mod commitments;
 mod evaluations;
 mod hashing;
+mod proofs;
 mod tables;
 mod timing;
 mod transforms;
@@ -189,6 +190,7 @@ fn main(rt: HostRuntime) -> io::Result<ExitCode> {
     let step = Cubic::from_coefficients(&[step, start.coefficient(2), step.square()]);
     timing::report(&rt, mode, "Cubic", &CUBIC, start, step)?;
     hashing::report(&rt, mode)?;
+    proofs::report(&rt, mode)?;
     Ok(ExitCode::SUCCESS)
 }
 

@@ -1,16 +1,19 @@
 //! Lines about a stored proof: whether it is accepted, and how long reading and verifying it take.
 use crate::timing::Mode;
 use circle_challenger::{CanObserve, Sha256Challenger};
-use circle_commit::{CommitmentOpening, FriParameters, JsonForm, MatrixOpening};
-use circle_field::{Cubic, Field, Mersenne31};
+use circle_commit::{CommitmentOpening, FriError, FriParameters, JsonForm, MatrixOpening};
+use circle_field::{Cubic, Mersenne31};
 use circle_json::member;
 use circle_merkle::ShaMmcs;
-use p3_circle::{CircleDomain, CirclePcs, CirclePcsProof, Point};
+use p3_circle::{CircleDomain, CirclePcs, CirclePcsProof, Neutral, Point};
 use serde_json::Value;
 use std::alloc::{AllocError, Global};
+use std::fs;
 use std::io::{self, ErrorKind};
 use std::time::{Duration, Instant};
-use std::fs;
+
+/// What the lines call the proof: two batches with proofs of work.
+const NAME: &str = "two_batches_with_work";
 
 /// The file of the claims, the parameters and the proof, beside which the program is run.
 const FILE: &str = "two_batches_with_work.verify.json";
@@ -20,17 +23,15 @@ const RUNS: usize = 50;
 
 type Hash = [u8; 32];
 
-/// Claims about domains that are told by the logarithms of their sizes.
-type Claims = Vec<CommitmentOpening<Cubic, Hash, usize>>;
-
-type Opened = Vec<CommitmentOpening<Cubic, Hash, CircleDomain<Mersenne31>>>;
+/// The claims about one batch, whose domains are told by `Domain`.
+type Claim<Domain> = CommitmentOpening<Cubic, Hash, Domain>;
 
 type Proof = CirclePcsProof<Mersenne31, Cubic, ShaMmcs<Mersenne31>, ShaMmcs<Cubic>, Mersenne31>;
 
 /// What the verifier is handed.
 #[derive(Drop)]
 struct Input {
-    claims: Claims,
+    claims: Vec<Claim<usize>>,
     params: FriParameters<()>,
     proof: Proof,
 }
@@ -52,7 +53,11 @@ pub fn report(rt: &HostRuntime, mode: Mode) -> io::Result<()> {
         accepted = accepted && is_accepted(rt.alloc(), input)?;
         let verifying = middle.elapsed(rt)?;
         let both = begin.elapsed(rt)?;
-        best = [best[0].min(reading), best[1].min(verifying), best[2].min(both)];
+        best = [
+            best[0].min(reading),
+            best[1].min(verifying),
+            best[2].min(both),
+        ];
     }
     print_line(rt, mode, "read", best[0], accepted)?;
     print_line(rt, mode, "verify", best[1], accepted)?;
@@ -67,7 +72,7 @@ fn print_line(
     time: Duration,
     accepted: bool,
 ) -> io::Result<()> {
-    print!(rt; "CirclePcsProof {name} {FILE}: ")?;
+    print!(rt; "CirclePcsProof {name} {NAME}: ")?;
     if mode == Mode::Times {
         print!(rt; "{} ns, ", time.as_nanos())?;
     }
@@ -97,11 +102,12 @@ fn unreadable() -> io::Error {
 /// Whether the verifier accepts.
 fn is_accepted(alloc: Global, input: Input) -> io::Result<bool> {
     let mut challenger = Sha256Challenger::new();
-    for claim in &input.claims {
-        challenger.observe(claim.commitment);
+    let mut claims = Vec::with_capacity(alloc, input.claims.len())?;
+    for claim in input.claims {
+        challenger.observe(&claim.commitment);
+        claims.push(placed(alloc, claim)?)?;
     }
     let pcs = CirclePcs::new(ShaMmcs::new(), with_scheme(input.params));
-    let claims = on_domains(alloc, input.claims)?;
     match pcs.verify(alloc, claims, &input.proof, &mut challenger) {
         Err(FriError::Memory) => Err(io::Error::from(AllocError)),
         verdict => Ok(verdict.is_ok()),
@@ -120,4 +126,22 @@ fn with_scheme(params: FriParameters<()>) -> FriParameters<ShaMmcs<Cubic>> {
         query_proof_of_work_bits: params.query_proof_of_work_bits,
         mmcs: ShaMmcs::new(),
     }
+}
+
+/// The claims about domains of these sizes; only their sizes count.
+fn placed(
+    alloc: Global,
+    claim: Claim<usize>,
+) -> Result<Claim<CircleDomain<Mersenne31>>, AllocError> {
+    let mut matrices = Vec::with_capacity(alloc, claim.matrices.len())?;
+    for matrix in claim.matrices {
+        matrices.push(MatrixOpening {
+            domain: CircleDomain::new(matrix.domain, Point::ZERO),
+            points: matrix.points,
+        })?;
+    }
+    Ok(CommitmentOpening {
+        commitment: claim.commitment,
+        matrices,
+    })
 }
