@@ -5,7 +5,7 @@ ghost use Rattle.std.specs.Io.KnownBytes.{Appends};
 ghost use Rattle.circle_tool.specs.Arguments.{NamesCommand};
 
 use crate::failure::Failure;
-use crate::{json, values};
+use crate::{json, shape, values, verify};
 use std::alloc::Global;
 use std::fmt::InlineText;
 use std::io::{Read, Write};
@@ -17,6 +17,8 @@ const FAILURE_LEN: usize = 64;
 #[derive(Clone, Copy)]
 enum Command {
     Values,
+    Verify,
+    Shape,
 }
 
 impl Command {
@@ -29,6 +31,8 @@ impl Command {
         };
         match name.as_str() {
             "values" => Some(Command::Values),
+            "verify" => Some(Command::Verify),
+            "shape" => Some(Command::Shape),
             _ => None,
         }
     }
@@ -89,5 +93,7 @@ fn answer<R: Read>(alloc: Global, args: &[String], input: &mut R) -> Result<Stri
     let value = json::read(alloc, input)?;
     match command {
         Command::Values => values::answer(alloc, &value),
+        Command::Verify => verify::answer(alloc, &value),
+        Command::Shape => shape::answer(alloc, &value),
     }
 }

@@ -1,0 +1,117 @@
+//! The command `shape`: what fixes the transcript of a run.
+
+ghost use Rattle.circle_json.specs.ObjectForm.{object_form};
+ghost use Rattle.circle_tool.specs.Shape.{input_fields};
+
+use crate::failure::Failure;
+use crate::json;
+use circle_commit::{FriParameters, JsonError, JsonForm};
+use circle_field::{Cubic, Mersenne31};
+use circle_json::{has_keys, member};
+use p3_circle::CirclePcsShape;
+use serde_json::{Value, json};
+use std::alloc::{AllocError, Global};
+
+/// The binary logarithm of a height that is past the group of the circle.
+const LOG_HEIGHT_BOUND: usize = 31;
+
+/// The bits of an index besides those that folding uses up.
+const EXTRA_INDEX_BITS: usize = 1;
+
+/// What the command is given.
+#[derive(Drop)]
+pub struct Input {
+    /// The binary logarithm of the greatest committed height.
+    pub log_max_height: usize,
+    /// The number of columns of every claim, by batch, matrix and point.
+    pub opened_widths: Vec<Vec<Vec<usize>>>,
+    /// The parameters of the run.
+    pub params: FriParameters<()>,
+}
+
+/// Why the command refuses its input.
+#[derive(Clone, Copy, Debug, Drop, PartialEq, Eq)]
+pub enum Refusal {
+    /// The greatest height leaves no room for the blowup and the final polynomial.
+    HeightTooSmall,
+    /// The greatest height is past the circle's group.
+    HeightTooLarge,
+}
+
+impl Refusal {
+    /// The refusal's name.
+    pub fn name(self) -> &'static str {
+        match self {
+            Refusal::HeightTooSmall => "HeightTooSmall",
+            Refusal::HeightTooLarge => "HeightTooLarge",
+        }
+    }
+}
+
+impl JsonForm for Input {
+    ghost form = { object_form input_fields };
+
+    fn to_json(&self, alloc: Global) -> Result<Value, AllocError> {
+        json!(in alloc; {
+            "log_max_height": self.log_max_height.to_json(alloc)?,
+            "opened_widths": self.opened_widths.to_json(alloc)?,
+            "params": self.params.to_json(alloc)?
+        })
+    }
+
+    fn from_json(alloc: Global, value: &Value) -> Result<Self, JsonError> {
+        has_keys(value, &["log_max_height", "opened_widths", "params"])?;
+        Ok(Input {
+            log_max_height: member(alloc, value, "log_max_height")?,
+            opened_widths: member(alloc, value, "opened_widths")?,
+            params: member(alloc, value, "params")?,
+        })
+    }
+}
+
+/// The line that answers `value`: the shape's numbers, the number of steps of its transcript, how
+/// the claims are grouped, and the text that the transcript is seeded with.
+///
+/// Fails as the [`Input`] and then as [`shape`] does.
+pub fn answer(alloc: Global, value: &Value) -> Result<String, Failure> {
+    let shape = shape(Input::from_json(alloc, value)?)?;
+    Ok(json::line(alloc, &shown(alloc, &shape)?)?)
+}
+
+/// The shape of a run with the input's parameters and claims.
+///
+/// Fails as `HeightTooSmall` unless `log_max_height` exceeds the sum of the blowup's logarithm and
+/// that of the final polynomial's length, and then as `HeightTooLarge` from `2^31` rows up.
+pub fn shape(input: Input) -> Result<CirclePcsShape, Refusal> {
+    let Input {
+        log_max_height,
+        opened_widths,
+        params,
+    } = input;
+    match params.log_blowup.checked_add(params.log_final_poly_len) {
+        Some(least) if least < log_max_height => {}
+        _ => return Err(Refusal::HeightTooSmall),
+    }
+    if log_max_height >= LOG_HEIGHT_BOUND {
+        return Err(Refusal::HeightTooLarge);
+    }
+    Ok(CirclePcsShape::new(
+        &params,
+        opened_widths,
+        log_max_height,
+        EXTRA_INDEX_BITS,
+    ))
+}
+
+// What is answered of a shape.
+fn shown(alloc: Global, shape: &CirclePcsShape) -> Result<Value, AllocError> {
+    let separator = shape.domain_separator::<Mersenne31, Cubic>(alloc)?;
+    let layout = &separator.labels()[1];
+    json!(in alloc; {
+        "index_bits": shape.index_bits,
+        "layout": hex::encode(alloc, layout.as_slice())?,
+        "num_commit_rounds": shape.num_commit_rounds,
+        "seed": hex::encode(alloc, separator.text())?,
+        "steps": separator.pattern().steps().len()
+    })
+}
