@@ -6,18 +6,18 @@ use std::alloc::{AllocError, Global};
 use std::test::Fail;
 
 // What a text is read as, through the bound.
-fn read<T: JsonForm>(alloc: Global, text: &str) -> Result<Result<T, JsonError>, Fail> {
+pub fn read<T: JsonForm>(alloc: Global, text: &str) -> Result<Result<T, JsonError>, Fail> {
     let value = Value::from_str(alloc, text)?;
     Ok(T::from_json(alloc, &value))
 }
 
 // Why a text is refused, if it is.
-fn refusal<T: JsonForm + Drop>(alloc: Global, text: &str) -> Result<Option<JsonError>, Fail> {
+pub fn refusal<T: JsonForm + Drop>(alloc: Global, text: &str) -> Result<Option<JsonError>, Fail> {
     Ok(read::<T>(alloc, text)?.err())
 }
 
 // The text of a value, through the bound.
-fn written<T: JsonForm>(alloc: Global, value: &T) -> Result<String, AllocError> {
+pub fn written<T: JsonForm>(alloc: Global, value: &T) -> Result<String, AllocError> {
     value.to_json(alloc)?.to_string(alloc)
 }
 

@@ -12,3 +12,5 @@ mod matrices;
 mod merkle;
 #[cfg(test)]
 mod mersenne31;
+#[cfg(test)]
+mod records;

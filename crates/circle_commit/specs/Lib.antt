@@ -8,3 +8,4 @@ pub mod MmcsFacts
 pub mod PeriodicLdeTable
 pub mod Pcs
 pub mod Selectors
+pub mod Json

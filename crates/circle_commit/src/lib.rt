@@ -16,6 +16,7 @@
 
 pub mod error;
 pub mod folding;
+pub mod json;
 pub mod matrix;
 pub mod mmcs;
 pub mod params;

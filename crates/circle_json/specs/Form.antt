@@ -1,10 +1,10 @@
 -- How the values of a type stand in JSON.
-use Rattle.std.specs.Prelude.{◌≡◌, map, Result, Vec}
+use Rattle.std.specs.Prelude.{◌≡◌, ℕ, map, Result, Vec}
 use Rattle.std.specs.declared.alloc.Global.{Global}
 use Rattle.std.proofs.Common.{ap}
 use Rattle.circle_json.specs.declared.error.JsonError.{JsonError}
 use Rattle.circle_json.specs.declared.error.JsonError.TheVariants.{Memory}
-use Rattle.circle_json.specs.Values.{IsRead, IsRefused, ReadsArray, RefusesArray, SameItems}
+use Rattle.circle_json.specs.Values.{IsRead, IsRefused, ReadsArray, RefusesArray, SameItems, count_of, count_written}
 use Rattle.circle_json.specs.FormFacts.{read_one, refused_others, array_reads_one, array_refuses_others, items_written_alike}
 use Rattle.serde_json.specs.Data.{Data, array}
 use Rattle.serde_json.specs.View.{items_of}
@@ -51,3 +51,7 @@ list_form form = record {
   refuses_others = λ value v. array_refuses_others form.reads form.refuses form.refuses_others value
       v.items;
 }
+
+-- a whole number below 2^64
+abbrev pub count_form : Form ℕ
+count_form = told_form count_of (λ n. n) count_written (λ m n same. same)

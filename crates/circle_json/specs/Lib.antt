@@ -3,3 +3,4 @@ pub mod FormFacts
 pub mod Form
 pub mod Objects
 pub mod ObjectForm
+pub mod Coefficients

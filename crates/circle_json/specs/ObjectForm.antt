@@ -19,9 +19,10 @@ module _ {T : Type 0} where
   fields_read_one none_left value x y p q = tt
   fields_read_one (field key part form others) value x y p q =
       let same : q.0.0 ≡ p.0.0 = one_member key value q.0.0 p.0.0 q.0.1 p.0.1 in
-      let alike = subst (λ (d : Data). form.reads d (part y)) same q.0.2 in
-      (form.reads_one p.0.0 (part x) (part y) p.0.2 alike,
-       fields_read_one others value x y p.1 q.1)
+      let alike = subst (λ (d : Data). form.reads d (part y)) same q.0.2 in (
+        form.reads_one p.0.0 (part x) (part y) p.0.2 alike,
+        fields_read_one others value x y p.1 q.1,
+      )
 
   pub members_alike : (fields : Fields T) (x y : T) → SameFields fields x y →
       members_written fields x ≡ members_written fields y
@@ -35,8 +36,8 @@ module _ {T : Type 0} where
   fields_refuse_others none_left value x error p r = absurd r
   fields_refuse_others (field key part form others) value x error p r = ⊎_elim
       (λ m. ⊎_elim (λ lacks. let e = p.0.1 in let n = lacks.0 in absurd (cc)) (λ h. let same : p.0.0 ≡ h.0 = one_member key value p.0.0 h.0 p.0.1 h.1 in
-          form.refuses_others h.0 (part x) error
-              (subst (λ (d : Data). form.reads d (part x)) same p.0.2) h.2) m)
+      form.refuses_others h.0 (part x) error
+      (subst (λ (d : Data). form.reads d (part x)) same p.0.2) h.2) m)
       (λ h. fields_refuse_others others value x error p.1 h) r
 
   fields_lack_none : (fields : Fields T) (value : Data) (x : T) → ReadsFields fields value x →
@@ -67,5 +68,5 @@ module _ {T : Type 0} where
     writes_same = λ x y same. ap object (members_alike fields x y same);
     refuses_others = λ value x error p r. ⊎_elim (λ h. h)
         (λ h. ⊎_elim (λ k. keys_refuse_none fields value x error p k)
-            (λ k. fields_refuse_others fields value x error p.1 k) h) r;
+        (λ k. fields_refuse_others fields value x error p.1 k) h) r;
   }

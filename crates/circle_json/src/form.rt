@@ -55,7 +55,7 @@ fn items(value: &Value) -> Result<&[Value], JsonError>
 }
 
 // The array of the forms of values.
-fn array_of<T: JsonForm>(alloc: Global, values: &[T]) -> Result<Value, AllocError>
+pub(crate) fn array_of<T: JsonForm>(alloc: Global, values: &[T]) -> Result<Value, AllocError>
     ensures written { IfOk result (λ value. view value
         ≡ array (items_of (map T.form.written values.now))) }
     ensures reads { IfOk result (λ value. ReadsArray T.form.reads (view value) values.now) }

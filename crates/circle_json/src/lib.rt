@@ -8,10 +8,12 @@
 //! an object with exactly the members of a list of fields, for records of the crates above.
 #![tactic(auto)]
 
+pub mod coefficients;
 pub mod error;
 pub mod form;
 pub mod object;
 
+pub use coefficients::{FlatForm, coefficients_from_json, coefficients_to_json};
 pub use error::JsonError;
 pub use form::JsonForm;
 pub use object::{has_keys, member};

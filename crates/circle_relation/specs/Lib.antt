@@ -4,3 +4,4 @@ pub mod Accepts
 pub mod Reasons
 pub mod RunOf
 pub mod Rows
+pub mod Json

@@ -9,6 +9,7 @@
 #![tactic(auto)]
 
 pub mod error;
+pub mod json;
 pub mod proof;
 pub mod run;
 
