@@ -46,7 +46,8 @@ list_form form = record {
   written = λ v. array (items_of (map form.written v.items));
   reads = λ value v. ReadsArray form.reads value v.items;
   refuses = RefusesArray form.refuses;
-  reads_one = λ value v w. array_reads_one form.same form.reads form.reads_one value v.items w.items;
+  reads_one = λ value v w. array_reads_one form.same form.reads form.reads_one value v.items
+      w.items;
   writes_same = λ v w. items_written_alike form.same form.written form.writes_same v.items w.items;
   refuses_others = λ value v. array_refuses_others form.reads form.refuses form.refuses_others value
       v.items;

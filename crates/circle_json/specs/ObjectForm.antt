@@ -1,10 +1,10 @@
 -- The form of a value as an object of its parts.
-use Rattle.std.specs.Prelude.{◌≡◌, ℕ, ◌<◌, ◌≤◌, List, [], ◌∷◌, length, Some, None}
-use Rattle.std.proofs.Common.{◌∙◌, ap, sym, subst, ⊎_elim, refl, arith}
+use Rattle.std.specs.Prelude.{◌≡◌, ℕ, List, Some}
+use Rattle.std.proofs.Common.{◌∙◌, ap, subst, ⊎_elim, refl, arith}
 use Rattle.circle_json.specs.declared.error.JsonError.{JsonError}
 use Rattle.circle_json.specs.declared.error.JsonError.TheVariants.{Memory}
 use Rattle.circle_json.specs.Form.{Form}
-use Rattle.circle_json.specs.Objects.{Fields, none_left, field, keys_of, HasAtMost, HasMember, Lacks, RefusesKeys, ReadsFields, RefusesFields, SameFields, members_written, object_written, ReadsObject, RefusesObject}
+use Rattle.circle_json.specs.Objects.{Fields, none_left, field, keys_of, Lacks, RefusesKeys, ReadsFields, RefusesFields, SameFields, members_written, object_written, ReadsObject, RefusesObject}
 use Rattle.serde_json.specs.Data.{Data, null, boolean, number, string, array, object, member}
 use Rattle.serde_json.specs.Find.{get}
 
@@ -35,7 +35,8 @@ module _ {T : Type 0} where
       ReadsFields fields value x → RefusesFields fields value error → error ≡ Memory
   fields_refuse_others none_left value x error p r = absurd r
   fields_refuse_others (field key part form others) value x error p r = ⊎_elim
-      (λ m. ⊎_elim (λ lacks. let e = p.0.1 in let n = lacks.0 in absurd (cc)) (λ h. let same : p.0.0 ≡ h.0 = one_member key value p.0.0 h.0 p.0.1 h.1 in
+      (λ m. ⊎_elim (λ lacks. let e = p.0.1 in let n = lacks.0 in absurd (cc))
+      (λ h. let same : p.0.0 ≡ h.0 = one_member key value p.0.0 h.0 p.0.1 h.1 in
       form.refuses_others h.0 (part x) error
       (subst (λ (d : Data). form.reads d (part x)) same p.0.2) h.2) m)
       (λ h. fields_refuse_others others value x error p.1 h) r
@@ -53,8 +54,8 @@ module _ {T : Type 0} where
   keys_refuse_none fields (number _) x error p r = absurd p.0
   keys_refuse_none fields (string _) x error p r = absurd p.0
   keys_refuse_none fields (array _) x error p r = absurd p.0
-  keys_refuse_none fields (object members) x error p r = ⊎_elim
-      (λ h. absurd (fields_lack_none fields (object members) x p.1 h.0))
+  keys_refuse_none fields (object ms) x error p r = ⊎_elim
+      (λ h. absurd (fields_lack_none fields (object ms) x p.1 h.0))
       (λ h. let few = p.0 in let many = h.0 in absurd (omega arith)) r
 
   -- an object whose members have these keys, in ascending order, and stand for these parts

@@ -24,7 +24,7 @@ HasAtMost n (boolean _) = ⊥
 HasAtMost n (number _) = ⊥
 HasAtMost n (string _) = ⊥
 HasAtMost n (array _) = ⊥
-HasAtMost n (object members) = members_len members ≤ n
+HasAtMost n (object ms) = members_len ms ≤ n
 
 -- each of these keys has a member
 abbrev pub HasEach : List (List ℕ) → Data → Type 0
@@ -43,8 +43,8 @@ RefusesKeys keys (boolean _) error = error ≡ WrongKind
 RefusesKeys keys (number _) error = error ≡ WrongKind
 RefusesKeys keys (string _) error = error ≡ WrongKind
 RefusesKeys keys (array _) error = error ≡ WrongKind
-RefusesKeys keys (object members) error = (Lacks keys (object members) × (error ≡ MissingKey))
-    ⊎ ((length keys < members_len members) × (error ≡ UnknownKey))
+RefusesKeys keys (object ms) error = (Lacks keys (object ms) × (error ≡ MissingKey))
+    ⊎ ((length keys < members_len ms) × (error ≡ UnknownKey))
 
 -- the object has exactly these keys
 pub record HasKeys (keys : List (List ℕ)) (value : Data) : Type 0 where

@@ -1,11 +1,13 @@
 //! Objects whose members are the parts of a value.
-ghost use Rattle.std.specs.Prelude.{map, IfOk, IfErr};
-ghost use Rattle.serde_json.specs.View.{view};
+ghost use Rattle.std.specs.Prelude.{◌≡◌, ◌↔◌, map, All, IsTrue, IsSome, Some, None, IfOk, IfErr, MatchResult};
+ghost use Rattle.serde_json.specs.Find.{as_object, get};
+ghost use Rattle.serde_json.specs.View.{view, members_view};
+ghost use Rattle.circle_json.specs.declared.error.JsonError.{JsonError};
 ghost use Rattle.circle_json.specs.Objects.{HasKeys, HasMember, RefusesKeys, RefusesMember};
 
 use crate::error::JsonError;
 use crate::form::JsonForm;
-use serde_json::Value;
+use serde_json::{Map, Value};
 use std::alloc::Global;
 
 /// Tests that a JSON value is an object with exactly these keys.
@@ -17,14 +19,30 @@ pub fn has_keys(value: &Value, keys: &[&str]) -> Result<(), JsonError>
     ensures refuses { IfErr result (λ error.
         RefusesKeys (map (λ key. key.now) keys.now) (view value.now) error) }
 {
-    let members = value.as_object().ok_or(JsonError::WrongKind)?;
-    if !keys.iter().all(|key| members.contains_key(*key)) {
+    let members = members(value)?;
+    if !has_each(value, keys) {
         return Err(JsonError::MissingKey);
     }
     if members.len() > keys.len() {
         return Err(JsonError::UnknownKey);
     }
     Ok(())
+}
+
+// The members of an object.
+fn members(value: &Value) -> Result<&Map<String, Value>, JsonError>
+    ensures { MatchResult result
+        (λ members. as_object (view value.now) ≡ Some (members_view members.now.entries))
+        (λ error. (as_object (view value.now) ≡ None) × (error ≡ JsonError.WrongKind)) }
+{
+    value.as_object().ok_or(JsonError::WrongKind)
+}
+
+// Whether the JSON value is an object that has each of these keys.
+fn has_each(value: &Value, keys: &[&str]) -> bool
+    ensures { IsTrue result ↔ All (λ key. IsSome (get key.now (view value.now))) keys.now }
+{
+    keys.iter().all(|key| value.get(*key).is_some())
 }
 
 /// The value that the member of an object with this key stands for.

@@ -226,8 +226,8 @@ module _ {F E Com InputCom InputProof WordProof : Type 0} (s : Setting F E)
   }
 
   abbrev pub InputAuthenticates :
-      Authenticates InputCom F InputProof → BatchClaim InputCom E × Opened (List (List F)) InputProof
-      → Type 0
+      Authenticates InputCom F InputProof →
+      BatchClaim InputCom E × Opened (List (List F)) InputProof → Type 0
   InputAuthenticates authenticates p =
       let shift = top - log_max_height s.blowup p.0.matrices in
       let places = map (λ q. q / 2 ^ shift) r.drawn.queries in

@@ -171,7 +171,8 @@ module _ {F E I W IC ID IP IE WC WD WP WE : Type 0} where
           IsReason (setting_in k o) (run_of o) (inputs o.mmcs.now) (words o.params.now.mmcs) e
 
 -- what contracts see of the queries of a word, and of those that join the rounds
-abbrev pub queried : {F E : Type 0} {g : _} → QueriedWord F E g → ℕ × (List (Coordinates F) × List E)
+abbrev pub queried : {F E : Type 0} {g : _} → QueriedWord F E g →
+    ℕ × (List (Coordinates F) × List E)
 queried w = (w.log_height, (map coordinates w.points.items, w.values.items))
 
 abbrev pub joining_of : {E : Type 0} → QueryValues E → ℕ × List E

@@ -9,7 +9,8 @@ use circle_point::Point;
 
 /// What is known to contracts of a field with its circle and of its extension.
 ///
-/// Each extension has it, so no function asks for it: a clause cites `⟦<EF as OverCircle<F>>⟧.fields`.
+/// Each extension has it, so no function asks for it: a clause cites
+/// `⟦<EF as OverCircle<F>>⟧.fields`.
 pub trait OverCircle<F: ComplexExtendable>: ExtensionField<F> {
     ghost fields: { Fields F Self };
 }

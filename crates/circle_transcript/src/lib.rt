@@ -11,8 +11,8 @@
 //!
 //! - The steps that `CirclePcsShape::pattern` answers and the separator that `domain_separator`
 //!   answers are those of the definition, byte for byte; shapes with equal seed texts are equal,
-//!   but for a difficulty of rounds that there aren't (`has_seed_of`, clause `told`). That is so for
-//!   final polynomials of any number of coefficients that is a power of two.
+//!   but for a difficulty of rounds that there aren't (`has_seed_of`, clause `told`). That is so
+//!   for final polynomials of any number of coefficients that is a power of two.
 //! - Both sides of the transcript ask each call to be the next described step and say what it
 //!   draws and the state after it; `NoWitness` and `PowWitness` come exactly where no witness
 //!   passes, and where the one at hand doesn't, and a transcript that is refused for want of

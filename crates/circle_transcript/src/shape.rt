@@ -100,8 +100,8 @@ impl CirclePcsShape {
     /// final polynomial, so there are `log_max_height - 1 - log_blowup - log_final_poly_len` rounds
     /// and `log_max_height - 1 + extra_query_index_bits` bits of an index.
     ///
-    /// Asks `log_max_height > log_blowup + log_final_poly_len`, and that the number of bits is below
-    /// `2^64`.
+    /// Asks `log_max_height > log_blowup + log_final_poly_len`, and that the number of bits is
+    /// below `2^64`.
     pub fn new<M>(
         params: &FriParameters<M>,
         opened_widths: Vec<Vec<Vec<usize>>>,
