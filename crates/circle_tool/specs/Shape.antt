@@ -12,6 +12,6 @@ abbrev pub input_fields : Fields Input
 input_fields =
     field (codes "log_max_height") (λ i. i.log_max_height) count_form
     (field (codes "opened_widths") (λ i. i.opened_widths)
-        (list_form (list_form (list_form count_form)))
+    (list_form (list_form (list_form count_form)))
     (field (codes "params") (λ i. i.params) parameters_form
     none_left))

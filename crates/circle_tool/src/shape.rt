@@ -95,12 +95,7 @@ pub fn shape(input: Input) -> Result<CirclePcsShape, Refusal> {
     if log_max_height >= LOG_HEIGHT_BOUND {
         return Err(Refusal::HeightTooLarge);
     }
-    Ok(CirclePcsShape::new(
-        &params,
-        opened_widths,
-        log_max_height,
-        EXTRA_INDEX_BITS,
-    ))
+    Ok(CirclePcsShape::new(&params, opened_widths, log_max_height, EXTRA_INDEX_BITS))
 }
 
 // What is answered of a shape.

@@ -121,7 +121,9 @@ fn expect_unreadable(
 
 // The text in which the first `old` is replaced by `new`.
 fn replaced(alloc: Global, text: &str, old: &str, new: &str) -> Result<String, Fail> {
-    let (before, after) = text.split_once(old).ok_or(Fail::new("no such part"))?;
+    let (before, after) = text
+        .split_once(old)
+        .ok_or_else(|| Fail::new("no such part"))?;
     Ok(format!(in alloc; "{before}{new}{after}")?)
 }
 
@@ -186,7 +188,11 @@ fn input_that_fails(rt: HostRuntime) -> Result<(), Fail> {
     let alloc = rt.alloc();
     let input = ("{\"unreadable\":\"input\"}\n", 2);
     let memory = ("{\"refused\":\"Memory\"}\n", 1);
-    for case in [("values", FIRST), ("shape", shape::FIRST), ("verify", stored::SEVENS)] {
+    for case in [
+        ("values", FIRST),
+        ("shape", shape::FIRST),
+        ("verify", stored::SEVENS),
+    ] {
         expect_failure(&rt, alloc, case, ErrorKind::ConnectionReset, input)?;
         expect_failure(&rt, alloc, case, ErrorKind::OutOfMemory, memory)?;
     }

@@ -82,8 +82,7 @@ fn expect_height(
 ) -> Result<(), Fail> {
     let height = format!(in alloc; "\"log_max_height\":{height}")?;
     let text = replaced(alloc, FIRST, "\"log_max_height\":3", &height)?;
-    let lengths =
-        format!(in alloc; "\"log_blowup\":{blowup},\"log_final_poly_len\":{length}")?;
+    let lengths = format!(in alloc; "\"log_blowup\":{blowup},\"log_final_poly_len\":{length}")?;
     let text = replaced(alloc, &text, "\"log_blowup\":1", &lengths)?;
     expect_refusals(rt, alloc, "shape", &[(text.as_str(), name)])?;
     Ok(())
@@ -116,7 +115,11 @@ fn forms(rt: HostRuntime) -> Result<(), Fail> {
         ("\"log_max_height\":3", "\"height\":3", "MissingKey"),
         ("{\"log_max", "{\"extra\":3,\"log_max", "UnknownKey"),
         ("\"commit_pow_bits\":0,", "", "MissingKey"),
-        ("\"commit_pow_bits\":0", "\"commit_pow_bits\":0,\"extra\":0", "UnknownKey"),
+        (
+            "\"commit_pow_bits\":0",
+            "\"commit_pow_bits\":0,\"extra\":0",
+            "UnknownKey",
+        ),
         ("[[[1]]]", "[[[-1]]]", "OutOfRange"),
         ("[[[1]]]", "[[[1.0]]]", "WrongKind"),
         ("[[[1]]]", "[[1]]", "WrongKind"),

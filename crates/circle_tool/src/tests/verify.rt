@@ -41,15 +41,25 @@ fn final_polynomials(rt: HostRuntime) -> Result<(), Fail> {
     let alloc = rt.alloc();
     let (_, rest) = stored::TWO_HEIGHTS
         .split_once("\"final_poly\":")
-        .ok_or(Fail::new("a final polynomial"))?;
-    let (constant, _) = rest.split_once("],").ok_or(Fail::new("a constant"))?;
+        .ok_or_else(|| Fail::new("a final polynomial"))?;
+    let (constant, _) = rest
+        .split_once("],")
+        .ok_or_else(|| Fail::new("a constant"))?;
     let old = format!(in alloc; "\"final_poly\":{constant}]")?;
     let list = format!(in alloc; "\"final_poly\":[{constant}]]")?;
     let text = replaced(alloc, stored::TWO_HEIGHTS, &old, &list)?;
     expect_verified(&rt, alloc, &text)?;
     let text = replaced(alloc, stored::TWO_HEIGHTS, &old, "\"final_poly\":[]")?;
     expect_refusals(&rt, alloc, "verify", &[(&text, "FinalPolyLengthMismatch")])?;
-    for other in ["[[]]", "[1,2]", "[[1,2,3],4]", "[[0,0,0],[0,0]]", "7", "{}", "[\"1\",0,0]"] {
+    for other in [
+        "[[]]",
+        "[1,2]",
+        "[[1,2,3],4]",
+        "[[0,0,0],[0,0]]",
+        "7",
+        "{}",
+        "[\"1\",0,0]",
+    ] {
         let other = format!(in alloc; "\"final_poly\":{other}")?;
         let text = replaced(alloc, stored::TWO_HEIGHTS, &old, &other)?;
         expect_unreadable(&rt, alloc, "verify", &text, "WrongKind")?;
@@ -73,27 +83,84 @@ fn expect_changed(
 
 #[test]
 fn refusals_before_the_seeding(rt: HostRuntime) -> Result<(), Fail> {
-    let openings = "\"commit_phase_openings\":[{\"opening_proof\":[\"61126de1b795b976f3ac878f48e88fa77a87d7308ba57c7642b9e1068403a496\"],\"sibling_values\":[[[0,0,0]],[[0,0,0]]]}]";
+    let openings =
+        "\"commit_phase_openings\":[{\"opening_proof\":[\"61126de1b795b976f3ac878f48e88fa77a87d7308ba57c7642b9e1068403a496\"],\"sibling_values\":[[[0,0,0]],[[0,0,0]]]}]";
     let cases = [
-        ("\"matrices\":[{\"log_n\":2,\"points\":[{\"point\":[0,1,0],\"values\":[[7,0,0]]}]}]", "\"matrices\":[]", "NoCommittedMatrices"),
+        (
+            "\"matrices\":[{\"log_n\":2,\"points\":[{\"point\":[0,1,0],\"values\":[[7,0,0]]}]}]",
+            "\"matrices\":[]",
+            "NoCommittedMatrices",
+        ),
         ("\"log_n\":2", "\"log_n\":0", "DomainTooSmall"),
         ("\"log_n\":2", "\"log_n\":31", "GlobalMaxHeightTooLarge"),
-        ("\"log_n\":2", "\"log_n\":18446744073709551615", "GlobalMaxHeightTooLarge"),
-        ("\"batch_pow_bits\":0", "\"batch_pow_bits\":64", "UnsupportedGrinding"),
+        (
+            "\"log_n\":2",
+            "\"log_n\":18446744073709551615",
+            "GlobalMaxHeightTooLarge",
+        ),
+        (
+            "\"batch_pow_bits\":0",
+            "\"batch_pow_bits\":64",
+            "UnsupportedGrinding",
+        ),
         ("\"num_queries\":2", "\"num_queries\":0", "ZeroQueries"),
         ("\"log_blowup\":1", "\"log_blowup\":0", "ZeroBlowup"),
-        ("\"max_log_arity\":1", "\"max_log_arity\":2", "UnsupportedFoldingCap"),
+        (
+            "\"max_log_arity\":1",
+            "\"max_log_arity\":2",
+            "UnsupportedFoldingCap",
+        ),
         ("\"log_n\":2", "\"log_n\":3", "CommitRoundCountMismatch"),
-        ("\"max_log_arity\"", "\"log_final_poly_len\":1,\"max_log_arity\"", "CommitRoundCountMismatch"),
-        ("\"commit_pow_witnesses\":[0]", "\"commit_pow_witnesses\":[]", "CommitPowWitnessCountMismatch"),
-        ("\"commit_pow_witnesses\":[0]", "\"commit_pow_witnesses\":[1]", "NonCanonicalPowWitness"),
-        ("\"pow_witness\":0},", "\"pow_witness\":1},", "NonCanonicalPowWitness"),
-        ("\"batch_pow_witness\":0", "\"batch_pow_witness\":1", "NonCanonicalPowWitness"),
-        (openings, "\"commit_phase_openings\":[]", "CommitPhaseOpeningsCountMismatch"),
-        ("\"num_queries\":2", "\"num_queries\":3", "CommitPhaseQueryCountMismatch"),
-        ("\"num_queries\":2", "\"num_queries\":18446744073709551615", "CommitPhaseQueryCountMismatch"),
-        ("\"sibling_values\":[[[0,0,0]]", "\"sibling_values\":[[]", "SiblingValuesLengthMismatch"),
-        ("\"final_poly\":[0,0,0]", "\"final_poly\":[]", "FinalPolyLengthMismatch"),
+        (
+            "\"max_log_arity\"",
+            "\"log_final_poly_len\":1,\"max_log_arity\"",
+            "CommitRoundCountMismatch",
+        ),
+        (
+            "\"commit_pow_witnesses\":[0]",
+            "\"commit_pow_witnesses\":[]",
+            "CommitPowWitnessCountMismatch",
+        ),
+        (
+            "\"commit_pow_witnesses\":[0]",
+            "\"commit_pow_witnesses\":[1]",
+            "NonCanonicalPowWitness",
+        ),
+        (
+            "\"pow_witness\":0},",
+            "\"pow_witness\":1},",
+            "NonCanonicalPowWitness",
+        ),
+        (
+            "\"batch_pow_witness\":0",
+            "\"batch_pow_witness\":1",
+            "NonCanonicalPowWitness",
+        ),
+        (
+            openings,
+            "\"commit_phase_openings\":[]",
+            "CommitPhaseOpeningsCountMismatch",
+        ),
+        (
+            "\"num_queries\":2",
+            "\"num_queries\":3",
+            "CommitPhaseQueryCountMismatch",
+        ),
+        (
+            "\"num_queries\":2",
+            "\"num_queries\":18446744073709551615",
+            "CommitPhaseQueryCountMismatch",
+        ),
+        (
+            "\"sibling_values\":[[[0,0,0]]",
+            "\"sibling_values\":[[]",
+            "SiblingValuesLengthMismatch",
+        ),
+        (
+            "\"final_poly\":[0,0,0]",
+            "\"final_poly\":[]",
+            "FinalPolyLengthMismatch",
+        ),
     ];
     expect_changed(&rt, rt.alloc(), stored::SEVENS, &cases)
 }
@@ -101,13 +168,37 @@ fn refusals_before_the_seeding(rt: HostRuntime) -> Result<(), Fail> {
 #[test]
 fn refusals_after_the_seeding(rt: HostRuntime) -> Result<(), Fail> {
     let cases = [
-        ("\"query_pow_bits\":0", "\"query_pow_bits\":20", "InvalidPowWitness"),
+        (
+            "\"query_pow_bits\":0",
+            "\"query_pow_bits\":20",
+            "InvalidPowWitness",
+        ),
         ("\"lambdas\":[[0,0,0]]", "\"lambdas\":[]", "InputShapeError"),
-        ("\"opened_values\":[[[7]]", "\"opened_values\":[[[]]", "InputShapeError"),
-        ("\"opened_values\":[[[7]]", "\"opened_values\":[[[6]]", "InputMmcsError"),
-        ("\"points\":[{\"point\":[0,1,0],\"values\":[[7,0,0]]}]", "\"points\":[]", "MatrixWithoutOpeningPoints"),
-        ("\"first_layer_siblings\":[[[0,0,0]]", "\"first_layer_siblings\":[[[1,0,0]]", "FirstLayerMmcsError"),
-        ("\"sibling_values\":[[[0,0,0]]", "\"sibling_values\":[[[1,0,0]]", "CommitPhaseMmcsError"),
+        (
+            "\"opened_values\":[[[7]]",
+            "\"opened_values\":[[[]]",
+            "InputShapeError",
+        ),
+        (
+            "\"opened_values\":[[[7]]",
+            "\"opened_values\":[[[6]]",
+            "InputMmcsError",
+        ),
+        (
+            "\"points\":[{\"point\":[0,1,0],\"values\":[[7,0,0]]}]",
+            "\"points\":[]",
+            "MatrixWithoutOpeningPoints",
+        ),
+        (
+            "\"first_layer_siblings\":[[[0,0,0]]",
+            "\"first_layer_siblings\":[[[1,0,0]]",
+            "FirstLayerMmcsError",
+        ),
+        (
+            "\"sibling_values\":[[[0,0,0]]",
+            "\"sibling_values\":[[[1,0,0]]",
+            "CommitPhaseMmcsError",
+        ),
     ];
     expect_changed(&rt, rt.alloc(), stored::SEVENS, &cases)?;
     Ok(())
