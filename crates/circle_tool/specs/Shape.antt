@@ -1,11 +1,14 @@
--- What the command `shape` is given.
-use Rattle.std.specs.Prelude.{ℕ, ⊤, codes, Vec}
-use Rattle.std.specs.declared.alloc.Global.{Global}
-use Rattle.circle_commit.specs.declared.params.FriParameters.{FriParameters}
-use Rattle.circle_json.specs.Form.{Form, count_form, list_form}
-use Rattle.circle_json.specs.Objects.{Fields, field, none_left}
-use Rattle.circle_tool.specs.declared.shape.Input.{Input}
+-- What the command `shape` is given and answers.
+use Rattle.std.specs.Prelude.{◌≡◌, ℕ, ◌<◌, ◌+◌, ◌-◌, codes, length}
+use Rattle.hex.specs.Hex.{encode_lower}
 use Rattle.circle_commit.specs.Json.{parameters_form}
+use Rattle.circle_json.specs.Form.{count_form, list_form}
+use Rattle.circle_json.specs.Objects.{Fields, field, none_left}
+use Rattle.circle_json.specs.Values.{count_written}
+use Rattle.circle_transcript.specs.Shape.{Shape, steps_of, text_of, layout}
+use Rattle.circle_transcript.specs.declared.shape.CirclePcsShape.{CirclePcsShape}
+use Rattle.serde_json.specs.Data.{Data, string, object, member, no_members}
+use Rattle.circle_tool.specs.declared.shape.Input.{Input}
 
 -- the greatest height's logarithm, the claims' numbers of columns and the parameters
 abbrev pub input_fields : Fields Input
@@ -15,3 +18,32 @@ input_fields =
     (list_form (list_form (list_form count_form)))
     (field (codes "params") (λ i. i.params) parameters_form
     none_left))
+
+-- the greatest height is past the blowup and the final polynomial
+abbrev pub HasRoom : Input → Type 0
+HasRoom i = i.params.log_blowup + i.params.log_final_poly_len < i.log_max_height
+
+-- the shape of a run with the input's numbers, and one bit of an index besides those that fold
+abbrev pub shape_of_input : Input → CirclePcsShape
+shape_of_input i = record {
+  opened_widths = i.opened_widths;
+  num_commit_rounds =
+      i.log_max_height - 1 - i.params.log_blowup - i.params.log_final_poly_len;
+  batch_pow_bits = i.params.batch_proof_of_work_bits;
+  commit_pow_bits = i.params.commit_proof_of_work_bits;
+  query_pow_bits = i.params.query_proof_of_work_bits;
+  num_queries = i.params.num_queries;
+  index_bits = i.log_max_height - 1 + 1;
+  log_blowup = i.params.log_blowup;
+  log_final_poly_len = i.params.log_final_poly_len;
+}
+
+-- the numbers of a shape, with its layout and its seed text in hexadecimal digits
+abbrev pub shape_written : Shape → Data
+shape_written s = object
+    (member (codes "index_bits") (count_written s.index_bits)
+    (member (codes "layout") (string (encode_lower (layout s.opened_widths)))
+    (member (codes "num_commit_rounds") (count_written s.num_commit_rounds)
+    (member (codes "seed") (string (encode_lower (text_of 3 s)))
+    (member (codes "steps") (count_written (length (steps_of 3 s)))
+    no_members)))))

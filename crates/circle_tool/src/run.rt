@@ -1,8 +1,8 @@
 //! The program as a function of its arguments, its input and its output.
-ghost use Rattle.std.specs.Prelude.{◌≡◌, ◌≤◌, ◌⊎◌, ◌↔◌, IsSome, IsErr, IfOk, MatchResult, string_bytes};
+ghost use Rattle.std.specs.Prelude.{◌≡◌, ◌≤◌, ◌⊎◌, ◌↔◌, IsSome, IfSome, IsErr, IfOk, MatchResult, string_bytes};
 ghost use Rattle.circle_tool.specs.Failure.{status_of};
 ghost use Rattle.std.specs.Io.KnownBytes.{Appends};
-ghost use Rattle.circle_tool.specs.Arguments.{NamesCommand};
+ghost use Rattle.circle_tool.specs.Arguments.{Names, NamesCommand};
 
 use crate::failure::Failure;
 use crate::{json, shape, values, verify};
@@ -24,7 +24,8 @@ enum Command {
 impl Command {
     // The command that the arguments name, if they are one name of a command.
     fn from_args(args: &[String]) -> Option<Command>
-        ensures { IsSome result ↔ NamesCommand args.now }
+        ensures some { IsSome result ↔ NamesCommand args.now }
+        ensures named { IfSome result (Names args.now) }
     {
         let [name] = args else {
             return None;

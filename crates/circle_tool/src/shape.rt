@@ -1,14 +1,17 @@
 //! The command `shape`: what fixes the transcript of a run.
 
+ghost use Rattle.std.specs.Prelude.{◌≡◌, ◌≤◌, ◌↔◌, IfOk, IsErrOf};
+ghost use Rattle.serde_json.specs.View.{view};
 ghost use Rattle.circle_json.specs.ObjectForm.{object_form};
-ghost use Rattle.circle_tool.specs.Shape.{input_fields};
+ghost use Rattle.circle_transcript.specs.ShapeOf.{shape_of};
+ghost use Rattle.circle_tool.specs.Shape.{input_fields, shape_of_input, shape_written, HasRoom};
 
 use crate::failure::Failure;
 use crate::json;
 use circle_commit::{FriParameters, JsonError, JsonForm};
 use circle_field::{Cubic, Mersenne31};
 use circle_json::{has_keys, member};
-use p3_circle::CirclePcsShape;
+use circle_transcript::CirclePcsShape;
 use serde_json::{Value, json};
 use std::alloc::{AllocError, Global};
 
@@ -82,7 +85,13 @@ pub fn answer(alloc: Global, value: &Value) -> Result<String, Failure> {
 ///
 /// Fails as `HeightTooSmall` unless `log_max_height` exceeds the sum of the blowup's logarithm and
 /// that of the final polynomial's length, and then as `HeightTooLarge` from `2^31` rows up.
-pub fn shape(input: Input) -> Result<CirclePcsShape, Refusal> {
+pub fn shape(input: Input) -> Result<CirclePcsShape, Refusal>
+    ensures too_small { IsErrOf result Refusal.HeightTooSmall ↔ (¬ HasRoom input) }
+    ensures too_large { IsErrOf result Refusal.HeightTooLarge
+        ↔ (HasRoom input × (LOG_HEIGHT_BOUND ≤ input.log_max_height)) }
+    ensures shape { IfOk result (λ shape. shape ≡ shape_of_input input) }
+    ensures short { IfOk result (λ shape. shape.log_final_poly_len ≤ 63) }
+{
     let Input {
         log_max_height,
         opened_widths,
@@ -99,7 +108,10 @@ pub fn shape(input: Input) -> Result<CirclePcsShape, Refusal> {
 }
 
 // What is answered of a shape.
-fn shown(alloc: Global, shape: &CirclePcsShape) -> Result<Value, AllocError> {
+fn shown(alloc: Global, shape: &CirclePcsShape) -> Result<Value, AllocError>
+    requires final_poly { shape.now.log_final_poly_len ≤ 63 }
+    ensures { IfOk result (λ value. view value ≡ shape_written (shape_of shape.now)) }
+{
     let separator = shape.domain_separator::<Mersenne31, Cubic>(alloc)?;
     let layout = &separator.labels()[1];
     json!(in alloc; {
