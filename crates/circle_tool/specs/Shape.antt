@@ -1,13 +1,9 @@
--- What the command `shape` is given and answers.
-use Rattle.std.specs.Prelude.{◌≡◌, ℕ, ◌<◌, ◌+◌, ◌-◌, codes, length}
-use Rattle.hex.specs.Hex.{encode_lower}
+-- What the command `shape` is given, and the shape that it is.
+use Rattle.std.specs.Prelude.{◌<◌, ◌+◌, ◌-◌, codes}
 use Rattle.circle_commit.specs.Json.{parameters_form}
 use Rattle.circle_json.specs.Form.{count_form, list_form}
 use Rattle.circle_json.specs.Objects.{Fields, field, none_left}
-use Rattle.circle_json.specs.Values.{count_written}
-use Rattle.circle_transcript.specs.Shape.{Shape, steps_of, text_of, layout}
 use Rattle.circle_transcript.specs.declared.shape.CirclePcsShape.{CirclePcsShape}
-use Rattle.serde_json.specs.Data.{Data, string, object, member, no_members}
 use Rattle.circle_tool.specs.declared.shape.Input.{Input}
 
 -- the greatest height's logarithm, the claims' numbers of columns and the parameters
@@ -37,13 +33,3 @@ shape_of_input i = record {
   log_blowup = i.params.log_blowup;
   log_final_poly_len = i.params.log_final_poly_len;
 }
-
--- the numbers of a shape, with its layout and its seed text in hexadecimal digits
-abbrev pub shape_written : Shape → Data
-shape_written s = object
-    (member (codes "index_bits") (count_written s.index_bits)
-    (member (codes "layout") (string (encode_lower (layout s.opened_widths)))
-    (member (codes "num_commit_rounds") (count_written s.num_commit_rounds)
-    (member (codes "seed") (string (encode_lower (text_of 3 s)))
-    (member (codes "steps") (count_written (length (steps_of 3 s)))
-    no_members)))))

@@ -2,13 +2,12 @@
 
 ghost use Rattle.std.specs.Prelude.{◌≡◌, ◌≤◌, ◌↔◌, IfOk, IsErrOf};
 ghost use Rattle.serde_json.specs.View.{view};
-ghost use Rattle.circle_json.specs.ObjectForm.{object_form};
-ghost use Rattle.circle_transcript.specs.ShapeOf.{shape_of};
-ghost use Rattle.circle_tool.specs.Shape.{input_fields, shape_of_input, shape_written, HasRoom};
+ghost use Rattle.circle_json.specs.Objects.{ReadsObject};
+ghost use Rattle.circle_tool.specs.Shape.{input_fields, shape_of_input, HasRoom};
 
 use crate::failure::Failure;
 use crate::json;
-use circle_commit::{FriParameters, JsonError, JsonForm};
+use circle_commit::{FriParameters, JsonError};
 use circle_field::{Cubic, Mersenne31};
 use circle_json::{has_keys, member};
 use circle_transcript::CirclePcsShape;
@@ -51,18 +50,15 @@ impl Refusal {
     }
 }
 
-impl JsonForm for Input {
-    ghost form = { object_form input_fields };
-
-    fn to_json(&self, alloc: Global) -> Result<Value, AllocError> {
-        json!(in alloc; {
-            "log_max_height": self.log_max_height.to_json(alloc)?,
-            "opened_widths": self.opened_widths.to_json(alloc)?,
-            "params": self.params.to_json(alloc)?
-        })
-    }
-
-    fn from_json(alloc: Global, value: &Value) -> Result<Self, JsonError> {
+impl Input {
+    /// The input that a JSON value is:
+    /// `{"log_max_height":n,"opened_widths":[[[n..]..]..],"params":..}`.
+    ///
+    /// Fails as `WrongKind` where the value is no object, as `MissingKey` and then as `UnknownKey`
+    /// where its keys are others, and then as its members do.
+    pub fn from_json(alloc: Global, value: &Value) -> Result<Input, JsonError>
+        ensures { IfOk result (ReadsObject input_fields (view value.now)) }
+    {
         has_keys(value, &["log_max_height", "opened_widths", "params"])?;
         Ok(Input {
             log_max_height: member(alloc, value, "log_max_height")?,
@@ -75,7 +71,7 @@ impl JsonForm for Input {
 /// The line that answers `value`: the shape's numbers, the number of steps of its transcript, how
 /// the claims are grouped, and the text that the transcript is seeded with.
 ///
-/// Fails as the [`Input`] and then as [`shape`] does.
+/// Fails as [`Input::from_json`] and then as [`shape`] does.
 pub fn answer(alloc: Global, value: &Value) -> Result<String, Failure> {
     let shape = shape(Input::from_json(alloc, value)?)?;
     Ok(json::line(alloc, &shown(alloc, &shape)?)?)
@@ -110,7 +106,6 @@ pub fn shape(input: Input) -> Result<CirclePcsShape, Refusal>
 // What is answered of a shape.
 fn shown(alloc: Global, shape: &CirclePcsShape) -> Result<Value, AllocError>
     requires final_poly { shape.now.log_final_poly_len ≤ 63 }
-    ensures { IfOk result (λ value. view value ≡ shape_written (shape_of shape.now)) }
 {
     let separator = shape.domain_separator::<Mersenne31, Cubic>(alloc)?;
     let layout = &separator.labels()[1];

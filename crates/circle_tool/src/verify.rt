@@ -1,6 +1,8 @@
 //! The command `verify`: whether a proof shows that committed polynomials have the claimed values.
 
-ghost use Rattle.circle_json.specs.ObjectForm.{object_form};
+ghost use Rattle.std.specs.Prelude.{IfOk};
+ghost use Rattle.serde_json.specs.View.{view};
+ghost use Rattle.circle_json.specs.Objects.{ReadsObject};
 ghost use Rattle.circle_tool.specs.Verify.{input_fields};
 
 use crate::failure::Failure;
@@ -42,19 +44,16 @@ pub struct Input {
     pub proof: Proof,
 }
 
-impl JsonForm for Input {
-    ghost form = { object_form (input_fields ⟦<Vec<Claim<usize>> as JsonForm>⟧.form
-        ⟦<FriParameters<()> as JsonForm>⟧.form ⟦<Proof as JsonForm>⟧.form) };
-
-    fn to_json(&self, alloc: Global) -> Result<Value, AllocError> {
-        json!(in alloc; {
-            "batches": self.batches.to_json(alloc)?,
-            "params": self.params.to_json(alloc)?,
-            "proof": self.proof.to_json(alloc)?
-        })
-    }
-
-    fn from_json(alloc: Global, value: &Value) -> Result<Self, JsonError> {
+impl Input {
+    /// The input that a JSON value is: `{"batches":..,"params":..,"proof":..}`.
+    ///
+    /// Fails as `WrongKind` where the value is no object, as `MissingKey` and then as `UnknownKey`
+    /// where its keys are others, and then as its members do.
+    pub fn from_json(alloc: Global, value: &Value) -> Result<Input, JsonError>
+        ensures { IfOk result (ReadsObject (input_fields
+            ⟦<Vec<Claim<usize>> as JsonForm>⟧.form ⟦<FriParameters<()> as JsonForm>⟧.form
+            ⟦<Proof as JsonForm>⟧.form) (view value.now)) }
+    {
         has_keys(value, &["batches", "params", "proof"])?;
         Ok(Input {
             batches: member(alloc, value, "batches")?,
@@ -66,7 +65,7 @@ impl JsonForm for Input {
 
 /// The line that answers `value`: `{"verified":true}`.
 ///
-/// Fails as the [`Input`] and then as [`verify`] does.
+/// Fails as [`Input::from_json`] and then as [`verify`] does.
 pub fn answer(alloc: Global, value: &Value) -> Result<String, Failure> {
     verify(alloc, Input::from_json(alloc, value)?)?;
     Ok(json::line(alloc, &json!(in alloc; {"verified": true})?)?)
