@@ -1,7 +1,7 @@
 //! Reading JSON, and writing it as a line.
 ghost use Rattle.std.specs.Prelude.{◌≡◌, [], ◌∷◌, Some, None, Ok, Err, MatchResult};
 ghost use Rattle.circle_field.specs.Mersenne31.{residue};
-ghost use Rattle.serde_json.specs.Find.{as_array};
+ghost use Rattle.serde_json.specs.Find.{as_array, get};
 ghost use Rattle.serde_json.specs.View.{view, items_view};
 ghost use Rattle.circle_tool.specs.Json.{pair_of};
 
@@ -26,6 +26,17 @@ pub fn line(alloc: Global, value: &Value) -> Result<String, AllocError> {
     let mut text = value.to_string(alloc)?;
     text.push('\n')?;
     Ok(text)
+}
+
+/// The member of an object with the key `key`.
+///
+/// Fails as `MissingKey` where there is none.
+pub fn part<'a>(object: &'a Value, key: &str) -> Result<&'a Value, JsonError>
+    ensures { MatchResult result
+        (λ part. get key.now (view object.now) ≡ Some (view part.now))
+        (λ error. (get key.now (view object.now) ≡ None) × (error ≡ JsonError.MissingKey)) }
+{
+    object.get(key).ok_or(JsonError::MissingKey)
 }
 
 // The items of an array.

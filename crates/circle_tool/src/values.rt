@@ -87,7 +87,7 @@ impl Input {
         ensures { IfOk result (IsInput (view value.now)) }
     {
         has_keys(value, &["coefficients", "log_n", "shift"])?;
-        let shift = value.get("shift").ok_or(JsonError::MissingKey)?;
+        let shift = json::part(value, "shift")?;
         Ok(Input {
             coefficients: member(alloc, value, "coefficients")?,
             log_n: member(alloc, value, "log_n")?,
