@@ -84,22 +84,22 @@ abbrev pub parameters_written : ℕ → FriParameters ⊤ → Data
 parameters_written zero p = object_written short_fields p
 parameters_written (suc _) p = object_written whole_fields p
 
-parameters_read_one : (at : Option Data) (value : Data) (x y : FriParameters ⊤) →
+pub parameters_read_one : (at : Option Data) (value : Data) (x y : FriParameters ⊤) →
     ReadsParameters at value x → ReadsParameters at value y → SameFields whole_fields x y
 parameters_read_one None value x y p q =
     let same = fields_read_one short_fields value x y p.0.1 q.0.1 in
-    (same.0, same.1.0, same.1.1.0, p.1 ∙ sym q.1, same.1.1.1)
+    (same.0, (same.1.0, (same.1.1.0, (p.1 ∙ sym q.1, same.1.1.1))))
 parameters_read_one (Some _) value x y p q = fields_read_one whole_fields value x y p.1 q.1
 
-parameters_alike : (m n : ℕ) (x y : FriParameters ⊤) → m ≡ n → SameFields whole_fields x y →
+pub parameters_alike : (m n : ℕ) (x y : FriParameters ⊤) → m ≡ n → SameFields whole_fields x y →
     parameters_written m x ≡ parameters_written n y
 parameters_alike zero zero x y e same = ap object (members_alike short_fields x y
-    (same.0, same.1.0, same.1.1.0, same.1.1.1.1))
+    (same.0, (same.1.0, (same.1.1.0, same.1.1.1.1))))
 parameters_alike zero (suc _) x y e same = absurd (omega arith)
 parameters_alike (suc _) zero x y e same = absurd (omega arith)
 parameters_alike (suc _) (suc _) x y e same = ap object (members_alike whole_fields x y same)
 
-parameters_refuse_others : (at : Option Data) (value : Data) (x : FriParameters ⊤)
+pub parameters_refuse_others : (at : Option Data) (value : Data) (x : FriParameters ⊤)
     (error : JsonError) → ReadsParameters at value x → RefusesParameters at value error →
     error ≡ Memory
 parameters_refuse_others None value x error p r =

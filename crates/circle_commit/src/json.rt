@@ -1,6 +1,9 @@
 //! Batches' openings, claims and parameters, read from JSON and written as JSON.
+ghost use Rattle.std.specs.Prelude.{◌≡◌, IfOk};
+ghost use Rattle.serde_json.specs.View.{view};
 ghost use Rattle.circle_json.specs.ObjectForm.{object_form};
-ghost use Rattle.circle_commit.specs.Json.{batch_fields, matrix_fields, opening_fields, parameters_form, point_fields};
+ghost use Rattle.circle_json.specs.Objects.{object_written};
+ghost use Rattle.circle_commit.specs.Json.{batch_fields, matrix_fields, opening_fields, parameters_form, point_fields, short_fields, whole_fields};
 
 use crate::mmcs::Mmcs;
 use crate::params::FriParameters;
@@ -93,6 +96,35 @@ where
     }
 }
 
+// The object of the parameters without the final polynomial's length.
+fn short_object(parameters: &FriParameters<()>, alloc: Global) -> Result<Value, AllocError>
+    ensures { IfOk result (λ value. view value ≡ object_written short_fields parameters.now) }
+{
+    json!(in alloc; {
+        "batch_pow_bits": parameters.batch_proof_of_work_bits,
+        "commit_pow_bits": parameters.commit_proof_of_work_bits,
+        "log_blowup": parameters.log_blowup,
+        "max_log_arity": parameters.max_log_arity,
+        "num_queries": parameters.num_queries,
+        "query_pow_bits": parameters.query_proof_of_work_bits
+    })
+}
+
+// The object of the parameters with the final polynomial's length.
+fn whole_object(parameters: &FriParameters<()>, alloc: Global) -> Result<Value, AllocError>
+    ensures { IfOk result (λ value. view value ≡ object_written whole_fields parameters.now) }
+{
+    json!(in alloc; {
+        "batch_pow_bits": parameters.batch_proof_of_work_bits,
+        "commit_pow_bits": parameters.commit_proof_of_work_bits,
+        "log_blowup": parameters.log_blowup,
+        "log_final_poly_len": parameters.log_final_poly_len,
+        "max_log_arity": parameters.max_log_arity,
+        "num_queries": parameters.num_queries,
+        "query_pow_bits": parameters.query_proof_of_work_bits
+    })
+}
+
 /// An object of the seven numbers, each under its name, where the bits of proof of work are short
 /// for its difficulty.
 ///
@@ -102,24 +134,9 @@ impl JsonForm for FriParameters<()> {
 
     fn to_json(&self, alloc: Global) -> Result<Value, AllocError> {
         if self.log_final_poly_len == 0 {
-            return json!(in alloc; {
-                "batch_pow_bits": self.batch_proof_of_work_bits,
-                "commit_pow_bits": self.commit_proof_of_work_bits,
-                "log_blowup": self.log_blowup,
-                "max_log_arity": self.max_log_arity,
-                "num_queries": self.num_queries,
-                "query_pow_bits": self.query_proof_of_work_bits
-            });
+            return short_object(self, alloc);
         }
-        json!(in alloc; {
-            "batch_pow_bits": self.batch_proof_of_work_bits,
-            "commit_pow_bits": self.commit_proof_of_work_bits,
-            "log_blowup": self.log_blowup,
-            "log_final_poly_len": self.log_final_poly_len,
-            "max_log_arity": self.max_log_arity,
-            "num_queries": self.num_queries,
-            "query_pow_bits": self.query_proof_of_work_bits
-        })
+        whole_object(self, alloc)
     }
 
     fn from_json(alloc: Global, value: &Value) -> Result<Self, JsonError> {
