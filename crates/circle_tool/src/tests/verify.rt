@@ -86,8 +86,10 @@ fn expect_changed(
 
 #[test]
 fn refusals_before_the_seeding(rt: HostRuntime) -> Result<(), Fail> {
-    let openings =
-        "\"commit_phase_openings\":[{\"opening_proof\":[\"61126de1b795b976f3ac878f48e88fa77a87d7308ba57c7642b9e1068403a496\"],\"sibling_values\":[[[0,0,0]],[[0,0,0]]]}]";
+    let openings = concat!(
+        r#""commit_phase_openings":[{"opening_proof":["61126de1b795b976f3ac878f48e88fa7"#,
+        r#"7a87d7308ba57c7642b9e1068403a496"],"sibling_values":[[[0,0,0]],[[0,0,0]]]}]"#
+    );
     let cases = [
         (
             "\"matrices\":[{\"log_n\":2,\"points\":[{\"point\":[0,1,0],\"values\":[[7,0,0]]}]}]",
