@@ -3,3 +3,5 @@ pub mod Failure
 pub mod Input
 pub mod Json
 pub mod Rows
+pub mod Shape
+pub mod Verify

@@ -2,7 +2,7 @@
 ghost use Rattle.std.specs.Prelude.{◌≡◌};
 ghost use Rattle.circle_tool.specs.Failure.{status_of};
 
-use crate::values::Refusal;
+use crate::{shape, values, verify};
 use circle_commit::JsonError;
 use serde_json::Error as TextError;
 use std::alloc::AllocError;
@@ -25,9 +25,9 @@ pub enum Failure {
     /// The JSON isn't an input of the command.
     #[error("{{\"unreadable\":\"{0}\"}}")]
     Unfit(JsonError),
-    /// The command refuses its input.
+    /// The command refuses its input, for the reason of this name.
     #[error("{{\"refused\":\"{0}\"}}")]
-    Refused(Refusal),
+    Refused(&'static str),
     /// Memory was refused.
     #[error("{{\"refused\":\"Memory\"}}")]
     Memory,
@@ -85,9 +85,21 @@ impl From<JsonError> for Failure {
     }
 }
 
-impl From<Refusal> for Failure {
-    fn from(refusal: Refusal) -> Failure {
-        Failure::Refused(refusal)
+impl From<values::Refusal> for Failure {
+    fn from(refusal: values::Refusal) -> Failure {
+        Failure::Refused(refusal.name())
+    }
+}
+
+impl From<shape::Refusal> for Failure {
+    fn from(refusal: shape::Refusal) -> Failure {
+        Failure::Refused(refusal.name())
+    }
+}
+
+impl From<verify::Refusal> for Failure {
+    fn from(refusal: verify::Refusal) -> Failure {
+        Failure::Refused(verify::name(&refusal))
     }
 }
 

@@ -1,16 +1,15 @@
-//! Reading JSON: its text, and the objects that the commands' inputs are.
-ghost use Rattle.std.specs.Prelude.{◌≡◌, ◌≤◌, ◌↔◌, [], ◌∷◌, Some, None, Ok, Err, MatchResult, IfErr, IsOk};
-ghost use Rattle.std.specs.BTreeMap.{btree_map_len};
+//! Reading JSON, and writing it as a line.
+ghost use Rattle.std.specs.Prelude.{◌≡◌, [], ◌∷◌, Some, None, Ok, Err, MatchResult};
 ghost use Rattle.circle_field.specs.Mersenne31.{residue};
-ghost use Rattle.serde_json.specs.Find.{as_array, as_object, get};
-ghost use Rattle.serde_json.specs.View.{view, items_view, members_view};
+ghost use Rattle.serde_json.specs.Find.{as_array, get};
+ghost use Rattle.serde_json.specs.View.{view, items_view};
 ghost use Rattle.circle_tool.specs.Json.{pair_of};
 
 use crate::failure::Failure;
 use circle_commit::{JsonError, JsonForm};
 use circle_field::Mersenne31;
-use serde_json::{Map, Value};
-use std::alloc::Global;
+use serde_json::Value;
+use std::alloc::{AllocError, Global};
 use std::io::Read;
 
 /// Reads `input` to its end as one JSON value.
@@ -22,39 +21,22 @@ pub fn read<R: Read>(alloc: Global, input: &mut R) -> Result<Value, Failure> {
     Ok(Value::from_slice(alloc, &bytes)?)
 }
 
-/// The members of an object.
-///
-/// Fails as `WrongKind` where the value is no object.
-pub fn members(value: &Value) -> Result<&Map<String, Value>, JsonError>
-    ensures { MatchResult result
-        (λ members. as_object (view value.now) ≡ Some (members_view members.now.entries))
-        (λ error. (as_object (view value.now) ≡ None) × (error ≡ JsonError.WrongKind)) }
-{
-    value.as_object().ok_or(JsonError::WrongKind)
+/// The compact text of a value, as a line.
+pub fn line(alloc: Global, value: &Value) -> Result<String, AllocError> {
+    let mut text = value.to_string(alloc)?;
+    text.push('\n')?;
+    Ok(text)
 }
 
 /// The member of an object with the key `key`.
 ///
 /// Fails as `MissingKey` where there is none.
-pub fn member<'a>(object: &'a Value, key: &str) -> Result<&'a Value, JsonError>
+pub fn part<'a>(object: &'a Value, key: &str) -> Result<&'a Value, JsonError>
     ensures { MatchResult result
-        (λ member. get key.now (view object.now) ≡ Some (view member.now))
+        (λ part. get key.now (view object.now) ≡ Some (view part.now))
         (λ error. (get key.now (view object.now) ≡ None) × (error ≡ JsonError.MissingKey)) }
 {
     object.get(key).ok_or(JsonError::MissingKey)
-}
-
-/// Tests that an object in which `count` keys were found has no further key.
-///
-/// Fails as `UnknownKey` where it has.
-pub fn no_further_key(members: &Map<String, Value>, count: usize) -> Result<(), JsonError>
-    ensures ok { IsOk result ↔ (btree_map_len members.now ≤ count) }
-    ensures error { IfErr result (λ error. error ≡ JsonError.UnknownKey) }
-{
-    if members.len() > count {
-        return Err(JsonError::UnknownKey);
-    }
-    Ok(())
 }
 
 // The items of an array.

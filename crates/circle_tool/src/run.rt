@@ -1,11 +1,11 @@
 //! The program as a function of its arguments, its input and its output.
-ghost use Rattle.std.specs.Prelude.{◌≡◌, ◌≤◌, ◌⊎◌, ◌↔◌, IsSome, IsErr, IfOk, MatchResult, string_bytes};
+ghost use Rattle.std.specs.Prelude.{◌≡◌, ◌≤◌, ◌⊎◌, ◌↔◌, IsSome, IfSome, IsErr, IfOk, MatchResult, string_bytes};
 ghost use Rattle.circle_tool.specs.Failure.{status_of};
 ghost use Rattle.std.specs.Io.KnownBytes.{Appends};
-ghost use Rattle.circle_tool.specs.Arguments.{NamesCommand};
+ghost use Rattle.circle_tool.specs.Arguments.{Names, NamesCommand};
 
 use crate::failure::Failure;
-use crate::{json, values};
+use crate::{json, shape, values, verify};
 use std::alloc::Global;
 use std::fmt::InlineText;
 use std::io::{Read, Write};
@@ -17,18 +17,23 @@ const FAILURE_LEN: usize = 64;
 #[derive(Clone, Copy)]
 enum Command {
     Values,
+    Verify,
+    Shape,
 }
 
 impl Command {
     // The command that the arguments name, if they are one name of a command.
     fn from_args(args: &[String]) -> Option<Command>
-        ensures { IsSome result ↔ NamesCommand args.now }
+        ensures some { IsSome result ↔ NamesCommand args.now }
+        ensures named { IfSome result (Names args.now) }
     {
         let [name] = args else {
             return None;
         };
         match name.as_str() {
             "values" => Some(Command::Values),
+            "verify" => Some(Command::Verify),
+            "shape" => Some(Command::Shape),
             _ => None,
         }
     }
@@ -89,5 +94,7 @@ fn answer<R: Read>(alloc: Global, args: &[String], input: &mut R) -> Result<Stri
     let value = json::read(alloc, input)?;
     match command {
         Command::Values => values::answer(alloc, &value),
+        Command::Verify => verify::answer(alloc, &value),
+        Command::Shape => shape::answer(alloc, &value),
     }
 }

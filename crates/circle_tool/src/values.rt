@@ -12,10 +12,10 @@ use crate::failure::Failure;
 use crate::json;
 use circle_commit::{JsonError, JsonForm, Matrix, RowMajorMatrix, is_power_of_two};
 use circle_field::{Field, Mersenne31};
+use circle_json::{has_keys, member};
 use circle_plane::{CfftView, CircleDomain, CircleEvaluations, Point};
-use serde_json::Value;
+use serde_json::{Value, json};
 use std::alloc::{AllocError, Global};
-use thiserror::Error;
 
 /// The binary logarithm of the largest domain.
 const MAX_LOG_N: usize = 24;
@@ -35,26 +35,34 @@ pub struct Input {
 }
 
 /// Why the command refuses its input.
-#[derive(Clone, Copy, Debug, Drop, Error, PartialEq, Eq)]
+#[derive(Clone, Copy, Debug, Drop, PartialEq, Eq)]
 pub enum Refusal {
     /// The domain would have one point.
-    #[error("DomainTooSmall")]
     DomainTooSmall,
     /// The domain would have more than `2^24` points.
-    #[error("DomainTooLarge")]
     DomainTooLarge,
     /// The shift isn't a point of the circle.
-    #[error("NotOnCircle")]
     NotOnCircle,
     /// Rows differ in length, or one is empty.
-    #[error("RaggedRows")]
     RaggedRows,
     /// The number of rows isn't a power of two, or exceeds the number of points.
-    #[error("BadHeight")]
     BadHeight,
     /// Memory was refused.
-    #[error("Memory")]
     Memory,
+}
+
+impl Refusal {
+    /// The refusal's name.
+    pub fn name(self) -> &'static str {
+        match self {
+            Refusal::DomainTooSmall => "DomainTooSmall",
+            Refusal::DomainTooLarge => "DomainTooLarge",
+            Refusal::NotOnCircle => "NotOnCircle",
+            Refusal::RaggedRows => "RaggedRows",
+            Refusal::BadHeight => "BadHeight",
+            Refusal::Memory => "Memory",
+        }
+    }
 }
 
 impl From<AllocError> for Refusal {
@@ -78,14 +86,11 @@ impl Input {
     pub fn from_json(alloc: Global, value: &Value) -> Result<Input, JsonError>
         ensures { IfOk result (IsInput (view value.now)) }
     {
-        let members = json::members(value)?;
-        let coefficients = json::member(value, "coefficients")?;
-        let log_n = json::member(value, "log_n")?;
-        let shift = json::member(value, "shift")?;
-        json::no_further_key(members, 3)?;
+        has_keys(value, &["coefficients", "log_n", "shift"])?;
+        let shift = json::part(value, "shift")?;
         Ok(Input {
-            coefficients: Vec::from_json(alloc, coefficients)?,
-            log_n: usize::from_json(alloc, log_n)?,
+            coefficients: member(alloc, value, "coefficients")?,
+            log_n: member(alloc, value, "log_n")?,
             shift: json::pair(alloc, shift)?,
         })
     }
@@ -97,7 +102,7 @@ impl Input {
 pub fn answer(alloc: Global, value: &Value) -> Result<String, Failure> {
     let input = Input::from_json(alloc, value)?;
     let values = values_at_points(alloc, &input)?;
-    Ok(rows_line(alloc, &values)?)
+    Ok(json::line(alloc, &shown(alloc, &values)?)?)
 }
 
 /// The values of the polynomials at the points of the domain, in natural order.
@@ -189,28 +194,11 @@ fn matrix(alloc: Global, rows: &[Vec<Mersenne31>]) -> Result<RowMajorMatrix<Mers
     Ok(RowMajorMatrix::new(entries, width))
 }
 
-// The JSON of a list of rows, as a line.
-fn rows_line(alloc: Global, values: &Values) -> Result<String, AllocError> {
-    let mut line = String::from_str(alloc, "{\"rows\":[")?;
+// The rows, in natural order.
+fn shown(alloc: Global, values: &Values) -> Result<Value, AllocError> {
+    let mut rows = Vec::with_capacity(alloc, values.height())?;
     for r in 0..values.height() {
-        if r > 0 {
-            line.push(',')?;
-        }
-        push_row(&mut line, values.row(r))?;
+        rows.push(Vec::from_slice(alloc, values.row(r))?.to_json(alloc)?)?;
     }
-    line.push_str("]}\n")?;
-    Ok(line)
-}
-
-// Appends a row as a JSON array.
-fn push_row(line: &mut String, row: &[Mersenne31]) -> Result<(), AllocError> {
-    line.push('[')?;
-    for (i, element) in row.iter().enumerate() {
-        if i > 0 {
-            line.push(',')?;
-        }
-        let value = element.value();
-        write!(line, "{value}")?;
-    }
-    line.push(']')
+    json!(in alloc; {"rows": Value::from(rows)})
 }

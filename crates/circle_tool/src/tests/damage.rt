@@ -1,0 +1,250 @@
+//! Damage to stored proofs and their claims, piece by piece.
+//!
+//! The texts are compact JSON in which strings are keys and digests, without brackets or commas.
+use super::{arguments, stored};
+use crate::run::run;
+use serde_json::Value;
+use std::alloc::{AllocError, Global};
+use std::process::Abort;
+use std::test::Fail;
+
+// A piece of a text, from one byte to before another.
+#[derive(Clone, Copy)]
+struct Piece {
+    from: usize,
+    to: usize,
+}
+
+// The items of arrays and the members of objects.
+fn pieces(alloc: Global, text: &[u8]) -> Result<Vec<Piece>, AllocError> {
+    let mut found = Vec::new(alloc);
+    let mut open = Vec::new(alloc);
+    for (i, byte) in text.iter().enumerate() {
+        if matches!(*byte, b',' | b']' | b'}') {
+            if let Some(from) = open.pop() {
+                if from < i {
+                    found.push(Piece { from, to: i })?;
+                }
+            }
+        }
+        if matches!(*byte, b',' | b'[' | b'{') {
+            open.push(i + 1)?;
+        }
+    }
+    Ok(found)
+}
+
+// The whole numbers, and the digests where `of_digests`.
+fn values(alloc: Global, text: &[u8], of_digests: bool) -> Result<Vec<Piece>, AllocError> {
+    let mut found = Vec::new(alloc);
+    let mut from = 0;
+    for (i, byte) in text.iter().enumerate() {
+        if matches!(*byte, b',' | b']' | b'}') {
+            let is_digest = text.get(from) == Some(&b'"');
+            if from < i && is_digest == of_digests && is_value(text.get(from..i)) {
+                found.push(Piece { from, to: i })?;
+            }
+        }
+        if matches!(*byte, b',' | b'[' | b'{' | b':') {
+            from = i + 1;
+        }
+    }
+    Ok(found)
+}
+
+// Whether a piece is a number or a digest.
+fn is_value(piece: Option<&[u8]>) -> bool {
+    piece.is_some_and(|piece| piece
+        .iter()
+        .all(|byte| byte.is_ascii_hexdigit() || *byte == b'"'))
+}
+
+// The ends of the keys.
+fn ends_of_keys(alloc: Global, text: &[u8]) -> Result<Vec<Piece>, AllocError> {
+    let mut found = Vec::new(alloc);
+    for (i, pair) in text.windows(2).enumerate() {
+        if pair == b"\":".as_slice() {
+            found.push(Piece { from: i, to: i })?;
+        }
+    }
+    Ok(found)
+}
+
+// The text with other bytes in the place of a piece.
+fn spliced(alloc: Global, text: &[u8], piece: Piece, new: &[u8]) -> Result<Vec<u8>, Fail> {
+    let (Some(before), Some(after)) = (text.get(..piece.from), text.get(piece.to..)) else {
+        return Err(Fail::new("a piece of the text"));
+    };
+    let mut changed = Vec::from_slice(alloc, before)?;
+    changed.extend_from_slice(new)?;
+    changed.extend_from_slice(after)?;
+    Ok(changed)
+}
+
+// The bytes of a piece.
+fn bytes_of(text: &[u8], piece: Piece) -> Result<&[u8], Fail> {
+    text.get(piece.from..piece.to)
+        .ok_or_else(|| Fail::new("a piece of the text"))
+}
+
+// The text without a piece.
+fn without(alloc: Global, text: &[u8], piece: Piece) -> Result<Vec<u8>, Fail> {
+    let Piece { from, to } = piece;
+    let dropped = if text.get(to) == Some(&b',') {
+        Piece {
+            from,
+            to: to.saturating_add(1),
+        }
+    } else {
+        let from = from.saturating_sub(1);
+        match text.get(from) {
+            Some(b',') => Piece { from, to },
+            _ => piece,
+        }
+    };
+    spliced(alloc, text, dropped, b"")
+}
+
+// The text with a piece twice.
+fn with_twice(alloc: Global, text: &[u8], piece: Piece) -> Result<Vec<u8>, Fail> {
+    let mut twice = Vec::from_slice(alloc, bytes_of(text, piece)?)?;
+    twice.push(b',')?;
+    twice.extend_from_slice(bytes_of(text, piece)?)?;
+    spliced(alloc, text, piece, &twice)
+}
+
+// The text in which a piece and the next in its list are swapped.
+fn with_swapped(
+    alloc: Global,
+    text: &[u8],
+    pieces: &[Piece],
+    piece: Piece,
+) -> Result<Vec<u8>, Fail> {
+    let start = piece.to.saturating_add(1);
+    let Some(next) = pieces.iter().find(|next| next.from == start) else {
+        return spliced(alloc, text, piece, b"null");
+    };
+    let mut swapped = Vec::from_slice(alloc, bytes_of(text, *next)?)?;
+    swapped.push(b',')?;
+    swapped.extend_from_slice(bytes_of(text, piece)?)?;
+    let both = Piece {
+        from: piece.from,
+        to: next.to,
+    };
+    spliced(alloc, text, both, &swapped)
+}
+
+// The text with a number raised by one.
+fn with_raised(alloc: Global, text: &[u8], piece: Piece) -> Result<Vec<u8>, Fail> {
+    let digits = std::str::from_utf8(bytes_of(text, piece)?).unwrap_or("");
+    let number = digits.parse::<u64>().map_err(|_| Fail::new("a number"))?;
+    let raised = format!(in alloc; "{}", number.wrapping_add(1))?;
+    spliced(alloc, text, piece, raised.as_bytes())
+}
+
+// The text with the first digit of a digest raised by one.
+fn with_other_digest(alloc: Global, text: &[u8], piece: Piece) -> Result<Vec<u8>, Fail> {
+    let from = piece.from.saturating_add(1);
+    let digit = match text.get(from) {
+        Some(b'9') => b'a',
+        Some(b'f') => b'0',
+        Some(digit) => digit.wrapping_add(1),
+        None => b'0',
+    };
+    spliced(
+        alloc,
+        text,
+        Piece {
+            from,
+            to: from.saturating_add(1),
+        },
+        &[digit],
+    )
+}
+
+// Runs `verify` on a changed text, which is refused unless it is the same JSON value: members in
+// another order or twice, or equal items swapped.
+fn expect_refused(
+    rt: &impl Abort,
+    alloc: Global,
+    honest: &str,
+    changed: &[u8],
+) -> Result<(), Fail> {
+    let args = arguments(alloc, &["verify"])?;
+    let mut output = Vec::new(alloc);
+    let mut input = changed;
+    if run(alloc, &args, &mut input, &mut output) == 0 {
+        let value = Value::from_slice(alloc, changed)?.to_string(alloc)?;
+        assert_eq!(rt; value.as_str(), honest);
+    }
+    Ok(())
+}
+
+// The part of a text that is damaged.
+#[derive(Clone, Copy, PartialEq, Eq)]
+enum Part {
+    Statement,
+    Proof,
+}
+
+// The pieces that lie in this part.
+fn in_part(alloc: Global, text: &str, found: Vec<Piece>, part: Part) -> Result<Vec<Piece>, Fail> {
+    let (statement, _) = text
+        .split_once("\"proof\":")
+        .ok_or_else(|| Fail::new("a proof"))?;
+    let mut pieces = Vec::new(alloc);
+    for piece in found {
+        if (piece.from > statement.len()) == (part == Part::Proof) {
+            pieces.push(piece)?;
+        }
+    }
+    Ok(pieces)
+}
+
+// Every item and member of the part dropped, doubled and swapped with its neighbour.
+fn expect_pieces(rt: &impl Abort, alloc: Global, honest: &str, part: Part) -> Result<(), Fail> {
+    let text = honest.as_bytes();
+    let pieces = in_part(alloc, honest, pieces(alloc, text)?, part)?;
+    for piece in &pieces {
+        expect_refused(rt, alloc, honest, &without(alloc, text, *piece)?)?;
+        expect_refused(rt, alloc, honest, &with_twice(alloc, text, *piece)?)?;
+        expect_refused(
+            rt,
+            alloc,
+            honest,
+            &with_swapped(alloc, text, &pieces, *piece)?,
+        )?;
+    }
+    Ok(())
+}
+
+// Every number and digest of the part raised by one, and every key renamed.
+fn expect_texts(rt: &impl Abort, alloc: Global, honest: &str, part: Part) -> Result<(), Fail> {
+    let text = honest.as_bytes();
+    for piece in &in_part(alloc, honest, values(alloc, text, false)?, part)? {
+        expect_refused(rt, alloc, honest, &with_raised(alloc, text, *piece)?)?;
+    }
+    for piece in &in_part(alloc, honest, values(alloc, text, true)?, part)? {
+        expect_refused(rt, alloc, honest, &with_other_digest(alloc, text, *piece)?)?;
+    }
+    for piece in &in_part(alloc, honest, ends_of_keys(alloc, text)?, part)? {
+        expect_refused(rt, alloc, honest, &spliced(alloc, text, *piece, b"_")?)?;
+    }
+    Ok(())
+}
+
+// Claims of sevens stay true at other points and parameters, so that only their proofs are damaged.
+#[test]
+fn damaged_proofs(rt: HostRuntime) -> Result<(), Fail> {
+    for honest in [stored::SEVENS, stored::EIGHT_SEVENS_TWO_COEFFICIENTS] {
+        expect_pieces(&rt, rt.alloc(), honest, Part::Proof)?;
+        expect_texts(&rt, rt.alloc(), honest, Part::Proof)?;
+    }
+    Ok(())
+}
+
+#[test]
+fn damaged_statements(rt: HostRuntime) -> Result<(), Fail> {
+    expect_pieces(&rt, rt.alloc(), stored::TWO_HEIGHTS, Part::Statement)?;
+    expect_texts(&rt, rt.alloc(), stored::TWO_HEIGHTS, Part::Statement)
+}

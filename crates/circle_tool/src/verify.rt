@@ -1,0 +1,177 @@
+//! The command `verify`: whether a proof shows that committed polynomials have the claimed values.
+
+ghost use Rattle.std.specs.Prelude.{IfOk};
+ghost use Rattle.serde_json.specs.View.{view};
+ghost use Rattle.circle_json.specs.Objects.{ReadsObject};
+ghost use Rattle.circle_tool.specs.Verify.{input_fields};
+
+use crate::failure::Failure;
+use crate::json;
+use circle_challenger::{CanObserve, Sha256Challenger};
+use circle_commit::{
+    CommitmentOpening, FriError, FriParameters, JsonError, JsonForm, MatrixOpening,
+};
+use circle_field::{Cubic, Mersenne31};
+use circle_json::{has_keys, member};
+use circle_merkle::{MerkleTreeError, ShaMmcs};
+use p3_circle::{CircleDomain, CirclePcs, CirclePcsProof, InputError, Neutral, Point};
+use serde_json::{Value, json};
+use std::alloc::{AllocError, Global};
+
+/// The scheme that commits to the batches.
+type Batches = ShaMmcs<Mersenne31>;
+
+/// The scheme that commits to the words made of them.
+type Words = ShaMmcs<Cubic>;
+
+/// The claims about one batch, whose domains are told by `Domain`.
+type Claim<Domain> = CommitmentOpening<Cubic, [u8; 32], Domain>;
+
+/// The proofs over these schemes.
+type Proof = CirclePcsProof<Mersenne31, Cubic, Batches, Words, Mersenne31>;
+
+/// Why claims or a proof are refused.
+pub type Refusal = FriError<MerkleTreeError, InputError<MerkleTreeError, MerkleTreeError>>;
+
+/// What the command is given.
+#[derive(Drop)]
+pub struct Input {
+    /// The claims about each batch; of the domains the binary logarithms of their sizes.
+    pub batches: Vec<Claim<usize>>,
+    /// The parameters of the run.
+    pub params: FriParameters<()>,
+    /// The proof.
+    pub proof: Proof,
+}
+
+impl Input {
+    /// The input that a JSON value is: `{"batches":..,"params":..,"proof":..}`.
+    ///
+    /// Fails as `WrongKind` where the value is no object, as `MissingKey` and then as `UnknownKey`
+    /// where its keys are others, and then as its members do.
+    pub fn from_json(alloc: Global, value: &Value) -> Result<Input, JsonError>
+        ensures { IfOk result (ReadsObject (input_fields
+            ⟦<Vec<Claim<usize>> as JsonForm>⟧.form ⟦<FriParameters<()> as JsonForm>⟧.form
+            ⟦<Proof as JsonForm>⟧.form) (view value.now)) }
+    {
+        has_keys(value, &["batches", "params", "proof"])?;
+        Ok(Input {
+            batches: member(alloc, value, "batches")?,
+            params: member(alloc, value, "params")?,
+            proof: member(alloc, value, "proof")?,
+        })
+    }
+}
+
+/// The line that answers `value`: `{"verified":true}`.
+///
+/// Fails as [`Input::from_json`] and then as [`verify`] does.
+pub fn answer(alloc: Global, value: &Value) -> Result<String, Failure> {
+    verify(alloc, Input::from_json(alloc, value)?)?;
+    Ok(json::line(alloc, &json!(in alloc; {"verified": true})?)?)
+}
+
+/// Verifies the input's proof of its claims, from the challenger that took in nothing but the
+/// commitments, in order.
+///
+/// Fails as [`CirclePcs::verify`] does.
+pub fn verify(alloc: Global, input: Input) -> Result<(), Refusal> {
+    let Input {
+        batches,
+        params,
+        proof,
+    } = input;
+    let mut challenger = Sha256Challenger::new();
+    observe_commitments(&mut challenger, &batches);
+    let scheme = CirclePcs::new(Batches::new(), over_words(&params));
+    scheme.verify(alloc, placed(alloc, batches)?, &proof, &mut challenger)
+}
+
+// Takes in the commitments, in order.
+fn observe_commitments(challenger: &mut Sha256Challenger, batches: &[Claim<usize>]) {
+    for batch in batches {
+        challenger.observe(&batch.commitment);
+    }
+}
+
+// The parameters with the scheme that commits to the words.
+fn over_words(params: &FriParameters<()>) -> FriParameters<Words> {
+    FriParameters {
+        log_blowup: params.log_blowup,
+        log_final_poly_len: params.log_final_poly_len,
+        max_log_arity: params.max_log_arity,
+        num_queries: params.num_queries,
+        batch_proof_of_work_bits: params.batch_proof_of_work_bits,
+        commit_proof_of_work_bits: params.commit_proof_of_work_bits,
+        query_proof_of_work_bits: params.query_proof_of_work_bits,
+        mmcs: Words::new(),
+    }
+}
+
+// The claims about domains of these sizes; only their sizes count.
+fn placed(
+    alloc: Global,
+    batches: Vec<Claim<usize>>,
+) -> Result<Vec<Claim<CircleDomain<Mersenne31>>>, AllocError> {
+    let mut claims = Vec::with_capacity(alloc, batches.len())?;
+    for batch in batches {
+        claims.push(placed_batch(alloc, batch)?)?;
+    }
+    Ok(claims)
+}
+
+// The claims about one batch.
+fn placed_batch(
+    alloc: Global,
+    batch: Claim<usize>,
+) -> Result<Claim<CircleDomain<Mersenne31>>, AllocError> {
+    let mut matrices = Vec::with_capacity(alloc, batch.matrices.len())?;
+    for matrix in batch.matrices {
+        matrices.push(MatrixOpening {
+            domain: CircleDomain::new(matrix.domain, Point::ZERO),
+            points: matrix.points,
+        })?;
+    }
+    Ok(CommitmentOpening {
+        commitment: batch.commitment,
+        matrices,
+    })
+}
+
+/// The name of a refusal, the inner one where the input is refused.
+pub fn name(refusal: &Refusal) -> &'static str {
+    match refusal {
+        FriError::NoCommittedMatrices => "NoCommittedMatrices",
+        FriError::InputError(inner) => inner_name(inner),
+        FriError::GlobalMaxHeightTooLarge { .. } => "GlobalMaxHeightTooLarge",
+        FriError::UnsupportedGrinding { .. } => "UnsupportedGrinding",
+        FriError::ZeroQueries => "ZeroQueries",
+        FriError::ZeroBlowup => "ZeroBlowup",
+        FriError::UnsupportedFoldingCap { .. } => "UnsupportedFoldingCap",
+        FriError::CommitRoundCountMismatch { .. } => "CommitRoundCountMismatch",
+        FriError::CommitPowWitnessCountMismatch { .. } => "CommitPowWitnessCountMismatch",
+        FriError::NonCanonicalPowWitness { .. } => "NonCanonicalPowWitness",
+        FriError::CommitPhaseOpeningsCountMismatch { .. } => "CommitPhaseOpeningsCountMismatch",
+        FriError::CommitPhaseQueryCountMismatch { .. } => "CommitPhaseQueryCountMismatch",
+        FriError::SiblingValuesLengthMismatch { .. } => "SiblingValuesLengthMismatch",
+        FriError::FinalPolyLengthMismatch { .. } => "FinalPolyLengthMismatch",
+        FriError::PointAtInfinity => "PointAtInfinity",
+        FriError::InvalidPowWitness(_) => "InvalidPowWitness",
+        FriError::FinalPolyMismatch => "FinalPolyMismatch",
+        FriError::UnconsumedReducedOpenings { .. } => "UnconsumedReducedOpenings",
+        FriError::CommitPhaseMmcsError(_) => "CommitPhaseMmcsError",
+        FriError::Memory => "Memory",
+    }
+}
+
+// The name of a refusal of the input.
+fn inner_name(refusal: &InputError<MerkleTreeError, MerkleTreeError>) -> &'static str {
+    match refusal {
+        InputError::InputMmcsError(_) => "InputMmcsError",
+        InputError::FirstLayerMmcsError(_) => "FirstLayerMmcsError",
+        InputError::InputShapeError => "InputShapeError",
+        InputError::OpeningPointMatchesQueryPoint => "OpeningPointMatchesQueryPoint",
+        InputError::MatrixWithoutOpeningPoints { .. } => "MatrixWithoutOpeningPoints",
+        InputError::DomainTooSmall { .. } => "DomainTooSmall",
+    }
+}
