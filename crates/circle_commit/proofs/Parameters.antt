@@ -1,5 +1,5 @@
 -- The parameters in JSON, by whether the final polynomial's length is there.
-use Rattle.std.proofs.Common.{IfOk, Result, Ok, Err, ◌≡◌, ◌⊎◌, ℕ, zero, suc, Option, Some, None, inl, inr, ⊎_elim, refl, sym, subst, ◌∙◌, arith, ap}
+use Rattle.std.proofs.Common.{IfOk, Result, Ok, Err, ◌≡◌, ℕ, zero, suc, Option, Some, None, inl, inr, ⊎_elim, refl, sym, subst, ◌∙◌, arith, ap}
 use Rattle.std.specs.Bool.{⊤}
 use Rattle.circle_commit.specs.Json.{ReadsParameters, RefusesParameters, length_member, parameters_written, short_fields, whole_fields}
 use Rattle.circle_commit.specs.declared.params.FriParameters.{FriParameters}

@@ -1,0 +1,13 @@
+use Rattle.std.proofs.Common.{codes, refl, rules, arith}
+use Rattle.circle_json.proofs.Records.{read_of}
+use Rattle.circle_relation.specs.Json.{input_fields}
+use Rattle.serde_json.specs.Data.{member, no_members}
+use Rattle.serde_json.specs.View.{view}
+use Rattle.serde_json.specs.declared.value.Value.{the_lemmas}
+use Rattle.circle_relation.proofs.json.CircleInputProofJsonForm.to_json.Goals as goal
+
+pub returns-in-Ok-json-6-clause-reads : goal.returns-in-Ok-json-6-clause-reads
+returns-in-Ok-json-6-clause-reads g c =
+    read_of (input_fields g.Val.JsonForm.form g.Challenge.JsonForm.form g.InputMmcs.MultiProof.JsonForm.form g.FriMmcs.MultiProof.JsonForm.form) c.args.self.now _
+    (member (codes "first_layer_proof") (view c.in_ok-to_json.field-0) (member (codes "first_layer_siblings") (view c.in_ok-to_json-2.field-0) (member (codes "input_openings") (view c.in_ok-to_json-3.field-0) no_members))) (search (rules, the_lemmas))
+    (omega arith, ((_, refl, c.in_ok-to_json.ensures.reads), ((_, refl, c.in_ok-to_json-2.ensures.reads), ((_, refl, c.in_ok-to_json-3.ensures.reads), tt))))
