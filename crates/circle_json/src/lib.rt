@@ -5,7 +5,9 @@
 //! elsewhere, one of a list fails only as one of its items does or for want of memory, and what
 //! `to_json` wrote stands for the value that it was written of and for no other. `specs/Form` has
 //! what a form is and its laws, `specs/Values` the forms of this crate, `specs/ObjectForm` that of
-//! an object with exactly the members of a list of fields, for records of the crates above.
+//! an object with exactly the members of a list of fields, for records of the crates above, and
+//! `specs/Coefficients` that of a list of which one item stands for itself, told from a list by
+//! `FlatForm`.
 #![tactic(auto)]
 
 pub mod coefficients;
