@@ -50,7 +50,7 @@ impl Input {
     /// Fails as `WrongKind` where the value is no object, as `MissingKey` and then as `UnknownKey`
     /// where its keys are others, and then as its members do.
     pub fn from_json(alloc: Global, value: &Value) -> Result<Input, JsonError>
-        ensures { IfOk result (ReadsObject (input_fields
+        ensures { IfOk result (ReadsObject (input_fields (λ i. i.proof)
             ⟦<Vec<Claim<usize>> as JsonForm>⟧.form ⟦<FriParameters<()> as JsonForm>⟧.form
             ⟦<Proof as JsonForm>⟧.form) (view value.now)) }
     {
