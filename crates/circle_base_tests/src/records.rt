@@ -43,28 +43,32 @@ fn openings_have_two_members(rt: HostRuntime) -> Result<(), Fail> {
 
 // One matrix of 2^3 rows, at one point with two values.
 const CLAIMS: &str =
-    "{\"commitment\":\"000102030405060708090a0b0c0d0e0f101112131415161718191a1b1c1d1eff\",\"matrices\":[{\"log_n\":3,\"points\":[{\"point\":[1,2,3],\"values\":[[4,5,6],[7,8,9]]}]}]}";
+    "{\"commitment\":\"000102030405060708090a0b0c0d0e0f101112131415161718191a1b1c1d1eff\",\
+     \"matrices\":[{\"log_n\":3,\"points\":[{\"point\":[1,2,3],\"values\":[[4,5,6],[7,8,9]]}]}]}";
 
 #[test]
 fn claims_are_nested_objects(rt: HostRuntime) -> Result<(), Fail> {
     let alloc = rt.alloc();
     assert!(rt; stays::<Claims>(alloc, CLAIMS)?);
     let claims: Claims = read(alloc, CLAIMS)??;
-    assert_eq!(rt; claims.matrices[0].domain, 3);
-    assert_eq!(rt; claims.matrices[0].points[0].values.len(), 2);
+    assert_eq!(rt; claims.matrices.len(), 1);
+    let matrix = &claims.matrices[0];
+    assert_eq!(rt; matrix.domain, 3);
+    assert_eq!(rt; matrix.points.len(), 1);
+    assert_eq!(rt; matrix.points[0].values.len(), 2);
     let domain = refusal::<Claims>(alloc, "{\"commitment\":0,\"domain\":[]}")?;
     assert_eq!(rt; domain, Some(JsonError::MissingKey));
     Ok(())
 }
 
-const SHORT: &str =
-    "{\"batch_pow_bits\":1,\"commit_pow_bits\":2,\"log_blowup\":3,\"max_log_arity\":4,\"num_queries\":5,\"query_pow_bits\":6}";
+const SHORT: &str = "{\"batch_pow_bits\":1,\"commit_pow_bits\":2,\"log_blowup\":3,\
+     \"max_log_arity\":4,\"num_queries\":5,\"query_pow_bits\":6}";
 
-const WHOLE: &str =
-    "{\"batch_pow_bits\":1,\"commit_pow_bits\":2,\"log_blowup\":3,\"log_final_poly_len\":7,\"max_log_arity\":4,\"num_queries\":5,\"query_pow_bits\":6}";
+const WHOLE: &str = "{\"batch_pow_bits\":1,\"commit_pow_bits\":2,\"log_blowup\":3,\
+     \"log_final_poly_len\":7,\"max_log_arity\":4,\"num_queries\":5,\"query_pow_bits\":6}";
 
-const ZERO: &str =
-    "{\"batch_pow_bits\":1,\"commit_pow_bits\":2,\"log_blowup\":3,\"log_final_poly_len\":0,\"max_log_arity\":4,\"num_queries\":5,\"query_pow_bits\":6}";
+const ZERO: &str = "{\"batch_pow_bits\":1,\"commit_pow_bits\":2,\"log_blowup\":3,\
+     \"log_final_poly_len\":0,\"max_log_arity\":4,\"num_queries\":5,\"query_pow_bits\":6}";
 
 #[test]
 fn parameters_may_lack_the_final_length(rt: HostRuntime) -> Result<(), Fail> {
@@ -89,12 +93,12 @@ fn parameters_may_lack_the_final_length(rt: HostRuntime) -> Result<(), Fail> {
 #[test]
 fn parameters_lack_no_other_number(rt: HostRuntime) -> Result<(), Fail> {
     let alloc = rt.alloc();
-    let lacking =
-        "{\"batch_pow_bits\":1,\"commit_pow_bits\":2,\"log_final_poly_len\":0,\"max_log_arity\":4,\"num_queries\":5,\"query_pow_bits\":6}";
+    let lacking = "{\"batch_pow_bits\":1,\"commit_pow_bits\":2,\
+     \"log_final_poly_len\":0,\"max_log_arity\":4,\"num_queries\":5,\"query_pow_bits\":6}";
     let refused = refusal::<FriParameters<()>>(alloc, lacking)?;
     assert_eq!(rt; refused, Some(JsonError::MissingKey));
-    let renamed =
-        "{\"batch_pow_bits\":1,\"commit_pow_bits\":2,\"log_blowup\":3,\"final\":0,\"max_log_arity\":4,\"num_queries\":5,\"query_pow_bits\":6}";
+    let renamed = "{\"batch_pow_bits\":1,\"commit_pow_bits\":2,\"log_blowup\":3,\
+     \"final\":0,\"max_log_arity\":4,\"num_queries\":5,\"query_pow_bits\":6}";
     let refused = refusal::<FriParameters<()>>(alloc, renamed)?;
     assert_eq!(rt; refused, Some(JsonError::UnknownKey));
     Ok(())
