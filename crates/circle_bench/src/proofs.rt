@@ -15,8 +15,11 @@ use std::time::{Duration, Instant};
 /// What the lines call the proof: two batches with proofs of work.
 const NAME: &str = "two_batches_with_work";
 
-/// The file of the claims, the parameters and the proof, beside which the program is run.
+/// The file of the claims, the parameters and the proof, where the program is run beside it.
 const FILE: &str = "two_batches_with_work.verify.json";
+
+/// The file where the program is run in the crate's folder.
+const FILE_OF_CRATE: &str = "data/two_batches_with_work.verify.json";
 
 /// How many times the proof is read and verified when that is timed.
 const RUNS: usize = 50;
@@ -38,7 +41,7 @@ struct Input {
 
 /// Prints a line for reading the proof, one for verifying it, and one for both.
 pub fn report(rt: &HostRuntime, mode: Mode) -> io::Result<()> {
-    let text = fs::read(rt, FILE)?;
+    let text = fs::read(rt, FILE).or_else(|_| fs::read(rt, FILE_OF_CRATE))?;
     let runs = match mode {
         Mode::Digests => 1,
         Mode::Times => RUNS,
