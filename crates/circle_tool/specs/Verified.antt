@@ -1,5 +1,5 @@
 -- When the command `verify` accepts.
-use Rattle.std.specs.Prelude.{◌≡◌, ℕ, List, [], ◌∷◌, map, replicate, Vec, ⊤}
+use Rattle.std.specs.Prelude.{◌≡◌, ℕ, List, [], ◌∷◌, map, replicate, Ok, Vec, ⊤}
 use Rattle.std.specs.declared.alloc.Global.{Global}
 use Rattle.circle_field.specs.declared.cubic.Cubic.{Cubic}
 use Rattle.circle_field.specs.declared.mersenne31.Mersenne31.{Mersenne31}
@@ -10,12 +10,12 @@ use Rattle.circle_challenger.specs.declared.sha256.Sha256Challenger.{Sha256Chall
 use Rattle.circle_commit.specs.declared.params.FriParameters.{FriParameters}
 use Rattle.circle_commit.specs.declared.pcs.CommitmentOpening.{CommitmentOpening}
 use Rattle.circle_commit.specs.declared.pcs.MatrixOpening.{MatrixOpening}
-use Rattle.circle_domain.specs.declared.domain.CircleDomain.{CircleDomain}
 use Rattle.circle_merkle.specs.declared.mmcs.ShaMmcs.{ShaMmcs}
-use Rattle.circle_relation.specs.Accepts.{Fields, Authenticates}
-use Rattle.circle_relation.specs.Statement.{BatchClaim, MatrixClaim}
-use Rattle.circle_relation.specs.StatementOf.{point_claim, batch_claims}
-use Rattle.p3_circle.specs.Verdict.{AcceptsFrom}
+use Rattle.circle_relation.specs.Accepts.{Fields, Run, Authenticates, Accepts}
+use Rattle.circle_relation.specs.RunOf.{proof_of, setting_of}
+use Rattle.circle_relation.specs.Statement.{BatchClaim, Challenges, MatrixClaim}
+use Rattle.circle_relation.specs.StatementOf.{point_claim}
+use Rattle.p3_circle.specs.Verdict.{drawing, drawn_by}
 use Rattle.circle_tool.specs.declared.verify.Input.{Input}
 
 -- the claims about matrices whose sizes are told by logarithms
@@ -47,20 +47,31 @@ over p scheme = record {
   mmcs = scheme;
 }
 
+-- the claims and the proof, with challenges
+abbrev pub run_of_input : Input → Challenges Cubic → Run Mersenne31 Cubic (List ℕ) (List ℕ)
+    (Vec (List ℕ) Global) (Vec (List ℕ) Global)
+run_of_input input drawn = record {
+  batches = batches_told input.batches.items;
+  proof = proof_of input.proof;
+  drawn = drawn;
+}
+
 -- the verifier accepts the proof of the input's claims from a challenger that took in nothing but
--- the commitments
-pub record IsVerified (g : _) (k : Fields Mersenne31 Cubic)
+-- the commitments: the challenges are drawn from it, and with them the relation holds
+pub record IsVerified (k : Fields Mersenne31 Cubic)
     (r : RunMoves Sha256Challenger (List ℕ) Mersenne31 Cubic (List ℕ))
-    (batches : ShaMmcs Mersenne31 → Authenticates (List ℕ) Mersenne31 (Vec (List ℕ) Global))
+    (inputs : ShaMmcs Mersenne31 → Authenticates (List ℕ) Mersenne31 (Vec (List ℕ) Global))
     (words : ShaMmcs Cubic → Authenticates (List ℕ) Cubic (Vec (List ℕ) Global))
     (two_adicity : ℕ) (input : Input) : Type 0 where
-  pub claims : List (CommitmentOpening Cubic (List ℕ) (CircleDomain Mersenne31 g))
   pub mmcs : ShaMmcs Mersenne31
   pub scheme : ShaMmcs Cubic
   pub start : Sha256Challenger
   pub left : Sha256Challenger
-  pub told : batch_claims claims ≡ batches_told input.batches.items
+  pub drawn : Challenges Cubic
   pub taken : state_of start ≡ taken_in (replicate 32 0) input.batches.items
+  pub draws :
+      drawing r (over input.params scheme) k.extension (batches_told input.batches.items)
+      (proof_of input.proof) start ≡ Ok (drawn_by r.base.coefficients drawn (r.base.state left))
   pub accepts :
-      AcceptsFrom k r batches words mmcs (over input.params scheme) claims input.proof two_adicity
-      start left
+      Accepts (setting_of k (over input.params scheme)) (run_of_input input drawn)
+      (over input.params scheme) two_adicity (inputs mmcs) (words scheme)

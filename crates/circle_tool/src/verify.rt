@@ -81,7 +81,7 @@ pub fn answer(alloc: Global, value: &Value) -> Result<String, Failure> {
 /// Fails as [`CirclePcs::verify`] does.
 pub fn verify(alloc: Global, input: Input) -> Result<(), Refusal>
     ensures { let m = ⟦<Sha256Challenger as RunChallenger<Mersenne31, Cubic, [u8; 32]>>⟧.run in
-        OnOk result (IsVerified _ ⟦<Cubic as OverCircle<Mersenne31>>⟧.fields m
+        OnOk result (IsVerified ⟦<Cubic as OverCircle<Mersenne31>>⟧.fields m
         ⟦<Batches as Mmcs<Mersenne31>>⟧.authenticates ⟦<Words as Mmcs<Cubic>>⟧.authenticates
         ⟦<Mersenne31 as ComplexExtendable>⟧.CIRCLE_TWO_ADICITY input) }
 {
