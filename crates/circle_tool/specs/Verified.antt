@@ -26,7 +26,8 @@ matrices_told matrices =
 abbrev pub batch_told : CommitmentOpening Cubic (List ℕ) ℕ → BatchClaim (List ℕ) Cubic
 batch_told b = record { commitment = b.commitment; matrices = matrices_told b.matrices.items }
 
-abbrev pub batches_told : List (CommitmentOpening Cubic (List ℕ) ℕ) → List (BatchClaim (List ℕ) Cubic)
+abbrev pub batches_told : List (CommitmentOpening Cubic (List ℕ) ℕ) →
+    List (BatchClaim (List ℕ) Cubic)
 batches_told batches = map batch_told batches
 
 -- the challenger's state after the commitments were taken in, in order
