@@ -5,3 +5,4 @@ pub mod Json
 pub mod Rows
 pub mod Shape
 pub mod Verify
+pub mod Verified

@@ -1,19 +1,23 @@
 //! The command `verify`: whether a proof shows that committed polynomials have the claimed values.
 
-ghost use Rattle.std.specs.Prelude.{IfOk};
+ghost use Rattle.std.specs.Prelude.{◌≡◌, IfOk, OnOk};
 ghost use Rattle.serde_json.specs.View.{view};
 ghost use Rattle.circle_json.specs.Objects.{ReadsObject};
+ghost use Rattle.circle_challenger.specs.Sha256Challenger.{state_of};
+ghost use Rattle.circle_relation.specs.StatementOf.{batch_claim, batch_claims};
+ghost use Rattle.circle_tool.specs.Verified.{IsVerified, batch_told, batches_told, over, taken_in};
 ghost use Rattle.circle_tool.specs.Verify.{input_fields};
 
 use crate::failure::Failure;
 use crate::json;
-use circle_challenger::{CanObserve, Sha256Challenger};
+use circle_challenger::{CanObserve, RunChallenger, Sha256Challenger};
 use circle_commit::{
-    CommitmentOpening, FriError, FriParameters, JsonError, JsonForm, MatrixOpening,
+    CommitmentOpening, FriError, FriParameters, JsonError, JsonForm, MatrixOpening, Mmcs,
 };
-use circle_field::{Cubic, Mersenne31};
+use circle_field::{ComplexExtendable, Cubic, Mersenne31};
 use circle_json::{has_keys, member};
 use circle_merkle::{MerkleTreeError, ShaMmcs};
+use circle_relation::OverCircle;
 use p3_circle::{CircleDomain, CirclePcs, CirclePcsProof, InputError, Neutral, Point};
 use serde_json::{Value, json};
 use std::alloc::{AllocError, Global};
@@ -75,7 +79,12 @@ pub fn answer(alloc: Global, value: &Value) -> Result<String, Failure> {
 /// commitments, in order.
 ///
 /// Fails as [`CirclePcs::verify`] does.
-pub fn verify(alloc: Global, input: Input) -> Result<(), Refusal> {
+pub fn verify(alloc: Global, input: Input) -> Result<(), Refusal>
+    ensures { let m = ⟦<Sha256Challenger as RunChallenger<Mersenne31, Cubic, [u8; 32]>>⟧.run in
+        OnOk result (IsVerified ⟦<Cubic as OverCircle<Mersenne31>>⟧.fields m
+        ⟦<Batches as Mmcs<Mersenne31>>⟧.authenticates ⟦<Words as Mmcs<Cubic>>⟧.authenticates
+        ⟦<Mersenne31 as ComplexExtendable>⟧.CIRCLE_TWO_ADICITY input) }
+{
     let Input {
         batches,
         params,
@@ -88,14 +97,18 @@ pub fn verify(alloc: Global, input: Input) -> Result<(), Refusal> {
 }
 
 // Takes in the commitments, in order.
-fn observe_commitments(challenger: &mut Sha256Challenger, batches: &[Claim<usize>]) {
+fn observe_commitments(challenger: &mut Sha256Challenger, batches: &[Claim<usize>])
+    ensures { state_of challenger.new ≡ taken_in (state_of challenger.old) batches.now }
+{
     for batch in batches {
         challenger.observe(&batch.commitment);
     }
 }
 
 // The parameters with the scheme that commits to the words.
-fn over_words(params: &FriParameters<()>) -> FriParameters<Words> {
+fn over_words(params: &FriParameters<()>) -> FriParameters<Words>
+    ensures { result ≡ over params.now result.mmcs }
+{
     FriParameters {
         log_blowup: params.log_blowup,
         log_final_poly_len: params.log_final_poly_len,
@@ -112,7 +125,9 @@ fn over_words(params: &FriParameters<()>) -> FriParameters<Words> {
 fn placed(
     alloc: Global,
     batches: Vec<Claim<usize>>,
-) -> Result<Vec<Claim<CircleDomain<Mersenne31>>>, AllocError> {
+) -> Result<Vec<Claim<CircleDomain<Mersenne31>>>, AllocError>
+    ensures { IfOk result (λ claims. batch_claims claims.items ≡ batches_told batches.items) }
+{
     let mut claims = Vec::with_capacity(alloc, batches.len())?;
     for batch in batches {
         claims.push(placed_batch(alloc, batch)?)?;
@@ -124,7 +139,9 @@ fn placed(
 fn placed_batch(
     alloc: Global,
     batch: Claim<usize>,
-) -> Result<Claim<CircleDomain<Mersenne31>>, AllocError> {
+) -> Result<Claim<CircleDomain<Mersenne31>>, AllocError>
+    ensures { IfOk result (λ claim. batch_claim claim ≡ batch_told batch) }
+{
     let mut matrices = Vec::with_capacity(alloc, batch.matrices.len())?;
     for matrix in batch.matrices {
         matrices.push(MatrixOpening {
