@@ -248,3 +248,31 @@ fn damaged_statements(rt: HostRuntime) -> Result<(), Fail> {
     expect_pieces(&rt, rt.alloc(), stored::TWO_HEIGHTS, Part::Statement)?;
     expect_texts(&rt, rt.alloc(), stored::TWO_HEIGHTS, Part::Statement)
 }
+
+#[test]
+fn damaged_proofs_of_two_heights(rt: HostRuntime) -> Result<(), Fail> {
+    let honest = stored::TWO_HEIGHTS;
+    expect_pieces(&rt, rt.alloc(), honest, Part::Proof)?;
+    expect_texts(&rt, rt.alloc(), honest, Part::Proof)?;
+    Ok(())
+}
+
+#[test]
+fn damaged_batches_with_work(rt: HostRuntime) -> Result<(), Fail> {
+    let honest = stored::TWO_BATCHES_WITH_WORK;
+    for part in [Part::Statement, Part::Proof] {
+        expect_pieces(&rt, rt.alloc(), honest, part)?;
+        expect_texts(&rt, rt.alloc(), honest, part)?;
+    }
+    Ok(())
+}
+
+#[test]
+fn damaged_batches_of_four_coefficients(rt: HostRuntime) -> Result<(), Fail> {
+    let honest = stored::TWO_BATCHES_FOUR_COEFFICIENTS;
+    for part in [Part::Statement, Part::Proof] {
+        expect_pieces(&rt, rt.alloc(), honest, part)?;
+        expect_texts(&rt, rt.alloc(), honest, part)?;
+    }
+    Ok(())
+}
