@@ -36,24 +36,20 @@ pub moved : {C T P : Type 0} (A : Authenticates C T P) (commitment : C) (proof :
 moved A commitment proof d e i j o q shapes places rows shown =
     subst (λ x. A commitment e j x proof) rows (subst (λ x. A commitment e x o proof) places (subst (λ x. A commitment x i o proof) shapes shown))
 
--- memory that is refused is said so
-pub memory-refuses : {R IE WE : Type 0} (Authenticated : Type 0) (result : Result R (FriError WE (InputError IE WE))) → IsErrAnd result (λ e. e ≡ Memory) → IfErr result (RefusesRows Authenticated)
-memory-refuses Authenticated (Ok v) is = tt
-memory-refuses Authenticated (Err e) is = subst (RefusesRows Authenticated) (sym is) tt
-
 -- a scheme's refusal refuses the rows, unless it says that memory was refused
-pub refusal-refuses : {IE : Type 0} (WE : Type 0) (Authenticated : Type 0) (memory : Bool) (d : IE) → (Authenticated → memory ≡ true) → RefusesRows {WE = WE} Authenticated (if memory then Memory else OfInput (InputMmcsError d))
-refusal-refuses WE Authenticated true d why = tt
-refusal-refuses WE Authenticated false d why = λ shown. let no : false ≡ true = why shown in cc
+pub refusal-refuses : {IE : Type 0} (WE : Type 0) (memory : IE → Bool) (Authenticated : Type 0) (said : Bool) (d : IE) → memory d ≡ said → (Authenticated → said ≡ true) →
+    RefusesRows {WE = WE} memory Authenticated (if said then Memory else OfInput (InputMmcsError d))
+refusal-refuses WE memory Authenticated true d is why = tt
+refusal-refuses WE memory Authenticated false d is why = (is, λ shown. let no : false ≡ true = why shown in cc)
 
 module _ {F E Com InputCom InputProof WordProof : Type 0} (s : Setting F E) (r : Run F E Com InputCom InputProof WordProof) where
   -- a batch of which the rows are refused is reason for a refusal
-  pub rows-reason : {IE WE : Type 0} (inputs : Authenticates InputCom F InputProof) (words : Authenticates Com E WordProof) (Authenticated : Type 0) (e : FriError WE (InputError IE WE)) →
-      (InputsAuthenticate s r inputs → Authenticated) → RefusesRows Authenticated e → IsReason s r inputs words e
+  pub rows-reason : {IE WE : Type 0} (inputs : Authenticates InputCom F InputProof) (words : Authenticates Com E WordProof) (input_memory : IE → Bool) (word_memory : WE → Bool) (Authenticated : Type 0) (e : FriError WE (InputError IE WE)) →
+      (InputsAuthenticate s r inputs → Authenticated) → RefusesRows input_memory Authenticated e → IsReason s r inputs words input_memory word_memory e
   unfolding IsReason
-  rows-reason inputs words Authenticated (OfInput (InputMmcsError d)) of_all why = λ all. why (of_all all)
-  rows-reason inputs words Authenticated Memory of_all why = tt
-  rows-reason inputs words Authenticated _ of_all why = absurd why
+  rows-reason inputs words input_memory word_memory Authenticated (OfInput (InputMmcsError d)) of_all why = (why.0, λ all. why.1 (of_all all))
+  rows-reason inputs words input_memory word_memory Authenticated Memory of_all why = tt
+  rows-reason inputs words input_memory word_memory Authenticated _ of_all why = absurd why
 
 -- queries without as many bits
 pub same-bits : (queries : List ℕ) (a b m n : ℕ) → a ≡ b → m ≡ n → map (λ q. q / 2 ^ (a - m)) queries ≡ map (λ q. q / 2 ^ (b - n)) queries

@@ -1,5 +1,5 @@
 -- What is asked of a batch's rows.
-use Rattle.std.specs.Prelude.{ℕ, ◌^◌, [], length, map, slice_index_or}
+use Rattle.std.specs.Prelude.{◌≡◌, Bool, false, ℕ, ◌^◌, [], length, map, slice_index_or}
 use Rattle.circle_commit.specs.declared.matrix.Dimensions.{Dimensions}
 use Rattle.circle_commit.specs.declared.pcs.CommitmentOpening.{CommitmentOpening}
 use Rattle.circle_commit.specs.declared.pcs.BatchMultiOpening.{BatchMultiOpening}
@@ -30,8 +30,11 @@ AreShown k o inputs batch opening =
     InputAuthenticates (setting_in k o) (run_of o) (inputs o.mmcs.now)
     (batch_claim batch, opened_batch opening)
 
--- an error refuses rows that don't authenticate, or says that memory was refused
-abbrev pub RefusesRows : {IE WE : Type 0} → Type 0 → FriError WE (InputError IE WE) → Type 0
-RefusesRows Authenticated (OfInput (InputMmcsError e)) = Authenticated → ⊥
-RefusesRows Authenticated Memory = Unit {0}
-RefusesRows Authenticated _ = ⊥
+-- an error refuses rows that don't authenticate, and is no scheme's error of memory, or says that
+-- memory was refused
+abbrev pub RefusesRows : {IE WE : Type 0} → (IE → Bool) → Type 0 → FriError WE (InputError IE WE)
+    → Type 0
+RefusesRows memory Authenticated (OfInput (InputMmcsError e)) =
+    memory e ≡ false × (Authenticated → ⊥)
+RefusesRows memory Authenticated Memory = Unit {0}
+RefusesRows memory Authenticated _ = ⊥

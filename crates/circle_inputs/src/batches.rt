@@ -99,8 +99,8 @@ fn authenticate_batch<
         ≤ run.now.log_max_height) batch.now.matrices.items }
     ensures shown { OnOk result (AreShown ⟦<EF as OverCircle<Val>>⟧.fields run.now
         InputMmcs.authenticates batch.now opening.now) }
-    ensures refused { IfErr result (RefusesRows (AreShown ⟦<EF as OverCircle<Val>>⟧.fields run.now
-        InputMmcs.authenticates batch.now opening.now)) }
+    ensures refused { IfErr result (RefusesRows InputMmcs.is_memory (AreShown
+        ⟦<EF as OverCircle<Val>>⟧.fields run.now InputMmcs.authenticates batch.now opening.now)) }
 {
     let log_blowup = run.params.log_blowup;
     let shapes = claimed_shapes(alloc, log_blowup, &batch.matrices)?;
@@ -141,7 +141,7 @@ pub fn authenticate_inputs<
     ensures shown { OnOk result (HasInputsOf ⟦<EF as OverCircle<Val>>⟧.fields run.now
         InputMmcs.authenticates FriMmcs.authenticates) }
     ensures refused { IfErr result (Refuses ⟦<EF as OverCircle<Val>>⟧.fields run.now
-        InputMmcs.authenticates FriMmcs.authenticates) }
+        InputMmcs.authenticates FriMmcs.authenticates InputMmcs.is_memory FriMmcs.is_memory) }
 {
     let inputs = &run.proof.fri_proof.input_openings.input_openings;
     for (batch, opening) in run.claims.iter().zip(inputs) {

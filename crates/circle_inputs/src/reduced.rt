@@ -231,7 +231,7 @@ fn reduced_word<
     ensures apart { OnOk result
         (IsApartIn ⟦<EF as OverCircle<Val>>⟧.fields run.now log_height) }
     ensures refused { IfErr result (Refuses ⟦<EF as OverCircle<Val>>⟧.fields run.now
-        InputMmcs.authenticates FriMmcs.authenticates) }
+        InputMmcs.authenticates FriMmcs.authenticates InputMmcs.is_memory FriMmcs.is_memory) }
 {
     let points = query_points(alloc, log_height, run.log_max_height, run.indices)?;
     let mut values = vec![in alloc; EF::ZERO; run.indices.len()]?;
@@ -280,7 +280,7 @@ pub fn reduced_words<
     ensures apart { let k = ⟦<EF as OverCircle<Val>>⟧.fields in
         OnOk result (AreApart (setting_in k run.now) (run_of run.now)) }
     ensures refused { IfErr result (Refuses ⟦<EF as OverCircle<Val>>⟧.fields run.now
-        InputMmcs.authenticates FriMmcs.authenticates) }
+        InputMmcs.authenticates FriMmcs.authenticates InputMmcs.is_memory FriMmcs.is_memory) }
 {
     let powers = powers_for(alloc, run.alpha, run.claims)?;
     let mut words = Vec::with_capacity(alloc, heights.len())?;

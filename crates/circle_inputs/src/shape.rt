@@ -108,7 +108,7 @@ fn check_points<
     ensures claimed { OnOk result
         (All (λ m. 1 ≤ length m.claims) (all_matrices (batch_claims run.now.claims.now))) }
     ensures refused { IfErr result (Refuses ⟦<EF as OverCircle<Val>>⟧.fields run.now
-        InputMmcs.authenticates FriMmcs.authenticates) }
+        InputMmcs.authenticates FriMmcs.authenticates InputMmcs.is_memory FriMmcs.is_memory) }
 {
     for (batch, claim) in run.claims.iter().enumerate() {
         if let Some(matrix) = first_unclaimed(&claim.matrices) {
@@ -133,7 +133,7 @@ fn check_sizes<
     ensures large { OnOk result (All (λ m. run.now.params.now.log_final_poly_len + 2 ≤ m.log_n)
         (all_matrices (batch_claims run.now.claims.now))) }
     ensures refused { IfErr result (Refuses ⟦<EF as OverCircle<Val>>⟧.fields run.now
-        InputMmcs.authenticates FriMmcs.authenticates) }
+        InputMmcs.authenticates FriMmcs.authenticates InputMmcs.is_memory FriMmcs.is_memory) }
 {
     let next_log_height = run.params.log_blowup + run.params.log_final_poly_len;
     if has_domain(run.claims, run.params.log_final_poly_len + 1) {
@@ -166,7 +166,7 @@ pub fn validate_input_shape<
     requires heights { heights.now ≡ heights_of ⟦<EF as OverCircle<Val>>⟧.fields run.now }
     ensures opened { OnOk result (IsOpened ⟦<EF as OverCircle<Val>>⟧.fields run.now) }
     ensures refused { IfErr result (Refuses ⟦<EF as OverCircle<Val>>⟧.fields run.now
-        InputMmcs.authenticates FriMmcs.authenticates) }
+        InputMmcs.authenticates FriMmcs.authenticates InputMmcs.is_memory FriMmcs.is_memory) }
 {
     if !has_inputs(run, heights.len()) {
         return Err(FriError::InputError(InputError::InputShapeError));

@@ -74,7 +74,7 @@ pub fn authenticate_first_layer<
     ensures shown { OnOk result (HasFirstLayerOf ⟦<EF as OverCircle<Val>>⟧.fields run.now
         InputMmcs.authenticates FriMmcs.authenticates) }
     ensures refused { IfErr result (Refuses ⟦<EF as OverCircle<Val>>⟧.fields run.now
-        InputMmcs.authenticates FriMmcs.authenticates) }
+        InputMmcs.authenticates FriMmcs.authenticates InputMmcs.is_memory FriMmcs.is_memory) }
 {
     let dimensions = pair_shapes(alloc, heights)?;
     let places = halves(alloc, run.indices)?;

@@ -30,7 +30,7 @@ pub fn check_final<
     ensures ended { let k = ⟦<EF as OverCircle<Val>>⟧.fields in
         OnOk result (ChainsEnd (setting_in k run.now) (run_of run.now)) }
     ensures refused { IfErr result (Refuses ⟦<EF as OverCircle<Val>>⟧.fields run.now
-        InputMmcs.authenticates FriMmcs.authenticates) }
+        InputMmcs.authenticates FriMmcs.authenticates InputMmcs.is_memory FriMmcs.is_memory) }
 {
     let log_len = run.params.log_blowup + run.params.log_final_poly_len;
     let bits = run.log_max_height - log_len;

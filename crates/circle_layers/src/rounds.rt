@@ -42,7 +42,7 @@ pub fn fold_rounds<
     ensures shown { OnOk result (HasRoundsOf ⟦<EF as OverCircle<Val>>⟧.fields run.now
         InputMmcs.authenticates FriMmcs.authenticates) }
     ensures refused { IfErr result (Refuses ⟦<EF as OverCircle<Val>>⟧.fields run.now
-        InputMmcs.authenticates FriMmcs.authenticates) }
+        InputMmcs.authenticates FriMmcs.authenticates InputMmcs.is_memory FriMmcs.is_memory) }
 {
     let mut waiting = folded;
     // The greatest height is one of those that are claimed, so there is a last one.
@@ -84,7 +84,7 @@ fn fold_round<
     ensures shown { let k = ⟦<EF as OverCircle<Val>>⟧.fields in
         OnOk result (HasRoundOf k run.now FriMmcs.authenticates round) }
     ensures refused { IfErr result (Refuses ⟦<EF as OverCircle<Val>>⟧.fields run.now
-        InputMmcs.authenticates FriMmcs.authenticates) }
+        InputMmcs.authenticates FriMmcs.authenticates InputMmcs.is_memory FriMmcs.is_memory) }
 {
     let opening = &run.proof.fri_proof.commit_phase_openings[round];
     let siblings = first_entries(alloc, &opening.sibling_values)?;
@@ -123,7 +123,7 @@ fn authenticate_round<
     ensures shown { let k = ⟦<EF as OverCircle<Val>>⟧.fields in
         OnOk result (HasRoundOf k run.now FriMmcs.authenticates round) }
     ensures refused { IfErr result (Refuses ⟦<EF as OverCircle<Val>>⟧.fields run.now
-        InputMmcs.authenticates FriMmcs.authenticates) }
+        InputMmcs.authenticates FriMmcs.authenticates InputMmcs.is_memory FriMmcs.is_memory) }
 {
     let pairs = query_pairs(alloc, round + 1, run.indices, values, siblings)?;
     let places = places_of(alloc, run.indices, round + 2)?;

@@ -1,5 +1,5 @@
 -- Where the relation holds there is no reason for a refusal but want of memory.
-use Rattle.std.specs.Prelude.{◌≡◌, ℕ, ◌+◌, ◌<◌, ◌≤◌, List, [], ◌∷◌, ◌++◌, length, flat_map, All, slice_get, slice_index_or, Some}
+use Rattle.std.specs.Prelude.{◌≡◌, Bool, ℕ, ◌+◌, ◌<◌, ◌≤◌, List, [], ◌∷◌, ◌++◌, length, flat_map, All, slice_get, slice_index_or, Some}
 use Rattle.std.proofs.Common.{zero, suc, refl, ap, subst, arith}
 use Rattle.std.proofs.lemmas.List.Elements.{All-head, All-tail}
 use Rattle.std.proofs.lemmas.Option.{slice_get_within, get_or_from_slice_get}
@@ -43,17 +43,17 @@ module _ {F E Com InputCom InputProof WordProof : Type 0} (s : Setting F E) (r :
       let same = ap (λ m. m.log_n) o.some.3 in
       omega (arith, here, same, o.some.4)
 
-  pub only_memory : {IE WE : Type 0} (inputs : Authenticates InputCom F InputProof) (words : Authenticates Com E WordProof) (e : FriError WE (InputError IE WE)) → IsReason s r inputs words e → HasInputs s r
+  pub only_memory : {IE WE : Type 0} (inputs : Authenticates InputCom F InputProof) (words : Authenticates Com E WordProof) (input_memory : IE → Bool) (word_memory : WE → Bool) (e : FriError WE (InputError IE WE)) → IsReason s r inputs words input_memory word_memory e → HasInputs s r
       → All (λ m. 1 ≤ length m.claims) (matrices s r) → All (λ m. s.final + 2 ≤ m.log_n) (matrices s r)
       → HoldsWith s r inputs words → e ≡ Memory
   unfolding IsReason
-  only_memory inputs words (OfInput InputShapeError) why shape claimed large holds = absurd (why shape)
-  only_memory inputs words (OfInput (MatrixWithoutOpeningPoints b m)) why shape claimed large holds = absurd (unclaimed-not b m why claimed)
-  only_memory inputs words (OfInput (InputMmcsError e)) why shape claimed large holds = absurd (why holds.inputs_authenticate)
-  only_memory inputs words (OfInput OpeningPointMatchesQueryPoint) why shape claimed large holds = absurd (why holds.apart)
-  only_memory inputs words (OfInput (FirstLayerMmcsError e)) why shape claimed large holds = absurd (why holds.first_layer)
-  only_memory inputs words FinalPolyMismatch why shape claimed large holds = absurd (why holds.chains)
-  only_memory inputs words (UnconsumedReducedOpenings n m) why shape claimed large holds = absurd (left_over-not n m why large)
-  only_memory inputs words (CommitPhaseMmcsError e) why shape claimed large holds = absurd (why holds.rounds_authenticate)
-  only_memory inputs words Memory why shape claimed large holds = refl
-  only_memory inputs words _ why shape claimed large holds = absurd why
+  only_memory inputs words input_memory word_memory (OfInput InputShapeError) why shape claimed large holds = absurd (why shape)
+  only_memory inputs words input_memory word_memory (OfInput (MatrixWithoutOpeningPoints b m)) why shape claimed large holds = absurd (unclaimed-not b m why claimed)
+  only_memory inputs words input_memory word_memory (OfInput (InputMmcsError e)) why shape claimed large holds = absurd (why.1 holds.inputs_authenticate)
+  only_memory inputs words input_memory word_memory (OfInput OpeningPointMatchesQueryPoint) why shape claimed large holds = absurd (why holds.apart)
+  only_memory inputs words input_memory word_memory (OfInput (FirstLayerMmcsError e)) why shape claimed large holds = absurd (why.1 holds.first_layer)
+  only_memory inputs words input_memory word_memory FinalPolyMismatch why shape claimed large holds = absurd (why holds.chains)
+  only_memory inputs words input_memory word_memory (UnconsumedReducedOpenings n m) why shape claimed large holds = absurd (left_over-not n m why large)
+  only_memory inputs words input_memory word_memory (CommitPhaseMmcsError e) why shape claimed large holds = absurd (why.1 holds.rounds_authenticate)
+  only_memory inputs words input_memory word_memory Memory why shape claimed large holds = refl
+  only_memory inputs words input_memory word_memory _ why shape claimed large holds = absurd why

@@ -1,5 +1,5 @@
 -- Why a run is refused once its challenges are drawn.
-use Rattle.std.specs.Prelude.{◌≡◌, ℕ, ◌+◌, [], slice_get, Some}
+use Rattle.std.specs.Prelude.{◌≡◌, Bool, false, ℕ, ◌+◌, [], slice_get, Some}
 use Rattle.std.specs.List.{Any}
 use Rattle.circle_commit.specs.declared.error.FriError.{FriError}
 use Rattle.circle_commit.specs.declared.error.FriError.TheVariants.{InputError as OfInput, FinalPolyMismatch, UnconsumedReducedOpenings, CommitPhaseMmcsError, Memory}
@@ -26,16 +26,20 @@ module _ {F E Com InputCom InputProof WordProof : Type 0} (s : Setting F E)
     pub some : Any (λ m. m.log_n ≡ s.final + 1) (matrices s r)
 
   module _ {IE WE : Type 0} (inputs : Authenticates InputCom F InputProof)
-      (words : Authenticates Com E WordProof) where
-    -- there is reason for the refusal; that memory was refused no contract sees
+      (words : Authenticates Com E WordProof) (input_memory : IE → Bool)
+      (word_memory : WE → Bool) where
+    -- there is reason for the refusal, and no scheme's error of memory is handed on; that memory was refused no contract sees
     unfoldable pub IsReason : FriError WE (InputError IE WE) → Type 0
     IsReason (OfInput InputShapeError) = HasInputs s r → ⊥
     IsReason (OfInput (MatrixWithoutOpeningPoints batch matrix)) = IsUnclaimed batch matrix
-    IsReason (OfInput (InputMmcsError e)) = InputsAuthenticate s r inputs → ⊥
+    IsReason (OfInput (InputMmcsError e)) =
+        input_memory e ≡ false × (InputsAuthenticate s r inputs → ⊥)
     IsReason (OfInput OpeningPointMatchesQueryPoint) = AreApart s r → ⊥
-    IsReason (OfInput (FirstLayerMmcsError e)) = FirstLayerAuthenticates s r words → ⊥
+    IsReason (OfInput (FirstLayerMmcsError e)) =
+        word_memory e ≡ false × (FirstLayerAuthenticates s r words → ⊥)
     IsReason FinalPolyMismatch = ChainsEnd s r → ⊥
     IsReason (UnconsumedReducedOpenings next remaining) = IsLeftOver next remaining
-    IsReason (CommitPhaseMmcsError e) = RoundsAuthenticate s r words → ⊥
+    IsReason (CommitPhaseMmcsError e) =
+        word_memory e ≡ false × (RoundsAuthenticate s r words → ⊥)
     IsReason Memory = Unit {0}
     IsReason _ = ⊥

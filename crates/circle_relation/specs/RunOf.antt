@@ -1,5 +1,5 @@
 -- A run as contracts see it: what the records of a proof and of a run are to the relation.
-use Rattle.std.specs.Prelude.{◌≡◌, ℕ, ◌+◌, ◌<◌, ◌≤◌, ◌^◌, List, length, map, All}
+use Rattle.std.specs.Prelude.{◌≡◌, Bool, ℕ, ◌+◌, ◌<◌, ◌≤◌, ◌^◌, List, length, map, All}
 use Rattle.circle_field.specs.Circle.{Coordinates}
 use Rattle.circle_commit.specs.Mmcs.{opened_rows}
 use Rattle.circle_commit.specs.declared.error.FriError.{FriError}
@@ -166,9 +166,10 @@ module _ {F E I W IC ID IP IE WC WD WP WE : Type 0} where
           HoldsWith (setting_in k o) (run_of o) (inputs o.mmcs.now) (words o.params.now.mmcs)
 
       -- the run is refused for this reason
-      abbrev pub Refuses : FriError WE (InputError IE WE) → Type 0
-      Refuses e =
-          IsReason (setting_in k o) (run_of o) (inputs o.mmcs.now) (words o.params.now.mmcs) e
+      abbrev pub Refuses : (IE → Bool) → (WE → Bool) → FriError WE (InputError IE WE) → Type 0
+      Refuses input_memory word_memory e =
+          IsReason (setting_in k o) (run_of o) (inputs o.mmcs.now) (words o.params.now.mmcs)
+          input_memory word_memory e
 
 -- what contracts see of the queries of a word, and of those that join the rounds
 abbrev pub queried : {F E : Type 0} {g : _} → QueriedWord F E g →

@@ -9,6 +9,7 @@ use std::process::Abort;
 use std::test::Fail;
 
 mod damage;
+mod order;
 mod shape;
 mod stored;
 mod values;
@@ -235,5 +236,8 @@ fn output_that_fails(rt: HostRuntime) -> Result<(), Fail> {
     expect_written_whole(&rt, alloc, ("values", ""), (22, 2))?;
     expect_written_whole(&rt, alloc, ("values", no_rows), (24, 1))?;
     expect_written_whole(&rt, alloc, ("verify", stored::SEVENS), (18, 0))?;
+    expect_written_whole(&rt, alloc, ("verify", "{}"), (28, 2))?;
+    let length = shape::FIRST_SHAPE.len().saturating_add(1);
+    expect_written_whole(&rt, alloc, ("shape", shape::FIRST), (length, 0))?;
     Ok(())
 }

@@ -138,12 +138,12 @@ module _ {C S F E I W IC ID IP IE WC WD WP WE : Type 0} {g : Ghosts F} (k : Fiel
       missed-memory old left e (inr miss) a = absurd (not_both (draw_from k m p claims proof old) _ _ a.draws miss.missed)
 
       -- nor is what there is reason to refuse
-      pub reason-memory : ((a b : E) → m.base.coefficients a ≡ m.base.coefficients b → a ≡ b) → (old new left : C) (c : Challenges E) (e : FriError WE (InputError IE WE)) →
-          IsDrawnFrom k m p claims proof old c new → IsReason (setting_of k p) (run_with claims proof c) (inputs mmcs) (words p.mmcs) e →
+      pub reason-memory : ((a b : E) → m.base.coefficients a ≡ m.base.coefficients b → a ≡ b) → (input_memory : IE → Bool) (word_memory : WE → Bool) (old new left : C) (c : Challenges E) (e : FriError WE (InputError IE WE)) →
+          IsDrawnFrom k m p claims proof old c new → IsReason (setting_of k p) (run_with claims proof c) (inputs mmcs) (words p.mmcs) input_memory word_memory e →
           AcceptsFrom k m inputs words mmcs p claims proof two old left → e ≡ Memory
-      reason-memory told old new left c e is why a =
+      reason-memory told input_memory word_memory old new left c e is why a =
           let both : Ok (drawn_by m.base.coefficients c (m.base.state new)) ≡ Ok (drawn_by m.base.coefficients a.drawn (m.base.state left)) = sym is ∙ a.draws in
           let drawn : drawn_by m.base.coefficients c (m.base.state new) ≡ drawn_by m.base.coefficients a.drawn (m.base.state left) = cc in
           let one = challenges-told m.base.coefficients told c a.drawn (m.base.state new) (m.base.state left) drawn in
           let accepts = subst (λ d. Accepts (setting_of k p) (run_with claims proof d) p two (inputs mmcs) (words p.mmcs)) (sym one) a.accepts in
-          only_memory (setting_of k p) (run_with claims proof c) (inputs mmcs) (words p.mmcs) e why accepts.inputs_shape accepts.fit.claimed accepts.fit.large accepts.holds
+          only_memory (setting_of k p) (run_with claims proof c) (inputs mmcs) (words p.mmcs) input_memory word_memory e why accepts.inputs_shape accepts.fit.claimed accepts.fit.large accepts.holds

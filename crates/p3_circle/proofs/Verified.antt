@@ -195,5 +195,6 @@ module _ {F E I W IC ID IP IE WC WD WP WE : Type 0} {g : Ghosts F} (k : Fields F
     pub holds-of : Holds k o inputs words → HoldsWith (setting_of k p) r (inputs mmcs) (words p.mmcs)
     holds-of h = moved (λ x q y. HoldsWith (setting_of k q) y (inputs x) (words q.mmcs)) h
 
-    pub reason-of : (e : FriError WE (InputError IE WE)) → Refuses k o inputs words e → IsReason (setting_of k p) r (inputs mmcs) (words p.mmcs) e
-    reason-of e h = moved (λ x q y. IsReason (setting_of k q) y (inputs x) (words q.mmcs) e) h
+    pub reason-of : (input_memory : IE → Bool) (word_memory : WE → Bool) (e : FriError WE (InputError IE WE)) → Refuses k o inputs words input_memory word_memory e →
+        IsReason (setting_of k p) r (inputs mmcs) (words p.mmcs) input_memory word_memory e
+    reason-of input_memory word_memory e h = moved (λ x q y. IsReason (setting_of k q) y (inputs x) (words q.mmcs) input_memory word_memory e) h

@@ -122,14 +122,17 @@ module _ {C S F E I W IC ID IP IE WC WD WP WE : Type 0} {g : _} (k : Fields F E)
         (inputs mmcs) (words p.mmcs)
 
   -- everything is drawn, and there is reason for the refusal then
-  pub record IsRefusedAfter (old new : C) (e : FriError WE (InputError IE WE)) : Type 0 where
+  pub record IsRefusedAfter (input_memory : IE → Bool) (word_memory : WE → Bool) (old new : C)
+      (e : FriError WE (InputError IE WE)) : Type 0 where
     pub drawn : Challenges E
     pub draws : IsDrawnFrom k r p claims proof old drawn new
     pub reason :
-        IsReason (setting_of k p) (run_with claims proof drawn) (inputs mmcs) (words p.mmcs) e
+        IsReason (setting_of k p) (run_with claims proof drawn) (inputs mmcs) (words p.mmcs)
+        input_memory word_memory e
 
   -- why a run that was seeded is refused; that memory was refused no contract sees
-  abbrev pub IsRefused : C → C → FriError WE (InputError IE WE) → Type 0
-  IsRefused old new e =
-      (e ≡ Memory)
-      ⊎ (IsMissedIn (draw_from k r p claims proof old) e ⊎ IsRefusedAfter old new e)
+  abbrev pub IsRefused : (IE → Bool) → (WE → Bool) → C → C → FriError WE (InputError IE WE)
+      → Type 0
+  IsRefused input_memory word_memory old new e =
+      (e ≡ Memory) ⊎ (IsMissedIn (draw_from k r p claims proof old) e
+      ⊎ IsRefusedAfter input_memory word_memory old new e)

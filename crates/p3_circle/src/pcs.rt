@@ -86,8 +86,8 @@ impl<Val: ComplexExtendable, InputMmcs: Mmcs<Val>, FriMmcs> CirclePcs<Val, Input
             IfSeeded Val.eq Val.ZERO EF.eq EF.ops Val.CIRCLE_TWO_ADICITY self.now.fri_params
             (batch_claims claims.items) (proof_of proof.now) result (IsRefused
             ⟦<EF as OverCircle<Val>>⟧.fields m InputMmcs.authenticates FriMmcs.authenticates
-            self.now.mmcs self.now.fri_params claims.items proof.now challenger.old
-            challenger.new) }
+            self.now.mmcs self.now.fri_params claims.items proof.now InputMmcs.is_memory
+            FriMmcs.is_memory challenger.old challenger.new) }
     {
         verify_claims(
             alloc,

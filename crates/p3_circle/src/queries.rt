@@ -38,7 +38,7 @@ pub fn verify_queries<
     ensures holds { OnOk result (Holds ⟦<EF as OverCircle<Val>>⟧.fields run.now
         InputMmcs.authenticates FriMmcs.authenticates) }
     ensures refused { IfErr result (Refuses ⟦<EF as OverCircle<Val>>⟧.fields run.now
-        InputMmcs.authenticates FriMmcs.authenticates) }
+        InputMmcs.authenticates FriMmcs.authenticates InputMmcs.is_memory FriMmcs.is_memory) }
 {
     let heights = claimed_heights(alloc, run)?;
     validate_input_shape(run, &heights)?;
@@ -121,7 +121,8 @@ pub(crate) fn verify_drawn<
         (FriMmcs.authenticates params.now.mmcs)) }
     ensures refused { let s = setting_of ⟦<EF as OverCircle<Val>>⟧.fields params.now in
         let r = run_with claims.now proof.now (challenges_of draws.now) in IfErr result (IsReason s
-        r (InputMmcs.authenticates mmcs.now) (FriMmcs.authenticates params.now.mmcs)) }
+        r (InputMmcs.authenticates mmcs.now) (FriMmcs.authenticates params.now.mmcs)
+        InputMmcs.is_memory FriMmcs.is_memory) }
 {
     let run = opened_run(mmcs, params, claims, proof, log_max_height, draws);
     verify_queries(alloc, &run)

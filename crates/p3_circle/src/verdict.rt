@@ -48,7 +48,8 @@ where
         IfSeeded Val.eq Val.ZERO EF.eq EF.ops Val.CIRCLE_TWO_ADICITY params.now
         (batch_claims claims.now) (proof_of proof.now) result (IsRefused
         ⟦<EF as OverCircle<Val>>⟧.fields m InputMmcs.authenticates FriMmcs.authenticates
-        mmcs.now params.now claims.now proof.now challenger.old challenger.new) }
+        mmcs.now params.now claims.now proof.now InputMmcs.is_memory FriMmcs.is_memory
+        challenger.old challenger.new) }
 {
     let log_max_height = validate_run::<Val, EF, InputMmcs, FriMmcs>(params, claims, proof)?;
     let draws = replay_transcript::<Val, EF, InputMmcs, FriMmcs, C>(

@@ -1,8 +1,10 @@
 //! Damage to stored proofs and their claims, piece by piece.
 //!
 //! The texts are compact JSON in which strings are keys and digests, without brackets or commas.
-use super::{arguments, stored};
+use super::order::{claims_sevens, first_reason};
+use super::{arguments, expect_unreadable, shape, stored};
 use crate::run::run;
+use crate::verify::Input;
 use serde_json::Value;
 use std::alloc::{AllocError, Global};
 use std::process::Abort;
@@ -162,29 +164,55 @@ fn with_other_digest(alloc: Global, text: &[u8], piece: Piece) -> Result<Vec<u8>
     )
 }
 
-// Runs `verify` on a changed text, which is refused unless it is the same JSON value: members in
-// another order or twice, or equal items swapped.
-fn expect_refused(
-    rt: &impl Abort,
-    alloc: Global,
-    honest: &str,
-    changed: &[u8],
-) -> Result<(), Fail> {
-    let args = arguments(alloc, &["verify"])?;
-    let mut output = Vec::new(alloc);
-    let mut input = changed;
-    if run(alloc, &args, &mut input, &mut output) == 0 {
-        let value = Value::from_slice(alloc, changed)?.to_string(alloc)?;
-        assert_eq!(rt; value.as_str(), honest);
-    }
-    Ok(())
-}
-
 // The part of a text that is damaged.
 #[derive(Clone, Copy, PartialEq, Eq)]
 enum Part {
     Statement,
     Proof,
+}
+
+// Runs `verify` on a changed text, and gives the status: 2 where the text is no input, and else
+// that of the first refusal before the seeding, if there is reason for one.
+fn expect_first(rt: &impl Abort, alloc: Global, changed: &[u8]) -> Result<u8, Fail> {
+    let args = arguments(alloc, &["verify"])?;
+    let mut line = Vec::new(alloc);
+    let mut input = changed;
+    let status = run(alloc, &args, &mut input, &mut line);
+    let Some(input) = read(alloc, changed) else {
+        assert_eq!(rt; status, 2);
+        return Ok(status);
+    };
+    if let Some(reason) = first_reason(alloc, &input)? {
+        let want = format!(in alloc; "{{\"refused\":\"{reason}\"}}\n")?;
+        assert_eq!(rt; line.as_slice(), want.as_bytes());
+    }
+    Ok(status)
+}
+
+// The input that a text is.
+fn read(alloc: Global, text: &[u8]) -> Option<Input> {
+    let value = Value::from_slice(alloc, text).ok()?;
+    Input::from_json(alloc, &value).ok()
+}
+
+// Expects of a changed text the first refusal before the seeding, if there is reason for one, and
+// that it is accepted at most where it is the same JSON value (members in another order or twice, or
+// equal items swapped) or states another true claim of a column of sevens.
+fn expect_refused(
+    rt: &impl Abort,
+    alloc: Global,
+    (honest, part): (&str, Part),
+    changed: &[u8],
+) -> Result<(), Fail> {
+    if expect_first(rt, alloc, changed)? != 0 {
+        return Ok(());
+    }
+    let is_true = read(alloc, changed).is_some_and(|input| claims_sevens(&input));
+    if part == Part::Proof || !is_true {
+        let value = Value::from_slice(alloc, changed)?.to_string(alloc)?;
+        assert_eq!(rt; value.as_str(), honest);
+    }
+    Ok(())
 }
 
 // The pieces that lie in this part.
@@ -206,12 +234,12 @@ fn expect_pieces(rt: &impl Abort, alloc: Global, honest: &str, part: Part) -> Re
     let text = honest.as_bytes();
     let pieces = in_part(alloc, honest, pieces(alloc, text)?, part)?;
     for piece in &pieces {
-        expect_refused(rt, alloc, honest, &without(alloc, text, *piece)?)?;
-        expect_refused(rt, alloc, honest, &with_twice(alloc, text, *piece)?)?;
+        expect_refused(rt, alloc, (honest, part), &without(alloc, text, *piece)?)?;
+        expect_refused(rt, alloc, (honest, part), &with_twice(alloc, text, *piece)?)?;
         expect_refused(
             rt,
             alloc,
-            honest,
+            (honest, part),
             &with_swapped(alloc, text, &pieces, *piece)?,
         )?;
     }
@@ -222,23 +250,40 @@ fn expect_pieces(rt: &impl Abort, alloc: Global, honest: &str, part: Part) -> Re
 fn expect_texts(rt: &impl Abort, alloc: Global, honest: &str, part: Part) -> Result<(), Fail> {
     let text = honest.as_bytes();
     for piece in &in_part(alloc, honest, values(alloc, text, false)?, part)? {
-        expect_refused(rt, alloc, honest, &with_raised(alloc, text, *piece)?)?;
+        expect_refused(
+            rt,
+            alloc,
+            (honest, part),
+            &with_raised(alloc, text, *piece)?,
+        )?;
     }
     for piece in &in_part(alloc, honest, values(alloc, text, true)?, part)? {
-        expect_refused(rt, alloc, honest, &with_other_digest(alloc, text, *piece)?)?;
+        expect_refused(
+            rt,
+            alloc,
+            (honest, part),
+            &with_other_digest(alloc, text, *piece)?,
+        )?;
     }
     for piece in &in_part(alloc, honest, ends_of_keys(alloc, text)?, part)? {
-        expect_refused(rt, alloc, honest, &spliced(alloc, text, *piece, b"_")?)?;
+        expect_refused(
+            rt,
+            alloc,
+            (honest, part),
+            &spliced(alloc, text, *piece, b"_")?,
+        )?;
     }
     Ok(())
 }
 
-// Claims of sevens stay true at other points and parameters, so that only their proofs are damaged.
+// A claim of a column of sevens stays true at other points.
 #[test]
-fn damaged_proofs(rt: HostRuntime) -> Result<(), Fail> {
+fn damaged_sevens(rt: HostRuntime) -> Result<(), Fail> {
     for honest in [stored::SEVENS, stored::EIGHT_SEVENS_TWO_COEFFICIENTS] {
-        expect_pieces(&rt, rt.alloc(), honest, Part::Proof)?;
-        expect_texts(&rt, rt.alloc(), honest, Part::Proof)?;
+        for part in [Part::Statement, Part::Proof] {
+            expect_pieces(&rt, rt.alloc(), honest, part)?;
+            expect_texts(&rt, rt.alloc(), honest, part)?;
+        }
     }
     Ok(())
 }
@@ -275,4 +320,35 @@ fn damaged_batches_of_four_coefficients(rt: HostRuntime) -> Result<(), Fail> {
         expect_texts(&rt, rt.alloc(), honest, part)?;
     }
     Ok(())
+}
+
+// Whether a piece is a member of an object.
+fn is_member(piece: &[u8]) -> bool {
+    piece.first() == Some(&b'"') && piece.contains(&b':')
+}
+
+// Each member of each object left out, and another put before it.
+fn expect_keys(rt: &impl Abort, alloc: Global, command: &str, honest: &str) -> Result<(), Fail> {
+    let text = honest.as_bytes();
+    for piece in &pieces(alloc, text)? {
+        if is_member(bytes_of(text, *piece)?) {
+            let changed = without(alloc, text, *piece)?;
+            let lacking = std::str::from_utf8(&changed).unwrap_or("");
+            expect_unreadable(rt, alloc, command, lacking, "MissingKey")?;
+            let before = Piece {
+                from: piece.from,
+                to: piece.from,
+            };
+            let changed = spliced(alloc, text, before, b"\"extra\":0,")?;
+            let further = std::str::from_utf8(&changed).unwrap_or("");
+            expect_unreadable(rt, alloc, command, further, "UnknownKey")?;
+        }
+    }
+    Ok(())
+}
+
+#[test]
+fn keys_at_every_level(rt: HostRuntime) -> Result<(), Fail> {
+    expect_keys(&rt, rt.alloc(), "verify", stored::SEVENS)?;
+    expect_keys(&rt, rt.alloc(), "shape", shape::FIRST)
 }

@@ -173,7 +173,9 @@ fn nesting(rt: HostRuntime) -> Result<(), Fail> {
         for _ in 0..depth {
             text.push(']')?;
         }
-        expect_all_unreadable(&rt, alloc, reason, &[text.as_str()])?;
+        for command in ["values", "verify", "shape"] {
+            expect_unreadable(&rt, alloc, command, &text, reason)?;
+        }
     }
     Ok(())
 }

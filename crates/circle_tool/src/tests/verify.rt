@@ -70,6 +70,19 @@ fn final_polynomials(rt: HostRuntime) -> Result<(), Fail> {
     Ok(())
 }
 
+// Folding that stops a round earlier asks for one commitment less.
+#[test]
+fn other_length_of_the_final_polynomial(rt: HostRuntime) -> Result<(), Fail> {
+    let alloc = rt.alloc();
+    let (old, new) = (
+        "\"max_log_arity\"",
+        "\"log_final_poly_len\":1,\"max_log_arity\"",
+    );
+    let text = replaced(alloc, stored::TWO_HEIGHTS, old, new)?;
+    expect_refusals(&rt, alloc, "verify", &[(&text, "CommitRoundCountMismatch")])?;
+    Ok(())
+}
+
 // Runs `verify` on the stored text in which the first `old` is `new`, which is refused.
 fn expect_changed(
     rt: &impl Abort,

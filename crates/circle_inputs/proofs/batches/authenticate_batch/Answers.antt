@@ -1,4 +1,4 @@
-use Rattle.std.proofs.Common.{◌≡◌, ◌∙◌, map, sym, ap, subst, arith}
+use Rattle.std.proofs.Common.{◌≡◌, ◌∙◌, map, refl, sym, ap, subst, arith}
 use Rattle.circle_commit.specs.Mmcs.{opened_rows}
 use Rattle.circle_relation.specs.Accepts.{Fields, InputAuthenticates}
 use Rattle.circle_relation.specs.RunOf.{setting_in, run_of, opened_batch}
@@ -37,8 +37,8 @@ returns-clause-refused g c =
     let A = g.InputMmcs.Mmcs.authenticates run.mmcs.now in
     let blowup = run.params.now.log_blowup in
     let Shown : Type 0 = InputAuthenticates (setting_in k run) (run_of run) A (batch_claim batch, opened_batch c.args.opening.now) in
-    subst (RefusesRows Shown) (sym c.refusal.ensures)
-    (refusal-refuses _ Shown _ _ (λ shown. c.in-Err.ensures.refused (moved A batch.commitment c.args.opening.now.opening_proof _ _ _ _ _ _
+    subst (RefusesRows g.InputMmcs.Mmcs.is_memory Shown) (sym c.refusal.ensures)
+    (refusal-refuses _ g.InputMmcs.Mmcs.is_memory Shown _ _ refl (λ shown. c.in-Err.ensures.refused (moved A batch.commitment c.args.opening.now.opening_proof _ _ _ _ _ _
     (sym (c.deref-3.ensures.value ∙ c.in_ok-shapes.ensures ∙ ap (λ ms. map (claimed_shape blowup) (matrix_claims ms)) c.deref.ensures.value))
     (sym (c.deref-4.ensures.value ∙ c.in_ok-places.ensures ∙ same-bits run.indices.now _ _ _ _ c.requires.drawn.top (c.log_max_height-height.ensures ∙ ap (λ ms. log_max_height blowup (matrix_claims ms)) c.deref-2.ensures.value)))
     (sym (ap opened_rows c.deref-5.ensures.value)) shown)))

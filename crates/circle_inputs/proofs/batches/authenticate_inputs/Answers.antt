@@ -43,8 +43,8 @@ returns-in_err-authenticate_batch-clause-refused g c =
     let turn = zip_turn claims opened c.loop-batch.yielded _ _ c.next.new.self _ (cc) (cc) c.loop-batch.yielded_by _ c.in-Some.is c.next.ensures.steps in
     let b = c.in-Some.batch.now in
     let o = c.in-Some.opening.now in
-    handed-on (Refuses k run g.InputMmcs.Mmcs.authenticates g.FriMmcs.Mmcs.authenticates) c.from_residual.result c.in_err-authenticate_batch.field-0.0 c.from_residual.ensures.1
-    (rows-reason s r A (g.FriMmcs.Mmcs.authenticates run.params.now.mmcs) (InputAuthenticates s r A (batch_claim b, opened_batch o)) c.in_err-authenticate_batch.field-0.0
+    handed-on (Refuses k run g.InputMmcs.Mmcs.authenticates g.FriMmcs.Mmcs.authenticates g.InputMmcs.Mmcs.is_memory g.FriMmcs.Mmcs.is_memory) c.from_residual.result c.in_err-authenticate_batch.field-0.0 c.from_residual.ensures.1
+    (rows-reason s r A (g.FriMmcs.Mmcs.authenticates run.params.now.mmcs) g.InputMmcs.Mmcs.is_memory g.FriMmcs.Mmcs.is_memory (InputAuthenticates s r A (batch_claim b, opened_batch o)) c.in_err-authenticate_batch.field-0.0
     (pair-of-all batch_claim opened_batch claims opened (InputAuthenticates s r A) (length c.loop-batch.yielded) b o turn.0 turn.1 (turn.2 b) (turn.3 o))
     c.in_err-authenticate_batch.ensures.refused)
 

@@ -27,7 +27,7 @@ returns-in_err-points-clause-refused g c =
     let s = setting_in k c.args.run.now in
     let r = run_of c.args.run.now in
     let h = c.args.log_height in
-    handed_on c.from_residual.result Memory (Refuses k c.args.run.now g.InputMmcs.Mmcs.authenticates g.FriMmcs.Mmcs.authenticates) c.from_residual.ensures.1 tt
+    handed_on c.from_residual.result Memory (Refuses k c.args.run.now g.InputMmcs.Mmcs.authenticates g.FriMmcs.Mmcs.authenticates g.InputMmcs.Mmcs.is_memory g.FriMmcs.Mmcs.is_memory) c.from_residual.ensures.1 tt
 
 pub returns-in_err-values-clause-refused : goal.returns-in_err-values-clause-refused
 unfolding IsReason
@@ -36,7 +36,7 @@ returns-in_err-values-clause-refused g c =
     let s = setting_in k c.args.run.now in
     let r = run_of c.args.run.now in
     let h = c.args.log_height in
-    handed_on c.from_residual-in_err-values.result Memory (Refuses k c.args.run.now g.InputMmcs.Mmcs.authenticates g.FriMmcs.Mmcs.authenticates) c.from_residual-in_err-values.ensures.1 tt
+    handed_on c.from_residual-in_err-values.result Memory (Refuses k c.args.run.now g.InputMmcs.Mmcs.authenticates g.FriMmcs.Mmcs.authenticates g.InputMmcs.Mmcs.is_memory g.FriMmcs.Mmcs.is_memory) c.from_residual-in_err-values.ensures.1 tt
 
 pub add_batches-requires-clause-points : goal.add_batches-requires-clause-points
 add_batches-requires-clause-points g c =

@@ -14,14 +14,14 @@ unfolding IsReason
 returns-in_err-powers-clause-refused g c =
     let k : Fields g.row.Val.Denot g.row.EF.Denot = record { field = g.Val.Operations.ops; gen = g.Val.ComplexExtendable.generators; extension = g.EF.Operations.ops; embed = g.EF.ExtensionField.embed } in
     let run = c.args.run.now in
-    handed_on c.from_residual.result Memory (Refuses k run g.InputMmcs.Mmcs.authenticates g.FriMmcs.Mmcs.authenticates) c.from_residual.ensures.1 tt
+    handed_on c.from_residual.result Memory (Refuses k run g.InputMmcs.Mmcs.authenticates g.FriMmcs.Mmcs.authenticates g.InputMmcs.Mmcs.is_memory g.FriMmcs.Mmcs.is_memory) c.from_residual.ensures.1 tt
 
 pub returns-in_err-words-clause-refused : goal.returns-in_err-words-clause-refused
 unfolding IsReason
 returns-in_err-words-clause-refused g c =
     let k : Fields g.row.Val.Denot g.row.EF.Denot = record { field = g.Val.Operations.ops; gen = g.Val.ComplexExtendable.generators; extension = g.EF.Operations.ops; embed = g.EF.ExtensionField.embed } in
     let run = c.args.run.now in
-    handed_on c.from_residual-in_err-words.result Memory (Refuses k run g.InputMmcs.Mmcs.authenticates g.FriMmcs.Mmcs.authenticates) c.from_residual-in_err-words.ensures.1 tt
+    handed_on c.from_residual-in_err-words.result Memory (Refuses k run g.InputMmcs.Mmcs.authenticates g.FriMmcs.Mmcs.authenticates g.InputMmcs.Mmcs.is_memory g.FriMmcs.Mmcs.is_memory) c.from_residual-in_err-words.ensures.1 tt
 
 pub reduced_word-requires-clause-positive : goal.reduced_word-requires-clause-positive
 reduced_word-requires-clause-positive g c =

@@ -21,8 +21,11 @@ returns-in-Err-clause-refused g c = tt
 
 pub returns-clause-refused : goal.returns-clause-refused
 unfolding IsReason
-returns-clause-refused g c = λ held.
-    let memory = c.in-Err-2.ensures.refused (layer-asked c.requires.drawn c.requires.opened (g.FriMmcs.Mmcs.authenticates c.args.run.now.params.now.mmcs) c.deref.result.now c.deref-2.result.now _
-    (c.deref.ensures.value ∙ c.in_ok-dimensions.ensures ∙ ap (map pair_shape) c.requires.heights)
-    (c.deref-2.ensures.value ∙ c.in_ok-places.ensures) c.requires.pairs held) in
-    absurd (cc (memory, c.is_memory.ensures, c.if-is_memory.false))
+returns-clause-refused g c = (
+  cc (c.is_memory.ensures, c.if-is_memory.false),
+  λ held.
+      let memory = c.in-Err-2.ensures.refused (layer-asked c.requires.drawn c.requires.opened (g.FriMmcs.Mmcs.authenticates c.args.run.now.params.now.mmcs) c.deref.result.now c.deref-2.result.now _
+      (c.deref.ensures.value ∙ c.in_ok-dimensions.ensures ∙ ap (map pair_shape) c.requires.heights)
+      (c.deref-2.ensures.value ∙ c.in_ok-places.ensures) c.requires.pairs held) in
+      absurd (cc (memory, c.is_memory.ensures, c.if-is_memory.false)),
+)

@@ -32,14 +32,17 @@ returns-in-Ok-clause-shown g c =
 
 pub returns-clause-refused : goal.returns-clause-refused
 unfolding IsReason
-returns-clause-refused g c = λ all.
-    let k = fields g in
-    let o = c.args.run.now in
-    let n = c.args.round in
-    let rows = c.in_ok-pairs.ensures ∙ asked-rows k o n c.args.values.now c.args.siblings.now c.requires.values c.requires.siblings in
-    let told = round-shown k _ o c.requires.drawn n c.requires.round c.index-commitment.result.now c.index.result.now c.index-commitment.ensures c.index.ensures
-    g.FriMmcs.Mmcs.authenticates _ c.deref.result.now (opened_rows c.deref-2.result.now)
-    (shifted-one (o.log_max_height - 2 - n) (omega (arith, c.requires.drawn.in_group, g.met.Val.ComplexExtendable.at_most_62))) (c.deref.ensures.value ∙ c.in_ok-places.ensures) (ap opened_rows c.deref-2.ensures.value ∙ rows)
-    all in
-    let memory : c.is_memory.result ≡ true = c.is_memory.ensures ∙ c.in-Err.ensures.refused told in
-    absurd (cc (memory, c.if-is_memory.false))
+returns-clause-refused g c = (
+  cc (c.is_memory.ensures, c.if-is_memory.false),
+  λ all.
+      let k = fields g in
+      let o = c.args.run.now in
+      let n = c.args.round in
+      let rows = c.in_ok-pairs.ensures ∙ asked-rows k o n c.args.values.now c.args.siblings.now c.requires.values c.requires.siblings in
+      let told = round-shown k _ o c.requires.drawn n c.requires.round c.index-commitment.result.now c.index.result.now c.index-commitment.ensures c.index.ensures
+      g.FriMmcs.Mmcs.authenticates _ c.deref.result.now (opened_rows c.deref-2.result.now)
+      (shifted-one (o.log_max_height - 2 - n) (omega (arith, c.requires.drawn.in_group, g.met.Val.ComplexExtendable.at_most_62))) (c.deref.ensures.value ∙ c.in_ok-places.ensures) (ap opened_rows c.deref-2.ensures.value ∙ rows)
+      all in
+      let memory : c.is_memory.result ≡ true = c.is_memory.ensures ∙ c.in-Err.ensures.refused told in
+      absurd (cc (memory, c.if-is_memory.false)),
+)

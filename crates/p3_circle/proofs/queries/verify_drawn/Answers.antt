@@ -39,5 +39,5 @@ returns-clause-refused g c =
     let r = run_with c.args.claims.now c.args.proof.now (challenges_of c.args.draws.now) in
     let made = c.opened_run-run.ensures in
     if_err _ _ c.verify_queries.result
-    (reason-of k two c.opened_run-run.result p r made.params made.run c.args.mmcs.now made.mmcs g.InputMmcs.Mmcs.authenticates g.FriMmcs.Mmcs.authenticates)
+    (reason-of k two c.opened_run-run.result p r made.params made.run c.args.mmcs.now made.mmcs g.InputMmcs.Mmcs.authenticates g.FriMmcs.Mmcs.authenticates g.InputMmcs.Mmcs.is_memory g.FriMmcs.Mmcs.is_memory)
     c.verify_queries.ensures.refused

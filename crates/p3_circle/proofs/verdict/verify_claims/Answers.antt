@@ -88,7 +88,7 @@ returns-clause-accepted g c =
 pub returns-clause-complete : goal.returns-clause-complete
 returns-clause-complete g c =
     if_err _ _ c.verify_drawn.result
-    (λ e why left a. reason-memory (fields g) g.Val.ComplexExtendable.CIRCLE_TWO_ADICITY (run g) c.args.params.now c.args.claims.now c.args.proof.now g.Val.PartialEq.eq g.Val.Field.ZERO g.EF.PartialEq.eq g.met.Val.Field.eq_law g.met.Val.Field.zero_law g.met.EF.Field.eq_law g.InputMmcs.Mmcs.authenticates g.FriMmcs.Mmcs.authenticates c.args.mmcs.now g.met.EF.ExtensionField.are_coefficients.determined
+    (λ e why left a. reason-memory (fields g) g.Val.ComplexExtendable.CIRCLE_TWO_ADICITY (run g) c.args.params.now c.args.claims.now c.args.proof.now g.Val.PartialEq.eq g.Val.Field.ZERO g.EF.PartialEq.eq g.met.Val.Field.eq_law g.met.Val.Field.zero_law g.met.EF.Field.eq_law g.InputMmcs.Mmcs.authenticates g.FriMmcs.Mmcs.authenticates c.args.mmcs.now g.met.EF.ExtensionField.are_coefficients.determined g.InputMmcs.Mmcs.is_memory g.FriMmcs.Mmcs.is_memory
     _ _ left (challenges_of c.in_ok-draws.draws) e c.in_ok-draws.ensures.drawn why a)
     c.verify_drawn.ensures.refused
 
