@@ -28,7 +28,8 @@ module _ {F E Com InputCom InputProof WordProof : Type 0} (s : Setting F E)
   module _ {IE WE : Type 0} (inputs : Authenticates InputCom F InputProof)
       (words : Authenticates Com E WordProof) (input_memory : IE → Bool)
       (word_memory : WE → Bool) where
-    -- there is reason for the refusal, and no scheme's error of memory is handed on; that memory was refused no contract sees
+    -- there is reason for the refusal, and no scheme's error of memory is handed on; that memory
+    -- was refused no contract sees
     unfoldable pub IsReason : FriError WE (InputError IE WE) → Type 0
     IsReason (OfInput InputShapeError) = HasInputs s r → ⊥
     IsReason (OfInput (MatrixWithoutOpeningPoints batch matrix)) = IsUnclaimed batch matrix

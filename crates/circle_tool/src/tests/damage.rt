@@ -196,8 +196,8 @@ fn read(alloc: Global, text: &[u8]) -> Option<Input> {
 }
 
 // Expects of a changed text the first refusal before the seeding, if there is reason for one, and
-// that it is accepted at most where it is the same JSON value (members in another order or twice, or
-// equal items swapped) or states another true claim of a column of sevens.
+// that it is accepted at most where it is the same JSON value (members in another order or twice,
+// or equal items swapped) or states another true claim of a column of sevens.
 fn expect_refused(
     rt: &impl Abort,
     alloc: Global,
