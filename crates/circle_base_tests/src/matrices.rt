@@ -8,6 +8,7 @@ use circle_commit::{
 use std::alloc::{AllocError, Global};
 use std::test::Fail;
 
+mod columns;
 mod openings;
 mod refusals;
 

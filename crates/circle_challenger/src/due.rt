@@ -17,18 +17,19 @@ impl Model for StepsDue {
 }
 
 impl StepsDue {
-    /// The steps of the separator.
-    pub(crate) fn of(_separator: &DomainSeparator) -> StepsDue
-        ensures { result.steps ≡ _separator.now.steps }
+    /// Any steps: each caller's `Invariants.antt` picks them, by what is known of `_by`.
+    fn picked<T>(_by: &T) -> StepsDue
+        ghost picked: { List Step }
+        ensures { result.steps ≡ picked }
     {
         StepsDue {}
     }
 
-    /// No steps.
-    fn emptied(&self) -> StepsDue
-        ensures { result.steps ≡ [] }
+    /// The steps of the separator.
+    pub(crate) fn of(_separator: &DomainSeparator) -> StepsDue
+        ensures { result.steps ≡ _separator.now.steps }
     {
-        StepsDue {}
+        StepsDue::picked(_separator)
     }
 
     /// The steps, of which none is left here: a list is resumed with once.
@@ -36,7 +37,7 @@ impl StepsDue {
         ensures steps { result.steps ≡ self.old.steps }
         ensures left { self.new.steps ≡ [] }
     {
-        let left = self.emptied();
+        let left = StepsDue::picked(self);
         std::mem::replace(self, left)
     }
 
@@ -44,6 +45,6 @@ impl StepsDue {
     pub(crate) fn after_first(&self) -> StepsDue
         ensures { result.steps ≡ drop 1 self.now.steps }
     {
-        StepsDue {}
+        StepsDue::picked(self)
     }
 }

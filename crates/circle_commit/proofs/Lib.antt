@@ -1,2 +1,4 @@
+pub mod Written
+pub mod ColumnSums
 pub mod Powers
 mod Parameters

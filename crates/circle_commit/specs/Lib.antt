@@ -1,3 +1,4 @@
+pub mod DotProduct
 pub mod Matrix
 pub mod RowFacts
 pub mod FlatRows

@@ -6,6 +6,8 @@
 //!
 //! - A matrix is its list of rows: `row`, `split_rows`, `new_col`, `copy_of`, the mapped view and
 //!   `to_row_major_matrix` say exactly which rows.
+//! - `columnwise_dot_product` answers each column's sum by weights of the rows, and
+//!   `columnwise_dot_products` the same for several lists of weights, the rows read once.
 //! - The trait `Mmcs` says what a scheme that commits to matrices promises, and `PolynomialSpace`
 //!   what a domain is asked and gives; `Pcs` and `FriFoldingStrategy` leave that to their
 //!   instances.
@@ -30,7 +32,7 @@ pub use circle_json::{JsonError, JsonForm};
 pub use error::FriError;
 pub use folding::FriFoldingStrategy;
 pub use matrix::{
-    Dimensions, Matrix, MatrixShape, RowIndexMap, RowIndexMappedView, RowMajorMatrix,
+    Dimensions, FieldMatrix, Matrix, MatrixShape, RowIndexMap, RowIndexMappedView, RowMajorMatrix,
 };
 pub use mmcs::{
     Mmcs, OpenedRows, are_below, heights_are_powers_of_two, is_power_of_two, log2_strict,
@@ -38,7 +40,7 @@ pub use mmcs::{
 pub use params::{FriParameters, PowPhase};
 pub use pcs::{
     BatchMultiOpening, CommitmentOpening, MatrixOpening, OpenedValues, OpenedValuesForMatrix,
-    OpenedValuesForPoint, OpenedValuesForRound, OpeningRequest, Pcs, PointOpening,
+    OpenedValuesForPoint, OpenedValuesForRound, OpeningRequest, PointOpening,
 };
 pub use periodic::{PeriodicEvaluator, PeriodicLdeTable};
 pub use space::{LagrangeSelectors, PolynomialSpace};

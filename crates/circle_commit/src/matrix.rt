@@ -1,8 +1,11 @@
 //! Matrices by rows, and views of them under another order of the rows.
-ghost use Rattle.std.specs.Prelude.{◌≡◌, ℕ, ◌+◌, ◌<◌, ◌≤◌, ◌%◌, ◌/◌, List, [], ◌∷◌, length, map, Some, IfOk, All, slice_get, take, drop, vec_len};
-ghost use Rattle.circle_commit.specs.Matrix.{rows_from, mapped_rows};
+ghost use Rattle.std.specs.Prelude.{◌≡◌, ℕ, ◌+◌, ◌<◌, ◌≤◌, ◌%◌, ◌/◌, List, [], ◌∷◌, length, map, Some, IfOk, All, slice_get, slice_index_or, take, drop, vec_len};
+ghost use Rattle.std.specs.List.{range_with_len};
+ghost use Rattle.circle_commit.specs.DotProduct.{dot, pairwise};
+ghost use Rattle.circle_commit.specs.Matrix.{column, mapped_rows, rows_from};
 
 use crate::view::RowMajorMatrixView;
+use circle_field::{ExtensionField, Field};
 use std::alloc::{AllocError, Global};
 
 /// The shape of a matrix as contracts see it.
@@ -39,6 +42,112 @@ pub trait Matrix<T>: MatrixShape {
     ghost height_law: { (m : Self) → length (rows m) ≡ Self.height m };
 
     ghost width_law: { (m : Self) → All (λ row. length row ≡ Self.width m) (rows m) };
+}
+
+/// What a matrix over a field gives besides. Every such matrix has it.
+pub trait FieldMatrix<F: Field>: Matrix<F> {
+    /// For each column the sum of its entries, each times the weight of its row.
+    ///
+    /// Asks a weight for each row. Fails where memory is refused.
+    fn columnwise_dot_product<EF: ExtensionField<F>>(
+        &self,
+        alloc: Global,
+        weights: &[EF],
+    ) -> Result<Vec<EF>, AllocError>
+        requires { length weights.now ≡ Self.height self.now }
+        ensures { IfOk result (λ sums. sums.items ≡ map (λ j. dot EF.ops weights.now
+            (map EF.embed (column F.ops.zero (Self.rows self.now) j)))
+            (range_with_len 0 (Self.width self.now))) }
+    {
+        let mut sums = zeros::<F, EF>(alloc, self.width())?;
+        for (i, weight) in weights.iter().enumerate() {
+            add_multiple(&mut sums, self.row(i), *weight);
+        }
+        Ok(sums)
+    }
+
+    /// What `columnwise_dot_product` answers for each of the lists of weights. The rows are gone
+    /// over once for all of them.
+    ///
+    /// Asks in each list a weight for each row. Fails where memory is refused.
+    fn columnwise_dot_products<EF: ExtensionField<F>>(
+        &self,
+        alloc: Global,
+        weights: &[&[EF]],
+    ) -> Result<Vec<Vec<EF>>, AllocError>
+        requires { All (λ ws. length ws.now ≡ Self.height self.now) weights.now }
+        ensures { IfOk result (λ all. map (λ sums. sums.items) all.items ≡ map (λ ws. map (λ j.
+            dot EF.ops ws.now (map EF.embed (column F.ops.zero (Self.rows self.now) j)))
+            (range_with_len 0 (Self.width self.now))) weights.now) }
+    {
+        let mut sums = zero_lists::<F, EF>(alloc, weights.len(), self.width())?;
+        for i in 0..self.height() {
+            add_row(&mut sums, self.row(i), weights, i);
+        }
+        Ok(sums)
+    }
+}
+
+impl<F: Field, M: Matrix<F>> FieldMatrix<F> for M {}
+
+// So many zeros.
+fn zeros<F: Field, EF: ExtensionField<F>>(
+    alloc: Global,
+    count: usize,
+) -> Result<Vec<EF>, AllocError>
+    ensures { IfOk result (λ made. made.items ≡ map (λ _. EF.ops.zero) (range_with_len 0 count)) }
+{
+    let mut zeros = Vec::with_capacity(alloc, count)?;
+    for _i in 0..count {
+        zeros.push(EF::ZERO)?;
+    }
+    Ok(zeros)
+}
+
+// So many lists of as many zeros each.
+fn zero_lists<F: Field, EF: ExtensionField<F>>(
+    alloc: Global,
+    lists: usize,
+    count: usize,
+) -> Result<Vec<Vec<EF>>, AllocError>
+    ensures { IfOk result (λ made. map (λ sums. sums.items) made.items
+        ≡ map (λ _. map (λ _. EF.ops.zero) (range_with_len 0 count)) (range_with_len 0 lists)) }
+{
+    let mut made = Vec::with_capacity(alloc, lists)?;
+    for _i in 0..lists {
+        made.push(zeros::<F, EF>(alloc, count)?)?;
+    }
+    Ok(made)
+}
+
+// Adds to each list of sums row `r`, times the weight of the list for it.
+fn add_row<F: Field, EF: ExtensionField<F>>(
+    sums: &mut [Vec<EF>],
+    row: &[F],
+    weights: &[&[EF]],
+    r: usize,
+)
+    requires lists { length sums.old ≡ length weights.now }
+    requires weighted { All (λ ws. r < length ws.now) weights.now }
+    requires widths { All (λ s. length s.items ≡ length row.now) sums.old }
+    ensures { map (λ s. s.items) sums.new ≡ pairwise (λ s ws. pairwise
+        (λ a x. EF.ops.add a (EF.ops.mul (EF.embed x) (slice_index_or ws.now r EF.ops.zero)))
+        s row.now) (map (λ s. s.items) sums.old) weights.now }
+{
+    for (p, &list) in weights.iter().enumerate() {
+        add_multiple(&mut sums[p], row, list[r]);
+    }
+}
+
+// Adds to each sum the entry of the row times the weight.
+fn add_multiple<F: Field, EF: ExtensionField<F>>(sums: &mut [EF], row: &[F], weight: EF)
+    requires { length sums.old ≡ length row.now }
+    ensures { sums.new
+        ≡ pairwise (λ a x. EF.ops.add a (EF.ops.mul (EF.embed x) weight)) sums.old row.now }
+{
+    for (i, entry) in row.iter().enumerate() {
+        sums[i] = sums[i] + weight.times_base(*entry);
+    }
 }
 
 /// The shape of a matrix.

@@ -12,7 +12,8 @@ use Rattle.circle_field.specs.Circle.{Coordinates, IsOnCircle, AreGenerators, or
 use Rattle.circle_field.proofs.Inverses.{nonzero_product}
 use Rattle.circle_point.specs.Basis.{value}
 use Rattle.circle_domain.specs.Layers.{factor, second_half}
-use Rattle.circle_domain.specs.Lagrange.{dot}
+use Rattle.circle_commit.specs.DotProduct.{dot}
+use Rattle.circle_commit.proofs.ColumnSums.{dot-append}
 use Rattle.circle_domain.proofs.HalfSums.{value-low, high-low}
 use Rattle.circle_domain.proofs.Blocks.{points, second_half-on_circle}
 use Rattle.circle_domain.proofs.Transform.{lower, upper, map-same, halves_of, split_values}
@@ -26,13 +27,6 @@ module _ {F : Type 0} (k : FieldOps F) where
   weight (suc m) q p = k.mul (weight m q p) (k.mul (k.add (factor k m p) (factor k m q)) (k.inv (k.add (factor k m p) (factor k m p))))
 
 module _ {F : Type 0} {k : FieldOps F} (laws : RingLaws k) where
-  pub dot-append : (xs us ys vs : List F) → length xs ≡ length ys → dot k (xs ++ us) (ys ++ vs) ≡ k.add (dot k xs ys) (dot k us vs)
-  dot-append [] us [] vs e = sym (laws.zero_add (dot k us vs))
-  dot-append [] us (y ∷ ys) vs e = absurd (omega (arith, e))
-  dot-append (x ∷ xs) us [] vs e = absurd (omega (arith, e))
-  dot-append (x ∷ xs) us (y ∷ ys) vs e =
-      ap (k.add (k.mul x y)) (dot-append xs us ys vs (omega (arith, e))) ∙ sym (laws.add_assoc (k.mul x y) (dot k xs ys) (dot k us vs))
-
   pub dot-scaled : {X : Type 0} (f h : X → F) (u : F) (xs : List X) → dot k (map (λ x. k.mul (f x) u) xs) (map h xs) ≡ k.mul (dot k (map f xs) (map h xs)) u
   dot-scaled f h u [] = ring laws (u ∷ []) (con 0) (prod (con 0) (var 0)) refl
   dot-scaled f h u (x ∷ xs) =

@@ -9,7 +9,8 @@ use Rattle.circle_field.specs.CircleGroup.{lifted-on_circle}
 use Rattle.circle_field.proofs.Inverses.{inverse_unique}
 use Rattle.circle_point.specs.Basis.{value, vanishing}
 use Rattle.circle_domain.specs.Clear.{IsClearOf}
-use Rattle.circle_domain.specs.Lagrange.{dot, shares}
+use Rattle.circle_commit.specs.DotProduct.{dot}
+use Rattle.circle_domain.specs.Lagrange.{shares}
 use Rattle.circle_domain.specs.Layers.{factor}
 use Rattle.circle_domain.specs.Order.{IsGenuine, coset, cfft_order, natural_order, natural_from, with_opposites}
 use Rattle.circle_domain.proofs.Apart.{differences-nonzero, lifted-apart}

@@ -2,7 +2,6 @@ pub mod Apart
 pub mod Blocks
 pub mod ClearOf
 pub mod Coefficients
-pub mod ColumnSums
 pub mod Columns
 pub mod CosetOrder
 pub mod Disjoint
@@ -35,10 +34,10 @@ pub mod ReversedBlocks
 pub mod SelectorRows
 pub mod StandardDomain
 pub mod Stored
+pub mod Told
 pub mod Transform
 pub mod Twiddles
 pub mod TwoPowers
 pub mod Undoing
 pub mod Walking
-pub mod Written
 pub mod ZeroRows

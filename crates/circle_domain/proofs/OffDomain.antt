@@ -8,7 +8,7 @@ use Rattle.circle_field.specs.Field.{FieldOps}
 use Rattle.circle_field.specs.Circle.{Coordinates}
 use Rattle.circle_commit.specs.Matrix.{column}
 use Rattle.circle_point.specs.Basis.{value}
-use Rattle.circle_domain.specs.Lagrange.{dot}
+use Rattle.circle_commit.specs.DotProduct.{dot}
 use Rattle.circle_domain.specs.Order.{cfft_order}
 use Rattle.circle_domain.specs.Values.{HasValues, lifted_values_at}
 use Rattle.circle_domain.proofs.Stored.{column-values}

@@ -32,14 +32,6 @@ pub map-map : {A B C : Type 0} (f : B → C) (h : A → B) (xs : List A) → map
 map-map f h [] = refl
 map-map f h (x ∷ xs) = ap (λ rest. f (h x) ∷ rest) (map-map f h xs)
 
--- one more entry of a list by index
-pub range-more : {X : Type 0} (f : ℕ → X) (a n : ℕ) → map f (range_with_len a (n + 1)) ≡ map f (range_with_len a n) ++ f (a + n) ∷ []
-range-more f a zero = let e : a ≡ a + 0 = omega arith in ap (λ m. f m ∷ []) e
-range-more f a (suc n) =
-    let e : suc n + 1 ≡ suc (n + 1) = omega arith in
-    let z : a + 1 + n ≡ a + suc n = omega arith in
-    ap (λ m. map f (range_with_len a m)) e ∙ ap (λ rest. f a ∷ rest) (range-more f (a + 1) n ∙ ap (λ m. map f (range_with_len (a + 1) n) ++ f m ∷ []) z)
-
 module _ {F : Type 0} {k : FieldOps F} (laws : RingLaws k) (gen : ℕ → Coordinates F) where
   -- a coset that is moved
   pub coset-moved : (m : ℕ) (s g : Coordinates F) → coset k gen m (plus k s g) ≡ map (λ p. plus k p g) (coset k gen m s)

@@ -3,15 +3,10 @@
 use Rattle.std.specs.Prelude.{◌≡◌, ℕ, ◌^◌, List, [], ◌∷◌, length, map}
 use Rattle.circle_field.specs.Field.{FieldOps, sub}
 use Rattle.circle_field.specs.Circle.{Coordinates}
+use Rattle.circle_commit.specs.DotProduct.{dot}
 use Rattle.circle_point.specs.Basis.{value}
 
 module _ {F : Type 0} (k : FieldOps F) where
-  -- the sum of the products of the entries at each place
-  abbrev pub dot : List F → List F → F
-  dot [] ys = k.zero
-  dot (x ∷ xs) [] = k.zero
-  dot (x ∷ xs) (y ∷ ys) = k.add (k.mul x y) (dot xs ys)
-
   -- for each point p its share (y_p + y_q) / (x_p - x_q), and its opposite's, which is
   -- (y_p - y_q) / (x_p - x_q)
   abbrev pub shares : Coordinates F → List (Coordinates F) → List F

@@ -5,12 +5,7 @@ use Rattle.std.proofs.Common.{zero, suc}
 use Rattle.circle_field.specs.Field.{FieldOps}
 use Rattle.circle_field.specs.Circle.{Coordinates, plus, opposite}
 use Rattle.circle_point.specs.Basis.{iterated_x}
-
--- f of the entries at each place
-abbrev pub pairwise : {A B C : Type 0} → (A → B → C) → List A → List B → List C
-pairwise f [] ys = []
-pairwise f (x ∷ xs) [] = []
-pairwise f (x ∷ xs) (y ∷ ys) = f x y ∷ pairwise f xs ys
+use Rattle.circle_commit.specs.DotProduct.{pairwise}
 
 -- the halves of each block of 2 * half entries, made anew of both halves and the block's factor
 abbrev pub layer : {F : Type 0} →

@@ -9,5 +9,6 @@ pub mod Periodic
 pub mod Rows
 pub mod Selectors
 pub mod Space
+pub mod Spans
 pub mod Splitting
 pub mod Values

@@ -19,11 +19,14 @@
 //! - `evaluate_polynomial_at` is the value at any point that the domain is clear of of the only
 //!   polynomial with these values, also over an extension (`value`, `only`), and
 //!   `evaluate_periodic_column_at` that of a column that repeats (`IsPeriodicValue`).
+//! - Multiples of points, values by the halves of the coefficients, and that values on a genuine
+//!   domain tell them, by calls that answer nothing (`laws`).
 #![tactic(auto)]
 
 pub mod domain;
 pub mod factors;
 pub mod lagrange;
+pub mod laws;
 pub mod ordering;
 mod row_selectors;
 mod splitting;

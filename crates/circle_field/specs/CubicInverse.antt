@@ -4,7 +4,7 @@ use Rattle.std.proofs.Common.{ap, inl, inr}
 use Rattle.circle_field.specs.Field.{FieldOps, FieldLaws}
 use Rattle.circle_field.specs.Ring.{Expr, var, con, unit, plus, times, minus}
 use Rattle.circle_field.specs.RingCombine.{given, combine}
-use Rattle.circle_field.specs.Carried.{other_factor, zero_square}
+use Rattle.circle_field.specs.Carried.{zero_square}
 use Rattle.circle_field.specs.CubicField.{Triple, multiple, constant, product, adjugate, norm, cubic}
 use Rattle.circle_field.specs.CubicLaws.{same_triple, expr, cubic_ring, w, x}
 

@@ -21,6 +21,8 @@
 //! - The bytes of an element are of a fixed number and determine it (`ElementBytes`).
 //! - The generators of `Mersenne31` lie on the circle, each is the double of the next, the first
 //!   is (1, 0) and the second (-1, 0) (`generators_law`).
+//! - Powers by sums of exponents, of squares and of what isn't 0, and sums of ones, by calls that
+//!   answer nothing (`laws`).
 #![tactic(auto)]
 
 pub mod batch_inverse;
@@ -28,6 +30,7 @@ pub mod bytes;
 pub mod cubic;
 pub mod extension;
 pub mod field;
+pub mod laws;
 pub mod mersenne31;
 
 pub use batch_inverse::batch_multiplicative_inverse;

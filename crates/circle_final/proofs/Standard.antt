@@ -15,7 +15,7 @@ use Rattle.circle_domain.proofs.Powers.{pow_within}
 use Rattle.circle_domain.proofs.StandardDomain.{standard-genuine}
 use Rattle.circle_domain.proofs.Twiddles.{map-map}
 use Rattle.circle_final.specs.Blocks.{multiples, block_factors}
-use Rattle.circle_final.specs.Spans.{HasXValues}
+use Rattle.circle_domain.specs.Spans.{HasXValues}
 use Rattle.circle_final.proofs.Factors.{point_factors, point_factors-nonzero, block_factors-coset}
 use Rattle.circle_final.proofs.Interpolated.{multiples-values}
 use Rattle.circle_final.proofs.Lengths.{length-multiples}

@@ -4,7 +4,7 @@ use Rattle.std.specs.Prelude.{ℕ, ◌-◌, ◌^◌, List, [], ◌∷◌, ◌++�
 use Rattle.std.proofs.Common.{zero, suc}
 use Rattle.circle_field.specs.Field.{FieldOps, sub}
 use Rattle.circle_point.specs.Basis.{iterated_x}
-use Rattle.circle_domain.specs.Layers.{pairwise}
+use Rattle.circle_commit.specs.DotProduct.{pairwise}
 
 module _ {F : Type 0} (k : FieldOps F) where
   -- the factor of the upper half of the coefficients at the first of 2^m points, from the points' x

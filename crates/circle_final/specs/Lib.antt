@@ -1,3 +1,2 @@
 pub mod Blocks
 pub mod Rows
-pub mod Spans

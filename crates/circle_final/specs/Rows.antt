@@ -5,7 +5,7 @@ use Rattle.circle_field.specs.Field.{FieldOps}
 use Rattle.circle_field.specs.Circle.{Coordinates, at, plus}
 use Rattle.circle_point.specs.Basis.{x_value}
 use Rattle.circle_domain.specs.Order.{coset}
-use Rattle.circle_final.specs.Spans.{HasValues, HasXValues}
+use Rattle.circle_domain.specs.Spans.{HasValues, HasXValues}
 
 abbrev p : ℕ
 p = 2147483647

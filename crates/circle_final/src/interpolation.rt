@@ -2,11 +2,11 @@
 ghost use Rattle.std.specs.Prelude.{◌≡◌, ℕ, ◌+◌, ◌≤◌, ◌^◌, ◌++◌, List, length, map, IfOk, IfSome, IfNone, OnOk, IsTrue, ◌↔◌, All};
 ghost use Rattle.circle_field.specs.Field.{sub};
 ghost use Rattle.circle_commit.specs.Matrix.{IsPowerOfTwo};
-ghost use Rattle.circle_domain.specs.Layers.{pairwise};
+ghost use Rattle.circle_commit.specs.DotProduct.{pairwise};
 ghost use Rattle.circle_domain.specs.Order.{coset};
 ghost use Rattle.circle_point.specs.Point.{coordinates};
 ghost use Rattle.circle_final.specs.Blocks.{block_factors, multiples};
-ghost use Rattle.circle_final.specs.Spans.{HasXValues, XSpan};
+ghost use Rattle.circle_domain.specs.Spans.{HasXValues, XSpan};
 
 use crate::evaluation::iterated_x;
 use circle_commit::log2_strict;

@@ -1,9 +1,13 @@
 pub mod BlockSums
 pub mod FirstLayer
+pub mod FoldedSpans
 pub mod Folds
 pub mod Opened
+pub mod Orthogonal
 pub mod Places
 pub mod Queries
+pub mod Remainders
+pub mod Sides
 pub mod Twiddles
 pub mod Vanished
 pub mod Vanishing

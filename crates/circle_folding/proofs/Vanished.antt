@@ -39,14 +39,14 @@ spread-map f n (x ∷ xs) = map-append f (replicate n x) (spread n xs) ∙ ap (�
     map-replicate (suc m) y = ap (λ ys. f y ∷ ys) (map-replicate m y)
 
 module _ {F : Type 0} {k : FieldOps F} (laws : RingLaws k) {gen : ℕ → Coordinates F} {bits : ℕ} (gens : AreGenerators k bits gen) where
-  length-points : (m : ℕ) (q : Coordinates F) → length (points k gen m q) ≡ 2 ^ m
+  pub length-points : (m : ℕ) (q : Coordinates F) → length (points k gen m q) ≡ 2 ^ m
   length-points zero q = refl
   length-points (suc m) q =
       let q' = second_half k gen m q in
       length-append (points k gen m q) (points k gen m q') ∙ omega (arith, length-points m q, length-points m q', pow-suc 2 m)
 
   -- the factor is one for each block
-  factors-spread : (a n : ℕ) (q : Coordinates F) → a + n ≤ suc bits → IsOnCircle k q →
+  pub factors-spread : (a n : ℕ) (q : Coordinates F) → a + n ≤ suc bits → IsOnCircle k q →
       map (factor k n) (points k gen (a + n) q) ≡ spread (2 ^ n) (map (factor k n) (block_starts k gen a n q))
   factors-spread zero n q fits c =
       let e : 0 + n ≡ n = omega arith in
@@ -64,7 +64,7 @@ module _ {F : Type 0} {k : FieldOps F} (laws : RingLaws k) {gen : ℕ → Coordi
       ∙ sym (spread-append (2 ^ n) (map f (block_starts k gen a n q)) (map f (block_starts k gen a n q')))
       ∙ ap (spread (2 ^ n)) (sym (map-append f (block_starts k gen a n q) (block_starts k gen a n q')))
 
-  starts-on_circle : (a m : ℕ) (q : Coordinates F) → a + m ≤ suc bits → IsOnCircle k q → AllByRecursion (IsOnCircle k) (block_starts k gen a m q)
+  pub starts-on_circle : (a m : ℕ) (q : Coordinates F) → a + m ≤ suc bits → IsOnCircle k q → AllByRecursion (IsOnCircle k) (block_starts k gen a m q)
   starts-on_circle zero m q fits c = (c, tt)
   starts-on_circle (suc a) m q fits c =
       let q' = second_half k gen (a + m) q in
@@ -72,7 +72,7 @@ module _ {F : Type 0} {k : FieldOps F} (laws : RingLaws k) {gen : ℕ → Coordi
       (starts-on_circle a m q' (omega (arith, fits)) (second_half-on_circle laws gens (a + m) q (omega (arith, fits)) c))
 
   -- the doubles of the first points of blocks are those of blocks of half as many points
-  starts-doubled : (a j : ℕ) (q : Coordinates F) → a + suc (suc j) ≤ suc bits →
+  pub starts-doubled : (a j : ℕ) (q : Coordinates F) → a + suc (suc j) ≤ suc bits →
       map (λ p. plus k p p) (block_starts k gen a (suc (suc j)) q) ≡ block_starts k gen a (suc j) (plus k q q)
   starts-doubled zero j q fits = refl
   starts-doubled (suc a) j q fits =

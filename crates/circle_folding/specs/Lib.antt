@@ -5,3 +5,4 @@ pub mod Lambda
 pub mod Queries
 pub mod Quotient
 pub mod Rows
+pub mod Spans

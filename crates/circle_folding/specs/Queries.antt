@@ -5,7 +5,7 @@ use Rattle.std.specs.List.{Any}
 use Rattle.circle_field.specs.Field.{FieldOps}
 use Rattle.circle_field.specs.Circle.{Coordinates, origin, lifted}
 use Rattle.circle_commit.specs.Mmcs.{opened_rows}
-use Rattle.circle_domain.specs.Layers.{pairwise}
+use Rattle.circle_commit.specs.DotProduct.{pairwise}
 use Rattle.circle_domain.specs.Order.{cfft_order}
 use Rattle.circle_folding.specs.Quotient.{claim_quotient}
 use Rattle.circle_folding.specs.declared.reduced.MatrixRows.{MatrixRows}

@@ -5,8 +5,7 @@ use Rattle.std.specs.List.{range_with_len}
 use Rattle.circle_field.specs.Field.{FieldOps, sub, nth_power}
 use Rattle.circle_field.specs.Circle.{Coordinates}
 use Rattle.circle_point.specs.Projective.{difference_from}
-use Rattle.circle_domain.specs.Lagrange.{dot}
-use Rattle.circle_domain.specs.Layers.{pairwise}
+use Rattle.circle_commit.specs.DotProduct.{dot, pairwise}
 
 module _ {F E : Type 0} (l : FieldOps E) (embed : F → E) where
   -- the real and the imaginary part of the vanishing function of z at x: 1 - d.x and -d.y, where d

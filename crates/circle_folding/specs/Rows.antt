@@ -3,7 +3,9 @@ use Rattle.std.specs.Prelude.{◌≡◌, ℕ, ◌+◌, ◌*◌, ◌-◌, ◌%◌
 use Rattle.std.proofs.Common.{zero, suc}
 use Rattle.circle_field.specs.Field.{FieldOps}
 use Rattle.circle_field.specs.Circle.{Coordinates, at, plus}
-use Rattle.circle_folding.specs.Fold.{folds, fold_x_twiddles}
+use Rattle.circle_folding.specs.Fold.{folds, fold_x_twiddles, y_folds}
+use Rattle.circle_folding.specs.Lambda.{lambda_of}
+use Rattle.circle_folding.specs.Spans.{Splits, IsOrthogonal, RowsSpan}
 use Rattle.circle_folding.specs.Chain.{first_layer_twiddle, round_twiddle, asked_pairs, next_value}
 
 abbrev ops : FieldOps ℕ
@@ -37,6 +39,28 @@ folded_row = refl
 folded_again_row : folds ops 7 (fold_x_twiddles ops gen 1)
     ((3 ∷ 7 ∷ []) ∷ (26 ∷ 28 ∷ []) ∷ []) ≡ 3 ∷ 5 ∷ []
 folded_again_row = refl
+
+-- 3 + 2 y at (4, 27), (4, 4), (27, 4) and (27, 27), plus 5 times x there
+split_row : Splits ops gen ops (λ a. a) 1 2 (15 ∷ 0 ∷ 22 ∷ 6 ∷ []) (26 ∷ 11 ∷ 11 ∷ 26 ∷ []) 5
+split_row = record {
+  span = (3 ∷ 2 ∷ [], record { count = refl; values = refl });
+  sum = refl;
+}
+
+lambda_row : lambda_of ops gen ops (λ a. a) 1 2 (15 ∷ 0 ∷ 22 ∷ 6 ∷ []) ≡ 5
+lambda_row = refl
+
+-- what is left is orthogonal to x
+orthogonal_row : IsOrthogonal ops gen ops (λ a. a) 1 2 (26 ∷ 11 ∷ 11 ∷ 26 ∷ [])
+orthogonal_row = refl
+
+-- by 7 it folds to 3 + 2 * 7 at both pairs
+span_row : RowsSpan ops gen ops (λ a. a) 1 1 ((26 ∷ 11 ∷ []) ∷ (11 ∷ 26 ∷ []) ∷ [])
+span_row = (3 ∷ 2 ∷ [], record { count = refl; values = refl })
+
+folded_span_row :
+    y_folds ops gen ops (λ a. a) 1 7 ((26 ∷ 11 ∷ []) ∷ (11 ∷ 26 ∷ []) ∷ []) ≡ 17 ∷ 17 ∷ []
+folded_span_row = refl
 
 -- queries 13, 2 and 7 of 16 ask for the pairs 6, 1 and 3 of the first word of 16 entries, and for
 -- 3, 0 and 1 of that of 8

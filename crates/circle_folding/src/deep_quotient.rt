@@ -5,12 +5,12 @@ ghost use Rattle.std.specs.Prelude.{length, map, IsNone, IfSome, IfOk, OnErr};
 ghost use Rattle.circle_field.specs.Field.{nth_power, sub};
 ghost use Rattle.circle_field.specs.Circle.{lifted};
 ghost use Rattle.circle_point.specs.Point.{coordinates};
-ghost use Rattle.circle_domain.specs.Lagrange.{dot};
-ghost use Rattle.circle_domain.specs.Layers.{pairwise};
+ghost use Rattle.circle_commit.specs.DotProduct.{dot, pairwise};
 ghost use Rattle.circle_folding.specs.Blocks.{spread, sum_of};
 ghost use Rattle.circle_folding.specs.Lambda.{lambda_of, remainder_of};
 ghost use Rattle.circle_folding.specs.Quotient.{differences, weighted_quotient, claim_quotient};
 ghost use Rattle.circle_folding.specs.Quotient.{ArePowers};
+ghost use Rattle.circle_folding.specs.Spans.{IsOnlySplit, IsOrthogonal, HasNoMultiple};
 
 use circle_commit::log2_strict;
 use circle_domain::{CircleDomain, first_points};
@@ -69,7 +69,9 @@ fn weighted_differences<F: ComplexExtendable, EF: ExtensionField<F>>(
 /// The multiple of the vanishing polynomial in a word over the standard domain of its length, in
 /// the order of the transform, which the word then loses (Circle STARKs, section 4.3, Lemma 6):
 /// with `2^L` entries and `n = L - log_blowup`, the sum of the entries times `v_n`, divided by
-/// `2^(L - 1)`.
+/// `2^(L - 1)`. Of the values of a polynomial with `2^n` coefficients plus a multiple of `v_n` it
+/// answers that multiple and leaves the values; of any word it leaves one that is orthogonal to
+/// `v_n`, of which it would answer 0.
 ///
 /// Asks `2^L` entries with `L + 1 <= CIRCLE_TWO_ADICITY` and `1 <= log_blowup < L`. Where memory is
 /// refused the word stays as it was.
@@ -85,6 +87,12 @@ pub fn extract_lambda<F: ComplexExtendable, EF: ExtensionField<F>>(
         lambda ≡ lambda_of F.ops F.generators EF.ops EF.embed log_blowup m lde.old) }
     ensures remainder { IfOk result (λ lambda. (m : ℕ) → length lde.old ≡ 2 ^ m →
         lde.new ≡ remainder_of F.ops F.generators EF.ops EF.embed log_blowup m lambda lde.old) }
+    ensures split { IfOk result (λ lambda. (m : ℕ) → length lde.old ≡ 2 ^ m →
+        IsOnlySplit F.ops F.generators EF.ops EF.embed log_blowup m lde.old lde.new lambda) }
+    ensures orthogonal { IfOk result (λ lambda. (m : ℕ) → length lde.old ≡ 2 ^ m →
+        IsOrthogonal F.ops F.generators EF.ops EF.embed log_blowup m lde.new) }
+    ensures again { IfOk result (λ lambda. (m : ℕ) → length lde.old ≡ 2 ^ m →
+        HasNoMultiple F.ops F.generators EF.ops EF.embed log_blowup m lde.new) }
     ensures refused { OnErr result (lde.new ≡ lde.old) }
 {
     let log_lde_size = log2_strict(lde.len());

@@ -6,6 +6,7 @@
 //! coordinates, and a pair to two opposite ones.
 ghost use Rattle.std.specs.Prelude.{◌≡◌, ◌≢◌, ℕ, ◌+◌, ◌^◌, ◌<◌, ◌≤◌, length, map, All, IfOk};
 ghost use Rattle.circle_folding.specs.Fold.{fold, folds, y_folds, x_folds, x_fold};
+ghost use Rattle.circle_folding.specs.Spans.{HalvesSpan, HalvesXSpan, ShowsSpan, ShowsXSpan};
 
 use circle_commit::{Matrix, log2_strict};
 use circle_domain::{CircleDomain, cfft_permute_index, x_twiddles, y_twiddles};
@@ -24,8 +25,12 @@ pub fn fold_y<F: ComplexExtendable, EF: ExtensionField<F>, M: Matrix<EF>>(
 ) -> Result<Vec<EF>, AllocError>
     requires width { M.width evals.now ≡ 2 }
     requires height { (k : ℕ) × (M.height evals.now ≡ 2 ^ k) × (k + 2 ≤ F.CIRCLE_TWO_ADICITY) }
-    ensures { IfOk result (λ folded. (k : ℕ) → M.height evals.now ≡ 2 ^ k →
+    ensures folds { IfOk result (λ folded. (k : ℕ) → M.height evals.now ≡ 2 ^ k →
         folded.items ≡ y_folds F.ops F.generators EF.ops EF.embed k beta (M.rows evals.now)) }
+    ensures halves { IfOk result (λ folded. (k : ℕ) → M.height evals.now ≡ 2 ^ k →
+        HalvesSpan F.ops F.generators EF.ops EF.embed k (M.rows evals.now) folded.items) }
+    ensures shows { IfOk result (λ folded. (k : ℕ) → M.height evals.now ≡ 2 ^ k →
+        ShowsSpan F.ops F.generators EF.ops EF.embed k beta (M.rows evals.now) folded.items) }
 {
     let log_height = log2_strict(evals.height());
     let twiddles = y_twiddles(alloc, CircleDomain::<F>::standard(log_height + 1))?;
@@ -47,8 +52,12 @@ pub fn fold_x<F: ComplexExtendable, EF: ExtensionField<F>, M: Matrix<EF>>(
     requires width { M.width evals.now ≡ 2 }
     requires arity { log_arity ≡ 1 }
     requires height { (k : ℕ) × (M.height evals.now ≡ 2 ^ k) × (k + 3 ≤ F.CIRCLE_TWO_ADICITY) }
-    ensures { IfOk result (λ folded. (k : ℕ) → M.height evals.now ≡ 2 ^ k →
+    ensures folds { IfOk result (λ folded. (k : ℕ) → M.height evals.now ≡ 2 ^ k →
         folded.items ≡ x_folds F.ops F.generators EF.ops EF.embed k beta (M.rows evals.now)) }
+    ensures halves { IfOk result (λ folded. (k : ℕ) → M.height evals.now ≡ 2 ^ k →
+        HalvesXSpan F.ops F.generators EF.ops EF.embed k (M.rows evals.now) folded.items) }
+    ensures shows { IfOk result (λ folded. (k : ℕ) → M.height evals.now ≡ 2 ^ k →
+        ShowsXSpan F.ops F.generators EF.ops EF.embed k beta (M.rows evals.now) folded.items) }
 {
     let log_height = log2_strict(evals.height());
     let domain = CircleDomain::<F>::standard(log_height + log_arity + 1);

@@ -8,7 +8,7 @@ ghost use Rattle.std.specs.Prelude.{◌≡◌, ◌≢◌, ℕ, ◌+◌, ◌/◌,
 ghost use Rattle.std.specs.Prelude.{length, map, All, IfOk, OnOk, OnErr, slice_index_or};
 ghost use Rattle.circle_commit.specs.Mmcs.{opened_rows};
 ghost use Rattle.circle_point.specs.Point.{coordinates};
-ghost use Rattle.circle_domain.specs.Layers.{pairwise};
+ghost use Rattle.circle_commit.specs.DotProduct.{pairwise};
 ghost use Rattle.circle_folding.specs.Fold.{folds};
 ghost use Rattle.circle_folding.specs.Queries.{query_point};
 ghost use Rattle.circle_folding.specs.Chain.{first_layer_twiddle, round_twiddle, round_twiddles};

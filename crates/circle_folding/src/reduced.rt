@@ -4,7 +4,7 @@ ghost use Rattle.std.specs.Prelude.{◌≡◌, ◌^◌, ◌<◌, ◌≤◌, leng
 ghost use Rattle.circle_field.specs.Field.{sub};
 ghost use Rattle.circle_point.specs.Point.{coordinates};
 ghost use Rattle.circle_point.specs.Basis.{vanishing};
-ghost use Rattle.circle_domain.specs.Layers.{pairwise};
+ghost use Rattle.circle_commit.specs.DotProduct.{pairwise};
 ghost use Rattle.circle_folding.specs.Queries.{query_point, matrix_rows, HaveWidth};
 ghost use Rattle.circle_folding.specs.Queries.{claim_quotients, Meets, IsApart, with_multiples};
 ghost use Rattle.circle_folding.specs.Quotient.{ArePowers};

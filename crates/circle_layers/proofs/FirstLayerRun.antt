@@ -9,7 +9,7 @@ use Rattle.circle_field.specs.Field.{sub}
 use Rattle.circle_field.specs.Circle.{Coordinates}
 use Rattle.circle_commit.specs.declared.matrix.Dimensions.{Dimensions}
 use Rattle.circle_point.specs.Basis.{vanishing}
-use Rattle.circle_domain.specs.Layers.{pairwise}
+use Rattle.circle_commit.specs.DotProduct.{pairwise}
 use Rattle.circle_domain.proofs.Twiddles.{map-map}
 use Rattle.circle_folding.specs.Fold.{folds}
 use Rattle.circle_folding.specs.Chain.{asked_pairs, first_layer_twiddle}

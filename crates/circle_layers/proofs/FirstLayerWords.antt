@@ -7,7 +7,7 @@ use Rattle.std.proofs.lemmas.Option.{slice_get_within, get_or_from_slice_get, sl
 use Rattle.circle_field.specs.Field.{sub}
 use Rattle.circle_field.specs.Circle.{Coordinates}
 use Rattle.circle_point.specs.Basis.{vanishing}
-use Rattle.circle_domain.specs.Layers.{pairwise}
+use Rattle.circle_commit.specs.DotProduct.{pairwise}
 use Rattle.circle_folding.specs.Fold.{fold_pair, folds}
 use Rattle.circle_folding.specs.Chain.{pair_of, asked_pairs, first_layer_twiddle}
 use Rattle.circle_relation.specs.Accepts.{Setting, Run, at_queries, place_of, point_among, reduced_from, claims_of, first_value, first_pair, folded, top}

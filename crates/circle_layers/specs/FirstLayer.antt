@@ -2,7 +2,7 @@
 use Rattle.std.specs.Prelude.{ℕ, ◌-◌, ◌^◌, List, [], ◌∷◌, ◌++◌}
 use Rattle.circle_field.specs.Circle.{Coordinates}
 use Rattle.circle_commit.specs.declared.matrix.Dimensions.{Dimensions}
-use Rattle.circle_domain.specs.Layers.{pairwise}
+use Rattle.circle_commit.specs.DotProduct.{pairwise}
 use Rattle.circle_relation.specs.declared.run.OpenedRun.{OpenedRun}
 use Rattle.circle_relation.specs.Accepts.{Fields, at_queries, point_among, reduced_from}
 use Rattle.circle_relation.specs.Accepts.{claims_of, first_pair, folded}

@@ -1,7 +1,7 @@
 //! The rounds after the first layer, which fold words by x.
 ghost use Rattle.std.specs.Prelude.{◌≡◌, ◌+◌, ◌-◌, ◌/◌, ◌^◌, ◌<◌, ◌≤◌, length, map, All};
 ghost use Rattle.std.specs.Prelude.{slice_index_or, OnOk, IfOk, IfErr};
-ghost use Rattle.circle_domain.specs.Layers.{pairwise};
+ghost use Rattle.circle_commit.specs.DotProduct.{pairwise};
 ghost use Rattle.circle_folding.specs.Chain.{round_twiddles};
 ghost use Rattle.circle_layers.specs.Rounds.{values_in, siblings_in, folds_in};
 ghost use Rattle.circle_layers.specs.Rounds.{words_below, HasRoundOf};

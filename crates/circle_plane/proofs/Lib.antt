@@ -9,3 +9,4 @@ pub mod PeriodicValues
 pub mod Periods
 pub mod Refused
 pub mod Steps
+pub mod Weighed

@@ -10,7 +10,7 @@ use Rattle.circle_domain.specs.Values.{HasValues, Interpolates, values_at}
 use Rattle.circle_domain.proofs.CosetOrder.{other_order-points}
 use Rattle.circle_domain.proofs.NaturalValues.{reordered-points}
 use Rattle.circle_domain.proofs.OtherOrder.{other_order-twice}
-use Rattle.circle_plane.proofs.Passes.{values-tell}
+use Rattle.circle_domain.proofs.Told.{values-tell}
 
 -- no other coefficients have these values
 pub one-only : {F : Type 0} {k : FieldOps F} (laws : FieldLaws k) {gen : ℕ → Coordinates F} {bits : ℕ} (gens : AreGenerators k bits gen)

@@ -156,11 +156,3 @@ module _ {F : Type 0} {k : FieldOps F} (laws : FieldLaws k) {gen : ℕ → Coord
         map-flipped : (ys : List F) → map (λ a. k.mul a c) ys ≡ map (k.mul c) ys
         map-flipped [] = refl
         map-flipped (y ∷ ys) = ap (λ v. v ∷ map (λ a. k.mul a c) ys) (laws.ring.mul_comm y c) ∙ ap (λ rest. k.mul c y ∷ rest) (map-flipped ys)
-
-    -- no other coefficients have the same values
-    pub values-tell : (xs ys : List F) → 1 ≤ n → length xs ≡ 2 ^ n → length ys ≡ 2 ^ n → map (value k xs) (cfft_order k gen n s) ≡ map (value k ys) (cfft_order k gen n s) → xs ≡ ys
-    values-tell xs ys positive a b e =
-        let p = points-cfft_order k gen n s positive in
-        finish-injective laws gens n s xs ys a b (omega (arith, fits)) on_circle genuine
-        (finish-value laws.ring gens n s xs a (omega (arith, fits)) on_circle ∙ ap (map (value k xs)) p ∙ e ∙ ap (map (value k ys)) (sym p)
-        ∙ sym (finish-value laws.ring gens n s ys b (omega (arith, fits)) on_circle))

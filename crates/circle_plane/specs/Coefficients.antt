@@ -2,11 +2,13 @@
 use Rattle.std.specs.Prelude.{◌≡◌, ℕ, ◌-◌, ◌^◌, ◌≤◌, List, map, take}
 use Rattle.circle_field.specs.Field.{FieldOps}
 use Rattle.circle_field.specs.Circle.{Coordinates}
-use Rattle.circle_domain.specs.Domain.{log_size, shift_of, points_of}
+use Rattle.circle_domain.specs.Domain.{log_size, shift_of, points_of, cfft_points_of}
+use Rattle.circle_domain.specs.Lagrange.{AreLagrangeWeights}
 use Rattle.circle_domain.specs.Order.{cfft_order}
 use Rattle.circle_domain.specs.Ordering.{other_order}
 use Rattle.circle_domain.specs.Values.{HasValues, values_at, with_zero_rows, lifted_values_at}
 use Rattle.circle_domain.specs.declared.domain.CircleDomain.{CircleDomain}
+use Rattle.circle_domain.specs.declared.lagrange.LagrangeWeights.{LagrangeWeights}
 
 module _ {F : Type 0} {g : _} (k : FieldOps F) (gen : ℕ → Coordinates F) where
   -- as many coefficients as the domain has points, a row for each index, whose polynomials' values
@@ -43,9 +45,21 @@ module _ {F : Type 0} {g : _} (k : FieldOps F) (gen : ℕ → Coordinates F) whe
 
 module _ {F E : Type 0} {g : _} (k : FieldOps F) (gen : ℕ → Coordinates F)
     (l : FieldOps E) (embed : F → E) where
+  -- these are the Lagrange polynomials of a domain's points at a point
+  abbrev pub AreWeightsAt : CircleDomain F g → Coordinates E → LagrangeWeights E → Type 0
+  AreWeightsAt d q weights =
+      AreLagrangeWeights l embed k (log_size d) (cfft_points_of k gen d) q weights.shares.items
+      weights.scale
+
   -- the values at a point of the polynomials with given values on a domain
   pub record AreValuesAt (p : Coordinates E) (d : CircleDomain F g) (width : ℕ)
       (given : List (List F)) (found : List E) : Type 0 where
     pub coeffs : List (List F)
     pub told : AreCoefficients k gen d width coeffs given
     pub at_point : found ≡ lifted_values_at k.zero l embed coeffs width p
+
+  -- so at any point whose Lagrange polynomials these are
+  abbrev pub AreValuesBy : CircleDomain F g → ℕ → List (List F) → LagrangeWeights E → List E
+      → Type 0
+  AreValuesBy d width given weights found =
+      (p : Coordinates E) → AreWeightsAt d p weights → AreValuesAt p d width given found

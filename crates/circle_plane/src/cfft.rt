@@ -1,5 +1,7 @@
 //! Polynomials on the circle: the transform between their coefficients and values on a domain.
-ghost use Rattle.std.specs.Prelude.{◌≡◌, ℕ, ◌≤◌, ◌^◌, ◌++◌, List, map, IfOk, OnOk};
+ghost use Rattle.std.specs.Prelude.{◌≡◌, ℕ, ◌≤◌, ◌^◌, ◌++◌, List, length, map, All, IfOk, OnOk};
+ghost use Rattle.std.specs.List.{AllZip};
+ghost use Rattle.circle_commit.specs.DotProduct.{pairwise};
 ghost use Rattle.circle_commit.specs.Matrix.{IsPowerOfTwo};
 ghost use Rattle.circle_commit.specs.RowMajorMatrix.{rows, width_of, height_of};
 ghost use Rattle.circle_point.specs.Basis.{basis_values};
@@ -11,10 +13,11 @@ ghost use Rattle.circle_domain.specs.Order.{IsGenuine};
 ghost use Rattle.circle_domain.specs.Ordering.{other_order};
 ghost use Rattle.circle_domain.specs.Values.{lifted_values_at};
 
-use crate::dot_product::columnwise_dot_product;
 use crate::layers::{Backward, Forward, apply_layer};
-use circle_commit::{Matrix, MatrixShape, RowMajorMatrix, log2_strict};
-use circle_domain::{CfftPermutable, CfftView, CircleDomain, lagrange_weights, layer_twiddles};
+use circle_commit::{FieldMatrix, Matrix, MatrixShape, RowMajorMatrix, log2_strict};
+use circle_domain::{
+    CfftPermutable, CfftView, CircleDomain, LagrangeWeights, lagrange_weights, layer_twiddles,
+};
 use circle_field::{
     ComplexExtendable, ExtensionField, Field, Operations, batch_multiplicative_inverse,
 };
@@ -152,7 +155,8 @@ impl<F: ComplexExtendable, M: Matrix<F> + Drop> CircleEvaluations<F, M> {
 
 impl<F: ComplexExtendable, M: Matrix<F>> CircleEvaluations<F, M> {
     ghost use Rattle.circle_plane.specs.CircleEvaluations.{domain_of, cfft_values};
-    ghost use Rattle.circle_plane.specs.Coefficients.{AreCoefficients, AreValuesAt};
+    ghost use Rattle.circle_plane.specs.Coefficients.{AreCoefficients, AreValuesAt, AreWeightsAt};
+    ghost use Rattle.circle_plane.specs.Coefficients.{AreValuesBy};
 
     /// The values at `point` of the only polynomials with these values, for each column (Circle
     /// STARKs, section 4.3).
@@ -177,8 +181,59 @@ impl<F: ComplexExtendable, M: Matrix<F>> CircleEvaluations<F, M> {
             (coordinates point)) }
     {
         let weights = lagrange_weights(alloc, self.domain, point)?;
-        let mut values = columnwise_dot_product(alloc, &self.values, &weights.shares)?;
+        self.evaluate_by_weights(alloc, &weights)
+    }
+
+    /// The values of the only polynomials with these values, for each column, at the point whose
+    /// Lagrange polynomials these are: so that they can be made once for several matrices.
+    ///
+    /// Asks a genuine domain with `log_n <= CIRCLE_TWO_ADICITY`, and a share for each of its
+    /// points. Fails where memory is refused.
+    pub fn evaluate_by_weights<EF: ExtensionField<F>>(
+        &self,
+        alloc: Global,
+        weights: &LagrangeWeights<EF>,
+    ) -> Result<Vec<EF>, AllocError>
+        requires genuine { let d = domain_of self.now in IsGenuine F.ops (log_size d) (shift_of d) }
+        requires in_group { log_size (domain_of self.now) ≤ F.CIRCLE_TWO_ADICITY }
+        requires count { length weights.now.shares.items ≡ 2 ^ log_size (domain_of self.now) }
+        ensures values { let given = cfft_values self.now in IfOk result (λ found. (q : _) →
+            AreWeightsAt F.ops F.generators EF.ops EF.embed (domain_of self.now) q weights.now →
+            AreValuesAt F.ops F.generators EF.ops EF.embed q (domain_of self.now) (M.width given)
+            (M.rows given) found.items) }
+        ensures only { let given = cfft_values self.now in IfOk result (λ found. (q : _) →
+            AreWeightsAt F.ops F.generators EF.ops EF.embed (domain_of self.now) q weights.now →
+            (cs : List (List F)) → AreCoefficients F.ops F.generators (domain_of self.now)
+            (M.width given) cs (M.rows given) →
+            found.items ≡ lifted_values_at F.ops.zero EF.ops EF.embed cs (M.width given) q) }
+    {
+        let mut values = self.values.columnwise_dot_product(alloc, &weights.shares)?;
         scale(&mut values, weights.scale);
+        Ok(values)
+    }
+
+    /// For each of the weights the values that [`evaluate_by_weights`](Self::evaluate_by_weights)
+    /// answers. The rows are gone over once for all of them.
+    ///
+    /// Asks a genuine domain with `log_n <= CIRCLE_TWO_ADICITY`, and in each of the weights a share
+    /// for each of its points. Fails where memory is refused.
+    pub fn evaluate_by_each_weights<EF: ExtensionField<F>>(
+        &self,
+        alloc: Global,
+        weights: &[&LagrangeWeights<EF>],
+    ) -> Result<Vec<Vec<EF>>, AllocError>
+        requires genuine { let d = domain_of self.now in IsGenuine F.ops (log_size d) (shift_of d) }
+        requires in_group { log_size (domain_of self.now) ≤ F.CIRCLE_TWO_ADICITY }
+        requires count { All (λ w. length w.now.shares.items ≡ 2 ^ log_size (domain_of self.now))
+            weights.now }
+        ensures values { let given = cfft_values self.now in IfOk result (λ all. AllZip
+            (λ w found. AreValuesBy F.ops F.generators EF.ops EF.embed (domain_of self.now)
+            (M.width given) (M.rows given) w.now found) weights.now
+            (map (λ v. v.items) all.items)) }
+    {
+        let shares = shares_of(alloc, weights)?;
+        let mut values = self.values.columnwise_dot_products(alloc, &shares)?;
+        scale_each(&mut values, weights);
         Ok(values)
     }
 }
@@ -294,6 +349,33 @@ fn repeat<F: Field>(alloc: Global, entries: Vec<F>, count: usize) -> Result<Vec<
         repeated.extend_from_slice(&entries)?;
     }
     Ok(repeated)
+}
+
+// The shares of each of the weights, lent.
+fn shares_of<'a, EF: Field>(
+    alloc: Global,
+    weights: &[&'a LagrangeWeights<EF>],
+) -> Result<Vec<&'a [EF]>, AllocError>
+    ensures { IfOk result (λ lent. map (λ s. s.now) lent.items
+        ≡ map (λ w. w.now.shares.items) weights.now) }
+{
+    let mut lent = Vec::with_capacity(alloc, weights.len())?;
+    for &w in weights {
+        lent.push(w.shares.as_slice())?;
+    }
+    Ok(lent)
+}
+
+// Multiplies each list of values by the scale of its weights.
+fn scale_each<EF: Field>(values: &mut [Vec<EF>], weights: &[&LagrangeWeights<EF>])
+    requires { length values.old ≡ length weights.now }
+    ensures { map (λ v. v.items) values.new
+        ≡ pairwise (λ found w. map (λ a. EF.ops.mul a w.now.scale) found)
+        (map (λ v. v.items) values.old) weights.now }
+{
+    for (i, w) in weights.iter().enumerate() {
+        scale(&mut values[i], w.scale);
+    }
 }
 
 // Multiplies each entry by `factor`.

@@ -4,7 +4,8 @@
 //! block (Circle STARKs, IACR ePrint 2024/278, section 4.2).
 ghost use Rattle.std.specs.Prelude.{◌≡◌, ◌+◌, ◌*◌, ◌<◌, ◌++◌, length, take, drop};
 ghost use Rattle.circle_field.specs.Field.{sub};
-ghost use Rattle.circle_domain.specs.Layers.{pairwise, layer};
+ghost use Rattle.circle_commit.specs.DotProduct.{pairwise};
+ghost use Rattle.circle_domain.specs.Layers.{layer};
 
 use circle_field::Field;
 

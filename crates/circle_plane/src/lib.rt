@@ -17,6 +17,7 @@
 //!   and twice is back (`back`).
 //! - `evaluate_at_point` answers, for each column, the value of the only polynomial with these
 //!   values at any point that the domain is clear of, also over an extension (`values`, `only`).
+//!   `evaluate_by_each_weights` answers these at several points at once, the rows read once.
 //! - The table that `eval_on_lde` and `build_periodic_lde_table_circle` answer has the columns'
 //!   values at the points of the extension in natural order, in as many rows as differ (`table`,
 //!   by `IsPeriodicTable`), and each refusal is the first whose condition holds (`refusal`, by
@@ -24,7 +25,6 @@
 #![tactic(auto)]
 
 pub mod cfft;
-mod dot_product;
 mod layers;
 pub mod periodic;
 

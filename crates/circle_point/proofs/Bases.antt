@@ -2,13 +2,13 @@
 use Rattle.std.specs.Prelude.{◌≡◌, ℕ, ◌+◌, ◌-◌, ◌*◌, ◌/◌, ◌%◌, ◌^◌, ◌<◌, ◌≤◌, ◌∷◌, ◌++◌, map}
 use Rattle.std.specs.List.{range_with_len}
 use Rattle.std.proofs.Common.{zero, suc, sym, ◌∙◌, ap, refl, arith, lit<, ⊎_elim}
-use Rattle.std.proofs.Math.Nat.{pow-suc, div-eq_of_lt, pow-le-pow_right, mul-add-div}
+use Rattle.std.proofs.Math.Nat.{pow-suc, div-eq_of_lt, pow-le-pow_right, mul-add-div, div-div-eq-div-mul}
 use Rattle.std.proofs.lemmas.Nat.{pow-add, pow_pos, shr_high}
 use Rattle.std.proofs.lemmas.Bool.{cases_lt}
 use Rattle.circle_field.specs.Field.{FieldOps, RingLaws}
 use Rattle.circle_field.specs.RingFacts.{mul_one}
 use Rattle.circle_field.specs.Circle.{Coordinates}
-use Rattle.circle_point.specs.Basis.{iterated_x, bit_factor, low_bits_product, x_basis, circle_basis, basis_values}
+use Rattle.circle_point.specs.Basis.{doubled_x, iterated_x, bit_factor, low_bits_product, x_basis, circle_basis, basis_values}
 
 -- a number is below its power of two
 below_pow : (n : ℕ) → n < 2 ^ n
@@ -34,6 +34,28 @@ module _ {F : Type 0} {k : FieldOps F} (laws : RingLaws k) where
       (λ lt. let e : bits + (j - bits) ≡ j = omega (arith, lt) in ap (λ n. low_bits_product k n j x) (sym e) ∙ zero_bits bits (j - bits) j x h)
       (λ le. let e : j + (bits - j) ≡ bits = omega (arith, le) in sym (zero_bits j (bits - j) j x (below_pow j)) ∙ ap (λ n. low_bits_product k n j x) e)
       (cases_lt bits j)
+
+  -- with r for a lowest bit more: its factor, and the other bits' at the double's x coordinate
+  doubled-bits : (bits i j r : ℕ) (x : F) → i ≡ 2 * j + r → r < 2 →
+      low_bits_product k (suc bits) i x ≡ k.mul (low_bits_product k bits j (doubled_x k x)) (bit_factor k r x)
+  doubled-bits zero i j r x e h = let bit : i / 2 ^ 0 % 2 ≡ r = omega (arith, e, h) in ap (λ b. k.mul k.one (bit_factor k b x)) bit
+  doubled-bits (suc bits) i j r x e h =
+      let half : i / 2 ≡ j = omega (arith, e, h) in
+      let power : 2 ^ suc bits ≡ 2 * 2 ^ bits = omega (arith, pow-suc 2 bits) in
+      let shift : i / 2 ^ suc bits ≡ j / 2 ^ bits = ap (λ d. i / d) power ∙ sym (div-div-eq-div-mul i 2 (2 ^ bits)) ∙ ap (λ n. n / 2 ^ bits) half in
+      let u = iterated_x k bits (doubled_x k x) in
+      let b = bit_factor k (j / 2 ^ bits % 2) u in
+      let low = low_bits_product k bits j (doubled_x k x) in
+      let last = bit_factor k r x in
+      ap (λ p. k.mul p (bit_factor k (i / 2 ^ suc bits % 2) u)) (doubled-bits bits i j r x e h)
+      ∙ ap (λ n. k.mul (k.mul low last) (bit_factor k (n % 2) u)) shift
+      ∙ laws.mul_assoc low last b ∙ ap (k.mul low) (laws.mul_comm last b) ∙ sym (laws.mul_assoc low b last)
+
+  pub x_basis-doubled : (j r : ℕ) (x : F) → r < 2 → x_basis k (2 * j + r) x ≡ k.mul (x_basis k j (doubled_x k x)) (bit_factor k r x)
+  x_basis-doubled j r x h =
+      let less : j < 2 ^ j = below_pow j in
+      let below : 2 * j + r < 2 ^ suc j = omega (arith, less, h, pow-suc 2 j) in
+      x_basis-bits (suc j) (2 * j + r) x below ∙ doubled-bits j (2 * j + r) j r x refl h
 
   -- a bit above the others does not change them
   bit-under : (m b i : ℕ) → b < m → (2 ^ m + i) / 2 ^ b % 2 ≡ i / 2 ^ b % 2

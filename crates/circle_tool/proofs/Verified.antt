@@ -15,7 +15,8 @@ use Rattle.circle_relation.specs.Accepts.{Fields, Authenticates, Accepts}
 use Rattle.circle_relation.specs.RunOf.{proof_of, setting_of}
 use Rattle.circle_relation.specs.Statement.{BatchClaim}
 use Rattle.circle_relation.specs.StatementOf.{batch_claims}
-use Rattle.p3_circle.specs.Verdict.{AcceptsFrom, drawing, drawn_by, run_with}
+use Rattle.circle_opening.specs.Taken.{drawn_by}
+use Rattle.circle_scheme.specs.Verdict.{AcceptsFrom, drawing, run_with}
 use Rattle.circle_tool.specs.Verified.{IsVerified, batches_told, over, taken_in}
 use Rattle.circle_tool.specs.declared.verify.Input.{Input}
 
@@ -43,9 +44,9 @@ module _ {g : _} (k : Fields Mersenne31 Cubic) (r : RunMoves Sha256Challenger (L
   -- what is accepted of claims and parameters that the input tells, is verified
   pub verified : (claims : List (CommitmentOpening Cubic (List ℕ) (CircleDomain Mersenne31 g))) (mmcs : ShaMmcs Mersenne31) (scheme : ShaMmcs Cubic) (params : FriParameters (ShaMmcs Cubic)) (start left : Sha256Challenger)
       → batch_claims claims ≡ batches_told input.batches.items → params ≡ over input.params scheme → state_of start ≡ taken_in (replicate 32 0) input.batches.items
-      → AcceptsFrom k r inputs words mmcs params claims input.proof two_adicity start left → IsVerified k r inputs words two_adicity input
+      → AcceptsFrom k r inputs words mmcs params claims input.proof two_adicity (state_of start) (state_of left) → IsVerified k r inputs words two_adicity input
   verified claims mmcs scheme params start left told same taken a =
-      let draws = subst (λ (p : FriParameters (ShaMmcs Cubic)). drawing r p k.extension (batch_claims claims) (proof_of input.proof) start ≡ Ok (drawn_by r.base.coefficients a.drawn (r.base.state left))) same a.draws in
+      let draws = subst (λ (p : FriParameters (ShaMmcs Cubic)). drawing r p k.extension (batch_claims claims) (proof_of input.proof) (state_of start) ≡ Ok (drawn_by r.base.coefficients a.drawn (state_of left))) same a.draws in
       let holds = subst (λ (p : FriParameters (ShaMmcs Cubic)). Accepts (setting_of k p) (run_with claims input.proof a.drawn) p two_adicity (inputs mmcs) (words p.mmcs)) same a.accepts in
       record {
         mmcs = mmcs;
@@ -54,6 +55,6 @@ module _ {g : _} (k : Fields Mersenne31 Cubic) (r : RunMoves Sha256Challenger (L
         left = left;
         drawn = a.drawn;
         taken = taken;
-        draws = subst (λ (bs : List (BatchClaim (List ℕ) Cubic)). drawing r (over input.params scheme) k.extension bs (proof_of input.proof) start ≡ Ok (drawn_by r.base.coefficients a.drawn (r.base.state left))) told draws;
+        draws = subst (λ (bs : List (BatchClaim (List ℕ) Cubic)). drawing r (over input.params scheme) k.extension bs (proof_of input.proof) (state_of start) ≡ Ok (drawn_by r.base.coefficients a.drawn (state_of left))) told draws;
         accepts = subst (λ (bs : List (BatchClaim (List ℕ) Cubic)). Accepts (setting_of k (over input.params scheme)) (record { batches = bs; proof = proof_of input.proof; drawn = a.drawn }) (over input.params scheme) two_adicity (inputs mmcs) (words scheme)) told holds;
       }

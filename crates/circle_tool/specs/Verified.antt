@@ -15,13 +15,16 @@ use Rattle.circle_relation.specs.Accepts.{Fields, Run, Authenticates, Accepts}
 use Rattle.circle_relation.specs.RunOf.{proof_of, setting_of}
 use Rattle.circle_relation.specs.Statement.{BatchClaim, Challenges, MatrixClaim}
 use Rattle.circle_relation.specs.StatementOf.{point_claim}
-use Rattle.p3_circle.specs.Verdict.{drawing, drawn_by}
+use Rattle.circle_opening.specs.Taken.{drawn_by}
+use Rattle.circle_scheme.specs.Verdict.{drawing}
 use Rattle.circle_tool.specs.declared.verify.Input.{Input}
 
 -- the claims about matrices whose sizes are told by logarithms
+abbrev pub matrix_told : MatrixOpening Cubic ℕ → MatrixClaim Cubic
+matrix_told m = record { log_n = m.domain; claims = map point_claim m.points.items }
+
 abbrev pub matrices_told : List (MatrixOpening Cubic ℕ) → List (MatrixClaim Cubic)
-matrices_told matrices =
-    map (λ m. record { log_n = m.domain; claims = map point_claim m.points.items }) matrices
+matrices_told matrices = map matrix_told matrices
 
 abbrev pub batch_told : CommitmentOpening Cubic (List ℕ) ℕ → BatchClaim (List ℕ) Cubic
 batch_told b = record { commitment = b.commitment; matrices = matrices_told b.matrices.items }
@@ -72,7 +75,8 @@ pub record IsVerified (k : Fields Mersenne31 Cubic)
   pub taken : state_of start ≡ taken_in (replicate 32 0) input.batches.items
   pub draws :
       drawing r (over input.params scheme) k.extension (batches_told input.batches.items)
-      (proof_of input.proof) start ≡ Ok (drawn_by r.base.coefficients drawn (r.base.state left))
+      (proof_of input.proof) (state_of start)
+      ≡ Ok (drawn_by r.base.coefficients drawn (state_of left))
   pub accepts :
       Accepts (setting_of k (over input.params scheme)) (run_of_input input drawn)
       (over input.params scheme) two_adicity (inputs mmcs) (words scheme)

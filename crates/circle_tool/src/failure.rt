@@ -2,7 +2,7 @@
 ghost use Rattle.std.specs.Prelude.{◌≡◌};
 ghost use Rattle.circle_tool.specs.Failure.{status_of};
 
-use crate::{shape, values, verify};
+use crate::{prove, shape, values, verify};
 use circle_commit::JsonError;
 use serde_json::Error as TextError;
 use std::alloc::AllocError;
@@ -87,6 +87,12 @@ impl From<JsonError> for Failure {
 
 impl From<values::Refusal> for Failure {
     fn from(refusal: values::Refusal) -> Failure {
+        Failure::Refused(refusal.name())
+    }
+}
+
+impl From<prove::Refusal> for Failure {
+    fn from(refusal: prove::Refusal) -> Failure {
         Failure::Refused(refusal.name())
     }
 }

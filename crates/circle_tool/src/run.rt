@@ -5,7 +5,7 @@ ghost use Rattle.std.specs.Io.KnownBytes.{Appends};
 ghost use Rattle.circle_tool.specs.Arguments.{Names, NamesCommand};
 
 use crate::failure::Failure;
-use crate::{json, shape, values, verify};
+use crate::{json, prove, shape, values, verify};
 use std::alloc::Global;
 use std::fmt::InlineText;
 use std::io::{Read, Write};
@@ -17,6 +17,7 @@ const FAILURE_LEN: usize = 64;
 #[derive(Clone, Copy)]
 enum Command {
     Values,
+    Prove,
     Verify,
     Shape,
 }
@@ -32,6 +33,7 @@ impl Command {
         };
         match name.as_str() {
             "values" => Some(Command::Values),
+            "prove" => Some(Command::Prove),
             "verify" => Some(Command::Verify),
             "shape" => Some(Command::Shape),
             _ => None,
@@ -94,6 +96,7 @@ fn answer<R: Read>(alloc: Global, args: &[String], input: &mut R) -> Result<Stri
     let value = json::read(alloc, input)?;
     match command {
         Command::Values => values::answer(alloc, &value),
+        Command::Prove => prove::answer(alloc, &value),
         Command::Verify => verify::answer(alloc, &value),
         Command::Shape => shape::answer(alloc, &value),
     }

@@ -10,7 +10,9 @@ use std::test::Fail;
 
 mod damage;
 mod order;
+mod prove;
 mod shape;
+mod statements;
 mod stored;
 mod values;
 mod verify;
@@ -156,7 +158,8 @@ fn usage(rt: HostRuntime) -> Result<(), Fail> {
     expect_usage(&rt, alloc, &["evaluate"])?;
     expect_usage(&rt, alloc, &["Values"])?;
     expect_usage(&rt, alloc, &[""])?;
-    expect_usage(&rt, alloc, &["prove"])?;
+    expect_usage(&rt, alloc, &["proves"])?;
+    expect_usage(&rt, alloc, &["prove", "verify"])?;
     expect_usage(&rt, alloc, &["verify", "shape"])?;
     expect_usage(&rt, alloc, &["verify", ""])?;
     expect_usage(&rt, alloc, &["shapes"])?;
@@ -193,6 +196,7 @@ fn input_that_fails(rt: HostRuntime) -> Result<(), Fail> {
         ("values", FIRST),
         ("shape", shape::FIRST),
         ("verify", stored::SEVENS),
+        ("prove", statements::SEVENS),
     ] {
         expect_failure(&rt, alloc, case, ErrorKind::ConnectionReset, input)?;
         expect_failure(&rt, alloc, case, ErrorKind::OutOfMemory, memory)?;

@@ -153,8 +153,8 @@ fn is_on_circle(x: Mersenne31, y: Mersenne31) -> bool
     x.square() + y.square() == Mersenne31::ONE
 }
 
-// Whether the rows have one length, which isn't 0.
-fn is_rectangular(rows: &[Vec<Mersenne31>]) -> bool
+/// Whether the rows have one length, which isn't 0.
+pub fn is_rectangular(rows: &[Vec<Mersenne31>]) -> bool
     ensures { IsTrue result ↔ IsRectangular (lists rows.now) }
 {
     match rows.first() {
@@ -178,8 +178,11 @@ fn is_fitting_height(height: usize, log_n: usize) -> bool
     is_power_of_two(height) && height <= 1 << log_n
 }
 
-// The matrix of these rows.
-fn matrix(alloc: Global, rows: &[Vec<Mersenne31>]) -> Result<RowMajorMatrix<Mersenne31>, AllocError>
+/// The matrix of these rows.
+pub fn matrix(
+    alloc: Global,
+    rows: &[Vec<Mersenne31>],
+) -> Result<RowMajorMatrix<Mersenne31>, AllocError>
     requires some { 0 < length rows.now }
     requires rectangular { IsRectangular (lists rows.now) }
     ensures content { IfOk result (λ matrix. matrix_rows matrix ≡ lists rows.now) }

@@ -1,8 +1,7 @@
 //! The command `verify`: whether a proof shows that committed polynomials have the claimed values.
 
 ghost use Rattle.std.specs.Prelude.{◌≡◌, IfOk, OnOk};
-ghost use Rattle.serde_json.specs.View.{view};
-ghost use Rattle.circle_json.specs.Objects.{ReadsObject};
+ghost use Rattle.circle_json.specs.ObjectForm.{object_form};
 ghost use Rattle.circle_challenger.specs.Sha256Challenger.{state_of};
 ghost use Rattle.circle_relation.specs.StatementOf.{batch_claim, batch_claims};
 ghost use Rattle.circle_tool.specs.Verified.{IsVerified, batch_told, batches_told, over, taken_in};
@@ -23,13 +22,13 @@ use serde_json::{Value, json};
 use std::alloc::{AllocError, Global};
 
 /// The scheme that commits to the batches.
-type Batches = ShaMmcs<Mersenne31>;
+pub type Batches = ShaMmcs<Mersenne31>;
 
 /// The scheme that commits to the words made of them.
-type Words = ShaMmcs<Cubic>;
+pub type Words = ShaMmcs<Cubic>;
 
 /// The claims about one batch, whose domains are told by `Domain`.
-type Claim<Domain> = CommitmentOpening<Cubic, [u8; 32], Domain>;
+pub type Claim<Domain> = CommitmentOpening<Cubic, [u8; 32], Domain>;
 
 /// The proofs over these schemes.
 type Proof = CirclePcsProof<Mersenne31, Cubic, Batches, Words, Mersenne31>;
@@ -48,16 +47,21 @@ pub struct Input {
     pub proof: Proof,
 }
 
-impl Input {
-    /// The input that a JSON value is: `{"batches":..,"params":..,"proof":..}`.
-    ///
-    /// Fails as `WrongKind` where the value is no object, as `MissingKey` and then as `UnknownKey`
-    /// where its keys are others, and then as its members do.
-    pub fn from_json(alloc: Global, value: &Value) -> Result<Input, JsonError>
-        ensures { IfOk result (ReadsObject (input_fields (λ i. i.proof)
-            ⟦<Vec<Claim<usize>> as JsonForm>⟧.form ⟦<FriParameters<()> as JsonForm>⟧.form
-            ⟦<Proof as JsonForm>⟧.form) (view value.now)) }
-    {
+/// An object of the `batches`, the `params` and the `proof`.
+impl JsonForm for Input {
+    ghost form = { object_form (input_fields (λ i. i.proof)
+        ⟦<Vec<Claim<usize>> as JsonForm>⟧.form ⟦<FriParameters<()> as JsonForm>⟧.form
+        ⟦<Proof as JsonForm>⟧.form) };
+
+    fn to_json(&self, alloc: Global) -> Result<Value, AllocError> {
+        json!(in alloc; {
+            "batches": self.batches.to_json(alloc)?,
+            "params": self.params.to_json(alloc)?,
+            "proof": self.proof.to_json(alloc)?
+        })
+    }
+
+    fn from_json(alloc: Global, value: &Value) -> Result<Self, JsonError> {
         has_keys(value, &["batches", "params", "proof"])?;
         Ok(Input {
             batches: member(alloc, value, "batches")?,
@@ -69,7 +73,7 @@ impl Input {
 
 /// The line that answers `value`: `{"verified":true}`.
 ///
-/// Fails as [`Input::from_json`] and then as [`verify`] does.
+/// Fails as [`Input`] is read and then as [`verify`] does.
 pub fn answer(alloc: Global, value: &Value) -> Result<String, Failure> {
     verify(alloc, Input::from_json(alloc, value)?)?;
     Ok(json::line(alloc, &json!(in alloc; {"verified": true})?)?)
@@ -105,8 +109,8 @@ fn observe_commitments(challenger: &mut Sha256Challenger, batches: &[Claim<usize
     }
 }
 
-// The parameters with the scheme that commits to the words.
-fn over_words(params: &FriParameters<()>) -> FriParameters<Words>
+/// The parameters with the scheme that commits to the words.
+pub fn over_words(params: &FriParameters<()>) -> FriParameters<Words>
     ensures { result ≡ over params.now result.mmcs }
 {
     FriParameters {

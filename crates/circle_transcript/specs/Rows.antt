@@ -36,30 +36,22 @@ example_steps = refl
 
 -- its seed's text is of 480 bytes, which begin with the version, the name and the number of steps
 text_length : length (text_of 3 example) ≡ 480
-unfolding example claim_steps batch_steps first_layer_steps round_steps rounds_steps query_steps layout batch_layout steps_text labels_text step_text be64
+unfolding example claim_steps batch_steps first_layer_steps round_steps rounds_steps query_steps
+    layout batch_layout steps_text labels_text step_text be64
 text_length = refl
 
 text_header : take 30 (text_of 3 example)
     ≡ 1 ∷ 0 ∷ 0 ∷ 0 ∷ 0 ∷ 0 ∷ 0 ∷ 0 ∷ 13 ∷ 112 ∷ 51 ∷ 45 ∷ 99 ∷ 105 ∷ 114 ∷ 99 ∷ 108 ∷ 101 ∷ 45
     ∷ 112 ∷ 99 ∷ 115
     ∷ 0 ∷ 0 ∷ 0 ∷ 0 ∷ 0 ∷ 0 ∷ 0 ∷ 9 ∷ []
-unfolding example claim_steps batch_steps first_layer_steps round_steps rounds_steps query_steps layout batch_layout steps_text labels_text step_text be64
+unfolding example claim_steps batch_steps first_layer_steps round_steps rounds_steps query_steps
+    layout batch_layout steps_text labels_text step_text be64
 text_header = refl
 
 -- one claim of one column at a tallest logarithm of 4, with a final polynomial of two coefficients:
 -- one round too, no proofs of work, and two indices of four bits
 two_coefficients : Shape
-two_coefficients = record {
-  opened_widths = ((1 ∷ []) ∷ []) ∷ [];
-  num_commit_rounds = 1;
-  batch_pow_bits = 0;
-  commit_pow_bits = 0;
-  query_pow_bits = 0;
-  num_queries = 2;
-  index_bits = 4;
-  log_blowup = 1;
-  log_final_poly_len = 1;
-}
+two_coefficients = record example { index_bits = 4; log_final_poly_len = 1 }
 
 -- it has nine steps too, the last but one for both coefficients
 two_coefficients_steps : steps_of 3 two_coefficients
@@ -73,24 +65,28 @@ two_coefficients_steps : steps_of 3 two_coefficients
     ∷ elements_message 3 (codes "final_poly") 2
     ∷ numbers_challenge (codes "query_indices") 4 2
     ∷ []
-unfolding two_coefficients claim_steps batch_steps first_layer_steps round_steps rounds_steps query_steps
+unfolding two_coefficients example claim_steps batch_steps first_layer_steps round_steps
+    rounds_steps query_steps
 two_coefficients_steps = refl
 
 -- its seed's text is of 496 bytes, which begin with another version
 two_coefficients_length : length (text_of 3 two_coefficients) ≡ 496
-unfolding two_coefficients claim_steps batch_steps first_layer_steps round_steps rounds_steps query_steps layout batch_layout steps_text labels_text step_text be64
+unfolding two_coefficients example claim_steps batch_steps first_layer_steps round_steps
+    rounds_steps query_steps layout batch_layout steps_text labels_text step_text be64
 two_coefficients_length = refl
 
 two_coefficients_header : take 30 (text_of 3 two_coefficients)
     ≡ 2 ∷ 0 ∷ 0 ∷ 0 ∷ 0 ∷ 0 ∷ 0 ∷ 0 ∷ 13 ∷ 112 ∷ 51 ∷ 45 ∷ 99 ∷ 105 ∷ 114 ∷ 99 ∷ 108 ∷ 101 ∷ 45
     ∷ 112 ∷ 99 ∷ 115
     ∷ 0 ∷ 0 ∷ 0 ∷ 0 ∷ 0 ∷ 0 ∷ 0 ∷ 9 ∷ []
-unfolding two_coefficients claim_steps batch_steps first_layer_steps round_steps rounds_steps query_steps layout batch_layout steps_text labels_text step_text be64
+unfolding two_coefficients example claim_steps batch_steps first_layer_steps round_steps
+    rounds_steps query_steps layout batch_layout steps_text labels_text step_text be64
 two_coefficients_header = refl
 
 -- and end with the third label: its length, and the logarithm of the number of coefficients
 two_coefficients_end : drop 480 (text_of 3 two_coefficients) ≡ be64 8 ++ be64 1
-unfolding two_coefficients claim_steps batch_steps first_layer_steps round_steps rounds_steps query_steps layout batch_layout steps_text labels_text step_text be64
+unfolding two_coefficients example claim_steps batch_steps first_layer_steps round_steps
+    rounds_steps query_steps layout batch_layout steps_text labels_text step_text be64
 two_coefficients_end = refl
 
 -- proofs of work are steps where they have a difficulty

@@ -1,2 +1,3 @@
 pub mod Equal
+mod PowerAt
 pub mod SameRows

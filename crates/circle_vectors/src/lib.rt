@@ -2,10 +2,13 @@
 //! and the commitment schemes that they alone use.
 #![tactic(auto)]
 
+pub mod any_scheme;
 #[cfg(test)]
 mod claims;
 #[cfg(test)]
 mod commitments;
+#[cfg(test)]
+mod committing;
 #[cfg(test)]
 mod domains;
 #[cfg(test)]
@@ -37,3 +40,5 @@ mod transform;
 mod values;
 #[cfg(test)]
 mod verify;
+#[cfg(test)]
+mod words;

@@ -103,7 +103,7 @@ fn values_off_a_domain_and_off_a_larger_one(rt: HostRuntime) -> Result<(), Fail>
 }
 
 // `evaluate_at_point` of rows in the transform's order, after a test of what it asks.
-fn evaluate_in_cfft_order<M: Matrix<Mersenne31> + Drop>(
+pub(crate) fn evaluate_in_cfft_order<M: Matrix<Mersenne31> + Drop>(
     rt: &impl Abort,
     alloc: Global,
     domain: CircleDomain<Mersenne31>,
@@ -137,7 +137,7 @@ fn values_by_the_first_rows_alone(rt: HostRuntime) -> Result<(), Fail> {
 }
 
 // `lagrange_weights`, after a test of what it asks.
-fn weights(
+pub(crate) fn weights(
     rt: &impl Abort,
     alloc: Global,
     domain: CircleDomain<Mersenne31>,

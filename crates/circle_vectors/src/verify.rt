@@ -3,6 +3,7 @@ ghost use Rattle.std.specs.Prelude.{length};
 ghost use Rattle.std.specs.Int.{w64, to_be_bytes};
 ghost use Rattle.circle_vectors.specs.MatrixList.{matrices_of};
 
+use crate::any_scheme::accepts;
 use crate::matrix_list::MatrixList;
 use crate::schemes::ListMmcs;
 use circle_challenger::{CanObserve, CanSample, GrindingChallenger, Sha256Challenger};
@@ -161,6 +162,26 @@ fn zeros_are_accepted(rt: HostRuntime) -> Result<(), Fail> {
     assert_accepted(&rt, alloc, (Trees::new(), WordTrees::new()), EIGHT)?;
     assert_accepted(&rt, alloc, (ListMmcs, ListMmcs), FOUR)?;
     assert_accepted(&rt, alloc, (ListMmcs, ListMmcs), EIGHT)?;
+    Ok(())
+}
+
+// What a caller over any scheme answers of the zeros over this one.
+fn accepts_as_any(alloc: Global, zeros: Zeros<Trees, WordTrees>) -> Result<bool, AllocError> {
+    let Zeros {
+        scheme,
+        claims,
+        proof,
+    } = zeros;
+    accepts(alloc, &scheme, claims, &proof, &mut Sha256Challenger::new())
+}
+
+#[test]
+fn zeros_over_any_scheme(rt: HostRuntime) -> Result<(), Fail> {
+    let alloc = rt.alloc();
+    assert!(rt; accepts_as_any(alloc, honest(alloc, FOUR)?)?);
+    let mut changed = honest(alloc, FOUR)?;
+    changed.proof.fri_proof.final_poly = one(alloc, Cubic::ONE)?;
+    assert!(rt; !accepts_as_any(alloc, changed)?);
     Ok(())
 }
 

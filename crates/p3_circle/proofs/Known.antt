@@ -11,9 +11,9 @@ use Rattle.circle_commit.specs.Mmcs.{greatest}
 use Rattle.circle_commit.specs.declared.params.FriParameters.{FriParameters}
 use Rattle.circle_relation.specs.declared.error.InputError.{InputError}
 use Rattle.circle_relation.specs.Statement.{MatrixClaim, BatchClaim, OpeningProof, all_matrices, log_sizes, log_max_height}
-use Rattle.p3_circle.specs.Refusals.{domain_tests, sibling_tests, round_tests, rounds_tests, some_claim}
+use Rattle.circle_scheme.specs.Refusals.{domain_tests, sibling_tests, round_tests, rounds_tests, some_claim}
 use Rattle.p3_circle.specs.Tested.{rounds_due, IsTested}
-use Rattle.p3_circle.proofs.Passed.{AllPass, pass-front, pass-back, pass-both}
+use Rattle.circle_scheme.proofs.Passed.{AllPass, pass-front, pass-back, pass-both}
 use Rattle.p3_circle.proofs.Seeding.{claims_part, parameters_part, shape_part, final_part, points_part, height_of_claims}
 
 -- numbers that don't differ

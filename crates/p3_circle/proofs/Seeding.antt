@@ -18,10 +18,10 @@ use Rattle.circle_relation.specs.declared.proof.CircleCommitPhaseMultiStep.{Circ
 use Rattle.circle_relation.specs.Statement.{MatrixClaim, BatchClaim, OpeningProof, all_matrices, log_sizes, log_max_height}
 use Rattle.circle_relation.specs.StatementOf.{point_claim, matrix_claims, batch_claims}
 use Rattle.circle_relation.specs.RunOf.{opened_round}
-use Rattle.p3_circle.specs.Refusals.{Test, answer, claim_tests, domain_tests, parameter_tests, shape_tests, final_test, point_tests, some_point, some_claim, seeding_tests}
-use Rattle.p3_circle.proofs.Domains.{passed-value}
-use Rattle.p3_circle.proofs.Passed.{AllPass, passed, passes, pass-back, front_refuses, front_passes}
-use Rattle.p3_circle.proofs.Heights.{raised}
+use Rattle.circle_scheme.specs.Refusals.{Test, answer, claim_tests, domain_tests, parameter_tests, shape_tests, final_test, point_tests, some_point, some_claim, seeding_tests}
+use Rattle.circle_scheme.proofs.Domains.{passed-value}
+use Rattle.circle_scheme.proofs.Passed.{AllPass, passed, passes, pass-back, front_refuses, front_passes}
+use Rattle.circle_scheme.proofs.Heights.{raised}
 
 module _ {F E M Com WordCom InputProof WordProof C A B : Type 0} (two : ℕ) (is_zero : F → Bool) (is_infinite : E → Bool)
     (p : FriParameters M) (batches : List (BatchClaim Com E)) (proof : OpeningProof F E WordCom InputProof WordProof) where

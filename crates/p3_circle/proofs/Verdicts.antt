@@ -19,13 +19,15 @@ use Rattle.circle_relation.specs.Accepts.{Fields, Authenticates, Accepts}
 use Rattle.circle_relation.specs.Reasons.{IsReason}
 use Rattle.circle_relation.specs.RunOf.{setting_of, proof_of}
 use Rattle.circle_relation.proofs.Contradictions.{only_memory}
-use Rattle.p3_circle.specs.Refusals.{Test, answer, seeding_tests, is_at_infinity}
+use Rattle.circle_scheme.specs.Refusals.{Test, answer, seeding_tests, is_at_infinity}
 use Rattle.p3_circle.specs.Tested.{rounds_due, IsTested}
-use Rattle.p3_circle.specs.Verdict.{drawn_by, run_with, IsMissedIn, IsDrawnFrom, draw_from, AcceptsFrom}
+use Rattle.circle_opening.specs.Taken.{drawn_by}
+use Rattle.circle_scheme.specs.Verdict.{run_with, IsMissedIn, IsDrawnFrom, draw_from, AcceptsFrom}
 use Rattle.p3_circle.proofs.Known.{PartsPass, known, all_pass}
-use Rattle.p3_circle.proofs.Passed.{AllPass, passed, passes, pass-front, pass-back, pass-both}
+use Rattle.circle_scheme.proofs.Passed.{AllPass, passed, passes, pass-front, pass-back, pass-both}
 use Rattle.p3_circle.proofs.Seeding.{claims_part, parameters_part, shape_part, final_part, points_part, parts-are}
-use Rattle.p3_circle.proofs.Verified.{tested, not_true, false_not, betas-count, queries-count, challenges-told}
+use Rattle.circle_opening.proofs.Counts.{betas-count, queries-count}
+use Rattle.p3_circle.proofs.Verified.{tested, not_true, false_not, challenges-told}
 
 -- what holds where there is a value, of two facts, and of an error
 pub on_both : {T E A B P : Type 0} (x : Result T E) → (A → B → P) → OnOk x A → OnOk x B → OnOk x P
@@ -102,10 +104,10 @@ module _ {C S F E I W IC ID IP IE WC WD WP WE : Type 0} {g : Ghosts F} (k : Fiel
   i' t = is_at_infinity same k.extension t
 
   -- so many challenges and queries are drawn
-  pub queries-drawn : (old new : C) (c : Challenges E) → IsDrawnFrom k m p claims proof old c new → length c.queries ≡ p.num_queries
+  pub queries-drawn : (old new : S) (c : Challenges E) → IsDrawnFrom k m p claims proof old c new → length c.queries ≡ p.num_queries
   queries-drawn old new c is = queries-count m _ _ _ _ is
 
-  pub betas-drawn : (old new : C) (c : Challenges E) → Tested k two p claims proof eq null same → IsDrawnFrom k m p claims proof old c new → length c.betas ≡ rounds_due p (batch_claims claims)
+  pub betas-drawn : (old new : S) (c : Challenges E) → Tested k two p claims proof eq null same → IsDrawnFrom k m p claims proof old c new → length c.betas ≡ rounds_due p (batch_claims claims)
   betas-drawn old new c t is =
       let count = betas-count m _ _ _ _ is in
       let listed = length-map c.betas m.base.coefficients in
@@ -127,23 +129,23 @@ module _ {C S F E I W IC ID IP IE WC WD WP WE : Type 0} {g : Ghosts F} (k : Fiel
 
     module _ (inputs : I → Authenticates IC F IP) (words : W → Authenticates WC E WP) (mmcs : I) where
       -- what is accepted passes the tests
-      pub accepted-passes : (old left : C) → AcceptsFrom k m inputs words mmcs p claims proof two old left → answer (tests k two p claims proof eq null same) (tt {0}) ≡ Ok (tt {0})
+      pub accepted-passes : (old left : S) → AcceptsFrom k m inputs words mmcs p claims proof two old left → answer (tests k two p claims proof eq null same) (tt {0}) ≡ Ok (tt {0})
       accepted-passes old left a =
           answer-of k two p claims proof eq null same (tested k two z' i' p (batch_claims claims) (proof_of proof) a.drawn (queries-drawn old left a.drawn a.draws) zero-from finite-from a.accepts)
 
       -- a phase that is missed is not accepted
-      pub missed-memory : (old left : C) (e : FriError WE (InputError IE WE)) → (e ≡ Memory) ⊎ IsMissedIn (draw_from k m p claims proof old) e →
+      pub missed-memory : (old left : S) (e : FriError WE (InputError IE WE)) → (e ≡ Memory) ⊎ IsMissedIn (draw_from k m p claims proof old) e →
           AcceptsFrom k m inputs words mmcs p claims proof two old left → e ≡ Memory
       missed-memory old left e (inl memory) a = memory
       missed-memory old left e (inr miss) a = absurd (not_both (draw_from k m p claims proof old) _ _ a.draws miss.missed)
 
       -- nor is what there is reason to refuse
-      pub reason-memory : ((a b : E) → m.base.coefficients a ≡ m.base.coefficients b → a ≡ b) → (input_memory : IE → Bool) (word_memory : WE → Bool) (old new left : C) (c : Challenges E) (e : FriError WE (InputError IE WE)) →
+      pub reason-memory : ((a b : E) → m.base.coefficients a ≡ m.base.coefficients b → a ≡ b) → (input_memory : IE → Bool) (word_memory : WE → Bool) (old new left : S) (c : Challenges E) (e : FriError WE (InputError IE WE)) →
           IsDrawnFrom k m p claims proof old c new → IsReason (setting_of k p) (run_with claims proof c) (inputs mmcs) (words p.mmcs) input_memory word_memory e →
           AcceptsFrom k m inputs words mmcs p claims proof two old left → e ≡ Memory
       reason-memory told input_memory word_memory old new left c e is why a =
-          let both : Ok (drawn_by m.base.coefficients c (m.base.state new)) ≡ Ok (drawn_by m.base.coefficients a.drawn (m.base.state left)) = sym is ∙ a.draws in
-          let drawn : drawn_by m.base.coefficients c (m.base.state new) ≡ drawn_by m.base.coefficients a.drawn (m.base.state left) = cc in
-          let one = challenges-told m.base.coefficients told c a.drawn (m.base.state new) (m.base.state left) drawn in
+          let both : Ok (drawn_by m.base.coefficients c new) ≡ Ok (drawn_by m.base.coefficients a.drawn left) = sym is ∙ a.draws in
+          let drawn : drawn_by m.base.coefficients c new ≡ drawn_by m.base.coefficients a.drawn left = cc in
+          let one = challenges-told m.base.coefficients told c a.drawn new left drawn in
           let accepts = subst (λ d. Accepts (setting_of k p) (run_with claims proof d) p two (inputs mmcs) (words p.mmcs)) (sym one) a.accepts in
           only_memory (setting_of k p) (run_with claims proof c) (inputs mmcs) (words p.mmcs) input_memory word_memory e why accepts.inputs_shape accepts.fit.claimed accepts.fit.large accepts.holds

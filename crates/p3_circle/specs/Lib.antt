@@ -1,5 +1,3 @@
+pub mod SchemeLaws
 pub mod Constant
-pub mod Refusals
-pub mod Taken
 pub mod Tested
-pub mod Verdict

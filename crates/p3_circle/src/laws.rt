@@ -1,10 +1,11 @@
-//! Laws of the relation that a verifier decides. The calls of this module answer nothing and carry
-//! what their contracts say.
+//! Laws of the relation that a verifier decides, and of claims on words. The calls of this module
+//! answer nothing and carry what their contracts say.
 ghost use Rattle.circle_relation.specs.RunOf.{setting_in, run_of};
 ghost use Rattle.p3_circle.specs.Constant.{IsSameOfConstants};
 
 use circle_commit::Mmcs;
 use circle_field::{ComplexExtendable, ExtensionField};
+pub use circle_laws::{claim_binds, quotient_binds};
 use circle_relation::{OpenedRun, OverCircle};
 
 /// Where the final polynomial is a constant, the relation holds exactly where that of one final

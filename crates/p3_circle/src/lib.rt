@@ -16,14 +16,36 @@
 //! - `verify_queries` is Ok only where a run meets what the relation says of it once the challenges
 //!   are drawn (`opened`, `holds`), and what it refuses has its reason (`refused`).
 //! - `CirclePcs::new` keeps what it is given.
+//! - `CirclePcs::commit` commits to, and `get_quotient_ldes` answers, for each matrix the values of
+//!   the only polynomials with the given rows on the given domain, at the points of a standard
+//!   domain in the transform's order (`matrices`, by `IsExtension`). `commit_ldes` commits to what
+//!   it was handed. `get_evaluations_on_domain` answers the committed rows on their own domain, and
+//!   elsewhere the values of the polynomials that the first rows fix (`values`, by
+//!   `AreCommittedValues`). Each refuses, by tests over its input in order, the first that there is
+//!   reason for, and nothing else but memory (`refused`, by `RefusesInOrder`).
+//!   `natural_domain_for_degree` answers the standard domain of so many points, and
+//!   `build_periodic_lde_table` the table of `circle_plane`.
 //!
-//! There is no `commit` and no `open` yet: nothing here makes a proof.
+//! - `CirclePcs::open` refuses, by tests over all requests in order, the first that there is reason
+//!   for, and leaves the challenger as it was (`refused`). Otherwise it answers for each request,
+//!   matrix and point the values of the polynomials that the first committed rows fix (`values`),
+//!   and a proof that holds the commitments of the words under the challenges that the transcript
+//!   draws of the claims and the proof, their lambdas, the last word's coefficients, and the rows
+//!   and siblings at the drawn indices (`proof`, by `IsOpening` of `circle_opening`); a later
+//!   refusal has its reason (`failure`): `LastWordNotConstant` is answered only where, under some
+//!   challenges, the last word is of too high degree, which it never is of matrices of low degree
+//!   (`honest_openings_end_low` of `circle_completeness`: `never`).
+//!
+//! That `verify` accepts what `open` answers of an honest statement is not proved yet.
 #![tactic(auto)]
 
+mod commit;
+mod instance;
 pub mod laws;
 pub mod pcs;
 pub mod queries;
 mod replay;
+mod requests;
 pub mod transcript;
 mod verdict;
 pub mod verifier;
@@ -32,6 +54,8 @@ pub use circle_final::{x_interpolate, x_value};
 pub use circle_folding::{
     CircleFriFolding, deep_quotient_reduce_row, extract_lambda, fold_x, fold_x_row, fold_y,
 };
+pub use circle_opening::ProverError;
+pub use circle_pcs::{Pcs, UnivariateStarkPcs, round_trip};
 pub use circle_plane::{
     CfftPerm, CfftPermutable, CfftView, CircleCoset, CircleDomain, CircleEvaluations,
     CirclePeriodicEvaluator, CirclePoints, Neutral, PeriodicError, Point,
@@ -40,6 +64,7 @@ pub use circle_plane::{
 pub use circle_relation::{
     CircleCommitPhaseMultiStep, CircleFriProof, CircleInputProof, CirclePcsProof, InputError,
 };
+pub use commit::heights_match_domains;
 pub use pcs::CirclePcs;
 pub use transcript::{
     CircleDraws, CirclePcsShape, CircleProverTranscript, CircleTranscript, CircleTranscriptFailure,

@@ -1,15 +1,38 @@
 //! The scheme.
-ghost use Rattle.std.specs.Prelude.{◌≡◌, OnOk, IfErr};
+ghost use Rattle.std.specs.Prelude.{◌≡◌, ◌+◌, ◌-◌, ◌^◌, ◌<◌, ◌≤◌, length, min};
+ghost use Rattle.std.specs.Prelude.{OnOk, IfOk, IfErr};
+ghost use Rattle.std.specs.List.{AllZip};
+ghost use Rattle.circle_commit.specs.Matrix.{IsPowerOfTwo};
+ghost use Rattle.circle_commit.specs.Mmcs.{HaveHeightsOfPowers};
+ghost use Rattle.circle_commit.specs.Pcs.{openings};
 ghost use Rattle.circle_commit.specs.declared.error.FriError.TheVariants.{Memory};
+ghost use Rattle.circle_domain.specs.Domain.{log_size, IsStandardDomain};
+ghost use Rattle.circle_plane.specs.PeriodicColumns.{columns_of, IsTableOn, IsRefusedOn};
 ghost use Rattle.circle_relation.specs.StatementOf.{batch_claims};
 ghost use Rattle.circle_relation.specs.RunOf.{proof_of};
-ghost use Rattle.p3_circle.specs.Verdict.{IsFirstRefusal, IfSeeded, AcceptsFrom, IsRefused};
+ghost use Rattle.circle_scheme.specs.Committing.{RefusesInOrder, commit_tests, evaluation_tests};
+ghost use Rattle.circle_scheme.specs.Committing.{lde_tests, height_at, target_tests_at};
+ghost use Rattle.circle_scheme.specs.Committing.{HaveRowsForPoints, AreExtensions, AreValuesOfMatrix};
+ghost use Rattle.circle_opening.specs.Opening.{IsFailure, IsOpening};
+ghost use Rattle.circle_opening.specs.Requests.{AreAnswers};
+ghost use Rattle.circle_scheme.specs.Scheme.{HaveCommittedHeights};
+ghost use Rattle.circle_scheme.specs.Requesting.{IfPassed, RefusesBefore, opening_tests};
+ghost use Rattle.circle_scheme.specs.Verdict.{IsFirstRefusal, IfSeeded, AcceptsFrom, IsRefused};
 
+use crate::commit::{
+    commit_evaluations, commit_matrices, evaluations_on, log_min_trace_height, quotient_ldes,
+};
+use crate::requests::validate_requests;
 use crate::verdict::verify_claims;
 use circle_challenger::{CanObserve, CanSample, GrindingChallenger, RunChallenger};
-use circle_commit::{CommitmentOpening, FriError, FriParameters, Mmcs};
+use circle_commit::{
+    CommitmentOpening, FriError, FriParameters, Mmcs, OpenedValues, OpeningRequest,
+    PeriodicLdeTable, RowMajorMatrix, log2_strict,
+};
 use circle_domain::CircleDomain;
 use circle_field::{ComplexExtendable, ExtensionField, Field};
+use circle_opening::{ProverError, open_requests};
+use circle_plane::{PeriodicError, build_periodic_lde_table_circle};
 use circle_relation::{CirclePcsProof, InputError, OverCircle};
 use std::alloc::Global;
 use std::marker::PhantomData;
@@ -42,6 +65,104 @@ impl<Val: Field, InputMmcs, FriMmcs> CirclePcs<Val, InputMmcs, FriMmcs> {
 }
 
 impl<Val: ComplexExtendable, InputMmcs: Mmcs<Val>, FriMmcs> CirclePcs<Val, InputMmcs, FriMmcs> {
+    /// Whether what is opened hides the rest of what was committed to: it doesn't.
+    pub const ZK: bool = false;
+
+    /// The domain on which a polynomial of `degree` coefficients is given: the standard one of so
+    /// many points.
+    ///
+    /// Asks a power of two from 2 up, of which the group has the standard domain.
+    pub fn natural_domain_for_degree(&self, degree: usize) -> CircleDomain<Val>
+        requires power { IsPowerOfTwo degree }
+        requires from_two { 2 ≤ degree }
+        requires in_group { degree < 2 ^ Val.CIRCLE_TWO_ADICITY }
+        ensures size { 2 ^ log_size result ≡ degree }
+        ensures standard { IsStandardDomain Val.CIRCLE_TWO_ADICITY Val.generators result }
+    {
+        CircleDomain::standard(log2_strict(degree))
+    }
+
+    /// Commits to matrices, each with the domain on which its columns are values of polynomials, a
+    /// row for each point in natural order. What is committed to are the polynomials' values on the
+    /// standard domain of `2^log_blowup` times as many points, in the transform's order (Circle
+    /// STARKs, IACR ePrint 2024/278, sections 4.3 and 6).
+    ///
+    /// Asks one row for each point. Refuses, by tests that take no memory, `NoCommittedMatrices`
+    /// where there is no matrix, and then by the first of these, matrix after matrix:
+    /// `HeightTooSmall` where the domain has fewer than `2^log_min_trace_height` points,
+    /// `HeightTooLarge` where the group has no standard domain to extend to, and `NotGenuine` where
+    /// the domain's halves meet. `Memory` where memory is refused.
+    pub fn commit(
+        &self,
+        alloc: Global,
+        evaluations: Vec<(CircleDomain<Val>, RowMajorMatrix<Val>)>,
+    ) -> Result<(InputMmcs::Commitment, InputMmcs::ProverData), ProverError>
+        requires { HaveRowsForPoints evaluations.items }
+        ensures refused { RefusesInOrder (commit_tests Val.CIRCLE_TWO_ADICITY self.now.fri_params
+            Val.eq Val.ops evaluations.items) result }
+        ensures matrices { IfOk result (λ r. AreExtensions Val.ops Val.generators
+            self.now.fri_params.log_blowup evaluations.items (InputMmcs.matrices r.1)) }
+        ensures commitment { IfOk result (λ r.
+            InputMmcs.commits self.now.mmcs (InputMmcs.matrices r.1) r.0) }
+    {
+        commit_evaluations(alloc, &self.mmcs, &self.fri_params, evaluations)
+    }
+
+    /// Opens committed matrices at points: for each request, matrix and point the values of the
+    /// columns' polynomials, and the proof of them all (Circle STARKs, IACR ePrint 2024/278,
+    /// sections 4 to 6). The values are those of the polynomials that the first committed rows fix,
+    /// as many rows as there were before the blowup. A matrix may be opened at no point; `verify`
+    /// refuses it.
+    ///
+    /// Asks that the matrices have heights that are powers of two, as committed ones do. Before the
+    /// challenger is seeded it is left as it was, and the first of these is answered, each tested
+    /// over all requests, by tests that take no memory: `UnfitParameters`, `NoCommittedMatrices`,
+    /// `MatrixCountMismatch`, `HeightTooSmall` and `HeightTooLarge` matrix after matrix,
+    /// `PointAtInfinity`, `PointOnDomain`.
+    ///
+    /// Then `NoGrindingWitness` of a phase where no witness passes, `LastWordNotConstant` where a
+    /// matrix that `commit_ldes` took isn't of low degree, and `Memory` where memory is refused;
+    /// these leave the challenger's state open. The commitments are not observed, which is the
+    /// caller's to do.
+    pub fn open<EF: ExtensionField<Val>, C>(
+        &self,
+        alloc: Global,
+        requests: Vec<OpeningRequest<InputMmcs::ProverData, EF>>,
+        challenger: &mut C,
+    ) -> Result<
+        (
+            OpenedValues<EF>,
+            CirclePcsProof<Val, EF, InputMmcs, FriMmcs, Val>,
+        ),
+        ProverError,
+    >
+    where
+        FriMmcs: Mmcs<EF>,
+        C: CanSample<Val> + GrindingChallenger<Val> + CanObserve<FriMmcs::Commitment>,
+        requires { HaveCommittedHeights InputMmcs.matrices requests.items }
+        ensures refused { RefusesBefore (opening_tests InputMmcs.matrices requests.entry.items
+            Val.CIRCLE_TWO_ADICITY self.now.fri_params ⟦<EF as OverCircle<Val>>⟧.fields EF.eq)
+            result challenger.old challenger.new }
+        ensures values { IfOk result (λ r. AllZip (AreAnswers InputMmcs.matrices
+            ⟦<EF as OverCircle<Val>>⟧.fields self.now.fri_params.log_blowup) requests.entry.items
+            (openings r.0.items)) }
+        ensures proof { let m = ⟦<C as RunChallenger<Val, EF, FriMmcs::Commitment>>⟧.run in
+            IfOk result (λ r. IsOpening self.now.fri_params InputMmcs.matrices requests.entry.items
+            (openings r.0.items) ⟦<EF as OverCircle<Val>>⟧.fields m (proof_of r.1)
+            (InputMmcs.commits self.now.mmcs) (InputMmcs.authenticates self.now.mmcs)
+            (FriMmcs.commits self.now.fri_params.mmcs)
+            (FriMmcs.authenticates self.now.fri_params.mmcs) (C.state challenger.old)
+            (C.state challenger.new)) }
+        ensures failure { let m = ⟦<C as RunChallenger<Val, EF, FriMmcs::Commitment>>⟧.run in
+            IfPassed (opening_tests InputMmcs.matrices requests.entry.items Val.CIRCLE_TWO_ADICITY
+            self.now.fri_params ⟦<EF as OverCircle<Val>>⟧.fields EF.eq) result (IsFailure
+            ⟦<EF as OverCircle<Val>>⟧.fields m self.now.fri_params InputMmcs.matrices
+            requests.entry.items (C.state challenger.old)) }
+    {
+        validate_requests::<Val, EF, InputMmcs, FriMmcs>(&self.mmcs, &self.fri_params, &requests)?;
+        open_requests(alloc, &self.mmcs, &self.fri_params, &requests, challenger)
+    }
+
     /// Whether the claimed values are those of the committed polynomials (Circle STARKs, IACR
     /// ePrint 2024/278, sections 4 to 6): Ok exactly where the relation `Accepts` holds of the
     /// claims, the proof and the challenges that are drawn, memory aside. Takes any input: what is
@@ -77,17 +198,18 @@ impl<Val: ComplexExtendable, InputMmcs: Mmcs<Val>, FriMmcs> CirclePcs<Val, Input
         ensures accepted { let m = ⟦<C as RunChallenger<Val, EF, FriMmcs::Commitment>>⟧.run in
             OnOk result (AcceptsFrom ⟦<EF as OverCircle<Val>>⟧.fields m InputMmcs.authenticates
             FriMmcs.authenticates self.now.mmcs self.now.fri_params claims.items proof.now
-            Val.CIRCLE_TWO_ADICITY challenger.old challenger.new) }
+            Val.CIRCLE_TWO_ADICITY (C.state challenger.old) (C.state challenger.new)) }
         ensures complete { let m = ⟦<C as RunChallenger<Val, EF, FriMmcs::Commitment>>⟧.run in
-            IfErr result (λ e. (left : C) → AcceptsFrom ⟦<EF as OverCircle<Val>>⟧.fields m
+            IfErr result (λ e. (left : C.State) → AcceptsFrom ⟦<EF as OverCircle<Val>>⟧.fields m
             InputMmcs.authenticates FriMmcs.authenticates self.now.mmcs self.now.fri_params
-            claims.items proof.now Val.CIRCLE_TWO_ADICITY challenger.old left → e ≡ Memory) }
+            claims.items proof.now Val.CIRCLE_TWO_ADICITY (C.state challenger.old) left
+            → e ≡ Memory) }
         ensures later { let m = ⟦<C as RunChallenger<Val, EF, FriMmcs::Commitment>>⟧.run in
             IfSeeded Val.eq Val.ZERO EF.eq EF.ops Val.CIRCLE_TWO_ADICITY self.now.fri_params
             (batch_claims claims.items) (proof_of proof.now) result (IsRefused
             ⟦<EF as OverCircle<Val>>⟧.fields m InputMmcs.authenticates FriMmcs.authenticates
             self.now.mmcs self.now.fri_params claims.items proof.now InputMmcs.is_memory
-            FriMmcs.is_memory challenger.old challenger.new) }
+            FriMmcs.is_memory (C.state challenger.old) (C.state challenger.new)) }
     {
         verify_claims(
             alloc,
@@ -97,5 +219,109 @@ impl<Val: ComplexExtendable, InputMmcs: Mmcs<Val>, FriMmcs> CirclePcs<Val, Input
             proof,
             challenger,
         )
+    }
+
+    /// The binary logarithm of the greatest number of rows that the group has a standard domain
+    /// for. With a blowup the rows that can be committed to are fewer.
+    pub fn log_max_trace_height(&self) -> usize
+        ensures { result ≡ Val.CIRCLE_TWO_ADICITY - 1 }
+    {
+        Val::CIRCLE_TWO_ADICITY - 1
+    }
+
+    /// The binary logarithm of the least number of rows that can be folded: 2 more than that of the
+    /// number of coefficients at which folding stops, or `usize::MAX` where the sum passes it.
+    pub fn log_min_trace_height(&self) -> usize
+        ensures { result ≡ min (2 + self.now.fri_params.log_final_poly_len) (2 ^ 64 - 1) }
+    {
+        log_min_trace_height(&self.fri_params)
+    }
+
+    /// The matrices that [`commit`](CirclePcs::commit) would commit to, uncommitted. The number of
+    /// chunks has no effect.
+    ///
+    /// Asks and refuses what `commit` does, but takes no matrices too.
+    pub fn get_quotient_ldes(
+        &self,
+        alloc: Global,
+        evaluations: Vec<(CircleDomain<Val>, RowMajorMatrix<Val>)>,
+        _num_chunks: usize,
+    ) -> Result<Vec<RowMajorMatrix<Val>>, ProverError>
+        requires { HaveRowsForPoints evaluations.items }
+        ensures refused { RefusesInOrder (evaluation_tests Val.CIRCLE_TWO_ADICITY
+            self.now.fri_params Val.eq Val.ops evaluations.items) result }
+        ensures matrices { IfOk result (λ made. AreExtensions Val.ops Val.generators
+            self.now.fri_params.log_blowup evaluations.items made.items) }
+    {
+        quotient_ldes(alloc, &self.fri_params, evaluations)
+    }
+
+    /// Commits to matrices as they are, each on the standard domain of as many points as it has
+    /// rows, in the transform's order.
+    ///
+    /// Asks heights that are powers of two. Refuses, by tests that take no memory,
+    /// `NoCommittedMatrices` where there is no matrix, and then by the first of these, matrix after
+    /// matrix: `HeightTooSmall` below `2^(log_blowup + log_min_trace_height)` rows, and
+    /// `HeightTooLarge` from `2^CIRCLE_TWO_ADICITY` rows. `Memory` where memory is refused.
+    pub fn commit_ldes(
+        &self,
+        alloc: Global,
+        ldes: Vec<RowMajorMatrix<Val>>,
+    ) -> Result<(InputMmcs::Commitment, InputMmcs::ProverData), ProverError>
+        requires { HaveHeightsOfPowers ldes.items }
+        ensures refused { RefusesInOrder
+            (lde_tests Val.CIRCLE_TWO_ADICITY self.now.fri_params ldes.items) result }
+        ensures matrices { IfOk result (λ r. InputMmcs.matrices r.1 ≡ ldes.items) }
+        ensures commitment { IfOk result (λ r. InputMmcs.commits self.now.mmcs ldes.items r.0) }
+    {
+        commit_matrices(alloc, &self.mmcs, &self.fri_params, ldes)
+    }
+
+    /// The values on a domain, in natural order, of the polynomials that a committed matrix is of:
+    /// on the domain that it is committed on its rows in natural order, elsewhere the values by the
+    /// coefficients that its first rows fix, as many as the trace had rows.
+    ///
+    /// Asks the index of a committed matrix, of which the height is a power of two, and a domain
+    /// with `1 <= log_n <= CIRCLE_TWO_ADICITY`. Refuses, by tests that take no memory,
+    /// `HeightTooSmall` and `HeightTooLarge` as [`commit_ldes`](CirclePcs::commit_ldes) does, and
+    /// then `DomainSmallerThanTrace` where the domain has fewer points than the trace had rows.
+    /// `Memory` where memory is refused.
+    pub fn get_evaluations_on_domain(
+        &self,
+        alloc: Global,
+        prover_data: &InputMmcs::ProverData,
+        idx: usize,
+        domain: CircleDomain<Val>,
+    ) -> Result<RowMajorMatrix<Val>, ProverError>
+        requires in_range { idx < length (InputMmcs.matrices prover_data.now) }
+        requires power { IsPowerOfTwo (height_at (InputMmcs.matrices prover_data.now) idx) }
+        requires positive { 1 ≤ log_size domain }
+        requires in_group { log_size domain ≤ Val.CIRCLE_TWO_ADICITY }
+        ensures refused { RefusesInOrder (target_tests_at Val.CIRCLE_TWO_ADICITY
+            self.now.fri_params (InputMmcs.matrices prover_data.now) idx (log_size domain)) result }
+        ensures values { IfOk result (AreValuesOfMatrix Val.ops Val.generators
+            self.now.fri_params.log_blowup (InputMmcs.matrices prover_data.now) idx domain) }
+    {
+        let committed = &self.mmcs.get_matrices(prover_data)[idx];
+        evaluations_on(alloc, &self.fri_params, committed, domain)
+    }
+
+    /// The values of periodic columns of a trace at the points of an extension of its domain, as
+    /// [`build_periodic_lde_table_circle`] gives them, with the same conditions and refusals.
+    pub fn build_periodic_lde_table(
+        &self,
+        alloc: Global,
+        periodic_cols: &[Vec<Val>],
+        trace_domain: CircleDomain<Val>,
+        quotient_domain: CircleDomain<Val>,
+    ) -> Result<PeriodicLdeTable<Val>, PeriodicError>
+        requires larger { log_size trace_domain ≤ log_size quotient_domain }
+        requires in_group { log_size trace_domain < Val.CIRCLE_TWO_ADICITY }
+        ensures table { IfOk result (IsTableOn Val.ops Val.generators Val.CIRCLE_TWO_ADICITY
+            trace_domain quotient_domain (columns_of periodic_cols.now)) }
+        ensures refusal { IfErr result (IsRefusedOn
+            trace_domain quotient_domain (columns_of periodic_cols.now)) }
+    {
+        build_periodic_lde_table_circle(alloc, periodic_cols, &trace_domain, &quotient_domain)
     }
 }

@@ -4,9 +4,9 @@ ghost use Rattle.circle_relation.specs.StatementOf.{batch_claims};
 ghost use Rattle.circle_relation.specs.Accepts.{Accepts};
 ghost use Rattle.circle_relation.specs.Reasons.{IsReason};
 ghost use Rattle.circle_relation.specs.RunOf.{setting_of, proof_of, run_of, IsDrawn, IsOpened, Holds, Refuses};
-ghost use Rattle.p3_circle.specs.Refusals.{is_at_infinity};
+ghost use Rattle.circle_scheme.specs.Refusals.{is_at_infinity};
 ghost use Rattle.p3_circle.specs.Tested.{claimed_top, rounds_due, IsTested};
-ghost use Rattle.p3_circle.specs.Verdict.{challenges_of, run_with};
+ghost use Rattle.circle_scheme.specs.Verdict.{challenges_of, run_with};
 
 use circle_commit::{CommitmentOpening, FriError, FriParameters, Mmcs};
 use circle_domain::CircleDomain;

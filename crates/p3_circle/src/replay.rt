@@ -8,10 +8,10 @@ ghost use Rattle.circle_relation.specs.StatementOf.{point_claim, matrix_claims, 
 ghost use Rattle.circle_transcript.specs.Claims.{claims_of};
 ghost use Rattle.circle_transcript.specs.ShapeOf.{matrices_of, batches_of};
 ghost use Rattle.circle_transcript.specs.Runs.{drawn_of};
-ghost use Rattle.p3_circle.specs.Refusals.{is_at_infinity};
-ghost use Rattle.p3_circle.specs.Taken.{widths_by, point_taken, claims_taken};
+ghost use Rattle.circle_scheme.specs.Refusals.{is_at_infinity};
+ghost use Rattle.circle_opening.specs.Taken.{widths_by, point_taken, claims_taken};
 ghost use Rattle.p3_circle.specs.Tested.{claimed_top, IsTested};
-ghost use Rattle.p3_circle.specs.Verdict.{drawing, refusal_of, IsMissedIn};
+ghost use Rattle.circle_scheme.specs.Verdict.{drawing, refusal_of, IsMissedIn};
 
 use circle_challenger::{CanObserve, CanSample, GrindingChallenger, RunChallenger};
 use circle_commit::{
@@ -161,12 +161,12 @@ where
     requires top { log_max_height ≡ claimed_top params.now (batch_claims claims.now) }
     ensures drawn { let m = ⟦<C as RunChallenger<Val, EF, FriMmcs::Commitment>>⟧.run in
         let drawn = drawing m params.now EF.ops (batch_claims claims.now) (proof_of proof.now) in
-        IfOk result (λ d. drawn challenger.old
+        IfOk result (λ d. drawn (C.state challenger.old)
         ≡ Ok (drawn_of EF.coefficients d (C.state challenger.new))) }
     ensures below { IfOk result (λ d. All (λ q. q < 2 ^ log_max_height) d.indices.items) }
     ensures failure { let m = ⟦<C as RunChallenger<Val, EF, FriMmcs::Commitment>>⟧.run in
         let drawn = drawing m params.now EF.ops (batch_claims claims.now) (proof_of proof.now) in
-        IfErr result (λ e. (e ≡ Memory) ⊎ IsMissedIn (drawn challenger.old) e) }
+        IfErr result (λ e. (e ≡ Memory) ⊎ IsMissedIn (drawn (C.state challenger.old)) e) }
 {
     let widths = opened_widths(alloc, claims)?;
     let extra_bits = FriFoldingStrategy::<Val, EF>::extra_query_index_bits(&CircleFriFolding);

@@ -3,7 +3,7 @@ ghost use Rattle.std.specs.Prelude.{◌≡◌, OnOk, IfErr};
 ghost use Rattle.circle_commit.specs.declared.error.FriError.TheVariants.{Memory};
 ghost use Rattle.circle_relation.specs.StatementOf.{batch_claims};
 ghost use Rattle.circle_relation.specs.RunOf.{proof_of};
-ghost use Rattle.p3_circle.specs.Verdict.{IsFirstRefusal, IfSeeded, AcceptsFrom, IsRefused};
+ghost use Rattle.circle_scheme.specs.Verdict.{IsFirstRefusal, IfSeeded, AcceptsFrom, IsRefused};
 
 use crate::queries::verify_drawn;
 use crate::replay::replay_transcript;
@@ -39,17 +39,17 @@ where
     ensures accepted { let m = ⟦<C as RunChallenger<Val, EF, FriMmcs::Commitment>>⟧.run in
         OnOk result (AcceptsFrom ⟦<EF as OverCircle<Val>>⟧.fields m InputMmcs.authenticates
         FriMmcs.authenticates mmcs.now params.now claims.now proof.now Val.CIRCLE_TWO_ADICITY
-        challenger.old challenger.new) }
+        (C.state challenger.old) (C.state challenger.new)) }
     ensures complete { let m = ⟦<C as RunChallenger<Val, EF, FriMmcs::Commitment>>⟧.run in
-        IfErr result (λ e. (left : C) → AcceptsFrom ⟦<EF as OverCircle<Val>>⟧.fields m
+        IfErr result (λ e. (left : C.State) → AcceptsFrom ⟦<EF as OverCircle<Val>>⟧.fields m
         InputMmcs.authenticates FriMmcs.authenticates mmcs.now params.now claims.now proof.now
-        Val.CIRCLE_TWO_ADICITY challenger.old left → e ≡ Memory) }
+        Val.CIRCLE_TWO_ADICITY (C.state challenger.old) left → e ≡ Memory) }
     ensures later { let m = ⟦<C as RunChallenger<Val, EF, FriMmcs::Commitment>>⟧.run in
         IfSeeded Val.eq Val.ZERO EF.eq EF.ops Val.CIRCLE_TWO_ADICITY params.now
         (batch_claims claims.now) (proof_of proof.now) result (IsRefused
         ⟦<EF as OverCircle<Val>>⟧.fields m InputMmcs.authenticates FriMmcs.authenticates
         mmcs.now params.now claims.now proof.now InputMmcs.is_memory FriMmcs.is_memory
-        challenger.old challenger.new) }
+        (C.state challenger.old) (C.state challenger.new)) }
 {
     let log_max_height = validate_run::<Val, EF, InputMmcs, FriMmcs>(params, claims, proof)?;
     let draws = replay_transcript::<Val, EF, InputMmcs, FriMmcs, C>(

@@ -4,7 +4,7 @@ ghost use Rattle.std.specs.List.{list_all, list_any};
 ghost use Rattle.circle_commit.specs.Mmcs.{greatest};
 ghost use Rattle.circle_relation.specs.Statement.{all_matrices, log_sizes, log_max_height};
 ghost use Rattle.circle_relation.specs.StatementOf.{matrix_claims, batch_claims};
-ghost use Rattle.p3_circle.specs.Refusals.{answer, domain_tests, claim_tests, grinding_test, parameter_tests, witness_test, sibling_tests, round_tests, rounds_tests, shape_tests, final_test, is_at_infinity, point_tests, some_point, seeding_tests};
+ghost use Rattle.circle_scheme.specs.Refusals.{answer, domain_tests, claim_tests, grinding_test, parameter_tests, witness_test, sibling_tests, round_tests, rounds_tests, shape_tests, final_test, is_at_infinity, point_tests, some_point, seeding_tests};
 ghost use Rattle.circle_relation.specs.RunOf.{proof_of};
 
 use circle_commit::{
@@ -19,7 +19,7 @@ const MAX_PROOF_OF_WORK_BITS: usize = 30;
 
 // The greatest logarithm of a domain of a batch, or 0 where it claims no matrix. Refuses the first
 // domain that leaves nothing to fold.
-#[tactic(auto, unfolding(crate::specs::Refusals::answer))]
+#[tactic(auto, unfolding(circle_scheme::specs::Refusals::answer))]
 fn greatest_domain_of<F: ComplexExtendable, E, CommitErr, InputMmcsErr, FriMmcsErr>(
     matrices: &[MatrixOpening<E, CircleDomain<F>>],
     log_final_poly_len: usize,
@@ -40,7 +40,7 @@ fn greatest_domain_of<F: ComplexExtendable, E, CommitErr, InputMmcsErr, FriMmcsE
 
 // The greatest logarithm of a claimed domain, or 0 where no matrix is claimed. Refuses the first
 // domain that leaves nothing to fold.
-#[tactic(auto, unfolding(crate::specs::Refusals::answer))]
+#[tactic(auto, unfolding(circle_scheme::specs::Refusals::answer))]
 fn greatest_domain<F: ComplexExtendable, E, Com, CommitErr, InputMmcsErr, FriMmcsErr>(
     claims: &[CommitmentOpening<E, Com, CircleDomain<F>>],
     log_final_poly_len: usize,
@@ -64,7 +64,7 @@ fn greatest_domain<F: ComplexExtendable, E, Com, CommitErr, InputMmcsErr, FriMmc
 /// - `GlobalMaxHeightTooLarge` where the group has no domain of the greatest height's points.
 ///
 /// Takes no memory.
-#[tactic(auto, unfolding(crate::specs::Refusals::answer))]
+#[tactic(auto, unfolding(circle_scheme::specs::Refusals::answer))]
 pub fn validate_claims<F: ComplexExtendable, E, Com, CommitErr, InputMmcsErr, FriMmcsErr>(
     claims: &[CommitmentOpening<E, Com, CircleDomain<F>>],
     log_blowup: usize,
@@ -90,7 +90,7 @@ pub fn validate_claims<F: ComplexExtendable, E, Com, CommitErr, InputMmcsErr, Fr
 }
 
 // Refuses a difficulty past what is supported.
-#[tactic(auto, unfolding(crate::specs::Refusals::answer))]
+#[tactic(auto, unfolding(circle_scheme::specs::Refusals::answer))]
 fn check_grinding<CommitErr, InputErr>(
     phase: PowPhase,
     bits: usize,
@@ -109,7 +109,7 @@ fn check_grinding<CommitErr, InputErr>(
 /// - `ZeroQueries` where there are no queries.
 /// - `ZeroBlowup` where the codewords are no longer than what they encode.
 /// - `UnsupportedFoldingCap` where a round may fold by another number than two.
-#[tactic(auto, unfolding(crate::specs::Refusals::answer))]
+#[tactic(auto, unfolding(circle_scheme::specs::Refusals::answer))]
 pub fn validate_parameters<M, CommitErr, InputErr>(
     params: &FriParameters<M>,
 ) -> Result<(), FriError<CommitErr, InputErr>>
@@ -142,7 +142,7 @@ fn are_zero<Witness: Field>(witnesses: &[Witness]) -> bool
 // Refuses witnesses that are not zero where the proof of work has no difficulty: the transcript
 // takes such a witness in nowhere and every value passes, so that without this test anyone could
 // change the bytes of an accepted proof.
-#[tactic(auto, unfolding(crate::specs::Refusals::answer))]
+#[tactic(auto, unfolding(circle_scheme::specs::Refusals::answer))]
 fn check_witnesses<CommitErr, InputErr>(
     phase: PowPhase,
     bits: usize,
@@ -157,7 +157,7 @@ fn check_witnesses<CommitErr, InputErr>(
 }
 
 // Refuses a query that has not one sibling.
-#[tactic(auto, unfolding(crate::specs::Refusals::answer))]
+#[tactic(auto, unfolding(circle_scheme::specs::Refusals::answer))]
 fn check_siblings<F, CommitErr, InputErr>(
     round: usize,
     siblings: &[Vec<F>],
@@ -177,7 +177,7 @@ fn check_siblings<F, CommitErr, InputErr>(
 }
 
 // Refuses a round that is not opened at every query, or with another number of siblings than one.
-#[tactic(auto, unfolding(crate::specs::Refusals::answer))]
+#[tactic(auto, unfolding(circle_scheme::specs::Refusals::answer))]
 fn check_round<F: Field, M: Mmcs<F>, CommitErr, InputErr>(
     num_queries: usize,
     round: usize,
@@ -198,7 +198,7 @@ fn check_round<F: Field, M: Mmcs<F>, CommitErr, InputErr>(
 }
 
 // Refuses rounds by the first that is not opened at every query with one sibling.
-#[tactic(auto, unfolding(crate::specs::Refusals::answer, crate::specs::Refusals::rounds_tests))]
+#[tactic(auto, unfolding(circle_scheme::specs::Refusals::answer, circle_scheme::specs::Refusals::rounds_tests))]
 fn check_rounds<F: Field, M: Mmcs<F>, CommitErr, InputErr>(
     num_queries: usize,
     openings: &[CircleCommitPhaseMultiStep<F, M>],
@@ -223,7 +223,7 @@ fn check_rounds<F: Field, M: Mmcs<F>, CommitErr, InputErr>(
 /// - `CommitPhaseOpeningsCountMismatch` where there isn't one opening for each round.
 /// - For each round in turn, `CommitPhaseQueryCountMismatch` where it isn't opened at every query,
 ///   and `SiblingValuesLengthMismatch` where a query has another number of siblings than one.
-#[tactic(auto, unfolding(crate::specs::Refusals::answer))]
+#[tactic(auto, unfolding(circle_scheme::specs::Refusals::answer))]
 pub fn validate_proof_shape<F: Field, M: Mmcs<F>, Witness: Field, InputProof, InputErr>(
     params: &FriParameters<M>,
     proof: &CircleFriProof<F, M, Witness, InputProof>,
@@ -262,7 +262,7 @@ pub fn validate_proof_shape<F: Field, M: Mmcs<F>, Witness: Field, InputProof, In
 }
 
 // Whether the coordinate is that of a point at infinity: `t^2 = -1`.
-fn is_at_infinity<F: Field>(t: &F) -> bool
+pub(crate) fn is_at_infinity<F: Field>(t: &F) -> bool
     ensures { result ≡ is_at_infinity F.eq F.ops t.now }
 {
     t.square() == -F::ONE
@@ -299,7 +299,7 @@ fn is_zero<Witness: Field>(witness: &Witness) -> bool
 
 // Refuses a final polynomial of another number of coefficients than `2^log_final_poly_len`, which
 // is to be a number.
-#[tactic(auto, unfolding(crate::specs::Refusals::answer))]
+#[tactic(auto, unfolding(circle_scheme::specs::Refusals::answer))]
 fn check_final_poly<CommitErr, InputErr>(
     log_final_poly_len: usize,
     got: usize,
@@ -321,7 +321,7 @@ fn check_final_poly<CommitErr, InputErr>(
 ///   difficulty.
 /// - `PointAtInfinity` where a claimed coordinate `t` has `t^2 = -1`, so that it belongs to no
 ///   point.
-#[tactic(auto, unfolding(crate::specs::Refusals::answer))]
+#[tactic(auto, unfolding(circle_scheme::specs::Refusals::answer))]
 pub fn validate_points<F: Field, Commitment, D, M, Witness: Field, CommitErr, InputErr>(
     params: &FriParameters<M>,
     batch_pow_witness: &Witness,

@@ -1,10 +1,12 @@
-//! Damage to stored proofs and their claims, piece by piece.
+//! Damage to stored proofs and their claims, piece by piece; of the larger ones one piece in so
+//! many.
 //!
 //! The texts are compact JSON in which strings are keys and digests, without brackets or commas.
 use super::order::{claims_sevens, first_reason};
-use super::{arguments, expect_unreadable, shape, stored};
+use super::{arguments, expect_unreadable, shape, statements, stored};
 use crate::run::run;
 use crate::verify::Input;
+use circle_commit::JsonForm;
 use serde_json::Value;
 use std::alloc::{AllocError, Global};
 use std::process::Abort;
@@ -215,25 +217,36 @@ fn expect_refused(
     Ok(())
 }
 
-// The pieces that lie in this part.
-fn in_part(alloc: Global, text: &str, found: Vec<Piece>, part: Part) -> Result<Vec<Piece>, Fail> {
+// Of the pieces that lie in this part, one in every so many.
+fn in_part(
+    alloc: Global,
+    text: &str,
+    found: &[Piece],
+    (part, every): (Part, usize),
+) -> Result<Vec<Piece>, Fail> {
     let (statement, _) = text
         .split_once("\"proof\":")
         .ok_or_else(|| Fail::new("a proof"))?;
     let mut pieces = Vec::new(alloc);
-    for piece in found {
-        if (piece.from > statement.len()) == (part == Part::Proof) {
-            pieces.push(piece)?;
+    for (i, piece) in found.iter().enumerate() {
+        let is_due = i.checked_rem(every) == Some(0);
+        if is_due && (piece.from > statement.len()) == (part == Part::Proof) {
+            pieces.push(*piece)?;
         }
     }
     Ok(pieces)
 }
 
-// Every item and member of the part dropped, doubled and swapped with its neighbour.
-fn expect_pieces(rt: &impl Abort, alloc: Global, honest: &str, part: Part) -> Result<(), Fail> {
+// Items and members of the part dropped, doubled and swapped with their neighbours.
+fn expect_pieces(
+    rt: &impl Abort,
+    alloc: Global,
+    honest: &str,
+    (part, every): (Part, usize),
+) -> Result<(), Fail> {
     let text = honest.as_bytes();
-    let pieces = in_part(alloc, honest, pieces(alloc, text)?, part)?;
-    for piece in &pieces {
+    let pieces = pieces(alloc, text)?;
+    for piece in &in_part(alloc, honest, &pieces, (part, every))? {
         expect_refused(rt, alloc, (honest, part), &without(alloc, text, *piece)?)?;
         expect_refused(rt, alloc, (honest, part), &with_twice(alloc, text, *piece)?)?;
         expect_refused(
@@ -246,10 +259,15 @@ fn expect_pieces(rt: &impl Abort, alloc: Global, honest: &str, part: Part) -> Re
     Ok(())
 }
 
-// Every number and digest of the part raised by one, and every key renamed.
-fn expect_texts(rt: &impl Abort, alloc: Global, honest: &str, part: Part) -> Result<(), Fail> {
+// Numbers and digests of the part raised by one, and keys renamed.
+fn expect_texts(
+    rt: &impl Abort,
+    alloc: Global,
+    honest: &str,
+    (part, every): (Part, usize),
+) -> Result<(), Fail> {
     let text = honest.as_bytes();
-    for piece in &in_part(alloc, honest, values(alloc, text, false)?, part)? {
+    for piece in &in_part(alloc, honest, &values(alloc, text, false)?, (part, every))? {
         expect_refused(
             rt,
             alloc,
@@ -257,7 +275,7 @@ fn expect_texts(rt: &impl Abort, alloc: Global, honest: &str, part: Part) -> Res
             &with_raised(alloc, text, *piece)?,
         )?;
     }
-    for piece in &in_part(alloc, honest, values(alloc, text, true)?, part)? {
+    for piece in &in_part(alloc, honest, &values(alloc, text, true)?, (part, every))? {
         expect_refused(
             rt,
             alloc,
@@ -265,7 +283,7 @@ fn expect_texts(rt: &impl Abort, alloc: Global, honest: &str, part: Part) -> Res
             &with_other_digest(alloc, text, *piece)?,
         )?;
     }
-    for piece in &in_part(alloc, honest, ends_of_keys(alloc, text)?, part)? {
+    for piece in &in_part(alloc, honest, &ends_of_keys(alloc, text)?, (part, every))? {
         expect_refused(
             rt,
             alloc,
@@ -276,50 +294,54 @@ fn expect_texts(rt: &impl Abort, alloc: Global, honest: &str, part: Part) -> Res
     Ok(())
 }
 
+// A part of a text damaged in each way.
+fn expect_damaged(
+    rt: &impl Abort,
+    alloc: Global,
+    honest: &str,
+    sample: (Part, usize),
+) -> Result<(), Fail> {
+    expect_pieces(rt, alloc, honest, sample)?;
+    expect_texts(rt, alloc, honest, sample)
+}
+
 // A claim of a column of sevens stays true at other points.
 #[test]
 fn damaged_sevens(rt: HostRuntime) -> Result<(), Fail> {
     for honest in [stored::SEVENS, stored::EIGHT_SEVENS_TWO_COEFFICIENTS] {
-        for part in [Part::Statement, Part::Proof] {
-            expect_pieces(&rt, rt.alloc(), honest, part)?;
-            expect_texts(&rt, rt.alloc(), honest, part)?;
-        }
+        expect_damaged(&rt, rt.alloc(), honest, (Part::Statement, 1))?;
+        expect_damaged(&rt, rt.alloc(), honest, (Part::Proof, 1))?;
     }
     Ok(())
 }
 
 #[test]
 fn damaged_statements(rt: HostRuntime) -> Result<(), Fail> {
-    expect_pieces(&rt, rt.alloc(), stored::TWO_HEIGHTS, Part::Statement)?;
-    expect_texts(&rt, rt.alloc(), stored::TWO_HEIGHTS, Part::Statement)
-}
-
-#[test]
-fn damaged_proofs_of_two_heights(rt: HostRuntime) -> Result<(), Fail> {
-    let honest = stored::TWO_HEIGHTS;
-    expect_pieces(&rt, rt.alloc(), honest, Part::Proof)?;
-    expect_texts(&rt, rt.alloc(), honest, Part::Proof)?;
+    for honest in [
+        stored::TWO_HEIGHTS,
+        stored::TWO_BATCHES_WITH_WORK,
+        stored::TWO_BATCHES_FOUR_COEFFICIENTS,
+    ] {
+        expect_damaged(&rt, rt.alloc(), honest, (Part::Statement, 5))?;
+    }
     Ok(())
 }
 
 #[test]
-fn damaged_batches_with_work(rt: HostRuntime) -> Result<(), Fail> {
+fn damaged_proof_of_two_heights(rt: HostRuntime) -> Result<(), Fail> {
+    expect_damaged(&rt, rt.alloc(), stored::TWO_HEIGHTS, (Part::Proof, 61))
+}
+
+#[test]
+fn damaged_proof_with_work(rt: HostRuntime) -> Result<(), Fail> {
     let honest = stored::TWO_BATCHES_WITH_WORK;
-    for part in [Part::Statement, Part::Proof] {
-        expect_pieces(&rt, rt.alloc(), honest, part)?;
-        expect_texts(&rt, rt.alloc(), honest, part)?;
-    }
-    Ok(())
+    expect_damaged(&rt, rt.alloc(), honest, (Part::Proof, 61))
 }
 
 #[test]
-fn damaged_batches_of_four_coefficients(rt: HostRuntime) -> Result<(), Fail> {
+fn damaged_proof_of_four_coefficients(rt: HostRuntime) -> Result<(), Fail> {
     let honest = stored::TWO_BATCHES_FOUR_COEFFICIENTS;
-    for part in [Part::Statement, Part::Proof] {
-        expect_pieces(&rt, rt.alloc(), honest, part)?;
-        expect_texts(&rt, rt.alloc(), honest, part)?;
-    }
-    Ok(())
+    expect_damaged(&rt, rt.alloc(), honest, (Part::Proof, 61))
 }
 
 // Whether a piece is a member of an object.
@@ -350,5 +372,6 @@ fn expect_keys(rt: &impl Abort, alloc: Global, command: &str, honest: &str) -> R
 #[test]
 fn keys_at_every_level(rt: HostRuntime) -> Result<(), Fail> {
     expect_keys(&rt, rt.alloc(), "verify", stored::SEVENS)?;
+    expect_keys(&rt, rt.alloc(), "prove", statements::SEVENS)?;
     expect_keys(&rt, rt.alloc(), "shape", shape::FIRST)
 }

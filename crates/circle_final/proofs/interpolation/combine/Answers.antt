@@ -1,7 +1,7 @@
 use Rattle.std.proofs.Common.{◌≡◌, ◌<◌, sym, ◌∙◌, ap, arith, length, slice_index_or, slice_set}
 use Rattle.circle_field.specs.Field.{sub}
-use Rattle.circle_domain.specs.Layers.{pairwise}
-use Rattle.circle_domain.proofs.Written.{written, written-read, written-more, written-all, length-pairwise, pairwise-read}
+use Rattle.circle_commit.proofs.Written.{written, written-read, written-more, written-all, length-pairwise, pairwise-read}
+use Rattle.circle_commit.specs.DotProduct.{pairwise}
 use Rattle.circle_final.proofs.interpolation.combine.Goals as goal
 
 pub loop-i-preserved : goal.loop-i-preserved

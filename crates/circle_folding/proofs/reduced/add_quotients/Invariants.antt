@@ -2,8 +2,8 @@ use Rattle.std.proofs.Common.{◌≡◌, ◌≢◌, ◌<◌, ℕ, map, slice_ind
 use Rattle.circle_field.specs.Circle.{lifted}
 use Rattle.circle_commit.specs.Mmcs.{opened_rows}
 use Rattle.circle_point.specs.Point.{coordinates}
-use Rattle.circle_domain.specs.Layers.{pairwise}
-use Rattle.circle_domain.proofs.Written.{written}
+use Rattle.circle_commit.proofs.Written.{written}
+use Rattle.circle_commit.specs.DotProduct.{pairwise}
 use Rattle.circle_folding.specs.Quotient.{weighted_quotient}
 use Rattle.circle_folding.specs.Queries.{rows_of}
 use Rattle.circle_folding.proofs.reduced.add_quotients.Given as goal

@@ -1,6 +1,6 @@
 use Rattle.std.proofs.Common.{◌≡◌, ◌<◌, ◌∙◌, sym, ap, length, slice_index_or, slice_set, arith}
-use Rattle.circle_domain.specs.Layers.{pairwise}
-use Rattle.circle_domain.proofs.Written.{written, written-read, written-more, written-all, length-pairwise, pairwise-read}
+use Rattle.circle_commit.proofs.Written.{written, written-read, written-more, written-all, length-pairwise, pairwise-read}
+use Rattle.circle_commit.specs.DotProduct.{pairwise}
 use Rattle.circle_layers.proofs.rounds.add_each.Goals as goal
 
 pub loop-i-preserved : goal.loop-i-preserved

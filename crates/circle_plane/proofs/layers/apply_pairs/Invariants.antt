@@ -1,6 +1,6 @@
 use Rattle.std.proofs.Common.{◌≡◌}
-use Rattle.circle_domain.specs.Layers.{pairwise}
-use Rattle.circle_domain.proofs.Written.{written}
+use Rattle.circle_commit.proofs.Written.{written}
+use Rattle.circle_commit.specs.DotProduct.{pairwise}
 use Rattle.circle_plane.proofs.layers.apply_pairs.Given as goal
 
 abbrev pub invariant-loop-i : goal.invariant-loop-i

@@ -1,3 +1,5 @@
+use Rattle.std.specs.Prelude.{◌<◌, ◌^◌, All}
+use Rattle.std.proofs.Common.{subst}
 use Rattle.circle_field.specs.Field.{of_nat}
 use Rattle.circle_challenger.specs.Moves.{RunMoves, run_moves}
 use Rattle.circle_transcript.specs.Draw.{draw_seeded}
@@ -14,3 +16,8 @@ pub returns-in-Err-clause-failure : goal.returns-in-Err-clause-failure
 returns-in-Err-clause-failure g c =
     let all = taken_of c.args.claims.now c.args.messages.now c.args.witnesses.now in
     or_moved (λ n s. IsMiss n (draw_seeded (challenger g) n all s) c.in-Err.failure) _ _ _ _ c.in_ok-transcript.ensures.shape c.in_ok-transcript.ensures.state c.in-Err.ensures.failure
+
+pub returns-in-Ok-clause-below : goal.returns-in-Ok-clause-below
+returns-in-Ok-clause-below g c =
+    subst (λ n. All (λ i. i < 2 ^ n.index_bits) c.in-Ok.draws.indices.items)
+    c.in_ok-transcript.ensures.shape c.in-Ok.ensures.below

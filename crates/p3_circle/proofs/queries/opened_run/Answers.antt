@@ -3,7 +3,7 @@ use Rattle.circle_relation.specs.Statement.{all_matrices}
 use Rattle.circle_relation.specs.StatementOf.{batch_claims}
 use Rattle.circle_relation.specs.Accepts.{Fields}
 use Rattle.circle_relation.specs.RunOf.{proof_of}
-use Rattle.p3_circle.specs.Verdict.{challenges_of, run_with}
+use Rattle.circle_scheme.specs.Verdict.{challenges_of, run_with}
 use Rattle.p3_circle.proofs.Replayed.{finite_from}
 use Rattle.p3_circle.proofs.Verified.{challenges, has_rounds, is_drawn}
 use Rattle.p3_circle.proofs.queries.opened_run.Goals as goal

@@ -2,7 +2,7 @@ use Rattle.std.proofs.Common.{◌∙◌}
 use Rattle.circle_relation.specs.StatementOf.{batch_claims}
 use Rattle.circle_relation.specs.Accepts.{Fields}
 use Rattle.circle_relation.specs.RunOf.{proof_of}
-use Rattle.p3_circle.specs.Verdict.{challenges_of, run_with}
+use Rattle.circle_scheme.specs.Verdict.{challenges_of, run_with}
 use Rattle.p3_circle.proofs.Verified.{accepted, shape-of, claimed-of, large-of, holds-of, reason-of, false_not}
 use Rattle.p3_circle.proofs.Verdicts.{on_both, if_err}
 use Rattle.p3_circle.proofs.queries.verify_drawn.Goals as goal

@@ -1,7 +1,7 @@
 use Rattle.std.proofs.Common.{◌≡◌, take}
 use Rattle.circle_relation.specs.StatementOf.{batch_claims}
 use Rattle.circle_transcript.specs.ShapeOf.{batches_of}
-use Rattle.p3_circle.specs.Taken.{widths_by}
+use Rattle.circle_opening.specs.Taken.{widths_by}
 use Rattle.p3_circle.proofs.replay.opened_widths.Given as goal
 
 -- the widths of the batches so far are there

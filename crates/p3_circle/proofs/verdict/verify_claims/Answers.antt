@@ -2,9 +2,9 @@ use Rattle.std.proofs.Common.{refl, sym, ◌∙◌, inr}
 use Rattle.circle_field.specs.Field.{of_nat}
 use Rattle.circle_challenger.specs.Moves.{RunMoves}
 use Rattle.circle_relation.specs.Accepts.{Fields}
-use Rattle.p3_circle.specs.Verdict.{challenges_of}
-use Rattle.p3_circle.proofs.Answering.{refused-is}
-use Rattle.p3_circle.proofs.Domains.{passed-value, refused-value}
+use Rattle.circle_scheme.specs.Verdict.{challenges_of}
+use Rattle.circle_scheme.proofs.Answering.{refused-is}
+use Rattle.circle_scheme.proofs.Domains.{passed-value, refused-value}
 use Rattle.p3_circle.proofs.Verdicts.{on_one, if_err, at_err, at_ok, not_both, tests, tested-of, queries-drawn, betas-drawn, accepted-passes, reason-memory}
 use Rattle.p3_circle.proofs.verdict.verify_claims.Given.{Over}
 use Rattle.p3_circle.proofs.verdict.verify_claims.Goals as goal

@@ -1,7 +1,7 @@
 use Rattle.std.proofs.Common.{◌+◌, ◌<◌, length, drop, map, vec_len, sym, ap, ◌∙◌, arith}
 use Rattle.std.specs.Result.{result_and}
-use Rattle.p3_circle.specs.Refusals.{answer, rounds_tests}
-use Rattle.p3_circle.proofs.Answering.{answer-round, refused-is}
+use Rattle.circle_scheme.specs.Refusals.{answer, rounds_tests}
+use Rattle.circle_scheme.proofs.Answering.{answer-round, refused-is}
 use Rattle.p3_circle.proofs.verifier.check_rounds.Goals as goal
 
 pub loop-round-preserved : goal.loop-round-preserved

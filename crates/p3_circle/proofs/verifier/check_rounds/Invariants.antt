@@ -1,5 +1,5 @@
 use Rattle.std.proofs.Common.{◌≡◌, drop, map, vec_len}
-use Rattle.p3_circle.specs.Refusals.{answer, rounds_tests}
+use Rattle.circle_scheme.specs.Refusals.{answer, rounds_tests}
 use Rattle.p3_circle.proofs.verifier.check_rounds.Given as goal
 
 -- the answer is that to the rounds that are left

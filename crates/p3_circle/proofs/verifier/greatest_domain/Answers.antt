@@ -1,11 +1,11 @@
 use Rattle.std.proofs.Common.{rules, ◌≡◌, ℕ, ◌+◌, ◌<◌, List, ◌++◌, length, drop, sym, ap, ◌∙◌, arith}
 use Rattle.std.specs.Prelude.{max}
 use Rattle.circle_commit.specs.Mmcs.{greatest}
-use Rattle.p3_circle.specs.Refusals.{answer, domain_tests}
+use Rattle.circle_scheme.specs.Refusals.{answer, domain_tests}
 use Rattle.circle_relation.specs.Statement.{all_matrices, log_sizes}
 use Rattle.circle_relation.specs.StatementOf.{matrix_claims, batch_claims}
-use Rattle.p3_circle.proofs.Answering.{refused-is}
-use Rattle.p3_circle.proofs.Domains.{more_domains, refused_domains, next_batch}
+use Rattle.circle_scheme.proofs.Answering.{refused-is}
+use Rattle.circle_scheme.proofs.Domains.{more_domains, refused_domains, next_batch}
 use Rattle.p3_circle.proofs.verifier.greatest_domain.Goals as goal
 
 pub returns-in_err-greatest_domain_of : goal.returns-in_err-greatest_domain_of

@@ -1,7 +1,7 @@
 use Rattle.std.proofs.Common.{◌≡◌, drop}
 use Rattle.std.specs.Prelude.{max}
 use Rattle.circle_commit.specs.Mmcs.{greatest}
-use Rattle.p3_circle.specs.Refusals.{answer, domain_tests}
+use Rattle.circle_scheme.specs.Refusals.{answer, domain_tests}
 use Rattle.circle_relation.specs.Statement.{all_matrices, log_sizes}
 use Rattle.circle_relation.specs.StatementOf.{batch_claims}
 use Rattle.p3_circle.proofs.verifier.greatest_domain.Given as goal

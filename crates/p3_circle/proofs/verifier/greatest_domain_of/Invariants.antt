@@ -3,7 +3,7 @@ use Rattle.std.specs.Prelude.{max}
 use Rattle.circle_commit.specs.Mmcs.{greatest}
 use Rattle.circle_relation.specs.Statement.{log_sizes}
 use Rattle.circle_relation.specs.StatementOf.{matrix_claims}
-use Rattle.p3_circle.specs.Refusals.{answer, domain_tests}
+use Rattle.circle_scheme.specs.Refusals.{answer, domain_tests}
 use Rattle.p3_circle.proofs.verifier.greatest_domain_of.Given as goal
 
 -- the answer is that to the matrices that are left, beside the greatest of the others

@@ -2,8 +2,8 @@ use Rattle.std.proofs.Common.{◌≡◌, ◌+◌, ◌<◌, ◌≤◌, sym, ap, �
 use Rattle.circle_commit.specs.declared.error.FriError.TheVariants.{GlobalMaxHeightTooLarge}
 use Rattle.circle_relation.specs.Statement.{all_matrices, log_sizes, log_max_height}
 use Rattle.circle_relation.specs.StatementOf.{batch_claims}
-use Rattle.p3_circle.proofs.Answering.{refused-is}
-use Rattle.p3_circle.proofs.Heights.{claims_refused, none_claimed, too_high, fits_group, height_is}
+use Rattle.circle_scheme.proofs.Answering.{refused-is}
+use Rattle.circle_scheme.proofs.Heights.{claims_refused, none_claimed, too_high, fits_group, height_is}
 use Rattle.p3_circle.proofs.verifier.validate_claims.Goals as goal
 
 pub returns-in_err-greatest : goal.returns-in_err-greatest

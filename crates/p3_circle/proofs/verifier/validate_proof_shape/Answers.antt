@@ -2,8 +2,8 @@ use Rattle.std.proofs.Common.{◌≡◌, [], ◌∷◌, Ok, not, ◌==◌, false
 use Rattle.std.proofs.lemmas.List.{length-map}
 use Rattle.std.specs.List.{list_all}
 use Rattle.circle_commit.specs.declared.params.PowPhase.TheVariants.{CommitPhase, Query}
-use Rattle.p3_circle.specs.Refusals.{answer, witness_test, rounds_tests}
-use Rattle.p3_circle.proofs.Answering.{answer-fifth, not_different}
+use Rattle.circle_scheme.specs.Refusals.{answer, witness_test, rounds_tests}
+use Rattle.circle_scheme.proofs.Answering.{answer-fifth, not_different}
 use Rattle.p3_circle.proofs.verifier.validate_proof_shape.Goals as goal
 
 pub returns : goal.returns

@@ -15,7 +15,8 @@ use Rattle.circle_domain.specs.Values.{values_at}
 use Rattle.circle_domain.specs.Layers.{layer_factors}
 use Rattle.circle_domain.proofs.Columns.{stored_column, rows-same_columns}
 use Rattle.circle_domain.proofs.TwoPowers.{inverse_power}
-use Rattle.circle_plane.proofs.Passes.{remaining, blocks-entries, part-more, backward-pass, before-passes, after-passes, values-tell}
+use Rattle.circle_domain.proofs.Told.{values-tell}
+use Rattle.circle_plane.proofs.Passes.{remaining, blocks-entries, part-more, backward-pass, before-passes, after-passes}
 use Rattle.circle_domain.proofs.CosetOrder.{other_order-points}
 use Rattle.circle_domain.proofs.LayerFactors.{layer_factors-nonzero}
 use Rattle.circle_domain.proofs.Powers.{pow_within}

@@ -1,0 +1,14 @@
+pub mod Accepted
+pub mod Drawn
+pub mod FirstLayer
+pub mod FirstPlaces
+pub mod FirstWords
+pub mod Gathered
+pub mod Heights
+pub mod Inputs
+pub mod Items
+pub mod Lists
+pub mod Pairs
+pub mod RoundLists
+pub mod RoundWords
+pub mod Rounds

@@ -1,0 +1,46 @@
+-- That what an opening answers is accepted: Circle STARKs (ePrint 2024/278), sections 4 to 6.
+use Rattle.std.specs.Prelude.{◌≡◌, ℕ, ◌≤◌, List, length, All, Ok}
+use Rattle.std.specs.List.{AllZip}
+use Rattle.circle_challenger.specs.Moves.{RunMoves}
+use Rattle.circle_commit.specs.Pcs.{Openings}
+use Rattle.circle_commit.specs.declared.matrix.RowMajorMatrix.{RowMajorMatrix}
+use Rattle.circle_commit.specs.declared.params.FriParameters.{FriParameters}
+use Rattle.circle_commit.specs.declared.pcs.OpeningRequest.{OpeningRequest}
+use Rattle.circle_opening.specs.Opening.{IsOpening}
+use Rattle.circle_opening.specs.Requests.{AreAnswers}
+use Rattle.circle_opening.specs.Taken.{drawn_by, shape_by, taken_by}
+use Rattle.circle_relation.specs.Accepts.{Accepts, Authenticates, Fields}
+use Rattle.circle_relation.specs.RunOf.{setting_of}
+use Rattle.circle_relation.specs.Statement.{BatchClaim, Challenges, OpeningProof, all_matrices}
+use Rattle.circle_transcript.specs.Draw.{draw}
+use Rattle.circle_acceptance.specs.Claimed.{AreClaimed}
+
+module _ {C S F E M IC IP WC WP : Type 0} (k : Fields F E) (r : RunMoves C S F E WC)
+    (p : FriParameters M) (two_adicity : ℕ) (authenticates : Authenticates IC F IP)
+    (word_authenticates : Authenticates WC E WP) where
+  -- from the one state challenges are drawn of the claims and the proof, which leaves the other, and
+  -- the verifier's relation holds of them
+  pub record IsAccepted (batches : List (BatchClaim IC E)) (proof : OpeningProof F E WC IP WP)
+      (old new : S) : Type 0 where
+    pub drawn : Challenges E
+    pub draws :
+        draw r (shape_by p batches) (taken_by k.extension batches proof) old
+        ≡ Ok (drawn_by r.base.coefficients drawn new)
+    pub accepts :
+        Accepts (setting_of k p) (record { batches = batches; proof = proof; drawn = drawn }) p
+        two_adicity authenticates word_authenticates
+
+  -- whatever an opening answers of the requests is accepted, from the state that it began in to that
+  -- which it left: where what is claimed is what was answered, of each matrix at a point at least,
+  -- under commitments of the matrices
+  abbrev pub AcceptsOpenings : {D : Type 0} → (D → List (RowMajorMatrix F))
+      → (List (RowMajorMatrix F) → IC → Type 0) → (List (RowMajorMatrix E) → WC → Type 0)
+      → List (OpeningRequest D E) → Type 0
+  AcceptsOpenings kept Commits WordCommits requests =
+      (values : Openings E) → AllZip (AreAnswers kept k p.log_blowup) requests values
+      → (proof : OpeningProof F E WC IP WP) (old new : S)
+      → IsOpening p kept requests values k r proof Commits authenticates WordCommits
+      word_authenticates old new
+      → (batches : List (BatchClaim IC E)) → AreClaimed p kept Commits requests values batches
+      → All (λ m. 1 ≤ length m.claims) (all_matrices batches)
+      → IsAccepted batches proof old new

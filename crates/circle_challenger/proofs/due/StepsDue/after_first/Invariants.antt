@@ -1,0 +1,6 @@
+use Rattle.std.specs.Prelude.{drop}
+use Rattle.circle_challenger.proofs.due.StepsDue.after_first.Given as goal
+
+-- these, but the first
+abbrev pub ghost-picked : goal.ghost-picked
+ghost-picked a = drop 1 a._by.now.steps

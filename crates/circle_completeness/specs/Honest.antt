@@ -1,0 +1,53 @@
+-- Requests that are honest: the matrices are of low degree, and the answers are their values.
+use Rattle.std.specs.Prelude.{◌≡◌, ◌≢◌, ℕ, ◌+◌, ◌-◌, ◌^◌, List, length, map, All}
+use Rattle.std.specs.List.{AllZip}
+use Rattle.circle_challenger.specs.Moves.{RunMoves}
+use Rattle.circle_commit.specs.Pcs.{Openings}
+use Rattle.circle_commit.specs.RowMajorMatrix.{rows, width_of, height_of}
+use Rattle.circle_commit.specs.declared.matrix.RowMajorMatrix.{RowMajorMatrix}
+use Rattle.circle_commit.specs.declared.params.FriParameters.{FriParameters}
+use Rattle.circle_commit.specs.declared.pcs.OpeningRequest.{OpeningRequest}
+use Rattle.circle_domain.specs.Spans.{XSpan}
+use Rattle.circle_domain.specs.Values.{values_at}
+use Rattle.circle_opening.specs.Opening.{IsFailure, answered_matrices}
+use Rattle.circle_opening.specs.Requests.{AreAnswers, log_of}
+use Rattle.circle_opening.specs.Words.{last_word}
+use Rattle.circle_opening.specs.declared.error.ProverError.{ProverError}
+use Rattle.circle_opening.specs.declared.error.ProverError.TheVariants.{LastWordNotConstant}
+use Rattle.circle_relation.specs.Accepts.{Fields}
+use Rattle.circle_words.specs.Ratios.{points_of_height}
+
+-- the columns of a matrix of 2^h rows are, on the standard domain of 2^h points in the transform's
+-- order, the values of polynomials with 2^(h - blowup) coefficients
+pub record IsOfLowDegree {F E : Type 0} (k : Fields F E) (blowup : ℕ) (m : RowMajorMatrix F)
+    : Type 0 where
+  pub coeffs : List (List F)
+  pub count : length coeffs ≡ 2 ^ (log_of (height_of m) - blowup)
+  pub values :
+      map (values_at k.field coeffs (width_of m))
+      (points_of_height k.field k.gen (log_of (height_of m)))
+      ≡ rows m
+
+module _ {D F E M : Type 0} (kept : D → List (RowMajorMatrix F)) (k : Fields F E)
+    (p : FriParameters M) (requests : List (OpeningRequest D E)) where
+  -- all requested matrices are of low degree
+  abbrev pub AreOfLowDegree : Type 0
+  AreOfLowDegree = All (λ r. All (IsOfLowDegree k p.log_blowup) (kept r.prover_data.now)) requests
+
+  -- where the requested matrices are of low degree and these values are answered, the word that the
+  -- rounds end in is, whatever the challenges, the values of a final polynomial
+  abbrev pub EndsLow : Type 0
+  EndsLow =
+      AreOfLowDegree
+      → (values : Openings E) → AllZip (AreAnswers kept k p.log_blowup) requests values
+      → (alpha bivariate : E) (betas : List E)
+      → XSpan k.field k.gen k.extension k.embed p.log_final_poly_len
+      (p.log_blowup + p.log_final_poly_len)
+      (last_word k p.log_blowup (answered_matrices p kept requests values) alpha
+      p.log_final_poly_len bivariate betas)
+
+  -- so no opening of them is refused for a last word of too high degree
+  abbrev pub IsNeverTooHigh : {C S WC : Type 0} → RunMoves C S F E WC → Type 0
+  IsNeverTooHigh r =
+      AreOfLowDegree → (s : _) (e : ProverError) → IsFailure k r p kept requests s e
+      → e ≢ LastWordNotConstant

@@ -1,0 +1,4 @@
+pub mod Honest
+pub mod LowDegree
+pub mod LowWords
+pub mod Rows

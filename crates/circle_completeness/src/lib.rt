@@ -1,0 +1,18 @@
+//! Why openings of matrices of low degree come to an end: the words of an opening (Circle STARKs,
+//! IACR ePrint 2024/278, sections 4 and 6), from those of the heights to the last one, are the
+//! values of polynomials with few coefficients.
+//!
+//! What is proved, for every lawful field and extension, by calls that answer nothing and carry a
+//! law each:
+//!
+//! - Where all claims on some committed matrices are true (`IsTrue`), the word of each height is
+//!   the values of a polynomial with few coefficients plus a multiple of the vanishing polynomial,
+//!   and without its lambda those values (`height_words_are_low`: `split`, `corrected`).
+//! - Its fold by y, and the words of the rounds with the heights that join, are the values of
+//!   polynomials in x, each with half as many coefficients as the one before (`last_word_is_low`:
+//!   `folds`, `rounds`), so the last word is the values of a final polynomial (`last`).
+//! - What an opening answers of matrices of low degree is true, so that holds of its last word
+//!   (`honest_openings_end_low`, by `EndsLow`).
+#![tactic(auto)]
+
+pub mod laws;

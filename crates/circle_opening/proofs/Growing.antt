@@ -1,0 +1,156 @@
+-- Words and rounds that are pushed one after another.
+use Rattle.std.specs.Prelude.{◌≡◌, ℕ, ◌+◌, ◌-◌, ◌/◌, ◌^◌, ◌<◌, ◌≤◌, ◌++◌, ◌⊎◌, List, [], ◌∷◌, length, map, zip, All, Some, IsTrue, slice_get, slice_index_or}
+use Rattle.std.proofs.Common.{zero, suc, inl, inr, refl, sym, ◌∙◌, ap, subst, arith}
+use Rattle.std.proofs.lemmas.Bool.{cases_lt}
+use Rattle.std.proofs.lemmas.List.{length_push, get_or_append_left}
+use Rattle.std.proofs.lemmas.List.Elements.{All-push, All-nil}
+use Rattle.std.proofs.lemmas.Option.{slice_get_within, same_Some}
+use Rattle.std.proofs.Math.Seq.{get_or-append_seam}
+use Rattle.circle_challenger.specs.Moves.{RunMoves, is_passed}
+use Rattle.circle_commit.specs.RowFacts.{length-rows_from}
+use Rattle.circle_commit.specs.RowMajorMatrix.{rows}
+use Rattle.circle_commit.specs.declared.matrix.RowMajorMatrix.{RowMajorMatrix}
+use Rattle.circle_relation.specs.Accepts.{Fields}
+use Rattle.circle_transcript.specs.Draw.{after_round, fold_challenge, after_rounds, fold_challenges, rounds_pass}
+use Rattle.circle_transcript.specs.Runs.{NonePasses}
+use Rattle.circle_transcript.proofs.Runs.{one_more, zip-append}
+use Rattle.circle_words.specs.Words.{next_word, pairs_of}
+use Rattle.circle_words.proofs.Pairs.{twice-half}
+use Rattle.circle_opening.specs.Failure.{IsStuckAfter}
+use Rattle.circle_opening.specs.Words.{AreCommitted, AreRounds, HavePlayed, word_at}
+
+-- what holds of the only value holds of all
+pub all_of_one : {A : Type 0} (P : A → Type 0) (x : A) (xs : List A) → xs ≡ x ∷ [] → P x → All P xs
+all_of_one P x xs is p = subst (All P) (sym is) (All-push P [] x (All-nil P) p)
+
+-- half of a power of two
+pub half_power : (h n : ℕ) → 1 ≤ h → n ≡ 2 ^ h → n / 2 ≡ 2 ^ (h - 1)
+half_power h n positive is = let even = twice-half h positive in omega (arith, is, even)
+
+-- a word of a power of two has half as many pairs
+pub length-pairs_of : {E : Type 0} (word : List E) (h : ℕ) → 1 ≤ h → length word ≡ 2 ^ h → length (pairs_of word) ≡ 2 ^ (h - 1)
+length-pairs_of word h positive is = length-rows_from 2 (length word / 2) word ∙ half_power h (length word) positive is
+
+-- of matrices that have one list of rows together, the first has it
+pub first_rows : {E : Type 0} (matrices : List (RowMajorMatrix E)) (word : List (List E)) (d : RowMajorMatrix E) → map rows matrices ≡ word ∷ [] → rows (slice_index_or matrices 0 d) ≡ word
+first_rows [] word d is = let none : 0 ≡ 1 = ap length is in absurd (omega (arith, none))
+first_rows (m ∷ ms) word d is = ap (λ v. slice_index_or v 0 word) is
+
+module _ {F E : Type 0} (k : Fields F E) (heights : List ℕ) (folded : ℕ → List E) (h : ℕ) (first : List E) where
+  -- a later challenge leaves the words before it
+  pub word_at-kept : (betas : List E) (b : E) (n : ℕ) → n ≤ length betas → word_at k heights folded h first (betas ++ b ∷ []) n ≡ word_at k heights folded h first betas n
+  word_at-kept betas b zero within = refl
+  word_at-kept betas b (suc n) within =
+      ap (λ x. next_word k heights folded (h - n) x (word_at k heights folded h first (betas ++ b ∷ []) n)) (get_or_append_left betas (b ∷ []) k.extension.zero n (omega (arith, within)))
+      ∙ ap (next_word k heights folded (h - n) (slice_index_or betas n k.extension.zero)) (word_at-kept betas b n (omega (arith, within)))
+
+  -- it gives the next word
+  pub word_at-next : (betas pushed : List E) (b : E) (n : ℕ) (word : List E) → pushed ≡ betas ++ b ∷ [] → length betas ≡ n → word ≡ word_at k heights folded h first betas n
+      → next_word k heights folded (h - n) b word ≡ word_at k heights folded h first pushed (n + 1)
+  word_at-next betas pushed b n word more count is =
+      let after : n + 1 ≡ suc n = omega arith in
+      let here : slice_index_or (betas ++ b ∷ []) n k.extension.zero ≡ b = ap (λ i. slice_index_or (betas ++ b ∷ []) i k.extension.zero) (sym count) ∙ get_or-append_seam betas b [] k.extension.zero in
+      ap (next_word k heights folded (h - n) b) (is ∙ sym (word_at-kept betas b n (omega (arith, count))))
+      ∙ ap (λ x. next_word k heights folded (h - n) x (word_at k heights folded h first (betas ++ b ∷ []) n)) (sym here)
+      ∙ ap (λ bs. word_at k heights folded h first bs (suc n)) (sym more)
+      ∙ ap (word_at k heights folded h first pushed) (sym after)
+
+module _ {A : Type 0} where
+  -- the values before a pushed one
+  slice_get-kept : (xs : List A) (x : A) (n : ℕ) → n < length xs → slice_get (xs ++ x ∷ []) n ≡ slice_get xs n
+  slice_get-kept [] x n within = absurd (omega (arith, within))
+  slice_get-kept (y ∷ xs) x zero within = refl
+  slice_get-kept (y ∷ xs) x (suc n) within = slice_get-kept xs x n (omega (arith, within))
+
+  -- the pushed value
+  slice_get-last : (xs : List A) (x : A) → slice_get (xs ++ x ∷ []) (length xs) ≡ Some x
+  slice_get-last [] x = refl
+  slice_get-last (y ∷ xs) x = slice_get-last xs x
+
+  -- what stands in its place is the pushed value
+  last_is : (xs : List A) (x y : A) (n : ℕ) → n ≡ length xs → slice_get (xs ++ x ∷ []) n ≡ Some y → x ≡ y
+  last_is xs x y n is got =
+      let last = slice_get-last xs x in
+      let moved : slice_get (xs ++ x ∷ []) n ≡ slice_get (xs ++ x ∷ []) (length xs) = ap (slice_get (xs ++ x ∷ [])) is in
+      same_Some x y (sym last ∙ sym moved ∙ got)
+
+module _ {E D Com : Type 0} (Commits : List (RowMajorMatrix E) → Com → Type 0) (matrices : D → List (RowMajorMatrix E)) where
+  -- no rounds
+  pub rounds_begun : (word : ℕ → List E) (kept : List D) (commitments : List Com) → kept ≡ [] → commitments ≡ [] → AreRounds Commits matrices word kept commitments
+  rounds_begun word kept commitments none none_too = record {
+    count = ap length none ∙ sym (ap length none_too);
+    each = λ n d commitment is_d is_c. let within = slice_get_within kept n d is_d in let empty : length kept ≡ 0 = ap length none in absurd (omega (arith, within, empty));
+  }
+
+  -- one more round
+  pub rounds_more : (word next : ℕ → List E) (here : List E) (kept kept' : List D) (commitments commitments' : List Com) (d : D) (commitment : Com)
+      → kept' ≡ kept ++ d ∷ [] → commitments' ≡ commitments ++ commitment ∷ []
+      → ((n : ℕ) → n ≤ length commitments → next n ≡ word n) → here ≡ word (length commitments)
+      → AreRounds Commits matrices word kept commitments → AreCommitted Commits (pairs_of here ∷ []) (matrices d) commitment
+      → AreRounds Commits matrices next kept' commitments'
+  rounds_more word next here kept kept' commitments commitments' d commitment is_kept is_commitments same is_here before last =
+      let count : length kept' ≡ length commitments' =
+      ap length is_kept ∙ length_push kept d ∙ ap (λ n. n + 1) before.count ∙ sym (ap length is_commitments ∙ length_push commitments commitment) in
+      record {
+        count = count;
+        each = λ n e c is_e is_c.
+            let at_e = ap (λ v. slice_get v n) (sym is_kept) ∙ is_e in
+            let at_c = ap (λ v. slice_get v n) (sym is_commitments) ∙ is_c in
+            elim (cases_lt n (length commitments)) [
+              | inl low ↦
+                  let low_too : n < length kept = omega (arith, low, before.count) in
+                  subst (λ w. AreCommitted Commits (pairs_of w ∷ []) (matrices e) c) (sym (same n (omega (arith, low))))
+                  (before.each n e c (sym (slice_get-kept kept d n low_too) ∙ at_e) (sym (slice_get-kept commitments commitment n low) ∙ at_c))
+              | inr high ↦
+                  let within = slice_get_within (commitments ++ commitment ∷ []) n c at_c in
+                  let size = length_push commitments commitment in
+                  let end : n ≡ length commitments = omega (arith, high, within, size) in
+                  let end_too : n ≡ length kept = end ∙ sym before.count in
+                  let is_word : here ≡ next n = is_here ∙ ap word (sym end) ∙ sym (same n (omega (arith, end))) in
+                  subst (λ w. AreCommitted Commits (pairs_of w ∷ []) (matrices e) c) is_word
+                  (subst (λ v. AreCommitted Commits (pairs_of here ∷ []) (matrices v) c) (last_is kept d e n end_too at_e)
+                  (subst (λ v. AreCommitted Commits (pairs_of here ∷ []) (matrices d) v) (last_is commitments commitment c n end at_c) last))
+            ];
+      }
+
+module _ {C S F E Com : Type 0} (r : RunMoves C S F E Com) (bits : ℕ) (begun now : S) where
+  -- no rounds were played
+  pub played_begun : (commitments : List Com) (witnesses : List F) (ys : List (List F)) → commitments ≡ [] → ys ≡ [] → HavePlayed r bits now now (zip commitments witnesses) ys
+  unfolding after_rounds fold_challenges rounds_pass
+  played_begun commitments witnesses ys none none_too =
+      let empty : zip commitments witnesses ≡ [] = ap (λ v. zip v witnesses) none in
+      record {
+        passes = ap (rounds_pass r bits now) empty;
+        challenges = none_too ∙ sym (ap (fold_challenges r bits now) empty);
+        state = sym (ap (after_rounds r bits now) empty);
+      }
+
+  -- one more round was played
+  pub played_more : (commitments commitments' : List Com) (witnesses witnesses' : List F) (commitment : Com) (witness : F) (ys zs : List (List F)) (y : List F) (after : S) (b : ℕ)
+      → length commitments ≡ length witnesses → commitments' ≡ commitments ++ commitment ∷ [] → witnesses' ≡ witnesses ++ witness ∷ [] → b ≡ bits
+      → HavePlayed r bits begun now (zip commitments witnesses) ys → IsTrue (is_passed r.base (r.after_commitment now commitment) b witness)
+      → y ≡ fold_challenge r b now (commitment, witness) → zs ≡ ys ++ y ∷ [] → after ≡ after_round r b now (commitment, witness)
+      → HavePlayed r bits begun after (zip commitments' witnesses') zs
+  played_more commitments commitments' witnesses witnesses' commitment witness ys zs y after b paired is_commitments is_witnesses same before passes drawn pushed state =
+      let more : zip commitments' witnesses' ≡ zip commitments witnesses ++ (commitment, witness) ∷ [] =
+      ap (λ v. zip v witnesses') is_commitments ∙ ap (zip (commitments ++ commitment ∷ [])) is_witnesses
+      ∙ zip-append commitments (commitment ∷ []) witnesses (witness ∷ []) paired in
+      let next = one_more r bits begun now (zip commitments witnesses) (zip commitments' witnesses') (commitment, witness) more before.state ys zs y after b same before.passes before.challenges passes drawn pushed state in
+      record { passes = next.passes; challenges = next.challenges; state = next.state }
+
+  -- where none passes after rounds that were played
+  pub stuck_after : (rounds : List (Com × F)) (ys : List (List F)) (b : ℕ) → b ≡ bits → HavePlayed r bits begun now rounds ys
+      → (commitment : Com) × NonePasses r.base (r.after_commitment now commitment) b → IsStuckAfter r bits begun
+  stuck_after rounds ys b same before stuck = record {
+    rounds = rounds;
+    commitment = stuck.0;
+    passed = before.passes;
+    none = subst (λ k. NonePasses r.base (r.after_commitment (after_rounds r bits begun rounds) stuck.0) k) same
+        (subst (λ t. NonePasses r.base (r.after_commitment t stuck.0) b) before.state stuck.1);
+  }
+
+  -- the same, where there is another reason
+  pub or_stuck : {A B : Type 0} (rounds : List (Com × F)) (ys : List (List F)) (b : ℕ) → b ≡ bits → HavePlayed r bits begun now rounds ys
+      → A ⊎ (B × (commitment : Com) × NonePasses r.base (r.after_commitment now commitment) b) → A ⊎ (B × IsStuckAfter r bits begun)
+  or_stuck rounds ys b same before (inl a) = inl a
+  or_stuck rounds ys b same before (inr stuck) = inr (stuck.0, stuck_after rounds ys b same before (stuck.1, stuck.2))

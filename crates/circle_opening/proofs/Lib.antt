@@ -1,0 +1,17 @@
+pub mod Answered
+pub mod Asked
+pub mod Counts
+pub mod Described
+pub mod FoldedLengths
+pub mod Growing
+pub mod Held
+pub mod Lengths
+pub mod Logs
+pub mod OpenedPairs
+pub mod Requested
+pub mod Sided
+pub mod Stuck
+pub mod Tests
+pub mod Threes
+pub mod Tops
+pub mod Zipped

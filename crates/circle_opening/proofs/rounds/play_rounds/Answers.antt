@@ -1,0 +1,124 @@
+use Rattle.std.specs.Prelude.{◌⊎◌, All}
+use Rattle.std.proofs.Common.{◌≡◌, ◌+◌, ◌^◌, ◌<◌, ◌∷◌, [], length, map, refl, sym, ap, ◌∙◌, subst, arith}
+use Rattle.std.proofs.lemmas.List.{map-append, length_push}
+use Rattle.std.proofs.lemmas.List.Elements.{All-nil}
+use Rattle.circle_challenger.specs.Moves.{RunMoves, run_moves}
+use Rattle.circle_commit.specs.declared.params.PowPhase.TheVariants.{CommitPhase}
+use Rattle.circle_field.specs.Field.{of_nat}
+use Rattle.circle_relation.specs.Accepts.{Fields}
+use Rattle.circle_transcript.specs.Transcript.{numbers}
+use Rattle.circle_transcript.proofs.Playing.{handed_on, zeros_pushed}
+use Rattle.circle_transcript.proofs.Runs.{rounds_all, next_round, rounds_none}
+use Rattle.circle_opening.specs.Failure.{IsStuckAfter}
+use Rattle.circle_opening.specs.Words.{word_at}
+use Rattle.circle_opening.specs.declared.error.ProverError.TheVariants.{Memory, NoGrindingWitness}
+use Rattle.circle_opening.proofs.Growing.{word_at-kept, word_at-next, rounds_begun, rounds_more, played_begun, played_more, or_stuck}
+use Rattle.circle_opening.proofs.rounds.play_rounds.Given.{Over}
+use Rattle.circle_opening.proofs.rounds.play_rounds.Goals as goal
+
+-- what the challenger is to the run
+abbrev challenger : (g : Over) → RunMoves g.row.C.Denot g.row.C-State.Denot g.row.F.Denot g.row.EF.Denot g.row.M-Commitment.Denot
+challenger g = run_moves g.C.ChallengerState.state g.C.CanObserve-1.after_observe g.C.CanObserve-2.after_observe g.C.CanSample.sampled g.C.CanSample.after_sample g.C.CanSampleBits.sampled_bits g.C.CanSampleBits.after_bits g.EF.ExtensionField.DEGREE g.EF.ExtensionField.coefficients (of_nat g.F.Operations.ops) g.F.Operations.ops.zero
+
+-- the fields of the run
+abbrev fields : (g : Over) → Fields g.row.F.Denot g.row.EF.Denot
+fields g = record { field = g.F.Operations.ops; gen = g.F.ComplexExtendable.generators; extension = g.EF.Operations.ops; embed = g.EF.ExtensionField.embed }
+
+pub loop-i-init : goal.loop-i-init
+loop-i-init g c =
+    let bits = (numbers c.args.transcript.now).commit_pow_bits in
+    let begun = g.C.ChallengerState.state c.args.transcript.now.challenger.now in
+    let coefficients = g.EF.ExtensionField.coefficients in
+    let no_commitments = c.in_ok-with_capacity.ensures.items in
+    let no_kept = c.in_ok-with_capacity-2.ensures.items in
+    let no_witnesses = c.in_ok-with_capacity-3.ensures.items in
+    let no_betas = c.in_ok-with_capacity-4.ensures.items in
+    record {
+      same = record { challenger = refl; shape = refl };
+      due = λ rest e. rounds_all g.EF.ExtensionField.DEGREE bits c.args.num_rounds rest _ e;
+      commitments = ap length no_commitments;
+      witnesses = ap length no_witnesses;
+      betas = ap length no_betas;
+      easy = λ none. subst (All (λ w. w ≡ g.F.Operations.ops.zero)) (sym no_witnesses) (All-nil (λ w. w ≡ g.F.Operations.ops.zero));
+      played = played_begun (challenger g) bits begun begun _ _ _ no_commitments (ap (map coefficients) no_betas);
+      length = c.requires.first ∙ ap (λ n. 2 ^ n) (omega arith);
+      committed = λ f are. rounds_begun _ _ _ _ _ no_kept no_commitments;
+      word = λ f are. refl;
+    }
+
+pub play_round-requires-clause-next : goal.play_round-requires-clause-next
+play_round-requires-clause-next g c =
+    let rest = c.requires.next.0 in
+    let bits = (numbers c.args.transcript.now).commit_pow_bits in
+    let same_bits = ap (λ v. v.commit_pow_bits) c.loop-i.invariant.same.shape in (
+      _,
+      next_round g.EF.ExtensionField.DEGREE bits _ c.args.num_rounds c.loop-i.i rest _ same_bits (omega arith) (c.loop-i.invariant.due rest c.requires.next.1),
+    )
+
+pub returns-in_err-round-clause-failure : goal.returns-in_err-round-clause-failure
+returns-in_err-round-clause-failure g c =
+    let r = challenger g in
+    let bits = (numbers c.args.transcript.now).commit_pow_bits in
+    let begun = g.C.ChallengerState.state c.args.transcript.now.challenger.now in
+    let same_bits = ap (λ v. v.commit_pow_bits) c.loop-i.invariant.same.shape in
+    handed_on c.from_residual-in_err-round.result c.in_err-round.field-0.0 (λ e. (e ≡ Memory) ⊎ ((e ≡ NoGrindingWitness CommitPhase) × IsStuckAfter r bits begun)) c.from_residual-in_err-round.ensures.1
+    (or_stuck r bits begun _ _ _ _ same_bits c.loop-i.invariant.played c.in_err-round.ensures.failure)
+
+pub loop-i-preserved : goal.loop-i-preserved
+loop-i-preserved g c =
+    let r = challenger g in
+    let k = fields g in
+    let degree = g.EF.ExtensionField.DEGREE in
+    let coefficients = g.EF.ExtensionField.coefficients in
+    let zero = g.F.Operations.ops.zero in
+    let bits = (numbers c.args.transcript.now).commit_pow_bits in
+    let begun = g.C.ChallengerState.state c.args.transcript.now.challenger.now in
+    let n = c.args.num_rounds in
+    let i = c.loop-i.i in
+    let h = c.args.log_height in
+    let heights = c.args.heights.now in
+    let first = c.args.first.items in
+    let before = c.loop-i.invariant in
+    let old = c.loop-i.rounds in
+    let new = c.add_round.new.rounds in
+    let round = c.in_ok-round.round in
+    let played = c.in_ok-round.ensures in
+    let added = c.in_ok-word.ensures in
+    let within : i < n = omega arith in
+    let same_bits = ap (λ v. v.commit_pow_bits) before.same.shape in
+    let is_word = ap (λ v. v.items) added.word in
+    record {
+      same = record {
+        challenger = c.play_round.ensures.same.challenger ∙ before.same.challenger;
+        shape = c.play_round.ensures.same.shape ∙ before.same.shape;
+      };
+      due = λ rest e. played.due _ (next_round degree bits _ n i rest _ same_bits within (before.due rest e));
+      commitments = ap length added.commitments ∙ length_push old.commitments.items round.commitment ∙ ap (λ m. m + 1) before.commitments;
+      witnesses = ap length added.witnesses ∙ length_push old.witnesses.items round.witness ∙ ap (λ m. m + 1) before.witnesses;
+      betas = ap length added.betas ∙ length_push old.betas.items round.beta ∙ ap (λ m. m + 1) before.betas;
+      easy = λ none. zeros_pushed zero old.witnesses.items new.witnesses.items round.witness (before.easy none) (played.easy (same_bits ∙ none)) added.witnesses;
+      played =
+          played_more r bits begun _ old.commitments.items new.commitments.items old.witnesses.items new.witnesses.items round.commitment round.witness
+          (map coefficients old.betas.items) (map coefficients new.betas.items) (coefficients round.beta) _ _ (before.commitments ∙ sym before.witnesses) added.commitments added.witnesses same_bits before.played
+          played.passes played.challenge (ap (map coefficients) added.betas ∙ map-append coefficients old.betas.items (round.beta ∷ [])) played.state;
+      length = ap length is_word ∙ played.length ∙ ap (λ m. 2 ^ m) (omega arith);
+      committed = λ f are.
+          rounds_more (g.M.Mmcs.commits c.args.mmcs.now) g.M.Mmcs.matrices
+          (word_at k heights f h first old.betas.items) (word_at k heights f h first new.betas.items) c.loop-i.word.items
+          old.kept.items new.kept.items old.commitments.items new.commitments.items round.kept round.commitment added.kept added.commitments
+          (λ m low.
+          let known = before.commitments in
+          let counted = before.betas in
+          ap (λ bs. word_at k heights f h first bs m) added.betas
+          ∙ word_at-kept k heights f h first old.betas.items round.beta m (omega (arith, low, known, counted)))
+          (before.word f are ∙ ap (word_at k heights f h first old.betas.items) (sym before.commitments))
+          (before.committed f are) played.committed;
+      word = λ f are.
+          is_word ∙ played.folds f are
+          ∙ word_at-next k heights f h first old.betas.items new.betas.items round.beta i c.loop-i.word.items added.betas before.betas (before.word f are);
+    }
+
+pub returns-clause-due : goal.returns-clause-due
+returns-clause-due g c = λ rest e.
+    c.loop-i.invariant.due rest e
+    ∙ rounds_none g.EF.ExtensionField.DEGREE (numbers c.args.transcript.now).commit_pow_bits c.args.num_rounds c.loop-i.i rest (omega arith)

@@ -1,0 +1,384 @@
+use Rattle.std.specs.Prelude.{◌⊎◌, IsTrue, Ok, Err, unwrap_or, zip}
+use Rattle.std.proofs.Common.{◌≡◌, ◌<◌, ◌≤◌, ◌-◌, ◌+◌, ◌^◌, ◌++◌, [], ℕ, List, All, length, map, take, refl, sym, ap, ◌∙◌, subst, arith, inl, inr}
+use Rattle.std.proofs.lemmas.List.Elements.{All-map}
+use Rattle.circle_challenger.specs.Moves.{RunMoves, run_moves, after_element, after_pow, is_passed}
+use Rattle.circle_commit.specs.declared.params.PowPhase.TheVariants.{CommitPhase, Query}
+use Rattle.circle_field.specs.Field.{of_nat}
+use Rattle.circle_folding.specs.Fold.{y_folds}
+use Rattle.circle_relation.specs.Accepts.{Fields}
+use Rattle.circle_transcript.specs.Claims.{claims_of}
+use Rattle.circle_transcript.specs.Draw.{after_final_poly, after_indices, draw_seeded, drawn_indices, taken}
+use Rattle.circle_transcript.specs.Numbers.{indices_steps}
+use Rattle.circle_transcript.specs.Shape.{rounds_steps}
+use Rattle.circle_transcript.specs.Runs.{NonePasses}
+use Rattle.circle_transcript.specs.Transcript.{numbers}
+use Rattle.circle_transcript.specs.declared.transcript.Numbers.{Numbers}
+use Rattle.circle_transcript.proofs.Drawn.{AtRounds, at_layer, at_query, all_drawn, drawn_parts}
+use Rattle.circle_transcript.proofs.Playing.{handed_on, unwrap_none}
+use Rattle.circle_transcript.proofs.Runs.{indices_due}
+use Rattle.circle_commit.specs.RowMajorMatrix.{rows}
+use Rattle.circle_commit.specs.DotProduct.{pairwise}
+use Rattle.circle_domain.specs.Spans.{HasXValues, XSpan}
+use Rattle.circle_words.specs.Words.{Committed, HaveHeights, committed_of, lambda}
+use Rattle.circle_opening.specs.Failure.{IsStuck, IsTooHigh, prover_error}
+use Rattle.circle_opening.specs.declared.error.ProverError.TheVariants.{Memory}
+use Rattle.circle_opening.specs.Words.{AreCommitted, first_fold, heights_of, layer_of, round_word, top_of, word_at}
+use Rattle.circle_opening.proofs.Tops.{front-of, height-known, heights-end, lower, some-heights, split-last, pairwise-map, rounds-alike, top-known, word-alike}
+use Rattle.circle_opening.proofs.Stuck.{stuck-query, stuck-rounds}
+use Rattle.circle_opening.proofs.run.play_words.Given.{Over}
+use Rattle.circle_opening.proofs.run.play_words.Goals as goal
+
+pub commit_first_layer-requires-clause-some : goal.commit_first_layer-requires-clause-some
+commit_first_layer-requires-clause-some g c =
+    let ms = map committed_of c.args.matrices.now in
+    subst (λ hs. 1 ≤ length hs) (sym (c.deref.ensures.value ∙ c.in_ok-heights.ensures)) (some-heights ms c.requires.tall.0)
+
+pub commit_first_layer-requires-clause-heights : goal.commit_first_layer-requires-clause-heights
+commit_first_layer-requires-clause-heights g c =
+    let ms = map committed_of c.args.matrices.now in
+    let P : ℕ → Type 0 = λ h. (c.args.params.now.log_blowup < h) × (h < g.F.ComplexExtendable.CIRCLE_TWO_ADICITY) in
+    subst (All P) (sym (c.deref.ensures.value ∙ c.in_ok-heights.ensures))
+    (height-known ms P
+    (λ i m lt.
+    let tall = c.requires.tall.1 i m lt in
+    let low = All-map (λ (v : Committed g.row.F.Denot g.row.EF.Denot). v.log_height < g.F.ComplexExtendable.CIRCLE_TWO_ADICITY) committed_of c.args.matrices.now (λ j d inside. (c.requires.openable j d inside).in_group) i m lt in
+    (omega (arith, tall), low)))
+
+pub fold_first_layer-requires-clause-some : goal.fold_first_layer-requires-clause-some
+fold_first_layer-requires-clause-some g c =
+    let ms = map committed_of c.args.matrices.now in
+    subst (λ hs. 1 ≤ length hs) (sym (c.deref-2.ensures.value ∙ c.in_ok-heights.ensures)) (some-heights ms c.requires.tall.0)
+
+pub fold_first_layer-requires-clause-heights : goal.fold_first_layer-requires-clause-heights
+fold_first_layer-requires-clause-heights g c =
+    let ms = map committed_of c.args.matrices.now in
+    let P : ℕ → Type 0 = λ h. (1 ≤ h) × (h < g.F.ComplexExtendable.CIRCLE_TWO_ADICITY) in
+    subst (All P) (sym (c.deref-2.ensures.value ∙ c.in_ok-heights.ensures))
+    (height-known ms P
+    (λ i m lt.
+    let tall = c.requires.tall.1 i m lt in
+    let low = All-map (λ (v : Committed g.row.F.Denot g.row.EF.Denot). v.log_height < g.F.ComplexExtendable.CIRCLE_TWO_ADICITY) committed_of c.args.matrices.now (λ j d inside. (c.requires.openable j d inside).in_group) i m lt in
+    (omega (arith, tall), low)))
+
+pub first_layer-bivariate-requires : goal.first_layer-bivariate-requires
+first_layer-bivariate-requires g c = record { next = (_, c.in_ok-alpha.ensures.due _ c.requires.next) }
+
+pub overflow_add-log_points : goal.overflow_add-log_points
+overflow_add-log_points g c =
+    let ms = map committed_of c.args.matrices.now in
+    let tall = top-known ms (λ h. c.args.params.now.log_blowup + c.args.params.now.log_final_poly_len + 2 ≤ h) c.requires.tall.0 c.requires.tall.1 in
+    let low = top-known ms (λ h. h < g.F.ComplexExtendable.CIRCLE_TWO_ADICITY) c.requires.tall.0
+    (All-map (λ (v : Committed g.row.F.Denot g.row.EF.Denot). v.log_height < g.F.ComplexExtendable.CIRCLE_TWO_ADICITY) committed_of c.args.matrices.now (λ j d inside. (c.requires.openable j d inside).in_group)) in
+    omega (arith, tall, low, g.met.F.ComplexExtendable.at_most_62)
+
+pub overflow_sub-log_max_height : goal.overflow_sub-log_max_height
+overflow_sub-log_max_height g c =
+    let tall = top-known (map committed_of c.args.matrices.now) (λ h. c.args.params.now.log_blowup + c.args.params.now.log_final_poly_len + 2 ≤ h) c.requires.tall.0 c.requires.tall.1 in
+    omega (arith, tall, c.greatest_height-log_max_height.ensures)
+
+pub overflow_sub-log_max_height-2 : goal.overflow_sub-log_max_height-2
+overflow_sub-log_max_height-2 g c =
+    let tall = top-known (map committed_of c.args.matrices.now) (λ h. c.args.params.now.log_blowup + c.args.params.now.log_final_poly_len + 2 ≤ h) c.requires.tall.0 c.requires.tall.1 in
+    omega (arith, tall, c.greatest_height-log_max_height.ensures)
+
+pub overflow_sub-log_max_height-3 : goal.overflow_sub-log_max_height-3
+overflow_sub-log_max_height-3 g c =
+    let tall = top-known (map committed_of c.args.matrices.now) (λ h. c.args.params.now.log_blowup + c.args.params.now.log_final_poly_len + 2 ≤ h) c.requires.tall.0 c.requires.tall.1 in
+    omega (arith, tall, c.greatest_height-log_max_height.ensures)
+
+pub play_rounds-requires-clause-next : goal.play_rounds-requires-clause-next
+play_rounds-requires-clause-next g c =
+    let degree = g.EF.ExtensionField.DEGREE in
+    let n = numbers c.args.transcript.now in
+    let b = c.args.params.now.log_blowup in
+    let f = c.args.params.now.log_final_poly_len in
+    let top = top_of (map committed_of c.args.matrices.now) in
+    let same2 = c.first_layer-bivariate.ensures.same.shape ∙ c.batch_phase.ensures.same.shape in
+    let count : top - 1 - b - f ≡ c.greatest_height-log_max_height.result - 1 - (b + f) = omega (arith, c.greatest_height-log_max_height.ensures) in (
+      indices_steps degree n,
+      c.first_layer-bivariate.ensures.due _ (c.in_ok-alpha.ensures.due _ c.requires.next)
+          ∙ ap (λ k. rounds_steps degree n.commit_pow_bits k ++ indices_steps degree n) count
+          ∙ ap (λ (v : _). rounds_steps degree v.commit_pow_bits (c.greatest_height-log_max_height.result - 1 - (b + f)) ++ indices_steps degree n) (sym same2),
+    )
+
+pub play_rounds-requires-clause-first : goal.play_rounds-requires-clause-first
+play_rounds-requires-clause-first g c =
+    let ms = map committed_of c.args.matrices.now in
+    let size : ℕ → ℕ = λ h. 2 ^ (h - 1) in
+    let all = c.in_ok-tallest.ensures.lengths ∙ ap (map size) (c.deref-2.ensures.value ∙ c.in_ok-heights.ensures ∙ heights-end ms c.requires.tall.0) in
+    (split-last size (map (λ w. length w.items) c.in_ok-tallest.joining.items) (length c.in_ok-tallest.tallest.items) (lower ms) (top_of ms) all).1
+    ∙ ap size (sym c.greatest_height-log_max_height.ensures)
+
+pub play_rounds-requires-clause-in_group : goal.play_rounds-requires-clause-in_group
+play_rounds-requires-clause-in_group g c =
+    let ms = map committed_of c.args.matrices.now in
+    let tall = top-known ms (λ h. c.args.params.now.log_blowup + c.args.params.now.log_final_poly_len + 2 ≤ h) c.requires.tall.0 c.requires.tall.1 in
+    let low = top-known ms (λ h. h < g.F.ComplexExtendable.CIRCLE_TWO_ADICITY) c.requires.tall.0
+    (All-map (λ (v : Committed g.row.F.Denot g.row.EF.Denot). v.log_height < g.F.ComplexExtendable.CIRCLE_TWO_ADICITY) committed_of c.args.matrices.now (λ j d inside. (c.requires.openable j d inside).in_group)) in
+    omega (arith, tall, low, c.greatest_height-log_max_height.ensures)
+
+pub play_rounds-requires-clause-words : goal.play_rounds-requires-clause-words
+play_rounds-requires-clause-words g c =
+    let ms = map committed_of c.args.matrices.now in
+    let size : ℕ → ℕ = λ h. 2 ^ (h - 1) in
+    let same = c.deref-2.ensures.value ∙ c.in_ok-heights.ensures ∙ heights-end ms c.requires.tall.0 in
+    let all = c.in_ok-tallest.ensures.lengths ∙ ap (map size) same in
+    let joining = (split-last size (map (λ w. length w.items) c.in_ok-tallest.joining.items) (length c.in_ok-tallest.tallest.items) (lower ms) (top_of ms) all).0 in
+    let kept : take (c.len.result - 1) c.deref-3.result.now ≡ lower ms =
+    front-of c.deref-3.result.now c.len.result (lower ms) (top_of ms) (c.deref-3.ensures.value ∙ c.in_ok-heights.ensures ∙ heights-end ms c.requires.tall.0)
+    (c.len.ensures ∙ c.in_ok-heights.heights.ok.0 ∙ ap length (c.in_ok-heights.ensures ∙ heights-end ms c.requires.tall.0)) in
+    ap (map (λ w. length w.items)) c.deref-4.ensures.value ∙ joining ∙ ap (map size) (sym kept)
+
+pub final_coefficients-requires-clause-length : goal.final_coefficients-requires-clause-length
+final_coefficients-requires-clause-length g c =
+    let tall = top-known (map committed_of c.args.matrices.now) (λ h. c.args.params.now.log_blowup + c.args.params.now.log_final_poly_len + 2 ≤ h) c.requires.tall.0 c.requires.tall.1 in
+    let left : c.greatest_height-log_max_height.result - 1 - (c.greatest_height-log_max_height.result - 1 - (c.args.params.now.log_blowup + c.args.params.now.log_final_poly_len)) ≡ c.args.params.now.log_blowup + c.args.params.now.log_final_poly_len =
+    omega (arith, tall, c.greatest_height-log_max_height.ensures) in
+    ap length c.deref-5.ensures.value ∙ c.in_ok-rounds.ensures.length ∙ ap (λ n. 2 ^ n) left
+
+pub final_coefficients-requires-clause-in_group : goal.final_coefficients-requires-clause-in_group
+final_coefficients-requires-clause-in_group g c =
+    let ms = map committed_of c.args.matrices.now in
+    let tall = top-known ms (λ h. c.args.params.now.log_blowup + c.args.params.now.log_final_poly_len + 2 ≤ h) c.requires.tall.0 c.requires.tall.1 in
+    let low = top-known ms (λ h. h < g.F.ComplexExtendable.CIRCLE_TWO_ADICITY) c.requires.tall.0
+    (All-map (λ (v : Committed g.row.F.Denot g.row.EF.Denot). v.log_height < g.F.ComplexExtendable.CIRCLE_TWO_ADICITY) committed_of c.args.matrices.now (λ j d inside. (c.requires.openable j d inside).in_group)) in
+    omega (arith, tall, low)
+
+abbrev fields : (g : Over) → Fields g.row.F.Denot g.row.EF.Denot
+fields g = record { field = g.F.Operations.ops; gen = g.F.ComplexExtendable.generators; extension = g.EF.Operations.ops; embed = g.EF.ExtensionField.embed }
+
+-- what the challenger is to the run
+abbrev challenger : (g : Over) → RunMoves g.row.C.Denot g.row.C-State.Denot g.row.F.Denot g.row.EF.Denot g.row.M-Commitment.Denot
+challenger g = run_moves g.C.ChallengerState.state g.C.CanObserve-1.after_observe g.C.CanObserve-2.after_observe g.C.CanSample.sampled g.C.CanSample.after_sample g.C.CanSampleBits.sampled_bits g.C.CanSampleBits.after_bits g.EF.ExtensionField.DEGREE g.EF.ExtensionField.coefficients (of_nat g.F.Operations.ops) g.F.Operations.ops.zero
+
+pub returns-in_err-rounds-clause-failure : goal.returns-in_err-rounds-clause-failure
+returns-in_err-rounds-clause-failure g c =
+    let r = challenger g in
+    let zero = g.F.Operations.ops.zero in
+    let n = numbers c.args.transcript.now in
+    let s = g.C.ChallengerState.state c.args.transcript.now.challenger.now in
+    let claims = claims_of c.args.claims.now in
+    let all = taken claims (unwrap_or c.in_ok-alpha.batch zero) c.in_ok-layer.layer.commitment [] [] zero in
+    let same2 = c.first_layer-bivariate.ensures.same.shape ∙ c.batch_phase.ensures.same.shape in
+    let second : AtRounds r n all s (numbers c.first_layer-bivariate.new.self) (g.C.ChallengerState.state c.first_layer-bivariate.new.self.challenger.now) =
+    record { same = same2; batch = c.in_ok-alpha.ensures.passes; state = c.first_layer-bivariate.ensures.state ∙ ap (after_element r.base) (at_layer r n all s _ c.in_ok-alpha.ensures.state) } in
+    handed_on c.from_residual-in_err-rounds.result c.in_err-rounds.field-0.0 (λ e. (e ≡ Memory) ⊎ (IsTooHigh (fields g) c.args.params.now.log_blowup c.args.params.now.log_final_poly_len (map committed_of c.args.matrices.now) e ⊎ IsStuck r n claims s e)) c.from_residual-in_err-rounds.ensures.1
+    (elim c.in_err-rounds.ensures.failure [
+      | inl refused ↦ inl refused
+      | inr stuck ↦ inr (inr (CommitPhase, stuck.0, stuck-rounds r n claims s all refl _ _ second stuck.1))
+    ])
+
+pub returns-in_err-final_poly-clause-failure : goal.returns-in_err-final_poly-clause-failure
+returns-in_err-final_poly-clause-failure g c =
+    let k = fields g in
+    let ms = map committed_of c.args.matrices.now in
+    let b = c.args.params.now.log_blowup in
+    let f = c.args.params.now.log_final_poly_len in
+    let top = top_of ms in
+    let alpha = c.in_ok-alpha.alpha in
+    let bivariate = c.first_layer-bivariate.result in
+    let betas = c.in_ok-rounds.rounds.betas.items in
+    let layer = layer_of k b ms alpha in
+    let fold = first_fold k b ms alpha bivariate in
+    let tall = top-known ms (λ h. b + f + 2 ≤ h) c.requires.tall.0 c.requires.tall.1 in
+    let ends = heights-end ms c.requires.tall.0 in
+    let hs1 : c.deref.result.now ≡ heights_of ms = c.deref.ensures.value ∙ c.in_ok-heights.ensures in
+    let hs2 : c.deref-2.result.now ≡ heights_of ms = c.deref-2.ensures.value ∙ c.in_ok-heights.ensures in
+    let committed = subst (λ hs. AreCommitted (g.M.Mmcs.commits c.args.params.now.mmcs) (map layer hs) (g.M.Mmcs.matrices c.in_ok-layer.layer.kept) c.in_ok-layer.layer.commitment) hs1 c.in_ok-layer.ensures.committed in
+    let yf : ℕ → List (List g.row.EF.Denot) → List g.row.EF.Denot = λ h rs. y_folds k.field k.gen k.extension k.embed (h - 1) bivariate rs in
+    let folds = c.in_ok-tallest.ensures.words
+    ∙ ap (λ hs. pairwise yf hs (map rows (g.M.Mmcs.matrices c.in_ok-layer.layer.kept))) hs2 ∙ ap (pairwise yf (heights_of ms)) committed.rows
+    ∙ pairwise-map yf layer (heights_of ms) ∙ ap (map fold) ends in
+    let both = split-last fold (map (λ w. w.items) c.in_ok-tallest.joining.items) c.in_ok-tallest.tallest.items (lower ms) top folds in
+    let first : c.in_ok-tallest.tallest.items ≡ fold top = both.1 in
+    let kept : take (c.len.result - 1) c.deref-3.result.now ≡ lower ms =
+    front-of c.deref-3.result.now c.len.result (lower ms) top (c.deref-3.ensures.value ∙ c.in_ok-heights.ensures ∙ ends)
+    (c.len.ensures ∙ c.in_ok-heights.heights.ok.0 ∙ ap length (c.in_ok-heights.ensures ∙ ends)) in
+    let are : map (λ w. w.items) c.deref-4.result.now ≡ map fold (take (c.len.result - 1) c.deref-3.result.now) =
+    ap (map (λ w. w.items)) c.deref-4.ensures.value ∙ both.0 ∙ ap (map fold) (sym kept) in
+    let high = c.greatest_height-log_max_height.ensures in
+    let low : top - 1 < top = omega (arith, tall) in
+    let alike : (n : ℕ) → word_at k (take (c.len.result - 1) c.deref-3.result.now) fold (c.greatest_height-log_max_height.result - 1) c.in_ok-tallest.tallest.items betas n
+    ≡ round_word k b ms alpha bivariate betas n = λ n.
+    ap (λ hs. word_at k hs fold (c.greatest_height-log_max_height.result - 1) c.in_ok-tallest.tallest.items betas n) kept
+    ∙ ap (λ t. word_at k (lower ms) fold (t - 1) c.in_ok-tallest.tallest.items betas n) high
+    ∙ ap (λ w. word_at k (lower ms) fold (top - 1) w betas n) first
+    ∙ word-alike k (lower ms) top fold (top - 1) (fold top) betas low n
+    ∙ ap (λ hs. word_at k hs fold (top - 1) (fold top) betas n) (sym ends) in
+    let n = numbers c.args.transcript.now in
+    let claims = claims_of c.args.claims.now in
+    let s = g.C.ChallengerState.state c.args.transcript.now.challenger.now in
+    let count : c.greatest_height-log_max_height.result - 1 - (b + f) ≡ top - 1 - b - f = omega (arith, high) in
+    let is_last : c.deref-5.result.now ≡ round_word k b ms alpha bivariate betas (top - 1 - b - f) =
+    c.deref-5.ensures.value ∙ c.in_ok-rounds.ensures.word fold are ∙ alike _ ∙ ap (round_word k b ms alpha bivariate betas) count in
+    handed_on c.from_residual-in_err-final_poly.result c.in_err-final_poly.field-0.0 (λ e. (e ≡ Memory) ⊎ (IsTooHigh k b f ms e ⊎ IsStuck (challenger g) n claims s e)) c.from_residual-in_err-final_poly.ensures.1
+    (elim c.in_err-final_poly.ensures.failure [
+      | inl refused ↦ inl refused
+      | inr high ↦
+          inr (inl (
+            high.0,
+            record {
+              alpha = alpha;
+              bivariate = bivariate;
+              betas = betas;
+              none = λ span. high.1 (subst (XSpan k.field k.gen k.extension k.embed f (b + f)) (sym is_last) span);
+            },
+          ))
+    ])
+
+pub query_phase-requires-clause-next : goal.query_phase-requires-clause-next
+query_phase-requires-clause-next g c =
+    let degree = g.EF.ExtensionField.DEGREE in
+    let b = c.args.params.now.log_blowup in
+    let f = c.args.params.now.log_final_poly_len in
+    let top = top_of (map committed_of c.args.matrices.now) in
+    let n = numbers c.args.transcript.now in
+    let count : top - 1 - b - f ≡ c.greatest_height-log_max_height.result - 1 - (b + f) = omega (arith, c.greatest_height-log_max_height.ensures) in (
+      [],
+      indices_due degree (c.greatest_height-log_max_height.result - 1 - (b + f)) n _ _ _ _ (c.first_layer-bivariate.ensures.same.shape ∙ c.batch_phase.ensures.same.shape) c.play_rounds.ensures.same.shape
+          (c.first_layer-bivariate.ensures.due _ (c.in_ok-alpha.ensures.due _ c.requires.next) ∙ ap (λ k. rounds_steps degree n.commit_pow_bits k ++ indices_steps degree n) count) c.in_ok-rounds.ensures.due,
+    )
+
+pub returns-clause-due : goal.returns-clause-due
+returns-clause-due g c =
+    let degree = g.EF.ExtensionField.DEGREE in
+    let b = c.args.params.now.log_blowup in
+    let f = c.args.params.now.log_final_poly_len in
+    let top = top_of (map committed_of c.args.matrices.now) in
+    let n = numbers c.args.transcript.now in
+    let count : top - 1 - b - f ≡ c.greatest_height-log_max_height.result - 1 - (b + f) = omega (arith, c.greatest_height-log_max_height.ensures) in
+    c.in_ok-indices.ensures.due []
+    (indices_due degree (c.greatest_height-log_max_height.result - 1 - (b + f)) n _ _ _ _ (c.first_layer-bivariate.ensures.same.shape ∙ c.batch_phase.ensures.same.shape) c.play_rounds.ensures.same.shape
+    (c.first_layer-bivariate.ensures.due _ (c.in_ok-alpha.ensures.due _ c.requires.next) ∙ ap (λ k. rounds_steps degree n.commit_pow_bits k ++ indices_steps degree n) count) c.in_ok-rounds.ensures.due)
+
+pub returns-in_err-indices-clause-failure : goal.returns-in_err-indices-clause-failure
+returns-in_err-indices-clause-failure g c =
+    let r = challenger g in
+    let zero = g.F.Operations.ops.zero in
+    let n = numbers c.args.transcript.now in
+    let s = g.C.ChallengerState.state c.args.transcript.now.challenger.now in
+    let claims = claims_of c.args.claims.now in
+    let rounds = zip c.in_ok-rounds.rounds.commitments.items c.in_ok-rounds.rounds.witnesses.items in
+    let all = taken claims (unwrap_or c.in_ok-alpha.batch zero) c.in_ok-layer.layer.commitment rounds c.in_ok-final_poly.final_poly.items zero in
+    let same2 = c.first_layer-bivariate.ensures.same.shape ∙ c.batch_phase.ensures.same.shape in
+    let second : AtRounds r n all s (numbers c.first_layer-bivariate.new.self) (g.C.ChallengerState.state c.first_layer-bivariate.new.self.challenger.now) =
+    record { same = same2; batch = c.in_ok-alpha.ensures.passes; state = c.first_layer-bivariate.ensures.state ∙ ap (after_element r.base) (at_layer r n all s _ c.in_ok-alpha.ensures.state) } in
+    let third = at_query r n all s (numbers c.play_rounds.new.transcript) _ _ _ second c.play_rounds.ensures.same.shape c.in_ok-rounds.ensures.played.passes c.in_ok-rounds.ensures.played.state in
+    handed_on c.from_residual-in_err-indices.result (prover_error c.in_err-indices.field-0.0) (λ e. (e ≡ Memory) ⊎ (IsTooHigh (fields g) c.args.params.now.log_blowup c.args.params.now.log_final_poly_len (map committed_of c.args.matrices.now) e ⊎ IsStuck r n claims s e)) c.from_residual-in_err-indices.ensures.1
+    (elim c.in_err-indices.ensures.failure [
+      | inl refused ↦ inl (ap prover_error refused)
+      | inr none ↦
+          inr (inr (
+            Query,
+            ap prover_error none,
+            stuck-query r n claims s all refl _ _ third
+                (subst (λ xs. NonePasses r.base (after_final_poly r.base (g.C.ChallengerState.state c.play_rounds.new.transcript.challenger.now) xs) (numbers c.play_rounds.new.transcript).query_pow_bits) c.deref-6.ensures.value
+                (c.query_phase.ensures.none (c.in_err-indices.was ∙ ap Err none))),
+          ))
+    ])
+
+pub returns-clause-below : goal.returns-clause-below
+returns-clause-below g c =
+    subst (λ (v : Numbers). All (λ i. i < 2 ^ v.index_bits) c.in_ok-indices.indices.items) (c.play_rounds.ensures.same.shape ∙ c.first_layer-bivariate.ensures.same.shape ∙ c.batch_phase.ensures.same.shape) c.in_ok-indices.ensures.below
+
+pub returns-clause-easy_batch : goal.returns-clause-easy_batch
+returns-clause-easy_batch g c = λ none.
+    c.unwrap_or.ensures ∙ ap (unwrap_or c.in_ok-alpha.batch) (c.ZERO.ensures ∙ g.met.F.Field.zero_law) ∙ unwrap_none g.F.Operations.ops.zero c.in_ok-alpha.batch (c.in_ok-alpha.ensures.needed.1 none)
+
+pub returns-clause-easy_rounds : goal.returns-clause-easy_rounds
+returns-clause-easy_rounds g c = λ none.
+    c.in_ok-rounds.ensures.easy (ap (λ v. v.commit_pow_bits) (c.first_layer-bivariate.ensures.same.shape ∙ c.batch_phase.ensures.same.shape) ∙ none)
+
+pub returns-clause-easy_query : goal.returns-clause-easy_query
+returns-clause-easy_query g c = λ none.
+    let same = c.play_rounds.ensures.same.shape ∙ c.first_layer-bivariate.ensures.same.shape ∙ c.batch_phase.ensures.same.shape in
+    c.unwrap_or-2.ensures ∙ ap (unwrap_or c.in_ok-indices.query) (c.ZERO-2.ensures ∙ g.met.F.Field.zero_law)
+    ∙ unwrap_none g.F.Operations.ops.zero c.in_ok-indices.query (c.in_ok-indices.ensures.needed.1 (ap (λ v. v.query_pow_bits) same ∙ none))
+
+pub returns-clause-draws : goal.returns-clause-draws
+returns-clause-draws g c =
+    let r = challenger g in
+    let zero = g.F.Operations.ops.zero in
+    let n = numbers c.args.transcript.now in
+    let s = g.C.ChallengerState.state c.args.transcript.now.challenger.now in
+    let claims = claims_of c.args.claims.now in
+    let coefficients = g.EF.ExtensionField.coefficients in
+    let commitment = c.in_ok-layer.layer.commitment in
+    let rounds = zip c.in_ok-rounds.rounds.commitments.items c.in_ok-rounds.rounds.witnesses.items in
+    let last = c.in_ok-final_poly.final_poly.items in
+    let all = taken claims (unwrap_or c.in_ok-alpha.batch zero) commitment rounds last (unwrap_or c.in_ok-indices.query zero) in
+    let same2 = c.first_layer-bivariate.ensures.same.shape ∙ c.batch_phase.ensures.same.shape in
+    let second : AtRounds r n all s (numbers c.first_layer-bivariate.new.self) (g.C.ChallengerState.state c.first_layer-bivariate.new.self.challenger.now) =
+    record { same = same2; batch = c.in_ok-alpha.ensures.passes; state = c.first_layer-bivariate.ensures.state ∙ ap (after_element r.base) (at_layer r n all s _ c.in_ok-alpha.ensures.state) } in
+    let played = c.in_ok-rounds.ensures.played in
+    let third = at_query r n all s (numbers c.play_rounds.new.transcript) _ _ _ second c.play_rounds.ensures.same.shape played.passes played.state in
+    let now = g.C.ChallengerState.state c.play_rounds.new.transcript.challenger.now in
+    let m = numbers c.play_rounds.new.transcript in
+    let poly : c.deref-6.result.now ≡ last = c.deref-6.ensures.value in
+    let w = unwrap_or c.in_ok-indices.query zero in
+    let drawn = drawn_parts (coefficients c.in_ok-alpha.alpha) (coefficients c.first_layer-bivariate.result) (map coefficients c.in_ok-rounds.rounds.betas.items) c.in_ok-indices.indices.items
+    (g.C.ChallengerState.state c.query_phase.new.self.challenger.now) in
+    let given : draw_seeded r n all s ≡ Ok drawn =
+    all_drawn r n all s _ _ third drawn.alpha drawn.bivariate drawn.betas drawn.indices
+    _ _ _ drawn.state c.in_ok-alpha.ensures.state second
+    (subst (λ xs. IsTrue (is_passed r.base (after_final_poly r.base now xs) m.query_pow_bits w)) poly c.in_ok-indices.ensures.passes)
+    c.in_ok-alpha.ensures.challenge c.first_layer-bivariate.ensures.challenge played.challenges
+    (c.in_ok-indices.ensures.indices ∙ ap (λ xs. drawn_indices r.base m (after_pow r.base (after_final_poly r.base now xs) m.query_pow_bits w)) poly)
+    (c.in_ok-indices.ensures.state ∙ ap (λ xs. after_indices r.base m (after_pow r.base (after_final_poly r.base now xs) m.query_pow_bits w)) poly) in
+    let zero-1 : c.unwrap_or.result ≡ unwrap_or c.in_ok-alpha.batch zero = c.unwrap_or.ensures ∙ ap (unwrap_or c.in_ok-alpha.batch) (c.ZERO.ensures ∙ g.met.F.Field.zero_law) in
+    let zero-2 : c.unwrap_or-2.result ≡ w = c.unwrap_or-2.ensures ∙ ap (unwrap_or c.in_ok-indices.query) (c.ZERO-2.ensures ∙ g.met.F.Field.zero_law) in
+    subst (λ x. draw_seeded r n (taken claims x commitment rounds last c.unwrap_or-2.result) s ≡ Ok drawn) (sym zero-1)
+    (subst (λ x. draw_seeded r n (taken claims (unwrap_or c.in_ok-alpha.batch zero) commitment rounds last x) s ≡ Ok drawn) (sym zero-2) given)
+
+pub returns-clause-words : goal.returns-clause-words
+returns-clause-words g c =
+    let k : Fields g.row.F.Denot g.row.EF.Denot = record { field = g.F.Operations.ops; gen = g.F.ComplexExtendable.generators; extension = g.EF.Operations.ops; embed = g.EF.ExtensionField.embed } in
+    let ms = map committed_of c.args.matrices.now in
+    let b = c.args.params.now.log_blowup in
+    let f = c.args.params.now.log_final_poly_len in
+    let top = top_of ms in
+    let alpha = c.in_ok-alpha.alpha in
+    let bivariate = c.first_layer-bivariate.result in
+    let betas = c.in_ok-rounds.rounds.betas.items in
+    let layer = layer_of k b ms alpha in
+    let fold = first_fold k b ms alpha bivariate in
+    let tall = top-known ms (λ h. b + f + 2 ≤ h) c.requires.tall.0 c.requires.tall.1 in
+    let ends = heights-end ms c.requires.tall.0 in
+    let hs1 : c.deref.result.now ≡ heights_of ms = c.deref.ensures.value ∙ c.in_ok-heights.ensures in
+    let hs2 : c.deref-2.result.now ≡ heights_of ms = c.deref-2.ensures.value ∙ c.in_ok-heights.ensures in
+    let committed = subst (λ hs. AreCommitted (g.M.Mmcs.commits c.args.params.now.mmcs) (map layer hs) (g.M.Mmcs.matrices c.in_ok-layer.layer.kept) c.in_ok-layer.layer.commitment) hs1 c.in_ok-layer.ensures.committed in
+    let yf : ℕ → List (List g.row.EF.Denot) → List g.row.EF.Denot = λ h rs. y_folds k.field k.gen k.extension k.embed (h - 1) bivariate rs in
+    let folds = c.in_ok-tallest.ensures.words
+    ∙ ap (λ hs. pairwise yf hs (map rows (g.M.Mmcs.matrices c.in_ok-layer.layer.kept))) hs2 ∙ ap (pairwise yf (heights_of ms)) committed.rows
+    ∙ pairwise-map yf layer (heights_of ms) ∙ ap (map fold) ends in
+    let both = split-last fold (map (λ w. w.items) c.in_ok-tallest.joining.items) c.in_ok-tallest.tallest.items (lower ms) top folds in
+    let first : c.in_ok-tallest.tallest.items ≡ fold top = both.1 in
+    let kept : take (c.len.result - 1) c.deref-3.result.now ≡ lower ms =
+    front-of c.deref-3.result.now c.len.result (lower ms) top (c.deref-3.ensures.value ∙ c.in_ok-heights.ensures ∙ ends)
+    (c.len.ensures ∙ c.in_ok-heights.heights.ok.0 ∙ ap length (c.in_ok-heights.ensures ∙ ends)) in
+    let are : map (λ w. w.items) c.deref-4.result.now ≡ map fold (take (c.len.result - 1) c.deref-3.result.now) =
+    ap (map (λ w. w.items)) c.deref-4.ensures.value ∙ both.0 ∙ ap (map fold) (sym kept) in
+    let high = c.greatest_height-log_max_height.ensures in
+    let low : top - 1 < top = omega (arith, tall) in
+    let alike : (n : ℕ) → word_at k (take (c.len.result - 1) c.deref-3.result.now) fold (c.greatest_height-log_max_height.result - 1) c.in_ok-tallest.tallest.items betas n
+    ≡ round_word k b ms alpha bivariate betas n = λ n.
+    ap (λ hs. word_at k hs fold (c.greatest_height-log_max_height.result - 1) c.in_ok-tallest.tallest.items betas n) kept
+    ∙ ap (λ t. word_at k (lower ms) fold (t - 1) c.in_ok-tallest.tallest.items betas n) high
+    ∙ ap (λ w. word_at k (lower ms) fold (top - 1) w betas n) first
+    ∙ word-alike k (lower ms) top fold (top - 1) (fold top) betas low n
+    ∙ ap (λ hs. word_at k hs fold (top - 1) (fold top) betas n) (sym ends) in
+    let many : length c.in_ok-rounds.rounds.commitments.items ≡ c.greatest_height-log_max_height.result - 1 - (b + f) = c.in_ok-rounds.ensures.commitments in
+    record {
+      heights = c.in_ok-heights.ensures;
+      top = high;
+      lambdas = c.in_ok-layer.ensures.lambdas ∙ ap (map (lambda k alpha ms b)) hs1;
+      first_layer = committed;
+      shapes = subst (λ hs. HaveHeights hs (g.M.Mmcs.matrices c.in_ok-layer.layer.kept)) hs1 c.in_ok-layer.ensures.shapes;
+      count = many ∙ (let e : c.greatest_height-log_max_height.result - 1 - (b + f) ≡ top - 1 - b - f = omega (arith, high) in e);
+      witnesses = c.in_ok-rounds.ensures.witnesses ∙ sym many;
+      rounds = rounds-alike (g.M.Mmcs.commits c.args.params.now.mmcs) g.M.Mmcs.matrices _ (round_word k b ms alpha bivariate betas) c.in_ok-rounds.rounds.kept.items c.in_ok-rounds.rounds.commitments.items alike (c.in_ok-rounds.ensures.committed fold are);
+      final_poly =
+          subst (λ w. HasXValues k.field k.gen k.extension k.embed f (b + f) w c.in_ok-final_poly.final_poly.items)
+          (c.deref-5.ensures.value ∙ c.in_ok-rounds.ensures.word fold are ∙ alike _ ∙ ap (round_word k b ms alpha bivariate betas) (sym many))
+          c.in_ok-final_poly.ensures.values;
+    }

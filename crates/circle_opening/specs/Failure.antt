@@ -1,0 +1,80 @@
+-- Why there is no opening once the challenger is seeded.
+use Rattle.std.specs.Prelude.{◌≡◌, ℕ, List, IsTrue, true}
+use Rattle.circle_challenger.specs.Moves.{RunMoves, is_passed, after_element}
+use Rattle.circle_commit.specs.declared.params.PowPhase.{PowPhase}
+use Rattle.circle_commit.specs.declared.params.PowPhase.TheVariants.{Batch, CommitPhase, Query}
+use Rattle.circle_commit.specs.declared.params.FriParameters.{FriParameters}
+use Rattle.circle_field.specs.Field.{FieldOps}
+use Rattle.circle_opening.specs.Taken.{claims_taken, shape_by}
+use Rattle.circle_opening.specs.Words.{EndsHigh}
+use Rattle.circle_opening.specs.declared.error.ProverError.{ProverError}
+use Rattle.circle_opening.specs.declared.error.ProverError.TheVariants.{Memory, LastWordNotConstant, NoGrindingWitness}
+use Rattle.circle_transcript.specs.Draw.{Claim, Taken, after_claims, claimed, layered, closed, after_rounds, rounds_pass, seeded}
+use Rattle.circle_relation.specs.Accepts.{Fields}
+use Rattle.circle_relation.specs.Statement.{BatchClaim}
+use Rattle.circle_transcript.specs.Numbers.{numbers_of}
+use Rattle.circle_transcript.specs.Runs.{NonePasses}
+use Rattle.circle_transcript.specs.declared.failure.CircleTranscriptFailure.{CircleTranscriptFailure}
+use Rattle.circle_transcript.specs.declared.failure.CircleTranscriptFailure.TheVariants.{PowWitness, NoWitness, Memory as OutOfMemory}
+use Rattle.circle_transcript.specs.declared.transcript.Numbers.{Numbers}
+use Rattle.circle_words.specs.Words.{Committed}
+
+-- the refusal by which a transcript's failure is answered
+abbrev pub prover_error : CircleTranscriptFailure → ProverError
+prover_error (PowWitness phase bits) = NoGrindingWitness phase
+prover_error (NoWitness phase bits) = NoGrindingWitness phase
+prover_error OutOfMemory = Memory
+
+-- the last word of these matrices is of too high degree
+abbrev pub IsTooHigh : {F E : Type 0} → Fields F E → ℕ → ℕ → List (Committed F E) → ProverError
+    → Type 0
+IsTooHigh k blowup final matrices e =
+    (e ≡ LastWordNotConstant) × EndsHigh k blowup final matrices
+
+module _ {C S F E Com : Type 0} (r : RunMoves C S F E Com) where
+  -- after rounds whose witnesses pass comes a commitment after which none passes
+  pub record IsStuckAfter (bits : ℕ) (begun : S) : Type 0 where
+    pub rounds : List (Com × F)
+    pub commitment : Com
+    pub passed : rounds_pass r bits begun rounds ≡ true
+    pub none :
+        NonePasses r.base (r.after_commitment (after_rounds r bits begun rounds) commitment) bits
+
+  module _ (n : Numbers) (claims : List (Claim E)) (s : S) where
+    -- a run that takes in the claims passes the proof of work of its batching challenge
+    pub record Starts (taken : Taken F E Com) : Type 0 where
+      pub same : taken.claims ≡ claims
+      pub passed :
+          IsTrue (is_passed r.base (claimed r n taken s) n.batch_pow_bits taken.batch_witness)
+
+    -- one of its rounds is stuck
+    pub record IsStuckInRounds : Type 0 where
+      pub taken : Taken F E Com
+      pub starts : Starts taken
+      pub stuck : IsStuckAfter n.commit_pow_bits (after_element r.base (layered r n taken s))
+
+    -- its rounds pass, and its queries are stuck
+    pub record IsStuckInQuery : Type 0 where
+      pub taken : Taken F E Com
+      pub starts : Starts taken
+      pub passed :
+          rounds_pass r n.commit_pow_bits (after_element r.base (layered r n taken s)) taken.rounds
+          ≡ true
+      pub none : NonePasses r.base (closed r n taken s) n.query_pow_bits
+
+    -- a run that takes in the claims comes to a proof of work of this phase that no witness passes
+    abbrev pub FindsNone : PowPhase → Type 0
+    FindsNone Batch = NonePasses r.base (after_claims r.base s claims) n.batch_pow_bits
+    FindsNone CommitPhase = IsStuckInRounds
+    FindsNone Query = IsStuckInQuery
+
+  -- the refusal names a phase of which no witness passes
+  abbrev pub IsStuck : Numbers → List (Claim E) → S → ProverError → Type 0
+  IsStuck n claims s e = (phase : PowPhase) × (e ≡ NoGrindingWitness phase) × FindsNone n claims s phase
+
+-- so it does in the run over claims under these parameters, before it is seeded
+abbrev pub IsStuckFrom : {C S F E M Com WC : Type 0} → RunMoves C S F E WC → FieldOps E
+    → FriParameters M → List (BatchClaim Com E) → S → ProverError → Type 0
+IsStuckFrom r l p claims s e =
+    let shape = shape_by p claims in
+    IsStuck r (numbers_of shape) (claims_taken l claims) (seeded r shape s) e

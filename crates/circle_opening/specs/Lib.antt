@@ -1,0 +1,7 @@
+pub mod Words
+pub mod Openings
+pub mod Taken
+pub mod Requests
+pub mod Opening
+pub mod Failure
+pub mod Rows

@@ -1,0 +1,130 @@
+-- What an opening answers: Circle STARKs (ePrint 2024/278), sections 4 and 6.
+use Rattle.std.specs.Prelude.{◌≡◌, ℕ, ◌+◌, ◌-◌, ◌⊎◌, List, [], ◌∷◌, length, map, flat_map, All, Some, slice_get, Ok}
+use Rattle.std.specs.List.{AllZip}
+use Rattle.circle_challenger.specs.Moves.{RunMoves}
+use Rattle.circle_commit.specs.Pcs.{Openings}
+use Rattle.circle_commit.specs.declared.matrix.RowMajorMatrix.{RowMajorMatrix}
+use Rattle.circle_commit.specs.declared.params.FriParameters.{FriParameters}
+use Rattle.circle_commit.specs.declared.pcs.OpeningRequest.{OpeningRequest}
+use Rattle.circle_field.specs.Field.{FieldOps}
+use Rattle.circle_domain.specs.Spans.{HasXValues}
+use Rattle.circle_relation.specs.Accepts.{Authenticates, Fields}
+use Rattle.circle_relation.specs.Statement.{BatchClaim, Challenges, Opened, OpeningProof}
+use Rattle.circle_opening.specs.Failure.{IsStuckFrom, IsTooHigh}
+use Rattle.circle_opening.specs.declared.error.ProverError.{ProverError}
+use Rattle.circle_opening.specs.declared.error.ProverError.TheVariants.{Memory}
+use Rattle.circle_transcript.specs.Draw.{draw}
+use Rattle.circle_transcript.specs.declared.run.CircleDraws.{CircleDraws}
+use Rattle.circle_transcript.specs.declared.run.CircleWitnesses.{CircleWitnesses}
+use Rattle.circle_words.specs.Words.{Committed, lambda, pairs_of}
+use Rattle.circle_opening.specs.Openings.{OpensSiblings}
+use Rattle.circle_opening.specs.Requests.{AreAnswers, HasBatchRows, all_committed, claimed_batch}
+use Rattle.circle_opening.specs.Taken.{drawn_by, shape_by, taken_by}
+use Rattle.circle_opening.specs.Words.{AreCommitted, heights_of, layer_of, round_word, top_of}
+
+-- under a scheme, words of these heights that have this commitment, and of their rows at the
+-- queries without so many bits the entries beside the queries' places, with a proof of the rows
+pub record AreOpenedWords {E Com P : Type 0} (Commits : List (RowMajorMatrix E) → Com → Type 0)
+    (authenticates : Authenticates Com E P) (zero : E) (top bits : ℕ) (queries heights : List ℕ)
+    (words : List (List (List E))) (commitment : Com) (o : Opened (List E) P) : Type 0 where
+  pub kept : List (RowMajorMatrix E)
+  pub committed : AreCommitted Commits words kept commitment
+  pub opened :
+      OpensSiblings Commits authenticates kept zero top heights bits queries o.entries o.proof
+
+module _ {F E WC IP WP : Type 0} (k : Fields F E) (matrices : List (Committed F E))
+    (c : Challenges E) (proof : OpeningProof F E WC IP WP) where
+  -- the words under the challenges that were drawn, by the heights of the first layer and by round
+  abbrev pub drawn_layer : ℕ → ℕ → List (List E)
+  drawn_layer blowup = layer_of k blowup matrices c.alpha
+
+  abbrev pub drawn_word : ℕ → ℕ → List E
+  drawn_word blowup = round_word k blowup matrices c.alpha c.bivariate c.betas
+
+  module _ {M : Type 0} (p : FriParameters M)
+      (Commits : List (RowMajorMatrix E) → WC → Type 0) (authenticates : Authenticates WC E WP)
+    where
+      -- the proof holds the multiples of the vanishing polynomial, the commitments of the words, what
+      -- the queries ask of them, and the last word's coefficients; witnesses of no difficulty are zero
+      pub record HoldsWords : Type 0 where
+        pub lambdas : proof.lambdas ≡ map (lambda k c.alpha matrices p.log_blowup) (heights_of matrices)
+        pub first_layer :
+            AreOpenedWords Commits authenticates k.extension.zero (top_of matrices) 1 c.queries
+            (heights_of matrices) (map (drawn_layer p.log_blowup) (heights_of matrices))
+            proof.first_layer proof.first_layer_opened
+        pub count :
+            length proof.commitments ≡ top_of matrices - 1 - p.log_blowup - p.log_final_poly_len
+        pub opened : length proof.rounds_opened ≡ length proof.commitments
+        pub rounds : (n : ℕ) (commitment : WC) (o : Opened (List E) WP)
+            → slice_get proof.commitments n ≡ Some commitment
+            → slice_get proof.rounds_opened n ≡ Some o
+            → AreOpenedWords Commits authenticates k.extension.zero (top_of matrices) (n + 2)
+            c.queries ((top_of matrices - 1 - n) ∷ []) (pairs_of (drawn_word p.log_blowup n) ∷ [])
+            commitment o
+        pub final_poly :
+            HasXValues k.field k.gen k.extension k.embed p.log_final_poly_len
+            (p.log_blowup + p.log_final_poly_len)
+            (drawn_word p.log_blowup (length proof.commitments)) proof.final_poly
+        pub witnesses : length proof.witnesses ≡ length proof.commitments
+        pub batch_zero : p.batch_proof_of_work_bits ≡ 0 → proof.batch_witness ≡ k.field.zero
+        pub rounds_zero :
+            p.commit_proof_of_work_bits ≡ 0 → All (λ w. w ≡ k.field.zero) proof.witnesses
+        pub query_zero : p.query_proof_of_work_bits ≡ 0 → proof.query_witness ≡ k.field.zero
+
+module _ {D F E M : Type 0} (p : FriParameters M) (kept : D → List (RowMajorMatrix F))
+    (requests : List (OpeningRequest D E)) (values : Openings E) where
+  -- the requested matrices with the values that are answered, batch by batch and one after another
+  abbrev pub answered : List (List (Committed F E))
+  answered = all_committed kept requests values
+
+  abbrev pub answered_matrices : List (Committed F E)
+  answered_matrices = flat_map (λ b. b) answered
+
+  -- the claims that a verifier is handed, but for the commitments
+  abbrev pub answered_claims : List (BatchClaim (Unit {0}) E)
+  answered_claims = map (claimed_batch p.log_blowup) answered
+
+  module _ {C S IC IP WC WP : Type 0} (k : Fields F E) (r : RunMoves C S F E WC)
+      (proof : OpeningProof F E WC IP WP) where
+    -- the challenges are those that the transcript draws of the claims and the proof, and the proof
+    -- holds what the words under these challenges and the queries ask for
+    pub record IsOpening (Commits : List (RowMajorMatrix F) → IC → Type 0)
+        (authenticates : Authenticates IC F IP)
+        (WordCommits : List (RowMajorMatrix E) → WC → Type 0)
+        (word_authenticates : Authenticates WC E WP) (old new : S) : Type 0 where
+      pub drawn : Challenges E
+      pub drawing :
+          draw r (shape_by p answered_claims) (taken_by k.extension answered_claims proof)
+          old ≡ Ok (drawn_by r.base.coefficients drawn new)
+      pub words :
+          HoldsWords k answered_matrices drawn proof p WordCommits word_authenticates
+      pub inputs :
+          AllZip (HasBatchRows kept Commits authenticates (top_of answered_matrices)
+          drawn.queries) requests proof.inputs
+
+-- the challenges of a draw
+abbrev pub challenges_of : {E : Type 0} → CircleDraws E → Challenges E
+challenges_of d = record {
+  alpha = d.alpha;
+  bivariate = d.bivariate;
+  betas = d.betas.items;
+  queries = d.indices.items;
+}
+
+-- why requests are not opened: memory was refused; or with the values that they ask for the last
+-- word is of too high degree, or no witness passes where a run over their claims looks for one
+abbrev pub IsFailure : {C S D F E M WC : Type 0} → Fields F E → RunMoves C S F E WC
+    → FriParameters M → (D → List (RowMajorMatrix F)) → List (OpeningRequest D E) → S
+    → ProverError → Type 0
+IsFailure k r p kept requests s e =
+    (e ≡ Memory) ⊎ ((values : Openings _)
+    × AllZip (AreAnswers kept k p.log_blowup) requests values
+    × (IsTooHigh k p.log_blowup p.log_final_poly_len (answered_matrices p kept requests values) e
+    ⊎ IsStuckFrom r k.extension p (answered_claims p kept requests values) s e))
+
+-- witnesses are zero where there is no difficulty
+pub record AreEasy {F M : Type 0} (p : FriParameters M) (l : FieldOps F) (w : CircleWitnesses F)
+    : Type 0 where
+  pub batch : p.batch_proof_of_work_bits ≡ 0 → w.batch ≡ l.zero
+  pub rounds : p.commit_proof_of_work_bits ≡ 0 → All (λ a. a ≡ l.zero) w.rounds.items
+  pub query : p.query_proof_of_work_bits ≡ 0 → w.query ≡ l.zero

@@ -1,0 +1,42 @@
+//! The heights of committed matrices.
+ghost use Rattle.std.specs.Prelude.{◌≡◌, ◌==◌, map, IfOk};
+ghost use Rattle.std.specs.List.{list_any};
+ghost use Rattle.circle_opening.specs.Words.{top_of, heights_of};
+ghost use Rattle.circle_words.specs.Words.{committed_of};
+
+use circle_words::OpenedMatrix;
+use std::alloc::{AllocError, Global};
+
+/// The binary logarithm of the greatest height, 0 where there is no matrix.
+pub(crate) fn greatest_height<F: Copy, EF>(matrices: &[OpenedMatrix<F, EF>]) -> usize
+    ensures { result ≡ top_of (map committed_of matrices.now) }
+{
+    let mut greatest = 0;
+    for matrix in matrices {
+        greatest = greatest.max(matrix.log_height);
+    }
+    greatest
+}
+
+// Whether there is a matrix of this height.
+fn has_height<F: Copy, EF>(matrices: &[OpenedMatrix<F, EF>], log_height: usize) -> bool
+    ensures { result ≡ list_any (λ m. m.log_height == log_height) matrices.now }
+{
+    matrices.iter().any(|m| m.log_height == log_height)
+}
+
+/// The binary logarithms of all heights, ascending, each once. Fails where memory is refused.
+pub(crate) fn committed_heights<F: Copy, EF>(
+    alloc: Global,
+    matrices: &[OpenedMatrix<F, EF>],
+) -> Result<Vec<usize>, AllocError>
+    ensures { IfOk result (λ v. v.items ≡ heights_of (map committed_of matrices.now)) }
+{
+    let mut heights = Vec::new(alloc);
+    for log_height in 0..=greatest_height(matrices) {
+        if has_height(matrices, log_height) {
+            heights.push(log_height)?;
+        }
+    }
+    Ok(heights)
+}

@@ -1,0 +1,16 @@
+//! Polynomial commitment schemes as traits with laws, for callers that take any of them.
+//!
+//! `Pcs` commits to polynomials and opens them, `UnivariateStarkPcs` has what a STARK asks besides.
+//! What they promise speaks of lists and of the states of the challenger alone, so that a caller
+//! over any scheme can rely on it: a verifier's Ok is one relation of the claims, the proof and the
+//! states before and after, and a refusal that isn't of memory denies it for every state after.
+//! `round_trip` is such a caller: it commits, opens and verifies, and an honest run is accepted.
+#![tactic(auto)]
+
+pub mod any_scheme;
+pub mod scheme;
+pub mod stark;
+
+pub use any_scheme::round_trip;
+pub use scheme::Pcs;
+pub use stark::UnivariateStarkPcs;

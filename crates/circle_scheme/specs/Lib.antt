@@ -1,0 +1,7 @@
+pub mod Committing
+pub mod Honest
+pub mod Refusals
+pub mod Requesting
+pub mod Scheme
+pub mod SchemeFacts
+pub mod Verdict

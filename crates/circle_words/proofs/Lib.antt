@@ -1,0 +1,9 @@
+pub mod Claims
+pub mod DomainPoints
+pub mod Joining
+pub mod Known
+pub mod Opened
+pub mod Pairs
+pub mod Prefix
+pub mod Quotients
+pub mod Zips

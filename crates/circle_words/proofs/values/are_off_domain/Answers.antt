@@ -1,0 +1,16 @@
+use Rattle.std.proofs.Common.{◌≡◌, ◌+◌, subst, arith, slice_index_or}
+use Rattle.std.proofs.lemmas.List.{take_all}
+use Rattle.circle_relation.specs.Accepts.{Fields}
+use Rattle.circle_words.specs.Values.{AreOff}
+use Rattle.circle_words.proofs.Prefix.{off-apart}
+use Rattle.circle_words.proofs.values.are_off_domain.Goals as goal
+
+pub returns-clause-apart : goal.returns-clause-apart
+returns-clause-apart g c = λ yes i t lt.
+    let k : Fields g.row.F.Denot g.row.EF.Denot = record { field = g.F.Operations.ops; gen = g.F.ComplexExtendable.generators; extension = g.EF.Operations.ops; embed = g.EF.ExtensionField.embed } in
+    let h = c.args.log_height in
+    let points = c.args.points.now in
+    let off = subst (AreOff k h) (take_all c.loop-point.point-index points (omega (arith, c.loop-point-test.false))) c.loop-point.invariant in
+    let p = slice_index_or points i t in
+    let top = c.requires.in_group in
+    off-apart g.F.Operations.laws g.EF.Operations.laws g.met.EF.ExtensionField.embedding g.met.F.ComplexExtendable.generators_law h p c.requires.positive (omega (arith, top)) (off.0 i t lt) (off.1 i t lt)

@@ -1,0 +1,34 @@
+//! The words that an opening of Circle STARKs (IACR ePrint 2024/278) makes of committed matrices:
+//! one for each height, of the quotients of all claims on matrices of that height.
+//!
+//! What is proved, for every lawful field and extension:
+//!
+//! - `opened_values` answers, at each point and for each column, the value of the only polynomial
+//!   that the first committed rows fix (`values`, by `AreOpened`), and what it adds to the weights
+//!   that were made before is right too (`right`).
+//! - `are_off_domain` is true exactly where no point is at infinity and the domain of the committed
+//!   rows is clear of each (`yes`, `no`); then none is a point of that domain (`apart`).
+//! - `can_all_be_opened` is true exactly where each matrix meets what the words ask of it (`yes`,
+//!   `no`, by `CanBeOpened`).
+//! - `standard_points` answers the points of a standard domain in the order of the transform, and
+//!   `vanishing_ratios` at each of them the imaginary part of a claimed point's vanishing function
+//!   over the real one.
+//! - `reduced_word` has at each point of a height's domain the quotients there of the claims on
+//!   matrices of that height, each times its power of the batching challenge, added up (`word`).
+//! - `first_layer` answers for each height the multiple of the vanishing polynomial in the reduced
+//!   word (`lambdas`), and the word without it as rows of two (`layers`, `shapes`).
+//! - `fold_layers` folds each of these by y, and `fold_round` a later word by x and adds to it
+//!   what was folded from its height, where that is one of the heights.
+#![tactic(auto)]
+
+pub mod layers;
+pub mod ratios;
+pub mod reduced;
+pub mod rounds;
+pub mod values;
+
+pub use layers::{first_layer, fold_layers};
+pub use ratios::{PointRatios, standard_points, vanishing_ratios};
+pub use reduced::{OpenedMatrix, can_all_be_opened, reduced_word};
+pub use rounds::fold_round;
+pub use values::{PointWeights, are_off_domain, opened_values};

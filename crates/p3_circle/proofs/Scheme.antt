@@ -1,0 +1,27 @@
+-- What is refused by the scheme, as the traits of schemes say it.
+use Rattle.std.specs.Prelude.{◌≡◌, Result, Ok, Err, IfErr, IfOk, IsTrue, MatchResult}
+use Rattle.std.proofs.Common.{sym, subst, refl}
+use Rattle.circle_commit.specs.declared.error.FriError.{FriError}
+use Rattle.circle_commit.specs.declared.error.FriError.TheVariants.{Memory}
+use Rattle.circle_opening.specs.declared.error.ProverError.{ProverError}
+use Rattle.circle_scheme.specs.Scheme.{says_memory}
+
+-- a refusal that is the first, or else of memory
+pub first-of : {A : Type 0} (a : Result (Unit {0}) ProverError) (r : Result A ProverError) (Q : ProverError → Type 0) →
+    MatchResult a (λ passed. IfErr r Q) (λ first. r ≡ Err first) → IfErr r (λ e. MatchResult a (λ passed. Q e) (λ first. e ≡ first))
+first-of (Ok u) (Ok x) Q h = tt
+first-of (Ok u) (Err e) Q h = h
+first-of (Err f) (Ok x) Q h = tt
+first-of (Err f) (Err e) Q h = cc
+
+-- a refusal of what is accepted is of memory
+pub memory-said : {A WE I S : Type 0} (r : Result A (FriError WE I)) (P : S → Type 0) → IfErr r (λ e. (left : S) → P left → e ≡ Memory) → IfErr r (λ e. (left : S) → P left → IsTrue (says_memory e))
+memory-said (Ok x) P h = tt
+memory-said (Err e) P h = λ left p. subst (λ e. IsTrue (says_memory e)) (sym (h left p)) refl
+
+-- where something is answered the tests before it passed
+pub if-passed : {A O : Type 0} (r : Result A ProverError) (a : Result (Unit {0}) ProverError) (old new : O) (P Q R : A → Type 0) → (a ≡ Ok (tt {0}) → (x : A) → P x → Q x → R x) →
+    MatchResult a (λ passed. Unit {0}) (λ first. (r ≡ Err first) × (new ≡ old)) → IfOk r P → IfOk r Q → IfOk r R
+if-passed (Ok x) (Ok u) old new P Q R f none p q = f refl x p q
+if-passed (Ok x) (Err e) old new P Q R f first p q = cc
+if-passed (Err e) a old new P Q R f first p q = tt

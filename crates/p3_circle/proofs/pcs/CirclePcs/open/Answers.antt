@@ -1,0 +1,38 @@
+use Rattle.std.specs.Prelude.{Ok}
+use Rattle.std.proofs.Common.{◌≡◌, ◌∙◌, All, sym, subst}
+use Rattle.circle_commit.specs.Mmcs.{HaveHeightsOfPowers}
+use Rattle.circle_commit.specs.declared.pcs.OpeningRequest.{OpeningRequest}
+use Rattle.circle_opening.specs.Requests.{AreRequests}
+use Rattle.circle_relation.specs.Accepts.{Fields}
+use Rattle.circle_scheme.specs.Refusals.{answer}
+use Rattle.circle_scheme.specs.Requesting.{opening_tests}
+use Rattle.circle_scheme.proofs.Unrefused.{are-fit, are-requests}
+use Rattle.p3_circle.proofs.pcs.CirclePcs.open.Given.{Over}
+use Rattle.p3_circle.proofs.pcs.CirclePcs.open.Goals as goal
+
+abbrev fields : (g : Over) → Fields g.row.Val.Denot g.row.EF.Denot
+fields g = record { field = g.Val.Operations.ops; gen = g.Val.ComplexExtendable.generators; extension = g.EF.Operations.ops; embed = g.EF.ExtensionField.embed }
+
+pub validate_requests-requires : goal.validate_requests-requires
+validate_requests-requires g c =
+    subst (All (λ (r : OpeningRequest g.row.InputMmcs-ProverData.Denot g.row.EF.Denot). HaveHeightsOfPowers (g.InputMmcs.Mmcs.matrices r.prover_data.now))) (sym c.deref.ensures.value) c.requires
+
+pub open_requests-requires-clause-parameters : goal.open_requests-requires-clause-parameters
+open_requests-requires-clause-parameters g c =
+    are-fit g.InputMmcs.Mmcs.matrices c.deref.result.now g.Val.ComplexExtendable.CIRCLE_TWO_ADICITY c.args.self.now.fri_params (fields g) g.EF.PartialEq.eq (sym c.validate_requests.ensures ∙ c.in_ok-validate_requests.was)
+
+pub open_requests-requires-clause-requests : goal.open_requests-requires-clause-requests
+open_requests-requires-clause-requests g c =
+    let kept = g.InputMmcs.Mmcs.matrices in
+    let two = g.Val.ComplexExtendable.CIRCLE_TWO_ADICITY in
+    let p = c.args.self.now.fri_params in
+    let powers = subst (All (λ (r : OpeningRequest g.row.InputMmcs-ProverData.Denot g.row.EF.Denot). HaveHeightsOfPowers (kept r.prover_data.now))) (sym c.deref.ensures.value) c.requires in
+    subst (AreRequests kept (fields g) two p) (c.deref.ensures.value ∙ sym c.deref-2.ensures.value)
+    (are-requests kept c.deref.result.now two p (fields g) g.EF.PartialEq.eq g.met.EF.Field.eq_law g.Val.Operations.laws g.EF.Operations.laws g.met.EF.ExtensionField.embedding g.met.Val.ComplexExtendable.generators_law powers
+    (sym c.validate_requests.ensures ∙ c.in_ok-validate_requests.was))
+
+pub returns-clause-proof : goal.returns-clause-proof
+returns-clause-proof g c = rw c.deref-2.ensures.value at c.open_requests.ensures.proof
+
+pub returns-clause-failure : goal.returns-clause-failure
+returns-clause-failure g c = λ passed. rw c.deref-2.ensures.value at c.open_requests.ensures.failure

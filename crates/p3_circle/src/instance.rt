@@ -1,0 +1,354 @@
+//! The scheme as an instance of the traits of schemes.
+ghost use Rattle.circle_commit.specs.Mmcs.{HaveHeightsOfPowers};
+ghost use Rattle.circle_opening.specs.Opening.{IsFailure};
+ghost use Rattle.circle_plane.specs.PeriodicColumns.{IsRefusedOn, IsTableOn, columns_of};
+ghost use Rattle.circle_commit.specs.Pcs.{openings};
+ghost use Rattle.circle_scheme.specs.Committing.{AreExtensions, AreValuesOfMatrix};
+ghost use Rattle.circle_scheme.specs.Committing.{HaveRowsForPoints, commit_tests, evaluation_tests};
+ghost use Rattle.circle_scheme.specs.Committing.{lde_tests, target_tests_at};
+ghost use Rattle.circle_scheme.specs.Honest.{AreValuesOfBatch, FindsWitnesses, IsHonestBatch};
+ghost use Rattle.circle_scheme.specs.Requesting.{opening_tests};
+ghost use Rattle.circle_scheme.specs.Scheme.{AreCommittedTo, AreExtended, CanBeDegree, CanBeEvaluated};
+ghost use Rattle.circle_scheme.specs.Scheme.{HaveCommittedHeights, IsCommitted, IsFirst, IsFirstOf};
+ghost use Rattle.circle_scheme.specs.Scheme.{IsGiven};
+ghost use Rattle.circle_scheme.specs.Scheme.{IsStandardOfSize, says_memory, says_prover_memory};
+ghost use Rattle.circle_scheme.specs.Verdict.{AcceptsFrom};
+ghost use Rattle.circle_domain.specs.Domain.{log_size};
+ghost use Rattle.std.specs.Prelude.{◌≡◌, ◌+◌, ◌-◌, ◌^◌, min, IfErr, IfOk, IsTrue, OnOk};
+
+use crate::pcs::CirclePcs;
+use circle_challenger::{CanObserve, CanSample, GrindingChallenger, RunChallenger};
+use circle_commit::{
+    CommitmentOpening, FriError, Mmcs, OpenedValues, OpeningRequest, PeriodicLdeTable,
+    RowMajorMatrix,
+};
+use circle_domain::CircleDomain;
+use circle_field::{ComplexExtendable, ExtensionField};
+use circle_opening::ProverError;
+use circle_pcs::{Pcs, UnivariateStarkPcs};
+use circle_plane::PeriodicError;
+use circle_relation::{CirclePcsProof, InputError, OverCircle};
+use std::alloc::Global;
+
+impl<Val, EF, InputMmcs, FriMmcs, C> Pcs<EF, C> for CirclePcs<Val, InputMmcs, FriMmcs>
+where
+    Val: ComplexExtendable,
+    EF: ExtensionField<Val>,
+    InputMmcs: Mmcs<Val>,
+    FriMmcs: Mmcs<EF>,
+    C: CanSample<Val> + GrindingChallenger<Val> + CanObserve<FriMmcs::Commitment>,
+{
+    ghost use Rattle.circle_scheme.specs.SchemeFacts.{kept-powers, one-state};
+    ghost use Rattle.p3_circle.specs.SchemeLaws.{each-point, honest-commit, honest-open};
+    ghost use Rattle.p3_circle.specs.SchemeLaws.{opening-accepted, true-values};
+
+    type Domain = CircleDomain<Val>;
+
+    type Commitment = InputMmcs::Commitment;
+
+    type ProverData = InputMmcs::ProverData;
+
+    type Proof = CirclePcsProof<Val, EF, InputMmcs, FriMmcs, Val>;
+
+    type Error = FriError<FriMmcs::Error, InputError<InputMmcs::Error, FriMmcs::Error>>;
+
+    type ProverError = ProverError;
+
+    ghost natural_domain_for_degree_asks = { λ pcs. CanBeDegree Val.CIRCLE_TWO_ADICITY };
+
+    ghost natural_domain_for_degree_gives = { λ pcs.
+        IsStandardOfSize Val.CIRCLE_TWO_ADICITY Val.generators };
+
+    ghost commit_asks = { λ pcs. HaveRowsForPoints };
+
+    ghost commits = { λ pcs batch commitment kept. IsCommitted Val.ops Val.generators
+        pcs.fri_params.log_blowup (InputMmcs.commits pcs.mmcs) batch commitment
+        (InputMmcs.matrices kept) };
+
+    ghost commit_refuses = { λ pcs batch. IsFirstOf
+        (commit_tests Val.CIRCLE_TWO_ADICITY pcs.fri_params Val.eq Val.ops batch) };
+
+    ghost opens_at = { λ pcs. IsHonestBatch ⟦<EF as OverCircle<Val>>⟧.fields
+        Val.CIRCLE_TWO_ADICITY pcs.fri_params };
+
+    ghost values_of = { λ pcs. AreValuesOfBatch ⟦<EF as OverCircle<Val>>⟧.fields };
+
+    ghost finds_witnesses = { λ pcs. FindsWitnesses ⟦<EF as OverCircle<Val>>⟧.fields
+        ⟦<C as RunChallenger<Val, EF, FriMmcs::Commitment>>⟧.run pcs.fri_params
+        InputMmcs.matrices };
+
+    ghost open_asks = { λ pcs. HaveCommittedHeights InputMmcs.matrices };
+
+    ghost open_gives = { λ pcs. IsGiven pcs.fri_params InputMmcs.matrices
+        ⟦<EF as OverCircle<Val>>⟧.fields ⟦<C as RunChallenger<Val, EF, FriMmcs::Commitment>>⟧.run
+        (InputMmcs.commits pcs.mmcs) (InputMmcs.authenticates pcs.mmcs)
+        (FriMmcs.commits pcs.fri_params.mmcs) (FriMmcs.authenticates pcs.fri_params.mmcs)
+        Val.CIRCLE_TWO_ADICITY };
+
+    ghost open_refuses = { λ pcs requests state. IsFirst (opening_tests InputMmcs.matrices
+        requests Val.CIRCLE_TWO_ADICITY pcs.fri_params ⟦<EF as OverCircle<Val>>⟧.fields EF.eq)
+        (IsFailure ⟦<EF as OverCircle<Val>>⟧.fields
+        ⟦<C as RunChallenger<Val, EF, FriMmcs::Commitment>>⟧.run pcs.fri_params
+        InputMmcs.matrices requests state) };
+
+    ghost verify_accepts = { λ pcs claims proof. AcceptsFrom ⟦<EF as OverCircle<Val>>⟧.fields
+        ⟦<C as RunChallenger<Val, EF, FriMmcs::Commitment>>⟧.run InputMmcs.authenticates
+        FriMmcs.authenticates pcs.mmcs pcs.fri_params claims proof Val.CIRCLE_TWO_ADICITY };
+
+    ghost is_memory = { says_memory };
+
+    ghost is_prover_memory = { says_prover_memory };
+
+    ghost honest_commit = { λ pcs. honest-commit ⟦<EF as OverCircle<Val>>⟧.fields
+        Val.Operations.laws EF.Operations.laws EF.embedding Val.eq Val.eq_law EF.eq EF.eq_law
+        Val.CIRCLE_TWO_ADICITY Val.at_most_62 Val.generators_law pcs.fri_params };
+
+    ghost honest_open = { λ pcs. honest-open ⟦<EF as OverCircle<Val>>⟧.fields
+        Val.Operations.laws EF.Operations.laws EF.embedding Val.eq Val.eq_law EF.eq EF.eq_law
+        Val.CIRCLE_TWO_ADICITY Val.at_most_62 Val.generators_law pcs.fri_params
+        InputMmcs.matrices (InputMmcs.commits pcs.mmcs)
+        ⟦<C as RunChallenger<Val, EF, FriMmcs::Commitment>>⟧.run };
+
+    ghost each_point = { λ pcs. each-point ⟦<EF as OverCircle<Val>>⟧.fields Val.CIRCLE_TWO_ADICITY
+        pcs.fri_params InputMmcs.matrices (InputMmcs.commits pcs.mmcs)
+        ⟦<C as RunChallenger<Val, EF, FriMmcs::Commitment>>⟧.run
+        (InputMmcs.authenticates pcs.mmcs) (FriMmcs.commits pcs.fri_params.mmcs)
+        (FriMmcs.authenticates pcs.fri_params.mmcs) };
+
+    ghost true_values = { λ pcs. true-values _ ⟦<EF as OverCircle<Val>>⟧.fields
+        Val.Operations.laws EF.Operations.laws EF.embedding Val.CIRCLE_TWO_ADICITY
+        Val.generators_law pcs.fri_params InputMmcs.matrices (InputMmcs.commits pcs.mmcs)
+        ⟦<C as RunChallenger<Val, EF, FriMmcs::Commitment>>⟧.run
+        (InputMmcs.authenticates pcs.mmcs) (FriMmcs.commits pcs.fri_params.mmcs)
+        (FriMmcs.authenticates pcs.fri_params.mmcs) };
+
+    ghost complete = { λ pcs. opening-accepted ⟦<EF as OverCircle<Val>>⟧.fields
+        Val.Operations.laws EF.Operations.laws EF.embedding Val.eq Val.eq_law EF.eq EF.eq_law
+        Val.CIRCLE_TWO_ADICITY Val.at_most_62 Val.generators_law pcs.fri_params
+        InputMmcs.matrices (InputMmcs.commits pcs.mmcs)
+        ⟦<C as RunChallenger<Val, EF, FriMmcs::Commitment>>⟧.run C.bits_below
+        InputMmcs.authenticates FriMmcs.authenticates pcs.mmcs
+        (FriMmcs.commits pcs.fri_params.mmcs) };
+
+    ghost kept_asks = { λ pcs. kept-powers Val.ops Val.generators pcs.fri_params.log_blowup
+        (InputMmcs.commits pcs.mmcs) InputMmcs.matrices };
+
+    ghost one_state = { λ pcs claims proof. one-state ⟦<EF as OverCircle<Val>>⟧.fields
+        ⟦<C as RunChallenger<Val, EF, FriMmcs::Commitment>>⟧.run InputMmcs.authenticates
+        FriMmcs.authenticates pcs.mmcs pcs.fri_params claims proof Val.CIRCLE_TWO_ADICITY };
+
+    fn natural_domain_for_degree(&self, degree: usize) -> CircleDomain<Val>
+        requires { CanBeDegree Val.CIRCLE_TWO_ADICITY degree }
+        ensures { IsStandardOfSize Val.CIRCLE_TWO_ADICITY Val.generators degree result }
+    {
+        self.natural_domain_for_degree(degree)
+    }
+
+    fn commit(
+        &self,
+        alloc: Global,
+        evaluations: Vec<(CircleDomain<Val>, RowMajorMatrix<Val>)>,
+    ) -> Result<(InputMmcs::Commitment, InputMmcs::ProverData), ProverError>
+        requires { HaveRowsForPoints evaluations.items }
+        ensures committed { IfOk result (λ r. IsCommitted Val.ops Val.generators
+            self.now.fri_params.log_blowup (InputMmcs.commits self.now.mmcs) evaluations.items r.0
+            (InputMmcs.matrices r.1)) }
+        ensures refused { IfErr result (IsFirstOf (commit_tests Val.CIRCLE_TWO_ADICITY
+            self.now.fri_params Val.eq Val.ops evaluations.items)) }
+    {
+        self.commit(alloc, evaluations)
+    }
+
+    fn open(
+        &self,
+        alloc: Global,
+        requests: Vec<OpeningRequest<'_, InputMmcs::ProverData, EF>>,
+        challenger: &mut C,
+    ) -> Result<
+        (
+            OpenedValues<EF>,
+            CirclePcsProof<Val, EF, InputMmcs, FriMmcs, Val>,
+        ),
+        ProverError,
+    >
+        requires { HaveCommittedHeights InputMmcs.matrices requests.items }
+        ensures opened { let m = ⟦<C as RunChallenger<Val, EF, FriMmcs::Commitment>>⟧.run in
+            IfOk result (λ r. IsGiven self.now.fri_params InputMmcs.matrices
+            ⟦<EF as OverCircle<Val>>⟧.fields m (InputMmcs.commits self.now.mmcs)
+            (InputMmcs.authenticates self.now.mmcs) (FriMmcs.commits self.now.fri_params.mmcs)
+            (FriMmcs.authenticates self.now.fri_params.mmcs) Val.CIRCLE_TWO_ADICITY
+            requests.entry.items (C.state challenger.old) (openings r.0.items) r.1 (C.state challenger.new)) }
+        ensures refused { let m = ⟦<C as RunChallenger<Val, EF, FriMmcs::Commitment>>⟧.run in
+            IfErr result (IsFirst (opening_tests InputMmcs.matrices requests.entry.items
+            Val.CIRCLE_TWO_ADICITY self.now.fri_params ⟦<EF as OverCircle<Val>>⟧.fields EF.eq)
+            (IsFailure ⟦<EF as OverCircle<Val>>⟧.fields m self.now.fri_params InputMmcs.matrices
+            requests.entry.items (C.state challenger.old))) }
+    {
+        self.open(alloc, requests, challenger)
+    }
+
+    fn verify(
+        &self,
+        alloc: Global,
+        claims: Vec<CommitmentOpening<EF, InputMmcs::Commitment, CircleDomain<Val>>>,
+        proof: &CirclePcsProof<Val, EF, InputMmcs, FriMmcs, Val>,
+        challenger: &mut C,
+    ) -> Result<(), FriError<FriMmcs::Error, InputError<InputMmcs::Error, FriMmcs::Error>>>
+        ensures accepted { let m = ⟦<C as RunChallenger<Val, EF, FriMmcs::Commitment>>⟧.run in
+            OnOk result (AcceptsFrom ⟦<EF as OverCircle<Val>>⟧.fields m InputMmcs.authenticates
+            FriMmcs.authenticates self.now.mmcs self.now.fri_params claims.items proof.now
+            Val.CIRCLE_TWO_ADICITY (C.state challenger.old) (C.state challenger.new)) }
+        ensures refused { let m = ⟦<C as RunChallenger<Val, EF, FriMmcs::Commitment>>⟧.run in
+            IfErr result (λ e. (left : C.State) → AcceptsFrom ⟦<EF as OverCircle<Val>>⟧.fields m
+            InputMmcs.authenticates FriMmcs.authenticates self.now.mmcs self.now.fri_params
+            claims.items proof.now Val.CIRCLE_TWO_ADICITY (C.state challenger.old) left
+            → IsTrue (says_memory e)) }
+    {
+        self.verify(alloc, claims, proof, challenger)
+    }
+
+    fn is_memory(
+        error: &FriError<FriMmcs::Error, InputError<InputMmcs::Error, FriMmcs::Error>>,
+    ) -> bool
+        ensures { result ≡ says_memory error.now }
+    {
+        matches!(error, FriError::Memory)
+    }
+
+    fn is_prover_memory(error: &ProverError) -> bool
+        ensures { result ≡ says_prover_memory error.now }
+    {
+        matches!(error, ProverError::Memory)
+    }
+}
+
+impl<Val, EF, InputMmcs, FriMmcs, C> UnivariateStarkPcs<EF, C>
+    for CirclePcs<Val, InputMmcs, FriMmcs>
+where
+    Val: ComplexExtendable,
+    EF: ExtensionField<Val>,
+    InputMmcs: Mmcs<Val>,
+    FriMmcs: Mmcs<EF>,
+    C: CanSample<Val> + GrindingChallenger<Val> + CanObserve<FriMmcs::Commitment>,
+{
+    ghost use Rattle.circle_scheme.specs.SchemeFacts.{batch-committed};
+
+    const ZK: bool = false;
+
+    type PeriodicError = PeriodicError;
+
+    ghost log_max_trace_height = { λ pcs. Val.CIRCLE_TWO_ADICITY - 1 };
+
+    ghost log_min_trace_height = { λ pcs.
+        min (2 + pcs.fri_params.log_final_poly_len) (2 ^ 64 - 1) };
+
+    ghost get_quotient_ldes_gives = { λ pcs.
+        AreExtensions Val.ops Val.generators pcs.fri_params.log_blowup };
+
+    ghost get_quotient_ldes_refuses = { λ pcs batch. IsFirstOf
+        (evaluation_tests Val.CIRCLE_TWO_ADICITY pcs.fri_params Val.eq Val.ops batch) };
+
+    ghost commit_ldes_asks = { λ pcs. HaveHeightsOfPowers };
+
+    ghost commit_ldes_gives = { λ pcs ldes commitment kept. AreCommittedTo
+        (InputMmcs.commits pcs.mmcs) ldes commitment (InputMmcs.matrices kept) };
+
+    ghost commit_ldes_refuses = { λ pcs ldes.
+        IsFirstOf (lde_tests Val.CIRCLE_TWO_ADICITY pcs.fri_params ldes) };
+
+    ghost get_evaluations_on_domain_asks = { λ pcs kept.
+        CanBeEvaluated Val.CIRCLE_TWO_ADICITY (InputMmcs.matrices kept) };
+
+    ghost get_evaluations_on_domain_gives = { λ pcs kept. AreValuesOfMatrix Val.ops
+        Val.generators pcs.fri_params.log_blowup (InputMmcs.matrices kept) };
+
+    ghost get_evaluations_on_domain_refuses = { λ pcs kept idx domain. IsFirstOf
+        (target_tests_at Val.CIRCLE_TWO_ADICITY pcs.fri_params (InputMmcs.matrices kept) idx
+        (log_size domain)) };
+
+    ghost build_periodic_lde_table_asks = { λ pcs. AreExtended Val.CIRCLE_TWO_ADICITY };
+
+    ghost build_periodic_lde_table_gives = { λ pcs columns trace lde.
+        IsTableOn Val.ops Val.generators Val.CIRCLE_TWO_ADICITY trace lde columns };
+
+    ghost build_periodic_lde_table_refuses = { λ pcs columns trace lde.
+        IsRefusedOn trace lde columns };
+
+    ghost ldes_commit = { λ pcs batch ldes commitment kept. batch-committed Val.ops
+        Val.generators pcs.fri_params.log_blowup (InputMmcs.commits pcs.mmcs) batch ldes
+        commitment (InputMmcs.matrices kept) };
+
+    fn log_max_trace_height(&self) -> usize
+        ensures { result ≡ Val.CIRCLE_TWO_ADICITY - 1 }
+    {
+        self.log_max_trace_height()
+    }
+
+    fn log_min_trace_height(&self) -> usize
+        ensures { result ≡ min (2 + self.now.fri_params.log_final_poly_len) (2 ^ 64 - 1) }
+    {
+        self.log_min_trace_height()
+    }
+
+    fn get_quotient_ldes(
+        &self,
+        alloc: Global,
+        evaluations: Vec<(CircleDomain<Val>, RowMajorMatrix<Val>)>,
+        num_chunks: usize,
+    ) -> Result<Vec<RowMajorMatrix<Val>>, ProverError>
+        requires { HaveRowsForPoints evaluations.items }
+        ensures made { IfOk result (λ r. AreExtensions Val.ops Val.generators
+            self.now.fri_params.log_blowup evaluations.items r.items) }
+        ensures refused { IfErr result (IsFirstOf (evaluation_tests Val.CIRCLE_TWO_ADICITY
+            self.now.fri_params Val.eq Val.ops evaluations.items)) }
+    {
+        self.get_quotient_ldes(alloc, evaluations, num_chunks)
+    }
+
+    fn commit_ldes(
+        &self,
+        alloc: Global,
+        ldes: Vec<RowMajorMatrix<Val>>,
+    ) -> Result<(InputMmcs::Commitment, InputMmcs::ProverData), ProverError>
+        requires { HaveHeightsOfPowers ldes.items }
+        ensures committed { IfOk result (λ r. AreCommittedTo (InputMmcs.commits self.now.mmcs)
+            ldes.items r.0 (InputMmcs.matrices r.1)) }
+        ensures refused { IfErr result (IsFirstOf
+            (lde_tests Val.CIRCLE_TWO_ADICITY self.now.fri_params ldes.items)) }
+    {
+        self.commit_ldes(alloc, ldes)
+    }
+
+    fn get_evaluations_on_domain(
+        &self,
+        alloc: Global,
+        prover_data: &InputMmcs::ProverData,
+        idx: usize,
+        domain: CircleDomain<Val>,
+    ) -> Result<RowMajorMatrix<Val>, ProverError>
+        requires { CanBeEvaluated Val.CIRCLE_TWO_ADICITY (InputMmcs.matrices prover_data.now) idx
+            domain }
+        ensures values { IfOk result (AreValuesOfMatrix Val.ops Val.generators
+            self.now.fri_params.log_blowup (InputMmcs.matrices prover_data.now) idx domain) }
+        ensures refused { IfErr result (IsFirstOf (target_tests_at Val.CIRCLE_TWO_ADICITY
+            self.now.fri_params (InputMmcs.matrices prover_data.now) idx (log_size domain))) }
+    {
+        self.get_evaluations_on_domain(alloc, prover_data, idx, domain)
+    }
+
+    fn build_periodic_lde_table(
+        &self,
+        alloc: Global,
+        periodic_cols: &[Vec<Val>],
+        trace_domain: CircleDomain<Val>,
+        quotient_domain: CircleDomain<Val>,
+    ) -> Result<PeriodicLdeTable<Val>, PeriodicError>
+        requires { AreExtended Val.CIRCLE_TWO_ADICITY trace_domain quotient_domain }
+        ensures table { IfOk result (IsTableOn Val.ops Val.generators Val.CIRCLE_TWO_ADICITY
+            trace_domain quotient_domain (columns_of periodic_cols.now)) }
+        ensures refusal { IfErr result (IsRefusedOn trace_domain quotient_domain
+            (columns_of periodic_cols.now)) }
+    {
+        self.build_periodic_lde_table(alloc, periodic_cols, trace_domain, quotient_domain)
+    }
+}
