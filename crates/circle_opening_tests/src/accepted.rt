@@ -150,6 +150,21 @@ fn a_domain_that_is_not_standard(rt: HostRuntime) -> Result<(), Fail> {
     Ok(())
 }
 
+#[test]
+fn higher_domains_that_are_not_standard(rt: HostRuntime) -> Result<(), Fail> {
+    let alloc = rt.alloc();
+    for log_final_poly_len in 0..4 {
+        let small = scheme(stopping_at(log_final_poly_len));
+        let turned = Domain::new(5, Point::generator(31) * 7);
+        assert!(&rt; turned.is_genuine() && !turned.is_standard());
+        let evaluations = vec![in alloc; (turned, scattered(&rt, alloc, 5, 2, 13)?)]?;
+        let points = vec![in alloc; vec![in alloc; cubic([0, 1, 0])]?]?;
+        let batches = [commit(&rt, alloc, &small, evaluations, points)?];
+        let _ = assert_accepted(&rt, alloc, &small, &batches)?;
+    }
+    Ok(())
+}
+
 // A whole run, over any scheme: both challengers end in one state.
 #[test]
 fn a_whole_run(rt: HostRuntime) -> Result<(), Fail> {

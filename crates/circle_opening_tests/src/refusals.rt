@@ -1,12 +1,15 @@
 //! What is refused of requests to open, in its order.
 use crate::statement::{
-    Batch, Domain, Numbers, Rows, SMALL, Scheme, commit_one, cubic, first_coordinate, open, rows,
-    scattered, scattered_batch, scheme, sevens,
+    Batch, Domain, Numbers, Rows, SMALL, Scheme, Trees, commit_one, cubic, first_coordinate, open,
+    open_at, parameters, rows, scattered, scattered_batch, scheme, sevens,
 };
 use crate::stubborn::Stubborn;
 use circle_challenger::Sha256Challenger;
-use circle_commit::{PowPhase, heights_are_powers_of_two};
-use p3_circle::ProverError;
+use circle_commit::{OpeningRequest, PowPhase, heights_are_powers_of_two};
+use circle_field::{ExtensionField, Field, Mersenne31};
+use circle_fixtures::quadratic::Quadratic;
+use circle_fixtures::schemes::ListMmcs;
+use p3_circle::{CirclePcs, ProverError};
 use std::alloc::Global;
 use std::process::Abort;
 use std::test::Fail;
@@ -118,6 +121,41 @@ fn points_of_the_committed_domain(rt: HostRuntime) -> Result<(), Fail> {
     let tall_points = columns.points.last_mut().ok_or("the points")?;
     tall_points.push(first_coordinate(&rt, 5))?;
     assert_refused(&rt, alloc, &small, &[columns], ProverError::PointOnDomain);
+    Ok(())
+}
+
+// Why sevens are not opened at these coordinates over the quadratic extension.
+fn refusal_over_quadratic(
+    rt: &impl Abort,
+    alloc: Global,
+    points: &[Quadratic],
+) -> Result<Option<ProverError>, Fail> {
+    let four = sevens(rt, alloc, &scheme(SMALL))?;
+    let lists = CirclePcs::new(Trees::new(), parameters(SMALL, ListMmcs));
+    let points = vec![in alloc; Vec::from_slice(alloc, points)?]?;
+    let requests = vec![in alloc;
+        OpeningRequest {
+            prover_data: &four.data,
+            points
+        },
+    ]?;
+    let opened = open_at(rt, alloc, &lists, requests, &mut Sha256Challenger::new());
+    Ok(opened.err())
+}
+
+// The square of the element `X` of the quadratic extension is -1.
+#[test]
+fn points_at_infinity(rt: HostRuntime) -> Result<(), Fail> {
+    let alloc = rt.alloc();
+    let infinity = Quadratic::from_coefficients(&[Mersenne31::ZERO, Mersenne31::ONE]);
+    let other = Quadratic::from_coefficients(&[Mersenne31::ONE, Mersenne31::ONE]);
+    let refused = Some(ProverError::PointAtInfinity);
+    assert_eq!(&rt; refusal_over_quadratic(&rt, alloc, &[infinity])?, refused);
+    assert_eq!(&rt;
+        refusal_over_quadratic(&rt, alloc, &[other, -infinity])?,
+        refused
+    );
+    assert_eq!(&rt; refusal_over_quadratic(&rt, alloc, &[other])?, None);
     Ok(())
 }
 

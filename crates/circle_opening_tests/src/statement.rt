@@ -60,8 +60,13 @@ pub(crate) const SMALL: Numbers = Numbers {
 
 /// The scheme over trees with these parameters.
 pub(crate) fn scheme(numbers: Numbers) -> Scheme {
+    CirclePcs::new(Trees::new(), parameters(numbers, WordTrees::new()))
+}
+
+/// The parameters with these numbers, where words are committed to by this scheme.
+pub(crate) fn parameters<W>(numbers: Numbers, mmcs: W) -> FriParameters<W> {
     let [batch, commit, query] = numbers.work;
-    let params = FriParameters {
+    FriParameters {
         log_blowup: numbers.log_blowup,
         log_final_poly_len: numbers.log_final_poly_len,
         max_log_arity: 1,
@@ -69,9 +74,8 @@ pub(crate) fn scheme(numbers: Numbers) -> Scheme {
         batch_proof_of_work_bits: batch,
         commit_proof_of_work_bits: commit,
         query_proof_of_work_bits: query,
-        mmcs: WordTrees::new(),
-    };
-    CirclePcs::new(Trees::new(), params)
+        mmcs,
+    }
 }
 
 /// The element with these coefficients.
@@ -235,8 +239,8 @@ fn have_powers<F: ComplexExtendable, EF: ExtensionField<F>, I: Mmcs<F>>(
     true
 }
 
-// `CirclePcs::open`, after a test of what it asks.
-fn open_at<F: ComplexExtendable, EF: ExtensionField<F>, I: Mmcs<F>, W: Mmcs<EF>, C>(
+/// `CirclePcs::open`, after a test of what it asks.
+pub(crate) fn open_at<F: ComplexExtendable, EF: ExtensionField<F>, I: Mmcs<F>, W: Mmcs<EF>, C>(
     rt: &impl Abort,
     alloc: Global,
     scheme: &CirclePcs<F, I, W>,

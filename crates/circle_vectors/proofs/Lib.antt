@@ -1,3 +1,1 @@
-pub mod Equal
 mod PowerAt
-pub mod SameRows

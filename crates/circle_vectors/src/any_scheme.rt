@@ -34,8 +34,8 @@ where
     }
 }
 
-/// Whether two verifiers accept the same claims and proof: from one state they end in one. Fails
-/// where memory is refused.
+/// Whether two verifiers, in one state, accept the same claims and proof: true exactly where the
+/// scheme's relation holds, and then both end in one state. Fails where memory is refused.
 pub fn both_accept<Challenge, C: ChallengerState, P: Pcs<Challenge, C>>(
     alloc: Global,
     pcs: &P,
@@ -49,7 +49,11 @@ where
     Challenge: ExtensionField<<P::Domain as PolynomialSpace>::Val>,
     requires same_claims { claims.items ≡ again.items }
     requires same_state { C.state first.old ≡ C.state second.old }
-    ensures { IfOk result (λ b. IsTrue b → C.state first.new ≡ C.state second.new) }
+    ensures yes { IfOk result (λ b. IsTrue b → P.verify_accepts pcs.now claims.items proof.now
+        (C.state first.old) (C.state first.new)) }
+    ensures no { IfOk result (λ b. (left : C.State) → P.verify_accepts pcs.now claims.items
+        proof.now (C.state first.old) left → IsTrue b) }
+    ensures state { IfOk result (λ b. IsTrue b → C.state first.new ≡ C.state second.new) }
 {
     if !accepts(alloc, pcs, claims, proof, first)? {
         return Ok(false);

@@ -1,8 +1,8 @@
 //! Refusals of claims, before anything else of a proof is looked at.
-use crate::quadratic::Quadratic;
 use circle_commit::{CommitmentOpening, FriError, FriParameters, MatrixOpening, PointOpening};
 use circle_domain::CircleDomain;
 use circle_field::{Cubic, ExtensionField, Field, Mersenne31};
+use circle_fixtures::quadratic::Quadratic;
 use circle_point::Neutral;
 use p3_circle::verifier::{validate_claims, validate_points};
 use p3_circle::{InputError, Point};

@@ -1,10 +1,10 @@
 //! Opened rows and what is refused, over each scheme of commitments.
-use crate::matrix_list::MatrixList;
-use crate::schemes::{ListMmcs, TrustingMmcs};
 use circle_commit::{
     Dimensions, Mmcs, OpenedRows, RowMajorMatrix, are_below, heights_are_powers_of_two,
 };
 use circle_field::{Field, Mersenne31};
+use circle_fixtures::matrix_list::MatrixList;
+use circle_fixtures::schemes::{ListMmcs, TrustingMmcs};
 use circle_merkle::ShaMmcs;
 use std::alloc::{AllocError, Global};
 use std::test::Fail;

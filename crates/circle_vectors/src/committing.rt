@@ -1,5 +1,4 @@
 //! What is committed to, at worked examples, and what is refused of it.
-use crate::transform::{Rows, column, point};
 use circle_commit::{
     FriParameters, Matrix, Mmcs, PowPhase, RowMajorMatrix, heights_are_powers_of_two,
     is_power_of_two,
@@ -14,6 +13,8 @@ use std::process::Abort;
 use std::test::Fail;
 
 type Domain = CircleDomain<Mersenne31>;
+
+type Rows = RowMajorMatrix<Mersenne31>;
 
 type Trees = ShaMmcs<Mersenne31>;
 
@@ -31,7 +32,7 @@ const EIGHT: [u64; 8] = [
     1581940626, 177587932, 1754305948, 184945221, 565411951, 1969764645, 393308773, 1962669500,
 ];
 
-pub(crate) const EIGHT_BY_PAIRS: [u64; 8] = [
+const EIGHT_BY_PAIRS: [u64; 8] = [
     1581940626, 1962669500, 565411951, 184945221, 1754305948, 1969764645, 393308773, 177587932,
 ];
 
@@ -54,6 +55,15 @@ fn scheme(log_blowup: usize, log_final_poly_len: usize) -> Scheme {
         mmcs: (),
     };
     CirclePcs::new(Trees::new(), params)
+}
+
+// The matrix of one column with these entries.
+fn column(alloc: Global, values: &[u64]) -> Result<Rows, AllocError> {
+    let values = values
+        .iter()
+        .map(|value| Mersenne31::from_u64(*value))
+        .collect(alloc)?;
+    Ok(RowMajorMatrix::new_col(values))
 }
 
 // A column of zeros over each of the domains.

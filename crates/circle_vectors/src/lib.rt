@@ -1,5 +1,5 @@
-//! Worked examples over several crates, with expected values from outside: tests, and the field
-//! and the commitment schemes that they alone use.
+//! Worked examples of the scheme over several crates, with expected values from outside, and a
+//! verifier over any scheme.
 #![tactic(auto)]
 
 pub mod any_scheme;
@@ -10,35 +10,12 @@ mod commitments;
 #[cfg(test)]
 mod committing;
 #[cfg(test)]
-mod domains;
-#[cfg(test)]
-mod extensions;
-#[cfg(test)]
-mod fields;
-#[cfg(test)]
 mod first_program;
-pub mod matrix_list;
-#[cfg(test)]
-mod off_domain;
-#[cfg(test)]
-mod periodic;
-#[cfg(test)]
-mod points;
-pub mod quadratic;
 #[cfg(test)]
 mod records;
 #[cfg(test)]
 mod refusals;
-pub mod schemes;
-#[cfg(test)]
-mod selectors;
 #[cfg(test)]
 mod shapes;
 #[cfg(test)]
-mod transform;
-#[cfg(test)]
-mod values;
-#[cfg(test)]
 mod verify;
-#[cfg(test)]
-mod words;

@@ -1,10 +1,10 @@
 //! The records of a proof and of claims, made over schemes of commitments.
-use crate::schemes::{ListMmcs, Nothing};
 use circle_commit::{
     BatchMultiOpening, CommitmentOpening, FriParameters, MatrixOpening, Mmcs, PointOpening,
     RowMajorMatrix, heights_are_powers_of_two,
 };
 use circle_field::{Cubic, Field, Mersenne31};
+use circle_fixtures::schemes::{ListMmcs, Nothing};
 use circle_merkle::ShaMmcs;
 use p3_circle::{
     CircleCommitPhaseMultiStep, CircleDomain, CircleFriProof, CircleInputProof, CirclePcs,

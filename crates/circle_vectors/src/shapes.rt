@@ -1,7 +1,7 @@
 //! Refusals of parameters, and of proofs by their shape.
-use crate::schemes::{Nothing, TrustingMmcs};
 use circle_commit::{CommitmentOpening, FriError, FriParameters, MatrixOpening, PointOpening};
 use circle_field::{Cubic, Field, Mersenne31};
+use circle_fixtures::schemes::{Nothing, TrustingMmcs};
 use p3_circle::verifier::{validate_parameters, validate_points, validate_proof_shape};
 use p3_circle::{CircleCommitPhaseMultiStep, CircleFriProof};
 use std::alloc::{AllocError, Global};

@@ -1,14 +1,9 @@
 //! What is answered to claims and proofs: zeros are accepted, and what was changed is refused.
-ghost use Rattle.std.specs.Prelude.{length};
-ghost use Rattle.std.specs.Int.{w64, to_be_bytes};
-ghost use Rattle.circle_vectors.specs.MatrixList.{matrices_of};
-
 use crate::any_scheme::accepts;
-use crate::matrix_list::MatrixList;
-use crate::schemes::ListMmcs;
 use circle_challenger::{CanObserve, CanSample, GrindingChallenger, Sha256Challenger};
 use circle_commit::{FriError, MatrixOpening, Mmcs};
 use circle_field::{Cubic, Field, Mersenne31};
+use circle_fixtures::schemes::ListMmcs;
 use circle_merkle::{MerkleTreeError, ShaMmcs};
 use p3_circle::{CircleDomain, InputError};
 use std::alloc::{AllocError, Global};
@@ -31,19 +26,6 @@ type Answer<I, W> = Result<
         InputError<<I as Mmcs<Mersenne31>>::Error, <W as Mmcs<Cubic>>::Error>,
     >,
 >;
-
-// A challenger takes in a list of matrices by their number alone: no answer of these tests hangs on
-// what is in them.
-impl<T: Copy> CanObserve<MatrixList<T>> for Sha256Challenger {
-    ghost use Rattle.circle_challenger.specs.Sponge.{absorbed};
-
-    ghost after_observe = { λ s list. absorbed s (to_be_bytes w64 (length (matrices_of list))) };
-
-    fn observe(&mut self, value: &MatrixList<T>) {
-        let count = value.matrices().len() as u64;
-        self.observe_bytes(&count.to_be_bytes());
-    }
-}
 
 // The coefficients of the honest final polynomial.
 fn zero_poly(alloc: Global, size: Size) -> Result<Vec<Cubic>, AllocError> {

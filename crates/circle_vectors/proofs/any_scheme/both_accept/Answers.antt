@@ -2,8 +2,8 @@ use Rattle.std.proofs.Common.{sym, subst}
 use Rattle.circle_words.proofs.Opened.{if_ok}
 use Rattle.circle_vectors.proofs.any_scheme.both_accept.Goals as goal
 
-pub returns : goal.returns
-returns g c =
+pub returns-clause-state : goal.returns-clause-state
+returns-clause-state g c =
     let pcs = c.args.pcs.now in
     let claims = c.args.claims.items in
     let proof = c.args.proof.now in

@@ -1,0 +1,86 @@
+//! Inverses, powers and products in Mersenne31, its cubic and its quadratic extension.
+use circle_field::{Cubic, ExtensionField, Field, Mersenne31, batch_multiplicative_inverse};
+use circle_fixtures::quadratic::Quadratic;
+use std::alloc::AllocError;
+
+fn element(value: u64) -> Mersenne31 {
+    Mersenne31::from_u64(value)
+}
+
+// The polynomial with these coefficients.
+fn cubic(c0: u64, c1: u64, c2: u64) -> Cubic {
+    Cubic::from_coefficients(&[element(c0), element(c1), element(c2)])
+}
+
+// The polynomial with these coefficients.
+fn quadratic(c0: u64, c1: u64) -> Quadratic {
+    Quadratic::from_coefficients(&[element(c0), element(c1)])
+}
+
+#[test]
+fn inverses_together(rt: HostRuntime) -> Result<(), AllocError> {
+    let (one, two, five) = (element(1), element(2), element(5));
+    assert!(rt; one != Mersenne31::ZERO && two != Mersenne31::ZERO && five != Mersenne31::ZERO);
+    let inverses = batch_multiplicative_inverse(rt.alloc(), &[one, two, five])?;
+    let expected = [element(1), element(1073741824), element(858993459)];
+    assert_eq!(rt; inverses.as_slice(), expected.as_slice());
+    Ok(())
+}
+
+#[test]
+fn powers(rt: HostRuntime) -> Result<(), AllocError> {
+    let powers = Mersenne31::powers(rt.alloc(), element(3), 4)?;
+    let expected = [element(1), element(3), element(9), element(27)];
+    assert_eq!(rt; powers.as_slice(), expected.as_slice());
+    assert_eq!(rt; Mersenne31::powers(rt.alloc(), element(3), 0)?.len(), 0);
+    let powers = Quadratic::powers(rt.alloc(), quadratic(0, 1), 4)?;
+    let expected = [
+        quadratic(1, 0),
+        quadratic(0, 1),
+        quadratic(2147483646, 0),
+        quadratic(0, 2147483646),
+    ];
+    assert_eq!(rt; powers.as_slice(), expected.as_slice());
+    Ok(())
+}
+
+#[test]
+fn quadratic_products(rt: HostRuntime) {
+    let (a, b) = (quadratic(123456789, 987654321), quadratic(31, 1000000007));
+    assert_eq!(rt; a * b, quadratic(1753848307, 2102596007));
+    assert_eq!(rt; (a - b) * (a + b), a.square() - b.square());
+    assert_eq!(rt; a + -a, Quadratic::ZERO);
+    assert_eq!(rt; a.halve().double(), a);
+    assert_eq!(rt; Quadratic::TWO, Quadratic::from_u64(2));
+}
+
+#[test]
+fn quadratic_inverses(rt: HostRuntime) {
+    assert_eq!(rt; Quadratic::ZERO.try_inverse(), None);
+    assert_eq!(rt;
+        quadratic(0, 1).try_inverse(),
+        Some(quadratic(0, 2147483646))
+    );
+    assert_eq!(rt;
+        quadratic(1, 2).try_inverse(),
+        Some(quadratic(858993459, 429496729))
+    );
+    let a = quadratic(123456789, 987654321);
+    assert_eq!(rt; a.try_inverse(), Some(quadratic(1759746630, 1990861959)));
+}
+
+#[test]
+fn quadratic_coefficients(rt: HostRuntime) {
+    let a = quadratic(7, 8);
+    let (c0, c1): (Mersenne31, Mersenne31) = (a.coefficient(0), a.coefficient(1));
+    assert_eq!(rt; (c0.value(), c1.value()), (7, 8));
+    assert_eq!(rt; Quadratic::from_base(Mersenne31::ONE), Quadratic::ONE);
+}
+
+#[test]
+fn cubic_products(rt: HostRuntime) {
+    assert_eq!(rt; cubic(0, 1, 0) * cubic(0, 0, 1), cubic(5, 0, 0));
+    let inverse = cubic(0, 0, 858993459);
+    assert_eq!(rt; cubic(0, 1, 0).try_inverse(), Some(inverse));
+    assert_eq!(rt; Cubic::ZERO.try_inverse(), None);
+}
