@@ -63,6 +63,12 @@ module _ {T : Type 0} where
         map (λ level. level_digests matrices level (2 ^ (levels - level)))
         (range_with_len 0 (levels + 1))
 
+    -- the levels above the lowest
+    abbrev pub upper_levels : List (RowMajorMatrix T) → ℕ → List (List (List ℕ))
+    upper_levels matrices levels =
+        map (λ level. level_digests matrices level (2 ^ (levels - level)))
+        (range_with_len 1 levels)
+
     -- the root of the tree over matrices
     pub record IsRoot (matrices : List (RowMajorMatrix T)) (commitment : List ℕ) : Type 0 where
       pub levels : ℕ

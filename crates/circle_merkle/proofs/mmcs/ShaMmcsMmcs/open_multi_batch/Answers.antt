@@ -23,6 +23,6 @@ returns-clause-proof g c commitment isroot =
     let matrices = matrices_of d in
     let opened : opened_rows c.loop-index.opened.items ≡ rows_at_each matrices indices =
     c.loop-index.invariant ∙ ap (rows_at_each matrices) (take_all c.loop-index.index-index indices c.loop-index-test.false) in
-    let honest = authenticates-honest sha256 bytes matrices indices (level_count d) d.top c.requires.some c.requires.in_range (some_matrix d) (powers_of_two d) commitment isroot in
+    let honest = authenticates-honest sha256 bytes matrices indices (level_count d) (sym d.greatest ∙ d.levels) c.requires.some c.requires.in_range (some_matrix d) (powers_of_two d) commitment isroot in
     subst (λ (rows : List (List (List g.row.T.Denot))). Authenticates sha256 bytes commitment (dimensions_of matrices) indices rows c.in_ok-siblings.field-0.items) (sym opened)
     (subst (λ (proof : List (List ℕ)). Authenticates sha256 bytes commitment (dimensions_of matrices) indices (rows_at_each matrices indices) proof) (sym c.in_ok-siblings.ensures) honest)

@@ -7,8 +7,8 @@ use Rattle.circle_commit.specs.Mmcs.{max_height}
 use Rattle.circle_merkle.specs.PowerTest.{power_passes}
 use Rattle.circle_merkle.specs.Tree.{digest}
 use Rattle.circle_merkle.specs.Rows.{matrix_rows}
-use Rattle.circle_merkle.specs.Authentication.{tree_levels}
-use Rattle.circle_merkle.proofs.KeptTree.{kept-length, kept-root}
+use Rattle.circle_merkle.specs.Authentication.{tree_levels, upper_levels}
+use Rattle.circle_merkle.proofs.KeptTree.{whole-length, whole-root, upper-tree}
 use Rattle.circle_merkle.proofs.Heights.{max-power}
 use Rattle.circle_merkle.proofs.Completeness.{heights-bounded}
 use Rattle.circle_merkle.proofs.prover_data.ShaProverData.new.Goals as goal
@@ -30,7 +30,7 @@ is_tree bytes matrices some len powers levels top greatest tree =
       count = power.0;
       top = power.1;
       tree = whole;
-      long = levels.ok.0 ∙ kept-length sha256 bytes matrices power.0 levels.items whole;
+      long = levels.ok.0 ∙ whole-length sha256 bytes matrices power.0 levels.items whole;
     }
 
 pub levels_of-requires-clause-power : goal.levels_of-requires-clause-power
@@ -67,24 +67,38 @@ index-root-requires g c =
     let last : c.len.result - 1 ≡ t.count = omega (arith, t.long, c.len.ensures) in
     let v = c.index.result.now in
     let root : v.items ≡ digest sha256 (matrix_rows bytes matrices) t.count 0 ∷ [] =
-    kept-root sha256 bytes matrices t.count levels.items t.tree v (c.index.ensures ∙ ap (λ k. get_or levels.items k v) last) in
+    whole-root sha256 bytes matrices t.count levels.items t.tree v (c.index.ensures ∙ ap (λ k. get_or levels.items k v) last) in
     omega (arith, ap length root, v.ok.0)
 
-pub invariant_of-result : goal.invariant_of-result
-invariant_of-result g c =
+pub remove-lowest-requires : goal.remove-lowest-requires
+remove-lowest-requires g c =
     let matrices = c.args.matrices.items in
     let bytes = g.T.ElementBytes.bytes in
     let levels = c.in_ok-levels.levels in
     let t : IsTree bytes matrices levels = is_tree bytes matrices c.requires.some c.args.matrices.ok.0 c.requires.powers_of_two levels c.greatest_height-top.result
     (c.greatest_height-top.ensures ∙ ap max_height c.deref.ensures.value) (λ count e. c.in_ok-levels.ensures count e ∙ ap (λ ms. tree_levels sha256 bytes ms count) c.deref-2.ensures.value) in
-    let last : t.count ≡ vec_len levels - 1 = omega (arith, t.long) in
-    let fits : max_height matrices < 2 ^ 64 = omega (arith, c.greatest_height-top.type_inv, c.greatest_height-top.ensures, ap max_height c.deref.ensures.value) in
+    omega (arith, t.long)
+
+pub invariant_of-data : goal.invariant_of-data
+invariant_of-data g c =
+    let matrices = c.args.matrices.items in
+    let bytes = g.T.ElementBytes.bytes in
+    let levels = c.in_ok-levels.levels in
+    let greatest = c.greatest_height-top.ensures ∙ ap max_height c.deref.ensures.value in
+    let t : IsTree bytes matrices levels = is_tree bytes matrices c.requires.some c.args.matrices.ok.0 c.requires.powers_of_two levels c.greatest_height-top.result
+    greatest (λ count e. c.in_ok-levels.ensures count e ∙ ap (λ ms. tree_levels sha256 bytes ms count) c.deref-2.ensures.value) in
+    let upper = c.remove-lowest.new.self in
+    let last : t.count ≡ vec_len upper = omega (arith, t.long, c.remove-lowest.ensures.len) in
+    let fits : max_height matrices < 2 ^ 64 = omega (arith, c.greatest_height-top.type_inv, greatest) in
     record {
       some_matrix = c.requires.some;
       powers_of_two = λ k d lt. power_passes (height_of (get_or matrices k d)) (omega (arith, heights-bounded matrices k d lt, fits)) (c.requires.powers_of_two k d lt);
-      some_level = omega (arith, t.long);
-      top = t.top ∙ ap (λ k. 2 ^ k) last;
-      tree = t.tree ∙ ap (tree_levels sha256 bytes matrices) last;
+      greatest = greatest;
+      levels = greatest ∙ t.top ∙ ap (λ k. 2 ^ k) last;
+      tree =
+          ap (map (λ level. level.items)) c.remove-lowest.ensures.items
+          ∙ upper-tree sha256 bytes matrices t.count levels.items t.tree
+          ∙ ap (upper_levels sha256 bytes matrices) last;
     }
 
 pub returns-clause-root : goal.returns-clause-root
@@ -97,7 +111,7 @@ returns-clause-root g c =
     let last : c.len.result - 1 ≡ t.count = omega (arith, t.long, c.len.ensures) in
     let v = c.index.result.now in
     let root : v.items ≡ digest sha256 (matrix_rows bytes matrices) t.count 0 ∷ [] =
-    kept-root sha256 bytes matrices t.count levels.items t.tree v (c.index.ensures ∙ ap (λ k. get_or levels.items k v) last) in
+    whole-root sha256 bytes matrices t.count levels.items t.tree v (c.index.ensures ∙ ap (λ k. get_or levels.items k v) last) in
     record {
       levels = t.count;
       top = t.top;

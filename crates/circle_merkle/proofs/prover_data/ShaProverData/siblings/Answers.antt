@@ -1,4 +1,4 @@
-use Rattle.std.proofs.Common.{◌-◌, ◌++◌, ◌<◌, ◌∙◌, [], ap, sym, map, length, vec_len, add-one, arith, get_or, All, subst, List, ℕ}
+use Rattle.std.proofs.Common.{◌-◌, ◌++◌, ◌<◌, ◌^◌, ◌∙◌, ap, sym, map, vec_len, add-one, arith}
 use Rattle.std.proofs.lemmas.List.Elements.{All-same}
 use Rattle.sha2.specs.Sha256.{sha256}
 use Rattle.circle_merkle.specs.Tree.{digest, known, taken, proof_of}
@@ -8,34 +8,32 @@ use Rattle.circle_merkle.proofs.Known.{parents-known, siblings-known}
 use Rattle.circle_merkle.proofs.KeptTree.{taken-within, kept-proof}
 use Rattle.circle_merkle.proofs.prover_data.ShaProverData.siblings.Goals as goal
 
-pub climb_past-requires : goal.climb_past-requires
-climb_past-requires g c =
+pub climb_past-requires-clause-within : goal.climb_past-requires-clause-within
+climb_past-requires-clause-within g c =
     let d = c.args.self.now in
-    let count = vec_len d.levels - 1 in
+    let count = vec_len d.upper in
     let level = c.loop-level.level in
     let indices = c.args.indices.now in
     let below : level < count = omega (arith, c.len-level-end.ensures) in
-    let positions = ap siblings_of (c.deref-in-loop-level.ensures.value ∙ c.loop-level.invariant.known) ∙ siblings-known indices count level below in
-    All-same (λ i. i < length c.deref.result.now) (siblings_of c.deref-in-loop-level.result.now) (taken indices count level) positions
-    (subst (λ (ds : List (List ℕ)). All (λ i. i < length ds) (taken indices count level)) (sym c.deref.ensures.value)
-    (taken-within sha256 g.T.ElementBytes.bytes d.matrices.items count d.levels.items d.tree indices level below c.index.result.now c.index.ensures))
+    let positions = ap siblings_of (c.deref.ensures.value ∙ c.loop-level.invariant.known) ∙ siblings-known indices count level below in
+    All-same (λ i. i < 2 ^ (count - level)) (siblings_of c.deref.result.now) (taken indices count level) positions
+    (taken-within sha256 g.T.ElementBytes.bytes d.matrices.items count indices level)
 
 pub loop-level-preserved : goal.loop-level-preserved
 loop-level-preserved g c =
     let d = c.args.self.now in
-    let count = vec_len d.levels - 1 in
+    let count = vec_len d.upper in
     let level = c.loop-level.level in
     let indices = c.args.indices.now in
     let at = digest sha256 (matrix_rows g.T.ElementBytes.bytes d.matrices.items) in
-    let known-is = c.deref-in-loop-level.ensures.value ∙ c.loop-level.invariant.known in
+    let known-is = c.deref.ensures.value ∙ c.loop-level.invariant.known in
     let below : level < count = omega (arith, c.len-level-end.ensures) in
-    let positions = siblings_of c.deref-in-loop-level.result.now in
+    let positions = siblings_of c.deref.result.now in
     record {
       known = ap (λ v. v.items) c.swap.ensures.x_after ∙ c.in_ok-climb_past.ensures.parents ∙ ap parents_of known-is ∙ parents-known indices count level below ∙ ap (known indices count) (sym (add-one level));
       proof =
           c.in_ok-climb_past.ensures.proof
-          ∙ ap (λ before. before ++ map (λ i. get_or c.deref.result.now i []) positions) c.loop-level.invariant.proof
-          ∙ ap (λ (ds : List (List ℕ)). proof_of at indices count level ++ map (λ i. get_or ds i []) positions) c.deref.ensures.value
-          ∙ kept-proof sha256 g.T.ElementBytes.bytes d.matrices.items count d.levels.items d.tree indices level below c.index.result.now c.index.ensures positions (ap siblings_of known-is ∙ siblings-known indices count level below)
+          ∙ ap (λ before. before ++ map (at level) positions) c.loop-level.invariant.proof
+          ∙ kept-proof sha256 g.T.ElementBytes.bytes d.matrices.items count indices level positions (ap siblings_of known-is ∙ siblings-known indices count level below)
           ∙ ap (proof_of at indices count) (sym (add-one level));
     }
