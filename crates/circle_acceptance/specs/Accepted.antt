@@ -18,8 +18,8 @@ use Rattle.circle_acceptance.specs.Claimed.{AreClaimed}
 module _ {C S F E M IC IP WC WP : Type 0} (k : Fields F E) (r : RunMoves C S F E WC)
     (p : FriParameters M) (two_adicity : ℕ) (authenticates : Authenticates IC F IP)
     (word_authenticates : Authenticates WC E WP) where
-  -- from the one state challenges are drawn of the claims and the proof, which leaves the other, and
-  -- the verifier's relation holds of them
+  -- from the one state challenges are drawn of the claims and the proof, which leaves the other,
+  -- and the verifier's relation holds of them
   pub record IsAccepted (batches : List (BatchClaim IC E)) (proof : OpeningProof F E WC IP WP)
       (old new : S) : Type 0 where
     pub drawn : Challenges E
@@ -30,9 +30,9 @@ module _ {C S F E M IC IP WC WP : Type 0} (k : Fields F E) (r : RunMoves C S F E
         Accepts (setting_of k p) (record { batches = batches; proof = proof; drawn = drawn }) p
         two_adicity authenticates word_authenticates
 
-  -- whatever an opening answers of the requests is accepted, from the state that it began in to that
-  -- which it left: where what is claimed is what was answered, of each matrix at a point at least,
-  -- under commitments of the matrices
+  -- whatever an opening answers of the requests is accepted, from the state that it began in to
+  -- that which it left: where what is claimed is what was answered, of each matrix at a point at
+  -- least, under commitments of the matrices
   abbrev pub AcceptsOpenings : {D : Type 0} → (D → List (RowMajorMatrix F))
       → (List (RowMajorMatrix F) → IC → Type 0) → (List (RowMajorMatrix E) → WC → Type 0)
       → List (OpeningRequest D E) → Type 0

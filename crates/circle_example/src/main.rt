@@ -34,7 +34,8 @@ fn scheme() -> Scheme {
     CirclePcs::new(ShaMmcs::<Mersenne31>::new(), params)
 }
 
-// Whether the verifier accepts the opened values, and whether it accepts them once they are damaged.
+// Whether the verifier accepts the opened values, and whether it accepts them once they are
+// damaged.
 fn answers(alloc: Global) -> Result<[bool; 2]> {
     let pcs = scheme();
     let domain = CircleDomain::<Mersenne31>::standard(LOG_ROWS);

@@ -94,8 +94,8 @@ impl<T: ElementBytes> ShaProverData<T> {
         Ok(proof)
     }
 
-    // Makes `parents` the positions one level up from the known positions of a level, which stand in
-    // ascending order, and appends to a proof the digests of the siblings that aren't known.
+    // Makes `parents` the positions one level up from the known positions of a level, which stand
+    // in ascending order, and appends to a proof the digests of the siblings that aren't known.
     fn climb_past(
         &self,
         level: usize,
@@ -104,7 +104,8 @@ impl<T: ElementBytes> ShaProverData<T> {
         proof: &mut Vec<Hash>,
     ) -> Result<(), AllocError>
         requires below { level < level_count self.now }
-        requires within { All (λ i. i < 2 ^ (level_count self.now - level)) (siblings_of known.now) }
+        requires within { All (λ i. i < 2 ^ (level_count self.now - level))
+            (siblings_of known.now) }
         ensures parents { OnOk result (parents.new.items ≡ parents_of known.now) }
         ensures proof { OnOk result (proof.new.items
             ≡ proof.old.items ++ map (digest_of T.bytes self.now level) (siblings_of known.now)) }

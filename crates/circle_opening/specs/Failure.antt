@@ -70,7 +70,8 @@ module _ {C S F E Com : Type 0} (r : RunMoves C S F E Com) where
 
   -- the refusal names a phase of which no witness passes
   abbrev pub IsStuck : Numbers → List (Claim E) → S → ProverError → Type 0
-  IsStuck n claims s e = (phase : PowPhase) × (e ≡ NoGrindingWitness phase) × FindsNone n claims s phase
+  IsStuck n claims s e = (phase : PowPhase) × (e ≡ NoGrindingWitness phase) × FindsNone n claims s
+      phase
 
 -- so it does in the run over claims under these parameters, before it is seeded
 abbrev pub IsStuckFrom : {C S F E M Com WC : Type 0} → RunMoves C S F E WC → FieldOps E

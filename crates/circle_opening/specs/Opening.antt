@@ -44,10 +44,12 @@ module _ {F E WC IP WP : Type 0} (k : Fields F E) (matrices : List (Committed F 
   module _ {M : Type 0} (p : FriParameters M)
       (Commits : List (RowMajorMatrix E) → WC → Type 0) (authenticates : Authenticates WC E WP)
     where
-      -- the proof holds the multiples of the vanishing polynomial, the commitments of the words, what
-      -- the queries ask of them, and the last word's coefficients; witnesses of no difficulty are zero
+      -- the proof holds the multiples of the vanishing polynomial, the commitments of the words,
+      -- what the queries ask of them, and the last word's coefficients; witnesses of no difficulty
+      -- are zero
       pub record HoldsWords : Type 0 where
-        pub lambdas : proof.lambdas ≡ map (lambda k c.alpha matrices p.log_blowup) (heights_of matrices)
+        pub lambdas : proof.lambdas ≡ map (lambda k c.alpha matrices p.log_blowup)
+            (heights_of matrices)
         pub first_layer :
             AreOpenedWords Commits authenticates k.extension.zero (top_of matrices) 1 c.queries
             (heights_of matrices) (map (drawn_layer p.log_blowup) (heights_of matrices))

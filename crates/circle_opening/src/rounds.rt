@@ -1,5 +1,5 @@
-//! The rounds of an opening: each word is committed to, a challenge is drawn, and the word is folded
-//! by it.
+//! The rounds of an opening: each word is committed to, a challenge is drawn, and the word is
+//! folded by it.
 ghost use Rattle.std.specs.Prelude.{◌≡◌, ℕ, ◌≤◌, ◌-◌, ◌+◌, ◌^◌, ◌++◌, ◌⊎◌, List, [], ◌∷◌, length, map, zip, All, IsTrue};
 ghost use Rattle.std.specs.Prelude.{IfOk, IfErr, OnOk};
 ghost use Rattle.circle_challenger.specs.Due.{AreNext, HasPlayed};

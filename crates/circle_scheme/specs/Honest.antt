@@ -71,5 +71,6 @@ module _ {F E : Type 0} {g : _} (k : Fields F E) where
 abbrev pub FindsWitnesses : {C S D F E M WC : Type 0} → Fields F E → RunMoves C S F E WC
     → FriParameters M → (D → List (RowMajorMatrix F)) → List (OpeningRequest D E) → S → Type 0
 FindsWitnesses k r p kept requests s =
-    (values : Openings _) (e : ProverError) → AllZip (AreAnswers kept k p.log_blowup) requests values
+    (values : Openings _) (e : ProverError) → AllZip (AreAnswers kept k p.log_blowup) requests
+    values
     → ¬ IsStuckFrom r k.extension p (answered_claims p kept requests values) s e

@@ -106,7 +106,8 @@ module _ {D : Type 0} (k : Fields Mersenne31 Cubic)
     (WordCommits : ShaMmcs Cubic → List (RowMajorMatrix Cubic) → List ℕ → Type 0)
     (words : ShaMmcs Cubic → Authenticates (List ℕ) Cubic (Vec (List ℕ) Global)) where
   -- the batches are committed to, and opened from the challenger that took in nothing but the
-  -- commitments; the claims tell the commitments, the points and the values, and the proof is theirs
+  -- commitments; the claims tell the commitments, the points and the values, and the proof is
+  -- theirs
   pub record IsProved (input : Input) (output : Claims) : Type 0 where
     pub mmcs : ShaMmcs Mersenne31
     pub scheme : ShaMmcs Cubic

@@ -194,7 +194,8 @@ pub fn answer(alloc: Global, value: &Value) -> Result<String, Failure> {
 pub fn prove(alloc: Global, input: Input) -> Result<verify::Input, Refusal>
     ensures rows { MatchResult result (λ _. AreFitting input.batches.items)
         (λ e. IsRefusalOfBatches input.batches.items e ⊎ AreFitting input.batches.items) }
-    ensures proof { let m = ⟦<Sha256Challenger as RunChallenger<Mersenne31, Cubic, [u8; 32]>>⟧.run in
+    ensures proof { let m =
+        ⟦<Sha256Challenger as RunChallenger<Mersenne31, Cubic, [u8; 32]>>⟧.run in
         IfOk result (IsProved ⟦<Cubic as OverCircle<Mersenne31>>⟧.fields m
         ⟦<Batches as Mmcs<Mersenne31>>⟧.matrices ⟦<Batches as Mmcs<Mersenne31>>⟧.commits
         ⟦<Batches as Mmcs<Mersenne31>>⟧.authenticates ⟦<Words as Mmcs<Cubic>>⟧.commits

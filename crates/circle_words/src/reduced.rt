@@ -278,8 +278,8 @@ fn add_matrix<F: ComplexExtendable, EF: ExtensionField<F>>(
 /// columns that are claimed before it (section 6, Remark 21).
 ///
 /// Asks `1 <= log_height < CIRCLE_TWO_ADICITY`, matrices that can be opened, as
-/// [`can_all_be_opened`] tests, and powers of the batching challenge from the first on. Fails where memory is
-/// refused.
+/// [`can_all_be_opened`] tests, and powers of the batching challenge from the first on. Fails where
+/// memory is refused.
 pub fn reduced_word<F: ComplexExtendable, EF: ExtensionField<F>>(
     alloc: Global,
     log_height: usize,
@@ -291,9 +291,9 @@ pub fn reduced_word<F: ComplexExtendable, EF: ExtensionField<F>>(
     requires openable { All (CanBeOpened ⟦<EF as OverCircle<F>>⟧.fields F.CIRCLE_TWO_ADICITY
         (length powers.now)) matrices.now }
     ensures count { IfOk result (λ word. length word.items ≡ 2 ^ log_height) }
-    ensures word { IfOk result (λ word. (alpha : EF) → ArePowers EF.ops alpha powers.now → word.items
-        ≡ reduced_word ⟦<EF as OverCircle<F>>⟧.fields alpha (map committed_of matrices.now)
-        log_height) }
+    ensures word { IfOk result (λ word. (alpha : EF) → ArePowers EF.ops alpha powers.now →
+        word.items ≡ reduced_word ⟦<EF as OverCircle<F>>⟧.fields alpha (map committed_of
+        matrices.now) log_height) }
 {
     let ratios = all_ratios(alloc, log_height, matrices)?;
     let mut word = vec![in alloc; EF::ZERO; 1 << log_height]?;

@@ -2,9 +2,9 @@
 //! (Circle STARKs, section 4.3).
 //!
 //! A committed matrix of `2^log_height` rows has polynomials of `2^(log_height - log_blowup)`
-//! coefficients. In the order of the transform its first rows, as many, are their values on a domain
-//! of as many points, so these rows suffice. The Lagrange polynomials of that domain at a point are
-//! made once for all matrices of the height.
+//! coefficients. In the order of the transform its first rows, as many, are their values on a
+//! domain of as many points, so these rows suffice. The Lagrange polynomials of that domain at a
+//! point are made once for all matrices of the height.
 ghost use Rattle.std.specs.Prelude.{◌≡◌, ◌≢◌, ◌+◌, ◌-◌, ◌^◌, ◌<◌, ◌≤◌, ◌↔◌, length, map, All, IsTrue, IsNone};
 ghost use Rattle.std.specs.Prelude.{IfSome, IfOk, OnOk};
 ghost use Rattle.std.specs.List.{AllZip, Any};
@@ -205,9 +205,9 @@ fn values_by_weights<F: ComplexExtendable, EF: ExtensionField<F>>(
 /// made are added to `all`, where those of other matrices are found; the rows are gone over once
 /// for all points.
 ///
-/// Asks `log_blowup < log_height < CIRCLE_TWO_ADICITY`, a matrix of `2^log_height` rows, points that
-/// are off its domain, as [`are_off_domain`] tests, and in `all` weights that this
-/// function made for the same blowup. Fails where memory is refused.
+/// Asks `log_blowup < log_height < CIRCLE_TWO_ADICITY`, a matrix of `2^log_height` rows, points
+/// that are off its domain, as [`are_off_domain`] tests, and in `all` weights that this function
+/// made for the same blowup. Fails where memory is refused.
 pub fn opened_values<F: ComplexExtendable, EF: ExtensionField<F>>(
     alloc: Global,
     all: &mut Vec<PointWeights<EF>>,

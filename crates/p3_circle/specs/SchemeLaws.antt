@@ -39,89 +39,141 @@ memory-is : (err : ProverError) → err ≡ Memory → IsTrue (says_prover_memor
 memory-is err is = subst (λ e. IsTrue (says_prover_memory e)) (sym is) refl
 
 -- a list of values for each requested point
-values-counted : {F E : Type 0} (k : Fields F E) (blowup : ℕ) (ms : List (RowMajorMatrix F)) (points : List (List E)) (values : List (List (List E))) → length values ≡ length points →
-    (length ms ≡ length points) → AllZip (λ m rest. AreValuesOf k blowup m rest.0 rest.1) ms (zip points values) → AllZip (λ ts vs. length vs ≡ length ts) points values
+values-counted : {F E : Type 0} (k : Fields F E) (blowup : ℕ) (ms : List (RowMajorMatrix F))
+    (points : List (List E)) (values : List (List (List E))) → length values ≡ length points →
+    (length ms ≡ length points) → AllZip (λ m rest. AreValuesOf k blowup m rest.0 rest.1) ms
+    (zip points values) → AllZip (λ ts vs. length vs ≡ length ts) points values
 values-counted k blowup ms [] [] long same are = tt
 values-counted k blowup ms [] (v ∷ values) long same are = absurd (omega (arith, long))
 values-counted k blowup ms (t ∷ points) [] long same are = absurd (omega (arith, long))
 values-counted k blowup [] (t ∷ points) (v ∷ values) long same are = absurd (omega (arith, same))
-values-counted k blowup (m ∷ ms) (t ∷ points) (v ∷ values) long same are = (are.0.count, values-counted k blowup ms points values (omega (arith, long)) (omega (arith, same)) are.1)
+values-counted k blowup (m ∷ ms) (t ∷ points) (v ∷ values) long same are = (
+  are.0.count,
+  values-counted k blowup ms points values (omega (arith, long)) (omega (arith, same)) are.1,
+)
 
-same-lengths : {A B : Type 0} (R : A → B → Type 0) (xs : List A) (ys : List B) → AllZip R xs ys → length xs ≡ length ys
+same-lengths : {A B : Type 0} (R : A → B → Type 0) (xs : List A) (ys : List B) → AllZip R xs ys →
+    length xs ≡ length ys
 same-lengths R [] [] all = refl
 same-lengths R [] (y ∷ ys) all = absurd all
 same-lengths R (x ∷ xs) [] all = absurd all
 same-lengths R (x ∷ xs) (y ∷ ys) all = let rest = same-lengths R xs ys all.1 in omega (arith, rest)
 
-all-counted : {D F E : Type 0} (k : Fields F E) (two blowup : ℕ) (kept : D → List (RowMajorMatrix F)) (requests : List (OpeningRequest D E)) (values : Openings E) → AllByRecursion (IsFit kept k blowup two) requests →
+all-counted : {D F E : Type 0} (k : Fields F E) (two blowup : ℕ)
+    (kept : D → List (RowMajorMatrix F)) (requests : List (OpeningRequest D E))
+    (values : Openings E) → AllByRecursion (IsFit kept k blowup two) requests →
     AllZip (AreAnswers kept k blowup) requests values → HaveValues requests values
 all-counted k two blowup kept [] [] fit are = tt
 all-counted k two blowup kept [] (v ∷ vs) fit are = absurd are
 all-counted k two blowup kept (r ∷ rs) [] fit are = absurd are
 all-counted k two blowup kept (r ∷ rs) (v ∷ vs) fit are = (
-  values-counted k blowup (kept r.prover_data.now) (requested_points r) v are.0.1 (same-lengths (IsOpenable k two blowup) (kept r.prover_data.now) (requested_points r) fit.0) are.0.0,
+  values-counted k blowup (kept r.prover_data.now) (requested_points r) v are.0.1
+      (same-lengths (IsOpenable k two blowup) (kept r.prover_data.now) (requested_points r) fit.0)
+      are.0.0,
   all-counted k two blowup kept rs vs fit.1 are.1,
 )
 
-pub each-point : {C S D F E I M IC IP ID IE WC WD WP WE : Type 0} (k : Fields F E) (two : ℕ) (p : FriParameters M) (kept : D → List (RowMajorMatrix F)) (Commits : List (RowMajorMatrix F) → IC → Type 0) (r : RunMoves C S F E WC)
-    (authenticates : Authenticates IC F IP) (WordCommits : List (RowMajorMatrix E) → WC → Type 0) (word_authenticates : Authenticates WC E WP)
-    (requests : List (OpeningRequest D E)) (values : Openings E) (proof : CirclePcsProof F E I M F IC ID IP IE WC WD WP WE) (s t : S) →
-    IsGiven p kept k r Commits authenticates WordCommits word_authenticates two requests s values proof t → HaveValues requests values
-each-point k two p kept Commits r authenticates WordCommits word_authenticates requests values proof s t given =
-    all-counted k two p.log_blowup kept requests values (recursion_from_All (IsFit kept k p.log_blowup two) requests given.asked.fit) given.answers
+pub each-point : {C S D F E I M IC IP ID IE WC WD WP WE : Type 0} (k : Fields F E) (two : ℕ)
+    (p : FriParameters M) (kept : D → List (RowMajorMatrix F))
+    (Commits : List (RowMajorMatrix F) → IC → Type 0) (r : RunMoves C S F E WC)
+    (authenticates : Authenticates IC F IP) (WordCommits : List (RowMajorMatrix E) → WC → Type 0)
+    (word_authenticates : Authenticates WC E WP)
+    (requests : List (OpeningRequest D E)) (values : Openings E)
+    (proof : CirclePcsProof F E I M F IC ID IP IE WC WD WP WE) (s t : S) →
+    IsGiven p kept k r Commits authenticates WordCommits word_authenticates two requests s values
+    proof t → HaveValues requests values
+each-point k two p kept Commits r authenticates WordCommits word_authenticates requests values proof
+    s t given =
+    all-counted k two p.log_blowup kept requests values
+    (recursion_from_All (IsFit kept k p.log_blowup two) requests given.asked.fit) given.answers
 
 -- what is answered are the values of the batches' polynomials
-pub true-values : {C S D F E I M IC IP ID IE WC WD WP WE : Type 0} (g : Ghosts F) (k : Fields F E) (base : FieldLaws k.field) (laws : FieldLaws k.extension) (e : IsEmbedding k.field k.extension k.embed)
-    (two : ℕ) (gens : AreGenerators k.field two k.gen) (p : FriParameters M) (kept : D → List (RowMajorMatrix F)) (Commits : List (RowMajorMatrix F) → IC → Type 0) (r : RunMoves C S F E WC)
-    (authenticates : Authenticates IC F IP) (WordCommits : List (RowMajorMatrix E) → WC → Type 0) (word_authenticates : Authenticates WC E WP)
-    (requests : List (OpeningRequest D E)) (values : Openings E) (proof : CirclePcsProof F E I M F IC ID IP IE WC WD WP WE) (s t : S) →
-    IsGiven p kept k r Commits authenticates WordCommits word_authenticates two requests s values proof t →
-    AllZip (λ r v. (batch : List (CircleDomain F g × RowMajorMatrix F)) (commitment : IC) → IsCommitted k.field k.gen p.log_blowup Commits batch commitment (kept r.prover_data.now) → AreValuesOfBatch k batch (requested_points r) v) requests values
-true-values g k base laws e two gens p kept Commits r authenticates WordCommits word_authenticates requests values proof s t given =
-    all-valued g k two p base laws e gens kept Commits requests values (recursion_from_All (IsFit kept k p.log_blowup two) requests given.asked.fit) given.answers
+pub true-values : {C S D F E I M IC IP ID IE WC WD WP WE : Type 0} (g : Ghosts F) (k : Fields F E)
+    (base : FieldLaws k.field) (laws : FieldLaws k.extension)
+    (e : IsEmbedding k.field k.extension k.embed)
+    (two : ℕ) (gens : AreGenerators k.field two k.gen) (p : FriParameters M)
+    (kept : D → List (RowMajorMatrix F)) (Commits : List (RowMajorMatrix F) → IC → Type 0)
+    (r : RunMoves C S F E WC)
+    (authenticates : Authenticates IC F IP) (WordCommits : List (RowMajorMatrix E) → WC → Type 0)
+    (word_authenticates : Authenticates WC E WP)
+    (requests : List (OpeningRequest D E)) (values : Openings E)
+    (proof : CirclePcsProof F E I M F IC ID IP IE WC WD WP WE) (s t : S) →
+    IsGiven p kept k r Commits authenticates WordCommits word_authenticates two requests s values
+    proof t →
+    AllZip (λ r v. (batch : List (CircleDomain F g × RowMajorMatrix F)) (commitment : IC) →
+    IsCommitted k.field k.gen p.log_blowup Commits batch commitment (kept r.prover_data.now) →
+    AreValuesOfBatch k batch (requested_points r) v) requests values
+true-values g k base laws e two gens p kept Commits r authenticates WordCommits word_authenticates
+    requests values proof s t given =
+    all-valued g k two p base laws e gens kept Commits requests values
+    (recursion_from_All (IsFit kept k p.log_blowup two) requests given.asked.fit) given.answers
 
-module _ {F E M : Type 0} {g : Ghosts F} (k : Fields F E) (base : FieldLaws k.field) (laws : FieldLaws k.extension) (e : IsEmbedding k.field k.extension k.embed)
-    (eq : F → F → Bool) (eq_law : (a b : F) → (eq a b ≡ true) ↔ (a ≡ b)) (same : E → E → Bool) (law : (a b : E) → (same a b ≡ true) ↔ (a ≡ b))
-    (two : ℕ) (small : two ≤ 62) (gens : AreGenerators k.field two k.gen) (p : FriParameters M) where
-  -- a batch that may be opened is committed to, where memory suffices
-  pub honest-commit : (batch : List (CircleDomain F g × RowMajorMatrix F)) (points : List (List E)) (err : ProverError) → IsHonestBatch k two p batch points →
-      IsFirstOf (commit_tests two p eq k.field batch) err → IsTrue (says_prover_memory err)
-  honest-commit batch points err honest refused =
-      memory-is err (unrefused (commit_tests two p eq k.field batch) (λ x. x ≡ Memory) err (batch-passes k eq eq_law same law two small p batch points honest) refused)
+module _ {F E M : Type 0} {g : Ghosts F} (k : Fields F E) (base : FieldLaws k.field)
+    (laws : FieldLaws k.extension) (e : IsEmbedding k.field k.extension k.embed)
+    (eq : F → F → Bool) (eq_law : (a b : F) → (eq a b ≡ true) ↔ (a ≡ b)) (same : E → E → Bool)
+    (law : (a b : E) → (same a b ≡ true) ↔ (a ≡ b))
+    (two : ℕ) (small : two ≤ 62) (gens : AreGenerators k.field two k.gen) (p : FriParameters M)
+  where
+    -- a batch that may be opened is committed to, where memory suffices
+    pub honest-commit : (batch : List (CircleDomain F g × RowMajorMatrix F))
+        (points : List (List E)) (err : ProverError) → IsHonestBatch k two p batch points →
+        IsFirstOf (commit_tests two p eq k.field batch) err → IsTrue (says_prover_memory err)
+    honest-commit batch points err honest refused =
+        memory-is err (unrefused (commit_tests two p eq k.field batch) (λ x. x ≡ Memory) err
+        (batch-passes k eq eq_law same law two small p batch points honest) refused)
 
-  module _ {D IC : Type 0} (kept : D → List (RowMajorMatrix F)) (Commits : List (RowMajorMatrix F) → IC → Type 0) where
-    abbrev CommitsTo : List (CircleDomain F g × RowMajorMatrix F) → IC → D → Type 0
-    CommitsTo = commits k two p kept Commits
+    module _ {D IC : Type 0} (kept : D → List (RowMajorMatrix F))
+        (Commits : List (RowMajorMatrix F) → IC → Type 0) where
+      abbrev CommitsTo : List (CircleDomain F g × RowMajorMatrix F) → IC → D → Type 0
+      CommitsTo = commits k two p kept Commits
 
-    -- honest requests are opened, where memory suffices and witnesses are found
-    pub honest-open : {C S WC : Type 0} (r : RunMoves C S F E WC) (requests : List (OpeningRequest D E)) (s : S) (err : ProverError) → AreHonest CommitsTo (IsHonestBatch k two p) requests →
-        FindsWitnesses k r p kept requests s → IsFirst (opening_tests kept requests two p k same) (IsFailure k r p kept requests s) err → IsTrue (says_prover_memory err)
-    honest-open r requests s err honest finds refused =
-        let tests = opening_tests kept requests two p k same in
-        let ok = requests-pass k eq eq_law same law two small p kept Commits requests honest.0 honest.1 in
-        let failure = unrefused tests (IsFailure k r p kept requests s) err ok refused in
-        let powers : All (λ r. HaveHeightsOfPowers (kept r.prover_data.now)) requests = λ i d lt.
-        let h = honest.1 i d lt in extended-powers k.field k.gen p.log_blowup Commits h.batch (kept (slice_index_or requests i d).prover_data.now) h.committed.extended in
-        let asked = are-requests kept requests two p k same law base laws e gens powers ok in
-        let low = kept-low k two p kept Commits requests (λ i d lt. let h = honest.1 i d lt in (h.batch, h.commitment, h.committed)) asked in
-        let never = never-too-high k base laws e eq eq_law same law gens kept p requests (are-fit kept requests two p k same ok) asked r low s err failure in
-        memory-is err (elim failure [
-          | inl memory ↦ memory
-          | inr rest ↦
-              elim rest.2 [
-                | inl high ↦ absurd (never high.0)
-                | inr stuck ↦ absurd (finds rest.0 err rest.1 stuck)
-              ]
-        ])
+      -- honest requests are opened, where memory suffices and witnesses are found
+      pub honest-open : {C S WC : Type 0} (r : RunMoves C S F E WC)
+          (requests : List (OpeningRequest D E)) (s : S) (err : ProverError) →
+          AreHonest CommitsTo (IsHonestBatch k two p) requests →
+          FindsWitnesses k r p kept requests s →
+          IsFirst (opening_tests kept requests two p k same) (IsFailure k r p kept requests s) err
+          → IsTrue (says_prover_memory err)
+      honest-open r requests s err honest finds refused =
+          let tests = opening_tests kept requests two p k same in
+          let ok = requests-pass k eq eq_law same law two small p kept Commits requests honest.0
+          honest.1 in
+          let failure = unrefused tests (IsFailure k r p kept requests s) err ok refused in
+          let powers : All (λ r. HaveHeightsOfPowers (kept r.prover_data.now)) requests = λ i d lt.
+          let h = honest.1 i d lt in extended-powers k.field k.gen p.log_blowup Commits h.batch
+          (kept (slice_index_or requests i d).prover_data.now) h.committed.extended in
+          let asked = are-requests kept requests two p k same law base laws e gens powers ok in
+          let low = kept-low k two p kept Commits requests
+          (λ i d lt. let h = honest.1 i d lt in (h.batch, h.commitment, h.committed)) asked in
+          let never = never-too-high k base laws e eq eq_law same law gens kept p requests
+          (are-fit kept requests two p k same ok) asked r low s err failure in
+          memory-is err (elim failure [
+            | inl memory ↦ memory
+            | inr rest ↦
+                elim rest.2 [
+                  | inl high ↦ absurd (never high.0)
+                  | inr stuck ↦ absurd (finds rest.0 err rest.1 stuck)
+                ]
+          ])
 
-    -- claims of what is answered are accepted from the same state
-    pub opening-accepted : {C S I IP ID IE WC WD WP WE : Type 0} (r : RunMoves C S F E WC) (below : (s : S) (n : ℕ) → n ≤ 63 → r.base.sampled_bits s n < 2 ^ n) (inputs : I → Authenticates IC F IP) (words : M → Authenticates WC E WP)
-        (mmcs : I) (WordCommits : List (RowMajorMatrix E) → WC → Type 0) (requests : List (OpeningRequest D E)) (values : Openings E) (claims : List (CommitmentOpening E IC (CircleDomain F g)))
-        (proof : CirclePcsProof F E I M F IC ID IP IE WC WD WP WE) (s t : S) → AreAnsweredBy CommitsTo requests values claims →
-        IsGiven p kept k r Commits (inputs mmcs) WordCommits (words p.mmcs) two requests s values proof t → AcceptsFrom k r inputs words mmcs p claims proof two s t
-    opening-accepted r below inputs words mmcs WordCommits requests values claims proof s t answered given =
-        let accepted =
-        accepts-openings k base laws e gens small r below p kept Commits (inputs mmcs) WordCommits (words p.mmcs) requests given.parameters given.arity given.asked values given.answers (proof_of proof) s t given.opening
-        (batch_claims claims) (are-claimed k two p kept Commits requests values claims (recursion_from_All (IsFit kept k p.log_blowup two) requests given.asked.fit) answered)
-        (are-pointed k two p kept Commits requests values claims answered) in
-        record { drawn = accepted.drawn; draws = accepted.draws; accepts = accepted.accepts }
+      -- claims of what is answered are accepted from the same state
+      pub opening-accepted : {C S I IP ID IE WC WD WP WE : Type 0} (r : RunMoves C S F E WC)
+          (below : (s : S) (n : ℕ) → n ≤ 63 → r.base.sampled_bits s n < 2 ^ n)
+          (inputs : I → Authenticates IC F IP) (words : M → Authenticates WC E WP)
+          (mmcs : I) (WordCommits : List (RowMajorMatrix E) → WC → Type 0)
+          (requests : List (OpeningRequest D E)) (values : Openings E)
+          (claims : List (CommitmentOpening E IC (CircleDomain F g)))
+          (proof : CirclePcsProof F E I M F IC ID IP IE WC WD WP WE) (s t : S) →
+          AreAnsweredBy CommitsTo requests values claims →
+          IsGiven p kept k r Commits (inputs mmcs) WordCommits (words p.mmcs) two requests s values
+          proof t → AcceptsFrom k r inputs words mmcs p claims proof two s t
+      opening-accepted r below inputs words mmcs WordCommits requests values claims proof s t
+          answered given =
+          let accepted =
+          accepts-openings k base laws e gens small r below p kept Commits (inputs mmcs) WordCommits
+          (words p.mmcs) requests given.parameters given.arity given.asked values given.answers
+          (proof_of proof) s t given.opening
+          (batch_claims claims) (are-claimed k two p kept Commits requests values claims
+          (recursion_from_All (IsFit kept k p.log_blowup two) requests given.asked.fit) answered)
+          (are-pointed k two p kept Commits requests values claims answered) in
+          record { drawn = accepted.drawn; draws = accepted.draws; accepts = accepted.accepts }

@@ -177,7 +177,8 @@ where
             ⟦<EF as OverCircle<Val>>⟧.fields m (InputMmcs.commits self.now.mmcs)
             (InputMmcs.authenticates self.now.mmcs) (FriMmcs.commits self.now.fri_params.mmcs)
             (FriMmcs.authenticates self.now.fri_params.mmcs) Val.CIRCLE_TWO_ADICITY
-            requests.entry.items (C.state challenger.old) (openings r.0.items) r.1 (C.state challenger.new)) }
+            requests.entry.items (C.state challenger.old) (openings r.0.items) r.1
+            (C.state challenger.new)) }
         ensures refused { let m = ⟦<C as RunChallenger<Val, EF, FriMmcs::Commitment>>⟧.run in
             IfErr result (IsFirst (opening_tests InputMmcs.matrices requests.entry.items
             Val.CIRCLE_TWO_ADICITY self.now.fri_params ⟦<EF as OverCircle<Val>>⟧.fields EF.eq)
