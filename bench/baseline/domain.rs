@@ -21,6 +21,15 @@ impl Point {
         }
         point
     }
+
+    pub fn opposite(self) -> Self {
+        Point { x: self.x, y: Mersenne31::ZERO - self.y }
+    }
+
+    /// The vanishing polynomial of the standard domain of `2^log_n` points.
+    pub fn vanishing(self, log_n: u32) -> Mersenne31 {
+        (1..log_n).fold(self.x, |x, _| x.square().double() - Mersenne31::ONE)
+    }
 }
 
 impl Add for Point {
@@ -56,7 +65,11 @@ impl Domain {
 
     /// The factors of the blocks of each layer, beginning with the smallest blocks.
     pub fn twiddles(self) -> Vec<Vec<Mersenne31>> {
-        let points = self.first_points();
+        self.twiddles_of(&self.first_points())
+    }
+
+    /// The same, where the first points of the pairs are known.
+    pub fn twiddles_of(self, points: &[Point]) -> Vec<Vec<Mersenne31>> {
         let mut twiddles = Vec::with_capacity(self.log_n as usize);
         twiddles.push(points.iter().map(|point| point.y).collect());
         if 1 < self.log_n {
@@ -69,4 +82,17 @@ impl Domain {
         }
         twiddles
     }
+}
+
+/// The points of the standard domain of `2^log_n` points at these places in the order of the
+/// transform.
+pub fn query_points(log_n: u32, places: &[usize]) -> Vec<Point> {
+    let steps: Vec<Point> = (1..log_n).map(Point::generator).collect();
+    let first = Point::generator(log_n + 1);
+    let point = |place: &usize| {
+        let chosen = steps.iter().enumerate().filter(|(k, _)| place >> (k + 1) & 1 == 1);
+        let point = chosen.fold(first, |point, (_, step)| point + *step);
+        if place.is_multiple_of(2) { point } else { point.opposite() }
+    };
+    places.iter().map(point).collect()
 }

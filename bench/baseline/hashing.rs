@@ -1,6 +1,7 @@
 //! A challenger over SHA-256: elements that are taken in, and proofs of work.
 use crate::field::ORDER;
-use crate::sha256::Sha256;
+use crate::merkle::Hash;
+use crate::sha256;
 use std::time::{Duration, Instant};
 
 const OBSERVED: u32 = 1000;
@@ -10,21 +11,29 @@ const BITS_TIMED: u32 = 16;
 const RUNS: u32 = 9;
 
 #[derive(Clone, Copy)]
-struct Challenger {
-    state: [u8; 32],
+pub struct Challenger {
+    state: Hash,
 }
 
 impl Challenger {
-    fn digest(&self, kind: u8, bytes: &[u8]) -> [u8; 32] {
-        let mut hasher = Sha256::new();
-        hasher.update(&[kind]);
-        hasher.update(&self.state);
-        hasher.update(bytes);
-        hasher.finalize()
+    pub fn new() -> Self {
+        Challenger { state: [0; 32] }
     }
 
-    fn observe(&mut self, element: u32) {
-        self.state = self.digest(0, &element.to_be_bytes());
+    /// The digest of a kind, the state and at most 32 bytes.
+    fn digest(&self, kind: u8, bytes: &[u8]) -> Hash {
+        let mut message = [kind; 65];
+        message[1..33].copy_from_slice(&self.state);
+        message[33..][..bytes.len()].copy_from_slice(bytes);
+        sha256::digest(&message[..33 + bytes.len()])
+    }
+
+    pub fn observe_bytes(&mut self, bytes: &[u8]) {
+        self.state = self.digest(0, bytes);
+    }
+
+    pub fn observe(&mut self, element: u32) {
+        self.observe_bytes(&element.to_be_bytes());
     }
 
     /// The first eight bytes of the digest that a draw gives.
@@ -39,8 +48,12 @@ impl Challenger {
         drawn
     }
 
-    fn sample(&mut self) -> u32 {
+    pub fn sample(&mut self) -> u32 {
         (self.draw() % u64::from(ORDER)) as u32
+    }
+
+    pub fn sample_bits(&mut self, bits: u32) -> usize {
+        (self.draw() & ((1 << bits) - 1)) as usize
     }
 
     /// The least element after which so many bits are zero. The state after a draw is made once, for it.
@@ -72,7 +85,7 @@ pub fn report(timed: bool) {
 }
 
 fn observe(count: u32, runs: u32) -> (u128, u32) {
-    let mut challenger = Challenger { state: [0; 32] };
+    let mut challenger = Challenger::new();
     let mut best = Duration::MAX;
     for _ in 0..runs {
         let begin = Instant::now();
@@ -85,7 +98,7 @@ fn observe(count: u32, runs: u32) -> (u128, u32) {
 }
 
 fn grind(bits: u32, runs: u32) -> (u128, u32) {
-    let mut challenger = Challenger { state: [0; 32] };
+    let mut challenger = Challenger::new();
     let mut best = u128::MAX;
     let mut last = 0;
     for _ in 0..runs {

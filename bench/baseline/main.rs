@@ -6,15 +6,20 @@ mod evaluation;
 mod field;
 mod hashing;
 mod merkle;
+mod pcs;
 mod periodic;
+mod prover;
 mod sha256;
+mod transcript;
 mod transform;
+mod verifier;
 
 use cubic::Cubic;
 use domain::Domain;
 use evaluation::CubicPoint;
 use field::Mersenne31;
 use merkle::Hash;
+use pcs::{Params, Proof};
 use std::time::{Duration, Instant};
 use transform::Matrix;
 
@@ -35,11 +40,21 @@ const EVALUATED: (u32, usize) = (16, 8);
 /// number.
 const PERIODIC: (u32, usize) = (14, 8);
 
+/// The binary logarithms of the rows of the matrices of which proofs are timed, and their columns.
+const PROVED: [u32; 3] = [12, 16, 18];
+const PROVED_WIDTH: usize = 8;
+
+/// The parameters of proofs.
+const PARAMS: Params = Params { log_blowup: 1, queries: 40 };
+
 /// How many indices are opened, and the factor of an index's place.
 const INDICES: usize = 40;
 const FACTOR: usize = 2654435761;
 
-/// How many times rows are opened and verified when that is timed.
+/// How many times a matrix is proved when that is timed.
+const PROOFS: usize = 5;
+
+/// How many times rows are opened and verified, and a proof is verified, when that is timed.
 const RUNS: usize = 50;
 
 /// The numbers of columns.
@@ -91,6 +106,7 @@ fn main() {
                 table_line(SMALL, width, false);
             }
             report_commitments(&[SMALL], false);
+            report_proofs(&[SMALL], false);
             hashing::report(false);
         }
         ["time"] => {
@@ -98,6 +114,7 @@ fn main() {
             evaluation_line(EVALUATED.0, EVALUATED.1, true);
             table_line(PERIODIC.0, PERIODIC.1, true);
             report_commitments(&COMMITTED, true);
+            report_proofs(&PROVED, true);
             hashing::report(true);
         }
         _ => {
@@ -165,9 +182,58 @@ fn commitment_lines(rows: usize, width: usize, timed: bool) {
     let indices: Vec<usize> = (0..INDICES).map(|k| k.wrapping_mul(FACTOR) % rows).collect();
     let (time, (opened, proof)) = fastest(count(RUNS), || (), |()| tree.open(&indices));
     line("open", time, proof.iter().map(number).sum());
-    let verify = |()| merkle::verify(&root, rows, &indices, &opened, &proof);
+    let row = |k: usize| opened[k][0].as_slice();
+    let verify = |()| merkle::verify(&root, rows, &indices, row, &proof);
     let (time, accepted) = fastest(count(RUNS), || (), verify);
     line("verify", time, u64::from(accepted));
+}
+
+/// Prints the lines of the whole scheme over each matrix, opened at one point and at two.
+fn report_proofs(log_rows: &[u32], timed: bool) {
+    let start = Mersenne31::new(123456789);
+    let (step, square) = (Mersenne31::new(987654321), start.square());
+    let coordinates = [
+        Cubic { c0: start, c1: step, c2: square },
+        Cubic { c0: step, c1: square, c2: step.square() },
+    ];
+    let points = coordinates.map(CubicPoint::from_projective_line);
+    for &log_rows in log_rows {
+        proof_lines(log_rows, &points[..1], timed);
+        proof_lines(log_rows, &points, timed);
+    }
+}
+
+fn proof_lines(log_rows: u32, points: &[CubicPoint], timed: bool) {
+    let (rows, width) = (1 << log_rows, PROVED_WIDTH);
+    let line = |name: &str, time: Duration, digest: u64| {
+        let time = if timed { format!("{} ns, ", time.as_nanos()) } else { String::new() };
+        println!("CirclePcs {name} {rows} x {width} at {}: {time}[{digest}]", points.len());
+    };
+    let count = |most: usize| if timed { most } else { 1 };
+    let input = matrix(rows, width);
+    let prove = |matrix| {
+        let (root, tree) = prover::commit(PARAMS, matrix);
+        let (claims, proof) = prover::open(PARAMS, &tree, points, pcs::after_commitment(&root));
+        (root, claims, proof, tree)
+    };
+    let (time, proved) = fastest(count(PROOFS), || input.clone(), prove);
+    let (root, claims, proof, _) = proved;
+    line("prove", time, proof_digest(&root, &proof));
+    let verify = |()| {
+        let challenger = pcs::after_commitment(&root);
+        verifier::verify(PARAMS, log_rows, &root, &claims, &proof, challenger)
+    };
+    let (time, accepted) = fastest(count(RUNS), || (), verify);
+    line("verify", time, u64::from(accepted));
+}
+
+/// The sum of the numbers of all commitments and of the digests beside the first layer's rows, and
+/// of the residues of lambda and of the constant.
+fn proof_digest(root: &Hash, proof: &Proof) -> u64 {
+    let digests = proof.commitments.iter().chain(&proof.first_siblings.proof);
+    let digests = digests.chain([root, &proof.first_commitment]);
+    let residue = |x: &Cubic| [x.c0, x.c1, x.c2].map(|c| u64::from(c.value())).iter().sum::<u64>();
+    digests.map(number).sum::<u64>() + residue(&proof.lambda) + residue(&proof.constant)
 }
 
 /// The shortest time of a pass, and what came of the last one.
@@ -175,6 +241,7 @@ fn fastest<I, O>(runs: usize, input: impl Fn() -> I, pass: impl Fn(I) -> O) -> (
     let mut best = Duration::MAX;
     let mut last = None;
     for _ in 0..runs {
+        drop(last.take());
         let input = input();
         let begin = Instant::now();
         let output = pass(input);

@@ -1,46 +1,70 @@
 //! A Merkle tree over the rows of one matrix.
+use crate::cubic::Cubic;
 use crate::field::Mersenne31;
-use crate::sha256::Sha256;
+use crate::sha256;
 use crate::transform::Matrix;
 
 pub type Hash = [u8; 32];
 
 /// For each index, for each matrix, the entries of its row.
-pub type OpenedRows = Vec<Vec<Vec<Mersenne31>>>;
+pub type OpenedRows<T> = Vec<Vec<Vec<T>>>;
 
-/// A committed matrix and the levels of its tree, the lowest first.
-pub struct Tree {
-    matrix: Matrix,
+/// An entry of a row.
+pub trait Entry: Copy + PartialEq {
+    /// Appends the bytes that are hashed of it.
+    fn append(self, message: &mut Vec<u8>);
+}
+
+impl Entry for Mersenne31 {
+    fn append(self, message: &mut Vec<u8>) {
+        message.extend_from_slice(&self.value().to_be_bytes());
+    }
+}
+
+impl Entry for Cubic {
+    fn append(self, message: &mut Vec<u8>) {
+        self.c0.append(message);
+        self.c1.append(message);
+        self.c2.append(message);
+    }
+}
+
+/// A committed matrix and the levels of its tree, the lowest first, without the digests of the
+/// rows.
+pub struct Tree<T> {
+    pub matrix: Matrix<T>,
     levels: Vec<Vec<Hash>>,
 }
 
-fn rows_digest(row: &[Mersenne31]) -> Hash {
-    let mut hasher = Sha256::new();
-    hasher.update(&[0]);
+/// The digest of a row, of which the message is made in memory that the caller lends.
+fn row_digest<T: Entry>(message: &mut Vec<u8>, row: &[T]) -> Hash {
+    message.clear();
+    message.push(0);
     for entry in row {
-        hasher.update(&entry.value().to_be_bytes());
+        entry.append(message);
     }
-    hasher.finalize()
+    sha256::digest(message)
 }
 
 fn node_digest(left: &Hash, right: &Hash) -> Hash {
-    let mut hasher = Sha256::new();
-    hasher.update(&[1]);
-    hasher.update(left);
-    hasher.update(right);
-    hasher.finalize()
+    let mut message = [1; 65];
+    message[1..33].copy_from_slice(left);
+    message[33..].copy_from_slice(right);
+    sha256::digest(&message)
 }
 
-pub fn commit(matrix: Matrix) -> (Hash, Tree) {
-    let mut levels: Vec<Vec<Hash>> = Vec::new();
-    let mut level: Vec<Hash> = matrix.values.chunks_exact(matrix.width).map(rows_digest).collect();
-    while level.len() > 1 {
-        let next = level.chunks_exact(2).map(|pair| node_digest(&pair[0], &pair[1])).collect();
-        levels.push(level);
-        level = next;
+pub fn commit<T: Entry>(matrix: Matrix<T>) -> (Hash, Tree<T>) {
+    let mut message = Vec::new();
+    let rows = matrix.values.chunks_exact(matrix.width);
+    let mut levels: Vec<Vec<Hash>> = vec![rows.map(|row| row_digest(&mut message, row)).collect()];
+    while let Some(level) = levels.last()
+        && level.len() > 1
+    {
+        let pairs = level.chunks_exact(2);
+        levels.push(pairs.map(|pair| node_digest(&pair[0], &pair[1])).collect());
     }
-    let root = level[0];
-    levels.push(level);
+    let root = levels[levels.len() - 1][0];
+    levels.remove(0);
     (root, Tree { matrix, levels })
 }
 
@@ -51,16 +75,19 @@ fn distinct(indices: &[usize]) -> Vec<usize> {
     known
 }
 
-impl Tree {
+impl<T: Entry> Tree<T> {
+    fn row(&self, index: usize) -> &[T] {
+        &self.matrix.values[index * self.matrix.width..][..self.matrix.width]
+    }
+
     /// For each index the rows there, one for each matrix, and the digests that are missing beside
-    /// them, level by level.
-    pub fn open(&self, indices: &[usize]) -> (OpenedRows, Vec<Hash>) {
-        let width = self.matrix.width;
-        let row = |index: &usize| vec![self.matrix.values[index * width..][..width].to_vec()];
-        let rows = indices.iter().map(row).collect();
+    /// them, level by level. Those of rows are made again.
+    pub fn open(&self, indices: &[usize]) -> (OpenedRows<T>, Vec<Hash>) {
+        let rows = indices.iter().map(|index| vec![self.row(*index).to_vec()]).collect();
+        let mut message = Vec::new();
         let mut known = distinct(indices);
         let mut proof = Vec::new();
-        for level in &self.levels[..self.levels.len() - 1] {
+        for level in 0..self.levels.len() {
             let mut parents = Vec::with_capacity(known.len());
             let mut k = 0;
             while k < known.len() {
@@ -68,7 +95,10 @@ impl Tree {
                 if known.get(k + 1) == Some(&(position ^ 1)) {
                     k += 2;
                 } else {
-                    proof.push(level[position ^ 1]);
+                    proof.push(match level {
+                        0 => row_digest(&mut message, self.row(position ^ 1)),
+                        _ => self.levels[level - 1][position ^ 1],
+                    });
                     k += 1;
                 }
                 parents.push(position / 2);
@@ -79,18 +109,25 @@ impl Tree {
     }
 }
 
-/// Whether the rows at the indices are those of the root.
-pub fn verify(root: &Hash, rows: usize, indices: &[usize], opened: &[Vec<Vec<Mersenne31>>], proof: &[Hash]) -> bool {
+/// Whether the rows at the indices, by their places, are those of the root.
+pub fn verify<'a, T: Entry + 'a>(
+    root: &Hash,
+    rows: usize,
+    indices: &[usize],
+    row: impl Fn(usize) -> &'a [T],
+    proof: &[Hash],
+) -> bool {
+    let mut message = Vec::new();
     let mut places: Vec<usize> = (0..indices.len()).collect();
     places.sort_unstable_by_key(|&k| indices[k]);
     let mut nodes: Vec<(usize, Hash)> = Vec::with_capacity(places.len());
     for (rank, &k) in places.iter().enumerate() {
         if rank > 0 && indices[places[rank - 1]] == indices[k] {
-            if opened[places[rank - 1]] != opened[k] {
+            if row(places[rank - 1]) != row(k) {
                 return false;
             }
         } else {
-            nodes.push((indices[k], rows_digest(&opened[k][0])));
+            nodes.push((indices[k], row_digest(&mut message, row(k))));
         }
     }
     let mut given = proof.iter();

@@ -4,7 +4,7 @@ use crate::field::Mersenne31;
 use crate::transform::{Matrix, extrapolate};
 
 /// The place in the transform's order of a natural place, and the other way about.
-fn permuted(index: usize, log_n: u32) -> usize {
+pub fn permuted(index: usize, log_n: u32) -> usize {
     let half = index >> 1;
     let place = if index & 1 == 0 { half } else { (1 << log_n) - 1 - half };
     place.reverse_bits() >> (usize::BITS - log_n)

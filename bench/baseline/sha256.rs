@@ -6,74 +6,79 @@ const START: [u32; 8] = [
     0x6a09e667, 0xbb67ae85, 0x3c6ef372, 0xa54ff53a, 0x510e527f, 0x9b05688c, 0x1f83d9ab, 0x5be0cd19,
 ];
 
-/// A message as far as it is known: the state after its whole blocks, and what is left.
-pub struct Sha256 {
-    state: [u32; 8],
-    block: [u8; 64],
-    len: u64,
-}
-
-impl Sha256 {
-    pub fn new() -> Self {
-        Sha256 { state: START, block: [0; 64], len: 0 }
+/// The digest of a message.
+pub fn digest(message: &[u8]) -> [u8; 32] {
+    let mut state = START;
+    let (blocks, rest) = message.as_chunks();
+    for block in blocks {
+        compress(&mut state, block);
     }
-
-    pub fn update(&mut self, mut bytes: &[u8]) {
-        while !bytes.is_empty() {
-            let filled = (self.len % 64) as usize;
-            let count = bytes.len().min(64 - filled);
-            self.block[filled..filled + count].copy_from_slice(&bytes[..count]);
-            self.len += count as u64;
-            bytes = &bytes[count..];
-            if self.len.is_multiple_of(64) {
-                compress(&mut self.state, &self.block);
-            }
-        }
+    let mut block = [0; 64];
+    block[..rest.len()].copy_from_slice(rest);
+    block[rest.len()] = 0x80;
+    if rest.len() >= 56 {
+        compress(&mut state, &block);
+        block = [0; 64];
     }
-
-    pub fn finalize(mut self) -> [u8; 32] {
-        let bits = self.len * 8;
-        let filled = (self.len % 64) as usize;
-        self.block[filled] = 0x80;
-        self.block[filled + 1..].fill(0);
-        if filled >= 56 {
-            compress(&mut self.state, &self.block);
-            self.block.fill(0);
-        }
-        self.block[56..].copy_from_slice(&bits.to_be_bytes());
-        compress(&mut self.state, &self.block);
-        let mut digest = [0; 32];
-        for (bytes, word) in digest.chunks_exact_mut(4).zip(self.state) {
-            bytes.copy_from_slice(&word.to_be_bytes());
-        }
-        digest
+    block[56..].copy_from_slice(&(8 * message.len() as u64).to_be_bytes());
+    compress(&mut state, &block);
+    let mut digest = [0; 32];
+    for (bytes, word) in digest.chunks_exact_mut(4).zip(state) {
+        bytes.copy_from_slice(&word.to_be_bytes());
     }
+    digest
 }
 
 fn compress(state: &mut [u32; 8], block: &[u8; 64]) {
-    let mut w = [0u32; 64];
+    let mut w = [0u32; 16];
     for (word, bytes) in w.iter_mut().zip(block.chunks_exact(4)) {
         *word = u32::from_be_bytes([bytes[0], bytes[1], bytes[2], bytes[3]]);
     }
-    for t in 16..64 {
-        let low = w[t - 15].rotate_right(7) ^ w[t - 15].rotate_right(18) ^ (w[t - 15] >> 3);
-        let high = w[t - 2].rotate_right(17) ^ w[t - 2].rotate_right(19) ^ (w[t - 2] >> 10);
-        w[t] = w[t - 16].wrapping_add(low).wrapping_add(w[t - 7]).wrapping_add(high);
+    let (first, others) = K.split_at(16);
+    let mut v = sixteen_rounds(*state, first, |t| w[t]);
+    for constants in others.chunks_exact(16) {
+        v = sixteen_rounds(v, constants, |t| next_word(&mut w, t));
     }
-    let [mut a, mut b, mut c, mut d, mut e, mut f, mut g, mut h] = *state;
-    for t in 0..64 {
-        let mixed = e.rotate_right(6) ^ e.rotate_right(11) ^ e.rotate_right(25);
-        let chosen = (e & f) ^ (!e & g);
-        let first = h.wrapping_add(mixed).wrapping_add(chosen).wrapping_add(K[t]).wrapping_add(w[t]);
-        let mixed = a.rotate_right(2) ^ a.rotate_right(13) ^ a.rotate_right(22);
-        let major = (a & b) ^ (a & c) ^ (b & c);
-        let second = mixed.wrapping_add(major);
-        (h, g, f, e) = (g, f, e, d.wrapping_add(first));
-        (d, c, b, a) = (c, b, a, first.wrapping_add(second));
-    }
-    for (word, add) in state.iter_mut().zip([a, b, c, d, e, f, g, h]) {
+    for (word, add) in state.iter_mut().zip(v) {
         *word = word.wrapping_add(add);
     }
+}
+
+/// Written out, so that the place of each word among the last 16 is known when this is compiled.
+#[inline(always)]
+fn sixteen_rounds(
+    mut v: [u32; 8],
+    constants: &[u32],
+    mut word: impl FnMut(usize) -> u32,
+) -> [u32; 8] {
+    macro_rules! rounds {
+        ($($t:literal)*) => { $(v = round(v, constants[$t], word($t));)* };
+    }
+    rounds!(0 1 2 3 4 5 6 7 8 9 10 11 12 13 14 15);
+    v
+}
+
+/// The next word of the schedule, in the place of the one 16 before it.
+#[inline(always)]
+fn next_word(w: &mut [u32; 16], t: usize) -> u32 {
+    let (early, late) = (w[(t + 1) % 16], w[(t + 14) % 16]);
+    let low = (early ^ early.rotate_right(11)).rotate_right(7) ^ (early >> 3);
+    let high = (late ^ late.rotate_right(2)).rotate_right(17) ^ (late >> 10);
+    w[t] = w[t].wrapping_add(low).wrapping_add(w[(t + 9) % 16]).wrapping_add(high);
+    w[t]
+}
+
+/// The rotations are nested, which takes fewer copies, and what is chosen takes three operations.
+#[inline(always)]
+fn round([a, b, c, d, e, f, g, h]: [u32; 8], constant: u32, word: u32) -> [u32; 8] {
+    let mixed = (e ^ (e ^ e.rotate_right(14)).rotate_right(5)).rotate_right(6);
+    let chosen = g ^ (e & (f ^ g));
+    let first = h.wrapping_add(mixed).wrapping_add(chosen);
+    let first = first.wrapping_add(constant).wrapping_add(word);
+    let mixed = (a ^ (a ^ a.rotate_right(9)).rotate_right(11)).rotate_right(2);
+    let major = b ^ ((a ^ b) & (b ^ c));
+    let second = mixed.wrapping_add(major);
+    [first.wrapping_add(second), a, b, c, d.wrapping_add(first), e, f, g]
 }
 
 /// The first 32 bits of the fractional parts of the cube roots of the first 64 primes.

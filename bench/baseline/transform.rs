@@ -4,12 +4,12 @@ use crate::field::{Mersenne31, batch_inverse};
 
 /// Entries stored row after row.
 #[derive(Clone)]
-pub struct Matrix {
-    pub values: Vec<Mersenne31>,
+pub struct Matrix<T = Mersenne31> {
+    pub values: Vec<T>,
     pub width: usize,
 }
 
-impl Matrix {
+impl<T> Matrix<T> {
     pub fn height(&self) -> usize {
         self.values.len() / self.width
     }
@@ -17,7 +17,11 @@ impl Matrix {
 
 /// The coefficients of the polynomials with these values on the domain.
 pub fn interpolate(domain: Domain, values: &Matrix) -> Matrix {
-    let mut coeffs = values.clone();
+    interpolate_owned(domain, values.clone())
+}
+
+/// The same, in the memory of the values.
+pub fn interpolate_owned(domain: Domain, mut coeffs: Matrix) -> Matrix {
     let mut half = coeffs.width;
     for factors in domain.twiddles() {
         let inverses = batch_inverse(&factors);

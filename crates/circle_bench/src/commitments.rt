@@ -19,7 +19,8 @@ const FACTOR: usize = 2654435761;
 /// How many times rows are opened, and how many times they are verified, when that is timed.
 const RUNS: usize = 50;
 
-type Hash = [u8; 32];
+/// A digest of SHA-256.
+pub type Hash = [u8; 32];
 
 type Data = ShaProverData<Mersenne31>;
 
@@ -69,18 +70,7 @@ fn print_line(
     digest: u64,
 ) -> io::Result<()> {
     print!(rt; "ShaMmcs {name} {} x {}: ", size.rows(), size.width)?;
-    if mode == Mode::Times {
-        print!(rt; "{} ns, ", time.as_nanos())?;
-    }
-    println!(rt; "[{digest}]")
-}
-
-/// How many times a pass is run.
-fn runs(mode: Mode, timed: usize) -> usize {
-    match mode {
-        Mode::Digests => 1,
-        Mode::Times => timed,
-    }
+    timing::print_result(rt, mode, time, digest)
 }
 
 /// The shortest time of a commitment to the matrix, and the last one.
@@ -91,7 +81,7 @@ fn commit(
     matrix: &RowMajorMatrix<Mersenne31>,
 ) -> io::Result<(Duration, Committed)> {
     let (mut best, mut committed) = commit_once(rt, size, matrix)?;
-    for _ in 1..runs(mode, timing::runs_of(size)) {
+    for _ in 1..timing::runs(mode, timing::runs_of(size)) {
         let (time, next) = commit_once(rt, size, matrix)?;
         best = best.min(time);
         committed = next;
@@ -133,7 +123,7 @@ fn open(rt: &HostRuntime, mode: Mode, committed: &Committed) -> io::Result<(Dura
     let mut best = Duration::MAX;
     let mut rows = Vec::new(rt.alloc());
     let mut proof = Vec::new(rt.alloc());
-    for _ in 0..runs(mode, RUNS) {
+    for _ in 0..timing::runs(mode, RUNS) {
         let begin = Instant::now(rt)?;
         let opened = mmcs.open_multi_batch(rt.alloc(), &indices, &committed.data)?;
         best = best.min(begin.elapsed(rt)?);
@@ -162,7 +152,7 @@ fn verify(
     }];
     let mut best = Duration::MAX;
     let mut accepted = false;
-    for _ in 0..runs(mode, RUNS) {
+    for _ in 0..timing::runs(mode, RUNS) {
         let begin = Instant::now(rt)?;
         let verdict = ShaMmcs::<Mersenne31>::new().verify_multi_batch(
             rt.alloc(),
@@ -179,12 +169,12 @@ fn verify(
 }
 
 /// The first four bytes of a digest as a number, greatest first.
-fn number(digest: &Hash) -> u64 {
+pub fn number(digest: &Hash) -> u64 {
     u64::from(u32::from_be_bytes([digest[0], digest[1], digest[2], digest[3]]))
 }
 
 /// The sum of the numbers of digests.
-fn numbers(digests: &[Hash]) -> u64 {
+pub fn numbers(digests: &[Hash]) -> u64 {
     digests
         .iter()
         .fold(0u64, |sum, digest| sum.wrapping_add(number(digest)))

@@ -22,16 +22,10 @@ pub fn report(
     };
     for size in sizes {
         let (rows, width) = (size.rows(), size.width);
-        let runs = match mode {
-            Mode::Digests => 1,
-            Mode::Times => timing::runs_of(*size),
-        };
+        let runs = timing::runs(mode, timing::runs_of(*size));
         let (time, digest) = fastest(rt, *size, at, start, step, runs)?;
         print!(rt; "Cubic evaluate_at_point {rows} x {width}: ")?;
-        if mode == Mode::Times {
-            print!(rt; "{} ns, ", time.as_nanos())?;
-        }
-        println!(rt; "[{digest}]")?;
+        timing::print_result(rt, mode, time, u64::from(digest))?;
     }
     Ok(())
 }
@@ -63,7 +57,7 @@ fn fastest(
 }
 
 /// The coefficients of the values, one value's after the other's.
-fn coefficients(alloc: Global, values: &[Cubic]) -> Result<Vec<Mersenne31>, AllocError> {
+pub fn coefficients(alloc: Global, values: &[Cubic]) -> Result<Vec<Mersenne31>, AllocError> {
     let mut coefficients = Vec::new(alloc);
     for value in values {
         coefficients.push(value.coefficient(0))?;

@@ -1,12 +1,13 @@
 //! Chains of field operations, circle transforms, values at a point, tables of periodic columns,
-//! commitments, the challenger over SHA-256 and a stored proof: what they come to, or with the
-//! argument `time` how long they take.
+//! commitments, the challenger over SHA-256, the whole scheme and a stored proof: what they come to,
+//! or with the argument `time` how long they take.
 #![tactic(auto)]
 
 mod chains;
 mod commitments;
 mod evaluations;
 mod hashing;
+mod openings;
 mod proofs;
 mod tables;
 mod timing;
@@ -134,6 +135,28 @@ const PERIODIC: [Size; 1] = [Size {
     width: 8,
 }];
 
+/// The matrix of which a proof is printed.
+const PROVED: [Size; 1] = [Size {
+    log_rows: 6,
+    width: 8,
+}];
+
+/// The matrices of which proofs are timed.
+const PROVED_LARGE: [Size; 3] = [
+    Size {
+        log_rows: 12,
+        width: 8,
+    },
+    Size {
+        log_rows: 16,
+        width: 8,
+    },
+    Size {
+        log_rows: 18,
+        width: 8,
+    },
+];
+
 /// The matrices whose transforms are timed.
 const LARGE: [Size; 9] = [
     Size {
@@ -186,6 +209,7 @@ fn main(rt: HostRuntime) -> io::Result<ExitCode> {
     report_evaluations(&rt, mode, start, step)?;
     report_tables(&rt, mode, start, step)?;
     report_commitments(&rt, mode, start, step)?;
+    report_openings(&rt, mode, start, step)?;
     let start = Cubic::from_coefficients(&[start, step, start.square()]);
     let step = Cubic::from_coefficients(&[step, start.coefficient(2), step.square()]);
     timing::report(&rt, mode, "Cubic", &CUBIC, start, step)?;
@@ -251,6 +275,20 @@ fn report_commitments(
         Mode::Times => COMMITTED.as_slice(),
     };
     commitments::report(rt, mode, sizes, start, step)
+}
+
+/// Prints the lines of the whole scheme over each matrix.
+fn report_openings(
+    rt: &HostRuntime,
+    mode: Mode,
+    start: Mersenne31,
+    step: Mersenne31,
+) -> io::Result<()> {
+    let sizes = match mode {
+        Mode::Digests => PROVED.as_slice(),
+        Mode::Times => PROVED_LARGE.as_slice(),
+    };
+    openings::report(rt, mode, sizes, start, step)
 }
 
 /// What the arguments ask for, or `None` where they ask for nothing that there is.

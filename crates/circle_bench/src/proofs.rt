@@ -1,5 +1,5 @@
 //! Lines about a stored proof: whether it is accepted, and how long reading and verifying it take.
-use crate::timing::Mode;
+use crate::timing::{self, Mode};
 use circle_challenger::{CanObserve, Sha256Challenger};
 use circle_commit::{CommitmentOpening, FriError, FriParameters, JsonForm, MatrixOpening};
 use circle_field::{Cubic, Mersenne31};
@@ -27,9 +27,10 @@ const RUNS: usize = 50;
 type Hash = [u8; 32];
 
 /// The claims about one batch, whose domains are told by `Domain`.
-type Claim<Domain> = CommitmentOpening<Cubic, Hash, Domain>;
+pub type Claim<Domain> = CommitmentOpening<Cubic, Hash, Domain>;
 
-type Proof = CirclePcsProof<Mersenne31, Cubic, ShaMmcs<Mersenne31>, ShaMmcs<Cubic>, Mersenne31>;
+/// A proof over Merkle trees.
+pub type Proof = CirclePcsProof<Mersenne31, Cubic, ShaMmcs<Mersenne31>, ShaMmcs<Cubic>, Mersenne31>;
 
 /// What the verifier is handed.
 #[derive(Drop)]
@@ -42,13 +43,9 @@ struct Input {
 /// Prints a line for reading the proof, one for verifying it, and one for both.
 pub fn report(rt: &HostRuntime, mode: Mode) -> io::Result<()> {
     let text = fs::read(rt, FILE).or_else(|_| fs::read(rt, FILE_OF_CRATE))?;
-    let runs = match mode {
-        Mode::Digests => 1,
-        Mode::Times => RUNS,
-    };
     let mut best = [Duration::MAX; 3];
     let mut accepted = true;
-    for _ in 0..runs {
+    for _ in 0..timing::runs(mode, RUNS) {
         let begin = Instant::now(rt)?;
         let input = read(rt.alloc(), &text)?;
         let reading = begin.elapsed(rt)?;
@@ -76,10 +73,7 @@ fn print_line(
     accepted: bool,
 ) -> io::Result<()> {
     print!(rt; "CirclePcsProof {name} {NAME}: ")?;
-    if mode == Mode::Times {
-        print!(rt; "{} ns, ", time.as_nanos())?;
-    }
-    println!(rt; "[{}]", u64::from(accepted))
+    timing::print_result(rt, mode, time, u64::from(accepted))
 }
 
 /// What a text of JSON stands for.

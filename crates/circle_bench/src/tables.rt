@@ -21,17 +21,11 @@ pub fn report(
 ) -> io::Result<()> {
     for size in sizes {
         let (rows, width) = (size.rows(), size.width);
-        let runs = match mode {
-            Mode::Digests => 1,
-            Mode::Times => timing::runs_of(*size),
-        };
+        let runs = timing::runs(mode, timing::runs_of(*size));
         let columns = columns(rt.alloc(), *size, start, step)?;
         let (time, digest) = fastest(rt, &columns, size.log_rows, step, runs)?;
         print!(rt; "PeriodicLdeTable build {rows} x {width}: ")?;
-        if mode == Mode::Times {
-            print!(rt; "{} ns, ", time.as_nanos())?;
-        }
-        println!(rt; "[{digest}]")?;
+        timing::print_result(rt, mode, time, u64::from(digest))?;
     }
     Ok(())
 }

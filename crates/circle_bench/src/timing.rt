@@ -118,17 +118,27 @@ pub fn report_transform(
     for size in sizes {
         let (name, rows, width) = (transform.name(), size.rows(), size.width);
         print!(rt; "Mersenne31 {name} {rows} x {width}: ")?;
-        let runs = match mode {
-            Mode::Digests => 1,
-            Mode::Times => runs_of(*size),
-        };
+        let runs = runs(mode, runs_of(*size));
         let (time, digest) = fastest_transform(rt, transform, *size, start, step, runs)?;
-        if mode == Mode::Times {
-            print!(rt; "{} ns, ", time.as_nanos())?;
-        }
-        println!(rt; "[{digest}]")?;
+        print_result(rt, mode, time, u64::from(digest))?;
     }
     Ok(())
+}
+
+/// Prints the end of a line: the time, where times are printed, and the digest.
+pub fn print_result(rt: &HostRuntime, mode: Mode, time: Duration, digest: u64) -> io::Result<()> {
+    if mode == Mode::Times {
+        print!(rt; "{} ns, ", time.as_nanos())?;
+    }
+    println!(rt; "[{digest}]")
+}
+
+/// How many times a pass is run.
+pub fn runs(mode: Mode, timed: usize) -> usize {
+    match mode {
+        Mode::Digests => 1,
+        Mode::Times => timed,
+    }
 }
 
 /// How many times a pass over matrices of this size is run when it is timed.

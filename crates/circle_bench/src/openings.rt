@@ -1,0 +1,244 @@
+//! Lines about the whole scheme: what the proofs of matrices come to, whether they are accepted, and
+//! how long both take.
+use crate::commitments::{Hash, number, numbers};
+use crate::evaluations::coefficients;
+use crate::proofs::{Claim, Proof};
+use crate::timing::{self, Mode};
+use crate::transforms::Size;
+use circle_challenger::{CanObserve, Sha256Challenger};
+use circle_commit::{
+    CommitmentOpening, FriParameters, MatrixOpening, Mmcs, OpenedValues, OpeningRequest,
+    PointOpening, RowMajorMatrix, heights_are_powers_of_two,
+};
+use circle_field::{Cubic, ExtensionField, Field, Mersenne31};
+use circle_merkle::{ShaMmcs, ShaProverData};
+use p3_circle::{CircleDomain, CirclePcs, ProverError, heights_match_domains};
+use std::alloc::{AllocError, Global};
+use std::io::{self, ErrorKind};
+use std::time::{Duration, Instant};
+
+/// How many times a matrix is proved, and how many times a proof is verified, when that is timed.
+const PROOFS: usize = 5;
+
+const VERIFICATIONS: usize = 50;
+
+type Scheme = CirclePcs<Mersenne31, ShaMmcs<Mersenne31>, ShaMmcs<Cubic>>;
+
+/// A matrix, and the points that it is opened at.
+#[derive(Drop)]
+struct Statement<'a> {
+    size: Size,
+    matrix: &'a RowMajorMatrix<Mersenne31>,
+    points: &'a [Cubic],
+}
+
+/// What is published of a statement.
+#[derive(Drop)]
+struct Opened {
+    commitment: Hash,
+    values: OpenedValues<Cubic>,
+    proof: Proof,
+}
+
+/// Prints the lines of a matrix of each size, opened at one point and at two.
+pub fn report(
+    rt: &HostRuntime,
+    mode: Mode,
+    sizes: &[Size],
+    start: Mersenne31,
+    step: Mersenne31,
+) -> io::Result<()> {
+    let points = points(start, step);
+    for size in sizes {
+        let matrix = &size.matrix(rt.alloc(), start, step)?;
+        report_at(rt, mode, *size, matrix, &points[..1])?;
+        report_at(rt, mode, *size, matrix, &points)?;
+    }
+    Ok(())
+}
+
+/// Two points off the base field, and so off each domain.
+fn points(start: Mersenne31, step: Mersenne31) -> [Cubic; 2] {
+    let square = start.square();
+    [
+        Cubic::from_coefficients(&[start, step, square]),
+        Cubic::from_coefficients(&[step, square, step.square()]),
+    ]
+}
+
+/// Prints a line for proving the values of a matrix at the points, and one for verifying them.
+fn report_at(
+    rt: &HostRuntime,
+    mode: Mode,
+    size: Size,
+    matrix: &RowMajorMatrix<Mersenne31>,
+    points: &[Cubic],
+) -> io::Result<()> {
+    let (rows, width, count) = (size.rows(), size.width, points.len());
+    let statement = Statement {
+        size,
+        matrix,
+        points,
+    };
+    let (time, opened) = prove(rt, mode, &statement)?;
+    print!(rt; "CirclePcs prove {rows} x {width} at {count}: ")?;
+    timing::print_result(rt, mode, time, digest(rt.alloc(), &opened)?)?;
+    let (time, accepted) = verify(rt, mode, &statement, &opened)?;
+    print!(rt; "CirclePcs verify {rows} x {width} at {count}: ")?;
+    timing::print_result(rt, mode, time, u64::from(accepted))
+}
+
+/// The scheme: twice as many rows are committed to as there are, and 40 of them are queried.
+fn scheme() -> Scheme {
+    let params = FriParameters {
+        log_blowup: 1,
+        log_final_poly_len: 0,
+        max_log_arity: 1,
+        num_queries: 40,
+        batch_proof_of_work_bits: 0,
+        commit_proof_of_work_bits: 0,
+        query_proof_of_work_bits: 0,
+        mmcs: ShaMmcs::new(),
+    };
+    CirclePcs::new(ShaMmcs::new(), params)
+}
+
+/// The challenger that prover and verifier begin with.
+fn after_commitment(commitment: &Hash) -> Sha256Challenger {
+    let mut challenger = Sha256Challenger::new();
+    challenger.observe(commitment);
+    challenger
+}
+
+/// The shortest time of a proof, and the last one.
+fn prove(rt: &HostRuntime, mode: Mode, statement: &Statement) -> io::Result<(Duration, Opened)> {
+    let (mut best, mut opened) = prove_once(rt, statement)?;
+    for _ in 1..timing::runs(mode, PROOFS) {
+        let (time, next) = prove_once(rt, statement)?;
+        best = best.min(time);
+        opened = next;
+    }
+    Ok((best, opened))
+}
+
+/// The time of one commitment to a copy of the matrix and its opening, and what they come to.
+fn prove_once(rt: &HostRuntime, statement: &Statement) -> io::Result<(Duration, Opened)> {
+    let pcs = scheme();
+    let copy = statement.matrix.try_clone(rt.alloc())?;
+    let domain = CircleDomain::standard(statement.size.log_rows);
+    let evaluations = vec![in rt.alloc(); (domain, copy)]?;
+    if !heights_match_domains(&evaluations) {
+        return Err(io::Error::from(ErrorKind::InvalidInput));
+    }
+    let begin = Instant::now(rt)?;
+    let (commitment, data) = pcs.commit(rt.alloc(), evaluations).map_err(failure)?;
+    let (values, proof) = open(rt.alloc(), &pcs, &commitment, &data, statement.points)?;
+    let time = begin.elapsed(rt)?;
+    let opened = Opened {
+        commitment,
+        values,
+        proof,
+    };
+    Ok((time, opened))
+}
+
+/// The values at the points of what was committed to, and the proof of them.
+fn open(
+    alloc: Global,
+    pcs: &Scheme,
+    commitment: &Hash,
+    data: &ShaProverData<Mersenne31>,
+    points: &[Cubic],
+) -> io::Result<(OpenedValues<Cubic>, Proof)> {
+    if !heights_are_powers_of_two(pcs.mmcs.get_matrices(data)) {
+        return Err(io::Error::from(ErrorKind::InvalidInput));
+    }
+    let request = OpeningRequest {
+        prover_data: data,
+        points: vec![in alloc; Vec::from_slice(alloc, points)?]?,
+    };
+    let mut challenger = after_commitment(commitment);
+    pcs.open(alloc, vec![in alloc; request]?, &mut challenger)
+        .map_err(failure)
+}
+
+/// The failure where a prover's call is refused.
+fn failure(error: ProverError) -> io::Error {
+    match error {
+        ProverError::Memory => io::Error::from(AllocError),
+        _ => io::Error::from(ErrorKind::InvalidInput),
+    }
+}
+
+/// The shortest time of a verification, and whether the verifier accepted each time.
+fn verify(
+    rt: &HostRuntime,
+    mode: Mode,
+    statement: &Statement,
+    opened: &Opened,
+) -> io::Result<(Duration, bool)> {
+    let pcs = scheme();
+    let mut best = Duration::MAX;
+    let mut accepted = true;
+    for _ in 0..timing::runs(mode, VERIFICATIONS) {
+        let claims = claims(rt.alloc(), statement, opened)?;
+        let begin = Instant::now(rt)?;
+        let mut challenger = after_commitment(&opened.commitment);
+        let verdict = pcs.verify(rt.alloc(), claims, &opened.proof, &mut challenger);
+        best = best.min(begin.elapsed(rt)?);
+        accepted = accepted && verdict.is_ok();
+    }
+    Ok((best, accepted))
+}
+
+/// The claims that the columns have the opened values at the points.
+fn claims(
+    alloc: Global,
+    statement: &Statement,
+    opened: &Opened,
+) -> io::Result<Vec<Claim<CircleDomain<Mersenne31>>>> {
+    let Some(values) = opened.values.first().and_then(|batch| batch.first()) else {
+        return Err(io::Error::from(ErrorKind::InvalidInput));
+    };
+    let mut points = Vec::with_capacity(alloc, values.len())?;
+    for (point, values) in statement.points.iter().zip(values) {
+        points.push(PointOpening {
+            point: *point,
+            values: Vec::from_slice(alloc, values)?,
+        })?;
+    }
+    let matrix = MatrixOpening {
+        domain: CircleDomain::standard(statement.size.log_rows),
+        points,
+    };
+    let batch = CommitmentOpening {
+        commitment: opened.commitment,
+        matrices: vec![in alloc; matrix]?,
+    };
+    Ok(vec![in alloc; batch]?)
+}
+
+/// The sum of the numbers of all commitments and of the digests beside the first layer's rows, and
+/// of the residues of the lambdas and of the final polynomial's coefficients.
+fn digest(alloc: Global, opened: &Opened) -> Result<u64, AllocError> {
+    let proof = &opened.proof;
+    let fri = &proof.fri_proof;
+    Ok(
+        number(&opened.commitment)
+            .wrapping_add(number(&proof.first_layer_commitment))
+            .wrapping_add(numbers(&fri.commit_phase_commits))
+            .wrapping_add(numbers(&fri.input_openings.first_layer_proof))
+            .wrapping_add(residues(alloc, &proof.lambdas)?)
+            .wrapping_add(residues(alloc, &fri.final_poly)?),
+    )
+}
+
+/// The sum of the residues of the elements' coefficients.
+fn residues(alloc: Global, elements: &[Cubic]) -> Result<u64, AllocError> {
+    let coefficients = coefficients(alloc, elements)?;
+    Ok(
+        coefficients
+            .iter()
+            .fold(0u64, |sum, x| sum.wrapping_add(u64::from(x.value()))),
+    )
+}
