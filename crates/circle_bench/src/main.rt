@@ -1,6 +1,6 @@
 //! Chains of field operations, circle transforms, values at a point, tables of periodic columns,
-//! commitments, the challenger over SHA-256, the whole scheme and a stored proof: what they come to,
-//! or with the argument `time` how long they take.
+//! commitments, the challenger over SHA-256, the whole scheme and a stored proof: what they come
+//! to, or with the argument `time` how long they take.
 #![tactic(auto)]
 
 mod chains;

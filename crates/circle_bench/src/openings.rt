@@ -1,5 +1,5 @@
-//! Lines about the whole scheme: what the proofs of matrices come to, whether they are accepted, and
-//! how long both take.
+//! Lines about the whole scheme: what the proofs of matrices come to, whether they are accepted,
+//! and how long both take.
 use crate::commitments::{Hash, number, numbers};
 use crate::evaluations::coefficients;
 use crate::proofs::{Claim, Proof};

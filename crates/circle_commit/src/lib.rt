@@ -12,9 +12,9 @@
 //!   what a domain is asked and gives; `Pcs` and `FriFoldingStrategy` leave that to their
 //!   instances.
 //! - A `PeriodicLdeTable` answers the entry of its row i modulo its height (`get`).
-//! - `JsonForm` of `circle_json`, shown here too, reads a batch's opening, claims and the parameters
-//!   of FRI from JSON and writes them: `specs/Json` has the keys of each object, and that the final
-//!   polynomial's length may be missing.
+//! - `JsonForm` of `circle_json`, shown here too, reads a batch's opening, claims and the
+//!   parameters of FRI from JSON and writes them: `specs/Json` has the keys of each object, and that
+//!   the final polynomial's length may be missing.
 #![tactic(auto)]
 
 pub mod error;

@@ -1,3 +1,4 @@
+pub mod AllLayers
 pub mod Checked
 pub mod DoubledPoints
 pub mod DoubledValues
@@ -8,5 +9,5 @@ pub mod PeriodicTables
 pub mod PeriodicValues
 pub mod Periods
 pub mod Refused
-pub mod Steps
+pub mod Transformed
 pub mod Weighed

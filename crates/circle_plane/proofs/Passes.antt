@@ -15,7 +15,7 @@ use Rattle.circle_domain.proofs.Columns.{stored_column, stored_column-layer, sto
 use Rattle.circle_domain.proofs.LayerFactors.{layer_factors-nonzero}
 use Rattle.circle_domain.proofs.Layering.{block_starts-halves, length-block_starts, finish_all, finish_all-layer, finish_all-none, finish_all-one, finish_all-copies, finish_all-scaled}
 use Rattle.circle_domain.proofs.Transform.{finish, finish-value}
-use Rattle.circle_domain.proofs.Inversion.{finish-scaled, finish-injective}
+use Rattle.circle_domain.proofs.Inversion.{finish-scaled}
 use Rattle.circle_domain.proofs.Twiddles.{length-layer_factors}
 use Rattle.circle_domain.proofs.Undoing.{forward, backward, layer-undone}
 

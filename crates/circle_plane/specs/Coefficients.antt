@@ -31,6 +31,20 @@ module _ {F : Type 0} {g : _} (k : FieldOps F) (gen : ℕ → Coordinates F) whe
   BeginsWithSmaller d width coeffs made = (m : ℕ) → 1 ≤ m → m ≤ log_size d →
       take (2 ^ m) made ≡ map (values_at k coeffs width) (cfft_order k gen m (shift_of d))
 
+  -- coefficients with given values on a domain, in both orders, and the only ones
+  pub record Interpolates (d : CircleDomain F g) (width : ℕ) (given coeffs : List (List F))
+      : Type 0 where
+    pub told : AreCoefficients d width coeffs given
+    pub natural : natural_values_on d width coeffs ≡ other_order (log_size d) given
+    pub only : (others : List (List F)) → AreCoefficients d width others given → coeffs ≡ others
+
+  -- the polynomials' values on a domain in both orders, and on smaller ones with its shift
+  pub record Evaluates (d : CircleDomain F g) (width : ℕ) (coeffs made : List (List F))
+      : Type 0 where
+    pub cfft : made ≡ cfft_values_on d width coeffs
+    pub natural : other_order (log_size d) made ≡ natural_values_on d width coeffs
+    pub prefix : BeginsWithSmaller d width coeffs made
+
   -- the values on a larger domain of the polynomials with given values on a domain, both in the
   -- transform's order
   pub record Extrapolates (d target : CircleDomain F g) (width : ℕ) (given made : List (List F))

@@ -1,5 +1,6 @@
 //! Polynomials on the circle: the transform between their coefficients and values on a domain.
-ghost use Rattle.std.specs.Prelude.{◌≡◌, ℕ, ◌≤◌, ◌^◌, ◌++◌, List, length, map, All, IfOk, OnOk};
+ghost use Rattle.std.specs.Prelude.{◌≡◌, ℕ, ◌≤◌, ◌-◌, ◌*◌, ◌^◌, ◌++◌};
+ghost use Rattle.std.specs.Prelude.{List, length, map, All, IfOk, OnOk};
 ghost use Rattle.std.specs.List.{AllZip};
 ghost use Rattle.circle_commit.specs.DotProduct.{pairwise};
 ghost use Rattle.circle_commit.specs.Matrix.{IsPowerOfTwo};
@@ -12,16 +13,16 @@ ghost use Rattle.circle_domain.specs.Layers.{copies};
 ghost use Rattle.circle_domain.specs.Order.{IsGenuine};
 ghost use Rattle.circle_domain.specs.Ordering.{other_order};
 ghost use Rattle.circle_domain.specs.Values.{lifted_values_at};
+ghost use Rattle.circle_transform.specs.Butterflies.{count_of};
 
-use crate::layers::{Backward, Forward, apply_layer};
 use circle_commit::{FieldMatrix, Matrix, MatrixShape, RowMajorMatrix, log2_strict};
-use circle_domain::{
-    CfftPermutable, CfftView, CircleDomain, LagrangeWeights, lagrange_weights, layer_twiddles,
-};
-use circle_field::{
-    ComplexExtendable, ExtensionField, Field, Operations, batch_multiplicative_inverse,
-};
+use circle_domain::{CfftPermutable, CfftView, CircleDomain, LagrangeWeights, lagrange_weights};
+use circle_field::{ComplexExtendable, ExtensionField, Field, Operations};
 use circle_point::Point;
+use circle_transform::{
+    Butterflies, backward_groups, backward_passes, backward_twiddles, forward_groups,
+    forward_passes, forward_twiddles,
+};
 use std::alloc::{AllocError, Global};
 
 /// The values of functions at the points of a domain, a column for each function: the rows stand in
@@ -92,7 +93,7 @@ impl<F: Operations, M: Matrix<F>> CircleEvaluations<F, M> {
 impl<F: ComplexExtendable, M: Matrix<F> + Drop> CircleEvaluations<F, M> {
     ghost use Rattle.circle_plane.specs.CircleEvaluations.{domain_of, cfft_values, natural_rows};
     ghost use Rattle.circle_plane.specs.Coefficients.{AreCoefficients, natural_values_on};
-    ghost use Rattle.circle_plane.specs.Coefficients.{Extrapolates};
+    ghost use Rattle.circle_plane.specs.Coefficients.{Extrapolates, Interpolates};
 
     /// The coefficients in the circle basis of the only polynomials with these values, a column
     /// for each: as many as the domain has points (Circle STARKs, section 4.2). Their values at the
@@ -114,17 +115,49 @@ impl<F: ComplexExtendable, M: Matrix<F> + Drop> CircleEvaluations<F, M> {
     {
         let CircleEvaluations { domain, values } = self;
         let matrix = RowMajorMatrix::copy_of(alloc, &values)?;
-        let twiddles = layer_twiddles(alloc, domain)?;
+        let inverses = backward_twiddles(alloc, domain)?;
         let width = matrix.width();
         let mut entries = matrix.into_values();
-        let mut half = width;
-        for factors in &twiddles {
-            let inverses = batch_multiplicative_inverse(alloc, factors)?;
-            apply_layer::<F, Backward>(&mut entries, half, &inverses);
-            half *= 2;
-        }
-        scale(&mut entries, F::ONE.div_2exp_u64(domain.log_n() as u64));
+        let scale = F::ONE.div_2exp_u64(domain.log_n() as u64);
+        backward_passes(&mut entries, width, &inverses, scale);
         Ok(RowMajorMatrix::new(entries, width))
+    }
+
+    /// What [`interpolate`](Self::interpolate) answers, and the number of butterflies of a column:
+    /// up to `group` consecutive layers are applied to one independent group of rows before the
+    /// next group is begun. A `group` above the number of layers counts as that number.
+    ///
+    /// Asks what `interpolate` asks, and at least one layer a group. Fails where memory is refused.
+    pub fn interpolate_grouped(
+        self,
+        alloc: Global,
+        group: usize,
+    ) -> Result<(RowMajorMatrix<F>, Butterflies), AllocError>
+        requires genuine { IsGenuine F.ops (log_size (domain_of self)) (shift_of (domain_of self)) }
+        requires in_group { log_size (domain_of self) ≤ F.CIRCLE_TWO_ADICITY }
+        requires some_layers { 1 ≤ group }
+        ensures width { IfOk result (λ made. width_of made.0 ≡ M.width (cfft_values self)) }
+        ensures values { let given = cfft_values self in IfOk result (λ made. Interpolates F.ops
+            F.generators (domain_of self) (M.width given) (M.rows given) (rows made.0)) }
+        ensures count { let n = log_size (domain_of self) in
+            IfOk result (λ made. count_of made.1 ≡ n * 2 ^ (n - 1)) }
+    {
+        let CircleEvaluations { domain, values } = self;
+        let matrix = RowMajorMatrix::copy_of(alloc, &values)?;
+        let inverses = backward_twiddles(alloc, domain)?;
+        let width = matrix.width();
+        let mut entries = matrix.into_values();
+        let scale = F::ONE.div_2exp_u64(domain.log_n() as u64);
+        let mut butterflies = Butterflies::new();
+        backward_groups(
+            &mut entries,
+            width,
+            &inverses,
+            scale,
+            group,
+            &mut butterflies,
+        );
+        Ok((RowMajorMatrix::new(entries, width), butterflies))
     }
 
     /// The values on `target` of the only polynomials with these values (Circle STARKs, section
@@ -241,7 +274,7 @@ impl<F: ComplexExtendable, M: Matrix<F>> CircleEvaluations<F, M> {
 impl<F: ComplexExtendable> CircleEvaluations<F, RowMajorMatrix<F>> {
     ghost use Rattle.circle_plane.specs.CircleEvaluations.{domain_of, cfft_values};
     ghost use Rattle.circle_plane.specs.Coefficients.{cfft_values_on, natural_values_on};
-    ghost use Rattle.circle_plane.specs.Coefficients.{BeginsWithSmaller};
+    ghost use Rattle.circle_plane.specs.Coefficients.{BeginsWithSmaller, Evaluates};
 
     /// The values on `domain` of the polynomials whose coefficients in the circle basis are the
     /// columns of `coeffs` (Circle STARKs, section 4.2).
@@ -271,20 +304,52 @@ impl<F: ComplexExtendable> CircleEvaluations<F, RowMajorMatrix<F>> {
     {
         let width = coeffs.width();
         let log_height = log2_strict(coeffs.height());
-        let twiddles = layer_twiddles(alloc, domain)?;
-        let mut half = coeffs.values().len();
+        let twiddles = forward_twiddles(alloc, domain)?;
         // The further coefficients are zeros, and a layer whose upper halves are zeros is a copy:
         // `a + 0 t` and `a - 0 t` are `a`. So the layers above the height copy the coefficients.
-        let mut entries = repeat(
-            alloc,
-            coeffs.into_values(),
-            1 << (domain.log_n() - log_height),
-        )?;
-        for layer in (0..log_height).rev() {
-            half /= 2;
-            apply_layer::<F, Forward>(&mut entries, half, &twiddles[layer]);
-        }
+        let copies = 1 << (domain.log_n() - log_height);
+        let mut entries = repeat(alloc, coeffs.into_values(), copies)?;
+        forward_passes(&mut entries, width, &twiddles[..log_height]);
         Ok(CircleEvaluations::from_cfft_order(domain, RowMajorMatrix::new(entries, width)))
+    }
+
+    /// What [`evaluate`](Self::evaluate) answers, and the number of butterflies of a column: up to
+    /// `group` consecutive layers are applied to one independent group of rows before the next
+    /// group is begun. A `group` above the number of layers counts as that number. Layers that
+    /// copy coefficients cost none.
+    ///
+    /// Asks what `evaluate` asks, and at least one layer a group. Fails where memory is refused.
+    pub fn evaluate_grouped(
+        alloc: Global,
+        domain: CircleDomain<F>,
+        coeffs: RowMajorMatrix<F>,
+        group: usize,
+    ) -> Result<(Self, Butterflies), AllocError>
+        requires positive { 1 ≤ log_size domain }
+        requires in_group { log_size domain ≤ F.CIRCLE_TWO_ADICITY }
+        requires power { IsPowerOfTwo (height_of coeffs) }
+        requires at_most_size { height_of coeffs ≤ 2 ^ log_size domain }
+        requires some_layers { 1 ≤ group }
+        ensures domain { IfOk result (λ made. domain_of made.0 ≡ domain) }
+        ensures width { IfOk result (λ made. width_of (cfft_values made.0) ≡ width_of coeffs) }
+        ensures values { IfOk result (λ made. Evaluates F.ops F.generators domain (width_of coeffs)
+            (rows coeffs) (rows (cfft_values made.0))) }
+        ensures count { (n : ℕ) → height_of coeffs ≡ 2 ^ n →
+            IfOk result (λ made. count_of made.1 ≡ n * 2 ^ (log_size domain - 1)) }
+    {
+        let width = coeffs.width();
+        let log_height = log2_strict(coeffs.height());
+        let twiddles = forward_twiddles(alloc, domain)?;
+        let copies = 1 << (domain.log_n() - log_height);
+        let mut entries = repeat(alloc, coeffs.into_values(), copies)?;
+        let mut butterflies = Butterflies::new();
+        let layers = &twiddles[..log_height];
+        forward_groups(&mut entries, width, layers, group, &mut butterflies);
+        let values = RowMajorMatrix::new(entries, width);
+        Ok((
+            CircleEvaluations::from_cfft_order(domain, values),
+            butterflies,
+        ))
     }
 
     /// Equal evaluations. Fails where memory is refused.

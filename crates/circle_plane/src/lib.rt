@@ -25,7 +25,6 @@
 #![tactic(auto)]
 
 pub mod cfft;
-mod layers;
 pub mod periodic;
 
 pub use cfft::{CircleEvaluations, circle_basis};
@@ -34,4 +33,5 @@ pub use circle_domain::{
     cfft_permute_index, x_twiddles, y_twiddles,
 };
 pub use circle_point::{Neutral, Point};
+pub use circle_transform::Butterflies;
 pub use periodic::{CirclePeriodicEvaluator, PeriodicError, build_periodic_lde_table_circle};

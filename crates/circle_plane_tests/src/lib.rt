@@ -9,6 +9,8 @@ mod extensions;
 #[cfg(test)]
 mod fields;
 #[cfg(test)]
+mod groups;
+#[cfg(test)]
 mod off_domain;
 #[cfg(test)]
 mod periodic;

@@ -107,7 +107,11 @@ pub(crate) fn extrapolate(
 }
 
 // Asserts that the rows of both are the same.
-fn assert_same<L: Matrix<Mersenne31>, R: Matrix<Mersenne31>>(rt: &impl Abort, left: &L, right: &R) {
+pub(crate) fn assert_same<L: Matrix<Mersenne31>, R: Matrix<Mersenne31>>(
+    rt: &impl Abort,
+    left: &L,
+    right: &R,
+) {
     assert!(rt; left.height() == right.height() && left.width() == right.width());
     for r in 0..left.height() {
         assert!(rt; left.row(r) == right.row(r));

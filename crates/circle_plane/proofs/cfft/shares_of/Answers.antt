@@ -1,4 +1,4 @@
-use Rattle.std.proofs.Common.{◌≡◌, ◌++◌, [], ◌∷◌, ◌∙◌, List, sym, ap, arith, map, take}
+use Rattle.std.proofs.Common.{◌++◌, [], ◌∷◌, ◌∙◌, List, sym, ap, arith, map, take}
 use Rattle.std.specs.Borrow.{Bor}
 use Rattle.std.proofs.lemmas.List.{map-append, map_more, take_all}
 use Rattle.circle_domain.specs.declared.lagrange.LagrangeWeights.{LagrangeWeights}

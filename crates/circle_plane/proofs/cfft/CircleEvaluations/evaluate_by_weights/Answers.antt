@@ -2,7 +2,6 @@ use Rattle.std.proofs.Common.{◌≡◌, ◌∙◌, sym, ap, arith, length, map}
 use Rattle.std.specs.List.{range_with_len}
 use Rattle.circle_field.proofs.Inverses.{take-whole}
 use Rattle.circle_commit.specs.Matrix.{column}
-use Rattle.circle_point.specs.Point.{coordinates}
 use Rattle.circle_domain.specs.Domain.{log_size, shift_of}
 use Rattle.circle_commit.specs.DotProduct.{dot}
 use Rattle.circle_domain.proofs.Coefficients.{rows-told}

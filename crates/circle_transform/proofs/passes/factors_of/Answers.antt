@@ -1,0 +1,30 @@
+use Rattle.std.proofs.Common.{◌≡◌, ◌+◌, ◌*◌, ◌/◌, ◌^◌, sym, ◌∙◌, ap, arith, length}
+use Rattle.circle_transform.specs.Passes.{factors_at}
+use Rattle.circle_transform.specs.Parts.{part_of}
+use Rattle.circle_transform.proofs.BlockSizes.{blocks-fit, factors-read}
+use Rattle.circle_transform.proofs.passes.factors_of.Goals as goal
+
+pub nth_part-requires : goal.nth_part-requires
+nth_part-requires g c =
+    let l = c.args.layer in
+    let width = c.args.width in
+    let count = c.args.count in
+    let part = c.args.part in
+    let twiddles = c.args.twiddles.now in
+    let block = 2 ^ l * width + 2 ^ l * width in
+    let size : 2 * c.half_of.result ≡ block = omega (arith, c.half_of.ensures) in
+    let listed : c.deref.result.now ≡ factors_at twiddles l = c.deref.ensures.value ∙ sym (factors-read twiddles l c.index-twiddles-layer.result c.requires.within c.index-twiddles-layer.is) in
+    let same : part * (count / (2 * c.half_of.result)) + count / (2 * c.half_of.result) ≡ part * (count / block) + count / block = ap (λ n. part * (count / n) + count / n) size in
+    omega (arith, same, ap length listed, blocks-fit width count part twiddles c.requires.wide c.requires.some c.requires.layers l c.requires.within)
+
+pub returns : goal.returns
+returns g c =
+    let l = c.args.layer in
+    let width = c.args.width in
+    let count = c.args.count in
+    let part = c.args.part in
+    let twiddles = c.args.twiddles.now in
+    let block = 2 ^ l * width + 2 ^ l * width in
+    let size : 2 * c.half_of.result ≡ block = omega (arith, c.half_of.ensures) in
+    let listed : c.deref.result.now ≡ factors_at twiddles l = c.deref.ensures.value ∙ sym (factors-read twiddles l c.index-twiddles-layer.result c.requires.within c.index-twiddles-layer.is) in
+    c.nth_part.ensures ∙ ap (λ n. part_of part (count / n) c.deref.result.now) size ∙ ap (part_of part (count / block)) listed

@@ -1,0 +1,5 @@
+pub mod Butterflies
+pub mod Groups
+pub mod Parts
+pub mod Passes
+pub mod Twiddles
