@@ -75,6 +75,19 @@ impl Mersenne31 {
         Self::from_sum(fold_bits(product) as u32)
     }
 
+    /// The element of half an even number, which is below `2^31` times the order.
+    ///
+    /// The low 31 bits of the half and its other bits are the two words of the even number, but for
+    /// one shift of the lower word. So the compiler multiplies four pairs at a time in few steps.
+    fn from_double(double: u64) -> Self
+        requires even { double % 2 ≡ 0 }
+        requires below { double < order * 2 ^ 32 }
+        ensures { result ≡ element (double / 2) }
+    {
+        let low = (double & u32::MAX as u64) as u32;
+        Self::from_sum((double >> 32) as u32 + (low >> 1))
+    }
+
     /// A point of order `2^31` of the unit circle.
     fn circle_generator() -> (Self, Self)
         ensures { at result.0 result.1 ≡ generators 31 }
@@ -142,13 +155,7 @@ impl Sub for Mersenne31 {
     ghost sub_gives = { λ a b r. r ≡ sub operations a b };
 
     fn sub(self, rhs: Self) -> Self {
-        Mersenne31 {
-            value: if self.value < rhs.value {
-                self.value + (Self::ORDER - rhs.value)
-            } else {
-                self.value - rhs.value
-            },
-        }
+        Self::from_sum(self.value + (Self::ORDER - rhs.value))
     }
 }
 
@@ -160,7 +167,7 @@ impl Mul for Mersenne31 {
     ghost mul_gives = { λ a b r. r ≡ operations.mul a b };
 
     fn mul(self, rhs: Self) -> Self {
-        Self::from_product(self.value as u64 * rhs.value as u64)
+        Self::from_double(self.value as u64 * (rhs.value + rhs.value) as u64)
     }
 }
 
