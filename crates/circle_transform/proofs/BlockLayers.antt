@@ -1,8 +1,7 @@
 -- All layers, one after another, over all entries or over one part after another.
-use Rattle.std.specs.Prelude.{◌≡◌, ℕ, ◌+◌, ◌*◌, ◌^◌, ◌<◌, ◌≤◌, List, [], ◌∷◌, ◌++◌, length, take, drop}
+use Rattle.std.specs.Prelude.{◌≡◌, ℕ, ◌+◌, ◌*◌, ◌^◌, ◌<◌, List, ◌++◌, length}
 use Rattle.std.proofs.Common.{zero, suc, sym, ◌∙◌, ap, refl, arith}
 use Rattle.std.proofs.lemmas.Nat.{pow-add}
-use Rattle.std.proofs.lemmas.List.{drop-drop, take-append-drop, length-take-le}
 use Rattle.circle_domain.specs.Layers.{layer}
 use Rattle.circle_transform.specs.Passes.{descending, ascending}
 use Rattle.circle_transform.proofs.PairLayers.{length-layer, layer-append}

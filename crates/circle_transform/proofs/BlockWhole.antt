@@ -1,8 +1,8 @@
 -- The layers of all entries: the upper ones over the whole, the lower ones over one part after another.
-use Rattle.std.specs.Prelude.{◌≡◌, ℕ, ◌+◌, ◌-◌, ◌*◌, ◌/◌, ◌^◌, ◌<◌, ◌≤◌, List, [], ◌∷◌, ◌++◌, length, map, take, drop, slice_index_or, Vec}
+use Rattle.std.specs.Prelude.{◌≡◌, ℕ, ◌+◌, ◌-◌, ◌*◌, ◌/◌, ◌^◌, ◌<◌, ◌≤◌, List, [], ◌++◌, length, map, take, drop, slice_index_or, Vec}
 use Rattle.std.specs.declared.alloc.Global.{Global}
 use Rattle.std.proofs.Common.{zero, suc, sym, ◌∙◌, ap, refl, arith, subst, length-drop, ◌⊎◌, inl, inr}
-use Rattle.std.proofs.Math.Nat.{pow-suc, mul-div_cancel, mul-le-mul_right}
+use Rattle.std.proofs.Math.Nat.{mul-div_cancel, mul-le-mul_right}
 use Rattle.std.proofs.lemmas.Nat.{pow-add}
 use Rattle.std.proofs.lemmas.List.{drop-drop, drop_all, take_all, take-append-drop, length-take-le, take-map, get_or-take, get_or-drop}
 use Rattle.circle_domain.specs.Layers.{layer}

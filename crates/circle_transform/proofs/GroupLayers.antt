@@ -1,11 +1,10 @@
 -- Layers that are applied in some order: their lengths, their columns, and what they do to one block and those behind it.
 use Rattle.std.specs.Prelude.{◌≡◌, ℕ, ◌+◌, ◌-◌, ◌*◌, ◌^◌, ◌<◌, ◌≤◌, List, [], ◌∷◌, ◌++◌, length, take, drop}
-use Rattle.std.proofs.Common.{zero, suc, sym, ◌∙◌, ap, refl, arith, append_assoc, length-append, length-drop}
+use Rattle.std.proofs.Common.{zero, suc, sym, ◌∙◌, ap, refl, arith, length-drop}
 use Rattle.std.proofs.Math.Nat.{mul_assoc, pow-suc}
 use Rattle.std.proofs.lemmas.Nat.{pow-add}
-use Rattle.std.proofs.lemmas.List.{take-append-le, drop-append-le, length-take-le, take_all, drop_all}
+use Rattle.std.proofs.lemmas.List.{length-take-le, take_all, drop_all}
 use Rattle.circle_commit.specs.DotProduct.{pairwise}
-use Rattle.circle_commit.proofs.Written.{length-pairwise}
 use Rattle.circle_domain.specs.Layers.{layer}
 use Rattle.circle_domain.proofs.Columns.{stored_column-layer}
 use Rattle.circle_transform.proofs.PairLayers.{length-layer, layer-append}

@@ -1,5 +1,5 @@
 -- A layer of some blocks and then others, and two layers of one block.
-use Rattle.std.specs.Prelude.{◌≡◌, ℕ, ◌+◌, ◌*◌, ◌≤◌, List, [], ◌∷◌, ◌++◌, length, map, take, drop}
+use Rattle.std.specs.Prelude.{◌≡◌, ℕ, ◌+◌, ◌*◌, List, [], ◌∷◌, ◌++◌, length, map, take, drop}
 use Rattle.std.proofs.Common.{sym, ◌∙◌, ap, refl, arith, append_assoc, append-nil, length-append, length-drop}
 use Rattle.std.proofs.lemmas.List.{take_at, drop_at, take_all, take-append-le, drop-append-le, length-take-le, map-append}
 use Rattle.circle_commit.specs.DotProduct.{pairwise}

@@ -23,9 +23,32 @@ pub(crate) fn apply_layer<F: Field, B: Butterfly<F>>(values: &mut [F], half: usi
     }
 }
 
-// The layer at one block, which isn't inlined: see `descend_block`.
-#[inline(never)]
+// The layer at one block. A block of two entries takes less time than a call, so it is inlined.
 fn apply_block<F: Field, B: Butterfly<F>>(block: &mut [F], half: usize, factor: F)
+    requires { length block.old ≡ half + half }
+    ensures { block.new ≡ pairwise (B.lower factor) (take half block.old) (drop half block.old)
+        ++ pairwise (B.upper factor) (take half block.old) (drop half block.old) }
+{
+    if half == 1 {
+        apply_halves::<F, B>(block, half, factor);
+    } else {
+        apply_large_block::<F, B>(block, half, factor);
+    }
+}
+
+// The layer at a block that isn't inlined: see `descend_large_block`.
+#[inline(never)]
+fn apply_large_block<F: Field, B: Butterfly<F>>(block: &mut [F], half: usize, factor: F)
+    requires { length block.old ≡ half + half }
+    ensures { block.new ≡ pairwise (B.lower factor) (take half block.old) (drop half block.old)
+        ++ pairwise (B.upper factor) (take half block.old) (drop half block.old) }
+{
+    apply_halves::<F, B>(block, half, factor);
+}
+
+// The layer at the halves of a block.
+#[inline(always)]
+fn apply_halves<F: Field, B: Butterfly<F>>(block: &mut [F], half: usize, factor: F)
     requires { length block.old ≡ half + half }
     ensures { block.new ≡ pairwise (B.lower factor) (take half block.old) (drop half block.old)
         ++ pairwise (B.upper factor) (take half block.old) (drop half block.old) }
@@ -57,12 +80,46 @@ pub(crate) fn descend_pair<F: Field, B: Butterfly<F>>(
     }
 }
 
-// Two layers at one block, the upper first.
+// Two layers at one block, the upper first. A block of four entries takes less time than a call, so
+// it is inlined.
+fn descend_block<F: Field, B: Butterfly<F>>(
+    block: &mut [F],
+    quarter: usize,
+    upper: F,
+    lower: (F, F),
+)
+    requires { length block.old ≡ (quarter + quarter) + (quarter + quarter) }
+    ensures { block.new ≡ layer B.lower B.upper quarter (lower.0 ∷ lower.1 ∷ [])
+        (layer B.lower B.upper (quarter + quarter) (upper ∷ []) block.old) }
+{
+    if quarter == 1 {
+        descend_quarters::<F, B>(block, quarter, upper, lower);
+    } else {
+        descend_large_block::<F, B>(block, quarter, upper, lower);
+    }
+}
+
+// Two layers at a block that isn't inlined, the upper first.
 //
 // Inlined, the compiler would test once for all blocks together whether the quarters overlap, find
 // that they may, and do one place at a time.
 #[inline(never)]
-fn descend_block<F: Field, B: Butterfly<F>>(
+fn descend_large_block<F: Field, B: Butterfly<F>>(
+    block: &mut [F],
+    quarter: usize,
+    upper: F,
+    lower: (F, F),
+)
+    requires { length block.old ≡ (quarter + quarter) + (quarter + quarter) }
+    ensures { block.new ≡ layer B.lower B.upper quarter (lower.0 ∷ lower.1 ∷ [])
+        (layer B.lower B.upper (quarter + quarter) (upper ∷ []) block.old) }
+{
+    descend_quarters::<F, B>(block, quarter, upper, lower);
+}
+
+// Two layers at the quarters of a block, the upper first.
+#[inline(always)]
+fn descend_quarters<F: Field, B: Butterfly<F>>(
     block: &mut [F],
     quarter: usize,
     upper: F,
@@ -104,8 +161,43 @@ pub(crate) fn ascend_pair<F: Field, B: Butterfly<F>, S: Finish<F>>(
 }
 
 // Two layers at one block, the lower first: see `descend_block`.
-#[inline(never)]
 fn ascend_block<F: Field, B: Butterfly<F>, S: Finish<F>>(
+    block: &mut [F],
+    quarter: usize,
+    upper: F,
+    lower: (F, F),
+    finish: S,
+)
+    requires { length block.old ≡ (quarter + quarter) + (quarter + quarter) }
+    ensures { block.new ≡ map (S.finished finish) (layer B.lower B.upper (quarter + quarter)
+        (upper ∷ []) (layer B.lower B.upper quarter (lower.0 ∷ lower.1 ∷ []) block.old)) }
+{
+    if quarter == 1 {
+        ascend_quarters::<F, B, S>(block, quarter, upper, lower, finish);
+    } else {
+        ascend_large_block::<F, B, S>(block, quarter, upper, lower, finish);
+    }
+}
+
+// Two layers at a block that isn't inlined, the lower first: see `descend_large_block`.
+#[inline(never)]
+fn ascend_large_block<F: Field, B: Butterfly<F>, S: Finish<F>>(
+    block: &mut [F],
+    quarter: usize,
+    upper: F,
+    lower: (F, F),
+    finish: S,
+)
+    requires { length block.old ≡ (quarter + quarter) + (quarter + quarter) }
+    ensures { block.new ≡ map (S.finished finish) (layer B.lower B.upper (quarter + quarter)
+        (upper ∷ []) (layer B.lower B.upper quarter (lower.0 ∷ lower.1 ∷ []) block.old)) }
+{
+    ascend_quarters::<F, B, S>(block, quarter, upper, lower, finish);
+}
+
+// Two layers at the quarters of a block, the lower first.
+#[inline(always)]
+fn ascend_quarters<F: Field, B: Butterfly<F>, S: Finish<F>>(
     block: &mut [F],
     quarter: usize,
     upper: F,

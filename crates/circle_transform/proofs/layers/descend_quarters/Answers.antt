@@ -1,6 +1,6 @@
 use Rattle.std.proofs.Common.{◌≡◌, arith, length}
 use Rattle.circle_transform.proofs.PairLayers.{descend-block}
-use Rattle.circle_transform.proofs.layers.descend_block.Goals as goal
+use Rattle.circle_transform.proofs.layers.descend_quarters.Goals as goal
 
 pub returns : goal.returns
 returns g c =

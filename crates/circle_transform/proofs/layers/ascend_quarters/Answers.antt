@@ -1,6 +1,6 @@
 use Rattle.std.proofs.Common.{◌≡◌, arith, length}
 use Rattle.circle_transform.proofs.PairLayers.{ascend-block}
-use Rattle.circle_transform.proofs.layers.ascend_block.Goals as goal
+use Rattle.circle_transform.proofs.layers.ascend_quarters.Goals as goal
 
 pub returns : goal.returns
 returns g c =
