@@ -205,90 +205,24 @@ fn main(rt: HostRuntime) -> io::Result<ExitCode> {
     let start = Mersenne31::from_u64(123456789);
     let step = Mersenne31::from_u64(987654321);
     timing::report(&rt, mode, "Mersenne31", &MERSENNE31, start, step)?;
-    report_transforms(&rt, mode, start, step)?;
-    report_evaluations(&rt, mode, start, step)?;
-    report_tables(&rt, mode, start, step)?;
-    report_commitments(&rt, mode, start, step)?;
-    report_openings(&rt, mode, start, step)?;
+    let sizes = mode.sizes(SMALL.as_slice(), LARGE.as_slice());
+    for transform in TRANSFORMS {
+        timing::report_transform(&rt, mode, transform, sizes, start, step)?;
+    }
+    let sizes = mode.sizes(SMALL.as_slice(), EVALUATED.as_slice());
+    evaluations::report(&rt, mode, sizes, start, step)?;
+    let sizes = mode.sizes(SMALL.as_slice(), PERIODIC.as_slice());
+    tables::report(&rt, mode, sizes, start, step)?;
+    let sizes = mode.sizes(SMALL.as_slice(), COMMITTED.as_slice());
+    commitments::report(&rt, mode, sizes, start, step)?;
+    let sizes = mode.sizes(PROVED.as_slice(), PROVED_LARGE.as_slice());
+    openings::report(&rt, mode, sizes, start, step)?;
     let start = Cubic::from_coefficients(&[start, step, start.square()]);
     let step = Cubic::from_coefficients(&[step, start.coefficient(2), step.square()]);
     timing::report(&rt, mode, "Cubic", &CUBIC, start, step)?;
     hashing::report(&rt, mode)?;
     proofs::report(&rt, mode)?;
     Ok(ExitCode::SUCCESS)
-}
-
-/// Prints a line for each transform of each matrix.
-fn report_transforms(
-    rt: &HostRuntime,
-    mode: Mode,
-    start: Mersenne31,
-    step: Mersenne31,
-) -> io::Result<()> {
-    let sizes = match mode {
-        Mode::Digests => SMALL.as_slice(),
-        Mode::Times => LARGE.as_slice(),
-    };
-    for transform in TRANSFORMS {
-        timing::report_transform(rt, mode, transform, sizes, start, step)?;
-    }
-    Ok(())
-}
-
-/// Prints a line for the values at a point of the polynomials of each matrix.
-fn report_evaluations(
-    rt: &HostRuntime,
-    mode: Mode,
-    start: Mersenne31,
-    step: Mersenne31,
-) -> io::Result<()> {
-    let sizes = match mode {
-        Mode::Digests => SMALL.as_slice(),
-        Mode::Times => EVALUATED.as_slice(),
-    };
-    evaluations::report(rt, mode, sizes, start, step)
-}
-
-/// Prints a line for the table of each matrix's columns.
-fn report_tables(
-    rt: &HostRuntime,
-    mode: Mode,
-    start: Mersenne31,
-    step: Mersenne31,
-) -> io::Result<()> {
-    let sizes = match mode {
-        Mode::Digests => SMALL.as_slice(),
-        Mode::Times => PERIODIC.as_slice(),
-    };
-    tables::report(rt, mode, sizes, start, step)
-}
-
-/// Prints a line for each pass over a commitment to each matrix.
-fn report_commitments(
-    rt: &HostRuntime,
-    mode: Mode,
-    start: Mersenne31,
-    step: Mersenne31,
-) -> io::Result<()> {
-    let sizes = match mode {
-        Mode::Digests => SMALL.as_slice(),
-        Mode::Times => COMMITTED.as_slice(),
-    };
-    commitments::report(rt, mode, sizes, start, step)
-}
-
-/// Prints the lines of the whole scheme over each matrix.
-fn report_openings(
-    rt: &HostRuntime,
-    mode: Mode,
-    start: Mersenne31,
-    step: Mersenne31,
-) -> io::Result<()> {
-    let sizes = match mode {
-        Mode::Digests => PROVED.as_slice(),
-        Mode::Times => PROVED_LARGE.as_slice(),
-    };
-    openings::report(rt, mode, sizes, start, step)
 }
 
 /// What the arguments ask for, or `None` where they ask for nothing that there is.

@@ -29,6 +29,16 @@ pub enum Mode {
     Times,
 }
 
+impl Mode {
+    /// The sizes of the matrices: `small` where digests are printed, and `large` where times are.
+    pub fn sizes<'a>(self, small: &'a [Size], large: &'a [Size]) -> &'a [Size] {
+        match self {
+            Mode::Digests => small,
+            Mode::Times => large,
+        }
+    }
+}
+
 /// A chain of an operation, with the length at which it is timed.
 #[derive(Clone, Copy)]
 pub struct Case {
