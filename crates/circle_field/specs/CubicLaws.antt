@@ -1,9 +1,9 @@
 -- A cubic extension by X^3 = w is a commutative ring.
 use Rattle.std.specs.Prelude.{◌≡◌, List, [], ◌∷◌, refl, IsTrue}
-use Rattle.circle_field.specs.Field.{FieldOps, RingLaws, sub}
+use Rattle.circle_field.specs.Field.{FieldOps, RingLaws}
 use Rattle.circle_field.specs.Ring.{Expr, var, con, unit, plus, times, minus, norm as normal, is_zero_poly, denote}
 use Rattle.circle_field.specs.RingSound.{ring}
-use Rattle.circle_field.specs.CubicField.{Triple, triple, sum, opposite, multiple, constant, crossed, product, cubic}
+use Rattle.circle_field.specs.CubicField.{Triple, triple, sum, opposite, multiple, constant, product, cubic}
 
 -- triples with the same coefficients are one
 pub same_triple : {F : Type 0} {a b c d e f : F} → a ≡ d → b ≡ e → c ≡ f →
@@ -99,13 +99,3 @@ module _ {F : Type 0} {k : FieldOps F} (laws : RingLaws k) where
       let c : Expr = var 4 in
       rings (v ∷ a.c0 ∷ a.c1 ∷ a.c2 ∷ b ∷ []) (product expr w (constant expr c) x)
       (multiple expr c x) refl refl refl
-
-  -- the middle coefficient by one product, from the outer ones
-  pub crossed_products : (a b c d : F) →
-      sub k (sub k (k.mul (k.add a b) (k.add c d)) (k.mul a c)) (k.mul b d) ≡ crossed k a b c d
-  crossed_products a b c d =
-      let a' : Expr = var 0 in let b' : Expr = var 1 in let c' : Expr = var 2 in
-      let d' : Expr = var 3 in
-      ring laws (a ∷ b ∷ c ∷ d ∷ [])
-      (sub expr (sub expr (times (plus a' b') (plus c' d')) (times a' c')) (times b' d'))
-      (crossed expr a' b' c' d') refl

@@ -1,12 +1,11 @@
 //! The cubic extension of Mersenne31.
-ghost use Rattle.std.specs.Prelude.{◌≡◌};
-ghost use Rattle.circle_field.specs.Mersenne31.{operations as base};
-ghost use Rattle.circle_field.specs.CubicField.{crossed};
+ghost use Rattle.std.specs.Prelude.{◌≡◌, ◌*◌, ◌^◌, ◌<◌};
+ghost use Rattle.circle_field.specs.Mersenne31.{residue, operations as base};
 ghost use Rattle.circle_field.specs.CubicFive.{five};
 
 use crate::extension::{ElementBytes, ExtensionField};
 use crate::field::{Field, Operations};
-use crate::mersenne31::{self, Mersenne31};
+use crate::mersenne31::{self, Mersenne31, fold_bits};
 use std::ops::{Add, Mul, Neg, Sub};
 
 /// An element of the field of `(2^31 - 1)^3` elements: a polynomial `c0 + c1 X + c2 X^2` over
@@ -50,19 +49,12 @@ fn times_five(x: Mersenne31) -> Mersenne31
     x.double().double() + x
 }
 
-/// The middle coefficient of the product of two linear polynomials, of which `low` and `high` are
-/// the other two.
-fn crossed(
-    a: (Mersenne31, Mersenne31),
-    b: (Mersenne31, Mersenne31),
-    low: Mersenne31,
-    high: Mersenne31,
-) -> Mersenne31
-    requires low { low ≡ base.mul a.0 b.0 }
-    requires high { high ≡ base.mul a.1 b.1 }
-    ensures { result ≡ crossed base a.0 a.1 b.0 b.1 }
+/// The product of the residues, which isn't reduced.
+fn product(a: Mersenne31, b: Mersenne31) -> u64
+    ensures product { result ≡ residue a * residue b }
+    ensures below { result < 2 ^ 62 }
 {
-    (a.0 + a.1) * (b.0 + b.1) - low - high
+    a.value() as u64 * b.value() as u64
 }
 
 impl Operations for Cubic {
@@ -114,13 +106,17 @@ impl Mul for Cubic {
 
     ghost mul_gives = { λ a b r. r ≡ operations.mul a b };
 
+    /// The nine products of coefficients, summed before they are reduced. Those that count five
+    /// times are folded first, so that no sum passes 64 bits.
     fn mul(self, rhs: Self) -> Self {
-        let (p0, p1, p2) = (self.c0 * rhs.c0, self.c1 * rhs.c1, self.c2 * rhs.c2);
-        let high = crossed((self.c1, self.c2), (rhs.c1, rhs.c2), p1, p2);
+        let high = fold_bits(product(self.c1, rhs.c2) + product(self.c2, rhs.c1));
+        let top = fold_bits(product(self.c2, rhs.c2));
+        let cross = product(self.c0, rhs.c1) + product(self.c1, rhs.c0);
+        let outer = product(self.c0, rhs.c2) + product(self.c2, rhs.c0);
         Cubic {
-            c0: p0 + times_five(high),
-            c1: crossed((self.c0, self.c1), (rhs.c0, rhs.c1), p0, p1) + times_five(p2),
-            c2: crossed((self.c0, self.c2), (rhs.c0, rhs.c2), p0, p2) + p1,
+            c0: Mersenne31::from_u64(product(self.c0, rhs.c0) + 5 * high),
+            c1: Mersenne31::from_u64(cross + 5 * top),
+            c2: Mersenne31::from_u64(outer + product(self.c1, rhs.c1)),
         }
     }
 }

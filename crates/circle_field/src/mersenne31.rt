@@ -119,7 +119,7 @@ impl Mersenne31 {
 
 /// The low 31 bits of a number plus its other bits, which has the same remainder by the order,
 /// since `2^31` is 1 there.
-fn fold_bits(int: u64) -> u64
+pub(crate) fn fold_bits(int: u64) -> u64
     ensures { result ≡ int % 2 ^ 31 + int / 2 ^ 31 }
 {
     (int & Mersenne31::ORDER as u64) + (int >> 31)
