@@ -199,6 +199,7 @@ fn assert_as_by_layers(
         let (coeffs, _) = interpolate_grouped(rt, alloc, domain, fast.try_clone(alloc)?, group)?;
         assert_same(rt, &coeffs, &rows);
     }
+    assert!(rt; domain.is_genuine() && fast.height() == domain.size());
     let evaluations = CircleEvaluations::from_cfft_order(domain, fast);
     assert_same(rt, &evaluations.interpolate(alloc)?, &rows);
     Ok(())
