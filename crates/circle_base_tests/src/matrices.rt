@@ -2,10 +2,11 @@
 ghost use Rattle.std.specs.Prelude.{◌-◌};
 
 use circle_commit::{
-    Dimensions, Matrix, PeriodicLdeTable, RowIndexMap, RowIndexMappedView, RowMajorMatrix,
-    RowMajorMatrixView, are_below, heights_are_powers_of_two, is_power_of_two, log2_strict,
+    Matrix, PeriodicLdeTable, RowIndexMap, RowIndexMappedView, RowMajorMatrix, RowMajorMatrixView,
+    are_below, heights_are_powers_of_two, is_power_of_two, log2_strict,
 };
 use std::alloc::{AllocError, Global};
+use std::process::Abort;
 use std::test::Fail;
 
 mod columns;
@@ -30,12 +31,25 @@ fn entries<M: Matrix<u32>>(alloc: Global, matrix: &M) -> Result<Vec<u32>, AllocE
     Ok(all)
 }
 
-fn shape<M: Matrix<u32>>(matrix: &M) -> Dimensions {
-    Dimensions {
-        width: matrix.width(),
-        height: matrix.height(),
-    }
+// Asserts the shape of any matrix, and its entries row after row.
+fn assert_matrix<M: Matrix<u32>>(
+    rt: &impl Abort,
+    alloc: Global,
+    matrix: &M,
+    shape: (usize, usize),
+    expected: &[u32],
+) -> Result<(), AllocError> {
+    assert_eq!(rt; (matrix.width(), matrix.height()), shape);
+    assert_eq!(rt; entries(alloc, matrix)?.as_slice(), expected);
+    Ok(())
 }
+
+// The number of the first rows, their entries, and the others' entries.
+const SPLITS: &[(usize, &[u32], &[u32])] = &[
+    (0, &[], &[0, 1, 2, 3, 4, 5, 6, 7]),
+    (1, &[0, 1], &[2, 3, 4, 5, 6, 7]),
+    (4, &[0, 1, 2, 3, 4, 5, 6, 7], &[]),
+];
 
 #[derive(Drop)]
 struct Reversed(usize);
@@ -58,40 +72,19 @@ impl RowIndexMap for Reversed {
 fn splits_rows(rt: HostRuntime) -> Result<(), Fail> {
     let matrix = four_rows(rt.alloc())?;
     assert_eq!(rt; matrix.height(), 4);
-    let (first, others) = matrix.split_rows(1);
-    assert_eq!(rt;
-        shape(&first),
-        Dimensions {
-            width: 2,
-            height: 1
-        }
-    );
-    assert_eq!(rt;
-        shape(&others),
-        Dimensions {
-            width: 2,
-            height: 3
-        }
-    );
-    assert_eq!(rt; entries(rt.alloc(), &first)?.as_slice(), [0, 1].as_slice());
-    assert_eq!(rt;
-        entries(rt.alloc(), &others)?.as_slice(),
-        [2, 3, 4, 5, 6, 7].as_slice()
-    );
-    let (none, all) = matrix.split_rows(0);
-    assert_eq!(rt; none.height(), 0);
-    assert_eq!(rt; all.height(), 4);
-    let (all, none) = matrix.split_rows(4);
-    assert_eq!(rt; all.height(), 4);
-    assert_eq!(rt; none.height(), 0);
-    assert_eq!(rt; none.width(), 2);
+    for (rows, first, others) in SPLITS {
+        assert!(rt; *rows <= matrix.height());
+        let (upper, lower) = matrix.split_rows(*rows);
+        assert_matrix(&rt, rt.alloc(), &upper, (2, *rows), first)?;
+        assert_matrix(&rt, rt.alloc(), &lower, (2, 4 - *rows), others)?;
+    }
     Ok(())
 }
 
 #[test]
 fn one_column(rt: HostRuntime) -> Result<(), Fail> {
     let column = RowMajorMatrix::new_col(vec![in rt.alloc(); 5u32, 6, 7]?);
-    assert_eq!(rt; column.width(), 1);
+    assert_matrix(&rt, rt.alloc(), &column, (1, 3), &[5, 6, 7])?;
     assert_eq!(rt; column.height(), 3);
     assert_eq!(rt; column.row(2), [7].as_slice());
     assert_eq!(rt; column.values(), [5, 6, 7].as_slice());
@@ -101,50 +94,38 @@ fn one_column(rt: HostRuntime) -> Result<(), Fail> {
 
 #[test]
 fn a_mapped_view_of_a_part(rt: HostRuntime) -> Result<(), Fail> {
-    let matrix = four_rows(rt.alloc())?;
+    let alloc = rt.alloc();
+    let matrix = four_rows(alloc)?;
     assert_eq!(rt; matrix.height(), 4);
     let (_, inner) = matrix.split_rows(2);
-    let height = inner.height();
-    let view = RowIndexMappedView {
-        index_map: Reversed(height),
-        inner,
-    };
-    assert_eq!(rt;
-        entries(rt.alloc(), &view)?.as_slice(),
-        [6, 7, 4, 5].as_slice()
-    );
-    let stored = view.to_row_major_matrix::<u32>(rt.alloc())?;
-    assert_eq!(rt; stored.values(), [6, 7, 4, 5].as_slice());
+    let index_map = Reversed(inner.height());
+    let view = RowIndexMappedView { index_map, inner };
+    assert_matrix(&rt, alloc, &view, (2, 2), &[6, 7, 4, 5])?;
+    let stored = view.to_row_major_matrix::<u32>(alloc)?;
+    assert_matrix(&rt, alloc, &stored, (2, 2), &[6, 7, 4, 5])?;
     Ok(())
 }
 
 #[test]
 fn a_view_of_a_slice(rt: HostRuntime) -> Result<(), Fail> {
     let view = RowMajorMatrixView::new(&[1u32, 2, 3, 4, 5, 6], 3);
-    assert_eq!(rt;
-        shape(&view),
-        Dimensions {
-            width: 3,
-            height: 2
-        }
-    );
-    assert_eq!(rt;
-        entries(rt.alloc(), &view)?.as_slice(),
-        [1, 2, 3, 4, 5, 6].as_slice()
-    );
+    assert_matrix(&rt, rt.alloc(), &view, (3, 2), &[1, 2, 3, 4, 5, 6])?;
     Ok(())
 }
 
 #[test]
 fn a_periodic_table_repeats_its_rows(rt: HostRuntime) -> Result<(), Fail> {
     let table = PeriodicLdeTable::new(four_rows(rt.alloc())?);
-    assert_eq!(rt; table.width(), 2);
-    assert_eq!(rt; table.height(), 4);
-    assert_eq!(rt; table.get(0, 0), 0);
-    assert_eq!(rt; table.get(2, 1), 5);
-    assert_eq!(rt; table.get(4, 0), 0);
-    assert_eq!(rt; table.get(7, 1), 7);
-    assert_eq!(rt; table.get(4_000_000_001, 1), 3);
+    assert_eq!(rt; (table.width(), table.height()), (2, 4));
+    for (row, column, entry) in [
+        (0, 0, 0),
+        (2, 1, 5),
+        (4, 0, 0),
+        (7, 1, 7),
+        (4_000_000_001, 1, 3),
+    ] {
+        assert_eq!(rt; table.get(row, column), entry, "at {row}");
+    }
     Ok(())
 }
 

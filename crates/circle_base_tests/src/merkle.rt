@@ -6,6 +6,7 @@ use circle_field::{Field, Mersenne31};
 use circle_merkle::{MerkleTreeError, ShaMmcs, ShaProverData};
 use sha2::{Digest, Sha256};
 use std::alloc::{AllocError, Global};
+use std::process::Abort;
 use std::test::Fail;
 
 type Hash = [u8; 32];
@@ -18,24 +19,25 @@ const COLUMN_ROOT: Hash = [
     0x77, 0x5a, 0x17, 0x8f, 0x7f, 0x43, 0x4c, 0xe8, 0x9f, 0xe3, 0x82, 0x88, 0x7d, 0x40, 0x5a, 0x01,
 ];
 
-// The digests at position 6 of that tree's lowest level, and at 0 and 2 of the next.
-const COLUMN_PROOF: [Hash; 3] = [
-    [
-        0x2b, 0xe0, 0x22, 0xb7, 0x8f, 0xb6, 0x36, 0x18, 0xb2, 0xd5, 0x8c, 0x76, 0x6f, 0x4b, 0x98,
-        0xb3, 0x4f, 0x76, 0xdf, 0xac, 0xbb, 0xfb, 0x25, 0x0b, 0x4d, 0x36, 0x83, 0xc0, 0xa1, 0x54,
-        0x4a, 0xe1,
-    ],
-    [
-        0xab, 0xde, 0x38, 0x38, 0x4d, 0x1a, 0x3e, 0xca, 0xb6, 0xf6, 0xae, 0x36, 0xfe, 0x37, 0x88,
-        0x12, 0xe5, 0xad, 0xf3, 0x94, 0x52, 0xbc, 0x30, 0x21, 0xd5, 0x24, 0x7e, 0xd8, 0x58, 0xb6,
-        0x84, 0xf9,
-    ],
-    [
-        0xc7, 0x58, 0xbd, 0x59, 0x08, 0x8a, 0xac, 0x86, 0x9b, 0xeb, 0xdb, 0x29, 0x61, 0x0b, 0xc2,
-        0xd6, 0xd1, 0xe8, 0x7a, 0x21, 0x6d, 0x75, 0x27, 0x65, 0xf8, 0x78, 0x08, 0x16, 0x5d, 0xd1,
-        0x43, 0x17,
-    ],
+// The digest at position 6 of that tree's lowest level.
+const LEAF: Hash = [
+    0x2b, 0xe0, 0x22, 0xb7, 0x8f, 0xb6, 0x36, 0x18, 0xb2, 0xd5, 0x8c, 0x76, 0x6f, 0x4b, 0x98, 0xb3,
+    0x4f, 0x76, 0xdf, 0xac, 0xbb, 0xfb, 0x25, 0x0b, 0x4d, 0x36, 0x83, 0xc0, 0xa1, 0x54, 0x4a, 0xe1,
 ];
+
+// The digest at position 0 of the next level.
+const LEFT: Hash = [
+    0xab, 0xde, 0x38, 0x38, 0x4d, 0x1a, 0x3e, 0xca, 0xb6, 0xf6, 0xae, 0x36, 0xfe, 0x37, 0x88, 0x12,
+    0xe5, 0xad, 0xf3, 0x94, 0x52, 0xbc, 0x30, 0x21, 0xd5, 0x24, 0x7e, 0xd8, 0x58, 0xb6, 0x84, 0xf9,
+];
+
+// The digest at position 2 of that level.
+const RIGHT: Hash = [
+    0xc7, 0x58, 0xbd, 0x59, 0x08, 0x8a, 0xac, 0x86, 0x9b, 0xeb, 0xdb, 0x29, 0x61, 0x0b, 0xc2, 0xd6,
+    0xd1, 0xe8, 0x7a, 0x21, 0x6d, 0x75, 0x27, 0x65, 0xf8, 0x78, 0x08, 0x16, 0x5d, 0xd1, 0x43, 0x17,
+];
+
+const COLUMN_PROOF: &[Hash] = &[LEAF, LEFT, RIGHT];
 
 // The root over the rows 1 2, 3 4, 5 6, 7 8, over 9, over 100, 200, and over -1, 0, 1, 2.
 const FOUR_ROOT: Hash = [
@@ -60,6 +62,18 @@ fn matrix(
     Ok(RowMajorMatrix::new(entries, width))
 }
 
+// The matrices of these entries and widths.
+fn matrices(
+    alloc: Global,
+    shapes: &[(&[u64], usize)],
+) -> Result<Vec<RowMajorMatrix<Mersenne31>>, AllocError> {
+    let mut all = Vec::new(alloc);
+    for (values, width) in shapes {
+        all.push(matrix(alloc, values, *width)?)?;
+    }
+    Ok(all)
+}
+
 fn commit(
     alloc: Global,
     inputs: Vec<RowMajorMatrix<Mersenne31>>,
@@ -82,17 +96,20 @@ fn open(
     mmcs.open_multi_batch(alloc, indices, data)
 }
 
-// The column 10, 11, .. 17.
-fn column(alloc: Global) -> Result<Vec<RowMajorMatrix<Mersenne31>>, AllocError> {
-    Ok(vec![in alloc; matrix(alloc, &[10, 11, 12, 13, 14, 15, 16, 17], 1)?]?)
+// The rows of one query, each of one of these entries.
+fn rows_of(alloc: Global, entries: &[Mersenne31]) -> Result<Vec<Vec<Mersenne31>>, AllocError> {
+    let mut rows = Vec::new(alloc);
+    for entry in entries {
+        rows.push(vec![in alloc; *entry]?)?;
+    }
+    Ok(rows)
 }
 
 // The rows of the column at these places, each as the only row of its index.
 fn rows_at(alloc: Global, places: &[u64]) -> Result<OpenedRows<Mersenne31>, AllocError> {
     let mut rows = Vec::new(alloc);
     for place in places {
-        let row = vec![in alloc; element(10) + element(*place)]?;
-        rows.push(vec![in alloc; row]?)?;
+        rows.push(rows_of(alloc, &[element(10) + element(*place)])?)?;
     }
     Ok(rows)
 }
@@ -119,186 +136,211 @@ fn verify(
 
 #[test]
 fn opens_a_column(rt: HostRuntime) -> Result<(), Fail> {
-    let (root, data) = commit(rt.alloc(), column(rt.alloc())?)?;
+    let alloc = rt.alloc();
+    let column = matrices(alloc, &[(&[10, 11, 12, 13, 14, 15, 16, 17], 1)])?;
+    let (root, data) = commit(alloc, column)?;
     assert!(rt; root == COLUMN_ROOT);
     assert_eq!(rt; ShaMmcs::<Mersenne31>::new().get_max_height(&data), 8);
     assert_eq!(rt; ShaMmcs::<Mersenne31>::new().get_matrices(&data).len(), 1);
-    let (rows, proof) = open(rt.alloc(), &[7, 2, 3, 2], &data)?;
-    assert!(rt; rows == rows_at(rt.alloc(), &[7, 2, 3, 2])?);
-    assert!(rt; proof.as_slice() == COLUMN_PROOF.as_slice());
-    assert_eq!(rt; verify(rt.alloc(), &[7, 2, 3, 2], &rows, &proof), Ok(()));
+    let (rows, proof) = open(alloc, &[7, 2, 3, 2], &data)?;
+    assert!(rt; rows == rows_at(alloc, &[7, 2, 3, 2])?);
+    assert!(rt; proof.as_slice() == COLUMN_PROOF);
+    assert_eq!(rt; verify(alloc, &[7, 2, 3, 2], &rows, &proof), Ok(()));
+    Ok(())
+}
+
+// The verdict on the rows of the column at these places, with these digests for proof.
+fn verdict(
+    alloc: Global,
+    indices: &[usize],
+    places: &[u64],
+    proof: &[Hash],
+) -> Result<Result<(), MerkleTreeError>, AllocError> {
+    let (rows, proof) = (rows_at(alloc, places)?, proof.to_vec(alloc)?);
+    Ok(verify(alloc, indices, &rows, &proof))
+}
+
+const FEWER: &[Hash] = &[LEAF, LEFT];
+
+const MORE: &[Hash] = &[LEAF, LEFT, RIGHT, COLUMN_ROOT];
+
+// Indices, the places whose rows are opened there, the digests for proof, and the verdict.
+type Case = (
+    &'static [usize],
+    &'static [u64],
+    &'static [Hash],
+    Result<(), MerkleTreeError>,
+);
+
+const CASES: &[Case] = &[
+    (&[7, 2, 3, 2], &[7, 2, 3, 2], COLUMN_PROOF, Ok(())),
+    (
+        &[7, 2, 3, 2],
+        &[7, 2, 3, 2],
+        MORE,
+        Err(MerkleTreeError::WrongProofLength),
+    ),
+    (
+        &[7, 2, 3, 2],
+        &[7, 2, 3, 2],
+        FEWER,
+        Err(MerkleTreeError::WrongProofLength),
+    ),
+    (
+        &[7, 2, 3, 2],
+        &[7, 2, 3, 2],
+        &[],
+        Err(MerkleTreeError::WrongProofLength),
+    ),
+    (
+        &[7, 2, 3, 2],
+        &[7, 2, 4, 2],
+        COLUMN_PROOF,
+        Err(MerkleTreeError::RootMismatch),
+    ),
+    (
+        &[7, 2, 3, 2],
+        &[7, 2, 3, 3],
+        COLUMN_PROOF,
+        Err(MerkleTreeError::DisagreeingRows),
+    ),
+    (
+        &[7, 2, 3, 2],
+        &[7, 2, 3, 3],
+        FEWER,
+        Err(MerkleTreeError::DisagreeingRows),
+    ),
+    (
+        &[8, 2, 3, 2],
+        &[7, 2, 3, 2],
+        COLUMN_PROOF,
+        Err(MerkleTreeError::WrongIndex),
+    ),
+    (
+        &[7, 2, 3, 2],
+        &[7, 2, 3],
+        COLUMN_PROOF,
+        Err(MerkleTreeError::WrongIndex),
+    ),
+    (&[], &[], &[], Err(MerkleTreeError::WrongIndex)),
+    (&[3, 2, 7], &[3, 2, 7], COLUMN_PROOF, Ok(())),
+];
+
+#[test]
+fn refuses_what_is_changed(rt: HostRuntime) -> Result<(), Fail> {
+    for (indices, places, proof, expected) in CASES {
+        assert_eq!(rt; verdict(rt.alloc(), indices, places, proof)?, *expected);
+    }
     Ok(())
 }
 
 #[test]
-fn refuses_what_is_changed(rt: HostRuntime) -> Result<(), Fail> {
+fn refuses_a_wide_row_before_its_index(rt: HostRuntime) -> Result<(), Fail> {
     let alloc = rt.alloc();
-    let rows = rows_at(alloc, &[7, 2, 3, 2])?;
-    let proof = COLUMN_PROOF.as_slice().to_vec(alloc)?;
-    let more = [
-        COLUMN_PROOF[0],
-        COLUMN_PROOF[1],
-        COLUMN_PROOF[2],
-        COLUMN_ROOT,
-    ]
-    .to_vec(alloc)?;
-    let fewer = [COLUMN_PROOF[0], COLUMN_PROOF[1]].to_vec(alloc)?;
-    let none = Vec::new(alloc);
-    let indices = [7, 2, 3, 2];
-    assert_eq!(rt; verify(alloc, &indices, &rows, &proof), Ok(()));
-    assert_eq!(rt;
-        verify(alloc, &indices, &rows, &more),
-        Err(MerkleTreeError::WrongProofLength)
-    );
-    assert_eq!(rt;
-        verify(alloc, &indices, &rows, &fewer),
-        Err(MerkleTreeError::WrongProofLength)
-    );
-    assert_eq!(rt;
-        verify(alloc, &indices, &rows, &none),
-        Err(MerkleTreeError::WrongProofLength)
-    );
-    let raised = rows_at(alloc, &[7, 2, 4, 2])?;
-    assert_eq!(rt;
-        verify(alloc, &indices, &raised, &proof),
-        Err(MerkleTreeError::RootMismatch)
-    );
-    let torn = rows_at(alloc, &[7, 2, 3, 3])?;
-    assert_eq!(rt;
-        verify(alloc, &indices, &torn, &proof),
-        Err(MerkleTreeError::DisagreeingRows)
-    );
-    assert_eq!(rt;
-        verify(alloc, &indices, &torn, &fewer),
-        Err(MerkleTreeError::DisagreeingRows)
-    );
-    assert_eq!(rt;
-        verify(alloc, &[8, 2, 3, 2], &rows, &proof),
-        Err(MerkleTreeError::WrongIndex)
-    );
-    let fewer_rows = rows_at(alloc, &[7, 2, 3])?;
-    assert_eq!(rt;
-        verify(alloc, &indices, &fewer_rows, &proof),
-        Err(MerkleTreeError::WrongIndex)
-    );
-    assert_eq!(rt;
-        verify(alloc, &[], &Vec::new(alloc), &none),
-        Err(MerkleTreeError::WrongIndex)
-    );
-    let wide = vec![in alloc; vec![in alloc; vec![in alloc; element(17), element(17)]?]?]?;
+    let row = vec![in alloc; element(17), element(17)]?;
+    let wide = vec![in alloc; vec![in alloc; row]?]?;
+    let proof = COLUMN_PROOF.to_vec(alloc)?;
     assert_eq!(rt;
         verify(alloc, &[8], &wide, &proof),
         Err(MerkleTreeError::WrongWidth)
     );
-    assert_eq!(rt;
-        verify(alloc, &[3, 2, 7], &rows_at(alloc, &[3, 2, 7])?, &proof),
-        Ok(())
-    );
     Ok(())
+}
+
+// The verdict on the column's first row, without a proof, where matrices have this shape.
+fn shaped(
+    alloc: Global,
+    dimensions: &[Dimensions],
+) -> Result<Result<(), MerkleTreeError>, AllocError> {
+    let (rows, none) = (rows_at(alloc, &[0])?, Vec::new(alloc));
+    let mmcs = ShaMmcs::<Mersenne31>::new();
+    Ok(mmcs.verify_multi_batch(alloc, &COLUMN_ROOT, dimensions, &[0], &rows, &none))
+}
+
+// The shape of one column.
+const fn column_of(height: usize) -> Dimensions {
+    Dimensions { width: 1, height }
 }
 
 #[test]
 fn refuses_shapes(rt: HostRuntime) -> Result<(), Fail> {
     let alloc = rt.alloc();
-    let mmcs = ShaMmcs::<Mersenne31>::new();
-    let rows = rows_at(alloc, &[0])?;
-    let none = Vec::new(alloc);
-    let empty: [Dimensions; 0] = [];
     let refused = Err(MerkleTreeError::WrongWidth);
-    assert_eq!(rt;
-        mmcs.verify_multi_batch(alloc, &COLUMN_ROOT, &empty, &[0], &rows, &none),
-        refused
-    );
-    let three = [Dimensions {
-        width: 1,
-        height: 3,
-    }];
-    assert_eq!(rt;
-        mmcs.verify_multi_batch(alloc, &COLUMN_ROOT, &three, &[0], &rows, &none),
-        refused
-    );
-    let no_rows = [Dimensions {
-        width: 1,
-        height: 0,
-    }];
-    assert_eq!(rt;
-        mmcs.verify_multi_batch(alloc, &COLUMN_ROOT, &no_rows, &[0], &rows, &none),
-        refused
-    );
+    assert_eq!(rt; shaped(alloc, &[])?, refused);
+    for height in [3, 0] {
+        assert_eq!(rt; shaped(alloc, &[column_of(height)])?, refused);
+    }
+    Ok(())
+}
+
+#[test]
+fn one_refusal_is_of_memory(rt: HostRuntime) {
     assert!(rt; !ShaMmcs::<Mersenne31>::is_memory(&MerkleTreeError::WrongWidth));
     assert!(rt; ShaMmcs::<Mersenne31>::is_memory(&MerkleTreeError::Memory));
-    Ok(())
+}
+
+const FOUR: &[(&[u64], usize)] = &[
+    (&[1, 2, 3, 4, 5, 6, 7, 8], 2),
+    (&[9], 1),
+    (&[100, 200], 1),
+    (&[2147483646, 0, 1, 2], 1),
+];
+
+const FOUR_SHAPES: [Dimensions; 4] = [
+    Dimensions {
+        width: 2,
+        height: 4,
+    },
+    Dimensions {
+        width: 1,
+        height: 1,
+    },
+    Dimensions {
+        width: 1,
+        height: 2,
+    },
+    Dimensions {
+        width: 1,
+        height: 4,
+    },
+];
+
+// How many digests prove the rows of the four matrices at the indices, and the verdict on them.
+fn reopened(
+    alloc: Global,
+    indices: &[usize],
+    data: &ShaProverData<Mersenne31>,
+) -> Result<(usize, Result<(), MerkleTreeError>), AllocError> {
+    let (rows, proof) = open(alloc, indices, data)?;
+    let mmcs = ShaMmcs::<Mersenne31>::new();
+    let verdict = mmcs.verify_multi_batch(alloc, &FOUR_ROOT, &FOUR_SHAPES, indices, &rows, &proof);
+    Ok((proof.len(), verdict))
 }
 
 #[test]
 fn opens_several_heights(rt: HostRuntime) -> Result<(), Fail> {
     let alloc = rt.alloc();
-    let inputs = vec![in alloc;
-        matrix(alloc, &[1, 2, 3, 4, 5, 6, 7, 8], 2)?,
-        matrix(alloc, &[9], 1)?,
-        matrix(alloc, &[100, 200], 1)?,
-        matrix(alloc, &[2147483646, 0, 1, 2], 1)?,
-    ]?;
-    let (root, data) = commit(alloc, inputs)?;
+    let (root, data) = commit(alloc, matrices(alloc, FOUR)?)?;
     assert!(rt; root == FOUR_ROOT);
-    let dimensions = [
-        Dimensions {
-            width: 2,
-            height: 4,
-        },
-        Dimensions {
-            width: 1,
-            height: 1,
-        },
-        Dimensions {
-            width: 1,
-            height: 2,
-        },
-        Dimensions {
-            width: 1,
-            height: 4,
-        },
-    ];
-    let mmcs = ShaMmcs::<Mersenne31>::new();
     for index in 0..4 {
-        let (rows, proof) = open(alloc, &[index], &data)?;
-        assert_eq!(rt; proof.len(), 2);
-        assert_eq!(rt;
-            mmcs.verify_multi_batch(alloc, &root, &dimensions, &[index], &rows, &proof),
-            Ok(())
-        );
+        assert_eq!(rt; reopened(alloc, &[index], &data)?, (2, Ok(())));
     }
-    let (rows, proof) = open(alloc, &[3, 0, 1, 2], &data)?;
-    assert_eq!(rt; proof.len(), 0);
-    assert_eq!(rt;
-        mmcs.verify_multi_batch(alloc, &root, &dimensions, &[3, 0, 1, 2], &rows, &proof),
-        Ok(())
-    );
+    assert_eq!(rt; reopened(alloc, &[3, 0, 1, 2], &data)?, (0, Ok(())));
     Ok(())
 }
 
 #[test]
 fn refuses_two_rows_at_one_position(rt: HostRuntime) -> Result<(), Fail> {
     let alloc = rt.alloc();
-    let dimensions = [
-        Dimensions {
-            width: 1,
-            height: 2,
-        },
-        Dimensions {
-            width: 1,
-            height: 1,
-        },
-    ];
     // Both indices stand for the only row of the lower matrix.
     let rows = vec![in alloc;
-        vec![in alloc; vec![in alloc; element(1)]?, vec![in alloc; element(5)]?]?,
-        vec![in alloc; vec![in alloc; element(2)]?, vec![in alloc; element(6)]?]?,
+        rows_of(alloc, &[element(1), element(5)])?,
+        rows_of(alloc, &[element(2), element(6)])?,
     ]?;
     let verdict = ShaMmcs::<Mersenne31>::new().verify_multi_batch(
         alloc,
         &COLUMN_ROOT,
-        &dimensions,
+        &[column_of(2), column_of(1)],
         &[1, 0],
         &rows,
         &Vec::new(alloc),
@@ -319,10 +361,7 @@ fn digest(first: u8, left: &[u8], right: &[u8]) -> Hash {
 #[test]
 fn the_root_by_hand(rt: HostRuntime) -> Result<(), Fail> {
     let alloc = rt.alloc();
-    let inputs = vec![in alloc;
-        matrix(alloc, &[1, 2, 3, 4], 1)?,
-        matrix(alloc, &[100, 200], 1)?,
-    ]?;
+    let inputs = matrices(alloc, &[(&[1, 2, 3, 4], 1), (&[100, 200], 1)])?;
     let (root, _data) = commit(alloc, inputs)?;
     let leaf = |x: u8| digest(0, &[0, 0, 0], &[x]);
     let low = digest(1, &leaf(1), &leaf(2));

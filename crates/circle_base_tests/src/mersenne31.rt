@@ -27,16 +27,20 @@ fn from_u64_reduces(rt: HostRuntime) {
 #[test]
 fn operators_reduce(rt: HostRuntime) {
     let (three, five) = (Mersenne31::from_u64(3), Mersenne31::from_u64(5));
-    assert_eq!(rt; (minus_one() + three).value(), 2);
-    assert_eq!(rt; (three - five).value(), 2147483645);
-    assert_eq!(rt; minus_one() * minus_one(), Mersenne31::ONE);
-    assert_eq!(rt;
-        Mersenne31::from_u64(1073741824) * Mersenne31::TWO,
-        Mersenne31::ONE
+    let factors = (
+        Mersenne31::from_u64(123456789),
+        Mersenne31::from_u64(987654321),
     );
-    assert_eq!(rt; -Mersenne31::ZERO, Mersenne31::ZERO);
-    let product = Mersenne31::from_u64(123456789) * Mersenne31::from_u64(987654321);
-    assert_eq!(rt; product.value(), 2137109934);
+    for (found, expected) in [
+        (minus_one() + three, 2),
+        (three - five, 2147483645),
+        (minus_one() * minus_one(), 1),
+        (Mersenne31::from_u64(1073741824) * Mersenne31::TWO, 1),
+        (-Mersenne31::ZERO, 0),
+        (factors.0 * factors.1, 2137109934),
+    ] {
+        assert_eq!(rt; found.value(), expected);
+    }
 }
 
 #[test]
@@ -50,43 +54,43 @@ fn powers(rt: HostRuntime) {
 
 #[test]
 fn inverses(rt: HostRuntime) {
-    let (five, seven) = (Mersenne31::from_u64(5), Mersenne31::from_u64(7));
     assert_eq!(rt; Mersenne31::ZERO.try_inverse(), None);
-    assert_eq!(rt; Mersenne31::ONE.try_inverse(), Some(Mersenne31::ONE));
-    let half = Mersenne31::from_u64(1073741824);
-    assert_eq!(rt; Mersenne31::TWO.try_inverse(), Some(half));
-    let fifth = Mersenne31::from_u64(858993459);
-    assert_eq!(rt; five.try_inverse(), Some(fifth));
-    assert_eq!(rt; five * fifth, Mersenne31::ONE);
-    let seventh = Mersenne31::from_u64(1840700269);
-    assert_eq!(rt; seven.try_inverse(), Some(seventh));
-    assert_eq!(rt; seven * seventh, Mersenne31::ONE);
-    let large = Mersenne31::from_u64(123456789);
-    let large_inverse = Mersenne31::from_u64(391219981);
-    assert_eq!(rt; large.try_inverse(), Some(large_inverse));
-    assert_eq!(rt; large * large_inverse, Mersenne31::ONE);
-    assert_eq!(rt; minus_one().try_inverse(), Some(minus_one()));
+    for (element, inverse) in [
+        (Mersenne31::ONE, 1),
+        (Mersenne31::TWO, 1073741824),
+        (Mersenne31::from_u64(5), 858993459),
+        (Mersenne31::from_u64(7), 1840700269),
+        (Mersenne31::from_u64(123456789), 391219981),
+        (minus_one(), 2147483646),
+    ] {
+        let inverse = Mersenne31::from_u64(inverse);
+        assert_eq!(rt; element.try_inverse(), Some(inverse));
+        assert_eq!(rt; element * inverse, Mersenne31::ONE);
+    }
 }
 
 #[test]
 fn halves(rt: HostRuntime) {
-    assert_eq!(rt; Mersenne31::ZERO.halve(), Mersenne31::ZERO);
-    assert_eq!(rt; Mersenne31::ONE.halve().value(), 1073741824);
-    assert_eq!(rt; Mersenne31::TWO.halve(), Mersenne31::ONE);
-    assert_eq!(rt; minus_one().halve().value(), 1073741823);
-    assert_eq!(rt; (-Mersenne31::TWO).halve(), minus_one());
+    for (element, half) in [
+        (Mersenne31::ZERO, 0),
+        (Mersenne31::ONE, 1073741824),
+        (Mersenne31::TWO, 1),
+        (minus_one(), 1073741823),
+        (-Mersenne31::TWO, 2147483646),
+    ] {
+        assert_eq!(rt; element.halve().value(), half);
+    }
 }
 
 #[test]
 fn generators(rt: HostRuntime) {
-    let (x, y) = Mersenne31::circle_two_adic_generator(16);
-    assert_eq!(rt; x.value(), 2135874973);
-    assert_eq!(rt; y.value(), 483411332);
-    let (x, y) = Mersenne31::circle_two_adic_generator(3);
-    assert_eq!(rt; x.value(), 32768);
-    assert_eq!(rt; y.value(), 2147450879);
-    let half_turn = Mersenne31::circle_two_adic_generator(1);
-    assert_eq!(rt; half_turn, (minus_one(), Mersenne31::ZERO));
-    let neutral = Mersenne31::circle_two_adic_generator(0);
-    assert_eq!(rt; neutral, (Mersenne31::ONE, Mersenne31::ZERO));
+    for (bits, x, y) in [
+        (16, 2135874973, 483411332),
+        (3, 32768, 2147450879),
+        (1, 2147483646, 0),
+        (0, 1, 0),
+    ] {
+        let (found_x, found_y) = Mersenne31::circle_two_adic_generator(bits);
+        assert_eq!(rt; (found_x.value(), found_y.value()), (x, y), "{bits} bits");
+    }
 }

@@ -1,11 +1,12 @@
 //! Records against texts that are written by hand.
-use crate::json::{read, refusal, written};
+use crate::json::{assert_refused, read, written};
 use circle_commit::{BatchMultiOpening, CommitmentOpening, FriParameters, JsonError, JsonForm};
 use circle_field::{Cubic, Mersenne31};
 use circle_json::{coefficients_from_json, coefficients_to_json};
 use circle_merkle::ShaMmcs;
 use serde_json::Value;
 use std::alloc::Global;
+use std::process::Abort;
 use std::test::Fail;
 
 type Opening = BatchMultiOpening<Mersenne31, ShaMmcs<Mersenne31>>;
@@ -18,27 +19,33 @@ fn stays<T: JsonForm + Drop>(alloc: Global, text: &str) -> Result<bool, Fail> {
     Ok(written(alloc, &value)?.as_str() == text)
 }
 
+const OPENING: &str = "{\"opened_values\":[[[1,2],[]],[]],\"opening_proof\":[]}";
+
+const REFUSED_OPENINGS: &[(&str, JsonError)] = &[
+    ("{\"opened_values\":[]}", JsonError::MissingKey),
+    (
+        "{\"opened_values\":[],\"opening_proof\":[],\"z\":0}",
+        JsonError::UnknownKey,
+    ),
+    ("[]", JsonError::WrongKind),
+    (
+        "{\"opened_values\":[],\"opening_proof\":[\"00\"]}",
+        JsonError::BadHex,
+    ),
+];
+
+// The number of queries of the opening that a text is read as.
+fn opened_queries(alloc: Global, text: &str) -> Result<usize, Fail> {
+    let opening: Opening = read(alloc, text)??;
+    Ok(opening.opened_values.len())
+}
+
 #[test]
 fn openings_have_two_members(rt: HostRuntime) -> Result<(), Fail> {
     let alloc = rt.alloc();
-    let text = "{\"opened_values\":[[[1,2],[]],[]],\"opening_proof\":[]}";
-    assert!(rt; stays::<Opening>(alloc, text)?);
-    let opening: Opening = read(alloc, text)??;
-    assert_eq!(rt; opening.opened_values.len(), 2);
-    let lacking = refusal::<Opening>(alloc, "{\"opened_values\":[]}")?;
-    assert_eq!(rt; lacking, Some(JsonError::MissingKey));
-    let further = "{\"opened_values\":[],\"opening_proof\":[],\"z\":0}";
-    assert_eq!(rt;
-        refusal::<Opening>(alloc, further)?,
-        Some(JsonError::UnknownKey)
-    );
-    assert_eq!(rt;
-        refusal::<Opening>(alloc, "[]")?,
-        Some(JsonError::WrongKind)
-    );
-    let digits = "{\"opened_values\":[],\"opening_proof\":[\"00\"]}";
-    assert_eq!(rt; refusal::<Opening>(alloc, digits)?, Some(JsonError::BadHex));
-    Ok(())
+    assert!(rt; stays::<Opening>(alloc, OPENING)?);
+    assert_eq!(rt; opened_queries(alloc, OPENING)?, 2);
+    assert_refused::<Opening>(&rt, alloc, REFUSED_OPENINGS)
 }
 
 // One matrix of 2^3 rows, at one point with two values.
@@ -53,12 +60,13 @@ fn claims_are_nested_objects(rt: HostRuntime) -> Result<(), Fail> {
     let claims: Claims = read(alloc, CLAIMS)??;
     assert_eq!(rt; claims.matrices.len(), 1);
     let matrix = &claims.matrices[0];
-    assert_eq!(rt; matrix.domain, 3);
     assert_eq!(rt; matrix.points.len(), 1);
-    assert_eq!(rt; matrix.points[0].values.len(), 2);
-    let domain = refusal::<Claims>(alloc, "{\"commitment\":0,\"domain\":[]}")?;
-    assert_eq!(rt; domain, Some(JsonError::MissingKey));
-    Ok(())
+    assert_eq!(rt; (matrix.domain, matrix.points[0].values.len()), (3, 2));
+    assert_refused::<Claims>(
+        &rt,
+        alloc,
+        &[("{\"commitment\":0,\"domain\":[]}", JsonError::MissingKey)],
+    )
 }
 
 const SHORT: &str = "{\"batch_pow_bits\":1,\"commit_pow_bits\":2,\"log_blowup\":3,\
@@ -70,41 +78,52 @@ const WHOLE: &str = "{\"batch_pow_bits\":1,\"commit_pow_bits\":2,\"log_blowup\":
 const ZERO: &str = "{\"batch_pow_bits\":1,\"commit_pow_bits\":2,\"log_blowup\":3,\
      \"log_final_poly_len\":0,\"max_log_arity\":4,\"num_queries\":5,\"query_pow_bits\":6}";
 
+// The numbers of the parameters that a text is read as, the final length's logarithm first.
+fn numbers(alloc: Global, text: &str) -> Result<[usize; 7], Fail> {
+    let parameters: FriParameters<()> = read(alloc, text)??;
+    Ok([
+        parameters.log_final_poly_len,
+        parameters.batch_proof_of_work_bits,
+        parameters.commit_proof_of_work_bits,
+        parameters.log_blowup,
+        parameters.max_log_arity,
+        parameters.num_queries,
+        parameters.query_proof_of_work_bits,
+    ])
+}
+
 #[test]
 fn parameters_may_lack_the_final_length(rt: HostRuntime) -> Result<(), Fail> {
     let alloc = rt.alloc();
     assert!(rt; stays::<FriParameters<()>>(alloc, SHORT)?);
     assert!(rt; stays::<FriParameters<()>>(alloc, WHOLE)?);
-    let short: FriParameters<()> = read(alloc, SHORT)??;
-    assert_eq!(rt; short.log_final_poly_len, 0);
-    assert_eq!(rt; short.batch_proof_of_work_bits, 1);
-    assert_eq!(rt; short.commit_proof_of_work_bits, 2);
-    assert_eq!(rt; short.log_blowup, 3);
-    assert_eq!(rt; short.max_log_arity, 4);
-    assert_eq!(rt; short.num_queries, 5);
-    assert_eq!(rt; short.query_proof_of_work_bits, 6);
-    let whole: FriParameters<()> = read(alloc, WHOLE)??;
-    assert_eq!(rt; whole.log_final_poly_len, 7);
+    assert_eq!(rt; numbers(alloc, SHORT)?, [0, 1, 2, 3, 4, 5, 6]);
+    assert_eq!(rt; numbers(alloc, WHOLE)?, [7, 1, 2, 3, 4, 5, 6]);
     let zero: FriParameters<()> = read(alloc, ZERO)??;
     assert_eq!(rt; written(alloc, &zero)?.as_str(), SHORT);
     Ok(())
 }
 
+// Parameters without the blowup, and with the final length under another name.
+const REFUSED_PARAMETERS: &[(&str, JsonError)] = &[
+    (
+        "{\"batch_pow_bits\":1,\"commit_pow_bits\":2,\
+     \"log_final_poly_len\":0,\"max_log_arity\":4,\"num_queries\":5,\"query_pow_bits\":6}",
+        JsonError::MissingKey,
+    ),
+    (
+        "{\"batch_pow_bits\":1,\"commit_pow_bits\":2,\"log_blowup\":3,\
+     \"final\":0,\"max_log_arity\":4,\"num_queries\":5,\"query_pow_bits\":6}",
+        JsonError::UnknownKey,
+    ),
+];
+
 #[test]
 fn parameters_lack_no_other_number(rt: HostRuntime) -> Result<(), Fail> {
-    let alloc = rt.alloc();
-    let lacking = "{\"batch_pow_bits\":1,\"commit_pow_bits\":2,\
-     \"log_final_poly_len\":0,\"max_log_arity\":4,\"num_queries\":5,\"query_pow_bits\":6}";
-    let refused = refusal::<FriParameters<()>>(alloc, lacking)?;
-    assert_eq!(rt; refused, Some(JsonError::MissingKey));
-    let renamed = "{\"batch_pow_bits\":1,\"commit_pow_bits\":2,\"log_blowup\":3,\
-     \"final\":0,\"max_log_arity\":4,\"num_queries\":5,\"query_pow_bits\":6}";
-    let refused = refusal::<FriParameters<()>>(alloc, renamed)?;
-    assert_eq!(rt; refused, Some(JsonError::UnknownKey));
-    Ok(())
+    assert_refused::<FriParameters<()>>(&rt, rt.alloc(), REFUSED_PARAMETERS)
 }
 
-// The list of coefficients that a text is read as, and the text that it is written as.
+// The number of coefficients that a text is read as, and the text that they are written as.
 fn rewritten(alloc: Global, text: &str) -> Result<(usize, String), Fail> {
     let value = Value::from_str(alloc, text)?;
     let list: Vec<Cubic> = coefficients_from_json(alloc, &value)?;
@@ -115,18 +134,15 @@ fn rewritten(alloc: Global, text: &str) -> Result<(usize, String), Fail> {
 #[test]
 fn one_coefficient_stands_for_itself(rt: HostRuntime) -> Result<(), Fail> {
     let alloc = rt.alloc();
-    let (len, text) = rewritten(alloc, "[1,2,3]")?;
-    assert_eq!(rt; len, 1);
-    assert_eq!(rt; text.as_str(), "[1,2,3]");
-    let (len, text) = rewritten(alloc, "[[1,2,3]]")?;
-    assert_eq!(rt; len, 1);
-    assert_eq!(rt; text.as_str(), "[1,2,3]");
-    let (len, text) = rewritten(alloc, "[]")?;
-    assert_eq!(rt; len, 0);
-    assert_eq!(rt; text.as_str(), "[]");
-    let (len, text) = rewritten(alloc, "[[1,2,3],[4,5,6]]")?;
-    assert_eq!(rt; len, 2);
-    assert_eq!(rt; text.as_str(), "[[1,2,3],[4,5,6]]");
+    for (text, expected_len, expected) in [
+        ("[1,2,3]", 1, "[1,2,3]"),
+        ("[[1,2,3]]", 1, "[1,2,3]"),
+        ("[]", 0, "[]"),
+        ("[[1,2,3],[4,5,6]]", 2, "[[1,2,3],[4,5,6]]"),
+    ] {
+        let (len, text) = rewritten(alloc, text)?;
+        assert_eq!(rt; (len, text.as_str()), (expected_len, expected));
+    }
     Ok(())
 }
 
@@ -138,16 +154,13 @@ fn refused_list(alloc: Global, text: &str) -> Result<Option<JsonError>, Fail> {
 
 #[test]
 fn coefficients_are_refused_as_their_elements(rt: HostRuntime) -> Result<(), Fail> {
-    let alloc = rt.alloc();
-    assert_eq!(rt; refused_list(alloc, "{}")?, Some(JsonError::WrongKind));
-    assert_eq!(rt; refused_list(alloc, "[1,2]")?, Some(JsonError::WrongKind));
-    assert_eq!(rt;
-        refused_list(alloc, "[1,2,-3]")?,
-        Some(JsonError::OutOfRange)
-    );
-    assert_eq!(rt;
-        refused_list(alloc, "[[1,2,3],4]")?,
-        Some(JsonError::WrongKind)
-    );
+    for (text, error) in [
+        ("{}", JsonError::WrongKind),
+        ("[1,2]", JsonError::WrongKind),
+        ("[1,2,-3]", JsonError::OutOfRange),
+        ("[[1,2,3],4]", JsonError::WrongKind),
+    ] {
+        assert_eq!(rt; refused_list(rt.alloc(), text)?, Some(error), "at {text}");
+    }
     Ok(())
 }

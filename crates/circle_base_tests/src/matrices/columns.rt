@@ -2,6 +2,7 @@
 use circle_commit::{FieldMatrix, Matrix, RowMajorMatrix};
 use circle_field::{Cubic, ExtensionField, Field, Mersenne31};
 use std::alloc::{AllocError, Global};
+use std::process::Abort;
 use std::test::Fail;
 
 fn cubic(c0: u64, c1: u64) -> Cubic {
@@ -25,22 +26,44 @@ fn three_rows(alloc: Global) -> Result<RowMajorMatrix<Mersenne31>, AllocError> {
     Ok(RowMajorMatrix::new(values, 2))
 }
 
+// Asserts that the lists have these entries.
+fn assert_lists(rt: &impl Abort, lists: &[Vec<Cubic>], expected: &[[Cubic; 2]]) {
+    assert_eq!(rt; lists.len(), expected.len());
+    for (list, entries) in lists.iter().zip(expected) {
+        assert_eq!(rt; list.as_slice(), entries.as_slice());
+    }
+}
+
+#[test]
+fn sums_of_columns_by_a_list_of_weights(rt: HostRuntime) -> Result<(), Fail> {
+    let matrix = three_rows(rt.alloc())?;
+    assert_eq!(rt; matrix.height(), 3);
+    let powers = [cubic(1, 0), cubic(10, 0), cubic(100, 0)];
+    let sums = matrix.columnwise_dot_product(rt.alloc(), &powers)?;
+    assert_eq!(rt; sums.as_slice(), [cubic(531, 0), cubic(642, 0)].as_slice());
+    Ok(())
+}
+
 #[test]
 fn sums_of_columns_by_two_lists_of_weights(rt: HostRuntime) -> Result<(), Fail> {
-    let alloc = rt.alloc();
-    let matrix = three_rows(alloc)?;
+    let matrix = three_rows(rt.alloc())?;
     assert_eq!(rt; matrix.height(), 3);
     let powers = [cubic(1, 0), cubic(10, 0), cubic(100, 0)];
     let others = [cubic(0, 1), cubic(0, 0), cubic(2, 0)];
     let by_powers = [cubic(531, 0), cubic(642, 0)];
     let by_others = [cubic(10, 1), cubic(12, 2)];
-    let one = matrix.columnwise_dot_product(alloc, &powers)?;
-    assert_eq!(rt; one.as_slice(), by_powers.as_slice());
-    let both = matrix.columnwise_dot_products(alloc, &[&powers, &others])?;
-    assert_eq!(rt; both.len(), 2);
-    assert_eq!(rt; both[0].as_slice(), by_powers.as_slice());
-    assert_eq!(rt; both[1].as_slice(), by_others.as_slice());
-    let none = matrix.columnwise_dot_products::<Cubic>(alloc, &[])?;
-    assert!(rt; none.is_empty());
+    let both = matrix.columnwise_dot_products(rt.alloc(), &[&powers, &others])?;
+    assert_lists(&rt, &both, &[by_powers, by_others]);
+    Ok(())
+}
+
+#[test]
+fn no_sums_of_columns_by_no_list_of_weights(rt: HostRuntime) -> Result<(), Fail> {
+    let matrix = three_rows(rt.alloc())?;
+    assert!(rt;
+        matrix
+            .columnwise_dot_products::<Cubic>(rt.alloc(), &[])?
+            .is_empty()
+    );
     Ok(())
 }
