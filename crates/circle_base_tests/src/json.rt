@@ -19,7 +19,7 @@ pub fn refusal<T: JsonForm + Drop>(alloc: Global, text: &str) -> Result<Option<J
 }
 
 // The text of a value, through the bound.
-pub fn written<T: JsonForm>(alloc: Global, value: &T) -> Result<String, AllocError> {
+fn written<T: JsonForm>(alloc: Global, value: &T) -> Result<String, AllocError> {
     value.to_json(alloc)?.to_string(alloc)
 }
 
@@ -31,6 +31,19 @@ pub fn assert_refused<T: JsonForm + Drop>(
 ) -> Result<(), Fail> {
     for (text, error) in cases {
         assert_eq!(rt; refusal::<T>(alloc, text)?, Some(*error), "at {text}");
+    }
+    Ok(())
+}
+
+// Asserts as which text the value of each text is written.
+pub fn assert_rewritten<T: JsonForm + Drop>(
+    rt: &impl Abort,
+    alloc: Global,
+    cases: &[(&str, &str)],
+) -> Result<(), Fail> {
+    for (text, rewritten) in cases {
+        let value: T = read(alloc, text)??;
+        assert_eq!(rt; written(alloc, &value)?.as_str(), *rewritten);
     }
     Ok(())
 }

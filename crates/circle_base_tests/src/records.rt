@@ -1,6 +1,6 @@
 //! Records against texts that are written by hand.
-use crate::json::{assert_refused, read, written};
-use circle_commit::{BatchMultiOpening, CommitmentOpening, FriParameters, JsonError, JsonForm};
+use crate::json::{assert_refused, assert_rewritten, read};
+use circle_commit::{BatchMultiOpening, CommitmentOpening, FriParameters, JsonError};
 use circle_field::{Cubic, Mersenne31};
 use circle_json::{coefficients_from_json, coefficients_to_json};
 use circle_merkle::ShaMmcs;
@@ -12,12 +12,6 @@ use std::test::Fail;
 type Opening = BatchMultiOpening<Mersenne31, ShaMmcs<Mersenne31>>;
 
 type Claims = CommitmentOpening<Cubic, [u8; 32], usize>;
-
-// Whether a text is read, and the value written as the same text.
-fn stays<T: JsonForm + Drop>(alloc: Global, text: &str) -> Result<bool, Fail> {
-    let value: T = read(alloc, text)??;
-    Ok(written(alloc, &value)?.as_str() == text)
-}
 
 const OPENING: &str = "{\"opened_values\":[[[1,2],[]],[]],\"opening_proof\":[]}";
 
@@ -34,17 +28,18 @@ const REFUSED_OPENINGS: &[(&str, JsonError)] = &[
     ),
 ];
 
-// The number of queries of the opening that a text is read as.
-fn opened_queries(alloc: Global, text: &str) -> Result<usize, Fail> {
+// Asserts for how many queries rows are opened in what a text is read as.
+fn assert_opened(rt: &impl Abort, alloc: Global, text: &str, queries: usize) -> Result<(), Fail> {
     let opening: Opening = read(alloc, text)??;
-    Ok(opening.opened_values.len())
+    assert_eq!(rt; opening.opened_values.len(), queries);
+    Ok(())
 }
 
 #[test]
 fn openings_have_two_members(rt: HostRuntime) -> Result<(), Fail> {
     let alloc = rt.alloc();
-    assert!(rt; stays::<Opening>(alloc, OPENING)?);
-    assert_eq!(rt; opened_queries(alloc, OPENING)?, 2);
+    assert_rewritten::<Opening>(&rt, alloc, &[(OPENING, OPENING)])?;
+    assert_opened(&rt, alloc, OPENING, 2)?;
     assert_refused::<Opening>(&rt, alloc, REFUSED_OPENINGS)
 }
 
@@ -53,20 +48,37 @@ const CLAIMS: &str =
     "{\"commitment\":\"000102030405060708090a0b0c0d0e0f101112131415161718191a1b1c1d1eff\",\
      \"matrices\":[{\"log_n\":3,\"points\":[{\"point\":[1,2,3],\"values\":[[4,5,6],[7,8,9]]}]}]}";
 
-#[test]
-fn claims_are_nested_objects(rt: HostRuntime) -> Result<(), Fail> {
-    let alloc = rt.alloc();
-    assert!(rt; stays::<Claims>(alloc, CLAIMS)?);
-    let claims: Claims = read(alloc, CLAIMS)??;
+// Asserts that a text is read as claims about one matrix of this domain, at one point with so many
+// values.
+fn assert_claims(
+    rt: &impl Abort,
+    alloc: Global,
+    text: &str,
+    domain: usize,
+    values: usize,
+) -> Result<(), Fail> {
+    let claims: Claims = read(alloc, text)??;
     assert_eq!(rt; claims.matrices.len(), 1);
     let matrix = &claims.matrices[0];
     assert_eq!(rt; matrix.points.len(), 1);
-    assert_eq!(rt; (matrix.domain, matrix.points[0].values.len()), (3, 2));
-    assert_refused::<Claims>(
-        &rt,
-        alloc,
-        &[("{\"commitment\":0,\"domain\":[]}", JsonError::MissingKey)],
-    )
+    assert_eq!(rt;
+        (matrix.domain, matrix.points[0].values.len()),
+        (domain, values)
+    );
+    Ok(())
+}
+
+const REFUSED_CLAIMS: &[(&str, JsonError)] = &[(
+    "{\"commitment\":0,\"domain\":[]}",
+    JsonError::MissingKey,
+)];
+
+#[test]
+fn claims_are_nested_objects(rt: HostRuntime) -> Result<(), Fail> {
+    let alloc = rt.alloc();
+    assert_rewritten::<Claims>(&rt, alloc, &[(CLAIMS, CLAIMS)])?;
+    assert_claims(&rt, alloc, CLAIMS, 3, 2)?;
+    assert_refused::<Claims>(&rt, alloc, REFUSED_CLAIMS)
 }
 
 const SHORT: &str = "{\"batch_pow_bits\":1,\"commit_pow_bits\":2,\"log_blowup\":3,\
@@ -78,10 +90,15 @@ const WHOLE: &str = "{\"batch_pow_bits\":1,\"commit_pow_bits\":2,\"log_blowup\":
 const ZERO: &str = "{\"batch_pow_bits\":1,\"commit_pow_bits\":2,\"log_blowup\":3,\
      \"log_final_poly_len\":0,\"max_log_arity\":4,\"num_queries\":5,\"query_pow_bits\":6}";
 
-// The numbers of the parameters that a text is read as, the final length's logarithm first.
-fn numbers(alloc: Global, text: &str) -> Result<[usize; 7], Fail> {
+// Asserts the numbers of the parameters that a text is read as, the final length's logarithm first.
+fn assert_numbers(
+    rt: &impl Abort,
+    alloc: Global,
+    text: &str,
+    expected: [usize; 7],
+) -> Result<(), Fail> {
     let parameters: FriParameters<()> = read(alloc, text)??;
-    Ok([
+    let numbers = [
         parameters.log_final_poly_len,
         parameters.batch_proof_of_work_bits,
         parameters.commit_proof_of_work_bits,
@@ -89,19 +106,19 @@ fn numbers(alloc: Global, text: &str) -> Result<[usize; 7], Fail> {
         parameters.max_log_arity,
         parameters.num_queries,
         parameters.query_proof_of_work_bits,
-    ])
+    ];
+    assert_eq!(rt; numbers, expected);
+    Ok(())
 }
+
+const REWRITTEN_PARAMETERS: &[(&str, &str)] = &[(SHORT, SHORT), (WHOLE, WHOLE), (ZERO, SHORT)];
 
 #[test]
 fn parameters_may_lack_the_final_length(rt: HostRuntime) -> Result<(), Fail> {
     let alloc = rt.alloc();
-    assert!(rt; stays::<FriParameters<()>>(alloc, SHORT)?);
-    assert!(rt; stays::<FriParameters<()>>(alloc, WHOLE)?);
-    assert_eq!(rt; numbers(alloc, SHORT)?, [0, 1, 2, 3, 4, 5, 6]);
-    assert_eq!(rt; numbers(alloc, WHOLE)?, [7, 1, 2, 3, 4, 5, 6]);
-    let zero: FriParameters<()> = read(alloc, ZERO)??;
-    assert_eq!(rt; written(alloc, &zero)?.as_str(), SHORT);
-    Ok(())
+    assert_numbers(&rt, alloc, SHORT, [0, 1, 2, 3, 4, 5, 6])?;
+    assert_numbers(&rt, alloc, WHOLE, [7, 1, 2, 3, 4, 5, 6])?;
+    assert_rewritten::<FriParameters<()>>(&rt, alloc, REWRITTEN_PARAMETERS)
 }
 
 // Parameters without the blowup, and with the final length under another name.
@@ -131,17 +148,19 @@ fn rewritten(alloc: Global, text: &str) -> Result<(usize, String), Fail> {
     Ok((list.len(), text))
 }
 
+// Texts, the number of their coefficients, and the texts that these are written as.
+const REWRITTEN_LISTS: &[(&str, usize, &str)] = &[
+    ("[1,2,3]", 1, "[1,2,3]"),
+    ("[[1,2,3]]", 1, "[1,2,3]"),
+    ("[]", 0, "[]"),
+    ("[[1,2,3],[4,5,6]]", 2, "[[1,2,3],[4,5,6]]"),
+];
+
 #[test]
 fn one_coefficient_stands_for_itself(rt: HostRuntime) -> Result<(), Fail> {
-    let alloc = rt.alloc();
-    for (text, expected_len, expected) in [
-        ("[1,2,3]", 1, "[1,2,3]"),
-        ("[[1,2,3]]", 1, "[1,2,3]"),
-        ("[]", 0, "[]"),
-        ("[[1,2,3],[4,5,6]]", 2, "[[1,2,3],[4,5,6]]"),
-    ] {
-        let (len, text) = rewritten(alloc, text)?;
-        assert_eq!(rt; (len, text.as_str()), (expected_len, expected));
+    for (text, expected_len, expected) in REWRITTEN_LISTS {
+        let (len, text) = rewritten(rt.alloc(), text)?;
+        assert_eq!(rt; (len, text.as_str()), (*expected_len, *expected));
     }
     Ok(())
 }
@@ -152,15 +171,17 @@ fn refused_list(alloc: Global, text: &str) -> Result<Option<JsonError>, Fail> {
     Ok(coefficients_from_json::<Cubic>(alloc, &value).err())
 }
 
+const REFUSED_LISTS: &[(&str, JsonError)] = &[
+    ("{}", JsonError::WrongKind),
+    ("[1,2]", JsonError::WrongKind),
+    ("[1,2,-3]", JsonError::OutOfRange),
+    ("[[1,2,3],4]", JsonError::WrongKind),
+];
+
 #[test]
 fn coefficients_are_refused_as_their_elements(rt: HostRuntime) -> Result<(), Fail> {
-    for (text, error) in [
-        ("{}", JsonError::WrongKind),
-        ("[1,2]", JsonError::WrongKind),
-        ("[1,2,-3]", JsonError::OutOfRange),
-        ("[[1,2,3],4]", JsonError::WrongKind),
-    ] {
-        assert_eq!(rt; refused_list(rt.alloc(), text)?, Some(error), "at {text}");
+    for (text, error) in REFUSED_LISTS {
+        assert_eq!(rt; refused_list(rt.alloc(), text)?, Some(*error), "at {text}");
     }
     Ok(())
 }
