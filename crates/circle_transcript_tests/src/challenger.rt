@@ -150,19 +150,38 @@ where
     transcript.finish();
 }
 
+/// The numbers of a separator's steps, of its text's bytes and of its labels.
+pub fn sizes(separator: &DomainSeparator) -> [usize; 3] {
+    [
+        separator.pattern().steps().len(),
+        separator.text().len(),
+        separator.labels().len(),
+    ]
+}
+
+/// The label of a separator at this place, if there is one.
+pub fn label(separator: &DomainSeparator, place: usize) -> Option<&[u8]> {
+    separator.labels().get(place).map(|label| label.as_slice())
+}
+
+/// The layout of one matrix that is opened at one point.
+const LAYOUT: [u8; 24] = [
+    0, 0, 0, 0, 0, 0, 0, 1, 0, 0, 0, 0, 0, 0, 0, 1, 0, 0, 0, 0, 0, 0, 0, 1,
+];
+
+/// The separator of those steps, of blowup logarithm 1 and of that layout.
+fn separator(alloc: Global) -> Result<DomainSeparator, AllocError> {
+    DomainSeparator::new(alloc, 1, "p3-circle-pcs", pattern(alloc)?)?
+        .instance(alloc, &1u64.to_be_bytes())?
+        .instance(alloc, &LAYOUT)
+}
+
 #[test]
 fn the_seed_text_is_the_table(rt: HostRuntime) -> Result<(), Fail> {
-    let alloc = rt.alloc();
-    let separator = DomainSeparator::new(alloc, 1, "p3-circle-pcs", pattern(alloc)?)?;
-    let separator = separator.instance(alloc, &1u64.to_be_bytes())?;
-    let layout = [
-        0, 0, 0, 0, 0, 0, 0, 1, 0, 0, 0, 0, 0, 0, 0, 1, 0, 0, 0, 0, 0, 0, 0, 1,
-    ];
-    let separator = separator.instance(alloc, &layout)?;
+    let separator = separator(rt.alloc())?;
     assert_eq!(rt; separator.text(), SEED.as_slice());
-    assert_eq!(rt; separator.pattern().steps().len(), 9);
-    assert_eq!(rt; separator.labels().len(), 2);
-    assert_eq!(rt; separator.labels()[1].as_slice(), layout.as_slice());
+    assert_eq!(rt; sizes(&separator), [9, SEED.len(), 2]);
+    assert_eq!(rt; label(&separator, 1), Some(LAYOUT.as_slice()));
     Ok(())
 }
 
@@ -174,42 +193,66 @@ fn cubic(a: u64, b: u64, c: u64) -> Cubic {
     Cubic::from_coefficients(&[element(a), element(b), element(c)])
 }
 
-#[test]
-fn the_sponge_is_the_digests_of_its_states(rt: HostRuntime) {
+/// The first element that is drawn after these elements are taken in.
+fn after_elements(elements: &[Mersenne31]) -> Mersenne31 {
     let mut challenger = Sha256Challenger::new();
-    let first: Mersenne31 = challenger.sample();
-    assert_eq!(rt; first, element(887805594));
-
-    let mut challenger = Sha256Challenger::default();
-    let numbers = [0, 0, 6, 638, 1934231230, 33323379293894408];
-    for (bits, number) in [0, 1, 5, 10, 31, 63].iter().zip(numbers) {
-        assert_eq!(rt; challenger.sample_bits(*bits), number, "{bits} bits");
+    for element in elements {
+        challenger.observe(element);
     }
+    challenger.sample()
+}
 
+/// The first element that is drawn after this commitment is taken in.
+fn after_commitment(commitment: [u8; 32]) -> Mersenne31 {
     let mut challenger = Sha256Challenger::new();
-    challenger.observe(&-Mersenne31::ONE);
-    challenger.observe(&element(5));
-    let third: Mersenne31 = challenger.sample();
-    assert_eq!(rt; third, element(1443688485));
+    challenger.observe(&commitment);
+    challenger.sample()
+}
 
+/// The first element that is drawn after these bytes are taken in.
+fn after_bytes(bytes: &[u8]) -> Mersenne31 {
     let mut challenger = Sha256Challenger::new();
-    challenger.observe(&[7u8; 32]);
-    let after_commitment: Mersenne31 = challenger.sample();
-    assert_eq!(rt; after_commitment, element(563722081));
-
-    let mut challenger = Sha256Challenger::new();
-    challenger.observe_bytes(b"abc");
-    let after_bytes: Mersenne31 = challenger.sample();
-    assert_eq!(rt; after_bytes, element(990172798));
+    challenger.observe_bytes(bytes);
+    challenger.sample()
 }
 
 #[test]
-fn grinding_finds_the_least_witness(rt: HostRuntime) -> Result<(), Fail> {
+fn the_sponge_is_the_digests_of_its_states(rt: HostRuntime) {
+    for (found, expected) in [
+        (after_elements(&[]), 887805594),
+        (after_elements(&[-Mersenne31::ONE, element(5)]), 1443688485),
+        (after_commitment([7; 32]), 563722081),
+        (after_bytes(b"abc"), 990172798),
+    ] {
+        assert_eq!(rt; found, element(expected));
+    }
+}
+
+#[test]
+fn numbers_are_drawn_from_the_states(rt: HostRuntime) {
+    let mut challenger = Sha256Challenger::default();
+    for (bits, number) in [
+        (0, 0),
+        (1, 0),
+        (5, 6),
+        (10, 638),
+        (31, 1934231230),
+        (63, 33323379293894408),
+    ] {
+        assert_eq!(rt; challenger.sample_bits(bits), number, "{bits} bits");
+    }
+}
+
+#[test]
+fn grinding_without_a_difficulty_changes_nothing(rt: HostRuntime) {
     let mut challenger = Sha256Challenger::new();
     assert_eq!(rt; challenger.grind(0), Some(Mersenne31::ZERO));
     assert!(rt; challenger.check_witness(0, element(9)));
     assert_eq!(rt; challenger, Sha256Challenger::new());
+}
 
+#[test]
+fn grinding_finds_the_least_witness(rt: HostRuntime) {
     for (bits, witness) in [(1, 3), (8, 312), (12, 6094)] {
         let mut prover = Sha256Challenger::new();
         assert_eq!(rt; prover.grind(bits), Some(element(witness)), "{bits} bits");
@@ -217,7 +260,10 @@ fn grinding_finds_the_least_witness(rt: HostRuntime) -> Result<(), Fail> {
         assert!(rt; verifier.check_witness(bits, element(witness)));
         assert_eq!(rt; prover, verifier);
     }
+}
 
+#[test]
+fn grinding_and_a_miss_change_the_state(rt: HostRuntime) {
     let mut challenger = Sha256Challenger::new();
     let _ = challenger.grind(8);
     let after: Mersenne31 = challenger.sample();
@@ -226,7 +272,6 @@ fn grinding_finds_the_least_witness(rt: HostRuntime) -> Result<(), Fail> {
     assert!(rt; !challenger.check_witness(8, Mersenne31::ZERO));
     let after_miss: Mersenne31 = challenger.sample();
     assert_eq!(rt; after_miss, element(862777544));
-    Ok(())
 }
 
 #[test]

@@ -3,8 +3,11 @@ ghost use Rattle.std.specs.Prelude.{◌≡◌, ◌≤◌, ◌<◌, ◌+◌, [], 
 ghost use Rattle.circle_transcript.specs.Shape.{claimed_widths};
 ghost use Rattle.circle_transcript.specs.ShapeOf.{shape_of, batches_of};
 
+use crate::challenger::{label, sizes};
 use crate::stubborn::Stubborn;
-use circle_challenger::{CanObserve, CanSample, GrindingChallenger, Sha256Challenger};
+use circle_challenger::{
+    CanObserve, CanSample, DomainSeparator, GrindingChallenger, Sha256Challenger,
+};
 use circle_commit::{FriParameters, PowPhase};
 use circle_field::{Cubic, ExtensionField, Field, Mersenne31};
 use circle_point::{Neutral, Point};
@@ -13,6 +16,7 @@ use circle_transcript::{
     both_runs, prover_run, verifier_run,
 };
 use std::alloc::{AllocError, Global};
+use std::process::Abort;
 use std::test::Fail;
 
 mod coefficients;
@@ -156,56 +160,117 @@ where
     )
 }
 
+/// Asserts what a run draws.
+fn assert_draws(
+    rt: &impl Abort,
+    draws: &CircleDraws<Cubic>,
+    alpha: Cubic,
+    bivariate: Cubic,
+    betas: &[Cubic],
+    indices: &[usize],
+) {
+    assert_eq!(rt; (draws.alpha, draws.bivariate), (alpha, bivariate));
+    assert_eq!(rt; draws.betas.as_slice(), betas);
+    assert_eq!(rt; draws.indices.as_slice(), indices);
+}
+
+/// Asserts that two runs draw the same.
+fn assert_alike(rt: &impl Abort, first: &CircleDraws<Cubic>, second: &CircleDraws<Cubic>) {
+    assert_draws(
+        rt,
+        first,
+        second.alpha,
+        second.bivariate,
+        &second.betas,
+        &second.indices,
+    );
+}
+
+/// How many rounds and bits of an index a shape over no claims counts.
+fn counts(alloc: Global, log_blowup: usize, log_max_height: usize) -> [usize; 2]
+    requires { log_blowup < log_max_height }
+{
+    let shape = CirclePcsShape::new(
+        &params(log_blowup, NONE),
+        Vec::new(alloc),
+        log_max_height,
+        1,
+    );
+    [shape.num_commit_rounds, shape.index_bits]
+}
+
 #[test]
-fn a_shape_counts_rounds_and_bits(rt: HostRuntime) -> Result<(), Fail> {
+fn a_shape_counts_rounds_and_bits(rt: HostRuntime) {
+    assert_eq!(rt; counts(rt.alloc(), 2, 10), [7, 10]);
+    assert_eq!(rt; counts(rt.alloc(), 1, 5), [3, 5]);
+}
+
+#[test]
+fn a_shape_is_as_its_clone(rt: HostRuntime) -> Result<(), Fail> {
     let alloc = rt.alloc();
-    let shape = CirclePcsShape::new(&params(2, NONE), Vec::new(alloc), 10, 1);
-    assert_eq!(rt; shape.num_commit_rounds, 7);
-    assert_eq!(rt; shape.index_bits, 10);
     let shape = CirclePcsShape::new(&params(1, NONE), Vec::new(alloc), 5, 1);
-    assert_eq!(rt; shape.num_commit_rounds, 3);
-    assert_eq!(rt; shape.index_bits, 5);
     assert_eq!(rt; shape.try_clone(alloc)?, shape);
     Ok(())
 }
 
 #[test]
 fn the_seed_names_the_run(rt: HostRuntime) -> Result<(), Fail> {
-    let alloc = rt.alloc();
-    let shape = shape(alloc, 1, NONE)?;
-    let separator = shape.domain_separator::<Mersenne31, Cubic>(alloc)?;
-    assert_eq!(rt; separator.pattern().steps().len(), 9);
-    assert_eq!(rt; separator.text().len(), 480);
+    let shape = shape(rt.alloc(), 1, NONE)?;
+    let separator = shape.domain_separator::<Mersenne31, Cubic>(rt.alloc())?;
+    assert_eq!(rt; sizes(&separator), [9, 480, 2]);
     assert!(rt; separator.text().starts_with(&HEADER));
     Ok(())
+}
+
+/// One batch of two matrices of four columns, each opened at one point.
+fn two_matrices(alloc: Global) -> Result<Vec<Vec<Vec<usize>>>, AllocError> {
+    let (first, second) = (vec![in alloc; 4]?, vec![in alloc; 4]?);
+    let matrices = vec![in alloc; first, second]?;
+    Ok(vec![in alloc; matrices]?)
+}
+
+const LAYOUT_OF_TWO_MATRICES: [u8; 32] = [
+    0, 0, 0, 0, 0, 0, 0, 1, 0, 0, 0, 0, 0, 0, 0, 2, 0, 0, 0, 0, 0, 0, 0, 1, 0, 0, 0, 0, 0, 0, 0, 1,
+];
+
+const LAYOUT_OF_TWO_POINTS: [u8; 24] = [
+    0, 0, 0, 0, 0, 0, 0, 1, 0, 0, 0, 0, 0, 0, 0, 1, 0, 0, 0, 0, 0, 0, 0, 2,
+];
+
+/// The separator of a shape over claims of these numbers of columns.
+fn separator_over(
+    alloc: Global,
+    opened_widths: Vec<Vec<Vec<usize>>>,
+) -> Result<DomainSeparator, AllocError> {
+    let shape = CirclePcsShape::new(&params(1, NONE), opened_widths, 3, 1);
+    shape.domain_separator::<Mersenne31, Cubic>(alloc)
 }
 
 #[test]
 fn a_layout_tells_matrices_from_points(rt: HostRuntime) -> Result<(), Fail> {
     let alloc = rt.alloc();
-    let first = vec![in alloc; 4]?;
-    let second = vec![in alloc; 4]?;
-    let matrices = vec![in alloc; first, second]?;
-    let two_matrices = CirclePcsShape::new(&params(1, NONE), vec![in alloc; matrices]?, 3, 1);
-    let two_points = CirclePcsShape::new(
-        &params(1, NONE),
-        one_matrix(alloc, vec![in alloc; 4, 4]?)?,
-        3,
-        1,
-    );
-    let one = two_matrices.domain_separator::<Mersenne31, Cubic>(alloc)?;
-    let other = two_points.domain_separator::<Mersenne31, Cubic>(alloc)?;
-    let layout = [
-        0, 0, 0, 0, 0, 0, 0, 1, 0, 0, 0, 0, 0, 0, 0, 2, 0, 0, 0, 0, 0, 0, 0, 1, 0, 0, 0, 0, 0, 0,
-        0, 1,
-    ];
-    assert_eq!(rt; one.labels()[1].as_slice(), layout.as_slice());
-    let layout = [
-        0, 0, 0, 0, 0, 0, 0, 1, 0, 0, 0, 0, 0, 0, 0, 1, 0, 0, 0, 0, 0, 0, 0, 2,
-    ];
-    assert_eq!(rt; other.labels()[1].as_slice(), layout.as_slice());
+    let one = separator_over(alloc, two_matrices(alloc)?)?;
+    let other = separator_over(alloc, one_matrix(alloc, vec![in alloc; 4, 4]?)?)?;
+    assert_eq!(rt; label(&one, 1), Some(LAYOUT_OF_TWO_MATRICES.as_slice()));
+    assert_eq!(rt; label(&other, 1), Some(LAYOUT_OF_TWO_POINTS.as_slice()));
     assert_eq!(rt; one.pattern().steps(), other.pattern().steps());
     assert_ne!(rt; one.text(), other.text());
+    Ok(())
+}
+
+/// Asserts that two shapes have the same text for a seed.
+fn assert_same_text(
+    rt: &impl Abort,
+    alloc: Global,
+    shape: &CirclePcsShape,
+    other: &CirclePcsShape,
+) -> Result<(), AllocError>
+    requires shape { shape.now.log_final_poly_len ≤ 63 }
+    requires other { other.now.log_final_poly_len ≤ 63 }
+{
+    let one = shape.domain_separator::<Mersenne31, Cubic>(alloc)?;
+    let other = other.domain_separator::<Mersenne31, Cubic>(alloc)?;
+    assert_eq!(rt; one.text(), other.text());
     Ok(())
 }
 
@@ -214,29 +279,35 @@ fn without_rounds_their_difficulty_is_not_named(rt: HostRuntime) -> Result<(), F
     let alloc = rt.alloc();
     let easy = shape(alloc, 0, NONE)?;
     let hard = shape(alloc, 0, Difficulties { commit: 5, ..NONE })?;
-    let one = easy.domain_separator::<Mersenne31, Cubic>(alloc)?;
-    let other = hard.domain_separator::<Mersenne31, Cubic>(alloc)?;
-    assert_eq!(rt; one.text(), other.text());
+    assert_same_text(&rt, alloc, &easy, &hard)?;
     assert!(rt; easy.has_seed_of::<Mersenne31, Cubic>(alloc, &hard)?);
+    Ok(())
+}
+
+/// Asserts that the verifier draws what the prover does in a run of one round.
+fn assert_both_draw_alike(
+    rt: &impl Abort,
+    alloc: Global,
+    bits: Difficulties,
+) -> Result<(), CircleTranscriptFailure>
+    requires batch { bits.batch ≤ 63 }
+    requires commit { bits.commit ≤ 63 }
+    requires query { bits.query ≤ 63 }
+{
+    let mut prover = Sha256Challenger::new();
+    let mut verifier = Sha256Challenger::new();
+    let (drawn, witnesses) = prove(alloc, &mut prover, &[[9; 32]], bits)?;
+    let again = verify(alloc, &mut verifier, &[[9; 32]], bits, &witnesses)?;
+    assert_alike(rt, &again, &drawn);
+    assert_eq!(rt; verifier, prover);
     Ok(())
 }
 
 #[test]
 fn both_sides_draw_alike(rt: HostRuntime) -> Result<(), Fail> {
-    let alloc = rt.alloc();
     for batch in [0, 8] {
         let bits = Difficulties { batch, ..NONE };
-        let mut prover = Sha256Challenger::new();
-        let (drawn, witnesses) = prove(alloc, &mut prover, &[[9; 32]], bits).map_err(|_| "no run")?;
-        let mut verifier = Sha256Challenger::new();
-        let again = verify(alloc, &mut verifier, &[[9; 32]], bits, &witnesses).map_err(
-            |_| "a miss",
-        )?;
-        assert_eq!(rt; again.alpha, drawn.alpha);
-        assert_eq!(rt; again.bivariate, drawn.bivariate);
-        assert_eq!(rt; again.betas.as_slice(), drawn.betas.as_slice());
-        assert_eq!(rt; again.indices.as_slice(), drawn.indices.as_slice());
-        assert_eq!(rt; verifier, prover);
+        assert_both_draw_alike(&rt, rt.alloc(), bits).map_err(|_| "no run, or a miss")?;
     }
     Ok(())
 }
@@ -270,66 +341,104 @@ fn both_runs_draw_alike(rt: HostRuntime) -> Result<(), Fail> {
     );
     let (first, second) = runs.map_err(|_| "no run")?;
     assert_eq!(rt; first.betas.len(), 2);
-    assert_eq!(rt; first.betas.as_slice(), second.betas.as_slice());
+    assert_alike(&rt, &first, &second);
     assert_eq!(rt; prover, verifier);
     Ok(())
 }
 
-#[test]
-fn a_miss_names_its_phase(rt: HostRuntime) -> Result<(), Fail> {
-    let alloc = rt.alloc();
-    let mut missed = 0;
-    for n in 0..8 {
-        let bits = Difficulties { commit: 8, ..NONE };
-        let witnesses = CircleWitnesses {
-            batch: element(0),
-            rounds: vec![in alloc; element(n)]?,
-            query: element(0),
-        };
-        let mut challenger = Sha256Challenger::new();
-        if let Err(failure) = verify(alloc, &mut challenger, &[[9; 32]], bits, &witnesses) {
-            let phase = PowPhase::CommitPhase;
-            assert_eq!(rt;
-                failure,
-                CircleTranscriptFailure::PowWitness { phase, bits: 8 }
-            );
-            assert_eq!(rt; failure.phase(), phase);
-            missed |= 1;
-        }
-        let bits = Difficulties { query: 8, ..NONE };
-        let witnesses = CircleWitnesses {
-            batch: element(0),
-            rounds: Vec::new(alloc),
-            query: element(n),
-        };
-        let mut challenger = Sha256Challenger::new();
-        if let Err(failure) = verify(alloc, &mut challenger, &[], bits, &witnesses) {
-            let phase = PowPhase::Query;
-            assert_eq!(rt;
-                failure,
-                CircleTranscriptFailure::PowWitness { phase, bits: 8 }
-            );
-            missed |= 2;
-        }
-    }
-    assert_eq!(rt; missed, 3);
+/// The verifier's verdict on a run of these witnesses.
+fn checked(
+    alloc: Global,
+    commitments: &[[u8; 32]],
+    bits: Difficulties,
+    witnesses: &CircleWitnesses<Mersenne31>,
+) -> Result<(), CircleTranscriptFailure>
+    requires few { length commitments.now ≤ 10 }
+    requires paired { length witnesses.now.rounds.items ≡ length commitments.now }
+    requires batch { bits.batch ≤ 63 }
+    requires commit { bits.commit ≤ 63 }
+    requires query { bits.query ≤ 63 }
+{
+    verify(
+        alloc,
+        &mut Sha256Challenger::new(),
+        commitments,
+        bits,
+        witnesses,
+    )?;
     Ok(())
 }
 
+/// The verdict on a run whose round has a difficulty of 8 bits, with this witness.
+fn round_checked(alloc: Global, witness: u64) -> Result<(), CircleTranscriptFailure> {
+    let witnesses = CircleWitnesses {
+        batch: element(0),
+        rounds: Vec::from_slice(alloc, &[element(witness)])?,
+        query: element(0),
+    };
+    checked(
+        alloc,
+        &[[9; 32]],
+        Difficulties { commit: 8, ..NONE },
+        &witnesses,
+    )
+}
+
+/// The verdict on a run without rounds whose queries have a difficulty of 8 bits, with this
+/// witness.
+fn queries_checked(alloc: Global, witness: u64) -> Result<(), CircleTranscriptFailure> {
+    let witnesses = CircleWitnesses {
+        batch: element(0),
+        rounds: Vec::new(alloc),
+        query: element(witness),
+    };
+    checked(alloc, &[], Difficulties { query: 8, ..NONE }, &witnesses)
+}
+
+/// Whether there is a failure, which has to be a miss of 8 bits in this phase.
+fn misses(rt: &impl Abort, verdict: Result<(), CircleTranscriptFailure>, phase: PowPhase) -> bool {
+    let Err(failure) = verdict else {
+        return false;
+    };
+    assert_eq!(rt;
+        failure,
+        CircleTranscriptFailure::PowWitness { phase, bits: 8 }
+    );
+    assert_eq!(rt; failure.phase(), phase);
+    true
+}
+
 #[test]
-fn where_no_witness_passes_the_prover_fails(rt: HostRuntime) -> Result<(), Fail> {
-    let alloc = rt.alloc();
-    let mut stubborn = Stubborn { taken: 0 };
-    let bits = Difficulties { batch: 4, ..NONE };
-    let phase = PowPhase::Batch;
-    match prove(alloc, &mut stubborn, &[], bits) {
-        Ok(_) => assert!(rt; false),
-        Err(failure) => {
-            assert_eq!(rt;
-                failure,
-                CircleTranscriptFailure::NoWitness { phase, bits: 4 }
-            );
-        }
+fn a_miss_names_its_phase(rt: HostRuntime) {
+    let mut missed = (false, false);
+    for witness in 0..8 {
+        let verdict = round_checked(rt.alloc(), witness);
+        missed.0 |= misses(&rt, verdict, PowPhase::CommitPhase);
+        let verdict = queries_checked(rt.alloc(), witness);
+        missed.1 |= misses(&rt, verdict, PowPhase::Query);
     }
-    Ok(())
+    assert_eq!(rt; missed, (true, true));
+}
+
+/// Why the prover fails where no witness passes.
+fn failure_of_no_witness(
+    alloc: Global,
+    commitments: &[[u8; 32]],
+    bits: Difficulties,
+) -> Option<CircleTranscriptFailure>
+    requires few { length commitments.now ≤ 10 }
+    requires batch { bits.batch ≤ 63 }
+    requires commit { bits.commit ≤ 63 }
+    requires query { bits.query ≤ 63 }
+{
+    prove(alloc, &mut Stubborn { taken: 0 }, commitments, bits).err()
+}
+
+#[test]
+fn where_no_witness_passes_the_prover_fails(rt: HostRuntime) {
+    let phase = PowPhase::Batch;
+    assert_eq!(rt;
+        failure_of_no_witness(rt.alloc(), &[], Difficulties { batch: 4, ..NONE }),
+        Some(CircleTranscriptFailure::NoWitness { phase, bits: 4 })
+    );
 }

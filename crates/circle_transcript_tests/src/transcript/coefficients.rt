@@ -3,7 +3,8 @@ ghost use Rattle.std.specs.Prelude.{◌≡◌, [], ◌∷◌, IfOk};
 ghost use Rattle.circle_transcript.specs.Shape.{claimed_widths};
 ghost use Rattle.circle_transcript.specs.ShapeOf.{shape_of};
 
-use crate::transcript::{NONE, cubic, one_matrix, params, shape};
+use crate::challenger::{label, sizes};
+use crate::transcript::{NONE, assert_alike, cubic, one_matrix, params, shape};
 use circle_challenger::Sha256Challenger;
 use circle_field::{Cubic, Mersenne31};
 use circle_point::{Neutral, Point};
@@ -30,19 +31,21 @@ fn two_coefficients(alloc: Global) -> Result<CirclePcsShape, AllocError>
 
 #[test]
 fn two_coefficients_leave_one_round(rt: HostRuntime) -> Result<(), Fail> {
-    let alloc = rt.alloc();
-    let shape = two_coefficients(alloc)?;
-    assert_eq!(rt; shape.num_commit_rounds, 1);
-    assert_eq!(rt; shape.index_bits, 4);
-    assert_eq!(rt; shape.try_clone(alloc)?, shape);
-    let separator = shape.domain_separator::<Mersenne31, Cubic>(alloc)?;
-    assert_eq!(rt; separator.pattern().steps().len(), 9);
-    assert_eq!(rt; separator.text().len(), 496);
+    let shape = two_coefficients(rt.alloc())?;
+    assert_eq!(rt; (shape.num_commit_rounds, shape.index_bits), (1, 4));
+    assert_eq!(rt; shape.try_clone(rt.alloc())?, shape);
+    Ok(())
+}
+
+#[test]
+fn the_seed_of_two_coefficients_ends_with_their_label(rt: HostRuntime) -> Result<(), Fail> {
+    let shape = two_coefficients(rt.alloc())?;
+    let separator = shape.domain_separator::<Mersenne31, Cubic>(rt.alloc())?;
+    assert_eq!(rt; sizes(&separator), [9, 496, 3]);
     assert!(rt; separator.text().starts_with(&[2]));
-    assert_eq!(rt; separator.labels().len(), 3);
     assert_eq!(rt;
-        separator.labels()[2].as_slice(),
-        [0, 0, 0, 0, 0, 0, 0, 1].as_slice()
+        label(&separator, 2),
+        Some([0, 0, 0, 0, 0, 0, 0, 1].as_slice())
     );
     Ok(())
 }
@@ -84,10 +87,7 @@ fn both_sides_take_two_coefficients_in(rt: HostRuntime) -> Result<(), Fail> {
         &messages,
     );
     let (first, second) = runs.map_err(|_| "no run")?;
-    assert_eq!(rt; first.alpha, second.alpha);
-    assert_eq!(rt; first.bivariate, second.bivariate);
-    assert_eq!(rt; first.betas.as_slice(), second.betas.as_slice());
-    assert_eq!(rt; first.indices.as_slice(), second.indices.as_slice());
+    assert_alike(&rt, &first, &second);
     assert_eq!(rt; prover, verifier);
     Ok(())
 }

@@ -1,7 +1,9 @@
 //! What runs over one claim draw. Expected values were computed apart from this code.
 
-use crate::stubborn::Stubborn;
-use crate::transcript::{Difficulties, NONE, cubic, element, params, prove, shape, verify};
+use crate::transcript::{
+    Difficulties, NONE, assert_draws, checked, cubic, element, failure_of_no_witness, params,
+    prove, shape,
+};
 use circle_challenger::{CanSample, Sha256Challenger};
 use circle_commit::PowPhase;
 use circle_field::{Cubic, Mersenne31};
@@ -11,6 +13,7 @@ use circle_transcript::{
     CircleVerifierTranscript, CircleWitnesses, prover_run,
 };
 use std::alloc::Global;
+use std::process::Abort;
 use std::test::Fail;
 
 /// The challenge that batches the claim of one value at the point of this coordinate of the
@@ -35,75 +38,84 @@ fn batching_challenge(alloc: Global, t: u64, value: u64) -> Result<Cubic, Fail> 
 
 #[test]
 fn points_and_values_reach_the_batching_challenge(rt: HostRuntime) -> Result<(), Fail> {
-    let alloc = rt.alloc();
-    let challenge = batching_challenge(alloc, 3, 1)?;
-    assert_eq!(rt; challenge, cubic(1208970606, 512735008, 1302233800));
-    let challenge = batching_challenge(alloc, 5, 1)?;
-    assert_eq!(rt; challenge, cubic(560701732, 2107374228, 1877160621));
-    let challenge = batching_challenge(alloc, 3, 2)?;
-    assert_eq!(rt; challenge, cubic(1814986885, 521455366, 1016938663));
+    for (t, value, challenge) in [
+        (3, 1, cubic(1208970606, 512735008, 1302233800)),
+        (5, 1, cubic(560701732, 2107374228, 1877160621)),
+        (3, 2, cubic(1814986885, 521455366, 1016938663)),
+    ] {
+        assert_eq!(rt; batching_challenge(rt.alloc(), t, value)?, challenge);
+    }
     Ok(())
+}
+
+/// Asserts which witnesses a run finds.
+fn assert_witnesses(
+    rt: &impl Abort,
+    witnesses: &CircleWitnesses<Mersenne31>,
+    batch: u64,
+    rounds: &[Mersenne31],
+    query: u64,
+) {
+    assert_eq!(rt;
+        (witnesses.batch, witnesses.query),
+        (element(batch), element(query))
+    );
+    assert_eq!(rt; witnesses.rounds.as_slice(), rounds);
 }
 
 #[test]
 fn a_run_without_proofs_of_work_draws_these(rt: HostRuntime) -> Result<(), Fail> {
-    let alloc = rt.alloc();
-    let mut challenger = Sha256Challenger::new();
-    let run = prove(alloc, &mut challenger, &[[9; 32]], NONE);
+    let run = prove(rt.alloc(), &mut Sha256Challenger::new(), &[[9; 32]], NONE);
     let (draws, witnesses) = run.map_err(|_| "no run")?;
-    assert_eq!(rt; draws.alpha, cubic(707792389, 1632891796, 420347331));
-    assert_eq!(rt; draws.bivariate, cubic(1276827512, 235479784, 66525810));
-    let betas = [cubic(561284108, 1894932501, 733832312)];
-    assert_eq!(rt; draws.betas.as_slice(), betas.as_slice());
-    assert_eq!(rt; draws.indices.as_slice(), [7, 6].as_slice());
-    assert_eq!(rt; witnesses.batch, element(0));
-    assert_eq!(rt; witnesses.rounds.as_slice(), [element(0)].as_slice());
-    assert_eq!(rt; witnesses.query, element(0));
+    assert_draws(
+        &rt,
+        &draws,
+        cubic(707792389, 1632891796, 420347331),
+        cubic(1276827512, 235479784, 66525810),
+        &[cubic(561284108, 1894932501, 733832312)],
+        &[7, 6],
+    );
+    assert_witnesses(&rt, &witnesses, 0, &[element(0)], 0);
     Ok(())
 }
 
 #[test]
 fn a_run_with_proofs_of_work_draws_these(rt: HostRuntime) -> Result<(), Fail> {
-    let alloc = rt.alloc();
     let bits = Difficulties {
         batch: 2,
         commit: 3,
         query: 4,
     };
     let mut challenger = Sha256Challenger::new();
-    let run = prove(alloc, &mut challenger, &[[9; 32], [8; 32]], bits);
+    let run = prove(rt.alloc(), &mut challenger, &[[9; 32], [8; 32]], bits);
     let (draws, witnesses) = run.map_err(|_| "no run")?;
-    assert_eq!(rt; draws.alpha, cubic(1184366507, 1052798099, 1108443601));
-    assert_eq!(rt; draws.bivariate, cubic(90904344, 1535557165, 1400645032));
     let betas = [
         cubic(155868591, 652642568, 769176784),
         cubic(1459679253, 1318785105, 1127962053),
     ];
-    assert_eq!(rt; draws.betas.as_slice(), betas.as_slice());
-    assert_eq!(rt; draws.indices.as_slice(), [8, 3].as_slice());
-    assert_eq!(rt; witnesses.batch, element(3));
-    assert_eq!(rt;
-        witnesses.rounds.as_slice(),
-        [element(2), element(6)].as_slice()
+    assert_draws(
+        &rt,
+        &draws,
+        cubic(1184366507, 1052798099, 1108443601),
+        cubic(90904344, 1535557165, 1400645032),
+        &betas,
+        &[8, 3],
     );
-    assert_eq!(rt; witnesses.query, element(22));
+    assert_witnesses(&rt, &witnesses, 3, &[element(2), element(6)], 22);
     let next: Mersenne31 = challenger.sample();
     assert_eq!(rt; next, element(2146237432));
     Ok(())
 }
 
-/// The verifier's side of a run without rounds whose batching challenge has a difficulty of 2 bits,
-/// with this witness.
-fn checked(alloc: Global, witness: u64) -> Result<(), CircleTranscriptFailure> {
-    let bits = Difficulties { batch: 2, ..NONE };
+/// The verdict on a run without rounds whose batching challenge has a difficulty of 2 bits, with
+/// this witness.
+fn batch_checked(alloc: Global, witness: u64) -> Result<(), CircleTranscriptFailure> {
     let witnesses = CircleWitnesses {
         batch: element(witness),
         rounds: Vec::new(alloc),
         query: element(0),
     };
-    let mut challenger = Sha256Challenger::new();
-    verify(alloc, &mut challenger, &[], bits, &witnesses)?;
-    Ok(())
+    checked(alloc, &[], Difficulties { batch: 2, ..NONE }, &witnesses)
 }
 
 #[test]
@@ -112,58 +124,52 @@ fn a_batch_witness_that_misses_is_refused(rt: HostRuntime) -> Result<(), Fail> {
     let phase = PowPhase::Batch;
     for witness in 1..7 {
         assert!(rt;
-            checked(alloc, witness) == Err(CircleTranscriptFailure::PowWitness { phase, bits: 2 })
+            batch_checked(alloc, witness)
+                == Err(CircleTranscriptFailure::PowWitness { phase, bits: 2 })
         );
     }
     for witness in [0, 7, 9, 12, 15] {
-        assert!(rt; checked(alloc, witness) == Ok(()));
+        assert!(rt; batch_checked(alloc, witness) == Ok(()));
     }
     Ok(())
 }
 
 #[test]
-fn each_phase_without_a_witness_is_named(rt: HostRuntime) -> Result<(), Fail> {
+fn each_phase_without_a_witness_is_named(rt: HostRuntime) {
     let alloc = rt.alloc();
-    let mut stubborn = Stubborn { taken: 0 };
-    let bits = Difficulties { commit: 5, ..NONE };
     let phase = PowPhase::CommitPhase;
-    if let Err(failure) = prove(alloc, &mut stubborn, &[[9; 32]], bits) {
-        assert_eq!(rt;
-            failure,
-            CircleTranscriptFailure::NoWitness { phase, bits: 5 }
-        );
-    } else {
-        assert!(rt; false);
-    }
-    let bits = Difficulties { query: 6, ..NONE };
+    assert_eq!(rt;
+        failure_of_no_witness(alloc, &[[9; 32]], Difficulties { commit: 5, ..NONE }),
+        Some(CircleTranscriptFailure::NoWitness { phase, bits: 5 })
+    );
     let phase = PowPhase::Query;
-    if let Err(failure) = prove(alloc, &mut stubborn, &[], bits) {
-        assert_eq!(rt;
-            failure,
-            CircleTranscriptFailure::NoWitness { phase, bits: 6 }
-        );
-    } else {
-        assert!(rt; false);
-    }
-    Ok(())
+    assert_eq!(rt;
+        failure_of_no_witness(alloc, &[], Difficulties { query: 6, ..NONE }),
+        Some(CircleTranscriptFailure::NoWitness { phase, bits: 6 })
+    );
 }
 
-#[test]
-fn an_abandoned_transcript_gives_the_challenger_back(rt: HostRuntime) -> Result<(), Fail> {
-    let alloc = rt.alloc();
+/// What the verifier draws in the first phase of a transcript that is abandoned then.
+fn abandoned(
+    alloc: Global,
+    challenger: &mut Sha256Challenger,
+) -> Result<Cubic, CircleTranscriptFailure> {
     let shape = CirclePcsShape::new(&params(1, NONE), Vec::new(alloc), 3, 1);
-    let mut challenger = Sha256Challenger::new();
     let mut transcript = CircleVerifierTranscript::<Sha256Challenger, Mersenne31, Cubic>::new(
-        alloc,
-        &mut challenger,
-        shape,
+        alloc, challenger, shape,
     )?;
     let drawn = transcript.batch_phase(&[], element(0));
     transcript.abort();
+    drawn
+}
+
+#[test]
+fn an_abandoned_transcript_gives_the_challenger_back(rt: HostRuntime) {
+    let mut challenger = Sha256Challenger::new();
+    let drawn = abandoned(rt.alloc(), &mut challenger);
     assert!(rt; drawn == Ok(cubic(1618322056, 275400548, 1748926505)));
     let next: Mersenne31 = challenger.sample();
     assert_eq!(rt; next, element(1257372603));
-    Ok(())
 }
 
 #[test]

@@ -2,7 +2,7 @@
 //! were computed apart from this code.
 ghost use Rattle.std.specs.Prelude.{◌≡◌, ◌≤◌, IfOk};
 
-use crate::transcript::{element, one_matrix};
+use crate::transcript::{element, one_matrix, two_matrices};
 use circle_challenger::{CanSample, Sha256Challenger};
 use circle_field::{Cubic, Mersenne31};
 use circle_transcript::CirclePcsShape;
@@ -63,8 +63,7 @@ fn claims_reach_the_seed(rt: HostRuntime) -> Result<(), Fail> {
         element(1561129955)
     );
     assert!(rt; is_apart(alloc, &over_one(alloc, 5)?, 2041123572)?);
-    let matrices = vec![in alloc; vec![in alloc; 4]?, vec![in alloc; 4]?]?;
-    let two_matrices = over(vec![in alloc; matrices]?);
+    let two_matrices = over(two_matrices(alloc)?);
     assert!(rt; is_apart(alloc, &two_matrices, 1065555048)?);
     let two_points = over(one_matrix(alloc, vec![in alloc; 4, 4]?)?);
     assert!(rt; is_apart(alloc, &two_points, 1923202616)?);
