@@ -39,13 +39,13 @@ pub(crate) fn evaluate_at_point<EF: ExtensionField<Mersenne31>>(
 }
 
 // `evaluate_polynomial_at`, after a test of what it asks.
-fn evaluate_polynomial_at(
+fn evaluate_polynomial_at<EF: ExtensionField<Mersenne31>>(
     rt: &impl Abort,
     alloc: Global,
     domain: CircleDomain<Mersenne31>,
     evals: &[Mersenne31],
-    t: Cubic,
-) -> Result<Cubic, AllocError> {
+    t: EF,
+) -> Result<EF, AllocError> {
     assert!(rt; domain.log_n() >= 1 && domain.log_n() <= 31 && domain.is_standard());
     assert!(rt; evals.len() == domain.size());
     let at = Point::from_projective_line(t).expect(rt, "the square of the coordinate is -1");
@@ -53,36 +53,21 @@ fn evaluate_polynomial_at(
     domain.evaluate_polynomial_at(alloc, evals, t)
 }
 
-// The sum over the basis at the point, times the coefficients of these rows on the standard domain
-// of 2^log_n points, for each column.
-fn plain_values(
+// Asserts that values at a point are the sums over the basis there, times the coefficients, for
+// each column.
+fn assert_plain(
     rt: &impl Abort,
     alloc: Global,
-    rows: Rows,
+    coeffs: &Rows,
     log_n: usize,
     at: Point<Cubic>,
-) -> Result<Vec<Cubic>, AllocError> {
-    assert!(rt; log_n >= 1 && log_n <= 10);
-    let coeffs = interpolate(rt, alloc, CircleDomain::standard(log_n), rows)?;
-    let basis = circle_basis(alloc, at, log_n)?;
-    let mut values = Vec::new(alloc);
-    for column in 0..coeffs.width() {
-        values.push(plain_entry(rt, &coeffs, column, &basis))?;
-    }
-    Ok(values)
-}
-
-// Asserts the values at a point of polynomials with these rows in natural order.
-fn assert_values<EF: ExtensionField<Mersenne31>>(
-    rt: &impl Abort,
-    alloc: Global,
-    domain: CircleDomain<Mersenne31>,
-    rows: Rows,
-    at: Point<EF>,
-    expected: &[EF],
+    values: &[Cubic],
 ) -> Result<(), AllocError> {
-    let values = evaluate_at_point(rt, alloc, domain, rows, at)?;
-    assert!(rt; values.as_slice() == expected);
+    assert!(rt; log_n >= 1 && log_n <= 10 && values.len() == coeffs.width());
+    let basis = circle_basis(alloc, at, log_n)?;
+    for (column, value) in values.iter().enumerate() {
+        assert_eq!(rt; *value, plain_entry(rt, coeffs, column, &basis));
+    }
     Ok(())
 }
 
@@ -93,14 +78,8 @@ fn two_points_at_the_neutral_one(rt: HostRuntime) -> Result<(), Fail> {
     let domain = CircleDomain::new(1, there);
     assert!(&rt; !domain.is_clear_of(there));
     let neutral = Point::<Mersenne31>::generator(0);
-    assert_values(
-        &rt,
-        alloc,
-        domain,
-        column(alloc, &[5, 1])?,
-        neutral,
-        &[element(3)],
-    )?;
+    let values = evaluate_at_point(&rt, alloc, domain, column(alloc, &[5, 1])?, neutral)?;
+    assert!(&rt; values.as_slice() == [element(3)].as_slice());
     Ok(())
 }
 
@@ -112,17 +91,16 @@ fn assert_off_domain(
     width: usize,
 ) -> Result<(), AllocError> {
     assert!(rt; log_n >= 2 && log_n < 6);
-    let (domain, larger) = (
-        CircleDomain::standard(log_n),
-        CircleDomain::standard(log_n + 1),
-    );
-    let coordinates = [element(3), element(log_n as u64), element(width as u64)];
-    let at = on_line(rt, Cubic::from_coefficients(&coordinates));
+    let domain = CircleDomain::standard(log_n);
+    let larger = CircleDomain::standard(log_n + 1);
+    let at = on_line(rt, cubic(3, log_n as u64, width as u64));
     let rows = scattered(rt, alloc, 1 << log_n, width, width as u64)?;
-    let plain = plain_values(rt, alloc, rows.try_clone(alloc)?, log_n, at)?;
     let there = extrapolate(rt, alloc, domain, rows.try_clone(alloc)?, larger)?;
-    assert_values(rt, alloc, larger, there, at, &plain)?;
-    assert_values(rt, alloc, domain, rows, at, &plain)
+    let again = evaluate_at_point(rt, alloc, larger, there, at)?;
+    let coeffs = interpolate(rt, alloc, domain, rows.try_clone(alloc)?)?;
+    assert_plain(rt, alloc, &coeffs, log_n, at, &again)?;
+    let values = evaluate_at_point(rt, alloc, domain, rows, at)?;
+    assert_plain(rt, alloc, &coeffs, log_n, at, &values)
 }
 
 #[test]
@@ -136,13 +114,13 @@ fn values_off_a_domain_and_off_a_larger_one(rt: HostRuntime) -> Result<(), Fail>
 }
 
 // `evaluate_at_point` of rows in the transform's order, after a test of what it asks.
-fn evaluate_in_cfft_order<M: Matrix<Mersenne31> + Drop>(
+fn evaluate_in_cfft_order<M: Matrix<Mersenne31> + Drop, EF: ExtensionField<Mersenne31>>(
     rt: &impl Abort,
     alloc: Global,
     domain: CircleDomain<Mersenne31>,
     rows: M,
-    at: Point<Cubic>,
-) -> Result<Vec<Cubic>, AllocError> {
+    at: Point<EF>,
+) -> Result<Vec<EF>, AllocError> {
     assert!(rt; domain.log_n() >= 1 && domain.log_n() <= 31 && domain.is_genuine());
     assert!(rt; domain.is_clear_of(at) && rows.height() == domain.size());
     CircleEvaluations::from_cfft_order(domain, rows).evaluate_at_point(alloc, at)
@@ -258,20 +236,25 @@ fn values_by_weights_that_are_made_before(rt: HostRuntime) -> Result<(), Fail> {
 #[test]
 fn one_column_by_its_space(rt: HostRuntime) -> Result<(), Fail> {
     let alloc = rt.alloc();
-    let t = cubic(0, 1, 0);
+    let (t, domain) = (cubic(0, 1, 0), CircleDomain::standard(3));
     let rows = scattered(&rt, alloc, 8, 1, 77)?;
-    let value = evaluate_polynomial_at(&rt, alloc, CircleDomain::standard(3), rows.values(), t)?;
-    let plain = plain_values(&rt, alloc, rows, 3, on_line(&rt, t))?;
-    assert!(&rt; plain.as_slice() == [value].as_slice());
+    let value = evaluate_polynomial_at(&rt, alloc, domain, rows.values(), t)?;
+    let coeffs = interpolate(&rt, alloc, domain, rows)?;
+    assert_plain(&rt, alloc, &coeffs, 3, on_line(&rt, t), &[value])?;
     Ok(())
 }
 
 #[test]
 fn periodic_columns_of_at_most_one_entry(rt: HostRuntime) -> Result<(), Fail> {
     let domain = CircleDomain::new(4, point(&rt, 0, 1));
-    let t = cubic(0, 1, 0);
-    let none = domain.evaluate_periodic_column_at(rt.alloc(), &[], t)?;
-    let seven = domain.evaluate_periodic_column_at(rt.alloc(), &[element(7)], t)?;
-    assert!(&rt; none == Cubic::ZERO && seven == Cubic::from_base(element(7)));
+    let cases: [(&[Mersenne31], Cubic); 2] = [
+        (&[], Cubic::ZERO),
+        (&[element(7)], Cubic::from_base(element(7))),
+    ];
+    for (column, expected) in cases {
+        assert!(&rt; column.len() < 2);
+        let value = domain.evaluate_periodic_column_at(rt.alloc(), column, cubic(0, 1, 0))?;
+        assert!(&rt; value == expected);
+    }
     Ok(())
 }

@@ -109,30 +109,29 @@ fn columns_on_the_trace_itself(rt: HostRuntime) -> Result<(), Fail> {
     Ok(())
 }
 
-// The refusal of columns of four entries and of so many, over a trace of 16 rows and an extension
-// of 32.
-fn refusal(rt: &impl Abort, alloc: Global, count: usize) -> Result<PeriodicError, Fail> {
-    let columns = vec![in alloc; counting(alloc, 4)?, counting(alloc, count)?]?;
-    let trace = CircleDomain::standard(4);
-    let refused = build(rt, alloc, &columns, trace, CircleDomain::standard(5)).err();
-    Ok(refused.ok_or("not refused")?)
-}
+// 1, 2, 3, .., twice as many as the rows of a trace of 16.
+const COUNTING: [u64; 32] = [
+    1, 2, 3, 4, 5, 6, 7, 8, 9, 10, 11, 12, 13, 14, 15, 16, 17, 18, 19, 20, 21, 22, 23, 24, 25, 26,
+    27, 28, 29, 30, 31, 32,
+];
 
 #[test]
-fn refused_columns(rt: HostRuntime) -> Result<(), Fail> {
-    for (count, expected) in [
-        (0, PeriodicError::Empty),
-        (3, PeriodicError::NotPowerOfTwo),
-        (32, PeriodicError::LongerThanTrace),
-        (24, PeriodicError::NotPowerOfTwo),
-    ] {
-        assert!(&rt; refusal(&rt, rt.alloc(), count)? == expected);
+fn refused_columns(rt: HostRuntime) {
+    let (trace, extension) = (CircleDomain::standard(4), CircleDomain::standard(5));
+    let cases: [(&[u64], PeriodicError); 4] = [
+        (&[], PeriodicError::Empty),
+        (&COUNTING[..3], PeriodicError::NotPowerOfTwo),
+        (&COUNTING, PeriodicError::LongerThanTrace),
+        (&COUNTING[..24], PeriodicError::NotPowerOfTwo),
+    ];
+    for (column, expected) in cases {
+        let refused = table_of(&rt, rt.alloc(), &[&[1, 2, 3, 4], column], trace, extension).err();
+        assert!(&rt; refused == Some(expected));
     }
-    Ok(())
 }
 
 #[test]
-fn too_large_tables(rt: HostRuntime) -> Result<(), Fail> {
+fn too_large_tables(rt: HostRuntime) {
     let shift = point(&rt, 0, 1);
     let trace = CircleDomain::new(1, shift);
     let cases: [(&[&[u64]], usize, PeriodicError); 4] = [
@@ -146,7 +145,6 @@ fn too_large_tables(rt: HostRuntime) -> Result<(), Fail> {
         let refused = table_of(&rt, rt.alloc(), numbers, trace, extension).err();
         assert!(&rt; refused == Some(expected));
     }
-    Ok(())
 }
 
 #[test]
@@ -242,6 +240,32 @@ fn value_of_counting(
     evaluate_at_point(rt, alloc, CircleDomain::standard(log_period), rows, at)
 }
 
+// The table of 1, 2, .., so many in all.
+fn table_of_counting(
+    rt: &impl Abort,
+    alloc: Global,
+    count: usize,
+    trace: Domain,
+    extension: Domain,
+) -> Result<Table, Fail> {
+    let columns = vec![in alloc; counting(alloc, count)?]?;
+    Ok(build(rt, alloc, &columns, trace, extension)?)
+}
+
+// Asserts that an entry of the table of 1, 2, .. is their polynomial's value at a point.
+fn assert_entry(
+    rt: &impl Abort,
+    alloc: Global,
+    table: &Table,
+    i: usize,
+    log_period: usize,
+    at: Point<Mersenne31>,
+) -> Result<(), AllocError> {
+    let plain = value_of_counting(rt, alloc, log_period, at)?;
+    assert!(rt; plain.as_slice() == [get(rt, table, i, 0)].as_slice());
+    Ok(())
+}
+
 // Asserts that the table of 1, 2, .. holds the values at the doubled points of the extension.
 fn assert_doubled(
     rt: &impl Abort,
@@ -251,18 +275,14 @@ fn assert_doubled(
     log_period: usize,
 ) -> Result<(), Fail> {
     assert!(rt; log_period >= 1 && log_period <= log_n && log_n <= 10 && log_blowup <= 10);
-    let columns = vec![in alloc; counting(alloc, 1 << log_period)?]?;
-    let (trace, extension) = (
-        CircleDomain::standard(log_n),
-        CircleDomain::standard(log_n + log_blowup),
-    );
-    let table = build(rt, alloc, &columns, trace, extension)?;
+    let trace = CircleDomain::standard(log_n);
+    let extension = CircleDomain::standard(log_n + log_blowup);
+    let table = table_of_counting(rt, alloc, 1 << log_period, trace, extension)?;
     assert!(rt; table.width() == 1 && table.height() == 1 << (log_period + log_blowup));
     for i in [0, 1, 2, 7, 15, 16, 31] {
         assert!(rt; i < extension.size());
         let doubled = extension.nth_point(i).repeated_double(log_n - log_period);
-        let plain = value_of_counting(rt, alloc, log_period, doubled)?;
-        assert!(rt; plain.as_slice() == [get(rt, &table, i, 0)].as_slice());
+        assert_entry(rt, alloc, &table, i, log_period, doubled)?;
     }
     Ok(())
 }
