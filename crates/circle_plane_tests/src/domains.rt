@@ -1,7 +1,5 @@
-//! Domains at points off them over Mersenne31 and its quadratic extension: next points, disjoint
-//! domains, parts, vanishing polynomials and selectors.
-use crate::transform::Rows;
-use circle_commit::{LagrangeSelectors, Matrix, PolynomialSpace, RowMajorMatrix};
+//! Domains over Mersenne31 and its quadratic extension: next points, disjoint domains and parts.
+use circle_commit::{Matrix, PolynomialSpace, RowMajorMatrix};
 use circle_field::{ExtensionField, Field, Mersenne31};
 use circle_fixtures::quadratic::Quadratic;
 use circle_plane::{CircleDomain, Point};
@@ -10,6 +8,8 @@ use std::process::Abort;
 use std::test::Fail;
 
 type Domain = CircleDomain<Mersenne31>;
+
+type Rows = RowMajorMatrix<Mersenne31>;
 
 fn element(value: u64) -> Mersenne31 {
     Mersenne31::from_u64(value)
@@ -52,25 +52,6 @@ fn has_point(rt: &impl Abort, domain: Domain, at: Point<Mersenne31>) -> bool {
     domain.points().any(|point| point == at)
 }
 
-// `vanishing_poly_at_point`, after a test of what it asks.
-pub(crate) fn vanishing(rt: &impl Abort, domain: Domain, point: Mersenne31) -> Mersenne31 {
-    assert!(rt; domain.log_n() >= 1);
-    assert!(rt; Point::from_projective_line(point).is_some());
-    domain.vanishing_poly_at_point(point)
-}
-
-// `selectors_at_point`, after a test of what it asks.
-pub(crate) fn selectors(
-    rt: &impl Abort,
-    domain: Domain,
-    point: Mersenne31,
-) -> LagrangeSelectors<Mersenne31> {
-    assert!(rt; domain.log_n() <= 31 && domain.is_genuine());
-    let at = Point::from_projective_line(point).expect(rt, "the point is at infinity");
-    assert!(rt; domain.is_clear_of(at));
-    domain.selectors_at_point(point)
-}
-
 #[test]
 fn next_points_walk_the_domain(rt: HostRuntime) {
     let domain = Domain::standard(4);
@@ -81,51 +62,42 @@ fn next_points_walk_the_domain(rt: HostRuntime) {
         expected = next_point(&rt, domain, point);
     }
     assert_eq!(&rt; domain.shift().to_projective_line(), expected);
+}
+
+#[test]
+fn points_without_a_next_one(rt: HostRuntime) {
     // No rule on another domain, and none at infinity: the square of X is -1.
     assert_eq!(&rt; next_point(&rt, two_points(&rt), element(0)), None);
     let infinity = Quadratic::from_coefficients(&[element(0), element(1)]);
-    assert_eq!(&rt; next_point(&rt, domain, infinity), None);
+    assert_eq!(&rt; next_point(&rt, Domain::standard(4), infinity), None);
+}
+
+// Asserts that a domain of at least so many points, disjoint from this one, has no point of it.
+fn assert_disjoint(rt: &impl Abort, domain: Domain, min_size: usize) {
+    let other = disjoint(rt, domain, min_size).expect(rt, "the group has room");
+    assert!(rt; other.log_n() >= 1 && other.log_n() <= 31 && other.size() >= min_size);
+    for point in other.points() {
+        assert!(rt; !has_point(rt, domain, point));
+    }
 }
 
 #[test]
 fn disjoint_domains(rt: HostRuntime) {
     let domain = Domain::standard(4);
-    assert_eq!(&rt; disjoint_log(&rt, domain, 10), Some(5));
-    assert_eq!(&rt; disjoint_log(&rt, domain, 100), Some(7));
-    assert_eq!(&rt; disjoint_log(&rt, domain, 1), Some(1));
-    assert_eq!(&rt; disjoint_log(&rt, domain, 0), Some(1));
-    assert_eq!(&rt; disjoint_log(&rt, domain, 1 << 30), Some(30));
-    assert_eq!(&rt; disjoint_log(&rt, domain, (1 << 30) + 1), None);
+    for (min_size, log_n) in [
+        (10, Some(5)),
+        (100, Some(7)),
+        (1, Some(1)),
+        (0, Some(1)),
+        (1 << 30, Some(30)),
+        ((1 << 30) + 1, None),
+    ] {
+        assert_eq!(&rt; disjoint_log(&rt, domain, min_size), log_n);
+    }
     assert_eq!(&rt; disjoint_log(&rt, two_points(&rt), 4), None);
     for min_size in [10, 11, 31] {
-        let other = disjoint(&rt, domain, min_size).expect(&rt, "the group has room");
-        assert!(&rt; other.log_n() >= 1 && other.log_n() <= 31 && other.size() >= min_size);
-        for point in other.points() {
-            assert!(&rt; !has_point(&rt, domain, point));
-        }
+        assert_disjoint(&rt, domain, min_size);
     }
-}
-
-// `is_clear_of`, after a test of what it asks.
-fn is_clear(rt: &impl Abort, domain: Domain, at: Point<Mersenne31>) -> bool {
-    assert!(rt; domain.log_n() >= 1 && domain.log_n() <= 31);
-    domain.is_clear_of(at)
-}
-
-#[test]
-fn selectors_of_two_points(rt: HostRuntime) {
-    let domain = two_points(&rt);
-    assert_eq!(&rt; vanishing(&rt, domain, element(0)).value(), 429496731);
-    let row = selectors(&rt, domain, element(0));
-    assert_eq!(&rt; row.is_first_row.value(), 858993458);
-    assert_eq!(&rt; row.is_last_row.value(), 1288490189);
-    assert_eq!(&rt; row.is_transition.value(), 1073741824);
-    assert_eq!(&rt; row.inv_vanishing.value(), 1342177280);
-    // The points of the domain are not clear of it, nor are their opposites on the other side.
-    let shift = domain.shift();
-    assert!(&rt; !is_clear(&rt, domain, shift));
-    assert!(&rt; !is_clear(&rt, domain, shift + Point::<Mersenne31>::generator(1)));
-    assert!(&rt; is_clear(&rt, domain, Point::<Mersenne31>::generator(0)));
 }
 
 // `split_domains`, after a test of what it asks.
@@ -153,6 +125,18 @@ fn split_evals(
     domain.split_evals(alloc, count, rows)
 }
 
+// The coordinates of the points of a domain, row after row.
+fn coordinates(rt: &impl Abort, alloc: Global, domain: Domain) -> Result<Rows, AllocError> {
+    assert!(rt; domain.log_n() >= 1 && domain.log_n() <= 31);
+    let mut values = Vec::new(alloc);
+    for point in domain.points() {
+        values.push(point.x())?;
+        values.push(point.y())?;
+    }
+    assert!(rt; values.len() % 2 == 0);
+    Ok(RowMajorMatrix::new(values, 2))
+}
+
 // Asserts that the rows are the coordinates of the points, and that the points, from the last on,
 // are the opposites of those from the first on.
 fn assert_coordinates(rt: &impl Abort, domain: Domain, rows: &Rows) {
@@ -164,28 +148,36 @@ fn assert_coordinates(rt: &impl Abort, domain: Domain, rows: &Rows) {
     }
 }
 
-#[test]
-fn parts_have_the_rows_of_their_points(rt: HostRuntime) -> Result<(), Fail> {
-    let alloc = rt.alloc();
-    let domain = Domain::standard(4);
-    let mut values = Vec::new(alloc);
-    for point in domain.points() {
-        values.push(point.x())?;
-        values.push(point.y())?;
-    }
-    assert!(&rt; values.len() % 2 == 0);
-    let rows = RowMajorMatrix::new(values, 2);
-    for log_count in 0..4 {
-        let count = 1 << log_count;
-        let parts = split_domains(&rt, alloc, domain, count)?;
-        let rows_of_parts = split_evals(&rt, alloc, domain, count, rows.try_clone(alloc)?)?;
-        assert!(&rt; parts.len() == count && rows_of_parts.len() == count);
-        for (part, rows) in parts.iter().zip(rows_of_parts.iter()) {
-            assert_eq!(&rt; part.log_n(), 4 - log_count);
-            assert_coordinates(&rt, *part, rows);
-        }
+// Asserts that so many parts of a domain of 16 points have the rows of their points.
+fn assert_parts(rt: &impl Abort, alloc: Global, log_count: usize) -> Result<(), AllocError> {
+    assert!(rt; log_count < 4);
+    let (domain, count) = (Domain::standard(4), 1 << log_count);
+    let rows = coordinates(rt, alloc, domain)?;
+    let parts = split_domains(rt, alloc, domain, count)?;
+    let rows_of_parts = split_evals(rt, alloc, domain, count, rows)?;
+    assert!(rt; parts.len() == count && rows_of_parts.len() == count);
+    for (part, rows) in parts.iter().zip(rows_of_parts.iter()) {
+        assert_eq!(rt; part.log_n(), 4 - log_count);
+        assert_coordinates(rt, *part, rows);
     }
     Ok(())
+}
+
+#[test]
+fn parts_have_the_rows_of_their_points(rt: HostRuntime) -> Result<(), Fail> {
+    for log_count in 0..4 {
+        assert_parts(&rt, rt.alloc(), log_count)?;
+    }
+    Ok(())
+}
+
+// Asserts that a matrix of one column has these entries.
+fn assert_entries(rt: &impl Abort, matrix: &Rows, entries: &[u64]) {
+    assert_eq!(rt; matrix.height(), entries.len());
+    for (r, entry) in entries.iter().enumerate() {
+        assert!(rt; r < matrix.height());
+        assert!(rt; matrix.row(r) == [element(*entry)].as_slice());
+    }
 }
 
 #[test]
@@ -199,12 +191,8 @@ fn rows_go_forward_and_back(rt: HostRuntime) -> Result<(), Fail> {
     let parts = split_evals(&rt, alloc, Domain::standard(4), 4, rows)?;
     let expected = [[0, 7, 8, 15], [1, 6, 9, 14], [2, 5, 10, 13], [3, 4, 11, 12]];
     assert_eq!(&rt; parts.len(), 4);
-    for (part, places) in parts.iter().zip(expected.iter()) {
-        assert_eq!(&rt; part.height(), 4);
-        for (r, place) in places.iter().enumerate() {
-            assert!(&rt; r < part.height());
-            assert!(&rt; part.row(r) == [element(*place)].as_slice());
-        }
+    for (part, entries) in parts.iter().zip(expected.iter()) {
+        assert_entries(&rt, part, entries);
     }
     Ok(())
 }

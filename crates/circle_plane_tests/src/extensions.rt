@@ -35,33 +35,38 @@ fn assert_on_line<F: Field>(rt: &impl Abort, t: F, x: F, y: F) {
 
 #[test]
 fn the_projective_line(rt: HostRuntime) {
-    assert_on_line(&rt, element(0), element(1), element(0));
-    assert_on_line(&rt, element(1), element(0), element(1));
-    assert_on_line(&rt, element(2), element(1717986917), element(1288490189));
-    assert_on_line(&rt, element(7), element(1460288879), element(1632087572));
+    for (t, x, y) in [
+        (0, 1, 0),
+        (1, 0, 1),
+        (2, 1717986917, 1288490189),
+        (7, 1460288879, 1632087572),
+    ] {
+        assert_on_line(&rt, element(t), element(x), element(y));
+    }
     assert_eq!(rt; Circle::generator(1).to_projective_line(), None);
 }
 
 #[test]
 fn the_projective_line_over_extensions(rt: HostRuntime) {
-    assert_on_line(
-        &rt,
-        cubic(2, 0, 0),
-        cubic(1717986917, 0, 0),
-        cubic(1288490189, 0, 0),
-    );
-    assert_on_line(
-        &rt,
-        cubic(0, 1, 0),
-        cubic(1486719447, 991146299, 660764199),
-        cubic(1156337348, 1486719448, 991146299),
-    );
-    assert_on_line(
-        &rt,
-        cubic(3, 5, 8),
-        cubic(520234754, 1882254992, 1417039965),
-        cubic(607753426, 505027941, 644403719),
-    );
+    for (t, x, y) in [
+        (
+            cubic(2, 0, 0),
+            cubic(1717986917, 0, 0),
+            cubic(1288490189, 0, 0),
+        ),
+        (
+            cubic(0, 1, 0),
+            cubic(1486719447, 991146299, 660764199),
+            cubic(1156337348, 1486719448, 991146299),
+        ),
+        (
+            cubic(3, 5, 8),
+            cubic(520234754, 1882254992, 1417039965),
+            cubic(607753426, 505027941, 644403719),
+        ),
+    ] {
+        assert_on_line(&rt, t, x, y);
+    }
     assert_on_line(
         &rt,
         quadratic(1, 2),
@@ -69,20 +74,22 @@ fn the_projective_line_over_extensions(rt: HostRuntime) {
         quadratic(429496730, 858993458),
     );
     // The square of X is -1.
-    assert_eq!(rt; Point::from_projective_line(quadratic(0, 1)), None);
-    assert_eq!(rt; Point::from_projective_line(quadratic(0, 2147483646)), None);
+    for t in [quadratic(0, 1), quadratic(0, 2147483646)] {
+        assert_eq!(rt; Point::from_projective_line(t), None);
+    }
 }
 
 #[test]
 fn vanishing_at_a_point(rt: HostRuntime) {
     let quarter_turn = on_line(&rt, element(1));
-    assert_eq!(rt; Circle::ZERO.v_p(quarter_turn), (element(1), element(1)));
-    assert_eq!(rt; quarter_turn.v_p(quarter_turn), (element(0), element(0)));
+    for (point, value) in [(Circle::ZERO, 1), (quarter_turn, 0)] {
+        assert_eq!(rt; point.v_p(quarter_turn), (element(value), element(value)));
+    }
 
     let at = on_line(&rt, cubic(3, 5, 8));
-    let (re, im) = Circle::generator(8).v_p(at);
-    assert_eq!(rt; re, cubic(1665487651, 561231528, 1966081688));
-    assert_eq!(rt; im, cubic(1366763732, 926258726, 1041666392));
+    let re = cubic(1665487651, 561231528, 1966081688);
+    let im = cubic(1366763732, 926258726, 1041666392);
+    assert_eq!(rt; Circle::generator(8).v_p(at), (re, im));
     for log_n in 0..8 {
         let (re, im) = Circle::generator(log_n).v_p(at);
         assert_eq!(rt; re.square() + im.square(), re.double());
@@ -105,27 +112,28 @@ fn selector<F: Field, EF: ExtensionField<F>>(
 #[test]
 fn selectors(rt: HostRuntime) {
     let point = Circle::generator(8);
-    let at = on_line(&rt, cubic(3, 5, 8));
-    let value = selector(&rt, point, at);
-    assert_eq!(rt; value, cubic(507045393, 1643447792, 784713059));
-    assert_eq!(rt; (at - point).to_projective_line(), Some(value));
-
-    let at = on_line(&rt, cubic(7, 0, 0));
-    let value = selector(&rt, point, at);
-    assert_eq!(rt; value, cubic(2017150203, 0, 0));
-    assert_eq!(rt; (at - point).to_projective_line(), Some(value));
+    for (t, expected) in [
+        (cubic(3, 5, 8), cubic(507045393, 1643447792, 784713059)),
+        (cubic(7, 0, 0), cubic(2017150203, 0, 0)),
+    ] {
+        let at = on_line(&rt, t);
+        assert_eq!(rt; selector(&rt, point, at), expected);
+        assert_eq!(rt; (at - point).to_projective_line(), Some(expected));
+    }
     // It vanishes at the point.
     let lifted = Point::<Cubic>::ZERO + point;
     assert_eq!(rt; selector(&rt, point, lifted), Cubic::ZERO);
 }
 
+// The values of the selectors of the generator of 2^10 points at it, from the first on.
+const AT_THEIR_POINTS: [u32; 9] = [
+    421019174, 1938670132, 455548202, 526221414, 418122201, 19623387, 1441711429, 8388608, 512,
+];
+
 #[test]
 fn selectors_at_their_points(rt: HostRuntime) {
     let point = Circle::generator(10);
-    let expected = [
-        421019174, 1938670132, 455548202, 526221414, 418122201, 19623387, 1441711429, 8388608, 512,
-    ];
-    for (i, value) in expected.iter().enumerate() {
+    for (i, value) in AT_THEIR_POINTS.iter().enumerate() {
         let n = i + 1;
         let s_p = point.s_p_at_p(n);
         assert_eq!(rt; s_p.value(), *value);

@@ -1,7 +1,8 @@
 //! Inverses, powers and products in Mersenne31, its cubic and its quadratic extension.
 use circle_field::{Cubic, ExtensionField, Field, Mersenne31, batch_multiplicative_inverse};
 use circle_fixtures::quadratic::Quadratic;
-use std::alloc::AllocError;
+use std::alloc::{AllocError, Global};
+use std::process::Abort;
 
 fn element(value: u64) -> Mersenne31 {
     Mersenne31::from_u64(value)
@@ -27,46 +28,59 @@ fn inverses_together(rt: HostRuntime) -> Result<(), AllocError> {
     Ok(())
 }
 
+// Asserts that these are the first powers of an element.
+fn assert_powers<F: Field>(
+    rt: &impl Abort,
+    alloc: Global,
+    element: F,
+    expected: &[F],
+) -> Result<(), AllocError> {
+    let powers = F::powers(alloc, element, expected.len())?;
+    assert_eq!(rt; powers.as_slice(), expected);
+    Ok(())
+}
+
 #[test]
 fn powers(rt: HostRuntime) -> Result<(), AllocError> {
-    let powers = Mersenne31::powers(rt.alloc(), element(3), 4)?;
-    let expected = [element(1), element(3), element(9), element(27)];
-    assert_eq!(rt; powers.as_slice(), expected.as_slice());
-    assert_eq!(rt; Mersenne31::powers(rt.alloc(), element(3), 0)?.len(), 0);
-    let powers = Quadratic::powers(rt.alloc(), quadratic(0, 1), 4)?;
-    let expected = [
+    let powers = [element(1), element(3), element(9), element(27)];
+    assert_powers(&rt, rt.alloc(), element(3), &powers)?;
+    assert_powers(&rt, rt.alloc(), element(3), &[])?;
+    let powers = [
         quadratic(1, 0),
         quadratic(0, 1),
         quadratic(2147483646, 0),
         quadratic(0, 2147483646),
     ];
-    assert_eq!(rt; powers.as_slice(), expected.as_slice());
-    Ok(())
+    assert_powers(&rt, rt.alloc(), quadratic(0, 1), &powers)
 }
 
 #[test]
 fn quadratic_products(rt: HostRuntime) {
     let (a, b) = (quadratic(123456789, 987654321), quadratic(31, 1000000007));
-    assert_eq!(rt; a * b, quadratic(1753848307, 2102596007));
-    assert_eq!(rt; (a - b) * (a + b), a.square() - b.square());
-    assert_eq!(rt; a + -a, Quadratic::ZERO);
-    assert_eq!(rt; a.halve().double(), a);
-    assert_eq!(rt; Quadratic::TWO, Quadratic::from_u64(2));
+    for (left, right) in [
+        (a * b, quadratic(1753848307, 2102596007)),
+        ((a - b) * (a + b), a.square() - b.square()),
+        (a + -a, Quadratic::ZERO),
+        (a.halve().double(), a),
+        (Quadratic::TWO, Quadratic::from_u64(2)),
+    ] {
+        assert_eq!(rt; left, right);
+    }
 }
 
 #[test]
 fn quadratic_inverses(rt: HostRuntime) {
     assert_eq!(rt; Quadratic::ZERO.try_inverse(), None);
-    assert_eq!(rt;
-        quadratic(0, 1).try_inverse(),
-        Some(quadratic(0, 2147483646))
-    );
-    assert_eq!(rt;
-        quadratic(1, 2).try_inverse(),
-        Some(quadratic(858993459, 429496729))
-    );
-    let a = quadratic(123456789, 987654321);
-    assert_eq!(rt; a.try_inverse(), Some(quadratic(1759746630, 1990861959)));
+    for (value, inverse) in [
+        (quadratic(0, 1), quadratic(0, 2147483646)),
+        (quadratic(1, 2), quadratic(858993459, 429496729)),
+        (
+            quadratic(123456789, 987654321),
+            quadratic(1759746630, 1990861959),
+        ),
+    ] {
+        assert_eq!(rt; value.try_inverse(), Some(inverse));
+    }
 }
 
 #[test]

@@ -1,5 +1,5 @@
-//! Worked examples of points, domains, the transform, values off a domain and an opening's words,
-//! with expected values from outside.
+//! Worked examples of fields, points, domains and an opening's words, with expected values from
+//! outside, and the words beside quotients, lambdas and folds one by one.
 #![tactic(auto)]
 
 #[cfg(test)]
@@ -9,18 +9,6 @@ mod extensions;
 #[cfg(test)]
 mod fields;
 #[cfg(test)]
-mod groups;
-#[cfg(test)]
-mod off_domain;
-#[cfg(test)]
-mod periodic;
-#[cfg(test)]
 mod points;
-#[cfg(test)]
-mod selectors;
-#[cfg(test)]
-mod transform;
-#[cfg(test)]
-mod values;
 #[cfg(test)]
 mod words;

@@ -1,12 +1,9 @@
 //! The words of an opening over Mersenne31 and its cubic extension, beside quotients, lambdas and
 //! folds one by one.
-use crate::off_domain::{element, evaluate_in_cfft_order, on_line, weights};
-use crate::transform::{Rows, column, scattered};
 use circle_commit::{Matrix, RowMajorMatrix};
-use circle_domain::LagrangeWeights;
 use circle_field::{ComplexExtendable, Cubic, ExtensionField, Field, Mersenne31};
 use circle_folding::{deep_quotient_reduce_row, extract_lambda, fold_x_row, fold_y};
-use circle_plane::{CircleDomain, CircleEvaluations, Point, cfft_permute_index};
+use circle_plane::{CircleDomain, Point, cfft_permute_index};
 use circle_words::{
     OpenedMatrix, are_off_domain, can_all_be_opened, first_layer, fold_layers, fold_round,
     opened_values, reduced_word, standard_points, vanishing_ratios,
@@ -15,14 +12,44 @@ use std::alloc::{AllocError, Global};
 use std::process::Abort;
 use std::test::Fail;
 
+type Rows = RowMajorMatrix<Mersenne31>;
+
 // The values of 1 + 2y + 3x + 4xy at the eight points of the standard domain in the transform's
 // order.
 const EIGHT_BY_PAIRS: [u64; 8] = [
     1581940626, 1962669500, 565411951, 184945221, 1754305948, 1969764645, 393308773, 177587932,
 ];
 
+fn element(value: u64) -> Mersenne31 {
+    Mersenne31::from_u64(value)
+}
+
 fn cubic(a: u64, b: u64, c: u64) -> Cubic {
     Cubic::from_coefficients(&[element(a), element(b), element(c)])
+}
+
+// The point of a coordinate of the projective line.
+fn on_line(rt: &impl Abort, t: Cubic) -> Point<Cubic> {
+    Point::from_projective_line(t).expect(rt, "the square of the coordinate is -1")
+}
+
+// A matrix of `height * width` entries without a pattern.
+fn scattered(
+    rt: &impl Abort,
+    alloc: Global,
+    height: usize,
+    width: usize,
+    seed: u64,
+) -> Result<Rows, AllocError> {
+    assert!(rt; height <= 16 && width >= 1 && width <= 3);
+    let mut state = element(seed);
+    let mut values = Vec::new(alloc);
+    for _ in 0..height * width {
+        state = state * element(1103515245) + element(12345);
+        values.push(state)?;
+    }
+    assert!(rt; values.len() % width == 0);
+    Ok(RowMajorMatrix::new(values, width))
 }
 
 // `standard_points`, after a test of what it asks.
@@ -126,41 +153,16 @@ fn opened(
 fn the_value_that_a_column_is_opened_to(rt: HostRuntime) -> Result<(), Fail> {
     let alloc = rt.alloc();
     let t = cubic(0, 1, 0);
-    let rows = column(alloc, &EIGHT_BY_PAIRS)?;
-    let values = opened(&rt, alloc, 1, 3, &rows, &[t])?;
+    let mut entries = Vec::new(alloc);
+    for value in EIGHT_BY_PAIRS {
+        entries.push(element(value))?;
+    }
+    let values = opened(&rt, alloc, 1, 3, &RowMajorMatrix::new_col(entries), &[t])?;
     let (x, y) = (on_line(&rt, t).x(), on_line(&rt, t).y());
     let [one, two, three, four] = [1, 2, 3, 4].map(|n| Cubic::from_u64(n));
     let expected = one + two * y + three * x + four * x * y;
     assert!(&rt; values.len() == 1);
     assert!(&rt; values[0].as_slice() == [expected].as_slice());
-    Ok(())
-}
-
-// `evaluate_by_weights` of rows in the transform's order, after a test of what it asks.
-fn evaluate_by_weights(
-    rt: &impl Abort,
-    alloc: Global,
-    domain: CircleDomain<Mersenne31>,
-    rows: Rows,
-    weights: &LagrangeWeights<Cubic>,
-) -> Result<Vec<Cubic>, AllocError> {
-    assert!(rt; domain.log_n() >= 1 && domain.log_n() <= 31 && domain.is_genuine());
-    assert!(rt; rows.height() == domain.size() && weights.shares.len() == domain.size());
-    CircleEvaluations::from_cfft_order(domain, rows).evaluate_by_weights(alloc, weights)
-}
-
-#[test]
-fn values_by_weights_that_are_made_before(rt: HostRuntime) -> Result<(), Fail> {
-    let alloc = rt.alloc();
-    let at = on_line(&rt, cubic(2, 7, 1));
-    let domain = CircleDomain::standard(3);
-    let weights = weights(&rt, alloc, domain, at)?;
-    for width in [1, 4] {
-        let rows = scattered(&rt, alloc, 8, width, 5)?;
-        let found = evaluate_by_weights(&rt, alloc, domain, rows.try_clone(alloc)?, &weights)?;
-        let whole = evaluate_in_cfft_order(&rt, alloc, domain, rows, at)?;
-        assert!(&rt; found.as_slice() == whole.as_slice());
-    }
     Ok(())
 }
 
@@ -181,26 +183,54 @@ fn claimed(alloc: Global, count: usize, seed: u64) -> Result<Vec<Cubic>, AllocEr
     Ok(values)
 }
 
+// The claimed values at points, so many at each.
+fn claimed_at_points(
+    alloc: Global,
+    count: usize,
+    seeds: &[u64],
+) -> Result<Vec<Vec<Cubic>>, AllocError> {
+    let mut values = Vec::new(alloc);
+    for seed in seeds {
+        values.push(claimed(alloc, count, *seed)?)?;
+    }
+    Ok(values)
+}
+
+// Matrices of eight, sixteen, eight and four rows.
+fn given_rows(rt: &impl Abort, alloc: Global) -> Result<Vec<Rows>, AllocError> {
+    let mut rows = Vec::new(alloc);
+    for (height, width, seed) in [(8, 1, 5), (16, 3, 6), (8, 2, 7), (4, 1, 8)] {
+        rows.push(scattered(rt, alloc, height, width, seed)?)?;
+    }
+    Ok(rows)
+}
+
+// The points of the claims on these.
+fn given_points(alloc: Global) -> Result<Vec<Vec<Cubic>>, AllocError> {
+    let [first, second] = [cubic(0, 1, 0), cubic(3, 1, 4)];
+    let lists: [&[Cubic]; 4] = [&[first], &[second], &[first, second], &[]];
+    let mut points = Vec::new(alloc);
+    for list in lists {
+        points.push(Vec::from_slice(alloc, list)?)?;
+    }
+    Ok(points)
+}
+
+// The values that they claim.
+fn given_values(alloc: Global) -> Result<Vec<Vec<Vec<Cubic>>>, AllocError> {
+    let lists: [(usize, &[u64]); 4] = [(1, &[1]), (3, &[2]), (2, &[3, 4]), (1, &[])];
+    let mut values = Vec::new(alloc);
+    for (count, seeds) in lists {
+        values.push(claimed_at_points(alloc, count, seeds)?)?;
+    }
+    Ok(values)
+}
+
 // Matrices of eight, sixteen, eight and four rows, the last of which is claimed at no point.
 fn given(rt: &impl Abort, alloc: Global) -> Result<Committed, AllocError> {
-    let [first, second] = [cubic(0, 1, 0), cubic(3, 1, 4)];
-    let mut rows = Vec::new(alloc);
-    rows.push(scattered(rt, alloc, 8, 1, 5)?)?;
-    rows.push(scattered(rt, alloc, 16, 3, 6)?)?;
-    rows.push(scattered(rt, alloc, 8, 2, 7)?)?;
-    rows.push(scattered(rt, alloc, 4, 1, 8)?)?;
-    let points = vec![in alloc;
-        vec![in alloc; first]?,
-        vec![in alloc; second]?,
-        vec![in alloc; first, second]?,
-        Vec::new(alloc),
-    ]?;
-    let values = vec![in alloc;
-        vec![in alloc; claimed(alloc, 1, 1)?]?,
-        vec![in alloc; claimed(alloc, 3, 2)?]?,
-        vec![in alloc; claimed(alloc, 2, 3)?, claimed(alloc, 2, 4)?]?,
-        Vec::new(alloc),
-    ]?;
+    let rows = given_rows(rt, alloc)?;
+    let points = given_points(alloc)?;
+    let values = given_values(alloc)?;
     Ok(Committed {
         rows,
         points,
@@ -229,9 +259,9 @@ fn matrices<'a>(
 }
 
 // The powers of the batching challenge, from the first on.
-fn powers(alloc: Global) -> Result<Vec<Cubic>, AllocError> {
+fn powers() -> [Cubic; 4] {
     let alpha = cubic(9, 2, 6);
-    Ok(vec![in alloc; Cubic::ONE, alpha, alpha.square(), alpha.square() * alpha]?)
+    [Cubic::ONE, alpha, alpha.square(), alpha.square() * alpha]
 }
 
 // `reduced_word`, after a test of what it asks.
@@ -291,18 +321,28 @@ fn plain_entry(
     entry
 }
 
+// Asserts that the word of eight points is made of the quotients, entry by entry.
+fn assert_word(
+    rt: &impl Abort,
+    alloc: Global,
+    matrices: &[OpenedMatrix<Mersenne31, Cubic>],
+) -> Result<(), AllocError> {
+    let powers = powers();
+    let word = reduced(rt, alloc, 3, &powers, matrices)?;
+    assert!(rt; word.len() == 8);
+    for (place, entry) in word.iter().enumerate() {
+        assert_eq!(rt; *entry, plain_entry(rt, matrices, place, &powers));
+    }
+    Ok(())
+}
+
 #[test]
 fn the_word_of_a_height_row_by_row(rt: HostRuntime) -> Result<(), Fail> {
     let alloc = rt.alloc();
     let given = given(&rt, alloc)?;
     let matrices = matrices(&rt, alloc, &given)?;
-    let powers = powers(alloc)?;
-    let word = reduced(&rt, alloc, 3, &powers, &matrices)?;
-    assert!(&rt; word.len() == 8);
-    for (place, entry) in word.iter().enumerate() {
-        assert_eq!(&rt; *entry, plain_entry(&rt, &matrices, place, &powers));
-    }
-    let empty = reduced(&rt, alloc, 2, &powers, &matrices)?;
+    assert_word(&rt, alloc, &matrices)?;
+    let empty = reduced(&rt, alloc, 2, &powers(), &matrices)?;
     assert!(&rt; empty.as_slice() == [Cubic::ZERO; 4].as_slice());
     Ok(())
 }
@@ -351,10 +391,11 @@ fn assert_layer(
     rt: &impl Abort,
     alloc: Global,
     log_height: usize,
-    mut word: Vec<Cubic>,
+    matrices: &[OpenedMatrix<Mersenne31, Cubic>],
     lambda: Cubic,
     layer: &RowMajorMatrix<Cubic>,
 ) -> Result<(), AllocError> {
+    let mut word = reduced(rt, alloc, log_height, &powers(), matrices)?;
     assert!(rt; 1 < log_height && log_height < 31 && word.len() == 1 << log_height);
     let extracted = extract_lambda::<Mersenne31, Cubic>(alloc, &mut word, 1)?;
     assert_eq!(rt; extracted, lambda);
@@ -362,18 +403,23 @@ fn assert_layer(
     Ok(())
 }
 
+// Asserts that the lambdas and the layers are those of both heights.
+fn assert_layers(
+    rt: &impl Abort,
+    alloc: Global,
+    matrices: &[OpenedMatrix<Mersenne31, Cubic>],
+) -> Result<(), AllocError> {
+    let (lambdas, layers) = layered(rt, alloc, &powers(), matrices)?;
+    assert!(rt; lambdas.len() == 2 && layers.len() == 2);
+    assert_layer(rt, alloc, 4, matrices, lambdas[0], &layers[0])?;
+    assert_layer(rt, alloc, 3, matrices, lambdas[1], &layers[1])
+}
+
 #[test]
 fn the_first_layer_is_of_the_words_without_lambda(rt: HostRuntime) -> Result<(), Fail> {
-    let alloc = rt.alloc();
-    let given = given(&rt, alloc)?;
-    let matrices = matrices(&rt, alloc, &given)?;
-    let powers = powers(alloc)?;
-    let (lambdas, layers) = layered(&rt, alloc, &powers, &matrices)?;
-    assert!(&rt; lambdas.len() == 2 && layers.len() == 2);
-    let tall = reduced(&rt, alloc, 4, &powers, &matrices)?;
-    assert_layer(&rt, alloc, 4, tall, lambdas[0], &layers[0])?;
-    let low = reduced(&rt, alloc, 3, &powers, &matrices)?;
-    assert_layer(&rt, alloc, 3, low, lambdas[1], &layers[1])?;
+    let given = given(&rt, rt.alloc())?;
+    let matrices = matrices(&rt, rt.alloc(), &given)?;
+    assert_layers(&rt, rt.alloc(), &matrices)?;
     Ok(())
 }
 
@@ -406,16 +452,24 @@ fn assert_folded(
     Ok(())
 }
 
+// Asserts that the layers of both heights are folded by y.
+fn assert_all_folded(
+    rt: &impl Abort,
+    alloc: Global,
+    beta: Cubic,
+    matrices: &[OpenedMatrix<Mersenne31, Cubic>],
+) -> Result<(), AllocError> {
+    let (layers, folded) = folded_layers(rt, alloc, beta, &powers(), matrices)?;
+    assert!(rt; layers.len() == 2 && folded.len() == 2);
+    assert_folded(rt, alloc, beta, 3, &layers[0], &folded[0])?;
+    assert_folded(rt, alloc, beta, 2, &layers[1], &folded[1])
+}
+
 #[test]
 fn each_layer_is_folded_by_y(rt: HostRuntime) -> Result<(), Fail> {
-    let (alloc, beta) = (rt.alloc(), cubic(5, 3, 5));
-    let given = given(&rt, alloc)?;
-    let matrices = matrices(&rt, alloc, &given)?;
-    let powers = powers(alloc)?;
-    let (layers, folded) = folded_layers(&rt, alloc, beta, &powers, &matrices)?;
-    assert!(&rt; layers.len() == 2 && folded.len() == 2);
-    assert_folded(&rt, alloc, beta, 3, &layers[0], &folded[0])?;
-    assert_folded(&rt, alloc, beta, 2, &layers[1], &folded[1])?;
+    let given = given(&rt, rt.alloc())?;
+    let matrices = matrices(&rt, rt.alloc(), &given)?;
+    assert_all_folded(&rt, rt.alloc(), cubic(5, 3, 5), &matrices)?;
     Ok(())
 }
 
@@ -442,20 +496,43 @@ fn pair_by_x(rt: &impl Abort, beta: Cubic, layer: &RowMajorMatrix<Cubic>, place:
     fold_x_row::<Mersenne31, Cubic>(place, 2, 1, beta, [row[0], row[1]])
 }
 
+// Asserts that a round's word has the folds by x, with these entries added.
+fn assert_round(
+    rt: &impl Abort,
+    alloc: Global,
+    layer: &RowMajorMatrix<Cubic>,
+    height: usize,
+    waiting: Vec<Cubic>,
+    added: &[Cubic],
+) -> Result<(), AllocError> {
+    let beta = cubic(8, 9, 7);
+    let word = next_word(rt, alloc, beta, layer, height, waiting)?;
+    assert!(rt; word.len() == 4 && added.len() == 4);
+    for place in 0..4 {
+        assert_eq!(rt;
+            word[place],
+            pair_by_x(rt, beta, layer, place) + added[place]
+        );
+    }
+    Ok(())
+}
+
 #[test]
 fn a_round_folds_by_x_and_joins_its_height(rt: HostRuntime) -> Result<(), Fail> {
-    let (alloc, beta) = (rt.alloc(), cubic(8, 9, 7));
+    let alloc = rt.alloc();
     let entries = claimed(alloc, 8, 4)?;
     assert!(&rt; entries.len() == 8);
     let layer = RowMajorMatrix::new(entries, 2);
     let waiting = claimed(alloc, 4, 6)?;
-    let joined = next_word(&rt, alloc, beta, &layer, 3, claimed(alloc, 4, 6)?)?;
-    let alone = next_word(&rt, alloc, beta, &layer, 2, claimed(alloc, 2, 6)?)?;
-    assert!(&rt; waiting.len() == 4 && joined.len() == 4 && alone.len() == 4);
-    for place in 0..4 {
-        let fold = pair_by_x(&rt, beta, &layer, place);
-        assert_eq!(&rt; alone[place], fold);
-        assert_eq!(&rt; joined[place], fold + waiting[place]);
-    }
+    assert_round(&rt, alloc, &layer, 3, claimed(alloc, 4, 6)?, &waiting)?;
+    // No word of the next height waits.
+    assert_round(
+        &rt,
+        alloc,
+        &layer,
+        2,
+        claimed(alloc, 2, 6)?,
+        &[Cubic::ZERO; 4],
+    )?;
     Ok(())
 }

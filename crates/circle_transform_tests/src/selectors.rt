@@ -1,7 +1,6 @@
-//! The selectors of a domain's rows on a coset over Mersenne31: beside those at its points, and as
-//! polynomials.
-use crate::domains::{selectors, vanishing};
-use crate::transform::{Rows, evaluate, interpolate};
+//! The vanishing polynomial and the selectors of a domain's rows over Mersenne31: worked values, those
+//! on a coset beside those at its points, and as polynomials.
+use crate::transform::{Domain, Rows, evaluate, interpolate, point};
 use circle_commit::{LagrangeSelectors, Matrix, PolynomialSpace, RowMajorMatrix};
 use circle_field::{ComplexExtendable, Field, Mersenne31};
 use circle_plane::{CircleDomain, Point};
@@ -9,7 +8,51 @@ use std::alloc::{AllocError, Global};
 use std::process::Abort;
 use std::test::Fail;
 
-type Domain = CircleDomain<Mersenne31>;
+// `vanishing_poly_at_point`, after a test of what it asks.
+fn vanishing(rt: &impl Abort, domain: Domain, point: Mersenne31) -> Mersenne31 {
+    assert!(rt; domain.log_n() >= 1);
+    assert!(rt; Point::from_projective_line(point).is_some());
+    domain.vanishing_poly_at_point(point)
+}
+
+// `selectors_at_point`, after a test of what it asks.
+fn selectors(rt: &impl Abort, domain: Domain, point: Mersenne31) -> LagrangeSelectors<Mersenne31> {
+    assert!(rt; domain.log_n() <= 31 && domain.is_genuine());
+    let at = Point::from_projective_line(point).expect(rt, "the point is at infinity");
+    assert!(rt; domain.is_clear_of(at));
+    domain.selectors_at_point(point)
+}
+
+// `is_clear_of`, after a test of what it asks.
+fn is_clear(rt: &impl Abort, domain: Domain, at: Point<Mersenne31>) -> bool {
+    assert!(rt; domain.log_n() >= 1 && domain.log_n() <= 31);
+    domain.is_clear_of(at)
+}
+
+#[test]
+fn selectors_of_two_points(rt: HostRuntime) {
+    // The domain of two points with shift (-3/5, 4/5).
+    let domain = CircleDomain::new(1, point(&rt, 1717986917, 1288490189));
+    let row = selectors(&rt, domain, Mersenne31::ZERO);
+    for (value, expected) in [
+        (vanishing(&rt, domain, Mersenne31::ZERO), 429496731),
+        (row.is_first_row, 858993458),
+        (row.is_last_row, 1288490189),
+        (row.is_transition, 1073741824),
+        (row.inv_vanishing, 1342177280),
+    ] {
+        assert_eq!(&rt; value.value(), expected);
+    }
+    // The points of the domain are not clear of it, nor are their opposites on the other side.
+    let shift = domain.shift();
+    for (at, expected) in [
+        (shift, false),
+        (shift + Point::<Mersenne31>::generator(1), false),
+        (Point::<Mersenne31>::generator(0), true),
+    ] {
+        assert_eq!(&rt; is_clear(&rt, domain, at), expected);
+    }
+}
 
 // `selectors_on_coset`, after a test of what it asks.
 fn selectors_on_coset<F: ComplexExtendable>(
@@ -72,6 +115,24 @@ fn assert_zeros(rt: &impl Abort, rows: &Rows, place: usize, alone: bool) {
     }
 }
 
+// Asserts that these are the selectors of a row.
+fn assert_row(
+    rt: &impl Abort,
+    rows: &LagrangeSelectors<Vec<Mersenne31>>,
+    i: usize,
+    row: LagrangeSelectors<Mersenne31>,
+) {
+    for (column, value) in [
+        (&rows.is_first_row, row.is_first_row),
+        (&rows.is_last_row, row.is_last_row),
+        (&rows.is_transition, row.is_transition),
+        (&rows.inv_vanishing, row.inv_vanishing),
+    ] {
+        assert!(rt; i < column.len());
+        assert_eq!(rt; column[i], value);
+    }
+}
+
 #[test]
 fn a_coset_has_the_selectors_of_its_points(rt: HostRuntime) -> Result<(), Fail> {
     let alloc = rt.alloc();
@@ -81,11 +142,7 @@ fn a_coset_has_the_selectors_of_its_points(rt: HostRuntime) -> Result<(), Fail> 
     let rows = selectors_on_coset(&rt, alloc, domain, coset)?;
     assert_eq!(&rt; rows.is_first_row.len(), 256);
     for (i, at) in coset.points().enumerate() {
-        let row = selectors(&rt, domain, coordinate(&rt, at));
-        assert!(&rt; rows.is_first_row.get(i) == Some(&row.is_first_row));
-        assert!(&rt; rows.is_last_row.get(i) == Some(&row.is_last_row));
-        assert!(&rt; rows.is_transition.get(i) == Some(&row.is_transition));
-        assert!(&rt; rows.inv_vanishing.get(i) == Some(&row.inv_vanishing));
+        assert_row(&rt, &rows, i, selectors(&rt, domain, coordinate(&rt, at)));
     }
     Ok(())
 }

@@ -2,7 +2,7 @@ use Rattle.std.proofs.Common.{take, All}
 use Rattle.circle_domain.specs.Clear.{IsClearOf}
 use Rattle.circle_domain.specs.Domain.{log_size, shift_of}
 use Rattle.circle_domain.specs.Order.{natural_order}
-use Rattle.circle_plane_tests.proofs.selectors.selectors_on_coset.Given as goal
+use Rattle.circle_transform_tests.proofs.selectors.selectors_on_coset.Given as goal
 
 abbrev pub invariant-loop-i : goal.invariant-loop-i
 invariant-loop-i g l =

@@ -8,7 +8,7 @@ use Rattle.circle_domain.specs.Clear.{IsClearOf}
 use Rattle.circle_domain.specs.Domain.{log_size, shift_of}
 use Rattle.circle_domain.specs.Order.{natural_order}
 use Rattle.circle_domain.proofs.PartLists.{length-natural_order}
-use Rattle.circle_plane_tests.proofs.selectors.selectors_on_coset.Goals as goal
+use Rattle.circle_transform_tests.proofs.selectors.selectors_on_coset.Goals as goal
 
 pub loop-i-preserved : goal.loop-i-preserved
 loop-i-preserved g c =

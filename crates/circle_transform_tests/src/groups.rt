@@ -1,6 +1,6 @@
 //! The circle transform by groups of layers, over Mersenne31, beside one layer after another.
 use crate::transform::{
-    Evaluations, Rows, assert_same, column, evaluate, interpolate, point, scattered,
+    Evaluations, Rows, assert_column, assert_same, column, evaluate, point, scattered,
 };
 use circle_commit::{Matrix, RowMajorMatrix};
 use circle_domain::layer_twiddles;
@@ -118,9 +118,48 @@ fn interpolate_grouped(
     CircleEvaluations::from_cfft_order(domain, rows).interpolate_grouped(alloc, group)
 }
 
-// Asserts what coefficients of `height` rows on a domain of `2^log_n` points cost by groups, and
-// that their values are those without groups.
-fn assert_evaluated(
+// Asserts what coefficients cost by groups, and that their values are these rows in the
+// transform's order.
+fn assert_evaluated<M: Matrix<Mersenne31>>(
+    rt: &impl Abort,
+    alloc: Global,
+    domain: CircleDomain<Mersenne31>,
+    coeffs: &Rows,
+    values: &M,
+    count: u128,
+) -> Result<(), AllocError> {
+    for group in GROUPS {
+        let copy = coeffs.try_clone(alloc)?;
+        let (evaluations, butterflies) = evaluate_grouped(rt, alloc, domain, copy, group)?;
+        assert_eq!(rt; butterflies.count(), count);
+        assert_same(rt, &evaluations.to_cfft_order(), values);
+    }
+    Ok(())
+}
+
+// Asserts that rows in the transform's order have these coefficients by groups, and what all
+// layers cost.
+fn assert_interpolated(
+    rt: &impl Abort,
+    alloc: Global,
+    domain: CircleDomain<Mersenne31>,
+    rows: &Rows,
+    coeffs: &Rows,
+) -> Result<(), AllocError> {
+    assert!(rt; domain.log_n() >= 1 && domain.log_n() <= 8);
+    let count = (domain.log_n() << (domain.log_n() - 1)) as u128;
+    for group in GROUPS {
+        let copy = rows.try_clone(alloc)?;
+        let (found, butterflies) = interpolate_grouped(rt, alloc, domain, copy, group)?;
+        assert_eq!(rt; butterflies.count(), count);
+        assert_same(rt, &found, coeffs);
+    }
+    Ok(())
+}
+
+// Asserts what scattered coefficients of `height` rows on a domain of `2^log_n` points cost by
+// groups, and that their values are those without groups.
+fn assert_scattered(
     rt: &impl Abort,
     alloc: Global,
     log_n: usize,
@@ -128,25 +167,20 @@ fn assert_evaluated(
     count: u128,
 ) -> Result<(), AllocError> {
     assert!(rt; log_n >= 1 && log_n <= 8 && height <= 256);
+    let domain = CircleDomain::standard(log_n);
     for width in [1, 4, 11] {
-        let domain = CircleDomain::standard(log_n);
         let coeffs = scattered(rt, alloc, height, width, 3)?;
         let plain = evaluate(rt, alloc, domain, coeffs.try_clone(alloc)?)?.to_cfft_order();
-        for group in GROUPS {
-            let copy = coeffs.try_clone(alloc)?;
-            let (values, butterflies) = evaluate_grouped(rt, alloc, domain, copy, group)?;
-            assert_eq!(rt; butterflies.count(), count);
-            assert_same(rt, &values.to_cfft_order(), &plain);
-        }
+        assert_evaluated(rt, alloc, domain, &coeffs, &plain, count)?;
     }
     Ok(())
 }
 
 #[test]
 fn butterflies_of_coefficients(rt: HostRuntime) -> Result<(), Fail> {
-    assert_evaluated(&rt, rt.alloc(), 3, 4, 8)?;
-    assert_evaluated(&rt, rt.alloc(), 4, 1, 0)?;
-    assert_evaluated(&rt, rt.alloc(), 4, 16, 32)?;
+    for (log_n, height, count) in [(3, 4, 8), (4, 1, 0), (4, 16, 32)] {
+        assert_scattered(&rt, rt.alloc(), log_n, height, count)?;
+    }
     Ok(())
 }
 
@@ -157,12 +191,7 @@ fn butterflies_of_values(rt: HostRuntime) -> Result<(), Fail> {
     for width in [1, 4, 11] {
         let rows = scattered(&rt, alloc, 8, width, 4)?;
         let plain = interpolate_by_layers(&rt, alloc, domain, rows.try_clone(alloc)?)?;
-        for group in GROUPS {
-            let copy = rows.try_clone(alloc)?;
-            let (coeffs, butterflies) = interpolate_grouped(&rt, alloc, domain, copy, group)?;
-            assert_eq!(&rt; butterflies.count(), 12);
-            assert_same(&rt, &coeffs, &plain);
-        }
+        assert_interpolated(&rt, alloc, domain, &rows, &plain)?;
     }
     Ok(())
 }
@@ -174,9 +203,24 @@ fn two_points_cost_one_butterfly(rt: HostRuntime) -> Result<(), Fail> {
     for group in GROUPS {
         let coeffs = column(alloc, &[3, 2])?;
         let (values, butterflies) = evaluate_grouped(&rt, alloc, two, coeffs, group)?;
-        assert_same(&rt, &values.to_natural_order(), &column(alloc, &[5, 1])?);
+        assert_column(&rt, &values.to_natural_order(), &[5, 1]);
         assert_eq!(&rt; butterflies.count(), 1);
     }
+    Ok(())
+}
+
+// Asserts that these are the coefficients of rows in the transform's order, without groups.
+fn assert_whole(
+    rt: &impl Abort,
+    alloc: Global,
+    domain: CircleDomain<Mersenne31>,
+    rows: Rows,
+    coeffs: &Rows,
+) -> Result<(), AllocError> {
+    assert!(rt; domain.log_n() >= 1 && domain.log_n() <= 31 && domain.is_genuine());
+    assert!(rt; rows.height() == domain.size());
+    let evaluations = CircleEvaluations::from_cfft_order(domain, rows);
+    assert_same(rt, &evaluations.interpolate(alloc)?, coeffs);
     Ok(())
 }
 
@@ -189,20 +233,14 @@ fn assert_as_by_layers(
 ) -> Result<(), AllocError> {
     assert!(rt; log_n >= 1 && log_n <= 8 && width >= 1 && width <= 11);
     let domain = CircleDomain::new(log_n, Point::<Mersenne31>::generator(log_n + 1));
-    let rows = scattered(rt, alloc, 1 << log_n, width, log_n as u64)?;
-    let plain = evaluate_by_layers(rt, alloc, domain, &rows)?;
-    let fast = evaluate(rt, alloc, domain, rows.try_clone(alloc)?)?.to_cfft_order();
+    let coeffs = scattered(rt, alloc, 1 << log_n, width, log_n as u64)?;
+    let fast = evaluate(rt, alloc, domain, coeffs.try_clone(alloc)?)?.to_cfft_order();
+    let plain = evaluate_by_layers(rt, alloc, domain, &coeffs)?;
     assert_same(rt, &fast, &plain);
     let back = interpolate_by_layers(rt, alloc, domain, plain)?;
-    assert_same(rt, &back, &rows);
-    for group in GROUPS {
-        let (coeffs, _) = interpolate_grouped(rt, alloc, domain, fast.try_clone(alloc)?, group)?;
-        assert_same(rt, &coeffs, &rows);
-    }
-    assert!(rt; domain.is_genuine() && fast.height() == domain.size());
-    let evaluations = CircleEvaluations::from_cfft_order(domain, fast);
-    assert_same(rt, &evaluations.interpolate(alloc)?, &rows);
-    Ok(())
+    assert_same(rt, &back, &coeffs);
+    assert_interpolated(rt, alloc, domain, &fast, &coeffs)?;
+    assert_whole(rt, alloc, domain, fast, &coeffs)
 }
 
 #[test]

@@ -8,7 +8,7 @@ use Rattle.circle_domain.specs.Order.{natural_order}
 use Rattle.circle_domain.specs.Selectors.{IsFinite}
 use Rattle.circle_domain.proofs.Powers.{pow_injective}
 use Rattle.circle_plane.proofs.EachMore.{items-at}
-use Rattle.circle_plane_tests.proofs.periodic.four_at_point.Goals as goal
+use Rattle.circle_transform_tests.proofs.periodic.four_at_point.Goals as goal
 
 pub eval_at_point-requires : goal.eval_at_point-requires
 eval_at_point-requires g c = λ i lt two.

@@ -24,22 +24,29 @@ fn elements(alloc: Global, values: &[u64]) -> Result<Vec<Mersenne31>, AllocError
     values.iter().map(|value| element(*value)).collect(alloc)
 }
 
+// Asserts that these are the first values of the basis at (-3/5, 4/5).
+fn assert_basis(
+    rt: &impl Abort,
+    alloc: Global,
+    log_n: usize,
+    expected: &[u64],
+) -> Result<(), AllocError> {
+    assert!(rt; log_n >= 1 && log_n <= 3);
+    let basis = circle_basis(alloc, point(rt, 1717986917, 1288490189), log_n)?;
+    assert!(rt; basis.as_slice() == elements(alloc, expected)?.as_slice());
+    Ok(())
+}
+
 #[test]
 fn bases(rt: HostRuntime) -> Result<(), Fail> {
-    let alloc = rt.alloc();
     let (x, y) = (1717986917, 1288490189);
     // 1, y, x, xy
-    let small = circle_basis(alloc, point(&rt, x, y), 2)?;
-    assert_eq!(rt;
-        small.as_slice(),
-        elements(alloc, &[1, y, x, 1803886263])?.as_slice()
-    );
-    // At (-3/5, 4/5): 1, 4/5, -3/5, -12/25, -7/25, -28/125, 21/125, 84/625
+    assert_basis(&rt, rt.alloc(), 2, &[1, y, x, 1803886263])?;
+    // 1, 4/5, -3/5, -12/25, -7/25, -28/125, 21/125, 84/625
     let expected = [
         1, y, x, 1803886263, 515396075, 412316860, 1838246002, 1900093531,
     ];
-    let large = circle_basis(alloc, point(&rt, x, y), 3)?;
-    assert_eq!(rt; large.as_slice(), elements(alloc, &expected)?.as_slice());
+    assert_basis(&rt, rt.alloc(), 3, &expected)?;
     Ok(())
 }
 
@@ -80,20 +87,23 @@ fn values_in_both_orders(rt: HostRuntime) -> Result<(), Fail> {
     let two = CircleDomain::new(1, point(&rt, 0, 1));
     let four = CircleDomain::new(2, point(&rt, 32768, 32768));
     let not_genuine = CircleDomain::new(2, Point::generator(0));
-
-    let evaluations = evaluated(&rt, alloc, two, &[3, 2], 1)?;
-    assert_rows(&rt, &evaluations.to_natural_order(), 1, &[5, 1]);
-    let evaluations = evaluated(&rt, alloc, two, &[7], 1)?;
-    assert_rows(&rt, &evaluations.to_natural_order(), 1, &[7, 7]);
-    let evaluations = evaluated(&rt, alloc, four, &[1, 2, 3, 4], 1)?;
-    let natural = [163843, 2147450878, 2147319810, 32767];
-    assert_rows(&rt, &evaluations.to_natural_order(), 1, &natural);
-    let evaluations = evaluated(&rt, alloc, four, &[1, 2, 3, 4], 1)?;
+    let cases: [(CircleDomain<Mersenne31>, &[u64], &[u32]); 4] = [
+        (two, &[3, 2], &[5, 1]),
+        (two, &[7], &[7, 7]),
+        (
+            four,
+            &[1, 2, 3, 4],
+            &[163843, 2147450878, 2147319810, 32767],
+        ),
+        (not_genuine, &[1, 2, 3, 4], &[4, 2147483645, 2147483645, 4]),
+    ];
+    for (domain, coeffs, natural) in cases {
+        let evaluations = evaluated(&rt, alloc, domain, coeffs, 1)?;
+        assert_rows(&rt, &evaluations.to_natural_order(), 1, natural);
+    }
     let transformed = [163843, 32767, 2147319810, 2147450878];
+    let evaluations = evaluated(&rt, alloc, four, &[1, 2, 3, 4], 1)?;
     assert_rows(&rt, &evaluations.to_cfft_order(), 1, &transformed);
-    let evaluations = evaluated(&rt, alloc, not_genuine, &[1, 2, 3, 4], 1)?;
-    let repeated = [4, 2147483645, 2147483645, 4];
-    assert_rows(&rt, &evaluations.to_natural_order(), 1, &repeated);
     Ok(())
 }
 

@@ -1,10 +1,12 @@
 //! The circle transform over Mersenne31: worked examples, and the fast form beside the plain one.
 use circle_commit::{Matrix, RowMajorMatrix};
-use circle_field::{Field, Mersenne31};
+use circle_field::{ExtensionField, Field, Mersenne31};
 use circle_plane::{CircleDomain, CircleEvaluations, Point, circle_basis};
 use std::alloc::{AllocError, Global};
 use std::process::Abort;
 use std::test::Fail;
+
+pub(crate) type Domain = CircleDomain<Mersenne31>;
 
 pub(crate) type Rows = RowMajorMatrix<Mersenne31>;
 
@@ -29,46 +31,46 @@ pub(crate) fn scattered(
     Ok(RowMajorMatrix::new(values, width))
 }
 
+// The sum of a column's entries, each times its factor.
+pub(crate) fn plain_entry<EF: ExtensionField<Mersenne31>>(
+    rt: &impl Abort,
+    matrix: &Rows,
+    column: usize,
+    factors: &[EF],
+) -> EF {
+    let mut sum = EF::ZERO;
+    for r in 0..matrix.height() {
+        let row = matrix.row(r);
+        assert!(rt; column < row.len() && r < factors.len());
+        sum = sum + factors[r] * EF::from_base(row[column]);
+    }
+    sum
+}
+
 // The rows of the sum over the basis at each point in natural order.
 fn plain_rows(
     rt: &impl Abort,
     alloc: Global,
-    domain: CircleDomain<Mersenne31>,
+    domain: Domain,
     coeffs: &Rows,
-) -> Result<Vec<Vec<Mersenne31>>, AllocError> {
+) -> Result<Rows, AllocError> {
     assert!(rt; domain.log_n() >= 1 && domain.log_n() <= 10);
-    let mut rows = Vec::new(alloc);
+    let mut values = Vec::new(alloc);
     for point in domain.points() {
         let basis = circle_basis(alloc, point, domain.log_n())?;
-        rows.push(plain_row(rt, alloc, coeffs, &basis)?)?;
-    }
-    Ok(rows)
-}
-
-// The sum of the rows, each times its factor.
-fn plain_row(
-    rt: &impl Abort,
-    alloc: Global,
-    matrix: &Rows,
-    factors: &[Mersenne31],
-) -> Result<Vec<Mersenne31>, AllocError> {
-    let mut sums = vec![in alloc; Mersenne31::ZERO; matrix.width()]?;
-    for r in 0..matrix.height() {
-        let row = matrix.row(r);
-        assert!(rt; row.len() == sums.len() && r < factors.len());
-        for j in 0..row.len() {
-            assert!(rt; j < sums.len());
-            sums[j] = sums[j] + row[j] * factors[r];
+        for column in 0..coeffs.width() {
+            values.push(plain_entry(rt, coeffs, column, &basis))?;
         }
     }
-    Ok(sums)
+    assert!(rt; coeffs.width() >= 1 && values.len() % coeffs.width() == 0);
+    Ok(RowMajorMatrix::new(values, coeffs.width()))
 }
 
 // `CircleEvaluations::evaluate`, after a test of what it asks.
 pub(crate) fn evaluate(
     rt: &impl Abort,
     alloc: Global,
-    domain: CircleDomain<Mersenne31>,
+    domain: Domain,
     coeffs: Rows,
 ) -> Result<Evaluations, AllocError> {
     let height = coeffs.height();
@@ -81,7 +83,7 @@ pub(crate) fn evaluate(
 pub(crate) fn interpolate(
     rt: &impl Abort,
     alloc: Global,
-    domain: CircleDomain<Mersenne31>,
+    domain: Domain,
     rows: Rows,
 ) -> Result<Rows, AllocError> {
     assert!(rt; domain.log_n() >= 1 && domain.log_n() <= 31 && domain.is_genuine());
@@ -93,9 +95,9 @@ pub(crate) fn interpolate(
 pub(crate) fn extrapolate(
     rt: &impl Abort,
     alloc: Global,
-    domain: CircleDomain<Mersenne31>,
+    domain: Domain,
     rows: Rows,
-    target: CircleDomain<Mersenne31>,
+    target: Domain,
 ) -> Result<Rows, AllocError> {
     assert!(rt; domain.log_n() >= 1 && domain.log_n() <= 31 && domain.is_genuine());
     assert!(rt; rows.height() == domain.size());
@@ -115,6 +117,15 @@ pub(crate) fn assert_same<L: Matrix<Mersenne31>, R: Matrix<Mersenne31>>(
     assert!(rt; left.height() == right.height() && left.width() == right.width());
     for r in 0..left.height() {
         assert!(rt; left.row(r) == right.row(r));
+    }
+}
+
+// Asserts that the matrix has one column, of these entries.
+pub(crate) fn assert_column<M: Matrix<Mersenne31>>(rt: &impl Abort, matrix: &M, entries: &[u64]) {
+    assert!(rt; matrix.height() == entries.len() && matrix.width() == 1);
+    for (r, entry) in entries.iter().enumerate() {
+        assert!(rt; r < matrix.height());
+        assert!(rt; matrix.row(r) == [Mersenne31::from_u64(*entry)].as_slice());
     }
 }
 
@@ -138,76 +149,104 @@ fn two_and_four_points(rt: HostRuntime) -> Result<(), Fail> {
     let alloc = rt.alloc();
     let two = CircleDomain::new(1, point(&rt, 0, 1));
     let four = CircleDomain::new(2, point(&rt, 32768, 32768));
-    let coeffs = interpolate(&rt, alloc, two, column(alloc, &[5, 1])?)?;
-    assert_same(&rt, &coeffs, &column(alloc, &[3, 2])?);
-    let values = evaluate(&rt, alloc, two, coeffs)?.to_natural_order();
-    assert_same(&rt, &values, &column(alloc, &[5, 1])?);
     let larger = extrapolate(&rt, alloc, two, column(alloc, &[5, 1])?, four)?;
-    let expected = column(alloc, &[65539, 65539, 2147418114, 2147418114])?;
-    assert_same(&rt, &larger, &expected);
+    assert_column(&rt, &larger, &[65539, 65539, 2147418114, 2147418114]);
+    let coeffs = interpolate(&rt, alloc, two, column(alloc, &[5, 1])?)?;
+    assert_column(&rt, &coeffs, &[3, 2]);
+    let values = evaluate(&rt, alloc, two, coeffs)?.to_natural_order();
+    assert_column(&rt, &values, &[5, 1]);
     let not_genuine = CircleDomain::new(2, Point::<Mersenne31>::generator(0));
     assert!(&rt; !not_genuine.is_genuine());
     Ok(())
 }
 
+// Asserts that scattered coefficients have the same values in both forms.
+fn assert_evaluated(
+    rt: &impl Abort,
+    alloc: Global,
+    log_n: usize,
+    width: usize,
+) -> Result<(), AllocError> {
+    assert!(rt; log_n >= 1 && log_n < 6 && width <= 11);
+    let shift = Point::<Mersenne31>::generator(31) * (7919 * log_n + width);
+    let domain = CircleDomain::new(log_n, shift);
+    let coeffs = scattered(rt, alloc, 1 << (log_n / 2), width, log_n as u64)?;
+    let plain = plain_rows(rt, alloc, domain, &coeffs)?;
+    let fast = evaluate(rt, alloc, domain, coeffs)?.to_natural_order();
+    assert_same(rt, &fast, &plain);
+    Ok(())
+}
+
 #[test]
 fn the_fast_form_beside_the_plain_one(rt: HostRuntime) -> Result<(), Fail> {
-    let alloc = rt.alloc();
     for log_n in 1..6 {
         for width in [1, 4, 11] {
-            let shift = Point::<Mersenne31>::generator(31) * (7919 * log_n + width);
-            let domain = CircleDomain::new(log_n, shift);
-            let coeffs = scattered(&rt, alloc, 1 << (log_n / 2), width, log_n as u64)?;
-            let plain = plain_rows(&rt, alloc, domain, &coeffs)?;
-            let fast = evaluate(&rt, alloc, domain, coeffs)?.to_natural_order();
-            assert!(&rt; fast.height() == plain.len());
-            for (r, row) in plain.iter().enumerate() {
-                assert!(&rt; r < fast.height());
-                assert!(&rt; fast.row(r) == row.as_slice());
-            }
+            assert_evaluated(&rt, rt.alloc(), log_n, width)?;
         }
     }
+    Ok(())
+}
+
+// Asserts that the coefficients of scattered values have these values, in both forms.
+fn assert_interpolated(
+    rt: &impl Abort,
+    alloc: Global,
+    log_n: usize,
+    width: usize,
+) -> Result<(), AllocError> {
+    assert!(rt; log_n >= 2 && log_n < 5 && width <= 11);
+    let shift = Point::<Mersenne31>::generator(31) * (40503 * log_n + 2 * width + 1);
+    let domain = CircleDomain::new(log_n, shift);
+    let rows = scattered(rt, alloc, 1 << log_n, width, width as u64)?;
+    let coeffs = interpolate(rt, alloc, domain, rows.try_clone(alloc)?)?;
+    assert_same(rt, &plain_rows(rt, alloc, domain, &coeffs)?, &rows);
+    let back = evaluate(rt, alloc, domain, coeffs)?;
+    assert_same(rt, &back.try_clone(alloc)?.to_natural_order(), &rows);
     Ok(())
 }
 
 #[test]
 fn values_to_coefficients_and_back(rt: HostRuntime) -> Result<(), Fail> {
-    let alloc = rt.alloc();
     for log_n in 2..5 {
         for width in [1, 4, 11] {
-            let shift = Point::<Mersenne31>::generator(31) * (40503 * log_n + 2 * width + 1);
-            let domain = CircleDomain::new(log_n, shift);
-            let rows = scattered(&rt, alloc, 1 << log_n, width, width as u64)?;
-            let coeffs = interpolate(&rt, alloc, domain, rows.try_clone(alloc)?)?;
-            let plain = plain_rows(&rt, alloc, domain, &coeffs)?;
-            let back = evaluate(&rt, alloc, domain, coeffs)?;
-            assert_same(&rt, &back.try_clone(alloc)?.to_natural_order(), &rows);
-            for (r, row) in plain.iter().enumerate() {
-                assert!(&rt; r < rows.height());
-                assert!(&rt; rows.row(r) == row.as_slice());
-            }
+            assert_interpolated(&rt, rt.alloc(), log_n, width)?;
         }
     }
     Ok(())
 }
 
+// Asserts that the first rows are the same, and that all others are of zeros.
+fn assert_zeros_appended(rt: &impl Abort, coeffs: &Rows, larger: &Rows) {
+    assert!(rt; coeffs.height() <= larger.height());
+    let (first, others) = larger.split_rows(coeffs.height());
+    assert_same(rt, &first, coeffs);
+    for r in 0..others.height() {
+        assert!(rt; others.row(r).iter().all(|entry| entry.is_zero()));
+    }
+}
+
+// Asserts that scattered values and what they are extrapolated to have the same coefficients.
+fn assert_extrapolated(
+    rt: &impl Abort,
+    alloc: Global,
+    log_n: usize,
+    log_blowup: usize,
+) -> Result<(), AllocError> {
+    assert!(rt; log_n >= 2 && log_n < 5 && log_blowup <= 3);
+    let domain = CircleDomain::standard(log_n);
+    let target = CircleDomain::standard(log_n + log_blowup);
+    let rows = scattered(rt, alloc, 1 << log_n, 11, log_blowup as u64)?;
+    let larger = extrapolate(rt, alloc, domain, rows.try_clone(alloc)?, target)?;
+    let larger = interpolate(rt, alloc, target, larger)?;
+    assert_zeros_appended(rt, &interpolate(rt, alloc, domain, rows)?, &larger);
+    Ok(())
+}
+
 #[test]
 fn extrapolation_appends_zeros(rt: HostRuntime) -> Result<(), Fail> {
-    let alloc = rt.alloc();
     for log_n in 2..5 {
         for log_blowup in [1, 2, 3] {
-            let domain = CircleDomain::standard(log_n);
-            let target = CircleDomain::standard(log_n + log_blowup);
-            let rows = scattered(&rt, alloc, 1 << log_n, 11, log_blowup as u64)?;
-            let larger = extrapolate(&rt, alloc, domain, rows.try_clone(alloc)?, target)?;
-            let coeffs = interpolate(&rt, alloc, domain, rows)?;
-            let larger_coeffs = interpolate(&rt, alloc, target, larger)?;
-            assert!(&rt; coeffs.height() <= larger_coeffs.height());
-            let (first, others) = larger_coeffs.split_rows(coeffs.height());
-            assert_same(&rt, &first, &coeffs);
-            for r in 0..others.height() {
-                assert!(&rt; others.row(r).iter().all(|entry| entry.is_zero()));
-            }
+            assert_extrapolated(&rt, rt.alloc(), log_n, log_blowup)?;
         }
     }
     Ok(())

@@ -1,6 +1,8 @@
 //! Values off a domain over Mersenne31 and its cubic extension: worked examples, and the sum over
 //! the basis at the point, times the coefficients, beside them.
-use crate::transform::{Rows, column, evaluate, extrapolate, interpolate, point, scattered};
+use crate::transform::{
+    Rows, column, evaluate, extrapolate, interpolate, plain_entry, point, scattered,
+};
 use circle_commit::{Matrix, PolynomialSpace};
 use circle_domain::{LagrangeWeights, lagrange_weights};
 use circle_field::{Cubic, ExtensionField, Field, Mersenne31};
@@ -11,6 +13,11 @@ use std::test::Fail;
 
 pub(crate) fn element(value: u64) -> Mersenne31 {
     Mersenne31::from_u64(value)
+}
+
+// The polynomial with these coefficients.
+fn cubic(c0: u64, c1: u64, c2: u64) -> Cubic {
+    Cubic::from_coefficients(&[element(c0), element(c1), element(c2)])
 }
 
 // The point of a coordinate of the projective line.
@@ -32,13 +39,13 @@ pub(crate) fn evaluate_at_point<EF: ExtensionField<Mersenne31>>(
 }
 
 // `evaluate_polynomial_at`, after a test of what it asks.
-fn evaluate_polynomial_at(
+fn evaluate_polynomial_at<EF: ExtensionField<Mersenne31>>(
     rt: &impl Abort,
     alloc: Global,
     domain: CircleDomain<Mersenne31>,
     evals: &[Mersenne31],
-    t: Cubic,
-) -> Result<Cubic, AllocError> {
+    t: EF,
+) -> Result<EF, AllocError> {
     assert!(rt; domain.log_n() >= 1 && domain.log_n() <= 31 && domain.is_standard());
     assert!(rt; evals.len() == domain.size());
     let at = Point::from_projective_line(t).expect(rt, "the square of the coordinate is -1");
@@ -46,98 +53,110 @@ fn evaluate_polynomial_at(
     domain.evaluate_polynomial_at(alloc, evals, t)
 }
 
-// The sum over the basis at the point, times the coefficients, for each column.
-fn plain_values(
+// Asserts that values at a point are the sums over the basis there, times the coefficients, for
+// each column.
+fn assert_plain(
     rt: &impl Abort,
     alloc: Global,
     coeffs: &Rows,
     log_n: usize,
     at: Point<Cubic>,
-) -> Result<Vec<Cubic>, AllocError> {
-    assert!(rt; log_n >= 1 && log_n <= 10);
+    values: &[Cubic],
+) -> Result<(), AllocError> {
+    assert!(rt; log_n >= 1 && log_n <= 10 && values.len() == coeffs.width());
     let basis = circle_basis(alloc, at, log_n)?;
-    let mut values = vec![in alloc; Cubic::ZERO; coeffs.width()]?;
-    for r in 0..coeffs.height() {
-        let row = coeffs.row(r);
-        assert!(rt; row.len() == values.len() && r < basis.len());
-        for j in 0..row.len() {
-            assert!(rt; j < values.len());
-            values[j] = values[j] + basis[r] * Cubic::from_base(row[j]);
-        }
+    for (column, value) in values.iter().enumerate() {
+        assert_eq!(rt; *value, plain_entry(rt, coeffs, column, &basis));
     }
-    Ok(values)
+    Ok(())
 }
 
 #[test]
 fn two_points_at_the_neutral_one(rt: HostRuntime) -> Result<(), Fail> {
     let alloc = rt.alloc();
-    let domain = CircleDomain::new(1, point(&rt, 0, 1));
+    let there = point(&rt, 0, 1);
+    let domain = CircleDomain::new(1, there);
+    assert!(&rt; !domain.is_clear_of(there));
     let neutral = Point::<Mersenne31>::generator(0);
     let values = evaluate_at_point(&rt, alloc, domain, column(alloc, &[5, 1])?, neutral)?;
     assert!(&rt; values.as_slice() == [element(3)].as_slice());
-    let there = point(&rt, 0, 1);
-    assert!(&rt; !domain.is_clear_of(there));
     Ok(())
+}
+
+// Asserts the values of scattered rows off their domain, and off a larger one.
+fn assert_off_domain(
+    rt: &impl Abort,
+    alloc: Global,
+    log_n: usize,
+    width: usize,
+) -> Result<(), AllocError> {
+    assert!(rt; log_n >= 2 && log_n < 6);
+    let domain = CircleDomain::standard(log_n);
+    let larger = CircleDomain::standard(log_n + 1);
+    let at = on_line(rt, cubic(3, log_n as u64, width as u64));
+    let rows = scattered(rt, alloc, 1 << log_n, width, width as u64)?;
+    let there = extrapolate(rt, alloc, domain, rows.try_clone(alloc)?, larger)?;
+    let again = evaluate_at_point(rt, alloc, larger, there, at)?;
+    let coeffs = interpolate(rt, alloc, domain, rows.try_clone(alloc)?)?;
+    assert_plain(rt, alloc, &coeffs, log_n, at, &again)?;
+    let values = evaluate_at_point(rt, alloc, domain, rows, at)?;
+    assert_plain(rt, alloc, &coeffs, log_n, at, &values)
 }
 
 #[test]
 fn values_off_a_domain_and_off_a_larger_one(rt: HostRuntime) -> Result<(), Fail> {
-    let alloc = rt.alloc();
     for log_n in 2..6 {
         for width in [1, 4, 11] {
-            let domain = CircleDomain::standard(log_n);
-            let larger = CircleDomain::standard(log_n + 1);
-            let rows = scattered(&rt, alloc, 1 << log_n, width, width as u64)?;
-            let coordinates = [element(3), element(log_n as u64), element(width as u64)];
-            let at = on_line(&rt, Cubic::from_coefficients(&coordinates));
-            let coeffs = interpolate(&rt, alloc, domain, rows.try_clone(alloc)?)?;
-            let plain = plain_values(&rt, alloc, &coeffs, log_n, at)?;
-            let there = extrapolate(&rt, alloc, domain, rows.try_clone(alloc)?, larger)?;
-            let values = evaluate_at_point(&rt, alloc, domain, rows, at)?;
-            let again = evaluate_at_point(&rt, alloc, larger, there, at)?;
-            assert!(&rt; values.as_slice() == plain.as_slice());
-            assert!(&rt; again.as_slice() == plain.as_slice());
+            assert_off_domain(&rt, rt.alloc(), log_n, width)?;
         }
     }
     Ok(())
 }
 
 // `evaluate_at_point` of rows in the transform's order, after a test of what it asks.
-pub(crate) fn evaluate_in_cfft_order<M: Matrix<Mersenne31> + Drop>(
+fn evaluate_in_cfft_order<M: Matrix<Mersenne31> + Drop, EF: ExtensionField<Mersenne31>>(
     rt: &impl Abort,
     alloc: Global,
     domain: CircleDomain<Mersenne31>,
     rows: M,
-    at: Point<Cubic>,
-) -> Result<Vec<Cubic>, AllocError> {
+    at: Point<EF>,
+) -> Result<Vec<EF>, AllocError> {
     assert!(rt; domain.log_n() >= 1 && domain.log_n() <= 31 && domain.is_genuine());
     assert!(rt; domain.is_clear_of(at) && rows.height() == domain.size());
     CircleEvaluations::from_cfft_order(domain, rows).evaluate_at_point(alloc, at)
 }
 
+// Asserts that coefficients of 2^log_n rows have the values at a point that the first rows have.
+fn assert_by_the_first_rows(
+    rt: &impl Abort,
+    alloc: Global,
+    log_n: usize,
+    at: Point<Cubic>,
+) -> Result<(), AllocError> {
+    assert!(rt; log_n >= 2 && log_n < 6);
+    let large = CircleDomain::standard(log_n + 2);
+    let small = CircleDomain::new(log_n, large.shift());
+    let coeffs = scattered(rt, alloc, 1 << log_n, 3, log_n as u64)?;
+    let rows = evaluate(rt, alloc, large, coeffs)?.to_cfft_order();
+    assert!(rt; rows.height() >= 1 << log_n);
+    let (first, _) = rows.split_rows(1 << log_n);
+    let values = evaluate_in_cfft_order(rt, alloc, small, first, at)?;
+    let whole = evaluate_in_cfft_order(rt, alloc, large, rows.try_clone(alloc)?, at)?;
+    assert!(rt; values.as_slice() == whole.as_slice());
+    Ok(())
+}
+
 #[test]
 fn values_by_the_first_rows_alone(rt: HostRuntime) -> Result<(), Fail> {
-    let alloc = rt.alloc();
-    let at = on_line(
-        &rt,
-        Cubic::from_coefficients(&[element(3), element(1), element(4)]),
-    );
+    let at = on_line(&rt, cubic(3, 1, 4));
     for log_n in 2..6 {
-        let large = CircleDomain::standard(log_n + 2);
-        let coeffs = scattered(&rt, alloc, 1 << log_n, 3, log_n as u64)?;
-        let rows = evaluate(&rt, alloc, large, coeffs)?.to_cfft_order();
-        assert!(&rt; rows.height() >= 1 << log_n);
-        let (first, _) = rows.split_rows(1 << log_n);
-        let small = CircleDomain::new(log_n, large.shift());
-        let values = evaluate_in_cfft_order(&rt, alloc, small, first, at)?;
-        let whole = evaluate_in_cfft_order(&rt, alloc, large, rows.try_clone(alloc)?, at)?;
-        assert!(&rt; values.as_slice() == whole.as_slice());
+        assert_by_the_first_rows(&rt, rt.alloc(), log_n, at)?;
     }
     Ok(())
 }
 
 // `lagrange_weights`, after a test of what it asks.
-pub(crate) fn weights(
+fn weights(
     rt: &impl Abort,
     alloc: Global,
     domain: CircleDomain<Mersenne31>,
@@ -173,15 +192,43 @@ fn assert_weights(
 
 #[test]
 fn lagrange_polynomials_are_quotients(rt: HostRuntime) -> Result<(), Fail> {
-    let alloc = rt.alloc();
-    let at = on_line(
-        &rt,
-        Cubic::from_coefficients(&[element(9), element(0), element(1)]),
-    );
+    let at = on_line(&rt, cubic(9, 0, 1));
     for log_n in 1..10 {
-        assert_weights(&rt, alloc, CircleDomain::standard(log_n), at)?;
         let shift = Point::<Mersenne31>::generator(log_n + 2);
-        assert_weights(&rt, alloc, CircleDomain::new(log_n, shift), at)?;
+        for domain in [
+            CircleDomain::standard(log_n),
+            CircleDomain::new(log_n, shift),
+        ] {
+            assert_weights(&rt, rt.alloc(), domain, at)?;
+        }
+    }
+    Ok(())
+}
+
+// `evaluate_by_weights` of rows in the transform's order, after a test of what it asks.
+fn evaluate_by_weights(
+    rt: &impl Abort,
+    alloc: Global,
+    domain: CircleDomain<Mersenne31>,
+    rows: Rows,
+    weights: &LagrangeWeights<Cubic>,
+) -> Result<Vec<Cubic>, AllocError> {
+    assert!(rt; domain.log_n() >= 1 && domain.log_n() <= 31 && domain.is_genuine());
+    assert!(rt; rows.height() == domain.size() && weights.shares.len() == domain.size());
+    CircleEvaluations::from_cfft_order(domain, rows).evaluate_by_weights(alloc, weights)
+}
+
+#[test]
+fn values_by_weights_that_are_made_before(rt: HostRuntime) -> Result<(), Fail> {
+    let alloc = rt.alloc();
+    let at = on_line(&rt, cubic(2, 7, 1));
+    let domain = CircleDomain::standard(3);
+    let weights = weights(&rt, alloc, domain, at)?;
+    for width in [1, 4] {
+        let rows = scattered(&rt, alloc, 8, width, 5)?;
+        let found = evaluate_by_weights(&rt, alloc, domain, rows.try_clone(alloc)?, &weights)?;
+        let whole = evaluate_in_cfft_order(&rt, alloc, domain, rows, at)?;
+        assert!(&rt; found.as_slice() == whole.as_slice());
     }
     Ok(())
 }
@@ -189,24 +236,25 @@ fn lagrange_polynomials_are_quotients(rt: HostRuntime) -> Result<(), Fail> {
 #[test]
 fn one_column_by_its_space(rt: HostRuntime) -> Result<(), Fail> {
     let alloc = rt.alloc();
-    let domain = CircleDomain::standard(3);
+    let (t, domain) = (cubic(0, 1, 0), CircleDomain::standard(3));
     let rows = scattered(&rt, alloc, 8, 1, 77)?;
-    let coeffs = interpolate(&rt, alloc, domain, rows.try_clone(alloc)?)?;
-    let t = Cubic::from_coefficients(&[element(0), element(1), element(0)]);
-    let at = on_line(&rt, t);
-    let plain = plain_values(&rt, alloc, &coeffs, 3, at)?;
     let value = evaluate_polynomial_at(&rt, alloc, domain, rows.values(), t)?;
-    assert!(&rt; plain.as_slice() == [value].as_slice());
+    let coeffs = interpolate(&rt, alloc, domain, rows)?;
+    assert_plain(&rt, alloc, &coeffs, 3, on_line(&rt, t), &[value])?;
     Ok(())
 }
 
 #[test]
 fn periodic_columns_of_at_most_one_entry(rt: HostRuntime) -> Result<(), Fail> {
-    let alloc = rt.alloc();
     let domain = CircleDomain::new(4, point(&rt, 0, 1));
-    let t = Cubic::from_coefficients(&[element(0), element(1), element(0)]);
-    assert!(&rt; domain.evaluate_periodic_column_at(alloc, &[], t)? == Cubic::ZERO);
-    let seven = domain.evaluate_periodic_column_at(alloc, &[element(7)], t)?;
-    assert!(&rt; seven == Cubic::from_base(element(7)));
+    let cases: [(&[Mersenne31], Cubic); 2] = [
+        (&[], Cubic::ZERO),
+        (&[element(7)], Cubic::from_base(element(7))),
+    ];
+    for (column, expected) in cases {
+        assert!(&rt; column.len() < 2);
+        let value = domain.evaluate_periodic_column_at(rt.alloc(), column, cubic(0, 1, 0))?;
+        assert!(&rt; value == expected);
+    }
     Ok(())
 }
