@@ -125,7 +125,8 @@ module _ {C S F E Com : Type 0} (r : RunMoves C S F E Com) where
   Draws shape taken old d new =
       draw r (shape_of shape) taken (r.base.state old) ≡ Ok (drawn_by d new)
 
-  -- the same, with witnesses that are not told
+  -- there are witnesses with which the run of this shape draws these from the first challenger, and
+  -- leaves the other
   abbrev pub DrawsWithSome : {g : _} → CirclePcsShape → List (Point E g × Bor (List E))
       → CircleMessages E Com → C → CircleDraws E → C → Type 0
   DrawsWithSome shape claims messages old d new =
@@ -144,9 +145,9 @@ module _ {C S F E Com : Type 0} (r : RunMoves C S F E Com) where
       IsStuck (numbers_of (shape_of shape)) (claims_of claims) messages
       (seeded r (shape_of shape) (r.base.state old)) e
 
--- the same of a transcript whose seed was taken in
+-- the same of the rest of a run, from a transcript whose seed was taken in
 module _ {C S F E Com Side : Type 0} (r : RunMoves C S F E Com) where
-  -- the rest of the run draws these from the first transcript, and leaves the other
+  -- it draws these from the first transcript, and leaves the other
   abbrev pub DrawsFrom : CircleTranscript C F E Side → Taken F E Com → CircleDraws E
       → CircleTranscript C F E Side → Type 0
   DrawsFrom old taken d new =

@@ -73,12 +73,14 @@ module _ {C S F EF Com Side : Type 0} (r : RunMoves C S F EF Com) (t : CircleTra
   abbrev pub at_commitment : S
   at_commitment = r.after_commitment (r.base.state (current t)) commitment
 
+  -- the first layer, whose challenge no proof of work guards
   abbrev pub first_layer_challenge : List F
   first_layer_challenge = drawn_element r.base at_commitment
 
   abbrev pub after_first_layer : S
   after_first_layer = after_element r.base at_commitment
 
+  -- a round
   abbrev pub commit_passes : F → Bool
   commit_passes w = is_passed r.base at_commitment t.shape.commit_pow_bits w
 
@@ -89,7 +91,7 @@ module _ {C S F EF Com Side : Type 0} (r : RunMoves C S F EF Com) (t : CircleTra
   abbrev pub after_commit : F → S
   after_commit w = after_element r.base (after_pow r.base at_commitment t.shape.commit_pow_bits w)
 
--- several rounds, with a witness for each commitment
+-- all the rounds, with a witness for each commitment
 module _ {C S F EF Com Side : Type 0} (r : RunMoves C S F EF Com) (t : CircleTranscript C F EF Side)
     (commitments : List Com) where
   abbrev pub commits_pass : List F → Bool

@@ -1,4 +1,6 @@
 //! Steps that both sides of a transcript play.
+//!
+//! Contracts of steps without a challenge of the extension see the base field as its own extension.
 ghost use Rattle.std.specs.Prelude.{◌≡◌, ◌<◌, ◌≤◌, ◌^◌, ◌↔◌, ◌⊎◌, Err, Some, slice_get, drop, length, [], ◌∷◌, ◌++◌, flat_map, false, IsTrue, IsNone, IfOk, IfErr, OnOk, OnErr, All};
 ghost use Rattle.circle_challenger.specs.Due.{AreNext, HasPlayed};
 ghost use Rattle.circle_challenger.specs.Moves.{after_elements, or_zero};
@@ -253,8 +255,8 @@ where
     ensures state { let m = ⟦<C as FieldChallenger<F, F>>⟧.moves in IfOk result (λ r. state_of m
         transcript.new ≡ after_guarded_numbers m transcript.old bits width count (or_zero m r.1)) }
     ensures failure { IfErr result (λ e. (e ≡ Memory) ⊎ (e ≡ NoWitness Query bits)) }
-    ensures none { let m = ⟦<C as FieldChallenger<F, F>>⟧.moves in result ≡ Err
-        (NoWitness Query bits) → (w : F) → witness_passes m transcript.old bits w ≡ false }
+    ensures none { result ≡ Err (NoWitness Query bits) → (w : F) → witness_passes
+        ⟦<C as FieldChallenger<F, F>>⟧.moves transcript.old bits w ≡ false }
     ensures unchanged { result ≡ Err (NoWitness Query bits) →
         C.state (current transcript.new) ≡ C.state (current transcript.old) }
 {
@@ -293,8 +295,8 @@ where
     ensures state { let m = ⟦<C as FieldChallenger<F, F>>⟧.moves in OnOk result (state_of m
         transcript.new ≡ after_guarded_numbers m transcript.old bits width count witness) }
     ensures failure { IfErr result (λ e. (e ≡ Memory) ⊎ (e ≡ PowWitness Query bits)) }
-    ensures missed { let m = ⟦<C as FieldChallenger<F, F>>⟧.moves in result ≡ Err
-        (PowWitness Query bits) → witness_passes m transcript.old bits witness ≡ false }
+    ensures missed { result ≡ Err (PowWitness Query bits) → witness_passes
+        ⟦<C as FieldChallenger<F, F>>⟧.moves transcript.old bits witness ≡ false }
     ensures passed { let m = ⟦<C as FieldChallenger<F, F>>⟧.moves in result ≡ Err Memory →
         IsTrue (witness_passes m transcript.old bits witness) }
 {
