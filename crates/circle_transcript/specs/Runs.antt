@@ -117,13 +117,13 @@ module _ {C S F E Com : Type 0} (r : RunMoves C S F E Com) where
       pub stuck : IsStuckIn (phase_of e)
 
   -- challenges as their coefficients, with the state of the challenger that drew them
-  abbrev pub drawn_by : CircleDraws E → C → Drawn S F
-  drawn_by d challenger = drawn_of r.base.coefficients d (r.base.state challenger)
+  abbrev pub drawn_leaving : CircleDraws E → C → Drawn S F
+  drawn_leaving d challenger = drawn_of r.base.coefficients d (r.base.state challenger)
 
   -- the run of this shape draws these from the first challenger, and leaves the other
   abbrev pub Draws : CirclePcsShape → Taken F E Com → C → CircleDraws E → C → Type 0
   Draws shape taken old d new =
-      draw r (shape_of shape) taken (r.base.state old) ≡ Ok (drawn_by d new)
+      draw r (shape_of shape) taken (r.base.state old) ≡ Ok (drawn_leaving d new)
 
   -- there are witnesses with which the run of this shape draws these from the first challenger, and
   -- leaves the other
@@ -152,7 +152,7 @@ module _ {C S F E Com Side : Type 0} (r : RunMoves C S F E Com) where
       → CircleTranscript C F E Side → Type 0
   DrawsFrom old taken d new =
       draw_seeded r (numbers old) taken (r.base.state (current old))
-      ≡ Ok (drawn_by r d (current new))
+      ≡ Ok (drawn_leaving r d (current new))
 
   -- it fails where a witness doesn't pass
   abbrev pub MissesFrom : CircleTranscript C F E Side → Taken F E Com → CircleTranscriptFailure

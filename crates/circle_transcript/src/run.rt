@@ -8,7 +8,7 @@ ghost use Rattle.circle_transcript.specs.Draw.{widths_of};
 ghost use Rattle.circle_transcript.specs.Claims.{claims_of};
 ghost use Rattle.circle_transcript.specs.Numbers.{numbers_of, run_steps};
 ghost use Rattle.circle_transcript.specs.Transcript.{current, due, numbers, IsSame, steps_of_rounds, commits_pass, commit_challenges, after_commits};
-ghost use Rattle.circle_transcript.specs.Runs.{ArePlayable, taken_of, drawn_by, Draws, DrawsWithSome, Misses, FindsNone, DrawsFrom, MissesFrom, FindsNoneFrom, MissesInRounds, FindsNoneInRounds};
+ghost use Rattle.circle_transcript.specs.Runs.{ArePlayable, taken_of, drawn_leaving, Draws, DrawsWithSome, Misses, FindsNone, DrawsFrom, MissesFrom, FindsNoneFrom, MissesInRounds, FindsNoneInRounds};
 
 use crate::failure::CircleTranscriptFailure;
 use crate::shape::CirclePcsShape;
@@ -348,7 +348,7 @@ where
     ensures redraws { let m = ⟦<C as RunChallenger<F, EF, Com>>⟧.run in IfOk result (λ r.
         DrawsWithSome m shape claims.now messages.now verifier.old r.1 verifier.new) }
     ensures alike { let m = ⟦<C as RunChallenger<F, EF, Com>>⟧.run in IfOk result (λ r.
-        drawn_by m r.1 verifier.new ≡ drawn_by m r.0 prover.new) }
+        drawn_leaving m r.1 verifier.new ≡ drawn_leaving m r.0 prover.new) }
     ensures failure { let m = ⟦<C as RunChallenger<F, EF, Com>>⟧.run in IfErr result
         (IsMemoryOr (FindsNone m shape claims.now messages.now prover.old)) }
 {
