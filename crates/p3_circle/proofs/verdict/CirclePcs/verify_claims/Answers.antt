@@ -5,7 +5,7 @@ use Rattle.circle_relation.specs.Accepts.{Fields}
 use Rattle.circle_scheme.specs.Verdict.{challenges_of}
 use Rattle.circle_scheme.proofs.Answering.{refused-is}
 use Rattle.circle_scheme.proofs.Domains.{passed-value, refused-value}
-use Rattle.p3_circle.proofs.Verdicts.{on_one, if_err, at_err, at_ok, not_both, tests, tested-of, queries-drawn, betas-drawn, accepted-passes, reason-memory}
+use Rattle.p3_circle.proofs.Verdicts.{on_one, if_err, at_err, at_ok, not_both, first-by, later-by, tests, tested-of, queries-drawn, betas-drawn, accepted-passes, reason-memory}
 use Rattle.p3_circle.proofs.verdict.CirclePcs.verify_claims.Given.{Over}
 use Rattle.p3_circle.proofs.verdict.CirclePcs.verify_claims.Goals as goal
 
@@ -41,10 +41,11 @@ returns-in_err-log_max_height-clause-complete g c =
     at_err _ _ c.in_err-log_max_height.field-0.0 (refused-is c.from_residual.result c.in_err-log_max_height.field-0.0 c.from_residual.ensures.1)
     (λ left a. absurd (not_both _ _ _ (accepted-passes (fields g) g.Val.ComplexExtendable.CIRCLE_TWO_ADICITY (run g) c.args.self.now.fri_params c.args.claims.now c.args.proof.now g.Val.PartialEq.eq g.Val.Field.ZERO g.EF.PartialEq.eq g.met.Val.Field.eq_law g.met.Val.Field.zero_law g.met.EF.Field.eq_law g.InputMmcs.Mmcs.authenticates g.FriMmcs.Mmcs.authenticates c.args.self.now.mmcs _ left a) early))
 
-pub returns-in_err-log_max_height-clause-later : goal.returns-in_err-log_max_height-clause-later
-returns-in_err-log_max_height-clause-later g c =
+pub returns-in_err-log_max_height-clause-reason : goal.returns-in_err-log_max_height-clause-reason
+returns-in_err-log_max_height-clause-reason g c =
     let early = refused-value (tests {IE = g.row.InputMmcs-Error.Denot} (fields g) g.Val.ComplexExtendable.CIRCLE_TWO_ADICITY c.args.self.now.fri_params c.args.claims.now c.args.proof.now g.Val.PartialEq.eq g.Val.Field.ZERO g.EF.PartialEq.eq) _ c.in_err-log_max_height.field-0.0 (sym c.validate_run.ensures ∙ c.in_err-log_max_height.was) in
-    λ passed. absurd (not_both _ _ _ passed early)
+    at_err _ _ c.in_err-log_max_height.field-0.0 (refused-is c.from_residual.result c.in_err-log_max_height.field-0.0 c.from_residual.ensures.1)
+    (first-by _ _ c.in_err-log_max_height.field-0.0 early)
 
 pub replay_transcript-requires-clause-tested : goal.replay_transcript-requires-clause-tested
 replay_transcript-requires-clause-tested g c =
@@ -92,8 +93,9 @@ returns-clause-complete g c =
     _ _ left (challenges_of c.in_ok-draws.draws) e c.in_ok-draws.ensures.drawn why a)
     c.verify_drawn.ensures.refused
 
-pub returns-clause-later : goal.returns-clause-later
-returns-clause-later g c =
-    λ passed. if_err _ _ c.verify_drawn.result
-    (λ e why. inr (inr (record { drawn = challenges_of c.in_ok-draws.draws; draws = c.in_ok-draws.ensures.drawn; reason = why })))
+pub returns-clause-reason : goal.returns-clause-reason
+returns-clause-reason g c =
+    let passed = (passed-value (tests {IE = g.row.InputMmcs-Error.Denot} (fields g) g.Val.ComplexExtendable.CIRCLE_TWO_ADICITY c.args.self.now.fri_params c.args.claims.now c.args.proof.now g.Val.PartialEq.eq g.Val.Field.ZERO g.EF.PartialEq.eq) _ _ (sym c.validate_run.ensures ∙ c.in_ok-log_max_height.was)).0 in
+    if_err _ _ c.verify_drawn.result
+    (λ e why. later-by _ _ e passed (inr (inr (record { drawn = challenges_of c.in_ok-draws.draws; draws = c.in_ok-draws.ensures.drawn; reason = why }))))
     c.verify_drawn.ensures.refused
