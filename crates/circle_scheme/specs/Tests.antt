@@ -60,13 +60,13 @@ abbrev pub claimed_height : {Com E : Type 0} → ℕ → List (BatchClaim Com E)
 claimed_height blowup batches = log_max_height blowup (all_matrices batches)
 
 -- W is the scheme of the words, with its commitments, data, proofs and errors
-module _ {F E W P WC WD WP WE : Type 0} where
+module _ {E W WC WD WP WE : Type 0} where
   -- for each round and query the number of siblings
   abbrev pub sibling_counts : List (CircleCommitPhaseMultiStep E W WC WD WP WE) → List (List ℕ)
   sibling_counts openings = map (λ o. map vec_len o.sibling_values.items) openings
 
   -- the tests of the lengths of a proof and of its witnesses where so many rounds are due
-  abbrev pub proof_tests : {I : Type 0} → (F → Bool) → FriParameters W → ℕ
+  abbrev pub proof_tests : {F P I : Type 0} → (F → Bool) → FriParameters W → ℕ
       → CircleFriProof E W F P WC WD WP WE → List (Test (FriError WE I))
   proof_tests is_zero p rounds proof =
       shape_tests is_zero p rounds (vec_len proof.commit_phase_commits)
