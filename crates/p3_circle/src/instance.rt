@@ -14,8 +14,9 @@ ghost use Rattle.circle_scheme.specs.Scheme.{IsGiven};
 ghost use Rattle.circle_scheme.specs.Scheme.{IsStandardOfSize, says_memory, says_prover_memory};
 ghost use Rattle.circle_scheme.specs.Tests.{run_tests};
 ghost use Rattle.circle_scheme.specs.Verdict.{AcceptsFrom, IsRefused};
+ghost use Rattle.p3_circle.specs.Calls.{IsAnswer};
 ghost use Rattle.circle_domain.specs.Domain.{log_size};
-ghost use Rattle.std.specs.Prelude.{◌≡◌, ◌+◌, ◌-◌, ◌^◌, min, IfErr, IfOk};
+ghost use Rattle.std.specs.Prelude.{◌≡◌, ◌+◌, ◌-◌, ◌^◌, min, IfErr, IfOk, IsTrue, OnOk};
 
 use crate::pcs::CirclePcs;
 use circle_challenger::{CanObserve, CanSample, GrindingChallenger, RunChallenger};
@@ -157,7 +158,13 @@ where
         &self,
         alloc: Global,
         evaluations: Vec<(CircleDomain<Val>, RowMajorMatrix<Val>)>,
-    ) -> Result<(InputMmcs::Commitment, InputMmcs::ProverData), ProverError> {
+    ) -> Result<(InputMmcs::Commitment, InputMmcs::ProverData), ProverError>
+        requires { HaveRowsForPoints evaluations.items }
+        ensures committed { let p = ⟦<Self as Pcs<EF, C>>⟧ in IfOk result (λ r.
+            p.commits self.now evaluations.items r.0 r.1) }
+        ensures refused { let p = ⟦<Self as Pcs<EF, C>>⟧ in IfErr result
+            (p.commit_refuses self.now evaluations.items) }
+    {
         self.commit(alloc, evaluations)
     }
 
@@ -172,7 +179,13 @@ where
             CirclePcsProof<Val, EF, InputMmcs, FriMmcs, Val>,
         ),
         ProverError,
-    > {
+    >
+        requires { HaveCommittedHeights InputMmcs.matrices requests.items }
+        ensures opened { IfOk result (IsAnswer (⟦<Self as Pcs<EF, C>>⟧.open_gives self.now
+            requests.entry.items) (C.state challenger.old) (C.state challenger.new)) }
+        ensures refused { let p = ⟦<Self as Pcs<EF, C>>⟧ in IfErr result (p.open_refuses self.now
+            requests.entry.items (C.state challenger.old)) }
+    {
         self.open(alloc, requests, challenger)
     }
 
@@ -182,7 +195,15 @@ where
         claims: Vec<CommitmentOpening<EF, InputMmcs::Commitment, CircleDomain<Val>>>,
         proof: &CirclePcsProof<Val, EF, InputMmcs, FriMmcs, Val>,
         challenger: &mut C,
-    ) -> Result<(), FriError<FriMmcs::Error, InputError<InputMmcs::Error, FriMmcs::Error>>> {
+    ) -> Result<(), FriError<FriMmcs::Error, InputError<InputMmcs::Error, FriMmcs::Error>>>
+        ensures accepted { let p = ⟦<Self as Pcs<EF, C>>⟧ in OnOk result (p.verify_accepts self.now
+            claims.items proof.now (C.state challenger.old) (C.state challenger.new)) }
+        ensures refused { let p = ⟦<Self as Pcs<EF, C>>⟧ in IfErr result (λ e. (t : C.State) →
+            p.verify_accepts self.now claims.items proof.now (C.state challenger.old) t
+            → IsTrue (p.is_memory e)) }
+        ensures reason { let p = ⟦<Self as Pcs<EF, C>>⟧ in IfErr result (p.verify_refuses self.now
+            claims.items proof.now (C.state challenger.old) (C.state challenger.new)) }
+    {
         self.verify(alloc, claims, proof, challenger)
     }
 

@@ -5,9 +5,9 @@ use Rattle.circle_relation.specs.Accepts.{Fields}
 use Rattle.circle_scheme.specs.Verdict.{challenges_of}
 use Rattle.circle_scheme.proofs.Answering.{refused-is}
 use Rattle.circle_scheme.proofs.Domains.{passed-value, refused-value}
-use Rattle.p3_circle.proofs.Verdicts.{on_one, if_err, at_err, at_ok, not_both, first-by, later-by, tests, tested-of, queries-drawn, betas-drawn, accepted-passes, reason-memory}
-use Rattle.p3_circle.proofs.verdict.CirclePcs.verify_claims.Given.{Over}
-use Rattle.p3_circle.proofs.verdict.CirclePcs.verify_claims.Goals as goal
+use Rattle.p3_circle.proofs.Verdicts.{on_one, if_err, at_err, at_ok, not_both, first-by, later-by, of-three, tests, tested-of, queries-drawn, betas-drawn, accepted-passes, reason-memory}
+use Rattle.p3_circle.proofs.pcs.CirclePcs.verify_claims.Given.{Over}
+use Rattle.p3_circle.proofs.pcs.CirclePcs.verify_claims.Goals as goal
 
 -- the fields, and what the challenger is to the transcript
 abbrev fields : (g : Over) → Fields g.row.Val.Denot g.row.EF.Denot
@@ -75,6 +75,12 @@ verify_drawn-requires-clause-betas g c =
 pub verify_drawn-requires-clause-count : goal.verify_drawn-requires-clause-count
 verify_drawn-requires-clause-count g c =
     queries-drawn {IE = g.row.InputMmcs-Error.Denot} (fields g) g.Val.ComplexExtendable.CIRCLE_TWO_ADICITY (run g) c.args.self.now.fri_params c.args.claims.now c.args.proof.now g.Val.PartialEq.eq g.Val.Field.ZERO g.EF.PartialEq.eq _ _ (challenges_of c.in_ok-draws.draws) c.in_ok-draws.ensures.drawn
+
+pub returns-in_err-draws-clause-reason : goal.returns-in_err-draws-clause-reason
+returns-in_err-draws-clause-reason g c =
+    let passed = (passed-value (tests {IE = g.row.InputMmcs-Error.Denot} (fields g) g.Val.ComplexExtendable.CIRCLE_TWO_ADICITY c.args.self.now.fri_params c.args.claims.now c.args.proof.now g.Val.PartialEq.eq g.Val.Field.ZERO g.EF.PartialEq.eq) _ _ (sym c.validate_run.ensures ∙ c.in_ok-log_max_height.was)).0 in
+    at_err _ _ c.in_err-draws.field-0.0 (refused-is c.from_residual-in_err-draws.result c.in_err-draws.field-0.0 c.from_residual-in_err-draws.ensures.1)
+    (later-by _ _ c.in_err-draws.field-0.0 passed (of-three c.in_err-draws.ensures.failure))
 
 pub returns-clause-first : goal.returns-clause-first
 returns-clause-first g c =
