@@ -7,6 +7,7 @@
 //! the values of their polynomials, and a verifier's claims of it are claims on them
 //! (`HonestOpenings`).
 #![tactic(auto)]
+
 ghost use Rattle.circle_scheme.specs.Tests.{TestedFields};
 
 use circle_field::{ComplexExtendable, ExtensionField};

@@ -37,7 +37,7 @@ impl<Val: ComplexExtendable, InputMmcs: Mmcs<Val>, FriMmcs> CirclePcs<Val, Input
         ensures reason { let p = ⟦<Self as Pcs<EF, C>>⟧ in IfErr result (p.verify_refuses self.now
             claims.now proof.now (C.state challenger.old) (C.state challenger.new)) }
     {
-        let params = &self.fri_params;
+        let (mmcs, params) = (&self.mmcs, &self.fri_params);
         let log_max_height = validate_run::<Val, EF, InputMmcs, FriMmcs>(params, claims, proof)?;
         let draws = replay_transcript::<Val, EF, InputMmcs, FriMmcs, C>(
             alloc,
@@ -47,6 +47,6 @@ impl<Val: ComplexExtendable, InputMmcs: Mmcs<Val>, FriMmcs> CirclePcs<Val, Input
             log_max_height,
             challenger,
         )?;
-        verify_drawn(alloc, &self.mmcs, params, claims, proof, log_max_height, &draws)
+        verify_drawn(alloc, mmcs, params, claims, proof, log_max_height, &draws)
     }
 }
