@@ -47,12 +47,10 @@ pub fn last_word_is_low<F: ComplexExtendable, EF: ExtensionField<F>>(
     requires blowup { 1 ≤ log_blowup }
     ensures folds { (matrices : List (Committed F EF)) → FirstFoldsAreLow
         ⟦<EF as OverCircle<F>>⟧.fields F.CIRCLE_TWO_ADICITY log_blowup matrices alpha bivariate }
-    ensures rounds { (matrices : List (Committed F EF)) →
-        RoundWordsAreLow ⟦<EF as OverCircle<F>>⟧.fields F.CIRCLE_TWO_ADICITY log_blowup matrices
-        alpha bivariate betas.now }
-    ensures last { (matrices : List (Committed F EF)) →
-        LastWordIsLow ⟦<EF as OverCircle<F>>⟧.fields F.CIRCLE_TWO_ADICITY log_blowup matrices
-        log_final_poly_len alpha bivariate betas.now }
+    ensures rounds { let k = ⟦<EF as OverCircle<F>>⟧.fields in (matrices : List (Committed F EF)) →
+        RoundWordsAreLow k F.CIRCLE_TWO_ADICITY log_blowup matrices alpha bivariate betas.now }
+    ensures last { (ms : List (Committed F EF)) → LastWordIsLow ⟦<EF as OverCircle<F>>⟧.fields
+        F.CIRCLE_TWO_ADICITY log_blowup ms log_final_poly_len alpha bivariate betas.now }
 {
     let _betas = betas;
     let _law = (alpha, bivariate, log_blowup, log_final_poly_len);
@@ -81,9 +79,8 @@ where
         Val.CIRCLE_TWO_ADICITY params.now requests.now }
     ensures ends { EndsLow InputMmcs.matrices ⟦<EF as OverCircle<Val>>⟧.fields params.now
         requests.now }
-    ensures never { let m = ⟦<C as RunChallenger<Val, EF, FriMmcs::Commitment>>⟧.run in
-        IsNeverTooHigh InputMmcs.matrices ⟦<EF as OverCircle<Val>>⟧.fields params.now
-        requests.now m }
+    ensures never { let k = ⟦<EF as OverCircle<Val>>⟧.fields in IsNeverTooHigh InputMmcs.matrices k
+        params.now requests.now ⟦<C as RunChallenger<Val, EF, FriMmcs::Commitment>>⟧.run }
 {
     let _params = params;
     let _requests = requests;

@@ -90,6 +90,11 @@ module _ {D F E : Type 0} (kept : D → List (RowMajorMatrix F)) where
         (zip (points_of r) values)
         × (length values ≡ length (points_of r))
 
+-- these are the values that requests ask for
+abbrev pub AreAnswered : {D F E M : Type 0} → Fields F E → (D → List (RowMajorMatrix F))
+    → FriParameters M → List (OpeningRequest D E) → Openings E → Type 0
+AreAnswered k kept p requests values = AllZip (AreAnswers kept k p.log_blowup) requests values
+
 -- a matrix can be opened by as many powers as there are more than its columns
 abbrev pub IsReady : {F E : Type 0} → Fields F E → ℕ → OpenedMatrix F E → Type 0
 IsReady k two_adicity m =

@@ -4,9 +4,8 @@ ghost use Rattle.std.specs.Prelude.{◌⊎◌};
 ghost use Rattle.circle_commit.specs.RowMajorMatrix.{rows};
 ghost use Rattle.circle_commit.specs.DotProduct.{pairwise};
 ghost use Rattle.circle_domain.specs.Spans.{HasXValues, XSpan};
-ghost use Rattle.circle_folding.specs.Fold.{y_folds};
-ghost use Rattle.circle_words.specs.Words.{committed_of, CanBeOpened, IsHeight, HaveHeights};
-ghost use Rattle.circle_words.specs.Words.{lambda, pairs_of, corrected_word};
+ghost use Rattle.circle_words.specs.Words.{CanBeOpened, HaveHeights, IsHeight};
+ghost use Rattle.circle_words.specs.Words.{layers_of, opened_lambda, y_folded};
 ghost use Rattle.circle_opening.specs.Words.{AreCommitted};
 ghost use Rattle.circle_opening.specs.declared.error.ProverError.TheVariants.{Memory, LastWordNotConstant};
 
@@ -47,12 +46,10 @@ pub(crate) fn commit_first_layer<F: ComplexExtendable, EF: ExtensionField<F>, M:
     requires heights { All (IsHeight F.CIRCLE_TWO_ADICITY log_blowup) heights.now }
     requires openable { All (CanBeOpened ⟦<EF as OverCircle<F>>⟧.fields F.CIRCLE_TWO_ADICITY
         num_powers) matrices.now }
-    ensures lambdas { IfOk result (λ r. r.lambdas.items ≡ map (lambda
-        ⟦<EF as OverCircle<F>>⟧.fields alpha (map committed_of matrices.now) log_blowup)
-        heights.now) }
-    ensures committed { IfOk result (λ r. AreCommitted (M.commits mmcs.now)
-        (map (λ h. pairs_of (corrected_word ⟦<EF as OverCircle<F>>⟧.fields alpha
-        (map committed_of matrices.now) log_blowup h)) heights.now)
+    ensures lambdas { let k = ⟦<EF as OverCircle<F>>⟧.fields in IfOk result (λ r. r.lambdas.items ≡
+        map (opened_lambda k matrices.now log_blowup alpha) heights.now) }
+    ensures committed { let k = ⟦<EF as OverCircle<F>>⟧.fields in IfOk result (λ r. AreCommitted
+        (M.commits mmcs.now) (layers_of k matrices.now log_blowup alpha heights.now)
         (M.matrices r.kept) r.commitment) }
     ensures shapes { IfOk result (λ r. HaveHeights heights.now (M.matrices r.kept)) }
 {
@@ -81,7 +78,7 @@ pub(crate) fn fold_first_layer<F: ComplexExtendable, EF: ExtensionField<F>, M: M
     requires heights { All (λ h. (1 ≤ h) × (h < F.CIRCLE_TWO_ADICITY)) heights.now }
     requires shapes { HaveHeights heights.now (M.matrices kept.now) }
     ensures words { IfOk result (λ r. map (λ w. w.items) r.1.items ++ r.0.items ∷ [] ≡ pairwise
-        (λ h rows. y_folds F.ops F.generators EF.ops EF.embed (h - 1) bivariate rows) heights.now
+        (y_folded ⟦<EF as OverCircle<F>>⟧.fields bivariate) heights.now
         (map rows (M.matrices kept.now))) }
     ensures lengths { IfOk result (λ r. map (λ w. length w.items) r.1.items
         ++ length r.0.items ∷ [] ≡ map (λ h. 2 ^ (h - 1)) heights.now) }

@@ -1,5 +1,5 @@
 //! The opening of requested matrices: their values, and the proof.
-ghost use Rattle.std.specs.Prelude.{◌≡◌, List, ◌≤◌, ◌<◌, ◌-◌, ◌+◌, ◌^◌, ◌⊎◌, length, map, flat_map, All, IfOk, IfErr, Ok};
+ghost use Rattle.std.specs.Prelude.{◌≡◌, List, ◌≤◌, ◌<◌, ◌-◌, ◌+◌, ◌^◌, ◌⊎◌, length, map, All, IfOk, IfErr, Ok};
 ghost use Rattle.std.specs.List.{AllZip};
 ghost use Rattle.circle_commit.specs.Pcs.{openings};
 ghost use Rattle.circle_relation.specs.Statement.{BatchClaim};
@@ -10,7 +10,7 @@ ghost use Rattle.circle_transcript.specs.Runs.{drawn_of};
 ghost use Rattle.circle_opening.specs.Failure.{IsStuckFrom, IsTooHigh};
 ghost use Rattle.circle_opening.specs.Opening.{answered_claims, answered_matrices, challenges_of};
 ghost use Rattle.circle_opening.specs.Opening.{AreEasy, HoldsWords, IsFailure, IsOpening};
-ghost use Rattle.circle_opening.specs.Requests.{AreAnswers, AreFit, AreHeights, AreRequests};
+ghost use Rattle.circle_opening.specs.Requests.{AreAnswered, AreFit, AreHeights, AreRequests};
 ghost use Rattle.circle_opening.specs.Requests.{HasBatchRows};
 ghost use Rattle.circle_opening.specs.Taken.{claims_taken, shape_by, taken_by};
 ghost use Rattle.circle_opening.specs.Words.{AreTall, AreWordsOf, taken_in};
@@ -53,8 +53,8 @@ where
     requires parameters { AreFit params.now }
     requires requests { AreRequests InputMmcs.matrices ⟦<EF as OverCircle<Val>>⟧.fields
         Val.CIRCLE_TWO_ADICITY params.now requests.now }
-    requires values { AllZip (AreAnswers InputMmcs.matrices ⟦<EF as OverCircle<Val>>⟧.fields
-        params.now.log_blowup) requests.now (openings values.now) }
+    requires values { AreAnswered ⟦<EF as OverCircle<Val>>⟧.fields InputMmcs.matrices params.now
+        requests.now (openings values.now) }
     ensures below { IfOk result (λ w.
         All (λ q. q < 2 ^ w.log_max_height) w.draws.indices.items) }
     ensures some { IfOk result (λ w. 1 ≤ length w.draws.indices.items) }
@@ -234,9 +234,8 @@ where
     requires parameters { AreFit params.now }
     requires requests { AreRequests InputMmcs.matrices ⟦<EF as OverCircle<Val>>⟧.fields
         Val.CIRCLE_TWO_ADICITY params.now requests.now }
-    ensures values { IfOk result (λ r. AllZip (AreAnswers InputMmcs.matrices
-        ⟦<EF as OverCircle<Val>>⟧.fields params.now.log_blowup) requests.now
-        (openings r.0.items)) }
+    ensures values { let k = ⟦<EF as OverCircle<Val>>⟧.fields in IfOk result (λ r. AreAnswered k
+        InputMmcs.matrices params.now requests.now (openings r.0.items)) }
     ensures proof { let m = ⟦<C as RunChallenger<Val, EF, FriMmcs::Commitment>>⟧.run in
         IfOk result (λ r. IsOpening params.now InputMmcs.matrices requests.now
         (openings r.0.items) ⟦<EF as OverCircle<Val>>⟧.fields m (proof_of r.1)

@@ -86,6 +86,11 @@ where
     ghost verify_accepts: { Self → List (CommitmentOpening Challenge Self.Commitment Self.Domain)
         → Self.Proof → Challenger.State → Challenger.State → Type 0 };
 
+    // From the first state of a challenger the claims and the proof are refused for this reason,
+    // which leaves the second.
+    ghost verify_refuses: { Self → List (CommitmentOpening Challenge Self.Commitment Self.Domain)
+        → Self.Proof → Challenger.State → Challenger.State → Self.Error → Type 0 };
+
     // The error says that memory was refused.
     ghost is_memory: { Self.Error → Bool };
 
@@ -123,9 +128,8 @@ where
         challenger: &mut Challenger,
     ) -> Result<(OpenedValues<Challenge>, Self::Proof), Self::ProverError>
         requires { open_asks self.now requests.items }
-        ensures opened { IfOk result (λ r. open_gives self.now requests.entry.items
-            (Challenger.state challenger.old) (openings r.0.items) r.1
-            (Challenger.state challenger.new)) }
+        ensures opened { let s = Challenger.state in IfOk result (λ r. open_gives self.now
+            requests.entry.items (s challenger.old) (openings r.0.items) r.1 (s challenger.new)) }
         ensures refused { IfErr result (open_refuses self.now requests.entry.items
             (Challenger.state challenger.old)) };
 
@@ -143,8 +147,9 @@ where
         ensures accepted { OnOk result (verify_accepts self.now claims.items proof.now
             (Challenger.state challenger.old) (Challenger.state challenger.new)) }
         ensures refused { IfErr result (λ e. (left : Challenger.State) → verify_accepts self.now
-            claims.items proof.now (Challenger.state challenger.old) left
-            → IsTrue (is_memory e)) };
+            claims.items proof.now (Challenger.state challenger.old) left → IsTrue (is_memory e)) }
+        ensures reason { IfErr result (verify_refuses self.now claims.items proof.now
+            (Challenger.state challenger.old) (Challenger.state challenger.new)) };
 
     /// Whether the error says that memory was refused.
     fn is_memory(error: &Self::Error) -> bool

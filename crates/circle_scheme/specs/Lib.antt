@@ -4,4 +4,5 @@ pub mod Refusals
 pub mod Requesting
 pub mod Scheme
 pub mod SchemeFacts
+pub mod Tests
 pub mod Verdict

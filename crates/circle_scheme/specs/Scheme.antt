@@ -36,7 +36,7 @@ says_prover_memory Memory = true
 says_prover_memory _ = false
 
 -- the first refusal that there is reason for, and where there is reason for none this holds of it
-abbrev pub IsFirst : List (Test ProverError) → (ProverError → Type 0) → ProverError → Type 0
+abbrev pub IsFirst : {E : Type 0} → List (Test E) → (E → Type 0) → E → Type 0
 IsFirst tests Otherwise e =
     MatchResult (answer tests (tt {0})) (λ passed. Otherwise e) (λ first. e ≡ first)
 

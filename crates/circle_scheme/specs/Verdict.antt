@@ -29,27 +29,6 @@ abbrev pub drawing : {C S F E M Com InputCom InputProof WordProof : Type 0} → 
     → OpeningProof F E Com InputProof WordProof → S → Result (Drawn S F) PowPhase
 drawing r p l batches proof s = draw r (shape_by p batches) (taken_by l batches proof) s
 
-module _ {F E M Com WordCom InputProof WordProof IE WE : Type 0} (eq : F → F → Bool) (zero : F)
-    (same : E → E → Bool) (l : FieldOps E) (two_adicity : ℕ) (p : FriParameters M)
-    (batches : List (BatchClaim Com E))
-    (proof : OpeningProof F E WordCom InputProof WordProof) where
-  -- the answer of the tests before the seeding
-  abbrev pub seeding_answer : Result (Unit {0}) (FriError WE (InputError IE WE))
-  seeding_answer =
-      answer (seeding_tests two_adicity (λ w. eq w zero) (is_at_infinity same l) p batches proof)
-      (tt {0})
-
-  -- where one of them has reason to refuse, the first is the answer, and the challenger is as it
-  -- was
-  abbrev pub IsFirstRefusal : {C : Type 0} → Result (Unit {0}) (FriError WE (InputError IE WE))
-      → C → C → Type 0
-  IsFirstRefusal result old new = IfErr seeding_answer (λ e. (result ≡ Err e) × (new ≡ old))
-
-  -- where none has reason, this holds of a refusal
-  abbrev pub IfSeeded : Result (Unit {0}) (FriError WE (InputError IE WE))
-      → (FriError WE (InputError IE WE) → Type 0) → Type 0
-  IfSeeded result Holds = seeding_answer ≡ Ok (tt {0}) → IfErr result Holds
-
 -- the refusal by which a transcript's failure is answered
 abbrev pub refusal_of : {WE I : Type 0} → CircleTranscriptFailure → FriError WE I
 refusal_of (PowWitness phase bits) = InvalidPowWitness phase

@@ -5,5 +5,6 @@ pub mod Failure
 pub mod Draw
 pub mod Claims
 pub mod Transcript
+pub mod Play
 pub mod Runs
 pub mod Rows

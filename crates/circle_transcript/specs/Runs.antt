@@ -11,12 +11,14 @@ use Rattle.circle_transcript.specs.declared.run.CircleDraws.{CircleDraws}
 use Rattle.circle_transcript.specs.declared.run.CircleMessages.{CircleMessages}
 use Rattle.circle_transcript.specs.declared.run.CircleWitnesses.{CircleWitnesses}
 use Rattle.circle_transcript.specs.declared.shape.CirclePcsShape.{CirclePcsShape}
+use Rattle.circle_transcript.specs.declared.transcript.CircleTranscript.{CircleTranscript}
 use Rattle.circle_transcript.specs.declared.transcript.Numbers.{Numbers}
 use Rattle.circle_transcript.specs.Claims.{claims_of}
-use Rattle.circle_transcript.specs.Draw.{Claim, Taken, taken, Drawn, claimed, layered, closed, after_rounds, rounds_pass, draw, seeded}
+use Rattle.circle_transcript.specs.Draw.{Claim, Taken, taken, Drawn, claimed, layered, closed, after_rounds, rounds_pass, draw_seeded, draw, seeded}
 use Rattle.circle_transcript.specs.Failure.{phase_of}
 use Rattle.circle_transcript.specs.Numbers.{numbers_of, difficulty_of}
 use Rattle.circle_transcript.specs.ShapeOf.{shape_of}
+use Rattle.circle_transcript.specs.Transcript.{current, numbers, no_witness, bad_witness, commits_pass}
 
 -- the numbers that a run can be played with
 pub record ArePlayable (n : Numbers) : Type 0 where
@@ -114,11 +116,21 @@ module _ {C S F E Com : Type 0} (r : RunMoves C S F E Com) where
       pub named : e ≡ NoWitness (phase_of e) (difficulty_of n (phase_of e))
       pub stuck : IsStuckIn (phase_of e)
 
+  -- challenges as their coefficients, with the state of the challenger that drew them
+  abbrev pub drawn_leaving : CircleDraws E → C → Drawn S F
+  drawn_leaving d challenger = drawn_of r.base.coefficients d (r.base.state challenger)
+
   -- the run of this shape draws these from the first challenger, and leaves the other
   abbrev pub Draws : CirclePcsShape → Taken F E Com → C → CircleDraws E → C → Type 0
   Draws shape taken old d new =
-      draw r (shape_of shape) taken (r.base.state old)
-      ≡ Ok (drawn_of r.base.coefficients d (r.base.state new))
+      draw r (shape_of shape) taken (r.base.state old) ≡ Ok (drawn_leaving d new)
+
+  -- there are witnesses with which the run of this shape draws these from the first challenger, and
+  -- leaves the other
+  abbrev pub DrawsWithSome : {g : _} → CirclePcsShape → List (Point E g × Bor (List E))
+      → CircleMessages E Com → C → CircleDraws E → C → Type 0
+  DrawsWithSome shape claims messages old d new =
+      (w : CircleWitnesses F) × Draws shape (taken_of claims messages w) old d new
 
   -- the run of this shape fails where a witness doesn't pass
   abbrev pub Misses : CirclePcsShape → Taken F E Com → C → CircleTranscriptFailure → Type 0
@@ -132,3 +144,38 @@ module _ {C S F E Com : Type 0} (r : RunMoves C S F E Com) where
   FindsNone shape claims messages old e =
       IsStuck (numbers_of (shape_of shape)) (claims_of claims) messages
       (seeded r (shape_of shape) (r.base.state old)) e
+
+-- the same of the rest of a run, from a transcript whose seed was taken in
+module _ {C S F E Com Side : Type 0} (r : RunMoves C S F E Com) where
+  -- it draws these from the first transcript, and leaves the other
+  abbrev pub DrawsFrom : CircleTranscript C F E Side → Taken F E Com → CircleDraws E
+      → CircleTranscript C F E Side → Type 0
+  DrawsFrom old taken d new =
+      draw_seeded r (numbers old) taken (r.base.state (current old))
+      ≡ Ok (drawn_leaving r d (current new))
+
+  -- it fails where a witness doesn't pass
+  abbrev pub MissesFrom : CircleTranscript C F E Side → Taken F E Com → CircleTranscriptFailure
+      → Type 0
+  MissesFrom old taken e =
+      IsMiss (numbers old) (draw_seeded r (numbers old) taken (r.base.state (current old))) e
+
+  -- it fails where no witness passes
+  abbrev pub FindsNoneFrom : {g : _} → CircleTranscript C F E Side
+      → List (Point E g × Bor (List E)) → CircleMessages E Com
+      → CircleTranscriptFailure → Type 0
+  FindsNoneFrom old claims messages e =
+      IsStuck r (numbers old) (claims_of claims) messages (r.base.state (current old)) e
+
+  -- the rounds fail where a witness doesn't pass
+  abbrev pub MissesInRounds : CircleTranscript C F E Side → List Com → List F
+      → CircleTranscriptFailure → Type 0
+  MissesInRounds old commitments witnesses e =
+      (e ≡ bad_witness CommitPhase old) × (commits_pass r old commitments witnesses ≡ false)
+
+  -- the rounds fail where no witness passes
+  abbrev pub FindsNoneInRounds : CircleTranscript C F E Side → List Com
+      → CircleTranscriptFailure → Type 0
+  FindsNoneInRounds old commitments e =
+      (e ≡ no_witness CommitPhase old)
+      × HasStuckRound r (numbers old).commit_pow_bits (r.base.state (current old)) commitments

@@ -80,8 +80,11 @@ query_steps degree f bits width count =
     ∷ guarded_numbers_steps (codes "query_pow") bits (codes "query_indices") width count
 
 -- the number of columns of each claim, one claim after another
+abbrev pub widths_in : List (List (List ℕ)) → List ℕ
+widths_in batches = flat_map (λ matrix. matrix) (flat_map (λ batch. batch) batches)
+
 abbrev pub claimed_widths : Shape → List ℕ
-claimed_widths s = flat_map (λ matrix. matrix) (flat_map (λ batch. batch) s.opened_widths)
+claimed_widths s = widths_in s.opened_widths
 
 -- the steps of a run whose challenges are elements of an algebra of this degree
 abbrev pub steps_of : ℕ → Shape → List Step

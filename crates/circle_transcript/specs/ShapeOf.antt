@@ -1,8 +1,10 @@
 -- A `CirclePcsShape` as contracts see it.
-use Rattle.std.specs.Prelude.{◌≡◌, ℕ, List, ◌++◌, map, Vec}
+use Rattle.std.specs.Prelude.{◌≡◌, ℕ, ◌+◌, ◌-◌, List, ◌++◌, map, Vec}
+use Rattle.std.specs.declared.alloc.Global.{Global}
 use Rattle.circle_challenger.specs.Interaction.{step_of}
 use Rattle.circle_challenger.specs.Step.{Step}
 use Rattle.circle_challenger.specs.declared.interaction.Interaction.{Interaction}
+use Rattle.circle_commit.specs.declared.params.FriParameters.{FriParameters}
 use Rattle.circle_transcript.specs.declared.shape.CirclePcsShape.{CirclePcsShape}
 use Rattle.circle_transcript.specs.Shape.{Shape}
 
@@ -25,6 +27,22 @@ shape_of s = record {
   index_bits = s.index_bits;
   log_blowup = s.log_blowup;
   log_final_poly_len = s.log_final_poly_len;
+}
+
+-- the shape of a run with these parameters over claims of these numbers of columns, from the
+-- logarithm of the greatest height and the number of further bits of an index
+abbrev pub shape_for : {M : Type 0} → FriParameters M → Vec (Vec (Vec ℕ Global) Global) Global → ℕ
+    → ℕ → CirclePcsShape
+shape_for params opened_widths log_max_height extra_query_index_bits = record {
+  opened_widths = opened_widths;
+  num_commit_rounds = log_max_height - 1 - params.log_blowup - params.log_final_poly_len;
+  batch_pow_bits = params.batch_proof_of_work_bits;
+  commit_pow_bits = params.commit_proof_of_work_bits;
+  query_pow_bits = params.query_proof_of_work_bits;
+  num_queries = params.num_queries;
+  index_bits = log_max_height - 1 + extra_query_index_bits;
+  log_blowup = params.log_blowup;
+  log_final_poly_len = params.log_final_poly_len;
 }
 
 -- these steps stand after those that were there

@@ -1,12 +1,16 @@
 -- What contracts see of a transcript of the scheme.
-use Rattle.std.specs.Prelude.{◌≡◌, ℕ, Bool, List}
+use Rattle.std.specs.Prelude.{◌≡◌, ℕ, Bool, List, length, zip}
 use Rattle.std.specs.Borrow.{Bor, MutBor}
 use Rattle.circle_challenger.specs.Moves.{Moves, RunMoves, is_passed, after_pow, drawn_element, after_element}
 use Rattle.circle_challenger.specs.Step.{Step}
+use Rattle.circle_commit.specs.declared.params.PowPhase.{PowPhase}
 use Rattle.circle_point.specs.declared.point.Point.{Point}
 use Rattle.circle_transcript.specs.Claims.{claims_of}
-use Rattle.circle_transcript.specs.Shape.{batch_steps}
-use Rattle.circle_transcript.specs.Draw.{widths_of, after_claims, after_final_poly, drawn_indices, after_indices}
+use Rattle.circle_transcript.specs.Numbers.{difficulty_of}
+use Rattle.circle_transcript.specs.Shape.{batch_steps, rounds_steps}
+use Rattle.circle_transcript.specs.Draw.{widths_of, after_claims, after_rounds, fold_challenges, rounds_pass, after_final_poly, drawn_indices, after_indices}
+use Rattle.circle_transcript.specs.declared.failure.CircleTranscriptFailure.{CircleTranscriptFailure}
+use Rattle.circle_transcript.specs.declared.failure.CircleTranscriptFailure.TheVariants.{PowWitness, NoWitness}
 use Rattle.circle_transcript.specs.declared.transcript.CircleTranscript.{CircleTranscript}
 use Rattle.circle_transcript.specs.declared.transcript.Numbers.{Numbers}
 
@@ -32,6 +36,19 @@ module _ {C F EF S : Type 0} where
   abbrev pub numbers : CircleTranscript C F EF S → Numbers
   numbers t = t.shape
 
+  -- the failure where no witness passes in this phase, and where the one at hand doesn't
+  abbrev pub no_witness : PowPhase → CircleTranscript C F EF S → CircleTranscriptFailure
+  no_witness phase t = NoWitness phase (difficulty_of (numbers t) phase)
+
+  abbrev pub bad_witness : PowPhase → CircleTranscript C F EF S → CircleTranscriptFailure
+  bad_witness phase t = PowWitness phase (difficulty_of (numbers t) phase)
+
+  -- the steps of a round for each of these commitments
+  abbrev pub steps_of_rounds : {Com : Type 0} → ℕ → CircleTranscript C F EF S → List Com
+      → List Step
+  steps_of_rounds degree t commitments = rounds_steps degree t.shape.commit_pow_bits
+      (length commitments)
+
 -- the phases as functions of a transcript that is about to play them: the steps, the state in which
 -- the witness is checked, whether it passes, what is drawn then, and the state after it
 module _ {C S F EF Side : Type 0} {g : _} (m : Moves C S F EF) (t : CircleTranscript C F EF Side)
@@ -56,6 +73,14 @@ module _ {C S F EF Com Side : Type 0} (r : RunMoves C S F EF Com) (t : CircleTra
   abbrev pub at_commitment : S
   at_commitment = r.after_commitment (r.base.state (current t)) commitment
 
+  -- the first layer, whose challenge no proof of work guards
+  abbrev pub first_layer_challenge : List F
+  first_layer_challenge = drawn_element r.base at_commitment
+
+  abbrev pub after_first_layer : S
+  after_first_layer = after_element r.base at_commitment
+
+  -- a round
   abbrev pub commit_passes : F → Bool
   commit_passes w = is_passed r.base at_commitment t.shape.commit_pow_bits w
 
@@ -65,6 +90,21 @@ module _ {C S F EF Com Side : Type 0} (r : RunMoves C S F EF Com) (t : CircleTra
 
   abbrev pub after_commit : F → S
   after_commit w = after_element r.base (after_pow r.base at_commitment t.shape.commit_pow_bits w)
+
+-- all the rounds, with a witness for each commitment
+module _ {C S F EF Com Side : Type 0} (r : RunMoves C S F EF Com) (t : CircleTranscript C F EF Side)
+    (commitments : List Com) where
+  abbrev pub commits_pass : List F → Bool
+  commits_pass ws = rounds_pass r t.shape.commit_pow_bits (r.base.state (current t))
+      (zip commitments ws)
+
+  abbrev pub commit_challenges : List F → List (List F)
+  commit_challenges ws = fold_challenges r t.shape.commit_pow_bits (r.base.state (current t))
+      (zip commitments ws)
+
+  abbrev pub after_commits : List F → S
+  after_commits ws = after_rounds r t.shape.commit_pow_bits (r.base.state (current t))
+      (zip commitments ws)
 
 module _ {C S F EF Side : Type 0} (m : Moves C S F EF) (t : CircleTranscript C F EF Side)
     (final_poly : List EF) where

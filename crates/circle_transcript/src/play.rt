@@ -1,15 +1,16 @@
 //! Steps that both sides of a transcript play.
-ghost use Rattle.std.specs.Prelude.{◌≡◌, ◌<◌, ◌≤◌, ◌^◌, ◌↔◌, ◌⊎◌, Err, Some, slice_get, drop, length, [], ◌∷◌, ◌++◌, flat_map, false, IsTrue, IsNone, IfOk, IfErr, OnOk, OnErr, All, unwrap_or};
+//!
+//! Contracts of steps without a challenge of the extension see the base field as its own extension.
+ghost use Rattle.std.specs.Prelude.{◌≡◌, ◌<◌, ◌≤◌, ◌^◌, ◌↔◌, ◌⊎◌, Err, Some, slice_get, drop, length, [], ◌∷◌, ◌++◌, flat_map, false, IsTrue, IsNone, IfOk, IfErr, OnOk, OnErr, All};
 ghost use Rattle.circle_challenger.specs.Due.{AreNext, HasPlayed};
-ghost use Rattle.circle_challenger.specs.Grinding.{passes, after_check};
-ghost use Rattle.circle_challenger.specs.Moves.{is_passed, after_pow, after_elements, drawn_element, after_element, or_zero};
+ghost use Rattle.circle_challenger.specs.Moves.{after_elements, or_zero};
 ghost use Rattle.circle_challenger.specs.Played.{element_challenge, numbers_challenge};
-ghost use Rattle.circle_challenger.specs.Sampling.{samples, after_samples};
 ghost use Rattle.circle_challenger.specs.TranscriptState.{current, due, SameChallenger};
 ghost use Rattle.circle_commit.specs.declared.params.PowPhase.TheVariants.{Query};
 ghost use Rattle.circle_point.specs.Point.{coordinates};
 ghost use Rattle.circle_transcript.specs.Draw.{claim, widths_of, after_claims};
 ghost use Rattle.circle_transcript.specs.Claims.{claims_of};
+ghost use Rattle.circle_transcript.specs.Play.{state_of, witness_passes, after_witness, guarded_challenge, after_guarded_challenge, guarded_numbers, after_guarded_numbers};
 ghost use Rattle.circle_transcript.specs.Shape.{claim_steps, final_poly_step, pow_steps, guarded_challenge_steps, guarded_numbers_steps};
 ghost use Rattle.circle_transcript.specs.declared.failure.CircleTranscriptFailure.TheVariants.{NoWitness, PowWitness, Memory};
 
@@ -35,9 +36,8 @@ where
     ensures same_reference { SameChallenger transcript.old transcript.new }
     ensures due { HasPlayed (claim_steps EF.DEGREE (length values.now)) (due transcript.old)
         (due transcript.new) }
-    ensures state { C.state (current transcript.new) ≡ after_claims
-        ⟦<C as FieldChallenger<F, EF>>⟧.moves (C.state (current transcript.old))
-        (claim (coordinates point) values.now ∷ []) }
+    ensures state { let m = ⟦<C as FieldChallenger<F, EF>>⟧.moves in state_of m transcript.new ≡
+        after_claims m (state_of m transcript.old) (claim (coordinates point) values.now ∷ []) }
 {
     transcript.observe_extension_pair(OPENING_POINT, &point.x(), &point.y());
     transcript.observe_extensions(OPENED_VALUES, values);
@@ -55,9 +55,8 @@ where
     ensures same_reference { SameChallenger transcript.old transcript.new }
     ensures due { HasPlayed (flat_map (claim_steps EF.DEGREE) (widths_of (claims_of claims.now)))
         (due transcript.old) (due transcript.new) }
-    ensures state { C.state (current transcript.new) ≡ after_claims
-        ⟦<C as FieldChallenger<F, EF>>⟧.moves (C.state (current transcript.old))
-        (claims_of claims.now) }
+    ensures state { let m = ⟦<C as FieldChallenger<F, EF>>⟧.moves in state_of m transcript.new ≡
+        after_claims m (state_of m transcript.old) (claims_of claims.now) }
 {
     for (point, values) in claims {
         observe_claim::<C, F, EF, S>(transcript, *point, values);
@@ -79,8 +78,8 @@ where
     requires count { length final_poly.now ≡ 2 ^ log_len }
     ensures same_reference { SameChallenger transcript.old transcript.new }
     ensures due { due transcript.new ≡ drop 1 (due transcript.old) }
-    ensures state { C.state (current transcript.new) ≡ after_elements
-        ⟦<C as FieldChallenger<F, EF>>⟧.moves (C.state (current transcript.old)) final_poly.now }
+    ensures state { let m = ⟦<C as FieldChallenger<F, EF>>⟧.moves in state_of m transcript.new ≡
+        after_elements m (state_of m transcript.old) final_poly.now }
 {
     if log_len == 0 {
         transcript.observe_extension(FINAL_POLY, &final_poly[0]);
@@ -106,14 +105,13 @@ where
     ensures due { OnOk result (HasPlayed (pow_steps label.now bits) (due transcript.old)
         (due transcript.new)) }
     ensures needed { IfOk result (λ w. IsNone w ↔ (bits ≡ 0)) }
-    ensures passes { let s = C.state (current transcript.old) in IfOk result (λ w.
-        IsTrue (passes C.after_observe C.sampled_bits s bits (unwrap_or w F.ops.zero))) }
-    ensures state { let s = C.state (current transcript.old) in IfOk result
-        (λ w. C.state (current transcript.new) ≡
-        after_check C.after_observe C.after_bits s bits (unwrap_or w F.ops.zero)) }
+    ensures passes { let m = ⟦<C as FieldChallenger<F, F>>⟧.moves in IfOk result (λ w.
+        IsTrue (witness_passes m transcript.old bits (or_zero m w))) }
+    ensures state { let m = ⟦<C as FieldChallenger<F, F>>⟧.moves in IfOk result (λ w.
+        state_of m transcript.new ≡ after_witness m transcript.old bits (or_zero m w)) }
     ensures failure { IfErr result (λ e. e ≡ NoWitness phase bits) }
-    ensures none { let s = C.state (current transcript.old) in OnErr result ((w : F) →
-        passes C.after_observe C.sampled_bits s bits w ≡ false) }
+    ensures none { let m = ⟦<C as FieldChallenger<F, F>>⟧.moves in OnErr result
+        ((w : F) → witness_passes m transcript.old bits w ≡ false) }
     ensures unchanged { OnErr result
         (C.state (current transcript.new) ≡ C.state (current transcript.old)) }
 {
@@ -143,13 +141,13 @@ where
     ensures same_reference { SameChallenger transcript.old transcript.new }
     ensures due { OnOk result (HasPlayed (pow_steps label.now bits) (due transcript.old)
         (due transcript.new)) }
-    ensures passes { let s = C.state (current transcript.old) in OnOk result (IsTrue
-        (passes C.after_observe C.sampled_bits s bits witness)) }
-    ensures state { let s = C.state (current transcript.old) in C.state (current transcript.new) ≡
-        after_check C.after_observe C.after_bits s bits witness }
+    ensures passes { let m = ⟦<C as FieldChallenger<F, F>>⟧.moves in OnOk result
+        (IsTrue (witness_passes m transcript.old bits witness)) }
+    ensures state { let m = ⟦<C as FieldChallenger<F, F>>⟧.moves in state_of m transcript.new ≡
+        after_witness m transcript.old bits witness }
     ensures failure { IfErr result (λ e. e ≡ PowWitness phase bits) }
-    ensures missed { let s = C.state (current transcript.old) in OnErr result
-        (passes C.after_observe C.sampled_bits s bits witness ≡ false) }
+    ensures missed { let m = ⟦<C as FieldChallenger<F, F>>⟧.moves in OnErr result
+        (witness_passes m transcript.old bits witness ≡ false) }
 {
     if bits == 0 {
         return Ok(());
@@ -177,21 +175,18 @@ where
         (due transcript.old) }
     requires small { bits ≤ 63 }
     ensures same_reference { SameChallenger transcript.old transcript.new }
-    ensures due { OnOk result (HasPlayed (guarded_challenge_steps EF.DEGREE pow_label.now bits
-        label.now)
-        (due transcript.old) (due transcript.new)) }
+    ensures due { let steps = guarded_challenge_steps EF.DEGREE pow_label.now bits label.now in
+        OnOk result (HasPlayed steps (due transcript.old) (due transcript.new)) }
     ensures needed { IfOk result (λ r. IsNone r.1 ↔ (bits ≡ 0)) }
     ensures passes { let m = ⟦<C as FieldChallenger<F, EF>>⟧.moves in IfOk result (λ r.
-        IsTrue (is_passed m (C.state (current transcript.old)) bits (or_zero m r.1))) }
-    ensures challenge { let m = ⟦<C as FieldChallenger<F, EF>>⟧.moves in IfOk result
-        (λ r. EF.coefficients r.0 ≡
-        drawn_element m (after_pow m (C.state (current transcript.old)) bits (or_zero m r.1))) }
-    ensures state { let m = ⟦<C as FieldChallenger<F, EF>>⟧.moves in IfOk result
-        (λ r. C.state (current transcript.new) ≡
-        after_element m (after_pow m (C.state (current transcript.old)) bits (or_zero m r.1))) }
+        IsTrue (witness_passes m transcript.old bits (or_zero m r.1))) }
+    ensures challenge { let m = ⟦<C as FieldChallenger<F, EF>>⟧.moves in IfOk result (λ r.
+        EF.coefficients r.0 ≡ guarded_challenge m transcript.old bits (or_zero m r.1)) }
+    ensures state { let m = ⟦<C as FieldChallenger<F, EF>>⟧.moves in IfOk result (λ r.
+        state_of m transcript.new ≡ after_guarded_challenge m transcript.old bits (or_zero m r.1)) }
     ensures failure { IfErr result (λ e. e ≡ NoWitness phase bits) }
-    ensures none { let m = ⟦<C as FieldChallenger<F, EF>>⟧.moves in OnErr result ((w : F) →
-        is_passed m (C.state (current transcript.old)) bits w ≡ false) }
+    ensures none { let m = ⟦<C as FieldChallenger<F, EF>>⟧.moves in OnErr result
+        ((w : F) → witness_passes m transcript.old bits w ≡ false) }
     ensures unchanged { OnErr result
         (C.state (current transcript.new) ≡ C.state (current transcript.old)) }
 {
@@ -216,20 +211,17 @@ where
         (due transcript.old) }
     requires small { bits ≤ 63 }
     ensures same_reference { SameChallenger transcript.old transcript.new }
-    ensures due { OnOk result (HasPlayed (guarded_challenge_steps EF.DEGREE pow_label.now bits
-        label.now)
-        (due transcript.old) (due transcript.new)) }
-    ensures passes { let m = ⟦<C as FieldChallenger<F, EF>>⟧.moves in OnOk result (IsTrue
-        (is_passed m (C.state (current transcript.old)) bits witness)) }
-    ensures challenge { let m = ⟦<C as FieldChallenger<F, EF>>⟧.moves in IfOk result
-        (λ a. EF.coefficients a ≡
-        drawn_element m (after_pow m (C.state (current transcript.old)) bits witness)) }
+    ensures due { let steps = guarded_challenge_steps EF.DEGREE pow_label.now bits label.now in
+        OnOk result (HasPlayed steps (due transcript.old) (due transcript.new)) }
+    ensures passes { let m = ⟦<C as FieldChallenger<F, EF>>⟧.moves in OnOk result
+        (IsTrue (witness_passes m transcript.old bits witness)) }
+    ensures challenge { let m = ⟦<C as FieldChallenger<F, EF>>⟧.moves in IfOk result (λ a.
+        EF.coefficients a ≡ guarded_challenge m transcript.old bits witness) }
     ensures state { let m = ⟦<C as FieldChallenger<F, EF>>⟧.moves in OnOk result
-        (C.state (current transcript.new) ≡
-        after_element m (after_pow m (C.state (current transcript.old)) bits witness)) }
+        (state_of m transcript.new ≡ after_guarded_challenge m transcript.old bits witness) }
     ensures failure { IfErr result (λ e. e ≡ PowWitness phase bits) }
     ensures missed { let m = ⟦<C as FieldChallenger<F, EF>>⟧.moves in OnErr result
-        (is_passed m (C.state (current transcript.old)) bits witness ≡ false) }
+        (witness_passes m transcript.old bits witness ≡ false) }
 {
     check(transcript, pow_label, phase, bits, witness)?;
     Ok(transcript.challenge_extension(label))
@@ -252,23 +244,19 @@ where
     requires small { bits ≤ 63 }
     requires narrow { width ≤ 63 }
     ensures same_reference { SameChallenger transcript.old transcript.new }
-    ensures due { OnOk result (HasPlayed
-        (guarded_numbers_steps QUERY_POW.now bits QUERY_INDICES.now width count)
-        (due transcript.old) (due transcript.new)) }
+    ensures due { OnOk result (HasPlayed (guarded_numbers_steps QUERY_POW.now bits
+        QUERY_INDICES.now width count) (due transcript.old) (due transcript.new)) }
     ensures needed { IfOk result (λ r. IsNone r.1 ↔ (bits ≡ 0)) }
-    ensures passes { let s = C.state (current transcript.old) in IfOk result (λ r.
-        IsTrue (passes C.after_observe C.sampled_bits s bits (unwrap_or r.1 F.ops.zero))) }
-    ensures indices { let s = C.state (current transcript.old) in IfOk result (λ r.
-        r.0.items ≡ samples (λ t. C.sampled_bits t width) (λ t. C.after_bits t width) count
-        (after_check C.after_observe C.after_bits s bits (unwrap_or r.1 F.ops.zero))) }
+    ensures passes { let m = ⟦<C as FieldChallenger<F, F>>⟧.moves in IfOk result (λ r.
+        IsTrue (witness_passes m transcript.old bits (or_zero m r.1))) }
+    ensures indices { let m = ⟦<C as FieldChallenger<F, F>>⟧.moves in IfOk result (λ r.
+        r.0.items ≡ guarded_numbers m transcript.old bits width count (or_zero m r.1)) }
     ensures below { IfOk result (λ r. All (λ i. i < 2 ^ width) r.0.items) }
-    ensures state { let s = C.state (current transcript.old) in IfOk result (λ r.
-        C.state (current transcript.new) ≡ after_samples (λ t. C.after_bits t width) count
-        (after_check C.after_observe C.after_bits s bits (unwrap_or r.1 F.ops.zero))) }
+    ensures state { let m = ⟦<C as FieldChallenger<F, F>>⟧.moves in IfOk result (λ r. state_of m
+        transcript.new ≡ after_guarded_numbers m transcript.old bits width count (or_zero m r.1)) }
     ensures failure { IfErr result (λ e. (e ≡ Memory) ⊎ (e ≡ NoWitness Query bits)) }
-    ensures none { let s = C.state (current transcript.old) in
-        result ≡ Err (NoWitness Query bits) → (w : F) →
-        passes C.after_observe C.sampled_bits s bits w ≡ false }
+    ensures none { result ≡ Err (NoWitness Query bits) → (w : F) → witness_passes
+        ⟦<C as FieldChallenger<F, F>>⟧.moves transcript.old bits w ≡ false }
     ensures unchanged { result ≡ Err (NoWitness Query bits) →
         C.state (current transcript.new) ≡ C.state (current transcript.old) }
 {
@@ -297,25 +285,20 @@ where
     requires small { bits ≤ 63 }
     requires narrow { width ≤ 63 }
     ensures same_reference { SameChallenger transcript.old transcript.new }
-    ensures due { OnOk result (HasPlayed
-        (guarded_numbers_steps QUERY_POW.now bits QUERY_INDICES.now width count)
-        (due transcript.old) (due transcript.new)) }
-    ensures passes { let s = C.state (current transcript.old) in OnOk result (IsTrue
-        (passes C.after_observe C.sampled_bits s bits witness)) }
-    ensures indices { let s = C.state (current transcript.old) in IfOk result (λ r.
-        r.items ≡ samples (λ t. C.sampled_bits t width) (λ t. C.after_bits t width) count
-        (after_check C.after_observe C.after_bits s bits witness)) }
+    ensures due { OnOk result (HasPlayed (guarded_numbers_steps QUERY_POW.now bits
+        QUERY_INDICES.now width count) (due transcript.old) (due transcript.new)) }
+    ensures passes { let m = ⟦<C as FieldChallenger<F, F>>⟧.moves in OnOk result
+        (IsTrue (witness_passes m transcript.old bits witness)) }
+    ensures indices { let m = ⟦<C as FieldChallenger<F, F>>⟧.moves in IfOk result (λ r.
+        r.items ≡ guarded_numbers m transcript.old bits width count witness) }
     ensures below { IfOk result (λ r. All (λ i. i < 2 ^ width) r.items) }
-    ensures state { let s = C.state (current transcript.old) in OnOk result
-        (C.state (current transcript.new) ≡
-        after_samples (λ t. C.after_bits t width) count
-        (after_check C.after_observe C.after_bits s bits witness)) }
+    ensures state { let m = ⟦<C as FieldChallenger<F, F>>⟧.moves in OnOk result (state_of m
+        transcript.new ≡ after_guarded_numbers m transcript.old bits width count witness) }
     ensures failure { IfErr result (λ e. (e ≡ Memory) ⊎ (e ≡ PowWitness Query bits)) }
-    ensures missed { let s = C.state (current transcript.old) in
-        result ≡ Err (PowWitness Query bits) →
-        passes C.after_observe C.sampled_bits s bits witness ≡ false }
-    ensures passed { let s = C.state (current transcript.old) in result ≡ Err Memory →
-        IsTrue (passes C.after_observe C.sampled_bits s bits witness) }
+    ensures missed { result ≡ Err (PowWitness Query bits) → witness_passes
+        ⟦<C as FieldChallenger<F, F>>⟧.moves transcript.old bits witness ≡ false }
+    ensures passed { let m = ⟦<C as FieldChallenger<F, F>>⟧.moves in result ≡ Err Memory →
+        IsTrue (witness_passes m transcript.old bits witness) }
 {
     check(transcript, QUERY_POW, PowPhase::Query, bits, witness)?;
     match transcript.challenge_bits(alloc, QUERY_INDICES, width, count) {

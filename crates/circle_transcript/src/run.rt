@@ -1,16 +1,14 @@
 //! Whole runs of a transcript, on both sides.
-ghost use Rattle.std.specs.Prelude.{◌≡◌, ◌^◌, ◌<◌, ◌≤◌, ◌⊎◌, [], length, map, zip, true, false, IfOk, IfErr, OnOk, Ok, All, unwrap_or};
+ghost use Rattle.std.specs.Prelude.{◌≡◌, ◌^◌, ◌<◌, ◌≤◌, [], length, map, true, IfOk, IfErr, OnOk, All, unwrap_or};
 ghost use Rattle.circle_challenger.specs.Due.{AreNext, HasPlayed};
-ghost use Rattle.circle_commit.specs.declared.params.PowPhase.TheVariants.{CommitPhase};
-ghost use Rattle.circle_transcript.specs.Shape.{rounds_steps, claimed_widths};
+ghost use Rattle.circle_transcript.specs.Failure.{IsMemoryOr};
+ghost use Rattle.circle_transcript.specs.Shape.{claimed_widths};
 ghost use Rattle.circle_transcript.specs.ShapeOf.{shape_of};
-ghost use Rattle.circle_transcript.specs.Draw.{widths_of, after_rounds, fold_challenges, rounds_pass, draw_seeded};
+ghost use Rattle.circle_transcript.specs.Draw.{widths_of};
 ghost use Rattle.circle_transcript.specs.Claims.{claims_of};
 ghost use Rattle.circle_transcript.specs.Numbers.{numbers_of, run_steps};
-ghost use Rattle.circle_transcript.specs.Transcript.{current, due, numbers, IsSame};
-ghost use Rattle.circle_transcript.specs.Runs.{ArePlayable, taken_of, drawn_of, IsMiss, HasStuckRound, IsStuck, Draws, Misses, FindsNone};
-ghost use Rattle.circle_transcript.specs.declared.run.CircleWitnesses.{CircleWitnesses};
-ghost use Rattle.circle_transcript.specs.declared.failure.CircleTranscriptFailure.TheVariants.{PowWitness, NoWitness, Memory};
+ghost use Rattle.circle_transcript.specs.Transcript.{current, due, numbers, IsSame, steps_of_rounds, commits_pass, commit_challenges, after_commits};
+ghost use Rattle.circle_transcript.specs.Runs.{ArePlayable, taken_of, drawn_leaving, Draws, DrawsWithSome, Misses, FindsNone, DrawsFrom, MissesFrom, FindsNoneFrom, MissesInRounds, FindsNoneInRounds};
 
 use crate::failure::CircleTranscriptFailure;
 use crate::shape::CirclePcsShape;
@@ -66,31 +64,21 @@ fn checking_rounds<'a, F: Field, EF: ExtensionField<F>, C, Com>(
 ) -> Result<Vec<EF>, CircleTranscriptFailure>
 where
     C: CanSample<F> + GrindingChallenger<F> + CanObserve<Com>,
-    requires next { let bits = (numbers transcript.old).commit_pow_bits in
-        AreNext (rounds_steps EF.DEGREE bits (length commitments.now)) (due transcript.old) }
+    requires next { AreNext (steps_of_rounds EF.DEGREE transcript.old commitments.now)
+        (due transcript.old) }
     requires paired { length witnesses.now ≡ length commitments.now }
     requires small { (numbers transcript.old).commit_pow_bits ≤ 63 }
     ensures same { IsSame transcript.old transcript.new }
-    ensures due { let bits = (numbers transcript.old).commit_pow_bits in OnOk result (HasPlayed
-        (rounds_steps EF.DEGREE bits (length commitments.now))
+    ensures due { OnOk result (HasPlayed (steps_of_rounds EF.DEGREE transcript.old commitments.now)
         (due transcript.old) (due transcript.new)) }
-    ensures passes { let m = ⟦<C as RunChallenger<F, EF, Com>>⟧.run in
-        let bits = (numbers transcript.old).commit_pow_bits in OnOk result (rounds_pass m bits
-        (C.state (current transcript.old)) (zip commitments.now witnesses.now) ≡ true) }
-    ensures challenges { let m = ⟦<C as RunChallenger<F, EF, Com>>⟧.run in
-        let bits = (numbers transcript.old).commit_pow_bits in IfOk result (λ v.
-        map EF.coefficients v.items ≡
-        fold_challenges m bits (C.state (current transcript.old))
-        (zip commitments.now witnesses.now)) }
-    ensures state { let m = ⟦<C as RunChallenger<F, EF, Com>>⟧.run in
-        let bits = (numbers transcript.old).commit_pow_bits in OnOk result
-        (C.state (current transcript.new) ≡
-        after_rounds m bits (C.state (current transcript.old))
-        (zip commitments.now witnesses.now)) }
-    ensures failure { let m = ⟦<C as RunChallenger<F, EF, Com>>⟧.run in
-        let bits = (numbers transcript.old).commit_pow_bits in IfErr result (λ e. (e ≡ Memory)
-        ⊎ ((e ≡ PowWitness CommitPhase bits) × (rounds_pass m bits
-        (C.state (current transcript.old)) (zip commitments.now witnesses.now) ≡ false))) }
+    ensures passes { let m = ⟦<C as RunChallenger<F, EF, Com>>⟧.run in OnOk result
+        (commits_pass m transcript.old commitments.now witnesses.now ≡ true) }
+    ensures challenges { IfOk result (λ v. map EF.coefficients v.items ≡ commit_challenges
+        ⟦<C as RunChallenger<F, EF, Com>>⟧.run transcript.old commitments.now witnesses.now) }
+    ensures state { OnOk result (C.state (current transcript.new) ≡ after_commits
+        ⟦<C as RunChallenger<F, EF, Com>>⟧.run transcript.old commitments.now witnesses.now) }
+    ensures failure { let m = ⟦<C as RunChallenger<F, EF, Com>>⟧.run in IfErr result
+        (IsMemoryOr (MissesInRounds m transcript.old commitments.now witnesses.now)) }
 {
     let mut betas = Vec::new(alloc);
     for (i, commitment) in commitments.iter().enumerate() {
@@ -126,14 +114,10 @@ where
     ensures due { OnOk result (due transcript.new ≡ []) }
     ensures below { IfOk result (λ d. All (λ i. i < 2 ^ (numbers transcript.old).index_bits)
         d.indices.items) }
-    ensures draws { let m = ⟦<C as RunChallenger<F, EF, Com>>⟧.run in IfOk result (λ d.
-        draw_seeded m (numbers transcript.old) (taken_of claims.now messages.now witnesses.now)
-        (C.state (current transcript.old)) ≡
-        Ok (drawn_of EF.coefficients d (C.state (current transcript.new)))) }
-    ensures failure { let m = ⟦<C as RunChallenger<F, EF, Com>>⟧.run in
-        let n = numbers transcript.old in IfErr result (λ e. (e ≡ Memory) ⊎ IsMiss n
-        (draw_seeded m n (taken_of claims.now messages.now witnesses.now)
-        (C.state (current transcript.old))) e) }
+    ensures draws { let taken = taken_of claims.now messages.now witnesses.now in IfOk result (λ d.
+        DrawsFrom ⟦<C as RunChallenger<F, EF, Com>>⟧.run transcript.old taken d transcript.new) }
+    ensures failure { let taken = taken_of claims.now messages.now witnesses.now in IfErr result
+        (IsMemoryOr (MissesFrom ⟦<C as RunChallenger<F, EF, Com>>⟧.run transcript.old taken)) }
 {
     let alpha = transcript.batch_phase(claims, witnesses.batch)?;
     let bivariate = transcript.first_layer(messages.first_layer);
@@ -173,8 +157,7 @@ where
         Draws ⟦<C as RunChallenger<F, EF, Com>>⟧.run shape taken challenger.old d challenger.new) }
     ensures below { IfOk result (λ d. All (λ i. i < 2 ^ shape.index_bits) d.indices.items) }
     ensures failure { let taken = taken_of claims.now messages.now witnesses.now in IfErr result
-        (λ e. (e ≡ Memory)
-        ⊎ Misses ⟦<C as RunChallenger<F, EF, Com>>⟧.run shape taken challenger.old e) }
+        (IsMemoryOr (Misses ⟦<C as RunChallenger<F, EF, Com>>⟧.run shape taken challenger.old)) }
 {
     let mut transcript = CircleVerifierTranscript::<C, F, EF>::new(alloc, challenger, shape)?;
     match checking_run(alloc, &mut transcript, claims, messages, witnesses) {
@@ -199,31 +182,23 @@ fn grinding_rounds<'a, F: Field, EF: ExtensionField<F>, C, Com>(
 ) -> Result<(Vec<EF>, Vec<F>), CircleTranscriptFailure>
 where
     C: CanSample<F> + GrindingChallenger<F> + CanObserve<Com>,
-    requires next { let bits = (numbers transcript.old).commit_pow_bits in
-        AreNext (rounds_steps EF.DEGREE bits (length commitments.now)) (due transcript.old) }
+    requires next { AreNext (steps_of_rounds EF.DEGREE transcript.old commitments.now)
+        (due transcript.old) }
     requires small { (numbers transcript.old).commit_pow_bits ≤ 63 }
     ensures same { IsSame transcript.old transcript.new }
-    ensures due { let bits = (numbers transcript.old).commit_pow_bits in OnOk result (HasPlayed
-        (rounds_steps EF.DEGREE bits (length commitments.now))
+    ensures due { OnOk result (HasPlayed (steps_of_rounds EF.DEGREE transcript.old commitments.now)
         (due transcript.old) (due transcript.new)) }
     ensures count { IfOk result (λ r. length r.1.items ≡ length commitments.now) }
     ensures easy { IfOk result (λ r. (numbers transcript.old).commit_pow_bits ≡ 0 →
         All (λ w. w ≡ F.ops.zero) r.1.items) }
-    ensures passes { let m = ⟦<C as RunChallenger<F, EF, Com>>⟧.run in
-        let bits = (numbers transcript.old).commit_pow_bits in IfOk result (λ r. rounds_pass m bits
-        (C.state (current transcript.old)) (zip commitments.now r.1.items) ≡ true) }
-    ensures challenges { let m = ⟦<C as RunChallenger<F, EF, Com>>⟧.run in
-        let bits = (numbers transcript.old).commit_pow_bits in IfOk result (λ r.
-        map EF.coefficients r.0.items ≡
-        fold_challenges m bits (C.state (current transcript.old)) (zip commitments.now r.1.items)) }
-    ensures state { let m = ⟦<C as RunChallenger<F, EF, Com>>⟧.run in
-        let bits = (numbers transcript.old).commit_pow_bits in IfOk result
-        (λ r. C.state (current transcript.new) ≡
-        after_rounds m bits (C.state (current transcript.old)) (zip commitments.now r.1.items)) }
-    ensures failure { let m = ⟦<C as RunChallenger<F, EF, Com>>⟧.run in
-        let bits = (numbers transcript.old).commit_pow_bits in IfErr result (λ e. (e ≡ Memory)
-        ⊎ ((e ≡ NoWitness CommitPhase bits)
-        × HasStuckRound m bits (C.state (current transcript.old)) commitments.now)) }
+    ensures passes { let m = ⟦<C as RunChallenger<F, EF, Com>>⟧.run in IfOk result (λ r.
+        commits_pass m transcript.old commitments.now r.1.items ≡ true) }
+    ensures challenges { IfOk result (λ r. map EF.coefficients r.0.items ≡ commit_challenges
+        ⟦<C as RunChallenger<F, EF, Com>>⟧.run transcript.old commitments.now r.1.items) }
+    ensures state { IfOk result (λ r. C.state (current transcript.new) ≡ after_commits
+        ⟦<C as RunChallenger<F, EF, Com>>⟧.run transcript.old commitments.now r.1.items) }
+    ensures failure { let m = ⟦<C as RunChallenger<F, EF, Com>>⟧.run in IfErr result
+        (IsMemoryOr (FindsNoneInRounds m transcript.old commitments.now)) }
 {
     let mut betas = Vec::new(alloc);
     let mut witnesses = Vec::new(alloc);
@@ -279,12 +254,9 @@ where
     ensures below { IfOk result (λ r. All (λ i. i < 2 ^ (numbers transcript.old).index_bits)
         r.0.indices.items) }
     ensures draws { let m = ⟦<C as RunChallenger<F, EF, Com>>⟧.run in IfOk result (λ r.
-        draw_seeded m (numbers transcript.old) (taken_of claims.now messages.now r.1)
-        (C.state (current transcript.old)) ≡
-        Ok (drawn_of EF.coefficients r.0 (C.state (current transcript.new)))) }
-    ensures failure { let m = ⟦<C as RunChallenger<F, EF, Com>>⟧.run in IfErr result (λ e.
-        (e ≡ Memory) ⊎ IsStuck m (numbers transcript.old) (claims_of claims.now) messages.now
-        (C.state (current transcript.old)) e) }
+        DrawsFrom m transcript.old (taken_of claims.now messages.now r.1) r.0 transcript.new) }
+    ensures failure { let m = ⟦<C as RunChallenger<F, EF, Com>>⟧.run in IfErr result
+        (IsMemoryOr (FindsNoneFrom m transcript.old claims.now messages.now)) }
 {
     let (alpha, batch) = transcript.batch_phase(claims)?;
     let bivariate = transcript.first_layer(messages.first_layer);
@@ -336,8 +308,8 @@ where
     ensures easy_rounds { IfOk result (λ r. shape.commit_pow_bits ≡ 0 →
         All (λ w. w ≡ F.ops.zero) r.1.rounds.items) }
     ensures easy_query { IfOk result (λ r. shape.query_pow_bits ≡ 0 → r.1.query ≡ F.ops.zero) }
-    ensures failure { let m = ⟦<C as RunChallenger<F, EF, Com>>⟧.run in IfErr result (λ e.
-        (e ≡ Memory) ⊎ FindsNone m shape claims.now messages.now challenger.old e) }
+    ensures failure { let m = ⟦<C as RunChallenger<F, EF, Com>>⟧.run in IfErr result
+        (IsMemoryOr (FindsNone m shape claims.now messages.now challenger.old)) }
 {
     let mut transcript = CircleProverTranscript::<C, F, EF>::new(alloc, challenger, shape)?;
     match grinding_run(alloc, &mut transcript, claims, messages) {
@@ -371,17 +343,14 @@ where
     requires rounds { length messages.now.commitments.now ≡ shape.num_commit_rounds }
     requires small { ArePlayable (numbers_of (shape_of shape)) }
     requires count { length messages.now.final_poly.now ≡ 2 ^ shape.log_final_poly_len }
-    ensures draws { let m = ⟦<C as RunChallenger<F, EF, Com>>⟧.run in IfOk result
-        (λ r. (w : CircleWitnesses F)
-        × Draws m shape (taken_of claims.now messages.now w) prover.old r.0 prover.new) }
-    ensures redraws { let m = ⟦<C as RunChallenger<F, EF, Com>>⟧.run in IfOk result
-        (λ r. (w : CircleWitnesses F)
-        × Draws m shape (taken_of claims.now messages.now w) verifier.old r.1 verifier.new) }
-    ensures alike { IfOk result (λ r.
-        drawn_of EF.coefficients r.1 (C.state verifier.new) ≡ drawn_of EF.coefficients r.0
-        (C.state prover.new)) }
-    ensures failure { let m = ⟦<C as RunChallenger<F, EF, Com>>⟧.run in IfErr result (λ e.
-        (e ≡ Memory) ⊎ FindsNone m shape claims.now messages.now prover.old e) }
+    ensures draws { let m = ⟦<C as RunChallenger<F, EF, Com>>⟧.run in IfOk result (λ r.
+        DrawsWithSome m shape claims.now messages.now prover.old r.0 prover.new) }
+    ensures redraws { let m = ⟦<C as RunChallenger<F, EF, Com>>⟧.run in IfOk result (λ r.
+        DrawsWithSome m shape claims.now messages.now verifier.old r.1 verifier.new) }
+    ensures alike { let m = ⟦<C as RunChallenger<F, EF, Com>>⟧.run in IfOk result (λ r.
+        drawn_leaving m r.1 verifier.new ≡ drawn_leaving m r.0 prover.new) }
+    ensures failure { let m = ⟦<C as RunChallenger<F, EF, Com>>⟧.run in IfErr result
+        (IsMemoryOr (FindsNone m shape claims.now messages.now prover.old)) }
 {
     let copy = shape.try_clone(alloc)?;
     let (drawn, witnesses) = prover_run(alloc, prover, copy, claims, messages)?;

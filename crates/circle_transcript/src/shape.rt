@@ -2,10 +2,9 @@
 ghost use Rattle.std.specs.Prelude.{◌≡◌, ◌↔◌, IsTrue, ◌-◌, ◌+◌, ◌<◌, ◌≤◌, ◌^◌, [], ◌∷◌, ◌++◌, IfOk, OnOk, map, flat_map, length, codes};
 ghost use Rattle.circle_challenger.specs.Interaction.{step_of};
 ghost use Rattle.circle_challenger.specs.Step.{be64, step};
-ghost use Rattle.circle_challenger.specs.Played.{element_challenge};
 ghost use Rattle.circle_challenger.specs.declared.interaction.Hierarchy.TheVariants.{Atomic};
 ghost use Rattle.circle_challenger.specs.declared.interaction.ValueType.TheVariants.{Algebra};
-ghost use Rattle.circle_transcript.specs.Shape.{Shape, claim_steps, batch_steps, first_layer_steps, round_steps, rounds_steps, final_poly_step, query_steps, steps_of, pow_steps, batch_layout, layout, version_of, separator_of, text_of, IsSameRun};
+ghost use Rattle.circle_transcript.specs.Shape.{Shape, claim_steps, batch_steps, first_layer_steps, round_steps, rounds_steps, final_poly_step, query_steps, steps_of, pow_steps, guarded_challenge_steps, widths_in, batch_layout, layout, version_of, separator_of, text_of, IsSameRun};
 ghost use Rattle.circle_transcript.specs.ShapeOf.{Appends, matrices_of, batches_of};
 
 use circle_challenger::{
@@ -90,7 +89,7 @@ pub struct CirclePcsShape {
 }
 
 impl CirclePcsShape {
-    ghost use Rattle.circle_transcript.specs.ShapeOf.{shape_of};
+    ghost use Rattle.circle_transcript.specs.ShapeOf.{shape_of, shape_for};
 
     /// The shape of a run with these parameters, over claims of these numbers of columns, where
     /// `log_max_height` is the logarithm of the greatest committed height and the folding strategy
@@ -110,18 +109,8 @@ impl CirclePcsShape {
     ) -> Self
         requires high { params.now.log_blowup + params.now.log_final_poly_len < log_max_height }
         requires small { log_max_height - 1 + extra_query_index_bits < 2 ^ 64 }
-        ensures { result ≡ record {
-          opened_widths = opened_widths;
-          num_commit_rounds =
-              log_max_height - 1 - params.now.log_blowup - params.now.log_final_poly_len;
-          batch_pow_bits = params.now.batch_proof_of_work_bits;
-          commit_pow_bits = params.now.commit_proof_of_work_bits;
-          query_pow_bits = params.now.query_proof_of_work_bits;
-          num_queries = params.now.num_queries;
-          index_bits = log_max_height - 1 + extra_query_index_bits;
-          log_blowup = params.now.log_blowup;
-          log_final_poly_len = params.now.log_final_poly_len;
-        } }
+        ensures { result ≡
+            shape_for params.now opened_widths log_max_height extra_query_index_bits }
     {
         CirclePcsShape {
             opened_widths,
@@ -329,8 +318,7 @@ fn push_batches(
     batches: &[Vec<Vec<usize>>],
 ) -> Result<(), AllocError>
     ensures { OnOk result (Appends steps.old.items steps.new.items
-        (flat_map (claim_steps degree)
-        (flat_map (λ m. m) (flat_map (λ b. b) (batches_of batches.now))))) }
+        (flat_map (claim_steps degree) (widths_in (batches_of batches.now)))) }
 {
     for batch in batches {
         push_matrices(steps, degree, batch)?;
@@ -345,8 +333,7 @@ fn push_batch_challenge(
     bits: usize,
 ) -> Result<(), AllocError>
     ensures { OnOk result (Appends steps.old.items steps.new.items
-        (pow_steps (codes "batch_pow") bits
-        ++ element_challenge degree (codes "batch_challenge") ∷ [])) }
+        (guarded_challenge_steps degree (codes "batch_pow") bits (codes "batch_challenge"))) }
 {
     push_pow(steps, BATCH_POW, bits)?;
     steps.push(algebra(Kind::Challenge, BATCH_CHALLENGE, degree, Length::Scalar))?;

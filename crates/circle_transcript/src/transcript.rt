@@ -3,14 +3,14 @@ ghost use Rattle.std.specs.Prelude.{◌≡◌, ◌<◌, ◌≤◌, ◌^◌, ◌�
 ghost use Rattle.std.specs.Borrow.{sem, RestsIfErr};
 ghost use Rattle.circle_field.specs.Field.{of_nat};
 ghost use Rattle.circle_challenger.specs.Due.{AreNext, HasPlayed};
-ghost use Rattle.circle_challenger.specs.Moves.{drawn_element, after_element, or_zero};
+ghost use Rattle.circle_challenger.specs.Moves.{or_zero};
 ghost use Rattle.circle_challenger.specs.Observing.{after_all};
 ghost use Rattle.circle_commit.specs.declared.params.PowPhase.TheVariants.{Batch, CommitPhase, Query};
 ghost use Rattle.circle_transcript.specs.Shape.{steps_of, text_of, first_layer_steps, round_steps};
 ghost use Rattle.circle_transcript.specs.ShapeOf.{shape_of};
 ghost use Rattle.circle_transcript.specs.Numbers.{numbers_of, indices_steps};
-ghost use Rattle.circle_transcript.specs.Transcript.{current, due, IsSame, Borrows, steps_of_batch, at_batch_pow, batch_passes, batch_challenge, after_batch, at_commitment, commit_passes, commit_challenge, after_commit, at_query_pow, query_passes, query_indices, after_query};
-ghost use Rattle.circle_transcript.specs.declared.failure.CircleTranscriptFailure.TheVariants.{NoWitness, PowWitness, Memory};
+ghost use Rattle.circle_transcript.specs.Transcript.{current, due, IsSame, Borrows, no_witness, bad_witness, steps_of_batch, at_batch_pow, batch_passes, batch_challenge, after_batch, at_commitment, first_layer_challenge, after_first_layer, commit_passes, commit_challenge, after_commit, at_query_pow, query_passes, query_indices, after_query};
+ghost use Rattle.circle_transcript.specs.declared.failure.CircleTranscriptFailure.TheVariants.{Memory};
 
 use crate::failure::CircleTranscriptFailure;
 use crate::play;
@@ -86,8 +86,7 @@ impl<
     ) -> Result<Self, AllocError>
         requires final_poly { shape.log_final_poly_len ≤ 63 }
         ensures* refused { sem 𝓛 (RestsIfErr C.row challenger.entry
-            (λ t. t.challenger.ghost_name) result
-            (λ n. n ≡ challenger.old)) }
+            (λ t. t.challenger.ghost_name) result (λ n. n ≡ challenger.old)) }
         ensures same_reference { IfOk result (λ t. Borrows t challenger.entry) }
         ensures shape { IfOk result (λ t. t.shape ≡ numbers_of (shape_of shape)) }
         ensures due { IfOk result (λ t. due t ≡ steps_of EF.DEGREE (shape_of shape)) }
@@ -156,11 +155,9 @@ impl<
         ensures same { IsSame self.old self.new }
         ensures due { HasPlayed (first_layer_steps EF.DEGREE) (due self.old) (due self.new) }
         ensures challenge { let r = ⟦<C as RunChallenger<F, EF, Com>>⟧.run in
-            EF.coefficients result ≡
-            drawn_element r.base (at_commitment r self.old commitment.now) }
+            EF.coefficients result ≡ first_layer_challenge r self.old commitment.now }
         ensures state { let r = ⟦<C as RunChallenger<F, EF, Com>>⟧.run in
-            C.state (current self.new) ≡
-            after_element r.base (at_commitment r self.old commitment.now) }
+            C.state (current self.new) ≡ after_first_layer r self.old commitment.now }
     {
         let mut transcript = TranscriptState::<C, F, S>::resume(self.challenger, self.due.take());
         transcript.observe_opaque(FIRST_LAYER_COMMITMENT, commitment);
@@ -222,7 +219,7 @@ impl<'a, F: Field, EF: ExtensionField<F>, C: CanSample<F> + GrindingChallenger<F
             EF.coefficients r.0 ≡ batch_challenge m self.old claims.now (or_zero m r.1)) }
         ensures state { let m = ⟦<C as FieldChallenger<F, EF>>⟧.moves in IfOk result (λ r.
             C.state (current self.new) ≡ after_batch m self.old claims.now (or_zero m r.1)) }
-        ensures failure { IfErr result (λ e. e ≡ NoWitness Batch self.old.shape.batch_pow_bits) }
+        ensures failure { IfErr result (λ e. e ≡ no_witness Batch self.old) }
         ensures none { let m = ⟦<C as FieldChallenger<F, EF>>⟧.moves in OnErr result
             ((w : F) → batch_passes m self.old claims.now w ≡ false) }
         ensures unchanged { let m = ⟦<C as FieldChallenger<F, EF>>⟧.moves in OnErr result
@@ -265,8 +262,7 @@ impl<'a, F: Field, EF: ExtensionField<F>, C: CanSample<F> + GrindingChallenger<F
             EF.coefficients r.0 ≡ commit_challenge m self.old commitment.now (or_zero m.base r.1)) }
         ensures state { let m = ⟦<C as RunChallenger<F, EF, Com>>⟧.run in IfOk result (λ r. C.state
             (current self.new) ≡ after_commit m self.old commitment.now (or_zero m.base r.1)) }
-        ensures failure { let bits = self.old.shape.commit_pow_bits in
-            IfErr result (λ e. e ≡ NoWitness CommitPhase bits) }
+        ensures failure { IfErr result (λ e. e ≡ no_witness CommitPhase self.old) }
         ensures none { let m = ⟦<C as RunChallenger<F, EF, Com>>⟧.run in OnErr result
             ((w : F) → commit_passes m self.old commitment.now w ≡ false) }
         ensures unchanged { let m = ⟦<C as RunChallenger<F, EF, Com>>⟧.run in OnErr result
@@ -312,14 +308,11 @@ impl<'a, F: Field, EF: ExtensionField<F>, C: CanSample<F> + GrindingChallenger<F
         ensures below { IfOk result (λ r. All (λ i. i < 2 ^ self.old.shape.index_bits) r.0.items) }
         ensures state { let m = ⟦<C as FieldChallenger<F, EF>>⟧.moves in IfOk result (λ r.
             C.state (current self.new) ≡ after_query m self.old final_poly.now (or_zero m r.1)) }
-        ensures failure { let bits = self.old.shape.query_pow_bits in
-            IfErr result (λ e. (e ≡ Memory) ⊎ (e ≡ NoWitness Query bits)) }
-        ensures none { let m = ⟦<C as FieldChallenger<F, EF>>⟧.moves in
-            result ≡ Err (NoWitness Query self.old.shape.query_pow_bits) →
-            (w : F) → query_passes m self.old final_poly.now w ≡ false }
-        ensures unchanged { let m = ⟦<C as FieldChallenger<F, EF>>⟧.moves in
-            result ≡ Err (NoWitness Query self.old.shape.query_pow_bits) →
-            C.state (current self.new) ≡ at_query_pow m self.old final_poly.now }
+        ensures failure { IfErr result (λ e. (e ≡ Memory) ⊎ (e ≡ no_witness Query self.old)) }
+        ensures none { result ≡ Err (no_witness Query self.old) → (w : F) →
+            query_passes ⟦<C as FieldChallenger<F, EF>>⟧.moves self.old final_poly.now w ≡ false }
+        ensures unchanged { result ≡ Err (no_witness Query self.old) → C.state (current self.new) ≡
+            at_query_pow ⟦<C as FieldChallenger<F, EF>>⟧.moves self.old final_poly.now }
     {
         let mut transcript = ProverState::<C, F>::resume(self.challenger, self.due.take());
         play::observe_final_poly::<C, F, EF, ProverSide>(
@@ -369,7 +362,7 @@ impl<'a, F: Field, EF: ExtensionField<F>, C: CanSample<F> + GrindingChallenger<F
             EF.coefficients a ≡ batch_challenge m self.old claims.now witness) }
         ensures state { let m = ⟦<C as FieldChallenger<F, EF>>⟧.moves in OnOk result
             (C.state (current self.new) ≡ after_batch m self.old claims.now witness) }
-        ensures failure { IfErr result (λ e. e ≡ PowWitness Batch self.old.shape.batch_pow_bits) }
+        ensures failure { IfErr result (λ e. e ≡ bad_witness Batch self.old) }
         ensures missed { let m = ⟦<C as FieldChallenger<F, EF>>⟧.moves in OnErr result
             (batch_passes m self.old claims.now witness ≡ false) }
     {
@@ -411,8 +404,7 @@ impl<'a, F: Field, EF: ExtensionField<F>, C: CanSample<F> + GrindingChallenger<F
             EF.coefficients a ≡ commit_challenge m self.old commitment.now witness) }
         ensures state { let m = ⟦<C as RunChallenger<F, EF, Com>>⟧.run in OnOk result
             (C.state (current self.new) ≡ after_commit m self.old commitment.now witness) }
-        ensures failure { let bits = self.old.shape.commit_pow_bits in
-            IfErr result (λ e. e ≡ PowWitness CommitPhase bits) }
+        ensures failure { IfErr result (λ e. e ≡ bad_witness CommitPhase self.old) }
         ensures missed { let m = ⟦<C as RunChallenger<F, EF, Com>>⟧.run in OnErr result
             (commit_passes m self.old commitment.now witness ≡ false) }
     {
@@ -457,11 +449,9 @@ impl<'a, F: Field, EF: ExtensionField<F>, C: CanSample<F> + GrindingChallenger<F
         ensures below { IfOk result (λ a. All (λ i. i < 2 ^ self.old.shape.index_bits) a.items) }
         ensures state { let m = ⟦<C as FieldChallenger<F, EF>>⟧.moves in OnOk result
             (C.state (current self.new) ≡ after_query m self.old final_poly.now witness) }
-        ensures failure { let bits = self.old.shape.query_pow_bits in
-            IfErr result (λ e. (e ≡ Memory) ⊎ (e ≡ PowWitness Query bits)) }
-        ensures missed { let m = ⟦<C as FieldChallenger<F, EF>>⟧.moves in
-            result ≡ Err (PowWitness Query self.old.shape.query_pow_bits) →
-            query_passes m self.old final_poly.now witness ≡ false }
+        ensures failure { IfErr result (λ e. (e ≡ Memory) ⊎ (e ≡ bad_witness Query self.old)) }
+        ensures missed { result ≡ Err (bad_witness Query self.old) → query_passes
+            ⟦<C as FieldChallenger<F, EF>>⟧.moves self.old final_poly.now witness ≡ false }
         ensures passed { let m = ⟦<C as FieldChallenger<F, EF>>⟧.moves in
             result ≡ Err Memory → IsTrue (query_passes m self.old final_poly.now witness) }
     {

@@ -55,3 +55,9 @@ AreOpened k blowup h m points values = (i : ℕ) (t : _) → i < length points �
 -- weights with the height and the point that they are of
 abbrev pub weights_for : {E : Type 0} → ℕ → E → LagrangeWeights E → PointWeights E
 weights_for h t weights = record { log_height = h; point = t; weights = weights }
+
+-- with these weights, of whatever point, a matrix of 2^h rows opens to these values there
+abbrev pub OpensBy : {F E : Type 0} → Fields F E → ℕ → ℕ → RowMajorMatrix F → LagrangeWeights E
+    → List E → Type 0
+OpensBy k blowup h m weights values =
+    (t : _) → AreWeightsOf k blowup (weights_for h t weights) → OpensTo k blowup h m t values

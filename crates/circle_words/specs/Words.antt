@@ -1,6 +1,7 @@
 -- The words that an opening makes of committed matrices: Circle STARKs (ePrint 2024/278), sections
 -- 4 to 6.
-use Rattle.std.specs.Prelude.{◌≡◌, ℕ, ◌+◌, ◌-◌, ◌/◌, ◌^◌, ◌<◌, ◌≤◌, ◌==◌, if◌then◌else◌, List, [], ◌∷◌, length, map, flat_map, All, slice_index_or}
+use Rattle.std.specs.Prelude.{◌≡◌, ℕ, ◌+◌, ◌-◌, ◌/◌, ◌^◌, ◌<◌, ◌≤◌, ◌==◌, if◌then◌else◌, List, [], ◌∷◌, length, map, flat_map, All, slice_index_or, Vec}
+use Rattle.std.specs.declared.alloc.Global.{Global}
 use Rattle.std.specs.List.{list_any, range_with_len}
 use Rattle.circle_field.specs.Field.{FieldOps}
 use Rattle.circle_field.specs.Circle.{origin}
@@ -9,7 +10,8 @@ use Rattle.circle_commit.specs.RowMajorMatrix.{rows, width_of, height_of}
 use Rattle.circle_commit.specs.DotProduct.{pairwise}
 use Rattle.circle_folding.specs.Fold.{y_folds, x_folds}
 use Rattle.circle_folding.specs.Lambda.{lambda_of, remainder_of}
-use Rattle.circle_inputs.specs.Sums.{reduced}
+use Rattle.circle_folding.specs.Quotient.{ArePowers}
+use Rattle.circle_inputs.specs.Sums.{Adds, reduced}
 use Rattle.circle_relation.specs.Accepts.{Fields}
 use Rattle.circle_relation.specs.Statement.{PointClaim}
 use Rattle.circle_commit.specs.declared.matrix.RowMajorMatrix.{RowMajorMatrix}
@@ -100,3 +102,42 @@ module _ {F E : Type 0} (k : Fields F E) (heights : List ℕ) (folded : ℕ → 
   abbrev pub next_word : ℕ → E → List E → List E
   next_word h beta word =
       joined h (x_folds k.field k.gen k.extension k.embed (h - 1) beta (pairs_of word))
+
+-- this holds of each element that these are the powers of
+abbrev pub OfPowers : {F E : Type 0} → Fields F E → List E → (E → Type 0) → Type 0
+OfPowers k powers Holds = (alpha : _) → ArePowers k.extension alpha powers → Holds alpha
+
+-- the words of matrices that are opened
+module _ {F E : Type 0} (k : Fields F E) (matrices : List (OpenedMatrix F E)) where
+  abbrev pub opened_word : E → ℕ → List E
+  opened_word alpha = reduced_word k alpha (map committed_of matrices)
+
+  -- its multiple of the vanishing polynomial, and what is left, in rows of two
+  abbrev pub opened_lambda : ℕ → E → ℕ → E
+  opened_lambda blowup alpha = lambda k alpha (map committed_of matrices) blowup
+
+  abbrev pub opened_rows : ℕ → E → ℕ → List (List E)
+  opened_rows blowup alpha h =
+      pairs_of (corrected_word k alpha (map committed_of matrices) blowup h)
+
+  abbrev pub layers_of : ℕ → E → List ℕ → List (List (List E))
+  layers_of blowup alpha heights = map (opened_rows blowup alpha) heights
+
+-- to sums over the points of its height, what the claims on a matrix that is opened add
+abbrev pub AddsClaims : {F E : Type 0} → Fields F E → OpenedMatrix F E → E → E → E → List E
+    → List E → Type 0
+AddsClaims k m alpha =
+    Adds k.extension k.embed alpha (points_of_height k.field k.gen m.log_height) (origin k.field)
+    (claims_on (committed_of m))
+
+-- what rows of two of the height 2^h fold into by y
+abbrev pub y_folded : {F E : Type 0} → Fields F E → E → ℕ → List (List E) → List E
+y_folded k bivariate h layer = y_folds k.field k.gen k.extension k.embed (h - 1) bivariate layer
+
+-- whatever the words of the heights are called, the word that follows these rows of two of the
+-- height 2^h: their fold by x, and what joins there
+abbrev pub IsNextWord : {F E : Type 0} → Fields F E → List ℕ → List (Vec E Global) → ℕ → E
+    → List (List E) → List E → Type 0
+IsNextWord k heights folded h beta layer word =
+    (f : ℕ → List _) → map (λ w. w.items) folded ≡ map f heights →
+    word ≡ joined k heights f h (x_folds k.field k.gen k.extension k.embed (h - 1) beta layer)

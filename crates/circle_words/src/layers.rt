@@ -4,10 +4,8 @@
 ghost use Rattle.std.specs.Prelude.{◌≡◌, ◌-◌, ◌^◌, ◌<◌, ◌≤◌, length, map, All, IfOk};
 ghost use Rattle.circle_commit.specs.RowMajorMatrix.{rows, width_of, height_of};
 ghost use Rattle.circle_commit.specs.DotProduct.{pairwise};
-ghost use Rattle.circle_folding.specs.Fold.{y_folds};
-ghost use Rattle.circle_folding.specs.Quotient.{ArePowers};
-ghost use Rattle.circle_words.specs.Words.{committed_of, CanBeOpened, IsHeight, lambda, pairs_of};
-ghost use Rattle.circle_words.specs.Words.{corrected_word, HaveHeights};
+ghost use Rattle.circle_words.specs.Words.{CanBeOpened, HaveHeights, IsHeight, OfPowers};
+ghost use Rattle.circle_words.specs.Words.{layers_of, opened_lambda, opened_rows, y_folded};
 
 use crate::reduced::{OpenedMatrix, reduced_word};
 use circle_commit::RowMajorMatrix;
@@ -28,12 +26,10 @@ fn layer<F: ComplexExtendable, EF: ExtensionField<F>>(
     requires height { IsHeight F.CIRCLE_TWO_ADICITY log_blowup log_height }
     requires openable { All (CanBeOpened ⟦<EF as OverCircle<F>>⟧.fields F.CIRCLE_TWO_ADICITY
         (length powers.now)) matrices.now }
-    ensures lambda { IfOk result (λ r. (alpha : EF) → ArePowers EF.ops alpha powers.now → r.0
-        ≡ lambda ⟦<EF as OverCircle<F>>⟧.fields alpha (map committed_of matrices.now) log_blowup
-        log_height) }
-    ensures rows { IfOk result (λ r. (alpha : EF) → ArePowers EF.ops alpha powers.now → rows r.1
-        ≡ pairs_of (corrected_word ⟦<EF as OverCircle<F>>⟧.fields alpha
-        (map committed_of matrices.now) log_blowup log_height)) }
+    ensures lambda { let k = ⟦<EF as OverCircle<F>>⟧.fields in IfOk result (λ r. OfPowers k
+        powers.now (λ alpha. r.0 ≡ opened_lambda k matrices.now log_blowup alpha log_height)) }
+    ensures rows { let k = ⟦<EF as OverCircle<F>>⟧.fields in IfOk result (λ r. OfPowers k
+        powers.now (λ alpha. rows r.1 ≡ opened_rows k matrices.now log_blowup alpha log_height)) }
     ensures width { IfOk result (λ r. width_of r.1 ≡ 2) }
     ensures height { IfOk result (λ r. height_of r.1 ≡ 2 ^ (log_height - 1)) }
 {
@@ -59,12 +55,10 @@ pub fn first_layer<F: ComplexExtendable, EF: ExtensionField<F>>(
     requires heights { All (IsHeight F.CIRCLE_TWO_ADICITY log_blowup) heights.now }
     requires openable { All (CanBeOpened ⟦<EF as OverCircle<F>>⟧.fields F.CIRCLE_TWO_ADICITY
         (length powers.now)) matrices.now }
-    ensures lambdas { IfOk result (λ r. (alpha : EF) → ArePowers EF.ops alpha powers.now →
-        r.0.items ≡ map (lambda ⟦<EF as OverCircle<F>>⟧.fields alpha
-        (map committed_of matrices.now) log_blowup) heights.now) }
-    ensures layers { IfOk result (λ r. (alpha : EF) → ArePowers EF.ops alpha powers.now →
-        map rows r.1.items ≡ map (λ h. pairs_of (corrected_word ⟦<EF as OverCircle<F>>⟧.fields
-        alpha (map committed_of matrices.now) log_blowup h)) heights.now) }
+    ensures lambdas { let k = ⟦<EF as OverCircle<F>>⟧.fields in IfOk result (λ r. OfPowers k
+        powers.now (λ a. r.0.items ≡ map (opened_lambda k matrices.now log_blowup a) heights.now)) }
+    ensures layers { let k = ⟦<EF as OverCircle<F>>⟧.fields in IfOk result (λ r. OfPowers k
+        powers.now (λ a. map rows r.1.items ≡ layers_of k matrices.now log_blowup a heights.now)) }
     ensures shapes { IfOk result (λ r. HaveHeights heights.now r.1.items) }
 {
     let mut lambdas = Vec::with_capacity(alloc, heights.len())?;
@@ -89,9 +83,8 @@ pub fn fold_layers<F: ComplexExtendable, EF: ExtensionField<F>>(
 ) -> Result<Vec<Vec<EF>>, AllocError>
     requires heights { All (λ h. (1 ≤ h) × (h < F.CIRCLE_TWO_ADICITY)) heights.now }
     requires shapes { HaveHeights heights.now layers.now }
-    ensures { IfOk result (λ folded. map (λ word. word.items) folded.items ≡ pairwise
-        (λ h rows. y_folds F.ops F.generators EF.ops EF.embed (h - 1) bivariate rows) heights.now
-        (map rows layers.now)) }
+    ensures { let k = ⟦<EF as OverCircle<F>>⟧.fields in IfOk result (λ folded. map (λ w. w.items)
+        folded.items ≡ pairwise (y_folded k bivariate) heights.now (map rows layers.now)) }
 {
     let mut folded = Vec::with_capacity(alloc, layers.len())?;
     for layer in layers {

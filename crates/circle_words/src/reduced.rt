@@ -1,19 +1,17 @@
 //! The reduced words: of each height, at every point of its domain, the quotients of all claims on
 //! matrices of that height (Circle STARKs, section 6).
-ghost use Rattle.std.specs.Prelude.{◌≡◌, ◌≢◌, ◌^◌, ◌<◌, ◌≤◌, length, map, All, IsTrue, IsNone, IfSome, IfOk, OnOk};
+ghost use Rattle.std.specs.Prelude.{◌≡◌, ◌≢◌, ◌^◌, ◌<◌, ◌≤◌, length, map, All};
+ghost use Rattle.std.specs.Prelude.{IsTrue, IsNone, IfSome, IfOk, OnOk};
 ghost use Rattle.std.specs.List.{Any};
-ghost use Rattle.circle_field.specs.Circle.{origin};
 ghost use Rattle.circle_commit.specs.RowMajorMatrix.{rows, width_of};
 ghost use Rattle.circle_commit.specs.DotProduct.{dot};
 ghost use Rattle.circle_domain.specs.Selectors.{IsFinite};
-ghost use Rattle.circle_folding.specs.Quotient.{ArePowers};
 ghost use Rattle.circle_folding.specs.Queries.{IsApart};
-ghost use Rattle.circle_inputs.specs.Sums.{Adds};
 ghost use Rattle.circle_point.specs.Point.{coordinates};
 ghost use Rattle.circle_point.specs.Projective.{from_line};
 ghost use Rattle.circle_words.specs.Ratios.{points_of_height, AreRatiosOf, with_quotients};
 ghost use Rattle.circle_words.specs.Values.{AreOff};
-ghost use Rattle.circle_words.specs.Words.{committed_of, CanBeOpened, claims_on, reduced_word};
+ghost use Rattle.circle_words.specs.Words.{AddsClaims, CanBeOpened, OfPowers, opened_word};
 
 use crate::ratios::{PointRatios, standard_points, vanishing_ratios};
 use crate::values::are_off_domain;
@@ -251,10 +249,8 @@ fn add_matrix<F: ComplexExtendable, EF: ExtensionField<F>>(
     requires right { All (AreRatiosOf EF.ops EF.embed
         (points_of_height F.ops F.generators matrix.now.log_height)) ratios.now }
     requires known { All (λ t. Any (λ r. r.point ≡ t) ratios.now) matrix.now.points.now }
-    ensures sums { IfOk result (λ after. (alpha : EF) → ArePowers EF.ops alpha powers.now
-        → Adds EF.ops EF.embed alpha
-        (points_of_height F.ops F.generators matrix.now.log_height) (origin F.ops)
-        (claims_on (committed_of matrix.now)) offset after sums.old sums.new) }
+    ensures sums { let k = ⟦<EF as OverCircle<F>>⟧.fields in IfOk result (λ after. OfPowers k
+        powers.now (λ alpha. AddsClaims k matrix.now alpha offset after sums.old sums.new)) }
 {
     if matrix.points.is_empty() {
         return Ok(offset);
@@ -291,9 +287,8 @@ pub fn reduced_word<F: ComplexExtendable, EF: ExtensionField<F>>(
     requires openable { All (CanBeOpened ⟦<EF as OverCircle<F>>⟧.fields F.CIRCLE_TWO_ADICITY
         (length powers.now)) matrices.now }
     ensures count { IfOk result (λ word. length word.items ≡ 2 ^ log_height) }
-    ensures word { IfOk result (λ word. (alpha : EF) → ArePowers EF.ops alpha powers.now →
-        word.items ≡ reduced_word ⟦<EF as OverCircle<F>>⟧.fields alpha (map committed_of
-        matrices.now) log_height) }
+    ensures word { let k = ⟦<EF as OverCircle<F>>⟧.fields in IfOk result (λ word. OfPowers k
+        powers.now (λ alpha. word.items ≡ opened_word k matrices.now alpha log_height)) }
 {
     let ratios = all_ratios(alloc, log_height, matrices)?;
     let mut word = vec![in alloc; EF::ZERO; 1 << log_height]?;

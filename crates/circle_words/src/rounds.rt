@@ -1,12 +1,11 @@
 //! The rounds of an opening: words that are folded by x, each joined by what was folded from the
 //! height that is due (Circle STARKs, section 4.2).
-ghost use Rattle.std.specs.Prelude.{◌≡◌, ℕ, ◌+◌, ◌-◌, ◌==◌, ◌^◌, ◌<◌, ◌≤◌, List, length, map, All, IfOk};
+ghost use Rattle.std.specs.Prelude.{◌≡◌, ◌+◌, ◌-◌, ◌==◌, ◌^◌, ◌<◌, ◌≤◌, length, map, IfOk};
 ghost use Rattle.std.specs.Prelude.{false, IfNone, IfSome, slice_index_or};
 ghost use Rattle.std.specs.List.{list_any};
 ghost use Rattle.circle_commit.specs.RowMajorMatrix.{rows, width_of, height_of};
 ghost use Rattle.circle_commit.specs.DotProduct.{pairwise};
-ghost use Rattle.circle_folding.specs.Fold.{x_folds};
-ghost use Rattle.circle_words.specs.Words.{joined};
+ghost use Rattle.circle_words.specs.Words.{IsNextWord};
 
 use circle_commit::RowMajorMatrix;
 use circle_field::{ComplexExtendable, ExtensionField, Field};
@@ -57,10 +56,8 @@ pub fn fold_round<F: ComplexExtendable, EF: ExtensionField<F>>(
     requires rows { height_of layer.now ≡ 2 ^ (log_height - 1) }
     requires words { map (λ w. length w.items) folded.now ≡ map (λ h. 2 ^ (h - 1)) heights.now }
     ensures length { IfOk result (λ word. length word.items ≡ 2 ^ (log_height - 1)) }
-    ensures folds { IfOk result (λ word. (f : ℕ → List EF) →
-        map (λ w. w.items) folded.now ≡ map f heights.now → word.items ≡ joined
-        ⟦<EF as OverCircle<F>>⟧.fields heights.now f log_height (x_folds F.ops F.generators EF.ops
-        EF.embed (log_height - 1) beta (rows layer.now))) }
+    ensures folds { let k = ⟦<EF as OverCircle<F>>⟧.fields in IfOk result (λ word. IsNextWord k
+        heights.now folded.now log_height beta (rows layer.now) word.items) }
 {
     let mut word = fold_x::<F, EF, RowMajorMatrix<EF>>(alloc, beta, 1, layer)?;
     if let Some(place) = place_of(heights, log_height) {

@@ -5,8 +5,8 @@
 //! coefficients. In the order of the transform its first rows, as many, are their values on a
 //! domain of as many points, so these rows suffice. The Lagrange polynomials of that domain at a
 //! point are made once for all matrices of the height.
-ghost use Rattle.std.specs.Prelude.{◌≡◌, ◌≢◌, ◌+◌, ◌-◌, ◌^◌, ◌<◌, ◌≤◌, ◌↔◌, length, map, All, IsTrue, IsNone};
-ghost use Rattle.std.specs.Prelude.{IfSome, IfOk, OnOk};
+ghost use Rattle.std.specs.Prelude.{◌≡◌, ◌≢◌, ◌+◌, ◌-◌, ◌^◌, ◌<◌, ◌≤◌, ◌↔◌, length, map, All};
+ghost use Rattle.std.specs.Prelude.{IsTrue, IsNone, IfSome, IfOk, OnOk};
 ghost use Rattle.std.specs.List.{AllZip, Any};
 ghost use Rattle.circle_commit.specs.RowMajorMatrix.{height_of};
 ghost use Rattle.circle_domain.specs.Domain.{log_size, shift_of};
@@ -14,7 +14,7 @@ ghost use Rattle.circle_domain.specs.Selectors.{IsFinite};
 ghost use Rattle.circle_folding.specs.Queries.{IsApart};
 ghost use Rattle.circle_point.specs.Projective.{from_line};
 ghost use Rattle.circle_words.specs.Ratios.{points_of_height};
-ghost use Rattle.circle_words.specs.Values.{IsOffDomain, AreWeightsOf, OpensTo, weights_for};
+ghost use Rattle.circle_words.specs.Values.{IsOffDomain, AreWeightsOf, OpensBy};
 ghost use Rattle.circle_words.specs.Values.{AreOff, AreOpened};
 
 use circle_commit::RowMajorMatrix;
@@ -190,10 +190,8 @@ fn values_by_weights<F: ComplexExtendable, EF: ExtensionField<F>>(
     requires rows { height_of matrix.now ≡ 2 ^ log_height }
     requires count { All (λ w. length w.now.shares.items ≡ 2 ^ (log_height - log_blowup))
         weights.now }
-    ensures { IfOk result (λ made. AllZip (λ w found. (t : EF) → AreWeightsOf
-        ⟦<EF as OverCircle<F>>⟧.fields log_blowup (weights_for log_height t w.now) → OpensTo
-        ⟦<EF as OverCircle<F>>⟧.fields log_blowup log_height matrix.now t found) weights.now
-        (map (λ v. v.items) made.items)) }
+    ensures { let k = ⟦<EF as OverCircle<F>>⟧.fields in IfOk result (λ made. AllZip (λ w. OpensBy k
+        log_blowup log_height matrix.now w.now) weights.now (map (λ v. v.items) made.items)) }
 {
     let (first, _) = matrix.split_rows(1 << (log_height - log_blowup));
     let domain = first_domain::<F>(log_blowup, log_height);

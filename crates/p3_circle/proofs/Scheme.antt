@@ -19,9 +19,7 @@ pub memory-said : {A WE I S : Type 0} (r : Result A (FriError WE I)) (P : S → 
 memory-said (Ok x) P h = tt
 memory-said (Err e) P h = λ left p. subst (λ e. IsTrue (says_memory e)) (sym (h left p)) refl
 
--- where something is answered the tests before it passed
-pub if-passed : {A O : Type 0} (r : Result A ProverError) (a : Result (Unit {0}) ProverError) (old new : O) (P Q R : A → Type 0) → (a ≡ Ok (tt {0}) → (x : A) → P x → Q x → R x) →
-    MatchResult a (λ passed. Unit {0}) (λ first. (r ≡ Err first) × (new ≡ old)) → IfOk r P → IfOk r Q → IfOk r R
-if-passed (Ok x) (Ok u) old new P Q R f none p q = f refl x p q
-if-passed (Ok x) (Err e) old new P Q R f first p q = cc
-if-passed (Err e) a old new P Q R f first p q = tt
+-- what holds of an answer by two facts of it
+pub if_both : {A E : Type 0} (r : Result A E) (P Q R : A → Type 0) → ((x : A) → P x → Q x → R x) → IfOk r P → IfOk r Q → IfOk r R
+if_both (Ok x) P Q R f p q = f x p q
+if_both (Err e) P Q R f p q = tt

@@ -1,6 +1,6 @@
 -- The verifier's answers, from those of its parts.
-use Rattle.std.proofs.Common.{◌≡◌, ℕ, Bool, true, false, List, length, sym, subst, ◌∙◌, arith, inl, inr}
-use Rattle.std.specs.Prelude.{Result, Ok, Err, OnOk, IfErr, ◌↔◌, ◌⊎◌}
+use Rattle.std.proofs.Common.{◌≡◌, ℕ, Bool, true, false, List, length, refl, sym, subst, ◌∙◌, arith, inl, inr}
+use Rattle.std.specs.Prelude.{Result, Ok, Err, OnOk, IfErr, MatchResult, ◌↔◌, ◌⊎◌}
 use Rattle.std.proofs.lemmas.List.{length-map}
 use Rattle.std.proofs.lemmas.Slice.Zip.{length-zip}
 use Rattle.circle_field.specs.declared.field.Operations.{Ghosts}
@@ -50,6 +50,20 @@ at_ok P x v is = subst (λ y. IfErr y P) (sym is) tt
 
 pub not_both : {T E : Type 0} (x : Result T E) (v : T) (e : E) → x ≡ Ok v → x ≡ Err e → ⊥
 not_both x v e ok err = let both : Ok v ≡ Err e = sym ok ∙ err in cc
+
+-- one of two is one of three
+pub of-three : {A B D : Type 0} → A ⊎ B → A ⊎ (B ⊎ D)
+of-three (inl a) = inl a
+of-three (inr b) = inr (inl b)
+
+-- a refusal is the first by the tests, or where these refuse nothing by what follows them
+pub first-by : {E : Type 0} (ts : List (Test E)) (Later : Type 0) (e : E) → answer {A = Unit {0}} ts (tt {0}) ≡ Err e
+    → MatchResult (answer {A = Unit {0}} ts (tt {0})) (λ passed. Later) (λ first. e ≡ first)
+first-by {E = E} ts Later e is = subst (λ (a : Result (Unit {0}) E). MatchResult a (λ passed. Later) (λ first. e ≡ first)) (sym is) refl
+
+pub later-by : {E : Type 0} (ts : List (Test E)) (Later : Type 0) (e : E) → answer {A = Unit {0}} ts (tt {0}) ≡ Ok (tt {0}) → Later
+    → MatchResult (answer {A = Unit {0}} ts (tt {0})) (λ passed. Later) (λ first. e ≡ first)
+later-by {E = E} ts Later e is later = subst (λ (a : Result (Unit {0}) E). MatchResult a (λ passed. Later) (λ first. e ≡ first)) (sym is) later
 
 module _ {F E I W IC ID IP IE WC WD WP WE : Type 0} {g : Ghosts F} (k : Fields F E) (two : ℕ) (p : FriParameters W)
     (claims : List (CommitmentOpening E IC (CircleDomain F g))) (proof : CirclePcsProof F E I W F IC ID IP IE WC WD WP WE) (eq : F → F → Bool) (null : F) (same : E → E → Bool) where

@@ -1,3 +1,4 @@
 pub mod SchemeLaws
+pub mod Calls
 pub mod Constant
 pub mod Tested

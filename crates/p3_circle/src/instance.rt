@@ -2,17 +2,19 @@
 ghost use Rattle.circle_commit.specs.Mmcs.{HaveHeightsOfPowers};
 ghost use Rattle.circle_opening.specs.Opening.{IsFailure};
 ghost use Rattle.circle_plane.specs.PeriodicColumns.{IsRefusedOn, IsTableOn, columns_of};
-ghost use Rattle.circle_commit.specs.Pcs.{openings};
 ghost use Rattle.circle_scheme.specs.Committing.{AreExtensions, AreValuesOfMatrix};
 ghost use Rattle.circle_scheme.specs.Committing.{HaveRowsForPoints, commit_tests, evaluation_tests};
 ghost use Rattle.circle_scheme.specs.Committing.{lde_tests, target_tests_at};
 ghost use Rattle.circle_scheme.specs.Honest.{AreValuesOfBatch, FindsWitnesses, IsHonestBatch};
 ghost use Rattle.circle_scheme.specs.Requesting.{opening_tests};
-ghost use Rattle.circle_scheme.specs.Scheme.{AreCommittedTo, AreExtended, CanBeDegree, CanBeEvaluated};
+ghost use Rattle.circle_scheme.specs.Scheme.{AreCommittedTo, AreExtended, CanBeDegree};
+ghost use Rattle.circle_scheme.specs.Scheme.{CanBeEvaluated};
 ghost use Rattle.circle_scheme.specs.Scheme.{HaveCommittedHeights, IsCommitted, IsFirst, IsFirstOf};
 ghost use Rattle.circle_scheme.specs.Scheme.{IsGiven};
 ghost use Rattle.circle_scheme.specs.Scheme.{IsStandardOfSize, says_memory, says_prover_memory};
-ghost use Rattle.circle_scheme.specs.Verdict.{AcceptsFrom};
+ghost use Rattle.circle_scheme.specs.Tests.{run_tests};
+ghost use Rattle.circle_scheme.specs.Verdict.{AcceptsFrom, IsRefused};
+ghost use Rattle.p3_circle.specs.Calls.{IsAnswer};
 ghost use Rattle.circle_domain.specs.Domain.{log_size};
 ghost use Rattle.std.specs.Prelude.{◌≡◌, ◌+◌, ◌-◌, ◌^◌, min, IfErr, IfOk, IsTrue, OnOk};
 
@@ -28,6 +30,7 @@ use circle_opening::ProverError;
 use circle_pcs::{Pcs, UnivariateStarkPcs};
 use circle_plane::PeriodicError;
 use circle_relation::{CirclePcsProof, InputError, OverCircle};
+use circle_scheme::TestedOver;
 use std::alloc::Global;
 
 impl<Val, EF, InputMmcs, FriMmcs, C> Pcs<EF, C> for CirclePcs<Val, InputMmcs, FriMmcs>
@@ -95,6 +98,13 @@ where
         ⟦<C as RunChallenger<Val, EF, FriMmcs::Commitment>>⟧.run InputMmcs.authenticates
         FriMmcs.authenticates pcs.mmcs pcs.fri_params claims proof Val.CIRCLE_TWO_ADICITY };
 
+    ghost verify_refuses = { λ pcs claims proof old new. IsFirst
+        (run_tests ⟦<EF as TestedOver<Val>>⟧.tested pcs.fri_params claims proof)
+        (IsRefused ⟦<EF as OverCircle<Val>>⟧.fields
+        ⟦<C as RunChallenger<Val, EF, FriMmcs::Commitment>>⟧.run InputMmcs.authenticates
+        FriMmcs.authenticates pcs.mmcs pcs.fri_params claims proof InputMmcs.is_memory
+        FriMmcs.is_memory old new) };
+
     ghost is_memory = { says_memory };
 
     ghost is_prover_memory = { says_prover_memory };
@@ -150,11 +160,10 @@ where
         evaluations: Vec<(CircleDomain<Val>, RowMajorMatrix<Val>)>,
     ) -> Result<(InputMmcs::Commitment, InputMmcs::ProverData), ProverError>
         requires { HaveRowsForPoints evaluations.items }
-        ensures committed { IfOk result (λ r. IsCommitted Val.ops Val.generators
-            self.now.fri_params.log_blowup (InputMmcs.commits self.now.mmcs) evaluations.items r.0
-            (InputMmcs.matrices r.1)) }
-        ensures refused { IfErr result (IsFirstOf (commit_tests Val.CIRCLE_TWO_ADICITY
-            self.now.fri_params Val.eq Val.ops evaluations.items)) }
+        ensures committed { let p = ⟦<Self as Pcs<EF, C>>⟧ in IfOk result (λ r.
+            p.commits self.now evaluations.items r.0 r.1) }
+        ensures refused { let p = ⟦<Self as Pcs<EF, C>>⟧ in IfErr result
+            (p.commit_refuses self.now evaluations.items) }
     {
         self.commit(alloc, evaluations)
     }
@@ -172,18 +181,10 @@ where
         ProverError,
     >
         requires { HaveCommittedHeights InputMmcs.matrices requests.items }
-        ensures opened { let m = ⟦<C as RunChallenger<Val, EF, FriMmcs::Commitment>>⟧.run in
-            IfOk result (λ r. IsGiven self.now.fri_params InputMmcs.matrices
-            ⟦<EF as OverCircle<Val>>⟧.fields m (InputMmcs.commits self.now.mmcs)
-            (InputMmcs.authenticates self.now.mmcs) (FriMmcs.commits self.now.fri_params.mmcs)
-            (FriMmcs.authenticates self.now.fri_params.mmcs) Val.CIRCLE_TWO_ADICITY
-            requests.entry.items (C.state challenger.old) (openings r.0.items) r.1
-            (C.state challenger.new)) }
-        ensures refused { let m = ⟦<C as RunChallenger<Val, EF, FriMmcs::Commitment>>⟧.run in
-            IfErr result (IsFirst (opening_tests InputMmcs.matrices requests.entry.items
-            Val.CIRCLE_TWO_ADICITY self.now.fri_params ⟦<EF as OverCircle<Val>>⟧.fields EF.eq)
-            (IsFailure ⟦<EF as OverCircle<Val>>⟧.fields m self.now.fri_params InputMmcs.matrices
-            requests.entry.items (C.state challenger.old))) }
+        ensures opened { IfOk result (IsAnswer (⟦<Self as Pcs<EF, C>>⟧.open_gives self.now
+            requests.entry.items) (C.state challenger.old) (C.state challenger.new)) }
+        ensures refused { let p = ⟦<Self as Pcs<EF, C>>⟧ in IfErr result (p.open_refuses self.now
+            requests.entry.items (C.state challenger.old)) }
     {
         self.open(alloc, requests, challenger)
     }
@@ -195,15 +196,13 @@ where
         proof: &CirclePcsProof<Val, EF, InputMmcs, FriMmcs, Val>,
         challenger: &mut C,
     ) -> Result<(), FriError<FriMmcs::Error, InputError<InputMmcs::Error, FriMmcs::Error>>>
-        ensures accepted { let m = ⟦<C as RunChallenger<Val, EF, FriMmcs::Commitment>>⟧.run in
-            OnOk result (AcceptsFrom ⟦<EF as OverCircle<Val>>⟧.fields m InputMmcs.authenticates
-            FriMmcs.authenticates self.now.mmcs self.now.fri_params claims.items proof.now
-            Val.CIRCLE_TWO_ADICITY (C.state challenger.old) (C.state challenger.new)) }
-        ensures refused { let m = ⟦<C as RunChallenger<Val, EF, FriMmcs::Commitment>>⟧.run in
-            IfErr result (λ e. (left : C.State) → AcceptsFrom ⟦<EF as OverCircle<Val>>⟧.fields m
-            InputMmcs.authenticates FriMmcs.authenticates self.now.mmcs self.now.fri_params
-            claims.items proof.now Val.CIRCLE_TWO_ADICITY (C.state challenger.old) left
-            → IsTrue (says_memory e)) }
+        ensures accepted { let p = ⟦<Self as Pcs<EF, C>>⟧ in OnOk result (p.verify_accepts self.now
+            claims.items proof.now (C.state challenger.old) (C.state challenger.new)) }
+        ensures refused { let p = ⟦<Self as Pcs<EF, C>>⟧ in IfErr result (λ e. (t : C.State) →
+            p.verify_accepts self.now claims.items proof.now (C.state challenger.old) t
+            → IsTrue (p.is_memory e)) }
+        ensures reason { let p = ⟦<Self as Pcs<EF, C>>⟧ in IfErr result (p.verify_refuses self.now
+            claims.items proof.now (C.state challenger.old) (C.state challenger.new)) }
     {
         self.verify(alloc, claims, proof, challenger)
     }

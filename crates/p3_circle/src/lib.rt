@@ -7,12 +7,12 @@
 //!   the claims, the proof and the challenges that are drawn, memory aside (`accepted`,
 //!   `complete`). Where there is reason for a refusal before the challenger is seeded, the first is
 //!   answered and the challenger is as it was (`first`); a later refusal has its reason too
-//!   (`later`).
+//!   (`reason`).
 //! - `validate_run` answers the first refusal before the seeding, in order, for which there is
 //!   reason, and where there is reason for none the logarithm of the greatest height
-//!   (`seeding_tests`). `validate_claims`, `validate_parameters`, `validate_proof_shape` and
-//!   `validate_points` do so of parts of these tests (`claim_tests`, `parameter_tests`,
-//!   `shape_tests`, `point_tests`).
+//!   (`run_tests`). `validate_claims`, `validate_parameters`, `validate_proof_shape` and
+//!   `validate_points` do so of parts of these tests (`batch_tests`, `parameter_tests`,
+//!   `proof_tests`, `point_tests`).
 //! - `verify_queries` is Ok only where a run meets what the relation says of it once the challenges
 //!   are drawn (`opened`, `holds`), and what it refuses has its reason (`refused`).
 //! - `CirclePcs::new` keeps what it is given.
@@ -31,12 +31,14 @@
 //!   matrix and point the values of the polynomials that the first committed rows fix (`values`),
 //!   and a proof that holds the commitments of the words under the challenges that the transcript
 //!   draws of the claims and the proof, their lambdas, the last word's coefficients, and the rows
-//!   and siblings at the drawn indices (`proof`, by `IsOpening` of `circle_opening`); a later
+//!   and siblings at the drawn indices (`opened`, by `IsGiven` of `circle_scheme`); a later
 //!   refusal has its reason (`failure`): `LastWordNotConstant` is answered only where, under some
 //!   challenges, the last word is of too high degree, which it never is of matrices of low degree
 //!   (`honest_openings_end_low` of `circle_completeness`: `never`).
 //!
-//! That `verify` accepts what `open` answers of an honest statement is not proved yet.
+//! `CirclePcs` is an instance of the traits `Pcs` and `UnivariateStarkPcs` of `circle_pcs`, whose
+//! laws it meets: what `open` answers of an honest statement, `verify` accepts. The clauses of its
+//! calls cite the members of that instance, which say what each call gives and refuses.
 #![tactic(auto)]
 
 mod commit;

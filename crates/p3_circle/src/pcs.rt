@@ -1,30 +1,27 @@
 //! The scheme.
 ghost use Rattle.std.specs.Prelude.{◌≡◌, ◌+◌, ◌-◌, ◌^◌, ◌<◌, ◌≤◌, length, min};
 ghost use Rattle.std.specs.Prelude.{OnOk, IfOk, IfErr};
-ghost use Rattle.std.specs.List.{AllZip};
 ghost use Rattle.circle_commit.specs.Matrix.{IsPowerOfTwo};
 ghost use Rattle.circle_commit.specs.Mmcs.{HaveHeightsOfPowers};
 ghost use Rattle.circle_commit.specs.Pcs.{openings};
 ghost use Rattle.circle_commit.specs.declared.error.FriError.TheVariants.{Memory};
 ghost use Rattle.circle_domain.specs.Domain.{log_size, IsStandardDomain};
 ghost use Rattle.circle_plane.specs.PeriodicColumns.{columns_of, IsTableOn, IsRefusedOn};
-ghost use Rattle.circle_relation.specs.StatementOf.{batch_claims};
-ghost use Rattle.circle_relation.specs.RunOf.{proof_of};
 ghost use Rattle.circle_scheme.specs.Committing.{RefusesInOrder, commit_tests, evaluation_tests};
 ghost use Rattle.circle_scheme.specs.Committing.{lde_tests, height_at, target_tests_at};
-ghost use Rattle.circle_scheme.specs.Committing.{HaveRowsForPoints, AreExtensions, AreValuesOfMatrix};
-ghost use Rattle.circle_opening.specs.Opening.{IsFailure, IsOpening};
-ghost use Rattle.circle_opening.specs.Requests.{AreAnswers};
+ghost use Rattle.circle_scheme.specs.Committing.{HaveRowsForPoints, AreExtensions};
+ghost use Rattle.circle_scheme.specs.Committing.{AreValuesOfMatrix};
+ghost use Rattle.circle_opening.specs.Requests.{AreAnswered};
 ghost use Rattle.circle_scheme.specs.Scheme.{HaveCommittedHeights};
-ghost use Rattle.circle_scheme.specs.Requesting.{IfPassed, RefusesBefore, opening_tests};
-ghost use Rattle.circle_scheme.specs.Verdict.{IsFirstRefusal, IfSeeded, AcceptsFrom, IsRefused};
+ghost use Rattle.circle_scheme.specs.Requesting.{RefusesBefore};
+ghost use Rattle.circle_scheme.specs.Tests.{IsFirstRefusal};
+ghost use Rattle.p3_circle.specs.Calls.{IsAnswer, scheme_tests};
 
 use crate::commit::{
     commit_evaluations, commit_matrices, evaluations_on, log_min_trace_height, quotient_ldes,
 };
 use crate::requests::validate_requests;
-use crate::verdict::verify_claims;
-use circle_challenger::{CanObserve, CanSample, GrindingChallenger, RunChallenger};
+use circle_challenger::{CanObserve, CanSample, GrindingChallenger};
 use circle_commit::{
     CommitmentOpening, FriError, FriParameters, Mmcs, OpenedValues, OpeningRequest,
     PeriodicLdeTable, RowMajorMatrix, log2_strict,
@@ -32,8 +29,10 @@ use circle_commit::{
 use circle_domain::CircleDomain;
 use circle_field::{ComplexExtendable, ExtensionField, Field};
 use circle_opening::{ProverError, open_requests};
+use circle_pcs::Pcs;
 use circle_plane::{PeriodicError, build_periodic_lde_table_circle};
 use circle_relation::{CirclePcsProof, InputError, OverCircle};
+use circle_scheme::TestedOver;
 use std::alloc::Global;
 use std::marker::PhantomData;
 
@@ -140,23 +139,13 @@ impl<Val: ComplexExtendable, InputMmcs: Mmcs<Val>, FriMmcs> CirclePcs<Val, Input
         FriMmcs: Mmcs<EF>,
         C: CanSample<Val> + GrindingChallenger<Val> + CanObserve<FriMmcs::Commitment>,
         requires { HaveCommittedHeights InputMmcs.matrices requests.items }
-        ensures refused { RefusesBefore (opening_tests InputMmcs.matrices requests.entry.items
-            Val.CIRCLE_TWO_ADICITY self.now.fri_params ⟦<EF as OverCircle<Val>>⟧.fields EF.eq)
-            result challenger.old challenger.new }
-        ensures values { IfOk result (λ r. AllZip (AreAnswers InputMmcs.matrices
-            ⟦<EF as OverCircle<Val>>⟧.fields self.now.fri_params.log_blowup) requests.entry.items
-            (openings r.0.items)) }
-        ensures proof { let m = ⟦<C as RunChallenger<Val, EF, FriMmcs::Commitment>>⟧.run in
-            IfOk result (λ r. IsOpening self.now.fri_params InputMmcs.matrices requests.entry.items
-            (openings r.0.items) ⟦<EF as OverCircle<Val>>⟧.fields m (proof_of r.1)
-            (InputMmcs.commits self.now.mmcs) (InputMmcs.authenticates self.now.mmcs)
-            (FriMmcs.commits self.now.fri_params.mmcs)
-            (FriMmcs.authenticates self.now.fri_params.mmcs) (C.state challenger.old)
-            (C.state challenger.new)) }
-        ensures failure { let m = ⟦<C as RunChallenger<Val, EF, FriMmcs::Commitment>>⟧.run in
-            IfPassed (opening_tests InputMmcs.matrices requests.entry.items Val.CIRCLE_TWO_ADICITY
-            self.now.fri_params ⟦<EF as OverCircle<Val>>⟧.fields EF.eq) result (IsFailure
-            ⟦<EF as OverCircle<Val>>⟧.fields m self.now.fri_params InputMmcs.matrices
+        ensures refused { let t = ⟦<EF as TestedOver<Val>>⟧.tested in RefusesBefore (scheme_tests t
+            InputMmcs.matrices self.now requests.entry.items) result challenger.old challenger.new }
+        ensures values { let k = ⟦<EF as OverCircle<Val>>⟧.fields in IfOk result (λ r. AreAnswered k
+            InputMmcs.matrices self.now.fri_params requests.entry.items (openings r.0.items)) }
+        ensures opened { IfOk result (IsAnswer (⟦<Self as Pcs<EF, C>>⟧.open_gives self.now
+            requests.entry.items) (C.state challenger.old) (C.state challenger.new)) }
+        ensures failure { let p = ⟦<Self as Pcs<EF, C>>⟧ in IfErr result (p.open_refuses self.now
             requests.entry.items (C.state challenger.old)) }
     {
         validate_requests::<Val, EF, InputMmcs, FriMmcs>(&self.mmcs, &self.fri_params, &requests)?;
@@ -192,33 +181,16 @@ impl<Val: ComplexExtendable, InputMmcs: Mmcs<Val>, FriMmcs> CirclePcs<Val, Input
     where
         FriMmcs: Mmcs<EF>,
         C: CanSample<Val> + GrindingChallenger<Val> + CanObserve<FriMmcs::Commitment>,
-        ensures first { IsFirstRefusal Val.eq Val.ZERO EF.eq EF.ops Val.CIRCLE_TWO_ADICITY
-            self.now.fri_params (batch_claims claims.items) (proof_of proof.now) result
-            challenger.old challenger.new }
-        ensures accepted { let m = ⟦<C as RunChallenger<Val, EF, FriMmcs::Commitment>>⟧.run in
-            OnOk result (AcceptsFrom ⟦<EF as OverCircle<Val>>⟧.fields m InputMmcs.authenticates
-            FriMmcs.authenticates self.now.mmcs self.now.fri_params claims.items proof.now
-            Val.CIRCLE_TWO_ADICITY (C.state challenger.old) (C.state challenger.new)) }
-        ensures complete { let m = ⟦<C as RunChallenger<Val, EF, FriMmcs::Commitment>>⟧.run in
-            IfErr result (λ e. (left : C.State) → AcceptsFrom ⟦<EF as OverCircle<Val>>⟧.fields m
-            InputMmcs.authenticates FriMmcs.authenticates self.now.mmcs self.now.fri_params
-            claims.items proof.now Val.CIRCLE_TWO_ADICITY (C.state challenger.old) left
-            → e ≡ Memory) }
-        ensures later { let m = ⟦<C as RunChallenger<Val, EF, FriMmcs::Commitment>>⟧.run in
-            IfSeeded Val.eq Val.ZERO EF.eq EF.ops Val.CIRCLE_TWO_ADICITY self.now.fri_params
-            (batch_claims claims.items) (proof_of proof.now) result (IsRefused
-            ⟦<EF as OverCircle<Val>>⟧.fields m InputMmcs.authenticates FriMmcs.authenticates
-            self.now.mmcs self.now.fri_params claims.items proof.now InputMmcs.is_memory
-            FriMmcs.is_memory (C.state challenger.old) (C.state challenger.new)) }
+        ensures first { let t = ⟦<EF as TestedOver<Val>>⟧.tested in IsFirstRefusal t
+            self.now.fri_params claims.items proof.now result challenger.old challenger.new }
+        ensures accepted { let p = ⟦<Self as Pcs<EF, C>>⟧ in OnOk result (p.verify_accepts self.now
+            claims.items proof.now (C.state challenger.old) (C.state challenger.new)) }
+        ensures complete { IfErr result (λ e. (t : C.State) → ⟦<Self as Pcs<EF, C>>⟧.verify_accepts
+            self.now claims.items proof.now (C.state challenger.old) t → e ≡ Memory) }
+        ensures reason { let p = ⟦<Self as Pcs<EF, C>>⟧ in IfErr result (p.verify_refuses self.now
+            claims.items proof.now (C.state challenger.old) (C.state challenger.new)) }
     {
-        verify_claims(
-            alloc,
-            &self.mmcs,
-            &self.fri_params,
-            &claims,
-            proof,
-            challenger,
-        )
+        self.verify_claims(alloc, &claims, proof, challenger)
     }
 
     /// The binary logarithm of the greatest number of rows that the group has a standard domain

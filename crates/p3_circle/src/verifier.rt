@@ -2,10 +2,15 @@
 ghost use Rattle.std.specs.Prelude.{◌≡◌, ◌≤◌, [], ◌∷◌, map, vec_len};
 ghost use Rattle.std.specs.List.{list_all, list_any};
 ghost use Rattle.circle_commit.specs.Mmcs.{greatest};
-ghost use Rattle.circle_relation.specs.Statement.{all_matrices, log_sizes, log_max_height};
+ghost use Rattle.circle_relation.specs.Statement.{all_matrices, log_sizes};
 ghost use Rattle.circle_relation.specs.StatementOf.{matrix_claims, batch_claims};
-ghost use Rattle.circle_scheme.specs.Refusals.{answer, domain_tests, claim_tests, grinding_test, parameter_tests, witness_test, sibling_tests, round_tests, rounds_tests, shape_tests, final_test, is_at_infinity, point_tests, some_point, seeding_tests};
-ghost use Rattle.circle_relation.specs.RunOf.{proof_of};
+ghost use Rattle.circle_scheme.specs.Refusals.{answer, domain_tests, final_test, grinding_test};
+ghost use Rattle.circle_scheme.specs.Refusals.{is_at_infinity, parameter_tests, point_tests};
+ghost use Rattle.circle_scheme.specs.Refusals.{round_tests, rounds_tests, sibling_tests};
+ghost use Rattle.circle_scheme.specs.Refusals.{some_point, witness_test};
+ghost use Rattle.circle_scheme.specs.Tests.{batch_tests, claimed_height, proof_tests, run_tests};
+ghost use Rattle.circle_scheme.specs.Tests.{sibling_counts};
+ghost use Rattle.p3_circle.specs.Tested.{claimed_top};
 
 use circle_commit::{
     CommitmentOpening, FriError, FriParameters, MatrixOpening, Mmcs, PointOpening, PowPhase,
@@ -13,6 +18,7 @@ use circle_commit::{
 use circle_domain::CircleDomain;
 use circle_field::{ComplexExtendable, ExtensionField, Field};
 use circle_relation::{CircleCommitPhaseMultiStep, CircleFriProof, CirclePcsProof, InputError};
+use circle_scheme::TestedOver;
 
 /// The greatest difficulty, in bits, of a proof of work that is supported.
 const MAX_PROOF_OF_WORK_BITS: usize = 30;
@@ -70,10 +76,8 @@ pub fn validate_claims<F: ComplexExtendable, E, Com, CommitErr, InputMmcsErr, Fr
     log_blowup: usize,
     log_final_poly_len: usize,
 ) -> Result<usize, FriError<CommitErr, InputError<InputMmcsErr, FriMmcsErr>>>
-    ensures { let matrices = all_matrices (batch_claims claims.now) in
-        result ≡ answer
-        (claim_tests F.CIRCLE_TWO_ADICITY log_blowup log_final_poly_len (log_sizes matrices))
-        (log_max_height log_blowup matrices) }
+    ensures { let b = batch_claims claims.now in result ≡ answer (batch_tests F.CIRCLE_TWO_ADICITY
+        log_blowup log_final_poly_len b) (claimed_height log_blowup b) }
 {
     let greatest = greatest_domain(claims, log_final_poly_len)?;
     if greatest == 0 {
@@ -203,9 +207,7 @@ fn check_rounds<F: Field, M: Mmcs<F>, CommitErr, InputErr>(
     num_queries: usize,
     openings: &[CircleCommitPhaseMultiStep<F, M>],
 ) -> Result<(), FriError<CommitErr, InputErr>>
-    ensures { result
-        ≡ answer (rounds_tests num_queries 0
-        (map (λ o. map vec_len o.sibling_values.items) openings.now)) tt }
+    ensures { result ≡ answer (rounds_tests num_queries 0 (sibling_counts openings.now)) tt }
 {
     for (round, opening) in openings.iter().enumerate() {
         check_round(num_queries, round, opening)?;
@@ -229,11 +231,8 @@ pub fn validate_proof_shape<F: Field, M: Mmcs<F>, Witness: Field, InputProof, In
     proof: &CircleFriProof<F, M, Witness, InputProof>,
     num_commit_rounds: usize,
 ) -> Result<(), FriError<M::Error, InputErr>>
-    ensures { result
-        ≡ answer (shape_tests (λ w. Witness.eq w Witness.ZERO) params.now num_commit_rounds
-        (vec_len proof.now.commit_phase_commits) proof.now.commit_pow_witnesses.items
-        proof.now.pow_witness
-        (map (λ o. map vec_len o.sibling_values.items) proof.now.commit_phase_openings.items)) tt }
+    ensures { result ≡ answer (proof_tests (λ w. Witness.eq w Witness.ZERO) params.now
+        num_commit_rounds proof.now) tt }
 {
     let expected = num_commit_rounds;
     let got = proof.commit_phase_commits.len();
@@ -327,9 +326,8 @@ pub fn validate_points<F: Field, Commitment, D, M, Witness: Field, CommitErr, In
     batch_pow_witness: &Witness,
     claims: &[CommitmentOpening<F, Commitment, D>],
 ) -> Result<(), FriError<CommitErr, InputErr>>
-    ensures { result
-        ≡ answer (point_tests params.now (Witness.eq batch_pow_witness.now Witness.ZERO)
-        (some_point (is_at_infinity F.eq F.ops) claims.now)) tt }
+    ensures { let infinite = some_point (is_at_infinity F.eq F.ops) claims.now in result ≡ answer
+        (point_tests params.now (Witness.eq batch_pow_witness.now Witness.ZERO) infinite) tt }
 {
     check_witnesses(
         PowPhase::Batch,
@@ -360,10 +358,8 @@ pub fn validate_run<
     claims: &[CommitmentOpening<EF, InputMmcs::Commitment, CircleDomain<Val>>],
     proof: &CirclePcsProof<Val, EF, InputMmcs, FriMmcs, Val>,
 ) -> Result<usize, FriError<FriMmcs::Error, InputError<InputMmcs::Error, FriMmcs::Error>>>
-    ensures { let batches = batch_claims claims.now in result ≡ answer
-        (seeding_tests Val.CIRCLE_TWO_ADICITY (λ w. Val.eq w Val.ZERO)
-        (is_at_infinity EF.eq EF.ops) params.now batches (proof_of proof.now))
-        (log_max_height params.now.log_blowup (all_matrices batches)) }
+    ensures { let t = ⟦<EF as TestedOver<Val>>⟧.tested in result ≡ answer (run_tests t params.now
+        claims.now proof.now) (claimed_top params.now (batch_claims claims.now)) }
 {
     let log_final_poly_len = params.log_final_poly_len;
     let log_max_height = validate_claims(claims, params.log_blowup, log_final_poly_len)?;

@@ -6,7 +6,9 @@ use Rattle.circle_opening.specs.Requests.{AreRequests}
 use Rattle.circle_relation.specs.Accepts.{Fields}
 use Rattle.circle_scheme.specs.Refusals.{answer}
 use Rattle.circle_scheme.specs.Requesting.{opening_tests}
-use Rattle.circle_scheme.proofs.Unrefused.{are-fit, are-requests}
+use Rattle.circle_scheme.proofs.Unrefused.{are-binary, are-fit, are-requests}
+use Rattle.p3_circle.proofs.Scheme.{if_both}
+use Rattle.p3_circle.proofs.Verdicts.{if_err, later-by}
 use Rattle.p3_circle.proofs.pcs.CirclePcs.open.Given.{Over}
 use Rattle.p3_circle.proofs.pcs.CirclePcs.open.Goals as goal
 
@@ -31,8 +33,25 @@ open_requests-requires-clause-requests g c =
     (are-requests kept c.deref.result.now two p (fields g) g.EF.PartialEq.eq g.met.EF.Field.eq_law g.Val.Operations.laws g.EF.Operations.laws g.met.EF.ExtensionField.embedding g.met.Val.ComplexExtendable.generators_law powers
     (sym c.validate_requests.ensures ∙ c.in_ok-validate_requests.was))
 
-pub returns-clause-proof : goal.returns-clause-proof
-returns-clause-proof g c = rw c.deref-2.ensures.value at c.open_requests.ensures.proof
+pub returns-clause-opened : goal.returns-clause-opened
+returns-clause-opened g c =
+    let kept = g.InputMmcs.Mmcs.matrices in
+    let two = g.Val.ComplexExtendable.CIRCLE_TWO_ADICITY in
+    let p = c.args.self.now.fri_params in
+    let same = g.EF.PartialEq.eq in
+    let ok = rw c.deref.ensures.value at (sym c.validate_requests.ensures ∙ c.in_ok-validate_requests.was) in
+    if_both c.open_requests.result _ _ _
+    (λ r values opening. record {
+      parameters = are-fit kept c.args.requests.items two p (fields g) same ok;
+      arity = are-binary kept c.args.requests.items two p (fields g) same ok;
+      asked = are-requests kept c.args.requests.items two p (fields g) same g.met.EF.Field.eq_law g.Val.Operations.laws g.EF.Operations.laws g.met.EF.ExtensionField.embedding g.met.Val.ComplexExtendable.generators_law c.requires ok;
+      answers = values;
+      opening = opening;
+    })
+    (rw c.deref-2.ensures.value at c.open_requests.ensures.values)
+    (rw c.deref-2.ensures.value at c.open_requests.ensures.proof)
 
 pub returns-clause-failure : goal.returns-clause-failure
-returns-clause-failure g c = λ passed. rw c.deref-2.ensures.value at c.open_requests.ensures.failure
+returns-clause-failure g c =
+    let ok = rw c.deref.ensures.value at (sym c.validate_requests.ensures ∙ c.in_ok-validate_requests.was) in
+    if_err _ _ c.open_requests.result (λ e why. later-by _ _ e ok why) (rw c.deref-2.ensures.value at c.open_requests.ensures.failure)

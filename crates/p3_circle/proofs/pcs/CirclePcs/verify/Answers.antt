@@ -9,5 +9,5 @@ returns-clause-accepted g c = rw c.deref.ensures.value at c.verify_claims.ensure
 pub returns-clause-complete : goal.returns-clause-complete
 returns-clause-complete g c = rw c.deref.ensures.value at c.verify_claims.ensures.complete
 
-pub returns-clause-later : goal.returns-clause-later
-returns-clause-later g c = rw c.deref.ensures.value at c.verify_claims.ensures.later
+pub returns-clause-reason : goal.returns-clause-reason
+returns-clause-reason g c = rw c.deref.ensures.value at c.verify_claims.ensures.reason

@@ -1,0 +1,20 @@
+-- What contracts see of the scheme's calls.
+use Rattle.std.specs.Prelude.{List, Vec}
+use Rattle.std.specs.declared.alloc.Global.{Global}
+use Rattle.circle_commit.specs.Pcs.{Openings, openings}
+use Rattle.circle_commit.specs.declared.matrix.RowMajorMatrix.{RowMajorMatrix}
+use Rattle.circle_commit.specs.declared.pcs.OpeningRequest.{OpeningRequest}
+use Rattle.circle_opening.specs.declared.error.ProverError.{ProverError}
+use Rattle.circle_scheme.specs.Refusals.{Test}
+use Rattle.circle_scheme.specs.Tests.{TestedFields, request_tests}
+use Rattle.p3_circle.specs.declared.pcs.CirclePcs.{CirclePcs}
+
+-- the tests of requests to a scheme
+abbrev pub scheme_tests : {F E I W D : Type 0} → TestedFields F E → (D → List (RowMajorMatrix F))
+    → CirclePcs F I W → List (OpeningRequest D E) → List (Test ProverError)
+scheme_tests t kept pcs requests = request_tests t kept pcs.fri_params requests
+
+-- an answer, values and a proof, is given from the one state, which leaves the other
+abbrev pub IsAnswer : {S E P : Type 0} → (S → Openings E → P → S → Type 0) → S → S
+    → Vec (Vec (Vec (Vec E Global) Global) Global) Global × P → Type 0
+IsAnswer Gives old new answer = Gives old (openings answer.0.items) answer.1 new
