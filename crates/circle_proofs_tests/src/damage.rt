@@ -5,7 +5,7 @@
 use crate::order::{claims_sevens, first_reason};
 use circle_commands::verify::Input;
 use circle_commit::JsonForm;
-use circle_tool_fixtures::expect::{answer, expect_unreadable};
+use circle_tool_fixtures::expect::{answer_of, expect_unreadable};
 use circle_tool_fixtures::{statements, stored};
 use serde_json::Value;
 use std::alloc::{AllocError, Global};
@@ -176,7 +176,7 @@ enum Part {
 // Runs `verify` on a changed text, and gives the status: 2 where the text is no input, and else
 // that of the first refusal before the seeding, if there is reason for one.
 fn expect_first(rt: &impl Abort, alloc: Global, changed: &[u8]) -> Result<u8, Fail> {
-    let answer = answer(alloc, "verify", changed)?;
+    let answer = answer_of(alloc, "verify", changed)?;
     let Some(input) = read(alloc, changed) else {
         assert_eq!(rt; answer.status, 2);
         return Ok(answer.status);

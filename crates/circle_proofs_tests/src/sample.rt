@@ -1,5 +1,5 @@
 //! Proofs of matrices of drawn entries, which are verified.
-use circle_tool_fixtures::expect::{answer, expect_answer};
+use circle_tool_fixtures::expect::{answer_of, expect_answer};
 use std::alloc::{AllocError, Global};
 use std::test::Fail;
 
@@ -94,7 +94,7 @@ fn statement(alloc: Global, batches: &[&[Drawn]], numbers: Numbers) -> Result<St
 
 /// What `prove` answers, without the newline; its status is 0.
 pub(crate) fn proved(alloc: Global, input: &str) -> Result<String, Fail> {
-    let answer = answer(alloc, "prove", input.as_bytes())?;
+    let answer = answer_of(alloc, "prove", input.as_bytes())?;
     let text = std::str::from_utf8(&answer.written).unwrap_or("not UTF-8");
     match text.strip_suffix("\n") {
         Some(line) if answer.status == 0 => Ok(String::from_str(alloc, line)?),

@@ -2,7 +2,7 @@
 use circle_commands::verify::Input;
 use circle_commit::JsonForm;
 use circle_tool_fixtures::expect::{
-    Change, answer, expect_answer, expect_changes_refused, expect_changes_unreadable,
+    Change, answer_of, expect_answer, expect_changes_refused, expect_changes_unreadable,
     expect_refused, expect_unreadable, replaced,
 };
 use circle_tool_fixtures::stored;
@@ -275,7 +275,7 @@ fn forms(rt: HostRuntime) -> Result<(), Fail> {
 
 // Runs `verify` on bytes, and gives the status.
 fn status(alloc: Global, input: &[u8]) -> Result<u8, AllocError> {
-    Ok(answer(alloc, "verify", input)?.status)
+    Ok(answer_of(alloc, "verify", input)?.status)
 }
 
 #[test]

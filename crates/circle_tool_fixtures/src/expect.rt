@@ -33,7 +33,7 @@ pub fn arguments(alloc: Global, words: &[&str]) -> Result<Vec<String>, AllocErro
 /// Runs a command on these bytes.
 ///
 /// Fails where memory is refused.
-pub fn answer(alloc: Global, command: &str, input: &[u8]) -> Result<Answer, AllocError> {
+pub fn answer_of(alloc: Global, command: &str, input: &[u8]) -> Result<Answer, AllocError> {
     let args = arguments(alloc, &[command])?;
     let mut written = Vec::new(alloc);
     let mut input = input;
@@ -48,7 +48,7 @@ pub fn expect_answer(
     input: &str,
     (line, status): (&str, u8),
 ) -> Result<(), Fail> {
-    let answer = answer(alloc, command, input.as_bytes())?;
+    let answer = answer_of(alloc, command, input.as_bytes())?;
     let text = std::str::from_utf8(&answer.written).unwrap_or("not UTF-8");
     if answer.status == status && text.strip_suffix("\n").unwrap_or("no line") == line {
         return Ok(());
@@ -58,7 +58,8 @@ pub fn expect_answer(
 
 // What is told of another answer.
 fn unexpected(status: u8, text: &str, input: &str) -> Fail {
-    Fail::new(InlineText::<512>::of(format_args!("status {status}: {text} of {input}")))
+    let told = InlineText::<512>::of(format_args!("status {status}: {text} of {input}"));
+    Fail::new(told.as_str())
 }
 
 /// Expects that the input is refused for this reason.

@@ -1,6 +1,6 @@
 //! The command `values`.
 use circle_tool_fixtures::expect::{
-    answer, expect_all_unreadable, expect_answer, expect_refusals, expect_refused,
+    answer_of, expect_all_unreadable, expect_answer, expect_refused, expect_refusals,
     expect_unreadable,
 };
 use circle_tool_fixtures::statements::FOUR_COEFFICIENTS;
@@ -146,7 +146,7 @@ fn text_that_is_no_json(rt: HostRuntime) -> Result<(), Fail> {
 
 #[test]
 fn bytes_that_are_no_text(rt: HostRuntime) -> Result<(), Fail> {
-    let answer = answer(rt.alloc(), "values", b"{\"log_n\":\"\xff\"}")?;
+    let answer = answer_of(rt.alloc(), "values", b"{\"log_n\":\"\xff\"}")?;
     assert_eq!(rt; answer.status, 2);
     assert_eq!(rt;
         answer.written.as_slice(),
