@@ -26,10 +26,10 @@ pair_of (object _) = Err WrongKind
 
 -- the member of an object with this key, and that it has none
 abbrev pub IsPart : List ℕ → Data → Data → Type 0
-IsPart key object part = get key object ≡ Some part
+IsPart key value part = get key value ≡ Some part
 
 abbrev pub IsMissing : List ℕ → Data → JsonError → Type 0
-IsMissing key object error = (get key object ≡ None) × (error ≡ MissingKey)
+IsMissing key value error = (get key value ≡ None) × (error ≡ MissingKey)
 
 -- the items of an array, and that a value is none
 abbrev pub HasItems : Data → Items → Type 0
