@@ -1,6 +1,6 @@
 //! The command `values`.
 use circle_tool_fixtures::expect::{
-    answer_of, expect_all_unreadable, expect_answer, expect_refused, expect_refusals,
+    answer_of, expect_all_unreadable, expect_answer, expect_refusals, expect_refused,
     expect_unreadable,
 };
 use circle_tool_fixtures::statements::FOUR_COEFFICIENTS;
