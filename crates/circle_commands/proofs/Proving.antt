@@ -1,0 +1,98 @@
+-- Rows that are placed on domains, and what is committed to.
+use Rattle.std.proofs.Common.{◌≡◌, ℕ, ◌+◌, ◌^◌, ◌<◌, ◌≤◌, List, [], ◌∷◌, length, map, All, refl, ap, subst, sym, ◌∙◌, arith, Vec, Global, drop, get_or}
+use Rattle.std.specs.List.{AllZip}
+use Rattle.std.proofs.lemmas.List.{at_drop_more, drop_all}
+use Rattle.std.proofs.lemmas.List.Elements.{All-nil, All-cons}
+use Rattle.circle_challenger.specs.Sponge.{absorbed}
+use Rattle.circle_commit.specs.Matrix.{IsPowerOfTwo}
+use Rattle.circle_commit.specs.Mmcs.{HaveHeightsOfPowers}
+use Rattle.circle_commit.specs.declared.pcs.OpeningRequest.{OpeningRequest}
+use Rattle.circle_field.specs.declared.cubic.Cubic.{Cubic}
+use Rattle.circle_commit.specs.RowMajorMatrix.{rows, rows-width, height_of, width_of, length-rows}
+use Rattle.circle_commit.specs.declared.matrix.RowMajorMatrix.{RowMajorMatrix}
+use Rattle.circle_domain.proofs.Powers.{pow_order}
+use Rattle.circle_domain.specs.Domain.{log_size, shift_of}
+use Rattle.circle_domain.specs.Order.{natural_order}
+use Rattle.circle_domain.specs.Values.{values_at}
+use Rattle.circle_domain.specs.declared.domain.CircleDomain.{CircleDomain}
+use Rattle.circle_field.specs.Mersenne31.{operations, generators}
+use Rattle.circle_field.specs.declared.mersenne31.Mersenne31.{Mersenne31}
+use Rattle.circle_scheme.specs.Committing.{AreExtensions, HaveRowsForPoints, IsExtension}
+use Rattle.circle_commands.specs.Proved.{ArePlaced, IsCommitted, IsExtended, IsRequested, commitments_taken}
+use Rattle.circle_commands.specs.Rows.{lists}
+use Rattle.circle_commands.specs.Traces.{HasFittingRows}
+use Rattle.circle_commands.specs.declared.prove.Committed.{Committed}
+use Rattle.circle_commands.specs.declared.prove.Trace.{Trace}
+
+-- a number of rows that fits leaves room in the group
+pub log_fits : (h n : ℕ) → 2 ^ h ≡ n → n ≤ 2 ^ 24 → h ≤ 24
+log_fits h n is fits = pow_order h 24 (subst (λ m. m ≤ 2 ^ 24) (sym is) fits)
+
+module _ {g : _} where
+  -- each matrix has a row for each point
+  pub rows_for_points : (ts : List Trace) (es : List (CircleDomain Mersenne31 g × RowMajorMatrix Mersenne31)) → AllZip (λ t e. ArePlaced t.rows.items e) ts es → HaveRowsForPoints es
+  rows_for_points [] [] all = All-nil (λ e. height_of e.1 ≡ 2 ^ log_size e.0)
+  rows_for_points [] (e ∷ es) all = absurd all
+  rows_for_points (t ∷ ts) [] all = absurd all
+  rows_for_points (t ∷ ts) (e ∷ es) all = All-cons (λ e. height_of e.1 ≡ 2 ^ log_size e.0) e es all.0.height (rows_for_points ts es all.1)
+
+  -- what is committed to extends the given rows
+  pub is_extended : (blowup : ℕ) (given : List (Vec Mersenne31 Global)) (e : CircleDomain Mersenne31 g × RowMajorMatrix Mersenne31) (made : RowMajorMatrix Mersenne31)
+      → ArePlaced given e → IsExtension operations generators blowup e.0 e.1 made → IsExtended blowup (lists given) made
+  is_extended blowup given e made placed x =
+      let n = log_size e.0 in
+      record {
+        log_n = n;
+        width = width_of e.1;
+        coeffs = x.coeffs;
+        height = ap length (sym placed.content) ∙ length-rows e.1 ∙ placed.height;
+        widths = subst (All (λ row. length row ≡ width_of e.1)) placed.content (rows-width e.1);
+        count = x.told.height;
+        told = ap (λ s. map (values_at operations x.coeffs (width_of e.1)) (natural_order operations generators n s)) (sym placed.standard) ∙ x.told.values ∙ placed.content;
+        values = x.values;
+      }
+
+  pub are_extended : (blowup : ℕ) (ts : List Trace) (es : List (CircleDomain Mersenne31 g × RowMajorMatrix Mersenne31)) (ms : List (RowMajorMatrix Mersenne31))
+      → AllZip (λ t e. ArePlaced t.rows.items e) ts es → AreExtensions operations generators blowup es ms → AllZip (λ t made. IsExtended blowup (lists t.rows.items) made) ts ms
+  are_extended blowup [] [] [] p x = tt
+  are_extended blowup [] [] (m ∷ ms) p x = absurd x
+  are_extended blowup [] (e ∷ es) ms p x = absurd p
+  are_extended blowup (t ∷ ts) [] ms p x = absurd p
+  are_extended blowup (t ∷ ts) (e ∷ es) [] p x = absurd x
+  are_extended blowup (t ∷ ts) (e ∷ es) (m ∷ ms) p x = (is_extended blowup t.rows.items e m p.0 x.0, are_extended blowup ts es ms p.1 x.1)
+
+  -- the heights of what is committed to are powers of two
+  pub extended_heights : (blowup : ℕ) (es : List (CircleDomain Mersenne31 g × RowMajorMatrix Mersenne31)) (ms : List (RowMajorMatrix Mersenne31)) → AreExtensions operations generators blowup es ms → HaveHeightsOfPowers ms
+  extended_heights blowup [] [] x = All-nil (λ m. IsPowerOfTwo (height_of m))
+  extended_heights blowup [] (m ∷ ms) x = absurd x
+  extended_heights blowup (e ∷ es) [] x = absurd x
+  extended_heights blowup (e ∷ es) (m ∷ ms) x = All-cons (λ m. IsPowerOfTwo (height_of m)) m ms (log_size e.0 + blowup, x.0.height) (extended_heights blowup es ms x.1)
+
+module _ (Commits : List (RowMajorMatrix Mersenne31) → List ℕ → Type 0) (blowup : ℕ) where
+  -- the matrices of committed batches were fitting
+  pub committed_fit : (bs : List (Vec Trace Global)) (cs : List Committed) → AllZip (λ b c. IsCommitted Commits blowup b.items c) bs cs → All (λ c. All HasFittingRows c.traces.now) cs
+  committed_fit [] [] p = All-nil (λ c. All HasFittingRows c.traces.now)
+  committed_fit [] (c ∷ cs) p = absurd p
+  committed_fit (b ∷ bs) [] p = absurd p
+  committed_fit (b ∷ bs) (c ∷ cs) p = All-cons (λ c. All HasFittingRows c.traces.now) c cs (subst (All HasFittingRows) (sym p.0.given) p.0.fitting) (committed_fit bs cs p.1)
+
+  -- the heights of requested matrices are powers of two
+  pub requested_powers : {D : Type 0} (kept : D → List (RowMajorMatrix Mersenne31)) (bs : List (Vec Trace Global)) (cs : List Committed) (rs : List (OpeningRequest D Cubic))
+      → AllZip (λ b c. IsCommitted Commits blowup b.items c) bs cs → AllZip (IsRequested kept) cs rs → All (λ r. HaveHeightsOfPowers (kept r.prover_data.now)) rs
+  requested_powers kept [] [] [] p q = All-nil (λ r. HaveHeightsOfPowers (kept r.prover_data.now))
+  requested_powers kept [] [] (r ∷ rs) p q = absurd q
+  requested_powers kept [] (c ∷ cs) rs p q = absurd p
+  requested_powers kept (b ∷ bs) [] rs p q = absurd p
+  requested_powers kept (b ∷ bs) (c ∷ cs) [] p q = absurd q
+  requested_powers kept (b ∷ bs) (c ∷ cs) (r ∷ rs) p q =
+      All-cons (λ r. HaveHeightsOfPowers (kept r.prover_data.now)) r rs (subst HaveHeightsOfPowers (sym q.0.matrices) p.0.powers) (requested_powers kept bs cs rs p.1 q.1)
+
+-- one more commitment was taken in
+pub commitment_more : (s t : List ℕ) (cs : List Committed) (i : ℕ) (c : Committed) → i < length cs → c ≡ get_or cs i c → t ≡ absorbed s c.commitment
+    → commitments_taken t (drop (i + 1) cs) ≡ commitments_taken s (drop i cs)
+commitment_more s t cs i c h at step = ap (λ u. commitments_taken u (drop (i + 1) cs)) step ∙ ap (λ (x : Committed). commitments_taken (absorbed s x.commitment) (drop (i + 1) cs)) at
+    ∙ sym (at_drop_more (commitments_taken s) cs i c h)
+
+-- all were
+pub commitments_all : (s : List ℕ) (cs : List Committed) (i : ℕ) → length cs ≤ i → s ≡ commitments_taken s (drop i cs)
+commitments_all s cs i h = ap (commitments_taken s) (sym (drop_all i cs h))

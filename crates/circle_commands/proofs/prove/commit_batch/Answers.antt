@@ -1,0 +1,18 @@
+use Rattle.std.proofs.Common.{refl}
+use Rattle.circle_commands.proofs.Proving.{are_extended, extended_heights, rows_for_points}
+use Rattle.circle_commands.proofs.prove.commit_batch.Goals as goal
+
+pub commit-requires : goal.commit-requires
+commit-requires c = rows_for_points c.args.traces.now c.in_ok-evaluations.field-0.items c.in_ok-evaluations.ensures
+
+pub returns : goal.returns
+returns c =
+    let blowup = c.args.scheme.now.fri_params.log_blowup in
+    let es = c.in_ok-evaluations.field-0.items in
+    record {
+      given = refl;
+      fitting = c.requires;
+      commitment = c.in_ok-commitment.ensures.commitment;
+      extended = are_extended blowup c.args.traces.now es _ c.in_ok-evaluations.ensures c.in_ok-commitment.ensures.matrices;
+      powers = extended_heights blowup es _ c.in_ok-commitment.ensures.matrices;
+    }

@@ -1,0 +1,12 @@
+pub mod Arguments
+pub mod Failure
+pub mod Input
+pub mod Json
+pub mod Parts
+pub mod Prove
+pub mod Proved
+pub mod Rows
+pub mod Shape
+pub mod Traces
+pub mod Verify
+pub mod Verified

@@ -1,0 +1,141 @@
+-- What the command `prove` answers.
+use Rattle.std.specs.Prelude.{◌≡◌, ℕ, ◌+◌, ◌^◌, List, [], ◌∷◌, length, map, replicate, All, Vec}
+use Rattle.std.specs.List.{AllZip}
+use Rattle.std.specs.declared.alloc.Global.{Global}
+use Rattle.circle_challenger.specs.Moves.{RunMoves}
+use Rattle.circle_challenger.specs.Sha256Challenger.{state_of}
+use Rattle.circle_challenger.specs.Sponge.{absorbed}
+use Rattle.circle_challenger.specs.declared.sha256.Sha256Challenger.{Sha256Challenger}
+use Rattle.circle_commit.specs.DotProduct.{pairwise}
+use Rattle.circle_commit.specs.Mmcs.{HaveHeightsOfPowers}
+use Rattle.circle_commit.specs.Pcs.{Openings}
+use Rattle.circle_commit.specs.RowMajorMatrix.{rows, height_of}
+use Rattle.circle_commit.specs.declared.matrix.RowMajorMatrix.{RowMajorMatrix}
+use Rattle.circle_commit.specs.declared.pcs.OpeningRequest.{OpeningRequest}
+use Rattle.circle_domain.specs.Domain.{log_size, shift_of}
+use Rattle.circle_domain.specs.Order.{natural_order, cfft_order}
+use Rattle.circle_domain.specs.Values.{values_at}
+use Rattle.circle_domain.specs.declared.domain.CircleDomain.{CircleDomain}
+use Rattle.circle_field.specs.Mersenne31.{operations, generators}
+use Rattle.circle_field.specs.declared.cubic.Cubic.{Cubic}
+use Rattle.circle_field.specs.declared.mersenne31.Mersenne31.{Mersenne31}
+use Rattle.circle_merkle.specs.ProverData.{matrices_of}
+use Rattle.circle_merkle.specs.declared.mmcs.ShaMmcs.{ShaMmcs}
+use Rattle.circle_opening.specs.Opening.{IsOpening}
+use Rattle.circle_opening.specs.Requests.{AreAnswers, lists_of, log_of}
+use Rattle.circle_relation.specs.Accepts.{Authenticates, Fields}
+use Rattle.circle_relation.specs.RunOf.{proof_of}
+use Rattle.circle_relation.specs.Statement.{BatchClaim, MatrixClaim}
+use Rattle.circle_words.specs.Words.{claim_of}
+use Rattle.circle_commands.specs.Parts.{Parts}
+use Rattle.circle_commands.specs.Rows.{lists}
+use Rattle.circle_commands.specs.Traces.{HasFittingRows}
+use Rattle.circle_commands.specs.Verified.{batches_told, over}
+use Rattle.circle_commands.specs.declared.prove.Committed.{Committed}
+use Rattle.circle_commands.specs.declared.prove.Input.{Input}
+use Rattle.circle_commands.specs.declared.prove.Trace.{Trace}
+use Rattle.circle_commands.specs.declared.verify.Input.{Input as Claims}
+
+-- rows with a standard domain of as many points
+pub record ArePlaced {g : _} (given : List (Vec Mersenne31 Global))
+    (e : CircleDomain Mersenne31 g × RowMajorMatrix Mersenne31) : Type 0 where
+  pub content : rows e.1 ≡ lists given
+  pub height : height_of e.1 ≡ 2 ^ log_size e.0
+  pub standard : shift_of e.0 ≡ generators (log_size e.0 + 1)
+
+-- the matrix has, at the points of the standard domain of 2^blowup times as many points in the
+-- transform's order, the values of the polynomials that have the given rows as values on the
+-- standard domain of as many points in natural order
+pub record IsExtended (blowup : ℕ) (given : List (List Mersenne31))
+    (made : RowMajorMatrix Mersenne31) : Type 0 where
+  pub log_n : ℕ
+  pub width : ℕ
+  pub coeffs : List (List Mersenne31)
+  pub height : length given ≡ 2 ^ log_n
+  pub widths : All (λ row. length row ≡ width) given
+  pub count : length coeffs ≡ 2 ^ log_n
+  pub told :
+      map (values_at operations coeffs width)
+      (natural_order operations generators log_n (generators (log_n + 1))) ≡ given
+  pub values :
+      rows made ≡ map (values_at operations coeffs width)
+      (cfft_order operations generators (log_n + blowup) (generators (log_n + blowup + 1)))
+
+-- the points of matrices
+abbrev pub points_of : List Trace → List (List Cubic)
+points_of traces = map (λ t. t.points.items) traces
+
+-- the challenger's state after the commitments were taken in, in order
+abbrev pub commitments_taken : List ℕ → List Committed → List ℕ
+commitments_taken s [] = s
+commitments_taken s (c ∷ cs) = commitments_taken (absorbed s c.commitment) cs
+
+-- the claims that matrices have these values at their points
+abbrev pub matrix_claimed : Trace → List (List Cubic) → MatrixClaim Cubic
+matrix_claimed t values = record {
+  log_n = log_of (length t.rows.items);
+  claims = pairwise claim_of t.points.items values;
+}
+
+abbrev pub batch_claimed : Committed → List (List (List Cubic)) → BatchClaim (List ℕ) Cubic
+batch_claimed c values = record {
+  commitment = c.commitment;
+  matrices = pairwise matrix_claimed c.traces.now values;
+}
+
+-- a batch is committed to: under its commitment are the extensions of its matrices
+pub record IsCommitted (Commits : List (RowMajorMatrix Mersenne31) → List ℕ → Type 0) (blowup : ℕ)
+    (traces : List Trace) (c : Committed) : Type 0 where
+  pub given : c.traces.now ≡ traces
+  pub fitting : All HasFittingRows traces
+  pub commitment : Commits (matrices_of c.kept) c.commitment
+  pub extended :
+      AllZip (λ t made. IsExtended blowup (lists t.rows.items) made) traces (matrices_of c.kept)
+  pub powers : HaveHeightsOfPowers (matrices_of c.kept)
+
+-- each batch is committed to
+abbrev pub AreCommitted : (List (RowMajorMatrix Mersenne31) → List ℕ → Type 0) → ℕ →
+    List (Vec Trace Global) → List Committed → Type 0
+AreCommitted Commits blowup batches committed =
+    AllZip (λ b c. IsCommitted Commits blowup b.items c) batches committed
+
+-- a batch's matrices are requested at their points
+pub record IsRequested {D : Type 0} (kept : D → List (RowMajorMatrix Mersenne31)) (c : Committed)
+    (r : OpeningRequest D Cubic) : Type 0 where
+  pub matrices : kept r.prover_data.now ≡ matrices_of c.kept
+  pub points : lists_of r.points.items ≡ points_of c.traces.now
+
+module _ {D : Type 0} (k : Fields Mersenne31 Cubic)
+    (r : RunMoves Sha256Challenger (List ℕ) Mersenne31 Cubic (List ℕ))
+    (kept : D → List (RowMajorMatrix Mersenne31))
+    (Commits : ShaMmcs Mersenne31 → List (RowMajorMatrix Mersenne31) → List ℕ → Type 0)
+    (inputs : ShaMmcs Mersenne31 → Authenticates (List ℕ) Mersenne31 (Vec (List ℕ) Global))
+    (WordCommits : ShaMmcs Cubic → List (RowMajorMatrix Cubic) → List ℕ → Type 0)
+    (words : ShaMmcs Cubic → Authenticates (List ℕ) Cubic (Vec (List ℕ) Global)) where
+  -- the batches are committed to, and opened from the challenger that took in nothing but the
+  -- commitments; the claims tell the commitments, the points and the values, and the proof is
+  -- theirs
+  pub record IsProved (input : Input) (output : Claims) : Type 0 where
+    pub mmcs : ShaMmcs Mersenne31
+    pub scheme : ShaMmcs Cubic
+    pub committed : List Committed
+    pub requests : List (OpeningRequest D Cubic)
+    pub values : Openings Cubic
+    pub start : Sha256Challenger
+    pub left : Sha256Challenger
+    pub batches :
+        AreCommitted (Commits mmcs) input.params.log_blowup input.batches.items committed
+    pub asked : AllZip (IsRequested kept) committed requests
+    pub taken : state_of start ≡ commitments_taken (replicate 32 0) committed
+    pub answered : AllZip (AreAnswers kept k input.params.log_blowup) requests values
+    pub opened :
+        IsOpening (over input.params scheme) kept requests values k r (proof_of output.proof)
+        (Commits mmcs) (inputs mmcs) (WordCommits scheme) (words scheme) (state_of start)
+        (state_of left)
+    pub claims : batches_told output.batches.items ≡ pairwise batch_claimed committed values
+    pub params : output.params ≡ input.params
+
+-- the same of the program's parts
+abbrev pub IsProvedBy : {D : Type 0} → Parts D → Input → Claims → Type 0
+IsProvedBy p input output = IsProved p.fields p.run p.kept p.Commits p.inputs p.WordCommits p.words
+    input output

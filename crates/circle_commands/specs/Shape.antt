@@ -1,0 +1,35 @@
+-- What the command `shape` is given, and the shape that it is.
+use Rattle.std.specs.Prelude.{◌<◌, ◌+◌, ◌-◌, codes}
+use Rattle.circle_commit.specs.Json.{parameters_form}
+use Rattle.circle_json.specs.Form.{count_form, list_form}
+use Rattle.circle_json.specs.Objects.{Fields, field, none_left}
+use Rattle.circle_transcript.specs.declared.shape.CirclePcsShape.{CirclePcsShape}
+use Rattle.circle_commands.specs.declared.shape.Input.{Input}
+
+-- the greatest height's logarithm, the claims' numbers of columns and the parameters
+abbrev pub input_fields : Fields Input
+input_fields =
+    field (codes "log_max_height") (λ i. i.log_max_height) count_form
+    (field (codes "opened_widths") (λ i. i.opened_widths)
+    (list_form (list_form (list_form count_form)))
+    (field (codes "params") (λ i. i.params) parameters_form
+    none_left))
+
+-- the greatest height is past the blowup and the final polynomial
+abbrev pub HasRoom : Input → Type 0
+HasRoom i = i.params.log_blowup + i.params.log_final_poly_len < i.log_max_height
+
+-- the shape of a run with the input's numbers, and one bit of an index besides those that fold
+abbrev pub shape_of_input : Input → CirclePcsShape
+shape_of_input i = record {
+  opened_widths = i.opened_widths;
+  num_commit_rounds =
+      i.log_max_height - 1 - i.params.log_blowup - i.params.log_final_poly_len;
+  batch_pow_bits = i.params.batch_proof_of_work_bits;
+  commit_pow_bits = i.params.commit_proof_of_work_bits;
+  query_pow_bits = i.params.query_proof_of_work_bits;
+  num_queries = i.params.num_queries;
+  index_bits = i.log_max_height - 1 + 1;
+  log_blowup = i.params.log_blowup;
+  log_final_poly_len = i.params.log_final_poly_len;
+}

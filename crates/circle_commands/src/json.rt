@@ -1,0 +1,60 @@
+//! Reading JSON, and writing it as a line.
+ghost use Rattle.std.specs.Prelude.{MatchResult};
+ghost use Rattle.serde_json.specs.View.{view, items_view};
+ghost use Rattle.circle_commands.specs.Json.{HasItems, IsMissing, IsNoArray};
+ghost use Rattle.circle_commands.specs.Json.{IsNoPair, IsPair, IsPart};
+
+use crate::failure::Failure;
+use circle_commit::{JsonError, JsonForm};
+use circle_field::Mersenne31;
+use serde_json::Value;
+use std::alloc::{AllocError, Global};
+use std::io::Read;
+
+/// Reads `input` to its end as one JSON value.
+///
+/// Fails as `Input` where reading fails, as `Json` where the bytes aren't JSON, and as `Memory`.
+pub fn read<R: Read>(alloc: Global, input: &mut R) -> Result<Value, Failure> {
+    let mut bytes = Vec::new(alloc);
+    input.read_to_end(&mut bytes)?;
+    Ok(Value::from_slice(alloc, &bytes)?)
+}
+
+/// The compact text of a value, as a line.
+pub fn line(alloc: Global, value: &Value) -> Result<String, AllocError> {
+    let mut text = value.to_string(alloc)?;
+    text.push('\n')?;
+    Ok(text)
+}
+
+/// The member of an object with the key `key`.
+///
+/// Fails as `MissingKey` where there is none.
+pub fn part<'a>(object: &'a Value, key: &str) -> Result<&'a Value, JsonError>
+    ensures { MatchResult result (λ part. IsPart key.now (view object.now) (view part.now))
+        (IsMissing key.now (view object.now)) }
+{
+    object.get(key).ok_or(JsonError::MissingKey)
+}
+
+// The items of an array.
+fn items(value: &Value) -> Result<&[Value], JsonError>
+    ensures { MatchResult result (λ items. HasItems (view value.now) (items_view items.now))
+        (IsNoArray (view value.now)) }
+{
+    Ok(value.as_array().ok_or(JsonError::WrongKind)?.as_slice())
+}
+
+/// A pair of elements.
+///
+/// Fails as `WrongKind` where the value is no array of two, and as an element does.
+pub fn pair(alloc: Global, value: &Value) -> Result<(Mersenne31, Mersenne31), JsonError>
+    ensures { MatchResult result (IsPair (view value.now)) (IsNoPair (view value.now)) }
+{
+    let [first, second] = items(value)? else {
+        return Err(JsonError::WrongKind);
+    };
+    let first = Mersenne31::from_json(alloc, first)?;
+    let second = Mersenne31::from_json(alloc, second)?;
+    Ok((first, second))
+}

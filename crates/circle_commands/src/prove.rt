@@ -1,0 +1,421 @@
+//! The command `prove`: the values that polynomials have at points, and a proof of them.
+
+ghost use Rattle.std.specs.Prelude.{◌≡◌, ◌⊎◌, ◌++◌, ◌∷◌, [], All, IfOk, OnOk, MatchResult, map};
+ghost use Rattle.std.specs.List.{AllZip};
+ghost use Rattle.circle_challenger.specs.Sha256Challenger.{state_of};
+ghost use Rattle.circle_commit.specs.DotProduct.{pairwise};
+ghost use Rattle.circle_commit.specs.Mmcs.{opened_rows};
+ghost use Rattle.circle_commit.specs.Pcs.{openings};
+ghost use Rattle.circle_json.specs.ObjectForm.{object_form};
+ghost use Rattle.circle_opening.specs.Requests.{lists_of};
+ghost use Rattle.circle_opening.specs.declared.error.ProverError.TheVariants.{Memory};
+ghost use Rattle.circle_relation.specs.StatementOf.{point_claim};
+ghost use Rattle.circle_words.specs.Words.{claim_of};
+ghost use Rattle.circle_commands.specs.Prove.{input_fields, trace_fields};
+ghost use Rattle.circle_commands.specs.Proved.{AreCommitted, ArePlaced, IsCommitted, IsProvedBy};
+ghost use Rattle.circle_commands.specs.Proved.{IsRequested, batch_claimed, commitments_taken};
+ghost use Rattle.circle_commands.specs.Proved.{matrix_claimed, points_of};
+ghost use Rattle.circle_commands.specs.Traces.{AreFitting, AreFittingRows, HasFittingRows};
+ghost use Rattle.circle_commands.specs.Traces.{IsRefusalOfBatch, IsRefusalOfBatches};
+ghost use Rattle.circle_commands.specs.Traces.{IsRefusalOfRows};
+ghost use Rattle.circle_commands.specs.Verified.{batches_told, matrices_told};
+ghost use Rattle.circle_commands.specs.declared.prove.Refusal.TheVariants.{Prover};
+
+use crate::failure::Failure;
+use crate::values::{is_rectangular, matrix};
+use crate::verify::{Batches, Claim, HasParts, Words, over_words};
+use crate::{json, verify};
+use circle_challenger::{CanObserve, Sha256Challenger};
+use circle_commit::{
+    CommitmentOpening, FriParameters, JsonError, JsonForm, MatrixOpening, Mmcs, OpeningRequest,
+    PointOpening, RowMajorMatrix, is_power_of_two, log2_strict,
+};
+use circle_field::{Cubic, Mersenne31};
+use circle_json::{has_keys, member};
+use p3_circle::{CircleDomain, CirclePcs, ProverError};
+use serde_json::{Value, json};
+use std::alloc::{AllocError, Global};
+
+/// The least number of rows of a matrix.
+const MIN_HEIGHT: usize = 4;
+
+/// The greatest number of rows of a matrix.
+const MAX_HEIGHT: usize = 1 << 24;
+
+/// The scheme that commits to batches and opens them.
+type Scheme = CirclePcs<Mersenne31, Batches, Words>;
+
+/// What is kept of a batch that is committed to.
+type Kept = <Batches as Mmcs<Mersenne31>>::ProverData;
+
+/// A batch that is committed to.
+#[derive(Drop)]
+pub(crate) struct Committed<'a> {
+    /// The commitment.
+    commitment: [u8; 32],
+    /// What is kept of it.
+    kept: Kept,
+    /// The matrices as they were given.
+    traces: &'a [Trace],
+}
+
+/// A matrix, and where the polynomials are opened that have its columns as values.
+#[derive(Drop)]
+pub struct Trace {
+    /// The points, each by one coordinate.
+    pub points: Vec<Cubic>,
+    /// The rows, one for each point of a standard domain in natural order.
+    pub rows: Vec<Vec<Mersenne31>>,
+}
+
+/// An object of the `points` and the `rows`.
+impl JsonForm for Trace {
+    ghost form = { object_form (trace_fields ⟦<Vec<Cubic> as JsonForm>⟧.form
+        ⟦<Vec<Vec<Mersenne31>> as JsonForm>⟧.form) };
+
+    fn to_json(&self, alloc: Global) -> Result<Value, AllocError> {
+        json!(in alloc; {
+            "points": self.points.to_json(alloc)?,
+            "rows": self.rows.to_json(alloc)?
+        })
+    }
+
+    fn from_json(alloc: Global, value: &Value) -> Result<Self, JsonError> {
+        has_keys(value, &["points", "rows"])?;
+        Ok(Trace {
+            points: member(alloc, value, "points")?,
+            rows: member(alloc, value, "rows")?,
+        })
+    }
+}
+
+/// What the command is given.
+#[derive(Drop)]
+pub struct Input {
+    /// The matrices, batch by batch.
+    pub batches: Vec<Vec<Trace>>,
+    /// The parameters of the run.
+    pub params: FriParameters<()>,
+}
+
+/// An object of the `batches` and the `params`.
+impl JsonForm for Input {
+    ghost form = { object_form (input_fields ⟦<Vec<Vec<Trace>> as JsonForm>⟧.form
+        ⟦<FriParameters<()> as JsonForm>⟧.form) };
+
+    fn to_json(&self, alloc: Global) -> Result<Value, AllocError> {
+        json!(in alloc; {
+            "batches": self.batches.to_json(alloc)?,
+            "params": self.params.to_json(alloc)?
+        })
+    }
+
+    fn from_json(alloc: Global, value: &Value) -> Result<Self, JsonError> {
+        has_keys(value, &["batches", "params"])?;
+        Ok(Input {
+            batches: member(alloc, value, "batches")?,
+            params: member(alloc, value, "params")?,
+        })
+    }
+}
+
+/// Why the command refuses its input.
+#[derive(Clone, Copy, Debug, Drop, PartialEq, Eq)]
+pub enum Refusal {
+    /// Rows of a matrix differ in length, or one is empty.
+    RaggedRows,
+    /// The number of rows of a matrix isn't a power of two.
+    HeightNotPowerOfTwo,
+    /// The scheme refuses to commit or to open, or would for the number of a matrix's rows.
+    Prover(ProverError),
+}
+
+impl Refusal {
+    /// The refusal's name.
+    pub(crate) fn name(self) -> &'static str {
+        match self {
+            Refusal::RaggedRows => "RaggedRows",
+            Refusal::HeightNotPowerOfTwo => "HeightNotPowerOfTwo",
+            Refusal::Prover(error) => name(error),
+        }
+    }
+}
+
+// The name of a prover's refusal.
+fn name(error: ProverError) -> &'static str {
+    match error {
+        ProverError::Memory => "Memory",
+        ProverError::NoGrindingWitness { .. } => "NoGrindingWitness",
+        ProverError::UnfitParameters => "UnfitParameters",
+        ProverError::HeightTooLarge => "HeightTooLarge",
+        ProverError::HeightTooSmall => "HeightTooSmall",
+        ProverError::NotGenuine => "NotGenuine",
+        ProverError::MatrixCountMismatch => "MatrixCountMismatch",
+        ProverError::NoCommittedMatrices => "NoCommittedMatrices",
+        ProverError::PointAtInfinity => "PointAtInfinity",
+        ProverError::PointOnDomain => "PointOnDomain",
+        ProverError::LastWordNotConstant => "LastWordNotConstant",
+        ProverError::DomainSmallerThanTrace => "DomainSmallerThanTrace",
+    }
+}
+
+impl From<ProverError> for Refusal {
+    ghost from_gives = { λ error refusal. refusal ≡ Prover error };
+
+    fn from(error: ProverError) -> Refusal {
+        Refusal::Prover(error)
+    }
+}
+
+impl From<AllocError> for Refusal {
+    ghost from_gives = { λ _ refusal. refusal ≡ Prover Memory };
+
+    fn from(_refused: AllocError) -> Refusal {
+        Refusal::Prover(ProverError::Memory)
+    }
+}
+
+/// The line that answers `value`: claims, parameters and a proof, as [`verify::Input`] reads them.
+///
+/// Fails as [`Input`] is read and then as [`prove`] does.
+pub(crate) fn answer(alloc: Global, value: &Value) -> Result<String, Failure> {
+    let proved = prove(alloc, Input::from_json(alloc, value)?)?;
+    Ok(json::line(alloc, &proved.to_json(alloc)?)?)
+}
+
+/// Commits to the batches, each matrix on the standard domain of as many points as it has rows, and
+/// opens them from the challenger that took in nothing but the commitments, in order.
+///
+/// Before anything is committed to, refuses by the first of these, matrix after matrix:
+/// `RaggedRows` where rows differ in length or one is empty, `HeightNotPowerOfTwo`,
+/// `HeightTooLarge` above `2^24` rows, and `HeightTooSmall` below four. Then fails as
+/// [`CirclePcs::commit`] does of the first batch that it refuses, and then as
+/// [`CirclePcs::open`] does.
+pub fn prove(alloc: Global, input: Input) -> Result<verify::Input, Refusal>
+    ensures rows { MatchResult result (λ _. AreFitting input.batches.items)
+        (λ e. IsRefusalOfBatches input.batches.items e ⊎ AreFitting input.batches.items) }
+    ensures proof { IfOk result (IsProvedBy ⟦<Batches as HasParts>⟧.parts input) }
+{
+    let Input { batches, params } = input;
+    validate_batches(&batches)?;
+    let scheme = CirclePcs::new(Batches::new(), over_words(&params));
+    let committed = commit_batches(alloc, &scheme, &batches)?;
+    let mut challenger = Sha256Challenger::new();
+    observe_commitments(&mut challenger, &committed);
+    let requests = requests(alloc, &committed)?;
+    let (values, proof) = scheme.open(alloc, requests, &mut challenger)?;
+    Ok(verify::Input {
+        batches: claims(alloc, &committed, &values)?,
+        params,
+        proof,
+    })
+}
+
+// Refuses the rows of the matrices, by the first reason.
+fn validate_batches(batches: &[Vec<Trace>]) -> Result<(), Refusal>
+    ensures { MatchResult result (λ _. AreFitting batches.now) (IsRefusalOfBatches batches.now) }
+{
+    for batch in batches {
+        validate_batch(batch)?;
+    }
+    Ok(())
+}
+
+// Refuses the rows of a batch's matrices, by the first reason.
+fn validate_batch(batch: &[Trace]) -> Result<(), Refusal>
+    ensures { MatchResult result (λ _. All HasFittingRows batch.now) (IsRefusalOfBatch batch.now) }
+{
+    for trace in batch {
+        validate_rows(&trace.rows)?;
+    }
+    Ok(())
+}
+
+// Refuses the rows of a matrix, by the first reason.
+fn validate_rows(rows: &[Vec<Mersenne31>]) -> Result<(), Refusal>
+    ensures { MatchResult result (λ _. AreFittingRows rows.now) (IsRefusalOfRows rows.now) }
+{
+    if !is_rectangular(rows) {
+        return Err(Refusal::RaggedRows);
+    }
+    if !is_power_of_two(rows.len()) {
+        return Err(Refusal::HeightNotPowerOfTwo);
+    }
+    if rows.len() > MAX_HEIGHT {
+        return Err(Refusal::Prover(ProverError::HeightTooLarge));
+    }
+    if rows.len() < MIN_HEIGHT {
+        return Err(Refusal::Prover(ProverError::HeightTooSmall));
+    }
+    Ok(())
+}
+
+// Commits to each batch.
+fn commit_batches<'a>(
+    alloc: Global,
+    scheme: &Scheme,
+    batches: &'a [Vec<Trace>],
+) -> Result<Vec<Committed<'a>>, ProverError>
+    requires { AreFitting batches.now }
+    ensures { IfOk result (λ v. AreCommitted (⟦<Batches as Mmcs<Mersenne31>>⟧.commits
+        scheme.now.mmcs) scheme.now.fri_params.log_blowup batches.now v.items) }
+{
+    let mut committed = Vec::with_capacity(alloc, batches.len())?;
+    for batch in batches {
+        push_batch(&mut committed, commit_batch(alloc, scheme, batch)?)?;
+    }
+    Ok(committed)
+}
+
+// Adds a batch.
+fn push_batch<'a>(
+    committed: &mut Vec<Committed<'a>>,
+    batch: Committed<'a>,
+) -> Result<(), AllocError>
+    ensures { OnOk result (committed.new.items ≡ committed.old.items ++ batch.entry ∷ []) }
+{
+    committed.push(batch)?;
+    Ok(())
+}
+
+// Commits to a batch.
+fn commit_batch<'a>(
+    alloc: Global,
+    scheme: &Scheme,
+    traces: &'a [Trace],
+) -> Result<Committed<'a>, ProverError>
+    requires { All HasFittingRows traces.now }
+    ensures { IfOk result (IsCommitted (⟦<Batches as Mmcs<Mersenne31>>⟧.commits scheme.now.mmcs)
+        scheme.now.fri_params.log_blowup traces.now) }
+{
+    let (commitment, kept) = scheme.commit(alloc, evaluations(alloc, traces)?)?;
+    Ok(Committed {
+        commitment,
+        kept,
+        traces,
+    })
+}
+
+// The matrices of a batch, each with its domain.
+fn evaluations(
+    alloc: Global,
+    traces: &[Trace],
+) -> Result<Vec<(CircleDomain<Mersenne31>, RowMajorMatrix<Mersenne31>)>, AllocError>
+    requires { All HasFittingRows traces.now }
+    ensures { IfOk result (λ v. AllZip (λ t e. ArePlaced t.rows.items e) traces.now v.items) }
+{
+    let mut evaluations = Vec::with_capacity(alloc, traces.len())?;
+    for trace in traces {
+        evaluations.push(evaluation(alloc, &trace.rows)?)?;
+    }
+    Ok(evaluations)
+}
+
+// The matrix of these rows with the standard domain of as many points.
+fn evaluation(
+    alloc: Global,
+    rows: &[Vec<Mersenne31>],
+) -> Result<(CircleDomain<Mersenne31>, RowMajorMatrix<Mersenne31>), AllocError>
+    requires { AreFittingRows rows.now }
+    ensures { IfOk result (ArePlaced rows.now) }
+{
+    let domain = CircleDomain::standard(log2_strict(rows.len()));
+    Ok((domain, matrix(alloc, rows)?))
+}
+
+// Takes in the commitments, in order.
+fn observe_commitments(challenger: &mut Sha256Challenger, committed: &[Committed])
+    ensures { state_of challenger.new ≡ commitments_taken (state_of challenger.old) committed.now }
+{
+    for batch in committed {
+        challenger.observe(&batch.commitment);
+    }
+}
+
+// What is to be opened, batch by batch.
+fn requests<'a>(
+    alloc: Global,
+    committed: &'a [Committed<'a>],
+) -> Result<Vec<OpeningRequest<'a, Kept, Cubic>>, AllocError>
+    ensures { IfOk result (λ v. AllZip (IsRequested ⟦<Batches as Mmcs<Mersenne31>>⟧.matrices)
+        committed.now v.items) }
+{
+    let mut requests = Vec::with_capacity(alloc, committed.len())?;
+    for batch in committed {
+        requests.push(OpeningRequest {
+            prover_data: &batch.kept,
+            points: points(alloc, batch.traces)?,
+        })?;
+    }
+    Ok(requests)
+}
+
+// The points of a batch's matrices.
+fn points(alloc: Global, traces: &[Trace]) -> Result<Vec<Vec<Cubic>>, AllocError>
+    ensures { IfOk result (λ v. lists_of v.items ≡ points_of traces.now) }
+{
+    let mut points = Vec::with_capacity(alloc, traces.len())?;
+    for trace in traces {
+        points.push(Vec::from_slice(alloc, &trace.points)?)?;
+    }
+    Ok(points)
+}
+
+// The claims that the committed batches have these values.
+fn claims(
+    alloc: Global,
+    committed: &[Committed],
+    values: &[Vec<Vec<Vec<Cubic>>>],
+) -> Result<Vec<Claim<usize>>, AllocError>
+    requires { All (λ c. All HasFittingRows c.traces.now) committed.now }
+    ensures { IfOk result (λ v. batches_told v.items
+        ≡ pairwise batch_claimed committed.now (openings values.now)) }
+{
+    let mut claims = Vec::with_capacity(alloc, committed.len())?;
+    for (batch, values) in committed.iter().zip(values) {
+        claims.push(CommitmentOpening {
+            commitment: batch.commitment,
+            matrices: matrix_claims(alloc, batch.traces, values)?,
+        })?;
+    }
+    Ok(claims)
+}
+
+// The claims that the matrices of a batch have these values.
+fn matrix_claims(
+    alloc: Global,
+    traces: &[Trace],
+    values: &[Vec<Vec<Cubic>>],
+) -> Result<Vec<MatrixOpening<Cubic, usize>>, AllocError>
+    requires { All HasFittingRows traces.now }
+    ensures { IfOk result (λ v. matrices_told v.items
+        ≡ pairwise matrix_claimed traces.now (opened_rows values.now)) }
+{
+    let mut claims = Vec::with_capacity(alloc, traces.len())?;
+    for (trace, values) in traces.iter().zip(values) {
+        claims.push(MatrixOpening {
+            domain: log2_strict(trace.rows.len()),
+            points: point_claims(alloc, &trace.points, values)?,
+        })?;
+    }
+    Ok(claims)
+}
+
+// The claims of these values at points.
+fn point_claims(
+    alloc: Global,
+    points: &[Cubic],
+    values: &[Vec<Cubic>],
+) -> Result<Vec<PointOpening<Cubic>>, AllocError>
+    ensures { IfOk result (λ v. map point_claim v.items
+        ≡ pairwise claim_of points.now (lists_of values.now)) }
+{
+    let mut claims = Vec::with_capacity(alloc, points.len())?;
+    for (point, values) in points.iter().zip(values) {
+        claims.push(PointOpening {
+            point: *point,
+            values: Vec::from_slice(alloc, values)?,
+        })?;
+    }
+    Ok(claims)
+}

@@ -1,0 +1,218 @@
+//! The command `verify`: whether a proof shows that committed polynomials have the claimed values.
+
+ghost use Rattle.std.specs.Prelude.{◌≡◌, IfOk, OnOk};
+ghost use Rattle.circle_json.specs.ObjectForm.{object_form};
+ghost use Rattle.circle_challenger.specs.Sha256Challenger.{state_of};
+ghost use Rattle.circle_relation.specs.StatementOf.{batch_claim, batch_claims};
+ghost use Rattle.circle_commands.specs.Parts.{Parts};
+ghost use Rattle.circle_commands.specs.Verified.{IsVerifiedBy, batch_told, batches_told};
+ghost use Rattle.circle_commands.specs.Verified.{over, taken_in};
+ghost use Rattle.circle_commands.specs.Verify.{input_fields};
+
+use crate::failure::Failure;
+use crate::json;
+use circle_challenger::{CanObserve, RunChallenger, Sha256Challenger};
+use circle_commit::{
+    CommitmentOpening, FriError, FriParameters, JsonError, JsonForm, MatrixOpening, Mmcs,
+};
+use circle_field::{ComplexExtendable, Cubic, Mersenne31};
+use circle_json::{has_keys, member};
+use circle_merkle::{MerkleTreeError, ShaMmcs};
+use circle_relation::OverCircle;
+use p3_circle::{CircleDomain, CirclePcs, CirclePcsProof, InputError, Neutral, Point};
+use serde_json::{Value, json};
+use std::alloc::{AllocError, Global};
+
+/// The scheme that commits to the batches.
+pub type Batches = ShaMmcs<Mersenne31>;
+
+/// The scheme that commits to the words made of them.
+pub type Words = ShaMmcs<Cubic>;
+
+/// The claims about one batch, whose domains are told by `Domain`.
+pub type Claim<Domain> = CommitmentOpening<Cubic, [u8; 32], Domain>;
+
+/// The proofs over these schemes.
+type Proof = CirclePcsProof<Mersenne31, Cubic, Batches, Words, Mersenne31>;
+
+/// Why claims or a proof are refused.
+pub type Refusal = FriError<MerkleTreeError, InputError<MerkleTreeError, MerkleTreeError>>;
+
+/// What is known to contracts of the program's fields, schemes and challenger.
+///
+/// The scheme of the batches has it, so no function asks for it: a clause cites
+/// `⟦<Batches as HasParts>⟧.parts`.
+pub trait HasParts: Mmcs<Mersenne31> {
+    ghost parts: { Parts Self.ProverData };
+}
+
+impl HasParts for ShaMmcs<Mersenne31> {
+    ghost parts = { record {
+      fields = ⟦<Cubic as OverCircle<Mersenne31>>⟧.fields;
+      run = ⟦<Sha256Challenger as RunChallenger<Mersenne31, Cubic, [u8; 32]>>⟧.run;
+      kept = ⟦<Batches as Mmcs<Mersenne31>>⟧.matrices;
+      Commits = ⟦<Batches as Mmcs<Mersenne31>>⟧.commits;
+      inputs = ⟦<Batches as Mmcs<Mersenne31>>⟧.authenticates;
+      WordCommits = ⟦<Words as Mmcs<Cubic>>⟧.commits;
+      words = ⟦<Words as Mmcs<Cubic>>⟧.authenticates;
+      two_adicity = ⟦<Mersenne31 as ComplexExtendable>⟧.CIRCLE_TWO_ADICITY;
+    } };
+}
+
+/// What the command is given.
+#[derive(Drop)]
+pub struct Input {
+    /// The claims about each batch; of the domains the binary logarithms of their sizes.
+    pub batches: Vec<Claim<usize>>,
+    /// The parameters of the run.
+    pub params: FriParameters<()>,
+    /// The proof.
+    pub proof: Proof,
+}
+
+/// An object of the `batches`, the `params` and the `proof`.
+impl JsonForm for Input {
+    ghost form = { object_form (input_fields (λ i. i.proof)
+        ⟦<Vec<Claim<usize>> as JsonForm>⟧.form ⟦<FriParameters<()> as JsonForm>⟧.form
+        ⟦<Proof as JsonForm>⟧.form) };
+
+    fn to_json(&self, alloc: Global) -> Result<Value, AllocError> {
+        json!(in alloc; {
+            "batches": self.batches.to_json(alloc)?,
+            "params": self.params.to_json(alloc)?,
+            "proof": self.proof.to_json(alloc)?
+        })
+    }
+
+    fn from_json(alloc: Global, value: &Value) -> Result<Self, JsonError> {
+        has_keys(value, &["batches", "params", "proof"])?;
+        Ok(Input {
+            batches: member(alloc, value, "batches")?,
+            params: member(alloc, value, "params")?,
+            proof: member(alloc, value, "proof")?,
+        })
+    }
+}
+
+/// The line that answers `value`: `{"verified":true}`.
+///
+/// Fails as [`Input`] is read and then as [`verify`] does.
+pub(crate) fn answer(alloc: Global, value: &Value) -> Result<String, Failure> {
+    verify(alloc, Input::from_json(alloc, value)?)?;
+    Ok(json::line(alloc, &json!(in alloc; {"verified": true})?)?)
+}
+
+/// Verifies the input's proof of its claims, from the challenger that took in nothing but the
+/// commitments, in order.
+///
+/// Fails as [`CirclePcs::verify`] does.
+pub fn verify(alloc: Global, input: Input) -> Result<(), Refusal>
+    ensures { OnOk result (IsVerifiedBy ⟦<Batches as HasParts>⟧.parts input) }
+{
+    let Input {
+        batches,
+        params,
+        proof,
+    } = input;
+    let mut challenger = Sha256Challenger::new();
+    observe_commitments(&mut challenger, &batches);
+    let scheme = CirclePcs::new(Batches::new(), over_words(&params));
+    scheme.verify(alloc, placed(alloc, batches)?, &proof, &mut challenger)
+}
+
+// Takes in the commitments, in order.
+fn observe_commitments(challenger: &mut Sha256Challenger, batches: &[Claim<usize>])
+    ensures { state_of challenger.new ≡ taken_in (state_of challenger.old) batches.now }
+{
+    for batch in batches {
+        challenger.observe(&batch.commitment);
+    }
+}
+
+/// The parameters with the scheme that commits to the words.
+pub(crate) fn over_words(params: &FriParameters<()>) -> FriParameters<Words>
+    ensures { result ≡ over params.now result.mmcs }
+{
+    FriParameters {
+        log_blowup: params.log_blowup,
+        log_final_poly_len: params.log_final_poly_len,
+        max_log_arity: params.max_log_arity,
+        num_queries: params.num_queries,
+        batch_proof_of_work_bits: params.batch_proof_of_work_bits,
+        commit_proof_of_work_bits: params.commit_proof_of_work_bits,
+        query_proof_of_work_bits: params.query_proof_of_work_bits,
+        mmcs: Words::new(),
+    }
+}
+
+// The claims about domains of these sizes; only their sizes count.
+fn placed(
+    alloc: Global,
+    batches: Vec<Claim<usize>>,
+) -> Result<Vec<Claim<CircleDomain<Mersenne31>>>, AllocError>
+    ensures { IfOk result (λ claims. batch_claims claims.items ≡ batches_told batches.items) }
+{
+    let mut claims = Vec::with_capacity(alloc, batches.len())?;
+    for batch in batches {
+        claims.push(placed_batch(alloc, batch)?)?;
+    }
+    Ok(claims)
+}
+
+// The claims about one batch.
+fn placed_batch(
+    alloc: Global,
+    batch: Claim<usize>,
+) -> Result<Claim<CircleDomain<Mersenne31>>, AllocError>
+    ensures { IfOk result (λ claim. batch_claim claim ≡ batch_told batch) }
+{
+    let mut matrices = Vec::with_capacity(alloc, batch.matrices.len())?;
+    for matrix in batch.matrices {
+        matrices.push(MatrixOpening {
+            domain: CircleDomain::new(matrix.domain, Point::ZERO),
+            points: matrix.points,
+        })?;
+    }
+    Ok(CommitmentOpening {
+        commitment: batch.commitment,
+        matrices,
+    })
+}
+
+/// The name of a refusal, the inner one where the input is refused.
+pub(crate) fn name(refusal: &Refusal) -> &'static str {
+    match refusal {
+        FriError::NoCommittedMatrices => "NoCommittedMatrices",
+        FriError::InputError(inner) => inner_name(inner),
+        FriError::GlobalMaxHeightTooLarge { .. } => "GlobalMaxHeightTooLarge",
+        FriError::UnsupportedGrinding { .. } => "UnsupportedGrinding",
+        FriError::ZeroQueries => "ZeroQueries",
+        FriError::ZeroBlowup => "ZeroBlowup",
+        FriError::UnsupportedFoldingCap { .. } => "UnsupportedFoldingCap",
+        FriError::CommitRoundCountMismatch { .. } => "CommitRoundCountMismatch",
+        FriError::CommitPowWitnessCountMismatch { .. } => "CommitPowWitnessCountMismatch",
+        FriError::NonCanonicalPowWitness { .. } => "NonCanonicalPowWitness",
+        FriError::CommitPhaseOpeningsCountMismatch { .. } => "CommitPhaseOpeningsCountMismatch",
+        FriError::CommitPhaseQueryCountMismatch { .. } => "CommitPhaseQueryCountMismatch",
+        FriError::SiblingValuesLengthMismatch { .. } => "SiblingValuesLengthMismatch",
+        FriError::FinalPolyLengthMismatch { .. } => "FinalPolyLengthMismatch",
+        FriError::PointAtInfinity => "PointAtInfinity",
+        FriError::InvalidPowWitness(_) => "InvalidPowWitness",
+        FriError::FinalPolyMismatch => "FinalPolyMismatch",
+        FriError::UnconsumedReducedOpenings { .. } => "UnconsumedReducedOpenings",
+        FriError::CommitPhaseMmcsError(_) => "CommitPhaseMmcsError",
+        FriError::Memory => "Memory",
+    }
+}
+
+// The name of a refusal of the input.
+fn inner_name(refusal: &InputError<MerkleTreeError, MerkleTreeError>) -> &'static str {
+    match refusal {
+        InputError::InputMmcsError(_) => "InputMmcsError",
+        InputError::FirstLayerMmcsError(_) => "FirstLayerMmcsError",
+        InputError::InputShapeError => "InputShapeError",
+        InputError::OpeningPointMatchesQueryPoint => "OpeningPointMatchesQueryPoint",
+        InputError::MatrixWithoutOpeningPoints { .. } => "MatrixWithoutOpeningPoints",
+        InputError::DomainTooSmall { .. } => "DomainTooSmall",
+    }
+}

@@ -1,6 +1,0 @@
-use Rattle.std.proofs.Common.{All, take}
-use Rattle.circle_tool.specs.Traces.{AreFitting, HasFittingRows}
-use Rattle.circle_tool.proofs.prove.validate_batch.Given as goal
-
-abbrev pub invariant-loop-trace : goal.invariant-loop-trace
-invariant-loop-trace l = All HasFittingRows (take l.trace-index l.batch)

@@ -1,6 +1,0 @@
-use Rattle.std.proofs.Common.{All, take}
-use Rattle.circle_tool.specs.Traces.{AreFitting, HasFittingRows}
-use Rattle.circle_tool.proofs.prove.validate_batches.Given as goal
-
-abbrev pub invariant-loop-batch : goal.invariant-loop-batch
-invariant-loop-batch l = AreFitting (take l.batch-index l.batches)
