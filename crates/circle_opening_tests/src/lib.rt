@@ -7,11 +7,7 @@ mod accepted;
 #[cfg(test)]
 mod damaged;
 #[cfg(test)]
-mod plain;
-#[cfg(test)]
 mod refusals;
-#[cfg(test)]
-mod statement;
 #[cfg(test)]
 mod stored;
 #[cfg(test)]

@@ -1,18 +1,33 @@
 //! What is refused of requests to open, in its order.
-use crate::statement::{
-    Batch, Domain, Numbers, Rows, SMALL, Scheme, Trees, commit_one, cubic, first_coordinate, open,
-    open_at, parameters, rows, scattered, scattered_batch, scheme, sevens,
-};
 use crate::stubborn::Stubborn;
-use circle_challenger::Sha256Challenger;
+use circle_challenger::{CanObserve, CanSample, GrindingChallenger, Sha256Challenger};
 use circle_commit::{OpeningRequest, PowPhase, heights_are_powers_of_two};
 use circle_field::{ExtensionField, Field, Mersenne31};
 use circle_fixtures::quadratic::Quadratic;
 use circle_fixtures::schemes::ListMmcs;
+use circle_statements::batches::{
+    Batch, Domain, Rows, commit_one, cubic, first_coordinate, one, rows, scattered,
+    scattered_batch, sevens,
+};
+use circle_statements::openings::{open, open_at};
+use circle_statements::parameters::{Data, Numbers, SMALL, Scheme, Trees, parameters, scheme};
 use p3_circle::{CirclePcs, ProverError};
 use std::alloc::Global;
 use std::process::Abort;
 use std::test::Fail;
+
+// Why the batches are not opened, if they aren't.
+fn refusal<C>(
+    alloc: Global,
+    scheme: &Scheme,
+    batches: &[Batch],
+    challenger: &mut C,
+) -> Option<ProverError>
+where
+    C: CanSample<Mersenne31> + GrindingChallenger<Mersenne31> + CanObserve<[u8; 32]>,
+{
+    open(alloc, scheme, batches, challenger).err()
+}
 
 // Asserts that the batches are refused, and that the challenger is as it was.
 fn assert_refused(
@@ -23,91 +38,110 @@ fn assert_refused(
     expected: ProverError,
 ) {
     let mut challenger = Sha256Challenger::new();
-    let refused = open(rt, alloc, scheme, batches, &mut challenger).err();
+    let refused = refusal(alloc, scheme, batches, &mut challenger);
     assert_eq!(rt; refused, Some(expected));
     assert_eq!(rt; challenger, Sha256Challenger::new());
 }
 
-// The scheme of the small numbers with other difficulties.
-fn scheme_of_work(work: [usize; 3]) -> Scheme {
-    scheme(Numbers {
-        log_blowup: 1,
-        log_final_poly_len: 0,
-        num_queries: 2,
-        work,
-    })
-}
+// Blowups, numbers of queries, folds and difficulties of which one is not supported.
+const UNFIT: [(usize, usize, usize, [usize; 3]); 7] = [
+    (1, 0, 1, [0; 3]),
+    (0, 2, 1, [0; 3]),
+    (1, 2, 2, [0; 3]),
+    (1, 2, 0, [0; 3]),
+    (1, 2, 1, [31, 0, 0]),
+    (1, 2, 1, [0, 31, 0]),
+    (1, 2, 1, [0, 0, 31]),
+];
 
 #[test]
 fn parameters_that_are_not_supported(rt: HostRuntime) -> Result<(), Fail> {
     let alloc = rt.alloc();
-    let mut no_queries = scheme(SMALL);
-    no_queries.fri_params.num_queries = 0;
-    let mut no_blowup = scheme(SMALL);
-    no_blowup.fri_params.log_blowup = 0;
-    let mut wide_folds = scheme(SMALL);
-    wide_folds.fri_params.max_log_arity = 2;
-    let mut no_folds = scheme(SMALL);
-    no_folds.fri_params.max_log_arity = 0;
-    let schemes = [
-        no_queries,
-        no_blowup,
-        wide_folds,
-        no_folds,
-        scheme_of_work([31, 0, 0]),
-        scheme_of_work([0, 31, 0]),
-        scheme_of_work([0, 0, 31]),
-    ];
-    for unfit in &schemes {
-        assert_refused(&rt, alloc, unfit, &[], ProverError::UnfitParameters);
+    let refused = ProverError::UnfitParameters;
+    for (log_blowup, num_queries, max_log_arity, work) in UNFIT {
+        let mut unfit = scheme(Numbers {
+            log_blowup,
+            log_final_poly_len: 0,
+            num_queries,
+            work,
+        });
+        unfit.fri_params.max_log_arity = max_log_arity;
+        assert_refused(&rt, alloc, &unfit, &[], refused);
     }
-    let four = [sevens(&rt, alloc, &scheme(SMALL))?];
-    assert_refused(&rt, alloc, &schemes[0], &four, ProverError::UnfitParameters);
+    let no_queries = Numbers {
+        num_queries: 0,
+        ..SMALL
+    };
+    let four = [sevens(alloc, &scheme(SMALL))?];
+    assert_refused(&rt, alloc, &scheme(no_queries), &four, refused);
     Ok(())
+}
+
+// The small numbers with other difficulties.
+fn of_work(work: [usize; 3]) -> Numbers {
+    Numbers { work, ..SMALL }
 }
 
 #[test]
 fn nothing_to_open(rt: HostRuntime) {
-    let alloc = rt.alloc();
     let nothing = ProverError::NoCommittedMatrices;
-    assert_refused(&rt, alloc, &scheme(SMALL), &[], nothing);
-    assert_refused(&rt, alloc, &scheme_of_work([30, 30, 30]), &[], nothing);
+    for numbers in [SMALL, of_work([30, 30, 30])] {
+        assert_refused(&rt, rt.alloc(), &scheme(numbers), &[], nothing);
+    }
+}
+
+// Two matrices with points for the first alone.
+fn fewer_lists(alloc: Global, scheme: &Scheme) -> Result<Batch, Fail> {
+    let mut fewer = scattered_batch(alloc, scheme, &[(2, 1, 1), (2, 1, 1)], 3)?;
+    let _ = fewer.points.pop();
+    Ok(fewer)
+}
+
+// A matrix with points for two.
+fn more_lists(alloc: Global, scheme: &Scheme) -> Result<Batch, Fail> {
+    let mut more = scattered_batch(alloc, scheme, &[(2, 1, 1)], 4)?;
+    more.points.push(Vec::new(alloc))?;
+    Ok(more)
 }
 
 #[test]
 fn other_numbers_of_lists_of_points(rt: HostRuntime) -> Result<(), Fail> {
     let alloc = rt.alloc();
     let (small, other) = (scheme(SMALL), ProverError::MatrixCountMismatch);
-    let mut fewer = scattered_batch(&rt, alloc, &small, &[(2, 1, 1), (2, 1, 1)], 3)?;
-    let _ = fewer.points.pop();
-    let mut more = scattered_batch(&rt, alloc, &small, &[(2, 1, 1)], 4)?;
-    more.points.push(Vec::new(alloc))?;
-    let one = sevens(&rt, alloc, &small)?;
-    let mut high_blowup = scheme(SMALL);
-    high_blowup.fri_params.log_blowup = 2;
+    let more = [more_lists(alloc, &small)?];
+    assert_refused(&rt, alloc, &small, &more, other);
     // The first matrix has too few rows for the higher blowup.
-    let batches = [one, fewer];
-    assert_refused(&rt, alloc, &small, &batches, other);
-    assert_refused(&rt, alloc, &high_blowup, &batches, other);
-    assert_refused(&rt, alloc, &small, &[more], other);
+    let high_blowup = Numbers {
+        log_blowup: 2,
+        ..SMALL
+    };
+    let batches = [sevens(alloc, &small)?, fewer_lists(alloc, &small)?];
+    for numbers in [SMALL, high_blowup] {
+        assert_refused(&rt, alloc, &scheme(numbers), &batches, other);
+    }
     Ok(())
+}
+
+// A column of four rows that is opened on its domain.
+fn on_its_domain(alloc: Global, scheme: &Scheme) -> Result<Batch, Fail> {
+    let at = [first_coordinate(3)?];
+    let column = scattered(alloc, 2, 1, 5)?;
+    commit_one(alloc, scheme, Domain::standard(2), column, &at)
 }
 
 #[test]
 fn matrices_of_too_few_rows(rt: HostRuntime) -> Result<(), Fail> {
     let alloc = rt.alloc();
-    let (small, low) = (scheme(SMALL), ProverError::HeightTooSmall);
-    let on_domain = [first_coordinate(&rt, 3)];
-    let column = scattered(&rt, alloc, 2, 1, 5)?;
-    let batches = [
-        scattered_batch(&rt, alloc, &small, &[(5, 1, 1)], 6)?,
-        commit_one(&rt, alloc, &small, 2, column, &on_domain)?,
-    ];
+    let small = scheme(SMALL);
+    let tall = scattered_batch(alloc, &small, &[(5, 1, 1)], 6)?;
+    let batches = [tall, on_its_domain(alloc, &small)?];
     for (log_blowup, log_final_poly_len) in [(2, 0), (1, 1), (1, usize::MAX), (usize::MAX, 0)] {
-        let mut changed = scheme(SMALL);
-        changed.fri_params.log_blowup = log_blowup;
-        changed.fri_params.log_final_poly_len = log_final_poly_len;
-        assert_refused(&rt, alloc, &changed, &batches, low);
+        let changed = scheme(Numbers {
+            log_blowup,
+            log_final_poly_len,
+            ..SMALL
+        });
+        assert_refused(&rt, alloc, &changed, &batches, ProverError::HeightTooSmall);
     }
     assert_refused(&rt, alloc, &small, &batches, ProverError::PointOnDomain);
     Ok(())
@@ -117,45 +151,42 @@ fn matrices_of_too_few_rows(rt: HostRuntime) -> Result<(), Fail> {
 fn points_of_the_committed_domain(rt: HostRuntime) -> Result<(), Fail> {
     let alloc = rt.alloc();
     let small = scheme(SMALL);
-    let mut columns = scattered_batch(&rt, alloc, &small, &[(2, 1, 1), (4, 1, 1)], 7)?;
+    let mut columns = scattered_batch(alloc, &small, &[(2, 1, 1), (4, 1, 1)], 7)?;
     let tall_points = columns.points.last_mut().ok_or("the points")?;
-    tall_points.push(first_coordinate(&rt, 5))?;
+    tall_points.push(first_coordinate(5)?)?;
     assert_refused(&rt, alloc, &small, &[columns], ProverError::PointOnDomain);
     Ok(())
 }
 
 // Why sevens are not opened at these coordinates over the quadratic extension.
 fn refusal_over_quadratic(
-    rt: &impl Abort,
     alloc: Global,
     points: &[Quadratic],
 ) -> Result<Option<ProverError>, Fail> {
-    let four = sevens(rt, alloc, &scheme(SMALL))?;
+    let four = sevens(alloc, &scheme(SMALL))?;
+    let request = OpeningRequest {
+        prover_data: &four.data,
+        points: one(alloc, Vec::from_slice(alloc, points)?)?,
+    };
     let lists = CirclePcs::new(Trees::new(), parameters(SMALL, ListMmcs));
-    let points = vec![in alloc; Vec::from_slice(alloc, points)?]?;
-    let requests = vec![in alloc;
-        OpeningRequest {
-            prover_data: &four.data,
-            points
-        },
-    ]?;
-    let opened = open_at(rt, alloc, &lists, requests, &mut Sha256Challenger::new());
-    Ok(opened.err())
+    let mut challenger = Sha256Challenger::new();
+    Ok(open_at(alloc, &lists, one(alloc, request)?, &mut challenger).err())
 }
 
 // The square of the element `X` of the quadratic extension is -1.
 #[test]
 fn points_at_infinity(rt: HostRuntime) -> Result<(), Fail> {
-    let alloc = rt.alloc();
     let infinity = Quadratic::from_coefficients(&[Mersenne31::ZERO, Mersenne31::ONE]);
     let other = Quadratic::from_coefficients(&[Mersenne31::ONE, Mersenne31::ONE]);
     let refused = Some(ProverError::PointAtInfinity);
-    assert_eq!(&rt; refusal_over_quadratic(&rt, alloc, &[infinity])?, refused);
-    assert_eq!(&rt;
-        refusal_over_quadratic(&rt, alloc, &[other, -infinity])?,
-        refused
-    );
-    assert_eq!(&rt; refusal_over_quadratic(&rt, alloc, &[other])?, None);
+    let cases: [(&[Quadratic], Option<ProverError>); 3] = [
+        (&[infinity], refused),
+        (&[other, -infinity], refused),
+        (&[other], None),
+    ];
+    for (points, expected) in cases {
+        assert_eq!(&rt; refusal_over_quadratic(rt.alloc(), points)?, expected);
+    }
     Ok(())
 }
 
@@ -163,21 +194,32 @@ fn points_at_infinity(rt: HostRuntime) -> Result<(), Fail> {
 fn phases_in_which_no_witness_passes(rt: HostRuntime) -> Result<(), Fail> {
     let alloc = rt.alloc();
     let cases = [
-        ([4, 0, 0], PowPhase::Batch),
-        ([0, 4, 0], PowPhase::CommitPhase),
-        ([0, 0, 4], PowPhase::Query),
-        ([4, 4, 4], PowPhase::Batch),
-        ([0, 4, 4], PowPhase::CommitPhase),
+        ([4, 0, 0], Some(PowPhase::Batch)),
+        ([0, 4, 0], Some(PowPhase::CommitPhase)),
+        ([0, 0, 4], Some(PowPhase::Query)),
+        ([4, 4, 4], Some(PowPhase::Batch)),
+        ([0, 4, 4], Some(PowPhase::CommitPhase)),
+        ([0, 0, 0], None),
     ];
     for (work, phase) in cases {
-        let guarded = scheme_of_work(work);
-        let four = [sevens(&rt, alloc, &guarded)?];
-        let refused = open(&rt, alloc, &guarded, &four, &mut Stubborn).err();
-        assert_eq!(&rt; refused, Some(ProverError::NoGrindingWitness { phase }));
+        let guarded = scheme(of_work(work));
+        let four = [sevens(alloc, &guarded)?];
+        let refused = refusal(alloc, &guarded, &four, &mut Stubborn);
+        let expected = phase.map(|phase| ProverError::NoGrindingWitness { phase });
+        assert_eq!(&rt; refused, expected);
     }
-    let four = [sevens(&rt, alloc, &scheme(SMALL))?];
-    assert!(&rt; open(&rt, alloc, &scheme(SMALL), &four, &mut Stubborn).is_ok());
     Ok(())
+}
+
+// `CirclePcs::commit_ldes`, after a test of what it asks.
+fn commit_ldes(
+    rt: &impl Abort,
+    alloc: Global,
+    scheme: &Scheme,
+    ldes: Vec<Rows>,
+) -> Result<([u8; 32], Data), ProverError> {
+    assert!(rt; heights_are_powers_of_two(&ldes));
+    scheme.commit_ldes(alloc, ldes)
 }
 
 // A matrix committed to as it is, opened at `[0, 1, 0]`.
@@ -185,44 +227,38 @@ fn as_it_is(
     rt: &impl Abort,
     alloc: Global,
     scheme: &Scheme,
-    log_n: usize,
-    matrix: Rows,
+    domain: Domain,
+    entries: &[u64],
 ) -> Result<Batch, Fail> {
-    let ldes = vec![in alloc; matrix]?;
-    assert!(rt; heights_are_powers_of_two(&ldes) && log_n <= 10);
-    let (commitment, data) = scheme.commit_ldes(alloc, ldes)?;
-    let points = vec![in alloc; cubic([0, 1, 0])]?;
+    let ldes = one(alloc, rows(alloc, entries, 1)?)?;
+    let points = one(alloc, one(alloc, cubic([0, 1, 0]))?)?;
+    let domains = one(alloc, domain)?;
+    let (commitment, data) = commit_ldes(rt, alloc, scheme, ldes)?;
     Ok(Batch {
         commitment,
         data,
-        domains: vec![in alloc; Domain::standard(log_n)]?,
-        points: vec![in alloc; points]?,
+        domains,
+        points,
     })
 }
 
-// A column of zeros but for its first entry has more coefficients than half of its rows.
+const FIRST_OF_EIGHT: &[u64] = &[1, 0, 0, 0, 0, 0, 0, 0];
+
+const SIXTH_OF_SIXTEEN: &[u64] = &[0, 0, 0, 0, 0, 1, 0, 0, 0, 0, 0, 0, 0, 0, 0, 0];
+
+// A column of zeros but for one entry has more coefficients than half of its rows.
 #[test]
 fn a_column_of_too_high_degree(rt: HostRuntime) -> Result<(), Fail> {
     let alloc = rt.alloc();
-    let small = scheme(SMALL);
-    let column = rows(&rt, alloc, &[1, 0, 0, 0, 0, 0, 0, 0], 1)?;
-    let high = [as_it_is(&rt, alloc, &small, 2, column)?];
-    let refused = open(&rt, alloc, &small, &high, &mut Sha256Challenger::new()).err();
-    assert_eq!(&rt; refused, Some(ProverError::LastWordNotConstant));
-    let mut two_coefficients = scheme(SMALL);
-    two_coefficients.fri_params.log_final_poly_len = 1;
-    let mut entries = [0; 16];
-    entries[5] = 1;
-    let column = rows(&rt, alloc, &entries, 1)?;
-    let high = [as_it_is(&rt, alloc, &two_coefficients, 3, column)?];
-    let refused = open(
-        &rt,
-        alloc,
-        &two_coefficients,
-        &high,
-        &mut Sha256Challenger::new(),
-    )
-    .err();
-    assert_eq!(&rt; refused, Some(ProverError::LastWordNotConstant));
+    for (log_final_poly_len, log_n, entries) in [(0, 2, FIRST_OF_EIGHT), (1, 3, SIXTH_OF_SIXTEEN)] {
+        let small = scheme(Numbers {
+            log_final_poly_len,
+            ..SMALL
+        });
+        let domain = Domain::standard(log_n);
+        let high = [as_it_is(&rt, alloc, &small, domain, entries)?];
+        let refused = refusal(alloc, &small, &high, &mut Sha256Challenger::new());
+        assert_eq!(&rt; refused, Some(ProverError::LastWordNotConstant));
+    }
     Ok(())
 }

@@ -1,12 +1,11 @@
 //! Openings beside those that another implementation made of the same matrices, whose inputs and
 //! proofs stand in `examples/proofs`.
-use crate::statement::{
-    Batch, Domain, Numbers, Proof, Scheme, claims_of, commit, commit_one, cubic, open, rows,
-    scheme, shown, verify,
-};
 use circle_challenger::{CanObserve, Sha256Challenger};
 use circle_commit::OpenedValues;
 use circle_field::{Cubic, Field, Mersenne31};
+use circle_statements::batches::{Batch, Domain, commit, commit_one, cubic, rows};
+use circle_statements::openings::{claims_of, open, shown, verify};
+use circle_statements::parameters::{Numbers, Proof, Scheme, scheme};
 use std::alloc::{AllocError, Global};
 use std::process::Abort;
 use std::test::Fail;
@@ -48,8 +47,13 @@ fn assert_elements(rt: &impl Abort, elements: &[Cubic], expected: &[[u64; 3]]) {
     }
 }
 
-// All opened values, one after another.
-fn all_values(alloc: Global, values: &OpenedValues<Cubic>) -> Result<Vec<Cubic>, AllocError> {
+// Asserts that all opened values, one after another, have these coefficients.
+fn assert_values(
+    rt: &impl Abort,
+    alloc: Global,
+    values: &OpenedValues<Cubic>,
+    expected: &[[u64; 3]],
+) -> Result<(), AllocError> {
     let mut all = Vec::new(alloc);
     for batch in values {
         for matrix in batch {
@@ -58,7 +62,8 @@ fn all_values(alloc: Global, values: &OpenedValues<Cubic>) -> Result<Vec<Cubic>,
             }
         }
     }
-    Ok(all)
+    assert_elements(rt, &all, expected);
+    Ok(())
 }
 
 // Asserts that the witnesses are these.
@@ -78,6 +83,37 @@ fn assert_witnesses(
     Ok(())
 }
 
+// Asserts that a proof has what is stored.
+fn assert_proof(
+    rt: &impl Abort,
+    alloc: Global,
+    proof: &Proof,
+    expected: &Stored,
+) -> Result<(), AllocError> {
+    assert_digests(rt, &[proof.first_layer_commitment], &[expected.first_layer]);
+    assert_digests(rt, &proof.fri_proof.commit_phase_commits, expected.rounds);
+    assert_elements(rt, &proof.lambdas, expected.lambdas);
+    assert_elements(rt, &proof.fri_proof.final_poly, expected.final_poly);
+    assert_witnesses(rt, alloc, proof, expected.witnesses)
+}
+
+// Asserts that the commitments of the batches begin with these bytes.
+fn assert_commitments(rt: &impl Abort, batches: &[Batch], expected: &[u64]) {
+    assert_eq!(rt; batches.len(), expected.len());
+    for (batch, bytes) in batches.iter().zip(expected) {
+        assert_eq!(rt; first_bytes(&batch.commitment), *bytes);
+    }
+}
+
+// A challenger that has taken in the commitments of the batches.
+fn after_commitments(batches: &[Batch]) -> Sha256Challenger {
+    let mut challenger = Sha256Challenger::new();
+    for batch in batches {
+        challenger.observe(&batch.commitment);
+    }
+    challenger
+}
+
 // Asserts that the batches are opened as is stored, once their commitments are taken in, and that
 // this is accepted.
 fn assert_stored(
@@ -87,21 +123,11 @@ fn assert_stored(
     batches: &[Batch],
     expected: &Stored,
 ) -> Result<(), Fail> {
-    let (mut prover, mut verifier) = (Sha256Challenger::new(), Sha256Challenger::new());
-    let mut commitments = Vec::new(alloc);
-    for batch in batches {
-        prover.observe(&batch.commitment);
-        verifier.observe(&batch.commitment);
-        commitments.push(batch.commitment)?;
-    }
-    let (values, proof) = open(rt, alloc, scheme, batches, &mut prover)?;
-    assert_digests(rt, &commitments, expected.batches);
-    assert_elements(rt, &all_values(alloc, &values)?, expected.values);
-    assert_digests(rt, &[proof.first_layer_commitment], &[expected.first_layer]);
-    assert_digests(rt, &proof.fri_proof.commit_phase_commits, expected.rounds);
-    assert_elements(rt, &proof.lambdas, expected.lambdas);
-    assert_elements(rt, &proof.fri_proof.final_poly, expected.final_poly);
-    assert_witnesses(rt, alloc, &proof, expected.witnesses)?;
+    assert_commitments(rt, batches, expected.batches);
+    let (mut prover, mut verifier) = (after_commitments(batches), after_commitments(batches));
+    let (values, proof) = open(alloc, scheme, batches, &mut prover)?;
+    assert_values(rt, alloc, &values, expected.values)?;
+    assert_proof(rt, alloc, &proof, expected)?;
     let claims = claims_of(alloc, batches, &values)?;
     let answer = shown(verify(alloc, scheme, claims, &proof, &mut verifier));
     assert_eq!(rt; answer.as_str(), "accepted");
@@ -109,51 +135,57 @@ fn assert_stored(
     Ok(())
 }
 
+const TWO_HEIGHTS: Stored<'static> = Stored {
+    batches: &[0x14067b39ae0f6b74],
+    values: &[
+        [844990551, 508285194, 63560225],
+        [1055608724, 392548191, 822943983],
+        [1289367651, 1977310582, 1394012475],
+        [1989067851, 1803297374, 1446881931],
+    ],
+    first_layer: 0xedf74bf83e89a631,
+    rounds: &[0x50a2c2f1497fddbe, 0xaefb6e07fa6422bc, 0x393884ea71e3e87d],
+    lambdas: &[
+        [489234329, 1401174631, 577257722],
+        [489234329, 1401174631, 577257722],
+    ],
+    final_poly: &[[1611319441, 2132634406, 682579165]],
+    witnesses: &[0, 0, 0, 0, 0],
+};
+
+const SIXTEEN: &[u64] = &[0, 1, 2, 3, 4, 5, 6, 7, 8, 9, 10, 11, 12, 13, 14, 15];
+
+// Columns of four and of sixteen numbers, each opened at two points.
+fn two_heights(alloc: Global, scheme: &Scheme) -> Result<Batch, Fail> {
+    let evaluations = vec![in alloc;
+        (Domain::standard(2), rows(alloc, &[0, 1, 2, 3], 1)?),
+        (Domain::standard(4), rows(alloc, SIXTEEN, 1)?),
+    ]?;
+    let at = [cubic([0, 1, 0]), cubic([0, 0, 1])];
+    let points = vec![in alloc; Vec::from_slice(alloc, &at)?, Vec::from_slice(alloc, &at)?]?;
+    commit(alloc, scheme, evaluations, points)
+}
+
 #[test]
 fn columns_of_two_heights(rt: HostRuntime) -> Result<(), Fail> {
-    let alloc = rt.alloc();
-    let expected = Stored {
-        batches: &[0x14067b39ae0f6b74],
-        values: &[
-            [844990551, 508285194, 63560225],
-            [1055608724, 392548191, 822943983],
-            [1289367651, 1977310582, 1394012475],
-            [1989067851, 1803297374, 1446881931],
-        ],
-        first_layer: 0xedf74bf83e89a631,
-        rounds: &[0x50a2c2f1497fddbe, 0xaefb6e07fa6422bc, 0x393884ea71e3e87d],
-        lambdas: &[
-            [489234329, 1401174631, 577257722],
-            [489234329, 1401174631, 577257722],
-        ],
-        final_poly: &[[1611319441, 2132634406, 682579165]],
-        witnesses: &[0, 0, 0, 0, 0],
-    };
     let scheme = scheme(Numbers {
         log_blowup: 1,
         log_final_poly_len: 0,
         num_queries: 40,
         work: [0; 3],
     });
-    let numbers: [u64; 16] = [0, 1, 2, 3, 4, 5, 6, 7, 8, 9, 10, 11, 12, 13, 14, 15];
-    let evaluations = vec![in alloc;
-        (Domain::standard(2), rows(&rt, alloc, &[0, 1, 2, 3], 1)?),
-        (Domain::standard(4), rows(&rt, alloc, &numbers, 1)?),
-    ]?;
-    let at = [cubic([0, 1, 0]), cubic([0, 0, 1])];
-    let points = vec![in alloc; Vec::from_slice(alloc, &at)?, Vec::from_slice(alloc, &at)?]?;
-    let batches = [commit(&rt, alloc, &scheme, evaluations, points)?];
-    assert_stored(&rt, alloc, &scheme, &batches, &expected)
+    let batches = [two_heights(rt.alloc(), &scheme)?];
+    assert_stored(&rt, rt.alloc(), &scheme, &batches, &TWO_HEIGHTS)
 }
 
 // Entries without a pattern.
-const WIDE: [u64; 24] = [
+const WIDE: &[u64] = &[
     2071818195, 1406563225, 1060564595, 343409216, 372360263, 1745541230, 1203616571, 190712729,
     1158204879, 1832112064, 810492733, 834582397, 1580457290, 399179825, 63168623, 1405482431,
     2103030676, 158574525, 216699722, 911635050, 1401502383, 583401320, 1561784129, 237815032,
 ];
 
-const TALL: [u64; 64] = [
+const TALL: &[u64] = &[
     1419324535, 701535394, 96489770, 2037681507, 130366815, 1627840016, 584452956, 108297828,
     1011748218, 1765933371, 1855418536, 1625687423, 1213858003, 2106208583, 505246121, 420703690,
     1779229625, 1916234515, 1558469887, 1024794051, 1266183490, 244964918, 1576491803, 1367843200,
@@ -164,50 +196,54 @@ const TALL: [u64; 64] = [
     476857577, 575339610, 31603045, 1715690802, 907133810, 1875138342, 1005515028, 1360263196,
 ];
 
-const LOW: [u64; 8] = [
+const LOW: &[u64] = &[
     1170620792, 1426168684, 644918832, 1569920329, 401332509, 406665186, 1354195088, 1489081015,
 ];
 
-#[test]
-fn two_batches_with_proofs_of_work(rt: HostRuntime) -> Result<(), Fail> {
-    let alloc = rt.alloc();
-    let expected = Stored {
-        batches: &[0xe7d7dd69f9b7e979, 0x0d7706f40079fa78],
-        values: &[
-            [1836533748, 585260544, 1336949067],
-            [173611339, 397496130, 378718223],
-            [1816916370, 1979549761, 35002103],
-            [1681229143, 434368646, 208123365],
-            [344396272, 2010624049, 745331446],
-            [890205812, 1539638362, 915267673],
-            [732391190, 555207781, 876681233],
-            [1255661198, 1464797819, 1115206450],
-        ],
-        first_layer: 0xf6425e0f98f48ebd,
-        rounds: &[
-            0x910f96eb86a24a45,
-            0xe397ebe49dbc2346,
-            0xe8cbef83477bd44e,
-            0x32b693ffa0a15aed,
-        ],
-        lambdas: &[
-            [1531803872, 2055118395, 272105387],
-            [1652797880, 1186446538, 884420733],
-        ],
-        final_poly: &[[143398299, 911227151, 1510722292]],
-        witnesses: &[21, 19, 5, 16, 8, 12],
-    };
-    let scheme = scheme(Numbers {
-        log_blowup: 2,
-        log_final_poly_len: 0,
-        num_queries: 7,
-        work: [4, 3, 5],
-    });
+const TWO_BATCHES: Stored<'static> = Stored {
+    batches: &[0xe7d7dd69f9b7e979, 0x0d7706f40079fa78],
+    values: &[
+        [1836533748, 585260544, 1336949067],
+        [173611339, 397496130, 378718223],
+        [1816916370, 1979549761, 35002103],
+        [1681229143, 434368646, 208123365],
+        [344396272, 2010624049, 745331446],
+        [890205812, 1539638362, 915267673],
+        [732391190, 555207781, 876681233],
+        [1255661198, 1464797819, 1115206450],
+    ],
+    first_layer: 0xf6425e0f98f48ebd,
+    rounds: &[
+        0x910f96eb86a24a45,
+        0xe397ebe49dbc2346,
+        0xe8cbef83477bd44e,
+        0x32b693ffa0a15aed,
+    ],
+    lambdas: &[
+        [1531803872, 2055118395, 272105387],
+        [1652797880, 1186446538, 884420733],
+    ],
+    final_poly: &[[143398299, 911227151, 1510722292]],
+    witnesses: &[21, 19, 5, 16, 8, 12],
+};
+
+// A wide matrix, opened at one point.
+fn wide_batch(alloc: Global, scheme: &Scheme) -> Result<Batch, Fail> {
     let at = [cubic([1621021381, 1236364590, 1927327153])];
-    let first = commit_one(&rt, alloc, &scheme, 3, rows(&rt, alloc, &WIDE, 3)?, &at)?;
+    commit_one(
+        alloc,
+        scheme,
+        Domain::standard(3),
+        rows(alloc, WIDE, 3)?,
+        &at,
+    )
+}
+
+// A tall matrix, opened at two points, and a low one, opened at one.
+fn tall_and_low(alloc: Global, scheme: &Scheme) -> Result<Batch, Fail> {
     let evaluations = vec![in alloc;
-        (Domain::standard(5), rows(&rt, alloc, &TALL, 2)?),
-        (Domain::standard(3), rows(&rt, alloc, &LOW, 1)?),
+        (Domain::standard(5), rows(alloc, TALL, 2)?),
+        (Domain::standard(3), rows(alloc, LOW, 1)?),
     ]?;
     let tall = [
         cubic([1447526153, 1726224392, 114016607]),
@@ -218,6 +254,18 @@ fn two_batches_with_proofs_of_work(rt: HostRuntime) -> Result<(), Fail> {
         Vec::from_slice(alloc, &tall)?,
         Vec::from_slice(alloc, &low)?,
     ]?;
-    let second = commit(&rt, alloc, &scheme, evaluations, points)?;
-    assert_stored(&rt, alloc, &scheme, &[first, second], &expected)
+    commit(alloc, scheme, evaluations, points)
+}
+
+#[test]
+fn two_batches_with_proofs_of_work(rt: HostRuntime) -> Result<(), Fail> {
+    let scheme = scheme(Numbers {
+        log_blowup: 2,
+        log_final_poly_len: 0,
+        num_queries: 7,
+        work: [4, 3, 5],
+    });
+    let wide = wide_batch(rt.alloc(), &scheme)?;
+    let batches = [wide, tall_and_low(rt.alloc(), &scheme)?];
+    assert_stored(&rt, rt.alloc(), &scheme, &batches, &TWO_BATCHES)
 }

@@ -9,18 +9,54 @@ use circle_merkle::ShaMmcs;
 use std::alloc::{AllocError, Global};
 use std::test::Fail;
 
-/// What is handed to verification in place of the opening at 7, 2, 3 and 2.
-#[derive(Drop)]
+/// What is handed to verification in place of the opening at 7, 2, 3 and 2: indices, the only entries
+/// of their rows, and the dimensions.
 struct Change {
     indices: [usize; 4],
-    rows: OpenedRows<Mersenne31>,
+    entries: &'static [u64],
     dimensions: Dimensions,
 }
+
+const INDICES: [usize; 4] = [7, 2, 3, 2];
 
 const COLUMN: Dimensions = Dimensions {
     width: 1,
     height: 8,
 };
+
+const WIDE: Dimensions = Dimensions {
+    width: 2,
+    height: 8,
+};
+
+// The changes that each scheme has to refuse.
+const CHANGES: &[Change] = &[
+    Change {
+        indices: INDICES,
+        entries: &[17, 12, 14, 12],
+        dimensions: COLUMN,
+    },
+    Change {
+        indices: INDICES,
+        entries: &[17, 12, 13, 13],
+        dimensions: COLUMN,
+    },
+    Change {
+        indices: [8, 2, 3, 2],
+        entries: &[17, 12, 13, 12],
+        dimensions: COLUMN,
+    },
+    Change {
+        indices: INDICES,
+        entries: &[17, 12, 13],
+        dimensions: COLUMN,
+    },
+    Change {
+        indices: INDICES,
+        entries: &[17, 12, 13, 12],
+        dimensions: WIDE,
+    },
+];
 
 // The matrix of one column 10, 11, .. 17.
 fn column(alloc: Global) -> Result<Vec<RowMajorMatrix<Mersenne31>>, AllocError> {
@@ -38,79 +74,61 @@ fn rows_of(alloc: Global, entries: &[u64]) -> Result<OpenedRows<Mersenne31>, All
     Ok(rows)
 }
 
-// The changes that each scheme has to refuse.
-fn changes(alloc: Global) -> Result<Vec<Change>, AllocError> {
-    let indices = [7, 2, 3, 2];
-    let dimensions = COLUMN;
-    let raised = rows_of(alloc, &[17, 12, 14, 12])?;
-    let torn = rows_of(alloc, &[17, 12, 13, 13])?;
-    let honest = rows_of(alloc, &[17, 12, 13, 12])?;
-    let fewer = rows_of(alloc, &[17, 12, 13])?;
-    let same = rows_of(alloc, &[17, 12, 13, 12])?;
-    let wide = Dimensions {
-        width: 2,
-        height: 8,
-    };
-    Ok(vec![in alloc;
-        Change {
-            indices,
-            rows: raised,
-            dimensions
-        },
-        Change {
-            indices,
-            rows: torn,
-            dimensions
-        },
-        Change {
-            indices: [8, 2, 3, 2],
-            rows: honest,
-            dimensions
-        },
-        Change {
-            indices,
-            rows: fewer,
-            dimensions
-        },
-        Change {
-            indices,
-            rows: same,
-            dimensions: wide
-        },
-    ]?)
+// Whether a scheme refuses a change.
+fn refuses<M: Mmcs<Mersenne31>>(
+    alloc: Global,
+    mmcs: &M,
+    commitment: &M::Commitment,
+    proof: &M::MultiProof,
+    change: &Change,
+) -> Result<bool, Fail> {
+    let rows = rows_of(alloc, change.entries)?;
+    let dimensions = [change.dimensions];
+    match mmcs.verify_multi_batch(
+        alloc,
+        commitment,
+        &dimensions,
+        &change.indices,
+        &rows,
+        proof,
+    ) {
+        Ok(()) => Ok(false),
+        Err(error) => {
+            if M::is_memory(&error) {
+                return Err(Fail::new("memory"));
+            }
+            Ok(true)
+        }
+    }
 }
 
-// How many of the changes a scheme refuses, after it took the opening itself.
-fn refused<M: Mmcs<Mersenne31>>(alloc: Global, mmcs: &M) -> Result<usize, Fail> {
+// The commitment to the column, and its proof of the opening at 7, 2, 3 and 2.
+fn opened<M: Mmcs<Mersenne31>>(
+    alloc: Global,
+    mmcs: &M,
+) -> Result<(M::Commitment, M::MultiProof), Fail> {
     let inputs = column(alloc)?;
     if inputs.is_empty() || !heights_are_powers_of_two(&inputs) {
         return Err(Fail::new("the column"));
     }
     let (commitment, data) = mmcs.commit(alloc, inputs)?;
-    let indices = [7usize, 2, 3, 2];
-    if !are_below(&indices, mmcs.get_max_height(&data)) {
+    if !are_below(&INDICES, mmcs.get_max_height(&data)) {
         return Err(Fail::new("the height"));
     }
-    let (rows, proof) = mmcs.open_multi_batch(alloc, &indices, &data)?;
+    let (rows, proof) = mmcs.open_multi_batch(alloc, &INDICES, &data)?;
     if rows != rows_of(alloc, &[17, 12, 13, 12])? {
         return Err(Fail::new("the rows"));
     }
-    mmcs.verify_multi_batch(alloc, &commitment, &[COLUMN], &indices, &rows, &proof)?;
+    mmcs.verify_multi_batch(alloc, &commitment, &[COLUMN], &INDICES, &rows, &proof)?;
+    Ok((commitment, proof))
+}
+
+// How many of the changes a scheme refuses, after it took the opening itself.
+fn refused<M: Mmcs<Mersenne31>>(alloc: Global, mmcs: &M) -> Result<usize, Fail> {
+    let (commitment, proof) = opened(alloc, mmcs)?;
     let mut count = 0;
-    for change in &changes(alloc)? {
-        let dimensions = [change.dimensions];
-        let verdict = mmcs.verify_multi_batch(
-            alloc,
-            &commitment,
-            &dimensions,
-            &change.indices,
-            &change.rows,
-            &proof,
-        );
-        if let Err(error) = verdict {
-            if M::is_memory(&error) {
-                return Err(Fail::new("memory"));
-            }
+    for change in CHANGES {
+        if refuses(alloc, mmcs, &commitment, &proof, change)? {
             count += 1;
         }
     }

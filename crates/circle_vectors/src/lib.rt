@@ -4,8 +4,6 @@
 
 pub mod any_scheme;
 #[cfg(test)]
-mod claims;
-#[cfg(test)]
 mod commitments;
 #[cfg(test)]
 mod committing;
@@ -15,7 +13,3 @@ mod first_program;
 mod records;
 #[cfg(test)]
 mod refusals;
-#[cfg(test)]
-mod shapes;
-#[cfg(test)]
-mod verify;

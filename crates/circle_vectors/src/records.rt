@@ -1,11 +1,13 @@
 //! The records of a proof and of claims, made over schemes of commitments.
 use circle_commit::{
-    BatchMultiOpening, CommitmentOpening, FriParameters, MatrixOpening, Mmcs, PointOpening,
-    RowMajorMatrix, heights_are_powers_of_two,
+    BatchMultiOpening, CommitmentOpening, MatrixOpening, Mmcs, PointOpening, RowMajorMatrix,
+    heights_are_powers_of_two,
 };
 use circle_field::{Cubic, Field, Mersenne31};
 use circle_fixtures::schemes::{ListMmcs, Nothing};
 use circle_merkle::ShaMmcs;
+use circle_statements::batches::one;
+use circle_statements::parameters::{Numbers, SMALL, parameters};
 use p3_circle::{
     CircleCommitPhaseMultiStep, CircleDomain, CircleFriProof, CircleInputProof, CirclePcs,
     CirclePcsProof,
@@ -19,24 +21,11 @@ type ProofOver<I, W> = CirclePcsProof<Mersenne31, Cubic, I, W, Mersenne31>;
 
 // The scheme over these schemes, with one query and no proofs of work.
 fn scheme<I, W>(mmcs: I, words: W) -> SchemeOver<I, W> {
-    let fri_params = FriParameters {
-        log_blowup: 1,
-        log_final_poly_len: 0,
-        max_log_arity: 1,
+    let numbers = Numbers {
         num_queries: 1,
-        batch_proof_of_work_bits: 0,
-        commit_proof_of_work_bits: 0,
-        query_proof_of_work_bits: 0,
-        mmcs: words,
+        ..SMALL
     };
-    CirclePcs::new(mmcs, fri_params)
-}
-
-// A list of one item.
-fn one<T: Drop>(alloc: Global, item: T) -> Result<Vec<T>, AllocError> {
-    let mut items = Vec::new(alloc);
-    items.push(item)?;
-    Ok(items)
+    CirclePcs::new(mmcs, parameters(numbers, words))
 }
 
 // Commits to a column of two zeros and opens it at the first.
@@ -141,24 +130,30 @@ fn a_round_shows_its_openings(rt: HostRuntime) -> Result<(), Fail> {
     Ok(())
 }
 
-#[test]
-fn a_claim_over_a_domain_of_the_circle(rt: HostRuntime) -> Result<(), Fail> {
-    let alloc = rt.alloc();
+// A batch of one matrix of four rows, claimed at one point.
+fn claimed(
+    alloc: Global,
+) -> Result<CommitmentOpening<Cubic, [u8; 32], CircleDomain<Mersenne31>>, AllocError> {
     let claim = PointOpening {
         point: Cubic::ONE,
         values: one(alloc, Cubic::ZERO)?,
     };
     let matrix = MatrixOpening {
-        domain: CircleDomain::<Mersenne31>::standard(2),
+        domain: CircleDomain::standard(2),
         points: one(alloc, claim)?,
     };
-    let batch = CommitmentOpening {
-        commitment: [0u8; 32],
+    Ok(CommitmentOpening {
+        commitment: [0; 32],
         matrices: one(alloc, matrix)?,
-    };
-    assert_eq!(rt; batch.matrices.len(), 1);
-    assert_eq!(rt; batch.matrices[0].domain.log_n(), 2);
-    assert_eq!(rt; batch.matrices[0].points.len(), 1);
-    assert!(rt; batch.matrices[0].points[0].point == Cubic::ONE);
+    })
+}
+
+#[test]
+fn a_claim_over_a_domain_of_the_circle(rt: HostRuntime) -> Result<(), Fail> {
+    let batch = claimed(rt.alloc())?;
+    assert!(rt; batch.matrices.len() == 1);
+    let matrix = &batch.matrices[0];
+    assert!(rt; matrix.domain.log_n() == 2 && matrix.points.len() == 1);
+    assert!(rt; matrix.points[0].point == Cubic::ONE);
     Ok(())
 }

@@ -1,6 +1,7 @@
 //! The texts of what is refused of an opening, and the scheme's parts.
-use circle_commit::{FriError, FriParameters, JsonError};
+use circle_commit::{FriError, JsonError};
 use circle_field::Mersenne31;
+use circle_statements::parameters::{Numbers, SMALL, parameters};
 use p3_circle::{CirclePcs, InputError};
 use std::alloc::AllocError;
 use std::error::Error;
@@ -26,25 +27,30 @@ fn refusals_of_schemes(rt: HostRuntime) {
 
 #[test]
 fn refusals_of_claims(rt: HostRuntime) {
-    let shape = Refusal::InputShapeError;
-    assert_shown(&rt, shape, "input shape error: mismatched dimensions");
-    let same = Refusal::OpeningPointMatchesQueryPoint;
-    assert_shown(&rt, same, "opening point coincides with a query point");
-    let none = Refusal::MatrixWithoutOpeningPoints {
-        batch: 0,
-        matrix: 1,
-    };
-    assert_shown(
-        &rt,
-        none,
-        "batch 0, matrix 1: opened at no points; its width cannot be authenticated",
-    );
-    let small = Refusal::DomainTooSmall { log_n: 0 };
-    assert_shown(
-        &rt,
-        small,
-        "tallest claimed domain is 2^0 rows; the first-layer fold needs at least 2",
-    );
+    let cases = [
+        (
+            Refusal::InputShapeError,
+            "input shape error: mismatched dimensions",
+        ),
+        (
+            Refusal::OpeningPointMatchesQueryPoint,
+            "opening point coincides with a query point",
+        ),
+        (
+            Refusal::MatrixWithoutOpeningPoints {
+                batch: 0,
+                matrix: 1,
+            },
+            "batch 0, matrix 1: opened at no points; its width cannot be authenticated",
+        ),
+        (
+            Refusal::DomainTooSmall { log_n: 0 },
+            "tallest claimed domain is 2^0 rows; the first-layer fold needs at least 2",
+        ),
+    ];
+    for (refusal, expected) in cases {
+        assert_shown(&rt, refusal, expected);
+    }
 }
 
 #[test]
@@ -59,18 +65,14 @@ fn a_refused_input_shows_its_refusal(rt: HostRuntime) {
 
 #[test]
 fn the_scheme_keeps_its_parts(rt: HostRuntime) {
-    let params = FriParameters {
+    let numbers = Numbers {
         log_blowup: 2,
-        log_final_poly_len: 0,
-        max_log_arity: 1,
-        num_queries: 2,
-        batch_proof_of_work_bits: 0,
-        commit_proof_of_work_bits: 0,
-        query_proof_of_work_bits: 0,
-        mmcs: (),
+        ..SMALL
     };
-    let scheme = CirclePcs::<Mersenne31, u32, ()>::new(7, params);
-    assert_eq!(rt; scheme.mmcs, 7);
-    assert_eq!(rt; scheme.fri_params.log_blowup, 2);
-    assert_eq!(rt; scheme.fri_params.num_queries, 2);
+    let scheme = CirclePcs::<Mersenne31, u32, ()>::new(7, parameters(numbers, ()));
+    let params = &scheme.fri_params;
+    assert_eq!(rt;
+        (scheme.mmcs, params.log_blowup, params.num_queries),
+        (7, 2, 2)
+    );
 }

@@ -10,6 +10,7 @@ use circle_commit::{
     RowMajorMatrix, are_below, heights_are_powers_of_two,
 };
 use circle_field::{Cubic, ExtensionField, Field, Mersenne31};
+use circle_statements::batches::one;
 use circle_transcript::{CircleMessages, CirclePcsShape, prover_run};
 use p3_circle::{
     CircleCommitPhaseMultiStep, CircleDomain, CircleFriProof, CircleInputProof, CirclePcs,
@@ -84,13 +85,6 @@ struct Sent<W: Mmcs<Cubic>> {
     first_layer: W::Commitment,
     rounds: Vec<W::Commitment>,
     final_poly: Vec<Cubic>,
-}
-
-/// A list of one item.
-pub(super) fn one<T: Drop>(alloc: Global, item: T) -> Result<Vec<T>, AllocError> {
-    let mut items = Vec::new(alloc);
-    items.push(item)?;
-    Ok(items)
 }
 
 // Parameters of three queries, a blowup of two and no proofs of work.

@@ -1,0 +1,62 @@
+//! The scheme over Merkle trees, by the numbers of its parameters.
+ghost use Rattle.std.specs.Prelude.{◌≡◌};
+
+use circle_commit::{FriParameters, Mmcs};
+use circle_field::{Cubic, Mersenne31};
+use circle_merkle::ShaMmcs;
+use p3_circle::{CirclePcs, CirclePcsProof};
+
+pub type Trees = ShaMmcs<Mersenne31>;
+
+pub type WordTrees = ShaMmcs<Cubic>;
+
+/// What a prover keeps of committed matrices.
+pub type Data = <Trees as Mmcs<Mersenne31>>::ProverData;
+
+pub type Scheme = CirclePcs<Mersenne31, Trees, WordTrees>;
+
+pub type Proof = CirclePcsProof<Mersenne31, Cubic, Trees, WordTrees, Mersenne31>;
+
+/// The numbers of a scheme's parameters.
+#[derive(Clone, Copy)]
+pub struct Numbers {
+    pub log_blowup: usize,
+    pub log_final_poly_len: usize,
+    pub num_queries: usize,
+    /// The difficulties of the batching challenge, of the rounds and of the indices.
+    pub work: [usize; 3],
+}
+
+/// Two queries at a blowup of two, folded to a constant, and no proofs of work.
+pub const SMALL: Numbers = Numbers {
+    log_blowup: 1,
+    log_final_poly_len: 0,
+    num_queries: 2,
+    work: [0; 3],
+};
+
+/// The parameters with these numbers, where words are committed to by this scheme.
+pub fn parameters<W>(numbers: Numbers, mmcs: W) -> FriParameters<W>
+    ensures blowup { result.log_blowup ≡ numbers.log_blowup }
+    ensures final_poly { result.log_final_poly_len ≡ numbers.log_final_poly_len }
+    ensures queries { result.num_queries ≡ numbers.num_queries }
+    ensures folds { result.max_log_arity ≡ 1 }
+    ensures words { result.mmcs ≡ mmcs }
+{
+    let [batch, commit, query] = numbers.work;
+    FriParameters {
+        log_blowup: numbers.log_blowup,
+        log_final_poly_len: numbers.log_final_poly_len,
+        max_log_arity: 1,
+        num_queries: numbers.num_queries,
+        batch_proof_of_work_bits: batch,
+        commit_proof_of_work_bits: commit,
+        query_proof_of_work_bits: query,
+        mmcs,
+    }
+}
+
+/// The scheme over trees with these parameters.
+pub fn scheme(numbers: Numbers) -> Scheme {
+    CirclePcs::new(Trees::new(), parameters(numbers, WordTrees::new()))
+}
