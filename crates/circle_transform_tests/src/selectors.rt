@@ -1,5 +1,5 @@
-//! The vanishing polynomial and the selectors of a domain's rows over Mersenne31: worked values, those
-//! on a coset beside those at its points, and as polynomials.
+//! The vanishing polynomial and the selectors of a domain's rows over Mersenne31: worked values,
+//! those on a coset beside those at its points, and as polynomials.
 use crate::transform::{Domain, Rows, evaluate, interpolate, point};
 use circle_commit::{LagrangeSelectors, Matrix, PolynomialSpace, RowMajorMatrix};
 use circle_field::{ComplexExtendable, Field, Mersenne31};

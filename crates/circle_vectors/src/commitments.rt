@@ -9,8 +9,8 @@ use circle_merkle::ShaMmcs;
 use std::alloc::{AllocError, Global};
 use std::test::Fail;
 
-/// What is handed to verification in place of the opening at 7, 2, 3 and 2: indices, the only entries
-/// of their rows, and the dimensions.
+/// What is handed to verification in place of the opening at 7, 2, 3 and 2: indices, the only
+/// entries of their rows, and the dimensions.
 struct Change {
     indices: [usize; 4],
     entries: &'static [u64],
