@@ -70,11 +70,11 @@ const OTHERS: &[([usize; 3], &str)] = &[
 
 #[test]
 fn queries_blowup_and_folding(rt: HostRuntime) {
-    for ([num_queries, log_blowup, max_log_arity], expected) in OTHERS {
+    for (numbers, expected) in OTHERS {
         let mut params = of_work([0; 3]);
-        params.num_queries = *num_queries;
-        params.log_blowup = *log_blowup;
-        params.max_log_arity = *max_log_arity;
+        params.num_queries = numbers[0];
+        params.log_blowup = numbers[1];
+        params.max_log_arity = numbers[2];
         assert_parameters(&rt, &params, expected);
     }
 }
