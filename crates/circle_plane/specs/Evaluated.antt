@@ -1,5 +1,6 @@
 -- What evaluations on a domain tell of the polynomials with their values.
-use Rattle.std.specs.Prelude.{ℕ, List, Bor}
+use Rattle.std.specs.Prelude.{ℕ, List}
+use Rattle.std.specs.Borrow.{Bor}
 use Rattle.std.specs.List.{AllZip}
 use Rattle.circle_field.specs.Field.{FieldOps}
 use Rattle.circle_field.specs.Circle.{Coordinates}

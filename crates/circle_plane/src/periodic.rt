@@ -135,8 +135,8 @@ impl<F: ComplexExtendable> PeriodicEvaluator<F, CircleDomain<F>> for CirclePerio
         trace_domain: &CircleDomain<F>,
         point: EF,
     ) -> Result<Vec<EF>, AllocError>
-        requires { OfEachColumn periodic_table.now (λ xs. ⟦<CircleDomain<F> as PolynomialSpace>⟧
-            .evaluate_periodic_column_at_asks EF EF.ops EF.embed trace_domain.now xs point) }
+        requires { let s = ⟦<CircleDomain<F> as PolynomialSpace>⟧ in OfEachColumn periodic_table.now
+            (λ c. s.evaluate_periodic_column_at_asks EF EF.ops EF.embed trace_domain.now c point) }
         ensures count { IfOk result (λ values. length values.items ≡ length periodic_table.now) }
         ensures values { IfOk result (λ values. ArePeriodicValues F.ops F.generators EF.ops EF.embed
             (log_size trace_domain.now) (from_line EF.ops point) periodic_table.now values.items) }
