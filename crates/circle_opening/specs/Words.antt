@@ -145,8 +145,8 @@ module _ {F E : Type 0} (k : Fields F E) where
   AreLayers kept_of Commits matrices blowup alpha heights kept commitment =
       AreCommitted Commits (layers_of k matrices blowup alpha heights) (kept_of kept) commitment
 
-  abbrev pub y_folded_layers : E → List ℕ → List (RowMajorMatrix E) → List (List E)
-  y_folded_layers bivariate heights layers =
+  abbrev pub folded_layers : E → List ℕ → List (RowMajorMatrix E) → List (List E)
+  folded_layers bivariate heights layers =
       pairwise (y_folded k bivariate) heights (map rows layers)
 
 -- whatever these words are folded from, by the heights

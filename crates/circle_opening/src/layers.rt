@@ -5,7 +5,7 @@ ghost use Rattle.std.specs.Prelude.{◌⊎◌};
 ghost use Rattle.circle_domain.specs.Spans.{HasXValues, XSpan};
 ghost use Rattle.circle_words.specs.Words.{CanBeOpened, HaveHeights, IsHeight};
 ghost use Rattle.circle_words.specs.Words.{opened_lambda};
-ghost use Rattle.circle_opening.specs.Words.{AreLayers, y_folded_layers};
+ghost use Rattle.circle_opening.specs.Words.{AreLayers, folded_layers};
 ghost use Rattle.circle_opening.specs.declared.error.ProverError.TheVariants.{LastWordNotConstant};
 ghost use Rattle.circle_opening.specs.declared.error.ProverError.TheVariants.{Memory};
 
@@ -77,7 +77,7 @@ pub(crate) fn fold_first_layer<F: ComplexExtendable, EF: ExtensionField<F>, M: M
     requires heights { All (λ h. (1 ≤ h) × (h < F.CIRCLE_TWO_ADICITY)) heights.now }
     requires shapes { HaveHeights heights.now (M.matrices kept.now) }
     ensures words { IfOk result (λ r. map (λ w. w.items) r.1.items ++ r.0.items ∷ [] ≡
-        y_folded_layers ⟦<EF as OverCircle<F>>⟧.fields bivariate heights.now (M.matrices kept.now)) }
+        folded_layers ⟦<EF as OverCircle<F>>⟧.fields bivariate heights.now (M.matrices kept.now)) }
     ensures lengths { IfOk result (λ r. map (λ w. length w.items) r.1.items
         ++ length r.0.items ∷ [] ≡ map (λ h. 2 ^ (h - 1)) heights.now) }
 {
