@@ -43,7 +43,7 @@ module _ {T C P : Type 0} (Commits : List (RowMajorMatrix T) → C → Type 0)
         IsShownOf Commits Authenticates matrices places (rows_at_each matrices places) proof
 
 -- under a scheme whose relations take its value
-module _ {E W C WD P WE : Type 0} (Commits : W → List (RowMajorMatrix E) → C → Type 0)
+module _ {E W C P : Type 0} (Commits : W → List (RowMajorMatrix E) → C → Type 0)
     (authenticates : W → C → List Dimensions → List ℕ → List (List (List E)) → P → Type 0)
     (mmcs : W) (zero : E) where
   -- these siblings are opened of matrices
@@ -54,9 +54,9 @@ module _ {E W C WD P WE : Type 0} (Commits : W → List (RowMajorMatrix E) → C
       (map (λ s. s.items) siblings) proof
 
   -- and those of each round, whose word is committed to alone
-  abbrev pub AreOpenedRounds : {D : Type 0} → (D → List (RowMajorMatrix E)) → ℕ → List ℕ → List D
-      → List (CircleCommitPhaseMultiStep E W C WD P WE) → Type 0
-  AreOpenedRounds {D = D} kept_of top queries kept steps =
+  abbrev pub AreOpenedRounds : {D WD WE : Type 0} → (D → List (RowMajorMatrix E)) → ℕ → List ℕ
+      → List D → List (CircleCommitPhaseMultiStep E W C WD P WE) → Type 0
+  AreOpenedRounds {D = D} {WD = WD} {WE = WE} kept_of top queries kept steps =
       (n : ℕ) (d : D) (step : CircleCommitPhaseMultiStep E W C WD P WE) →
       slice_get kept n ≡ Some d → slice_get steps n ≡ Some step →
       OpensSiblings (Commits mmcs) (authenticates mmcs) (kept_of d) zero top ((top - 1 - n) ∷ [])
