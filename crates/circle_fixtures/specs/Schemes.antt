@@ -19,9 +19,9 @@ pub record Shows {T : Type 0} (matrices : List (RowMajorMatrix T)) (dims : List 
 
 -- opened rows are shown to every commitment with the rows of some matrices
 abbrev pub AreShown : {T : Type 0} → MatrixList T → List ℕ → List (List (List T)) → Type 0
-AreShown {T = T} data indices opened =
-    (commitment : MatrixList T) → HaveSameRows (matrices_of data) (matrices_of commitment) →
-    Shows (matrices_of commitment) (dimensions_of (matrices_of data)) indices opened
+AreShown {T = T} list indices opened =
+    (commitment : MatrixList T) → HaveSameRows (matrices_of list) (matrices_of commitment) →
+    Shows (matrices_of commitment) (dimensions_of (matrices_of list)) indices opened
 
 -- the error says that memory was refused
 abbrev pub says_memory : ListError → Bool

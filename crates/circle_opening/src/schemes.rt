@@ -1,7 +1,9 @@
 //! What contracts see of an opening's fields, its challenger and its two schemes.
 ghost use Rattle.circle_opening.specs.Schemes.{Schemes};
 
-use circle_challenger::{CanObserve, CanSample, ChallengerState, GrindingChallenger, RunChallenger};
+use circle_challenger::{
+    CanObserve, CanSample, ChallengerState, GrindingChallenger, RunChallenger,
+};
 use circle_commit::Mmcs;
 use circle_field::{ComplexExtendable, ExtensionField};
 use circle_relation::OverCircle;
