@@ -8,6 +8,7 @@ use Rattle.circle_commit.specs.declared.params.FriParameters.{FriParameters}
 use Rattle.circle_commit.specs.declared.pcs.OpeningRequest.{OpeningRequest}
 use Rattle.circle_opening.specs.Opening.{IsOpening}
 use Rattle.circle_opening.specs.Requests.{AreAnswers}
+use Rattle.circle_opening.specs.Schemes.{Schemes}
 use Rattle.circle_opening.specs.Taken.{drawn_by, shape_by, taken_by}
 use Rattle.circle_relation.specs.Accepts.{Accepts, Authenticates, Fields}
 use Rattle.circle_relation.specs.RunOf.{setting_of}
@@ -44,3 +45,11 @@ module _ {C S F E M IC IP WC WP : Type 0} (k : Fields F E) (r : RunMoves C S F E
       → (batches : List (BatchClaim IC E)) → AreClaimed p kept Commits requests values batches
       → All (λ m. 1 ≤ length m.claims) (all_matrices batches)
       → IsAccepted batches proof old new
+
+-- the same by the fields, the challenger and the schemes
+abbrev pub AcceptsOpeningsBy : {C S F E I IC ID IP W WC WD WP : Type 0}
+    → Schemes C S F E I IC ID IP W WC WD WP → ℕ → I → FriParameters W
+    → List (OpeningRequest ID E) → Type 0
+AcceptsOpeningsBy o two_adicity mmcs p requests =
+    AcceptsOpenings o.fields o.run p two_adicity (o.authenticates mmcs)
+    (o.word_authenticates p.mmcs) o.kept (o.Commits mmcs) (o.WordCommits p.mmcs) requests

@@ -1,12 +1,13 @@
 //! The law of openings that are accepted. The call of this module answers nothing and carries what
 //! its contract says.
 ghost use Rattle.std.specs.Prelude.{◌≡◌};
-ghost use Rattle.circle_acceptance.specs.Accepted.{AcceptsOpenings};
+ghost use Rattle.circle_acceptance.specs.Accepted.{AcceptsOpeningsBy};
 ghost use Rattle.circle_opening.specs.Requests.{AreFit, AreRequests};
 
-use circle_challenger::{CanObserve, CanSample, GrindingChallenger, RunChallenger};
+use circle_challenger::{CanObserve, CanSample, GrindingChallenger};
 use circle_commit::{FriParameters, Mmcs, OpeningRequest};
 use circle_field::{ComplexExtendable, ExtensionField};
+use circle_opening::OpeningOver;
 use circle_relation::OverCircle;
 
 /// Whatever an opening answers of the requests is accepted (Circle STARKs, IACR ePrint 2024/278,
@@ -34,11 +35,8 @@ where
     requires arity { params.now.max_log_arity ≡ 1 }
     requires requests { AreRequests InputMmcs.matrices ⟦<EF as OverCircle<Val>>⟧.fields
         Val.CIRCLE_TWO_ADICITY params.now requests.now }
-    ensures { AcceptsOpenings ⟦<EF as OverCircle<Val>>⟧.fields
-        ⟦<C as RunChallenger<Val, EF, FriMmcs::Commitment>>⟧.run params.now Val.CIRCLE_TWO_ADICITY
-        (InputMmcs.authenticates mmcs.now) (FriMmcs.authenticates params.now.mmcs)
-        InputMmcs.matrices (InputMmcs.commits mmcs.now) (FriMmcs.commits params.now.mmcs)
-        requests.now }
+    ensures { AcceptsOpeningsBy ⟦<C as OpeningOver<Val, EF, InputMmcs, FriMmcs>>⟧.schemes
+        Val.CIRCLE_TWO_ADICITY mmcs.now params.now requests.now }
 {
     let _mmcs = mmcs;
     let _params = params;

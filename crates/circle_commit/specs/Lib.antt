@@ -1,5 +1,5 @@
-pub mod DotProduct
 pub mod Matrix
+pub mod DotProduct
 pub mod RowFacts
 pub mod FlatRows
 pub mod RowMajorMatrix

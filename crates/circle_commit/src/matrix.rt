@@ -1,8 +1,8 @@
 //! Matrices by rows, and views of them under another order of the rows.
 ghost use Rattle.std.specs.Prelude.{◌≡◌, ℕ, ◌+◌, ◌<◌, ◌≤◌, ◌%◌, ◌/◌, List, [], ◌∷◌, length, map, Some, IfOk, All, slice_get, slice_index_or, take, drop, vec_len};
 ghost use Rattle.std.specs.List.{range_with_len};
-ghost use Rattle.circle_commit.specs.DotProduct.{dot, pairwise};
-ghost use Rattle.circle_commit.specs.Matrix.{column, mapped_rows, rows_from};
+ghost use Rattle.circle_commit.specs.DotProduct.{column_sums, pairwise, with_multiple};
+ghost use Rattle.circle_commit.specs.Matrix.{mapped_rows, rows_from};
 
 use crate::view::RowMajorMatrixView;
 use circle_field::{ExtensionField, Field};
@@ -55,9 +55,8 @@ pub trait FieldMatrix<F: Field>: Matrix<F> {
         weights: &[EF],
     ) -> Result<Vec<EF>, AllocError>
         requires { length weights.now ≡ Self.height self.now }
-        ensures { IfOk result (λ sums. sums.items ≡ map (λ j. dot EF.ops weights.now
-            (map EF.embed (column F.ops.zero (Self.rows self.now) j)))
-            (range_with_len 0 (Self.width self.now))) }
+        ensures { IfOk result (λ sums. sums.items ≡ column_sums EF.ops F.ops.zero EF.embed
+            (Self.rows self.now) (Self.width self.now) weights.now) }
     {
         let mut sums = zeros::<F, EF>(alloc, self.width())?;
         for (i, weight) in weights.iter().enumerate() {
@@ -76,9 +75,8 @@ pub trait FieldMatrix<F: Field>: Matrix<F> {
         weights: &[&[EF]],
     ) -> Result<Vec<Vec<EF>>, AllocError>
         requires { All (λ ws. length ws.now ≡ Self.height self.now) weights.now }
-        ensures { IfOk result (λ all. map (λ sums. sums.items) all.items ≡ map (λ ws. map (λ j.
-            dot EF.ops ws.now (map EF.embed (column F.ops.zero (Self.rows self.now) j)))
-            (range_with_len 0 (Self.width self.now))) weights.now) }
+        ensures { IfOk result (λ all. map (λ s. s.items) all.items ≡ map (λ ws. column_sums EF.ops
+            F.ops.zero EF.embed (Self.rows self.now) (Self.width self.now) ws.now) weights.now) }
     {
         let mut sums = zero_lists::<F, EF>(alloc, weights.len(), self.width())?;
         for i in 0..self.height() {
@@ -130,9 +128,8 @@ fn add_row<F: Field, EF: ExtensionField<F>>(
     requires lists { length sums.old ≡ length weights.now }
     requires weighted { All (λ ws. r < length ws.now) weights.now }
     requires widths { All (λ s. length s.items ≡ length row.now) sums.old }
-    ensures { map (λ s. s.items) sums.new ≡ pairwise (λ s ws. pairwise
-        (λ a x. EF.ops.add a (EF.ops.mul (EF.embed x) (slice_index_or ws.now r EF.ops.zero)))
-        s row.now) (map (λ s. s.items) sums.old) weights.now }
+    ensures { map (λ s. s.items) sums.new ≡ pairwise (λ s ws. with_multiple EF.ops EF.embed
+        (slice_index_or ws.now r EF.ops.zero) s row.now) (map (λ s. s.items) sums.old) weights.now }
 {
     for (p, &list) in weights.iter().enumerate() {
         add_multiple(&mut sums[p], row, list[r]);
@@ -142,8 +139,7 @@ fn add_row<F: Field, EF: ExtensionField<F>>(
 // Adds to each sum the entry of the row times the weight.
 fn add_multiple<F: Field, EF: ExtensionField<F>>(sums: &mut [EF], row: &[F], weight: EF)
     requires { length sums.old ≡ length row.now }
-    ensures { sums.new
-        ≡ pairwise (λ a x. EF.ops.add a (EF.ops.mul (EF.embed x) weight)) sums.old row.now }
+    ensures { sums.new ≡ with_multiple EF.ops EF.embed weight sums.old row.now }
 {
     for (i, entry) in row.iter().enumerate() {
         sums[i] = sums[i] + weight.times_base(*entry);

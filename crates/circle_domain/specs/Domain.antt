@@ -1,9 +1,11 @@
 -- What a domain and its iterators are to contracts.
-use Rattle.std.specs.Prelude.{◌≡◌, ℕ, ◌+◌, List, [], ◌∷◌}
+use Rattle.std.specs.Prelude.{◌≡◌, ℕ, ◌+◌, List, [], ◌∷◌, map}
+use Rattle.std.specs.List.{range_with_len}
 use Rattle.std.proofs.Common.{zero, suc}
 use Rattle.circle_field.specs.Field.{FieldOps}
 use Rattle.circle_field.specs.Circle.{Coordinates, plus}
 use Rattle.circle_point.specs.Point.{coordinates}
+use Rattle.circle_domain.specs.Layers.{layer_factors}
 use Rattle.circle_domain.specs.Order.{natural_order, cfft_order, IsGenuine}
 use Rattle.circle_domain.specs.Selectors.{IsStandard}
 use Rattle.circle_domain.specs.declared.domain.CircleDomain.{CircleDomain}
@@ -27,6 +29,12 @@ points_of k gen d = natural_order k gen (log_size d) (shift_of d)
 abbrev pub cfft_points_of : {F : Type 0} {g : _} →
     FieldOps F → (ℕ → Coordinates F) → CircleDomain F g → List (Coordinates F)
 cfft_points_of k gen d = cfft_order k gen (log_size d) (shift_of d)
+
+-- the factors of the blocks of each layer of its transform, the smallest blocks first
+abbrev pub factors_by_layer : {F : Type 0} {g : _} →
+    FieldOps F → (ℕ → Coordinates F) → CircleDomain F g → List (List F)
+factors_by_layer k gen d =
+    map (layer_factors k gen (log_size d) (shift_of d)) (range_with_len 0 (log_size d))
 
 -- a domain is the standard one of its size
 abbrev pub IsStandardDomain : {F : Type 0} {g : _} →

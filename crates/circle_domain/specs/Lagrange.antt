@@ -5,6 +5,9 @@ use Rattle.circle_field.specs.Field.{FieldOps, sub}
 use Rattle.circle_field.specs.Circle.{Coordinates}
 use Rattle.circle_commit.specs.DotProduct.{dot}
 use Rattle.circle_point.specs.Basis.{value}
+use Rattle.circle_domain.specs.Domain.{log_size, cfft_points_of}
+use Rattle.circle_domain.specs.declared.domain.CircleDomain.{CircleDomain}
+use Rattle.circle_domain.specs.declared.lagrange.LagrangeWeights.{LagrangeWeights}
 
 module _ {F : Type 0} (k : FieldOps F) where
   -- for each point p its share (y_p + y_q) / (x_p - x_q), and its opposite's, which is
@@ -28,3 +31,11 @@ module _ {F E : Type 0} (l : FieldOps E) (embed : F → E) where
       (coeffs : List F) → length coeffs ≡ 2 ^ n →
       l.mul (dot l shares (map embed (map (value k coeffs) points))) scale
       ≡ value l (map embed coeffs) q
+
+module _ {F E : Type 0} {g : _} (k : FieldOps F) (gen : ℕ → Coordinates F)
+    (l : FieldOps E) (embed : F → E) where
+  -- these are the Lagrange polynomials of a domain's points at a point
+  abbrev pub AreWeightsAt : CircleDomain F g → Coordinates E → LagrangeWeights E → Type 0
+  AreWeightsAt d q weights =
+      AreLagrangeWeights l embed k (log_size d) (cfft_points_of k gen d) q weights.shares.items
+      weights.scale

@@ -4,7 +4,7 @@ use Rattle.std.specs.Prelude.{ℕ, ◌+◌, ◌-◌, List, [], ◌∷◌, ◌++�
 use Rattle.std.proofs.Common.{zero, suc}
 use Rattle.circle_field.specs.Field.{FieldOps}
 use Rattle.circle_field.specs.Circle.{Coordinates, plus, opposite}
-use Rattle.circle_point.specs.Basis.{iterated_x}
+use Rattle.circle_point.specs.Basis.{iterated_x, value}
 use Rattle.circle_commit.specs.DotProduct.{pairwise}
 
 -- the halves of each block of 2 * half entries, made anew of both halves and the block's factor
@@ -21,6 +21,10 @@ module _ {F : Type 0} (k : FieldOps F) where
   abbrev pub factor : ℕ → Coordinates F → F
   factor zero p = p.y
   factor (suc m) p = iterated_x k m p.x
+
+  -- the value of 2^m coefficients and no more than as many above them, from those of both parts
+  abbrev pub value_by_halves : ℕ → List F → List F → Coordinates F → F
+  value_by_halves m lower upper p = k.add (value k lower p) (k.mul (value k upper p) (factor m p))
 
 module _ {F : Type 0} (k : FieldOps F) (gen : ℕ → Coordinates F) where
   -- a block of 2 * 2^m points from q on is one of 2^m from q on and one of 2^m from here on

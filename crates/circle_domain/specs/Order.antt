@@ -1,6 +1,6 @@
 -- The points of a domain in its two orders.
 -- A domain (n, s) is the twin coset of the points s + a*g and -s + a*g, with g = gen (n - 1).
-use Rattle.std.specs.Prelude.{◌≢◌, ℕ, ◌-◌, ◌^◌, ◌≤◌, List, [], ◌∷◌, ◌++◌}
+use Rattle.std.specs.Prelude.{◌≢◌, ℕ, ◌-◌, ◌^◌, ◌≤◌, List, [], ◌∷◌, ◌++◌, map}
 use Rattle.std.proofs.Common.{zero, suc}
 use Rattle.circle_field.specs.Field.{FieldOps}
 use Rattle.circle_field.specs.Circle.{Coordinates, plus, opposite, times, origin}
@@ -22,6 +22,10 @@ module _ {F : Type 0} (k : FieldOps F) where
   natural_from (suc count) g s a =
       plus k s (times k a g) ∷ plus k (opposite k s) (times k (suc a) g)
       ∷ natural_from count g s (suc a)
+
+  -- points, and then each of them moved by a step
+  abbrev pub with_moved : Coordinates F → List (Coordinates F) → List (Coordinates F)
+  with_moved step points = points ++ map (λ p. plus k p step) points
 
   -- a domain of at least two points whose halves are disjoint
   abbrev pub IsGenuine : ℕ → Coordinates F → Type 0

@@ -21,6 +21,10 @@ module _ {F : Type 0} (k : FieldOps F) where
   abbrev pub zero_at : Coordinates F → Coordinates F → F
   zero_at p q = to_line k (plus k q (opposite k p))
 
+  -- a value over the selector that is zero at p alone, at q
+  abbrev pub over_zero_at : Coordinates F → F → Coordinates F → F
+  over_zero_at p v q = k.mul v (k.inv (zero_at p q))
+
   -- -2^n times the y coordinate of the multiple of p by 2^(n-1)
   abbrev pub normaliser : ℕ → Coordinates F → F
   normaliser n p = k.neg (k.mul (nth_power k (two k) n) (times k (2 ^ (n - 1)) p).y)

@@ -77,3 +77,8 @@ module _ {F : Type 0} {g : _} (k : FieldOps F) (gen : ℕ → Coordinates F) whe
       → slice_get (points_of k gen d) i ≡ Some p
       → slice_get (points_of k gen d) (part_of c i) ≡ Some s
       → slice_get (natural_order k gen m s) (place_in c i) ≡ Some p
+
+  -- and that of a standard domain
+  abbrev pub EachStandardPointWouldGo : ℕ → CircleDomain F g → ℕ → Type 0
+  EachStandardPointWouldGo two_adicity d c =
+      IsStandardDomain two_adicity gen d → EachPointWouldGo d c

@@ -26,3 +26,8 @@ module _ {F E : Type 0} (k : FieldOps F) (gen : ℕ → Coordinates F) (l : Fiel
   -- the word is the values of a polynomial in x with 2^b coefficients
   abbrev pub XSpan : ℕ → ℕ → List E → Type 0
   XSpan b m word = (c : List E) × HasXValues b m word c
+
+  -- no others are 2^b coefficients of a polynomial in x with these values
+  abbrev pub AreOnlyXOnes : ℕ → List E → List E → Type 0
+  AreOnlyXOnes b word c =
+      (m : ℕ) (d : List E) → length word ≡ 2 ^ m → HasXValues b m word d → d ≡ c

@@ -11,6 +11,10 @@ use Rattle.circle_domain.specs.Order.{cfft_order, natural_order}
 abbrev pub values_at : {F : Type 0} → FieldOps F → List (List F) → ℕ → Coordinates F → List F
 values_at k rows width p = map (λ j. value k (column k.zero rows j) p) (range_with_len 0 width)
 
+-- two lists of coefficients have the same values at the points
+abbrev pub AgreeAt : {F : Type 0} → FieldOps F → List (Coordinates F) → List F → List F → Type 0
+AgreeAt k points xs ys = map (value k xs) points ≡ map (value k ys) points
+
 -- as many coefficients as the domain (n, s) has points, a row for each index, whose polynomials'
 -- values at the points in the transform's order are the rows
 pub record HasValues {F : Type 0} (k : FieldOps F) (gen : ℕ → Coordinates F)

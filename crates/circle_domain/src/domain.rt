@@ -281,7 +281,7 @@ impl<F: ComplexExtendable> PolynomialSpace for CircleDomain<F> {
     ghost use Rattle.circle_domain.specs.Selectors.{IsFinite, IsLeastLog, other_than};
     ghost use Rattle.circle_domain.specs.Space.{next_in, HasNoNext, StepsAlong, HasNoOther};
     ghost use Rattle.circle_domain.specs.Space.{AreApart, AreMadeUpOf};
-    ghost use Rattle.circle_domain.specs.Space.{EachPointGoes, EachPointWouldGo};
+    ghost use Rattle.circle_domain.specs.Space.{EachPointGoes, EachStandardPointWouldGo};
     ghost use Rattle.circle_domain.specs.Clear.{IsClearOf};
 
     ghost size_asks = { λ d. log_size d ≤ 63 };
@@ -499,9 +499,8 @@ impl<F: ComplexExtendable> PolynomialSpace for CircleDomain<F> {
             All (λ part. width_of part ≡ width_of evals) parts.items) }
         ensures goes { IfOk result (λ parts.
             EachRowGoes num_chunks (2 ^ log_size self.now) evals parts.items) }
-        ensures points { IfOk result (λ parts.
-            IsStandardDomain F.CIRCLE_TWO_ADICITY F.generators self.now
-            → EachPointWouldGo F.ops F.generators self.now num_chunks) }
+        ensures points { IfOk result (λ parts. EachStandardPointWouldGo F.ops F.generators
+            F.CIRCLE_TWO_ADICITY self.now num_chunks) }
     {
         let mut parts = Vec::with_capacity(alloc, num_chunks)?;
         for part in 0..num_chunks {

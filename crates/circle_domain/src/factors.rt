@@ -1,10 +1,9 @@
 //! The factors of the circle transform's layers, and those that folds divide by.
 ghost use Rattle.std.specs.Prelude.{◌≡◌, ◌≢◌, ◌≤◌, ◌-◌, ◌%◌, length, map, IfOk};
-ghost use Rattle.std.specs.List.{range_with_len};
 ghost use Rattle.circle_point.specs.Basis.{doubled_x};
 ghost use Rattle.circle_point.specs.Point.{coordinates};
-ghost use Rattle.circle_domain.specs.Domain.{log_size, shift_of};
-ghost use Rattle.circle_domain.specs.Layers.{every_second, layer_factors};
+ghost use Rattle.circle_domain.specs.Domain.{factors_by_layer, log_size, shift_of};
+ghost use Rattle.circle_domain.specs.Layers.{every_second};
 ghost use Rattle.circle_domain.specs.Order.{coset};
 
 use crate::domain::CircleDomain;
@@ -24,8 +23,7 @@ pub fn layer_twiddles<F: ComplexExtendable>(
     requires positive { 1 ≤ log_size domain }
     requires in_group { log_size domain ≤ F.CIRCLE_TWO_ADICITY }
     ensures { IfOk result (λ twiddles. map (λ factors. factors.items) twiddles.items
-        ≡ map (layer_factors F.ops F.generators (log_size domain) (shift_of domain))
-        (range_with_len 0 (log_size domain))) }
+        ≡ factors_by_layer F.ops F.generators domain) }
 {
     let points = first_points(alloc, domain)?;
     let mut twiddles = Vec::with_capacity(alloc, domain.log_n())?;

@@ -9,9 +9,9 @@ ghost use Rattle.circle_field.specs.Circle.{lifted};
 ghost use Rattle.circle_point.specs.Point.{coordinates};
 ghost use Rattle.circle_domain.specs.Clear.{IsClearOf};
 ghost use Rattle.circle_domain.specs.Domain.{log_size, shift_of};
-ghost use Rattle.circle_domain.specs.Domain.{points_of, cfft_points_of, IsGenuineDomain};
+ghost use Rattle.circle_domain.specs.Domain.{points_of, IsGenuineDomain};
 ghost use Rattle.circle_commit.specs.DotProduct.{dot};
-ghost use Rattle.circle_domain.specs.Lagrange.{shares, x_difference, AreLagrangeWeights};
+ghost use Rattle.circle_domain.specs.Lagrange.{shares, x_difference, AreWeightsAt};
 ghost use Rattle.circle_domain.specs.Ordering.{reordered};
 ghost use Rattle.circle_domain.specs.Values.{IsValueOfOne, IsValueOfEach};
 
@@ -47,9 +47,8 @@ pub fn lagrange_weights<F: ComplexExtendable, EF: ExtensionField<F>>(
     requires clear { IsClearOf EF.ops EF.embed
         (points_of F.ops F.generators domain) (coordinates at) }
     ensures count { IfOk result (λ weights. length weights.shares.items ≡ 2 ^ log_size domain) }
-    ensures sum { let points = cfft_points_of F.ops F.generators domain in
-        IfOk result (λ weights. AreLagrangeWeights EF.ops EF.embed F.ops (log_size domain)
-        points (coordinates at) weights.shares.items weights.scale) }
+    ensures sum { IfOk result (λ weights.
+        AreWeightsAt F.ops F.generators EF.ops EF.embed domain (coordinates at) weights) }
 {
     let points = first_points(alloc, domain)?;
     let shares = shares_of(alloc, &points, at)?;

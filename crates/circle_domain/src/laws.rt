@@ -1,12 +1,12 @@
 //! Laws of points and of the circle basis. The calls of this module answer nothing, take no memory
 //! and carry what their contracts say.
-ghost use Rattle.std.specs.Prelude.{◌≡◌, ◌+◌, ◌^◌, ◌≤◌, ◌++◌, length, map};
+ghost use Rattle.std.specs.Prelude.{◌≡◌, ◌+◌, ◌^◌, ◌≤◌, ◌++◌, length};
 ghost use Rattle.circle_field.specs.Circle.{plus, times};
 ghost use Rattle.circle_point.specs.Basis.{value};
 ghost use Rattle.circle_point.specs.Point.{coordinates};
-ghost use Rattle.circle_domain.specs.Domain.{IsGenuineDomain, log_size, shift_of};
-ghost use Rattle.circle_domain.specs.Layers.{factor};
-ghost use Rattle.circle_domain.specs.Order.{cfft_order};
+ghost use Rattle.circle_domain.specs.Domain.{IsGenuineDomain, cfft_points_of, log_size};
+ghost use Rattle.circle_domain.specs.Layers.{value_by_halves};
+ghost use Rattle.circle_domain.specs.Values.{AgreeAt};
 
 use crate::domain::CircleDomain;
 use circle_field::{ComplexExtendable, Field};
@@ -33,9 +33,7 @@ pub fn halves_add<F: Field>(lower: &[F], upper: &[F], point: Point<F>, log_half:
     requires lower { length lower.now ≡ 2 ^ log_half }
     requires upper { length upper.now ≤ 2 ^ log_half }
     ensures { value F.ops (lower.now ++ upper.now) (coordinates point)
-        ≡ F.ops.add (value F.ops lower.now (coordinates point))
-        (F.ops.mul (value F.ops upper.now (coordinates point))
-        (factor F.ops log_half (coordinates point))) }
+        ≡ value_by_halves F.ops log_half lower.now upper.now (coordinates point) }
 {
     let _lower = lower;
     let _upper = upper;
@@ -56,11 +54,8 @@ pub fn coefficients_are_only<F: ComplexExtendable>(
     requires in_group { log_size domain.now ≤ F.CIRCLE_TWO_ADICITY }
     requires counted { length coefficients.now ≡ 2 ^ log_size domain.now }
     requires as_many { length others.now ≡ 2 ^ log_size domain.now }
-    ensures { map (value F.ops coefficients.now)
-        (cfft_order F.ops F.generators (log_size domain.now) (shift_of domain.now))
-        ≡ map (value F.ops others.now)
-        (cfft_order F.ops F.generators (log_size domain.now) (shift_of domain.now))
-        → coefficients.now ≡ others.now }
+    ensures { AgreeAt F.ops (cfft_points_of F.ops F.generators domain.now)
+        coefficients.now others.now → coefficients.now ≡ others.now }
 {
     let _domain = domain;
     let _coefficients = coefficients;

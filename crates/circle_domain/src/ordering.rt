@@ -1,11 +1,10 @@
 //! The order of the circle transform, as a permutation of the natural order of a domain.
-ghost use Rattle.std.specs.Prelude.{ℕ, ◌≡◌, ◌≤◌, ◌<◌, ◌^◌, ◌-◌, ◌++◌, map, Ok, IfOk, OnOk};
+ghost use Rattle.std.specs.Prelude.{ℕ, ◌≡◌, ◌≤◌, ◌<◌, ◌^◌, ◌-◌, map, Ok, IfOk, OnOk};
 ghost use Rattle.circle_domain.specs.Ordering.{cfft_index, reversed, other_order};
 ghost use Rattle.circle_commit.specs.Matrix.{IsPowerOfTwo};
-ghost use Rattle.circle_field.specs.Circle.{plus};
 ghost use Rattle.circle_point.specs.Point.{coordinates};
 ghost use Rattle.circle_domain.specs.Domain.{log_size, shift_of};
-ghost use Rattle.circle_domain.specs.Order.{coset};
+ghost use Rattle.circle_domain.specs.Order.{coset, with_moved};
 
 use crate::domain::CircleDomain;
 use circle_commit::{Matrix, MatrixShape, RowIndexMap, RowIndexMappedView, log2_strict};
@@ -150,8 +149,7 @@ pub fn first_points<F: ComplexExtendable>(
 // Appends to the points each of them moved by `step`.
 fn append_moved<F: Field>(points: &mut Vec<Point<F>>, step: Point<F>) -> Result<(), AllocError>
     ensures { OnOk result (map coordinates points.new.items
-        ≡ map coordinates points.old.items
-        ++ map (λ p. plus F.ops p (coordinates step)) (map coordinates points.old.items)) }
+        ≡ with_moved F.ops (coordinates step) (map coordinates points.old.items)) }
 {
     for i in 0..points.len() {
         let moved = points[i] + step;

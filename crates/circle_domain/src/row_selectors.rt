@@ -6,7 +6,7 @@ ghost use Rattle.circle_point.specs.Point.{coordinates};
 ghost use Rattle.circle_domain.specs.Domain.{log_size, points_of};
 ghost use Rattle.circle_domain.specs.Space.{vanishing_of};
 ghost use Rattle.circle_commit.specs.DotProduct.{pairwise};
-ghost use Rattle.circle_domain.specs.Selectors.{zero_at};
+ghost use Rattle.circle_domain.specs.Selectors.{over_zero_at};
 
 use crate::domain::CircleDomain;
 use circle_field::{ComplexExtendable, Field, batch_multiplicative_inverse};
@@ -63,10 +63,8 @@ pub(crate) fn row_selector<F: Field>(
     requires count { length vanishing.now ≡ length points.now }
     requires apart { All (λ y. y ≢ F.ops.zero)
         (map (λ p. (plus F.ops (coordinates p) (opposite F.ops (coordinates row))).y) points.now) }
-    ensures { IfOk result (λ values. values.items
-        ≡ pairwise
-        (λ z p. F.ops.mul z (F.ops.inv (zero_at F.ops (coordinates row) (coordinates p))))
-        vanishing.now points.now) }
+    ensures { IfOk result (λ values. values.items ≡ pairwise
+        (λ z p. over_zero_at F.ops (coordinates row) z (coordinates p)) vanishing.now points.now) }
 {
     let differences = differences_in_y(alloc, row, points)?;
     let inverses = batch_multiplicative_inverse(alloc, &differences)?;

@@ -1,12 +1,12 @@
 //! The polynomial in x with the values of a word.
-ghost use Rattle.std.specs.Prelude.{◌≡◌, ℕ, ◌+◌, ◌≤◌, ◌^◌, ◌++◌, List, length, map, IfOk, IfSome, IfNone, OnOk, IsTrue, ◌↔◌, All};
+ghost use Rattle.std.specs.Prelude.{◌≡◌, ℕ, ◌+◌, ◌≤◌, ◌^◌, ◌++◌, length, map, All};
+ghost use Rattle.std.specs.Prelude.{IfOk, IfSome, IfNone, OnOk, IsTrue, ◌↔◌};
 ghost use Rattle.circle_field.specs.Field.{sub};
 ghost use Rattle.circle_commit.specs.Matrix.{IsPowerOfTwo};
 ghost use Rattle.circle_commit.specs.DotProduct.{pairwise};
-ghost use Rattle.circle_domain.specs.Order.{coset};
 ghost use Rattle.circle_point.specs.Point.{coordinates};
-ghost use Rattle.circle_final.specs.Blocks.{block_factors, multiples};
-ghost use Rattle.circle_domain.specs.Spans.{HasXValues, XSpan};
+ghost use Rattle.circle_final.specs.Blocks.{block_factors, factors_of, multiples};
+ghost use Rattle.circle_domain.specs.Spans.{AreOnlyXOnes, HasXValues, XSpan};
 
 use crate::evaluation::iterated_x;
 use circle_commit::log2_strict;
@@ -31,8 +31,7 @@ pub fn x_interpolate<F: ComplexExtendable, EF: ExtensionField<F>>(
     ensures values { IfOk result (λ found. IfSome found (λ c. (m : ℕ) → length word.now ≡ 2 ^ m →
         HasXValues F.ops F.generators EF.ops EF.embed log_len m word.now c.items)) }
     ensures only { IfOk result (λ found. IfSome found (λ c.
-        (m : ℕ) (d : List EF) → length word.now ≡ 2 ^ m →
-        HasXValues F.ops F.generators EF.ops EF.embed log_len m word.now d → d ≡ c.items)) }
+        AreOnlyXOnes F.ops F.generators EF.ops EF.embed log_len word.now c.items)) }
     ensures none { IfOk result (λ found. IfNone found ((m : ℕ) → length word.now ≡ 2 ^ m →
         ¬ XSpan F.ops F.generators EF.ops EF.embed log_len m word.now)) }
 {
@@ -55,9 +54,7 @@ fn all_multiples<F: ComplexExtendable, EF: ExtensionField<F>>(
     requires length { length word.now ≡ 2 ^ log_points }
     requires in_group { log_points + 2 ≤ F.CIRCLE_TWO_ADICITY }
     ensures { IfOk result (λ made. made.items ≡ multiples EF.ops EF.embed log_points
-        (map F.ops.inv (block_factors F.ops log_points
-        (map (λ p. p.x)
-        (coset F.ops F.generators log_points (F.generators (log_points + 2)))))) word.now) }
+        (map F.ops.inv (factors_of F.ops F.generators log_points)) word.now) }
 {
     let inverses = inverse_factors::<F>(alloc, log_points)?;
     let mut values = Vec::with_capacity(alloc, word.len())?;
@@ -72,9 +69,8 @@ fn inverse_factors<F: ComplexExtendable>(
     log_points: usize,
 ) -> Result<Vec<F>, AllocError>
     requires { log_points + 2 ≤ F.CIRCLE_TWO_ADICITY }
-    ensures { IfOk result
-        (λ inverses. inverses.items ≡ map F.ops.inv (block_factors F.ops log_points
-        (map (λ p. p.x) (coset F.ops F.generators log_points (F.generators (log_points + 2)))))) }
+    ensures { IfOk result (λ inverses.
+        inverses.items ≡ map F.ops.inv (factors_of F.ops F.generators log_points)) }
 {
     let points = first_points(alloc, CircleDomain::standard(log_points + 1))?;
     let xs = abscissas(alloc, &points)?;

@@ -3,6 +3,9 @@ use Rattle.std.specs.Prelude.{◌≡◌, ℕ, ◌<◌, ◌≤◌, Bool, true, fa
 use Rattle.circle_commit.specs.declared.matrix.Dimensions.{Dimensions}
 use Rattle.circle_commit.specs.declared.matrix.RowMajorMatrix.{RowMajorMatrix}
 use Rattle.circle_commit.specs.Mmcs.{dimensions_of, max_height, rows_at_each}
+use Rattle.circle_fixtures.specs.MatrixList.{matrices_of}
+use Rattle.circle_fixtures.specs.SameRows.{HaveSameRows}
+use Rattle.circle_fixtures.specs.declared.matrix_list.MatrixList.{MatrixList}
 use Rattle.circle_fixtures.specs.declared.schemes.ListError.{ListError}
 use Rattle.circle_fixtures.specs.declared.schemes.ListError.TheVariants.{WrongIndex, WrongShape, WrongRows, Memory}
 
@@ -13,6 +16,12 @@ pub record Shows {T : Type 0} (matrices : List (RowMajorMatrix T)) (dims : List 
   pub some : 1 ≤ length indices
   pub in_range : All (λ index. index < max_height matrices) indices
   pub rows : opened ≡ rows_at_each matrices indices
+
+-- opened rows are shown to every commitment with the rows of some matrices
+abbrev pub AreShown : {T : Type 0} → MatrixList T → List ℕ → List (List (List T)) → Type 0
+AreShown {T = T} list indices opened =
+    (commitment : MatrixList T) → HaveSameRows (matrices_of list) (matrices_of commitment) →
+    Shows (matrices_of commitment) (dimensions_of (matrices_of list)) indices opened
 
 -- the error says that memory was refused
 abbrev pub says_memory : ListError → Bool

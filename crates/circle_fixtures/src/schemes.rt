@@ -1,7 +1,9 @@
 //! Commitment schemes for tests: one that publishes the matrices, and one that shows nothing.
-ghost use Rattle.std.specs.Prelude.{◌≡◌, ◌<◌, ◌≤◌, ◌↔◌, true, All, IfOk, IfErr, OnOk, IsOk, IsTrue, length, vec_len};
+ghost use Rattle.std.specs.Prelude.{◌≡◌, ◌<◌, ◌≤◌, ◌↔◌, true, All, IfOk, IfErr, OnOk, IsOk, IsTrue};
+ghost use Rattle.std.specs.Prelude.{length, vec_len};
 ghost use Rattle.circle_fixtures.specs.declared.matrix_list.MatrixList.{MatrixList};
-ghost use Rattle.circle_commit.specs.Mmcs.{HaveHeightsOfPowers, dimensions_of, max_height, rows_at_each, opened_rows};
+ghost use Rattle.circle_commit.specs.Mmcs.{HaveHeightsOfPowers, max_height, rows_at_each};
+ghost use Rattle.circle_commit.specs.Mmcs.{opened_rows};
 
 use crate::matrix_list::{MatrixList, shapes};
 use circle_commit::{Dimensions, Mmcs, OpenedRows, RowMajorMatrix, are_below};
@@ -65,7 +67,7 @@ fn same_rows<T: Field>(opened: &[Vec<Vec<T>>], others: &[Vec<Vec<T>>]) -> bool
 
 impl<T: Field> Mmcs<T> for ListMmcs {
     ghost use Rattle.circle_fixtures.specs.MatrixList.{matrices_of};
-    ghost use Rattle.circle_fixtures.specs.Schemes.{Shows, says_memory};
+    ghost use Rattle.circle_fixtures.specs.Schemes.{AreShown, Shows, says_memory};
     ghost use Rattle.circle_fixtures.specs.SameRows.{HaveSameRows};
 
     type Commitment = MatrixList<T>;
@@ -121,10 +123,8 @@ impl<T: Field> Mmcs<T> for ListMmcs {
         requires in_range { All (λ i. i < max_height (matrices_of prover_data.now)) indices.now }
         ensures rows { IfOk result (λ r. opened_rows r.0.items
             ≡ rows_at_each (matrices_of prover_data.now) indices.now) }
-        ensures proof { IfOk result (λ r. (commitment : MatrixList T)
-            → HaveSameRows (matrices_of prover_data.now) (matrices_of commitment)
-            → Shows (matrices_of commitment) (dimensions_of (matrices_of prover_data.now))
-            indices.now (opened_rows r.0.items)) }
+        ensures proof { IfOk result (λ r.
+            AreShown prover_data.now indices.now (opened_rows r.0.items)) }
     {
         Ok((prover_data.rows_at_each(alloc, indices)?, Nothing))
     }

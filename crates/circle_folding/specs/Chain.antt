@@ -3,8 +3,8 @@
 -- asks for the entry at place q >> (high - h) of a word of 2^h entries; the other of its pair is
 -- its sibling. The first layer folds words of several heights by y, round r a word of 2^(high - 1
 -- - r) entries by x.
-use Rattle.std.specs.Prelude.{ℕ, ◌+◌, ◌-◌, ◌/◌, ◌%◌, ◌^◌, List, [], ◌∷◌, map}
-use Rattle.std.specs.Prelude.{nat_eq, if◌then◌else◌, slice_index_or}
+use Rattle.std.specs.Prelude.{◌≡◌, ℕ, ◌+◌, ◌-◌, ◌/◌, ◌%◌, ◌^◌, ◌<◌, ◌≤◌, List, [], ◌∷◌}
+use Rattle.std.specs.Prelude.{All, length, map, nat_eq, if◌then◌else◌, slice_index_or}
 use Rattle.circle_field.specs.Field.{FieldOps}
 use Rattle.circle_field.specs.Circle.{Coordinates}
 use Rattle.circle_commit.specs.DotProduct.{pairwise}
@@ -24,6 +24,12 @@ module _ {F : Type 0} (k : FieldOps F) (gen : ℕ → Coordinates F) where
   abbrev pub round_twiddles : ℕ → ℕ → List ℕ → List F
   round_twiddles h r queries = map (round_twiddle h r) queries
 
+  -- where one list is those of round r, whatever the greatest height, the other is the next round's
+  abbrev pub AreNextTwiddles : ℕ → ℕ → List ℕ → List F → List F → Type 0
+  AreNextTwiddles two_adicity r queries old new =
+      (h : ℕ) → r + 3 ≤ h → h < two_adicity → All (λ q. q < 2 ^ h) queries →
+      old ≡ round_twiddles h r queries → new ≡ round_twiddles h (r + 1) queries
+
 module _ {E : Type 0} where
   -- the pair of the value at a place and its sibling
   abbrev pub pair_of : ℕ → E → E → List E
@@ -40,3 +46,11 @@ module _ {E : Type 0} (l : FieldOps E) where
   -- what the value at a place becomes: the fold of its pair
   abbrev pub next_value : E → E → ℕ → E → E → E
   next_value beta t place value sibling = fold_pair l beta t (pair_of place value sibling)
+
+  -- the values of all queries become the folds of their pairs
+  abbrev pub EachIsNext : {F : Type 0} → F → (F → E) → E → ℕ → List ℕ → List F → List E →
+      List E → List E → Type 0
+  EachIsNext zero embed beta bits queries twiddles siblings old new =
+      (i : ℕ) (d : E) → i < length queries →
+      slice_index_or new i d ≡ next_value beta (embed (slice_index_or twiddles i zero))
+      (slice_index_or queries i 0 / 2 ^ bits) (slice_index_or old i d) (slice_index_or siblings i d)

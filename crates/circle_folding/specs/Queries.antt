@@ -6,8 +6,10 @@ use Rattle.circle_field.specs.Field.{FieldOps}
 use Rattle.circle_field.specs.Circle.{Coordinates, origin, lifted}
 use Rattle.circle_commit.specs.Mmcs.{opened_rows}
 use Rattle.circle_commit.specs.DotProduct.{pairwise}
+use Rattle.circle_point.specs.Point.{coordinates}
 use Rattle.circle_domain.specs.Order.{cfft_order}
-use Rattle.circle_folding.specs.Quotient.{claim_quotient}
+use Rattle.circle_folding.specs.Quotient.{claim_quotient, ArePowers}
+use Rattle.circle_folding.specs.declared.reduced.Claim.{Claim}
 use Rattle.circle_folding.specs.declared.reduced.MatrixRows.{MatrixRows}
 
 -- the point of a query q below 2^high in the standard domain of 2^low points: the query without its
@@ -41,6 +43,15 @@ module _ {F E : Type 0} (l : FieldOps E) (embed : F → E) where
 -- to each sum its entry times an offset
 abbrev pub with_multiples : {E : Type 0} → FieldOps E → E → List E → List E → List E
 with_multiples l offset sums entries = pairwise (λ s q. l.add s (l.mul offset q)) sums entries
+
+module _ {F E : Type 0} {g : _} (l : FieldOps E) (embed : F → E) where
+  -- to each sum the quotient of its row under the claim was added, times an offset, for any alpha
+  -- with these powers
+  abbrev pub AddsQuotients :
+      E → List E → List (Coordinates F) → MatrixRows F → Claim E g → List E → List E → Type 0
+  AddsQuotients offset powers points rows claim old new =
+      (alpha : E) → ArePowers l alpha powers → new ≡ with_multiples l offset old (claim_quotients l
+      embed alpha points (coordinates claim.point) (matrix_rows rows) claim.values.now)
 
 module _ {F E : Type 0} (embed : F → E) where
   -- one of the points is z

@@ -7,6 +7,10 @@ use Rattle.circle_field.specs.Circle.{Coordinates}
 use Rattle.circle_point.specs.Projective.{difference_from}
 use Rattle.circle_commit.specs.DotProduct.{dot, pairwise}
 
+-- 1, alpha, alpha^2, ..
+abbrev pub ArePowers : {E : Type 0} → FieldOps E → E → List E → Type 0
+ArePowers l alpha powers = powers ≡ map (nth_power l alpha) (range_with_len 0 (length powers))
+
 module _ {F E : Type 0} (l : FieldOps E) (embed : F → E) where
   -- the real and the imaginary part of the vanishing function of z at x: 1 - d.x and -d.y, where d
   -- is x - z
@@ -33,6 +37,9 @@ module _ {F E : Type 0} (l : FieldOps E) (embed : F → E) where
       weighted_quotient (nth_power l alpha (length row))
       (map (nth_power l alpha) (range_with_len 0 (length row))) x z row values
 
--- 1, alpha, alpha^2, ..
-abbrev pub ArePowers : {E : Type 0} → FieldOps E → E → List E → Type 0
-ArePowers l alpha powers = powers ≡ map (nth_power l alpha) (range_with_len 0 (length powers))
+  -- q is that quotient under any alpha with this top power and these powers
+  abbrev pub IsQuotientBy :
+      E → List E → Coordinates F → Coordinates E → List F → List E → E → Type 0
+  IsQuotientBy top powers x z row values q =
+      (alpha : E) → top ≡ nth_power l alpha (length row) → ArePowers l alpha powers →
+      q ≡ claim_quotient alpha x z row values

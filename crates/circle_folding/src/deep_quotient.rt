@@ -2,14 +2,13 @@
 //! word.
 ghost use Rattle.std.specs.Prelude.{◌≡◌, ℕ, ◌+◌, ◌*◌, ◌^◌, ◌<◌, ◌≤◌, ◌↔◌};
 ghost use Rattle.std.specs.Prelude.{length, map, IsNone, IfSome, IfOk, OnErr};
-ghost use Rattle.circle_field.specs.Field.{nth_power, sub};
+ghost use Rattle.circle_field.specs.Field.{sub};
 ghost use Rattle.circle_field.specs.Circle.{lifted};
 ghost use Rattle.circle_point.specs.Point.{coordinates};
 ghost use Rattle.circle_commit.specs.DotProduct.{dot, pairwise};
 ghost use Rattle.circle_folding.specs.Blocks.{spread, sum_of};
 ghost use Rattle.circle_folding.specs.Lambda.{lambda_of, remainder_of};
-ghost use Rattle.circle_folding.specs.Quotient.{differences, weighted_quotient, claim_quotient};
-ghost use Rattle.circle_folding.specs.Quotient.{ArePowers};
+ghost use Rattle.circle_folding.specs.Quotient.{IsQuotientBy, differences, weighted_quotient};
 ghost use Rattle.circle_folding.specs.Spans.{IsOnlySplit, IsOrthogonal, HasNoMultiple};
 
 use circle_commit::log2_strict;
@@ -38,10 +37,8 @@ pub fn deep_quotient_reduce_row<F: ComplexExtendable, EF: ExtensionField<F>>(
     ensures none { IsNone result ↔ (lifted EF.embed (coordinates x) ≡ coordinates zeta) }
     ensures value { IfSome result (λ q. q ≡ weighted_quotient EF.ops EF.embed alpha_pow_width
         alpha_powers.now (coordinates x) (coordinates zeta) ps_at_x.now ps_at_zeta.now) }
-    ensures claim { IfSome result (λ q. (alpha : EF) →
-        alpha_pow_width ≡ nth_power EF.ops alpha (length ps_at_x.now) →
-        ArePowers EF.ops alpha alpha_powers.now → q ≡ claim_quotient EF.ops EF.embed alpha
-        (coordinates x) (coordinates zeta) ps_at_x.now ps_at_zeta.now) }
+    ensures claim { IfSome result (λ q. IsQuotientBy EF.ops EF.embed alpha_pow_width
+        alpha_powers.now (coordinates x) (coordinates zeta) ps_at_x.now ps_at_zeta.now q) }
 {
     let (re, im) = x.v_p(zeta);
     let inverse = re.double().try_inverse()?;

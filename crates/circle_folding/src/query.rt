@@ -4,15 +4,15 @@
 //! of `2^(log_max_height - bits)` entries it asks for the one at place `index >> bits`; its pair
 //! has the index `index >> (bits + 1)`, and its sibling is the other entry of the pair. Round `r`
 //! folds a word of `2^(log_max_height - 1 - r)` entries, so there `bits` is `r + 1`.
-ghost use Rattle.std.specs.Prelude.{◌≡◌, ◌≢◌, ℕ, ◌+◌, ◌/◌, ◌^◌, ◌<◌, ◌≤◌, [], ◌∷◌, ◌++◌};
-ghost use Rattle.std.specs.Prelude.{length, map, All, IfOk, OnOk, OnErr, slice_index_or};
+ghost use Rattle.std.specs.Prelude.{◌≡◌, ◌≢◌, ◌+◌, ◌^◌, ◌<◌, ◌≤◌, [], ◌∷◌, ◌++◌};
+ghost use Rattle.std.specs.Prelude.{length, map, All, IfOk, OnOk, OnErr};
 ghost use Rattle.circle_commit.specs.Mmcs.{opened_rows};
 ghost use Rattle.circle_point.specs.Point.{coordinates};
 ghost use Rattle.circle_commit.specs.DotProduct.{pairwise};
 ghost use Rattle.circle_folding.specs.Fold.{folds};
 ghost use Rattle.circle_folding.specs.Queries.{query_point};
-ghost use Rattle.circle_folding.specs.Chain.{first_layer_twiddle, round_twiddle, round_twiddles};
-ghost use Rattle.circle_folding.specs.Chain.{pair_of, asked_pairs, next_value};
+ghost use Rattle.circle_folding.specs.Chain.{first_layer_twiddle, round_twiddles};
+ghost use Rattle.circle_folding.specs.Chain.{AreNextTwiddles, EachIsNext, asked_pairs, pair_of};
 
 use crate::folding::fold_row_with_inv_twiddle;
 use circle_commit::OpenedRows;
@@ -90,9 +90,8 @@ pub fn first_x_twiddles<F: ComplexExtendable>(
 pub fn next_x_twiddles<F: ComplexExtendable>(round: usize, indices: &[usize], twiddles: &mut [F])
     requires count { length twiddles.old ≡ length indices.now }
     requires round { round < 62 }
-    ensures { (h : ℕ) → round + 3 ≤ h → h < F.CIRCLE_TWO_ADICITY → All (λ q. q < 2 ^ h) indices.now
-        → twiddles.old ≡ round_twiddles F.ops F.generators h round indices.now
-        → twiddles.new ≡ round_twiddles F.ops F.generators h (round + 1) indices.now }
+    ensures { AreNextTwiddles F.ops F.generators F.CIRCLE_TWO_ADICITY round indices.now
+        twiddles.old twiddles.new }
 {
     for (i, twiddle) in twiddles.iter_mut().enumerate() {
         let doubled = twiddle.square().double() - F::ONE;
@@ -176,11 +175,8 @@ pub fn fold_query_values<F: Field, EF: ExtensionField<F>>(
     requires bits { bits < 63 }
     ensures folded { OnOk result (values.new ≡ folds EF.ops beta (map EF.embed twiddles.now)
         (asked_pairs bits indices.now values.old siblings.now)) }
-    ensures each { OnOk result ((i : ℕ) (d : EF) → i < length indices.now →
-        slice_index_or values.new i d ≡ next_value EF.ops beta
-        (EF.embed (slice_index_or twiddles.now i F.ops.zero))
-        (slice_index_or indices.now i 0 / 2 ^ bits) (slice_index_or values.old i d)
-        (slice_index_or siblings.now i d)) }
+    ensures each { OnOk result (EachIsNext EF.ops F.ops.zero EF.embed beta bits indices.now
+        twiddles.now siblings.now values.old values.new) }
     ensures refused { OnErr result (values.new ≡ values.old) }
 {
     let inverses = batch_multiplicative_inverse(alloc, twiddles)?;

@@ -5,9 +5,8 @@ ghost use Rattle.circle_field.specs.Field.{sub};
 ghost use Rattle.circle_point.specs.Point.{coordinates};
 ghost use Rattle.circle_point.specs.Basis.{vanishing};
 ghost use Rattle.circle_commit.specs.DotProduct.{pairwise};
-ghost use Rattle.circle_folding.specs.Queries.{query_point, matrix_rows, HaveWidth};
-ghost use Rattle.circle_folding.specs.Queries.{claim_quotients, Meets, IsApart, with_multiples};
-ghost use Rattle.circle_folding.specs.Quotient.{ArePowers};
+ghost use Rattle.circle_folding.specs.Queries.{query_point, HaveWidth};
+ghost use Rattle.circle_folding.specs.Queries.{AddsQuotients, Meets, IsApart};
 
 use crate::deep_quotient::deep_quotient_reduce_row;
 use circle_domain::{CircleDomain, cfft_permute_index};
@@ -83,10 +82,8 @@ pub fn add_quotients<F: ComplexExtendable, EF: ExtensionField<F>>(
         Meets EF.embed (map coordinates points.now) (coordinates claim.now.point) }
     ensures apart { IfSome result (λ _.
         IsApart EF.embed (map coordinates points.now) (coordinates claim.now.point)) }
-    ensures sums { IfSome result (λ _. (alpha : EF) → ArePowers EF.ops alpha alpha_powers.now →
-        sums.new ≡ with_multiples EF.ops offset sums.old (claim_quotients EF.ops EF.embed alpha
-        (map coordinates points.now) (coordinates claim.now.point) (matrix_rows rows.now)
-        claim.now.values.now)) }
+    ensures sums { IfSome result (λ _. AddsQuotients EF.ops EF.embed offset alpha_powers.now
+        (map coordinates points.now) rows.now claim.now sums.old sums.new) }
 {
     let (opened, values) = (rows.opened, claim.values);
     let alpha_pow_width = alpha_powers[values.len()];

@@ -4,7 +4,8 @@ use Rattle.std.specs.Prelude.{if◌then◌else◌, length, map, flat_map, zip, A
 use Rattle.circle_field.specs.Field.{FieldOps, nth_power}
 use Rattle.circle_field.specs.Circle.{Coordinates}
 use Rattle.circle_point.specs.Projective.{from_line}
-use Rattle.circle_folding.specs.Quotient.{claim_quotient}
+use Rattle.circle_point.specs.Point.{coordinates}
+use Rattle.circle_folding.specs.Quotient.{claim_quotient, ArePowers}
 use Rattle.circle_folding.specs.Queries.{IsApart, matrix_rows, query_point}
 use Rattle.circle_folding.specs.declared.reduced.MatrixRows.{MatrixRows}
 use Rattle.circle_relation.specs.Statement.{PointClaim, MatrixClaim, BatchClaim, Opened}
@@ -13,6 +14,7 @@ use Rattle.circle_relation.specs.Accepts.{Fields, top, at_queries, point_among}
 use Rattle.circle_relation.specs.Accepts.{reduced_from, claims_of}
 use Rattle.circle_relation.specs.RunOf.{setting_in, run_of}
 use Rattle.circle_relation.specs.declared.run.OpenedRun.{OpenedRun}
+use Rattle.circle_inputs.specs.declared.reduced.Word.{Word}
 
 module _ {F E : Type 0} where
   -- a row beside each claim on it
@@ -78,6 +80,35 @@ module _ {F E : Type 0} (l : FieldOps E) (embed : F → E) where
           l.add (slice_index_or new j l.zero) (reduced next (slice_index_or points j none) rest)
           ≡ l.add (slice_index_or old j l.zero)
           (reduced columns (slice_index_or points j none) (claims j ++ rest)))
+
+module _ {F E : Type 0} {g : _} (l : FieldOps E) (embed : F → E) (word : Word F E g) where
+  -- none of the word's points is claimed
+  abbrev pub IsApartFrom : List (PointClaim E) → Type 0
+  IsApartFrom claims = AreApartFrom l embed (map coordinates word.points.now) claims
+
+  -- nor is one claimed of a matrix of its height
+  abbrev pub IsApartFromRows : List (MatrixClaim E) → Type 0
+  IsApartFromRows matrices =
+      AreApartAt l embed word.log_blowup word.log_height (map coordinates word.points.now) matrices
+
+  -- the word's sums from old to new, under any alpha with its powers: by claims at each point, by
+  -- those on a batch's matrices of its height, and by all of them from the first power on
+  abbrev pub AddsAtQueries : Coordinates F → (ℕ → List (PointClaim E × List F)) → E → E →
+      List E → List E → Type 0
+  AddsAtQueries none claims offset after old new = (alpha : E) → ArePowers l alpha word.powers.now →
+      Adds l embed alpha (map coordinates word.points.now) none claims offset after old new
+
+  abbrev pub AddsRows : Coordinates F → List (MatrixClaim E) → List (List (List F)) → E → E →
+      List E → List E → Type 0
+  AddsRows none matrices entries offset after old new =
+      AddsAtQueries none (claims_at word.log_blowup word.log_height matrices entries) offset after
+      old new
+
+  abbrev pub AddsAll : {Com Proof : Type 0} → Coordinates F →
+      List (BatchClaim Com E × Opened (List (List F)) Proof) → List E → List E → Type 0
+  AddsAll none pairs old new = (alpha : E) → ArePowers l alpha word.powers.now →
+      (after : E) × Adds l embed alpha (map coordinates word.points.now) none
+      (all_claims_at word.log_blowup word.log_height pairs) l.one after old new
 
 -- the word of height 2^h at the queries: their points, and the sums of the quotients of their rows
 abbrev pub word_at : {F E I W IC ID IP IE WC WD WP WE : Type 0} {g : _} →

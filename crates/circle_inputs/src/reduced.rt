@@ -1,9 +1,8 @@
 //! The sums of the quotients of all claims, for each height at all queries.
-ghost use Rattle.std.specs.Prelude.{◌≡◌, ℕ, ◌+◌, ◌^◌, ◌<◌, ◌≤◌, length, map, zip, All};
+ghost use Rattle.std.specs.Prelude.{◌≡◌, ◌+◌, ◌<◌, ◌≤◌, length, map, zip, All};
 ghost use Rattle.std.specs.Prelude.{IsNone, IfSome, OnOk, IfOk, IfErr};
 ghost use Rattle.circle_field.specs.Circle.{origin};
 ghost use Rattle.circle_commit.specs.Mmcs.{opened_rows};
-ghost use Rattle.circle_point.specs.Point.{coordinates};
 ghost use Rattle.circle_domain.specs.Selectors.{IsFinite};
 ghost use Rattle.circle_folding.specs.Quotient.{ArePowers};
 ghost use Rattle.circle_folding.specs.Queries.{HaveWidth};
@@ -12,8 +11,8 @@ ghost use Rattle.circle_relation.specs.StatementOf.{point_claim, matrix_claims, 
 ghost use Rattle.circle_relation.specs.Accepts.{AreApart};
 ghost use Rattle.circle_relation.specs.RunOf.{setting_in, run_of, IsDrawn, IsOpened, heights_of};
 ghost use Rattle.circle_relation.specs.RunOf.{reduced_words, queried, Refuses};
-ghost use Rattle.circle_inputs.specs.Sums.{claims_on, claims_at, all_claims_at, HasRowsOf};
-ghost use Rattle.circle_inputs.specs.Sums.{AreApartFrom, AreApartAt, Adds};
+ghost use Rattle.circle_inputs.specs.Sums.{AddsAll, AddsAtQueries, AddsRows, HasRowsOf, claims_on};
+ghost use Rattle.circle_inputs.specs.Sums.{IsApartFrom, IsApartFromRows};
 ghost use Rattle.circle_inputs.specs.Sums.{word_at, IsApartIn};
 
 use circle_commit::{CommitmentOpening, FriError, MatrixOpening, Mmcs, PointOpening};
@@ -50,12 +49,11 @@ fn add_matrix<Val: ComplexExtendable, EF: ExtensionField<Val>>(
     requires rows { All (λ c. HaveWidth (length c.values.items) rows.now) claims.now }
     requires enough { All (λ c. length c.values.items < length word.now.powers.now) claims.now }
     requires finite { All (λ c. IsFinite EF.ops c.point) claims.now }
-    ensures none { IsNone result → AreApartFrom EF.ops EF.embed
-        (map coordinates word.now.points.now) (map point_claim claims.now) → ⊥ }
-    ensures apart { IfSome result (λ _. AreApartFrom EF.ops EF.embed
-        (map coordinates word.now.points.now) (map point_claim claims.now)) }
-    ensures sums { IfSome result (λ after. (alpha : EF) → ArePowers EF.ops alpha word.now.powers.now
-        → Adds EF.ops EF.embed alpha (map coordinates word.now.points.now) (origin Val.ops)
+    ensures none { IsNone result →
+        IsApartFrom EF.ops EF.embed word.now (map point_claim claims.now) → ⊥ }
+    ensures apart { IfSome result (λ _.
+        IsApartFrom EF.ops EF.embed word.now (map point_claim claims.now)) }
+    ensures sums { IfSome result (λ after. AddsAtQueries EF.ops EF.embed word.now (origin Val.ops)
         (claims_on rows.now (map point_claim claims.now)) offset after sums.old sums.new) }
 {
     let mut after = offset;
@@ -95,15 +93,11 @@ fn add_batch<Val: ComplexExtendable, EF: ExtensionField<Val>>(
         (matrix_claims matrices.now) }
     requires small { All (λ m. log_height word.now.log_blowup m ≤ 62) (matrix_claims matrices.now) }
     ensures none { IsNone result →
-        AreApartAt EF.ops EF.embed word.now.log_blowup word.now.log_height
-        (map coordinates word.now.points.now) (matrix_claims matrices.now) → ⊥ }
+        IsApartFromRows EF.ops EF.embed word.now (matrix_claims matrices.now) → ⊥ }
     ensures apart { IfSome result (λ _.
-        AreApartAt EF.ops EF.embed word.now.log_blowup word.now.log_height
-        (map coordinates word.now.points.now) (matrix_claims matrices.now)) }
-    ensures sums { IfSome result (λ after. (alpha : EF) → ArePowers EF.ops alpha word.now.powers.now
-        → Adds EF.ops EF.embed alpha (map coordinates word.now.points.now) (origin Val.ops)
-        (claims_at word.now.log_blowup word.now.log_height (matrix_claims matrices.now)
-        (opened_rows opened.now)) offset after sums.old sums.new) }
+        IsApartFromRows EF.ops EF.embed word.now (matrix_claims matrices.now)) }
+    ensures sums { IfSome result (λ after. AddsRows EF.ops EF.embed word.now (origin Val.ops)
+        (matrix_claims matrices.now) (opened_rows opened.now) offset after sums.old sums.new) }
 {
     let mut after = offset;
     for (i, matrix) in matrices.iter().enumerate() {
@@ -134,16 +128,11 @@ fn add_batches<
     requires small { All (λ m. log_height word.now.log_blowup m ≤ 62)
         (all_matrices (run_of run.now).batches) }
     ensures none { IsNone result →
-        AreApartAt EF.ops EF.embed word.now.log_blowup word.now.log_height
-        (map coordinates word.now.points.now) (all_matrices (run_of run.now).batches) → ⊥ }
+        IsApartFromRows EF.ops EF.embed word.now (all_matrices (run_of run.now).batches) → ⊥ }
     ensures apart { IfSome result (λ _.
-        AreApartAt EF.ops EF.embed word.now.log_blowup word.now.log_height
-        (map coordinates word.now.points.now) (all_matrices (run_of run.now).batches)) }
-    ensures sums { IfSome result (λ _. (alpha : EF) → ArePowers EF.ops alpha word.now.powers.now
-        → (after : EF) × Adds EF.ops EF.embed alpha (map coordinates word.now.points.now)
-        (origin Val.ops) (all_claims_at word.now.log_blowup word.now.log_height
-        (zip (run_of run.now).batches (run_of run.now).proof.inputs)) EF.ops.one after
-        sums.old sums.new) }
+        IsApartFromRows EF.ops EF.embed word.now (all_matrices (run_of run.now).batches)) }
+    ensures sums { IfSome result (λ _. AddsAll EF.ops EF.embed word.now (origin Val.ops)
+        (zip (run_of run.now).batches (run_of run.now).proof.inputs) sums.old sums.new) }
 {
     let openings = &run.proof.fri_proof.input_openings.input_openings;
     let mut offset = EF::ONE;

@@ -1,9 +1,11 @@
 -- Objects with exactly these members.
 use Rattle.std.specs.Prelude.{◌≡◌, ℕ, ◌<◌, ◌≤◌, ◌⊎◌, List, [], ◌∷◌, length, Some, None}
 use Rattle.circle_json.specs.declared.error.JsonError.{JsonError}
-use Rattle.circle_json.specs.declared.error.JsonError.TheVariants.{Memory, MissingKey, UnknownKey, WrongKind}
+use Rattle.circle_json.specs.declared.error.JsonError.TheVariants.{Memory, MissingKey, UnknownKey}
+use Rattle.circle_json.specs.declared.error.JsonError.TheVariants.{WrongKind}
 use Rattle.circle_json.specs.Form.{Form}
-use Rattle.serde_json.specs.Data.{Data, null, boolean, number, string, array, object, Members, no_members, member}
+use Rattle.serde_json.specs.Data.{Data, null, boolean, number, string, array, object, Members}
+use Rattle.serde_json.specs.Data.{no_members, member}
 use Rattle.serde_json.specs.Events.{members_len}
 use Rattle.serde_json.specs.Find.{get}
 

@@ -1,14 +1,21 @@
 -- Which JSON values stand for numbers, elements of the fields, digests and lists.
-use Rattle.std.specs.Prelude.{◌≡◌, ℕ, List, [], ◌∷◌, map, Result, Ok, Err, nat_lt, if◌then◌else◌, ◌⊎◌}
+use Rattle.std.specs.Prelude.{◌≡◌, ℕ, List, [], ◌∷◌, map, Option, None, Result, Ok, Err}
+use Rattle.std.specs.Prelude.{nat_lt, if◌then◌else◌, ◌⊎◌}
 use Rattle.hex.specs.Hex.{encode_lower, decode_sized}
 use Rattle.hex.specs.declared.error.FromHexError.{FromHexError}
 use Rattle.circle_field.specs.declared.cubic.Cubic.{Cubic}
 use Rattle.circle_field.specs.Cubic.{coefficients}
 use Rattle.circle_field.specs.Mersenne31.{order, residue}
 use Rattle.circle_json.specs.declared.error.JsonError.{JsonError}
-use Rattle.circle_json.specs.declared.error.JsonError.TheVariants.{Memory, WrongKind, OutOfRange, BadHex}
-use Rattle.serde_json.specs.Data.{Num, unsigned, negative, float, Data, null, boolean, number, string, array, object, Items, no_items, item}
+use Rattle.circle_json.specs.declared.error.JsonError.TheVariants.{Memory, WrongKind, OutOfRange}
+use Rattle.circle_json.specs.declared.error.JsonError.TheVariants.{BadHex}
+use Rattle.serde_json.specs.Data.{Num, unsigned, negative, float, Data, null, boolean, number}
+use Rattle.serde_json.specs.Data.{string, array, object, Items, no_items, item}
 use Rattle.serde_json.specs.View.{items_of}
+
+-- nothing of the kind that is asked for was found, and the error says so
+abbrev pub IsOtherKind : {A : Type 0} → Option A → JsonError → Type 0
+IsOtherKind found e = (found ≡ None) × (e ≡ WrongKind)
 
 -- a whole number that isn't negative; what has a point or an exponent is a float
 abbrev pub count_of_number : Num → Result ℕ JsonError

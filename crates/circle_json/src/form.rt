@@ -1,11 +1,13 @@
 //! Values read from JSON and written as JSON.
-ghost use Rattle.std.specs.Prelude.{◌≡◌, map, IfOk, IfErr, MatchResult, Ok, Err, Some, None};
+ghost use Rattle.std.specs.Prelude.{◌≡◌, map, IfOk, IfErr, MatchResult, Ok, Err, Some};
 ghost use Rattle.serde_json.specs.Data.{array};
 ghost use Rattle.serde_json.specs.Find.{as_array};
 ghost use Rattle.serde_json.specs.View.{view, items_of, items_view};
 ghost use Rattle.circle_field.specs.Mersenne31.{residue};
 ghost use Rattle.circle_json.specs.Form.{Form, told_form, list_form};
-ghost use Rattle.circle_json.specs.Values.{count_of, residue_of, residues_of, digest_of, count_written, residues_written, digest_written, ReadsArray};
+ghost use Rattle.circle_json.specs.Values.{count_of, residue_of, residues_of, digest_of};
+ghost use Rattle.circle_json.specs.Values.{count_written, residues_written, digest_written};
+ghost use Rattle.circle_json.specs.Values.{IsOtherKind, ReadsArray};
 
 use crate::error::JsonError;
 use circle_field::{Cubic, ExtensionField, Mersenne31};
@@ -47,9 +49,8 @@ fn count(value: &Value) -> Result<u64, JsonError>
 
 // The items of an array.
 fn items(value: &Value) -> Result<&[Value], JsonError>
-    ensures { MatchResult result
-        (λ items. as_array (view value.now) ≡ Some (items_view items.now))
-        (λ error. (as_array (view value.now) ≡ None) × (error ≡ JsonError.WrongKind)) }
+    ensures { let found = as_array (view value.now) in MatchResult result
+        (λ items. found ≡ Some (items_view items.now)) (IsOtherKind found) }
 {
     Ok(value.as_array().ok_or(JsonError::WrongKind)?.as_slice())
 }

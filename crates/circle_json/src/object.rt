@@ -1,8 +1,10 @@
 //! Objects whose members are the parts of a value.
-ghost use Rattle.std.specs.Prelude.{◌≡◌, ◌↔◌, map, All, IsTrue, IsSome, Some, None, IfOk, IfErr, MatchResult};
+ghost use Rattle.std.specs.Prelude.{◌≡◌, ◌↔◌, map, All, IsTrue, IsSome, Some, IfOk, IfErr};
+ghost use Rattle.std.specs.Prelude.{MatchResult};
 ghost use Rattle.serde_json.specs.Find.{as_object, get};
 ghost use Rattle.serde_json.specs.View.{view, members_view};
 ghost use Rattle.circle_json.specs.declared.error.JsonError.{JsonError};
+ghost use Rattle.circle_json.specs.Values.{IsOtherKind};
 ghost use Rattle.circle_json.specs.Objects.{HasKeys, HasMember, RefusesKeys, RefusesMember};
 
 use crate::error::JsonError;
@@ -31,9 +33,8 @@ pub fn has_keys(value: &Value, keys: &[&str]) -> Result<(), JsonError>
 
 // The members of an object.
 fn members(value: &Value) -> Result<&Map<String, Value>, JsonError>
-    ensures { MatchResult result
-        (λ members. as_object (view value.now) ≡ Some (members_view members.now.entries))
-        (λ error. (as_object (view value.now) ≡ None) × (error ≡ JsonError.WrongKind)) }
+    ensures { let found = as_object (view value.now) in MatchResult result
+        (λ members. found ≡ Some (members_view members.now.entries)) (IsOtherKind found) }
 {
     value.as_object().ok_or(JsonError::WrongKind)
 }

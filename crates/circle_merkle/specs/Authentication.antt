@@ -1,13 +1,15 @@
 -- What the scheme shows: which matrices have a root, and which opened rows are those of a root.
-use Rattle.std.specs.Prelude.{◌≡◌, ℕ, ◌<◌, ◌≤◌, ◌^◌, ◌-◌, ◌+◌, List, [], length, map, All, slice_index, slice_index_or}
+use Rattle.std.specs.Prelude.{◌≡◌, ℕ, ◌<◌, ◌≤◌, ◌^◌, ◌-◌, ◌+◌, ◌*◌}
+use Rattle.std.specs.Prelude.{List, [], length, map, All, slice_index, slice_index_or}
 use Rattle.std.specs.List.{range_with_len}
+use Rattle.std.proofs.Common.{suc}
 use Rattle.sha2.specs.Sha256.{sha256}
 use Rattle.circle_commit.specs.Matrix.{IsPowerOfTwo}
 use Rattle.circle_commit.specs.declared.matrix.Dimensions.{Dimensions}
 use Rattle.circle_commit.specs.declared.matrix.RowMajorMatrix.{RowMajorMatrix}
-use Rattle.circle_commit.specs.Mmcs.{greatest, heights, max_height, row_at}
+use Rattle.circle_commit.specs.Mmcs.{dimensions_of, greatest, heights, max_height, row_at}
 use Rattle.circle_merkle.specs.Tree.{digest, computed, is_known, given, taken_below}
-use Rattle.circle_merkle.specs.Rows.{tree_rows, opened_at, matrix_rows}
+use Rattle.circle_merkle.specs.Rows.{tree_rows, opened_at, matrix_rows, size_of}
 
 module _ {T : Type 0} where
   -- there are shapes, their heights are powers of two, and each index has a row of the right width
@@ -68,6 +70,23 @@ module _ {T : Type 0} where
     upper_levels matrices levels =
         map (λ level. level_digests matrices level (2 ^ (levels - level)))
         (range_with_len 1 levels)
+
+    -- where so many positions of a level have the digests below, so many of the next have those
+    abbrev pub IsNextLevel :
+        List (RowMajorMatrix T) → ℕ → List (List ℕ) → List (List ℕ) → Type 0
+    IsNextLevel matrices height below above =
+        (level : ℕ) → size_of (dimensions_of matrices) (suc level) ≡ height →
+        below ≡ level_digests matrices level (2 * height) →
+        above ≡ level_digests matrices (suc level) height
+
+    -- where these are the digests of a pair on the level below, this is the one over them
+    abbrev pub IsParent :
+        List (RowMajorMatrix T) → ℕ → ℕ → List ℕ → List ℕ → List ℕ → Type 0
+    IsParent matrices height i left right above =
+        (level : ℕ) → size_of (dimensions_of matrices) (suc level) ≡ height →
+        digest hash (matrix_rows bytes matrices) level (2 * i) ≡ left →
+        digest hash (matrix_rows bytes matrices) level (2 * i + 1) ≡ right →
+        above ≡ digest hash (matrix_rows bytes matrices) (suc level) i
 
     -- the root of the tree over matrices
     pub record IsRoot (matrices : List (RowMajorMatrix T)) (commitment : List ℕ) : Type 0 where

@@ -1,12 +1,14 @@
 -- What opened rows are to contracts: the rows of a tree.
-use Rattle.std.specs.Prelude.{ℕ, List, [], map, slice_index_or}
+use Rattle.std.specs.Prelude.{◌≡◌, ℕ, ◌^◌, List, [], map, slice_index_or}
 use Rattle.sha2.specs.Sha256.{sha256}
 use Rattle.circle_commit.specs.Mmcs.{opened_rows}
 use Rattle.circle_merkle.specs.declared.root.Opening.{Opening}
 use Rattle.circle_merkle.specs.declared.root.Node.{Node}
 use Rattle.circle_merkle.specs.Tree as Tree
-use Rattle.circle_merkle.specs.Tree.{rows_digest, node_digest, with_rows, computed, is_known, known, given}
+use Rattle.circle_merkle.specs.Tree.{rows_digest, node_digest, with_rows, computed, is_known, known}
+use Rattle.circle_merkle.specs.Tree.{given}
 use Rattle.circle_merkle.specs.Rows.{tree_rows, opened_at}
+use Rattle.circle_merkle.specs.Authentication.{opened_root}
 use Rattle.circle_merkle.specs.Order.{place_of}
 
 module _ {T : Type 0} (bytes : T → List ℕ) where
@@ -31,6 +33,13 @@ module _ {T : Type 0} (bytes : T → List ℕ) where
     digest =
         rows_digest sha256 ((placed_rows o).bytes 0 entry.1);
   }
+
+  -- the root over opened rows and the digests of a proof, with so many levels as the greatest
+  -- height tells
+  abbrev pub IsRootOf : Opening T → List (List ℕ) → List ℕ → Type 0
+  IsRootOf o proof root =
+      (levels : ℕ) → o.top ≡ 2 ^ levels → root ≡ opened_root sha256 bytes o.dimensions.now
+      o.indices.now (opened_rows o.opened.now) proof levels
 
   -- the nodes at the known positions of a level
   abbrev pub level_nodes : Opening T → List (List ℕ) → ℕ → ℕ → List Node

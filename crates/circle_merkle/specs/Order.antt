@@ -1,5 +1,6 @@
 -- Indices in ascending order, with their places.
-use Rattle.std.specs.Prelude.{ℕ, ◌/◌, ◌^◌, ◌==◌, List, [], ◌∷◌, length, map, slice_index, if◌then◌else◌}
+use Rattle.std.specs.Prelude.{◌≡◌, ℕ, ◌/◌, ◌^◌, ◌<◌, ◌==◌, List, [], ◌∷◌, All}
+use Rattle.std.specs.Prelude.{length, map, slice_index, if◌then◌else◌}
 use Rattle.std.specs.List.{range_with_len}
 use Rattle.std.specs.List.Sorted.{IsPermutation, IsSorted}
 use Rattle.std.specs.Ordering.{nat_cmp, ordering_then}
@@ -34,3 +35,10 @@ place_of (index ∷ indices) level i = if index / 2 ^ level == i then 0 else suc
 -- the distinct indices in ascending order, each with the place of the first that equals it
 abbrev pub first_places : List ℕ → ℕ → List (ℕ × ℕ)
 first_places indices levels = map (λ p. (p, place_of indices 0 p)) (known indices levels 0)
+
+-- where indices below a power of two stood in ascending order with their places, the first of equal
+-- ones do
+abbrev pub LeavesFirsts : List (ℕ × ℕ) → List (ℕ × ℕ) → Type 0
+LeavesFirsts old new =
+    (indices : List ℕ) (levels : ℕ) → IsOrdered indices old → All (λ i. i < 2 ^ levels) indices →
+    new ≡ first_places indices levels

@@ -1,6 +1,6 @@
 //! Indices in ascending order, with their places.
-ghost use Rattle.std.specs.Prelude.{◌≡◌, ℕ, ◌<◌, ◌^◌, All, IfOk, List};
-ghost use Rattle.circle_merkle.specs.Order.{IsOrdered, first_places};
+ghost use Rattle.std.specs.Prelude.{◌<◌, IfOk};
+ghost use Rattle.circle_merkle.specs.Order.{IsOrdered, LeavesFirsts};
 
 use std::alloc::{AllocError, Global};
 
@@ -20,9 +20,7 @@ pub fn in_order(alloc: Global, indices: &[usize]) -> Result<Vec<(usize, usize)>,
 
 /// Of indices in ascending order with their places, leaves the first of equal ones.
 pub fn leave_firsts(order: &mut Vec<(usize, usize)>)
-    ensures { (indices : List ℕ) (levels : ℕ) → IsOrdered indices order.old.items
-        → All (λ i. i < 2 ^ levels) indices
-        → order.new.items ≡ first_places indices levels }
+    ensures { LeavesFirsts order.old.items order.new.items }
 {
     order.dedup_by_key(|entry| entry.0);
 }

@@ -1,7 +1,8 @@
 //! The root of a tree of which some rows are opened.
-ghost use Rattle.std.specs.Prelude.{◌≡◌, ℕ, ◌+◌, ◌*◌, ◌/◌, ◌^◌, ◌<◌, ◌≤◌, ◌==◌, ◌++◌, List, ◌∷◌, length, map, drop, All, IfOk, vec_len};
+ghost use Rattle.std.specs.Prelude.{◌≡◌, ℕ, ◌+◌, ◌*◌, ◌/◌, ◌^◌, ◌<◌, ◌≤◌, ◌==◌, ◌∷◌, length, map};
+ghost use Rattle.std.specs.Prelude.{drop, All, IfOk, vec_len};
 ghost use Rattle.sha2.specs.Sha256.{sha256};
-ghost use Rattle.circle_commit.specs.Mmcs.{greatest, heights, opened_rows};
+ghost use Rattle.circle_commit.specs.Mmcs.{greatest, heights};
 ghost use Rattle.circle_merkle.specs.Tree.{rows_digest as rows_digest_of, taken_below};
 ghost use Rattle.circle_merkle.specs.Walk.{siblings_of};
 ghost use Rattle.circle_merkle.specs.Order.{first_places};
@@ -41,10 +42,10 @@ pub struct Opening<'a, T> {
 }
 
 impl<T: ElementBytes> Opening<'_, T> {
-    ghost use Rattle.circle_merkle.specs.Opening.{placed_rows, parent_in, lowest_node};
+    ghost use Rattle.circle_merkle.specs.Opening.{IsRootOf, placed_rows, parent_in, lowest_node};
     ghost use Rattle.circle_commit.specs.Matrix.{IsPowerOfTwo};
-    ghost use Rattle.circle_merkle.specs.Authentication.{opened_root};
-    ghost use Rattle.circle_merkle.specs.Climb.{climbed, positions_of, lone, joined};
+    ghost use Rattle.circle_merkle.specs.Climb.{IsFirstOf, climbed, positions_of, left_of, lone};
+    ghost use Rattle.circle_merkle.specs.Climb.{joined};
 
     // The digest of those of the rows at an index, named by its place, that stand on a level.
     fn rows_digest(&self, level: usize, place: usize) -> Hash
@@ -139,12 +140,10 @@ impl<T: ElementBytes> Opening<'_, T> {
             ≤ length given.now }
         ensures shorter { length result.1.now ≤ length others.entry.now }
         ensures enough { length (siblings_of (positions_of result.1.now)) ≤ length result.2.now }
-        ensures parents { climbed (parent_in T.bytes self.now level) (node.now ∷ others.entry.now)
-            given.entry.now
-            ≡ result.0 ∷ climbed (parent_in T.bytes self.now level) result.1.now result.2.now }
-        ensures left { drop (length (siblings_of (positions_of (node.now ∷ others.entry.now))))
-            given.entry.now
-            ≡ drop (length (siblings_of (positions_of result.1.now))) result.2.now }
+        ensures parents { IsFirstOf (parent_in T.bytes self.now level) result.0
+            (node.now ∷ others.entry.now) given.entry.now result.1.now result.2.now }
+        ensures left { left_of (node.now ∷ others.entry.now) given.entry.now
+            ≡ left_of result.1.now result.2.now }
     {
         match others.split_first() {
             Some((next, after)) if next.position == sibling(node.position) => {
@@ -219,9 +218,7 @@ impl<T: ElementBytes> Opening<'_, T> {
             → firsts.now ≡ first_places self.now.indices.now levels }
         requires count { (levels : ℕ) → self.now.top ≡ 2 ^ levels
             → length proof.now ≡ taken_below self.now.indices.now levels levels }
-        ensures { IfOk result (λ root. (levels : ℕ) → self.now.top ≡ 2 ^ levels
-            → root ≡ opened_root sha256 T.bytes self.now.dimensions.now self.now.indices.now
-            (opened_rows self.now.opened.now) proof.now levels) }
+        ensures { IfOk result (λ root. IsRootOf T.bytes self.now proof.now root) }
     {
         let count = log2_strict(self.top);
         let mut nodes = self.lowest(alloc, firsts)?;

@@ -1,14 +1,13 @@
 //! The tree over the rows of matrices.
 ghost use Rattle.std.specs.Prelude.{◌≡◌, ℕ, ◌+◌, ◌*◌, ◌^◌, ◌<◌, ◌==◌, length, map, IfOk};
-ghost use Rattle.std.specs.List.{range_with_len, list_any};
-ghost use Rattle.std.proofs.Common.{suc};
+ghost use Rattle.std.specs.List.{list_any};
 ghost use Rattle.sha2.specs.Sha256.{sha256};
 ghost use Rattle.circle_commit.specs.Matrix.{IsPowerOfTwo};
 ghost use Rattle.circle_commit.specs.RowMajorMatrix.{height_of};
 ghost use Rattle.circle_commit.specs.Mmcs.{dimensions_of, max_height};
-ghost use Rattle.circle_merkle.specs.Tree.{digest};
-ghost use Rattle.circle_merkle.specs.Rows.{size_of, matrix_rows};
-ghost use Rattle.circle_merkle.specs.Authentication.{level_digests, tree_levels};
+ghost use Rattle.circle_merkle.specs.Rows.{size_of};
+ghost use Rattle.circle_merkle.specs.Authentication.{IsNextLevel, IsParent, level_digests};
+ghost use Rattle.circle_merkle.specs.Authentication.{tree_levels};
 
 use crate::hashing::{Hash, joined_digest, node_digest, rows_digest};
 use crate::rows::MatrixRows;
@@ -50,10 +49,7 @@ fn parent_digest<T: ElementBytes>(
     some_row: bool,
 ) -> Hash
     requires rows { some_row ≡ list_any (λ m. height_of m == height) matrices.now }
-    ensures { (level : ℕ) → size_of (dimensions_of matrices.now) (suc level) ≡ height
-        → digest sha256 (matrix_rows T.bytes matrices.now) level (2 * i) ≡ left.now
-        → digest sha256 (matrix_rows T.bytes matrices.now) level (2 * i + 1) ≡ right.now
-        → result ≡ digest sha256 (matrix_rows T.bytes matrices.now) (suc level) i }
+    ensures { IsParent sha256 T.bytes matrices.now height i left.now right.now result }
 {
     let node = node_digest(left, right);
     if some_row {
@@ -71,10 +67,8 @@ fn next_level<T: ElementBytes>(
     height: usize,
 ) -> Result<Vec<Hash>, AllocError>
     requires { length below.now ≡ 2 * height }
-    ensures { (level : ℕ) → size_of (dimensions_of matrices.now) (suc level) ≡ height
-        → below.now ≡ level_digests sha256 T.bytes matrices.now level (2 * height)
-        → IfOk result (λ next. next.items
-        ≡ level_digests sha256 T.bytes matrices.now (suc level) height) }
+    ensures { IfOk result (λ next.
+        IsNextLevel sha256 T.bytes matrices.now height below.now next.items) }
 {
     let some_row = some_has_height(matrices, height);
     let mut next = Vec::with_capacity(alloc, height)?;

@@ -1,5 +1,6 @@
 -- Why there is no opening once the challenger is seeded.
-use Rattle.std.specs.Prelude.{◌≡◌, ℕ, List, IsTrue, true}
+use Rattle.std.specs.Prelude.{◌≡◌, ℕ, ◌⊎◌, List, IsTrue, map, true}
+use Rattle.std.specs.Borrow.{Bor}
 use Rattle.circle_challenger.specs.Moves.{RunMoves, is_passed, after_element}
 use Rattle.circle_commit.specs.declared.params.PowPhase.{PowPhase}
 use Rattle.circle_commit.specs.declared.params.PowPhase.TheVariants.{Batch, CommitPhase, Query}
@@ -8,16 +9,27 @@ use Rattle.circle_field.specs.Field.{FieldOps}
 use Rattle.circle_opening.specs.Taken.{claims_taken, shape_by}
 use Rattle.circle_opening.specs.Words.{EndsHigh}
 use Rattle.circle_opening.specs.declared.error.ProverError.{ProverError}
-use Rattle.circle_opening.specs.declared.error.ProverError.TheVariants.{Memory, LastWordNotConstant, NoGrindingWitness}
-use Rattle.circle_transcript.specs.Draw.{Claim, Taken, after_claims, claimed, layered, closed, after_rounds, rounds_pass, seeded}
+use Rattle.circle_opening.specs.declared.error.ProverError.TheVariants.{Memory, LastWordNotConstant}
+use Rattle.circle_opening.specs.declared.error.ProverError.TheVariants.{NoGrindingWitness}
+use Rattle.circle_transcript.specs.Draw.{Claim, Taken, after_claims, claimed, layered, closed}
+use Rattle.circle_transcript.specs.Draw.{after_rounds, rounds_pass, seeded}
 use Rattle.circle_relation.specs.Accepts.{Fields}
 use Rattle.circle_relation.specs.Statement.{BatchClaim}
 use Rattle.circle_transcript.specs.Numbers.{numbers_of}
 use Rattle.circle_transcript.specs.Runs.{NonePasses}
 use Rattle.circle_transcript.specs.declared.failure.CircleTranscriptFailure.{CircleTranscriptFailure}
-use Rattle.circle_transcript.specs.declared.failure.CircleTranscriptFailure.TheVariants.{PowWitness, NoWitness, Memory as OutOfMemory}
+use Rattle.circle_transcript.specs.declared.failure.CircleTranscriptFailure.TheVariants.{PowWitness}
+use Rattle.circle_transcript.specs.declared.failure.CircleTranscriptFailure.TheVariants.{NoWitness}
+use Rattle.circle_transcript.specs.declared.failure.CircleTranscriptFailure.TheVariants.{Memory as OutOfMemory}
 use Rattle.circle_transcript.specs.declared.transcript.Numbers.{Numbers}
-use Rattle.circle_words.specs.Words.{Committed}
+use Rattle.circle_point.specs.declared.point.Point.{Point}
+use Rattle.circle_transcript.specs.Claims.{claims_of}
+use Rattle.circle_transcript.specs.ShapeOf.{shape_of}
+use Rattle.circle_transcript.specs.Transcript.{at_commitment, current, numbers}
+use Rattle.circle_transcript.specs.declared.shape.CirclePcsShape.{CirclePcsShape}
+use Rattle.circle_transcript.specs.declared.transcript.CircleTranscript.{CircleTranscript}
+use Rattle.circle_words.specs.Words.{Committed, committed_of}
+use Rattle.circle_words.specs.declared.reduced.OpenedMatrix.{OpenedMatrix}
 
 -- the refusal by which a transcript's failure is answered
 abbrev pub prover_error : CircleTranscriptFailure → ProverError
@@ -72,6 +84,35 @@ module _ {C S F E Com : Type 0} (r : RunMoves C S F E Com) where
   abbrev pub IsStuck : Numbers → List (Claim E) → S → ProverError → Type 0
   IsStuck n claims s e = (phase : PowPhase) × (e ≡ NoGrindingWitness phase) × FindsNone n claims s
       phase
+
+  -- memory is refused, or no witness passes: in a round of a transcript, or in one of its rounds
+  module _ {Side : Type 0} (t : CircleTranscript C F E Side) (e : ProverError) where
+    abbrev pub IsRoundFailure : Type 0
+    IsRoundFailure = (e ≡ Memory) ⊎ ((e ≡ NoGrindingWitness CommitPhase)
+        × (commitment : Com) × NonePasses r.base
+        (at_commitment r t commitment) (numbers t).commit_pow_bits)
+
+    abbrev pub IsRoundsFailure : Type 0
+    IsRoundsFailure = (e ≡ Memory) ⊎ ((e ≡ NoGrindingWitness CommitPhase)
+        × IsStuckAfter (numbers t).commit_pow_bits (r.base.state (current t)))
+
+  -- why a run over claims is not played to its end: from a transcript that has begun, or from a
+  -- challenger that is seeded with its shape
+  module _ {M : Type 0} {g : _} (k : Fields F E) (p : FriParameters M)
+      (matrices : List (OpenedMatrix F E)) (claims : List (Point E g × Bor (List E))) where
+    abbrev pub IsRunFailure :
+        {Side : Type 0} → CircleTranscript C F E Side → ProverError → Type 0
+    IsRunFailure t e =
+        (e ≡ Memory)
+        ⊎ IsTooHigh k p.log_blowup p.log_final_poly_len (map committed_of matrices) e
+        ⊎ IsStuck (numbers t) (claims_of claims) (r.base.state (current t)) e
+
+    abbrev pub IsShapeFailure : CirclePcsShape → C → ProverError → Type 0
+    IsShapeFailure shape challenger e =
+        (e ≡ Memory)
+        ⊎ IsTooHigh k p.log_blowup p.log_final_poly_len (map committed_of matrices) e
+        ⊎ IsStuck (numbers_of (shape_of shape)) (claims_of claims)
+        (seeded r (shape_of shape) (r.base.state challenger)) e
 
 -- so it does in the run over claims under these parameters, before it is seeded
 abbrev pub IsStuckFrom : {C S F E M Com WC : Type 0} → RunMoves C S F E WC → FieldOps E

@@ -5,3 +5,4 @@ pub mod Requests
 pub mod Opening
 pub mod Failure
 pub mod Rows
+pub mod Schemes

@@ -1,5 +1,6 @@
 -- What an opening answers: Circle STARKs (ePrint 2024/278), sections 4 and 6.
-use Rattle.std.specs.Prelude.{◌≡◌, ℕ, ◌+◌, ◌-◌, ◌⊎◌, List, [], ◌∷◌, length, map, flat_map, All, Some, slice_get, Ok}
+use Rattle.std.specs.Prelude.{◌≡◌, ℕ, ◌+◌, ◌-◌, ◌⊎◌, List, [], ◌∷◌, length, map, flat_map, All}
+use Rattle.std.specs.Prelude.{Some, slice_get, Ok}
 use Rattle.std.specs.List.{AllZip}
 use Rattle.circle_challenger.specs.Moves.{RunMoves}
 use Rattle.circle_commit.specs.Pcs.{Openings}
@@ -9,7 +10,9 @@ use Rattle.circle_commit.specs.declared.pcs.OpeningRequest.{OpeningRequest}
 use Rattle.circle_field.specs.Field.{FieldOps}
 use Rattle.circle_domain.specs.Spans.{HasXValues}
 use Rattle.circle_relation.specs.Accepts.{Authenticates, Fields}
+use Rattle.circle_relation.specs.RunOf.{proof_of}
 use Rattle.circle_relation.specs.Statement.{BatchClaim, Challenges, Opened, OpeningProof}
+use Rattle.circle_relation.specs.declared.proof.CirclePcsProof.{CirclePcsProof}
 use Rattle.circle_opening.specs.Failure.{IsStuckFrom, IsTooHigh}
 use Rattle.circle_opening.specs.declared.error.ProverError.{ProverError}
 use Rattle.circle_opening.specs.declared.error.ProverError.TheVariants.{Memory}
@@ -18,9 +21,12 @@ use Rattle.circle_transcript.specs.declared.run.CircleDraws.{CircleDraws}
 use Rattle.circle_transcript.specs.declared.run.CircleWitnesses.{CircleWitnesses}
 use Rattle.circle_words.specs.Words.{Committed, lambda, pairs_of}
 use Rattle.circle_opening.specs.Openings.{OpensSiblings}
-use Rattle.circle_opening.specs.Requests.{AreAnswers, HasBatchRows, all_committed, claimed_batch}
+use Rattle.circle_opening.specs.Requests.{AreAnswers, HasBatchRows, OpensBatches, all_committed}
+use Rattle.circle_opening.specs.Requests.{claimed_batch}
 use Rattle.circle_opening.specs.Taken.{drawn_by, shape_by, taken_by}
-use Rattle.circle_opening.specs.Words.{AreCommitted, heights_of, layer_of, round_word, top_of}
+use Rattle.circle_opening.specs.Words.{AreCommitted, AreMade, heights_of, layer_of, round_word}
+use Rattle.circle_opening.specs.Words.{top_of}
+use Rattle.circle_opening.specs.declared.run.CommittedWords.{CommittedWords}
 
 -- under a scheme, words of these heights that have this commitment, and of their rows at the
 -- queries without so many bits the entries beside the queries' places, with a proof of the rows
@@ -130,3 +136,23 @@ pub record AreEasy {F M : Type 0} (p : FriParameters M) (l : FieldOps F) (w : Ci
   pub batch : p.batch_proof_of_work_bits ≡ 0 → w.batch ≡ l.zero
   pub rounds : p.commit_proof_of_work_bits ≡ 0 → All (λ a. a ≡ l.zero) w.rounds.items
   pub query : p.query_proof_of_work_bits ≡ 0 → w.query ≡ l.zero
+
+-- whatever matrices these are the words of, the proof holds what they ask for
+abbrev pub HoldsMade : {F E I M IC ID IP IE WC WD WP WE : Type 0} → Fields F E
+    → (M → List (RowMajorMatrix E) → WC → Type 0) → (WD → List (RowMajorMatrix E))
+    → (M → Authenticates WC E WP) → FriParameters M → CommittedWords F E WC WD
+    → CirclePcsProof F E I M F IC ID IP IE WC WD WP WE → Type 0
+HoldsMade {F = F} {E = E} k Commits kept_of authenticates p words proof =
+    (matrices : List (Committed F E)) → AreMade k Commits kept_of p matrices words →
+    AreEasy p k.field words.witnesses →
+    HoldsWords k matrices (challenges_of words.draws) (proof_of proof) p (Commits p.mmcs)
+    (authenticates p.mmcs)
+
+-- it opens the batches at the queries that were drawn
+abbrev pub HoldsBatches : {D F E M I IC IP IE WC WD WP WE : Type 0} → (D → List (RowMajorMatrix F))
+    → (I → List (RowMajorMatrix F) → IC → Type 0) → (I → Authenticates IC F IP) → I
+    → CommittedWords F E WC WD → List (OpeningRequest D E)
+    → CirclePcsProof F E I M F IC D IP IE WC WD WP WE → Type 0
+HoldsBatches kept Commits authenticates mmcs words requests proof =
+    OpensBatches kept Commits authenticates mmcs words.log_max_height words.draws.indices.items
+    requests proof.fri_proof.input_openings.input_openings.items

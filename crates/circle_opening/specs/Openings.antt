@@ -1,9 +1,12 @@
 -- What is opened of committed matrices at the queries.
-use Rattle.std.specs.Prelude.{◌≡◌, ℕ, ◌+◌, ◌-◌, ◌/◌, ◌%◌, ◌^◌, List, [], ◌∷◌, map, Some, slice_get, slice_index_or}
+use Rattle.std.specs.Prelude.{◌≡◌, ℕ, ◌+◌, ◌-◌, ◌/◌, ◌%◌, ◌^◌, List, [], ◌∷◌, map, Some, slice_get}
+use Rattle.std.specs.Prelude.{slice_index_or, Vec}
+use Rattle.std.specs.declared.alloc.Global.{Global}
 use Rattle.circle_commit.specs.Mmcs.{IsShownOf, rows_at, rows_at_each}
 use Rattle.circle_commit.specs.declared.matrix.Dimensions.{Dimensions}
 use Rattle.circle_commit.specs.declared.matrix.RowMajorMatrix.{RowMajorMatrix}
 use Rattle.circle_commit.specs.DotProduct.{pairwise}
+use Rattle.circle_relation.specs.declared.proof.CircleCommitPhaseMultiStep.{CircleCommitPhaseMultiStep}
 
 -- the queries without so many of their lowest bits
 abbrev pub places_of : ℕ → List ℕ → List ℕ
@@ -38,3 +41,23 @@ module _ {T C P : Type 0} (Commits : List (RowMajorMatrix T) → C → Type 0)
     pub shown :
         let places = places_of bits queries in
         IsShownOf Commits Authenticates matrices places (rows_at_each matrices places) proof
+
+-- under a scheme whose relations take its value
+module _ {E W C P : Type 0} (Commits : W → List (RowMajorMatrix E) → C → Type 0)
+    (authenticates : W → C → List Dimensions → List ℕ → List (List (List E)) → P → Type 0)
+    (mmcs : W) (zero : E) where
+  -- these siblings are opened of matrices
+  abbrev pub AreOpenedSiblings : List (RowMajorMatrix E) → ℕ → List ℕ → ℕ → List ℕ
+      → List (Vec E Global) → P → Type 0
+  AreOpenedSiblings matrices top heights bits queries siblings proof =
+      OpensSiblings (Commits mmcs) (authenticates mmcs) matrices zero top heights bits queries
+      (map (λ s. s.items) siblings) proof
+
+  -- and those of each round, whose word is committed to alone
+  abbrev pub AreOpenedRounds : {D WD WE : Type 0} → (D → List (RowMajorMatrix E)) → ℕ → List ℕ
+      → List D → List (CircleCommitPhaseMultiStep E W C WD P WE) → Type 0
+  AreOpenedRounds {D = D} {WD = WD} {WE = WE} kept_of top queries kept steps =
+      (n : ℕ) (d : D) (step : CircleCommitPhaseMultiStep E W C WD P WE) →
+      slice_get kept n ≡ Some d → slice_get steps n ≡ Some step →
+      OpensSiblings (Commits mmcs) (authenticates mmcs) (kept_of d) zero top ((top - 1 - n) ∷ [])
+      (n + 2) queries (map (λ s. s.items) step.sibling_values.items) step.opening_proof

@@ -1,19 +1,22 @@
 -- What is asked to be opened, and what is answered.
-use Rattle.std.specs.Prelude.{◌≡◌, ℕ, ◌+◌, ◌-◌, ◌^◌, ◌<◌, ◌≤◌, List, [], length, map, flat_map, zip, All, nat_le, Vec}
+use Rattle.std.specs.Prelude.{◌≡◌, ℕ, ◌+◌, ◌-◌, ◌^◌, ◌<◌, ◌≤◌, List, [], length, map, flat_map, zip}
+use Rattle.std.specs.Prelude.{All, nat_le, Vec, ◌++◌}
 use Rattle.std.specs.List.{AllZip, filter, range_with_len}
 use Rattle.std.specs.declared.alloc.Global.{Global}
 use Rattle.std.proofs.Common.{suc}
-use Rattle.circle_commit.specs.Mmcs.{HaveHeightsOfPowers, max_height}
+use Rattle.circle_commit.specs.Mmcs.{HaveHeightsOfPowers, max_height, opened_rows}
 use Rattle.circle_commit.specs.Pcs.{Openings}
 use Rattle.circle_commit.specs.RowMajorMatrix.{rows, width_of, height_of}
 use Rattle.circle_commit.specs.declared.matrix.RowMajorMatrix.{RowMajorMatrix}
 use Rattle.circle_commit.specs.declared.params.FriParameters.{FriParameters}
+use Rattle.circle_commit.specs.declared.pcs.BatchMultiOpening.{BatchMultiOpening}
 use Rattle.circle_commit.specs.declared.pcs.OpeningRequest.{OpeningRequest}
 use Rattle.circle_commit.specs.DotProduct.{pairwise}
 use Rattle.circle_relation.specs.Accepts.{Authenticates, Fields}
+use Rattle.circle_relation.specs.RunOf.{opened_batch}
 use Rattle.circle_relation.specs.Statement.{BatchClaim, MatrixClaim, Opened}
 use Rattle.circle_words.specs.Values.{AreOff, AreOpened}
-use Rattle.circle_words.specs.Words.{CanBeOpened, Committed, claim_of}
+use Rattle.circle_words.specs.Words.{CanBeOpened, Committed, claim_of, committed_of}
 use Rattle.circle_opening.specs.Openings.{OpensRows, places_of}
 use Rattle.circle_words.specs.declared.reduced.OpenedMatrix.{OpenedMatrix}
 
@@ -52,6 +55,12 @@ module _ {F E : Type 0} where
   batch_committed matrices points values =
       pairwise (λ m rest. committed m rest.0 rest.1) matrices (zip points values)
 
+  -- for each of several points of each matrix of a batch the values that they ask for
+  abbrev pub AreBatchValues : Fields F E → ℕ → List (RowMajorMatrix F) → List (List E)
+      → List (List (List E)) → Type 0
+  AreBatchValues k blowup matrices points values =
+      AllZip (λ m rest. AreValuesOf k blowup m rest.0 rest.1) matrices (zip points values)
+
   -- a committed matrix with its claims, as a verifier is handed them
   abbrev pub claimed : ℕ → Committed F E → MatrixClaim E
   claimed blowup m = record { log_n = m.log_height - blowup; claims = m.claims }
@@ -64,6 +73,12 @@ module _ {F E : Type 0} where
 -- vectors as lists
 abbrev pub lists_of : {E : Type 0} → List (Vec E Global) → List (List E)
 lists_of vectors = map (λ v. v.items) vectors
+
+-- the matrices of a list, and then those of a batch
+abbrev pub with_batch : {F E : Type 0} → List (OpenedMatrix F E) → List (RowMajorMatrix F)
+    → List (Vec E Global) → List (Vec (Vec E Global) Global) → List (Committed F E)
+with_batch list matrices points values =
+    map committed_of list ++ batch_committed matrices (lists_of points) (opened_rows values)
 
 -- kept of what a committer keeps are the matrices
 module _ {D F E : Type 0} (kept : D → List (RowMajorMatrix F)) where
@@ -86,8 +101,7 @@ module _ {D F E : Type 0} (kept : D → List (RowMajorMatrix F)) where
     -- these are the values that a request asks for
     abbrev pub AreAnswers : OpeningRequest D E → List (List (List E)) → Type 0
     AreAnswers r values =
-        AllZip (λ m rest. AreValuesOf k blowup m rest.0 rest.1) (kept r.prover_data.now)
-        (zip (points_of r) values)
+        AreBatchValues k blowup (kept r.prover_data.now) (points_of r) values
         × (length values ≡ length (points_of r))
 
 -- these are the values that requests ask for
@@ -133,3 +147,11 @@ HasBatchRows kept Commits authenticates top queries request o =
     let matrices = kept request.prover_data.now in
     let places = places_of (top - log_of (max_height matrices)) queries in
     OpensRows Commits authenticates matrices places o.entries o.proof
+
+-- so it is of each request, under a scheme whose relations take its value
+abbrev pub OpensBatches : {D F E I C P IE : Type 0} → (D → List (RowMajorMatrix F))
+    → (I → List (RowMajorMatrix F) → C → Type 0) → (I → Authenticates C F P) → I → ℕ → List ℕ
+    → List (OpeningRequest D E) → List (BatchMultiOpening F I C D P IE) → Type 0
+OpensBatches kept Commits authenticates mmcs top queries requests openings =
+    AllZip (HasBatchRows kept (Commits mmcs) (authenticates mmcs) top queries) requests
+    (map opened_batch openings)

@@ -1,18 +1,27 @@
 -- What an opening commits to once its batching challenge is drawn: Circle STARKs (ePrint 2024/278),
 -- sections 4 and 6.
-use Rattle.std.specs.Prelude.{◌≡◌, ℕ, ◌+◌, ◌-◌, ◌≤◌, ◌==◌, List, [], ◌∷◌, length, map, zip, All, Some, slice_get, slice_index_or, true}
+use Rattle.std.specs.Prelude.{◌≡◌, ℕ, ◌+◌, ◌-◌, ◌≤◌, ◌==◌, List, [], ◌∷◌, length, map, zip, All}
+use Rattle.std.specs.Prelude.{Some, slice_get, slice_index_or, true, Vec}
 use Rattle.std.specs.List.{filter, list_any, range_with_len}
+use Rattle.std.specs.declared.alloc.Global.{Global}
 use Rattle.std.proofs.Common.{zero, suc}
 use Rattle.circle_challenger.specs.Moves.{RunMoves}
+use Rattle.circle_commit.specs.DotProduct.{pairwise}
 use Rattle.circle_commit.specs.Mmcs.{greatest}
 use Rattle.circle_commit.specs.RowMajorMatrix.{rows, width_of}
 use Rattle.circle_commit.specs.declared.matrix.RowMajorMatrix.{RowMajorMatrix}
 use Rattle.circle_folding.specs.Fold.{y_folds}
 use Rattle.circle_relation.specs.Accepts.{Fields}
 use Rattle.circle_commit.specs.declared.params.FriParameters.{FriParameters}
-use Rattle.circle_transcript.specs.Draw.{Claim, Taken, taken, after_rounds, fold_challenges, rounds_pass}
+use Rattle.circle_transcript.specs.Draw.{Claim, Taken, taken, after_rounds, fold_challenges}
+use Rattle.circle_transcript.specs.Draw.{rounds_pass}
 use Rattle.circle_domain.specs.Spans.{HasXValues, XSpan}
-use Rattle.circle_words.specs.Words.{Committed, HaveHeights, corrected_word, lambda, next_word, pairs_of}
+use Rattle.circle_transcript.specs.Transcript.{current, numbers}
+use Rattle.circle_transcript.specs.declared.transcript.CircleTranscript.{CircleTranscript}
+use Rattle.circle_words.specs.Words.{Committed, HaveHeights, committed_of, corrected_word, lambda}
+use Rattle.circle_words.specs.Words.{layers_of, next_word, pairs_of, y_folded}
+use Rattle.circle_words.specs.declared.reduced.OpenedMatrix.{OpenedMatrix}
+use Rattle.circle_opening.specs.declared.rounds.Rounds.{Rounds}
 use Rattle.circle_opening.specs.declared.run.CommittedWords.{CommittedWords}
 
 module _ {F E : Type 0} where
@@ -126,3 +135,66 @@ abbrev pub AreTall : {F E M : Type 0} → FriParameters M → List (Committed F 
 AreTall p matrices =
     (1 ≤ length matrices)
     × All (λ m. p.log_blowup + p.log_final_poly_len + 2 ≤ m.log_height) matrices
+
+-- the words of the first layer that matrices with their points and values there have, committed to;
+-- what layers, kept by a committer, fold into by y
+module _ {F E : Type 0} (k : Fields F E) where
+  abbrev pub AreLayers : {D Com : Type 0} → (D → List (RowMajorMatrix E))
+      → (List (RowMajorMatrix E) → Com → Type 0) → List (OpenedMatrix F E) → ℕ → E → List ℕ → D
+      → Com → Type 0
+  AreLayers kept_of Commits matrices blowup alpha heights kept commitment =
+      AreCommitted Commits (layers_of k matrices blowup alpha heights) (kept_of kept) commitment
+
+  abbrev pub folded_layers : E → List ℕ → List (RowMajorMatrix E) → List (List E)
+  folded_layers bivariate heights layers =
+      pairwise (y_folded k bivariate) heights (map rows layers)
+
+-- whatever these words are folded from, by the heights
+module _ {F E : Type 0} (k : Fields F E) (heights : List ℕ) (folded : List (Vec E Global)) where
+  -- this is the word that follows one of 2^h entries
+  abbrev pub Follows : ℕ → E → List E → List E → Type 0
+  Follows h beta word next =
+      (f : ℕ → List E) → map (λ w. w.items) folded ≡ map f heights →
+      next ≡ next_word k heights f h beta word
+
+  -- this is the word after so many rounds that begin with one of 2^h entries
+  abbrev pub EndsIn : ℕ → List E → List E → ℕ → List E → Type 0
+  EndsIn h first betas count word =
+      (f : ℕ → List E) → map (λ w. w.items) folded ≡ map f heights →
+      word ≡ word_at k heights f h first betas count
+
+  -- these are its rounds
+  abbrev pub AreRoundsFrom : {S D Com : Type 0} → (List (RowMajorMatrix E) → Com → Type 0)
+      → (D → List (RowMajorMatrix E)) → ℕ → List E → Rounds S E Com D → Type 0
+  AreRoundsFrom Commits kept_of h first rounds =
+      (f : ℕ → List E) → map (λ w. w.items) folded ≡ map f heights →
+      AreRounds Commits kept_of (word_at k heights f h first rounds.betas.items) rounds.kept.items
+      rounds.commitments.items
+
+-- these rounds were played from the one transcript, which leaves the other
+abbrev pub ArePlayed : {C S F E Com D Side : Type 0} → RunMoves C S F E Com
+    → CircleTranscript C F E Side → CircleTranscript C F E Side → Rounds F E Com D → Type 0
+ArePlayed r old new rounds =
+    HavePlayed r (numbers old).commit_pow_bits (r.base.state (current old))
+    (r.base.state (current new)) (zip rounds.commitments.items rounds.witnesses.items)
+    (map r.base.coefficients rounds.betas.items)
+
+-- so many rounds leave the coefficients at which folding stops
+abbrev pub rounds_for : {F E M : Type 0} → FriParameters M → List (OpenedMatrix F E) → ℕ
+rounds_for p matrices =
+    top_of (map committed_of matrices) - 1 - p.log_blowup - p.log_final_poly_len
+
+-- what was made are the words of these matrices, under parameters and the scheme of the words
+abbrev pub AreMade : {F E M Com D : Type 0} → Fields F E
+    → (M → List (RowMajorMatrix E) → Com → Type 0) → (D → List (RowMajorMatrix E))
+    → FriParameters M → List (Committed F E) → CommittedWords F E Com D → Type 0
+AreMade k Commits kept_of p matrices words =
+    AreWordsOf k p.log_blowup p.log_final_poly_len (Commits p.mmcs) kept_of matrices words
+
+-- what was made are the words of some matrices that leave something to fold
+abbrev pub AreSomeWords : {F E M Com D : Type 0} → Fields F E
+    → (M → List (RowMajorMatrix E) → Com → Type 0) → (D → List (RowMajorMatrix E))
+    → FriParameters M → CommittedWords F E Com D → Type 0
+AreSomeWords {F = F} {E = E} k Commits kept_of p words =
+    (matrices : List (Committed F E)) × AreTall p matrices
+    × AreMade k Commits kept_of p matrices words

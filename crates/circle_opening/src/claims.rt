@@ -11,9 +11,10 @@ ghost use Rattle.circle_domain.specs.Selectors.{IsFinite};
 ghost use Rattle.circle_transcript.specs.Claims.{claims_of};
 ghost use Rattle.circle_transcript.specs.ShapeOf.{batches_of, matrices_of};
 ghost use Rattle.circle_words.specs.Words.{claim_of, committed_of};
-ghost use Rattle.circle_opening.specs.Requests.{AreAnswers, AreValuesOf, IsFit, IsOpenable};
+ghost use Rattle.circle_opening.specs.Requests.{AreAnswers, IsFit, IsOpenable};
 ghost use Rattle.circle_opening.specs.Requests.{IsReady};
-ghost use Rattle.circle_opening.specs.Requests.{all_committed, batch_committed, lists_of};
+ghost use Rattle.circle_opening.specs.Requests.{AreBatchValues, all_committed, lists_of};
+ghost use Rattle.circle_opening.specs.Requests.{with_batch};
 ghost use Rattle.circle_opening.specs.Taken.{point_taken};
 
 use circle_commit::{
@@ -38,13 +39,12 @@ fn push_matrices<'a, F: ComplexExtendable, EF: ExtensionField<F>>(
     requires fit { AllZip (IsOpenable ⟦<EF as OverCircle<F>>⟧.fields F.CIRCLE_TWO_ADICITY
         log_blowup) matrices.now (lists_of points.now) }
     requires count { length values.now ≡ length points.now }
-    requires values { AllZip (λ m rest. AreValuesOf ⟦<EF as OverCircle<F>>⟧.fields log_blowup m
-        rest.0 rest.1) matrices.now (zip (lists_of points.now) (opened_rows values.now)) }
+    requires values { AreBatchValues ⟦<EF as OverCircle<F>>⟧.fields log_blowup matrices.now
+        (lists_of points.now) (opened_rows values.now) }
     requires openable { All (IsReady ⟦<EF as OverCircle<F>>⟧.fields F.CIRCLE_TWO_ADICITY)
         list.old.items }
-    ensures matrices { OnOk result (map committed_of list.new.items ≡ map committed_of
-        list.old.items
-        ++ batch_committed matrices.now (lists_of points.now) (opened_rows values.now)) }
+    ensures matrices { OnOk result (map committed_of list.new.items
+        ≡ with_batch list.old.items matrices.now points.now values.now) }
     ensures openable { OnOk result (All (IsReady ⟦<EF as OverCircle<F>>⟧.fields
         F.CIRCLE_TWO_ADICITY) list.new.items) }
 {

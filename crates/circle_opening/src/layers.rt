@@ -1,13 +1,13 @@
 //! The first layer of an opening, committed to and folded by y.
-ghost use Rattle.std.specs.Prelude.{◌≡◌, ◌≤◌, ◌<◌, ◌-◌, ◌+◌, ◌^◌, ◌++◌, [], ◌∷◌, length, map, All, IfOk, IfErr};
+ghost use Rattle.std.specs.Prelude.{◌≡◌, ◌≤◌, ◌<◌, ◌-◌, ◌+◌, ◌^◌, ◌++◌, [], ◌∷◌, length, map, All};
+ghost use Rattle.std.specs.Prelude.{IfOk, IfErr};
 ghost use Rattle.std.specs.Prelude.{◌⊎◌};
-ghost use Rattle.circle_commit.specs.RowMajorMatrix.{rows};
-ghost use Rattle.circle_commit.specs.DotProduct.{pairwise};
 ghost use Rattle.circle_domain.specs.Spans.{HasXValues, XSpan};
 ghost use Rattle.circle_words.specs.Words.{CanBeOpened, HaveHeights, IsHeight};
-ghost use Rattle.circle_words.specs.Words.{layers_of, opened_lambda, y_folded};
-ghost use Rattle.circle_opening.specs.Words.{AreCommitted};
-ghost use Rattle.circle_opening.specs.declared.error.ProverError.TheVariants.{Memory, LastWordNotConstant};
+ghost use Rattle.circle_words.specs.Words.{opened_lambda};
+ghost use Rattle.circle_opening.specs.Words.{AreLayers, folded_layers};
+ghost use Rattle.circle_opening.specs.declared.error.ProverError.TheVariants.{LastWordNotConstant};
+ghost use Rattle.circle_opening.specs.declared.error.ProverError.TheVariants.{Memory};
 
 use crate::error::ProverError;
 use circle_commit::Mmcs;
@@ -48,9 +48,8 @@ pub(crate) fn commit_first_layer<F: ComplexExtendable, EF: ExtensionField<F>, M:
         num_powers) matrices.now }
     ensures lambdas { let k = ⟦<EF as OverCircle<F>>⟧.fields in IfOk result (λ r. r.lambdas.items ≡
         map (opened_lambda k matrices.now log_blowup alpha) heights.now) }
-    ensures committed { let k = ⟦<EF as OverCircle<F>>⟧.fields in IfOk result (λ r. AreCommitted
-        (M.commits mmcs.now) (layers_of k matrices.now log_blowup alpha heights.now)
-        (M.matrices r.kept) r.commitment) }
+    ensures committed { IfOk result (λ r. AreLayers ⟦<EF as OverCircle<F>>⟧.fields M.matrices
+        (M.commits mmcs.now) matrices.now log_blowup alpha heights.now r.kept r.commitment) }
     ensures shapes { IfOk result (λ r. HaveHeights heights.now (M.matrices r.kept)) }
 {
     let powers = EF::powers(alloc, alpha, num_powers)?;
@@ -77,9 +76,8 @@ pub(crate) fn fold_first_layer<F: ComplexExtendable, EF: ExtensionField<F>, M: M
     requires some { 1 ≤ length heights.now }
     requires heights { All (λ h. (1 ≤ h) × (h < F.CIRCLE_TWO_ADICITY)) heights.now }
     requires shapes { HaveHeights heights.now (M.matrices kept.now) }
-    ensures words { IfOk result (λ r. map (λ w. w.items) r.1.items ++ r.0.items ∷ [] ≡ pairwise
-        (y_folded ⟦<EF as OverCircle<F>>⟧.fields bivariate) heights.now
-        (map rows (M.matrices kept.now))) }
+    ensures words { IfOk result (λ r. map (λ w. w.items) r.1.items ++ r.0.items ∷ [] ≡
+        folded_layers ⟦<EF as OverCircle<F>>⟧.fields bivariate heights.now (M.matrices kept.now)) }
     ensures lengths { IfOk result (λ r. map (λ w. length w.items) r.1.items
         ++ length r.0.items ∷ [] ≡ map (λ h. 2 ^ (h - 1)) heights.now) }
 {

@@ -11,8 +11,10 @@ mod openings;
 pub mod prove;
 mod rounds;
 pub mod run;
+mod schemes;
 mod values;
 
 pub use error::ProverError;
 pub use prove::open_requests;
 pub use run::CommittedWords;
+pub use schemes::OpeningOver;

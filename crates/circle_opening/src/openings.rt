@@ -1,10 +1,12 @@
 //! Committed rows at the queries, and the entries beside those that the queries ask for.
-ghost use Rattle.std.specs.Prelude.{◌≡◌, ℕ, ◌≤◌, ◌<◌, ◌-◌, ◌+◌, ◌/◌, ◌*◌, ◌^◌, [], ◌∷◌, length, map, All, Some};
-ghost use Rattle.std.specs.Prelude.{IfOk, OnOk, slice_get, slice_index_or};
+ghost use Rattle.std.specs.Prelude.{◌≡◌, ℕ, ◌≤◌, ◌<◌, ◌-◌, ◌+◌, ◌*◌, ◌^◌, [], ◌∷◌, length, map};
+ghost use Rattle.std.specs.Prelude.{All, Some};
+ghost use Rattle.std.specs.Prelude.{IfOk, slice_get};
 ghost use Rattle.circle_commit.specs.Mmcs.{HaveHeightsOfPowers, max_height, opened_rows};
 ghost use Rattle.circle_commit.specs.DotProduct.{pairwise};
 ghost use Rattle.circle_words.specs.Words.{HaveHeights};
-ghost use Rattle.circle_opening.specs.Openings.{places_of, siblings_at, OpensRows, OpensSiblings};
+ghost use Rattle.circle_opening.specs.Openings.{AreOpenedRounds, AreOpenedSiblings, OpensRows};
+ghost use Rattle.circle_opening.specs.Openings.{places_of, siblings_at};
 
 use circle_commit::{Mmcs, OpenedRows};
 use circle_field::Field;
@@ -110,9 +112,8 @@ pub(crate) fn open_siblings<EF: Field, M: Mmcs<EF>>(
     requires heights { All (λ h. h ≤ log_max_height) heights.now }
     requires shapes { HaveHeights heights.now (M.matrices kept.now) }
     requires greatest { max_height (M.matrices kept.now) ≡ 2 ^ (log_max_height - bits) }
-    ensures { IfOk result (λ r. OpensSiblings (M.commits mmcs.now) (M.authenticates mmcs.now)
-        (M.matrices kept.now) EF.ops.zero log_max_height heights.now bits indices.now
-        (map (λ s. s.items) r.0.items) r.1) }
+    ensures { IfOk result (λ r. AreOpenedSiblings M.commits M.authenticates mmcs.now EF.ops.zero
+        (M.matrices kept.now) log_max_height heights.now bits indices.now r.0.items r.1) }
 {
     let (rows, proof) = open_rows(alloc, mmcs, indices, bits, kept)?;
     let siblings = all_siblings(alloc, log_max_height, heights, indices, &rows)?;
@@ -140,11 +141,8 @@ pub(crate) fn open_rounds<EF: Field, M: Mmcs<EF>>(
     requires words { (n : ℕ) (d : M.ProverData) → slice_get kept.now n ≡ Some d →
         HaveHeights ((log_max_height - 1 - n) ∷ []) (M.matrices d) }
     ensures count { IfOk result (λ made. length made.items ≡ length kept.now) }
-    ensures opened { IfOk result (λ made. (n : ℕ) (d : M.ProverData) (step : _) →
-        slice_get kept.now n ≡ Some d → slice_get made.items n ≡ Some step → OpensSiblings
-        (M.commits mmcs.now) (M.authenticates mmcs.now) (M.matrices d) EF.ops.zero log_max_height
-        ((log_max_height - 1 - n) ∷ []) (n + 2) indices.now
-        (map (λ s. s.items) step.sibling_values.items) step.opening_proof) }
+    ensures opened { IfOk result (λ made. AreOpenedRounds M.commits M.authenticates mmcs.now
+        EF.ops.zero M.matrices log_max_height indices.now kept.now made.items) }
 {
     let mut openings = Vec::with_capacity(alloc, kept.len())?;
     for (round, word) in kept.iter().enumerate() {

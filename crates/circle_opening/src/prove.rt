@@ -1,28 +1,25 @@
 //! The opening of requested matrices: their values, and the proof.
-ghost use Rattle.std.specs.Prelude.{◌≡◌, List, ◌≤◌, ◌<◌, ◌-◌, ◌+◌, ◌^◌, ◌⊎◌, length, map, All, IfOk, IfErr, Ok};
-ghost use Rattle.std.specs.List.{AllZip};
+ghost use Rattle.std.specs.Prelude.{◌≡◌, List, ◌≤◌, ◌<◌, ◌-◌, ◌+◌, ◌^◌, length, All, IfOk, IfErr};
+ghost use Rattle.std.specs.Prelude.{Ok};
 ghost use Rattle.circle_commit.specs.Pcs.{openings};
 ghost use Rattle.circle_relation.specs.Statement.{BatchClaim};
-ghost use Rattle.circle_words.specs.Words.{Committed};
-ghost use Rattle.circle_relation.specs.RunOf.{opened_batch, proof_of};
-ghost use Rattle.circle_transcript.specs.Draw.{draw};
-ghost use Rattle.circle_transcript.specs.Runs.{drawn_of};
-ghost use Rattle.circle_opening.specs.Failure.{IsStuckFrom, IsTooHigh};
-ghost use Rattle.circle_opening.specs.Opening.{answered_claims, answered_matrices, challenges_of};
-ghost use Rattle.circle_opening.specs.Opening.{AreEasy, HoldsWords, IsFailure, IsOpening};
+ghost use Rattle.circle_relation.specs.RunOf.{proof_of};
+ghost use Rattle.circle_opening.specs.Opening.{AreEasy, HoldsBatches, HoldsMade};
 ghost use Rattle.circle_opening.specs.Requests.{AreAnswered, AreFit, AreHeights, AreRequests};
-ghost use Rattle.circle_opening.specs.Requests.{HasBatchRows};
-ghost use Rattle.circle_opening.specs.Taken.{claims_taken, shape_by, taken_by};
-ghost use Rattle.circle_opening.specs.Words.{AreTall, AreWordsOf, taken_in};
-ghost use Rattle.circle_opening.specs.declared.error.ProverError.TheVariants.{Memory};
+ghost use Rattle.circle_opening.specs.Requests.{OpensBatches};
+ghost use Rattle.circle_opening.specs.Schemes.{AreWordsFor, IsFailureFrom, IsNotPlayed};
+ghost use Rattle.circle_opening.specs.Schemes.{IsOpeningBy, IsPlayed};
+ghost use Rattle.circle_opening.specs.Taken.{claims_taken, taken_by};
+ghost use Rattle.circle_opening.specs.Words.{AreSomeWords, taken_in};
 
 use crate::claims::{above_widths, opened_claims, opened_matrices, opened_widths};
 use crate::error::ProverError;
 use crate::heights::greatest_height;
 use crate::openings::{open_rounds, open_rows, open_siblings};
 use crate::run::{CommittedWords, open_words};
+use crate::schemes::OpeningOver;
 use crate::values::requested_values;
-use circle_challenger::{CanObserve, CanSample, GrindingChallenger, RunChallenger};
+use circle_challenger::{CanObserve, CanSample, GrindingChallenger};
 use circle_commit::{
     BatchMultiOpening, FriFoldingStrategy, FriParameters, Mmcs, OpenedValues, OpenedValuesForRound,
     OpeningRequest, log2_strict,
@@ -59,22 +56,12 @@ where
         All (λ q. q < 2 ^ w.log_max_height) w.draws.indices.items) }
     ensures some { IfOk result (λ w. 1 ≤ length w.draws.indices.items) }
     ensures easy { IfOk result (λ w. AreEasy params.now Val.ops w.witnesses) }
-    ensures draws { let m = ⟦<C as RunChallenger<Val, EF, FriMmcs::Commitment>>⟧.run in
-        let claims = answered_claims params.now InputMmcs.matrices requests.now
-        (openings values.now) in IfOk result (λ w. draw m (shape_by params.now claims)
-        (taken_in (claims_taken EF.ops claims) w) (C.state challenger.old)
-        ≡ Ok (drawn_of EF.coefficients w.draws (C.state challenger.new))) }
-    ensures words { let matrices = answered_matrices params.now InputMmcs.matrices requests.now
-        (openings values.now) in IfOk result (AreWordsOf ⟦<EF as OverCircle<Val>>⟧.fields
-        params.now.log_blowup params.now.log_final_poly_len
-        (FriMmcs.commits params.now.mmcs) FriMmcs.matrices matrices) }
-    ensures failure { let m = ⟦<C as RunChallenger<Val, EF, FriMmcs::Commitment>>⟧.run in
-        let matrices = answered_matrices params.now InputMmcs.matrices requests.now
-        (openings values.now) in IfErr result (λ e. (e ≡ Memory)
-        ⊎ IsTooHigh ⟦<EF as OverCircle<Val>>⟧.fields params.now.log_blowup
-        params.now.log_final_poly_len matrices e ⊎ IsStuckFrom m EF.ops
-        params.now (answered_claims params.now InputMmcs.matrices requests.now
-        (openings values.now)) (C.state challenger.old) e) }
+    ensures draws { let o = ⟦<C as OpeningOver<Val, EF, InputMmcs, FriMmcs>>⟧.schemes in IfOk result
+        (λ w. IsPlayed o params.now requests.now values.now challenger.old w challenger.new) }
+    ensures words { let o = ⟦<C as OpeningOver<Val, EF, InputMmcs, FriMmcs>>⟧.schemes in
+        IfOk result (AreWordsFor o params.now requests.now values.now) }
+    ensures failure { let o = ⟦<C as OpeningOver<Val, EF, InputMmcs, FriMmcs>>⟧.schemes in
+        IfErr result (IsNotPlayed o params.now requests.now values.now challenger.old) }
 {
     let matrices = opened_matrices(alloc, mmcs, params.log_blowup, requests, values)?;
     let claims = opened_claims(alloc, &matrices)?;
@@ -100,9 +87,8 @@ fn open_inputs<Val: ComplexExtendable, EF: Field, InputMmcs: Mmcs<Val>>(
     requires top { log_max_height ≤ 62 }
     requires heights { All (λ r. AreHeights log_max_height
         (InputMmcs.matrices r.prover_data.now)) requests.now }
-    ensures { IfOk result (λ made. AllZip (HasBatchRows InputMmcs.matrices
-        (InputMmcs.commits mmcs.now) (InputMmcs.authenticates mmcs.now) log_max_height indices.now)
-        requests.now (map opened_batch made.items)) }
+    ensures { IfOk result (λ made. OpensBatches InputMmcs.matrices InputMmcs.commits
+        InputMmcs.authenticates mmcs.now log_max_height indices.now requests.now made.items) }
 {
     let mut openings = Vec::with_capacity(alloc, requests.len())?;
     for request in requests {
@@ -142,23 +128,14 @@ fn prove_words<
     requires top { words.log_max_height ≤ 62 }
     requires heights { All (λ r. AreHeights words.log_max_height
         (InputMmcs.matrices r.prover_data.now)) requests.now }
-    requires words { (matrices : List (Committed Val EF)) × AreTall params.now matrices
-        × AreWordsOf ⟦<EF as OverCircle<Val>>⟧.fields params.now.log_blowup
-        params.now.log_final_poly_len (FriMmcs.commits params.now.mmcs) FriMmcs.matrices matrices
-        words }
+    requires words { AreSomeWords ⟦<EF as OverCircle<Val>>⟧.fields FriMmcs.commits
+        FriMmcs.matrices params.now words }
     ensures taken { IfOk result (λ proof. (claims : List (BatchClaim Unit EF)) →
         taken_by EF.ops claims (proof_of proof) ≡ taken_in (claims_taken EF.ops claims) words) }
-    ensures words { IfOk result (λ proof. (matrices : List (Committed Val EF)) →
-        AreWordsOf ⟦<EF as OverCircle<Val>>⟧.fields params.now.log_blowup
-        params.now.log_final_poly_len (FriMmcs.commits params.now.mmcs) FriMmcs.matrices matrices
-        words → AreEasy params.now Val.ops words.witnesses →
-        HoldsWords ⟦<EF as OverCircle<Val>>⟧.fields matrices (challenges_of words.draws)
-        (proof_of proof) params.now (FriMmcs.commits params.now.mmcs)
-        (FriMmcs.authenticates params.now.mmcs)) }
-    ensures inputs { IfOk result (λ proof. AllZip (HasBatchRows InputMmcs.matrices
-        (InputMmcs.commits mmcs.now) (InputMmcs.authenticates mmcs.now) words.log_max_height
-        words.draws.indices.items) requests.now
-        (map opened_batch proof.fri_proof.input_openings.input_openings.items)) }
+    ensures words { IfOk result (HoldsMade ⟦<EF as OverCircle<Val>>⟧.fields FriMmcs.commits
+        FriMmcs.matrices FriMmcs.authenticates params.now words) }
+    ensures inputs { IfOk result (HoldsBatches InputMmcs.matrices InputMmcs.commits
+        InputMmcs.authenticates mmcs.now words requests.now) }
 {
     let CommittedWords {
         heights,
@@ -236,15 +213,10 @@ where
         Val.CIRCLE_TWO_ADICITY params.now requests.now }
     ensures values { let k = ⟦<EF as OverCircle<Val>>⟧.fields in IfOk result (λ r. AreAnswered k
         InputMmcs.matrices params.now requests.now (openings r.0.items)) }
-    ensures proof { let m = ⟦<C as RunChallenger<Val, EF, FriMmcs::Commitment>>⟧.run in
-        IfOk result (λ r. IsOpening params.now InputMmcs.matrices requests.now
-        (openings r.0.items) ⟦<EF as OverCircle<Val>>⟧.fields m (proof_of r.1)
-        (InputMmcs.commits mmcs.now) (InputMmcs.authenticates mmcs.now)
-        (FriMmcs.commits params.now.mmcs) (FriMmcs.authenticates params.now.mmcs)
-        (C.state challenger.old) (C.state challenger.new)) }
-    ensures failure { let m = ⟦<C as RunChallenger<Val, EF, FriMmcs::Commitment>>⟧.run in
-        IfErr result (IsFailure ⟦<EF as OverCircle<Val>>⟧.fields m params.now InputMmcs.matrices
-        requests.now (C.state challenger.old)) }
+    ensures proof { let o = ⟦<C as OpeningOver<Val, EF, InputMmcs, FriMmcs>>⟧.schemes in IfOk result
+        (λ r. IsOpeningBy o params.now requests.now mmcs.now challenger.old r challenger.new) }
+    ensures failure { let o = ⟦<C as OpeningOver<Val, EF, InputMmcs, FriMmcs>>⟧.schemes in
+        IfErr result (IsFailureFrom o params.now requests.now challenger.old) }
 {
     let values = requested_values::<Val, EF, InputMmcs>(alloc, mmcs, params.log_blowup, requests)?;
     let words = play_requests::<Val, EF, InputMmcs, FriMmcs, C>(

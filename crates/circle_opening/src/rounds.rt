@@ -1,17 +1,16 @@
 //! The rounds of an opening: each word is committed to, a challenge is drawn, and the word is
 //! folded by it.
-ghost use Rattle.std.specs.Prelude.{◌≡◌, ℕ, ◌≤◌, ◌-◌, ◌+◌, ◌^◌, ◌++◌, ◌⊎◌, List, [], ◌∷◌, length, map, zip, All, IsTrue};
+ghost use Rattle.std.specs.Prelude.{◌≡◌, ℕ, ◌≤◌, ◌-◌, ◌+◌, ◌^◌, ◌++◌, [], ◌∷◌, length, map, All};
+ghost use Rattle.std.specs.Prelude.{IsTrue};
 ghost use Rattle.std.specs.Prelude.{IfOk, IfErr, OnOk};
 ghost use Rattle.circle_challenger.specs.Due.{AreNext, HasPlayed};
-ghost use Rattle.circle_commit.specs.declared.params.PowPhase.TheVariants.{CommitPhase};
 ghost use Rattle.circle_transcript.specs.Shape.{round_steps, rounds_steps};
-ghost use Rattle.circle_transcript.specs.Runs.{NonePasses};
-ghost use Rattle.circle_transcript.specs.Transcript.{current, due, numbers, IsSame, at_commitment};
+ghost use Rattle.circle_transcript.specs.Transcript.{current, due, numbers, IsSame};
 ghost use Rattle.circle_transcript.specs.Transcript.{commit_passes, commit_challenge, after_commit};
-ghost use Rattle.circle_words.specs.Words.{next_word, pairs_of};
-ghost use Rattle.circle_opening.specs.Failure.{IsStuckAfter};
-ghost use Rattle.circle_opening.specs.Words.{AreCommitted, AreRounds, HavePlayed, word_at};
-ghost use Rattle.circle_opening.specs.declared.error.ProverError.TheVariants.{Memory, NoGrindingWitness};
+ghost use Rattle.circle_words.specs.Words.{pairs_of};
+ghost use Rattle.circle_opening.specs.Failure.{IsRoundFailure, IsRoundsFailure};
+ghost use Rattle.circle_opening.specs.Words.{AreCommitted, ArePlayed, AreRoundsFrom};
+ghost use Rattle.circle_opening.specs.Words.{EndsIn, Follows};
 
 use crate::error::ProverError;
 use circle_challenger::{CanObserve, CanSample, GrindingChallenger, RunChallenger};
@@ -99,18 +98,14 @@ where
     ensures challenge { let m = ⟦<C as RunChallenger<F, EF, M::Commitment>>⟧.run in IfOk result
         (λ r. EF.coefficients r.beta ≡ commit_challenge m transcript.old r.commitment r.witness) }
     ensures state { let m = ⟦<C as RunChallenger<F, EF, M::Commitment>>⟧.run in IfOk result (λ r.
-        C.state (current transcript.new)
-        ≡ after_commit m transcript.old r.commitment r.witness) }
+        C.state (current transcript.new) ≡ after_commit m transcript.old r.commitment r.witness) }
     ensures committed { IfOk result (λ r. AreCommitted (M.commits mmcs.now)
         (pairs_of word.items ∷ []) (M.matrices r.kept) r.commitment) }
     ensures length { IfOk result (λ r. length r.next.items ≡ 2 ^ (log_height - 1)) }
-    ensures folds { IfOk result (λ r. (f : ℕ → List EF) →
-        map (λ w. w.items) folded.now ≡ map f heights.now → r.next.items ≡ next_word
-        ⟦<EF as OverCircle<F>>⟧.fields heights.now f log_height r.beta word.items) }
+    ensures folds { IfOk result (λ r. Follows ⟦<EF as OverCircle<F>>⟧.fields heights.now folded.now
+        log_height r.beta word.items r.next.items) }
     ensures failure { let m = ⟦<C as RunChallenger<F, EF, M::Commitment>>⟧.run in IfErr result
-        (λ e. (e ≡ Memory) ⊎ ((e ≡ NoGrindingWitness CommitPhase)
-        × (commitment : M.Commitment) × NonePasses m.base
-        (at_commitment m transcript.old commitment) (numbers transcript.old).commit_pow_bits)) }
+        (IsRoundFailure m transcript.old) }
 {
     let (commitment, kept) = commit_word(alloc, mmcs, word)?;
     let (beta, witness) = transcript.commit_round(&commitment)?;
@@ -179,21 +174,14 @@ where
     ensures easy { IfOk result (λ r. (numbers transcript.old).commit_pow_bits ≡ 0 →
         All (λ w. w ≡ F.ops.zero) r.0.witnesses.items) }
     ensures played { let m = ⟦<C as RunChallenger<F, EF, M::Commitment>>⟧.run in IfOk result (λ r.
-        HavePlayed m (numbers transcript.old).commit_pow_bits (C.state (current transcript.old))
-        (C.state (current transcript.new)) (zip r.0.commitments.items r.0.witnesses.items)
-        (map EF.coefficients r.0.betas.items)) }
+        ArePlayed m transcript.old transcript.new r.0) }
     ensures length { IfOk result (λ r. length r.1.items ≡ 2 ^ (log_height - num_rounds)) }
-    ensures committed { IfOk result (λ r. (f : ℕ → List EF) →
-        map (λ w. w.items) folded.now ≡ map f heights.now → AreRounds (M.commits mmcs.now)
-        M.matrices (word_at ⟦<EF as OverCircle<F>>⟧.fields heights.now f log_height first.items
-        r.0.betas.items) r.0.kept.items r.0.commitments.items) }
-    ensures word { IfOk result (λ r. (f : ℕ → List EF) →
-        map (λ w. w.items) folded.now ≡ map f heights.now → r.1.items ≡ word_at
-        ⟦<EF as OverCircle<F>>⟧.fields heights.now f log_height first.items r.0.betas.items
-        num_rounds) }
+    ensures committed { IfOk result (λ r. AreRoundsFrom ⟦<EF as OverCircle<F>>⟧.fields heights.now
+        folded.now (M.commits mmcs.now) M.matrices log_height first.items r.0) }
+    ensures word { IfOk result (λ r. EndsIn ⟦<EF as OverCircle<F>>⟧.fields heights.now folded.now
+        log_height first.items r.0.betas.items num_rounds r.1.items) }
     ensures failure { let m = ⟦<C as RunChallenger<F, EF, M::Commitment>>⟧.run in IfErr result
-        (λ e. (e ≡ Memory) ⊎ ((e ≡ NoGrindingWitness CommitPhase) × IsStuckAfter m
-        (numbers transcript.old).commit_pow_bits (C.state (current transcript.old)))) }
+        (IsRoundsFailure m transcript.old) }
 {
     let mut rounds = Rounds {
         commitments: Vec::with_capacity(alloc, num_rounds)?,

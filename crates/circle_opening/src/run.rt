@@ -1,17 +1,16 @@
 //! The run of an opening, from its batching challenge to its query indices.
-ghost use Rattle.std.specs.Prelude.{◌≡◌, ◌≤◌, ◌<◌, ◌-◌, ◌+◌, ◌^◌, ◌⊎◌, [], length, map, zip, All, Ok};
+ghost use Rattle.std.specs.Prelude.{◌≡◌, ◌≤◌, ◌<◌, ◌-◌, ◌+◌, ◌^◌, [], map, All, Ok};
 ghost use Rattle.std.specs.Prelude.{IfOk, IfErr, OnOk};
 ghost use Rattle.circle_transcript.specs.Claims.{claims_of};
-ghost use Rattle.circle_transcript.specs.Draw.{widths_of, draw_seeded, seeded};
+ghost use Rattle.circle_transcript.specs.Draw.{widths_of};
 ghost use Rattle.circle_transcript.specs.Numbers.{numbers_of, run_steps};
-ghost use Rattle.circle_transcript.specs.Runs.{ArePlayable, Draws, drawn_of};
+ghost use Rattle.circle_transcript.specs.Runs.{ArePlayable, Draws, DrawsFrom};
 ghost use Rattle.circle_transcript.specs.Shape.{claimed_widths};
 ghost use Rattle.circle_transcript.specs.ShapeOf.{shape_of};
-ghost use Rattle.circle_transcript.specs.Transcript.{current, due, numbers, IsSame};
+ghost use Rattle.circle_transcript.specs.Transcript.{due, numbers, IsSame};
 ghost use Rattle.circle_words.specs.Words.{committed_of, CanBeOpened};
-ghost use Rattle.circle_opening.specs.Failure.{IsStuck, IsTooHigh};
-ghost use Rattle.circle_opening.specs.Words.{AreWordsOf, top_of, heights_of, taken_in, AreTall};
-ghost use Rattle.circle_opening.specs.declared.error.ProverError.TheVariants.{Memory};
+ghost use Rattle.circle_opening.specs.Failure.{IsRunFailure, IsShapeFailure};
+ghost use Rattle.circle_opening.specs.Words.{AreMade, AreTall, rounds_for, taken_in};
 
 use crate::error::ProverError;
 use crate::heights::{committed_heights, greatest_height};
@@ -64,8 +63,7 @@ fn play_words<'a, F: ComplexExtendable, EF: ExtensionField<F>, M: Mmcs<EF>, C>(
 where
     C: CanSample<F> + GrindingChallenger<F> + CanObserve<M::Commitment>,
     requires next { due transcript.old ≡ run_steps EF.DEGREE (widths_of (claims_of claims.now))
-        (top_of (map committed_of matrices.now) - 1 - params.now.log_blowup
-        - params.now.log_final_poly_len) (numbers transcript.old) }
+        (rounds_for params.now matrices.now) (numbers transcript.old) }
     requires small { ArePlayable (numbers transcript.old) }
     requires coefficients { (numbers transcript.old).log_final_poly_len
         ≡ params.now.log_final_poly_len }
@@ -84,16 +82,11 @@ where
     ensures easy_query { IfOk result (λ w.
         (numbers transcript.old).query_pow_bits ≡ 0 → w.witnesses.query ≡ F.ops.zero) }
     ensures draws { let m = ⟦<C as RunChallenger<F, EF, M::Commitment>>⟧.run in IfOk result (λ w.
-        draw_seeded m (numbers transcript.old) (taken_in (claims_of claims.now) w)
-        (C.state (current transcript.old))
-        ≡ Ok (drawn_of EF.coefficients w.draws (C.state (current transcript.new)))) }
-    ensures words { IfOk result (AreWordsOf ⟦<EF as OverCircle<F>>⟧.fields params.now.log_blowup
-        params.now.log_final_poly_len (M.commits params.now.mmcs) M.matrices
-        (map committed_of matrices.now)) }
-    ensures failure { let m = ⟦<C as RunChallenger<F, EF, M::Commitment>>⟧.run in IfErr result
-        (λ e. (e ≡ Memory) ⊎ IsTooHigh ⟦<EF as OverCircle<F>>⟧.fields params.now.log_blowup
-        params.now.log_final_poly_len (map committed_of matrices.now) e ⊎ IsStuck m
-        (numbers transcript.old) (claims_of claims.now) (C.state (current transcript.old)) e) }
+        DrawsFrom m transcript.old (taken_in (claims_of claims.now) w) w.draws transcript.new) }
+    ensures words { IfOk result (AreMade ⟦<EF as OverCircle<F>>⟧.fields M.commits M.matrices
+        params.now (map committed_of matrices.now)) }
+    ensures failure { IfErr result (IsRunFailure ⟦<C as RunChallenger<F, EF, M::Commitment>>⟧.run
+        ⟦<EF as OverCircle<F>>⟧.fields params.now matrices.now claims.now transcript.old) }
 {
     let (alpha, batch) = transcript.batch_phase(claims)?;
     let heights = committed_heights(alloc, matrices)?;
@@ -177,8 +170,7 @@ pub(crate) fn open_words<F: ComplexExtendable, EF: ExtensionField<F>, M: Mmcs<EF
 where
     C: CanSample<F> + GrindingChallenger<F> + CanObserve<M::Commitment>,
     requires claims { widths_of (claims_of claims.now) ≡ claimed_widths (shape_of shape) }
-    requires rounds { shape.num_commit_rounds ≡ top_of (map committed_of matrices.now) - 1
-        - params.now.log_blowup - params.now.log_final_poly_len }
+    requires rounds { shape.num_commit_rounds ≡ rounds_for params.now matrices.now }
     requires coefficients { shape.log_final_poly_len ≡ params.now.log_final_poly_len }
     requires small { ArePlayable (numbers_of (shape_of shape)) }
     requires blowup { 1 ≤ params.now.log_blowup }
@@ -194,14 +186,10 @@ where
         shape.query_pow_bits ≡ 0 → w.witnesses.query ≡ F.ops.zero) }
     ensures draws { let m = ⟦<C as RunChallenger<F, EF, M::Commitment>>⟧.run in IfOk result (λ w.
         Draws m shape (taken_in (claims_of claims.now) w) challenger.old w.draws challenger.new) }
-    ensures words { IfOk result (AreWordsOf ⟦<EF as OverCircle<F>>⟧.fields params.now.log_blowup
-        params.now.log_final_poly_len (M.commits params.now.mmcs) M.matrices
-        (map committed_of matrices.now)) }
-    ensures failure { let m = ⟦<C as RunChallenger<F, EF, M::Commitment>>⟧.run in IfErr result
-        (λ e. (e ≡ Memory) ⊎ IsTooHigh ⟦<EF as OverCircle<F>>⟧.fields params.now.log_blowup
-        params.now.log_final_poly_len (map committed_of matrices.now) e ⊎ IsStuck m
-        (numbers_of (shape_of shape)) (claims_of claims.now)
-        (seeded m (shape_of shape) (C.state challenger.old)) e) }
+    ensures words { IfOk result (AreMade ⟦<EF as OverCircle<F>>⟧.fields M.commits M.matrices
+        params.now (map committed_of matrices.now)) }
+    ensures failure { IfErr result (IsShapeFailure ⟦<C as RunChallenger<F, EF, M::Commitment>>⟧.run
+        ⟦<EF as OverCircle<F>>⟧.fields params.now matrices.now claims.now shape challenger.old) }
 {
     let mut transcript = CircleProverTranscript::<C, F, EF>::new(alloc, challenger, shape)?;
     match play_words(alloc, &mut transcript, params, claims, num_powers, matrices) {

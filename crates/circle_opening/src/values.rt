@@ -4,8 +4,8 @@ ghost use Rattle.std.specs.List.{AllZip};
 ghost use Rattle.circle_commit.specs.Mmcs.{opened_rows};
 ghost use Rattle.circle_commit.specs.Pcs.{openings};
 ghost use Rattle.circle_words.specs.Values.{AreWeightsOf};
-ghost use Rattle.circle_opening.specs.Requests.{IsOpenable, AreValuesOf, IsFit, AreAnswers};
-ghost use Rattle.circle_opening.specs.Requests.{lists_of};
+ghost use Rattle.circle_opening.specs.Requests.{IsOpenable, IsFit, AreAnswers};
+ghost use Rattle.circle_opening.specs.Requests.{AreBatchValues, lists_of};
 
 use circle_commit::{
     Matrix, Mmcs, OpenedValues, OpenedValuesForRound, OpeningRequest, RowMajorMatrix, log2_strict,
@@ -30,9 +30,8 @@ fn batch_values<F: ComplexExtendable, EF: ExtensionField<F>>(
     ensures right { OnOk result
         (All (AreWeightsOf ⟦<EF as OverCircle<F>>⟧.fields log_blowup) all.new.items) }
     ensures count { IfOk result (λ v. length v.items ≡ length points.now) }
-    ensures values { IfOk result (λ v. AllZip (λ m rest. AreValuesOf
-        ⟦<EF as OverCircle<F>>⟧.fields log_blowup m rest.0 rest.1) matrices.now
-        (zip (lists_of points.now) (opened_rows v.items))) }
+    ensures values { IfOk result (λ v. AreBatchValues ⟦<EF as OverCircle<F>>⟧.fields log_blowup
+        matrices.now (lists_of points.now) (opened_rows v.items)) }
 {
     let mut values = Vec::with_capacity(alloc, matrices.len())?;
     for (matrix, points) in matrices.iter().zip(points) {

@@ -2,8 +2,8 @@
 use Rattle.std.specs.Prelude.{◌≡◌, ℕ, ◌-◌, ◌^◌, ◌≤◌, List, map, take}
 use Rattle.circle_field.specs.Field.{FieldOps}
 use Rattle.circle_field.specs.Circle.{Coordinates}
-use Rattle.circle_domain.specs.Domain.{log_size, shift_of, points_of, cfft_points_of}
-use Rattle.circle_domain.specs.Lagrange.{AreLagrangeWeights}
+use Rattle.circle_domain.specs.Domain.{log_size, shift_of, points_of}
+use Rattle.circle_domain.specs.Lagrange.{AreWeightsAt}
 use Rattle.circle_domain.specs.Order.{cfft_order}
 use Rattle.circle_domain.specs.Ordering.{other_order}
 use Rattle.circle_domain.specs.Values.{HasValues, values_at, with_zero_rows, lifted_values_at}
@@ -16,6 +16,11 @@ module _ {F : Type 0} {g : _} (k : FieldOps F) (gen : ℕ → Coordinates F) whe
   abbrev pub AreCoefficients : CircleDomain F g → ℕ → List (List F) → List (List F) → Type 0
   AreCoefficients d width coeffs given =
       HasValues k gen (log_size d) (shift_of d) width coeffs given
+
+  -- no others are the coefficients of the polynomials with given values on a domain
+  abbrev pub AreOnlyOnes : CircleDomain F g → ℕ → List (List F) → List (List F) → Type 0
+  AreOnlyOnes d width given coeffs =
+      (others : List (List F)) → AreCoefficients d width others given → coeffs ≡ others
 
   -- the polynomials' values on a domain, in the transform's order
   abbrev pub cfft_values_on : CircleDomain F g → ℕ → List (List F) → List (List F)
@@ -36,7 +41,7 @@ module _ {F : Type 0} {g : _} (k : FieldOps F) (gen : ℕ → Coordinates F) whe
       : Type 0 where
     pub told : AreCoefficients d width coeffs given
     pub natural : natural_values_on d width coeffs ≡ other_order (log_size d) given
-    pub only : (others : List (List F)) → AreCoefficients d width others given → coeffs ≡ others
+    pub only : AreOnlyOnes d width given coeffs
 
   -- the polynomials' values on a domain in both orders, and on smaller ones with its shift
   pub record Evaluates (d : CircleDomain F g) (width : ℕ) (coeffs made : List (List F))
@@ -59,12 +64,6 @@ module _ {F : Type 0} {g : _} (k : FieldOps F) (gen : ℕ → Coordinates F) whe
 
 module _ {F E : Type 0} {g : _} (k : FieldOps F) (gen : ℕ → Coordinates F)
     (l : FieldOps E) (embed : F → E) where
-  -- these are the Lagrange polynomials of a domain's points at a point
-  abbrev pub AreWeightsAt : CircleDomain F g → Coordinates E → LagrangeWeights E → Type 0
-  AreWeightsAt d q weights =
-      AreLagrangeWeights l embed k (log_size d) (cfft_points_of k gen d) q weights.shares.items
-      weights.scale
-
   -- the values at a point of the polynomials with given values on a domain
   pub record AreValuesAt (p : Coordinates E) (d : CircleDomain F g) (width : ℕ)
       (given : List (List F)) (found : List E) : Type 0 where
@@ -76,4 +75,11 @@ module _ {F E : Type 0} {g : _} (k : FieldOps F) (gen : ℕ → Coordinates F)
   abbrev pub AreValuesBy : CircleDomain F g → ℕ → List (List F) → LagrangeWeights E → List E
       → Type 0
   AreValuesBy d width given weights found =
-      (p : Coordinates E) → AreWeightsAt d p weights → AreValuesAt p d width given found
+      (p : Coordinates E) → AreWeightsAt k gen l embed d p weights →
+      AreValuesAt p d width given found
+
+  -- the values at a point of all polynomials with given values on a domain
+  abbrev pub AreValuesOfAll : Coordinates E → CircleDomain F g → ℕ → List (List F) → List E → Type 0
+  AreValuesOfAll p d width given found =
+      (coeffs : List (List F)) → AreCoefficients k gen d width coeffs given →
+      found ≡ lifted_values_at k.zero l embed coeffs width p

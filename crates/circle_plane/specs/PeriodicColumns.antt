@@ -21,6 +21,17 @@ use Rattle.circle_plane.specs.declared.periodic.PeriodicError.TheVariants.{Heigh
 abbrev pub columns_of : {F : Type 0} → List (Vec F Global) → List (List F)
 columns_of table = map (λ column. column.items) table
 
+-- a fact of each column
+abbrev pub OfEachColumn : {F : Type 0} → List (Vec F Global) → (List F → Type 0) → Type 0
+OfEachColumn table P = (c : ℕ) → c < length table → P (slice_index_or (columns_of table) c [])
+
+-- the values at q of the columns that repeat over a trace of 2^n rows
+abbrev pub ArePeriodicValues : {F E : Type 0} → FieldOps F → (ℕ → Coordinates F) → FieldOps E →
+    (F → E) → ℕ → Coordinates E → List (Vec F Global) → List E → Type 0
+ArePeriodicValues k gen l embed n q table values = (c : ℕ) → c < length table →
+    IsPeriodicValue k gen l embed n (slice_index_or (columns_of table) c []) q
+    (slice_index_or values c l.zero)
+
 -- a number of entries that repeat over so many rows
 abbrev pub IsPeriod : ℕ → ℕ → Type 0
 IsPeriod size n = IsPowerOfTwo n × (n ≤ size)

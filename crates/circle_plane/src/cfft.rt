@@ -1,8 +1,7 @@
 //! Polynomials on the circle: the transform between their coefficients and values on a domain.
 ghost use Rattle.std.specs.Prelude.{◌≡◌, ℕ, ◌≤◌, ◌-◌, ◌*◌, ◌^◌, ◌++◌};
-ghost use Rattle.std.specs.Prelude.{List, length, map, All, IfOk, OnOk};
-ghost use Rattle.std.specs.List.{AllZip};
-ghost use Rattle.circle_commit.specs.DotProduct.{pairwise};
+ghost use Rattle.std.specs.Prelude.{length, map, All, IfOk, OnOk};
+ghost use Rattle.circle_commit.specs.DotProduct.{pairwise, scaled};
 ghost use Rattle.circle_commit.specs.Matrix.{IsPowerOfTwo};
 ghost use Rattle.circle_commit.specs.RowMajorMatrix.{rows, width_of, height_of};
 ghost use Rattle.circle_point.specs.Basis.{basis_values};
@@ -12,7 +11,6 @@ ghost use Rattle.circle_domain.specs.Domain.{log_size, shift_of, points_of};
 ghost use Rattle.circle_domain.specs.Layers.{copies};
 ghost use Rattle.circle_domain.specs.Order.{IsGenuine};
 ghost use Rattle.circle_domain.specs.Ordering.{other_order};
-ghost use Rattle.circle_domain.specs.Values.{lifted_values_at};
 ghost use Rattle.circle_transform.specs.Butterflies.{count_of};
 
 use circle_commit::{FieldMatrix, Matrix, MatrixShape, RowMajorMatrix, log2_strict};
@@ -92,8 +90,9 @@ impl<F: Operations, M: Matrix<F>> CircleEvaluations<F, M> {
 
 impl<F: ComplexExtendable, M: Matrix<F> + Drop> CircleEvaluations<F, M> {
     ghost use Rattle.circle_plane.specs.CircleEvaluations.{domain_of, cfft_values, natural_rows};
-    ghost use Rattle.circle_plane.specs.Coefficients.{AreCoefficients, natural_values_on};
-    ghost use Rattle.circle_plane.specs.Coefficients.{Extrapolates, Interpolates};
+    ghost use Rattle.circle_plane.specs.Coefficients.{AreCoefficients, AreOnlyOnes};
+    ghost use Rattle.circle_plane.specs.Coefficients.{Interpolates, natural_values_on};
+    ghost use Rattle.circle_plane.specs.Evaluated.{AreExtrapolated};
 
     /// The coefficients in the circle basis of the only polynomials with these values, a column
     /// for each: as many as the domain has points (Circle STARKs, section 4.2). Their values at the
@@ -109,9 +108,8 @@ impl<F: ComplexExtendable, M: Matrix<F> + Drop> CircleEvaluations<F, M> {
             (M.width (cfft_values self)) (rows coeffs) (M.rows (cfft_values self))) }
         ensures natural { IfOk result (λ coeffs. natural_values_on F.ops F.generators
             (domain_of self) (width_of coeffs) (rows coeffs) ≡ natural_rows M.rows self) }
-        ensures only { IfOk result (λ coeffs. (others : List (List F)) →
-            AreCoefficients F.ops F.generators (domain_of self) (M.width (cfft_values self)) others
-            (M.rows (cfft_values self)) → rows coeffs ≡ others) }
+        ensures only { IfOk result (λ coeffs. AreOnlyOnes F.ops F.generators (domain_of self)
+            (M.width (cfft_values self)) (M.rows (cfft_values self)) (rows coeffs)) }
     {
         let CircleEvaluations { domain, values } = self;
         let matrix = RowMajorMatrix::copy_of(alloc, &values)?;
@@ -177,9 +175,8 @@ impl<F: ComplexExtendable, M: Matrix<F> + Drop> CircleEvaluations<F, M> {
         requires in_group { log_size target ≤ F.CIRCLE_TWO_ADICITY }
         ensures domain { IfOk result (λ e. domain_of e ≡ target) }
         ensures width { IfOk result (λ e. width_of (cfft_values e) ≡ M.width (cfft_values self)) }
-        ensures values { let given = cfft_values self in IfOk result (λ e.
-            Extrapolates F.ops F.generators (domain_of self) target
-            (M.width given) (M.rows given) (rows (cfft_values e))) }
+        ensures values { IfOk result (λ e. AreExtrapolated F.ops F.generators M.width M.rows
+            self target (rows (cfft_values e))) }
     {
         let coeffs = self.interpolate(alloc)?;
         CircleEvaluations::evaluate(alloc, target, coeffs)
@@ -187,9 +184,9 @@ impl<F: ComplexExtendable, M: Matrix<F> + Drop> CircleEvaluations<F, M> {
 }
 
 impl<F: ComplexExtendable, M: Matrix<F>> CircleEvaluations<F, M> {
-    ghost use Rattle.circle_plane.specs.CircleEvaluations.{domain_of, cfft_values};
-    ghost use Rattle.circle_plane.specs.Coefficients.{AreCoefficients, AreValuesAt, AreWeightsAt};
-    ghost use Rattle.circle_plane.specs.Coefficients.{AreValuesBy};
+    ghost use Rattle.circle_plane.specs.CircleEvaluations.{domain_of};
+    ghost use Rattle.circle_plane.specs.Evaluated.{AreFoundAt, AreFoundBy, AreFoundByEach};
+    ghost use Rattle.circle_plane.specs.Evaluated.{AreOfAllAt, AreOfAllBy};
 
     /// The values at `point` of the only polynomials with these values, for each column (Circle
     /// STARKs, section 4.3).
@@ -205,13 +202,10 @@ impl<F: ComplexExtendable, M: Matrix<F>> CircleEvaluations<F, M> {
         requires in_group { log_size (domain_of self.now) ≤ F.CIRCLE_TWO_ADICITY }
         requires clear { IsClearOf EF.ops EF.embed
             (points_of F.ops F.generators (domain_of self.now)) (coordinates point) }
-        ensures values { let given = cfft_values self.now in IfOk result (λ found. AreValuesAt
-            F.ops F.generators EF.ops EF.embed (coordinates point) (domain_of self.now)
-            (M.width given) (M.rows given) found.items) }
-        ensures only { let given = cfft_values self.now in (cs : List (List F)) → AreCoefficients
-            F.ops F.generators (domain_of self.now) (M.width given) cs (M.rows given) → IfOk result
-            (λ found. found.items ≡ lifted_values_at F.ops.zero EF.ops EF.embed cs (M.width given)
-            (coordinates point)) }
+        ensures values { IfOk result (λ found. AreFoundAt F.ops F.generators EF.ops EF.embed
+            M.width M.rows self.now (coordinates point) found.items) }
+        ensures only { IfOk result (λ found. AreOfAllAt F.ops F.generators EF.ops EF.embed
+            M.width M.rows self.now (coordinates point) found.items) }
     {
         let weights = lagrange_weights(alloc, self.domain, point)?;
         self.evaluate_by_weights(alloc, &weights)
@@ -230,15 +224,10 @@ impl<F: ComplexExtendable, M: Matrix<F>> CircleEvaluations<F, M> {
         requires genuine { let d = domain_of self.now in IsGenuine F.ops (log_size d) (shift_of d) }
         requires in_group { log_size (domain_of self.now) ≤ F.CIRCLE_TWO_ADICITY }
         requires count { length weights.now.shares.items ≡ 2 ^ log_size (domain_of self.now) }
-        ensures values { let given = cfft_values self.now in IfOk result (λ found. (q : _) →
-            AreWeightsAt F.ops F.generators EF.ops EF.embed (domain_of self.now) q weights.now →
-            AreValuesAt F.ops F.generators EF.ops EF.embed q (domain_of self.now) (M.width given)
-            (M.rows given) found.items) }
-        ensures only { let given = cfft_values self.now in IfOk result (λ found. (q : _) →
-            AreWeightsAt F.ops F.generators EF.ops EF.embed (domain_of self.now) q weights.now →
-            (cs : List (List F)) → AreCoefficients F.ops F.generators (domain_of self.now)
-            (M.width given) cs (M.rows given) →
-            found.items ≡ lifted_values_at F.ops.zero EF.ops EF.embed cs (M.width given) q) }
+        ensures values { IfOk result (λ found. AreFoundBy F.ops F.generators EF.ops EF.embed
+            M.width M.rows self.now weights.now found.items) }
+        ensures only { IfOk result (λ found. AreOfAllBy F.ops F.generators EF.ops EF.embed
+            M.width M.rows self.now weights.now found.items) }
     {
         let mut values = self.values.columnwise_dot_product(alloc, &weights.shares)?;
         scale(&mut values, weights.scale);
@@ -259,10 +248,8 @@ impl<F: ComplexExtendable, M: Matrix<F>> CircleEvaluations<F, M> {
         requires in_group { log_size (domain_of self.now) ≤ F.CIRCLE_TWO_ADICITY }
         requires count { All (λ w. length w.now.shares.items ≡ 2 ^ log_size (domain_of self.now))
             weights.now }
-        ensures values { let given = cfft_values self.now in IfOk result (λ all. AllZip
-            (λ w found. AreValuesBy F.ops F.generators EF.ops EF.embed (domain_of self.now)
-            (M.width given) (M.rows given) w.now found) weights.now
-            (map (λ v. v.items) all.items)) }
+        ensures values { IfOk result (λ all. AreFoundByEach F.ops F.generators EF.ops EF.embed
+            M.width M.rows self.now weights.now (map (λ v. v.items) all.items)) }
     {
         let shares = shares_of(alloc, weights)?;
         let mut values = self.values.columnwise_dot_products(alloc, &shares)?;
@@ -434,8 +421,7 @@ fn shares_of<'a, EF: Field>(
 // Multiplies each list of values by the scale of its weights.
 fn scale_each<EF: Field>(values: &mut [Vec<EF>], weights: &[&LagrangeWeights<EF>])
     requires { length values.old ≡ length weights.now }
-    ensures { map (λ v. v.items) values.new
-        ≡ pairwise (λ found w. map (λ a. EF.ops.mul a w.now.scale) found)
+    ensures { map (λ v. v.items) values.new ≡ pairwise (λ found w. scaled EF.ops w.now.scale found)
         (map (λ v. v.items) values.old) weights.now }
 {
     for (i, w) in weights.iter().enumerate() {
@@ -445,7 +431,7 @@ fn scale_each<EF: Field>(values: &mut [Vec<EF>], weights: &[&LagrangeWeights<EF>
 
 // Multiplies each entry by `factor`.
 fn scale<F: Field>(entries: &mut [F], factor: F)
-    ensures { entries.new ≡ map (λ a. F.ops.mul a factor) entries.old }
+    ensures { entries.new ≡ scaled F.ops factor entries.old }
 {
     for entry in entries.iter_mut() {
         *entry = *entry * factor;

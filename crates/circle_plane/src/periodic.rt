@@ -9,12 +9,13 @@ ghost use Rattle.std.specs.List.{range_with_len};
 ghost use Rattle.circle_commit.specs.Matrix.{IsPowerOfTwo};
 ghost use Rattle.circle_commit.specs.Mmcs.{greatest};
 ghost use Rattle.circle_commit.specs.RowMajorMatrix.{rows, width_of, height_of};
-ghost use Rattle.circle_domain.specs.Domain.{log_size, shift_of};
+ghost use Rattle.circle_domain.specs.Domain.{log_size};
 ghost use Rattle.circle_domain.specs.Periodic.{IsPeriodicValue};
 ghost use Rattle.circle_point.specs.Projective.{from_line};
-ghost use Rattle.circle_plane.specs.PeriodicColumns.{IsPeriod, IsFault, IsFirstFault, IsRefusal};
-ghost use Rattle.circle_plane.specs.PeriodicColumns.{columns_of, IsTableOn, IsRefusedOn};
-ghost use Rattle.circle_plane.specs.PeriodicRows.{AreExtended, table_row};
+ghost use Rattle.circle_plane.specs.PeriodicColumns.{IsPeriod, IsFault, IsFirstFault};
+ghost use Rattle.circle_plane.specs.PeriodicColumns.{ArePeriodicValues, IsTableOn, IsRefusedOn};
+ghost use Rattle.circle_plane.specs.PeriodicColumns.{OfEachColumn, columns_of};
+ghost use Rattle.circle_plane.specs.PeriodicRows.{AreExtendedOn, table_row};
 ghost use Rattle.circle_plane.specs.declared.periodic.PeriodicError.TheVariants.{HeightTooLarge};
 ghost use Rattle.circle_plane.specs.declared.periodic.PeriodicError.TheVariants.{Memory};
 
@@ -134,14 +135,11 @@ impl<F: ComplexExtendable> PeriodicEvaluator<F, CircleDomain<F>> for CirclePerio
         trace_domain: &CircleDomain<F>,
         point: EF,
     ) -> Result<Vec<EF>, AllocError>
-        requires { (c : ℕ) → c < length periodic_table.now →
-            ⟦<CircleDomain<F> as PolynomialSpace>⟧.evaluate_periodic_column_at_asks EF EF.ops
-            EF.embed trace_domain.now (slice_index_or (columns_of periodic_table.now) c []) point }
+        requires { let s = ⟦<CircleDomain<F> as PolynomialSpace>⟧ in OfEachColumn periodic_table.now
+            (λ c. s.evaluate_periodic_column_at_asks EF EF.ops EF.embed trace_domain.now c point) }
         ensures count { IfOk result (λ values. length values.items ≡ length periodic_table.now) }
-        ensures values { IfOk result (λ values. (c : ℕ) → c < length periodic_table.now →
-            IsPeriodicValue F.ops F.generators EF.ops EF.embed (log_size trace_domain.now)
-            (slice_index_or (columns_of periodic_table.now) c []) (from_line EF.ops point)
-            (slice_index_or values.items c EF.ops.zero)) }
+        ensures values { IfOk result (λ values. ArePeriodicValues F.ops F.generators EF.ops EF.embed
+            (log_size trace_domain.now) (from_line EF.ops point) periodic_table.now values.items) }
     {
         let mut values = Vec::with_capacity(alloc, periodic_table.len())?;
         for column in periodic_table {
@@ -246,9 +244,8 @@ fn extended_rows<F: ComplexExtendable>(
     requires in_group { trace_log_n < F.CIRCLE_TWO_ADICITY }
     ensures width { IfOk result (λ made. width_of made ≡ length periodic_table.now) }
     ensures height { IfOk result (λ made. height_of made ≡ height) }
-    ensures values { IfOk result (λ made. AreExtended F.ops F.generators F.CIRCLE_TWO_ADICITY
-        trace_log_n (log_size lde_domain) (shift_of lde_domain) (columns_of periodic_table.now)
-        (rows made)) }
+    ensures values { IfOk result (λ made. AreExtendedOn F.ops F.generators F.CIRCLE_TWO_ADICITY
+        trace_log_n lde_domain (columns_of periodic_table.now) (rows made)) }
 {
     let log_period = log2_strict(period);
     let log_blowup = lde_domain.log_n() - trace_log_n;

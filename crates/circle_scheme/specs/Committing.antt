@@ -1,7 +1,8 @@
 -- What a committing call refuses, in order, and what it commits to.
 -- A matrix of 2^h rows is committed on the standard domain of 2^h points, its rows in the
 -- transform's order.
-use Rattle.std.specs.Prelude.{◌≡◌, ℕ, ◌+◌, ◌-◌, ◌^◌, ◌<◌, ◌==◌, Bool, ◌&&◌, ◌||◌, List, [], ◌∷◌, ◌++◌, length}
+use Rattle.std.specs.Prelude.{◌≡◌, ℕ, ◌+◌, ◌-◌, ◌^◌, ◌<◌, ◌==◌, Bool, ◌&&◌, ◌||◌, List, [], ◌∷◌}
+use Rattle.std.specs.Prelude.{◌++◌, length}
 use Rattle.std.specs.Prelude.{All, map, flat_map, take, nat_lt, nat_le, Result, Err, IfErr, IfSome}
 use Rattle.std.specs.Prelude.{MatchResult, slice_get, slice_index_or}
 use Rattle.std.specs.List.{AllZip}
@@ -137,6 +138,13 @@ module _ {F : Type 0} {g : _} (k : FieldOps F) (gen : ℕ → Coordinates F) whe
     pub only : (others : List (List F)) → HasValues k gen n s width others first → coeffs ≡ others
     pub values : made ≡ natural_values_on k gen d width coeffs
 
+  -- the same of the first 2^n rows of a matrix of 2^h rows
+  abbrev pub ContinuesFirst :
+      ℕ → ℕ → RowMajorMatrix F → CircleDomain F g → RowMajorMatrix F → Type 0
+  ContinuesFirst n h committed d made =
+      AreContinued n (gen (h + 1)) (width_of committed) (take (2 ^ n) (rows committed)) d
+      (rows made)
+
   -- the values on a domain, in natural order, of what a matrix of 2^h rows commits to: on its own
   -- domain its rows, elsewhere by the 2^(h - blowup) coefficients that its first rows fix
   pub record AreCommittedValues (blowup : ℕ) (committed : RowMajorMatrix F) (d : CircleDomain F g)
@@ -147,8 +155,7 @@ module _ {F : Type 0} {g : _} (k : FieldOps F) (gen : ℕ → Coordinates F) whe
     pub there : IsStandardOf gen log_height d →
         rows made ≡ other_order log_height (rows committed)
     pub elsewhere : ¬ IsStandardOf gen log_height d →
-        AreContinued (log_height - blowup) (gen (log_height + 1)) (width_of committed)
-        (take (2 ^ (log_height - blowup)) (rows committed)) d (rows made)
+        ContinuesFirst (log_height - blowup) log_height committed d made
 
   -- what the matrix at an index commits to
   abbrev pub AreValuesOfMatrix : ℕ → List (RowMajorMatrix F) → ℕ → CircleDomain F g

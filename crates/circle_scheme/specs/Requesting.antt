@@ -1,6 +1,7 @@
 -- What is refused of requests to open before the challenger is seeded, in order.
-use Rattle.std.specs.Prelude.{◌≡◌, ℕ, ◌^◌, ◌<◌, ◌≤◌, ◌==◌, Bool, not, ◌&&◌, ◌||◌, List, [], ◌∷◌, ◌++◌, length, flat_map, zip, nat_lt, vec_len}
-use Rattle.std.specs.Prelude.{MatchResult, Result, Err, All, Vec, IfErr, Ok}
+use Rattle.std.specs.Prelude.{◌≡◌, ℕ, ◌^◌, ◌<◌, ◌≤◌, ◌==◌, Bool, not, ◌&&◌, ◌||◌, List, [], ◌∷◌}
+use Rattle.std.specs.Prelude.{◌++◌, length, flat_map, zip, nat_lt, vec_len}
+use Rattle.std.specs.Prelude.{MatchResult, Result, Err, All, Vec}
 use Rattle.std.specs.declared.alloc.Global.{Global}
 use Rattle.std.specs.List.{list_any}
 use Rattle.circle_field.specs.Field.{FieldOps}
@@ -12,7 +13,11 @@ use Rattle.circle_commit.specs.declared.pcs.OpeningRequest.{OpeningRequest}
 use Rattle.circle_domain.specs.Selectors.{IsFinite}
 use Rattle.circle_opening.specs.Requests.{log_of}
 use Rattle.circle_opening.specs.declared.error.ProverError.{ProverError}
-use Rattle.circle_opening.specs.declared.error.ProverError.TheVariants.{UnfitParameters, MatrixCountMismatch, NoCommittedMatrices, PointAtInfinity, PointOnDomain}
+use Rattle.circle_opening.specs.declared.error.ProverError.TheVariants.{UnfitParameters}
+use Rattle.circle_opening.specs.declared.error.ProverError.TheVariants.{MatrixCountMismatch}
+use Rattle.circle_opening.specs.declared.error.ProverError.TheVariants.{NoCommittedMatrices}
+use Rattle.circle_opening.specs.declared.error.ProverError.TheVariants.{PointAtInfinity}
+use Rattle.circle_opening.specs.declared.error.ProverError.TheVariants.{PointOnDomain}
 use Rattle.circle_point.specs.Projective.{from_line}
 use Rattle.circle_relation.specs.Accepts.{Fields}
 use Rattle.circle_words.specs.Ratios.{points_of_height}
@@ -96,8 +101,3 @@ abbrev pub RefusesBefore : {A C : Type 0} → List (Test ProverError) → Result
 RefusesBefore tests result old new =
     MatchResult (answer tests (tt {0})) (λ passed. Unit {0})
     (λ first. (result ≡ Err first) × (new ≡ old))
-
--- where none has reason to refuse, this holds of a refusal
-abbrev pub IfPassed : {A : Type 0} → List (Test ProverError) → Result A ProverError
-    → (ProverError → Type 0) → Type 0
-IfPassed tests result Holds = answer tests (tt {0}) ≡ Ok (tt {0}) → IfErr result Holds

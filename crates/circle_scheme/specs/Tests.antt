@@ -15,7 +15,8 @@ use Rattle.circle_relation.specs.declared.error.InputError.{InputError}
 use Rattle.circle_relation.specs.declared.proof.CircleCommitPhaseMultiStep.{CircleCommitPhaseMultiStep}
 use Rattle.circle_relation.specs.declared.proof.CircleFriProof.{CircleFriProof}
 use Rattle.circle_relation.specs.declared.proof.CirclePcsProof.{CirclePcsProof}
-use Rattle.circle_scheme.specs.Refusals.{Test, answer, claim_tests, is_at_infinity, seeding_tests, shape_tests}
+use Rattle.circle_scheme.specs.Refusals.{Test, answer, claim_tests, is_at_infinity, seeding_tests}
+use Rattle.circle_scheme.specs.Refusals.{shape_tests}
 use Rattle.circle_scheme.specs.Requesting.{opening_tests}
 
 -- the logarithm of the order of the group, which elements are zero, which of the extension are the
@@ -50,12 +51,13 @@ module _ {F E : Type 0} (t : TestedFields F E) where
     IsFirstRefusal result old new =
         IfErr (answer run_tests (tt {0})) (λ e. (result ≡ Err e) × (new ≡ old))
 
--- the tests of what batches claim, and the logarithm of the greatest height that they claim
+-- the tests of what batches claim
 abbrev pub batch_tests : {Com E WE IE IW : Type 0} → ℕ → ℕ → ℕ → List (BatchClaim Com E)
     → List (Test (FriError WE (InputError IE IW)))
 batch_tests two_adicity blowup final batches =
     claim_tests two_adicity blowup final (log_sizes (all_matrices batches))
 
+-- the logarithm of the greatest height that they claim
 abbrev pub claimed_height : {Com E : Type 0} → ℕ → List (BatchClaim Com E) → ℕ
 claimed_height blowup batches = log_max_height blowup (all_matrices batches)
 

@@ -1,11 +1,14 @@
 -- The factors of all layers, from those of the second.
-use Rattle.std.specs.Prelude.{◌≡◌, ℕ, ◌+◌, ◌*◌, ◌^◌, ◌<◌, List, [], ◌∷◌, ◌++◌}
+use Rattle.std.specs.Prelude.{◌≡◌, ℕ, ◌+◌, ◌-◌, ◌*◌, ◌^◌, ◌<◌, List, [], ◌∷◌, ◌++◌}
 use Rattle.std.specs.Prelude.{◌↔◌, Bool, IsTrue, length, map, take, drop, slice_index_or}
+use Rattle.std.specs.List.{range_with_len}
 use Rattle.std.proofs.Common.{zero, suc}
 use Rattle.circle_field.specs.Field.{FieldOps}
 use Rattle.circle_field.specs.Circle.{Coordinates}
 use Rattle.circle_point.specs.Basis.{doubled_x}
-use Rattle.circle_domain.specs.Layers.{every_second}
+use Rattle.circle_domain.specs.Domain.{log_size, shift_of}
+use Rattle.circle_domain.specs.Layers.{every_second, layer_factors}
+use Rattle.circle_domain.specs.declared.domain.CircleDomain.{CircleDomain}
 
 module _ {F : Type 0} (k : FieldOps F) where
   -- the first layer: e is 1 or -1, and the quarter turn of (x, y) is (-e y, e x), so that x and
@@ -29,6 +32,18 @@ module _ {F : Type 0} (k : FieldOps F) where
 abbrev pub halving_parts : {T : Type 0} → ℕ → List T → List (List T)
 halving_parts zero xs = []
 halving_parts (suc count) xs = take (2 ^ count) xs ∷ halving_parts count (drop (2 ^ count) xs)
+
+-- so many layers, one by one, from one after another of all but the first
+abbrev pub all_layers : {F : Type 0} → FieldOps F → F → ℕ → List F → List (List F)
+all_layers k e n higher =
+    first_of_second k e (take (2 ^ (n - 2)) higher) ∷ halving_parts (n - 1) higher
+
+-- the inverses of the factors of the blocks of each layer, the smallest blocks first
+abbrev pub inverses_by_layer : {F : Type 0} {g : _} →
+    FieldOps F → (ℕ → Coordinates F) → CircleDomain F g → List (List F)
+inverses_by_layer k gen d =
+    map (λ m. map k.inv (layer_factors k gen (log_size d) (shift_of d) m))
+    (range_with_len 0 (log_size d))
 
 -- a list of layers, each half as long as the one before and the first of h entries, so that entry
 -- h + i stands above entries 2i and 2i + 1: of any four entries a, b, c, d of a layer and the two

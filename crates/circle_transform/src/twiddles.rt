@@ -4,15 +4,15 @@
 //! quarter turn and the opposite of that. So the first two layers are made of one point in four.
 //! The factors of the other layers are x coordinates of doubles, and doubles of quarter turns are
 //! opposites: so an inverse takes one product with one of the layer above.
-ghost use Rattle.std.specs.Prelude.{ℕ, ◌≡◌, ◌≢◌, ◌≤◌, ◌+◌, ◌-◌, ◌^◌, ◌/◌, ◌%◌, ◌++◌, ◌∷◌};
-ghost use Rattle.std.specs.Prelude.{All, IfOk, OnOk, length, map, take};
+ghost use Rattle.std.specs.Prelude.{ℕ, ◌≡◌, ◌≢◌, ◌≤◌, ◌+◌, ◌-◌, ◌^◌, ◌/◌, ◌%◌};
+ghost use Rattle.std.specs.Prelude.{All, IfOk, OnOk, length, map};
 ghost use Rattle.std.specs.List.{range_with_len};
-ghost use Rattle.circle_field.specs.Circle.{plus};
 ghost use Rattle.circle_point.specs.Point.{coordinates};
-ghost use Rattle.circle_domain.specs.Domain.{log_size, shift_of};
+ghost use Rattle.circle_domain.specs.Domain.{factors_by_layer, log_size, shift_of};
 ghost use Rattle.circle_domain.specs.Layers.{block_starts, layer_factors};
-ghost use Rattle.circle_domain.specs.Order.{IsGenuine};
-ghost use Rattle.circle_transform.specs.Twiddles.{first_of_second, layers_from, halving_parts};
+ghost use Rattle.circle_domain.specs.Order.{IsGenuine, with_moved};
+ghost use Rattle.circle_transform.specs.Twiddles.{all_layers, inverses_by_layer};
+ghost use Rattle.circle_transform.specs.Twiddles.{first_of_second, layers_from};
 ghost use Rattle.circle_transform.specs.Twiddles.{AreLinked, TurnsLeft};
 
 use circle_domain::{CircleDomain, layer_twiddles};
@@ -31,8 +31,7 @@ pub fn forward_twiddles<F: ComplexExtendable>(
     requires positive { 1 ≤ log_size domain }
     requires in_group { log_size domain ≤ F.CIRCLE_TWO_ADICITY }
     ensures { IfOk result (λ twiddles. map (λ factors. factors.items) twiddles.items
-        ≡ map (layer_factors F.ops F.generators (log_size domain) (shift_of domain))
-        (range_with_len 0 (log_size domain))) }
+        ≡ factors_by_layer F.ops F.generators domain) }
 {
     if domain.log_n() < 3 {
         return layer_twiddles(alloc, domain);
@@ -52,8 +51,7 @@ pub fn backward_twiddles<F: ComplexExtendable>(
     requires genuine { IsGenuine F.ops (log_size domain) (shift_of domain) }
     requires in_group { log_size domain ≤ F.CIRCLE_TWO_ADICITY }
     ensures { IfOk result (λ inverses. map (λ factors. factors.items) inverses.items
-        ≡ map (λ m. map F.ops.inv (layer_factors F.ops F.generators (log_size domain)
-        (shift_of domain) m)) (range_with_len 0 (log_size domain))) }
+        ≡ inverses_by_layer F.ops F.generators domain) }
 {
     if domain.log_n() < 3 {
         return inverses_by_layer(alloc, domain);
@@ -72,8 +70,7 @@ fn inverses_by_layer<F: ComplexExtendable>(
     requires genuine { IsGenuine F.ops (log_size domain) (shift_of domain) }
     requires in_group { log_size domain ≤ F.CIRCLE_TWO_ADICITY }
     ensures { IfOk result (λ inverses. map (λ factors. factors.items) inverses.items
-        ≡ map (λ m. map F.ops.inv (layer_factors F.ops F.generators (log_size domain)
-        (shift_of domain) m)) (range_with_len 0 (log_size domain))) }
+        ≡ inverses_by_layer F.ops F.generators domain) }
 {
     let twiddles = layer_twiddles(alloc, domain)?;
     let mut inverses = Vec::with_capacity(alloc, twiddles.len())?;
@@ -180,8 +177,7 @@ fn generators_down<F: ComplexExtendable>(
 // Appends to the points each of them moved by `step`.
 fn append_moved<F: Field>(points: &mut Vec<Point<F>>, step: Point<F>) -> Result<(), AllocError>
     ensures { OnOk result (map coordinates points.new.items
-        ≡ map coordinates points.old.items
-        ++ map (λ p. plus F.ops p (coordinates step)) (map coordinates points.old.items)) }
+        ≡ with_moved F.ops (coordinates step) (map coordinates points.old.items)) }
 {
     for i in 0..points.len() {
         let moved = points[i] + step;
@@ -243,8 +239,7 @@ fn split_layers<F: ComplexExtendable>(
     requires small { log_n ≤ 62 }
     requires count { length higher.now + 1 ≡ 2 ^ (log_n - 1) }
     ensures { IfOk result (λ layers. map (λ layer. layer.items) layers.items
-        ≡ first_of_second F.ops (F.generators 2).y (take (2 ^ (log_n - 2)) higher.now)
-        ∷ halving_parts (log_n - 1) higher.now) }
+        ≡ all_layers F.ops (F.generators 2).y log_n higher.now) }
 {
     let mut layers = Vec::with_capacity(alloc, log_n)?;
     layers.push(first_layer(alloc, left, &higher[..1 << (log_n - 2)])?)?;

@@ -1,5 +1,5 @@
 -- What contracts see of the scheme's calls.
-use Rattle.std.specs.Prelude.{List, Vec}
+use Rattle.std.specs.Prelude.{Bool, IsTrue, List, Vec}
 use Rattle.std.specs.declared.alloc.Global.{Global}
 use Rattle.circle_commit.specs.Pcs.{Openings, openings}
 use Rattle.circle_commit.specs.declared.matrix.RowMajorMatrix.{RowMajorMatrix}
@@ -13,6 +13,10 @@ use Rattle.p3_circle.specs.declared.pcs.CirclePcs.{CirclePcs}
 abbrev pub scheme_tests : {F E I W D : Type 0} → TestedFields F E → (D → List (RowMajorMatrix F))
     → CirclePcs F I W → List (OpeningRequest D E) → List (Test ProverError)
 scheme_tests t kept pcs requests = request_tests t kept pcs.fri_params requests
+
+-- a refusal is of memory where something is accepted that leaves some state
+abbrev pub IsOfMemoryIf : {S Err : Type 0} → (Err → Bool) → (S → Type 0) → Err → Type 0
+IsOfMemoryIf {S = S} is_memory Accepts e = (left : S) → Accepts left → IsTrue (is_memory e)
 
 -- an answer, values and a proof, is given from the one state, which leaves the other
 abbrev pub IsAnswer : {S E P : Type 0} → (S → Openings E → P → S → Type 0) → S → S

@@ -1,6 +1,10 @@
 -- The relation where folding goes on to a constant: each query's chain ends in one value.
 use Rattle.std.specs.Prelude.{◌≡◌, [], ◌∷◌, All}
-use Rattle.circle_relation.specs.Accepts.{Setting, Run, Authenticates, InputsAuthenticate, AreApart, FirstLayerAuthenticates, RoundsAuthenticate, HoldsWith, round_value, rounds, placed_queries}
+use Rattle.circle_relation.specs.Accepts.{Fields, Setting, Run, Authenticates, AreApart, HoldsWith}
+use Rattle.circle_relation.specs.Accepts.{InputsAuthenticate, FirstLayerAuthenticates}
+use Rattle.circle_relation.specs.Accepts.{RoundsAuthenticate, round_value, rounds, placed_queries}
+use Rattle.circle_relation.specs.RunOf.{setting_in, run_of}
+use Rattle.circle_relation.specs.declared.run.OpenedRun.{OpenedRun}
 
 module _ {F E Com InputCom InputProof WordProof : Type 0} (s : Setting F E)
     (r : Run F E Com InputCom InputProof WordProof) (inputs : Authenticates InputCom F InputProof)
@@ -18,3 +22,11 @@ module _ {F E Com InputCom InputProof WordProof : Type 0} (s : Setting F E)
         → HoldsWithConstant c
     pub from : (c : E) → r.proof.final_poly ≡ c ∷ [] → HoldsWithConstant c
         → HoldsWith s r inputs words
+
+-- the same of a run that was drawn; I and W are the schemes of the batches and of the words, each
+-- with its commitments, data, proofs and errors
+abbrev pub AreSameOfConstants : {F E I W IC ID IP IE WC WD WP WE : Type 0} {g : _} → Fields F E
+    → OpenedRun F E I W IC ID IP IE WC WD WP WE g → (I → Authenticates IC F IP)
+    → (W → Authenticates WC E WP) → Type 0
+AreSameOfConstants k o inputs words =
+    IsSameOfConstants (setting_in k o) (run_of o) (inputs o.mmcs.now) (words o.params.now.mmcs)

@@ -1,3 +1,4 @@
+pub mod Replay
 pub mod SchemeLaws
 pub mod Calls
 pub mod Constant

@@ -1,15 +1,16 @@
 //! Committing to matrices: what is refused, and what is committed to.
 ghost use Rattle.std.specs.Prelude.{◌≡◌, ◌↔◌, ℕ, ◌+◌, ◌-◌, ◌<◌, ◌≤◌, ◌^◌};
-ghost use Rattle.std.specs.Prelude.{All, IfOk, IsTrue, min, take};
+ghost use Rattle.std.specs.Prelude.{All, IfOk, IsTrue, min};
 ghost use Rattle.circle_commit.specs.Matrix.{IsPowerOfTwo};
 ghost use Rattle.circle_commit.specs.Mmcs.{HaveHeightsOfPowers};
 ghost use Rattle.circle_commit.specs.RowMajorMatrix.{rows, width_of, height_of};
 ghost use Rattle.circle_domain.specs.Domain.{log_size, IsStandardOf};
 ghost use Rattle.circle_domain.specs.Ordering.{other_order};
 ghost use Rattle.circle_scheme.specs.Committing.{RefusesInOrder, domain_tests, evaluation_tests};
-ghost use Rattle.circle_scheme.specs.Committing.{commit_tests, height_tests, matrix_tests, lde_tests};
+ghost use Rattle.circle_scheme.specs.Committing.{commit_tests, height_tests, matrix_tests};
+ghost use Rattle.circle_scheme.specs.Committing.{lde_tests};
 ghost use Rattle.circle_scheme.specs.Committing.{target_tests, HaveRowsForPoints, IsExtendable};
-ghost use Rattle.circle_scheme.specs.Committing.{IsExtension, AreExtensions, AreContinued};
+ghost use Rattle.circle_scheme.specs.Committing.{IsExtension, AreExtensions, ContinuesFirst};
 ghost use Rattle.circle_scheme.specs.Committing.{AreCommittedValues};
 ghost use Rattle.circle_scheme.specs.Refusals.{answer};
 
@@ -276,9 +277,8 @@ fn continued_rows<F: ComplexExtendable>(
     requires large { log_trace ≤ log_size domain }
     requires domain_in_group { log_size domain ≤ F.CIRCLE_TWO_ADICITY }
     ensures width { IfOk result (λ made. width_of made ≡ width_of committed.now) }
-    ensures rows { IfOk result (λ made. AreContinued F.ops F.generators log_trace
-        (F.generators (log_height + 1)) (width_of committed.now)
-        (take (2 ^ log_trace) (rows committed.now)) domain (rows made)) }
+    ensures rows { IfOk result (λ made. ContinuesFirst F.ops F.generators log_trace log_height
+        committed.now domain made) }
 {
     let trace_domain = CircleDomain::new(log_trace, Point::generator(log_height + 1));
     let (first, _) = committed.split_rows(1 << log_trace);

@@ -14,9 +14,9 @@ ghost use Rattle.circle_scheme.specs.Scheme.{IsGiven};
 ghost use Rattle.circle_scheme.specs.Scheme.{IsStandardOfSize, says_memory, says_prover_memory};
 ghost use Rattle.circle_scheme.specs.Tests.{run_tests};
 ghost use Rattle.circle_scheme.specs.Verdict.{AcceptsFrom, IsRefused};
-ghost use Rattle.p3_circle.specs.Calls.{IsAnswer};
+ghost use Rattle.p3_circle.specs.Calls.{IsAnswer, IsOfMemoryIf};
 ghost use Rattle.circle_domain.specs.Domain.{log_size};
-ghost use Rattle.std.specs.Prelude.{◌≡◌, ◌+◌, ◌-◌, ◌^◌, min, IfErr, IfOk, IsTrue, OnOk};
+ghost use Rattle.std.specs.Prelude.{◌≡◌, ◌+◌, ◌-◌, ◌^◌, min, IfErr, IfOk, OnOk};
 
 use crate::pcs::CirclePcs;
 use circle_challenger::{CanObserve, CanSample, GrindingChallenger, RunChallenger};
@@ -198,9 +198,8 @@ where
     ) -> Result<(), FriError<FriMmcs::Error, InputError<InputMmcs::Error, FriMmcs::Error>>>
         ensures accepted { let p = ⟦<Self as Pcs<EF, C>>⟧ in OnOk result (p.verify_accepts self.now
             claims.items proof.now (C.state challenger.old) (C.state challenger.new)) }
-        ensures refused { let p = ⟦<Self as Pcs<EF, C>>⟧ in IfErr result (λ e. (t : C.State) →
-            p.verify_accepts self.now claims.items proof.now (C.state challenger.old) t
-            → IsTrue (p.is_memory e)) }
+        ensures refused { let p = ⟦<Self as Pcs<EF, C>>⟧ in IfErr result (IsOfMemoryIf p.is_memory
+            (p.verify_accepts self.now claims.items proof.now (C.state challenger.old))) }
         ensures reason { let p = ⟦<Self as Pcs<EF, C>>⟧ in IfErr result (p.verify_refuses self.now
             claims.items proof.now (C.state challenger.old) (C.state challenger.new)) }
     {

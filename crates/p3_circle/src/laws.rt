@@ -1,7 +1,6 @@
 //! Laws of the relation that a verifier decides, and of claims on words. The calls of this module
 //! answer nothing and carry what their contracts say.
-ghost use Rattle.circle_relation.specs.RunOf.{setting_in, run_of};
-ghost use Rattle.p3_circle.specs.Constant.{IsSameOfConstants};
+ghost use Rattle.p3_circle.specs.Constant.{AreSameOfConstants};
 
 use circle_commit::Mmcs;
 use circle_field::{ComplexExtendable, ExtensionField};
@@ -16,9 +15,8 @@ pub fn constant_ends<
     InputMmcs: Mmcs<Val>,
     FriMmcs: Mmcs<EF>,
 >(run: &OpenedRun<Val, EF, InputMmcs, FriMmcs>)
-    ensures { let k = ⟦<EF as OverCircle<Val>>⟧.fields in IsSameOfConstants (setting_in k run.now)
-        (run_of run.now) (InputMmcs.authenticates run.now.mmcs.now)
-        (FriMmcs.authenticates run.now.params.now.mmcs) }
+    ensures { AreSameOfConstants ⟦<EF as OverCircle<Val>>⟧.fields run.now
+        InputMmcs.authenticates FriMmcs.authenticates }
 {
     let _run = run;
 }

@@ -1,5 +1,6 @@
 //! The verifier's side of the transcript: what it is described by, and what it takes in.
-ghost use Rattle.std.specs.Prelude.{◌≡◌, ◌<◌, ◌^◌, ◌++◌, ◌⊎◌, map, flat_map, length, All, IfOk, IfErr, OnOk, Ok};
+ghost use Rattle.std.specs.Prelude.{◌≡◌, ◌<◌, ◌^◌, ◌++◌, map, flat_map, length, All, IfOk, IfErr};
+ghost use Rattle.std.specs.Prelude.{OnOk, Ok};
 ghost use Rattle.circle_commit.specs.declared.error.FriError.TheVariants.{Memory};
 ghost use Rattle.circle_domain.specs.Selectors.{IsFinite};
 ghost use Rattle.circle_relation.specs.Statement.{all_matrices};
@@ -7,11 +8,11 @@ ghost use Rattle.circle_relation.specs.RunOf.{proof_of};
 ghost use Rattle.circle_relation.specs.StatementOf.{point_claim, matrix_claims, batch_claims};
 ghost use Rattle.circle_transcript.specs.Claims.{claims_of};
 ghost use Rattle.circle_transcript.specs.ShapeOf.{matrices_of, batches_of};
-ghost use Rattle.circle_transcript.specs.Runs.{drawn_of};
 ghost use Rattle.circle_scheme.specs.Refusals.{is_at_infinity};
 ghost use Rattle.circle_opening.specs.Taken.{widths_by, point_taken, claims_taken};
+ghost use Rattle.p3_circle.specs.Replay.{AreDrawn, AreNotDrawn};
 ghost use Rattle.p3_circle.specs.Tested.{claimed_top, IsTested};
-ghost use Rattle.circle_scheme.specs.Verdict.{drawing, refusal_of, IsMissedIn};
+ghost use Rattle.circle_scheme.specs.Verdict.{refusal_of};
 
 use circle_challenger::{CanObserve, CanSample, GrindingChallenger, RunChallenger};
 use circle_commit::{
@@ -159,14 +160,11 @@ where
     requires tested { IsTested Val.CIRCLE_TWO_ADICITY (λ w. Val.eq w Val.ZERO)
         (is_at_infinity EF.eq EF.ops) params.now (batch_claims claims.now) (proof_of proof.now) }
     requires top { log_max_height ≡ claimed_top params.now (batch_claims claims.now) }
-    ensures drawn { let m = ⟦<C as RunChallenger<Val, EF, FriMmcs::Commitment>>⟧.run in
-        let drawn = drawing m params.now EF.ops (batch_claims claims.now) (proof_of proof.now) in
-        IfOk result (λ d. drawn (C.state challenger.old)
-        ≡ Ok (drawn_of EF.coefficients d (C.state challenger.new))) }
+    ensures drawn { let m = ⟦<C as RunChallenger<Val, EF, FriMmcs::Commitment>>⟧.run in IfOk result
+        (λ d. AreDrawn m EF.ops params.now claims.now proof.now challenger.old d challenger.new) }
     ensures below { IfOk result (λ d. All (λ q. q < 2 ^ log_max_height) d.indices.items) }
     ensures failure { let m = ⟦<C as RunChallenger<Val, EF, FriMmcs::Commitment>>⟧.run in
-        let drawn = drawing m params.now EF.ops (batch_claims claims.now) (proof_of proof.now) in
-        IfErr result (λ e. (e ≡ Memory) ⊎ IsMissedIn (drawn (C.state challenger.old)) e) }
+        IfErr result (AreNotDrawn m EF.ops params.now claims.now proof.now challenger.old) }
 {
     let widths = opened_widths(alloc, claims)?;
     let extra_bits = FriFoldingStrategy::<Val, EF>::extra_query_index_bits(&CircleFriFolding);
