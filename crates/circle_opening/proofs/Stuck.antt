@@ -5,11 +5,11 @@ use Rattle.circle_challenger.specs.Moves.{RunMoves, after_element}
 use Rattle.circle_commit.specs.declared.params.PowPhase.{PowPhase}
 use Rattle.circle_commit.specs.declared.params.PowPhase.TheVariants.{CommitPhase, Query}
 use Rattle.circle_transcript.specs.Draw.{Claim, Taken, after_final_poly, closed, Drawn, draw, draw_seeded, layered}
-use Rattle.circle_transcript.specs.Runs.{NonePasses, drawn_of}
-use Rattle.circle_transcript.specs.declared.run.CircleDraws.{CircleDraws}
+use Rattle.circle_runs.specs.Runs.{NonePasses, drawn_of}
+use Rattle.circle_runs.specs.declared.run.CircleDraws.{CircleDraws}
 use Rattle.circle_transcript.specs.Shape.{Shape}
 use Rattle.circle_transcript.specs.declared.transcript.Numbers.{Numbers}
-use Rattle.circle_transcript.proofs.Drawn.{AtRounds, AtQuery}
+use Rattle.circle_runs.proofs.Drawn.{AtRounds, AtQuery}
 use Rattle.circle_opening.specs.Failure.{FindsNone, IsStuckAfter}
 
 module _ {C S F E Com : Type 0} (r : RunMoves C S F E Com) (n : Numbers) (claims : List (Claim E)) (s : S) (t : Taken F E Com) (same : t.claims ≡ claims) where

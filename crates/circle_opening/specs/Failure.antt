@@ -16,7 +16,7 @@ use Rattle.circle_transcript.specs.Draw.{after_rounds, rounds_pass, seeded}
 use Rattle.circle_relation.specs.Accepts.{Fields}
 use Rattle.circle_relation.specs.Statement.{BatchClaim}
 use Rattle.circle_transcript.specs.Numbers.{numbers_of}
-use Rattle.circle_transcript.specs.Runs.{NonePasses}
+use Rattle.circle_runs.specs.Runs.{NonePasses}
 use Rattle.circle_transcript.specs.declared.failure.CircleTranscriptFailure.{CircleTranscriptFailure}
 use Rattle.circle_transcript.specs.declared.failure.CircleTranscriptFailure.TheVariants.{PowWitness}
 use Rattle.circle_transcript.specs.declared.failure.CircleTranscriptFailure.TheVariants.{NoWitness}

@@ -10,7 +10,7 @@ use Rattle.circle_relation.specs.Accepts.{Authenticates, Fields}
 use Rattle.circle_relation.specs.RunOf.{proof_of}
 use Rattle.circle_relation.specs.declared.proof.CirclePcsProof.{CirclePcsProof}
 use Rattle.circle_transcript.specs.Draw.{draw}
-use Rattle.circle_transcript.specs.Runs.{drawn_leaving}
+use Rattle.circle_runs.specs.Runs.{drawn_leaving}
 use Rattle.circle_opening.specs.Failure.{IsStuckFrom, IsTooHigh}
 use Rattle.circle_opening.specs.Opening.{IsFailure, IsOpening, answered_claims, answered_matrices}
 use Rattle.circle_opening.specs.Taken.{claims_taken, shape_by}

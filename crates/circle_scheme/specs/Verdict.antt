@@ -18,7 +18,7 @@ use Rattle.circle_relation.specs.Reasons.{IsReason}
 use Rattle.circle_relation.specs.RunOf.{setting_of, proof_of}
 use Rattle.circle_transcript.specs.declared.failure.CircleTranscriptFailure.{CircleTranscriptFailure}
 use Rattle.circle_transcript.specs.declared.failure.CircleTranscriptFailure.TheVariants.{PowWitness, NoWitness, Memory as OutOfMemory}
-use Rattle.circle_transcript.specs.declared.run.CircleDraws.{CircleDraws}
+use Rattle.circle_runs.specs.declared.run.CircleDraws.{CircleDraws}
 use Rattle.circle_transcript.specs.Draw.{Drawn, draw}
 use Rattle.circle_scheme.specs.Refusals.{answer, seeding_tests, is_at_infinity}
 use Rattle.circle_opening.specs.Taken.{drawn_by, shape_by, taken_by}

@@ -6,5 +6,4 @@ pub mod Draw
 pub mod Claims
 pub mod Transcript
 pub mod Play
-pub mod Runs
 pub mod Rows

@@ -17,21 +17,14 @@
 //!   draws and the state after it; `NoWitness` and `PowWitness` come exactly where no witness
 //!   passes, and where the one at hand doesn't, and a transcript that is refused for want of
 //!   memory leaves the challenger as it was (`new`, clause `refused`).
-//! - Over a whole run (`prover_run`, `verifier_run`) the challenges, the indices and the state
-//!   after are those of the definition `Draw.draw`; a failure names the phase in which no witness
-//!   passes, or the first whose witness doesn't, and its difficulty; both sides, from equal states
-//!   and with the prover's witnesses, draw equal challenges and leave equal states (`both_runs`,
-//!   clause `alike`).
 #![tactic(auto)]
 
 pub mod failure;
 mod play;
-pub mod run;
 pub mod shape;
 pub mod transcript;
 
 pub use failure::CircleTranscriptFailure;
-pub use run::{CircleDraws, CircleMessages, CircleWitnesses, both_runs, prover_run, verifier_run};
 pub use shape::CirclePcsShape;
 pub use transcript::{
     CircleProverTranscript, CircleTranscript, CircleVerifierTranscript, OpeningClaim,

@@ -11,10 +11,10 @@ use circle_challenger::{
 use circle_commit::{FriParameters, PowPhase};
 use circle_field::{Cubic, ExtensionField, Field, Mersenne31};
 use circle_point::{Neutral, Point};
-use circle_transcript::{
-    CircleDraws, CircleMessages, CirclePcsShape, CircleTranscriptFailure, CircleWitnesses,
-    both_runs, prover_run, verifier_run,
+use circle_runs::{
+    CircleDraws, CircleMessages, CircleWitnesses, both_runs, prover_run, verifier_run,
 };
+use circle_transcript::{CirclePcsShape, CircleTranscriptFailure};
 use std::alloc::{AllocError, Global};
 use std::process::Abort;
 use std::test::Fail;

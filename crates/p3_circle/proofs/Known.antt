@@ -14,7 +14,7 @@ use Rattle.circle_relation.specs.Statement.{MatrixClaim, BatchClaim, OpeningProo
 use Rattle.circle_scheme.specs.Refusals.{domain_tests, sibling_tests, round_tests, rounds_tests, some_claim}
 use Rattle.p3_circle.specs.Tested.{rounds_due, IsTested}
 use Rattle.circle_scheme.proofs.Passed.{AllPass, pass-front, pass-back, pass-both}
-use Rattle.p3_circle.proofs.Seeding.{claims_part, parameters_part, shape_part, final_part, points_part, height_of_claims}
+use Rattle.circle_checks.proofs.Seeding.{claims_part, parameters_part, shape_part, final_part, points_part, height_of_claims}
 
 -- numbers that don't differ
 same-from : (a b : ℕ) → not (a == b) ≡ false → a ≡ b

@@ -15,12 +15,12 @@ use Rattle.circle_transcript.specs.declared.failure.CircleTranscriptFailure.{Cir
 use Rattle.circle_transcript.specs.declared.failure.CircleTranscriptFailure.TheVariants.{Memory as OutOfMemory}
 use Rattle.circle_transcript.specs.Failure.{phase_of}
 use Rattle.circle_transcript.specs.declared.transcript.Numbers.{Numbers}
-use Rattle.circle_transcript.specs.Runs.{IsMiss}
+use Rattle.circle_runs.specs.Runs.{IsMiss}
 use Rattle.circle_transcript.specs.Shape.{Shape}
 use Rattle.circle_transcript.specs.Draw.{Claim, widths_of, Taken, taken, Drawn, draw}
 use Rattle.circle_scheme.specs.Refusals.{is_at_infinity}
 use Rattle.circle_opening.specs.Taken.{widths_by, point_taken, claims_taken, shape_by}
-use Rattle.p3_circle.specs.Tested.{claimed_top}
+use Rattle.circle_checks.specs.Tested.{claimed_top}
 use Rattle.circle_scheme.specs.Verdict.{refusal_of, IsMissedIn}
 
 -- claims that leave something to fold are of heights above what folding stops at

@@ -25,7 +25,7 @@ use Rattle.circle_opening.specs.Taken.{drawn_by}
 use Rattle.circle_scheme.specs.Verdict.{run_with, IsMissedIn, IsDrawnFrom, draw_from, AcceptsFrom}
 use Rattle.p3_circle.proofs.Known.{PartsPass, known, all_pass}
 use Rattle.circle_scheme.proofs.Passed.{AllPass, passed, passes, pass-front, pass-back, pass-both}
-use Rattle.p3_circle.proofs.Seeding.{claims_part, parameters_part, shape_part, final_part, points_part, parts-are}
+use Rattle.circle_checks.proofs.Seeding.{claims_part, parameters_part, shape_part, final_part, points_part, parts-are}
 use Rattle.circle_opening.proofs.Counts.{betas-count, queries-count}
 use Rattle.p3_circle.proofs.Verified.{tested, not_true, false_not, challenges-told}
 

@@ -13,8 +13,8 @@ use Rattle.circle_relation.specs.StatementOf.{batch_claims}
 use Rattle.circle_relation.specs.declared.proof.CirclePcsProof.{CirclePcsProof}
 use Rattle.circle_scheme.specs.Verdict.{IsMissedIn, drawing}
 use Rattle.circle_transcript.specs.Draw.{Drawn}
-use Rattle.circle_transcript.specs.Runs.{drawn_leaving}
-use Rattle.circle_transcript.specs.declared.run.CircleDraws.{CircleDraws}
+use Rattle.circle_runs.specs.Runs.{drawn_leaving}
+use Rattle.circle_runs.specs.declared.run.CircleDraws.{CircleDraws}
 
 -- I and W are the schemes of the batches and of the words, each with its commitments, data, proofs
 -- and errors; r is what the challenger is to the transcript

@@ -2,11 +2,6 @@
 use Rattle.std.specs.Prelude.{◌≡◌, ℕ, ◌+◌, ◌-◌, ◌^◌, ◌<◌, ◌≤◌, Bool, true, false, List, length, All}
 use Rattle.circle_commit.specs.declared.params.FriParameters.{FriParameters}
 use Rattle.circle_relation.specs.Statement.{BatchClaim, OpeningProof, all_matrices, log_max_height}
-use Rattle.circle_scheme.specs.Tests.{claimed_height}
-
--- the logarithm of the greatest height that is claimed, under parameters
-abbrev pub claimed_top : {M Com E : Type 0} → FriParameters M → List (BatchClaim Com E) → ℕ
-claimed_top p batches = claimed_height p.log_blowup batches
 
 -- the number of rounds that claims and parameters ask for
 abbrev pub rounds_due : {M Com E : Type 0} → FriParameters M → List (BatchClaim Com E) → ℕ

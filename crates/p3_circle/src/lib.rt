@@ -41,17 +41,16 @@
 //! calls cite the members of that instance, which say what each call gives and refuses.
 #![tactic(auto)]
 
-mod commit;
 mod instance;
 pub mod laws;
 pub mod pcs;
 pub mod queries;
 mod replay;
-mod requests;
 pub mod transcript;
 mod verdict;
 pub mod verifier;
 
+pub use circle_checks::heights_match_domains;
 pub use circle_final::{x_interpolate, x_value};
 pub use circle_folding::{
     CircleFriFolding, deep_quotient_reduce_row, extract_lambda, fold_x, fold_x_row, fold_y,
@@ -66,7 +65,6 @@ pub use circle_plane::{
 pub use circle_relation::{
     CircleCommitPhaseMultiStep, CircleFriProof, CircleInputProof, CirclePcsProof, InputError,
 };
-pub use commit::heights_match_domains;
 pub use pcs::CirclePcs;
 pub use transcript::{
     CircleDraws, CirclePcsShape, CircleProverTranscript, CircleTranscript, CircleTranscriptFailure,

@@ -17,11 +17,11 @@ ghost use Rattle.circle_scheme.specs.Requesting.{RefusesBefore};
 ghost use Rattle.circle_scheme.specs.Tests.{IsFirstRefusal};
 ghost use Rattle.p3_circle.specs.Calls.{IsAnswer, scheme_tests};
 
-use crate::commit::{
+use circle_challenger::{CanObserve, CanSample, GrindingChallenger};
+use circle_checks::commit::{
     commit_evaluations, commit_matrices, evaluations_on, log_min_trace_height, quotient_ldes,
 };
-use crate::requests::validate_requests;
-use circle_challenger::{CanObserve, CanSample, GrindingChallenger};
+use circle_checks::requests::validate_requests;
 use circle_commit::{
     CommitmentOpening, FriError, FriParameters, Mmcs, OpenedValues, OpeningRequest,
     PeriodicLdeTable, RowMajorMatrix, log2_strict,

@@ -5,7 +5,8 @@ ghost use Rattle.circle_relation.specs.Accepts.{Accepts};
 ghost use Rattle.circle_relation.specs.Reasons.{IsReason};
 ghost use Rattle.circle_relation.specs.RunOf.{setting_of, proof_of, run_of, IsDrawn, IsOpened, Holds, Refuses};
 ghost use Rattle.circle_scheme.specs.Refusals.{is_at_infinity};
-ghost use Rattle.p3_circle.specs.Tested.{claimed_top, rounds_due, IsTested};
+ghost use Rattle.circle_checks.specs.Tested.{claimed_top};
+ghost use Rattle.p3_circle.specs.Tested.{rounds_due, IsTested};
 ghost use Rattle.circle_scheme.specs.Verdict.{challenges_of, run_with};
 
 use circle_commit::{CommitmentOpening, FriError, FriParameters, Mmcs};
@@ -14,7 +15,7 @@ use circle_field::{ComplexExtendable, ExtensionField};
 use circle_inputs::{authenticate_inputs, claimed_heights, reduced_words, validate_input_shape};
 use circle_layers::{authenticate_first_layer, check_final, fold_first_layer, fold_rounds};
 use circle_relation::{CirclePcsProof, InputError, OpenedRun, OverCircle};
-use circle_transcript::CircleDraws;
+use circle_runs::CircleDraws;
 use std::alloc::Global;
 
 /// Refuses a run by the first of these that fails: the lists of the proof have the lengths that are

@@ -11,7 +11,8 @@ ghost use Rattle.circle_transcript.specs.ShapeOf.{matrices_of, batches_of};
 ghost use Rattle.circle_scheme.specs.Refusals.{is_at_infinity};
 ghost use Rattle.circle_opening.specs.Taken.{widths_by, point_taken, claims_taken};
 ghost use Rattle.p3_circle.specs.Replay.{AreDrawn, AreNotDrawn};
-ghost use Rattle.p3_circle.specs.Tested.{claimed_top, IsTested};
+ghost use Rattle.circle_checks.specs.Tested.{claimed_top};
+ghost use Rattle.p3_circle.specs.Tested.{IsTested};
 ghost use Rattle.circle_scheme.specs.Verdict.{refusal_of};
 
 use circle_challenger::{CanObserve, CanSample, GrindingChallenger, RunChallenger};
@@ -24,10 +25,8 @@ use circle_field::{ComplexExtendable, ExtensionField, Field};
 use circle_folding::CircleFriFolding;
 use circle_point::Point;
 use circle_relation::{CirclePcsProof, InputError};
-use circle_transcript::{
-    CircleDraws, CircleMessages, CirclePcsShape, CircleTranscriptFailure, CircleWitnesses,
-    OpeningClaim, verifier_run,
-};
+use circle_runs::{CircleDraws, CircleMessages, CircleWitnesses, verifier_run};
+use circle_transcript::{CirclePcsShape, CircleTranscriptFailure, OpeningClaim};
 use std::alloc::{AllocError, Global};
 
 // The number of values that are claimed of a matrix at each of its points.

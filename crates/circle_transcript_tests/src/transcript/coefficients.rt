@@ -8,7 +8,8 @@ use crate::transcript::{NONE, assert_alike, cubic, one_matrix, params, shape};
 use circle_challenger::Sha256Challenger;
 use circle_field::{Cubic, Mersenne31};
 use circle_point::{Neutral, Point};
-use circle_transcript::{CircleMessages, CirclePcsShape, both_runs};
+use circle_runs::{CircleMessages, both_runs};
+use circle_transcript::CirclePcsShape;
 use std::alloc::{AllocError, Global};
 use std::test::Fail;
 

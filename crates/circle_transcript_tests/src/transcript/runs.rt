@@ -8,9 +8,9 @@ use circle_challenger::{CanSample, Sha256Challenger};
 use circle_commit::PowPhase;
 use circle_field::{Cubic, Mersenne31};
 use circle_point::Point;
+use circle_runs::{CircleMessages, CircleWitnesses, prover_run};
 use circle_transcript::{
-    CircleMessages, CirclePcsShape, CircleProverTranscript, CircleTranscriptFailure,
-    CircleVerifierTranscript, CircleWitnesses, prover_run,
+    CirclePcsShape, CircleProverTranscript, CircleTranscriptFailure, CircleVerifierTranscript,
 };
 use std::alloc::Global;
 use std::process::Abort;

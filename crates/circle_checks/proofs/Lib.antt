@@ -1,0 +1,5 @@
+mod Continued
+mod Extensions
+mod InOrder
+pub mod Seeding
+mod Tested
