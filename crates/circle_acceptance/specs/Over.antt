@@ -1,6 +1,7 @@
 -- A verifier's run over committed matrices: what is claimed is claimed of them, and what is opened
 -- are their rows and the entries of their words.
-use Rattle.std.specs.Prelude.{◌≡◌, ℕ, ◌+◌, ◌-◌, ◌/◌, ◌^◌, ◌<◌, ◌≤◌, ◌==◌, List, length, map, All, Some, slice_get, slice_index_or, true}
+use Rattle.std.specs.Prelude.{◌≡◌, ℕ, ◌+◌, ◌-◌, ◌/◌, ◌^◌, ◌<◌, ◌≤◌, ◌==◌, List, length, map, All}
+use Rattle.std.specs.Prelude.{Some, slice_get, slice_index_or, true}
 use Rattle.std.specs.List.{list_any}
 use Rattle.circle_commit.specs.declared.params.FriParameters.{FriParameters}
 use Rattle.circle_opening.specs.Requests.{claimed}

@@ -12,8 +12,8 @@
 //! - `requests`: `validate_requests` answers the first refusal of what is to be opened
 //!   (`opening_tests`).
 //! - `commit`: the values of the polynomials of rows, on standard domains (`AreExtensions`) and on
-//!   domains that a caller names (`AreCommittedValues`), and commitments to them. What is refused is
-//!   the first that there is reason for, and nothing else but memory (`RefusesInOrder`).
+//!   domains that a caller names (`AreCommittedValues`), and commitments to them. What is refused
+//!   is the first that there is reason for, and nothing else but memory (`RefusesInOrder`).
 #![tactic(auto)]
 
 pub mod commit;

@@ -1,12 +1,14 @@
 -- Whole runs, as contracts see them.
-use Rattle.std.specs.Prelude.{◌≡◌, ℕ, ◌≤◌, List, [], map, length, zip, slice_get, Some, IsTrue, true, false, Result, Ok, Err}
+use Rattle.std.specs.Prelude.{◌≡◌, ℕ, ◌≤◌, List, [], map, length, zip, slice_get, Some, IsTrue}
+use Rattle.std.specs.Prelude.{true, false, Result, Ok, Err}
 use Rattle.std.specs.Borrow.{Bor}
 use Rattle.circle_challenger.specs.Moves.{Moves, RunMoves, is_passed, after_element}
 use Rattle.circle_commit.specs.declared.params.PowPhase.{PowPhase}
 use Rattle.circle_commit.specs.declared.params.PowPhase.TheVariants.{Batch, CommitPhase, Query}
 use Rattle.circle_point.specs.declared.point.Point.{Point}
 use Rattle.circle_transcript.specs.declared.failure.CircleTranscriptFailure.{CircleTranscriptFailure}
-use Rattle.circle_transcript.specs.declared.failure.CircleTranscriptFailure.TheVariants.{PowWitness, NoWitness}
+use Rattle.circle_transcript.specs.declared.failure.CircleTranscriptFailure.TheVariants.{PowWitness}
+use Rattle.circle_transcript.specs.declared.failure.CircleTranscriptFailure.TheVariants.{NoWitness}
 use Rattle.circle_runs.specs.declared.run.CircleDraws.{CircleDraws}
 use Rattle.circle_runs.specs.declared.run.CircleMessages.{CircleMessages}
 use Rattle.circle_runs.specs.declared.run.CircleWitnesses.{CircleWitnesses}
@@ -14,11 +16,13 @@ use Rattle.circle_transcript.specs.declared.shape.CirclePcsShape.{CirclePcsShape
 use Rattle.circle_transcript.specs.declared.transcript.CircleTranscript.{CircleTranscript}
 use Rattle.circle_transcript.specs.declared.transcript.Numbers.{Numbers}
 use Rattle.circle_transcript.specs.Claims.{claims_of}
-use Rattle.circle_transcript.specs.Draw.{Claim, Taken, taken, Drawn, claimed, layered, closed, after_rounds, rounds_pass, draw_seeded, draw, seeded}
+use Rattle.circle_transcript.specs.Draw.{Claim, Taken, taken, Drawn, claimed, layered, closed}
+use Rattle.circle_transcript.specs.Draw.{after_rounds, rounds_pass, draw_seeded, draw, seeded}
 use Rattle.circle_transcript.specs.Failure.{phase_of}
 use Rattle.circle_transcript.specs.Numbers.{numbers_of, difficulty_of}
 use Rattle.circle_transcript.specs.ShapeOf.{shape_of}
-use Rattle.circle_transcript.specs.Transcript.{current, numbers, no_witness, bad_witness, commits_pass}
+use Rattle.circle_transcript.specs.Transcript.{current, numbers, no_witness, bad_witness}
+use Rattle.circle_transcript.specs.Transcript.{commits_pass}
 
 -- the numbers that a run can be played with
 pub record ArePlayable (n : Numbers) : Type 0 where

@@ -1,5 +1,6 @@
 //! Whole runs of a transcript, on both sides.
-ghost use Rattle.std.specs.Prelude.{◌≡◌, ◌^◌, ◌<◌, ◌≤◌, [], length, map, true, IfOk, IfErr, OnOk, All, unwrap_or};
+ghost use Rattle.std.specs.Prelude.{◌≡◌, ◌^◌, ◌<◌, ◌≤◌, [], length, map, true, IfOk, IfErr, OnOk};
+ghost use Rattle.std.specs.Prelude.{All, unwrap_or};
 ghost use Rattle.circle_challenger.specs.Due.{AreNext, HasPlayed};
 ghost use Rattle.circle_transcript.specs.Failure.{IsMemoryOr};
 ghost use Rattle.circle_transcript.specs.Shape.{claimed_widths};
@@ -7,8 +8,12 @@ ghost use Rattle.circle_transcript.specs.ShapeOf.{shape_of};
 ghost use Rattle.circle_transcript.specs.Draw.{widths_of};
 ghost use Rattle.circle_transcript.specs.Claims.{claims_of};
 ghost use Rattle.circle_transcript.specs.Numbers.{numbers_of, run_steps};
-ghost use Rattle.circle_transcript.specs.Transcript.{current, due, numbers, IsSame, steps_of_rounds, commits_pass, commit_challenges, after_commits};
-ghost use Rattle.circle_runs.specs.Runs.{ArePlayable, taken_of, drawn_leaving, Draws, DrawsWithSome, Misses, FindsNone, DrawsFrom, MissesFrom, FindsNoneFrom, MissesInRounds, FindsNoneInRounds};
+ghost use Rattle.circle_transcript.specs.Transcript.{current, due, numbers, IsSame};
+ghost use Rattle.circle_transcript.specs.Transcript.{steps_of_rounds, commits_pass};
+ghost use Rattle.circle_transcript.specs.Transcript.{commit_challenges, after_commits};
+ghost use Rattle.circle_runs.specs.Runs.{ArePlayable, taken_of, drawn_leaving, Draws};
+ghost use Rattle.circle_runs.specs.Runs.{DrawsWithSome, Misses, FindsNone, DrawsFrom, MissesFrom};
+ghost use Rattle.circle_runs.specs.Runs.{FindsNoneFrom, MissesInRounds, FindsNoneInRounds};
 
 use circle_challenger::{CanObserve, CanSample, GrindingChallenger, RunChallenger};
 use circle_field::{ExtensionField, Field};

@@ -17,7 +17,9 @@ use Rattle.circle_relation.specs.Accepts.{Fields, Run, Authenticates, Accepts}
 use Rattle.circle_relation.specs.Reasons.{IsReason}
 use Rattle.circle_relation.specs.RunOf.{setting_of, proof_of}
 use Rattle.circle_transcript.specs.declared.failure.CircleTranscriptFailure.{CircleTranscriptFailure}
-use Rattle.circle_transcript.specs.declared.failure.CircleTranscriptFailure.TheVariants.{PowWitness, NoWitness, Memory as OutOfMemory}
+use Rattle.circle_transcript.specs.declared.failure.CircleTranscriptFailure.TheVariants.{PowWitness}
+use Rattle.circle_transcript.specs.declared.failure.CircleTranscriptFailure.TheVariants.{NoWitness}
+use Rattle.circle_transcript.specs.declared.failure.CircleTranscriptFailure.TheVariants.{Memory as OutOfMemory}
 use Rattle.circle_runs.specs.declared.run.CircleDraws.{CircleDraws}
 use Rattle.circle_transcript.specs.Draw.{Drawn, draw}
 use Rattle.circle_scheme.specs.Refusals.{answer, seeding_tests, is_at_infinity}

@@ -1,11 +1,11 @@
 //! What the scheme's calls ask, refuse and give, as relations of lists and of the challenger's
 //! states; an honest statement among them.
 //!
-//! There is no function here: the contracts of `p3_circle` cite these definitions, and its instance
-//! of the trait `Pcs` the lemmas on them. The trait `TestedOver` is for contracts alone. An honest
-//! statement is refused by none of the tests before anything is drawn (`HonestTests`); what is
-//! opened of batches that were committed to are the values of their polynomials, and a verifier's
-//! claims of it are claims on them (`HonestOpenings`).
+//! There is no function here: the contracts of `circle_checks` and `p3_circle` cite these
+//! definitions, and the instance of the trait `Pcs` the lemmas on them. The trait `TestedOver` is
+//! for contracts alone. An honest statement is refused by none of the tests before anything is
+//! drawn (`HonestTests`); what is opened of batches that were committed to are the values of their
+//! polynomials, and a verifier's claims of it are claims on them (`HonestOpenings`).
 #![tactic(auto)]
 
 ghost use Rattle.circle_scheme.specs.Tests.{TestedFields};

@@ -1,10 +1,13 @@
 -- What a run draws, as functions of the challenger's state.
-use Rattle.std.specs.Prelude.{ℕ, Bool, true, ◌&&◌, if◌then◌else◌, List, [], ◌∷◌, length, map, flat_map, Result, Ok, Err}
+use Rattle.std.specs.Prelude.{ℕ, Bool, true, ◌&&◌, if◌then◌else◌, List, [], ◌∷◌, length, map}
+use Rattle.std.specs.Prelude.{flat_map, Result, Ok, Err}
 use Rattle.circle_field.specs.Circle.{Coordinates}
 use Rattle.circle_commit.specs.declared.params.PowPhase.{PowPhase}
 use Rattle.circle_commit.specs.declared.params.PowPhase.TheVariants.{Batch, CommitPhase, Query}
 use Rattle.circle_challenger.specs.Observing.{after_all}
-use Rattle.circle_challenger.specs.Moves.{Moves, RunMoves, after_bytes, after_elements, drawn_element, after_element, drawn_numbers, after_numbers, is_passed, after_pow}
+use Rattle.circle_challenger.specs.Moves.{Moves, RunMoves, after_bytes, after_elements}
+use Rattle.circle_challenger.specs.Moves.{drawn_element, after_element, drawn_numbers}
+use Rattle.circle_challenger.specs.Moves.{after_numbers, is_passed, after_pow}
 use Rattle.circle_transcript.specs.declared.transcript.Numbers.{Numbers}
 use Rattle.circle_transcript.specs.Shape.{Shape, text_of}
 use Rattle.circle_transcript.specs.Numbers.{numbers_of}

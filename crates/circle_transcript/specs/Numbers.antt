@@ -4,7 +4,8 @@ use Rattle.circle_challenger.specs.Step.{Step}
 use Rattle.circle_commit.specs.declared.params.PowPhase.{PowPhase}
 use Rattle.circle_commit.specs.declared.params.PowPhase.TheVariants.{Batch, CommitPhase, Query}
 use Rattle.circle_transcript.specs.declared.transcript.Numbers.{Numbers}
-use Rattle.circle_transcript.specs.Shape.{Shape, batch_steps, first_layer_steps, rounds_steps, query_steps}
+use Rattle.circle_transcript.specs.Shape.{Shape, batch_steps, first_layer_steps, rounds_steps}
+use Rattle.circle_transcript.specs.Shape.{query_steps}
 
 -- the numbers of a shape that the calls read
 abbrev pub numbers_of : Shape → Numbers

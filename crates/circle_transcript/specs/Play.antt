@@ -1,6 +1,7 @@
 -- Steps that both sides play, as functions of the transcript before them.
 use Rattle.std.specs.Prelude.{ℕ, Bool, List}
-use Rattle.circle_challenger.specs.Moves.{Moves, is_passed, after_pow, drawn_element, after_element, drawn_numbers, after_numbers}
+use Rattle.circle_challenger.specs.Moves.{Moves, is_passed, after_pow, drawn_element, after_element}
+use Rattle.circle_challenger.specs.Moves.{drawn_numbers, after_numbers}
 use Rattle.circle_challenger.specs.TranscriptState.{current}
 use Rattle.circle_challenger.specs.declared.state.TranscriptState.{TranscriptState}
 

@@ -2,8 +2,11 @@
 use Rattle.std.specs.Prelude.{◌≡◌, [], ◌∷◌, ◌++◌, length, take, drop, codes, refl}
 use Rattle.circle_challenger.specs.Step.{be64, step_text}
 use Rattle.circle_challenger.specs.Separator.{steps_text, labels_text}
-use Rattle.circle_challenger.specs.Played.{element_message, elements_message, opaque_message, pow_step, element_challenge, numbers_challenge}
-use Rattle.circle_transcript.specs.Shape.{Shape, claim_steps, batch_steps, first_layer_steps, round_steps, rounds_steps, query_steps, steps_of, layout, batch_layout, text_of}
+use Rattle.circle_challenger.specs.Played.{element_message, elements_message, opaque_message}
+use Rattle.circle_challenger.specs.Played.{pow_step, element_challenge, numbers_challenge}
+use Rattle.circle_transcript.specs.Shape.{Shape, claim_steps, batch_steps, first_layer_steps}
+use Rattle.circle_transcript.specs.Shape.{round_steps, rounds_steps, query_steps, steps_of, layout}
+use Rattle.circle_transcript.specs.Shape.{batch_layout, text_of}
 
 -- one claim of one column, one round, no proofs of work, and two indices of three bits
 example : Shape

@@ -1,8 +1,10 @@
 -- The shape of a run of the scheme, the steps of its transcript and its seed.
-use Rattle.std.specs.Prelude.{◌≡◌, ℕ, ◌<◌, ◌^◌, ◌==◌, if◌then◌else◌, List, [], ◌∷◌, ◌++◌, length, flat_map, All, codes}
+use Rattle.std.specs.Prelude.{◌≡◌, ℕ, ◌<◌, ◌^◌, ◌==◌, if◌then◌else◌, List, [], ◌∷◌, ◌++◌, length}
+use Rattle.std.specs.Prelude.{flat_map, All, codes}
 use Rattle.std.proofs.Common.{zero, suc}
 use Rattle.circle_challenger.specs.Step.{Step, step, be64}
-use Rattle.circle_challenger.specs.Played.{elements_message, opaque_message, pow_step, element_challenge, numbers_challenge}
+use Rattle.circle_challenger.specs.Played.{elements_message, opaque_message, pow_step}
+use Rattle.circle_challenger.specs.Played.{element_challenge, numbers_challenge}
 use Rattle.circle_challenger.specs.Separator.{Separator, separator, seed_text}
 use Rattle.circle_challenger.specs.declared.interaction.Hierarchy.TheVariants.{Atomic}
 use Rattle.circle_challenger.specs.declared.interaction.Kind.TheVariants.{Message}

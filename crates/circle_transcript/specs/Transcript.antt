@@ -1,16 +1,20 @@
 -- What contracts see of a transcript of the scheme.
 use Rattle.std.specs.Prelude.{◌≡◌, ℕ, Bool, List, length, zip}
 use Rattle.std.specs.Borrow.{Bor, MutBor}
-use Rattle.circle_challenger.specs.Moves.{Moves, RunMoves, is_passed, after_pow, drawn_element, after_element}
+use Rattle.circle_challenger.specs.Moves.{Moves, RunMoves, is_passed, after_pow, drawn_element}
+use Rattle.circle_challenger.specs.Moves.{after_element}
 use Rattle.circle_challenger.specs.Step.{Step}
 use Rattle.circle_commit.specs.declared.params.PowPhase.{PowPhase}
 use Rattle.circle_point.specs.declared.point.Point.{Point}
 use Rattle.circle_transcript.specs.Claims.{claims_of}
 use Rattle.circle_transcript.specs.Numbers.{difficulty_of}
 use Rattle.circle_transcript.specs.Shape.{batch_steps, rounds_steps}
-use Rattle.circle_transcript.specs.Draw.{widths_of, after_claims, after_rounds, fold_challenges, rounds_pass, after_final_poly, drawn_indices, after_indices}
+use Rattle.circle_transcript.specs.Draw.{widths_of, after_claims, after_rounds, fold_challenges}
+use Rattle.circle_transcript.specs.Draw.{rounds_pass, after_final_poly, drawn_indices}
+use Rattle.circle_transcript.specs.Draw.{after_indices}
 use Rattle.circle_transcript.specs.declared.failure.CircleTranscriptFailure.{CircleTranscriptFailure}
-use Rattle.circle_transcript.specs.declared.failure.CircleTranscriptFailure.TheVariants.{PowWitness, NoWitness}
+use Rattle.circle_transcript.specs.declared.failure.CircleTranscriptFailure.TheVariants.{PowWitness}
+use Rattle.circle_transcript.specs.declared.failure.CircleTranscriptFailure.TheVariants.{NoWitness}
 use Rattle.circle_transcript.specs.declared.transcript.CircleTranscript.{CircleTranscript}
 use Rattle.circle_transcript.specs.declared.transcript.Numbers.{Numbers}
 

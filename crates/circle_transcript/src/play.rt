@@ -1,7 +1,9 @@
 //! Steps that both sides of a transcript play.
 //!
 //! Contracts of steps without a challenge of the extension see the base field as its own extension.
-ghost use Rattle.std.specs.Prelude.{◌≡◌, ◌<◌, ◌≤◌, ◌^◌, ◌↔◌, ◌⊎◌, Err, Some, slice_get, drop, length, [], ◌∷◌, ◌++◌, flat_map, false, IsTrue, IsNone, IfOk, IfErr, OnOk, OnErr, All};
+ghost use Rattle.std.specs.Prelude.{◌≡◌, ◌<◌, ◌≤◌, ◌^◌, ◌↔◌, ◌⊎◌, Err, Some, slice_get, drop};
+ghost use Rattle.std.specs.Prelude.{length, [], ◌∷◌, ◌++◌, flat_map, false, IsTrue, IsNone, IfOk};
+ghost use Rattle.std.specs.Prelude.{IfErr, OnOk, OnErr, All};
 ghost use Rattle.circle_challenger.specs.Due.{AreNext, HasPlayed};
 ghost use Rattle.circle_challenger.specs.Moves.{after_elements, or_zero};
 ghost use Rattle.circle_challenger.specs.Played.{element_challenge, numbers_challenge};
@@ -10,9 +12,14 @@ ghost use Rattle.circle_commit.specs.declared.params.PowPhase.TheVariants.{Query
 ghost use Rattle.circle_point.specs.Point.{coordinates};
 ghost use Rattle.circle_transcript.specs.Draw.{claim, widths_of, after_claims};
 ghost use Rattle.circle_transcript.specs.Claims.{claims_of};
-ghost use Rattle.circle_transcript.specs.Play.{state_of, witness_passes, after_witness, guarded_challenge, after_guarded_challenge, guarded_numbers, after_guarded_numbers};
-ghost use Rattle.circle_transcript.specs.Shape.{claim_steps, final_poly_step, pow_steps, guarded_challenge_steps, guarded_numbers_steps};
-ghost use Rattle.circle_transcript.specs.declared.failure.CircleTranscriptFailure.TheVariants.{NoWitness, PowWitness, Memory};
+ghost use Rattle.circle_transcript.specs.Play.{state_of, witness_passes, after_witness};
+ghost use Rattle.circle_transcript.specs.Play.{guarded_challenge, after_guarded_challenge};
+ghost use Rattle.circle_transcript.specs.Play.{guarded_numbers, after_guarded_numbers};
+ghost use Rattle.circle_transcript.specs.Shape.{claim_steps, final_poly_step, pow_steps};
+ghost use Rattle.circle_transcript.specs.Shape.{guarded_challenge_steps, guarded_numbers_steps};
+ghost use Rattle.circle_transcript.specs.declared.failure.CircleTranscriptFailure.TheVariants.{NoWitness};
+ghost use Rattle.circle_transcript.specs.declared.failure.CircleTranscriptFailure.TheVariants.{PowWitness};
+ghost use Rattle.circle_transcript.specs.declared.failure.CircleTranscriptFailure.TheVariants.{Memory};
 
 use crate::failure::CircleTranscriptFailure;
 use crate::shape::{FINAL_POLY, OPENED_VALUES, OPENING_POINT, QUERY_INDICES, QUERY_POW};

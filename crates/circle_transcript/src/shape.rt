@@ -1,10 +1,16 @@
 //! The shape of a run, which fixes its transcript.
-ghost use Rattle.std.specs.Prelude.{◌≡◌, ◌↔◌, IsTrue, ◌-◌, ◌+◌, ◌<◌, ◌≤◌, ◌^◌, [], ◌∷◌, ◌++◌, IfOk, OnOk, map, flat_map, length, codes};
+ghost use Rattle.std.specs.Prelude.{◌≡◌, ◌↔◌, IsTrue, ◌-◌, ◌+◌, ◌<◌, ◌≤◌, ◌^◌, [], ◌∷◌, ◌++◌, IfOk};
+ghost use Rattle.std.specs.Prelude.{OnOk, map, flat_map, length, codes};
 ghost use Rattle.circle_challenger.specs.Interaction.{step_of};
 ghost use Rattle.circle_challenger.specs.Step.{be64, step};
 ghost use Rattle.circle_challenger.specs.declared.interaction.Hierarchy.TheVariants.{Atomic};
 ghost use Rattle.circle_challenger.specs.declared.interaction.ValueType.TheVariants.{Algebra};
-ghost use Rattle.circle_transcript.specs.Shape.{Shape, claim_steps, batch_steps, first_layer_steps, round_steps, rounds_steps, final_poly_step, query_steps, steps_of, pow_steps, guarded_challenge_steps, widths_in, batch_layout, layout, version_of, separator_of, text_of, IsSameRun};
+ghost use Rattle.circle_transcript.specs.Shape.{Shape, claim_steps, batch_steps, first_layer_steps};
+ghost use Rattle.circle_transcript.specs.Shape.{round_steps, rounds_steps, final_poly_step};
+ghost use Rattle.circle_transcript.specs.Shape.{query_steps, steps_of, pow_steps};
+ghost use Rattle.circle_transcript.specs.Shape.{guarded_challenge_steps, widths_in, batch_layout};
+ghost use Rattle.circle_transcript.specs.Shape.{layout, version_of, separator_of, text_of};
+ghost use Rattle.circle_transcript.specs.Shape.{IsSameRun};
 ghost use Rattle.circle_transcript.specs.ShapeOf.{Appends, matrices_of, batches_of};
 
 use circle_challenger::{

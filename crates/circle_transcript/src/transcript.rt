@@ -1,15 +1,23 @@
 //! Both sides of a transcript.
-ghost use Rattle.std.specs.Prelude.{◌≡◌, ◌<◌, ◌≤◌, ◌^◌, ◌↔◌, ◌⊎◌, [], length, map, IsTrue, false, IsNone, IfOk, IfErr, OnOk, OnErr, Err, All};
+ghost use Rattle.std.specs.Prelude.{◌≡◌, ◌<◌, ◌≤◌, ◌^◌, ◌↔◌, ◌⊎◌, [], length, map, IsTrue, false};
+ghost use Rattle.std.specs.Prelude.{IsNone, IfOk, IfErr, OnOk, OnErr, Err, All};
 ghost use Rattle.std.specs.Borrow.{sem, RestsIfErr};
 ghost use Rattle.circle_field.specs.Field.{of_nat};
 ghost use Rattle.circle_challenger.specs.Due.{AreNext, HasPlayed};
 ghost use Rattle.circle_challenger.specs.Moves.{or_zero};
 ghost use Rattle.circle_challenger.specs.Observing.{after_all};
-ghost use Rattle.circle_commit.specs.declared.params.PowPhase.TheVariants.{Batch, CommitPhase, Query};
+ghost use Rattle.circle_commit.specs.declared.params.PowPhase.TheVariants.{Batch, CommitPhase};
+ghost use Rattle.circle_commit.specs.declared.params.PowPhase.TheVariants.{Query};
 ghost use Rattle.circle_transcript.specs.Shape.{steps_of, text_of, first_layer_steps, round_steps};
 ghost use Rattle.circle_transcript.specs.ShapeOf.{shape_of};
 ghost use Rattle.circle_transcript.specs.Numbers.{numbers_of, indices_steps};
-ghost use Rattle.circle_transcript.specs.Transcript.{current, due, IsSame, Borrows, no_witness, bad_witness, steps_of_batch, at_batch_pow, batch_passes, batch_challenge, after_batch, at_commitment, first_layer_challenge, after_first_layer, commit_passes, commit_challenge, after_commit, at_query_pow, query_passes, query_indices, after_query};
+ghost use Rattle.circle_transcript.specs.Transcript.{current, due, IsSame, Borrows, no_witness};
+ghost use Rattle.circle_transcript.specs.Transcript.{bad_witness, steps_of_batch, at_batch_pow};
+ghost use Rattle.circle_transcript.specs.Transcript.{batch_passes, batch_challenge, after_batch};
+ghost use Rattle.circle_transcript.specs.Transcript.{at_commitment, first_layer_challenge};
+ghost use Rattle.circle_transcript.specs.Transcript.{after_first_layer, commit_passes};
+ghost use Rattle.circle_transcript.specs.Transcript.{commit_challenge, after_commit, at_query_pow};
+ghost use Rattle.circle_transcript.specs.Transcript.{query_passes, query_indices, after_query};
 ghost use Rattle.circle_transcript.specs.declared.failure.CircleTranscriptFailure.TheVariants.{Memory};
 
 use crate::failure::CircleTranscriptFailure;

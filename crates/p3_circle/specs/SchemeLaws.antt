@@ -1,5 +1,6 @@
 -- The laws of the traits of schemes that rest on the mathematics of an opening, of the scheme.
-use Rattle.std.specs.Prelude.{◌≡◌, ◌↔◌, ℕ, ◌^◌, ◌<◌, ◌≤◌, Bool, true, IsTrue, List, [], ◌∷◌, length, zip, All, slice_index_or}
+use Rattle.std.specs.Prelude.{◌≡◌, ◌↔◌, ℕ, ◌^◌, ◌<◌, ◌≤◌, Bool, true, IsTrue, List, [], ◌∷◌, length}
+use Rattle.std.specs.Prelude.{zip, All, slice_index_or}
 use Rattle.std.specs.List.{AllByRecursion, AllZip}
 use Rattle.std.proofs.Common.{refl, sym, subst, arith, inl, inr}
 use Rattle.std.proofs.lemmas.List.Elements.{recursion_from_All}
@@ -31,7 +32,8 @@ use Rattle.circle_scheme.specs.Requesting.{opening_tests}
 use Rattle.circle_scheme.specs.Scheme.{IsCommitted, IsFirst, IsFirstOf, IsGiven, says_prover_memory}
 use Rattle.circle_scheme.specs.SchemeFacts.{extended-powers}
 use Rattle.circle_scheme.specs.Verdict.{AcceptsFrom}
-use Rattle.circle_scheme.proofs.HonestOpenings.{all-valued, are-claimed, are-pointed, commits, kept-low}
+use Rattle.circle_scheme.proofs.HonestOpenings.{all-valued, are-claimed, are-pointed, commits}
+use Rattle.circle_scheme.proofs.HonestOpenings.{kept-low}
 use Rattle.circle_scheme.proofs.HonestTests.{batch-passes, requests-pass, unrefused}
 use Rattle.circle_scheme.proofs.Unrefused.{are-fit, are-requests}
 

@@ -8,11 +8,6 @@
 //!   `complete`). Where there is reason for a refusal before the challenger is seeded, the first is
 //!   answered and the challenger is as it was (`first`); a later refusal has its reason too
 //!   (`reason`).
-//! - `validate_run` answers the first refusal before the seeding, in order, for which there is
-//!   reason, and where there is reason for none the logarithm of the greatest height
-//!   (`run_tests`). `validate_claims`, `validate_parameters`, `validate_proof_shape` and
-//!   `validate_points` do so of parts of these tests (`batch_tests`, `parameter_tests`,
-//!   `proof_tests`, `point_tests`).
 //! - `verify_queries` is Ok only where a run meets what the relation says of it once the challenges
 //!   are drawn (`opened`, `holds`), and what it refuses has its reason (`refused`).
 //! - `CirclePcs::new` keeps what it is given.

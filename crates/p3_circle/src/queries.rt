@@ -3,7 +3,8 @@ ghost use Rattle.std.specs.Prelude.{◌≡◌, ◌<◌, ◌^◌, length, All, On
 ghost use Rattle.circle_relation.specs.StatementOf.{batch_claims};
 ghost use Rattle.circle_relation.specs.Accepts.{Accepts};
 ghost use Rattle.circle_relation.specs.Reasons.{IsReason};
-ghost use Rattle.circle_relation.specs.RunOf.{setting_of, proof_of, run_of, IsDrawn, IsOpened, Holds, Refuses};
+ghost use Rattle.circle_relation.specs.RunOf.{setting_of, proof_of, run_of, IsDrawn, IsOpened};
+ghost use Rattle.circle_relation.specs.RunOf.{Holds, Refuses};
 ghost use Rattle.circle_scheme.specs.Refusals.{is_at_infinity};
 ghost use Rattle.circle_checks.specs.Tested.{claimed_top};
 ghost use Rattle.p3_circle.specs.Tested.{rounds_due, IsTested};
