@@ -2,7 +2,8 @@
 use Rattle.std.specs.Prelude.{ℕ, List}
 use Rattle.circle_challenger.specs.declared.interaction.Hierarchy.TheVariants.{Atomic}
 use Rattle.circle_challenger.specs.declared.interaction.Kind.TheVariants.{Message, Challenge, Pow}
-use Rattle.circle_challenger.specs.declared.interaction.ValueType.TheVariants.{Algebra, Opaque, Bits}
+use Rattle.circle_challenger.specs.declared.interaction.ValueType.TheVariants.{Algebra, Opaque}
+use Rattle.circle_challenger.specs.declared.interaction.ValueType.TheVariants.{Bits}
 use Rattle.circle_challenger.specs.declared.interaction.Length.TheVariants.{Scalar, Fixed}
 use Rattle.circle_challenger.specs.Step.{Step, step}
 

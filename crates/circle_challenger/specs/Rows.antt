@@ -1,11 +1,16 @@
 -- The definitions at worked examples. Expected values were computed apart from these definitions.
-use Rattle.std.specs.Prelude.{◌≡◌, ℕ, List, [], ◌∷◌, length, take, map, replicate, ◌++◌, codes, refl}
+use Rattle.std.specs.Prelude.{◌≡◌, ℕ, List, [], ◌∷◌, length, take, map, replicate, ◌++◌, codes}
+use Rattle.std.specs.Prelude.{refl}
 use Rattle.circle_field.specs.Mersenne31.{element, residue}
 use Rattle.circle_challenger.specs.Step.{Step, be64, step_text}
-use Rattle.circle_challenger.specs.Separator.{Separator, separator, steps_text, labels_text, seed_text}
-use Rattle.circle_challenger.specs.Played.{element_message, elements_message, opaque_message, pow_step, element_challenge, numbers_challenge}
-use Rattle.circle_challenger.specs.Sponge.{absorbed_element, after_squeeze, sampled_element, sampled_number}
-use Rattle.sha2.specs.Sha256.{sha256, first_words, schedule, rounds, compress, hash_after, digest_bytes}
+use Rattle.circle_challenger.specs.Separator.{Separator, separator, steps_text, labels_text}
+use Rattle.circle_challenger.specs.Separator.{seed_text}
+use Rattle.circle_challenger.specs.Played.{element_message, elements_message, opaque_message}
+use Rattle.circle_challenger.specs.Played.{pow_step, element_challenge, numbers_challenge}
+use Rattle.circle_challenger.specs.Sponge.{absorbed_element, after_squeeze, sampled_element}
+use Rattle.circle_challenger.specs.Sponge.{sampled_number}
+use Rattle.sha2.specs.Sha256.{sha256, first_words, schedule, rounds, compress, hash_after}
+use Rattle.sha2.specs.Sha256.{digest_bytes}
 
 -- one claim of one column, one round and no grinding, in the extension of degree 3
 example_steps : List Step

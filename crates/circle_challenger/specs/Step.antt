@@ -6,7 +6,8 @@ use Rattle.circle_challenger.specs.declared.interaction.Hierarchy.TheVariants.{A
 use Rattle.circle_challenger.specs.declared.interaction.Kind.{Kind}
 use Rattle.circle_challenger.specs.declared.interaction.Kind.TheVariants.{Message, Challenge, Pow}
 use Rattle.circle_challenger.specs.declared.interaction.ValueType.{ValueType}
-use Rattle.circle_challenger.specs.declared.interaction.ValueType.TheVariants.{Algebra, Opaque, Bits}
+use Rattle.circle_challenger.specs.declared.interaction.ValueType.TheVariants.{Algebra, Opaque}
+use Rattle.circle_challenger.specs.declared.interaction.ValueType.TheVariants.{Bits}
 use Rattle.circle_challenger.specs.declared.interaction.Length.{Length}
 use Rattle.circle_challenger.specs.declared.interaction.Length.TheVariants.{Scalar, Fixed}
 

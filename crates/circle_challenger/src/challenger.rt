@@ -1,5 +1,6 @@
 //! The traits of challengers.
-ghost use Rattle.std.specs.Prelude.{◌≡◌, ℕ, ◌≤◌, ◌<◌, ◌^◌, IfSome, IfNone, IsTrue, Option, Some, true, false};
+ghost use Rattle.std.specs.Prelude.{◌≡◌, ℕ, ◌≤◌, ◌<◌, ◌^◌, IfSome, IfNone, IsTrue, Option, Some};
+ghost use Rattle.std.specs.Prelude.{true, false};
 ghost use Rattle.circle_field.specs.Field.{of_nat};
 ghost use Rattle.circle_challenger.specs.Grinding.{passes, after_check};
 ghost use Rattle.circle_challenger.specs.Moves.{Moves, RunMoves};

@@ -1,5 +1,6 @@
 //! The seed of a transcript.
-ghost use Rattle.std.specs.Prelude.{◌≡◌, ◌++◌, ◌∷◌, [], OnOk, IfOk, map, length, flat_map, All, ◌<◌, ◌^◌};
+ghost use Rattle.std.specs.Prelude.{◌≡◌, ◌++◌, ◌∷◌, [], OnOk, IfOk, map, length, flat_map, All};
+ghost use Rattle.std.specs.Prelude.{◌<◌, ◌^◌};
 ghost use Rattle.circle_challenger.specs.Step.{IsWritableStep, be64, counted, step_text};
 ghost use Rattle.circle_challenger.specs.Interaction.{step_of};
 ghost use Rattle.circle_challenger.specs.Separator.{labels_text, steps_text};

@@ -1,6 +1,7 @@
 //! The steps of a transcript.
 ghost use Rattle.std.specs.Prelude.{◌≡◌};
-ghost use Rattle.circle_challenger.specs.Step.{hierarchy_byte, kind_byte, type_byte, parameter_of, form_byte, value_count};
+ghost use Rattle.circle_challenger.specs.Step.{hierarchy_byte, kind_byte, type_byte, parameter_of};
+ghost use Rattle.circle_challenger.specs.Step.{form_byte, value_count};
 
 /// How a step stands among the others.
 #[derive(Clone, Copy, PartialEq, Eq, Debug)]

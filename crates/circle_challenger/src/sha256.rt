@@ -2,7 +2,9 @@
 ghost use Rattle.std.specs.Prelude.{◌≡◌, ◌++◌, ◌∷◌, [], ◌%◌, ◌<◌, ◌≤◌, replicate, is_some, IfSome};
 ghost use Rattle.circle_challenger.specs.Grinding.{passes, after_check};
 ghost use Rattle.sha2.specs.Sha256.{sha256};
-ghost use Rattle.circle_challenger.specs.Sponge.{absorbed, absorbed_element, number_of, after_squeeze, sampled_element, sampled_number, number-below};
+ghost use Rattle.circle_challenger.specs.Sponge.{absorbed, absorbed_element, number_of};
+ghost use Rattle.circle_challenger.specs.Sponge.{after_squeeze, sampled_element, sampled_number};
+ghost use Rattle.circle_challenger.specs.Sponge.{number-below};
 
 use crate::challenger::{
     CanObserve, CanSample, CanSampleBits, ChallengerState, GrindingChallenger,

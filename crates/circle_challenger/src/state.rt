@@ -1,11 +1,14 @@
 //! The drivers: a transcript that is played step by step, as it was described.
-ghost use Rattle.std.specs.Prelude.{◌≡◌, ◌+◌, ◌≤◌, ◌<◌, ◌^◌, [], ◌∷◌, map, flat_map, length, drop, slice_get, Some, All, IfOk, OnOk, IfSome, IfNone, IsTrue, false};
+ghost use Rattle.std.specs.Prelude.{◌≡◌, ◌+◌, ◌≤◌, ◌<◌, ◌^◌, [], ◌∷◌, map, flat_map, length, drop};
+ghost use Rattle.std.specs.Prelude.{slice_get, Some, All, IfOk, OnOk, IfSome, IfNone, IsTrue};
+ghost use Rattle.std.specs.Prelude.{false};
 ghost use Rattle.circle_field.specs.Field.{of_nat};
 ghost use Rattle.circle_challenger.specs.Grinding.{passes, after_check};
 ghost use Rattle.circle_challenger.specs.Observing.{after_all};
 ghost use Rattle.circle_challenger.specs.Sampling.{samples, after_samples};
 ghost use Rattle.circle_challenger.specs.Separator.{seed_text};
-ghost use Rattle.circle_challenger.specs.Played.{element_message, elements_message, opaque_message, pow_step, element_challenge, numbers_challenge};
+ghost use Rattle.circle_challenger.specs.Played.{element_message, elements_message, opaque_message};
+ghost use Rattle.circle_challenger.specs.Played.{pow_step, element_challenge, numbers_challenge};
 ghost use Rattle.circle_challenger.specs.TranscriptState.{Borrows, current, due, SameChallenger};
 
 use crate::challenger::{CanObserve, CanSample, CanSampleBits, GrindingChallenger};

@@ -5,7 +5,8 @@ use Rattle.circle_json.specs.declared.error.JsonError.{JsonError}
 use Rattle.circle_json.specs.declared.error.JsonError.TheVariants.{Memory}
 use Rattle.circle_json.specs.Form.{Form, count_form, list_form}
 use Rattle.circle_json.specs.ObjectForm.{object_form, fields_read_one, members_alike}
-use Rattle.circle_json.specs.Objects.{Fields, field, none_left, ReadsObject, RefusesObject, SameFields, object_written}
+use Rattle.circle_json.specs.Objects.{Fields, field, none_left, ReadsObject, RefusesObject}
+use Rattle.circle_json.specs.Objects.{SameFields, object_written}
 use Rattle.circle_commit.specs.declared.params.FriParameters.{FriParameters}
 use Rattle.circle_commit.specs.declared.pcs.BatchMultiOpening.{BatchMultiOpening}
 use Rattle.circle_commit.specs.declared.pcs.CommitmentOpening.{CommitmentOpening}

@@ -1,7 +1,9 @@
 -- What a table of periodic columns is to contracts.
-use Rattle.std.specs.Prelude.{ℕ, ◌%◌, List, [], Option, Some, None, Vec, map, slice_get, slice_index_or}
+use Rattle.std.specs.Prelude.{ℕ, ◌%◌, List, [], Option, Some, None, Vec, map, slice_get}
+use Rattle.std.specs.Prelude.{slice_index_or}
 use Rattle.std.specs.declared.alloc.Global.{Global}
-use Rattle.circle_commit.specs.RowMajorMatrix.{rows as matrix_rows, width_of as matrix_width, height_of as matrix_height}
+use Rattle.circle_commit.specs.RowMajorMatrix.{rows as matrix_rows, width_of as matrix_width}
+use Rattle.circle_commit.specs.RowMajorMatrix.{height_of as matrix_height}
 use Rattle.circle_commit.specs.declared.matrix.RowMajorMatrix.{RowMajorMatrix}
 use Rattle.circle_commit.specs.declared.periodic.PeriodicLdeTable.{PeriodicLdeTable}
 

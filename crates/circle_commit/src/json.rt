@@ -3,7 +3,9 @@ ghost use Rattle.std.specs.Prelude.{◌≡◌, IfOk};
 ghost use Rattle.serde_json.specs.View.{view};
 ghost use Rattle.circle_json.specs.ObjectForm.{object_form};
 ghost use Rattle.circle_json.specs.Objects.{object_written};
-ghost use Rattle.circle_commit.specs.Json.{batch_fields, matrix_fields, opening_fields, parameters_form, point_fields, short_fields, whole_fields};
+ghost use Rattle.circle_commit.specs.Json.{batch_fields, matrix_fields, opening_fields};
+ghost use Rattle.circle_commit.specs.Json.{parameters_form, point_fields, short_fields};
+ghost use Rattle.circle_commit.specs.Json.{whole_fields};
 
 use crate::mmcs::Mmcs;
 use crate::params::FriParameters;

@@ -13,8 +13,8 @@
 //!   instances.
 //! - A `PeriodicLdeTable` answers the entry of its row i modulo its height (`get`).
 //! - `JsonForm` of `circle_json`, shown here too, reads a batch's opening, claims and the
-//!   parameters of FRI from JSON and writes them: `specs/Json` has the keys of each object, and that
-//!   the final polynomial's length may be missing.
+//!   parameters of FRI from JSON and writes them: `specs/Json` has the keys of each object, and
+//!   that the final polynomial's length may be missing.
 #![tactic(auto)]
 
 pub mod error;

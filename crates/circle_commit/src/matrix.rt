@@ -1,5 +1,7 @@
 //! Matrices by rows, and views of them under another order of the rows.
-ghost use Rattle.std.specs.Prelude.{◌≡◌, ℕ, ◌+◌, ◌<◌, ◌≤◌, ◌%◌, ◌/◌, List, [], ◌∷◌, length, map, Some, IfOk, All, slice_get, slice_index_or, take, drop, vec_len};
+ghost use Rattle.std.specs.Prelude.{◌≡◌, ℕ, ◌+◌, ◌<◌, ◌≤◌, ◌%◌, ◌/◌, List, [], ◌∷◌, length, map};
+ghost use Rattle.std.specs.Prelude.{Some, IfOk, All, slice_get, slice_index_or, take, drop};
+ghost use Rattle.std.specs.Prelude.{vec_len};
 ghost use Rattle.std.specs.List.{range_with_len};
 ghost use Rattle.circle_commit.specs.DotProduct.{column_sums, pairwise, with_multiple};
 ghost use Rattle.circle_commit.specs.Matrix.{mapped_rows, rows_from};

@@ -1,7 +1,9 @@
 //! Commitments to several matrices at once, opened at many rows.
-ghost use Rattle.std.specs.Prelude.{◌≡◌, ℕ, ◌^◌, ◌≤◌, ◌<◌, ◌↔◌, Bool, List, length, All, IsTrue, OnOk, IfOk, IfErr, vec_len};
+ghost use Rattle.std.specs.Prelude.{◌≡◌, ℕ, ◌^◌, ◌≤◌, ◌<◌, ◌↔◌, Bool, List, length, All, IsTrue};
+ghost use Rattle.std.specs.Prelude.{OnOk, IfOk, IfErr, vec_len};
 ghost use Rattle.circle_commit.specs.Matrix.{IsPowerOfTwo};
-ghost use Rattle.circle_commit.specs.Mmcs.{HaveHeightsOfPowers, IsShownOf, max_height, rows_at_each, opened_rows};
+ghost use Rattle.circle_commit.specs.Mmcs.{HaveHeightsOfPowers, IsShownOf, max_height};
+ghost use Rattle.circle_commit.specs.Mmcs.{rows_at_each, opened_rows};
 ghost use Rattle.circle_commit.specs.declared.matrix.Dimensions.{Dimensions};
 ghost use Rattle.circle_commit.specs.declared.matrix.RowMajorMatrix.{RowMajorMatrix};
 

@@ -1,6 +1,7 @@
 //! The parameters of FRI, and the phases of a run that are guarded by a proof of work.
 ghost use Rattle.std.specs.Prelude.{Some, codes};
-ghost use Rattle.circle_commit.specs.declared.params.PowPhase.TheVariants.{Batch, CommitPhase, Query};
+ghost use Rattle.circle_commit.specs.declared.params.PowPhase.TheVariants.{Batch, CommitPhase};
+ghost use Rattle.circle_commit.specs.declared.params.PowPhase.TheVariants.{Query};
 
 use std::fmt;
 

@@ -25,10 +25,12 @@ module _ {A B : Type 0} (of : B → A) (form : A → B) where
   module _ (formed : (b : B) → form (of b) ≡ b) (told : (a : A) → of (form a) ≡ a)
       {k : FieldOps B} (laws : FieldLaws k) where
     -- an operation on an element that was made of a form, and on another
-    first_is : (op : B → B → B) (x : B) (b : A) → of (op (form (of x)) (form b)) ≡ of (op x (form b))
+    first_is : (op : B → B → B) (x : B) (b : A) →
+        of (op (form (of x)) (form b)) ≡ of (op x (form b))
     first_is op x b = ap (λ v. of (op v (form b))) (formed x)
 
-    second_is : (op : B → B → B) (a : A) (x : B) → of (op (form a) (form (of x))) ≡ of (op (form a) x)
+    second_is : (op : B → B → B) (a : A) (x : B) →
+        of (op (form a) (form (of x))) ≡ of (op (form a) x)
     second_is op a x = ap (λ v. of (op (form a) v)) (formed x)
 
     both_are : (op : B → B → B) (x y : B) → of (op (form (of x)) (form (of y))) ≡ of (op x y)

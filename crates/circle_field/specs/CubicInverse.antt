@@ -5,7 +5,8 @@ use Rattle.circle_field.specs.Field.{FieldOps, FieldLaws}
 use Rattle.circle_field.specs.Ring.{Expr, var, con, unit, plus, times, minus}
 use Rattle.circle_field.specs.RingCombine.{given, combine}
 use Rattle.circle_field.specs.Carried.{zero_square}
-use Rattle.circle_field.specs.CubicField.{Triple, multiple, constant, product, adjugate, norm, cubic}
+use Rattle.circle_field.specs.CubicField.{Triple, multiple, constant, product, adjugate, norm}
+use Rattle.circle_field.specs.CubicField.{cubic}
 use Rattle.circle_field.specs.CubicLaws.{same_triple, expr, cubic_ring, w, x}
 
 module _ {F : Type 0} {k : FieldOps F} (laws : FieldLaws k) where

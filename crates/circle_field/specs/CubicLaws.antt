@@ -1,9 +1,11 @@
 -- A cubic extension by X^3 = w is a commutative ring.
 use Rattle.std.specs.Prelude.{◌≡◌, List, [], ◌∷◌, refl, IsTrue}
 use Rattle.circle_field.specs.Field.{FieldOps, RingLaws}
-use Rattle.circle_field.specs.Ring.{Expr, var, con, unit, plus, times, minus, norm as normal, is_zero_poly, denote}
+use Rattle.circle_field.specs.Ring.{Expr, var, con, unit, plus, times, minus, norm as normal}
+use Rattle.circle_field.specs.Ring.{is_zero_poly, denote}
 use Rattle.circle_field.specs.RingSound.{ring}
-use Rattle.circle_field.specs.CubicField.{Triple, triple, sum, opposite, multiple, constant, product, cubic}
+use Rattle.circle_field.specs.CubicField.{Triple, triple, sum, opposite, multiple, constant}
+use Rattle.circle_field.specs.CubicField.{product, cubic}
 
 -- triples with the same coefficients are one
 pub same_triple : {F : Type 0} {a b c d e f : F} → a ≡ d → b ≡ e → c ≡ f →

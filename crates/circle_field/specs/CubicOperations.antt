@@ -7,9 +7,11 @@ use Rattle.circle_field.specs.Field.{FieldLaws, IsEmbedding, of_nat}
 use Rattle.circle_field.specs.Extension.{AreCoefficients}
 use Rattle.circle_field.specs.Carried.{carried_laws, embedding-of_nat, decide, entry}
 use Rattle.circle_field.specs.Mersenne31.{residue, operations as base}
-use Rattle.circle_field.specs.Mersenne31Laws.{same_residue, equal_exactly as base_equal, laws as base_laws}
+use Rattle.circle_field.specs.Mersenne31Laws.{same_residue, equal_exactly as base_equal}
+use Rattle.circle_field.specs.Mersenne31Laws.{laws as base_laws}
 use Rattle.circle_field.specs.CubicField.{norm}
-use Rattle.circle_field.specs.CubicLaws.{same_triple, constant_add, constant_mul, constant_neg, constant_product}
+use Rattle.circle_field.specs.CubicLaws.{same_triple, constant_add, constant_mul, constant_neg}
+use Rattle.circle_field.specs.CubicLaws.{constant_product}
 use Rattle.circle_field.specs.CubicInverse.{cubic_laws, norm_zero, norm_of_zero}
 use Rattle.circle_field.specs.Mersenne31Powers.{five_is_no_cube}
 use Rattle.circle_field.specs.CubicFive.{five}

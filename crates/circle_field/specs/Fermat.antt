@@ -4,7 +4,10 @@ use Rattle.std.specs.Int.{◌∣◌}
 use Rattle.std.proofs.Common.{zero, suc, inl, inr, sym, ◌∙◌, ap, subst, arith}
 use Rattle.std.proofs.lemmas.Bool.{cases_lt}
 use Rattle.std.proofs.lemmas.Nat.{mul-mod_second}
-use Rattle.std.proofs.Math.Nat.{mod-eq_of_lt, mod-eq-zero_of_dvd, mod-add-mod, add-mod-mod, add-zero, pow-suc, pow-zero, mul-zero, div-add-mod', dvd-sub, dvd-mul_left, dvd-mul_right, dvd-mul_right_of_dvd, one-le-pow, one-mul, zero-mod, pow-succ'}
+use Rattle.std.proofs.Math.Nat.{mod-eq_of_lt, mod-eq-zero_of_dvd, mod-add-mod, add-mod-mod}
+use Rattle.std.proofs.Math.Nat.{add-zero, pow-suc, pow-zero, mul-zero, div-add-mod', dvd-sub}
+use Rattle.std.proofs.Math.Nat.{dvd-mul_left, dvd-mul_right, dvd-mul_right_of_dvd, one-le-pow}
+use Rattle.std.proofs.Math.Nat.{one-mul, zero-mod, pow-succ'}
 use Rattle.std.proofs.Math.Numerals.{one-add}
 use Rattle.circle_field.specs.Primes.{IsPrime, euclid}
 

@@ -6,7 +6,8 @@ use Rattle.circle_field.specs.Field.{FieldOps}
 use Rattle.circle_field.specs.Circle.{Coordinates, at, plus, origin, IsOnCircle, AreGenerators}
 use Rattle.circle_field.specs.CircleGroup.{plus-on_circle}
 use Rattle.circle_field.specs.FastPowers.{fast_power}
-use Rattle.circle_field.specs.Mersenne31.{order, residue, element, operations, doubled_times, generators}
+use Rattle.circle_field.specs.Mersenne31.{order, residue, element, operations, doubled_times}
+use Rattle.circle_field.specs.Mersenne31.{generators}
 use Rattle.circle_field.specs.Mersenne31Laws.{same_residue, laws}
 
 -- the same operations on numbers, which compute

@@ -5,7 +5,8 @@ use Rattle.std.proofs.Math.Nat.{mod-eq_of_lt, add-mod-mod, add_comm, mul_comm, z
 use Rattle.std.specs.Coded.{le_prop}
 use Rattle.circle_field.specs.declared.mersenne31.Mersenne31.{Mersenne31}
 use Rattle.circle_field.specs.Field.{FieldLaws, of_nat}
-use Rattle.circle_field.specs.Residues.{sum_assoc, product_assoc, product_sum, opposite_sum, folded_bits}
+use Rattle.circle_field.specs.Residues.{sum_assoc, product_assoc, product_sum, opposite_sum}
+use Rattle.circle_field.specs.Residues.{folded_bits}
 use Rattle.circle_field.specs.Fermat.{inverse_power}
 use Rattle.circle_field.specs.Mersenne31Prime.{order_prime}
 use Rattle.circle_field.specs.Mersenne31.{order, residue, element, power, operations}

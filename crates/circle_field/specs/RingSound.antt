@@ -1,11 +1,18 @@
 -- The polynomial form of an expression has its value.
-use Rattle.std.specs.Prelude.{◌≡◌, ℕ, ◌+◌, ◌*◌, Bool, true, false, ◌&&◌, List, [], ◌∷◌, refl, IsTrue, nat_eq, nat_le}
+use Rattle.std.specs.Prelude.{◌≡◌, ℕ, ◌+◌, ◌*◌, Bool, true, false, ◌&&◌, List, [], ◌∷◌, refl}
+use Rattle.std.specs.Prelude.{IsTrue, nat_eq, nat_le}
 use Rattle.std.proofs.Common.{zero, suc, sym, ◌∙◌, ap}
 use Rattle.std.proofs.Math.Nat.{suc-add, suc-mul, zero-mul, zero-add}
 use Rattle.std.proofs.lemmas.Bool.{eqb-true}
 use Rattle.circle_field.specs.Field.{FieldOps, RingLaws, of_nat}
-use Rattle.circle_field.specs.Ring.{Expr, var, con, unit, plus, times, minus, Term, term, insert_var, merge_vars, same_vars, add_term, add_poly, mul_term, mul_poly, neg_poly, norm, is_zero_poly, variable, denote, coefficient, product, total}
-use Rattle.circle_field.specs.RingFacts.{add_zero, add_neg, mul_one, add_mul, add_left_comm, mul_left_comm, add_swap, mul_swap, neg_zero_cancel, mul_zero, zero_mul, neg_mul, mul_neg, neg_neg, neg_of_add, neg_zero}
+use Rattle.circle_field.specs.Ring.{Expr, var, con, unit, plus, times, minus, Term, term}
+use Rattle.circle_field.specs.Ring.{insert_var, merge_vars, same_vars, add_term, add_poly, mul_term}
+use Rattle.circle_field.specs.Ring.{mul_poly, neg_poly, norm, is_zero_poly, variable, denote}
+use Rattle.circle_field.specs.Ring.{coefficient, product, total}
+use Rattle.circle_field.specs.RingFacts.{add_zero, add_neg, mul_one, add_mul, add_left_comm}
+use Rattle.circle_field.specs.RingFacts.{mul_left_comm, add_swap, mul_swap, neg_zero_cancel}
+use Rattle.circle_field.specs.RingFacts.{mul_zero, zero_mul, neg_mul, mul_neg, neg_neg, neg_of_add}
+use Rattle.circle_field.specs.RingFacts.{neg_zero}
 
 and_left : (a b : Bool) → (a && b) ≡ true → a ≡ true
 and_left true b h = refl

@@ -1,9 +1,11 @@
 //! Extensions of fields, prime fields, and fields whose unit circle has a large cyclic group.
-ghost use Rattle.std.specs.Prelude.{◌≡◌, ℕ, ◌≤◌, ◌<◌, List, [], ◌∷◌, length, Some, slice_get, slice_set};
+ghost use Rattle.std.specs.Prelude.{◌≡◌, ℕ, ◌≤◌, ◌<◌, List, [], ◌∷◌, length, Some, slice_get};
+ghost use Rattle.std.specs.Prelude.{slice_set};
 ghost use Rattle.std.proofs.Common.{lit≤};
 ghost use Rattle.circle_field.specs.Field.{IsEmbedding, of_nat};
 ghost use Rattle.circle_field.specs.Primes.{IsPrime};
-ghost use Rattle.circle_field.specs.Extension.{AreCoefficients, identity_embedding, own_coefficient};
+ghost use Rattle.circle_field.specs.Extension.{AreCoefficients, identity_embedding};
+ghost use Rattle.circle_field.specs.Extension.{own_coefficient};
 ghost use Rattle.circle_field.specs.Circle.{Coordinates, at, AreGenerators};
 
 use crate::field::Field;

@@ -3,7 +3,8 @@ use Rattle.std.specs.Prelude.{◌≡◌, ◌≢◌, ℕ, ◌*◌, refl}
 use Rattle.std.proofs.Common.{sym, ◌∙◌, ap, lit<}
 use Rattle.circle_field.specs.declared.mersenne31.Mersenne31.{Mersenne31}
 use Rattle.circle_field.specs.Mersenne31.{residue, element, power, operations}
-use Rattle.circle_field.specs.Mersenne31Powers.{power-one, power-+, power-*, power-fermat, power_number}
+use Rattle.circle_field.specs.Mersenne31Powers.{power-one, power-+, power-*, power-fermat}
+use Rattle.circle_field.specs.Mersenne31Powers.{power_number}
 
 -- a square's power is a power of twice the exponent
 square_power : (b : Mersenne31) (n : ℕ) → power (operations.mul b b) n ≡ power b (2 * n)

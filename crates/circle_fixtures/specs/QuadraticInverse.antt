@@ -6,7 +6,8 @@ use Rattle.circle_field.specs.Ring.{Expr, var, con, unit, plus, times, minus}
 use Rattle.circle_field.specs.RingCombine.{given, combine}
 use Rattle.circle_field.specs.Carried.{zero_square}
 use Rattle.circle_field.specs.CubicLaws.{expr}
-use Rattle.circle_fixtures.specs.QuadraticField.{Pair, multiple, constant, product, conjugate, norm, quadratic}
+use Rattle.circle_fixtures.specs.QuadraticField.{Pair, multiple, constant, product, conjugate, norm}
+use Rattle.circle_fixtures.specs.QuadraticField.{quadratic}
 use Rattle.circle_fixtures.specs.QuadraticLaws.{same_pair, quadratic_ring, x}
 
 module _ {F : Type 0} {k : FieldOps F} (laws : FieldLaws k) where

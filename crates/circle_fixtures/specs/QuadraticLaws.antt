@@ -4,7 +4,8 @@ use Rattle.circle_field.specs.Field.{FieldOps, RingLaws}
 use Rattle.circle_field.specs.Ring.{Expr, var, con, unit, plus, times, minus, denote}
 use Rattle.circle_field.specs.RingSound.{ring}
 use Rattle.circle_field.specs.CubicLaws.{expr, AreSame}
-use Rattle.circle_fixtures.specs.QuadraticField.{Pair, pair, sum, opposite, multiple, constant, product, quadratic}
+use Rattle.circle_fixtures.specs.QuadraticField.{Pair, pair, sum, opposite, multiple, constant}
+use Rattle.circle_fixtures.specs.QuadraticField.{product, quadratic}
 
 -- pairs with the same coefficients are one
 pub same_pair : {F : Type 0} {a b c d : F} → a ≡ c → b ≡ d → pair a b ≡ pair c d

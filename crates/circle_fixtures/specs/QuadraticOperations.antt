@@ -8,12 +8,15 @@ use Rattle.circle_field.specs.Field.{FieldLaws, IsEmbedding, of_nat}
 use Rattle.circle_field.specs.Extension.{AreCoefficients}
 use Rattle.circle_field.specs.Carried.{carried_laws, embedding-of_nat, decide, entry}
 use Rattle.circle_field.specs.Mersenne31.{residue, operations as base}
-use Rattle.circle_field.specs.Mersenne31Laws.{same_residue, equal_exactly as base_equal, laws as base_laws}
+use Rattle.circle_field.specs.Mersenne31Laws.{same_residue, equal_exactly as base_equal}
+use Rattle.circle_field.specs.Mersenne31Laws.{laws as base_laws}
 use Rattle.circle_fixtures.specs.NoSquare.{minus_one_is_no_square}
 use Rattle.circle_fixtures.specs.QuadraticField.{norm}
-use Rattle.circle_fixtures.specs.QuadraticLaws.{same_pair, constant_add, constant_mul, constant_neg, constant_product}
+use Rattle.circle_fixtures.specs.QuadraticLaws.{same_pair, constant_add, constant_mul, constant_neg}
+use Rattle.circle_fixtures.specs.QuadraticLaws.{constant_product}
 use Rattle.circle_fixtures.specs.QuadraticInverse.{quadratic_laws, norm_zero, norm_of_zero}
-use Rattle.circle_fixtures.specs.Quadratic.{pair_of, of_pair, pairs, operations, embed, coefficients}
+use Rattle.circle_fixtures.specs.Quadratic.{pair_of, of_pair, pairs, operations, embed}
+use Rattle.circle_fixtures.specs.Quadratic.{coefficients}
 
 pair_laws : FieldLaws pairs
 pair_laws = quadratic_laws base_laws decide minus_one_is_no_square

@@ -7,7 +7,8 @@ use Rattle.circle_fixtures.specs.MatrixList.{matrices_of}
 use Rattle.circle_fixtures.specs.SameRows.{HaveSameRows}
 use Rattle.circle_fixtures.specs.declared.matrix_list.MatrixList.{MatrixList}
 use Rattle.circle_fixtures.specs.declared.schemes.ListError.{ListError}
-use Rattle.circle_fixtures.specs.declared.schemes.ListError.TheVariants.{WrongIndex, WrongShape, WrongRows, Memory}
+use Rattle.circle_fixtures.specs.declared.schemes.ListError.TheVariants.{WrongIndex, WrongShape}
+use Rattle.circle_fixtures.specs.declared.schemes.ListError.TheVariants.{WrongRows, Memory}
 
 -- the opened rows are those of the matrices, whose shapes these are
 pub record Shows {T : Type 0} (matrices : List (RowMajorMatrix T)) (dims : List Dimensions)

@@ -7,8 +7,10 @@ use Rattle.circle_json.specs.declared.error.JsonError.{JsonError}
 use Rattle.circle_json.specs.declared.error.JsonError.TheVariants.{Memory}
 use Rattle.circle_json.specs.Form.{Form}
 use Rattle.circle_json.specs.FormFacts.{array_reads_one, array_refuses_others, items_written_alike}
-use Rattle.circle_json.specs.Values.{IsRead, ReadsArray, RefusesArray, SameItems, coefficient_residues, residues_of, residues_of_items}
-use Rattle.serde_json.specs.Data.{Data, null, boolean, number, string, array, object, Items, no_items, item}
+use Rattle.circle_json.specs.Values.{IsRead, ReadsArray, RefusesArray, SameItems}
+use Rattle.circle_json.specs.Values.{coefficient_residues, residues_of, residues_of_items}
+use Rattle.serde_json.specs.Data.{Data, null, boolean, number, string, array, object, Items}
+use Rattle.serde_json.specs.Data.{no_items, item}
 use Rattle.serde_json.specs.View.{items_of}
 
 abbrev pub is_array : Data → Bool

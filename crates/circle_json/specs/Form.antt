@@ -4,8 +4,10 @@ use Rattle.std.specs.declared.alloc.Global.{Global}
 use Rattle.std.proofs.Common.{ap}
 use Rattle.circle_json.specs.declared.error.JsonError.{JsonError}
 use Rattle.circle_json.specs.declared.error.JsonError.TheVariants.{Memory}
-use Rattle.circle_json.specs.Values.{IsRead, IsRefused, ReadsArray, RefusesArray, SameItems, count_of, count_written}
-use Rattle.circle_json.specs.FormFacts.{read_one, refused_others, array_reads_one, array_refuses_others, items_written_alike}
+use Rattle.circle_json.specs.Values.{IsRead, IsRefused, ReadsArray, RefusesArray, SameItems}
+use Rattle.circle_json.specs.Values.{count_of, count_written}
+use Rattle.circle_json.specs.FormFacts.{read_one, refused_others, array_reads_one}
+use Rattle.circle_json.specs.FormFacts.{array_refuses_others, items_written_alike}
 use Rattle.serde_json.specs.Data.{Data, array}
 use Rattle.serde_json.specs.View.{items_of}
 

@@ -6,9 +6,11 @@ use Rattle.circle_field.specs.CubicOperations.{same_residues}
 use Rattle.circle_field.specs.Mersenne31.{residue}
 use Rattle.circle_json.specs.declared.error.JsonError.{JsonError}
 use Rattle.circle_json.specs.declared.error.JsonError.TheVariants.{Memory}
-use Rattle.serde_json.specs.Data.{Data, null, boolean, number, string, array, object, Items, no_items, item}
+use Rattle.serde_json.specs.Data.{Data, null, boolean, number, string, array, object, Items}
+use Rattle.serde_json.specs.Data.{no_items, item}
 use Rattle.serde_json.specs.View.{items_of}
-use Rattle.circle_json.specs.Values.{IsRead, IsRefused, ReadsItems, ReadsArray, RefusesItem, RefusesArray, SameItems, coefficient_residues}
+use Rattle.circle_json.specs.Values.{IsRead, IsRefused, ReadsItems, ReadsArray, RefusesItem}
+use Rattle.circle_json.specs.Values.{RefusesArray, SameItems, coefficient_residues}
 
 module _ {T A : Type 0} (of : Data → Result A JsonError) (shown : T → A) where
   pub refused_others : (value : Data) (x : T) (error : JsonError) → IsRead of shown value x →

@@ -4,7 +4,9 @@ use Rattle.std.proofs.Common.{◌∙◌, ap, subst, ⊎_elim, refl, arith}
 use Rattle.circle_json.specs.declared.error.JsonError.{JsonError}
 use Rattle.circle_json.specs.declared.error.JsonError.TheVariants.{Memory}
 use Rattle.circle_json.specs.Form.{Form}
-use Rattle.circle_json.specs.Objects.{Fields, none_left, field, keys_of, Lacks, RefusesKeys, ReadsFields, RefusesFields, SameFields, members_written, object_written, ReadsObject, RefusesObject}
+use Rattle.circle_json.specs.Objects.{Fields, none_left, field, keys_of, Lacks, RefusesKeys}
+use Rattle.circle_json.specs.Objects.{ReadsFields, RefusesFields, SameFields, members_written}
+use Rattle.circle_json.specs.Objects.{object_written, ReadsObject, RefusesObject}
 use Rattle.serde_json.specs.Data.{Data, null, boolean, number, string, array, object, member}
 use Rattle.serde_json.specs.Find.{get}
 

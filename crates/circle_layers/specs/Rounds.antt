@@ -5,7 +5,9 @@ use Rattle.circle_folding.specs.Fold.{fold_pair}
 use Rattle.circle_folding.specs.Chain.{round_twiddle}
 use Rattle.circle_relation.specs.Statement.{Opened}
 use Rattle.circle_relation.specs.declared.run.OpenedRun.{OpenedRun}
-use Rattle.circle_relation.specs.Accepts.{Fields, Authenticates, top, is_claimed, at_queries, folded, sibling_in, round_value, round_pair, RoundAuthenticates}
+use Rattle.circle_relation.specs.Accepts.{Fields, Authenticates, top, is_claimed, at_queries}
+use Rattle.circle_relation.specs.Accepts.{folded, sibling_in, round_value, round_pair}
+use Rattle.circle_relation.specs.Accepts.{RoundAuthenticates}
 use Rattle.circle_relation.specs.RunOf.{setting_in, run_of}
 
 module _ {F E I W IC ID IP IE WC WD WP WE : Type 0} {g : _} (k : Fields F E)

@@ -3,7 +3,10 @@ use Rattle.std.specs.Prelude.{◌≡◌, ◌≢◌, ℕ, ◌^◌, Bool, true, fa
 use Rattle.circle_commit.specs.declared.matrix.Dimensions.{Dimensions}
 use Rattle.circle_commit.specs.Mmcs.{greatest, heights}
 use Rattle.circle_merkle.specs.declared.error.MerkleTreeError.{MerkleTreeError}
-use Rattle.circle_merkle.specs.declared.error.MerkleTreeError.TheVariants.{WrongIndex, WrongWidth, WrongProofLength, DisagreeingRows, RootMismatch, Memory}
+use Rattle.circle_merkle.specs.declared.error.MerkleTreeError.TheVariants.{WrongIndex, WrongWidth}
+use Rattle.circle_merkle.specs.declared.error.MerkleTreeError.TheVariants.{WrongProofLength}
+use Rattle.circle_merkle.specs.declared.error.MerkleTreeError.TheVariants.{DisagreeingRows}
+use Rattle.circle_merkle.specs.declared.error.MerkleTreeError.TheVariants.{RootMismatch, Memory}
 use Rattle.circle_merkle.specs.Tree.{taken_below}
 use Rattle.circle_merkle.specs.Authentication.{HasShape, HasIndices, Agrees, opened_root}
 

@@ -3,7 +3,8 @@ ghost use Rattle.std.specs.Prelude.{◌≡◌, ℕ, ◌<◌, List, ◌∷◌, �
 ghost use Rattle.std.specs.List.{flat_map};
 ghost use Rattle.sha2.specs.Hashers.{Holds256};
 ghost use Rattle.sha2.specs.Sha256.{sha256};
-ghost use Rattle.circle_merkle.specs.Tree.{node_digest as node_digest_of, rows_digest as rows_digest_of};
+ghost use Rattle.circle_merkle.specs.Tree.{node_digest as node_digest_of};
+ghost use Rattle.circle_merkle.specs.Tree.{rows_digest as rows_digest_of};
 ghost use Rattle.circle_merkle.specs.Rows.{bytes_of_height};
 
 use crate::rows::RowOfEach;

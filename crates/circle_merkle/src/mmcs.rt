@@ -1,8 +1,10 @@
 //! The scheme: one root commits to matrices of several heights.
-ghost use Rattle.std.specs.Prelude.{◌≡◌, ℕ, ◌<◌, ◌≤◌, List, length, map, All, IfOk, IfErr, OnOk, IsTrue, vec_len};
+ghost use Rattle.std.specs.Prelude.{◌≡◌, ℕ, ◌<◌, ◌≤◌, List, length, map, All, IfOk, IfErr, OnOk};
+ghost use Rattle.std.specs.Prelude.{IsTrue, vec_len};
 ghost use Rattle.sha2.specs.Sha256.{sha256};
 ghost use Rattle.circle_commit.specs.Matrix.{IsPowerOfTwo};
-ghost use Rattle.circle_commit.specs.Mmcs.{HaveHeightsOfPowers, IsShownOf, max_height, row_at as row_at_of, rows_at, rows_at_each, opened_rows};
+ghost use Rattle.circle_commit.specs.Mmcs.{HaveHeightsOfPowers, IsShownOf, max_height};
+ghost use Rattle.circle_commit.specs.Mmcs.{row_at as row_at_of, rows_at, rows_at_each, opened_rows};
 ghost use Rattle.circle_merkle.specs.Authentication.{ShaAuthenticates, IsShaRoot};
 ghost use Rattle.circle_merkle.specs.Verdict.{IsFirstRefusal, says_memory};
 

@@ -1,5 +1,6 @@
 //! The positions of a tree that are known where some of the lowest level's are.
-ghost use Rattle.std.specs.Prelude.{◌≡◌, ℕ, ◌+◌, ◌/◌, ◌<◌, ◌≤◌, ◌^◌, ◌++◌, ◌∷◌, All, IfOk, OnOk, length, option_to_list};
+ghost use Rattle.std.specs.Prelude.{◌≡◌, ℕ, ◌+◌, ◌/◌, ◌<◌, ◌≤◌, ◌^◌, ◌++◌, ◌∷◌, All, IfOk, OnOk};
+ghost use Rattle.std.specs.Prelude.{length, option_to_list};
 ghost use Rattle.circle_merkle.specs.Tree.{known, sibling as sibling_of};
 ghost use Rattle.circle_merkle.specs.Walk.{parents_of, siblings_of};
 

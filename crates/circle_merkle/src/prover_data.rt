@@ -1,5 +1,6 @@
 //! What is kept of committed matrices.
-ghost use Rattle.std.specs.Prelude.{◌≡◌, ◌-◌, ◌^◌, ◌<◌, ◌≤◌, ◌++◌, true, All, IfOk, OnOk, map, vec_len};
+ghost use Rattle.std.specs.Prelude.{◌≡◌, ◌-◌, ◌^◌, ◌<◌, ◌≤◌, ◌++◌, true, All, IfOk, OnOk, map};
+ghost use Rattle.std.specs.Prelude.{vec_len};
 ghost use Rattle.sha2.specs.Sha256.{sha256};
 ghost use Rattle.circle_commit.specs.RowMajorMatrix.{height_of};
 ghost use Rattle.circle_commit.specs.Mmcs.{max_height};

@@ -1,5 +1,6 @@
 //! Whether opened rows have the form of rows of a commitment.
-ghost use Rattle.std.specs.Prelude.{◌≡◌, ℕ, ◌+◌, ◌*◌, ◌/◌, ◌<◌, ◌≤◌, ◌==◌, ◌↔◌, List, length, map, All, IsTrue, vec_len};
+ghost use Rattle.std.specs.Prelude.{◌≡◌, ℕ, ◌+◌, ◌*◌, ◌/◌, ◌<◌, ◌≤◌, ◌==◌, ◌↔◌, List, length, map};
+ghost use Rattle.std.specs.Prelude.{All, IsTrue, vec_len};
 ghost use Rattle.circle_commit.specs.Matrix.{IsPowerOfTwo};
 ghost use Rattle.circle_commit.specs.Mmcs.{greatest, heights, opened_rows};
 ghost use Rattle.circle_merkle.specs.Authentication.{HasShape, HasIndices, Agrees};

@@ -1,6 +1,8 @@
 -- When a verifier accepts: Circle STARKs (ePrint 2024/278), sections 4 to 6, as a relation between
 -- claims, a proof and the challenges that are drawn.
-use Rattle.std.specs.Prelude.{◌≡◌, ◌≢◌, ℕ, ◌+◌, ◌-◌, ◌*◌, ◌/◌, ◌^◌, ◌<◌, ◌≤◌, Bool, ◌==◌, if◌then◌else◌, List, [], ◌∷◌, length, map, flat_map, zip, All, slice_index_or, nat_lt}
+use Rattle.std.specs.Prelude.{◌≡◌, ◌≢◌, ℕ, ◌+◌, ◌-◌, ◌*◌, ◌/◌, ◌^◌, ◌<◌, ◌≤◌, Bool, ◌==◌}
+use Rattle.std.specs.Prelude.{if◌then◌else◌, List, [], ◌∷◌, length, map, flat_map, zip, All}
+use Rattle.std.specs.Prelude.{slice_index_or, nat_lt}
 use Rattle.std.specs.List.{filter, list_any, range_with_len}
 use Rattle.std.proofs.Common.{zero, suc}
 use Rattle.circle_field.specs.Field.{FieldOps, sub, nth_power}
@@ -15,7 +17,9 @@ use Rattle.circle_folding.specs.Quotient.{claim_quotient}
 use Rattle.circle_folding.specs.Queries.{query_point}
 use Rattle.circle_folding.specs.Fold.{fold_pair}
 use Rattle.circle_folding.specs.Chain.{pair_of, first_layer_twiddle, round_twiddle}
-use Rattle.circle_relation.specs.Statement.{PointClaim, MatrixClaim, BatchClaim, Opened, OpeningProof, Challenges, all_matrices, log_height, log_max_height}
+use Rattle.circle_relation.specs.Statement.{PointClaim, MatrixClaim, BatchClaim, Opened}
+use Rattle.circle_relation.specs.Statement.{OpeningProof, Challenges, all_matrices, log_height}
+use Rattle.circle_relation.specs.Statement.{log_max_height}
 
 -- a field with the generators of its circle's group, and an extension of it
 pub record Fields (F E : Type 0) : Type 0 where

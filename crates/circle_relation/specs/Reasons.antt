@@ -2,11 +2,20 @@
 use Rattle.std.specs.Prelude.{◌≡◌, Bool, false, ℕ, ◌+◌, [], slice_get, Some}
 use Rattle.std.specs.List.{Any}
 use Rattle.circle_commit.specs.declared.error.FriError.{FriError}
-use Rattle.circle_commit.specs.declared.error.FriError.TheVariants.{InputError as OfInput, FinalPolyMismatch, UnconsumedReducedOpenings, CommitPhaseMmcsError, Memory}
+use Rattle.circle_commit.specs.declared.error.FriError.TheVariants.{InputError as OfInput}
+use Rattle.circle_commit.specs.declared.error.FriError.TheVariants.{FinalPolyMismatch}
+use Rattle.circle_commit.specs.declared.error.FriError.TheVariants.{UnconsumedReducedOpenings}
+use Rattle.circle_commit.specs.declared.error.FriError.TheVariants.{CommitPhaseMmcsError, Memory}
 use Rattle.circle_relation.specs.declared.error.InputError.{InputError}
-use Rattle.circle_relation.specs.declared.error.InputError.TheVariants.{InputMmcsError, FirstLayerMmcsError, InputShapeError, OpeningPointMatchesQueryPoint, MatrixWithoutOpeningPoints}
+use Rattle.circle_relation.specs.declared.error.InputError.TheVariants.{InputMmcsError}
+use Rattle.circle_relation.specs.declared.error.InputError.TheVariants.{FirstLayerMmcsError}
+use Rattle.circle_relation.specs.declared.error.InputError.TheVariants.{InputShapeError}
+use Rattle.circle_relation.specs.declared.error.InputError.TheVariants.{OpeningPointMatchesQueryPoint}
+use Rattle.circle_relation.specs.declared.error.InputError.TheVariants.{MatrixWithoutOpeningPoints}
 use Rattle.circle_relation.specs.Statement.{BatchClaim, MatrixClaim}
-use Rattle.circle_relation.specs.Accepts.{Setting, Run, Authenticates, matrices, HasInputs, InputsAuthenticate, AreApart, FirstLayerAuthenticates, RoundsAuthenticate, ChainsEnd}
+use Rattle.circle_relation.specs.Accepts.{Setting, Run, Authenticates, matrices, HasInputs}
+use Rattle.circle_relation.specs.Accepts.{InputsAuthenticate, AreApart, FirstLayerAuthenticates}
+use Rattle.circle_relation.specs.Accepts.{RoundsAuthenticate, ChainsEnd}
 
 module _ {F E Com InputCom InputProof WordProof : Type 0} (s : Setting F E)
     (r : Run F E Com InputCom InputProof WordProof) where

@@ -5,7 +5,8 @@ use Rattle.std.proofs.Common.{zero, suc}
 use Rattle.circle_field.specs.Field.{FieldOps}
 use Rattle.circle_field.specs.Circle.{Coordinates, at, plus}
 use Rattle.circle_relation.specs.Statement.{PointClaim, BatchClaim, Opened, OpeningProof}
-use Rattle.circle_relation.specs.Accepts.{Setting, Run, claimed_heights, rounds, at_queries, first_pair, round_value, final_value}
+use Rattle.circle_relation.specs.Accepts.{Setting, Run, claimed_heights, rounds, at_queries}
+use Rattle.circle_relation.specs.Accepts.{first_pair, round_value, final_value}
 
 abbrev ops : FieldOps ℕ
 ops = record {

@@ -16,7 +16,11 @@ use Rattle.circle_relation.specs.StatementOf.{batch_claims}
 use Rattle.circle_relation.specs.declared.run.QueriedWord.{QueriedWord}
 use Rattle.circle_relation.specs.declared.run.QueryValues.{QueryValues}
 use Rattle.circle_relation.specs.declared.error.InputError.{InputError}
-use Rattle.circle_relation.specs.Accepts.{Fields, Setting, Run, Authenticates, HasRounds, HasInputs, matrices, rounds, top, claimed_heights, at_queries, point_among, reduced_from, claims_of, first_pair, folded, round_value, InputsAuthenticate, FirstLayerAuthenticates, RoundsAuthenticate, HoldsWith}
+use Rattle.circle_relation.specs.Accepts.{Fields, Setting, Run, Authenticates, HasRounds, HasInputs}
+use Rattle.circle_relation.specs.Accepts.{matrices, rounds, top, claimed_heights, at_queries}
+use Rattle.circle_relation.specs.Accepts.{point_among, reduced_from, claims_of, first_pair, folded}
+use Rattle.circle_relation.specs.Accepts.{round_value, InputsAuthenticate, FirstLayerAuthenticates}
+use Rattle.circle_relation.specs.Accepts.{RoundsAuthenticate, HoldsWith}
 use Rattle.circle_relation.specs.Reasons.{IsReason}
 
 -- the fields, with the numbers of the parameters

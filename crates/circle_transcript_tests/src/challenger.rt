@@ -1,7 +1,8 @@
 //! Tests of the crate. What is expected of SHA-256 and of texts was computed apart from this code.
 ghost use Rattle.std.specs.Prelude.{◌≡◌, [], ◌∷◌, IfOk, map};
 ghost use Rattle.circle_field.specs.Field.{of_nat};
-ghost use Rattle.circle_challenger.specs.Played.{element_message, elements_message, opaque_message, element_challenge, numbers_challenge};
+ghost use Rattle.circle_challenger.specs.Played.{element_message, elements_message, opaque_message};
+ghost use Rattle.circle_challenger.specs.Played.{element_challenge, numbers_challenge};
 ghost use Rattle.circle_challenger.specs.Observing.{after_all};
 ghost use Rattle.circle_challenger.specs.Separator.{seed_text};
 

@@ -1,6 +1,7 @@
 -- What a committed matrix is opened to at a point: the values of the polynomials that its first
 -- rows fix.
-use Rattle.std.specs.Prelude.{◌≡◌, ℕ, ◌+◌, ◌-◌, ◌^◌, ◌<◌, List, [], length, take, All, slice_index_or}
+use Rattle.std.specs.Prelude.{◌≡◌, ℕ, ◌+◌, ◌-◌, ◌^◌, ◌<◌, List, [], length, take, All}
+use Rattle.std.specs.Prelude.{slice_index_or}
 use Rattle.circle_field.specs.Circle.{Coordinates}
 use Rattle.circle_commit.specs.RowMajorMatrix.{rows, width_of}
 use Rattle.circle_commit.specs.declared.matrix.RowMajorMatrix.{RowMajorMatrix}

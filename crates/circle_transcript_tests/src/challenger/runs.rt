@@ -1,6 +1,7 @@
 //! Whole runs of a described transcript, on both sides.
 ghost use Rattle.std.specs.Prelude.{◌≡◌, [], ◌∷◌, IfOk};
-ghost use Rattle.circle_challenger.specs.Played.{elements_message, element_message, opaque_message, pow_step, element_challenge, numbers_challenge};
+ghost use Rattle.circle_challenger.specs.Played.{elements_message, element_message, opaque_message};
+ghost use Rattle.circle_challenger.specs.Played.{pow_step, element_challenge, numbers_challenge};
 
 use circle_challenger::{
     CanObserve, CanSample, DomainSeparator, GrindingChallenger, Hierarchy, Interaction,
