@@ -1,5 +1,5 @@
 -- What the verifier of the program is handed.
-use Rattle.std.proofs.Common.{◌≡◌, ℕ, ◌+◌, ◌<◌, ◌≤◌, List, [], ◌∷◌, ◌++◌, length, map, take, drop, get_or, take_all, refl, ap, sym, subst, ◌∙◌, Result, Ok, Err, OnOk, replicate, Vec, Global}
+use Rattle.std.proofs.Common.{◌≡◌, ℕ, ◌+◌, ◌<◌, ◌≤◌, List, [], ◌∷◌, ◌++◌, length, map, take, drop, get_or, take_all, refl, ap, sym, subst, ◌∙◌, Result, Ok, Err, OnOk, IfErr, replicate, Vec, Global}
 use Rattle.std.proofs.lemmas.List.{at_drop_more, drop_all, take_more, map-append}
 use Rattle.circle_field.specs.declared.cubic.Cubic.{Cubic}
 use Rattle.circle_field.specs.declared.mersenne31.Mersenne31.{Mersenne31}
@@ -17,7 +17,7 @@ use Rattle.circle_relation.specs.Statement.{BatchClaim}
 use Rattle.circle_relation.specs.StatementOf.{batch_claims}
 use Rattle.circle_opening.specs.Taken.{drawn_by}
 use Rattle.circle_scheme.specs.Verdict.{AcceptsFrom, drawing, run_with}
-use Rattle.circle_commands.specs.Verified.{IsVerified, batches_told, over, taken_in}
+use Rattle.circle_commands.specs.Verified.{IsVerified, batches_told, over, run_of_input, taken_in}
 use Rattle.circle_commands.specs.declared.verify.Input.{Input}
 
 abbrev Batches : Type 0
@@ -38,6 +38,15 @@ pub on_ok : {A E : Type 0} {P Q : Type 0} (r : Result A E) → (P → Q) → OnO
 on_ok (Ok x) f h = f h
 on_ok (Err e) f h = h
 
+-- what follows of the error of an answer
+pub on_err : {A E : Type 0} {P Q : E → Type 0} (r : Result A E) → ((e : E) → P e → Q e) → IfErr r P → IfErr r Q
+on_err (Ok x) f h = h
+on_err (Err e) f h = f e h
+
+-- a scheme is told by its entries' type alone
+one_scheme : {F : Type 0} (a b : ShaMmcs F) → a ≡ b
+one_scheme a b = refl
+
 module _ {g : _} (k : Fields Mersenne31 Cubic) (r : RunMoves Sha256Challenger (List ℕ) Mersenne31 Cubic (List ℕ))
     (inputs : ShaMmcs Mersenne31 → Authenticates (List ℕ) Mersenne31 (Vec (List ℕ) Global)) (words : ShaMmcs Cubic → Authenticates (List ℕ) Cubic (Vec (List ℕ) Global))
     (two_adicity : ℕ) (input : Input) where
@@ -57,4 +66,21 @@ module _ {g : _} (k : Fields Mersenne31 Cubic) (r : RunMoves Sha256Challenger (L
         taken = taken;
         draws = subst (λ (bs : List (BatchClaim (List ℕ) Cubic)). drawing r (over input.params scheme) k.extension bs (proof_of input.proof) (state_of start) ≡ Ok (drawn_by r.base.coefficients a.drawn (state_of left))) told draws;
         accepts = subst (λ (bs : List (BatchClaim (List ℕ) Cubic)). Accepts (setting_of k (over input.params scheme)) (record { batches = bs; proof = proof_of input.proof; drawn = a.drawn }) (over input.params scheme) two_adicity (inputs mmcs) (words scheme)) told holds;
+      }
+
+  -- what is verified is accepted of such claims and parameters
+  pub accepted : (claims : List (CommitmentOpening Cubic (List ℕ) (CircleDomain Mersenne31 g))) (mmcs : ShaMmcs Mersenne31) (scheme : ShaMmcs Cubic) (params : FriParameters (ShaMmcs Cubic)) (start : Sha256Challenger)
+      → batch_claims claims ≡ batches_told input.batches.items → params ≡ over input.params scheme → state_of start ≡ taken_in (replicate 32 0) input.batches.items
+      → (v : IsVerified k r inputs words two_adicity input) → AcceptsFrom k r inputs words mmcs params claims input.proof two_adicity (state_of start) (state_of v.left)
+  accepted claims mmcs scheme params start told same taken v =
+      let of_params = subst (λ (p : FriParameters (ShaMmcs Cubic)). drawing r p k.extension (batches_told input.batches.items) (proof_of input.proof) (state_of v.start) ≡ Ok (drawn_by r.base.coefficients v.drawn (state_of v.left)))
+          (ap (over input.params) (one_scheme v.scheme scheme) ∙ sym same) v.draws in
+      let of_claims = subst (λ (bs : List (BatchClaim (List ℕ) Cubic)). drawing r params k.extension bs (proof_of input.proof) (state_of v.start) ≡ Ok (drawn_by r.base.coefficients v.drawn (state_of v.left))) (sym told) of_params in
+      let with_schemes = subst (λ (m : ShaMmcs Mersenne31). Accepts (setting_of k (over input.params v.scheme)) (run_of_input input v.drawn) (over input.params v.scheme) two_adicity (inputs m) (words v.scheme)) (one_scheme v.mmcs mmcs) v.accepts in
+      let with_params = subst (λ (p : FriParameters (ShaMmcs Cubic)). Accepts (setting_of k p) (run_of_input input v.drawn) p two_adicity (inputs mmcs) (words p.mmcs))
+          (ap (over input.params) (one_scheme v.scheme scheme) ∙ sym same) with_schemes in
+      record {
+        drawn = v.drawn;
+        draws = subst (λ (s : List ℕ). drawing r params k.extension (batch_claims claims) (proof_of input.proof) s ≡ Ok (drawn_by r.base.coefficients v.drawn (state_of v.left))) (v.taken ∙ sym taken) of_claims;
+        accepts = subst (λ (bs : List (BatchClaim (List ℕ) Cubic)). Accepts (setting_of k params) (record { batches = bs; proof = proof_of input.proof; drawn = v.drawn }) params two_adicity (inputs mmcs) (words params.mmcs)) (sym told) with_params;
       }

@@ -1,7 +1,9 @@
--- The status that tells a failure, and what a text that can't be read is.
+-- The status that tells a failure, and which failure an error is.
 use Rattle.std.specs.Prelude.{◌≡◌, ℕ, ◌⊎◌, MatchResult, Result}
 use Rattle.std.specs.declared.io.ErrorKind.{ErrorKind}
 use Rattle.std.specs.declared.io.ErrorKind.TheVariants.{OutOfMemory}
+use Rattle.circle_json.specs.declared.error.JsonError.TheVariants as json
+use Rattle.circle_json.specs.declared.error.JsonError.{JsonError}
 use Rattle.serde_json.specs.Errors.{IsMemory}
 use Rattle.serde_json.specs.declared.error.Error.{Error}
 use Rattle.circle_commands.specs.declared.failure.Failure.{Failure}
@@ -31,3 +33,17 @@ failure_of_reading _ = Input
 pub record IsFailureOfText (error : Error) (failure : Failure) : Type 0 where
   pub memory : IsMemory error → failure ≡ Memory
   pub text : (¬ IsMemory error) → failure ≡ Json
+
+-- what a failure to read an input of JSON is
+pub record IsFailureOfJson (error : JsonError) (failure : Failure) : Type 0 where
+  pub memory : error ≡ json.Memory → failure ≡ Memory
+  pub unfit : (¬ (error ≡ json.Memory)) → failure ≡ Unfit error
+
+-- the input is refused, for a reason that has a name
+abbrev pub IsRefused : Failure → Type 0
+IsRefused Usage = ⊥
+IsRefused Input = ⊥
+IsRefused Json = ⊥
+IsRefused (Unfit error) = ⊥
+IsRefused (Refused name) = Unit {0}
+IsRefused Memory = ⊥

@@ -76,7 +76,12 @@ impl From<TextError> for Failure {
     }
 }
 
+/// JSON that isn't an input of the command, but where it is memory that is refused.
 impl From<JsonError> for Failure {
+    ghost use Rattle.circle_commands.specs.Failure.{IsFailureOfJson};
+
+    ghost from_gives = { IsFailureOfJson };
+
     fn from(error: JsonError) -> Failure {
         match error {
             JsonError::Memory => Failure::Memory,
@@ -86,30 +91,50 @@ impl From<JsonError> for Failure {
 }
 
 impl From<values::Refusal> for Failure {
+    ghost use Rattle.circle_commands.specs.Failure.{IsRefused};
+
+    ghost from_gives = { λ _ failure. IsRefused failure };
+
     fn from(refusal: values::Refusal) -> Failure {
         Failure::Refused(refusal.name())
     }
 }
 
 impl From<prove::Refusal> for Failure {
+    ghost use Rattle.circle_commands.specs.Failure.{IsRefused};
+
+    ghost from_gives = { λ _ failure. IsRefused failure };
+
     fn from(refusal: prove::Refusal) -> Failure {
         Failure::Refused(refusal.name())
     }
 }
 
 impl From<shape::Refusal> for Failure {
+    ghost use Rattle.circle_commands.specs.Failure.{IsRefused};
+
+    ghost from_gives = { λ _ failure. IsRefused failure };
+
     fn from(refusal: shape::Refusal) -> Failure {
         Failure::Refused(refusal.name())
     }
 }
 
 impl From<verify::Refusal> for Failure {
+    ghost use Rattle.circle_commands.specs.Failure.{IsRefused};
+
+    ghost from_gives = { λ _ failure. IsRefused failure };
+
     fn from(refusal: verify::Refusal) -> Failure {
         Failure::Refused(verify::name(&refusal))
     }
 }
 
 impl From<AllocError> for Failure {
+    ghost use Rattle.circle_commands.specs.declared.failure.Failure.TheVariants.{Memory};
+
+    ghost from_gives = { λ _ failure. failure ≡ Memory };
+
     fn from(_refused: AllocError) -> Failure {
         Failure::Memory
     }

@@ -1,8 +1,8 @@
 //! The command `shape`: what fixes the transcript of a run.
 
-ghost use Rattle.std.specs.Prelude.{◌≡◌, ◌≤◌, ◌↔◌, IfOk, IsErrOf};
+ghost use Rattle.std.specs.Prelude.{◌≡◌, ◌≤◌, ◌↔◌, IfOk, IfErr, IsErrOf};
 ghost use Rattle.serde_json.specs.View.{view};
-ghost use Rattle.circle_json.specs.Objects.{ReadsObject};
+ghost use Rattle.circle_json.specs.Objects.{ReadsObject, RefusesObject};
 ghost use Rattle.circle_commands.specs.Shape.{input_fields, shape_of_input, HasRoom};
 
 use crate::failure::Failure;
@@ -57,7 +57,8 @@ impl Input {
     /// Fails as `WrongKind` where the value is no object, as `MissingKey` and then as `UnknownKey`
     /// where its keys are others, and then as its members do.
     pub fn from_json(alloc: Global, value: &Value) -> Result<Input, JsonError>
-        ensures { IfOk result (ReadsObject input_fields (view value.now)) }
+        ensures reads { IfOk result (ReadsObject input_fields (view value.now)) }
+        ensures refuses { IfErr result (RefusesObject input_fields (view value.now)) }
     {
         has_keys(value, &["log_max_height", "opened_widths", "params"])?;
         Ok(Input {

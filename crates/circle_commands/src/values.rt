@@ -1,5 +1,6 @@
 //! The command `values`: the values of polynomials at the points of a domain of the circle.
-ghost use Rattle.std.specs.Prelude.{◌≡◌, ◌<◌, ◌↔◌, length, All, IsTrue, IfOk, IsErrOf, vec_len};
+ghost use Rattle.std.specs.Prelude.{◌≡◌, ◌<◌, ◌↔◌, length, All, IsTrue, IfOk, IfErr, IsErrOf};
+ghost use Rattle.std.specs.Prelude.{vec_len};
 ghost use Rattle.circle_field.specs.Circle.{IsOnCircle, at};
 ghost use Rattle.circle_field.specs.Mersenne31.{operations};
 ghost use Rattle.circle_commit.specs.RowMajorMatrix.{rows as matrix_rows, width_of, height_of};
@@ -76,14 +77,15 @@ impl From<AllocError> for Refusal {
 
 impl Input {
     ghost use Rattle.serde_json.specs.View.{view};
-    ghost use Rattle.circle_commands.specs.Input.{IsInput};
+    ghost use Rattle.circle_commands.specs.Input.{IsInput, RefusesInput};
 
     /// The input that a JSON value is: `{"coefficients":[[E..]..],"log_n":n,"shift":[E,E]}`.
     ///
     /// Fails as `WrongKind` where the value is no object, as `MissingKey` and then as `UnknownKey`
     /// where its keys are others, and then as its members do.
     pub fn from_json(alloc: Global, value: &Value) -> Result<Input, JsonError>
-        ensures { IfOk result (IsInput (view value.now)) }
+        ensures reads { IfOk result (IsInput (view value.now)) }
+        ensures refuses { IfErr result (RefusesInput (view value.now)) }
     {
         has_keys(value, &["coefficients", "log_n", "shift"])?;
         let shift = json::part(value, "shift")?;

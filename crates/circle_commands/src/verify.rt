@@ -1,8 +1,9 @@
 //! The command `verify`: whether a proof shows that committed polynomials have the claimed values.
 
-ghost use Rattle.std.specs.Prelude.{◌≡◌, IfOk, OnOk};
+ghost use Rattle.std.specs.Prelude.{◌≡◌, IfOk, IfErr, OnOk};
 ghost use Rattle.circle_json.specs.ObjectForm.{object_form};
 ghost use Rattle.circle_challenger.specs.Sha256Challenger.{state_of};
+ghost use Rattle.circle_commit.specs.declared.error.FriError.TheVariants.{Memory};
 ghost use Rattle.circle_relation.specs.StatementOf.{batch_claim, batch_claims};
 ghost use Rattle.circle_commands.specs.Parts.{Parts};
 ghost use Rattle.circle_commands.specs.Verified.{IsVerifiedBy, batch_told, batches_told};
@@ -105,9 +106,11 @@ pub(crate) fn answer(alloc: Global, value: &Value) -> Result<String, Failure> {
 /// Verifies the input's proof of its claims, from the challenger that took in nothing but the
 /// commitments, in order.
 ///
-/// Fails as [`CirclePcs::verify`] does.
+/// Fails as [`CirclePcs::verify`] does, and for a proof that is verified for want of memory alone.
 pub fn verify(alloc: Global, input: Input) -> Result<(), Refusal>
-    ensures { OnOk result (IsVerifiedBy ⟦<Batches as HasParts>⟧.parts input) }
+    ensures accepted { OnOk result (IsVerifiedBy ⟦<Batches as HasParts>⟧.parts input) }
+    ensures complete { IfErr result (λ e.
+        IsVerifiedBy ⟦<Batches as HasParts>⟧.parts input → e ≡ Memory) }
 {
     let Input {
         batches,
