@@ -74,11 +74,11 @@ module _ {g : _} (k : Fields Mersenne31 Cubic) (r : RunMoves Sha256Challenger (L
       → (v : IsVerified k r inputs words two_adicity input) → AcceptsFrom k r inputs words mmcs params claims input.proof two_adicity (state_of start) (state_of v.left)
   accepted claims mmcs scheme params start told same taken v =
       let of_params = subst (λ (p : FriParameters (ShaMmcs Cubic)). drawing r p k.extension (batches_told input.batches.items) (proof_of input.proof) (state_of v.start) ≡ Ok (drawn_by r.base.coefficients v.drawn (state_of v.left)))
-          (ap (over input.params) (one_scheme v.scheme scheme) ∙ sym same) v.draws in
+      (ap (over input.params) (one_scheme v.scheme scheme) ∙ sym same) v.draws in
       let of_claims = subst (λ (bs : List (BatchClaim (List ℕ) Cubic)). drawing r params k.extension bs (proof_of input.proof) (state_of v.start) ≡ Ok (drawn_by r.base.coefficients v.drawn (state_of v.left))) (sym told) of_params in
       let with_schemes = subst (λ (m : ShaMmcs Mersenne31). Accepts (setting_of k (over input.params v.scheme)) (run_of_input input v.drawn) (over input.params v.scheme) two_adicity (inputs m) (words v.scheme)) (one_scheme v.mmcs mmcs) v.accepts in
       let with_params = subst (λ (p : FriParameters (ShaMmcs Cubic)). Accepts (setting_of k p) (run_of_input input v.drawn) p two_adicity (inputs mmcs) (words p.mmcs))
-          (ap (over input.params) (one_scheme v.scheme scheme) ∙ sym same) with_schemes in
+      (ap (over input.params) (one_scheme v.scheme scheme) ∙ sym same) with_schemes in
       record {
         drawn = v.drawn;
         draws = subst (λ (s : List ℕ). drawing r params k.extension (batch_claims claims) (proof_of input.proof) s ≡ Ok (drawn_by r.base.coefficients v.drawn (state_of v.left))) (v.taken ∙ sym taken) of_claims;
