@@ -17,7 +17,7 @@ use Rattle.circle_relation.specs.Statement.{BatchClaim}
 use Rattle.circle_relation.specs.StatementOf.{batch_claims}
 use Rattle.circle_opening.specs.Taken.{drawn_by}
 use Rattle.circle_scheme.specs.Verdict.{AcceptsFrom, drawing, run_with}
-use Rattle.circle_commands.specs.Verified.{IsVerified, batches_told, over, run_of_input, taken_in}
+use Rattle.circle_commands.specs.Verified.{IsUnverified, IsVerified, Scheme, batches_told, over, run_of_input, taken_in}
 use Rattle.circle_commands.specs.declared.verify.Input.{Input}
 
 abbrev Batches : Type 0
@@ -46,6 +46,20 @@ on_err (Err e) f h = f e h
 -- a scheme is told by its entries' type alone
 one_scheme : {F : Type 0} (a b : ShaMmcs F) → a ≡ b
 one_scheme a b = refl
+
+-- what the scheme refuses from the state that took in the commitments is refused of the input
+pub unverified : {g : _} {Proof Error : Type 0} (Refuses : Scheme → List (CommitmentOpening Cubic (List ℕ) (CircleDomain Mersenne31 g)) → Proof → List ℕ → List ℕ → Error → Type 0)
+    (proof : Proof) (input : Input) (error : Error) (scheme : Scheme) (claims : List (CommitmentOpening Cubic (List ℕ) (CircleDomain Mersenne31 g))) (start left : List ℕ)
+    → scheme.fri_params ≡ over input.params scheme.fri_params.mmcs → batch_claims claims ≡ batches_told input.batches.items → start ≡ taken_in (replicate 32 0) input.batches.items
+    → Refuses scheme claims proof start left error → IsUnverified Refuses proof input error
+unverified Refuses proof input error scheme claims start left same told taken refused = record {
+  scheme = scheme;
+  claims = claims;
+  left = left;
+  params = same;
+  told = told;
+  refuses = subst (λ (s : List ℕ). Refuses scheme claims proof s left error) taken refused;
+}
 
 module _ {g : _} (k : Fields Mersenne31 Cubic) (r : RunMoves Sha256Challenger (List ℕ) Mersenne31 Cubic (List ℕ))
     (inputs : ShaMmcs Mersenne31 → Authenticates (List ℕ) Mersenne31 (Vec (List ℕ) Global)) (words : ShaMmcs Cubic → Authenticates (List ℕ) Cubic (Vec (List ℕ) Global))

@@ -10,13 +10,15 @@ use Rattle.circle_challenger.specs.declared.sha256.Sha256Challenger.{Sha256Chall
 use Rattle.circle_commit.specs.declared.params.FriParameters.{FriParameters}
 use Rattle.circle_commit.specs.declared.pcs.CommitmentOpening.{CommitmentOpening}
 use Rattle.circle_commit.specs.declared.pcs.MatrixOpening.{MatrixOpening}
+use Rattle.circle_domain.specs.declared.domain.CircleDomain.{CircleDomain}
 use Rattle.circle_merkle.specs.declared.mmcs.ShaMmcs.{ShaMmcs}
 use Rattle.circle_relation.specs.Accepts.{Fields, Run, Authenticates, Accepts}
 use Rattle.circle_relation.specs.RunOf.{proof_of, setting_of}
 use Rattle.circle_relation.specs.Statement.{BatchClaim, Challenges, MatrixClaim}
-use Rattle.circle_relation.specs.StatementOf.{point_claim}
+use Rattle.circle_relation.specs.StatementOf.{batch_claims, point_claim}
 use Rattle.circle_opening.specs.Taken.{drawn_by}
 use Rattle.circle_scheme.specs.Verdict.{drawing}
+use Rattle.p3_circle.specs.declared.pcs.CirclePcs.{CirclePcs}
 use Rattle.circle_commands.specs.Parts.{Parts}
 use Rattle.circle_commands.specs.declared.verify.Input.{Input}
 
@@ -85,3 +87,21 @@ pub record IsVerified (k : Fields Mersenne31 Cubic)
 -- the same of the program's parts
 abbrev pub IsVerifiedBy : {D : Type 0} → Parts D → Input → Type 0
 IsVerifiedBy p input = IsVerified p.fields p.run p.inputs p.words p.two_adicity input
+
+-- the scheme over these parts
+abbrev pub Scheme : Type 0
+Scheme = CirclePcs Mersenne31 (ShaMmcs Mersenne31) (ShaMmcs Cubic)
+
+-- the scheme refuses, for this reason, claims and parameters that the input tells, from a
+-- challenger that took in nothing but the commitments
+pub record IsUnverified {g : _} {Proof Error : Type 0}
+    (Refuses : Scheme → List (CommitmentOpening Cubic (List ℕ) (CircleDomain Mersenne31 g))
+      → Proof → List ℕ → List ℕ → Error → Type 0)
+    (proof : Proof) (input : Input) (error : Error) : Type 0 where
+  pub scheme : Scheme
+  pub claims : List (CommitmentOpening Cubic (List ℕ) (CircleDomain Mersenne31 g))
+  pub left : List ℕ
+  pub params : scheme.fri_params ≡ over input.params scheme.fri_params.mmcs
+  pub told : batch_claims claims ≡ batches_told input.batches.items
+  pub refuses :
+      Refuses scheme claims proof (taken_in (replicate 32 0) input.batches.items) left error

@@ -1,13 +1,13 @@
 //! The command `verify`: whether a proof shows that committed polynomials have the claimed values.
 
-ghost use Rattle.std.specs.Prelude.{◌≡◌, IfOk, IfErr, OnOk};
+ghost use Rattle.std.specs.Prelude.{◌≡◌, ◌⊎◌, IfOk, IfErr, OnOk};
 ghost use Rattle.circle_json.specs.ObjectForm.{object_form};
 ghost use Rattle.circle_challenger.specs.Sha256Challenger.{state_of};
 ghost use Rattle.circle_commit.specs.declared.error.FriError.TheVariants.{Memory};
 ghost use Rattle.circle_relation.specs.StatementOf.{batch_claim, batch_claims};
 ghost use Rattle.circle_commands.specs.Parts.{Parts};
 ghost use Rattle.circle_commands.specs.Verified.{IsVerifiedBy, batch_told, batches_told};
-ghost use Rattle.circle_commands.specs.Verified.{over, taken_in};
+ghost use Rattle.circle_commands.specs.Verified.{IsUnverified, over, taken_in};
 ghost use Rattle.circle_commands.specs.Verify.{input_fields};
 
 use crate::failure::Failure;
@@ -20,7 +20,7 @@ use circle_field::{ComplexExtendable, Cubic, Mersenne31};
 use circle_json::{has_keys, member};
 use circle_merkle::{MerkleTreeError, ShaMmcs};
 use circle_relation::OverCircle;
-use p3_circle::{CircleDomain, CirclePcs, CirclePcsProof, InputError, Neutral, Point};
+use p3_circle::{CircleDomain, CirclePcs, CirclePcsProof, InputError, Neutral, Pcs, Point};
 use serde_json::{Value, json};
 use std::alloc::{AllocError, Global};
 
@@ -32,6 +32,9 @@ pub type Words = ShaMmcs<Cubic>;
 
 /// The claims about one batch, whose domains are told by `Domain`.
 pub type Claim<Domain> = CommitmentOpening<Cubic, [u8; 32], Domain>;
+
+/// The scheme over these.
+type Scheme = CirclePcs<Mersenne31, Batches, Words>;
 
 /// The proofs over these schemes.
 type Proof = CirclePcsProof<Mersenne31, Cubic, Batches, Words, Mersenne31>;
@@ -111,6 +114,8 @@ pub fn verify(alloc: Global, input: Input) -> Result<(), Refusal>
     ensures accepted { OnOk result (IsVerifiedBy ⟦<Batches as HasParts>⟧.parts input) }
     ensures complete { IfErr result (λ e.
         IsVerifiedBy ⟦<Batches as HasParts>⟧.parts input → e ≡ Memory) }
+    ensures reason { let p = ⟦<Scheme as Pcs<Cubic, Sha256Challenger>>⟧ in IfErr result
+        (λ e. (e ≡ Memory) ⊎ IsUnverified p.verify_refuses input.proof input e) }
 {
     let Input {
         batches,
@@ -119,7 +124,7 @@ pub fn verify(alloc: Global, input: Input) -> Result<(), Refusal>
     } = input;
     let mut challenger = Sha256Challenger::new();
     observe_commitments(&mut challenger, &batches);
-    let scheme = CirclePcs::new(Batches::new(), over_words(&params));
+    let scheme = Scheme::new(Batches::new(), over_words(&params));
     scheme.verify(alloc, placed(alloc, batches)?, &proof, &mut challenger)
 }
 

@@ -1,7 +1,7 @@
-use Rattle.std.proofs.Common.{◌∙◌, ap, sym}
+use Rattle.std.proofs.Common.{◌∙◌, ap, inr}
 use Rattle.circle_challenger.specs.Sha256Challenger.{state_of}
-use Rattle.circle_commands.specs.Verified.{over, taken_in}
-use Rattle.circle_commands.proofs.Verified.{on_ok, on_err, verified, accepted}
+use Rattle.circle_commands.specs.Verified.{taken_in}
+use Rattle.circle_commands.proofs.Verified.{on_ok, on_err, unverified, verified, accepted}
 use Rattle.circle_commands.proofs.verify.verify.Goals as goal
 
 pub returns-clause-accepted : goal.returns-clause-accepted
@@ -20,3 +20,10 @@ returns-clause-complete c =
     (c.new-scheme.ensures.params ∙ c.over_words.ensures)
     (c.observe_commitments.ensures ∙ ap (λ s. taken_in s c.deref.result.now) c.new-challenger.ensures ∙ ap (taken_in _) c.deref.ensures.value) v))
     c.verify.ensures.complete
+
+pub returns-clause-reason : goal.returns-clause-reason
+returns-clause-reason c =
+    on_err c.verify.result
+    (λ e h. inr (unverified _ _ c.args.input e c.new-scheme.result c.in_ok-placed.field-0.items _ (state_of c.verify.new.challenger) (c.new-scheme.ensures.params ∙ c.over_words.ensures) c.in_ok-placed.ensures
+    (c.observe_commitments.ensures ∙ ap (λ s. taken_in s c.deref.result.now) c.new-challenger.ensures ∙ ap (taken_in _) c.deref.ensures.value) h))
+    c.verify.ensures.reason
