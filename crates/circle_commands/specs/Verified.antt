@@ -96,7 +96,7 @@ Scheme = CirclePcs Mersenne31 (ShaMmcs Mersenne31) (ShaMmcs Cubic)
 -- challenger that took in nothing but the commitments
 pub record IsUnverified {g : _} {Proof Error : Type 0}
     (Refuses : Scheme → List (CommitmentOpening Cubic (List ℕ) (CircleDomain Mersenne31 g))
-      → Proof → List ℕ → List ℕ → Error → Type 0)
+    → Proof → List ℕ → List ℕ → Error → Type 0)
     (proof : Proof) (input : Input) (error : Error) : Type 0 where
   pub scheme : Scheme
   pub claims : List (CommitmentOpening Cubic (List ℕ) (CircleDomain Mersenne31 g))
