@@ -12,5 +12,3 @@ mod matrices;
 mod merkle;
 #[cfg(test)]
 mod mersenne31;
-#[cfg(test)]
-mod records;

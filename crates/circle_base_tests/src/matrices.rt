@@ -3,14 +3,12 @@ ghost use Rattle.std.specs.Prelude.{◌-◌};
 
 use circle_commit::{
     Matrix, PeriodicLdeTable, RowIndexMap, RowIndexMappedView, RowMajorMatrix, RowMajorMatrixView,
-    are_below, heights_are_powers_of_two, is_power_of_two, log2_strict,
 };
 use std::alloc::{AllocError, Global};
 use std::process::Abort;
 use std::test::Fail;
 
 mod columns;
-mod openings;
 mod refusals;
 
 // The rows 0 1, 2 3, 4 5 and 6 7.
@@ -134,40 +132,5 @@ fn a_periodic_table_repeats_its_rows(rt: HostRuntime) -> Result<(), Fail> {
         assert!(rt; *column < table.width());
         assert_eq!(rt; table.get(*row, *column), *entry, "at {row}");
     }
-    Ok(())
-}
-
-#[test]
-fn a_periodic_table_of_no_columns(rt: HostRuntime) -> Result<(), Fail> {
-    let table = PeriodicLdeTable::<u32>::empty();
-    assert_eq!(rt; table.width(), 0);
-    assert_eq!(rt; table.height(), 0);
-    Ok(())
-}
-
-#[test]
-fn the_logarithm_of_powers_of_two(rt: HostRuntime) {
-    for (n, logarithm) in [(1, 0), (2, 1), (1 << 20, 20), (1 << 63, 63)] {
-        assert!(rt; is_power_of_two(n));
-        assert_eq!(rt; log2_strict(n), logarithm);
-    }
-    assert!(rt; !is_power_of_two(0));
-    assert!(rt; !is_power_of_two((1 << 20) + 1));
-}
-
-#[test]
-fn numbers_below_a_bound(rt: HostRuntime) {
-    assert!(rt; are_below(&[7, 0, 2, 7], 8));
-    assert!(rt; !are_below(&[7, 0, 8, 7], 8));
-    assert!(rt; are_below(&[], 0));
-}
-
-#[test]
-fn heights_of_powers_of_two(rt: HostRuntime) -> Result<(), Fail> {
-    let column = RowMajorMatrix::new_col(vec![in rt.alloc(); 5u32, 6, 7]?);
-    let matrices = vec![in rt.alloc(); four_rows(rt.alloc())?, column]?;
-    assert!(rt; !heights_are_powers_of_two(&matrices));
-    assert!(rt; heights_are_powers_of_two(&matrices[..1]));
-    assert!(rt; heights_are_powers_of_two(&matrices[..0]));
     Ok(())
 }

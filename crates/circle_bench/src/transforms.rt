@@ -1,6 +1,6 @@
 //! The passes of the circle transform over matrices.
 ghost use Rattle.std.specs.Prelude.{◌≡◌, ◌≤◌, ◌^◌, IfOk};
-ghost use Rattle.circle_commit.specs.RowMajorMatrix.{height_of};
+ghost use Rattle.circle_matrix.specs.RowMajorMatrix.{height_of};
 
 use circle_commit::RowMajorMatrix;
 use circle_field::{Field, Mersenne31};

@@ -1,7 +1,7 @@
 -- Claims that are made of two lists side by side.
 use Rattle.std.proofs.Common.{◌≡◌, ℕ, ◌+◌, ◌^◌, ◌<◌, List, [], ◌∷◌, ◌++◌, length, map, take, ap, sym, ◌∙◌, arith, min, slice_index_or}
 use Rattle.std.proofs.lemmas.List.{length-map, map-append}
-use Rattle.circle_commit.specs.DotProduct.{pairwise}
+use Rattle.circle_matrix.specs.DotProduct.{pairwise}
 use Rattle.circle_field.specs.declared.cubic.Cubic.{Cubic}
 use Rattle.circle_opening.proofs.Logs.{log_of-power}
 use Rattle.circle_opening.proofs.Requested.{map-at, pairwise-more, pairwise-end}

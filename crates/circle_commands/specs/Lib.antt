@@ -2,7 +2,6 @@ pub mod Arguments
 pub mod Failure
 pub mod Input
 pub mod Json
-pub mod Parts
 pub mod Prove
 pub mod Proved
 pub mod Rows

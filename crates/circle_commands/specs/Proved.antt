@@ -2,16 +2,16 @@
 use Rattle.std.specs.Prelude.{◌≡◌, ℕ, ◌+◌, ◌^◌, List, [], ◌∷◌, length, map, replicate, All, Vec}
 use Rattle.std.specs.List.{AllZip}
 use Rattle.std.specs.declared.alloc.Global.{Global}
-use Rattle.circle_challenger.specs.Moves.{RunMoves}
 use Rattle.circle_challenger.specs.Sha256Challenger.{state_of}
 use Rattle.circle_challenger.specs.Sponge.{absorbed}
 use Rattle.circle_challenger.specs.declared.sha256.Sha256Challenger.{Sha256Challenger}
-use Rattle.circle_commit.specs.DotProduct.{pairwise}
-use Rattle.circle_commit.specs.Mmcs.{HaveHeightsOfPowers}
-use Rattle.circle_commit.specs.Pcs.{Openings}
-use Rattle.circle_commit.specs.RowMajorMatrix.{rows, height_of}
-use Rattle.circle_commit.specs.declared.matrix.RowMajorMatrix.{RowMajorMatrix}
-use Rattle.circle_commit.specs.declared.pcs.OpeningRequest.{OpeningRequest}
+use Rattle.circle_matrix.specs.DotProduct.{pairwise}
+use Rattle.circle_matrix.specs.Mmcs.{HaveHeightsOfPowers}
+use Rattle.circle_matrix.specs.Parameters.{with_scheme}
+use Rattle.circle_matrix.specs.Pcs.{Openings}
+use Rattle.circle_matrix.specs.RowMajorMatrix.{rows, height_of}
+use Rattle.circle_matrix.specs.declared.matrix.RowMajorMatrix.{RowMajorMatrix}
+use Rattle.circle_matrix.specs.declared.pcs.OpeningRequest.{OpeningRequest}
 use Rattle.circle_domain.specs.Domain.{log_size, shift_of}
 use Rattle.circle_domain.specs.Order.{natural_order, cfft_order}
 use Rattle.circle_domain.specs.Values.{values_at}
@@ -22,15 +22,14 @@ use Rattle.circle_field.specs.declared.mersenne31.Mersenne31.{Mersenne31}
 use Rattle.circle_merkle.specs.ProverData.{matrices_of}
 use Rattle.circle_merkle.specs.declared.mmcs.ShaMmcs.{ShaMmcs}
 use Rattle.circle_opening.specs.Opening.{IsOpening}
+use Rattle.circle_opening.specs.Schemes.{Schemes}
 use Rattle.circle_opening.specs.Requests.{AreAnswers, lists_of, log_of}
-use Rattle.circle_relation.specs.Accepts.{Authenticates, Fields}
 use Rattle.circle_relation.specs.RunOf.{proof_of}
 use Rattle.circle_relation.specs.Statement.{BatchClaim, MatrixClaim}
 use Rattle.circle_words.specs.Words.{claim_of}
-use Rattle.circle_commands.specs.Parts.{Parts}
 use Rattle.circle_commands.specs.Rows.{lists}
 use Rattle.circle_commands.specs.Traces.{HasFittingRows}
-use Rattle.circle_commands.specs.Verified.{batches_told, over}
+use Rattle.circle_commands.specs.Verified.{batches_told}
 use Rattle.circle_commands.specs.declared.prove.Committed.{Committed}
 use Rattle.circle_commands.specs.declared.prove.Input.{Input}
 use Rattle.circle_commands.specs.declared.prove.Trace.{Trace}
@@ -105,37 +104,30 @@ pub record IsRequested {D : Type 0} (kept : D → List (RowMajorMatrix Mersenne3
   pub matrices : kept r.prover_data.now ≡ matrices_of c.kept
   pub points : lists_of r.points.items ≡ points_of c.traces.now
 
-module _ {D : Type 0} (k : Fields Mersenne31 Cubic)
-    (r : RunMoves Sha256Challenger (List ℕ) Mersenne31 Cubic (List ℕ))
-    (kept : D → List (RowMajorMatrix Mersenne31))
-    (Commits : ShaMmcs Mersenne31 → List (RowMajorMatrix Mersenne31) → List ℕ → Type 0)
-    (inputs : ShaMmcs Mersenne31 → Authenticates (List ℕ) Mersenne31 (Vec (List ℕ) Global))
-    (WordCommits : ShaMmcs Cubic → List (RowMajorMatrix Cubic) → List ℕ → Type 0)
-    (words : ShaMmcs Cubic → Authenticates (List ℕ) Cubic (Vec (List ℕ) Global)) where
-  -- the batches are committed to, and opened from the challenger that took in nothing but the
-  -- commitments; the claims tell the commitments, the points and the values, and the proof is
-  -- theirs
-  pub record IsProved (input : Input) (output : Claims) : Type 0 where
-    pub mmcs : ShaMmcs Mersenne31
-    pub scheme : ShaMmcs Cubic
-    pub committed : List Committed
-    pub requests : List (OpeningRequest D Cubic)
-    pub values : Openings Cubic
-    pub start : Sha256Challenger
-    pub left : Sha256Challenger
-    pub batches :
-        AreCommitted (Commits mmcs) input.params.log_blowup input.batches.items committed
-    pub asked : AllZip (IsRequested kept) committed requests
-    pub taken : state_of start ≡ commitments_taken (replicate 32 0) committed
-    pub answered : AllZip (AreAnswers kept k input.params.log_blowup) requests values
-    pub opened :
-        IsOpening (over input.params scheme) kept requests values k r (proof_of output.proof)
-        (Commits mmcs) (inputs mmcs) (WordCommits scheme) (words scheme) (state_of start)
-        (state_of left)
-    pub claims : batches_told output.batches.items ≡ pairwise batch_claimed committed values
-    pub params : output.params ≡ input.params
-
--- the same of the program's parts
-abbrev pub IsProvedBy : {D : Type 0} → Parts D → Input → Claims → Type 0
-IsProvedBy p input output = IsProved p.fields p.run p.kept p.Commits p.inputs p.WordCommits p.words
-    input output
+module _ {D WD : Type 0}
+    (o : Schemes Sha256Challenger (List ℕ) Mersenne31 Cubic (ShaMmcs Mersenne31) (List ℕ) D
+    (Vec (List ℕ) Global) (ShaMmcs Cubic) (List ℕ) WD (Vec (List ℕ) Global))
+  where
+    -- the batches are committed to, and opened from the challenger that took in nothing but the
+    -- commitments; the claims tell the commitments, the points and the values, and the proof is
+    -- theirs
+    pub record IsProved (input : Input) (output : Claims) : Type 0 where
+      pub mmcs : ShaMmcs Mersenne31
+      pub scheme : ShaMmcs Cubic
+      pub committed : List Committed
+      pub requests : List (OpeningRequest D Cubic)
+      pub values : Openings Cubic
+      pub start : Sha256Challenger
+      pub left : Sha256Challenger
+      pub batches :
+          AreCommitted (o.Commits mmcs) input.params.log_blowup input.batches.items committed
+      pub asked : AllZip (IsRequested o.kept) committed requests
+      pub taken : state_of start ≡ commitments_taken (replicate 32 0) committed
+      pub answered :
+          AllZip (AreAnswers o.kept o.fields input.params.log_blowup) requests values
+      pub opened :
+          IsOpening (with_scheme input.params scheme) o.kept requests values o.fields o.run
+          (proof_of output.proof) (o.Commits mmcs) (o.authenticates mmcs) (o.WordCommits scheme)
+          (o.word_authenticates scheme) (state_of start) (state_of left)
+      pub claims : batches_told output.batches.items ≡ pairwise batch_claimed committed values
+      pub params : output.params ≡ input.params

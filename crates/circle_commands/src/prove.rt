@@ -3,16 +3,16 @@
 ghost use Rattle.std.specs.Prelude.{◌≡◌, ◌⊎◌, ◌++◌, ◌∷◌, [], All, IfOk, OnOk, MatchResult, map};
 ghost use Rattle.std.specs.List.{AllZip};
 ghost use Rattle.circle_challenger.specs.Sha256Challenger.{state_of};
-ghost use Rattle.circle_commit.specs.DotProduct.{pairwise};
-ghost use Rattle.circle_commit.specs.Mmcs.{opened_rows};
-ghost use Rattle.circle_commit.specs.Pcs.{openings};
+ghost use Rattle.circle_matrix.specs.DotProduct.{pairwise};
+ghost use Rattle.circle_matrix.specs.Mmcs.{opened_rows};
+ghost use Rattle.circle_matrix.specs.Pcs.{openings};
 ghost use Rattle.circle_json.specs.ObjectForm.{object_form};
 ghost use Rattle.circle_opening.specs.Requests.{lists_of};
 ghost use Rattle.circle_opening.specs.declared.error.ProverError.TheVariants.{Memory};
 ghost use Rattle.circle_relation.specs.StatementOf.{point_claim};
 ghost use Rattle.circle_words.specs.Words.{claim_of};
 ghost use Rattle.circle_commands.specs.Prove.{input_fields, trace_fields};
-ghost use Rattle.circle_commands.specs.Proved.{AreCommitted, ArePlaced, IsCommitted, IsProvedBy};
+ghost use Rattle.circle_commands.specs.Proved.{AreCommitted, ArePlaced, IsCommitted, IsProved};
 ghost use Rattle.circle_commands.specs.Proved.{IsRequested, batch_claimed, commitments_taken};
 ghost use Rattle.circle_commands.specs.Proved.{matrix_claimed, points_of};
 ghost use Rattle.circle_commands.specs.Traces.{AreFitting, AreFittingRows, HasFittingRows};
@@ -23,7 +23,7 @@ ghost use Rattle.circle_commands.specs.declared.prove.Refusal.TheVariants.{Prove
 
 use crate::failure::Failure;
 use crate::values::{is_rectangular, matrix};
-use crate::verify::{Batches, Claim, HasParts, Words, over_words};
+use crate::verify::{Batches, Claim, Words};
 use crate::{json, verify};
 use circle_challenger::{CanObserve, Sha256Challenger};
 use circle_commit::{
@@ -32,6 +32,7 @@ use circle_commit::{
 };
 use circle_field::{Cubic, Mersenne31};
 use circle_json::{has_keys, member};
+use circle_opening::OpeningOver;
 use p3_circle::{CircleDomain, CirclePcs, ProverError};
 use serde_json::{Value, json};
 use std::alloc::{AllocError, Global};
@@ -194,11 +195,12 @@ pub(crate) fn answer(alloc: Global, value: &Value) -> Result<String, Failure> {
 pub fn prove(alloc: Global, input: Input) -> Result<verify::Input, Refusal>
     ensures rows { MatchResult result (λ _. AreFitting input.batches.items)
         (λ e. IsRefusalOfBatches input.batches.items e ⊎ AreFitting input.batches.items) }
-    ensures proof { IfOk result (IsProvedBy ⟦<Batches as HasParts>⟧.parts input) }
+    ensures proof { IfOk result (IsProved
+        ⟦<Sha256Challenger as OpeningOver<Mersenne31, Cubic, Batches, Words>>⟧.schemes input) }
 {
     let Input { batches, params } = input;
     validate_batches(&batches)?;
-    let scheme = CirclePcs::new(Batches::new(), over_words(&params));
+    let scheme = CirclePcs::new(Batches::new(), params.with_mmcs(Words::new()));
     let committed = commit_batches(alloc, &scheme, &batches)?;
     let mut challenger = Sha256Challenger::new();
     observe_commitments(&mut challenger, &committed);

@@ -3,7 +3,7 @@ ghost use Rattle.std.specs.Prelude.{◌≡◌, ◌<◌, ◌↔◌, length, All, 
 ghost use Rattle.std.specs.Prelude.{vec_len};
 ghost use Rattle.circle_field.specs.Circle.{IsOnCircle, at};
 ghost use Rattle.circle_field.specs.Mersenne31.{operations};
-ghost use Rattle.circle_commit.specs.RowMajorMatrix.{rows as matrix_rows, width_of, height_of};
+ghost use Rattle.circle_matrix.specs.RowMajorMatrix.{rows as matrix_rows, width_of, height_of};
 ghost use Rattle.circle_commands.specs.Rows.{lists, IsRectangular, row_length};
 ghost use Rattle.circle_commands.specs.Input.{HasFittingHeight, HasFittingSize, HasPoint};
 ghost use Rattle.circle_commands.specs.Input.{HasRectangle, IsFittingHeight, values_of};

@@ -3,23 +3,22 @@
 ghost use Rattle.std.specs.Prelude.{◌≡◌, ◌⊎◌, IfOk, IfErr, OnOk};
 ghost use Rattle.circle_json.specs.ObjectForm.{object_form};
 ghost use Rattle.circle_challenger.specs.Sha256Challenger.{state_of};
-ghost use Rattle.circle_commit.specs.declared.error.FriError.TheVariants.{Memory};
+ghost use Rattle.circle_matrix.specs.declared.error.FriError.TheVariants.{Memory};
 ghost use Rattle.circle_relation.specs.StatementOf.{batch_claim, batch_claims};
-ghost use Rattle.circle_commands.specs.Parts.{Parts};
-ghost use Rattle.circle_commands.specs.Verified.{IsVerifiedBy, batch_told, batches_told};
-ghost use Rattle.circle_commands.specs.Verified.{IsUnverified, over, taken_in};
+ghost use Rattle.circle_commands.specs.Verified.{IsVerified, batch_told, batches_told};
+ghost use Rattle.circle_commands.specs.Verified.{IsUnverified, taken_in};
 ghost use Rattle.circle_commands.specs.Verify.{input_fields};
 
 use crate::failure::Failure;
 use crate::json;
-use circle_challenger::{CanObserve, RunChallenger, Sha256Challenger};
+use circle_challenger::{CanObserve, Sha256Challenger};
 use circle_commit::{
-    CommitmentOpening, FriError, FriParameters, JsonError, JsonForm, MatrixOpening, Mmcs,
+    CommitmentOpening, FriError, FriParameters, JsonError, JsonForm, MatrixOpening,
 };
-use circle_field::{ComplexExtendable, Cubic, Mersenne31};
+use circle_field::{Cubic, Mersenne31};
 use circle_json::{has_keys, member};
 use circle_merkle::{MerkleTreeError, ShaMmcs};
-use circle_relation::OverCircle;
+use circle_opening::OpeningOver;
 use p3_circle::{CircleDomain, CirclePcs, CirclePcsProof, InputError, Neutral, Pcs, Point};
 use serde_json::{Value, json};
 use std::alloc::{AllocError, Global};
@@ -41,27 +40,6 @@ type Proof = CirclePcsProof<Mersenne31, Cubic, Batches, Words, Mersenne31>;
 
 /// Why claims or a proof are refused.
 pub type Refusal = FriError<MerkleTreeError, InputError<MerkleTreeError, MerkleTreeError>>;
-
-/// What is known to contracts of the program's fields, schemes and challenger.
-///
-/// The scheme of the batches has it, so no function asks for it: a clause cites
-/// `⟦<Batches as HasParts>⟧.parts`.
-pub trait HasParts: Mmcs<Mersenne31> {
-    ghost parts: { Parts Self.ProverData };
-}
-
-impl HasParts for ShaMmcs<Mersenne31> {
-    ghost parts = { record {
-      fields = ⟦<Cubic as OverCircle<Mersenne31>>⟧.fields;
-      run = ⟦<Sha256Challenger as RunChallenger<Mersenne31, Cubic, [u8; 32]>>⟧.run;
-      kept = ⟦<Batches as Mmcs<Mersenne31>>⟧.matrices;
-      Commits = ⟦<Batches as Mmcs<Mersenne31>>⟧.commits;
-      inputs = ⟦<Batches as Mmcs<Mersenne31>>⟧.authenticates;
-      WordCommits = ⟦<Words as Mmcs<Cubic>>⟧.commits;
-      words = ⟦<Words as Mmcs<Cubic>>⟧.authenticates;
-      two_adicity = ⟦<Mersenne31 as ComplexExtendable>⟧.CIRCLE_TWO_ADICITY;
-    } };
-}
 
 /// What the command is given.
 #[derive(Drop)]
@@ -111,9 +89,10 @@ pub(crate) fn answer(alloc: Global, value: &Value) -> Result<String, Failure> {
 ///
 /// Fails as [`CirclePcs::verify`] does, and for a proof that is verified for want of memory alone.
 pub fn verify(alloc: Global, input: Input) -> Result<(), Refusal>
-    ensures accepted { OnOk result (IsVerifiedBy ⟦<Batches as HasParts>⟧.parts input) }
-    ensures complete { IfErr result (λ e.
-        IsVerifiedBy ⟦<Batches as HasParts>⟧.parts input → e ≡ Memory) }
+    ensures accepted { OnOk result (IsVerified
+        ⟦<Sha256Challenger as OpeningOver<Mersenne31, Cubic, Batches, Words>>⟧.schemes input) }
+    ensures complete { let o = ⟦<Sha256Challenger as OpeningOver<Mersenne31, Cubic, Batches, Words>>⟧
+        in IfErr result (λ e. IsVerified o.schemes input → e ≡ Memory) }
     ensures reason { let p = ⟦<Scheme as Pcs<Cubic, Sha256Challenger>>⟧ in IfErr result
         (λ e. (e ≡ Memory) ⊎ IsUnverified p.verify_refuses input.proof input e) }
 {
@@ -124,7 +103,7 @@ pub fn verify(alloc: Global, input: Input) -> Result<(), Refusal>
     } = input;
     let mut challenger = Sha256Challenger::new();
     observe_commitments(&mut challenger, &batches);
-    let scheme = Scheme::new(Batches::new(), over_words(&params));
+    let scheme = Scheme::new(Batches::new(), params.with_mmcs(Words::new()));
     scheme.verify(alloc, placed(alloc, batches)?, &proof, &mut challenger)
 }
 
@@ -134,22 +113,6 @@ fn observe_commitments(challenger: &mut Sha256Challenger, batches: &[Claim<usize
 {
     for batch in batches {
         challenger.observe(&batch.commitment);
-    }
-}
-
-/// The parameters with the scheme that commits to the words.
-pub(crate) fn over_words(params: &FriParameters<()>) -> FriParameters<Words>
-    ensures { result ≡ over params.now result.mmcs }
-{
-    FriParameters {
-        log_blowup: params.log_blowup,
-        log_final_poly_len: params.log_final_poly_len,
-        max_log_arity: params.max_log_arity,
-        num_queries: params.num_queries,
-        batch_proof_of_work_bits: params.batch_proof_of_work_bits,
-        commit_proof_of_work_bits: params.commit_proof_of_work_bits,
-        query_proof_of_work_bits: params.query_proof_of_work_bits,
-        mmcs: Words::new(),
     }
 }
 

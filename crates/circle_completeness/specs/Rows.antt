@@ -1,6 +1,6 @@
 -- The definitions at a worked example over the numbers modulo 31, whose circle has 32 points. It
 -- was computed apart from these definitions.
-use Rattle.std.specs.Prelude.{◌≡◌, ℕ, ◌+◌, ◌*◌, ◌-◌, ◌%◌, ◌^◌, [], ◌∷◌, refl}
+use Rattle.std.specs.Prelude.{◌≡◌, ◌==◌, ℕ, ◌+◌, ◌*◌, ◌-◌, ◌%◌, ◌^◌, [], ◌∷◌, refl}
 use Rattle.std.proofs.Common.{zero, suc, ap}
 use Rattle.std.proofs.lemmas.Bool.{eqb-false}
 use Rattle.std.proofs.lemmas.List.Elements.{All-from_recursion}
@@ -34,8 +34,11 @@ abbrev fields : Fields ℕ ℕ
 fields = record {
   field = ops;
   gen = λ n. doubled_times (5 - n) (at 2 11);
+  two_adicity = 5;
+  is_zero = λ a. a == 0;
   extension = ops;
   embed = λ a. a;
+  same = λ a b. a == b;
 }
 
 -- 3 + 2 y at (4, 27), (4, 4), (27, 4) and (27, 27), and at (18, 7), which 2 tells

@@ -9,8 +9,8 @@ ghost use Rattle.circle_completeness.specs.Honest.{EndsLow, IsNeverTooHigh};
 ghost use Rattle.circle_opening.specs.Requests.{AreFit, AreRequests};
 
 use circle_challenger::{CanObserve, CanSample, GrindingChallenger, RunChallenger};
-use circle_commit::{FriParameters, Mmcs, OpeningRequest};
 use circle_field::{ComplexExtendable, ExtensionField};
+use circle_matrix::{FriParameters, Mmcs, OpeningRequest};
 use circle_relation::OverCircle;
 
 /// The word of a height, which `alpha` combines of the quotients of all claims on matrices of that

@@ -1,4 +1,4 @@
-//! Why openings of matrices of low degree come to an end: the words of an opening (Circle STARKs,
+//! Why openings are complete. Those of matrices of low degree come to an end: the words of an opening (Circle STARKs,
 //! IACR ePrint 2024/278, sections 4 and 6), from those of the heights to the last one, are the
 //! values of polynomials with few coefficients.
 //!
@@ -13,6 +13,16 @@
 //!   `folds`, `rounds`), so the last word is the values of a final polynomial (`last`).
 //! - What an opening answers of matrices of low degree is true, so that holds of its last word
 //!   (`honest_openings_end_low`, by `EndsLow`).
+//!
+//! And why what an opening answers is accepted: where claims say what was answered of requests, of
+//! each matrix at one point at least, under commitments of its matrices, the relation that a
+//! verifier decides holds of them, the proof and the challenges that are drawn from the state that
+//! the opening began in, and the run leaves the state that the opening left
+//! (`openings_are_accepted`). Nothing is asked of the matrices' degree there: it decides whether an
+//! opening comes to an end.
 #![tactic(auto)]
 
+pub mod acceptance;
 pub mod laws;
+
+pub use acceptance::openings_are_accepted;

@@ -34,4 +34,6 @@ mod splitting;
 pub use domain::{CircleCoset, CircleDomain, CirclePoints};
 pub use factors::{layer_twiddles, x_twiddles, y_twiddles};
 pub use lagrange::{LagrangeWeights, lagrange_weights, value_off_domain};
-pub use ordering::{CfftPerm, CfftPermutable, CfftView, cfft_permute_index, first_points};
+pub use ordering::{
+    CfftPerm, CfftPermutable, CfftView, append_moved, cfft_permute_index, first_points,
+};

@@ -1,14 +1,14 @@
 //! The order of the circle transform, as a permutation of the natural order of a domain.
 ghost use Rattle.std.specs.Prelude.{ℕ, ◌≡◌, ◌≤◌, ◌<◌, ◌^◌, ◌-◌, map, Ok, IfOk, OnOk};
 ghost use Rattle.circle_domain.specs.Ordering.{cfft_index, reversed, other_order};
-ghost use Rattle.circle_commit.specs.Matrix.{IsPowerOfTwo};
+ghost use Rattle.circle_matrix.specs.Matrix.{IsPowerOfTwo};
 ghost use Rattle.circle_point.specs.Point.{coordinates};
 ghost use Rattle.circle_domain.specs.Domain.{log_size, shift_of};
 ghost use Rattle.circle_domain.specs.Order.{coset, with_moved};
 
 use crate::domain::CircleDomain;
-use circle_commit::{Matrix, MatrixShape, RowIndexMap, RowIndexMappedView, log2_strict};
 use circle_field::{ComplexExtendable, Field};
+use circle_matrix::{Matrix, MatrixShape, RowIndexMap, RowIndexMappedView, log2_strict};
 use circle_point::Point;
 use std::alloc::{AllocError, Global};
 
@@ -146,8 +146,10 @@ pub fn first_points<F: ComplexExtendable>(
     Ok(points)
 }
 
-// Appends to the points each of them moved by `step`.
-fn append_moved<F: Field>(points: &mut Vec<Point<F>>, step: Point<F>) -> Result<(), AllocError>
+/// Appends to the points each of them moved by `step`.
+///
+/// Fails where memory is refused.
+pub fn append_moved<F: Field>(points: &mut Vec<Point<F>>, step: Point<F>) -> Result<(), AllocError>
     ensures { OnOk result (map coordinates points.new.items
         ≡ with_moved F.ops (coordinates step) (map coordinates points.old.items)) }
 {

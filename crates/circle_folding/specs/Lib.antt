@@ -1,7 +1,9 @@
 pub mod Blocks
 pub mod Chain
 pub mod Fold
+pub mod Interpolation
 pub mod Lambda
+pub mod PolynomialRows
 pub mod Queries
 pub mod Quotient
 pub mod Rows

@@ -17,19 +17,26 @@
 //!   twiddle in the first layer and round after round, `query_pairs` and `push_query_pairs` the
 //!   rows that a word's commitment, and one more word's, is asked for, and `fold_query_values`
 //!   folds each query's pair, leaving the values where memory is refused.
+//! - Of polynomials in x: `x_value` is the sum of the coefficients times the basis at x;
+//!   `x_interpolate` answers coefficients exactly where so few have the word's values, and they are
+//!   the only ones that do (`values`, `only`, `none`).
 #![tactic(auto)]
 
 pub mod deep_quotient;
+pub mod evaluation;
 pub mod folding;
+pub mod interpolation;
 pub mod query;
 pub mod reduced;
 pub mod strategy;
 
 pub use deep_quotient::{deep_quotient_reduce_row, extract_lambda};
-pub use folding::{fold_row_with_inv_twiddle, fold_x, fold_x_row, fold_y};
+pub use evaluation::x_value;
+pub use folding::{add_each, fold_row_with_inv_twiddle, fold_x, fold_x_row, fold_y};
+pub use interpolation::x_interpolate;
 pub use query::{
     first_layer_twiddles, first_x_twiddles, fold_query_values, next_x_twiddles, push_query_pairs,
-    query_pairs,
+    query_pairs, without_bits,
 };
 pub use reduced::{Claim, MatrixRows, add_quotients, query_points, subtract_vanishing};
 pub use strategy::CircleFriFolding;

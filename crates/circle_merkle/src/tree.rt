@@ -2,17 +2,17 @@
 ghost use Rattle.std.specs.Prelude.{◌≡◌, ℕ, ◌+◌, ◌*◌, ◌^◌, ◌<◌, ◌==◌, length, map, IfOk};
 ghost use Rattle.std.specs.List.{list_any};
 ghost use Rattle.sha2.specs.Sha256.{sha256};
-ghost use Rattle.circle_commit.specs.Matrix.{IsPowerOfTwo};
-ghost use Rattle.circle_commit.specs.RowMajorMatrix.{height_of};
-ghost use Rattle.circle_commit.specs.Mmcs.{dimensions_of, max_height};
+ghost use Rattle.circle_matrix.specs.Matrix.{IsPowerOfTwo};
+ghost use Rattle.circle_matrix.specs.RowMajorMatrix.{height_of};
+ghost use Rattle.circle_matrix.specs.Mmcs.{dimensions_of, max_height};
 ghost use Rattle.circle_merkle.specs.Rows.{size_of};
 ghost use Rattle.circle_merkle.specs.Authentication.{IsNextLevel, IsParent, level_digests};
 ghost use Rattle.circle_merkle.specs.Authentication.{tree_levels};
 
 use crate::hashing::{Hash, joined_digest, node_digest, rows_digest};
 use crate::rows::MatrixRows;
-use circle_commit::{Matrix, RowMajorMatrix, log2_strict};
 use circle_field::ElementBytes;
+use circle_matrix::{Matrix, RowMajorMatrix, log2_strict};
 use std::alloc::{AllocError, Global};
 
 // The digests of the rows of the matrices of this height.

@@ -1,21 +1,20 @@
 -- Requested matrices as the claims of a run.
 use Rattle.std.specs.Prelude.{◌≡◌, ℕ, ◌+◌, ◌-◌, ◌≤◌, List, [], ◌∷◌, ◌++◌, length, map, flat_map, zip, All}
 use Rattle.std.specs.List.{AllByRecursion, AllZip}
-use Rattle.std.proofs.Common.{zero, suc, refl, sym, ◌∙◌, ap, arith}
+use Rattle.std.proofs.Common.{refl, sym, ◌∙◌, ap, arith}
 use Rattle.std.proofs.lemmas.List.{map-append}
 use Rattle.std.proofs.lemmas.List.Elements.{recursion_from_All}
-use Rattle.circle_commit.specs.Mmcs.{greatest}
-use Rattle.circle_commit.specs.Pcs.{Openings}
-use Rattle.circle_commit.specs.RowMajorMatrix.{height_of, rows}
-use Rattle.circle_commit.specs.declared.matrix.RowMajorMatrix.{RowMajorMatrix}
-use Rattle.circle_commit.specs.declared.pcs.OpeningRequest.{OpeningRequest}
-use Rattle.circle_commit.specs.DotProduct.{pairwise}
+use Rattle.circle_matrix.specs.Mmcs.{greatest}
+use Rattle.circle_matrix.specs.Pcs.{Openings}
+use Rattle.circle_matrix.specs.declared.matrix.RowMajorMatrix.{RowMajorMatrix}
+use Rattle.circle_matrix.specs.declared.pcs.OpeningRequest.{OpeningRequest}
+use Rattle.circle_matrix.specs.DotProduct.{pairwise}
 use Rattle.circle_field.specs.Field.{FieldOps}
 use Rattle.circle_relation.specs.Accepts.{Fields}
-use Rattle.circle_relation.specs.Statement.{MatrixClaim, PointClaim, all_matrices, log_height, log_max_height}
+use Rattle.circle_relation.specs.Statement.{all_matrices, log_height, log_max_height}
 use Rattle.circle_words.specs.Words.{Committed, claim_of}
 use Rattle.circle_opening.specs.Requests.{AreAnswers, AreValuesOf, all_committed, batch_committed, claimed, claimed_batch, points_of}
-use Rattle.circle_opening.specs.Taken.{claims_taken, point_taken, widths_by}
+use Rattle.circle_relation.specs.Taken.{claims_taken, point_taken, widths_by}
 use Rattle.circle_opening.specs.Words.{top_of}
 
 claim-widths : {E : Type 0} (points : List E) (values : List (List E)) → length values ≡ length points → map (λ c. length c.values) (pairwise claim_of points values) ≡ map (λ v. length v) values

@@ -2,12 +2,12 @@
 use Rattle.std.specs.Prelude.{◌≡◌, ℕ, ◌+◌, ◌-◌, List, [], ◌∷◌, ◌++◌, length, map, flat_map}
 use Rattle.std.proofs.Common.{refl, sym, ap, ◌∙◌, append_assoc}
 use Rattle.std.proofs.lemmas.List.{map-append}
-use Rattle.circle_commit.specs.declared.params.FriParameters.{FriParameters}
+use Rattle.circle_matrix.specs.declared.params.FriParameters.{FriParameters}
 use Rattle.circle_field.specs.Field.{FieldOps}
 use Rattle.circle_relation.specs.Statement.{BatchClaim, MatrixClaim, PointClaim, all_matrices, log_max_height}
 use Rattle.circle_transcript.specs.Draw.{Claim, widths_of}
 use Rattle.circle_transcript.specs.Shape.{Shape}
-use Rattle.circle_opening.specs.Taken.{claims_taken, point_taken, shape_by, widths_by}
+use Rattle.circle_relation.specs.Taken.{claims_taken, point_taken, shape_by, widths_by}
 
 -- what is made of the items of two lists, one after the other
 pub flat-append : {A B : Type 0} (f : A → List B) (xs ys : List A) → flat_map f (xs ++ ys) ≡ flat_map f xs ++ flat_map f ys

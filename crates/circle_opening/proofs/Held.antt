@@ -1,20 +1,20 @@
 -- What an opening has committed to, as its proof holds it.
-use Rattle.std.specs.Prelude.{◌≡◌, ℕ, ◌+◌, ◌-◌, ◌^◌, ◌<◌, ◌≤◌, ◌++◌, max, List, [], ◌∷◌, length, map, All, Some, slice_get, slice_index_or}
+use Rattle.std.specs.Prelude.{◌≡◌, ℕ, ◌+◌, ◌-◌, ◌^◌, ◌<◌, ◌≤◌, ◌++◌, List, [], ◌∷◌, length, map, All, Some, slice_get, slice_index_or}
 use Rattle.std.proofs.Common.{zero, suc, refl, sym, ◌∙◌, ap, subst, arith}
 use Rattle.std.proofs.lemmas.List.{get_or_append_left, length-append, length-map, map-append}
 use Rattle.std.proofs.Math.Seq.{get_or-append_seam}
 use Rattle.std.proofs.lemmas.List.Elements.{All-map}
 use Rattle.std.proofs.lemmas.Option.{same_Some, slice_get_within}
-use Rattle.circle_commit.specs.Mmcs.{dimensions_of, greatest, heights, max_height}
-use Rattle.circle_commit.specs.RowMajorMatrix.{height_of, length-rows, rows, width_of}
-use Rattle.circle_commit.specs.declared.matrix.RowMajorMatrix.{RowMajorMatrix}
+use Rattle.circle_matrix.specs.Mmcs.{dimensions_of, greatest, heights, max_height}
+use Rattle.circle_matrix.specs.RowMajorMatrix.{height_of, length-rows, rows}
+use Rattle.circle_matrix.specs.declared.matrix.RowMajorMatrix.{RowMajorMatrix}
 use Rattle.circle_domain.proofs.Powers.{pow_within}
 use Rattle.circle_relation.specs.Accepts.{Fields}
-use Rattle.circle_words.specs.Words.{Committed, HaveHeights, pairs_of}
+use Rattle.circle_words.specs.Words.{Committed, HaveHeights}
 use Rattle.circle_opening.specs.Words.{AreWordsOf, first_fold, heights_of, layer_of, round_word, top_of}
 use Rattle.circle_opening.specs.declared.run.CommittedWords.{CommittedWords}
 use Rattle.circle_opening.proofs.Growing.{length-pairs_of}
-use Rattle.circle_opening.proofs.Lengths.{among, layer-lengths, length-word_at, length-y_folds}
+use Rattle.circle_opening.proofs.Lengths.{layer-lengths, length-word_at, length-y_folds}
 use Rattle.circle_opening.proofs.Tops.{all-low, heights-end, lower, top-known}
 
 rows-listed : {E : Type 0} (ms : List (RowMajorMatrix E)) → map (λ rs. length rs) (map rows ms) ≡ map height_of ms

@@ -1,7 +1,7 @@
 -- The binary logarithms of powers of two.
 use Rattle.std.specs.Prelude.{◌≡◌, ℕ, ◌+◌, ◌-◌, ◌^◌, ◌<◌, ◌≤◌, List, ◌∷◌, length, nat_le, min}
 use Rattle.std.specs.List.{filter, range_with_len}
-use Rattle.std.proofs.Common.{zero, suc, refl, ◌∙◌, ap, arith, ⊎_elim, cond}
+use Rattle.std.proofs.Common.{zero, suc, ap, arith, ⊎_elim, cond}
 use Rattle.std.proofs.Math.Nat.{pow-suc}
 use Rattle.std.proofs.lemmas.Bool.{le-leb, lt-leb, cases_lt}
 use Rattle.std.proofs.lemmas.Nat.{pow_pos}

@@ -1,9 +1,9 @@
 -- Where a run comes to a proof of work that no witness passes.
 use Rattle.std.specs.Prelude.{◌≡◌, Ok, Result}
-use Rattle.std.proofs.Common.{List, refl, sym, ap, ◌∙◌, subst}
+use Rattle.std.proofs.Common.{List, sym, ap, ◌∙◌, subst}
 use Rattle.circle_challenger.specs.Moves.{RunMoves, after_element}
-use Rattle.circle_commit.specs.declared.params.PowPhase.{PowPhase}
-use Rattle.circle_commit.specs.declared.params.PowPhase.TheVariants.{CommitPhase, Query}
+use Rattle.circle_matrix.specs.declared.params.PowPhase.{PowPhase}
+use Rattle.circle_matrix.specs.declared.params.PowPhase.TheVariants.{CommitPhase, Query}
 use Rattle.circle_transcript.specs.Draw.{Claim, Taken, after_final_poly, closed, Drawn, draw, draw_seeded, layered}
 use Rattle.circle_runs.specs.Runs.{NonePasses, drawn_of}
 use Rattle.circle_runs.specs.declared.run.CircleDraws.{CircleDraws}

@@ -1,6 +1,6 @@
 -- The heights of committed matrices, and the greatest of them.
 use Rattle.std.specs.Prelude.{◌≡◌, ℕ, ◌+◌, ◌-◌, ◌<◌, ◌≤◌, ◌==◌, ◌||◌, max, Bool, true, false, List, [], ◌∷◌, ◌++◌, length, map, take, All, slice_index_or}
-use Rattle.std.specs.List.{Any, AllByRecursion, filter, list_any, range_with_len}
+use Rattle.std.specs.List.{AllByRecursion, filter, list_any, range_with_len}
 use Rattle.std.proofs.Common.{zero, suc, refl, sym, ◌∙◌, ap, subst, arith, cond, ⊎_elim}
 use Rattle.std.proofs.Math.Seq.{take-append_seam}
 use Rattle.std.proofs.lemmas.Bool.{cases_lt, eq-eqb, eqb-true, ne_eqb}
@@ -8,12 +8,12 @@ use Rattle.std.proofs.lemmas.List.{length-append, length-map, get_or-map, map-ap
 use Rattle.std.proofs.lemmas.List.Elements.{All-from_recursion}
 use Rattle.std.proofs.lemmas.List.Folds.{list_any-append, list_any_at, Any-from_list_any}
 use Rattle.std.proofs.lemmas.List.FromFn.{filter_of_map_range_with_len_more}
-use Rattle.circle_commit.specs.Mmcs.{greatest}
-use Rattle.circle_commit.specs.DotProduct.{pairwise}
+use Rattle.circle_matrix.specs.Mmcs.{greatest}
+use Rattle.circle_matrix.specs.DotProduct.{pairwise}
 use Rattle.circle_relation.specs.Accepts.{Fields}
 use Rattle.circle_folding.specs.Fold.{x_folds}
 use Rattle.circle_words.specs.Words.{Committed, next_word, pairs_of}
-use Rattle.circle_commit.specs.declared.matrix.RowMajorMatrix.{RowMajorMatrix}
+use Rattle.circle_matrix.specs.declared.matrix.RowMajorMatrix.{RowMajorMatrix}
 use Rattle.circle_opening.specs.Words.{AreCommitted, AreRounds, heights_of, top_of, word_at}
 
 -- the greatest of numbers is one of them

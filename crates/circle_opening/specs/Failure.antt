@@ -2,11 +2,11 @@
 use Rattle.std.specs.Prelude.{◌≡◌, ℕ, ◌⊎◌, List, IsTrue, map, true}
 use Rattle.std.specs.Borrow.{Bor}
 use Rattle.circle_challenger.specs.Moves.{RunMoves, is_passed, after_element}
-use Rattle.circle_commit.specs.declared.params.PowPhase.{PowPhase}
-use Rattle.circle_commit.specs.declared.params.PowPhase.TheVariants.{Batch, CommitPhase, Query}
-use Rattle.circle_commit.specs.declared.params.FriParameters.{FriParameters}
+use Rattle.circle_matrix.specs.declared.params.PowPhase.{PowPhase}
+use Rattle.circle_matrix.specs.declared.params.PowPhase.TheVariants.{Batch, CommitPhase, Query}
+use Rattle.circle_matrix.specs.declared.params.FriParameters.{FriParameters}
 use Rattle.circle_field.specs.Field.{FieldOps}
-use Rattle.circle_opening.specs.Taken.{claims_taken, shape_by}
+use Rattle.circle_relation.specs.Taken.{claims_taken, shape_by}
 use Rattle.circle_opening.specs.Words.{EndsHigh}
 use Rattle.circle_opening.specs.declared.error.ProverError.{ProverError}
 use Rattle.circle_opening.specs.declared.error.ProverError.TheVariants.{Memory, LastWordNotConstant}

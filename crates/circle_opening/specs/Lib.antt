@@ -1,6 +1,5 @@
 pub mod Words
 pub mod Openings
-pub mod Taken
 pub mod Requests
 pub mod Opening
 pub mod Failure

@@ -3,10 +3,10 @@ use Rattle.std.specs.Prelude.{◌≡◌, ℕ, ◌+◌, ◌-◌, ◌⊎◌, List,
 use Rattle.std.specs.Prelude.{Some, slice_get, Ok}
 use Rattle.std.specs.List.{AllZip}
 use Rattle.circle_challenger.specs.Moves.{RunMoves}
-use Rattle.circle_commit.specs.Pcs.{Openings}
-use Rattle.circle_commit.specs.declared.matrix.RowMajorMatrix.{RowMajorMatrix}
-use Rattle.circle_commit.specs.declared.params.FriParameters.{FriParameters}
-use Rattle.circle_commit.specs.declared.pcs.OpeningRequest.{OpeningRequest}
+use Rattle.circle_matrix.specs.Pcs.{Openings}
+use Rattle.circle_matrix.specs.declared.matrix.RowMajorMatrix.{RowMajorMatrix}
+use Rattle.circle_matrix.specs.declared.params.FriParameters.{FriParameters}
+use Rattle.circle_matrix.specs.declared.pcs.OpeningRequest.{OpeningRequest}
 use Rattle.circle_field.specs.Field.{FieldOps}
 use Rattle.circle_domain.specs.Spans.{HasXValues}
 use Rattle.circle_relation.specs.Accepts.{Authenticates, Fields}
@@ -17,13 +17,12 @@ use Rattle.circle_opening.specs.Failure.{IsStuckFrom, IsTooHigh}
 use Rattle.circle_opening.specs.declared.error.ProverError.{ProverError}
 use Rattle.circle_opening.specs.declared.error.ProverError.TheVariants.{Memory}
 use Rattle.circle_transcript.specs.Draw.{draw}
-use Rattle.circle_runs.specs.declared.run.CircleDraws.{CircleDraws}
 use Rattle.circle_runs.specs.declared.run.CircleWitnesses.{CircleWitnesses}
 use Rattle.circle_words.specs.Words.{Committed, lambda, pairs_of}
 use Rattle.circle_opening.specs.Openings.{OpensSiblings}
 use Rattle.circle_opening.specs.Requests.{AreAnswers, HasBatchRows, OpensBatches, all_committed}
 use Rattle.circle_opening.specs.Requests.{claimed_batch}
-use Rattle.circle_opening.specs.Taken.{drawn_by, shape_by, taken_by}
+use Rattle.circle_relation.specs.Taken.{challenges_of, drawn_by, shape_by, taken_by}
 use Rattle.circle_opening.specs.Words.{AreCommitted, AreMade, heights_of, layer_of, round_word}
 use Rattle.circle_opening.specs.Words.{top_of}
 use Rattle.circle_opening.specs.declared.run.CommittedWords.{CommittedWords}
@@ -109,15 +108,6 @@ module _ {D F E M : Type 0} (p : FriParameters M) (kept : D → List (RowMajorMa
       pub inputs :
           AllZip (HasBatchRows kept Commits authenticates (top_of answered_matrices)
           drawn.queries) requests proof.inputs
-
--- the challenges of a draw
-abbrev pub challenges_of : {E : Type 0} → CircleDraws E → Challenges E
-challenges_of d = record {
-  alpha = d.alpha;
-  bivariate = d.bivariate;
-  betas = d.betas.items;
-  queries = d.indices.items;
-}
 
 -- why requests are not opened: memory was refused; or with the values that they ask for the last
 -- word is of too high degree, or no witness passes where a run over their claims looks for one

@@ -3,10 +3,10 @@
 ghost use Rattle.std.specs.Prelude.{◌≡◌, ◌<◌, ◌≤◌, ◌++◌, All, IfOk, OnOk};
 ghost use Rattle.std.specs.Prelude.{length, map, zip, flat_map};
 ghost use Rattle.std.specs.List.{AllZip};
-ghost use Rattle.circle_commit.specs.Mmcs.{opened_rows};
-ghost use Rattle.circle_commit.specs.Pcs.{openings};
-ghost use Rattle.circle_commit.specs.RowMajorMatrix.{height_of, width_of};
-ghost use Rattle.circle_commit.specs.DotProduct.{pairwise};
+ghost use Rattle.circle_matrix.specs.Mmcs.{opened_rows};
+ghost use Rattle.circle_matrix.specs.Pcs.{openings};
+ghost use Rattle.circle_matrix.specs.RowMajorMatrix.{height_of, width_of};
+ghost use Rattle.circle_matrix.specs.DotProduct.{pairwise};
 ghost use Rattle.circle_domain.specs.Selectors.{IsFinite};
 ghost use Rattle.circle_transcript.specs.Claims.{claims_of};
 ghost use Rattle.circle_transcript.specs.ShapeOf.{batches_of, matrices_of};
@@ -15,13 +15,13 @@ ghost use Rattle.circle_opening.specs.Requests.{AreAnswers, IsFit, IsOpenable};
 ghost use Rattle.circle_opening.specs.Requests.{IsReady};
 ghost use Rattle.circle_opening.specs.Requests.{AreBatchValues, all_committed, lists_of};
 ghost use Rattle.circle_opening.specs.Requests.{with_batch};
-ghost use Rattle.circle_opening.specs.Taken.{point_taken};
+ghost use Rattle.circle_relation.specs.Taken.{point_taken};
 
-use circle_commit::{
+use circle_field::{ComplexExtendable, ExtensionField, Field};
+use circle_matrix::{
     Matrix, Mmcs, OpenedValuesForMatrix, OpenedValuesForRound, OpeningRequest, RowMajorMatrix,
     log2_strict,
 };
-use circle_field::{ComplexExtendable, ExtensionField, Field};
 use circle_point::Point;
 use circle_relation::OverCircle;
 use circle_transcript::OpeningClaim;
@@ -102,7 +102,7 @@ pub(crate) fn above_widths<F: Copy, EF>(matrices: &[OpenedMatrix<F, EF>]) -> usi
 }
 
 // Adds the claims on a matrix.
-fn push_claims<'a, EF: Field>(
+fn append_claims<'a, EF: Field>(
     claims: &mut Vec<OpeningClaim<'a, EF>>,
     points: &[EF],
     values: &'a [Vec<EF>],
@@ -130,7 +130,7 @@ pub(crate) fn opened_claims<'a, F: Copy, EF: Field>(
 {
     let mut claims = Vec::new(alloc);
     for matrix in matrices {
-        push_claims(&mut claims, matrix.points, matrix.values)?;
+        append_claims(&mut claims, matrix.points, matrix.values)?;
     }
     Ok(claims)
 }

@@ -3,7 +3,7 @@ ghost use Rattle.std.specs.Prelude.{◌≡◌};
 ghost use Rattle.circle_opening.specs.Failure.{prover_error};
 ghost use Rattle.circle_opening.specs.declared.error.ProverError.TheVariants.{Memory};
 
-use circle_commit::PowPhase;
+use circle_matrix::PowPhase;
 use circle_transcript::CircleTranscriptFailure;
 use std::alloc::AllocError;
 use thiserror::Error;

@@ -5,8 +5,8 @@
 
 mod claims;
 pub mod error;
+mod first_layer;
 mod heights;
-mod layers;
 mod openings;
 pub mod prove;
 mod rounds;

@@ -2,24 +2,17 @@
 ghost use Rattle.std.specs.Prelude.{◌≡◌, ℕ, ◌≤◌, ◌<◌, ◌-◌, ◌+◌, ◌*◌, ◌^◌, [], ◌∷◌, length, map};
 ghost use Rattle.std.specs.Prelude.{All, Some};
 ghost use Rattle.std.specs.Prelude.{IfOk, slice_get};
-ghost use Rattle.circle_commit.specs.Mmcs.{HaveHeightsOfPowers, max_height, opened_rows};
-ghost use Rattle.circle_commit.specs.DotProduct.{pairwise};
+ghost use Rattle.circle_matrix.specs.Mmcs.{HaveHeightsOfPowers, max_height, opened_rows};
+ghost use Rattle.circle_matrix.specs.DotProduct.{pairwise};
 ghost use Rattle.circle_words.specs.Words.{HaveHeights};
 ghost use Rattle.circle_opening.specs.Openings.{AreOpenedRounds, AreOpenedSiblings, OpensRows};
 ghost use Rattle.circle_opening.specs.Openings.{places_of, siblings_at};
 
-use circle_commit::{Mmcs, OpenedRows};
 use circle_field::Field;
+use circle_folding::without_bits;
+use circle_matrix::{Mmcs, OpenedRows};
 use circle_relation::CircleCommitPhaseMultiStep;
 use std::alloc::{AllocError, Global};
-
-// The queries without so many of their lowest bits.
-fn shifted(alloc: Global, indices: &[usize], bits: usize) -> Result<Vec<usize>, AllocError>
-    requires { bits ≤ 62 }
-    ensures { IfOk result (λ places. places.items ≡ places_of bits indices.now) }
-{
-    indices.iter().map(|index| *index >> bits).collect(alloc)
-}
 
 /// The rows of committed matrices at the queries without so many of their lowest bits, with a proof
 /// that they are theirs.
@@ -40,7 +33,7 @@ pub(crate) fn open_rows<T: Copy, M: Mmcs<T>>(
     ensures { IfOk result (λ r. OpensRows (M.commits mmcs.now) (M.authenticates mmcs.now)
         (M.matrices kept.now) (places_of bits indices.now) (opened_rows r.0.items) r.1) }
 {
-    let places = shifted(alloc, indices, bits)?;
+    let places = without_bits(alloc, indices, bits)?;
     mmcs.open_multi_batch(alloc, &places, kept)
 }
 

@@ -1,7 +1,7 @@
 //! The opening of requested matrices: their values, and the proof.
 ghost use Rattle.std.specs.Prelude.{◌≡◌, List, ◌≤◌, ◌<◌, ◌-◌, ◌+◌, ◌^◌, length, All, IfOk, IfErr};
 ghost use Rattle.std.specs.Prelude.{Ok};
-ghost use Rattle.circle_commit.specs.Pcs.{openings};
+ghost use Rattle.circle_matrix.specs.Pcs.{openings};
 ghost use Rattle.circle_relation.specs.Statement.{BatchClaim};
 ghost use Rattle.circle_relation.specs.RunOf.{proof_of};
 ghost use Rattle.circle_opening.specs.Opening.{AreEasy, HoldsBatches, HoldsMade};
@@ -9,7 +9,7 @@ ghost use Rattle.circle_opening.specs.Requests.{AreAnswered, AreFit, AreHeights,
 ghost use Rattle.circle_opening.specs.Requests.{OpensBatches};
 ghost use Rattle.circle_opening.specs.Schemes.{AreWordsFor, IsFailureFrom, IsNotPlayed};
 ghost use Rattle.circle_opening.specs.Schemes.{IsOpeningBy, IsPlayed};
-ghost use Rattle.circle_opening.specs.Taken.{claims_taken, taken_by};
+ghost use Rattle.circle_relation.specs.Taken.{claims_taken, taken_by};
 ghost use Rattle.circle_opening.specs.Words.{AreSomeWords, taken_in};
 
 use crate::claims::{above_widths, opened_claims, opened_matrices, opened_widths};
@@ -20,12 +20,12 @@ use crate::run::{CommittedWords, open_words};
 use crate::schemes::OpeningOver;
 use crate::values::requested_values;
 use circle_challenger::{CanObserve, CanSample, GrindingChallenger};
-use circle_commit::{
+use circle_field::{ComplexExtendable, ExtensionField, Field};
+use circle_folding::CircleFriFolding;
+use circle_matrix::{
     BatchMultiOpening, FriFoldingStrategy, FriParameters, Mmcs, OpenedValues, OpenedValuesForRound,
     OpeningRequest, log2_strict,
 };
-use circle_field::{ComplexExtendable, ExtensionField, Field};
-use circle_folding::CircleFriFolding;
 use circle_relation::{CircleFriProof, CircleInputProof, CirclePcsProof, OverCircle};
 use circle_transcript::CirclePcsShape;
 use std::alloc::{AllocError, Global};

@@ -14,8 +14,8 @@ ghost use Rattle.circle_opening.specs.Words.{EndsIn, Follows};
 
 use crate::error::ProverError;
 use circle_challenger::{CanObserve, CanSample, GrindingChallenger, RunChallenger};
-use circle_commit::{Mmcs, RowMajorMatrix};
 use circle_field::{ComplexExtendable, ExtensionField, Field};
+use circle_matrix::{Mmcs, RowMajorMatrix};
 use circle_relation::OverCircle;
 use circle_transcript::CircleProverTranscript;
 use circle_words::fold_round;

@@ -1,14 +1,15 @@
-//! Tests of `CirclePcs::open`, and of `verify` after it, by their public calls. They stand here so
-//! that the crates themselves are proved once.
+//! Tests of `CirclePcs::open` and of `verify` after it: beside an opening by the plain definitions,
+//! on domains that are not standard, and what is refused. They stand here so that the crates
+//! themselves are proved once.
 #![tactic(auto)]
 
 #[cfg(test)]
 mod accepted;
 #[cfg(test)]
-mod damaged;
+mod plain;
 #[cfg(test)]
 mod refusals;
 #[cfg(test)]
-mod stored;
-#[cfg(test)]
 mod stubborn;
+#[cfg(test)]
+mod trusting;

@@ -5,10 +5,7 @@ use circle_commit::{OpeningRequest, PowPhase, heights_are_powers_of_two};
 use circle_field::{ExtensionField, Field, Mersenne31};
 use circle_fixtures::quadratic::Quadratic;
 use circle_fixtures::schemes::ListMmcs;
-use circle_statements::batches::{
-    Batch, Domain, Rows, commit_one, cubic, first_coordinate, one, rows, scattered,
-    scattered_batch, sevens,
-};
+use circle_statements::batches::{Batch, Domain, Rows, cubic, one, rows, scattered_batch, sevens};
 use circle_statements::openings::{open, open_at};
 use circle_statements::parameters::{Data, Numbers, SMALL, Scheme, Trees, parameters, scheme};
 use p3_circle::{CirclePcs, ProverError};
@@ -43,51 +40,9 @@ fn assert_refused(
     assert_eq!(rt; challenger, Sha256Challenger::new());
 }
 
-// Blowups, numbers of queries, folds and difficulties of which one is not supported.
-const UNFIT: [(usize, usize, usize, [usize; 3]); 7] = [
-    (1, 0, 1, [0; 3]),
-    (0, 2, 1, [0; 3]),
-    (1, 2, 2, [0; 3]),
-    (1, 2, 0, [0; 3]),
-    (1, 2, 1, [31, 0, 0]),
-    (1, 2, 1, [0, 31, 0]),
-    (1, 2, 1, [0, 0, 31]),
-];
-
-#[test]
-fn parameters_that_are_not_supported(rt: HostRuntime) -> Result<(), Fail> {
-    let alloc = rt.alloc();
-    let refused = ProverError::UnfitParameters;
-    for (log_blowup, num_queries, max_log_arity, work) in UNFIT {
-        let mut unfit = scheme(Numbers {
-            log_blowup,
-            log_final_poly_len: 0,
-            num_queries,
-            work,
-        });
-        unfit.fri_params.max_log_arity = max_log_arity;
-        assert_refused(&rt, alloc, &unfit, &[], refused);
-    }
-    let no_queries = Numbers {
-        num_queries: 0,
-        ..SMALL
-    };
-    let four = [sevens(alloc, &scheme(SMALL))?];
-    assert_refused(&rt, alloc, &scheme(no_queries), &four, refused);
-    Ok(())
-}
-
 // The small numbers with other difficulties.
 fn of_work(work: [usize; 3]) -> Numbers {
     Numbers { work, ..SMALL }
-}
-
-#[test]
-fn nothing_to_open(rt: HostRuntime) {
-    let nothing = ProverError::NoCommittedMatrices;
-    for numbers in [SMALL, of_work([30, 30, 30])] {
-        assert_refused(&rt, rt.alloc(), &scheme(numbers), &[], nothing);
-    }
 }
 
 // Two matrices with points for the first alone.
@@ -119,42 +74,6 @@ fn other_numbers_of_lists_of_points(rt: HostRuntime) -> Result<(), Fail> {
     for numbers in [SMALL, high_blowup] {
         assert_refused(&rt, alloc, &scheme(numbers), &batches, other);
     }
-    Ok(())
-}
-
-// A column of four rows that is opened on its domain.
-fn on_its_domain(alloc: Global, scheme: &Scheme) -> Result<Batch, Fail> {
-    let at = [first_coordinate(3)?];
-    let column = scattered(alloc, 2, 1, 5)?;
-    commit_one(alloc, scheme, Domain::standard(2), column, &at)
-}
-
-#[test]
-fn matrices_of_too_few_rows(rt: HostRuntime) -> Result<(), Fail> {
-    let alloc = rt.alloc();
-    let small = scheme(SMALL);
-    let tall = scattered_batch(alloc, &small, &[(5, 1, 1)], 6)?;
-    let batches = [tall, on_its_domain(alloc, &small)?];
-    for (log_blowup, log_final_poly_len) in [(2, 0), (1, 1), (1, usize::MAX), (usize::MAX, 0)] {
-        let changed = scheme(Numbers {
-            log_blowup,
-            log_final_poly_len,
-            ..SMALL
-        });
-        assert_refused(&rt, alloc, &changed, &batches, ProverError::HeightTooSmall);
-    }
-    assert_refused(&rt, alloc, &small, &batches, ProverError::PointOnDomain);
-    Ok(())
-}
-
-#[test]
-fn points_of_the_committed_domain(rt: HostRuntime) -> Result<(), Fail> {
-    let alloc = rt.alloc();
-    let small = scheme(SMALL);
-    let mut columns = scattered_batch(alloc, &small, &[(2, 1, 1), (4, 1, 1)], 7)?;
-    let tall_points = columns.points.last_mut().ok_or("the points")?;
-    tall_points.push(first_coordinate(5)?)?;
-    assert_refused(&rt, alloc, &small, &[columns], ProverError::PointOnDomain);
     Ok(())
 }
 

@@ -4,7 +4,7 @@ use Rattle.std.specs.List.{AllZip}
 use Rattle.std.specs.declared.alloc.Global.{Global}
 use Rattle.std.proofs.Common.{zero, suc, refl, sym, ◌∙◌, ap, arith}
 use Rattle.std.proofs.lemmas.List.{length-map, map-append, map-id, map_more}
-use Rattle.circle_commit.specs.Mmcs.{opened_rows}
+use Rattle.circle_matrix.specs.Mmcs.{opened_rows}
 
 -- one more item that is pushed: by h the made items are what by g the items of a list are
 pub mapped-more : {A B D : Type 0} (g : A → D) (h : B → D) (xs : List A) (i n : ℕ) (x : A) (old new : List B) (w : B) → n ≡ i + 1 →

@@ -6,11 +6,11 @@ use Rattle.std.specs.declared.alloc.Global.{Global}
 use Rattle.std.proofs.Common.{refl, sym, ◌∙◌, ap, subst, arith, Ok, Err}
 use Rattle.std.proofs.lemmas.List.{length-append, length-map}
 use Rattle.std.proofs.lemmas.List.Elements.{All-cons, All-head, All-nil, All-tail}
-use Rattle.circle_commit.specs.Mmcs.{opened_rows}
-use Rattle.circle_commit.specs.Pcs.{Openings, openings}
-use Rattle.circle_commit.specs.declared.pcs.CommitmentOpening.{CommitmentOpening}
-use Rattle.circle_commit.specs.declared.pcs.MatrixOpening.{MatrixOpening}
-use Rattle.circle_commit.specs.declared.pcs.OpeningRequest.{OpeningRequest}
+use Rattle.circle_matrix.specs.Mmcs.{opened_rows}
+use Rattle.circle_matrix.specs.Pcs.{Openings, openings}
+use Rattle.circle_matrix.specs.declared.pcs.CommitmentOpening.{CommitmentOpening}
+use Rattle.circle_matrix.specs.declared.pcs.MatrixOpening.{MatrixOpening}
+use Rattle.circle_matrix.specs.declared.pcs.OpeningRequest.{OpeningRequest}
 use Rattle.circle_pcs.specs.Honest.{AreAnsweredBy, AreClaimedOf, AreHonest, FindsFor, HaveValues, IsAnsweredBy, IsHonest, requested_points}
 use Rattle.circle_pcs.specs.Kept.{AreKept}
 

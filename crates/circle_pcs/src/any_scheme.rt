@@ -2,16 +2,16 @@
 ghost use Rattle.std.specs.Prelude.{◌≡◌, ◌≤◌, [], ◌∷◌, false, All, IfOk, IfSome, IsSome, OnOk};
 ghost use Rattle.std.specs.Prelude.{length, map};
 ghost use Rattle.std.specs.List.{AllZip};
-ghost use Rattle.circle_commit.specs.Mmcs.{opened_rows};
+ghost use Rattle.circle_matrix.specs.Mmcs.{opened_rows};
 ghost use Rattle.circle_pcs.specs.Honest.{OpensFrom, lists};
 
 use crate::scheme::Pcs;
 use circle_challenger::ChallengerState;
-use circle_commit::{
+use circle_field::ExtensionField;
+use circle_matrix::{
     CommitmentOpening, MatrixOpening, OpenedValuesForMatrix, OpenedValuesForRound, OpeningRequest,
     PointOpening, PolynomialSpace, RowMajorMatrix,
 };
-use circle_field::ExtensionField;
 use std::alloc::{AllocError, Global};
 
 /// Commits to a batch, opens it at points, for each matrix its own, and verifies what is answered,

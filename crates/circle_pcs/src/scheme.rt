@@ -1,19 +1,19 @@
 //! The trait of schemes.
 ghost use Rattle.std.specs.Prelude.{◌≡◌, ℕ, List, Bool, IfOk, IfErr, OnOk, IsTrue};
-ghost use Rattle.circle_commit.specs.Pcs.{Openings, openings};
-ghost use Rattle.circle_commit.specs.declared.matrix.RowMajorMatrix.{RowMajorMatrix};
-ghost use Rattle.circle_commit.specs.declared.pcs.CommitmentOpening.{CommitmentOpening};
-ghost use Rattle.circle_commit.specs.declared.pcs.OpeningRequest.{OpeningRequest};
+ghost use Rattle.circle_matrix.specs.Pcs.{Openings, openings};
+ghost use Rattle.circle_matrix.specs.declared.matrix.RowMajorMatrix.{RowMajorMatrix};
+ghost use Rattle.circle_matrix.specs.declared.pcs.CommitmentOpening.{CommitmentOpening};
+ghost use Rattle.circle_matrix.specs.declared.pcs.OpeningRequest.{OpeningRequest};
 ghost use Rattle.std.specs.List.{AllZip};
 ghost use Rattle.circle_pcs.specs.Honest.{AreAnsweredBy, AreHonest, HaveValues};
 ghost use Rattle.circle_pcs.specs.Honest.{requested_points};
 ghost use Rattle.circle_pcs.specs.Kept.{AreKept};
 
 use circle_challenger::ChallengerState;
-use circle_commit::{
+use circle_field::ExtensionField;
+use circle_matrix::{
     CommitmentOpening, OpenedValues, OpeningRequest, PolynomialSpace, RowMajorMatrix,
 };
-use circle_field::ExtensionField;
 use std::alloc::Global;
 use std::fmt::Debug;
 

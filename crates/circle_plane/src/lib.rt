@@ -22,6 +22,8 @@
 //!   values at the points of the extension in natural order, in as many rows as differ (`table`,
 //!   by `IsPeriodicTable`), and each refusal is the first whose condition holds (`refusal`, by
 //!   `IsRefusal`). `eval_at_point` answers the columns' values at a point (`values`).
+//! - Multiples of points, values by the halves of the coefficients, and that values on a genuine
+//!   domain tell them, by calls that answer nothing (`laws`).
 #![tactic(auto)]
 
 pub mod cfft;
@@ -30,7 +32,7 @@ pub mod periodic;
 pub use cfft::{CircleEvaluations, circle_basis};
 pub use circle_domain::{
     CfftPerm, CfftPermutable, CfftView, CircleCoset, CircleDomain, CirclePoints,
-    cfft_permute_index, x_twiddles, y_twiddles,
+    cfft_permute_index, laws, x_twiddles, y_twiddles,
 };
 pub use circle_point::{Neutral, Point};
 pub use circle_transform::Butterflies;

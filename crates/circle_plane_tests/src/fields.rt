@@ -1,16 +1,10 @@
-//! Inverses, powers and products in Mersenne31, its cubic and its quadratic extension.
-use circle_field::{Cubic, ExtensionField, Field, Mersenne31, batch_multiplicative_inverse};
+//! Inverses together, and operations of the quadratic extension.
+use circle_field::{ExtensionField, Field, Mersenne31, batch_multiplicative_inverse};
 use circle_fixtures::quadratic::Quadratic;
-use std::alloc::{AllocError, Global};
-use std::process::Abort;
+use std::alloc::AllocError;
 
 fn element(value: u64) -> Mersenne31 {
     Mersenne31::from_u64(value)
-}
-
-// The polynomial with these coefficients.
-fn cubic(c0: u64, c1: u64, c2: u64) -> Cubic {
-    Cubic::from_coefficients(&[element(c0), element(c1), element(c2)])
 }
 
 // The polynomial with these coefficients.
@@ -28,30 +22,17 @@ fn inverses_together(rt: HostRuntime) -> Result<(), AllocError> {
     Ok(())
 }
 
-// Asserts that these are the first powers of an element.
-fn assert_powers<F: Field>(
-    rt: &impl Abort,
-    alloc: Global,
-    element: F,
-    expected: &[F],
-) -> Result<(), AllocError> {
-    let powers = F::powers(alloc, element, expected.len())?;
-    assert_eq!(rt; powers.as_slice(), expected);
-    Ok(())
-}
-
 #[test]
 fn powers(rt: HostRuntime) -> Result<(), AllocError> {
-    let powers = [element(1), element(3), element(9), element(27)];
-    assert_powers(&rt, rt.alloc(), element(3), &powers)?;
-    assert_powers(&rt, rt.alloc(), element(3), &[])?;
-    let powers = [
+    let expected = [
         quadratic(1, 0),
         quadratic(0, 1),
         quadratic(2147483646, 0),
         quadratic(0, 2147483646),
     ];
-    assert_powers(&rt, rt.alloc(), quadratic(0, 1), &powers)
+    let powers = Quadratic::powers(rt.alloc(), quadratic(0, 1), 4)?;
+    assert_eq!(rt; powers.as_slice(), expected.as_slice());
+    Ok(())
 }
 
 #[test]
@@ -89,12 +70,4 @@ fn quadratic_coefficients(rt: HostRuntime) {
     let (c0, c1): (Mersenne31, Mersenne31) = (a.coefficient(0), a.coefficient(1));
     assert_eq!(rt; (c0.value(), c1.value()), (7, 8));
     assert_eq!(rt; Quadratic::from_base(Mersenne31::ONE), Quadratic::ONE);
-}
-
-#[test]
-fn cubic_products(rt: HostRuntime) {
-    assert_eq!(rt; cubic(0, 1, 0) * cubic(0, 0, 1), cubic(5, 0, 0));
-    let inverse = cubic(0, 0, 858993459);
-    assert_eq!(rt; cubic(0, 1, 0).try_inverse(), Some(inverse));
-    assert_eq!(rt; Cubic::ZERO.try_inverse(), None);
 }

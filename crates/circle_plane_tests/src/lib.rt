@@ -1,5 +1,6 @@
-//! Worked examples of fields, points, domains and an opening's words, with expected values from
-//! outside, and the words beside quotients, lambdas and folds one by one.
+//! Tests of fields, points, domains, the transform, values off a domain, periodic columns and folds
+//! that no case of `circle_cases` can tell: those over the quadratic extension, those beside a plain
+//! form, and those whose conditions take a proof.
 #![tactic(auto)]
 
 #[cfg(test)]
@@ -9,6 +10,14 @@ mod extensions;
 #[cfg(test)]
 mod fields;
 #[cfg(test)]
+mod folding;
+#[cfg(test)]
+mod off_domain;
+#[cfg(test)]
+mod periodic;
+#[cfg(test)]
 mod points;
 #[cfg(test)]
-mod words;
+mod selectors;
+#[cfg(test)]
+mod transform;

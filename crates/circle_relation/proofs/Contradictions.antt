@@ -1,13 +1,14 @@
 -- Where the relation holds there is no reason for a refusal but want of memory.
 use Rattle.std.specs.Prelude.{◌≡◌, Bool, ℕ, ◌+◌, ◌<◌, ◌≤◌, List, [], ◌∷◌, ◌++◌, length, flat_map, All, slice_get, slice_index_or, Some}
 use Rattle.std.proofs.Common.{zero, suc, refl, ap, subst, arith}
-use Rattle.std.proofs.lemmas.List.Elements.{All-head, All-tail}
+use Rattle.std.proofs.lemmas.List.Elements.{All-append, All-head, All-nil, All-tail}
 use Rattle.std.proofs.lemmas.Option.{slice_get_within, get_or_from_slice_get}
-use Rattle.circle_commit.specs.declared.error.FriError.{FriError}
-use Rattle.circle_commit.specs.declared.error.FriError.TheVariants.{InputError as OfInput, FinalPolyMismatch, UnconsumedReducedOpenings, CommitPhaseMmcsError, Memory}
+use Rattle.circle_matrix.specs.declared.error.FriError.{FriError}
+use Rattle.circle_matrix.specs.declared.error.FriError.TheVariants.{InputError as OfInput, FinalPolyMismatch, UnconsumedReducedOpenings, CommitPhaseMmcsError, Memory}
+use Rattle.circle_matrix.specs.declared.params.FriParameters.{FriParameters}
 use Rattle.circle_relation.specs.declared.error.InputError.{InputError}
 use Rattle.circle_relation.specs.declared.error.InputError.TheVariants.{InputMmcsError, FirstLayerMmcsError, InputShapeError, OpeningPointMatchesQueryPoint, MatrixWithoutOpeningPoints}
-use Rattle.circle_relation.specs.Accepts.{Setting, Run, Authenticates, HasInputs, HoldsWith, matrices}
+use Rattle.circle_relation.specs.Accepts.{Fields, Run, Authenticates, HasInputs, HoldsWith, matrices}
 use Rattle.circle_relation.specs.Reasons.{IsReason, IsUnclaimed, IsLeftOver}
 
 -- what holds of all entries holds of the one at an index
@@ -30,22 +31,27 @@ All-part P f (y ∷ xs) zero x all at =
     subst (λ z. All P (f z)) (get_or_from_slice_get (y ∷ xs) zero x x at) (All-front P (f y) (flat_map f xs) all)
 All-part P f (y ∷ xs) (suc i) x all at = All-part P f xs i x (All-back P (f y) (flat_map f xs) all) at
 
-module _ {F E Com InputCom InputProof WordProof : Type 0} (s : Setting F E) (r : Run F E Com InputCom InputProof WordProof) where
-  unclaimed-not : (batch matrix : ℕ) → IsUnclaimed s r batch matrix → All (λ m. 1 ≤ length m.claims) (matrices s r) → ⊥
+-- what holds of the entries of each list holds of those of all
+pub All-flat : {S T : Type 0} (P : T → Type 0) (f : S → List T) (xs : List S) → All (λ x. All P (f x)) xs → All P (flat_map f xs)
+All-flat P f [] all = All-nil P
+All-flat P f (x ∷ xs) all = All-append P (f x) (flat_map f xs) (All-head (λ x. All P (f x)) x xs all) (All-flat P f xs (All-tail (λ x. All P (f x)) x xs all))
+
+module _ {F E M Com InputCom InputProof WordProof : Type 0} (fields : Fields F E) (params : FriParameters M) (r : Run F E Com InputCom InputProof WordProof) where
+  unclaimed-not : (batch matrix : ℕ) → IsUnclaimed fields params r batch matrix → All (λ m. 1 ≤ length m.claims) (matrices fields params r) → ⊥
   unclaimed-not batch matrix u claimed =
       let of_batch = All-part (λ m. 1 ≤ length m.claims) (λ b. b.matrices) r.batches batch u.of claimed u.there in
       let here = All-at (λ m. 1 ≤ length m.claims) u.of.matrices matrix u.claim of_batch u.here in
       omega (arith, here, ap length u.none)
 
-  left_over-not : (next remaining : ℕ) → IsLeftOver s r next remaining → All (λ m. s.final + 2 ≤ m.log_n) (matrices s r) → ⊥
+  left_over-not : (next remaining : ℕ) → IsLeftOver fields params r next remaining → All (λ m. params.log_final_poly_len + 2 ≤ m.log_n) (matrices fields params r) → ⊥
   left_over-not next remaining o large =
       let here = large o.some.0 o.some.1 o.some.2 in
       let same = ap (λ m. m.log_n) o.some.3 in
       omega (arith, here, same, o.some.4)
 
-  pub only_memory : {IE WE : Type 0} (inputs : Authenticates InputCom F InputProof) (words : Authenticates Com E WordProof) (input_memory : IE → Bool) (word_memory : WE → Bool) (e : FriError WE (InputError IE WE)) → IsReason s r inputs words input_memory word_memory e → HasInputs s r
-      → All (λ m. 1 ≤ length m.claims) (matrices s r) → All (λ m. s.final + 2 ≤ m.log_n) (matrices s r)
-      → HoldsWith s r inputs words → e ≡ Memory
+  pub only_memory : {IE WE : Type 0} (inputs : Authenticates InputCom F InputProof) (words : Authenticates Com E WordProof) (input_memory : IE → Bool) (word_memory : WE → Bool) (e : FriError WE (InputError IE WE)) → IsReason fields params r inputs words input_memory word_memory e → HasInputs fields params r
+      → All (λ m. 1 ≤ length m.claims) (matrices fields params r) → All (λ m. params.log_final_poly_len + 2 ≤ m.log_n) (matrices fields params r)
+      → HoldsWith fields params r inputs words → e ≡ Memory
   unfolding IsReason
   only_memory inputs words input_memory word_memory (OfInput InputShapeError) why shape claimed large holds = absurd (why shape)
   only_memory inputs words input_memory word_memory (OfInput (MatrixWithoutOpeningPoints b m)) why shape claimed large holds = absurd (unclaimed-not b m why claimed)

@@ -1,6 +1,6 @@
 -- The members of the objects that proofs and their parts are in JSON, by ascending key.
 use Rattle.std.specs.Prelude.{codes}
-use Rattle.circle_commit.specs.Json.{opening_fields}
+use Rattle.circle_matrix.specs.Json.{opening_fields}
 use Rattle.circle_json.specs.Coefficients.{coefficients_form}
 use Rattle.circle_json.specs.Form.{Form, list_form}
 use Rattle.circle_json.specs.ObjectForm.{object_form}

@@ -1,5 +1,7 @@
 pub mod Statement
+pub mod Sums
 pub mod StatementOf
+pub mod Taken
 pub mod Accepts
 pub mod Reasons
 pub mod RunOf

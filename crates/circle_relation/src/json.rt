@@ -7,11 +7,11 @@ ghost use Rattle.circle_json.specs.Coefficients.{coefficients_form};
 ghost use Rattle.circle_json.specs.Objects.{HasMember, RefusesMember};
 
 use crate::proof::{CircleCommitPhaseMultiStep, CircleFriProof, CircleInputProof, CirclePcsProof};
-use circle_commit::Mmcs;
 use circle_field::Field;
 use circle_json::{
     FlatForm, JsonError, JsonForm, coefficients_from_json, coefficients_to_json, has_keys, member,
 };
+use circle_matrix::Mmcs;
 use serde_json::{Value, json};
 use std::alloc::{AllocError, Global};
 

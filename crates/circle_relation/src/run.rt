@@ -2,9 +2,9 @@
 ghost use Rattle.circle_relation.specs.Accepts.{Fields};
 
 use crate::proof::CirclePcsProof;
-use circle_commit::{CommitmentOpening, FriParameters, Mmcs};
 use circle_domain::CircleDomain;
 use circle_field::{ComplexExtendable, ExtensionField, Field};
+use circle_matrix::{CommitmentOpening, FriParameters, Mmcs};
 use circle_point::Point;
 
 /// What is known to contracts of a field with its circle and of its extension.
@@ -19,8 +19,11 @@ impl<F: ComplexExtendable, EF: ExtensionField<F>> OverCircle<F> for EF {
     ghost fields = { record {
       field = F.ops;
       gen = F.generators;
+      two_adicity = F.CIRCLE_TWO_ADICITY;
+      is_zero = λ w. F.eq w F.ZERO;
       extension = EF.ops;
       embed = EF.embed;
+      same = EF.eq;
     } };
 }
 

@@ -34,12 +34,6 @@ pub fn standard(log_n: usize) -> Result<Domain, Fail> {
     Ok(Domain::standard(log_n))
 }
 
-/// The coordinate of the first point of a standard domain.
-pub fn first_coordinate(log_n: usize) -> Result<Cubic, Fail> {
-    let coordinate = standard(log_n)?.shift().to_projective_line();
-    Ok(Cubic::from_base(coordinate.ok_or("the half turn")?))
-}
-
 // The matrix of these entries.
 fn of_width(values: Vec<Mersenne31>, width: usize) -> Result<Rows, Fail> {
     if width == 0 || values.len() % width != 0 {

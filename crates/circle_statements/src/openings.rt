@@ -1,7 +1,7 @@
 //! What is opened of committed batches, the claims on them, and what is answered to these.
 ghost use Rattle.std.specs.Prelude.{◌≡◌, List, All, IsTrue};
-ghost use Rattle.circle_commit.specs.Mmcs.{HaveHeightsOfPowers};
-ghost use Rattle.circle_commit.specs.declared.pcs.OpeningRequest.{OpeningRequest};
+ghost use Rattle.circle_matrix.specs.Mmcs.{HaveHeightsOfPowers};
+ghost use Rattle.circle_matrix.specs.declared.pcs.OpeningRequest.{OpeningRequest};
 
 use crate::batches::{Batch, Domain};
 use crate::parameters::{Data, Proof, Scheme};

@@ -1,13 +1,10 @@
 //! Tests of the transcript. The seed's text was computed apart from this code.
-ghost use Rattle.std.specs.Prelude.{◌≡◌, ◌≤◌, ◌<◌, ◌+◌, [], ◌∷◌, IfOk, length, flat_map};
+ghost use Rattle.std.specs.Prelude.{◌≡◌, ◌≤◌, ◌<◌, [], ◌∷◌, IfOk, length, flat_map};
 ghost use Rattle.circle_transcript.specs.Shape.{claimed_widths};
 ghost use Rattle.circle_transcript.specs.ShapeOf.{shape_of, batches_of};
 
-use crate::challenger::{label, sizes};
 use crate::stubborn::Stubborn;
-use circle_challenger::{
-    CanObserve, CanSample, DomainSeparator, GrindingChallenger, Sha256Challenger,
-};
+use circle_challenger::{CanObserve, CanSample, GrindingChallenger, Sha256Challenger};
 use circle_commit::{FriParameters, PowPhase};
 use circle_field::{Cubic, ExtensionField, Field, Mersenne31};
 use circle_point::{Neutral, Point};
@@ -19,14 +16,7 @@ use std::alloc::{AllocError, Global};
 use std::process::Abort;
 use std::test::Fail;
 
-mod coefficients;
 mod runs;
-mod seeds;
-
-const HEADER: [u8; 30] = [
-    1, 0, 0, 0, 0, 0, 0, 0, 13, 112, 51, 45, 99, 105, 114, 99, 108, 101, 45, 112, 99, 115, 0, 0, 0,
-    0, 0, 0, 0, 9,
-];
 
 /// The difficulties of a run's proofs of work.
 #[derive(Clone, Copy)]
@@ -186,75 +176,11 @@ fn assert_alike(rt: &impl Abort, first: &CircleDraws<Cubic>, second: &CircleDraw
     );
 }
 
-/// How many rounds and bits of an index a shape over no claims counts.
-fn counts(alloc: Global, log_blowup: usize, log_max_height: usize) -> [usize; 2]
-    requires { log_blowup < log_max_height }
-{
-    let shape = CirclePcsShape::new(
-        &params(log_blowup, NONE),
-        Vec::new(alloc),
-        log_max_height,
-        1,
-    );
-    [shape.num_commit_rounds, shape.index_bits]
-}
-
-#[test]
-fn a_shape_counts_rounds_and_bits(rt: HostRuntime) {
-    assert_eq!(rt; counts(rt.alloc(), 2, 10), [7, 10]);
-    assert_eq!(rt; counts(rt.alloc(), 1, 5), [3, 5]);
-}
-
 #[test]
 fn a_shape_is_as_its_clone(rt: HostRuntime) -> Result<(), Fail> {
     let alloc = rt.alloc();
     let shape = CirclePcsShape::new(&params(1, NONE), Vec::new(alloc), 5, 1);
     assert_eq!(rt; shape.try_clone(alloc)?, shape);
-    Ok(())
-}
-
-#[test]
-fn the_seed_names_the_run(rt: HostRuntime) -> Result<(), Fail> {
-    let shape = shape(rt.alloc(), 1, NONE)?;
-    let separator = shape.domain_separator::<Mersenne31, Cubic>(rt.alloc())?;
-    assert_eq!(rt; sizes(&separator), [9, 480, 2]);
-    assert!(rt; separator.text().starts_with(&HEADER));
-    Ok(())
-}
-
-/// One batch of two matrices of four columns, each opened at one point.
-fn two_matrices(alloc: Global) -> Result<Vec<Vec<Vec<usize>>>, AllocError> {
-    let (first, second) = (vec![in alloc; 4]?, vec![in alloc; 4]?);
-    let matrices = vec![in alloc; first, second]?;
-    Ok(vec![in alloc; matrices]?)
-}
-
-const LAYOUT_OF_TWO_MATRICES: [u8; 32] = [
-    0, 0, 0, 0, 0, 0, 0, 1, 0, 0, 0, 0, 0, 0, 0, 2, 0, 0, 0, 0, 0, 0, 0, 1, 0, 0, 0, 0, 0, 0, 0, 1,
-];
-
-const LAYOUT_OF_TWO_POINTS: [u8; 24] = [
-    0, 0, 0, 0, 0, 0, 0, 1, 0, 0, 0, 0, 0, 0, 0, 1, 0, 0, 0, 0, 0, 0, 0, 2,
-];
-
-/// The separator of a shape over claims of these numbers of columns.
-fn separator_over(
-    alloc: Global,
-    opened_widths: Vec<Vec<Vec<usize>>>,
-) -> Result<DomainSeparator, AllocError> {
-    let shape = CirclePcsShape::new(&params(1, NONE), opened_widths, 3, 1);
-    shape.domain_separator::<Mersenne31, Cubic>(alloc)
-}
-
-#[test]
-fn a_layout_tells_matrices_from_points(rt: HostRuntime) -> Result<(), Fail> {
-    let alloc = rt.alloc();
-    let one = separator_over(alloc, two_matrices(alloc)?)?;
-    let other = separator_over(alloc, one_matrix(alloc, vec![in alloc; 4, 4]?)?)?;
-    assert_eq!(rt; label(&one, 1), Some(LAYOUT_OF_TWO_MATRICES.as_slice()));
-    assert_eq!(rt; label(&other, 1), Some(LAYOUT_OF_TWO_POINTS.as_slice()));
-    assert_eq!(rt; one.pattern().steps(), other.pattern().steps());
-    assert_ne!(rt; one.text(), other.text());
     Ok(())
 }
 
@@ -284,39 +210,11 @@ fn without_rounds_their_difficulty_is_not_named(rt: HostRuntime) -> Result<(), F
     Ok(())
 }
 
-/// Asserts that the verifier draws what the prover does in a run of one round.
-fn assert_both_draw_alike(
-    rt: &impl Abort,
-    alloc: Global,
-    bits: Difficulties,
-) -> Result<(), CircleTranscriptFailure>
-    requires batch { bits.batch ≤ 63 }
-    requires commit { bits.commit ≤ 63 }
-    requires query { bits.query ≤ 63 }
-{
-    let mut prover = Sha256Challenger::new();
-    let mut verifier = Sha256Challenger::new();
-    let (drawn, witnesses) = prove(alloc, &mut prover, &[[9; 32]], bits)?;
-    let again = verify(alloc, &mut verifier, &[[9; 32]], bits, &witnesses)?;
-    assert_alike(rt, &again, &drawn);
-    assert_eq!(rt; verifier, prover);
-    Ok(())
-}
-
-#[test]
-fn both_sides_draw_alike(rt: HostRuntime) -> Result<(), Fail> {
-    for batch in [0, 8] {
-        let bits = Difficulties { batch, ..NONE };
-        assert_both_draw_alike(&rt, rt.alloc(), bits).map_err(|_| "no run, or a miss")?;
-    }
-    Ok(())
-}
-
 #[test]
 fn both_runs_draw_alike(rt: HostRuntime) -> Result<(), Fail> {
     let alloc = rt.alloc();
     let bits = Difficulties {
-        batch: 2,
+        batch: 8,
         commit: 3,
         query: 4,
     };

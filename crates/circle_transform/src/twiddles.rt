@@ -10,12 +10,12 @@ ghost use Rattle.std.specs.List.{range_with_len};
 ghost use Rattle.circle_point.specs.Point.{coordinates};
 ghost use Rattle.circle_domain.specs.Domain.{factors_by_layer, log_size, shift_of};
 ghost use Rattle.circle_domain.specs.Layers.{block_starts, layer_factors};
-ghost use Rattle.circle_domain.specs.Order.{IsGenuine, with_moved};
+ghost use Rattle.circle_domain.specs.Order.{IsGenuine};
 ghost use Rattle.circle_transform.specs.Twiddles.{all_layers, inverses_by_layer};
 ghost use Rattle.circle_transform.specs.Twiddles.{first_of_second, layers_from};
 ghost use Rattle.circle_transform.specs.Twiddles.{AreLinked, TurnsLeft};
 
-use circle_domain::{CircleDomain, layer_twiddles};
+use circle_domain::{CircleDomain, append_moved, layer_twiddles};
 use circle_field::{ComplexExtendable, Field, batch_multiplicative_inverse};
 use circle_point::Point;
 use std::alloc::{AllocError, Global};
@@ -172,18 +172,6 @@ fn generators_down<F: ComplexExtendable>(
         point = point.double();
     }
     Ok(points)
-}
-
-// Appends to the points each of them moved by `step`.
-fn append_moved<F: Field>(points: &mut Vec<Point<F>>, step: Point<F>) -> Result<(), AllocError>
-    ensures { OnOk result (map coordinates points.new.items
-        ≡ with_moved F.ops (coordinates step) (map coordinates points.old.items)) }
-{
-    for i in 0..points.len() {
-        let moved = points[i] + step;
-        points.push(moved)?;
-    }
-    Ok(())
 }
 
 // Appends to the factors of a layer those of all layers above it: each layer has the x coordinates

@@ -179,23 +179,6 @@ fn refusals_of_domains(rt: HostRuntime) -> Result<(), Fail> {
     Ok(())
 }
 
-#[test]
-fn nothing_to_commit_to(rt: HostRuntime) -> Result<(), Fail> {
-    let alloc = rt.alloc();
-    let scheme = scheme(1, 0);
-    let nothing = Some(ProverError::NoCommittedMatrices);
-    assert_eq!(&rt; commit(&rt, alloc, &scheme, Vec::new(alloc)).err(), nothing);
-    assert_eq!(&rt;
-        commit_ldes(&rt, alloc, &scheme, Vec::new(alloc)).err(),
-        nothing
-    );
-    assert_eq!(&rt;
-        quotient_ldes(&rt, alloc, &scheme, Vec::new(alloc), 1)?.len(),
-        0
-    );
-    Ok(())
-}
-
 // Asserts that the only extension, in so many chunks, of the four values is of these entries, and
 // has this commitment.
 fn assert_extended(
@@ -243,28 +226,6 @@ fn assert_values(
     Ok(())
 }
 
-// Its values on another domain of four points.
-const FOUR_ELSEWHERE: &[u64] = &[1270204397, 1798336290, 1780637704, 1593272554];
-
-// Another domain fixes the same polynomial by other values.
-#[test]
-fn a_polynomial_on_another_domain(rt: HostRuntime) -> Result<(), Fail> {
-    let alloc = rt.alloc();
-    let scheme = scheme(2, 0);
-    let other = Domain::new(2, Point::generator(31) * 5);
-    let (same, _) = commit(
-        &rt,
-        alloc,
-        &scheme,
-        batch(alloc, Domain::standard(2), FOUR)?,
-    )?;
-    let (commitment, data) = commit(&rt, alloc, &scheme, batch(alloc, other, FOUR_ELSEWHERE)?)?;
-    assert_eq!(&rt; commitment, same);
-    assert_values(&rt, alloc, &scheme, &data, Domain::standard(4), SIXTEEN)?;
-    assert_values(&rt, alloc, &scheme, &data, other, FOUR_ELSEWHERE)?;
-    Ok(())
-}
-
 // Asserts that a column on four points can't be evaluated on fewer, and that it has these values on
 // standard domains.
 fn assert_on_domains(
@@ -298,17 +259,6 @@ fn evaluations_on_domains(rt: HostRuntime) -> Result<(), Fail> {
     ];
     assert_on_domains(&rt, rt.alloc(), FOUR, &cases)
 }
-
-#[test]
-fn sevens_are_sevens(rt: HostRuntime) -> Result<(), Fail> {
-    let cases: [(Domain, &[u64]); 2] = [
-        (Domain::standard(2), &[7; 4]),
-        (Domain::standard(3), &[7; 8]),
-    ];
-    assert_on_domains(&rt, rt.alloc(), &[7; 4], &cases)
-}
-
-const FIRST_OF_EIGHT: &[u64] = &[1, 0, 0, 0, 0, 0, 0, 0];
 
 // The columns of these entries.
 fn columns(alloc: Global, entries: &[&[u64]]) -> Result<Vec<Rows>, Fail> {

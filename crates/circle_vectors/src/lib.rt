@@ -1,8 +1,10 @@
-//! Worked examples of the scheme over several crates, with expected values from outside, and a
-//! verifier over any scheme.
+//! Worked examples of the scheme over several crates, with expected values from outside: what is
+//! committed to, what the verifier answers, the texts of refusals; and a verifier over any scheme.
 #![tactic(auto)]
 
 pub mod any_scheme;
+#[cfg(test)]
+mod claims;
 #[cfg(test)]
 mod commitments;
 #[cfg(test)]
@@ -10,6 +12,8 @@ mod committing;
 #[cfg(test)]
 mod first_program;
 #[cfg(test)]
-mod records;
-#[cfg(test)]
 mod refusals;
+#[cfg(test)]
+mod shapes;
+#[cfg(test)]
+mod verify;

@@ -1,6 +1,6 @@
 -- Claims on matrices, one after another.
-use Rattle.std.specs.Prelude.{◌≡◌, ℕ, ◌+◌, ◌<◌, ◌==◌, if◌then◌else◌, true, false, Bool, List, [], ◌∷◌, ◌++◌, length, map, flat_map, take, slice_index_or}
-use Rattle.std.proofs.Common.{refl, sym, ◌∙◌, ap, arith}
+use Rattle.std.specs.Prelude.{◌≡◌, ℕ, ◌+◌, ◌<◌, ◌==◌, if◌then◌else◌, true, List, [], ◌∷◌, ◌++◌, length, map, take, slice_index_or}
+use Rattle.std.proofs.Common.{sym, ◌∙◌, ap}
 use Rattle.std.proofs.lemmas.List.{map-append, append-nil, append_assoc, take_more}
 use Rattle.circle_relation.specs.Statement.{PointClaim}
 use Rattle.circle_words.specs.Words.{Committed, claims_on, claims_at}

@@ -1,7 +1,7 @@
 -- Which of the heights joins a word.
-use Rattle.std.specs.Prelude.{◌≡◌, ℕ, ◌<◌, ◌==◌, ◌||◌, Bool, true, false, List, [], ◌∷◌, length, slice_index_or}
+use Rattle.std.specs.Prelude.{◌≡◌, ℕ, ◌<◌, ◌==◌, ◌||◌, false, List, [], ◌∷◌, length, slice_index_or}
 use Rattle.std.specs.List.{list_any}
-use Rattle.std.proofs.Common.{suc, refl, sym, ◌∙◌, ap, arith}
+use Rattle.std.proofs.Common.{suc, refl, ◌∙◌, ap, arith}
 use Rattle.std.proofs.lemmas.Bool.{ne_eqb}
 
 -- a height that is none of them

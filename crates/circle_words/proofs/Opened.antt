@@ -1,11 +1,9 @@
 -- What matrices are opened to at a point.
-use Rattle.std.specs.Prelude.{◌≡◌, ℕ, ◌+◌, ◌-◌, ◌*◌, ◌^◌, ◌%◌, ◌<◌, ◌≤◌, List, [], ◌∷◌, ◌++◌, length, take, slice_index_or, Result, IfOk}
-use Rattle.std.proofs.Common.{zero, suc, refl, sym, ◌∙◌, ap, subst, arith, Ok, Err, ⊎_elim}
-use Rattle.std.proofs.lemmas.Bool.{cases_eq}
-use Rattle.std.proofs.lemmas.List.{get_or_default}
+use Rattle.std.specs.Prelude.{◌≡◌, ℕ, ◌+◌, ◌-◌, ◌*◌, ◌^◌, ◌%◌, ◌≤◌, List, take, Result, IfOk}
+use Rattle.std.proofs.Common.{◌∙◌, ap, subst, arith, Ok, Err}
 use Rattle.circle_field.specs.Circle.{Coordinates}
-use Rattle.circle_commit.specs.RowMajorMatrix.{rows, width_of}
-use Rattle.circle_commit.specs.declared.matrix.RowMajorMatrix.{RowMajorMatrix}
+use Rattle.circle_matrix.specs.RowMajorMatrix.{rows, width_of}
+use Rattle.circle_matrix.specs.declared.matrix.RowMajorMatrix.{RowMajorMatrix}
 use Rattle.circle_domain.specs.Values.{HasValues, lifted_values_at}
 use Rattle.circle_domain.proofs.Powers.{pow_within}
 use Rattle.circle_point.specs.Projective.{from_line}

@@ -1,6 +1,6 @@
 -- The domain of the first points of a standard domain.
-use Rattle.std.specs.Prelude.{◌≡◌, ◌≢◌, ◌↔◌, ℕ, ◌+◌, ◌-◌, ◌^◌, ◌<◌, ◌≤◌, max, All}
-use Rattle.std.proofs.Common.{zero, suc, refl, sym, ◌∙◌, ap, subst, arith}
+use Rattle.std.specs.Prelude.{◌≡◌, ◌≢◌, ℕ, ◌+◌, ◌-◌, ◌^◌, ◌<◌, ◌≤◌, max, All}
+use Rattle.std.proofs.Common.{zero, suc, sym, ◌∙◌, ap, subst, arith}
 use Rattle.std.specs.List.{AllByRecursion}
 use Rattle.std.proofs.lemmas.List.Elements.{All-from_recursion}
 use Rattle.circle_field.specs.Field.{FieldOps, FieldLaws, IsEmbedding}
@@ -8,7 +8,7 @@ use Rattle.circle_field.specs.Circle.{Coordinates, AreGenerators, IsOnCircle, or
 use Rattle.circle_field.specs.CircleGroup.{plus-opposite}
 use Rattle.circle_point.specs.Projective.{minus, from_line}
 use Rattle.circle_point.proofs.Projections.{line_norm-zero, from_line-on_circle}
-use Rattle.circle_point.specs.Basis.{vanishing, iterated_x, doubled_x}
+use Rattle.circle_point.specs.Basis.{iterated_x, doubled_x}
 use Rattle.circle_point.proofs.Multiples.{iterated_x-suc}
 use Rattle.circle_domain.specs.Clear.{IsClearOf}
 use Rattle.circle_domain.specs.Order.{IsGenuine, natural_order, cfft_order}

@@ -1,7 +1,6 @@
 -- The quotient of a claim, from the ratio at a point and the combined row there.
-use Rattle.std.specs.Prelude.{◌≡◌, ◌≢◌, ℕ, ◌+◌, ◌<◌, ◌≤◌, Bool, true, ◌↔◌, List, [], ◌∷◌, length, map, All, slice_index_or}
-use Rattle.std.specs.List.{range_with_len}
-use Rattle.std.proofs.Common.{zero, suc, refl, sym, ◌∙◌, ap, arith}
+use Rattle.std.specs.Prelude.{◌≡◌, ◌≢◌, ◌≤◌, Bool, true, ◌↔◌, List, [], ◌∷◌, length, map, All}
+use Rattle.std.proofs.Common.{refl, sym, ◌∙◌, ap, arith}
 use Rattle.std.proofs.lemmas.List.Elements.{All-nil, All-cons, All-head, All-tail}
 use Rattle.circle_field.specs.Field.{FieldOps, FieldLaws, sub, two, nth_power}
 use Rattle.circle_field.specs.Circle.{Coordinates, IsOnCircle, lifted}
@@ -9,8 +8,8 @@ use Rattle.circle_field.specs.Ring.{Expr, var, con, unit, plus as sum, times as 
 use Rattle.circle_field.specs.RingSound.{ring}
 use Rattle.circle_field.specs.RingCombine.{given, combine}
 use Rattle.circle_field.specs.RingFacts.{add_neg, add_zero}
-use Rattle.circle_commit.specs.DotProduct.{dot, pairwise}
-use Rattle.circle_folding.specs.Quotient.{differences, real_part, imaginary_part, claim_quotient, weighted_quotient, ArePowers}
+use Rattle.circle_matrix.specs.DotProduct.{dot, pairwise}
+use Rattle.circle_folding.specs.Quotient.{differences, real_part, imaginary_part, claim_quotient, ArePowers}
 use Rattle.circle_folding.specs.Queries.{claim_quotients, with_multiples, IsApart}
 use Rattle.circle_folding.proofs.Vanishing.{real_part-zero}
 use Rattle.circle_folding.proofs.Weighted.{claimed_quotient}

@@ -17,17 +17,17 @@
 //!   matrices of that height, each times its power of the batching challenge, added up (`word`).
 //! - `first_layer` answers for each height the multiple of the vanishing polynomial in the reduced
 //!   word (`lambdas`), and the word without it as rows of two (`layers`, `shapes`).
-//! - `fold_layers` folds each of these by y, and `fold_round` a later word by x and adds to it
+//! - `fold_corrected` folds each of these by y, and `fold_round` a later word by x and adds to it
 //!   what was folded from its height, where that is one of the heights.
 #![tactic(auto)]
 
-pub mod layers;
+pub mod corrected;
 pub mod ratios;
 pub mod reduced;
 pub mod rounds;
 pub mod values;
 
-pub use layers::{first_layer, fold_layers};
+pub use corrected::{first_layer, fold_corrected};
 pub use ratios::{PointRatios, standard_points, vanishing_ratios};
 pub use reduced::{OpenedMatrix, can_all_be_opened, reduced_word};
 pub use rounds::fold_round;

@@ -3,13 +3,12 @@
 ghost use Rattle.std.specs.Prelude.{◌≡◌, ◌+◌, ◌-◌, ◌==◌, ◌^◌, ◌<◌, ◌≤◌, length, map, IfOk};
 ghost use Rattle.std.specs.Prelude.{false, IfNone, IfSome, slice_index_or};
 ghost use Rattle.std.specs.List.{list_any};
-ghost use Rattle.circle_commit.specs.RowMajorMatrix.{rows, width_of, height_of};
-ghost use Rattle.circle_commit.specs.DotProduct.{pairwise};
+ghost use Rattle.circle_matrix.specs.RowMajorMatrix.{rows, width_of, height_of};
 ghost use Rattle.circle_words.specs.Words.{IsNextWord};
 
-use circle_commit::RowMajorMatrix;
-use circle_field::{ComplexExtendable, ExtensionField, Field};
-use circle_folding::fold_x;
+use circle_field::{ComplexExtendable, ExtensionField};
+use circle_folding::{add_each, fold_x};
+use circle_matrix::RowMajorMatrix;
 use circle_relation::OverCircle;
 use std::alloc::{AllocError, Global};
 
@@ -25,16 +24,6 @@ fn place_of(heights: &[usize], log_height: usize) -> Option<usize>
         }
     }
     None
-}
-
-// Adds to each entry of a word that of another.
-fn add_word<EF: Field>(word: &mut [EF], other: &[EF])
-    requires { length other.now ≡ length word.old }
-    ensures { word.new ≡ pairwise EF.ops.add word.old other.now }
-{
-    for (i, entry) in word.iter_mut().enumerate() {
-        *entry = *entry + other[i];
-    }
 }
 
 /// The word that follows one of `2^log_height` entries, which stands in rows of two: its fold by x,
@@ -61,7 +50,7 @@ pub fn fold_round<F: ComplexExtendable, EF: ExtensionField<F>>(
 {
     let mut word = fold_x::<F, EF, RowMajorMatrix<EF>>(alloc, beta, 1, layer)?;
     if let Some(place) = place_of(heights, log_height) {
-        add_word(&mut word, &folded[place]);
+        add_each(&mut word, &folded[place]);
     }
     Ok(word)
 }

@@ -7,14 +7,14 @@ use Rattle.std.proofs.lemmas.Bool.{leb-false, lt-leb, ltb-false, le-ltb, eqb-tru
 use Rattle.std.proofs.lemmas.List.{length-map}
 use Rattle.std.proofs.lemmas.List.Elements.{All-from_recursion, recursion_from_All}
 use Rattle.std.proofs.lemmas.List.Sums.{AllPass-from_list_all, list_all-from_AllPass}
-use Rattle.circle_commit.specs.Mmcs.{greatest}
-use Rattle.circle_commit.specs.declared.params.FriParameters.{FriParameters}
+use Rattle.circle_matrix.specs.Mmcs.{greatest}
+use Rattle.circle_matrix.specs.declared.params.FriParameters.{FriParameters}
 use Rattle.circle_relation.specs.declared.error.InputError.{InputError}
 use Rattle.circle_relation.specs.Statement.{MatrixClaim, BatchClaim, OpeningProof, all_matrices, log_sizes, log_max_height}
-use Rattle.circle_scheme.specs.Refusals.{domain_tests, sibling_tests, round_tests, rounds_tests, some_claim}
-use Rattle.p3_circle.specs.Tested.{rounds_due, IsTested}
-use Rattle.circle_scheme.proofs.Passed.{AllPass, pass-front, pass-back, pass-both}
-use Rattle.circle_checks.proofs.Seeding.{claims_part, parameters_part, shape_part, final_part, points_part, height_of_claims}
+use Rattle.circle_verifier.specs.Refusals.{domain_tests, sibling_tests, round_tests, rounds_tests, some_claim}
+use Rattle.circle_verifier.specs.Tested.{rounds_due, IsTested}
+use Rattle.circle_verifier.proofs.Passed.{AllPass, pass-front, pass-back, pass-both}
+use Rattle.circle_verifier.proofs.Seeding.{claims_part, parameters_part, shape_part, final_part, points_part, height_of_claims}
 
 -- numbers that don't differ
 same-from : (a b : ℕ) → not (a == b) ≡ false → a ≡ b

@@ -5,12 +5,12 @@ use Rattle.std.proofs.lemmas.List.{map-append}
 use Rattle.std.proofs.lemmas.List.Elements.{All-head}
 use Rattle.circle_field.specs.Field.{FieldOps}
 use Rattle.circle_challenger.specs.Moves.{RunMoves}
-use Rattle.circle_commit.specs.declared.params.FriParameters.{FriParameters}
-use Rattle.circle_commit.specs.declared.params.PowPhase.{PowPhase}
+use Rattle.circle_matrix.specs.declared.params.FriParameters.{FriParameters}
+use Rattle.circle_matrix.specs.declared.params.PowPhase.{PowPhase}
 use Rattle.circle_domain.specs.Selectors.{IsFinite}
 use Rattle.circle_relation.specs.Statement.{PointClaim, MatrixClaim, BatchClaim, all_matrices, log_max_height}
-use Rattle.circle_commit.specs.declared.error.FriError.{FriError}
-use Rattle.circle_commit.specs.declared.error.FriError.TheVariants.{Memory}
+use Rattle.circle_matrix.specs.declared.error.FriError.{FriError}
+use Rattle.circle_matrix.specs.declared.error.FriError.TheVariants.{Memory}
 use Rattle.circle_transcript.specs.declared.failure.CircleTranscriptFailure.{CircleTranscriptFailure}
 use Rattle.circle_transcript.specs.declared.failure.CircleTranscriptFailure.TheVariants.{Memory as OutOfMemory}
 use Rattle.circle_transcript.specs.Failure.{phase_of}
@@ -18,23 +18,15 @@ use Rattle.circle_transcript.specs.declared.transcript.Numbers.{Numbers}
 use Rattle.circle_runs.specs.Runs.{IsMiss}
 use Rattle.circle_transcript.specs.Shape.{Shape}
 use Rattle.circle_transcript.specs.Draw.{Claim, widths_of, Taken, taken, Drawn, draw}
-use Rattle.circle_scheme.specs.Refusals.{is_at_infinity}
-use Rattle.circle_opening.specs.Taken.{widths_by, point_taken, claims_taken, shape_by}
-use Rattle.circle_checks.specs.Tested.{claimed_top}
-use Rattle.circle_scheme.specs.Verdict.{refusal_of, IsMissedIn}
+use Rattle.circle_verifier.specs.Refusals.{is_at_infinity}
+use Rattle.circle_relation.specs.Taken.{widths_by, point_taken, claims_taken, shape_by}
+use Rattle.circle_verifier.specs.Tests.{claimed_height}
+use Rattle.p3_circle.specs.Verdict.{refusal_of, IsMissedIn}
 
 -- claims that leave something to fold are of heights above what folding stops at
 pub tested_high : {E : Type 0} (blowup final : ℕ) (ms : List (MatrixClaim E)) → 1 ≤ length ms → All (λ m. final + 1 ≤ m.log_n) ms → blowup + final + 1 ≤ log_max_height blowup ms
 tested_high blowup final [] some all = absurd (omega (arith, some))
 tested_high blowup final (m ∷ ms) some all = let here = All-head (λ m. final + 1 ≤ m.log_n) m ms all in omega (arith, here)
-
--- coordinates that a test finds finite are
-pub finite_from : {E : Type 0} (l : FieldOps E) (eq : E → E → Bool) (ms : List (MatrixClaim E)) → ((a b : E) → (eq a b ≡ true) ↔ (a ≡ b)) →
-    All (λ m. All (λ c. is_at_infinity eq l c.point ≡ false) m.claims) ms → All (λ m. All (λ c. IsFinite l c.point) m.claims) ms
-finite_from l eq ms law all = λ i d lt j e lt' same.
-    let none = all i d lt j e lt' in
-    let some = (law _ _).1 same in
-    let both : true ≡ false = sym some ∙ none in cc
 
 -- what is taken in, part by part
 pub taken_is : {F E Com : Type 0} (cs ds : List (Claim E)) (batch query : F) (layer : Com) (coms coms' : List Com) (ws ws' : List F) (fs fs' : List E) →

@@ -1,10 +1,10 @@
 -- What is refused by the scheme, as the traits of schemes say it.
 use Rattle.std.specs.Prelude.{◌≡◌, Result, Ok, Err, IfErr, IfOk, IsTrue, MatchResult}
 use Rattle.std.proofs.Common.{sym, subst, refl}
-use Rattle.circle_commit.specs.declared.error.FriError.{FriError}
-use Rattle.circle_commit.specs.declared.error.FriError.TheVariants.{Memory}
+use Rattle.circle_matrix.specs.declared.error.FriError.{FriError}
+use Rattle.circle_matrix.specs.declared.error.FriError.TheVariants.{Memory}
 use Rattle.circle_opening.specs.declared.error.ProverError.{ProverError}
-use Rattle.circle_scheme.specs.Scheme.{says_memory}
+use Rattle.p3_circle.specs.Scheme.{says_memory}
 
 -- a refusal that is the first, or else of memory
 pub first-of : {A : Type 0} (a : Result (Unit {0}) ProverError) (r : Result A ProverError) (Q : ProverError → Type 0) →

@@ -5,10 +5,10 @@ use Rattle.std.proofs.lemmas.List.{length-map}
 use Rattle.std.proofs.lemmas.Slice.Zip.{length-zip}
 use Rattle.circle_field.specs.declared.field.Operations.{Ghosts}
 use Rattle.circle_challenger.specs.Moves.{RunMoves}
-use Rattle.circle_commit.specs.declared.error.FriError.{FriError}
-use Rattle.circle_commit.specs.declared.error.FriError.TheVariants.{Memory}
-use Rattle.circle_commit.specs.declared.params.FriParameters.{FriParameters}
-use Rattle.circle_commit.specs.declared.pcs.CommitmentOpening.{CommitmentOpening}
+use Rattle.circle_matrix.specs.declared.error.FriError.{FriError}
+use Rattle.circle_matrix.specs.declared.error.FriError.TheVariants.{Memory}
+use Rattle.circle_matrix.specs.declared.params.FriParameters.{FriParameters}
+use Rattle.circle_matrix.specs.declared.pcs.CommitmentOpening.{CommitmentOpening}
 use Rattle.circle_domain.specs.declared.domain.CircleDomain.{CircleDomain}
 use Rattle.circle_domain.specs.Selectors.{IsFinite}
 use Rattle.circle_relation.specs.declared.error.InputError.{InputError}
@@ -17,30 +17,18 @@ use Rattle.circle_relation.specs.Statement.{Challenges}
 use Rattle.circle_relation.specs.StatementOf.{batch_claims}
 use Rattle.circle_relation.specs.Accepts.{Fields, Authenticates, Accepts}
 use Rattle.circle_relation.specs.Reasons.{IsReason}
-use Rattle.circle_relation.specs.RunOf.{setting_of, proof_of}
+use Rattle.circle_relation.specs.RunOf.{proof_of}
 use Rattle.circle_relation.proofs.Contradictions.{only_memory}
-use Rattle.circle_scheme.specs.Refusals.{Test, answer, seeding_tests, is_at_infinity}
-use Rattle.p3_circle.specs.Tested.{rounds_due, IsTested}
-use Rattle.circle_opening.specs.Taken.{drawn_by}
-use Rattle.circle_scheme.specs.Verdict.{run_with, IsMissedIn, IsDrawnFrom, draw_from, AcceptsFrom}
+use Rattle.circle_verifier.specs.Refusals.{Test, answer, seeding_tests, is_at_infinity}
+use Rattle.circle_verifier.specs.Tested.{rounds_due, IsTested}
+use Rattle.circle_relation.specs.Taken.{drawn_by}
+use Rattle.p3_circle.specs.Verdict.{IsAccepted, IsMissedIn, IsDrawnFrom, draw_from}
+use Rattle.circle_relation.specs.RunOf.{run_with}
 use Rattle.p3_circle.proofs.Known.{PartsPass, known, all_pass}
-use Rattle.circle_scheme.proofs.Passed.{AllPass, passed, passes, pass-front, pass-back, pass-both}
-use Rattle.circle_checks.proofs.Seeding.{claims_part, parameters_part, shape_part, final_part, points_part, parts-are}
+use Rattle.circle_verifier.proofs.Passed.{AllPass, passed, passes, pass-front, pass-back, pass-both}
+use Rattle.circle_verifier.proofs.Seeding.{claims_part, parameters_part, shape_part, final_part, points_part, parts-are}
 use Rattle.circle_opening.proofs.Counts.{betas-count, queries-count}
-use Rattle.p3_circle.proofs.Verified.{tested, not_true, false_not, challenges-told}
-
--- what holds where there is a value, of two facts, and of an error
-pub on_both : {T E A B P : Type 0} (x : Result T E) → (A → B → P) → OnOk x A → OnOk x B → OnOk x P
-on_both (Ok v) f a b = f a b
-on_both (Err e) f a b = tt
-
-pub on_one : {T E A P : Type 0} (x : Result T E) → (A → P) → OnOk x A → OnOk x P
-on_one (Ok v) f a = f a
-on_one (Err e) f a = tt
-
-pub if_err : {T E : Type 0} (P Q : E → Type 0) (x : Result T E) → ((e : E) → P e → Q e) → IfErr x P → IfErr x Q
-if_err P Q (Ok v) f h = tt
-if_err P Q (Err e) f h = f e h
+use Rattle.circle_verifier.proofs.Verified.{tested, not_true, false_not, challenges-told}
 
 pub at_err : {T E : Type 0} (P : E → Type 0) (x : Result T E) (e : E) → x ≡ Err e → P e → IfErr x P
 at_err P x e is h = subst (λ y. IfErr y P) (sym is) h
@@ -109,7 +97,7 @@ module _ {F E I W IC ID IP IE WC WD WP WE : Type 0} {g : Ghosts F} (k : Fields F
       (subst (AllPass {E = FriError WE (InputError IE WE)}) (sym (parts-are two z i p (batch_claims claims) (proof_of proof)))
       (pass-both _ _ parts.claims (pass-both _ _ parts.parameters (pass-both _ _ parts.shape (pass-both _ _ parts.final parts.points)))))
 
-module _ {C S F E I W IC ID IP IE WC WD WP WE : Type 0} {g : Ghosts F} (k : Fields F E) (two : ℕ) (m : RunMoves C S F E WC) (p : FriParameters W)
+module _ {C S F E I W IC ID IP IE WC WD WP WE : Type 0} {g : Ghosts F} (k : Fields F E) (m : RunMoves C S F E WC) (p : FriParameters W)
     (claims : List (CommitmentOpening E IC (CircleDomain F g))) (proof : CirclePcsProof F E I W F IC ID IP IE WC WD WP WE) (eq : F → F → Bool) (null : F) (same : E → E → Bool) where
   abbrev z' : F → Bool
   z' w = eq w null
@@ -121,7 +109,7 @@ module _ {C S F E I W IC ID IP IE WC WD WP WE : Type 0} {g : Ghosts F} (k : Fiel
   pub queries-drawn : (old new : S) (c : Challenges E) → IsDrawnFrom k m p claims proof old c new → length c.queries ≡ p.num_queries
   queries-drawn old new c is = queries-count m _ _ _ _ is
 
-  pub betas-drawn : (old new : S) (c : Challenges E) → Tested k two p claims proof eq null same → IsDrawnFrom k m p claims proof old c new → length c.betas ≡ rounds_due p (batch_claims claims)
+  pub betas-drawn : (old new : S) (c : Challenges E) → Tested k k.two_adicity p claims proof eq null same → IsDrawnFrom k m p claims proof old c new → length c.betas ≡ rounds_due p (batch_claims claims)
   betas-drawn old new c t is =
       let count = betas-count m _ _ _ _ is in
       let listed = length-map c.betas m.base.coefficients in
@@ -143,23 +131,23 @@ module _ {C S F E I W IC ID IP IE WC WD WP WE : Type 0} {g : Ghosts F} (k : Fiel
 
     module _ (inputs : I → Authenticates IC F IP) (words : W → Authenticates WC E WP) (mmcs : I) where
       -- what is accepted passes the tests
-      pub accepted-passes : (old left : S) → AcceptsFrom k m inputs words mmcs p claims proof two old left → answer (tests k two p claims proof eq null same) (tt {0}) ≡ Ok (tt {0})
+      pub accepted-passes : (old left : S) → IsAccepted k m inputs words mmcs p claims proof old left → answer (tests k k.two_adicity p claims proof eq null same) (tt {0}) ≡ Ok (tt {0})
       accepted-passes old left a =
-          answer-of k two p claims proof eq null same (tested k two z' i' p (batch_claims claims) (proof_of proof) a.drawn (queries-drawn old left a.drawn a.draws) zero-from finite-from a.accepts)
+          answer-of k k.two_adicity p claims proof eq null same (tested k z' i' p (batch_claims claims) (proof_of proof) a.drawn (queries-drawn old left a.drawn a.draws) zero-from finite-from a.accepts)
 
       -- a phase that is missed is not accepted
       pub missed-memory : (old left : S) (e : FriError WE (InputError IE WE)) → (e ≡ Memory) ⊎ IsMissedIn (draw_from k m p claims proof old) e →
-          AcceptsFrom k m inputs words mmcs p claims proof two old left → e ≡ Memory
+          IsAccepted k m inputs words mmcs p claims proof old left → e ≡ Memory
       missed-memory old left e (inl memory) a = memory
       missed-memory old left e (inr miss) a = absurd (not_both (draw_from k m p claims proof old) _ _ a.draws miss.missed)
 
       -- nor is what there is reason to refuse
       pub reason-memory : ((a b : E) → m.base.coefficients a ≡ m.base.coefficients b → a ≡ b) → (input_memory : IE → Bool) (word_memory : WE → Bool) (old new left : S) (c : Challenges E) (e : FriError WE (InputError IE WE)) →
-          IsDrawnFrom k m p claims proof old c new → IsReason (setting_of k p) (run_with claims proof c) (inputs mmcs) (words p.mmcs) input_memory word_memory e →
-          AcceptsFrom k m inputs words mmcs p claims proof two old left → e ≡ Memory
+          IsDrawnFrom k m p claims proof old c new → IsReason k p (run_with claims proof c) (inputs mmcs) (words p.mmcs) input_memory word_memory e →
+          IsAccepted k m inputs words mmcs p claims proof old left → e ≡ Memory
       reason-memory told input_memory word_memory old new left c e is why a =
           let both : Ok (drawn_by m.base.coefficients c new) ≡ Ok (drawn_by m.base.coefficients a.drawn left) = sym is ∙ a.draws in
           let drawn : drawn_by m.base.coefficients c new ≡ drawn_by m.base.coefficients a.drawn left = cc in
           let one = challenges-told m.base.coefficients told c a.drawn new left drawn in
-          let accepts = subst (λ d. Accepts (setting_of k p) (run_with claims proof d) p two (inputs mmcs) (words p.mmcs)) (sym one) a.accepts in
-          only_memory (setting_of k p) (run_with claims proof c) (inputs mmcs) (words p.mmcs) input_memory word_memory e why accepts.inputs_shape accepts.fit.claimed accepts.fit.large accepts.holds
+          let accepts = subst (λ d. Accepts k p (run_with claims proof d) (inputs mmcs) (words p.mmcs)) (sym one) a.accepts in
+          only_memory k p (run_with claims proof c) (inputs mmcs) (words p.mmcs) input_memory word_memory e why accepts.inputs_shape accepts.fit.claimed accepts.fit.large accepts.holds

@@ -1,18 +1,19 @@
 -- What contracts see of the scheme's calls.
 use Rattle.std.specs.Prelude.{Bool, IsTrue, List, Vec}
 use Rattle.std.specs.declared.alloc.Global.{Global}
-use Rattle.circle_commit.specs.Pcs.{Openings, openings}
-use Rattle.circle_commit.specs.declared.matrix.RowMajorMatrix.{RowMajorMatrix}
-use Rattle.circle_commit.specs.declared.pcs.OpeningRequest.{OpeningRequest}
+use Rattle.circle_matrix.specs.Pcs.{Openings, openings}
+use Rattle.circle_matrix.specs.declared.matrix.RowMajorMatrix.{RowMajorMatrix}
+use Rattle.circle_matrix.specs.declared.pcs.OpeningRequest.{OpeningRequest}
 use Rattle.circle_opening.specs.declared.error.ProverError.{ProverError}
-use Rattle.circle_scheme.specs.Refusals.{Test}
-use Rattle.circle_scheme.specs.Tests.{TestedFields, request_tests}
+use Rattle.circle_verifier.specs.Refusals.{Test}
+use Rattle.p3_circle.specs.Requesting.{request_tests}
+use Rattle.circle_relation.specs.Accepts.{Fields}
 use Rattle.p3_circle.specs.declared.pcs.CirclePcs.{CirclePcs}
 
 -- the tests of requests to a scheme
-abbrev pub scheme_tests : {F E I W D : Type 0} → TestedFields F E → (D → List (RowMajorMatrix F))
+abbrev pub scheme_tests : {F E I W D : Type 0} → Fields F E → (D → List (RowMajorMatrix F))
     → CirclePcs F I W → List (OpeningRequest D E) → List (Test ProverError)
-scheme_tests t kept pcs requests = request_tests t kept pcs.fri_params requests
+scheme_tests k kept pcs requests = request_tests k kept pcs.fri_params requests
 
 -- a refusal is of memory where something is accepted that leaves some state
 abbrev pub IsOfMemoryIf : {S Err : Type 0} → (Err → Bool) → (S → Type 0) → Err → Type 0

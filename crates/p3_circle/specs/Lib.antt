@@ -1,5 +1,10 @@
-pub mod Replay
-pub mod SchemeLaws
 pub mod Calls
+pub mod Committing
 pub mod Constant
-pub mod Tested
+pub mod Honest
+pub mod Replay
+pub mod Requesting
+pub mod Scheme
+pub mod SchemeFacts
+pub mod SchemeLaws
+pub mod Verdict

@@ -2,16 +2,16 @@
 use Rattle.std.specs.Prelude.{◌≡◌, List, Ok, Result, ◌⊎◌}
 use Rattle.circle_field.specs.Field.{FieldOps}
 use Rattle.circle_challenger.specs.Moves.{RunMoves}
-use Rattle.circle_commit.specs.declared.error.FriError.{FriError}
-use Rattle.circle_commit.specs.declared.error.FriError.TheVariants.{Memory}
-use Rattle.circle_commit.specs.declared.params.FriParameters.{FriParameters}
-use Rattle.circle_commit.specs.declared.params.PowPhase.{PowPhase}
-use Rattle.circle_commit.specs.declared.pcs.CommitmentOpening.{CommitmentOpening}
+use Rattle.circle_matrix.specs.declared.error.FriError.{FriError}
+use Rattle.circle_matrix.specs.declared.error.FriError.TheVariants.{Memory}
+use Rattle.circle_matrix.specs.declared.params.FriParameters.{FriParameters}
+use Rattle.circle_matrix.specs.declared.params.PowPhase.{PowPhase}
+use Rattle.circle_matrix.specs.declared.pcs.CommitmentOpening.{CommitmentOpening}
 use Rattle.circle_domain.specs.declared.domain.CircleDomain.{CircleDomain}
 use Rattle.circle_relation.specs.RunOf.{proof_of}
 use Rattle.circle_relation.specs.StatementOf.{batch_claims}
 use Rattle.circle_relation.specs.declared.proof.CirclePcsProof.{CirclePcsProof}
-use Rattle.circle_scheme.specs.Verdict.{IsMissedIn, drawing}
+use Rattle.p3_circle.specs.Verdict.{IsMissedIn, drawing}
 use Rattle.circle_transcript.specs.Draw.{Drawn}
 use Rattle.circle_runs.specs.Runs.{drawn_leaving}
 use Rattle.circle_runs.specs.declared.run.CircleDraws.{CircleDraws}

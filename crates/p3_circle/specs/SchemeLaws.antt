@@ -4,14 +4,14 @@ use Rattle.std.specs.Prelude.{zip, All, slice_index_or}
 use Rattle.std.specs.List.{AllByRecursion, AllZip}
 use Rattle.std.proofs.Common.{refl, sym, subst, arith, inl, inr}
 use Rattle.std.proofs.lemmas.List.Elements.{recursion_from_All}
-use Rattle.circle_acceptance.proofs.Accepted.{accepts-openings}
+use Rattle.circle_completeness.proofs.Accepted.{accepts-openings}
 use Rattle.circle_challenger.specs.Moves.{RunMoves}
-use Rattle.circle_commit.specs.Mmcs.{HaveHeightsOfPowers}
-use Rattle.circle_commit.specs.Pcs.{Openings}
-use Rattle.circle_commit.specs.declared.matrix.RowMajorMatrix.{RowMajorMatrix}
-use Rattle.circle_commit.specs.declared.params.FriParameters.{FriParameters}
-use Rattle.circle_commit.specs.declared.pcs.CommitmentOpening.{CommitmentOpening}
-use Rattle.circle_commit.specs.declared.pcs.OpeningRequest.{OpeningRequest}
+use Rattle.circle_matrix.specs.Mmcs.{HaveHeightsOfPowers}
+use Rattle.circle_matrix.specs.Pcs.{Openings}
+use Rattle.circle_matrix.specs.declared.matrix.RowMajorMatrix.{RowMajorMatrix}
+use Rattle.circle_matrix.specs.declared.params.FriParameters.{FriParameters}
+use Rattle.circle_matrix.specs.declared.pcs.CommitmentOpening.{CommitmentOpening}
+use Rattle.circle_matrix.specs.declared.pcs.OpeningRequest.{OpeningRequest}
 use Rattle.circle_completeness.proofs.TrueAnswers.{never-too-high}
 use Rattle.circle_domain.specs.declared.domain.CircleDomain.{CircleDomain}
 use Rattle.circle_field.specs.Circle.{AreGenerators}
@@ -26,16 +26,21 @@ use Rattle.circle_relation.specs.Accepts.{Authenticates, Fields}
 use Rattle.circle_relation.specs.RunOf.{proof_of}
 use Rattle.circle_relation.specs.StatementOf.{batch_claims}
 use Rattle.circle_relation.specs.declared.proof.CirclePcsProof.{CirclePcsProof}
-use Rattle.circle_scheme.specs.Committing.{commit_tests}
-use Rattle.circle_scheme.specs.Honest.{AreValuesOfBatch, FindsWitnesses, IsHonestBatch}
-use Rattle.circle_scheme.specs.Requesting.{opening_tests}
-use Rattle.circle_scheme.specs.Scheme.{IsCommitted, IsFirst, IsFirstOf, IsGiven, says_prover_memory}
-use Rattle.circle_scheme.specs.SchemeFacts.{extended-powers}
-use Rattle.circle_scheme.specs.Verdict.{AcceptsFrom}
-use Rattle.circle_scheme.proofs.HonestOpenings.{all-valued, are-claimed, are-pointed, commits}
-use Rattle.circle_scheme.proofs.HonestOpenings.{kept-low}
-use Rattle.circle_scheme.proofs.HonestTests.{batch-passes, requests-pass, unrefused}
-use Rattle.circle_scheme.proofs.Unrefused.{are-fit, are-requests}
+use Rattle.p3_circle.specs.Committing.{commit_tests}
+use Rattle.p3_circle.specs.Honest.{AreValuesOfBatch, FindsWitnesses, IsHonestBatch}
+use Rattle.p3_circle.specs.Requesting.{opening_tests}
+use Rattle.p3_circle.specs.Scheme.{IsCommitted, IsFirst, IsFirstOf, IsGiven, says_prover_memory}
+use Rattle.p3_circle.specs.SchemeFacts.{extended-powers}
+use Rattle.p3_circle.specs.Verdict.{IsAccepted}
+use Rattle.p3_circle.specs.SchemeLaws.HonestOpenings.{all-valued, are-claimed, are-pointed, commits}
+use Rattle.p3_circle.specs.SchemeLaws.HonestOpenings.{kept-low}
+use Rattle.p3_circle.specs.SchemeLaws.HonestTests.{batch-passes, requests-pass, unrefused}
+use Rattle.p3_circle.specs.SchemeLaws.Unrefused.{are-fit, are-requests}
+pub mod CommitTests
+pub mod OnDomain
+pub mod Unrefused
+pub mod HonestTests
+pub mod HonestOpenings
 
 memory-is : (err : ProverError) → err ≡ Memory → IsTrue (says_prover_memory err)
 memory-is err is = subst (λ e. IsTrue (says_prover_memory e)) (sym is) refl
@@ -114,41 +119,42 @@ module _ {F E M : Type 0} {g : Ghosts F} (k : Fields F E) (base : FieldLaws k.fi
     (laws : FieldLaws k.extension) (e : IsEmbedding k.field k.extension k.embed)
     (eq : F → F → Bool) (eq_law : (a b : F) → (eq a b ≡ true) ↔ (a ≡ b)) (same : E → E → Bool)
     (law : (a b : E) → (same a b ≡ true) ↔ (a ≡ b))
-    (two : ℕ) (small : two ≤ 62) (gens : AreGenerators k.field two k.gen) (p : FriParameters M)
+    (small : k.two_adicity ≤ 62) (gens : AreGenerators k.field k.two_adicity k.gen)
+    (p : FriParameters M)
   where
     -- a batch that may be opened is committed to, where memory suffices
     pub honest-commit : (batch : List (CircleDomain F g × RowMajorMatrix F))
-        (points : List (List E)) (err : ProverError) → IsHonestBatch k two p batch points →
-        IsFirstOf (commit_tests two p eq k.field batch) err → IsTrue (says_prover_memory err)
+        (points : List (List E)) (err : ProverError) → IsHonestBatch k k.two_adicity p batch points →
+        IsFirstOf (commit_tests k.two_adicity p eq k.field batch) err → IsTrue (says_prover_memory err)
     honest-commit batch points err honest refused =
-        memory-is err (unrefused (commit_tests two p eq k.field batch) (λ x. x ≡ Memory) err
-        (batch-passes k eq eq_law same law two small p batch points honest) refused)
+        memory-is err (unrefused (commit_tests k.two_adicity p eq k.field batch) (λ x. x ≡ Memory) err
+        (batch-passes k eq eq_law same law k.two_adicity small p batch points honest) refused)
 
     module _ {D IC : Type 0} (kept : D → List (RowMajorMatrix F))
         (Commits : List (RowMajorMatrix F) → IC → Type 0) where
       abbrev CommitsTo : List (CircleDomain F g × RowMajorMatrix F) → IC → D → Type 0
-      CommitsTo = commits k two p kept Commits
+      CommitsTo = commits k k.two_adicity p kept Commits
 
       -- honest requests are opened, where memory suffices and witnesses are found
       pub honest-open : {C S WC : Type 0} (r : RunMoves C S F E WC)
           (requests : List (OpeningRequest D E)) (s : S) (err : ProverError) →
-          AreHonest CommitsTo (IsHonestBatch k two p) requests →
+          AreHonest CommitsTo (IsHonestBatch k k.two_adicity p) requests →
           FindsWitnesses k r p kept requests s →
-          IsFirst (opening_tests kept requests two p k same) (IsFailure k r p kept requests s) err
+          IsFirst (opening_tests kept requests k.two_adicity p k same) (IsFailure k r p kept requests s) err
           → IsTrue (says_prover_memory err)
       honest-open r requests s err honest finds refused =
-          let tests = opening_tests kept requests two p k same in
-          let ok = requests-pass k eq eq_law same law two small p kept Commits requests honest.0
+          let tests = opening_tests kept requests k.two_adicity p k same in
+          let ok = requests-pass k eq eq_law same law k.two_adicity small p kept Commits requests honest.0
           honest.1 in
           let failure = unrefused tests (IsFailure k r p kept requests s) err ok refused in
           let powers : All (λ r. HaveHeightsOfPowers (kept r.prover_data.now)) requests = λ i d lt.
           let h = honest.1 i d lt in extended-powers k.field k.gen p.log_blowup Commits h.batch
           (kept (slice_index_or requests i d).prover_data.now) h.committed.extended in
-          let asked = are-requests kept requests two p k same law base laws e gens powers ok in
-          let low = kept-low k two p kept Commits requests
+          let asked = are-requests kept requests k.two_adicity p k same law base laws e gens powers ok in
+          let low = kept-low k k.two_adicity p kept Commits requests
           (λ i d lt. let h = honest.1 i d lt in (h.batch, h.commitment, h.committed)) asked in
           let never = never-too-high k base laws e eq eq_law same law gens kept p requests
-          (are-fit kept requests two p k same ok) asked r low s err failure in
+          (are-fit kept requests k.two_adicity p k same ok) asked r low s err failure in
           memory-is err (elim failure [
             | inl memory ↦ memory
             | inr rest ↦
@@ -167,15 +173,15 @@ module _ {F E M : Type 0} {g : Ghosts F} (k : Fields F E) (base : FieldLaws k.fi
           (claims : List (CommitmentOpening E IC (CircleDomain F g)))
           (proof : CirclePcsProof F E I M F IC ID IP IE WC WD WP WE) (s t : S) →
           AreAnsweredBy CommitsTo requests values claims →
-          IsGiven p kept k r Commits (inputs mmcs) WordCommits (words p.mmcs) two requests s values
-          proof t → AcceptsFrom k r inputs words mmcs p claims proof two s t
+          IsGiven p kept k r Commits (inputs mmcs) WordCommits (words p.mmcs) k.two_adicity requests s values
+          proof t → IsAccepted k r inputs words mmcs p claims proof s t
       opening-accepted r below inputs words mmcs WordCommits requests values claims proof s t
           answered given =
           let accepted =
           accepts-openings k base laws e gens small r below p kept Commits (inputs mmcs) WordCommits
           (words p.mmcs) requests given.parameters given.arity given.asked values given.answers
           (proof_of proof) s t given.opening
-          (batch_claims claims) (are-claimed k two p kept Commits requests values claims
-          (recursion_from_All (IsFit kept k p.log_blowup two) requests given.asked.fit) answered)
-          (are-pointed k two p kept Commits requests values claims answered) in
+          (batch_claims claims) (are-claimed k k.two_adicity p kept Commits requests values claims
+          (recursion_from_All (IsFit kept k p.log_blowup k.two_adicity) requests given.asked.fit) answered)
+          (are-pointed k k.two_adicity p kept Commits requests values claims answered) in
           record { drawn = accepted.drawn; draws = accepted.draws; accepts = accepted.accepts }

@@ -1,19 +1,19 @@
 //! The scheme as an instance of the traits of schemes.
-ghost use Rattle.circle_commit.specs.Mmcs.{HaveHeightsOfPowers};
+ghost use Rattle.circle_matrix.specs.Mmcs.{HaveHeightsOfPowers};
 ghost use Rattle.circle_opening.specs.Opening.{IsFailure};
 ghost use Rattle.circle_plane.specs.PeriodicColumns.{IsRefusedOn, IsTableOn, columns_of};
-ghost use Rattle.circle_scheme.specs.Committing.{AreExtensions, AreValuesOfMatrix};
-ghost use Rattle.circle_scheme.specs.Committing.{HaveRowsForPoints, commit_tests, evaluation_tests};
-ghost use Rattle.circle_scheme.specs.Committing.{lde_tests, target_tests_at};
-ghost use Rattle.circle_scheme.specs.Honest.{AreValuesOfBatch, FindsWitnesses, IsHonestBatch};
-ghost use Rattle.circle_scheme.specs.Requesting.{opening_tests};
-ghost use Rattle.circle_scheme.specs.Scheme.{AreCommittedTo, AreExtended, CanBeDegree};
-ghost use Rattle.circle_scheme.specs.Scheme.{CanBeEvaluated};
-ghost use Rattle.circle_scheme.specs.Scheme.{HaveCommittedHeights, IsCommitted, IsFirst, IsFirstOf};
-ghost use Rattle.circle_scheme.specs.Scheme.{IsGiven};
-ghost use Rattle.circle_scheme.specs.Scheme.{IsStandardOfSize, says_memory, says_prover_memory};
-ghost use Rattle.circle_scheme.specs.Tests.{run_tests};
-ghost use Rattle.circle_scheme.specs.Verdict.{AcceptsFrom, IsRefused};
+ghost use Rattle.p3_circle.specs.Committing.{AreExtensions, AreValuesOfMatrix};
+ghost use Rattle.p3_circle.specs.Committing.{HaveRowsForPoints, commit_tests, evaluation_tests};
+ghost use Rattle.p3_circle.specs.Committing.{lde_tests, target_tests_at};
+ghost use Rattle.p3_circle.specs.Honest.{AreValuesOfBatch, FindsWitnesses, IsHonestBatch};
+ghost use Rattle.p3_circle.specs.Requesting.{opening_tests};
+ghost use Rattle.p3_circle.specs.Scheme.{AreCommittedTo, AreExtended, CanBeDegree};
+ghost use Rattle.p3_circle.specs.Scheme.{CanBeEvaluated};
+ghost use Rattle.p3_circle.specs.Scheme.{HaveCommittedHeights, IsCommitted, IsFirst, IsFirstOf};
+ghost use Rattle.p3_circle.specs.Scheme.{IsGiven};
+ghost use Rattle.p3_circle.specs.Scheme.{IsStandardOfSize, says_memory, says_prover_memory};
+ghost use Rattle.circle_verifier.specs.Tests.{run_tests};
+ghost use Rattle.p3_circle.specs.Verdict.{IsAccepted, IsRefused};
 ghost use Rattle.p3_circle.specs.Calls.{IsAnswer, IsOfMemoryIf};
 ghost use Rattle.circle_domain.specs.Domain.{log_size};
 ghost use Rattle.std.specs.Prelude.{◌≡◌, ◌+◌, ◌-◌, ◌^◌, min, IfErr, IfOk, OnOk};
@@ -30,7 +30,6 @@ use circle_opening::ProverError;
 use circle_pcs::{Pcs, UnivariateStarkPcs};
 use circle_plane::PeriodicError;
 use circle_relation::{CirclePcsProof, InputError, OverCircle};
-use circle_scheme::TestedOver;
 use std::alloc::Global;
 
 impl<Val, EF, InputMmcs, FriMmcs, C> Pcs<EF, C> for CirclePcs<Val, InputMmcs, FriMmcs>
@@ -41,7 +40,7 @@ where
     FriMmcs: Mmcs<EF>,
     C: CanSample<Val> + GrindingChallenger<Val> + CanObserve<FriMmcs::Commitment>,
 {
-    ghost use Rattle.circle_scheme.specs.SchemeFacts.{kept-powers, one-state};
+    ghost use Rattle.p3_circle.specs.SchemeFacts.{kept-powers, one-state};
     ghost use Rattle.p3_circle.specs.SchemeLaws.{each-point, honest-commit, honest-open};
     ghost use Rattle.p3_circle.specs.SchemeLaws.{opening-accepted, true-values};
 
@@ -94,12 +93,12 @@ where
         ⟦<C as RunChallenger<Val, EF, FriMmcs::Commitment>>⟧.run pcs.fri_params
         InputMmcs.matrices requests state) };
 
-    ghost verify_accepts = { λ pcs claims proof. AcceptsFrom ⟦<EF as OverCircle<Val>>⟧.fields
+    ghost verify_accepts = { λ pcs claims proof. IsAccepted ⟦<EF as OverCircle<Val>>⟧.fields
         ⟦<C as RunChallenger<Val, EF, FriMmcs::Commitment>>⟧.run InputMmcs.authenticates
-        FriMmcs.authenticates pcs.mmcs pcs.fri_params claims proof Val.CIRCLE_TWO_ADICITY };
+        FriMmcs.authenticates pcs.mmcs pcs.fri_params claims proof };
 
     ghost verify_refuses = { λ pcs claims proof old new. IsFirst
-        (run_tests ⟦<EF as TestedOver<Val>>⟧.tested pcs.fri_params claims proof)
+        (run_tests ⟦<EF as OverCircle<Val>>⟧.fields pcs.fri_params claims proof)
         (IsRefused ⟦<EF as OverCircle<Val>>⟧.fields
         ⟦<C as RunChallenger<Val, EF, FriMmcs::Commitment>>⟧.run InputMmcs.authenticates
         FriMmcs.authenticates pcs.mmcs pcs.fri_params claims proof InputMmcs.is_memory
@@ -111,11 +110,11 @@ where
 
     ghost honest_commit = { λ pcs. honest-commit ⟦<EF as OverCircle<Val>>⟧.fields
         Val.Operations.laws EF.Operations.laws EF.embedding Val.eq Val.eq_law EF.eq EF.eq_law
-        Val.CIRCLE_TWO_ADICITY Val.at_most_62 Val.generators_law pcs.fri_params };
+        Val.at_most_62 Val.generators_law pcs.fri_params };
 
     ghost honest_open = { λ pcs. honest-open ⟦<EF as OverCircle<Val>>⟧.fields
         Val.Operations.laws EF.Operations.laws EF.embedding Val.eq Val.eq_law EF.eq EF.eq_law
-        Val.CIRCLE_TWO_ADICITY Val.at_most_62 Val.generators_law pcs.fri_params
+        Val.at_most_62 Val.generators_law pcs.fri_params
         InputMmcs.matrices (InputMmcs.commits pcs.mmcs)
         ⟦<C as RunChallenger<Val, EF, FriMmcs::Commitment>>⟧.run };
 
@@ -134,7 +133,7 @@ where
 
     ghost complete = { λ pcs. opening-accepted ⟦<EF as OverCircle<Val>>⟧.fields
         Val.Operations.laws EF.Operations.laws EF.embedding Val.eq Val.eq_law EF.eq EF.eq_law
-        Val.CIRCLE_TWO_ADICITY Val.at_most_62 Val.generators_law pcs.fri_params
+        Val.at_most_62 Val.generators_law pcs.fri_params
         InputMmcs.matrices (InputMmcs.commits pcs.mmcs)
         ⟦<C as RunChallenger<Val, EF, FriMmcs::Commitment>>⟧.run C.bits_below
         InputMmcs.authenticates FriMmcs.authenticates pcs.mmcs
@@ -145,7 +144,7 @@ where
 
     ghost one_state = { λ pcs claims proof. one-state ⟦<EF as OverCircle<Val>>⟧.fields
         ⟦<C as RunChallenger<Val, EF, FriMmcs::Commitment>>⟧.run InputMmcs.authenticates
-        FriMmcs.authenticates pcs.mmcs pcs.fri_params claims proof Val.CIRCLE_TWO_ADICITY };
+        FriMmcs.authenticates pcs.mmcs pcs.fri_params claims proof };
 
     fn natural_domain_for_degree(&self, degree: usize) -> CircleDomain<Val>
         requires { CanBeDegree Val.CIRCLE_TWO_ADICITY degree }
@@ -230,7 +229,7 @@ where
     FriMmcs: Mmcs<EF>,
     C: CanSample<Val> + GrindingChallenger<Val> + CanObserve<FriMmcs::Commitment>,
 {
-    ghost use Rattle.circle_scheme.specs.SchemeFacts.{batch-committed};
+    ghost use Rattle.p3_circle.specs.SchemeFacts.{batch-committed};
 
     const ZK: bool = false;
 

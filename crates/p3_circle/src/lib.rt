@@ -26,8 +26,7 @@
 //!   matrix and point the values of the polynomials that the first committed rows fix (`values`),
 //!   and a proof that holds the commitments of the words under the challenges that the transcript
 //!   draws of the claims and the proof, their lambdas, the last word's coefficients, and the rows
-//!   and siblings at the drawn indices (`opened`, by `IsGiven` of `circle_scheme`); a later
-//!   refusal has its reason (`failure`): `LastWordNotConstant` is answered only where, under some
+//!   and siblings at the drawn indices (`opened`, by `IsGiven`); a later refusal has its reason (`failure`): `LastWordNotConstant` is answered only where, under some
 //!   challenges, the last word is of too high degree, which it never is of matrices of low degree
 //!   (`honest_openings_end_low` of `circle_completeness`: `never`).
 //!
@@ -36,30 +35,31 @@
 //! calls cite the members of that instance, which say what each call gives and refuses.
 #![tactic(auto)]
 
+mod commit;
 mod instance;
 pub mod laws;
 pub mod pcs;
-pub mod queries;
 mod replay;
+mod requests;
 pub mod transcript;
 mod verdict;
 pub mod verifier;
 
-pub use circle_checks::heights_match_domains;
-pub use circle_final::{x_interpolate, x_value};
+pub use circle_commit::{Pcs, UnivariateStarkPcs, round_trip};
 pub use circle_folding::{
     CircleFriFolding, deep_quotient_reduce_row, extract_lambda, fold_x, fold_x_row, fold_y,
+    x_interpolate, x_value,
 };
 pub use circle_opening::ProverError;
-pub use circle_pcs::{Pcs, UnivariateStarkPcs, round_trip};
 pub use circle_plane::{
-    CfftPerm, CfftPermutable, CfftView, CircleCoset, CircleDomain, CircleEvaluations,
+    Butterflies, CfftPerm, CfftPermutable, CfftView, CircleCoset, CircleDomain, CircleEvaluations,
     CirclePeriodicEvaluator, CirclePoints, Neutral, PeriodicError, Point,
     build_periodic_lde_table_circle, cfft_permute_index, circle_basis,
 };
 pub use circle_relation::{
     CircleCommitPhaseMultiStep, CircleFriProof, CircleInputProof, CirclePcsProof, InputError,
 };
+pub use commit::heights_match_domains;
 pub use pcs::CirclePcs;
 pub use transcript::{
     CircleDraws, CirclePcsShape, CircleProverTranscript, CircleTranscript, CircleTranscriptFailure,

@@ -1,27 +1,27 @@
 //! The scheme.
 ghost use Rattle.std.specs.Prelude.{◌≡◌, ◌+◌, ◌-◌, ◌^◌, ◌<◌, ◌≤◌, length, min};
 ghost use Rattle.std.specs.Prelude.{OnOk, IfOk, IfErr};
-ghost use Rattle.circle_commit.specs.Matrix.{IsPowerOfTwo};
-ghost use Rattle.circle_commit.specs.Mmcs.{HaveHeightsOfPowers};
-ghost use Rattle.circle_commit.specs.Pcs.{openings};
-ghost use Rattle.circle_commit.specs.declared.error.FriError.TheVariants.{Memory};
+ghost use Rattle.circle_matrix.specs.Matrix.{IsPowerOfTwo};
+ghost use Rattle.circle_matrix.specs.Mmcs.{HaveHeightsOfPowers};
+ghost use Rattle.circle_matrix.specs.Pcs.{openings};
+ghost use Rattle.circle_matrix.specs.declared.error.FriError.TheVariants.{Memory};
 ghost use Rattle.circle_domain.specs.Domain.{log_size, IsStandardDomain};
 ghost use Rattle.circle_plane.specs.PeriodicColumns.{columns_of, IsTableOn, IsRefusedOn};
-ghost use Rattle.circle_scheme.specs.Committing.{RefusesInOrder, commit_tests, evaluation_tests};
-ghost use Rattle.circle_scheme.specs.Committing.{lde_tests, height_at, target_tests_at};
-ghost use Rattle.circle_scheme.specs.Committing.{HaveRowsForPoints, AreExtensions};
-ghost use Rattle.circle_scheme.specs.Committing.{AreValuesOfMatrix};
+ghost use Rattle.p3_circle.specs.Committing.{RefusesInOrder, commit_tests, evaluation_tests};
+ghost use Rattle.p3_circle.specs.Committing.{lde_tests, height_at, target_tests_at};
+ghost use Rattle.p3_circle.specs.Committing.{HaveRowsForPoints, AreExtensions};
+ghost use Rattle.p3_circle.specs.Committing.{AreValuesOfMatrix};
 ghost use Rattle.circle_opening.specs.Requests.{AreAnswered};
-ghost use Rattle.circle_scheme.specs.Scheme.{HaveCommittedHeights};
-ghost use Rattle.circle_scheme.specs.Requesting.{RefusesBefore};
-ghost use Rattle.circle_scheme.specs.Tests.{IsFirstRefusal};
+ghost use Rattle.p3_circle.specs.Scheme.{HaveCommittedHeights};
+ghost use Rattle.p3_circle.specs.Requesting.{RefusesBefore};
+ghost use Rattle.circle_verifier.specs.Tests.{IsFirstRefusal};
 ghost use Rattle.p3_circle.specs.Calls.{IsAnswer, scheme_tests};
 
-use circle_challenger::{CanObserve, CanSample, GrindingChallenger};
-use circle_checks::commit::{
-    commit_evaluations, commit_matrices, evaluations_on, log_min_trace_height, quotient_ldes,
+use crate::commit::{
+    evaluations_on, extensions, log_min_trace_height, validate_evaluations, validate_heights,
 };
-use circle_checks::requests::validate_requests;
+use crate::requests::validate_requests;
+use circle_challenger::{CanObserve, CanSample, GrindingChallenger};
 use circle_commit::{
     CommitmentOpening, FriError, FriParameters, Mmcs, OpenedValues, OpeningRequest,
     PeriodicLdeTable, RowMajorMatrix, log2_strict,
@@ -32,7 +32,6 @@ use circle_opening::{ProverError, open_requests};
 use circle_pcs::Pcs;
 use circle_plane::{PeriodicError, build_periodic_lde_table_circle};
 use circle_relation::{CirclePcsProof, InputError, OverCircle};
-use circle_scheme::TestedOver;
 use std::alloc::Global;
 use std::marker::PhantomData;
 
@@ -104,7 +103,11 @@ impl<Val: ComplexExtendable, InputMmcs: Mmcs<Val>, FriMmcs> CirclePcs<Val, Input
         ensures commitment { IfOk result (λ r.
             InputMmcs.commits self.now.mmcs (InputMmcs.matrices r.1) r.0) }
     {
-        commit_evaluations(alloc, &self.mmcs, &self.fri_params, evaluations)
+        if evaluations.is_empty() {
+            return Err(ProverError::NoCommittedMatrices);
+        }
+        let ldes = self.get_quotient_ldes(alloc, evaluations, 1)?;
+        Ok(self.mmcs.commit(alloc, ldes)?)
     }
 
     /// Opens committed matrices at points: for each request, matrix and point the values of the
@@ -139,7 +142,7 @@ impl<Val: ComplexExtendable, InputMmcs: Mmcs<Val>, FriMmcs> CirclePcs<Val, Input
         FriMmcs: Mmcs<EF>,
         C: CanSample<Val> + GrindingChallenger<Val> + CanObserve<FriMmcs::Commitment>,
         requires { HaveCommittedHeights InputMmcs.matrices requests.items }
-        ensures refused { let t = ⟦<EF as TestedOver<Val>>⟧.tested in RefusesBefore (scheme_tests t
+        ensures refused { let k = ⟦<EF as OverCircle<Val>>⟧.fields in RefusesBefore (scheme_tests k
             InputMmcs.matrices self.now requests.entry.items) result challenger.old challenger.new }
         ensures values { let k = ⟦<EF as OverCircle<Val>>⟧.fields in IfOk result (λ r. AreAnswered k
             InputMmcs.matrices self.now.fri_params requests.entry.items (openings r.0.items)) }
@@ -181,7 +184,7 @@ impl<Val: ComplexExtendable, InputMmcs: Mmcs<Val>, FriMmcs> CirclePcs<Val, Input
     where
         FriMmcs: Mmcs<EF>,
         C: CanSample<Val> + GrindingChallenger<Val> + CanObserve<FriMmcs::Commitment>,
-        ensures first { let t = ⟦<EF as TestedOver<Val>>⟧.tested in IsFirstRefusal t
+        ensures first { let k = ⟦<EF as OverCircle<Val>>⟧.fields in IsFirstRefusal k
             self.now.fri_params claims.items proof.now result challenger.old challenger.new }
         ensures accepted { let p = ⟦<Self as Pcs<EF, C>>⟧ in OnOk result (p.verify_accepts self.now
             claims.items proof.now (C.state challenger.old) (C.state challenger.new)) }
@@ -225,7 +228,8 @@ impl<Val: ComplexExtendable, InputMmcs: Mmcs<Val>, FriMmcs> CirclePcs<Val, Input
         ensures matrices { IfOk result (λ made. AreExtensions Val.ops Val.generators
             self.now.fri_params.log_blowup evaluations.items made.items) }
     {
-        quotient_ldes(alloc, &self.fri_params, evaluations)
+        validate_evaluations(&self.fri_params, &evaluations)?;
+        Ok(extensions(alloc, self.fri_params.log_blowup, evaluations)?)
     }
 
     /// Commits to matrices as they are, each on the standard domain of as many points as it has
@@ -246,7 +250,11 @@ impl<Val: ComplexExtendable, InputMmcs: Mmcs<Val>, FriMmcs> CirclePcs<Val, Input
         ensures matrices { IfOk result (λ r. InputMmcs.matrices r.1 ≡ ldes.items) }
         ensures commitment { IfOk result (λ r. InputMmcs.commits self.now.mmcs ldes.items r.0) }
     {
-        commit_matrices(alloc, &self.mmcs, &self.fri_params, ldes)
+        if ldes.is_empty() {
+            return Err(ProverError::NoCommittedMatrices);
+        }
+        validate_heights(&self.fri_params, &ldes)?;
+        Ok(self.mmcs.commit(alloc, ldes)?)
     }
 
     /// The values on a domain, in natural order, of the polynomials that a committed matrix is of:

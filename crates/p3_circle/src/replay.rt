@@ -1,19 +1,19 @@
 //! The verifier's side of the transcript: what it is described by, and what it takes in.
 ghost use Rattle.std.specs.Prelude.{◌≡◌, ◌<◌, ◌^◌, ◌++◌, map, flat_map, length, All, IfOk, IfErr};
 ghost use Rattle.std.specs.Prelude.{OnOk, Ok};
-ghost use Rattle.circle_commit.specs.declared.error.FriError.TheVariants.{Memory};
+ghost use Rattle.circle_matrix.specs.declared.error.FriError.TheVariants.{Memory};
 ghost use Rattle.circle_domain.specs.Selectors.{IsFinite};
 ghost use Rattle.circle_relation.specs.Statement.{all_matrices};
 ghost use Rattle.circle_relation.specs.RunOf.{proof_of};
 ghost use Rattle.circle_relation.specs.StatementOf.{point_claim, matrix_claims, batch_claims};
 ghost use Rattle.circle_transcript.specs.Claims.{claims_of};
 ghost use Rattle.circle_transcript.specs.ShapeOf.{matrices_of, batches_of};
-ghost use Rattle.circle_scheme.specs.Refusals.{is_at_infinity};
-ghost use Rattle.circle_opening.specs.Taken.{widths_by, point_taken, claims_taken};
+ghost use Rattle.circle_verifier.specs.Refusals.{is_at_infinity};
+ghost use Rattle.circle_relation.specs.Taken.{widths_by, point_taken, claims_taken};
 ghost use Rattle.p3_circle.specs.Replay.{AreDrawn, AreNotDrawn};
-ghost use Rattle.circle_checks.specs.Tested.{claimed_top};
-ghost use Rattle.p3_circle.specs.Tested.{IsTested};
-ghost use Rattle.circle_scheme.specs.Verdict.{refusal_of};
+ghost use Rattle.circle_verifier.specs.Tests.{claimed_height};
+ghost use Rattle.circle_verifier.specs.Tested.{IsTestedOver};
+ghost use Rattle.p3_circle.specs.Verdict.{refusal_of};
 
 use circle_challenger::{CanObserve, CanSample, GrindingChallenger, RunChallenger};
 use circle_commit::{
@@ -24,13 +24,16 @@ use circle_domain::CircleDomain;
 use circle_field::{ComplexExtendable, ExtensionField, Field};
 use circle_folding::CircleFriFolding;
 use circle_point::Point;
-use circle_relation::{CirclePcsProof, InputError};
+use circle_relation::{CirclePcsProof, InputError, OverCircle};
 use circle_runs::{CircleDraws, CircleMessages, CircleWitnesses, verifier_run};
 use circle_transcript::{CirclePcsShape, CircleTranscriptFailure, OpeningClaim};
 use std::alloc::{AllocError, Global};
 
 // The number of values that are claimed of a matrix at each of its points.
-fn matrix_widths<EF>(alloc: Global, points: &[PointOpening<EF>]) -> Result<Vec<usize>, AllocError>
+fn widths_of_matrix<EF>(
+    alloc: Global,
+    points: &[PointOpening<EF>],
+) -> Result<Vec<usize>, AllocError>
     ensures { IfOk result (λ v.
         v.items ≡ map (λ c. length c.values) (map point_claim points.now)) }
 {
@@ -42,7 +45,7 @@ fn matrix_widths<EF>(alloc: Global, points: &[PointOpening<EF>]) -> Result<Vec<u
 }
 
 // The same of the matrices of a batch.
-fn batch_widths<F: ComplexExtendable, EF>(
+fn widths_of_batch<F: ComplexExtendable, EF>(
     alloc: Global,
     matrices: &[MatrixOpening<EF, CircleDomain<F>>],
 ) -> Result<Vec<Vec<usize>>, AllocError>
@@ -51,13 +54,13 @@ fn batch_widths<F: ComplexExtendable, EF>(
 {
     let mut widths = Vec::with_capacity(alloc, matrices.len())?;
     for matrix in matrices {
-        widths.push(matrix_widths(alloc, &matrix.points)?)?;
+        widths.push(widths_of_matrix(alloc, &matrix.points)?)?;
     }
     Ok(widths)
 }
 
 /// The number of values of every claim, by batch, matrix and point. Fails where memory is refused.
-pub(crate) fn opened_widths<F: ComplexExtendable, EF, Com>(
+pub(crate) fn widths_of_claims<F: ComplexExtendable, EF, Com>(
     alloc: Global,
     claims: &[CommitmentOpening<EF, Com, CircleDomain<F>>],
 ) -> Result<Vec<Vec<Vec<usize>>>, AllocError>
@@ -65,7 +68,7 @@ pub(crate) fn opened_widths<F: ComplexExtendable, EF, Com>(
 {
     let mut widths = Vec::with_capacity(alloc, claims.len())?;
     for batch in claims {
-        widths.push(batch_widths(alloc, &batch.matrices)?)?;
+        widths.push(widths_of_batch(alloc, &batch.matrices)?)?;
     }
     Ok(widths)
 }
@@ -156,16 +159,16 @@ pub(crate) fn replay_transcript<
 ) -> Result<CircleDraws<EF>, FriError<FriMmcs::Error, InputError<InputMmcs::Error, FriMmcs::Error>>>
 where
     C: CanSample<Val> + GrindingChallenger<Val> + CanObserve<FriMmcs::Commitment>,
-    requires tested { IsTested Val.CIRCLE_TWO_ADICITY (λ w. Val.eq w Val.ZERO)
-        (is_at_infinity EF.eq EF.ops) params.now (batch_claims claims.now) (proof_of proof.now) }
-    requires top { log_max_height ≡ claimed_top params.now (batch_claims claims.now) }
+    requires tested { IsTestedOver ⟦<EF as OverCircle<Val>>⟧.fields params.now
+        (batch_claims claims.now) (proof_of proof.now) }
+    requires top { log_max_height ≡ claimed_height params.now.log_blowup (batch_claims claims.now) }
     ensures drawn { let m = ⟦<C as RunChallenger<Val, EF, FriMmcs::Commitment>>⟧.run in IfOk result
         (λ d. AreDrawn m EF.ops params.now claims.now proof.now challenger.old d challenger.new) }
     ensures below { IfOk result (λ d. All (λ q. q < 2 ^ log_max_height) d.indices.items) }
     ensures failure { let m = ⟦<C as RunChallenger<Val, EF, FriMmcs::Commitment>>⟧.run in
         IfErr result (AreNotDrawn m EF.ops params.now claims.now proof.now challenger.old) }
 {
-    let widths = opened_widths(alloc, claims)?;
+    let widths = widths_of_claims(alloc, claims)?;
     let extra_bits = FriFoldingStrategy::<Val, EF>::extra_query_index_bits(&CircleFriFolding);
     let shape = CirclePcsShape::new(params, widths, log_max_height, extra_bits);
     let fri_proof = &proof.fri_proof;

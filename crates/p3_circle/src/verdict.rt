@@ -1,19 +1,18 @@
 //! The verifier: from claims and a proof to its answer.
 ghost use Rattle.std.specs.Prelude.{◌≡◌, OnOk, IfErr};
-ghost use Rattle.circle_commit.specs.declared.error.FriError.TheVariants.{Memory};
-ghost use Rattle.circle_scheme.specs.Tests.{IsFirstRefusal};
+ghost use Rattle.circle_matrix.specs.declared.error.FriError.TheVariants.{Memory};
+ghost use Rattle.circle_verifier.specs.Tests.{IsFirstRefusal};
 
 use crate::pcs::CirclePcs;
-use crate::queries::verify_drawn;
 use crate::replay::replay_transcript;
 use circle_challenger::{CanObserve, CanSample, GrindingChallenger};
-use circle_checks::verifier::validate_run;
 use circle_commit::{CommitmentOpening, FriError, Mmcs};
 use circle_domain::CircleDomain;
 use circle_field::{ComplexExtendable, ExtensionField};
 use circle_pcs::Pcs;
-use circle_relation::{CirclePcsProof, InputError};
-use circle_scheme::TestedOver;
+use circle_relation::{CirclePcsProof, InputError, OverCircle};
+use circle_verifier::verifier::validate_run;
+use circle_verifier::verify_drawn;
 use std::alloc::Global;
 
 impl<Val: ComplexExtendable, InputMmcs: Mmcs<Val>, FriMmcs> CirclePcs<Val, InputMmcs, FriMmcs> {
@@ -28,7 +27,7 @@ impl<Val: ComplexExtendable, InputMmcs: Mmcs<Val>, FriMmcs> CirclePcs<Val, Input
     where
         FriMmcs: Mmcs<EF>,
         C: CanSample<Val> + GrindingChallenger<Val> + CanObserve<FriMmcs::Commitment>,
-        ensures first { let t = ⟦<EF as TestedOver<Val>>⟧.tested in IsFirstRefusal t
+        ensures first { let k = ⟦<EF as OverCircle<Val>>⟧.fields in IsFirstRefusal k
             self.now.fri_params claims.now proof.now result challenger.old challenger.new }
         ensures accepted { let p = ⟦<Self as Pcs<EF, C>>⟧ in OnOk result (p.verify_accepts self.now
             claims.now proof.now (C.state challenger.old) (C.state challenger.new)) }

@@ -1,5 +1,6 @@
-//! What is refused of a proof before the challenger is seeded.
+//! What is refused of a proof before the challenger is seeded, and once its challenges are drawn.
 
-pub use circle_checks::verifier::{
+pub use circle_verifier::verifier::{
     validate_claims, validate_parameters, validate_points, validate_proof_shape, validate_run,
 };
+pub use circle_verifier::{verify_drawn, verify_queries};

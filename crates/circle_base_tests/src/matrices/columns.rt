@@ -56,14 +56,3 @@ fn sums_of_columns_by_two_lists_of_weights(rt: HostRuntime) -> Result<(), Fail> 
     assert_lists(&rt, &both, &[by_powers, by_others]);
     Ok(())
 }
-
-#[test]
-fn no_sums_of_columns_by_no_list_of_weights(rt: HostRuntime) -> Result<(), Fail> {
-    let matrix = three_rows(rt.alloc())?;
-    assert!(rt;
-        matrix
-            .columnwise_dot_products::<Cubic>(rt.alloc(), &[])?
-            .is_empty()
-    );
-    Ok(())
-}

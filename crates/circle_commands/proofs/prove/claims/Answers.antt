@@ -1,8 +1,8 @@
 use Rattle.std.proofs.Common.{◌≡◌, ◌∙◌, All, length, sym, ap, subst}
 use Rattle.std.proofs.lemmas.List.{length_push}
 use Rattle.std.proofs.lemmas.Slice.Zip.{zip_turn, zip_end}
-use Rattle.circle_commit.specs.DotProduct.{pairwise}
-use Rattle.circle_commit.specs.Mmcs.{opened_rows}
+use Rattle.circle_matrix.specs.DotProduct.{pairwise}
+use Rattle.circle_matrix.specs.Mmcs.{opened_rows}
 use Rattle.circle_commands.specs.Proved.{batch_claimed, matrix_claimed}
 use Rattle.circle_commands.specs.Traces.{HasFittingRows}
 use Rattle.circle_commands.specs.Verified.{batch_told}

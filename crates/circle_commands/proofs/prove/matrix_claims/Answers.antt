@@ -4,7 +4,7 @@ use Rattle.std.proofs.lemmas.Slice.Zip.{zip_turn, zip_end}
 use Rattle.circle_opening.specs.Requests.{lists_of}
 use Rattle.circle_relation.specs.StatementOf.{point_claim}
 use Rattle.circle_words.specs.Words.{claim_of}
-use Rattle.circle_commit.specs.DotProduct.{pairwise}
+use Rattle.circle_matrix.specs.DotProduct.{pairwise}
 use Rattle.circle_commands.specs.Proved.{matrix_claimed}
 use Rattle.circle_commands.specs.Traces.{HasFittingRows}
 use Rattle.circle_commands.specs.Verified.{matrix_told}

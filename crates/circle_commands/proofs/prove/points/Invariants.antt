@@ -1,9 +1,9 @@
 use Rattle.std.proofs.Common.{◌≡◌, length, map, take, drop}
 use Rattle.std.specs.List.{AllZip}
 use Rattle.circle_challenger.specs.Sha256Challenger.{state_of}
-use Rattle.circle_commit.specs.DotProduct.{pairwise}
-use Rattle.circle_commit.specs.Mmcs.{opened_rows}
-use Rattle.circle_commit.specs.Pcs.{openings}
+use Rattle.circle_matrix.specs.DotProduct.{pairwise}
+use Rattle.circle_matrix.specs.Mmcs.{opened_rows}
+use Rattle.circle_matrix.specs.Pcs.{openings}
 use Rattle.circle_merkle.specs.ProverData.{matrices_of}
 use Rattle.circle_opening.specs.Requests.{lists_of}
 use Rattle.circle_relation.specs.StatementOf.{point_claim}

@@ -1,7 +1,7 @@
 use Rattle.std.proofs.Common.{◌≡◌, ◌∙◌, ◌⊎◌, All, sym, ap, subst, inr, replicate, refl}
 use Rattle.std.specs.List.{AllZip}
-use Rattle.circle_commit.specs.DotProduct.{pairwise}
-use Rattle.circle_commit.specs.Pcs.{openings}
+use Rattle.circle_matrix.specs.DotProduct.{pairwise}
+use Rattle.circle_matrix.specs.Pcs.{openings}
 use Rattle.circle_field.specs.Bytes.{bytes}
 use Rattle.circle_merkle.specs.Authentication.{IsShaRoot}
 use Rattle.circle_merkle.specs.ProverData.{matrices_of}
@@ -49,8 +49,8 @@ returns-clause-proof c =
     let committed = c.in_ok-committed.committed.items in
     let requests = c.in_ok-requests.requests.items in
     let values = c.in_ok-values.values.items in
-    proved _ _ _ _ _ _ _ c.args.input _ c.new-scheme.result.mmcs c.over_words.result.mmcs committed requests (openings values) c.observe_commitments.new.challenger c.open.new.challenger c.new-scheme.result.fri_params
-    (c.new-scheme.ensures.params ∙ c.over_words.ensures)
+    proved _ c.args.input _ c.new-scheme.result.mmcs c.with_mmcs.result.mmcs committed requests (openings values) c.observe_commitments.new.challenger c.open.new.challenger c.new-scheme.result.fri_params
+    (c.new-scheme.ensures.params ∙ c.with_mmcs.ensures)
     (subst (λ bs. AllZip (λ b m. IsCommitted (IsShaRoot bytes) c.new-scheme.result.fri_params.log_blowup b.items m) bs committed) c.deref-2.ensures.value c.in_ok-committed.ensures)
     (subst (λ cs. AllZip (IsRequested matrices_of) cs requests) c.deref-4.ensures.value c.in_ok-requests.ensures)
     (c.observe_commitments.ensures ∙ ap (λ s. commitments_taken s c.deref-3.result.now) c.new-challenger.ensures ∙ ap (commitments_taken (replicate 32 0)) c.deref-3.ensures.value)

@@ -1,5 +1,5 @@
 use Rattle.std.proofs.Common.{◌≡◌, map}
-use Rattle.circle_commit.proofs.Written.{written}
+use Rattle.circle_matrix.proofs.Written.{written}
 use Rattle.circle_folding.specs.Fold.{folds}
 use Rattle.circle_folding.specs.Chain.{asked_pairs}
 use Rattle.circle_folding.proofs.query.fold_query_values.Given as goal

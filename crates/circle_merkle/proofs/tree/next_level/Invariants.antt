@@ -1,7 +1,7 @@
 use Rattle.std.proofs.Common.{◌≡◌, ◌*◌, ℕ, map, suc}
 use Rattle.std.specs.List.{range_with_len}
 use Rattle.sha2.specs.Sha256.{sha256}
-use Rattle.circle_commit.specs.Mmcs.{dimensions_of}
+use Rattle.circle_matrix.specs.Mmcs.{dimensions_of}
 use Rattle.circle_merkle.specs.Tree.{digest}
 use Rattle.circle_merkle.specs.Rows.{size_of, matrix_rows}
 use Rattle.circle_merkle.proofs.tree.next_level.Given as goal

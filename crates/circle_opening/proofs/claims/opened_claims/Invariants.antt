@@ -1,7 +1,7 @@
 use Rattle.std.proofs.Common.{◌≡◌, map, take, flat_map}
 use Rattle.circle_transcript.specs.Claims.{claims_of}
 use Rattle.circle_words.specs.Words.{committed_of}
-use Rattle.circle_opening.specs.Taken.{point_taken}
+use Rattle.circle_relation.specs.Taken.{point_taken}
 use Rattle.circle_opening.proofs.claims.opened_claims.Given as goal
 
 -- the claims on the matrices so far are there

@@ -1,8 +1,8 @@
 use Rattle.std.proofs.Common.{◌≡◌, ◌++◌, [], ◌∷◌, ◌∙◌, length, map, refl, ap, arith}
 use Rattle.std.proofs.lemmas.List.{length_push, length-map}
 use Rattle.std.proofs.lemmas.List.Elements.{All-push, All-same}
-use Rattle.circle_commit.specs.RowMajorMatrix.{height_of}
-use Rattle.circle_commit.specs.Mmcs.{opened_rows}
+use Rattle.circle_matrix.specs.RowMajorMatrix.{height_of}
+use Rattle.circle_matrix.specs.Mmcs.{opened_rows}
 use Rattle.circle_relation.specs.Accepts.{Fields}
 use Rattle.circle_words.specs.Words.{committed_of}
 use Rattle.circle_words.specs.declared.reduced.OpenedMatrix.{OpenedMatrix}
@@ -13,7 +13,7 @@ use Rattle.circle_opening.proofs.claims.push_matrices.Goals as goal
 
 pub log2_strict-requires : goal.log2_strict-requires
 log2_strict-requires g c =
-    let k : Fields g.row.F.Denot g.row.EF.Denot = record { field = g.F.Operations.ops; gen = g.F.ComplexExtendable.generators; extension = g.EF.Operations.ops; embed = g.EF.ExtensionField.embed } in
+    let k : Fields g.row.F.Denot g.row.EF.Denot = record { field = g.F.Operations.ops; gen = g.F.ComplexExtendable.generators; two_adicity = g.F.ComplexExtendable.CIRCLE_TWO_ADICITY; is_zero = λ w. g.F.PartialEq.eq w g.F.Field.ZERO; extension = g.EF.Operations.ops; embed = g.EF.ExtensionField.embed; same = g.EF.PartialEq.eq } in
     let ms = c.args.matrices.now in
     let points = c.args.points.now in
     let turn = three_turn ms points c.args.values.now c.loop-matrix.yielded _ _ c.next.new.self _ (cc) (cc) (cc) c.loop-matrix.yielded_by _ c.in-Some.is c.next.ensures.steps in
@@ -24,7 +24,7 @@ log2_strict-requires g c =
 
 pub loop-matrix-preserved : goal.loop-matrix-preserved
 loop-matrix-preserved g c =
-    let k : Fields g.row.F.Denot g.row.EF.Denot = record { field = g.F.Operations.ops; gen = g.F.ComplexExtendable.generators; extension = g.EF.Operations.ops; embed = g.EF.ExtensionField.embed } in
+    let k : Fields g.row.F.Denot g.row.EF.Denot = record { field = g.F.Operations.ops; gen = g.F.ComplexExtendable.generators; two_adicity = g.F.ComplexExtendable.CIRCLE_TWO_ADICITY; is_zero = λ w. g.F.PartialEq.eq w g.F.Field.ZERO; extension = g.EF.Operations.ops; embed = g.EF.ExtensionField.embed; same = g.EF.PartialEq.eq } in
     let two = g.F.ComplexExtendable.CIRCLE_TWO_ADICITY in
     let ms = c.args.matrices.now in
     let points = c.args.points.now in

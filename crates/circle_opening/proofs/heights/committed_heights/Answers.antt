@@ -1,6 +1,6 @@
 use Rattle.std.proofs.Common.{suc, ◌≡◌, ◌==◌, ◌∙◌, ◌+◌, ℕ, Bool, sym, ap, arith, map}
 use Rattle.std.specs.List.{list_any, filter, range_with_len}
-use Rattle.circle_inputs.proofs.Claimed.{more-kept, more-left}
+use Rattle.circle_relation.proofs.Kept.{more-kept, more-left}
 use Rattle.circle_words.specs.Words.{committed_of, Committed}
 use Rattle.circle_opening.specs.Words.{top_of}
 use Rattle.circle_opening.proofs.Tests.{any-map}

@@ -1,4 +1,4 @@
-use Rattle.std.proofs.Common.{◌≡◌, map, take}
+use Rattle.std.proofs.Common.{map, take}
 use Rattle.std.specs.List.{AllZip}
 use Rattle.circle_relation.specs.RunOf.{opened_batch}
 use Rattle.circle_opening.specs.Requests.{HasBatchRows}

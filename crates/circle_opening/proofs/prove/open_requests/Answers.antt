@@ -2,17 +2,18 @@ use Rattle.std.proofs.Common.{◌≡◌, ◌+◌, ◌<◌, ◌≤◌, ◌^◌, A
 use Rattle.std.specs.List.{AllZip}
 use Rattle.std.specs.Prelude.{Ok, slice_index_or}
 use Rattle.circle_challenger.specs.Moves.{RunMoves, run_moves}
-use Rattle.circle_commit.specs.Pcs.{openings}
-use Rattle.circle_commit.specs.RowMajorMatrix.{height_of}
-use Rattle.circle_commit.specs.declared.pcs.OpeningRequest.{OpeningRequest}
+use Rattle.circle_matrix.specs.Pcs.{openings}
+use Rattle.circle_matrix.specs.RowMajorMatrix.{height_of}
+use Rattle.circle_matrix.specs.declared.pcs.OpeningRequest.{OpeningRequest}
 use Rattle.circle_field.specs.Field.{of_nat}
 use Rattle.circle_relation.specs.Accepts.{Fields}
 use Rattle.circle_relation.specs.RunOf.{proof_of}
 use Rattle.circle_runs.specs.Runs.{drawn_of}
 use Rattle.circle_transcript.proofs.Playing.{handed_on}
-use Rattle.circle_opening.specs.Opening.{IsFailure, IsOpening, answered_claims, answered_matrices, challenges_of}
+use Rattle.circle_opening.specs.Opening.{IsFailure, IsOpening, answered_claims, answered_matrices}
+use Rattle.circle_relation.specs.Taken.{challenges_of}
 use Rattle.circle_opening.specs.Requests.{AreAnswers, AreHeights, HasBatchRows, log_of}
-use Rattle.circle_opening.specs.Taken.{claims_taken, shape_by, taken_by}
+use Rattle.circle_relation.specs.Taken.{claims_taken, shape_by, taken_by}
 use Rattle.circle_opening.specs.Words.{taken_in, top_of}
 use Rattle.circle_opening.proofs.Answered.{all-some, batch-heights, fit-known, heights-back, heights-known}
 use Rattle.circle_opening.proofs.Stuck.{draw-moved}
@@ -21,7 +22,7 @@ use Rattle.circle_opening.proofs.prove.open_requests.Given.{Over}
 use Rattle.circle_opening.proofs.prove.open_requests.Goals as goal
 
 abbrev fields : (g : Over) → Fields g.row.Val.Denot g.row.EF.Denot
-fields g = record { field = g.Val.Operations.ops; gen = g.Val.ComplexExtendable.generators; extension = g.EF.Operations.ops; embed = g.EF.ExtensionField.embed }
+fields g = record { field = g.Val.Operations.ops; gen = g.Val.ComplexExtendable.generators; two_adicity = g.Val.ComplexExtendable.CIRCLE_TWO_ADICITY; is_zero = λ w. g.Val.PartialEq.eq w g.Val.Field.ZERO; extension = g.EF.Operations.ops; embed = g.EF.ExtensionField.embed; same = g.EF.PartialEq.eq }
 
 -- what the challenger is to the run
 abbrev challenger : (g : Over) → RunMoves g.row.C.Denot g.row.C-State.Denot g.row.Val.Denot g.row.EF.Denot g.row.FriMmcs-Commitment.Denot

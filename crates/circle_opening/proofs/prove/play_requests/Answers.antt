@@ -3,20 +3,20 @@ use Rattle.std.specs.Prelude.{Ok}
 use Rattle.std.specs.List.{AllZip}
 use Rattle.std.specs.Prelude.{IfOk, slice_index_or}
 use Rattle.std.proofs.lemmas.Nat.{pow_pos}
-use Rattle.circle_commit.specs.Pcs.{Openings}
-use Rattle.circle_commit.specs.RowMajorMatrix.{height_of}
-use Rattle.circle_commit.specs.declared.params.FriParameters.{FriParameters}
-use Rattle.circle_commit.specs.declared.pcs.OpeningRequest.{OpeningRequest}
+use Rattle.circle_matrix.specs.Pcs.{Openings}
+use Rattle.circle_matrix.specs.RowMajorMatrix.{height_of}
+use Rattle.circle_matrix.specs.declared.params.FriParameters.{FriParameters}
+use Rattle.circle_matrix.specs.declared.pcs.OpeningRequest.{OpeningRequest}
 use Rattle.circle_domain.specs.Selectors.{IsFinite}
 use Rattle.circle_relation.specs.Statement.{all_matrices, log_max_height}
 use Rattle.circle_words.specs.Words.{CanBeOpened}
 use Rattle.circle_opening.specs.Requests.{AreAnswers, AreRequests}
-use Rattle.circle_opening.specs.Taken.{point_taken}
+use Rattle.circle_relation.specs.Taken.{point_taken}
 use Rattle.circle_opening.specs.Words.{AreTall}
 use Rattle.std.proofs.lemmas.List.Elements.{All-map}
 use Rattle.circle_challenger.specs.Moves.{RunMoves, run_moves}
-use Rattle.circle_commit.specs.Pcs.{openings}
-use Rattle.circle_commit.specs.RowMajorMatrix.{width_of}
+use Rattle.circle_matrix.specs.Pcs.{openings}
+use Rattle.circle_matrix.specs.RowMajorMatrix.{width_of}
 use Rattle.circle_field.specs.Field.{of_nat}
 use Rattle.circle_relation.specs.Accepts.{Fields}
 use Rattle.circle_transcript.specs.Claims.{claims_of}
@@ -29,9 +29,10 @@ use Rattle.circle_words.specs.declared.reduced.OpenedMatrix.{OpenedMatrix}
 use Rattle.circle_opening.specs.Failure.{IsStuck, IsTooHigh}
 use Rattle.circle_opening.specs.Opening.{answered_claims}
 use Rattle.circle_opening.specs.Requests.{all_committed}
-use Rattle.circle_opening.specs.Taken.{claims_taken, shape_by}
+use Rattle.circle_relation.specs.Taken.{claims_taken, shape_by}
 use Rattle.circle_opening.specs.Words.{AreWordsOf, taken_in, top_of}
-use Rattle.circle_opening.proofs.Answered.{all-some, heights-known, if_err, if_ok2}
+use Rattle.circle_opening.proofs.Answered.{all-some, heights-known, if_ok2}
+use Rattle.circle_relation.proofs.Results.{if_err}
 use Rattle.circle_opening.proofs.Asked.{all-taken, all-widths, top-claimed}
 use Rattle.circle_opening.proofs.Counts.{queries-count}
 use Rattle.circle_opening.proofs.Described.{claims_widths, shape_is}
@@ -42,7 +43,7 @@ use Rattle.circle_opening.proofs.prove.play_requests.Given.{Over}
 use Rattle.circle_opening.proofs.prove.play_requests.Goals as goal
 
 abbrev fields : (g : Over) → Fields g.row.Val.Denot g.row.EF.Denot
-fields g = record { field = g.Val.Operations.ops; gen = g.Val.ComplexExtendable.generators; extension = g.EF.Operations.ops; embed = g.EF.ExtensionField.embed }
+fields g = record { field = g.Val.Operations.ops; gen = g.Val.ComplexExtendable.generators; two_adicity = g.Val.ComplexExtendable.CIRCLE_TWO_ADICITY; is_zero = λ w. g.Val.PartialEq.eq w g.Val.Field.ZERO; extension = g.EF.Operations.ops; embed = g.EF.ExtensionField.embed; same = g.EF.PartialEq.eq }
 
 -- what the challenger is to the run
 abbrev challenger : (g : Over) → RunMoves g.row.C.Denot g.row.C-State.Denot g.row.Val.Denot g.row.EF.Denot g.row.FriMmcs-Commitment.Denot
@@ -223,7 +224,7 @@ returns-clause-failure g c =
     let shape = shape_is p claims (batches_of c.in_ok-widths.widths.items) c.greatest_height.result c.extra_query_index_bits-extra_bits.result (shape_of c.new-shape.result)
     (ap shape_of c.new-shape.ensures) wide high c.extra_query_index_bits-extra_bits.ensures in
     let s = g.C.ChallengerState.state c.args.challenger.now in
-    if_err c.open_words.result _ _
+    if_err _ _ c.open_words.result
     (λ e why.
     elim why [
       | inl refused ↦ inl refused

@@ -1,21 +1,20 @@
-use Rattle.std.proofs.Common.{◌≡◌, ℕ, ◌<◌, ◌≤◌, ◌-◌, ◌+◌, ◌^◌, ◌∷◌, [], ◌∙◌, List, All, length, map, Some, refl, sym, ap, subst, arith}
+use Rattle.std.proofs.Common.{◌≡◌, ◌<◌, ◌≤◌, ◌-◌, ◌+◌, ◌^◌, ◌∷◌, [], ◌∙◌, List, All, length, map, Some, sym, ap, subst, arith}
 use Rattle.std.specs.Prelude.{slice_get}
 use Rattle.std.proofs.lemmas.List.{length-map}
 use Rattle.std.proofs.lemmas.Option.{slice_get_within}
-use Rattle.circle_commit.specs.Mmcs.{max_height}
 use Rattle.circle_relation.specs.Accepts.{Fields}
-use Rattle.circle_words.specs.Words.{Committed, HaveHeights}
+use Rattle.circle_words.specs.Words.{HaveHeights}
 use Rattle.circle_relation.specs.RunOf.{opened_round}
 use Rattle.circle_relation.specs.Statement.{Opened}
 use Rattle.circle_opening.specs.Openings.{OpensSiblings}
-use Rattle.circle_opening.specs.Words.{heights_of, round_word, top_of}
+use Rattle.circle_opening.specs.Words.{heights_of}
 use Rattle.circle_opening.proofs.Held.{first-greatest, read-map, round-shape, slice_get_at}
 use Rattle.circle_opening.proofs.Tops.{all-low, top-known}
 use Rattle.circle_opening.proofs.prove.prove_words.Given.{Over}
 use Rattle.circle_opening.proofs.prove.prove_words.Goals as goal
 
 abbrev fields : (g : Over) → Fields g.row.Val.Denot g.row.EF.Denot
-fields g = record { field = g.Val.Operations.ops; gen = g.Val.ComplexExtendable.generators; extension = g.EF.Operations.ops; embed = g.EF.ExtensionField.embed }
+fields g = record { field = g.Val.Operations.ops; gen = g.Val.ComplexExtendable.generators; two_adicity = g.Val.ComplexExtendable.CIRCLE_TWO_ADICITY; is_zero = λ w. g.Val.PartialEq.eq w g.Val.Field.ZERO; extension = g.EF.Operations.ops; embed = g.EF.ExtensionField.embed; same = g.EF.PartialEq.eq }
 
 pub open_siblings-requires-clause-bits : goal.open_siblings-requires-clause-bits
 open_siblings-requires-clause-bits g c =

@@ -1,5 +1,5 @@
 use Rattle.std.proofs.Common.{◌≡◌, ◌-◌, ◌^◌, ◌∙◌, sym, ap, arith, length, map}
-use Rattle.circle_commit.specs.RowMajorMatrix.{length-rows, rows}
+use Rattle.circle_matrix.specs.RowMajorMatrix.{length-rows, rows}
 use Rattle.circle_words.specs.Words.{pairs_of}
 use Rattle.circle_opening.proofs.Growing.{first_rows, length-pairs_of}
 use Rattle.circle_opening.proofs.rounds.play_round.Goals as goal

@@ -3,7 +3,7 @@ use Rattle.std.proofs.Common.{◌≡◌, ◌+◌, ◌^◌, ◌<◌, ◌∷◌, [
 use Rattle.std.proofs.lemmas.List.{map-append, length_push}
 use Rattle.std.proofs.lemmas.List.Elements.{All-nil}
 use Rattle.circle_challenger.specs.Moves.{RunMoves, run_moves}
-use Rattle.circle_commit.specs.declared.params.PowPhase.TheVariants.{CommitPhase}
+use Rattle.circle_matrix.specs.declared.params.PowPhase.TheVariants.{CommitPhase}
 use Rattle.circle_field.specs.Field.{of_nat}
 use Rattle.circle_relation.specs.Accepts.{Fields}
 use Rattle.circle_transcript.specs.Transcript.{numbers}
@@ -22,7 +22,7 @@ challenger g = run_moves g.C.ChallengerState.state g.C.CanObserve-1.after_observ
 
 -- the fields of the run
 abbrev fields : (g : Over) → Fields g.row.F.Denot g.row.EF.Denot
-fields g = record { field = g.F.Operations.ops; gen = g.F.ComplexExtendable.generators; extension = g.EF.Operations.ops; embed = g.EF.ExtensionField.embed }
+fields g = record { field = g.F.Operations.ops; gen = g.F.ComplexExtendable.generators; two_adicity = g.F.ComplexExtendable.CIRCLE_TWO_ADICITY; is_zero = λ w. g.F.PartialEq.eq w g.F.Field.ZERO; extension = g.EF.Operations.ops; embed = g.EF.ExtensionField.embed; same = g.EF.PartialEq.eq }
 
 pub loop-i-init : goal.loop-i-init
 loop-i-init g c =

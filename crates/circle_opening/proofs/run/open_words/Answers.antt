@@ -1,5 +1,4 @@
-use Rattle.std.specs.Prelude.{◌⊎◌}
-use Rattle.std.proofs.Common.{rules, ◌≡◌, inl, inr}
+use Rattle.std.proofs.Common.{rules, inl, inr}
 use Rattle.circle_field.specs.Field.{of_nat}
 use Rattle.circle_challenger.specs.Moves.{RunMoves, run_moves}
 use Rattle.circle_transcript.specs.Claims.{claims_of}

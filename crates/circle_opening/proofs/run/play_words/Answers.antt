@@ -2,7 +2,7 @@ use Rattle.std.specs.Prelude.{◌⊎◌, IsTrue, Ok, Err, unwrap_or, zip}
 use Rattle.std.proofs.Common.{◌≡◌, ◌<◌, ◌≤◌, ◌-◌, ◌+◌, ◌^◌, ◌++◌, [], ℕ, List, All, length, map, take, refl, sym, ap, ◌∙◌, subst, arith, inl, inr}
 use Rattle.std.proofs.lemmas.List.Elements.{All-map}
 use Rattle.circle_challenger.specs.Moves.{RunMoves, run_moves, after_element, after_pow, is_passed}
-use Rattle.circle_commit.specs.declared.params.PowPhase.TheVariants.{CommitPhase, Query}
+use Rattle.circle_matrix.specs.declared.params.PowPhase.TheVariants.{CommitPhase, Query}
 use Rattle.circle_field.specs.Field.{of_nat}
 use Rattle.circle_folding.specs.Fold.{y_folds}
 use Rattle.circle_relation.specs.Accepts.{Fields}
@@ -16,8 +16,8 @@ use Rattle.circle_transcript.specs.declared.transcript.Numbers.{Numbers}
 use Rattle.circle_runs.proofs.Drawn.{AtRounds, at_layer, at_query, all_drawn, drawn_parts}
 use Rattle.circle_transcript.proofs.Playing.{handed_on, unwrap_none}
 use Rattle.circle_runs.proofs.Runs.{indices_due}
-use Rattle.circle_commit.specs.RowMajorMatrix.{rows}
-use Rattle.circle_commit.specs.DotProduct.{pairwise}
+use Rattle.circle_matrix.specs.RowMajorMatrix.{rows}
+use Rattle.circle_matrix.specs.DotProduct.{pairwise}
 use Rattle.circle_domain.specs.Spans.{HasXValues, XSpan}
 use Rattle.circle_words.specs.Words.{Committed, HaveHeights, committed_of, lambda}
 use Rattle.circle_opening.specs.Failure.{IsStuck, IsTooHigh, prover_error}
@@ -145,7 +145,7 @@ final_coefficients-requires-clause-in_group g c =
     omega (arith, tall, low)
 
 abbrev fields : (g : Over) → Fields g.row.F.Denot g.row.EF.Denot
-fields g = record { field = g.F.Operations.ops; gen = g.F.ComplexExtendable.generators; extension = g.EF.Operations.ops; embed = g.EF.ExtensionField.embed }
+fields g = record { field = g.F.Operations.ops; gen = g.F.ComplexExtendable.generators; two_adicity = g.F.ComplexExtendable.CIRCLE_TWO_ADICITY; is_zero = λ w. g.F.PartialEq.eq w g.F.Field.ZERO; extension = g.EF.Operations.ops; embed = g.EF.ExtensionField.embed; same = g.EF.PartialEq.eq }
 
 -- what the challenger is to the run
 abbrev challenger : (g : Over) → RunMoves g.row.C.Denot g.row.C-State.Denot g.row.F.Denot g.row.EF.Denot g.row.M-Commitment.Denot
@@ -332,7 +332,7 @@ returns-clause-draws g c =
 
 pub returns-clause-words : goal.returns-clause-words
 returns-clause-words g c =
-    let k : Fields g.row.F.Denot g.row.EF.Denot = record { field = g.F.Operations.ops; gen = g.F.ComplexExtendable.generators; extension = g.EF.Operations.ops; embed = g.EF.ExtensionField.embed } in
+    let k : Fields g.row.F.Denot g.row.EF.Denot = record { field = g.F.Operations.ops; gen = g.F.ComplexExtendable.generators; two_adicity = g.F.ComplexExtendable.CIRCLE_TWO_ADICITY; is_zero = λ w. g.F.PartialEq.eq w g.F.Field.ZERO; extension = g.EF.Operations.ops; embed = g.EF.ExtensionField.embed; same = g.EF.PartialEq.eq } in
     let ms = map committed_of c.args.matrices.now in
     let b = c.args.params.now.log_blowup in
     let f = c.args.params.now.log_final_poly_len in

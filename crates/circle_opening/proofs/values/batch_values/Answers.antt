@@ -3,9 +3,9 @@ use Rattle.std.specs.Prelude.{zip}
 use Rattle.std.specs.List.{AllZip}
 use Rattle.std.proofs.lemmas.List.{length_push, length-map, take_all}
 use Rattle.std.proofs.lemmas.Slice.Zip.{zip_turn, zip_end}
-use Rattle.circle_commit.specs.Mmcs.{opened_rows}
-use Rattle.circle_commit.specs.RowMajorMatrix.{height_of}
-use Rattle.circle_commit.specs.declared.matrix.RowMajorMatrix.{RowMajorMatrix}
+use Rattle.circle_matrix.specs.Mmcs.{opened_rows}
+use Rattle.circle_matrix.specs.RowMajorMatrix.{height_of}
+use Rattle.circle_matrix.specs.declared.matrix.RowMajorMatrix.{RowMajorMatrix}
 use Rattle.circle_relation.specs.Accepts.{Fields}
 use Rattle.circle_words.specs.Values.{AreOff, AreOpened}
 use Rattle.circle_opening.specs.Requests.{AreValuesOf, IsOpenable, lists_of, log_of}
@@ -14,7 +14,7 @@ use Rattle.circle_opening.proofs.values.batch_values.Goals as goal
 
 pub log2_strict-log_height-requires : goal.log2_strict-log_height-requires
 log2_strict-log_height-requires g c =
-    let k : Fields g.row.F.Denot g.row.EF.Denot = record { field = g.F.Operations.ops; gen = g.F.ComplexExtendable.generators; extension = g.EF.Operations.ops; embed = g.EF.ExtensionField.embed } in
+    let k : Fields g.row.F.Denot g.row.EF.Denot = record { field = g.F.Operations.ops; gen = g.F.ComplexExtendable.generators; two_adicity = g.F.ComplexExtendable.CIRCLE_TWO_ADICITY; is_zero = λ w. g.F.PartialEq.eq w g.F.Field.ZERO; extension = g.EF.Operations.ops; embed = g.EF.ExtensionField.embed; same = g.EF.PartialEq.eq } in
     let ms = c.args.matrices.now in
     let points = c.args.points.now in
     let turn = zip_turn ms points c.loop-matrix.yielded _ _ c.next.new.self _ (cc) (cc) c.loop-matrix.yielded_by _ c.in-Some.is c.next.ensures.steps in
@@ -25,7 +25,7 @@ log2_strict-log_height-requires g c =
 
 pub opened_values-requires-clause-blowup : goal.opened_values-requires-clause-blowup
 opened_values-requires-clause-blowup g c =
-    let k : Fields g.row.F.Denot g.row.EF.Denot = record { field = g.F.Operations.ops; gen = g.F.ComplexExtendable.generators; extension = g.EF.Operations.ops; embed = g.EF.ExtensionField.embed } in
+    let k : Fields g.row.F.Denot g.row.EF.Denot = record { field = g.F.Operations.ops; gen = g.F.ComplexExtendable.generators; two_adicity = g.F.ComplexExtendable.CIRCLE_TWO_ADICITY; is_zero = λ w. g.F.PartialEq.eq w g.F.Field.ZERO; extension = g.EF.Operations.ops; embed = g.EF.ExtensionField.embed; same = g.EF.PartialEq.eq } in
     let ms = c.args.matrices.now in
     let points = c.args.points.now in
     let turn = zip_turn ms points c.loop-matrix.yielded _ _ c.next.new.self _ (cc) (cc) c.loop-matrix.yielded_by _ c.in-Some.is c.next.ensures.steps in
@@ -37,7 +37,7 @@ opened_values-requires-clause-blowup g c =
 
 pub opened_values-requires-clause-in_group : goal.opened_values-requires-clause-in_group
 opened_values-requires-clause-in_group g c =
-    let k : Fields g.row.F.Denot g.row.EF.Denot = record { field = g.F.Operations.ops; gen = g.F.ComplexExtendable.generators; extension = g.EF.Operations.ops; embed = g.EF.ExtensionField.embed } in
+    let k : Fields g.row.F.Denot g.row.EF.Denot = record { field = g.F.Operations.ops; gen = g.F.ComplexExtendable.generators; two_adicity = g.F.ComplexExtendable.CIRCLE_TWO_ADICITY; is_zero = λ w. g.F.PartialEq.eq w g.F.Field.ZERO; extension = g.EF.Operations.ops; embed = g.EF.ExtensionField.embed; same = g.EF.PartialEq.eq } in
     let ms = c.args.matrices.now in
     let points = c.args.points.now in
     let turn = zip_turn ms points c.loop-matrix.yielded _ _ c.next.new.self _ (cc) (cc) c.loop-matrix.yielded_by _ c.in-Some.is c.next.ensures.steps in
@@ -49,7 +49,7 @@ opened_values-requires-clause-in_group g c =
 
 pub opened_values-requires-clause-off : goal.opened_values-requires-clause-off
 opened_values-requires-clause-off g c =
-    let k : Fields g.row.F.Denot g.row.EF.Denot = record { field = g.F.Operations.ops; gen = g.F.ComplexExtendable.generators; extension = g.EF.Operations.ops; embed = g.EF.ExtensionField.embed } in
+    let k : Fields g.row.F.Denot g.row.EF.Denot = record { field = g.F.Operations.ops; gen = g.F.ComplexExtendable.generators; two_adicity = g.F.ComplexExtendable.CIRCLE_TWO_ADICITY; is_zero = λ w. g.F.PartialEq.eq w g.F.Field.ZERO; extension = g.EF.Operations.ops; embed = g.EF.ExtensionField.embed; same = g.EF.PartialEq.eq } in
     let ms = c.args.matrices.now in
     let points = c.args.points.now in
     let turn = zip_turn ms points c.loop-matrix.yielded _ _ c.next.new.self _ (cc) (cc) c.loop-matrix.yielded_by _ c.in-Some.is c.next.ensures.steps in
@@ -61,7 +61,7 @@ opened_values-requires-clause-off g c =
 
 pub loop-matrix-preserved : goal.loop-matrix-preserved
 loop-matrix-preserved g c =
-    let k : Fields g.row.F.Denot g.row.EF.Denot = record { field = g.F.Operations.ops; gen = g.F.ComplexExtendable.generators; extension = g.EF.Operations.ops; embed = g.EF.ExtensionField.embed } in
+    let k : Fields g.row.F.Denot g.row.EF.Denot = record { field = g.F.Operations.ops; gen = g.F.ComplexExtendable.generators; two_adicity = g.F.ComplexExtendable.CIRCLE_TWO_ADICITY; is_zero = λ w. g.F.PartialEq.eq w g.F.Field.ZERO; extension = g.EF.Operations.ops; embed = g.EF.ExtensionField.embed; same = g.EF.PartialEq.eq } in
     let ms = c.args.matrices.now in
     let points = c.args.points.now in
     let second : c.zip-matrix-items.result.b.rest.now ≡ points = c.zip-matrix-items.ensures.second.0 in
@@ -85,7 +85,7 @@ loop-matrix-preserved g c =
 
 pub returns-clause-count : goal.returns-clause-count
 returns-clause-count g c =
-    let k : Fields g.row.F.Denot g.row.EF.Denot = record { field = g.F.Operations.ops; gen = g.F.ComplexExtendable.generators; extension = g.EF.Operations.ops; embed = g.EF.ExtensionField.embed } in
+    let k : Fields g.row.F.Denot g.row.EF.Denot = record { field = g.F.Operations.ops; gen = g.F.ComplexExtendable.generators; two_adicity = g.F.ComplexExtendable.CIRCLE_TWO_ADICITY; is_zero = λ w. g.F.PartialEq.eq w g.F.Field.ZERO; extension = g.EF.Operations.ops; embed = g.EF.ExtensionField.embed; same = g.EF.PartialEq.eq } in
     let ms = c.args.matrices.now in
     let points = c.args.points.now in
     let last = zip_end ms points c.loop-matrix.yielded _ _ c.next.new.self _ (cc) (cc) c.loop-matrix.yielded_by c.in-None.is c.next.ensures.steps in
@@ -95,7 +95,7 @@ returns-clause-count g c =
 
 pub returns-clause-values : goal.returns-clause-values
 returns-clause-values g c =
-    let k : Fields g.row.F.Denot g.row.EF.Denot = record { field = g.F.Operations.ops; gen = g.F.ComplexExtendable.generators; extension = g.EF.Operations.ops; embed = g.EF.ExtensionField.embed } in
+    let k : Fields g.row.F.Denot g.row.EF.Denot = record { field = g.F.Operations.ops; gen = g.F.ComplexExtendable.generators; two_adicity = g.F.ComplexExtendable.CIRCLE_TWO_ADICITY; is_zero = λ w. g.F.PartialEq.eq w g.F.Field.ZERO; extension = g.EF.Operations.ops; embed = g.EF.ExtensionField.embed; same = g.EF.PartialEq.eq } in
     let ms = c.args.matrices.now in
     let points = c.args.points.now in
     let last = zip_end ms points c.loop-matrix.yielded _ _ c.next.new.self _ (cc) (cc) c.loop-matrix.yielded_by c.in-None.is c.next.ensures.steps in

@@ -2,9 +2,9 @@ use Rattle.std.proofs.Common.{[], ◌∷◌, ◌∙◌, List, Vec, Global, lengt
 use Rattle.std.specs.Prelude.{zip}
 use Rattle.std.specs.List.{AllZip}
 use Rattle.std.proofs.lemmas.List.{length-map, map-append, take_all}
-use Rattle.circle_commit.specs.Mmcs.{opened_rows}
-use Rattle.circle_commit.specs.Pcs.{openings}
-use Rattle.circle_commit.specs.declared.matrix.RowMajorMatrix.{RowMajorMatrix}
+use Rattle.circle_matrix.specs.Mmcs.{opened_rows}
+use Rattle.circle_matrix.specs.Pcs.{openings}
+use Rattle.circle_matrix.specs.declared.matrix.RowMajorMatrix.{RowMajorMatrix}
 use Rattle.circle_relation.specs.Accepts.{Fields}
 use Rattle.circle_opening.specs.Requests.{AreAnswers, AreValuesOf, IsFit, IsOpenable, lists_of}
 use Rattle.circle_opening.proofs.Requested.{pushed-more}
@@ -12,7 +12,7 @@ use Rattle.circle_opening.proofs.values.requested_values.Goals as goal
 
 pub batch_values-requires-clause-fit : goal.batch_values-requires-clause-fit
 batch_values-requires-clause-fit g c =
-    let k : Fields g.row.F.Denot g.row.EF.Denot = record { field = g.F.Operations.ops; gen = g.F.ComplexExtendable.generators; extension = g.EF.Operations.ops; embed = g.EF.ExtensionField.embed } in
+    let k : Fields g.row.F.Denot g.row.EF.Denot = record { field = g.F.Operations.ops; gen = g.F.ComplexExtendable.generators; two_adicity = g.F.ComplexExtendable.CIRCLE_TWO_ADICITY; is_zero = λ w. g.F.PartialEq.eq w g.F.Field.ZERO; extension = g.EF.Operations.ops; embed = g.EF.ExtensionField.embed; same = g.EF.PartialEq.eq } in
     let R = IsOpenable k g.F.ComplexExtendable.CIRCLE_TWO_ADICITY c.args.log_blowup in
     let r = c.request-item.result in
     let kept = g.M.Mmcs.matrices in
@@ -22,7 +22,7 @@ batch_values-requires-clause-fit g c =
 
 pub loop-request-preserved : goal.loop-request-preserved
 loop-request-preserved g c =
-    let k : Fields g.row.F.Denot g.row.EF.Denot = record { field = g.F.Operations.ops; gen = g.F.ComplexExtendable.generators; extension = g.EF.Operations.ops; embed = g.EF.ExtensionField.embed } in
+    let k : Fields g.row.F.Denot g.row.EF.Denot = record { field = g.F.Operations.ops; gen = g.F.ComplexExtendable.generators; two_adicity = g.F.ComplexExtendable.CIRCLE_TWO_ADICITY; is_zero = λ w. g.F.PartialEq.eq w g.F.Field.ZERO; extension = g.EF.Operations.ops; embed = g.EF.ExtensionField.embed; same = g.EF.PartialEq.eq } in
     let kept = g.M.Mmcs.matrices in
     let r = c.request-item.result in
     let made = c.in_ok-batch_values.field-0 in
@@ -44,6 +44,6 @@ loop-request-preserved g c =
 
 pub returns : goal.returns
 returns g c =
-    let k : Fields g.row.F.Denot g.row.EF.Denot = record { field = g.F.Operations.ops; gen = g.F.ComplexExtendable.generators; extension = g.EF.Operations.ops; embed = g.EF.ExtensionField.embed } in
+    let k : Fields g.row.F.Denot g.row.EF.Denot = record { field = g.F.Operations.ops; gen = g.F.ComplexExtendable.generators; two_adicity = g.F.ComplexExtendable.CIRCLE_TWO_ADICITY; is_zero = λ w. g.F.PartialEq.eq w g.F.Field.ZERO; extension = g.EF.Operations.ops; embed = g.EF.ExtensionField.embed; same = g.EF.PartialEq.eq } in
     subst (λ rs. AllZip (AreAnswers g.M.Mmcs.matrices k c.args.log_blowup) rs (openings c.loop-request.values.items))
     (take_all c.loop-request.request-index c.args.requests.now c.loop-request-test.false) c.loop-request.invariant.values

@@ -1,6 +1,6 @@
 use Rattle.std.proofs.Common.{◌∙◌, length, map, refl, sym, ap, arith}
 use Rattle.std.proofs.lemmas.List.{take_all}
-use Rattle.circle_commit.specs.Mmcs.{opened_rows}
+use Rattle.circle_matrix.specs.Mmcs.{opened_rows}
 use Rattle.circle_pcs.proofs.Lists.{answered-at, mapped-more, rows-long, taken-more}
 use Rattle.circle_pcs.proofs.any_scheme.claims_of.Goals as goal
 

@@ -1,5 +1,5 @@
 use Rattle.std.proofs.Common.{◌≡◌, map, take}
-use Rattle.circle_commit.specs.Mmcs.{opened_rows}
+use Rattle.circle_matrix.specs.Mmcs.{opened_rows}
 use Rattle.circle_pcs.proofs.any_scheme.claims_of.Given as goal
 
 -- the claims so far are there

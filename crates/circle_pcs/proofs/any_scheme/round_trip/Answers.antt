@@ -1,7 +1,7 @@
 use Rattle.std.proofs.Common.{◌≤◌, ◌∙◌, [], ◌∷◌, length, map, ap, refl, sym, subst}
 use Rattle.std.proofs.lemmas.List.Elements.{All-map}
-use Rattle.circle_commit.specs.Mmcs.{opened_rows}
-use Rattle.circle_commit.specs.Pcs.{openings}
+use Rattle.circle_matrix.specs.Mmcs.{opened_rows}
+use Rattle.circle_matrix.specs.Pcs.{openings}
 use Rattle.circle_pcs.specs.Honest.{lists}
 use Rattle.circle_pcs.proofs.OneRequest.{finds, have-rows, is-answered, is-honest, is-kept, no-refusal, no-values, popped, true-values}
 use Rattle.circle_pcs.proofs.any_scheme.round_trip.Goals as goal

@@ -1,5 +1,5 @@
 use Rattle.std.proofs.Common.{All, take}
-use Rattle.circle_commit.specs.Mmcs.{HaveHeightsOfPowers}
+use Rattle.circle_matrix.specs.Mmcs.{HaveHeightsOfPowers}
 use Rattle.circle_statements.proofs.openings.have_powers.Given as goal
 
 abbrev pub invariant-loop-request : goal.invariant-loop-request

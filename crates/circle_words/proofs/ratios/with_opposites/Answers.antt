@@ -1,4 +1,4 @@
-use Rattle.std.proofs.Common.{◌≡◌, ◌++◌, [], ◌∷◌, ◌∙◌, sym, ap, arith, map, refl}
+use Rattle.std.proofs.Common.{◌++◌, [], ◌∷◌, ◌∙◌, ap, arith, map, refl}
 use Rattle.std.proofs.lemmas.List.{take_all, map-append}
 use Rattle.circle_point.specs.Point.{coordinates}
 use Rattle.circle_domain.specs.Order.{with_opposites}

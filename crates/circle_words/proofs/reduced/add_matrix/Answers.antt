@@ -1,26 +1,25 @@
-use Rattle.std.proofs.Common.{◌≡◌, ◌≢◌, ◌<◌, ◌≤◌, ◌+◌, ◌^◌, ◌++◌, ℕ, List, [], ◌∷◌, ◌∙◌, refl, sym, ap, subst, arith, map, take, length, slice_index_or, All}
+use Rattle.std.proofs.Common.{◌≡◌, ◌≢◌, ◌<◌, ◌+◌, ◌++◌, [], ◌∷◌, ◌∙◌, refl, sym, ap, subst, arith, map, take, length, slice_index_or, All}
 use Rattle.std.specs.Prelude.{IfSome, vec_len}
 use Rattle.std.specs.List.{Any}
 use Rattle.std.proofs.lemmas.List.{take_all, length-map}
 use Rattle.std.proofs.lemmas.List.FromFn.{get_or-map-range_with_len}
-use Rattle.circle_field.specs.Field.{two, nth_power}
-use Rattle.circle_field.specs.Circle.{Coordinates, origin, lifted, IsOnCircle}
+use Rattle.circle_field.specs.Field.{nth_power}
+use Rattle.circle_field.specs.Circle.{origin, lifted, IsOnCircle}
 use Rattle.circle_field.proofs.Inverses.{some_unless}
-use Rattle.circle_commit.specs.RowMajorMatrix.{rows, width_of, length-rows, rows-width}
+use Rattle.circle_matrix.specs.RowMajorMatrix.{rows, width_of, length-rows, rows-width}
 use Rattle.circle_domain.specs.Clear.{IsClearOf}
-use Rattle.circle_commit.specs.DotProduct.{dot, pairwise}
+use Rattle.circle_matrix.specs.DotProduct.{dot}
 use Rattle.circle_domain.specs.Order.{natural_order}
 use Rattle.circle_domain.proofs.CosetOrder.{length-cfft_order}
-use Rattle.circle_commit.proofs.Written.{length-pairwise, pairwise-read}
-use Rattle.circle_folding.specs.Quotient.{ArePowers}
+use Rattle.circle_matrix.proofs.Written.{length-pairwise, pairwise-read}
 use Rattle.circle_folding.specs.Queries.{IsApart, with_multiples, claim_quotients}
-use Rattle.circle_inputs.specs.Sums.{Adds}
-use Rattle.circle_inputs.proofs.ReducedSums.{adds-none, adds-both, adds-same, adds-claim}
+use Rattle.circle_relation.specs.Sums.{Adds}
+use Rattle.circle_relation.proofs.ReducedSums.{adds-both, adds-same, adds-claim}
 use Rattle.circle_point.specs.Projective.{from_line}
 use Rattle.circle_point.proofs.Projections.{line_norm-zero, from_line-on_circle}
 use Rattle.circle_relation.specs.Statement.{PointClaim}
 use Rattle.circle_words.specs.Ratios.{points_of_height, vanishing_ratio, with_quotients}
-use Rattle.circle_words.specs.Words.{committed_of, claim_of, claims_on}
+use Rattle.circle_words.specs.Words.{committed_of, claim_of}
 use Rattle.circle_words.specs.declared.ratios.PointRatios.{PointRatios}
 use Rattle.circle_words.proofs.Claims.{claims_among, among-more}
 use Rattle.circle_words.proofs.DomainPoints.{order-on, lifted-on}

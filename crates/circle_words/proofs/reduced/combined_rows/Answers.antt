@@ -1,8 +1,8 @@
 use Rattle.std.proofs.Common.{◌≡◌, ◌<◌, ◌∙◌, sym, ap, arith, length, map, slice_index_or}
 use Rattle.std.proofs.lemmas.List.{take_all}
 use Rattle.std.proofs.lemmas.Option.{get_or_from_slice_get}
-use Rattle.circle_commit.specs.RowMajorMatrix.{rows, length-rows, rows-width}
-use Rattle.circle_commit.specs.DotProduct.{dot}
+use Rattle.circle_matrix.specs.RowMajorMatrix.{rows, length-rows, rows-width}
+use Rattle.circle_matrix.specs.DotProduct.{dot}
 use Rattle.circle_domain.proofs.Pointwise.{map_pushed}
 use Rattle.circle_words.proofs.reduced.combined_rows.Goals as goal
 

@@ -1,6 +1,6 @@
 use Rattle.std.proofs.Common.{◌≡◌, map, take}
-use Rattle.circle_commit.specs.RowMajorMatrix.{rows}
-use Rattle.circle_commit.specs.DotProduct.{dot}
+use Rattle.circle_matrix.specs.RowMajorMatrix.{rows}
+use Rattle.circle_matrix.specs.DotProduct.{dot}
 use Rattle.circle_words.proofs.reduced.combined_rows.Given as goal
 
 abbrev pub invariant-loop-r : goal.invariant-loop-r

@@ -1,4 +1,4 @@
-use Rattle.std.proofs.Common.{◌≡◌, ◌∙◌, sym, ap, subst, arith, length, All, Vec, Global}
+use Rattle.std.proofs.Common.{◌≡◌, ◌∙◌, sym, subst, arith, length, All, Vec, Global}
 use Rattle.std.proofs.lemmas.List.{take_all}
 use Rattle.std.proofs.lemmas.List.Elements.{All-more}
 use Rattle.circle_words.proofs.reduced.have_width.Goals as goal

@@ -1,4 +1,4 @@
-use Rattle.std.proofs.Common.{◌≡◌, ◌<◌, ◌≤◌, ◌+◌, ◌^◌, ◌==◌, ◌++◌, ℕ, List, [], ◌∷◌, ◌∙◌, true, false, if◌then◌else◌, refl, sym, ap, subst, arith, map, take, length, slice_index_or, All, replicate}
+use Rattle.std.proofs.Common.{◌≡◌, ◌<◌, ◌≤◌, ◌+◌, ◌^◌, ◌++◌, ℕ, List, [], ◌∙◌, if◌then◌else◌, sym, ap, subst, arith, map, take, length, slice_index_or, All, replicate}
 use Rattle.std.specs.List.{Any, range_with_len}
 use Rattle.std.proofs.lemmas.Bool.{eq-eqb, ne_eqb}
 use Rattle.std.proofs.lemmas.List.{take_all, length-map, get_or-map, ext_get_or, length-replicate, get_or-replicate}
@@ -6,11 +6,10 @@ use Rattle.std.proofs.lemmas.List.FromFn.{get_or-map-range_with_len, length-map-
 use Rattle.circle_field.specs.Circle.{origin}
 use Rattle.circle_field.proofs.Inverses.{take-whole}
 use Rattle.circle_domain.proofs.Powers.{pow_within}
-use Rattle.circle_folding.specs.Quotient.{ArePowers}
-use Rattle.circle_inputs.specs.Sums.{reduced, Adds}
-use Rattle.circle_inputs.proofs.ReducedSums.{adds-none, adds-both, adds-same, adds-all}
+use Rattle.circle_relation.specs.Sums.{reduced, Adds}
+use Rattle.circle_relation.proofs.ReducedSums.{adds-both, adds-same, adds-all}
 use Rattle.circle_words.specs.Ratios.{points_of_height}
-use Rattle.circle_words.specs.Words.{committed_of, claims_on, claims_at, reduced_word}
+use Rattle.circle_words.specs.Words.{committed_of, claims_on, claims_at}
 use Rattle.circle_words.specs.declared.ratios.PointRatios.{PointRatios}
 use Rattle.circle_words.specs.declared.reduced.OpenedMatrix.{OpenedMatrix}
 use Rattle.circle_words.proofs.Claims.{claims-more, claims-left}

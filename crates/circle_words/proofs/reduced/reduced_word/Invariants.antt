@@ -1,7 +1,7 @@
 use Rattle.std.proofs.Common.{◌≡◌, ◌^◌, length, map, take}
 use Rattle.circle_field.specs.Circle.{origin}
 use Rattle.circle_folding.specs.Quotient.{ArePowers}
-use Rattle.circle_inputs.specs.Sums.{Adds}
+use Rattle.circle_relation.specs.Sums.{Adds}
 use Rattle.circle_words.specs.Ratios.{points_of_height}
 use Rattle.circle_words.specs.Words.{committed_of, claims_at}
 use Rattle.circle_words.proofs.reduced.reduced_word.Given as goal

@@ -1,19 +1,19 @@
-use Rattle.std.proofs.Common.{◌≡◌, ◌<◌, ◌-◌, ◌^◌, ◌==◌, ℕ, List, ◌∙◌, true, false, if◌then◌else◌, refl, sym, ap, subst, arith, length, map, slice_index_or}
+use Rattle.std.proofs.Common.{◌≡◌, ◌<◌, ◌-◌, ◌^◌, ◌==◌, ◌∙◌, true, if◌then◌else◌, sym, ap, arith, length, map, slice_index_or}
 use Rattle.std.specs.List.{list_any}
 use Rattle.std.proofs.lemmas.Bool.{eq-eqb}
 use Rattle.std.proofs.lemmas.List.{length-map, get_or-map, get_or_default}
 use Rattle.std.proofs.lemmas.List.Folds.{list_any-from_Any}
 use Rattle.circle_field.proofs.Inverses.{take-whole}
-use Rattle.circle_commit.specs.RowMajorMatrix.{rows, length-rows}
-use Rattle.circle_commit.proofs.Written.{length-pairwise}
-use Rattle.circle_commit.specs.DotProduct.{pairwise}
+use Rattle.circle_matrix.specs.RowMajorMatrix.{rows, length-rows}
+use Rattle.circle_matrix.proofs.Written.{length-pairwise}
+use Rattle.circle_matrix.specs.DotProduct.{pairwise}
 use Rattle.circle_folding.specs.Fold.{fold_x_twiddles, fold_pair, x_folds}
 use Rattle.circle_folding.proofs.Twiddles.{length-fold_x_twiddles}
 use Rattle.circle_words.proofs.rounds.fold_round.Goals as goal
 use Rattle.circle_words.proofs.rounds.fold_round.Goals.{in-Some, in_default}
 
-pub add_word-requires : goal.add_word-requires
-add_word-requires g c =
+pub add_each-requires : goal.add_each-requires
+add_each-requires g c =
     let k = g.F.Operations.ops in
     let l = g.EF.Operations.ops in
     let gen = g.F.ComplexExtendable.generators in
@@ -52,9 +52,9 @@ returns-clause-length g c =
     ap length (c.in_ok-word.ensures.folds (h - 1) c.requires.rows) ∙ length-pairwise (fold_pair l c.args.beta) ts (rows layer) (of_ts ∙ sym of_rows) ∙ of_ts in
     elim c.match-place_of.branch [
       | in-Some w ↦
-          let new = w.add_word.new.word in
+          let new = w.add_each.new.values in
           let lent : w.deref_mut.result.now ≡ old.items = w.deref_mut.ensures.value in
-          let kept : length new ≡ length old.items = w.add_word.auto.word ∙ ap length lent in
+          let kept : length new ≡ length old.items = w.add_each.auto.values ∙ ap length lent in
           ap (λ v. length v.items) w.word-is ∙ ap length (take-whole old.len new old.items old.ok.0 kept) ∙ kept ∙ folded
       | in_default w ↦ ap (λ v. length v.items) w.word-is ∙ folded
     ]
@@ -75,7 +75,7 @@ returns-clause-folds g c = λ f are.
           let place = w.in-Some.place in
           let found = w.in-Some.ensures.some in
           let old = c.in_ok-word.word in
-          let new = w.add_word.new.word in
+          let new = w.add_each.new.values in
           let other = w.index-folded-place.result in
           let counted : length words ≡ length hs = sym (length-map words (λ v. length v.items)) ∙ ap length c.requires.words ∙ length-map hs (λ n. 2 ^ (n - 1)) in
           let within : place < length words = omega (arith, counted, found.0) in
@@ -84,9 +84,9 @@ returns-clause-folds g c = λ f are.
           ∙ sym (get_or-map (λ v. v.items) words place other (f h) within)
           ∙ ap (λ xs. slice_index_or xs place (f h)) are ∙ get_or-map f hs place 0 (f h) found.0 ∙ ap f found.1 in
           let lent : w.deref_mut.result.now ≡ old.items = w.deref_mut.ensures.value in
-          let kept : length new ≡ length old.items = w.add_word.auto.word ∙ ap length lent in
+          let kept : length new ≡ length old.items = w.add_each.auto.values ∙ ap length lent in
           let claimed : list_any (λ n. n == h) hs ≡ true = list_any-from_Any (λ n. n == h) hs (place, slice_index_or hs place 0, found.0, get_or_default hs place (slice_index_or hs place 0) 0 found.0, eq-eqb (slice_index_or hs place 0) h found.1) in
-          ap (λ v. v.items) w.word-is ∙ take-whole old.len new old.items old.ok.0 kept ∙ w.add_word.ensures
+          ap (λ v. v.items) w.word-is ∙ take-whole old.len new old.items old.ok.0 kept ∙ w.add_each.ensures
           ∙ ap (λ xs. pairwise l.add xs w.deref.result.now) (lent ∙ is_next) ∙ ap (pairwise l.add next) is_other
           ∙ ap (λ b. if b then pairwise l.add next (f h) else next) (sym claimed)
       | in_default w ↦

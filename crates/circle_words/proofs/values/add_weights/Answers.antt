@@ -6,7 +6,7 @@ use Rattle.circle_field.specs.Circle.{Coordinates}
 use Rattle.circle_point.specs.Point.{coordinates}
 use Rattle.circle_point.specs.Projective.{from_line}
 use Rattle.circle_domain.specs.Clear.{IsClearOf}
-use Rattle.circle_domain.specs.Domain.{log_size, shift_of}
+use Rattle.circle_domain.specs.Domain.{shift_of}
 use Rattle.circle_domain.specs.Lagrange.{AreLagrangeWeights}
 use Rattle.circle_domain.specs.Order.{IsGenuine, natural_order, cfft_order}
 use Rattle.circle_relation.specs.Accepts.{Fields}
@@ -52,7 +52,7 @@ lagrange_weights-requires-clause-clear g c =
 
 pub returns-clause-right : goal.returns-clause-right
 returns-clause-right g c =
-    let k : Fields g.row.F.Denot g.row.EF.Denot = record { field = g.F.Operations.ops; gen = g.F.ComplexExtendable.generators; extension = g.EF.Operations.ops; embed = g.EF.ExtensionField.embed } in
+    let k : Fields g.row.F.Denot g.row.EF.Denot = record { field = g.F.Operations.ops; gen = g.F.ComplexExtendable.generators; two_adicity = g.F.ComplexExtendable.CIRCLE_TWO_ADICITY; is_zero = λ w. g.F.PartialEq.eq w g.F.Field.ZERO; extension = g.EF.Operations.ops; embed = g.EF.ExtensionField.embed; same = g.EF.PartialEq.eq } in
     let h = c.args.log_height in
     let n = h - c.args.log_blowup in
     let weights = c.in_ok-weights.weights in

@@ -18,7 +18,7 @@ weights_at_each-requires g c =
 
 pub values_by_weights-requires-clause-count : goal.values_by_weights-requires-clause-count
 values_by_weights-requires-clause-count g c =
-    let k : Fields g.row.F.Denot g.row.EF.Denot = record { field = g.F.Operations.ops; gen = g.F.ComplexExtendable.generators; extension = g.EF.Operations.ops; embed = g.EF.ExtensionField.embed } in
+    let k : Fields g.row.F.Denot g.row.EF.Denot = record { field = g.F.Operations.ops; gen = g.F.ComplexExtendable.generators; two_adicity = g.F.ComplexExtendable.CIRCLE_TWO_ADICITY; is_zero = λ w. g.F.PartialEq.eq w g.F.Field.ZERO; extension = g.EF.Operations.ops; embed = g.EF.ExtensionField.embed; same = g.EF.PartialEq.eq } in
     let h = c.args.log_height in
     let all = c.deref.result.now in
     let right = subst (All (AreWeightsOf k c.args.log_blowup)) (sym c.deref.ensures.value) c.in_ok-add_all_weights.ensures.right in
@@ -29,7 +29,7 @@ values_by_weights-requires-clause-count g c =
 
 pub returns-clause-count : goal.returns-clause-count
 returns-clause-count g c =
-    let k : Fields g.row.F.Denot g.row.EF.Denot = record { field = g.F.Operations.ops; gen = g.F.ComplexExtendable.generators; extension = g.EF.Operations.ops; embed = g.EF.ExtensionField.embed } in
+    let k : Fields g.row.F.Denot g.row.EF.Denot = record { field = g.F.Operations.ops; gen = g.F.ComplexExtendable.generators; two_adicity = g.F.ComplexExtendable.CIRCLE_TWO_ADICITY; is_zero = λ w. g.F.PartialEq.eq w g.F.Field.ZERO; extension = g.EF.Operations.ops; embed = g.EF.ExtensionField.embed; same = g.EF.PartialEq.eq } in
     let h = c.args.log_height in
     let Is = λ (t : g.row.EF.Denot) (found : Bor (LagrangeWeights g.row.EF.Denot)). Any (λ (w : PointWeights g.row.EF.Denot). (w.log_height ≡ h) × (w.point ≡ t) × (w.weights ≡ found.now)) c.deref.result.now in
     let Opens = λ (w : Bor (LagrangeWeights g.row.EF.Denot)) (found : List g.row.EF.Denot).
@@ -41,7 +41,7 @@ returns-clause-count g c =
 
 pub returns-clause-values : goal.returns-clause-values
 returns-clause-values g c =
-    let k : Fields g.row.F.Denot g.row.EF.Denot = record { field = g.F.Operations.ops; gen = g.F.ComplexExtendable.generators; extension = g.EF.Operations.ops; embed = g.EF.ExtensionField.embed } in
+    let k : Fields g.row.F.Denot g.row.EF.Denot = record { field = g.F.Operations.ops; gen = g.F.ComplexExtendable.generators; two_adicity = g.F.ComplexExtendable.CIRCLE_TWO_ADICITY; is_zero = λ w. g.F.PartialEq.eq w g.F.Field.ZERO; extension = g.EF.Operations.ops; embed = g.EF.ExtensionField.embed; same = g.EF.PartialEq.eq } in
     let h = c.args.log_height in
     let m = c.args.matrix.now in
     let all = c.deref.result.now in

@@ -2,8 +2,8 @@ use Rattle.std.proofs.Common.{◌≡◌, ◌≤◌, ◌-◌, ◌+◌, ◌*◌, �
 use Rattle.std.specs.Borrow.{Bor}
 use Rattle.std.proofs.lemmas.List.{length-take-le}
 use Rattle.circle_field.specs.Circle.{Coordinates}
-use Rattle.circle_commit.specs.RowMajorMatrix.{rows, length-rows}
-use Rattle.circle_commit.specs.RowMajorMatrixView.{rows as view_rows, length-rows as length-view_rows}
+use Rattle.circle_matrix.specs.RowMajorMatrix.{rows, length-rows}
+use Rattle.circle_matrix.specs.RowMajorMatrixView.{rows as view_rows, length-rows as length-view_rows}
 use Rattle.circle_domain.specs.Domain.{log_size, shift_of}
 use Rattle.circle_domain.specs.Lagrange.{AreLagrangeWeights}
 use Rattle.circle_domain.specs.Order.{IsGenuine, cfft_order}
@@ -52,7 +52,7 @@ evaluate_by_each_weights-requires-clause-genuine g c =
 
 pub returns : goal.returns
 returns g c =
-    let k : Fields g.row.F.Denot g.row.EF.Denot = record { field = g.F.Operations.ops; gen = g.F.ComplexExtendable.generators; extension = g.EF.Operations.ops; embed = g.EF.ExtensionField.embed } in
+    let k : Fields g.row.F.Denot g.row.EF.Denot = record { field = g.F.Operations.ops; gen = g.F.ComplexExtendable.generators; two_adicity = g.F.ComplexExtendable.CIRCLE_TWO_ADICITY; is_zero = λ w. g.F.PartialEq.eq w g.F.Field.ZERO; extension = g.EF.Operations.ops; embed = g.EF.ExtensionField.embed; same = g.EF.PartialEq.eq } in
     let h = c.args.log_height in
     let n = h - c.args.log_blowup in
     let top = c.requires.in_group in

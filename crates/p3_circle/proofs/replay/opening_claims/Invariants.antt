@@ -1,7 +1,7 @@
 use Rattle.std.proofs.Common.{◌≡◌, take}
 use Rattle.circle_relation.specs.StatementOf.{batch_claims}
 use Rattle.circle_transcript.specs.Claims.{claims_of}
-use Rattle.circle_opening.specs.Taken.{claims_taken}
+use Rattle.circle_relation.specs.Taken.{claims_taken}
 use Rattle.p3_circle.proofs.replay.opening_claims.Given as goal
 
 -- the claims of the batches so far are there

@@ -3,7 +3,7 @@ use Rattle.std.proofs.lemmas.List.{take_all}
 use Rattle.circle_domain.specs.Selectors.{IsFinite}
 use Rattle.circle_relation.specs.StatementOf.{point_claim, matrix_claim, matrix_claims}
 use Rattle.circle_transcript.specs.Claims.{claims_of}
-use Rattle.circle_opening.specs.Taken.{point_taken}
+use Rattle.circle_relation.specs.Taken.{point_taken}
 use Rattle.p3_circle.proofs.Items.{All-read}
 use Rattle.p3_circle.proofs.replay.push_batch.Goals as goal
 

@@ -1,7 +1,7 @@
 use Rattle.std.proofs.Common.{◌≡◌, ◌++◌, map, take, flat_map}
 use Rattle.circle_relation.specs.StatementOf.{matrix_claims}
 use Rattle.circle_transcript.specs.Claims.{claims_of}
-use Rattle.circle_opening.specs.Taken.{point_taken}
+use Rattle.circle_relation.specs.Taken.{point_taken}
 use Rattle.p3_circle.proofs.replay.push_batch.Given as goal
 
 -- the claims of the matrices so far are there

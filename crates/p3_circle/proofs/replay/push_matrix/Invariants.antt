@@ -1,7 +1,7 @@
 use Rattle.std.proofs.Common.{◌≡◌, ◌++◌, map, take}
 use Rattle.circle_relation.specs.StatementOf.{point_claim}
 use Rattle.circle_transcript.specs.Claims.{claims_of}
-use Rattle.circle_opening.specs.Taken.{point_taken}
+use Rattle.circle_relation.specs.Taken.{point_taken}
 use Rattle.p3_circle.proofs.replay.push_matrix.Given as goal
 
 -- the claims so far are there

@@ -6,7 +6,8 @@ use Rattle.circle_transcript.specs.Claims.{claims_of}
 use Rattle.circle_transcript.specs.Draw.{widths_of}
 use Rattle.circle_transcript.specs.ShapeOf.{batches_of, shape_of}
 use Rattle.circle_opening.proofs.Described.{claims_widths, shape_is}
-use Rattle.p3_circle.proofs.Replayed.{tested_high, finite_from, taken_is, redrawn, refused_by}
+use Rattle.p3_circle.proofs.Replayed.{tested_high, taken_is, redrawn, refused_by}
+use Rattle.circle_verifier.proofs.Finite.{finite_from}
 use Rattle.p3_circle.proofs.replay.replay_transcript.Goals as goal
 
 pub new-shape-requires-clause-high : goal.new-shape-requires-clause-high

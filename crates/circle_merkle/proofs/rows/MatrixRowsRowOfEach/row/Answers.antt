@@ -1,8 +1,8 @@
 use Rattle.std.proofs.Common.{◌≡◌, ◌≤◌, ◌<◌, ◌∙◌, [], ap, sym, arith, length, get_or, Some}
 use Rattle.std.proofs.lemmas.List.{get_or-map, get_or_past, length-map}
 use Rattle.std.proofs.lemmas.Option.{slice_get-get_or}
-use Rattle.circle_commit.specs.RowMajorMatrix.{rows, height_of, length-rows}
-use Rattle.circle_commit.specs.declared.matrix.RowMajorMatrix.{RowMajorMatrix}
+use Rattle.circle_matrix.specs.RowMajorMatrix.{rows, height_of, length-rows}
+use Rattle.circle_matrix.specs.declared.matrix.RowMajorMatrix.{RowMajorMatrix}
 use Rattle.circle_merkle.specs.Rows.{rows_of}
 use Rattle.circle_merkle.specs.RowBytes.{matrices_one_each}
 use Rattle.circle_merkle.proofs.rows.MatrixRowsRowOfEach.row.Goals as goal

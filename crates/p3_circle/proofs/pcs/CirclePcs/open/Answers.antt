@@ -1,19 +1,21 @@
 use Rattle.std.specs.Prelude.{Ok}
 use Rattle.std.proofs.Common.{◌≡◌, ◌∙◌, All, sym, subst}
-use Rattle.circle_commit.specs.Mmcs.{HaveHeightsOfPowers}
-use Rattle.circle_commit.specs.declared.pcs.OpeningRequest.{OpeningRequest}
+use Rattle.circle_matrix.specs.Mmcs.{HaveHeightsOfPowers}
+use Rattle.circle_matrix.specs.declared.pcs.OpeningRequest.{OpeningRequest}
 use Rattle.circle_opening.specs.Requests.{AreRequests}
 use Rattle.circle_relation.specs.Accepts.{Fields}
-use Rattle.circle_scheme.specs.Refusals.{answer}
-use Rattle.circle_scheme.specs.Requesting.{opening_tests}
-use Rattle.circle_scheme.proofs.Unrefused.{are-binary, are-fit, are-requests}
+use Rattle.circle_verifier.specs.Refusals.{answer}
+use Rattle.p3_circle.specs.Requesting.{opening_tests}
+use Rattle.p3_circle.specs.SchemeLaws.Unrefused.{are-binary, are-fit, are-requests}
+use Rattle.p3_circle.proofs.InOrder.{refuses-before, is-first}
 use Rattle.p3_circle.proofs.Scheme.{if_both}
-use Rattle.p3_circle.proofs.Verdicts.{if_err, later-by}
+use Rattle.p3_circle.proofs.Verdicts.{later-by}
+use Rattle.circle_relation.proofs.Results.{if_err}
 use Rattle.p3_circle.proofs.pcs.CirclePcs.open.Given.{Over}
 use Rattle.p3_circle.proofs.pcs.CirclePcs.open.Goals as goal
 
 abbrev fields : (g : Over) → Fields g.row.Val.Denot g.row.EF.Denot
-fields g = record { field = g.Val.Operations.ops; gen = g.Val.ComplexExtendable.generators; extension = g.EF.Operations.ops; embed = g.EF.ExtensionField.embed }
+fields g = record { field = g.Val.Operations.ops; gen = g.Val.ComplexExtendable.generators; two_adicity = g.Val.ComplexExtendable.CIRCLE_TWO_ADICITY; is_zero = λ w. g.Val.PartialEq.eq w g.Val.Field.ZERO; extension = g.EF.Operations.ops; embed = g.EF.ExtensionField.embed; same = g.EF.PartialEq.eq }
 
 pub validate_requests-requires : goal.validate_requests-requires
 validate_requests-requires g c =
@@ -55,3 +57,15 @@ pub returns-clause-failure : goal.returns-clause-failure
 returns-clause-failure g c =
     let ok = rw c.deref.ensures.value at (sym c.validate_requests.ensures ∙ c.in_ok-validate_requests.was) in
     if_err _ _ c.open_requests.result (λ e why. later-by _ _ e ok why) (rw c.deref-2.ensures.value at c.open_requests.ensures.failure)
+
+pub returns-in_err-validate_requests-clause-refused :
+    goal.returns-in_err-validate_requests-clause-refused
+returns-in_err-validate_requests-clause-refused g c =
+    let first = rw c.deref.ensures.value at (sym c.validate_requests.ensures ∙ c.in_err-validate_requests.was) in
+    refuses-before _ c.from_residual.result c.in_err-validate_requests.field-0.0 first c.from_residual.ensures.1 c.args.challenger.now
+
+pub returns-in_err-validate_requests-clause-failure :
+    goal.returns-in_err-validate_requests-clause-failure
+returns-in_err-validate_requests-clause-failure g c =
+    let first = rw c.deref.ensures.value at (sym c.validate_requests.ensures ∙ c.in_err-validate_requests.was) in
+    is-first _ c.from_residual.result c.in_err-validate_requests.field-0.0 first c.from_residual.ensures.1 _

@@ -2,16 +2,17 @@ use Rattle.std.proofs.Common.{refl, sym, ◌∙◌, inr}
 use Rattle.circle_field.specs.Field.{of_nat}
 use Rattle.circle_challenger.specs.Moves.{RunMoves}
 use Rattle.circle_relation.specs.Accepts.{Fields}
-use Rattle.circle_scheme.specs.Verdict.{challenges_of}
-use Rattle.circle_scheme.proofs.Answering.{refused-is}
-use Rattle.circle_scheme.proofs.Domains.{passed-value, refused-value}
-use Rattle.p3_circle.proofs.Verdicts.{on_one, if_err, at_err, at_ok, not_both, first-by, later-by, of-three, tests, tested-of, queries-drawn, betas-drawn, accepted-passes, reason-memory}
+use Rattle.circle_relation.specs.Taken.{challenges_of}
+use Rattle.circle_verifier.proofs.Answering.{refused-is}
+use Rattle.circle_verifier.proofs.Domains.{passed-value, refused-value}
+use Rattle.p3_circle.proofs.Verdicts.{at_err, at_ok, not_both, first-by, later-by, of-three, tests, tested-of, queries-drawn, betas-drawn, accepted-passes, reason-memory}
+use Rattle.circle_relation.proofs.Results.{on_one, if_err}
 use Rattle.p3_circle.proofs.pcs.CirclePcs.verify_claims.Given.{Over}
 use Rattle.p3_circle.proofs.pcs.CirclePcs.verify_claims.Goals as goal
 
 -- the fields, and what the challenger is to the transcript
 abbrev fields : (g : Over) → Fields g.row.Val.Denot g.row.EF.Denot
-fields g = record { field = g.Val.Operations.ops; gen = g.Val.ComplexExtendable.generators; extension = g.EF.Operations.ops; embed = g.EF.ExtensionField.embed }
+fields g = record { field = g.Val.Operations.ops; gen = g.Val.ComplexExtendable.generators; two_adicity = g.Val.ComplexExtendable.CIRCLE_TWO_ADICITY; is_zero = λ w. g.Val.PartialEq.eq w g.Val.Field.ZERO; extension = g.EF.Operations.ops; embed = g.EF.ExtensionField.embed; same = g.EF.PartialEq.eq }
 
 abbrev run : (g : Over) → RunMoves g.row.C.Denot g.row.C-State.Denot g.row.Val.Denot g.row.EF.Denot g.row.FriMmcs-Commitment.Denot
 run g = record {
@@ -39,7 +40,7 @@ pub returns-in_err-log_max_height-clause-complete : goal.returns-in_err-log_max_
 returns-in_err-log_max_height-clause-complete g c =
     let early = refused-value (tests {IE = g.row.InputMmcs-Error.Denot} (fields g) g.Val.ComplexExtendable.CIRCLE_TWO_ADICITY c.args.self.now.fri_params c.args.claims.now c.args.proof.now g.Val.PartialEq.eq g.Val.Field.ZERO g.EF.PartialEq.eq) _ c.in_err-log_max_height.field-0.0 (sym c.validate_run.ensures ∙ c.in_err-log_max_height.was) in
     at_err _ _ c.in_err-log_max_height.field-0.0 (refused-is c.from_residual.result c.in_err-log_max_height.field-0.0 c.from_residual.ensures.1)
-    (λ left a. absurd (not_both _ _ _ (accepted-passes (fields g) g.Val.ComplexExtendable.CIRCLE_TWO_ADICITY (run g) c.args.self.now.fri_params c.args.claims.now c.args.proof.now g.Val.PartialEq.eq g.Val.Field.ZERO g.EF.PartialEq.eq g.met.Val.Field.eq_law g.met.Val.Field.zero_law g.met.EF.Field.eq_law g.InputMmcs.Mmcs.authenticates g.FriMmcs.Mmcs.authenticates c.args.self.now.mmcs _ left a) early))
+    (λ left a. absurd (not_both _ _ _ (accepted-passes (fields g) (run g) c.args.self.now.fri_params c.args.claims.now c.args.proof.now g.Val.PartialEq.eq g.Val.Field.ZERO g.EF.PartialEq.eq g.met.Val.Field.eq_law g.met.Val.Field.zero_law g.met.EF.Field.eq_law g.InputMmcs.Mmcs.authenticates g.FriMmcs.Mmcs.authenticates c.args.self.now.mmcs _ left a) early))
 
 pub returns-in_err-log_max_height-clause-reason : goal.returns-in_err-log_max_height-clause-reason
 returns-in_err-log_max_height-clause-reason g c =
@@ -69,12 +70,12 @@ returns-in_err-draws-clause-first g c =
 
 pub verify_drawn-requires-clause-betas : goal.verify_drawn-requires-clause-betas
 verify_drawn-requires-clause-betas g c =
-    betas-drawn {IE = g.row.InputMmcs-Error.Denot} (fields g) g.Val.ComplexExtendable.CIRCLE_TWO_ADICITY (run g) c.args.self.now.fri_params c.args.claims.now c.args.proof.now g.Val.PartialEq.eq g.Val.Field.ZERO g.EF.PartialEq.eq _ _ (challenges_of c.in_ok-draws.draws)
+    betas-drawn {IE = g.row.InputMmcs-Error.Denot} (fields g) (run g) c.args.self.now.fri_params c.args.claims.now c.args.proof.now g.Val.PartialEq.eq g.Val.Field.ZERO g.EF.PartialEq.eq _ _ (challenges_of c.in_ok-draws.draws)
     (tested-of {IE = g.row.InputMmcs-Error.Denot} (fields g) g.Val.ComplexExtendable.CIRCLE_TWO_ADICITY c.args.self.now.fri_params c.args.claims.now c.args.proof.now g.Val.PartialEq.eq g.Val.Field.ZERO g.EF.PartialEq.eq _ _ (sym c.validate_run.ensures ∙ c.in_ok-log_max_height.was)) c.in_ok-draws.ensures.drawn
 
 pub verify_drawn-requires-clause-count : goal.verify_drawn-requires-clause-count
 verify_drawn-requires-clause-count g c =
-    queries-drawn {IE = g.row.InputMmcs-Error.Denot} (fields g) g.Val.ComplexExtendable.CIRCLE_TWO_ADICITY (run g) c.args.self.now.fri_params c.args.claims.now c.args.proof.now g.Val.PartialEq.eq g.Val.Field.ZERO g.EF.PartialEq.eq _ _ (challenges_of c.in_ok-draws.draws) c.in_ok-draws.ensures.drawn
+    queries-drawn {IE = g.row.InputMmcs-Error.Denot} (fields g) (run g) c.args.self.now.fri_params c.args.claims.now c.args.proof.now g.Val.PartialEq.eq g.Val.Field.ZERO g.EF.PartialEq.eq _ _ (challenges_of c.in_ok-draws.draws) c.in_ok-draws.ensures.drawn
 
 pub returns-in_err-draws-clause-reason : goal.returns-in_err-draws-clause-reason
 returns-in_err-draws-clause-reason g c =
@@ -95,7 +96,7 @@ returns-clause-accepted g c =
 pub returns-clause-complete : goal.returns-clause-complete
 returns-clause-complete g c =
     if_err _ _ c.verify_drawn.result
-    (λ e why left a. reason-memory (fields g) g.Val.ComplexExtendable.CIRCLE_TWO_ADICITY (run g) c.args.self.now.fri_params c.args.claims.now c.args.proof.now g.Val.PartialEq.eq g.Val.Field.ZERO g.EF.PartialEq.eq g.met.Val.Field.eq_law g.met.Val.Field.zero_law g.met.EF.Field.eq_law g.InputMmcs.Mmcs.authenticates g.FriMmcs.Mmcs.authenticates c.args.self.now.mmcs g.met.EF.ExtensionField.are_coefficients.determined g.InputMmcs.Mmcs.is_memory g.FriMmcs.Mmcs.is_memory
+    (λ e why left a. reason-memory (fields g) (run g) c.args.self.now.fri_params c.args.claims.now c.args.proof.now g.Val.PartialEq.eq g.Val.Field.ZERO g.EF.PartialEq.eq g.met.Val.Field.eq_law g.met.Val.Field.zero_law g.met.EF.Field.eq_law g.InputMmcs.Mmcs.authenticates g.FriMmcs.Mmcs.authenticates c.args.self.now.mmcs g.met.EF.ExtensionField.are_coefficients.determined g.InputMmcs.Mmcs.is_memory g.FriMmcs.Mmcs.is_memory
     _ _ left (challenges_of c.in_ok-draws.draws) e c.in_ok-draws.ensures.drawn why a)
     c.verify_drawn.ensures.refused
 

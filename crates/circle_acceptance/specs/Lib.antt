@@ -1,3 +1,0 @@
-pub mod Accepted
-pub mod Claimed
-pub mod Over

@@ -1,0 +1,150 @@
+//! Cases of domains.
+use crate::given::{Domain, Rows, coordinates, domain, matrix, maybe, point_off, rows_of};
+use anyhow::{Result, bail};
+use circle_commit::{JsonForm, Matrix, PolynomialSpace, is_power_of_two};
+use circle_field::Mersenne31;
+use circle_json::member;
+use circle_plane::Point;
+use serde_json::{Value, json};
+use std::alloc::Global;
+
+/// What a call of this kind answers, or none where the call is of another kind.
+pub fn answer(alloc: Global, call: &str, given: &Value) -> Result<Option<Value>> {
+    let Some(("CircleDomain", call)) = call.split_once("::") else {
+        return Ok(None);
+    };
+    let domain = domain(alloc, given, "domain")?;
+    let answer = match call {
+        "is_genuine" => Value::Bool(domain.is_genuine()),
+        "is_standard" => is_standard(domain)?,
+        "is_clear_of" => is_clear_of(alloc, domain, given)?,
+        "points" => points(alloc, domain)?,
+        "next_point" => next_point(alloc, domain, given)?,
+        "try_create_disjoint_domain" => disjoint(alloc, domain, given)?,
+        "split_domains" => split_domains(alloc, domain, given)?,
+        "split_evals" => split_evals(alloc, domain, given)?,
+        "vanishing_poly_at_point" => vanishing(alloc, domain, given)?,
+        "selectors_at_point" => selectors(alloc, domain, given)?,
+        _ => bail!("a domain has no call {call}"),
+    };
+    Ok(Some(answer))
+}
+
+fn is_standard(domain: Domain) -> Result<Value> {
+    if domain.log_n() == 0 || domain.log_n() > 31 {
+        bail!("the domain has not 2 to 2^31 points");
+    }
+    Ok(Value::Bool(domain.is_standard()))
+}
+
+fn is_clear_of(alloc: Global, domain: Domain, given: &Value) -> Result<Value> {
+    let at = point_off(alloc, given)?;
+    if domain.log_n() == 0 || domain.log_n() > 31 {
+        bail!("the domain has not 2 to 2^31 points");
+    }
+    Ok(Value::Bool(domain.is_clear_of(at)))
+}
+
+// The coordinates of the points in natural order.
+fn points(alloc: Global, domain: Domain) -> Result<Value> {
+    if domain.log_n() == 0 || domain.log_n() > 31 {
+        bail!("the domain has not 2 to 2^31 points");
+    }
+    let mut points = Vec::new(alloc);
+    for point in domain.points() {
+        points.push(coordinates(alloc, point)?)?;
+    }
+    Ok(Value::from(points))
+}
+
+fn next_point(alloc: Global, domain: Domain, given: &Value) -> Result<Value> {
+    let t: Mersenne31 = member(alloc, given, "t")?;
+    if domain.log_n() == 0 || domain.log_n() > 31 {
+        bail!("the domain has not 2 to 2^31 points");
+    }
+    Ok(maybe(alloc, domain.next_point(t))?)
+}
+
+// The binary logarithm of the other domain's size.
+fn disjoint(alloc: Global, domain: Domain, given: &Value) -> Result<Value> {
+    let min_size: usize = member(alloc, given, "min_size")?;
+    if domain.log_n() == 0 || domain.log_n() > 31 {
+        bail!("the domain has not 2 to 2^31 points");
+    }
+    match domain.try_create_disjoint_domain(min_size) {
+        Some(other) => Ok(other.log_n().to_json(alloc)?),
+        None => Ok(Value::Null),
+    }
+}
+
+// The sizes' logarithms and the first points of the parts.
+fn split_domains(alloc: Global, domain: Domain, given: &Value) -> Result<Value> {
+    let count: usize = member(alloc, given, "count")?;
+    let parts = parts(alloc, domain, count)?;
+    let mut told = Vec::new(alloc);
+    for part in &parts {
+        let shift = coordinates(alloc, part.shift())?;
+        told.push(json!(in alloc; {"log_n": part.log_n(), "shift": shift})?)?;
+    }
+    Ok(Value::from(told))
+}
+
+fn parts(alloc: Global, domain: Domain, count: usize) -> Result<Vec<Domain>> {
+    if domain.log_n() == 0 || domain.log_n() > 31 || !domain.is_standard() {
+        bail!("the domain is not standard");
+    }
+    if !is_power_of_two(count) || count > domain.size() / 2 {
+        bail!("there are no such parts");
+    }
+    Ok(domain.split_domains(alloc, count)?)
+}
+
+// The rows of the parts.
+fn split_evals(alloc: Global, domain: Domain, given: &Value) -> Result<Value> {
+    let count: usize = member(alloc, given, "count")?;
+    let rows = matrix(alloc, given, "rows")?;
+    let mut told = Vec::new(alloc);
+    for part in &parts_of_rows(alloc, domain, count, rows)? {
+        told.push(rows_of(alloc, part)?)?;
+    }
+    Ok(Value::from(told))
+}
+
+fn parts_of_rows(alloc: Global, domain: Domain, count: usize, rows: Rows) -> Result<Vec<Rows>> {
+    if domain.log_n() > 31 || rows.height() != domain.size() {
+        bail!("there is not one row for each point");
+    }
+    if !is_power_of_two(count) || count > domain.size() / 2 {
+        bail!("there are no such parts");
+    }
+    Ok(domain.split_evals(alloc, count, rows)?)
+}
+
+fn vanishing(alloc: Global, domain: Domain, given: &Value) -> Result<Value> {
+    let t: Mersenne31 = member(alloc, given, "t")?;
+    if domain.log_n() == 0 || Point::from_projective_line(t).is_none() {
+        bail!("the point is at infinity, or the domain has one point");
+    }
+    Ok(domain.vanishing_poly_at_point(t).to_json(alloc)?)
+}
+
+// The selectors at a coordinate in the field.
+fn selectors(alloc: Global, domain: Domain, given: &Value) -> Result<Value> {
+    if domain.log_n() > 31 || !domain.is_genuine() {
+        bail!("the domain is not genuine");
+    }
+    let t: Mersenne31 = member(alloc, given, "t")?;
+    let Some(at) = Point::from_projective_line(t) else {
+        bail!("the point is at infinity");
+    };
+    if !domain.is_clear_of(at) {
+        bail!("the domain is not clear of the point");
+    }
+    let row = domain.selectors_at_point(t);
+    Ok(json!(in alloc; {
+        "is_first_row": row.is_first_row.to_json(alloc)?,
+        "is_last_row": row.is_last_row.to_json(alloc)?,
+        "is_transition": row.is_transition.to_json(alloc)?,
+        "inv_vanishing": row.inv_vanishing.to_json(alloc)?
+    })?)
+}

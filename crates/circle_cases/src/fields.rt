@@ -1,0 +1,76 @@
+//! Cases of operations of a field: the type's name, a space, and the operation's.
+use crate::given::maybe;
+use anyhow::{Result, bail};
+use circle_commit::JsonForm;
+use circle_field::{Cubic, Field, Mersenne31};
+use circle_json::member;
+use serde_json::Value;
+use std::alloc::Global;
+
+/// What a call of this kind answers, or none where the call is of another kind.
+pub fn answer(alloc: Global, call: &str, given: &Value) -> Result<Option<Value>> {
+    match call.split_once(' ') {
+        Some(("Mersenne31", operation)) => of_field::<Mersenne31>(alloc, operation, given),
+        Some(("Cubic", operation)) => of_field::<Cubic>(alloc, operation, given),
+        _ => Ok(None),
+    }
+}
+
+// What an operation answers.
+fn of_field<F: Field + JsonForm>(
+    alloc: Global,
+    operation: &str,
+    given: &Value,
+) -> Result<Option<Value>> {
+    let answer = match operation {
+        "+" | "-" | "*" => of_two::<F>(alloc, operation, given)?.to_json(alloc)?,
+        "exp_u64" | "mul_2exp_u64" | "div_2exp_u64" => {
+            with_number::<F>(alloc, operation, given)?.to_json(alloc)?
+        }
+        "powers" => powers::<F>(alloc, given)?.to_json(alloc)?,
+        _ => maybe(alloc, of_one::<F>(alloc, operation, given)?)?,
+    };
+    Ok(Some(answer))
+}
+
+// What an operation of one element answers.
+fn of_one<F: Field + JsonForm>(alloc: Global, operation: &str, given: &Value) -> Result<Option<F>> {
+    let a: F = member(alloc, given, "a")?;
+    Ok(match operation {
+        "negated" => Some(-a),
+        "double" => Some(a.double()),
+        "square" => Some(a.square()),
+        "halve" => Some(a.halve()),
+        "try_inverse" => a.try_inverse(),
+        _ => bail!("a field has no operation {operation}"),
+    })
+}
+
+// What an operation of two elements answers.
+fn of_two<F: Field + JsonForm>(alloc: Global, operation: &str, given: &Value) -> Result<F> {
+    let a: F = member(alloc, given, "a")?;
+    let b: F = member(alloc, given, "b")?;
+    Ok(match operation {
+        "+" => a + b,
+        "-" => a - b,
+        _ => a * b,
+    })
+}
+
+// What an operation of an element and a number answers.
+fn with_number<F: Field + JsonForm>(alloc: Global, operation: &str, given: &Value) -> Result<F> {
+    let a: F = member(alloc, given, "a")?;
+    let n: u64 = member(alloc, given, "n")?;
+    Ok(match operation {
+        "exp_u64" => a.exp_u64(n),
+        "mul_2exp_u64" => a.mul_2exp_u64(n),
+        _ => a.div_2exp_u64(n),
+    })
+}
+
+// The first powers of an element.
+fn powers<F: Field + JsonForm>(alloc: Global, given: &Value) -> Result<Vec<F>> {
+    let a: F = member(alloc, given, "a")?;
+    let count: usize = member(alloc, given, "n")?;
+    Ok(F::powers(alloc, a, count)?)
+}

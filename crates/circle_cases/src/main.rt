@@ -1,0 +1,29 @@
+//! Cases of calls, read from files of JSON that the arguments name: what each call is given, and
+//! what is due. For each case a line says whether the answer is what is due; the last line counts.
+#![tactic(auto)]
+
+mod case;
+mod commands;
+mod direct;
+mod domains;
+mod fields;
+mod folds;
+mod given;
+mod patch;
+mod points;
+mod report;
+mod transforms;
+
+use anyhow::Result;
+use report::{Tally, report_file};
+use std::env;
+use std::process::ExitCode;
+
+fn main(rt: HostRuntime) -> Result<ExitCode> {
+    let mut tally = Tally::default();
+    for name in env::args(&rt)?.skip(1) {
+        report_file(&rt, name.as_str(), &mut tally)?;
+    }
+    println!(rt; "{} agree, {} differ", tally.agree, tally.differ)?;
+    Ok(ExitCode::from(u8::from(tally.differ != 0)))
+}

@@ -1,5 +1,0 @@
-mod Continued
-mod Extensions
-mod InOrder
-pub mod Seeding
-mod Tested

@@ -1,0 +1,40 @@
+-- That what an opening answers is accepted: Circle STARKs (ePrint 2024/278), sections 4 to 6.
+use Rattle.std.specs.Prelude.{◌≤◌, List, length, All}
+use Rattle.std.specs.List.{AllZip}
+use Rattle.circle_challenger.specs.Moves.{RunMoves}
+use Rattle.circle_matrix.specs.Pcs.{Openings}
+use Rattle.circle_matrix.specs.declared.matrix.RowMajorMatrix.{RowMajorMatrix}
+use Rattle.circle_matrix.specs.declared.params.FriParameters.{FriParameters}
+use Rattle.circle_matrix.specs.declared.pcs.OpeningRequest.{OpeningRequest}
+use Rattle.circle_opening.specs.Opening.{IsOpening}
+use Rattle.circle_opening.specs.Requests.{AreAnswers}
+use Rattle.circle_opening.specs.Schemes.{Schemes}
+use Rattle.circle_relation.specs.Accepts.{AcceptsFrom, Authenticates, Fields}
+use Rattle.circle_relation.specs.Statement.{BatchClaim, OpeningProof, all_matrices}
+use Rattle.circle_completeness.specs.Claimed.{AreClaimed}
+
+module _ {C S F E M IC IP WC WP : Type 0} (k : Fields F E) (r : RunMoves C S F E WC)
+    (p : FriParameters M) (authenticates : Authenticates IC F IP)
+    (word_authenticates : Authenticates WC E WP) where
+  -- whatever an opening answers of the requests is accepted, from the state that it began in to
+  -- that which it left: where what is claimed is what was answered, of each matrix at a point at
+  -- least, under commitments of the matrices
+  abbrev pub AcceptsOpenings : {D : Type 0} → (D → List (RowMajorMatrix F))
+      → (List (RowMajorMatrix F) → IC → Type 0) → (List (RowMajorMatrix E) → WC → Type 0)
+      → List (OpeningRequest D E) → Type 0
+  AcceptsOpenings kept Commits WordCommits requests =
+      (values : Openings E) → AllZip (AreAnswers kept k p.log_blowup) requests values
+      → (proof : OpeningProof F E WC IP WP) (old new : S)
+      → IsOpening p kept requests values k r proof Commits authenticates WordCommits
+      word_authenticates old new
+      → (batches : List (BatchClaim IC E)) → AreClaimed p kept Commits requests values batches
+      → All (λ m. 1 ≤ length m.claims) (all_matrices batches)
+      → AcceptsFrom k p r authenticates word_authenticates batches proof old new
+
+-- the same by the fields, the challenger and the schemes
+abbrev pub AcceptsOpeningsBy : {C S F E I IC ID IP W WC WD WP : Type 0}
+    → Schemes C S F E I IC ID IP W WC WD WP → I → FriParameters W →
+    List (OpeningRequest ID E) → Type 0
+AcceptsOpeningsBy o mmcs p requests =
+    AcceptsOpenings o.fields o.run p (o.authenticates mmcs)
+    (o.word_authenticates p.mmcs) o.kept (o.Commits mmcs) (o.WordCommits p.mmcs) requests

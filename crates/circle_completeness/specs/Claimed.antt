@@ -1,0 +1,25 @@
+-- Claims that a verifier is handed of what an opening answers.
+use Rattle.std.specs.Prelude.{◌≡◌, List, [], ◌∷◌, map}
+use Rattle.circle_matrix.specs.Pcs.{Openings}
+use Rattle.circle_matrix.specs.declared.matrix.RowMajorMatrix.{RowMajorMatrix}
+use Rattle.circle_matrix.specs.declared.params.FriParameters.{FriParameters}
+use Rattle.circle_matrix.specs.declared.pcs.OpeningRequest.{OpeningRequest}
+use Rattle.circle_opening.specs.Requests.{batch_committed, claimed, points_of}
+use Rattle.circle_relation.specs.Statement.{BatchClaim}
+
+module _ {D F E M IC : Type 0} (p : FriParameters M) (kept : D → List (RowMajorMatrix F))
+    (Commits : List (RowMajorMatrix F) → IC → Type 0) where
+  -- the claims on one batch: under a commitment of the request's matrices, what is answered of them
+  pub record IsClaimed (request : OpeningRequest D E) (values : List (List (List E)))
+      (batch : BatchClaim IC E) : Type 0 where
+    pub committed : Commits (kept request.prover_data.now) batch.commitment
+    pub matrices :
+        batch.matrices
+        ≡ map (claimed p.log_blowup)
+        (batch_committed (kept request.prover_data.now) (points_of kept request) values)
+
+  -- the claims on all batches, request by request
+  abbrev pub AreClaimed : List (OpeningRequest D E) → Openings E → List (BatchClaim IC E) → Type 0
+  AreClaimed [] [] [] = Unit {0}
+  AreClaimed (r ∷ rs) (v ∷ vs) (b ∷ bs) = IsClaimed r v b × AreClaimed rs vs bs
+  AreClaimed _ _ _ = ⊥

@@ -1,0 +1,45 @@
+//! The law of openings that are accepted. The call of this module answers nothing and carries what
+//! its contract says.
+ghost use Rattle.std.specs.Prelude.{◌≡◌};
+ghost use Rattle.circle_completeness.specs.Accepted.{AcceptsOpeningsBy};
+ghost use Rattle.circle_opening.specs.Requests.{AreFit, AreRequests};
+
+use circle_challenger::{CanObserve, CanSample, GrindingChallenger};
+use circle_field::{ComplexExtendable, ExtensionField};
+use circle_matrix::{FriParameters, Mmcs, OpeningRequest};
+use circle_opening::OpeningOver;
+use circle_relation::OverCircle;
+
+/// Whatever an opening answers of the requests is accepted (Circle STARKs, IACR ePrint 2024/278,
+/// sections 4 to 6): where what is claimed is what was answered, of each matrix at one point at
+/// least, under commitments of the requested matrices, the challenges that a verifier draws from
+/// the state that the opening began in are those of the opening, they leave the state that it left,
+/// and the verifier's relation holds of them.
+///
+/// Asks what an opening asks, and folding by two. Takes no memory.
+pub fn openings_are_accepted<
+    Val: ComplexExtendable,
+    EF: ExtensionField<Val>,
+    InputMmcs: Mmcs<Val>,
+    FriMmcs: Mmcs<EF>,
+    C,
+>(
+    mmcs: &InputMmcs,
+    params: &FriParameters<FriMmcs>,
+    requests: &[OpeningRequest<InputMmcs::ProverData, EF>],
+    challenger: &C,
+)
+where
+    C: CanSample<Val> + GrindingChallenger<Val> + CanObserve<FriMmcs::Commitment>,
+    requires parameters { AreFit params.now }
+    requires arity { params.now.max_log_arity ≡ 1 }
+    requires requests { AreRequests InputMmcs.matrices ⟦<EF as OverCircle<Val>>⟧.fields
+        Val.CIRCLE_TWO_ADICITY params.now requests.now }
+    ensures { AcceptsOpeningsBy ⟦<C as OpeningOver<Val, EF, InputMmcs, FriMmcs>>⟧.schemes
+        mmcs.now params.now requests.now }
+{
+    let _mmcs = mmcs;
+    let _params = params;
+    let _requests = requests;
+    let _challenger = challenger;
+}

@@ -1,0 +1,33 @@
+use Rattle.std.proofs.Common.{◌≡◌, ◌<◌, ◌∙◌, sym, ap, length, slice_index_or, slice_set, arith}
+use Rattle.circle_matrix.proofs.Written.{written, written-read, written-more, written-all, length-pairwise, pairwise-read}
+use Rattle.circle_matrix.specs.DotProduct.{pairwise}
+use Rattle.circle_folding.proofs.folding.add_each.Goals as goal
+
+pub loop-i-preserved : goal.loop-i-preserved
+loop-i-preserved g c =
+    let k = g.E.Operations.ops in
+    let old = c.args.values.now in
+    let others = c.args.others.now in
+    let i = c.loop-i.i in
+    let new = pairwise k.add old others in
+    let v = slice_index_or c.loop-i.values i c.index-values-i.result in
+    let o = c.index-others-i.result in
+    let sum = c.add.result in
+    let long : length new ≡ length old = length-pairwise k.add old others (sym c.requires) in
+    let of_others : i < length others = omega (arith, c.loop-i-test.true, c.requires) in
+    let read : v ≡ slice_index_or old i c.index-values-i.result = ap (λ xs. slice_index_or xs i c.index-values-i.result) c.loop-i.invariant ∙ written-read i new old c.index-values-i.result long in
+    let made : sum ≡ slice_index_or new i sum =
+    g.met.E.Field.add_law _ _ _ c.add.ensures ∙ ap (λ a. k.add a o) read ∙ ap (k.add (slice_index_or old i c.index-values-i.result)) c.index-others-i.is
+    ∙ sym (pairwise-read k.add old others i c.index-values-i.result o sum c.loop-i-test.true of_others) in
+    ap (λ xs. slice_set xs i sum) c.loop-i.invariant
+    ∙ ap (slice_set (written i new old) i) made
+    ∙ written-more i new old sum long c.loop-i-test.true
+
+pub returns : goal.returns
+returns g c =
+    let k = g.E.Operations.ops in
+    let old = c.args.values.now in
+    let others = c.args.others.now in
+    let new = pairwise k.add old others in
+    let long : length new ≡ length old = length-pairwise k.add old others (sym c.requires) in
+    c.loop-i.invariant ∙ written-all c.loop-i.i new old long c.loop-i-test.false

@@ -1,9 +1,0 @@
-pub mod Claimed
-pub mod Lengths
-pub mod Points
-pub mod Rows
-pub mod Sizes
-pub mod ReducedSums
-pub mod ReducedRows
-pub mod ReducedWords
-pub mod ReducedWidths

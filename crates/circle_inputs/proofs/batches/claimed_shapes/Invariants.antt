@@ -1,9 +1,0 @@
-use Rattle.std.proofs.Common.{◌≡◌, map, take}
-use Rattle.circle_relation.specs.StatementOf.{matrix_claim}
-use Rattle.circle_inputs.specs.Batches.{claimed_shape}
-use Rattle.circle_inputs.proofs.batches.claimed_shapes.Given as goal
-
--- the shapes so far
-abbrev pub invariant-loop-matrix : goal.invariant-loop-matrix
-invariant-loop-matrix g l =
-    l.shapes.items ≡ map (λ m. claimed_shape l.log_blowup (matrix_claim m)) (take l.matrix-index l.matrices)

@@ -1,2 +1,0 @@
-pub mod FirstLayer
-pub mod Rounds

@@ -1,0 +1,47 @@
+//! What commitment schemes stand on: matrices by rows, views of them, domains that polynomials are
+//! given on, what is opened and claimed of them, the parameters of FRI, how it folds and why it
+//! refuses, and the forms of values in JSON.
+//!
+//! What is proved:
+//!
+//! - A matrix is its list of rows: `row`, `split_rows`, `new_col`, `copy_of`, the mapped view and
+//!   `to_row_major_matrix` say exactly which rows.
+//! - `columnwise_dot_product` answers each column's sum by weights of the rows, and
+//!   `columnwise_dot_products` the same for several lists of weights, the rows read once.
+//! - The trait `Mmcs` says what a scheme that commits to matrices promises, and `PolynomialSpace`
+//!   what a domain is asked and gives; `Pcs` and `FriFoldingStrategy` leave that to their
+//!   instances.
+//! - A `PeriodicLdeTable` answers the entry of its row i modulo its height (`get`).
+//! - `JsonForm` of `circle_json`, shown here too, reads a batch's opening, claims and the
+//!   parameters of FRI from JSON and writes them: `specs/Json` has the keys of each object, and
+//!   that the final polynomial's length may be missing.
+#![tactic(auto)]
+
+pub mod error;
+pub mod folding;
+pub mod json;
+pub mod matrix;
+pub mod mmcs;
+pub mod params;
+pub mod pcs;
+pub mod periodic;
+pub mod space;
+pub mod view;
+
+pub use circle_json::{JsonError, JsonForm};
+pub use error::FriError;
+pub use folding::FriFoldingStrategy;
+pub use matrix::{
+    Dimensions, FieldMatrix, Matrix, MatrixShape, RowIndexMap, RowIndexMappedView, RowMajorMatrix,
+};
+pub use mmcs::{
+    Mmcs, OpenedRows, are_below, heights_are_powers_of_two, is_power_of_two, log2_strict,
+};
+pub use params::{FriParameters, PowPhase};
+pub use pcs::{
+    BatchMultiOpening, CommitmentOpening, MatrixOpening, OpenedValues, OpenedValuesForMatrix,
+    OpenedValuesForPoint, OpenedValuesForRound, OpeningRequest, PointOpening,
+};
+pub use periodic::{PeriodicEvaluator, PeriodicLdeTable};
+pub use space::{LagrangeSelectors, PolynomialSpace};
+pub use view::RowMajorMatrixView;

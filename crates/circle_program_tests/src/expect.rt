@@ -1,0 +1,105 @@
+//! What the program answers, held against what is expected. Each of these calls fails where the
+//! program answers otherwise, and tells what it answered.
+use crate::streams::{FailingFlush, FailingWriter};
+use circle_commands::run::run;
+use std::alloc::{AllocError, Global};
+use std::fmt::InlineText;
+use std::io::Write;
+use std::test::Fail;
+
+/// What the program wrote, and its status.
+#[derive(Drop)]
+pub struct Answer {
+    /// The bytes that it wrote.
+    pub written: Vec<u8>,
+    /// The status that it ends with.
+    pub status: u8,
+}
+
+/// Arguments of these words.
+pub fn arguments(alloc: Global, words: &[&str]) -> Result<Vec<String>, AllocError> {
+    let mut args = Vec::new(alloc);
+    for word in words {
+        args.push(String::from_str(alloc, word)?)?;
+    }
+    Ok(args)
+}
+
+/// Runs a command on these bytes.
+pub fn answer_of(alloc: Global, command: &str, input: &[u8]) -> Result<Answer, AllocError> {
+    let args = arguments(alloc, &[command])?;
+    let mut written = Vec::new(alloc);
+    let mut input = input;
+    let status = run(alloc, &args, &mut input, &mut written);
+    Ok(Answer { written, status })
+}
+
+/// Expects that the input can't be read for this reason.
+pub fn expect_unreadable(
+    alloc: Global,
+    command: &str,
+    input: &[u8],
+    reason: &str,
+) -> Result<(), Fail> {
+    let answer = answer_of(alloc, command, input)?;
+    let line = format!(in alloc; "{{\"unreadable\":\"{reason}\"}}\n")?;
+    if answer.status == 2 && answer.written.as_slice() == line.as_bytes() {
+        return Ok(());
+    }
+    let text = std::str::from_utf8(&answer.written).unwrap_or("not UTF-8");
+    Err(unexpected(answer.status, text))
+}
+
+// What is told of another answer.
+fn unexpected(status: u8, text: &str) -> Fail {
+    let told = InlineText::<512>::of(format_args!("status {status}: {text}"));
+    Fail::new(told.as_str())
+}
+
+// Runs a command on the input over this writer, and expects this status.
+fn expect_status<W: Write>(
+    alloc: Global,
+    (command, input): (&str, &str),
+    output: &mut W,
+    want: u8,
+) -> Result<(), Fail> {
+    let args = arguments(alloc, &[command])?;
+    let status = run(alloc, &args, &mut input.as_bytes(), output);
+    if status == want {
+        return Ok(());
+    }
+    Err(unexpected(status, input))
+}
+
+/// Expects the status 1 over a writer of so much room.
+pub fn expect_not_taken(alloc: Global, case: (&str, &str), room: usize) -> Result<(), Fail> {
+    expect_status(alloc, case, &mut FailingWriter { room }, 1)
+}
+
+/// Expects the status over a writer of so much room, which the line takes, and the status 1 over
+/// one that can't flush.
+pub fn expect_taken(
+    alloc: Global,
+    case: (&str, &str),
+    (room, status): (usize, u8),
+) -> Result<(), Fail> {
+    let mut output = FailingWriter { room };
+    expect_status(alloc, case, &mut output, status)?;
+    if output.room != 0 {
+        return Err(unexpected(status, "a shorter line"));
+    }
+    expect_status(alloc, case, &mut FailingFlush, 1)
+}
+
+/// Expects the status of a line of so many bytes, with its end, and the status 1 over each writer
+/// that takes fewer and over one that can't flush.
+pub fn expect_written_whole(
+    alloc: Global,
+    case: (&str, &str),
+    (len, status): (usize, u8),
+) -> Result<(), Fail> {
+    for room in 0..len {
+        expect_not_taken(alloc, case, room)?;
+    }
+    expect_taken(alloc, case, (len, status))
+}

@@ -1,9 +1,0 @@
-pub mod Answering
-pub mod CommitTests
-pub mod Domains
-pub mod Heights
-pub mod HonestOpenings
-pub mod HonestTests
-pub mod OnDomain
-pub mod Passed
-pub mod Unrefused

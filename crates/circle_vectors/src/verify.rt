@@ -1,0 +1,122 @@
+//! Zeros are accepted over each scheme, and another final polynomial of theirs is refused.
+use crate::any_scheme::accepts;
+use circle_challenger::{CanObserve, CanSample, GrindingChallenger, Sha256Challenger};
+use circle_commit::{FriError, Mmcs};
+use circle_field::{Cubic, Field, Mersenne31};
+use circle_fixtures::schemes::ListMmcs;
+use circle_statements::batches::one;
+use circle_statements::openings::shown;
+use circle_statements::parameters::{Trees, WordTrees};
+use p3_circle::InputError;
+use std::alloc::{AllocError, Global};
+use std::process::Abort;
+use std::test::Fail;
+
+mod zeros;
+
+use zeros::{EIGHT, FOUR, Size, Zeros, prove};
+
+type Answer<I, W> = Result<
+    (),
+    FriError<
+        <W as Mmcs<Cubic>>::Error,
+        InputError<<I as Mmcs<Mersenne31>>::Error, <W as Mmcs<Cubic>>::Error>,
+    >,
+>;
+
+// The coefficients of the honest final polynomial.
+fn zero_poly(alloc: Global, size: Size) -> Result<Vec<Cubic>, AllocError> {
+    vec![in alloc; Cubic::ZERO; size.coefficients]
+}
+
+// Zeros over trees, proved from the fresh challenger.
+fn honest(alloc: Global, size: Size) -> Result<Zeros<Trees, WordTrees>, Fail> {
+    let schemes = (Trees::new(), WordTrees::new());
+    let final_poly = zero_poly(alloc, size)?;
+    prove(
+        alloc,
+        schemes,
+        size,
+        final_poly,
+        &mut Sha256Challenger::new(),
+    )
+}
+
+// What is answered from the state of the challenger.
+fn verify<I, W, C>(alloc: Global, zeros: Zeros<I, W>, challenger: &mut C) -> Answer<I, W>
+where
+    I: Mmcs<Mersenne31> + Drop,
+    W: Mmcs<Cubic> + Drop,
+    C: CanSample<Mersenne31> + GrindingChallenger<Mersenne31> + CanObserve<W::Commitment>,
+{
+    let Zeros {
+        scheme,
+        claims,
+        proof,
+    } = zeros;
+    scheme.verify(alloc, claims, &proof, challenger)
+}
+
+// Asserts that zeros over these schemes are accepted, and that both sides end in one state.
+fn assert_accepted<I, W>(
+    rt: &impl Abort,
+    alloc: Global,
+    schemes: (I, W),
+    size: Size,
+) -> Result<(), Fail>
+where
+    I: Mmcs<Mersenne31> + Drop,
+    W: Mmcs<Cubic> + Drop,
+    Sha256Challenger: CanObserve<W::Commitment>,
+{
+    let mut prover = Sha256Challenger::new();
+    let honest = prove(alloc, schemes, size, zero_poly(alloc, size)?, &mut prover)?;
+    let mut verifier = Sha256Challenger::new();
+    assert!(rt; verify(alloc, honest, &mut verifier).is_ok());
+    assert!(rt; verifier != Sha256Challenger::new());
+    assert_eq!(rt; verifier, prover);
+    Ok(())
+}
+
+#[test]
+fn zeros_are_accepted(rt: HostRuntime) -> Result<(), Fail> {
+    for size in [FOUR, EIGHT] {
+        let trees = (Trees::new(), WordTrees::new());
+        assert_accepted(&rt, rt.alloc(), trees, size)?;
+        assert_accepted(&rt, rt.alloc(), (ListMmcs, ListMmcs), size)?;
+    }
+    Ok(())
+}
+
+// What a caller over any scheme answers of the zeros over this one.
+fn accepts_as_any(alloc: Global, zeros: Zeros<Trees, WordTrees>) -> Result<bool, AllocError> {
+    let Zeros {
+        scheme,
+        claims,
+        proof,
+    } = zeros;
+    accepts(alloc, &scheme, claims, &proof, &mut Sha256Challenger::new())
+}
+
+#[test]
+fn zeros_over_any_scheme(rt: HostRuntime) -> Result<(), Fail> {
+    let alloc = rt.alloc();
+    assert!(rt; accepts_as_any(alloc, honest(alloc, FOUR)?)?);
+    let mut other = honest(alloc, FOUR)?;
+    other.proof.fri_proof.final_poly = one(alloc, Cubic::ONE)?;
+    assert!(rt; !accepts_as_any(alloc, other)?);
+    Ok(())
+}
+
+// All is opened as it was committed to, and folds to 0.
+#[test]
+fn another_final_polynomial(rt: HostRuntime) -> Result<(), Fail> {
+    let alloc = rt.alloc();
+    let schemes = (Trees::new(), WordTrees::new());
+    let last = one(alloc, Cubic::ONE)?;
+    let proved = prove(alloc, schemes, FOUR, last, &mut Sha256Challenger::new())?;
+    let answer = shown(verify(alloc, proved, &mut Sha256Challenger::new()));
+    let mismatch = "a query is folded to another value than the final polynomial's";
+    assert_eq!(rt; answer.as_str(), mismatch);
+    Ok(())
+}

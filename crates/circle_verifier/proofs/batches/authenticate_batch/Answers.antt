@@ -1,0 +1,45 @@
+use Rattle.std.proofs.Common.{◌≡◌, ◌∙◌, map, refl, sym, ap, subst, arith}
+use Rattle.circle_matrix.specs.Mmcs.{opened_rows}
+use Rattle.circle_relation.specs.Accepts.{Fields, InputAuthenticates}
+use Rattle.circle_relation.specs.RunOf.{run_of, opened_batch}
+use Rattle.circle_relation.specs.Statement.{log_max_height}
+use Rattle.circle_relation.specs.StatementOf.{matrix_claims, batch_claim}
+use Rattle.circle_verifier.specs.Batches.{claimed_shape, RefusesRows}
+use Rattle.circle_verifier.proofs.Rows.{at-most, refusal-refuses}
+use Rattle.circle_relation.proofs.Shown.{moved, same-bits}
+use Rattle.circle_verifier.proofs.batches.authenticate_batch.Goals as goal
+
+pub overflow_sub-run : goal.overflow_sub-run
+overflow_sub-run g c =
+    let run = c.args.run.now in
+    let blowup = run.params.now.log_blowup in
+    let matrices = c.args.batch.now.matrices.items in
+    let is : c.log_max_height-height.result ≡ log_max_height blowup (matrix_claims matrices) =
+    c.log_max_height-height.ensures ∙ ap (λ ms. log_max_height blowup (matrix_claims ms)) c.deref-2.ensures.value in
+    let below = at-most blowup run.log_max_height matrices c.requires.heights in
+    omega (arith, is, below)
+
+pub returns-in-Ok-clause-shown : goal.returns-in-Ok-clause-shown
+returns-in-Ok-clause-shown g c =
+    let run = c.args.run.now in
+    let batch = c.args.batch.now in
+    let k : Fields g.row.Val.Denot g.row.EF.Denot = record { field = g.Val.Operations.ops; gen = g.Val.ComplexExtendable.generators; two_adicity = g.Val.ComplexExtendable.CIRCLE_TWO_ADICITY; is_zero = λ w. g.Val.PartialEq.eq w g.Val.Field.ZERO; extension = g.EF.Operations.ops; embed = g.EF.ExtensionField.embed; same = g.EF.PartialEq.eq } in
+    let blowup = run.params.now.log_blowup in
+    moved (g.InputMmcs.Mmcs.authenticates run.mmcs.now) batch.commitment c.args.opening.now.opening_proof _ _ _ _ _ _
+    (c.deref-3.ensures.value ∙ c.in_ok-shapes.ensures ∙ ap (λ ms. map (claimed_shape blowup) (matrix_claims ms)) c.deref.ensures.value)
+    (c.deref-4.ensures.value ∙ c.in_ok-places.ensures ∙ same-bits run.indices.now _ _ _ _ c.requires.drawn.top (c.log_max_height-height.ensures ∙ ap (λ ms. log_max_height blowup (matrix_claims ms)) c.deref-2.ensures.value))
+    (ap opened_rows c.deref-5.ensures.value) c.in-Ok.ensures.accepted
+
+pub returns-clause-refused : goal.returns-clause-refused
+returns-clause-refused g c =
+    let run = c.args.run.now in
+    let batch = c.args.batch.now in
+    let k : Fields g.row.Val.Denot g.row.EF.Denot = record { field = g.Val.Operations.ops; gen = g.Val.ComplexExtendable.generators; two_adicity = g.Val.ComplexExtendable.CIRCLE_TWO_ADICITY; is_zero = λ w. g.Val.PartialEq.eq w g.Val.Field.ZERO; extension = g.EF.Operations.ops; embed = g.EF.ExtensionField.embed; same = g.EF.PartialEq.eq } in
+    let A = g.InputMmcs.Mmcs.authenticates run.mmcs.now in
+    let blowup = run.params.now.log_blowup in
+    let Shown : Type 0 = InputAuthenticates k run.params.now (run_of run) A (batch_claim batch, opened_batch c.args.opening.now) in
+    subst (RefusesRows g.InputMmcs.Mmcs.is_memory Shown) (sym c.refusal.ensures)
+    (refusal-refuses _ g.InputMmcs.Mmcs.is_memory Shown _ _ refl (λ shown. c.in-Err.ensures.refused (moved A batch.commitment c.args.opening.now.opening_proof _ _ _ _ _ _
+    (sym (c.deref-3.ensures.value ∙ c.in_ok-shapes.ensures ∙ ap (λ ms. map (claimed_shape blowup) (matrix_claims ms)) c.deref.ensures.value))
+    (sym (c.deref-4.ensures.value ∙ c.in_ok-places.ensures ∙ same-bits run.indices.now _ _ _ _ c.requires.drawn.top (c.log_max_height-height.ensures ∙ ap (λ ms. log_max_height blowup (matrix_claims ms)) c.deref-2.ensures.value)))
+    (sym (ap opened_rows c.deref-5.ensures.value)) shown)))

@@ -1,0 +1,6 @@
+use Rattle.std.proofs.Common.{◌≡◌, [], map, take}
+use Rattle.circle_matrix.specs.Mmcs.{opened_rows}
+use Rattle.circle_verifier.proofs.first_layer.empty_rows.Given as goal
+
+abbrev pub invariant-loop : goal.invariant-loop
+invariant-loop g l = opened_rows l.rows.items ≡ map (λ _. []) (take l.index l.indices)

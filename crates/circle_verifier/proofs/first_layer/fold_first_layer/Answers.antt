@@ -1,0 +1,87 @@
+use Rattle.std.proofs.Common.{◌≡◌, ◌+◌, ◌++◌, [], ◌∷◌, ◌∙◌, List, Vec, Global, sym, ap, length, map, take, drop}
+use Rattle.std.proofs.lemmas.List.{length_push, map-append, length-map}
+use Rattle.std.proofs.lemmas.Iterator.Adapters.{YieldsList-from_vec}
+use Rattle.std.proofs.lemmas.Iterator.Consumers.{YieldsList-turn, YieldsList-end}
+use Rattle.circle_field.proofs.Inverses.{take-whole}
+use Rattle.circle_matrix.specs.Mmcs.{opened_rows}
+use Rattle.circle_relation.specs.Accepts.{Fields}
+use Rattle.circle_relation.specs.RunOf.{folded_words, joining_of}
+use Rattle.circle_verifier.proofs.FirstLayerRun.{pairs_up_to, all_reduced, word-of, place-of, none-yet, count-rows, pairs-all, folded-all, folded-more, pairs-more}
+use Rattle.circle_verifier.proofs.first_layer.fold_first_layer.Goals as goal
+
+pub loop-word-init : goal.loop-word-init
+loop-word-init g c =
+    let reduced = all_reduced c.requires.drawn c.requires.opened c.args.words.items c.requires.words in
+    record {
+      count = c.in_ok-folded.ensures.len;
+      folded = ap (map joining_of) c.in_ok-folded.ensures.items;
+      pairs = none-yet reduced c.in_ok-rows.ensures;
+    }
+
+pub fold_word-requires-clause-place : goal.fold_word-requires-clause-place
+fold_word-requires-clause-place g c =
+    let reduced = all_reduced c.requires.drawn c.requires.opened c.args.words.items c.requires.words in
+    let given = c.into_iter-word-iterator.ensures.into_iter_gives in
+    let all = YieldsList-from_vec c.args.words.items given.0 (given.1 ∙ c.args.words.ok.0) in
+    let t = YieldsList-turn all c.loop-word.yielded _ c.loop-word.yielded_by _ c.next.new.self c.in-Some.word c.in-Some.is c.next.ensures.steps in
+    let word = word-of reduced (length c.loop-word.yielded) c.in-Some.word t.0 t.1 in
+    place-of reduced (c.len-in-loop-word.ensures ∙ c.loop-word.invariant.count) word.0
+
+pub fold_word-requires-clause-word : goal.fold_word-requires-clause-word
+fold_word-requires-clause-word g c =
+    let reduced = all_reduced c.requires.drawn c.requires.opened c.args.words.items c.requires.words in
+    let given = c.into_iter-word-iterator.ensures.into_iter_gives in
+    let all = YieldsList-from_vec c.args.words.items given.0 (given.1 ∙ c.args.words.ok.0) in
+    let t = YieldsList-turn all c.loop-word.yielded _ c.loop-word.yielded_by _ c.next.new.self c.in-Some.word c.in-Some.is c.next.ensures.steps in
+    let word = word-of reduced (length c.loop-word.yielded) c.in-Some.word t.0 t.1 in
+    word.1
+
+pub fold_word-requires-clause-rows : goal.fold_word-requires-clause-rows
+fold_word-requires-clause-rows g c =
+    let reduced = all_reduced c.requires.drawn c.requires.opened c.args.words.items c.requires.words in
+    let rows = c.loop-word.rows.items in
+    let entries : Vec (Vec g.row.EF.Denot Global) Global → List (List g.row.EF.Denot) = λ rows. map (λ row. row.items) rows.items in
+    ap length c.deref_mut.ensures.value ∙ sym (length-map rows entries)
+    ∙ count-rows reduced (opened_rows rows) (length c.loop-word.yielded) c.loop-word.invariant.pairs
+
+pub loop-word-preserved : goal.loop-word-preserved
+loop-word-preserved g c =
+    let reduced = all_reduced c.requires.drawn c.requires.opened c.args.words.items c.requires.words in
+    let given = c.into_iter-word-iterator.ensures.into_iter_gives in
+    let all = YieldsList-from_vec c.args.words.items given.0 (given.1 ∙ c.args.words.ok.0) in
+    let t = YieldsList-turn all c.loop-word.yielded _ c.loop-word.yielded_by _ c.next.new.self c.in-Some.word c.in-Some.is c.next.ensures.steps in
+    let word = word-of reduced (length c.loop-word.yielded) c.in-Some.word t.0 t.1 in
+    let k : Fields g.row.Val.Denot g.row.EF.Denot =
+    record { field = g.Val.Operations.ops; gen = g.Val.ComplexExtendable.generators; two_adicity = g.Val.ComplexExtendable.CIRCLE_TWO_ADICITY; is_zero = λ w. g.Val.PartialEq.eq w g.Val.Field.ZERO; extension = g.EF.Operations.ops; embed = g.EF.ExtensionField.embed; same = g.EF.PartialEq.eq } in
+    let run = c.args.run.now in
+    let done = length c.loop-word.yielded in
+    let old = c.loop-word.rows in
+    let new = c.fold_word.new.rows in
+    let more : done + 1 ≡ length (c.loop-word.yielded ++ c.in-Some.word ∷ []) = sym (length_push c.loop-word.yielded c.in-Some.word) in
+    let whole : take old.len (new ++ drop (length new) old.items) ≡ new =
+    take-whole old.len new old.items old.ok.0 (c.fold_word.auto.rows ∙ ap length c.deref_mut.ensures.value) in
+    let held = ap opened_rows c.deref_mut.ensures.value ∙ c.loop-word.invariant.pairs in
+    record {
+      count = c.in_ok-push.ensures.len ∙ ap (λ n. n + 1) c.loop-word.invariant.count ∙ more;
+      folded =
+          ap (map joining_of) c.in_ok-push.ensures.items ∙ map-append joining_of c.loop-word.folded.items (c.in_ok-values.values ∷ [])
+          ∙ folded-more word.0 c.loop-word.invariant.folded c.in_ok-values.ensures.folded
+          ∙ ap (λ n. take n (folded_words k run)) more;
+      pairs = ap opened_rows whole ∙ pairs-more word.0 held c.in_ok-values.ensures.pairs ∙ ap (pairs_up_to k run) more;
+    }
+
+pub returns-clause-pairs : goal.returns-clause-pairs
+returns-clause-pairs g c =
+    let reduced = all_reduced c.requires.drawn c.requires.opened c.args.words.items c.requires.words in
+    let given = c.into_iter-word-iterator.ensures.into_iter_gives in
+    let all = YieldsList-from_vec c.args.words.items given.0 (given.1 ∙ c.args.words.ok.0) in
+    let t = YieldsList-end all c.loop-word.yielded _ c.loop-word.yielded_by _ c.next.new.self c.in-None.is c.next.ensures.steps in
+    pairs-all reduced (opened_rows c.loop-word.rows.items) (length c.loop-word.yielded) t.1 c.loop-word.invariant.pairs
+
+pub returns-clause-folded : goal.returns-clause-folded
+returns-clause-folded g c =
+    let reduced = all_reduced c.requires.drawn c.requires.opened c.args.words.items c.requires.words in
+    let given = c.into_iter-word-iterator.ensures.into_iter_gives in
+    let all = YieldsList-from_vec c.args.words.items given.0 (given.1 ∙ c.args.words.ok.0) in
+    let t = YieldsList-end all c.loop-word.yielded _ c.loop-word.yielded_by _ c.next.new.self c.in-None.is c.next.ensures.steps in
+    folded-all reduced (map joining_of c.loop-word.folded.items) (length c.loop-word.yielded) t.1 c.loop-word.invariant.folded

@@ -1,0 +1,73 @@
+//! The heights that matrices are claimed of.
+ghost use Rattle.std.specs.Prelude.{◌≡◌, ◌==◌, IfOk};
+ghost use Rattle.std.specs.List.{list_any};
+ghost use Rattle.circle_domain.specs.Domain.{log_size};
+ghost use Rattle.circle_relation.specs.Accepts.{is_claimed};
+ghost use Rattle.circle_relation.specs.RunOf.{run_of, IsDrawn, heights_of};
+
+use circle_domain::CircleDomain;
+use circle_field::{ComplexExtendable, ExtensionField};
+use circle_matrix::{CommitmentOpening, MatrixOpening, Mmcs};
+use circle_relation::{OpenedRun, OverCircle};
+use std::alloc::{AllocError, Global};
+
+// Whether a matrix of a batch is claimed on a domain of `2^log_n` points.
+fn batch_has_domain<F: ComplexExtendable, E>(
+    matrices: &[MatrixOpening<E, CircleDomain<F>>],
+    log_n: usize,
+) -> bool
+    ensures { result ≡ list_any (λ m. log_size m.domain == log_n) matrices.now }
+{
+    matrices.iter().any(|m| m.domain.log_n() == log_n)
+}
+
+/// Whether a matrix is claimed on a domain of `2^log_n` points.
+pub(crate) fn has_domain<F: ComplexExtendable, E, Com>(
+    claims: &[CommitmentOpening<E, Com, CircleDomain<F>>],
+    log_n: usize,
+) -> bool
+    ensures { result ≡ list_any (λ b. list_any (λ m. log_size m.domain == log_n) b.matrices.items)
+        claims.now }
+{
+    for batch in claims {
+        if batch_has_domain(&batch.matrices, log_n) {
+            return true;
+        }
+    }
+    false
+}
+
+// Whether a matrix of `2^log_height` rows is claimed.
+fn is_claimed<
+    Val: ComplexExtendable,
+    EF: ExtensionField<Val>,
+    InputMmcs: Mmcs<Val>,
+    FriMmcs: Mmcs<EF>,
+>(run: &OpenedRun<Val, EF, InputMmcs, FriMmcs>, log_height: usize) -> bool
+    ensures { let k = ⟦<EF as OverCircle<Val>>⟧.fields in
+        result ≡ is_claimed k run.now.params.now (run_of run.now) log_height }
+{
+    let log_blowup = run.params.log_blowup;
+    log_height >= log_blowup && has_domain(run.claims, log_height - log_blowup)
+}
+
+/// The binary logarithms of all heights that matrices are claimed of, ascending, each once.
+///
+/// Asks a run that was tested before its challenges were drawn. Fails where memory is refused.
+pub fn claimed_heights<
+    Val: ComplexExtendable,
+    EF: ExtensionField<Val>,
+    InputMmcs: Mmcs<Val>,
+    FriMmcs: Mmcs<EF>,
+>(alloc: Global, run: &OpenedRun<Val, EF, InputMmcs, FriMmcs>) -> Result<Vec<usize>, AllocError>
+    requires drawn { IsDrawn ⟦<EF as OverCircle<Val>>⟧.fields run.now }
+    ensures { IfOk result (λ v. v.items ≡ heights_of ⟦<EF as OverCircle<Val>>⟧.fields run.now) }
+{
+    let mut heights = Vec::new(alloc);
+    for log_height in 0..=run.log_max_height {
+        if is_claimed(run, log_height) {
+            heights.push(log_height)?;
+        }
+    }
+    Ok(heights)
+}

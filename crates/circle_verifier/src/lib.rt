@@ -1,0 +1,49 @@
+//! What a verifier of Circle STARK openings (IACR ePrint 2024/278) checks.
+//!
+//! Before the challenger is seeded, in `verifier`: `validate_run` answers the first refusal of
+//! claims and a proof that there is reason for, or the logarithm of the greatest height
+//! (`run_tests`). `validate_claims`, `validate_parameters`, `validate_proof_shape` and
+//! `validate_points` do so of parts of these tests (`batch_tests`, `parameter_tests`, `proof_tests`,
+//! `point_tests`), which `specs/Refusals` lists in order.
+//!
+//! Once the challenges of a run are drawn, by the relation of `circle_relation`, for every lawful
+//! field, extension and schemes:
+//!
+//! - `claimed_heights` answers the heights that matrices are claimed of, ascending.
+//! - `validate_input_shape` is Ok only where the proof's lists have the lengths that the claims and
+//!   the queries fix, each matrix is claimed at a point, and each leaves something to fold
+//!   (`opened`).
+//! - `authenticate_inputs` is Ok only where the rows of each batch authenticate at the queries
+//!   (`shown`).
+//! - `reduced_words` answers for each height the sums of the quotients of all claims at the queries
+//!   (`words`), and is Ok only where no claimed point is that of a query (`apart`).
+//! - `fold_first_layer` answers the pairs that the queries ask of the first layer (`pairs`), and
+//!   what they fold into (`folded`). `authenticate_first_layer` is Ok only where these pairs
+//!   authenticate (`shown`).
+//! - `fold_rounds` folds the queries' values round by round, joining each height where it is due
+//!   (`values`), and is Ok only where the pairs of all rounds authenticate (`shown`).
+//! - `check_final` is Ok only where each query ends in the value of the final polynomial (`ended`).
+//! - `verify_queries` is all of these: Ok only where a run meets what the relation says of it
+//!   (`opened`, `holds`). `verify_drawn` makes the run of claims, a proof and what was drawn, and
+//!   is Ok only where the relation accepts it (`accepted`).
+//! - Whatever these refuse, the relation has a reason for, or memory was refused (`refused`).
+#![tactic(auto)]
+
+pub mod batches;
+pub mod first_layer;
+pub mod heights;
+pub mod last_word;
+pub mod queries;
+pub mod reduced;
+pub mod rounds;
+pub mod shape;
+pub mod verifier;
+
+pub use batches::authenticate_inputs;
+pub use first_layer::{authenticate_first_layer, fold_first_layer};
+pub use heights::claimed_heights;
+pub use last_word::check_final;
+pub use queries::{verify_drawn, verify_queries};
+pub use reduced::reduced_words;
+pub use rounds::fold_rounds;
+pub use shape::validate_input_shape;

@@ -1,0 +1,135 @@
+//! What a verifier checks once the challenges of a run are drawn.
+ghost use Rattle.std.specs.Prelude.{◌≡◌, ◌<◌, ◌^◌, length, All, OnOk, IfErr};
+ghost use Rattle.circle_relation.specs.StatementOf.{batch_claims};
+ghost use Rattle.circle_relation.specs.Accepts.{Accepts};
+ghost use Rattle.circle_relation.specs.Reasons.{IsReason};
+ghost use Rattle.circle_relation.specs.RunOf.{proof_of, run_of, IsDrawn, IsOpened};
+ghost use Rattle.circle_relation.specs.RunOf.{Holds, Refuses};
+ghost use Rattle.circle_verifier.specs.Tests.{claimed_height};
+ghost use Rattle.circle_verifier.specs.Tested.{rounds_due, IsTestedOver};
+ghost use Rattle.circle_relation.specs.Taken.{challenges_of};
+ghost use Rattle.circle_relation.specs.RunOf.{run_with};
+
+use crate::batches::authenticate_inputs;
+use crate::first_layer::{authenticate_first_layer, fold_first_layer};
+use crate::heights::claimed_heights;
+use crate::last_word::check_final;
+use crate::reduced::reduced_words;
+use crate::rounds::fold_rounds;
+use crate::shape::validate_input_shape;
+use circle_domain::CircleDomain;
+use circle_field::{ComplexExtendable, ExtensionField};
+use circle_matrix::{CommitmentOpening, FriError, FriParameters, Mmcs};
+use circle_relation::{CirclePcsProof, InputError, OpenedRun, OverCircle};
+use circle_runs::CircleDraws;
+use std::alloc::Global;
+
+/// Refuses a run by the first of these that fails: the lists of the proof have the lengths that are
+/// due, each batch's rows authenticate, no claimed point is that of a query, the pairs of the first
+/// layer and of each round authenticate, and each query ends in the value of the final polynomial.
+///
+/// Asks a run that was tested before its challenges were drawn. Fails with `Memory` where memory is
+/// refused.
+#[tactic(auto, unfolding(circle_relation::specs::Reasons::IsReason))]
+pub fn verify_queries<
+    Val: ComplexExtendable,
+    EF: ExtensionField<Val>,
+    InputMmcs: Mmcs<Val>,
+    FriMmcs: Mmcs<EF>,
+>(
+    alloc: Global,
+    run: &OpenedRun<Val, EF, InputMmcs, FriMmcs>,
+) -> Result<(), FriError<FriMmcs::Error, InputError<InputMmcs::Error, FriMmcs::Error>>>
+    requires drawn { IsDrawn ⟦<EF as OverCircle<Val>>⟧.fields run.now }
+    ensures opened { OnOk result (IsOpened ⟦<EF as OverCircle<Val>>⟧.fields run.now) }
+    ensures holds { OnOk result (Holds ⟦<EF as OverCircle<Val>>⟧.fields run.now
+        InputMmcs.authenticates FriMmcs.authenticates) }
+    ensures refused { IfErr result (Refuses ⟦<EF as OverCircle<Val>>⟧.fields run.now
+        InputMmcs.authenticates FriMmcs.authenticates InputMmcs.is_memory FriMmcs.is_memory) }
+{
+    let heights = claimed_heights(alloc, run)?;
+    validate_input_shape(run, &heights)?;
+    authenticate_inputs(alloc, run)?;
+    let words = reduced_words(alloc, run, &heights)?;
+    let (pairs, folded) = fold_first_layer(alloc, run, words)?;
+    authenticate_first_layer(alloc, run, &heights, &pairs)?;
+    let values = fold_rounds(alloc, run, folded)?;
+    check_final(run, &values)
+}
+
+// The run of claims and a proof, with what was drawn.
+fn opened_run<
+    'a,
+    Val: ComplexExtendable,
+    EF: ExtensionField<Val>,
+    InputMmcs: Mmcs<Val>,
+    FriMmcs: Mmcs<EF>,
+>(
+    mmcs: &'a InputMmcs,
+    params: &'a FriParameters<FriMmcs>,
+    claims: &'a [CommitmentOpening<EF, InputMmcs::Commitment, CircleDomain<Val>>],
+    proof: &'a CirclePcsProof<Val, EF, InputMmcs, FriMmcs, Val>,
+    log_max_height: usize,
+    draws: &'a CircleDraws<EF>,
+) -> OpenedRun<'a, Val, EF, InputMmcs, FriMmcs>
+    requires tested { IsTestedOver ⟦<EF as OverCircle<Val>>⟧.fields params.now
+        (batch_claims claims.now) (proof_of proof.now) }
+    requires top { log_max_height ≡ claimed_height params.now.log_blowup (batch_claims claims.now) }
+    requires betas { length draws.now.betas.items
+        ≡ rounds_due params.now (batch_claims claims.now) }
+    requires count { length draws.now.indices.items ≡ params.now.num_queries }
+    requires below { All (λ q. q < 2 ^ log_max_height) draws.now.indices.items }
+    ensures drawn { IsDrawn ⟦<EF as OverCircle<Val>>⟧.fields result }
+    ensures mmcs { result.mmcs.now ≡ mmcs.now }
+    ensures params { result.params.now ≡ params.now }
+    ensures run { run_of result ≡ run_with claims.now proof.now (challenges_of draws.now) }
+{
+    OpenedRun {
+        mmcs,
+        params,
+        claims,
+        proof,
+        log_max_height,
+        alpha: draws.alpha,
+        bivariate: draws.bivariate,
+        betas: &draws.betas,
+        indices: &draws.indices,
+    }
+}
+
+/// Refuses a run that was tested, once its challenges are drawn, as [`verify_queries`] does.
+///
+/// Asks the binary logarithm of the greatest height that is claimed, a challenge for each round, as
+/// many queries as the parameters say, and queries below that height.
+pub fn verify_drawn<
+    Val: ComplexExtendable,
+    EF: ExtensionField<Val>,
+    InputMmcs: Mmcs<Val>,
+    FriMmcs: Mmcs<EF>,
+>(
+    alloc: Global,
+    mmcs: &InputMmcs,
+    params: &FriParameters<FriMmcs>,
+    claims: &[CommitmentOpening<EF, InputMmcs::Commitment, CircleDomain<Val>>],
+    proof: &CirclePcsProof<Val, EF, InputMmcs, FriMmcs, Val>,
+    log_max_height: usize,
+    draws: &CircleDraws<EF>,
+) -> Result<(), FriError<FriMmcs::Error, InputError<InputMmcs::Error, FriMmcs::Error>>>
+    requires tested { IsTestedOver ⟦<EF as OverCircle<Val>>⟧.fields params.now
+        (batch_claims claims.now) (proof_of proof.now) }
+    requires top { log_max_height ≡ claimed_height params.now.log_blowup (batch_claims claims.now) }
+    requires betas { length draws.now.betas.items
+        ≡ rounds_due params.now (batch_claims claims.now) }
+    requires count { length draws.now.indices.items ≡ params.now.num_queries }
+    requires below { All (λ q. q < 2 ^ log_max_height) draws.now.indices.items }
+    ensures accepted { let r = run_with claims.now proof.now (challenges_of draws.now) in
+        OnOk result (Accepts ⟦<EF as OverCircle<Val>>⟧.fields params.now r
+        (InputMmcs.authenticates mmcs.now) (FriMmcs.authenticates params.now.mmcs)) }
+    ensures refused { let r = run_with claims.now proof.now (challenges_of draws.now) in
+        IfErr result (IsReason ⟦<EF as OverCircle<Val>>⟧.fields params.now r
+        (InputMmcs.authenticates mmcs.now) (FriMmcs.authenticates params.now.mmcs)
+        InputMmcs.is_memory FriMmcs.is_memory) }
+{
+    let run = opened_run(mmcs, params, claims, proof, log_max_height, draws);
+    verify_queries(alloc, &run)
+}

@@ -1,0 +1,194 @@
+//! The rounds after the first layer, which fold words by x.
+ghost use Rattle.std.specs.Prelude.{◌≡◌, ◌+◌, ◌-◌, ◌/◌, ◌^◌, ◌<◌, ◌≤◌, length, map, All};
+ghost use Rattle.std.specs.Prelude.{slice_index_or, OnOk, IfOk, IfErr};
+ghost use Rattle.circle_matrix.specs.DotProduct.{pairwise};
+ghost use Rattle.circle_folding.specs.Chain.{round_twiddles};
+ghost use Rattle.circle_verifier.specs.Rounds.{values_in, siblings_in, folds_in};
+ghost use Rattle.circle_verifier.specs.Rounds.{words_below, HasRoundOf};
+ghost use Rattle.circle_relation.specs.RunOf.{IsDrawn, IsOpened, folded_words, joining_of};
+ghost use Rattle.circle_relation.specs.RunOf.{last_values, HasRoundsOf, Refuses};
+
+use circle_field::{ComplexExtendable, ExtensionField, Field};
+use circle_folding::{
+    add_each, first_x_twiddles, fold_query_values, next_x_twiddles, query_pairs, without_bits,
+};
+use circle_matrix::{Dimensions, FriError, Mmcs};
+use circle_relation::{InputError, OpenedRun, OverCircle, QueryValues};
+use std::alloc::{AllocError, Global};
+
+/// Folds the queries' values through all rounds, beginning with those of the greatest height: in
+/// each round the pairs that the queries ask for authenticate, are folded, and the height that is
+/// due joins them. Answers the values in the last word. Refuses a round whose pairs don't
+/// authenticate, by `CommitPhaseMmcsError`.
+///
+/// Asks a run that was tested before its challenges were drawn, with lists of fitting lengths, and
+/// what the first layer folds into. Each round is asked once, for all queries, and its twiddles are
+/// inverted together. Fails with `Memory` where memory is refused.
+#[tactic(auto, unfolding(circle_relation::specs::Reasons::IsReason))]
+pub fn fold_rounds<
+    Val: ComplexExtendable,
+    EF: ExtensionField<Val>,
+    InputMmcs: Mmcs<Val>,
+    FriMmcs: Mmcs<EF>,
+>(
+    alloc: Global,
+    run: &OpenedRun<Val, EF, InputMmcs, FriMmcs>,
+    folded: Vec<QueryValues<EF>>,
+) -> Result<Vec<EF>, FriError<FriMmcs::Error, InputError<InputMmcs::Error, FriMmcs::Error>>>
+    requires drawn { IsDrawn ⟦<EF as OverCircle<Val>>⟧.fields run.now }
+    requires opened { IsOpened ⟦<EF as OverCircle<Val>>⟧.fields run.now }
+    requires folded { let k = ⟦<EF as OverCircle<Val>>⟧.fields in
+        map joining_of folded.items ≡ folded_words k run.now }
+    ensures values { let k = ⟦<EF as OverCircle<Val>>⟧.fields in
+        IfOk result (λ values. values.items ≡ last_values k run.now) }
+    ensures shown { OnOk result (HasRoundsOf ⟦<EF as OverCircle<Val>>⟧.fields run.now
+        InputMmcs.authenticates FriMmcs.authenticates) }
+    ensures refused { IfErr result (Refuses ⟦<EF as OverCircle<Val>>⟧.fields run.now
+        InputMmcs.authenticates FriMmcs.authenticates InputMmcs.is_memory FriMmcs.is_memory) }
+{
+    let mut waiting = folded;
+    // The greatest height is one of those that are claimed, so there is a last one.
+    let Some(first) = waiting.pop() else {
+        return Ok(Vec::new(alloc));
+    };
+    let mut values = first.values;
+    let mut twiddles = first_x_twiddles::<Val>(alloc, run.log_max_height, run.indices)?;
+    let mut left = waiting.as_slice();
+    for round in 0..run.betas.len() {
+        fold_round(alloc, run, round, &twiddles, &mut values)?;
+        left = join(run, round, left, &mut values);
+        next_x_twiddles(round, run.indices, &mut twiddles);
+    }
+    Ok(values)
+}
+
+// Folds the queries' values in the word of a round, where their pairs authenticate.
+#[tactic(auto, unfolding(circle_relation::specs::Reasons::IsReason))]
+fn fold_round<
+    Val: ComplexExtendable,
+    EF: ExtensionField<Val>,
+    InputMmcs: Mmcs<Val>,
+    FriMmcs: Mmcs<EF>,
+>(
+    alloc: Global,
+    run: &OpenedRun<Val, EF, InputMmcs, FriMmcs>,
+    round: usize,
+    twiddles: &[Val],
+    values: &mut [EF],
+) -> Result<(), FriError<FriMmcs::Error, InputError<InputMmcs::Error, FriMmcs::Error>>>
+    requires drawn { IsDrawn ⟦<EF as OverCircle<Val>>⟧.fields run.now }
+    requires round { round < length run.now.betas.now }
+    requires twiddles { twiddles.now ≡ round_twiddles Val.ops Val.generators
+        run.now.log_max_height round run.now.indices.now }
+    requires values { values.old ≡ values_in ⟦<EF as OverCircle<Val>>⟧.fields run.now round }
+    ensures folded { let k = ⟦<EF as OverCircle<Val>>⟧.fields in
+        OnOk result (values.new ≡ folds_in k run.now round) }
+    ensures shown { let k = ⟦<EF as OverCircle<Val>>⟧.fields in
+        OnOk result (HasRoundOf k run.now FriMmcs.authenticates round) }
+    ensures refused { IfErr result (Refuses ⟦<EF as OverCircle<Val>>⟧.fields run.now
+        InputMmcs.authenticates FriMmcs.authenticates InputMmcs.is_memory FriMmcs.is_memory) }
+{
+    let opening = &run.proof.fri_proof.commit_phase_openings[round];
+    let siblings = first_entries(alloc, &opening.sibling_values)?;
+    authenticate_round(alloc, run, round, values, &siblings)?;
+    let beta = run.betas[round];
+    fold_query_values(
+        alloc,
+        beta,
+        round + 1,
+        run.indices,
+        twiddles,
+        values,
+        &siblings,
+    )?;
+    Ok(())
+}
+
+// Refuses a round of which the pairs don't authenticate.
+#[tactic(auto, unfolding(circle_relation::specs::Reasons::IsReason))]
+fn authenticate_round<
+    Val: ComplexExtendable,
+    EF: ExtensionField<Val>,
+    InputMmcs: Mmcs<Val>,
+    FriMmcs: Mmcs<EF>,
+>(
+    alloc: Global,
+    run: &OpenedRun<Val, EF, InputMmcs, FriMmcs>,
+    round: usize,
+    values: &[EF],
+    siblings: &[EF],
+) -> Result<(), FriError<FriMmcs::Error, InputError<InputMmcs::Error, FriMmcs::Error>>>
+    requires drawn { IsDrawn ⟦<EF as OverCircle<Val>>⟧.fields run.now }
+    requires round { round < length run.now.betas.now }
+    requires values { values.now ≡ values_in ⟦<EF as OverCircle<Val>>⟧.fields run.now round }
+    requires siblings { siblings.now ≡ siblings_in ⟦<EF as OverCircle<Val>>⟧.fields run.now round }
+    ensures shown { let k = ⟦<EF as OverCircle<Val>>⟧.fields in
+        OnOk result (HasRoundOf k run.now FriMmcs.authenticates round) }
+    ensures refused { IfErr result (Refuses ⟦<EF as OverCircle<Val>>⟧.fields run.now
+        InputMmcs.authenticates FriMmcs.authenticates InputMmcs.is_memory FriMmcs.is_memory) }
+{
+    let pairs = query_pairs(alloc, round + 1, run.indices, values, siblings)?;
+    let places = without_bits(alloc, run.indices, round + 2)?;
+    let shape = Dimensions {
+        width: 2,
+        height: 1 << (run.log_max_height - 2 - round),
+    };
+    let commitment = &run.proof.fri_proof.commit_phase_commits[round];
+    let proof = &run.proof.fri_proof.commit_phase_openings[round].opening_proof;
+    let verdict = run
+        .params
+        .mmcs
+        .verify_multi_batch(alloc, commitment, &[shape], &places, &pairs, proof);
+    match verdict {
+        Ok(()) => Ok(()),
+        Err(error) if FriMmcs::is_memory(&error) => Err(FriError::Memory),
+        Err(error) => Err(FriError::CommitPhaseMmcsError(error)),
+    }
+}
+
+// Adds to the values that a round folds into those that join them at their height, where it is
+// claimed; answers the words that are left.
+fn join<
+    'a,
+    Val: ComplexExtendable,
+    EF: ExtensionField<Val>,
+    InputMmcs: Mmcs<Val>,
+    FriMmcs: Mmcs<EF>,
+>(
+    run: &OpenedRun<Val, EF, InputMmcs, FriMmcs>,
+    round: usize,
+    waiting: &'a [QueryValues<EF>],
+    values: &mut [EF],
+) -> &'a [QueryValues<EF>]
+    requires drawn { IsDrawn ⟦<EF as OverCircle<Val>>⟧.fields run.now }
+    requires round { round < length run.now.betas.now }
+    requires waiting { let k = ⟦<EF as OverCircle<Val>>⟧.fields in
+        map joining_of waiting.now ≡ words_below k run.now (run.now.log_max_height - round) }
+    requires values { values.old ≡ folds_in ⟦<EF as OverCircle<Val>>⟧.fields run.now round }
+    ensures left { let k = ⟦<EF as OverCircle<Val>>⟧.fields in
+        map joining_of result.now ≡ words_below k run.now (run.now.log_max_height - (round + 1)) }
+    ensures values { let k = ⟦<EF as OverCircle<Val>>⟧.fields in
+        values.new ≡ values_in k run.now (round + 1) }
+{
+    let height = run.log_max_height - 1 - round;
+    match waiting.split_last() {
+        Some((word, rest)) if word.log_height == height => {
+            add_each(values, &word.values);
+            rest
+        }
+        _ => waiting,
+    }
+}
+
+// The first entry of each row.
+fn first_entries<E: Field>(alloc: Global, rows: &[Vec<E>]) -> Result<Vec<E>, AllocError>
+    requires { All (λ row. length row ≡ 1) (map (λ row. row.items) rows.now) }
+    ensures { IfOk result (λ entries. entries.items
+        ≡ map (λ row. slice_index_or row.items 0 E.ops.zero) rows.now) }
+{
+    let mut entries = Vec::with_capacity(alloc, rows.len())?;
+    for row in rows {
+        entries.push(row[0])?;
+    }
+    Ok(entries)
+}

@@ -1,0 +1,164 @@
+-- What a committing call refuses, in order, and what it commits to.
+-- A matrix of 2^h rows is committed on the standard domain of 2^h points, its rows in the
+-- transform's order.
+use Rattle.std.specs.Prelude.{◌≡◌, ℕ, ◌+◌, ◌-◌, ◌^◌, ◌<◌, ◌==◌, Bool, ◌&&◌, ◌||◌, List, [], ◌∷◌}
+use Rattle.std.specs.Prelude.{◌++◌, length}
+use Rattle.std.specs.Prelude.{All, map, flat_map, take, nat_lt, nat_le, Result, Err, IfErr, IfSome}
+use Rattle.std.specs.Prelude.{MatchResult, slice_get, slice_index_or}
+use Rattle.std.specs.List.{AllZip}
+use Rattle.circle_field.specs.Field.{FieldOps}
+use Rattle.circle_field.specs.Circle.{Coordinates, times}
+use Rattle.circle_matrix.specs.RowMajorMatrix.{rows, width_of, height_of}
+use Rattle.circle_matrix.specs.declared.matrix.RowMajorMatrix.{RowMajorMatrix}
+use Rattle.circle_matrix.specs.declared.params.FriParameters.{FriParameters}
+use Rattle.circle_domain.specs.Domain.{log_size, shift_of, IsStandardOf, IsGenuineDomain}
+use Rattle.circle_domain.specs.Order.{cfft_order}
+use Rattle.circle_domain.specs.Ordering.{other_order}
+use Rattle.circle_domain.specs.Values.{HasValues, values_at}
+use Rattle.circle_domain.specs.declared.domain.CircleDomain.{CircleDomain}
+use Rattle.circle_plane.specs.Coefficients.{natural_values_on}
+use Rattle.circle_verifier.specs.Refusals.{Test, answer}
+use Rattle.circle_opening.specs.declared.error.ProverError.{ProverError}
+use Rattle.circle_opening.specs.declared.error.ProverError.TheVariants.{Memory, HeightTooLarge}
+use Rattle.circle_opening.specs.declared.error.ProverError.TheVariants.{HeightTooSmall, NotGenuine}
+use Rattle.circle_opening.specs.declared.error.ProverError.TheVariants.{NoCommittedMatrices}
+use Rattle.circle_opening.specs.declared.error.ProverError.TheVariants.{DomainSmallerThanTrace}
+
+-- the first refusal that there is reason for is the answer; where there is reason for none, only
+-- memory is refused
+abbrev pub RefusesInOrder : {A : Type 0} → List (Test ProverError) → Result A ProverError → Type 0
+RefusesInOrder tests result =
+    MatchResult (answer tests (tt {0}))
+    (λ passed. IfErr result (λ e. e ≡ Memory)) (λ first. result ≡ Err first)
+
+-- whether the halves of a domain meet, or it is of one point: it isn't genuine
+abbrev pub is_degenerate : {F : Type 0} {g : _} → (F → F → Bool) → FieldOps F → CircleDomain F g
+    → Bool
+is_degenerate eq k d =
+    let turned = times k (2 ^ log_size d) (shift_of d) in
+    log_size d == 0 || (eq turned.x k.one && eq turned.y k.zero)
+
+-- the number of rows of the matrix at an index
+abbrev pub height_at : {F : Type 0} → List (RowMajorMatrix F) → ℕ → ℕ
+height_at matrices idx = slice_index_or (map height_of matrices) idx 0
+
+module _ {M : Type 0} (two_adicity : ℕ) (p : FriParameters M) where
+  -- a committed matrix of so many rows: too few to be folded; more than the group has a domain of
+  abbrev pub height_tests : ℕ → List (Test ProverError)
+  height_tests height =
+      (nat_lt height (2 ^ (p.log_blowup + 2 + p.log_final_poly_len)), HeightTooSmall)
+      ∷ (nat_le (2 ^ two_adicity) height, HeightTooLarge)
+      ∷ []
+
+  -- committed matrices
+  abbrev pub matrix_tests : {F : Type 0} → List (RowMajorMatrix F) → List (Test ProverError)
+  matrix_tests matrices = flat_map (λ m. height_tests (height_of m)) matrices
+
+  -- matrices that are to be committed to
+  abbrev pub lde_tests : {F : Type 0} → List (RowMajorMatrix F) → List (Test ProverError)
+  lde_tests ldes = (length ldes == 0, NoCommittedMatrices) ∷ matrix_tests ldes
+
+  -- a committed matrix of so many rows that is to be evaluated on a domain of 2^n points: also
+  -- fewer points than the rows that it was extended from
+  abbrev pub target_tests : ℕ → ℕ → List (Test ProverError)
+  target_tests height n =
+      height_tests height ++ (nat_lt (2 ^ (n + p.log_blowup)) height, DomainSmallerThanTrace) ∷ []
+
+  -- the same of the matrix at an index
+  abbrev pub target_tests_at : {F : Type 0} → List (RowMajorMatrix F) → ℕ → ℕ
+      → List (Test ProverError)
+  target_tests_at matrices idx n = target_tests (height_at matrices idx) n
+
+  module _ {F : Type 0} {g : _} (eq : F → F → Bool) (k : FieldOps F) where
+    -- the domain of rows that are to be extended: of too few points; of so many that the group has
+    -- no domain for the extension; not genuine
+    abbrev pub domain_tests : CircleDomain F g → List (Test ProverError)
+    domain_tests d =
+        (nat_lt (log_size d) (2 + p.log_final_poly_len), HeightTooSmall)
+        ∷ (nat_le two_adicity (log_size d + p.log_blowup), HeightTooLarge)
+        ∷ (is_degenerate eq k d, NotGenuine)
+        ∷ []
+
+    -- rows on domains, that are to be extended
+    abbrev pub evaluation_tests : List (CircleDomain F g × RowMajorMatrix F)
+        → List (Test ProverError)
+    evaluation_tests evaluations = flat_map (λ e. domain_tests e.0) evaluations
+
+    -- and then committed to
+    abbrev pub commit_tests : List (CircleDomain F g × RowMajorMatrix F) → List (Test ProverError)
+    commit_tests evaluations =
+        (length evaluations == 0, NoCommittedMatrices) ∷ evaluation_tests evaluations
+
+-- a domain that can be extended: it is genuine, and the group has a domain of 2^blowup times as
+-- many points
+abbrev pub IsExtendable : {F : Type 0} {g : _} → FieldOps F → ℕ → ℕ → CircleDomain F g → Type 0
+IsExtendable k two_adicity blowup d =
+    (log_size d + blowup < two_adicity) × IsGenuineDomain k d
+
+-- each matrix has a row for each point of its domain
+abbrev pub HaveRowsForPoints : {F : Type 0} {g : _} → List (CircleDomain F g × RowMajorMatrix F)
+    → Type 0
+HaveRowsForPoints evaluations = All (λ e. height_of e.1 ≡ 2 ^ log_size e.0) evaluations
+
+module _ {F : Type 0} {g : _} (k : FieldOps F) (gen : ℕ → Coordinates F) where
+  -- as many coefficients as the domain has points, a row for each index, whose polynomials' values
+  -- at the points in natural order are the rows
+  pub record HaveNaturalValues (d : CircleDomain F g) (width : ℕ) (coeffs given : List (List F))
+      : Type 0 where
+    pub height : length coeffs ≡ 2 ^ log_size d
+    pub widths : All (λ row. length row ≡ width) coeffs
+    pub values : natural_values_on k gen d width coeffs ≡ given
+
+  -- row i of the matrix has, at point i of the standard domain of 2^blowup times as many points, in
+  -- the transform's order, the values of the only polynomials whose values on the domain in natural
+  -- order are the given rows
+  pub record IsExtension (blowup : ℕ) (d : CircleDomain F g) (given made : RowMajorMatrix F)
+      : Type 0 where
+    pub coeffs : List (List F)
+    pub told : HaveNaturalValues d (width_of given) coeffs (rows given)
+    pub only : (others : List (List F)) → HaveNaturalValues d (width_of given) others (rows given)
+        → coeffs ≡ others
+    pub width : width_of made ≡ width_of given
+    pub height : height_of made ≡ 2 ^ (log_size d + blowup)
+    pub values : let n = log_size d + blowup in
+        rows made ≡ map (values_at k coeffs (width_of given)) (cfft_order k gen n (gen (n + 1)))
+
+  -- the matrices are those of the given rows, place by place
+  abbrev pub AreExtensions : ℕ → List (CircleDomain F g × RowMajorMatrix F)
+      → List (RowMajorMatrix F) → Type 0
+  AreExtensions blowup given made =
+      AllZip (λ rows matrix. IsExtension blowup rows.0 rows.1 matrix) given made
+
+  -- the values on a domain, in natural order, of the only polynomials of 2^n coefficients whose
+  -- values on the domain (n, s) in the transform's order are the first rows
+  pub record AreContinued (n : ℕ) (s : Coordinates F) (width : ℕ) (first : List (List F))
+      (d : CircleDomain F g) (made : List (List F)) : Type 0 where
+    pub coeffs : List (List F)
+    pub told : HasValues k gen n s width coeffs first
+    pub only : (others : List (List F)) → HasValues k gen n s width others first → coeffs ≡ others
+    pub values : made ≡ natural_values_on k gen d width coeffs
+
+  -- the same of the first 2^n rows of a matrix of 2^h rows
+  abbrev pub ContinuesFirst :
+      ℕ → ℕ → RowMajorMatrix F → CircleDomain F g → RowMajorMatrix F → Type 0
+  ContinuesFirst n h committed d made =
+      AreContinued n (gen (h + 1)) (width_of committed) (take (2 ^ n) (rows committed)) d
+      (rows made)
+
+  -- the values on a domain, in natural order, of what a matrix of 2^h rows commits to: on its own
+  -- domain its rows, elsewhere by the 2^(h - blowup) coefficients that its first rows fix
+  pub record AreCommittedValues (blowup : ℕ) (committed : RowMajorMatrix F) (d : CircleDomain F g)
+      (made : RowMajorMatrix F) : Type 0 where
+    pub log_height : ℕ
+    pub height : height_of committed ≡ 2 ^ log_height
+    pub width : width_of made ≡ width_of committed
+    pub there : IsStandardOf gen log_height d →
+        rows made ≡ other_order log_height (rows committed)
+    pub elsewhere : ¬ IsStandardOf gen log_height d →
+        ContinuesFirst (log_height - blowup) log_height committed d made
+
+  -- what the matrix at an index commits to
+  abbrev pub AreValuesOfMatrix : ℕ → List (RowMajorMatrix F) → ℕ → CircleDomain F g
+      → RowMajorMatrix F → Type 0
+  AreValuesOfMatrix blowup matrices idx d made =
+      IfSome (slice_get matrices idx) (λ m. AreCommittedValues blowup m d made)

@@ -1,0 +1,76 @@
+-- An honest statement: rows on genuine domains, committed to and opened at points off the domains
+-- that they are extended to.
+use Rattle.std.specs.Prelude.{◌≡◌, ℕ, ◌+◌, ◌<◌, ◌≤◌, List, length, zip, All}
+use Rattle.std.specs.List.{AllZip}
+use Rattle.circle_challenger.specs.Moves.{RunMoves}
+use Rattle.circle_matrix.specs.Pcs.{Openings}
+use Rattle.circle_matrix.specs.RowMajorMatrix.{rows, width_of}
+use Rattle.circle_matrix.specs.declared.matrix.RowMajorMatrix.{RowMajorMatrix}
+use Rattle.circle_matrix.specs.declared.params.FriParameters.{FriParameters}
+use Rattle.circle_matrix.specs.declared.pcs.OpeningRequest.{OpeningRequest}
+use Rattle.circle_domain.specs.Domain.{log_size, IsGenuineDomain}
+use Rattle.circle_domain.specs.Selectors.{IsFinite}
+use Rattle.circle_domain.specs.Values.{lifted_values_at}
+use Rattle.circle_domain.specs.declared.domain.CircleDomain.{CircleDomain}
+use Rattle.circle_folding.specs.Queries.{IsApart}
+use Rattle.circle_opening.specs.Failure.{IsStuckFrom}
+use Rattle.circle_opening.specs.Opening.{answered_claims}
+use Rattle.circle_opening.specs.Requests.{AreAnswers, AreFit}
+use Rattle.circle_opening.specs.declared.error.ProverError.{ProverError}
+use Rattle.circle_point.specs.Projective.{from_line}
+use Rattle.circle_relation.specs.Accepts.{Fields}
+use Rattle.circle_words.specs.Ratios.{points_of_height}
+use Rattle.p3_circle.specs.Committing.{HaveNaturalValues}
+
+module _ {F E M : Type 0} {g : _} (k : Fields F E) (two_adicity : ℕ) (p : FriParameters M) where
+  -- rows on a domain that leaves something to fold, whose halves are disjoint, and of which the
+  -- group has the extension; points that are not at infinity and not on the extension, and one of
+  -- them
+  pub record CanBeOpenedAt (given : CircleDomain F g × RowMajorMatrix F) (points : List E)
+      : Type 0 where
+    pub large : p.log_final_poly_len + 2 ≤ log_size given.0
+    pub in_group : log_size given.0 + p.log_blowup < two_adicity
+    pub genuine : IsGenuineDomain k.field given.0
+    pub finite : All (IsFinite k.extension) points
+    pub off :
+        All (λ t. IsApart k.embed
+        (points_of_height k.field k.gen (log_size given.0 + p.log_blowup))
+        (from_line k.extension t)) points
+
+  -- under supported parameters a batch of some rows, each with its points
+  pub record IsHonestBatch (batch : List (CircleDomain F g × RowMajorMatrix F))
+      (points : List (List E)) : Type 0 where
+    pub parameters : AreFit p
+    pub arity : p.max_log_arity ≡ 1
+    pub some : 1 ≤ length batch
+    pub rows : AllZip CanBeOpenedAt batch points
+
+module _ {F E : Type 0} {g : _} (k : Fields F E) where
+  -- the values at points of the only polynomials whose values on a domain, in natural order, are
+  -- the rows
+  pub record AreValuesOfRows (given : CircleDomain F g × RowMajorMatrix F) (points : List E)
+      (answers : List (List E)) : Type 0 where
+    pub coeffs : List (List F)
+    pub told :
+        HaveNaturalValues k.field k.gen given.0 (width_of given.1) coeffs (rows given.1)
+    pub only : (others : List (List F))
+        → HaveNaturalValues k.field k.gen given.0 (width_of given.1) others (rows given.1)
+        → coeffs ≡ others
+    pub values :
+        AllZip (λ t v. v ≡ lifted_values_at k.field.zero k.extension k.embed coeffs
+        (width_of given.1) (from_line k.extension t)) points answers
+
+  -- so of all rows of a batch, each at its points
+  abbrev pub AreValuesOfBatch : List (CircleDomain F g × RowMajorMatrix F) → List (List E)
+      → List (List (List E)) → Type 0
+  AreValuesOfBatch batch points values =
+      AllZip (λ given rest. AreValuesOfRows given rest.0 rest.1) batch (zip points values)
+
+-- with the values that are answered of requests, no run over their claims comes to a proof of work
+-- that no witness passes
+abbrev pub FindsWitnesses : {C S D F E M WC : Type 0} → Fields F E → RunMoves C S F E WC
+    → FriParameters M → (D → List (RowMajorMatrix F)) → List (OpeningRequest D E) → S → Type 0
+FindsWitnesses k r p kept requests s =
+    (values : Openings _) (e : ProverError) → AllZip (AreAnswers kept k p.log_blowup) requests
+    values
+    → ¬ IsStuckFrom r k.extension p (answered_claims p kept requests values) s e
