@@ -2,7 +2,7 @@
 use crate::given::{Domain, Rows, coordinates, domain, matrix, maybe, point_off, rows_of};
 use anyhow::{Result, bail};
 use circle_commit::{JsonForm, Matrix, PolynomialSpace, is_power_of_two};
-use circle_field::Mersenne31;
+use circle_field::{Cubic, Mersenne31};
 use circle_json::member;
 use circle_plane::Point;
 use serde_json::{Value, json};
@@ -25,6 +25,8 @@ pub fn answer(alloc: Global, call: &str, given: &Value) -> Result<Option<Value>>
         "split_evals" => split_evals(alloc, domain, given)?,
         "vanishing_poly_at_point" => vanishing(alloc, domain, given)?,
         "selectors_at_point" => selectors(alloc, domain, given)?,
+        "evaluate_polynomial_at" => value_at(alloc, domain, given)?,
+        "evaluate_periodic_column_at" => short_column_at(alloc, domain, given)?,
         _ => bail!("a domain has no call {call}"),
     };
     Ok(Some(answer))
@@ -147,4 +149,38 @@ fn selectors(alloc: Global, domain: Domain, given: &Value) -> Result<Value> {
         "is_transition": row.is_transition.to_json(alloc)?,
         "inv_vanishing": row.inv_vanishing.to_json(alloc)?
     })?)
+}
+
+// The value of the only polynomial with these values on a standard domain.
+fn value_at(alloc: Global, domain: Domain, given: &Value) -> Result<Value> {
+    let evals: Vec<Mersenne31> = member(alloc, given, "evals")?;
+    let t: Cubic = member(alloc, given, "t")?;
+    if domain.log_n() == 0 || domain.log_n() > 31 || !domain.is_standard() {
+        bail!("the domain is not standard");
+    }
+    let Some(at) = Point::from_projective_line(t) else {
+        bail!("the point is at infinity");
+    };
+    if !domain.is_clear_of(at) || evals.len() != domain.size() {
+        bail!("the domain is not clear of the point, or there is not one value for each point");
+    }
+    Ok(
+        domain
+            .evaluate_polynomial_at(alloc, &evals, t)?
+            .to_json(alloc)?,
+    )
+}
+
+// The value of a periodic column of at most one entry.
+fn short_column_at(alloc: Global, domain: Domain, given: &Value) -> Result<Value> {
+    let column: Vec<Mersenne31> = member(alloc, given, "column")?;
+    let t: Cubic = member(alloc, given, "t")?;
+    if column.len() > 1 {
+        bail!("the column has more than one entry");
+    }
+    Ok(
+        domain
+            .evaluate_periodic_column_at(alloc, &column, t)?
+            .to_json(alloc)?,
+    )
 }

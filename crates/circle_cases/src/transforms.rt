@@ -211,7 +211,7 @@ fn values_at<EF: ExtensionField<Mersenne31>>(
     Ok(CircleEvaluations::from_natural_order(domain, rows).evaluate_at_point(alloc, at)?)
 }
 
-// The table's rows, or why there is none.
+// The table's rows, or its size and some of its entries, or why there is none.
 fn table(alloc: Global, given: &Value) -> Result<Value> {
     let columns: Vec<Vec<Mersenne31>> = member(alloc, given, "columns")?;
     let trace = domain(alloc, given, "trace")?;
@@ -220,7 +220,10 @@ fn table(alloc: Global, given: &Value) -> Result<Value> {
         bail!("the extension is smaller, or the trace past the group");
     }
     match build_periodic_lde_table_circle(alloc, &columns, &trace, &extension) {
-        Ok(table) => table_rows(alloc, &table),
+        Ok(table) => match given.get("at") {
+            Some(_) => entries_at(alloc, &table, given),
+            None => table_rows(alloc, &table),
+        },
         Err(refusal) => Ok(json!(in alloc; {"refused": name(refusal)})?),
     }
 }
@@ -246,6 +249,30 @@ fn table_row(
         row.push(table.get(r, c))?;
     }
     Ok(row)
+}
+
+// The table's width and height, and its entries, each at a point and of a column.
+fn entries_at(alloc: Global, table: &PeriodicLdeTable<Mersenne31>, given: &Value) -> Result<Value> {
+    let places: Vec<Vec<usize>> = member(alloc, given, "at")?;
+    let mut entries = Vec::new(alloc);
+    for place in &places {
+        entries.push(entry_at(table, place)?)?;
+    }
+    Ok(json!(in alloc; {
+        "width": table.width(),
+        "height": table.height(),
+        "entries": entries.to_json(alloc)?
+    })?)
+}
+
+fn entry_at(table: &PeriodicLdeTable<Mersenne31>, place: &[usize]) -> Result<Mersenne31> {
+    let [i, c] = place else {
+        bail!("a place is no pair");
+    };
+    if table.height() == 0 || *c >= table.width() {
+        bail!("the table has no such column");
+    }
+    Ok(table.get(*i, *c))
 }
 
 fn name(refusal: PeriodicError) -> &'static str {

@@ -1,12 +1,14 @@
 -- What a challenger is to a transcript: how it moves from state to state, and what it gives.
-use Rattle.std.specs.Prelude.{ℕ, Bool, List, flat_map, map, Option, unwrap_or}
+use Rattle.std.specs.Prelude.{ℕ, Bool, ◌==◌, if◌then◌else◌, List, flat_map, map}
+use Rattle.std.specs.Prelude.{Option, Some, unwrap_or}
 use Rattle.circle_challenger.specs.Grinding.{passes, after_check}
 use Rattle.circle_challenger.specs.Observing.{after_all}
 use Rattle.circle_challenger.specs.Sampling.{samples, after_samples}
 
 -- a challenger of type C, with states S, over the base field F, in a transcript whose challenges
 -- are in the extension E: its state, the state after an element is taken in, what is drawn, of
--- elements and of bits, with the state after it, and what is known of the fields
+-- elements and of bits, with the state after it, the witness that a search at a difficulty finds,
+-- and what is known of the fields
 pub record Moves (C S F E : Type 0) : Type 0 where
   pub state : C → S
   pub after_observe : S → F → S
@@ -14,6 +16,7 @@ pub record Moves (C S F E : Type 0) : Type 0 where
   pub after_sample : S → S
   pub sampled_bits : S → ℕ → ℕ
   pub after_bits : S → ℕ → S
+  pub found : S → ℕ → Option F
   pub degree : ℕ
   pub coefficients : E → List F
   pub of_nat : ℕ → F
@@ -21,8 +24,8 @@ pub record Moves (C S F E : Type 0) : Type 0 where
 
 -- such a challenger from its parts
 abbrev pub moves : {C S F E : Type 0} → (C → S) → (S → F → S) → (S → F) → (S → S) → (S → ℕ → ℕ)
-    → (S → ℕ → S) → ℕ → (E → List F) → (ℕ → F) → F → Moves C S F E
-moves state after_observe sampled after_sample sampled_bits after_bits
+    → (S → ℕ → S) → (S → ℕ → Option F) → ℕ → (E → List F) → (ℕ → F) → F → Moves C S F E
+moves state after_observe sampled after_sample sampled_bits after_bits found
     degree coefficients of_nat zero = record {
       state = state;
       after_observe = after_observe;
@@ -30,6 +33,7 @@ moves state after_observe sampled after_sample sampled_bits after_bits
       after_sample = after_sample;
       sampled_bits = sampled_bits;
       after_bits = after_bits;
+      found = found;
       degree = degree;
       coefficients = coefficients;
       of_nat = of_nat;
@@ -43,11 +47,12 @@ pub record RunMoves (C S F E Com : Type 0) : Type 0 where
 
 abbrev pub run_moves : {C S F E Com : Type 0} → (C → S) → (S → F → S) → (S → Com → S)
     → (S → F) → (S → S)
-    → (S → ℕ → ℕ) → (S → ℕ → S) → ℕ → (E → List F) → (ℕ → F) → F → RunMoves C S F E Com
-run_moves state after_observe after_commitment sampled after_sample sampled_bits after_bits
+    → (S → ℕ → ℕ) → (S → ℕ → S) → (S → ℕ → Option F) → ℕ → (E → List F) → (ℕ → F) → F
+    → RunMoves C S F E Com
+run_moves state after_observe after_commitment sampled after_sample sampled_bits after_bits found
     degree coefficients of_nat zero = record {
       base =
-          moves state after_observe sampled after_sample sampled_bits after_bits
+          moves state after_observe sampled after_sample sampled_bits after_bits found
           degree coefficients of_nat zero;
       after_commitment = after_commitment;
     }
@@ -82,6 +87,10 @@ module _ {C S F E : Type 0} (m : Moves C S F E) where
 
   abbrev pub after_pow : S → ℕ → F → S
   after_pow s bits w = after_check m.after_observe m.after_bits s bits w
+
+  -- the witness that a search finds at the difficulty, if one passes: 0 where none is needed
+  abbrev pub found_at : S → ℕ → Option F
+  found_at s bits = if bits == 0 then Some m.zero else m.found s bits
 
   -- the witness that was looked for, or 0 where none was needed
   abbrev pub or_zero : Option F → F

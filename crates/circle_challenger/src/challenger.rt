@@ -115,6 +115,7 @@ impl<F: Field, EF: ExtensionField<F>, C: CanSample<F> + GrindingChallenger<F>> F
       after_sample = C.after_sample;
       sampled_bits = C.sampled_bits;
       after_bits = C.after_bits;
+      found = C.found_witness;
       degree = EF.DEGREE;
       coefficients = EF.coefficients;
       of_nat = of_nat F.ops;

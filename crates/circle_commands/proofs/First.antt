@@ -1,7 +1,8 @@
 -- The first item that is refused.
-use Rattle.std.proofs.Common.{◌≡◌, ℕ, ◌<◌, List, [], ◌∷◌, length, take, All, zero, suc, ◌⊎◌, inl, inr, subst, sym, arith, slice_index_or, Result, Ok, Err}
+use Rattle.std.proofs.Common.{◌≡◌, ℕ, ◌<◌, List, [], ◌∷◌, length, take, All, zero, suc, ◌⊎◌, inl, inr, subst, sym, arith, slice_index_or, Result, Ok, Err, Vec, Global}
 use Rattle.std.specs.Prelude.{MatchResult, IsErrAnd}
-use Rattle.circle_commands.specs.Traces.{IsFirst}
+use Rattle.circle_commands.specs.Traces.{AreFitting, AreTall, IsFirst}
+use Rattle.circle_commands.specs.declared.prove.Trace.{Trace}
 
 -- an item that is refused after items that fit
 pub first_at : {T : Type 0} (Fits IsRefused : T → Type 0) (xs : List T) (i : ℕ) (x : T) → i < length xs → x ≡ slice_index_or xs i x → All Fits (take i xs) → IsRefused x → IsFirst Fits IsRefused xs
@@ -19,3 +20,7 @@ refused_by P Q (Err d) e is holds = subst Q (sym is) holds
 pub passed_by : {A E : Type 0} (P : Type 0) (Q : E → Type 0) (r : Result A E) → P → MatchResult r (λ x. P) (λ e. Q e ⊎ P)
 passed_by P Q (Ok x) fit = fit
 passed_by P Q (Err e) fit = inr fit
+
+-- what is tall enough fits
+pub tall-fitting : (final : ℕ) (batches : List (Vec Trace Global)) → AreTall final batches → AreFitting batches
+tall-fitting final batches tall = λ i b lt j t lt'. (tall i b lt j t lt').0

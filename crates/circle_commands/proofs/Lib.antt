@@ -1,5 +1,6 @@
 pub mod Claimed
 pub mod First
+pub mod Heights
 pub mod Pairs
 pub mod Proved
 pub mod Proving

@@ -8,16 +8,14 @@ use Rattle.circle_matrix.specs.Matrix.{IsPowerOfTwo}
 use Rattle.circle_matrix.specs.Mmcs.{HaveHeightsOfPowers}
 use Rattle.circle_matrix.specs.declared.pcs.OpeningRequest.{OpeningRequest}
 use Rattle.circle_field.specs.declared.cubic.Cubic.{Cubic}
-use Rattle.circle_matrix.specs.RowMajorMatrix.{rows, rows-width, height_of, width_of, length-rows}
+use Rattle.circle_matrix.specs.RowMajorMatrix.{rows, height_of, width_of, length-rows}
 use Rattle.circle_matrix.specs.declared.matrix.RowMajorMatrix.{RowMajorMatrix}
 use Rattle.circle_domain.proofs.Powers.{pow_order}
 use Rattle.circle_domain.specs.Domain.{log_size, shift_of}
-use Rattle.circle_domain.specs.Order.{natural_order}
-use Rattle.circle_domain.specs.Values.{values_at}
 use Rattle.circle_domain.specs.declared.domain.CircleDomain.{CircleDomain}
 use Rattle.circle_field.specs.Mersenne31.{operations, generators}
 use Rattle.circle_field.specs.declared.mersenne31.Mersenne31.{Mersenne31}
-use Rattle.p3_circle.specs.Committing.{AreExtensions, HaveRowsForPoints, IsExtension}
+use Rattle.p3_circle.specs.Committing.{AreExtensions, HaveRowsForPoints, IsExtension, IsExtensionOf}
 use Rattle.circle_commands.specs.Proved.{ArePlaced, IsCommitted, IsExtended, IsRequested, commitments_taken}
 use Rattle.circle_commands.specs.Rows.{lists}
 use Rattle.circle_commands.specs.Traces.{HasFittingRows}
@@ -44,12 +42,9 @@ module _ {g : _} where
       record {
         log_n = n;
         width = width_of e.1;
-        coeffs = x.coeffs;
         height = ap length (sym placed.content) ∙ length-rows e.1 ∙ placed.height;
-        widths = subst (All (λ row. length row ≡ width_of e.1)) placed.content (rows-width e.1);
-        count = x.told.height;
-        told = ap (λ s. map (values_at operations x.coeffs (width_of e.1)) (natural_order operations generators n s)) (sym placed.standard) ∙ x.told.values ∙ placed.content;
-        values = x.values;
+        extends = subst (λ s. IsExtensionOf operations generators blowup n s (width_of e.1) (lists given) made) placed.standard
+            (subst (λ rs. IsExtensionOf operations generators blowup n (shift_of e.0) (width_of e.1) rs made) placed.content x);
       }
 
   pub are_extended : (blowup : ℕ) (ts : List Trace) (es : List (CircleDomain Mersenne31 g × RowMajorMatrix Mersenne31)) (ms : List (RowMajorMatrix Mersenne31))

@@ -13,8 +13,6 @@ use Rattle.circle_matrix.specs.RowMajorMatrix.{rows, height_of}
 use Rattle.circle_matrix.specs.declared.matrix.RowMajorMatrix.{RowMajorMatrix}
 use Rattle.circle_matrix.specs.declared.pcs.OpeningRequest.{OpeningRequest}
 use Rattle.circle_domain.specs.Domain.{log_size, shift_of}
-use Rattle.circle_domain.specs.Order.{natural_order, cfft_order}
-use Rattle.circle_domain.specs.Values.{values_at}
 use Rattle.circle_domain.specs.declared.domain.CircleDomain.{CircleDomain}
 use Rattle.circle_field.specs.Mersenne31.{operations, generators}
 use Rattle.circle_field.specs.declared.cubic.Cubic.{Cubic}
@@ -27,6 +25,7 @@ use Rattle.circle_opening.specs.Requests.{AreAnswers, lists_of, log_of}
 use Rattle.circle_relation.specs.RunOf.{proof_of}
 use Rattle.circle_relation.specs.Statement.{BatchClaim, MatrixClaim}
 use Rattle.circle_words.specs.Words.{claim_of}
+use Rattle.p3_circle.specs.Committing.{IsExtensionOf}
 use Rattle.circle_commands.specs.Rows.{lists}
 use Rattle.circle_commands.specs.Traces.{HasFittingRows}
 use Rattle.circle_commands.specs.Verified.{batches_told}
@@ -42,23 +41,14 @@ pub record ArePlaced {g : _} (given : List (Vec Mersenne31 Global))
   pub height : height_of e.1 ≡ 2 ^ log_size e.0
   pub standard : shift_of e.0 ≡ generators (log_size e.0 + 1)
 
--- the matrix has, at the points of the standard domain of 2^blowup times as many points in the
--- transform's order, the values of the polynomials that have the given rows as values on the
--- standard domain of as many points in natural order
+-- the matrix is the extension of the given rows from the standard domain of as many points
 pub record IsExtended (blowup : ℕ) (given : List (List Mersenne31))
     (made : RowMajorMatrix Mersenne31) : Type 0 where
   pub log_n : ℕ
   pub width : ℕ
-  pub coeffs : List (List Mersenne31)
   pub height : length given ≡ 2 ^ log_n
-  pub widths : All (λ row. length row ≡ width) given
-  pub count : length coeffs ≡ 2 ^ log_n
-  pub told :
-      map (values_at operations coeffs width)
-      (natural_order operations generators log_n (generators (log_n + 1))) ≡ given
-  pub values :
-      rows made ≡ map (values_at operations coeffs width)
-      (cfft_order operations generators (log_n + blowup) (generators (log_n + blowup + 1)))
+  pub extends :
+      IsExtensionOf operations generators blowup log_n (generators (log_n + 1)) width given made
 
 -- the points of matrices
 abbrev pub points_of : List Trace → List (List Cubic)

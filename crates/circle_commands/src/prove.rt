@@ -1,9 +1,11 @@
 //! The command `prove`: the values that polynomials have at points, and a proof of them.
 
-ghost use Rattle.std.specs.Prelude.{◌≡◌, ◌⊎◌, ◌++◌, ◌∷◌, [], All, IfOk, OnOk, MatchResult, map};
+ghost use Rattle.std.specs.Prelude.{◌≡◌, ◌⊎◌, ◌+◌, ◌^◌, ◌<◌, ◌≤◌, ◌++◌, ◌∷◌, [], All, map};
+ghost use Rattle.std.specs.Prelude.{IfOk, IsTrue, MatchResult, OnOk, false};
 ghost use Rattle.std.specs.List.{AllZip};
 ghost use Rattle.circle_challenger.specs.Sha256Challenger.{state_of};
 ghost use Rattle.circle_matrix.specs.DotProduct.{pairwise};
+ghost use Rattle.circle_matrix.specs.Matrix.{IsPowerOfTwo};
 ghost use Rattle.circle_matrix.specs.Mmcs.{opened_rows};
 ghost use Rattle.circle_matrix.specs.Pcs.{openings};
 ghost use Rattle.circle_json.specs.ObjectForm.{object_form};
@@ -16,6 +18,7 @@ ghost use Rattle.circle_commands.specs.Proved.{AreCommitted, ArePlaced, IsCommit
 ghost use Rattle.circle_commands.specs.Proved.{IsRequested, batch_claimed, commitments_taken};
 ghost use Rattle.circle_commands.specs.Proved.{matrix_claimed, points_of};
 ghost use Rattle.circle_commands.specs.Traces.{AreFitting, AreFittingRows, HasFittingRows};
+ghost use Rattle.circle_commands.specs.Traces.{AreTall, AreTallRows, HasTallRows};
 ghost use Rattle.circle_commands.specs.Traces.{IsRefusalOfBatch, IsRefusalOfBatches};
 ghost use Rattle.circle_commands.specs.Traces.{IsRefusalOfRows};
 ghost use Rattle.circle_commands.specs.Verified.{batches_told, matrices_told};
@@ -37,8 +40,9 @@ use p3_circle::{CircleDomain, CirclePcs, ProverError};
 use serde_json::{Value, json};
 use std::alloc::{AllocError, Global};
 
-/// The least number of rows of a matrix.
-const MIN_HEIGHT: usize = 4;
+/// The binary logarithm of the least number of rows of a matrix, where folding goes on to a
+/// constant.
+const MIN_LOG_HEIGHT: usize = 2;
 
 /// The greatest number of rows of a matrix.
 const MAX_HEIGHT: usize = 1 << 24;
@@ -189,17 +193,18 @@ pub(crate) fn answer(alloc: Global, value: &Value) -> Result<String, Failure> {
 ///
 /// Before anything is committed to, refuses by the first of these, matrix after matrix:
 /// `RaggedRows` where rows differ in length or one is empty, `HeightNotPowerOfTwo`,
-/// `HeightTooLarge` above `2^24` rows, and `HeightTooSmall` below four. Then fails as
+/// `HeightTooLarge` above `2^24` rows, and `HeightTooSmall` below `2^(2 + log_final_poly_len)`, so
+/// below four at least. Then fails as
 /// [`CirclePcs::commit`] does of the first batch that it refuses, and then as
 /// [`CirclePcs::open`] does.
 pub fn prove(alloc: Global, input: Input) -> Result<verify::Input, Refusal>
-    ensures rows { MatchResult result (λ _. AreFitting input.batches.items)
-        (λ e. IsRefusalOfBatches input.batches.items e ⊎ AreFitting input.batches.items) }
+    ensures rows { let f = input.params.log_final_poly_len in let bs = input.batches.items in
+        MatchResult result (λ _. AreTall f bs) (λ e. IsRefusalOfBatches f bs e ⊎ AreTall f bs) }
     ensures proof { IfOk result (IsProved
         ⟦<Sha256Challenger as OpeningOver<Mersenne31, Cubic, Batches, Words>>⟧.schemes input) }
 {
     let Input { batches, params } = input;
-    validate_batches(&batches)?;
+    validate_batches(params.log_final_poly_len, &batches)?;
     let scheme = CirclePcs::new(Batches::new(), params.with_mmcs(Words::new()));
     let committed = commit_batches(alloc, &scheme, &batches)?;
     let mut challenger = Sha256Challenger::new();
@@ -214,28 +219,43 @@ pub fn prove(alloc: Global, input: Input) -> Result<verify::Input, Refusal>
 }
 
 // Refuses the rows of the matrices, by the first reason.
-fn validate_batches(batches: &[Vec<Trace>]) -> Result<(), Refusal>
-    ensures { MatchResult result (λ _. AreFitting batches.now) (IsRefusalOfBatches batches.now) }
+fn validate_batches(log_final_poly_len: usize, batches: &[Vec<Trace>]) -> Result<(), Refusal>
+    ensures { MatchResult result (λ _. AreTall log_final_poly_len batches.now)
+        (IsRefusalOfBatches log_final_poly_len batches.now) }
 {
     for batch in batches {
-        validate_batch(batch)?;
+        validate_batch(log_final_poly_len, batch)?;
     }
     Ok(())
 }
 
 // Refuses the rows of a batch's matrices, by the first reason.
-fn validate_batch(batch: &[Trace]) -> Result<(), Refusal>
-    ensures { MatchResult result (λ _. All HasFittingRows batch.now) (IsRefusalOfBatch batch.now) }
+fn validate_batch(log_final_poly_len: usize, batch: &[Trace]) -> Result<(), Refusal>
+    ensures { MatchResult result (λ _. All (HasTallRows log_final_poly_len) batch.now)
+        (IsRefusalOfBatch log_final_poly_len batch.now) }
 {
     for trace in batch {
-        validate_rows(&trace.rows)?;
+        validate_rows(log_final_poly_len, &trace.rows)?;
     }
     Ok(())
 }
 
+// Whether so many rows, a power of two of them, leave nothing to fold where folding stops at
+// `2^log_final_poly_len` coefficients.
+fn is_too_small(log_final_poly_len: usize, height: usize) -> bool
+    requires { IsPowerOfTwo height }
+    ensures small { IsTrue result → height < 2 ^ (2 + log_final_poly_len) }
+    ensures enough { result ≡ false → 2 ^ (2 + log_final_poly_len) ≤ height }
+    ensures four { result ≡ false → 4 ≤ height }
+{
+    let log_height = log2_strict(height);
+    log_height < MIN_LOG_HEIGHT || log_height - MIN_LOG_HEIGHT < log_final_poly_len
+}
+
 // Refuses the rows of a matrix, by the first reason.
-fn validate_rows(rows: &[Vec<Mersenne31>]) -> Result<(), Refusal>
-    ensures { MatchResult result (λ _. AreFittingRows rows.now) (IsRefusalOfRows rows.now) }
+fn validate_rows(log_final_poly_len: usize, rows: &[Vec<Mersenne31>]) -> Result<(), Refusal>
+    ensures { MatchResult result (λ _. AreTallRows log_final_poly_len rows.now)
+        (IsRefusalOfRows log_final_poly_len rows.now) }
 {
     if !is_rectangular(rows) {
         return Err(Refusal::RaggedRows);
@@ -246,7 +266,7 @@ fn validate_rows(rows: &[Vec<Mersenne31>]) -> Result<(), Refusal>
     if rows.len() > MAX_HEIGHT {
         return Err(Refusal::Prover(ProverError::HeightTooLarge));
     }
-    if rows.len() < MIN_HEIGHT {
+    if is_too_small(log_final_poly_len, rows.len()) {
         return Err(Refusal::Prover(ProverError::HeightTooSmall));
     }
     Ok(())

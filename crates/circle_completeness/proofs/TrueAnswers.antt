@@ -142,8 +142,8 @@ ends-low k base laws e base_eq base_law eq eq_law {bits} gens kept p requests fi
 pub never-too-high : {C S D F E M WC : Type 0} (k : Fields F E) (base : FieldLaws k.field) (laws : FieldLaws k.extension) (e : IsEmbedding k.field k.extension k.embed)
     (base_eq : F → F → Bool) (base_law : (a b : F) → (base_eq a b ≡ true) ↔ (a ≡ b)) (eq : E → E → Bool) (eq_law : (a b : E) → (eq a b ≡ true) ↔ (a ≡ b))
     {bits : ℕ} (gens : AreGenerators k.field bits k.gen) (kept : D → List (RowMajorMatrix F)) (p : FriParameters M) (requests : List (OpeningRequest D E)) →
-    AreFit p → AreRequests kept k bits p requests → (r : RunMoves C S F E WC) → IsNeverTooHigh kept k p requests r
-never-too-high k base laws e base_eq base_law eq eq_law gens kept p requests fit asked r low s failure why is =
+    AreFit p → AreRequests kept k bits p requests → (r : RunMoves C S F E WC) (Commits : List (RowMajorMatrix E) → WC → Type 0) → IsNeverTooHigh kept k p requests r Commits
+never-too-high k base laws e base_eq base_law eq eq_law gens kept p requests fit asked r Commits low s failure why is =
     elim why [
       | inl memory ↦ cc
       | inr rest ↦

@@ -11,6 +11,7 @@ use Rattle.circle_domain.specs.Spans.{XSpan}
 use Rattle.circle_domain.specs.Values.{values_at}
 use Rattle.circle_opening.specs.Opening.{IsFailure, answered_matrices}
 use Rattle.circle_opening.specs.Requests.{AreAnswers, log_of}
+use Rattle.circle_opening.specs.Schemes.{Schemes}
 use Rattle.circle_opening.specs.Words.{last_word}
 use Rattle.circle_opening.specs.declared.error.ProverError.{ProverError}
 use Rattle.circle_opening.specs.declared.error.ProverError.TheVariants.{LastWordNotConstant}
@@ -47,7 +48,15 @@ module _ {D F E M : Type 0} (kept : D → List (RowMajorMatrix F)) (k : Fields F
       p.log_final_poly_len bivariate betas)
 
   -- so no opening of them is refused for a last word of too high degree
-  abbrev pub IsNeverTooHigh : {C S WC : Type 0} → RunMoves C S F E WC → Type 0
-  IsNeverTooHigh r =
-      AreOfLowDegree → (s : _) (e : ProverError) → IsFailure k r p kept requests s e
+  abbrev pub IsNeverTooHigh : {C S WC : Type 0} → RunMoves C S F E WC
+      → (List (RowMajorMatrix E) → WC → Type 0) → Type 0
+  IsNeverTooHigh r Commits =
+      AreOfLowDegree → (s : _) (e : ProverError) → IsFailure k r p Commits kept requests s e
       → e ≢ LastWordNotConstant
+
+-- the same by the fields, the challenger and the schemes
+abbrev pub IsNeverTooHighBy : {C S F E I IC ID IP W WC WD WP : Type 0}
+    → Schemes C S F E I IC ID IP W WC WD WP → FriParameters W → List (OpeningRequest ID E)
+    → Type 0
+IsNeverTooHighBy o p requests =
+    IsNeverTooHigh o.kept o.fields p requests o.run (o.WordCommits p.mmcs)

@@ -5,12 +5,13 @@ ghost use Rattle.circle_words.specs.Words.{Committed};
 ghost use Rattle.circle_completeness.specs.LowWords.{ReducedWordsSplit, CorrectedWordsAreLow};
 ghost use Rattle.circle_completeness.specs.LowWords.{FirstFoldsAreLow, RoundWordsAreLow};
 ghost use Rattle.circle_completeness.specs.LowWords.{LastWordIsLow};
-ghost use Rattle.circle_completeness.specs.Honest.{EndsLow, IsNeverTooHigh};
+ghost use Rattle.circle_completeness.specs.Honest.{EndsLow, IsNeverTooHighBy};
 ghost use Rattle.circle_opening.specs.Requests.{AreFit, AreRequests};
 
-use circle_challenger::{CanObserve, CanSample, GrindingChallenger, RunChallenger};
+use circle_challenger::{CanObserve, CanSample, GrindingChallenger};
 use circle_field::{ComplexExtendable, ExtensionField};
 use circle_matrix::{FriParameters, Mmcs, OpeningRequest};
+use circle_opening::OpeningOver;
 use circle_relation::OverCircle;
 
 /// The word of a height, which `alpha` combines of the quotients of all claims on matrices of that
@@ -79,8 +80,8 @@ where
         Val.CIRCLE_TWO_ADICITY params.now requests.now }
     ensures ends { EndsLow InputMmcs.matrices ⟦<EF as OverCircle<Val>>⟧.fields params.now
         requests.now }
-    ensures never { let k = ⟦<EF as OverCircle<Val>>⟧.fields in IsNeverTooHigh InputMmcs.matrices k
-        params.now requests.now ⟦<C as RunChallenger<Val, EF, FriMmcs::Commitment>>⟧.run }
+    ensures never { let o = ⟦<C as OpeningOver<Val, EF, InputMmcs, FriMmcs>>⟧.schemes in
+        IsNeverTooHighBy o params.now requests.now }
 {
     let _params = params;
     let _requests = requests;

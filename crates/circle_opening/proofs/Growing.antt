@@ -1,23 +1,23 @@
 -- Words and rounds that are pushed one after another.
-use Rattle.std.specs.Prelude.{◌≡◌, ℕ, ◌+◌, ◌-◌, ◌/◌, ◌^◌, ◌<◌, ◌≤◌, ◌++◌, ◌⊎◌, List, [], ◌∷◌, length, map, zip, All, Some, IsTrue, slice_get, slice_index_or}
+use Rattle.std.specs.Prelude.{◌≡◌, ℕ, ◌+◌, ◌-◌, ◌/◌, ◌^◌, ◌<◌, ◌≤◌, ◌++◌, List, [], ◌∷◌, length, map, zip, All, Some, IsTrue, slice_get, slice_index_or}
 use Rattle.std.proofs.Common.{zero, suc, inl, inr, refl, sym, ◌∙◌, ap, subst, arith}
 use Rattle.std.proofs.lemmas.Bool.{cases_lt}
 use Rattle.std.proofs.lemmas.List.{length_push, get_or_append_left}
 use Rattle.std.proofs.lemmas.List.Elements.{All-push, All-nil}
 use Rattle.std.proofs.lemmas.Option.{slice_get_within, same_Some}
 use Rattle.std.proofs.Math.Seq.{get_or-append_seam}
-use Rattle.circle_challenger.specs.Moves.{RunMoves, is_passed}
+use Rattle.circle_challenger.specs.Moves.{RunMoves, found_at, is_passed}
 use Rattle.circle_matrix.specs.RowFacts.{length-rows_from}
 use Rattle.circle_matrix.specs.RowMajorMatrix.{rows}
 use Rattle.circle_matrix.specs.declared.matrix.RowMajorMatrix.{RowMajorMatrix}
 use Rattle.circle_relation.specs.Accepts.{Fields}
-use Rattle.circle_transcript.specs.Draw.{after_round, fold_challenge, after_rounds, fold_challenges, rounds_pass}
+use Rattle.circle_transcript.specs.Draw.{AreFound, after_round, fold_challenge, after_rounds, fold_challenges, rounds_pass}
 use Rattle.circle_runs.specs.Runs.{NonePasses}
 use Rattle.circle_runs.proofs.Runs.{one_more, zip-append}
 use Rattle.circle_words.specs.Words.{next_word, pairs_of}
 use Rattle.circle_words.proofs.Pairs.{twice-half}
 use Rattle.circle_opening.specs.Failure.{IsStuckAfter}
-use Rattle.circle_opening.specs.Words.{AreCommitted, AreRounds, HavePlayed, word_at}
+use Rattle.circle_opening.specs.Words.{AreCommitted, AreRounds, HavePlayed, IsCommitmentOf, word_at}
 
 -- what holds of the only value holds of all
 pub all_of_one : {A : Type 0} (P : A → Type 0) (x : A) (xs : List A) → xs ≡ x ∷ [] → P x → All P xs
@@ -113,6 +113,34 @@ module _ {E D Com : Type 0} (Commits : List (RowMajorMatrix E) → Com → Type 
             ];
       }
 
+-- what stands beside a value
+beside : {A B : Type 0} (xs : List A) (ys : List B) (i : ℕ) (pair : A × B) → slice_get (zip xs ys) i ≡ Some pair → slice_get xs i ≡ Some pair.0
+beside [] ys i pair got = let within = slice_get_within [] i pair got in absurd (omega (arith, within))
+beside (x ∷ xs) [] i pair got = let within = slice_get_within [] i pair got in absurd (omega (arith, within))
+beside (x ∷ xs) (y ∷ ys) zero pair got = ap (λ p. Some p.0) (same_Some (x, y) pair got)
+beside (x ∷ xs) (y ∷ ys) (suc i) pair got = beside xs ys i pair got
+
+-- what stands at a place
+there : {A : Type 0} (xs : List A) (i : ℕ) → i < length xs → (x : A) × (slice_get xs i ≡ Some x)
+there [] i within = absurd (omega (arith, within))
+there (x ∷ xs) zero within = (x, refl)
+there (x ∷ xs) (suc i) within = there xs i (omega (arith, within))
+
+-- each round's commitment is of its word
+pub words_committed : {E F D Com : Type 0} (Commits : List (RowMajorMatrix E) → Com → Type 0) (matrices : D → List (RowMajorMatrix E)) (word : ℕ → List E) (kept : List D) (commitments : List Com) (witnesses : List F)
+    → AreRounds Commits matrices word kept commitments → (i : ℕ) (round : Com × F) → slice_get (zip commitments witnesses) i ≡ Some round → IsCommitmentOf Commits (pairs_of (word i) ∷ []) round.0
+words_committed Commits matrices word kept commitments witnesses are i round got =
+    let here = beside commitments witnesses i round got in
+    let within = slice_get_within commitments i round.0 here in
+    let d = there kept i (omega (arith, within, are.count)) in
+    (matrices d.0, are.each i d.0 round.0 d.1 here)
+
+module _ {C S F E Com : Type 0} (r : RunMoves C S F E Com) (bits : ℕ) where
+  found-append : (s : S) (us vs : List (Com × F)) → AreFound r bits s us → AreFound r bits (after_rounds r bits s us) vs → AreFound r bits s (us ++ vs)
+  unfolding after_rounds
+  found-append s [] vs first rest = rest
+  found-append s (a ∷ us) vs first rest = (first.0, found-append (after_round r bits s a) us vs first.1 rest)
+
 module _ {C S F E Com : Type 0} (r : RunMoves C S F E Com) (bits : ℕ) (begun now : S) where
   -- no rounds were played
   pub played_begun : (commitments : List Com) (witnesses : List F) (ys : List (List F)) → commitments ≡ [] → ys ≡ [] → HavePlayed r bits now now (zip commitments witnesses) ys
@@ -120,6 +148,7 @@ module _ {C S F E Com : Type 0} (r : RunMoves C S F E Com) (bits : ℕ) (begun n
   played_begun commitments witnesses ys none none_too =
       let empty : zip commitments witnesses ≡ [] = ap (λ v. zip v witnesses) none in
       record {
+        found = subst (AreFound r bits now) (sym empty) tt;
         passes = ap (rounds_pass r bits now) empty;
         challenges = none_too ∙ sym (ap (fold_challenges r bits now) empty);
         state = sym (ap (after_rounds r bits now) empty);
@@ -128,29 +157,37 @@ module _ {C S F E Com : Type 0} (r : RunMoves C S F E Com) (bits : ℕ) (begun n
   -- one more round was played
   pub played_more : (commitments commitments' : List Com) (witnesses witnesses' : List F) (commitment : Com) (witness : F) (ys zs : List (List F)) (y : List F) (after : S) (b : ℕ)
       → length commitments ≡ length witnesses → commitments' ≡ commitments ++ commitment ∷ [] → witnesses' ≡ witnesses ++ witness ∷ [] → b ≡ bits
-      → HavePlayed r bits begun now (zip commitments witnesses) ys → IsTrue (is_passed r.base (r.after_commitment now commitment) b witness)
+      → HavePlayed r bits begun now (zip commitments witnesses) ys → found_at r.base (r.after_commitment now commitment) b ≡ Some witness → IsTrue (is_passed r.base (r.after_commitment now commitment) b witness)
       → y ≡ fold_challenge r b now (commitment, witness) → zs ≡ ys ++ y ∷ [] → after ≡ after_round r b now (commitment, witness)
       → HavePlayed r bits begun after (zip commitments' witnesses') zs
-  played_more commitments commitments' witnesses witnesses' commitment witness ys zs y after b paired is_commitments is_witnesses same before passes drawn pushed state =
+  played_more commitments commitments' witnesses witnesses' commitment witness ys zs y after b paired is_commitments is_witnesses same before found passes drawn pushed state =
       let more : zip commitments' witnesses' ≡ zip commitments witnesses ++ (commitment, witness) ∷ [] =
       ap (λ v. zip v witnesses') is_commitments ∙ ap (zip (commitments ++ commitment ∷ [])) is_witnesses
       ∙ zip-append commitments (commitment ∷ []) witnesses (witness ∷ []) paired in
       let next = one_more r bits begun now (zip commitments witnesses) (zip commitments' witnesses') (commitment, witness) more before.state ys zs y after b same before.passes before.challenges passes drawn pushed state in
-      record { passes = next.passes; challenges = next.challenges; state = next.state }
+      let last : found_at r.base (r.after_commitment (after_rounds r bits begun (zip commitments witnesses)) commitment) bits ≡ Some witness =
+      subst (λ k. found_at r.base (r.after_commitment (after_rounds r bits begun (zip commitments witnesses)) commitment) k ≡ Some witness) same
+      (subst (λ t. found_at r.base (r.after_commitment t commitment) b ≡ Some witness) before.state found) in
+      record {
+        found = subst (AreFound r bits begun) (sym more) (found-append r bits begun (zip commitments witnesses) ((commitment, witness) ∷ []) before.found (last, tt));
+        passes = next.passes;
+        challenges = next.challenges;
+        state = next.state;
+      }
 
-  -- where none passes after rounds that were played
-  pub stuck_after : (rounds : List (Com × F)) (ys : List (List F)) (b : ℕ) → b ≡ bits → HavePlayed r bits begun now rounds ys
-      → (commitment : Com) × NonePasses r.base (r.after_commitment now commitment) b → IsStuckAfter r bits begun
-  stuck_after rounds ys b same before stuck = record {
-    rounds = rounds;
-    commitment = stuck.0;
-    passed = before.passes;
-    none = subst (λ k. NonePasses r.base (r.after_commitment (after_rounds r bits begun rounds) stuck.0) k) same
-        (subst (λ t. NonePasses r.base (r.after_commitment t stuck.0) b) before.state stuck.1);
-  }
-
-  -- the same, where there is another reason
-  pub or_stuck : {A B : Type 0} (rounds : List (Com × F)) (ys : List (List F)) (b : ℕ) → b ≡ bits → HavePlayed r bits begun now rounds ys
-      → A ⊎ (B × (commitment : Com) × NonePasses r.base (r.after_commitment now commitment) b) → A ⊎ (B × IsStuckAfter r bits begun)
-  or_stuck rounds ys b same before (inl a) = inl a
-  or_stuck rounds ys b same before (inr stuck) = inr (stuck.0, stuck_after rounds ys b same before (stuck.1, stuck.2))
+  -- where none passes after the commitment of the next word
+  module _ (Commits : List (RowMajorMatrix E) → Com → Type 0) (word : List E → ℕ → List E) (count : ℕ) (rounds : List (Com × F)) (betas : List E) (b : ℕ) where
+    pub stuck_after : b ≡ bits → HavePlayed r bits begun now rounds (map r.base.coefficients betas)
+        → ((i : ℕ) (round : Com × F) → slice_get rounds i ≡ Some round → IsCommitmentOf Commits (pairs_of (word betas i) ∷ []) round.0)
+        → length rounds < count → (here : List E) → here ≡ word betas (length rounds)
+        → (commitment : Com) → IsCommitmentOf Commits (pairs_of here ∷ []) commitment → NonePasses r.base (r.after_commitment now commitment) b → IsStuckAfter r Commits bits begun word count
+    stuck_after same before committed fewer here is commitment next none = record {
+      rounds = rounds;
+      betas = betas;
+      played = record { found = before.found; drawn = before.challenges; committed = committed };
+      fewer = fewer;
+      commitment = commitment;
+      next = subst (λ w. IsCommitmentOf Commits (pairs_of w ∷ []) commitment) is next;
+      none = subst (λ k. NonePasses r.base (r.after_commitment (after_rounds r bits begun rounds) commitment) k) same
+          (subst (λ t. NonePasses r.base (r.after_commitment t commitment) b) before.state none);
+    }

@@ -12,9 +12,10 @@ use Rattle.circle_matrix.specs.Mmcs.{greatest}
 use Rattle.circle_matrix.specs.DotProduct.{pairwise}
 use Rattle.circle_relation.specs.Accepts.{Fields}
 use Rattle.circle_folding.specs.Fold.{x_folds}
-use Rattle.circle_words.specs.Words.{Committed, next_word, pairs_of}
+use Rattle.circle_words.specs.Words.{Committed, next_word, pairs_of, y_folded}
 use Rattle.circle_matrix.specs.declared.matrix.RowMajorMatrix.{RowMajorMatrix}
-use Rattle.circle_opening.specs.Words.{AreCommitted, AreRounds, heights_of, top_of, word_at}
+use Rattle.circle_matrix.specs.RowMajorMatrix.{rows}
+use Rattle.circle_opening.specs.Words.{AreCommitted, AreRounds, first_fold, folded_layers, heights_of, layer_of, round_word, top_of, word_at}
 
 -- the greatest of numbers is one of them
 pub greatest-there : (ns : List ℕ) → 1 ≤ length ns → (i : ℕ) × (i < length ns) × (slice_index_or ns i 0 ≡ greatest ns)
@@ -175,3 +176,28 @@ rounds-alike Commits kept_of v w kept commitments same rounds = record {
   each = λ n d commitment at_kept at_commitment.
       subst (λ word. AreCommitted Commits (pairs_of word ∷ []) (kept_of d) commitment) (same n) (rounds.each n d commitment at_kept at_commitment);
 }
+
+-- the words of the rounds, by what is at hand of the heights and of the first word
+pub words-alike : {F E : Type 0} (k : Fields F E) (blowup : ℕ) (ms : List (Committed F E)) (alpha bivariate : E) (hs : List ℕ) (high : ℕ) (first : List E) → 1 ≤ length ms → 1 ≤ top_of ms
+    → hs ≡ lower ms → high ≡ top_of ms → first ≡ first_fold k blowup ms alpha bivariate (top_of ms) → (betas : List E) (n : ℕ)
+    → word_at k hs (first_fold k blowup ms alpha bivariate) (high - 1) first betas n ≡ round_word k blowup ms alpha bivariate betas n
+words-alike k blowup ms alpha bivariate hs high first some positive fewer same is betas n =
+    let top = top_of ms in
+    let fold = first_fold k blowup ms alpha bivariate in
+    let low : top - 1 < top = omega (arith, positive) in
+    ap (λ v. word_at k v fold (high - 1) first betas n) fewer
+    ∙ ap (λ t. word_at k (lower ms) fold (t - 1) first betas n) same
+    ∙ ap (λ w. word_at k (lower ms) fold (top - 1) w betas n) is
+    ∙ word-alike k (lower ms) top fold (top - 1) (fold top) betas low n
+    ∙ ap (λ v. word_at k v fold (top - 1) (fold top) betas n) (sym (heights-end ms some))
+
+-- what is folded from the first layer's words, the tallest apart
+pub folds-split : {F E : Type 0} (k : Fields F E) (blowup : ℕ) (ms : List (Committed F E)) (alpha bivariate : E) (hs : List ℕ) (layers : List (RowMajorMatrix E)) (joining : List (List E)) (tallest : List E) → 1 ≤ length ms
+    → hs ≡ heights_of ms → map rows layers ≡ map (layer_of k blowup ms alpha) (heights_of ms) → joining ++ tallest ∷ [] ≡ folded_layers k bivariate hs layers
+    → (joining ≡ map (first_fold k blowup ms alpha bivariate) (lower ms)) × (tallest ≡ first_fold k blowup ms alpha bivariate (top_of ms))
+folds-split k blowup ms alpha bivariate hs layers joining tallest some same are folds =
+    let layer = layer_of k blowup ms alpha in
+    let fold = first_fold k blowup ms alpha bivariate in
+    split-last fold joining tallest (lower ms) (top_of ms)
+    (folds ∙ ap (λ v. folded_layers k bivariate v layers) same ∙ ap (pairwise (y_folded k bivariate) (heights_of ms)) are
+    ∙ pairwise-map (y_folded k bivariate) layer (heights_of ms) ∙ ap (map fold) (heights-end ms some))

@@ -109,16 +109,24 @@ module _ {D F E M : Type 0} (p : FriParameters M) (kept : D → List (RowMajorMa
           AllZip (HasBatchRows kept Commits authenticates (top_of answered_matrices)
           drawn.queries) requests proof.inputs
 
+-- with values of requests their run comes to a proof of work that no witness passes
+abbrev pub IsStuckOn : {C S D F E M WC : Type 0} → Fields F E → RunMoves C S F E WC
+    → FriParameters M → (List (RowMajorMatrix E) → WC → Type 0) → (D → List (RowMajorMatrix F))
+    → List (OpeningRequest D E) → Openings E → S → ProverError → Type 0
+IsStuckOn k r p Commits kept requests values s e =
+    IsStuckFrom r Commits k p (answered_matrices p kept requests values)
+    (answered_claims p kept requests values) s e
+
 -- why requests are not opened: memory was refused; or with the values that they ask for the last
--- word is of too high degree, or no witness passes where a run over their claims looks for one
+-- word is of too high degree, or no witness passes where their run looks for one
 abbrev pub IsFailure : {C S D F E M WC : Type 0} → Fields F E → RunMoves C S F E WC
-    → FriParameters M → (D → List (RowMajorMatrix F)) → List (OpeningRequest D E) → S
-    → ProverError → Type 0
-IsFailure k r p kept requests s e =
+    → FriParameters M → (List (RowMajorMatrix E) → WC → Type 0) → (D → List (RowMajorMatrix F))
+    → List (OpeningRequest D E) → S → ProverError → Type 0
+IsFailure k r p Commits kept requests s e =
     (e ≡ Memory) ⊎ ((values : Openings _)
     × AllZip (AreAnswers kept k p.log_blowup) requests values
     × (IsTooHigh k p.log_blowup p.log_final_poly_len (answered_matrices p kept requests values) e
-    ⊎ IsStuckFrom r k.extension p (answered_claims p kept requests values) s e))
+    ⊎ IsStuckOn k r p Commits kept requests values s e))
 
 -- witnesses are zero where there is no difficulty
 pub record AreEasy {F M : Type 0} (p : FriParameters M) (l : FieldOps F) (w : CircleWitnesses F)

@@ -11,8 +11,9 @@ use Rattle.circle_relation.specs.RunOf.{proof_of}
 use Rattle.circle_relation.specs.declared.proof.CirclePcsProof.{CirclePcsProof}
 use Rattle.circle_transcript.specs.Draw.{draw}
 use Rattle.circle_runs.specs.Runs.{drawn_leaving}
-use Rattle.circle_opening.specs.Failure.{IsStuckFrom, IsTooHigh}
-use Rattle.circle_opening.specs.Opening.{IsFailure, IsOpening, answered_claims, answered_matrices}
+use Rattle.circle_opening.specs.Failure.{IsTooHigh}
+use Rattle.circle_opening.specs.Opening.{IsFailure, IsOpening, IsStuckOn, answered_claims}
+use Rattle.circle_opening.specs.Opening.{answered_matrices}
 use Rattle.circle_relation.specs.Taken.{claims_taken, shape_by}
 use Rattle.circle_opening.specs.Words.{AreMade, taken_in}
 use Rattle.circle_opening.specs.declared.error.ProverError.{ProverError}
@@ -44,7 +45,8 @@ module _ {C S F E I IC ID IP W WC WD WP : Type 0} (o : Schemes C S F E I IC ID I
 
   -- why there is none
   abbrev pub IsFailureFrom : C → ProverError → Type 0
-  IsFailureFrom old e = IsFailure o.fields o.run p o.kept requests (o.run.base.state old) e
+  IsFailureFrom old e =
+      IsFailure o.fields o.run p (o.WordCommits p.mmcs) o.kept requests (o.run.base.state old) e
 
   -- the same of the run, once the values are known
   module _ (values : List (Vec (Vec (Vec E Global) Global) Global)) where
@@ -62,6 +64,6 @@ module _ {C S F E I IC ID IP W WC WD WP : Type 0} (o : Schemes C S F E I IC ID I
     abbrev pub IsNotPlayed : C → ProverError → Type 0
     IsNotPlayed old e =
         (e ≡ Memory) ⊎ IsTooHigh o.fields p.log_blowup p.log_final_poly_len
-        (answered_matrices p o.kept requests (openings values)) e ⊎ IsStuckFrom o.run
-        o.fields.extension p (answered_claims p o.kept requests (openings values))
+        (answered_matrices p o.kept requests (openings values)) e
+        ⊎ IsStuckOn o.fields o.run p (o.WordCommits p.mmcs) o.kept requests (openings values)
         (o.run.base.state old) e

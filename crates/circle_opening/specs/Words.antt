@@ -14,7 +14,7 @@ use Rattle.circle_folding.specs.Fold.{y_folds}
 use Rattle.circle_relation.specs.Accepts.{Fields}
 use Rattle.circle_matrix.specs.declared.params.FriParameters.{FriParameters}
 use Rattle.circle_transcript.specs.Draw.{Claim, Taken, taken, after_rounds, fold_challenges}
-use Rattle.circle_transcript.specs.Draw.{rounds_pass}
+use Rattle.circle_transcript.specs.Draw.{rounds_pass, AreFound}
 use Rattle.circle_domain.specs.Spans.{HasXValues, XSpan}
 use Rattle.circle_transcript.specs.Transcript.{current, numbers}
 use Rattle.circle_transcript.specs.declared.transcript.CircleTranscript.{CircleTranscript}
@@ -50,6 +50,12 @@ module _ {F E : Type 0} (k : Fields F E) (heights : List ℕ) (folded : ℕ → 
   word_at zero = first
   word_at (suc n) =
       next_word k heights folded (h - n) (slice_index_or betas n k.extension.zero) (word_at n)
+
+-- words have this commitment
+abbrev pub IsCommitmentOf : {E Com : Type 0} → (List (RowMajorMatrix E) → Com → Type 0)
+    → List (List (List E)) → Com → Type 0
+IsCommitmentOf {E = E} Commits words commitment =
+    (kept : List (RowMajorMatrix E)) × AreCommitted Commits words kept commitment
 
 -- each of the words, from the first on, is committed to alone, by pairs
 pub record AreRounds {E D Com : Type 0} (Commits : List (RowMajorMatrix E) → Com → Type 0)
@@ -93,9 +99,11 @@ pub record EndsHigh {F E : Type 0} (k : Fields F E) (blowup final : ℕ)
       ¬ XSpan k.field k.gen k.extension k.embed final (blowup + final)
       (last_word k blowup matrices alpha final bivariate betas)
 
--- these rounds were played with witnesses that pass, and drew these challenges
+-- these rounds were played with the witnesses that searches find, which pass, and drew these
+-- challenges
 pub record HavePlayed {C S F E Com : Type 0} (r : RunMoves C S F E Com) (bits : ℕ) (begun now : S)
     (rounds : List (Com × F)) (betas : List (List F)) : Type 0 where
+  pub found : AreFound r bits begun rounds
   pub passes : rounds_pass r bits begun rounds ≡ true
   pub challenges : betas ≡ fold_challenges r bits begun rounds
   pub state : now ≡ after_rounds r bits begun rounds

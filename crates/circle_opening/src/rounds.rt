@@ -1,12 +1,12 @@
 //! The rounds of an opening: each word is committed to, a challenge is drawn, and the word is
 //! folded by it.
 ghost use Rattle.std.specs.Prelude.{◌≡◌, ℕ, ◌≤◌, ◌-◌, ◌+◌, ◌^◌, ◌++◌, [], ◌∷◌, length, map, All};
-ghost use Rattle.std.specs.Prelude.{IsTrue};
-ghost use Rattle.std.specs.Prelude.{IfOk, IfErr, OnOk};
+ghost use Rattle.std.specs.Prelude.{IsTrue, IfOk, IfErr, OnOk, Some};
 ghost use Rattle.circle_challenger.specs.Due.{AreNext, HasPlayed};
 ghost use Rattle.circle_transcript.specs.Shape.{round_steps, rounds_steps};
 ghost use Rattle.circle_transcript.specs.Transcript.{current, due, numbers, IsSame};
-ghost use Rattle.circle_transcript.specs.Transcript.{commit_passes, commit_challenge, after_commit};
+ghost use Rattle.circle_transcript.specs.Transcript.{commit_passes, commit_found, commit_challenge};
+ghost use Rattle.circle_transcript.specs.Transcript.{after_commit};
 ghost use Rattle.circle_words.specs.Words.{pairs_of};
 ghost use Rattle.circle_opening.specs.Failure.{IsRoundFailure, IsRoundsFailure};
 ghost use Rattle.circle_opening.specs.Words.{AreCommitted, ArePlayed, AreRoundsFrom};
@@ -93,6 +93,8 @@ where
         (numbers transcript.old).commit_pow_bits) (due transcript.old) (due transcript.new)) }
     ensures easy { IfOk result (λ r.
         (numbers transcript.old).commit_pow_bits ≡ 0 → r.witness ≡ F.ops.zero) }
+    ensures found { let m = ⟦<C as RunChallenger<F, EF, M::Commitment>>⟧.run in IfOk result
+        (λ r. commit_found m transcript.old r.commitment ≡ Some r.witness) }
     ensures passes { let m = ⟦<C as RunChallenger<F, EF, M::Commitment>>⟧.run in IfOk result
         (λ r. IsTrue (commit_passes m transcript.old r.commitment r.witness)) }
     ensures challenge { let m = ⟦<C as RunChallenger<F, EF, M::Commitment>>⟧.run in IfOk result
@@ -105,7 +107,7 @@ where
     ensures folds { IfOk result (λ r. Follows ⟦<EF as OverCircle<F>>⟧.fields heights.now folded.now
         log_height r.beta word.items r.next.items) }
     ensures failure { let m = ⟦<C as RunChallenger<F, EF, M::Commitment>>⟧.run in IfErr result
-        (IsRoundFailure m transcript.old) }
+        (IsRoundFailure m (M.commits mmcs.now) transcript.old word.items) }
 {
     let (commitment, kept) = commit_word(alloc, mmcs, word)?;
     let (beta, witness) = transcript.commit_round(&commitment)?;
@@ -181,7 +183,8 @@ where
     ensures word { IfOk result (λ r. EndsIn ⟦<EF as OverCircle<F>>⟧.fields heights.now folded.now
         log_height first.items r.0.betas.items num_rounds r.1.items) }
     ensures failure { let m = ⟦<C as RunChallenger<F, EF, M::Commitment>>⟧.run in IfErr result
-        (IsRoundsFailure m transcript.old) }
+        (IsRoundsFailure m (M.commits mmcs.now) transcript.old ⟦<EF as OverCircle<F>>⟧.fields
+        heights.now folded.now log_height first.items num_rounds) }
 {
     let mut rounds = Rounds {
         commitments: Vec::with_capacity(alloc, num_rounds)?,

@@ -85,7 +85,8 @@ where
     ensures words { IfOk result (AreMade ⟦<EF as OverCircle<F>>⟧.fields M.commits M.matrices
         params.now (map committed_of matrices.now)) }
     ensures failure { IfErr result (IsRunFailure ⟦<C as RunChallenger<F, EF, M::Commitment>>⟧.run
-        ⟦<EF as OverCircle<F>>⟧.fields params.now matrices.now claims.now transcript.old) }
+        (M.commits params.now.mmcs) ⟦<EF as OverCircle<F>>⟧.fields params.now matrices.now
+        claims.now transcript.old) }
 {
     let (alpha, batch) = transcript.batch_phase(claims)?;
     let heights = committed_heights(alloc, matrices)?;
@@ -188,9 +189,11 @@ where
     ensures words { IfOk result (AreMade ⟦<EF as OverCircle<F>>⟧.fields M.commits M.matrices
         params.now (map committed_of matrices.now)) }
     ensures failure { IfErr result (IsShapeFailure ⟦<C as RunChallenger<F, EF, M::Commitment>>⟧.run
-        ⟦<EF as OverCircle<F>>⟧.fields params.now matrices.now claims.now shape challenger.old) }
+        (M.commits params.now.mmcs) ⟦<EF as OverCircle<F>>⟧.fields params.now matrices.now
+        claims.now shape challenger.old) }
 {
-    let mut transcript = CircleProverTranscript::<C, F, EF>::new(alloc, challenger, shape)?;
+    let seeded = CircleProverTranscript::<C, F, EF>::seeded(alloc, challenger, shape)?;
+    let mut transcript = CircleProverTranscript::<C, F, EF>::of_seeded(challenger, seeded);
     match play_words(alloc, &mut transcript, params, claims, num_powers, matrices) {
         Ok(words) => {
             transcript.finish();

@@ -5,7 +5,9 @@ use circle_commit::{OpeningRequest, PowPhase, heights_are_powers_of_two};
 use circle_field::{ExtensionField, Field, Mersenne31};
 use circle_fixtures::quadratic::Quadratic;
 use circle_fixtures::schemes::ListMmcs;
-use circle_statements::batches::{Batch, Domain, Rows, cubic, one, rows, scattered_batch, sevens};
+use circle_statements::batches::{
+    Batch, Domain, Rows, commit_one, cubic, one, rows, scattered_batch, sevens,
+};
 use circle_statements::openings::{open, open_at};
 use circle_statements::parameters::{Data, Numbers, SMALL, Scheme, Trees, parameters, scheme};
 use p3_circle::{CirclePcs, ProverError};
@@ -45,6 +47,14 @@ fn of_work(work: [usize; 3]) -> Numbers {
     Numbers { work, ..SMALL }
 }
 
+#[test]
+fn nothing_to_open(rt: HostRuntime) {
+    let nothing = ProverError::NoCommittedMatrices;
+    for numbers in [SMALL, of_work([30, 30, 30])] {
+        assert_refused(&rt, rt.alloc(), &scheme(numbers), &[], nothing);
+    }
+}
+
 // Two matrices with points for the first alone.
 fn fewer_lists(alloc: Global, scheme: &Scheme) -> Result<Batch, Fail> {
     let mut fewer = scattered_batch(alloc, scheme, &[(2, 1, 1), (2, 1, 1)], 3)?;
@@ -73,6 +83,27 @@ fn other_numbers_of_lists_of_points(rt: HostRuntime) -> Result<(), Fail> {
     let batches = [sevens(alloc, &small)?, fewer_lists(alloc, &small)?];
     for numbers in [SMALL, high_blowup] {
         assert_refused(&rt, alloc, &scheme(numbers), &batches, other);
+    }
+    Ok(())
+}
+
+// The coordinate of a point of the domain on which four rows are committed to.
+const ON_FOUR_ROWS: [u64; 3] = [775713575, 0, 0];
+
+#[test]
+fn too_few_rows_before_points_of_their_domain(rt: HostRuntime) -> Result<(), Fail> {
+    let alloc = rt.alloc();
+    let small = scheme(SMALL);
+    let (column, at) = (rows(alloc, &[7; 4], 1)?, [cubic(ON_FOUR_ROWS)]);
+    let four = [commit_one(alloc, &small, Domain::standard(2), column, &at)?];
+    assert_refused(&rt, alloc, &small, &four, ProverError::PointOnDomain);
+    for (log_blowup, log_final_poly_len) in [(2, 0), (1, 1), (1, usize::MAX), (usize::MAX, 0)] {
+        let other = scheme(Numbers {
+            log_blowup,
+            log_final_poly_len,
+            ..SMALL
+        });
+        assert_refused(&rt, alloc, &other, &four, ProverError::HeightTooSmall);
     }
     Ok(())
 }

@@ -1,5 +1,5 @@
 -- One request of a batch, what is answered of it, and the claims on that.
-use Rattle.std.specs.Prelude.{◌≡◌, ◌≤◌, Bool, true, false, List, [], ◌∷◌, ◌++◌, length, map, All, Option, Some, None, IfSome, IsSome, IsTrue, Result, IfOk, OnOk, Vec}
+use Rattle.std.specs.Prelude.{◌≡◌, ℕ, ◌≤◌, Bool, true, false, List, [], ◌∷◌, ◌++◌, length, map, All, Option, Some, None, IfSome, IsSome, IsTrue, Result, IfOk, OnOk, Vec}
 use Rattle.std.specs.List.{AllZip}
 use Rattle.std.specs.Option.{option_to_list}
 use Rattle.std.specs.declared.alloc.Global.{Global}
@@ -48,22 +48,22 @@ module _ {E Data : Type 0} (requests : List (OpeningRequest Data E)) (r : Openin
       let here = subst (λ rs. HaveValues rs (v ∷ [])) only (subst (HaveValues requests) is have) in
       subst (λ ps. AllZip (λ ps vs. length vs ≡ length ps) ps v) asked here.0
 
-module _ {E Dom M : Type 0} where
+module _ {E Dom M : Type 0} (size : Dom → ℕ) where
   -- the claims of a batch, told by their domains, points and values
   are-claimed : (batch : List (Dom × M)) (asked : List (List E)) (answers : List (List (List E))) (claims : List (MatrixOpening E Dom)) → map (λ c. c.domain) claims ≡ map (λ m. m.0) batch →
-      map (λ c. map (λ p. p.point) c.points.items) claims ≡ asked → map (λ c. map (λ p. p.values.items) c.points.items) claims ≡ answers → All (λ ts. 1 ≤ length ts) asked → AreClaimedOf batch asked answers claims
+      map (λ c. map (λ p. p.point) c.points.items) claims ≡ asked → map (λ c. map (λ p. p.values.items) c.points.items) claims ≡ answers → All (λ ts. 1 ≤ length ts) asked → AreClaimedOf size batch asked answers claims
   are-claimed batch asked answers claims domains points values some =
-      subst (λ vs. AreClaimedOf batch asked vs claims) values
-      (subst (λ ps. AreClaimedOf batch ps (map (λ c. map (λ p. p.values.items) c.points.items) claims) claims) points
+      subst (λ vs. AreClaimedOf size batch asked vs claims) values
+      (subst (λ ps. AreClaimedOf size batch ps (map (λ c. map (λ p. p.values.items) c.points.items) claims) claims) points
       (by batch claims domains (subst (All (λ ts. 1 ≤ length ts)) (sym points) some)))
     where
       by : (batch : List (Dom × M)) (claims : List (MatrixOpening E Dom)) → map (λ c. c.domain) claims ≡ map (λ m. m.0) batch → All (λ ts. 1 ≤ length ts) (map (λ c. map (λ p. p.point) c.points.items) claims) →
-          AreClaimedOf batch (map (λ c. map (λ p. p.point) c.points.items) claims) (map (λ c. map (λ p. p.values.items) c.points.items) claims) claims
+          AreClaimedOf size batch (map (λ c. map (λ p. p.point) c.points.items) claims) (map (λ c. map (λ p. p.values.items) c.points.items) claims) claims
       by [] [] domains some = tt
       by [] (c ∷ claims) domains some = absurd (cc)
       by (m ∷ batch) [] domains some = absurd (cc)
       by (m ∷ batch) (c ∷ claims) domains some = (
-        record { domain = cc; points = refl; values = refl; some = All-head (λ ts. 1 ≤ length ts) _ _ some },
+        record { domain = (let same : c.domain ≡ m.0 = cc in ap size same); points = refl; values = refl; some = All-head (λ ts. 1 ≤ length ts) _ _ some },
         by batch claims (cc) (All-tail (λ ts. 1 ≤ length ts) _ _ some),
       )
 
@@ -96,17 +96,17 @@ module _ {E Com Data Dom M : Type 0} (commits : List (Dom × M) → Com → Data
       subst (λ ps. ValuesOf batch ps v) asked (here.0 batch commitment kept)
 
   -- the claims on it
-  pub is-answered : (values : Openings E) (v : List (List (List E))) (claims : List (CommitmentOpening E Com Dom)) (claim : CommitmentOpening E Com Dom) (points : List (List E)) →
+  pub is-answered : (size : Dom → ℕ) (values : Openings E) (v : List (List (List E))) (claims : List (CommitmentOpening E Com Dom)) (claim : CommitmentOpening E Com Dom) (points : List (List E)) →
       requested_points r ≡ points → values ≡ v ∷ [] → claims ≡ claim ∷ [] → claim.commitment ≡ commitment → map (λ c. c.domain) claim.matrices.items ≡ map (λ m. m.0) batch →
       map (λ c. map (λ p. p.point) c.points.items) claim.matrices.items ≡ points → map (λ c. map (λ p. p.values.items) c.points.items) claim.matrices.items ≡ v → All (λ ts. 1 ≤ length ts) points →
-      AreAnsweredBy commits requests values claims
-  is-answered values v claims claim points asked is one same domains at answers some =
-      let claimed = are-claimed batch points v claim.matrices.items domains at answers some in
-      let here : IsAnsweredBy commits r v claim = record {
+      AreAnsweredBy size commits requests values claims
+  is-answered size values v claims claim points asked is one same domains at answers some =
+      let claimed = are-claimed size batch points v claim.matrices.items domains at answers some in
+      let here : IsAnsweredBy size commits r v claim = record {
         batch = batch;
         committed = subst (λ c. commits batch c r.prover_data.now) (sym same) kept;
-        claims = subst (λ ps. AreClaimedOf batch ps v claim.matrices.items) (sym asked) claimed;
+        claims = subst (λ ps. AreClaimedOf size batch ps v claim.matrices.items) (sym asked) claimed;
       } in
-      subst (λ rs. AreAnsweredBy commits rs values claims) (sym only)
-      (subst (λ vs. AreAnsweredBy commits (r ∷ []) vs claims) (sym is)
-      (subst (AreAnsweredBy commits (r ∷ []) (v ∷ [])) (sym one) (here, tt)))
+      subst (λ rs. AreAnsweredBy size commits rs values claims) (sym only)
+      (subst (λ vs. AreAnsweredBy size commits (r ∷ []) vs claims) (sym is)
+      (subst (AreAnsweredBy size commits (r ∷ []) (v ∷ [])) (sym one) (here, tt)))

@@ -1,5 +1,5 @@
 -- Requests that are honest, and the claims that a verifier is handed of what is answered of them.
-use Rattle.std.specs.Prelude.{◌≡◌, ◌≤◌, List, [], ◌∷◌, length, map, All, Vec}
+use Rattle.std.specs.Prelude.{◌≡◌, ℕ, ◌≤◌, List, [], ◌∷◌, length, map, All, Vec}
 use Rattle.std.specs.declared.alloc.Global.{Global}
 use Rattle.std.specs.List.{AllZip}
 use Rattle.circle_matrix.specs.Pcs.{Openings}
@@ -21,12 +21,13 @@ HaveValues requests values =
     AllZip (λ r v. AllZip (λ points vs. length vs ≡ length points) (requested_points r) v)
     requests values
 
-module _ {E Dom M : Type 0} where
+-- size is the number of a domain's points
+module _ {E Dom M : Type 0} (size : Dom → ℕ) where
   -- of a matrix that was given on a domain these values are claimed at these points, of which there
-  -- is one
+  -- is one, on a domain of as many points
   pub record IsClaimedOf (given : Dom × M) (asked : List E) (answers : List (List E))
       (claim : MatrixOpening E Dom) : Type 0 where
-    pub domain : claim.domain ≡ given.0
+    pub domain : size claim.domain ≡ size given.0
     pub points : map (λ p. p.point) claim.points.items ≡ asked
     pub values : map (λ p. p.values.items) claim.points.items ≡ answers
     pub some : 1 ≤ length asked
@@ -41,14 +42,15 @@ module _ {E Dom M : Type 0} where
 
 -- commits says of a batch, a commitment and what is kept that the batch has this commitment, and
 -- that this was kept of it
-module _ {E Com Data Dom M : Type 0} (commits : List (Dom × M) → Com → Data → Type 0) where
+module _ {E Com Data Dom M : Type 0} (size : Dom → ℕ)
+    (commits : List (Dom × M) → Com → Data → Type 0) where
   -- the claims of one commitment are of a batch that has it, and say what is answered at the
   -- requested points
   pub record IsAnsweredBy (request : OpeningRequest Data E) (values : List (List (List E)))
       (claim : CommitmentOpening E Com Dom) : Type 0 where
     pub batch : List (Dom × M)
     pub committed : commits batch claim.commitment request.prover_data.now
-    pub claims : AreClaimedOf batch (requested_points request) values claim.matrices.items
+    pub claims : AreClaimedOf size batch (requested_points request) values claim.matrices.items
 
   -- so for each request
   abbrev pub AreAnsweredBy : List (OpeningRequest Data E) → Openings E
@@ -57,6 +59,7 @@ module _ {E Com Data Dom M : Type 0} (commits : List (Dom × M) → Com → Data
   AreAnsweredBy (r ∷ rs) (v ∷ vs) (c ∷ cs) = IsAnsweredBy r v c × AreAnsweredBy rs vs cs
   AreAnsweredBy _ _ _ = ⊥
 
+module _ {E Com Data Dom M : Type 0} (commits : List (Dom × M) → Com → Data → Type 0) where
   -- the data of a request were kept of a batch that may be opened at its points
   pub record IsHonest (OpensAt : List (Dom × M) → List (List E) → Type 0)
       (request : OpeningRequest Data E) : Type 0 where
@@ -84,3 +87,26 @@ abbrev pub OpensFrom : {E Com Data Dom M S : Type 0} → (List (Dom × M) → Li
     → List (Dom × M) → List (List E) → S → Type 0
 OpensFrom OpensAt commits Finds batch points state =
     OpensAt batch points × FindsFor commits Finds batch points state
+
+-- requests are honest, and from this state each search for a witness finds one in their run
+abbrev pub IsHonestFrom : {E Com Data Dom M S : Type 0} → (List (Dom × M) → Com → Data → Type 0)
+    → (List (Dom × M) → List (List E) → Type 0) → (List (OpeningRequest Data E) → S → Type 0)
+    → List (OpeningRequest Data E) → S → Type 0
+IsHonestFrom commits OpensAt Finds requests state =
+    AreHonest commits OpensAt requests × Finds requests state
+
+-- what is answered of each request are the values of the batches that its data were kept of
+abbrev pub AreTrueValues : {E Com Data Dom M : Type 0} → (List (Dom × M) → Com → Data → Type 0)
+    → (List (Dom × M) → List (List E) → List (List (List E)) → Type 0)
+    → List (OpeningRequest Data E) → Openings E → Type 0
+AreTrueValues {Com = Com} {Dom = Dom} {M = M} commits ValuesOf requests values =
+    AllZip (λ r v. (batch : List (Dom × M)) (commitment : Com)
+    → commits batch commitment r.prover_data.now → ValuesOf batch (requested_points r) v)
+    requests values
+
+-- claims that say what is answered are accepted, on domains of as many points as the batches'
+abbrev pub AcceptsAnswers : {E Com Data Dom M : Type 0} → (Dom → ℕ)
+    → (List (Dom × M) → Com → Data → Type 0) → (List (CommitmentOpening E Com Dom) → Type 0)
+    → List (OpeningRequest Data E) → Openings E → Type 0
+AcceptsAnswers size commits Accepts requests values =
+    (claims : _) → AreAnsweredBy size commits requests values claims → Accepts claims

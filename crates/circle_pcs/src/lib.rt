@@ -10,7 +10,9 @@
 pub mod any_scheme;
 pub mod scheme;
 pub mod stark;
+pub mod statements;
 
 pub use any_scheme::round_trip;
 pub use scheme::Pcs;
 pub use stark::UnivariateStarkPcs;
+pub use statements::Statements;

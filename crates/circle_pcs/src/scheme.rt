@@ -4,9 +4,7 @@ ghost use Rattle.circle_matrix.specs.Pcs.{Openings, openings};
 ghost use Rattle.circle_matrix.specs.declared.matrix.RowMajorMatrix.{RowMajorMatrix};
 ghost use Rattle.circle_matrix.specs.declared.pcs.CommitmentOpening.{CommitmentOpening};
 ghost use Rattle.circle_matrix.specs.declared.pcs.OpeningRequest.{OpeningRequest};
-ghost use Rattle.std.specs.List.{AllZip};
-ghost use Rattle.circle_pcs.specs.Honest.{AreAnsweredBy, AreHonest, HaveValues};
-ghost use Rattle.circle_pcs.specs.Honest.{requested_points};
+ghost use Rattle.circle_pcs.specs.Honest.{AcceptsAnswers, AreHonest, AreTrueValues, HaveValues};
 ghost use Rattle.circle_pcs.specs.Kept.{AreKept};
 
 use circle_challenger::ChallengerState;
@@ -77,9 +75,10 @@ where
     ghost open_gives: { Self → List (OpeningRequest Self.ProverData Challenge) → Challenger.State
         → Openings Challenge → Self.Proof → Challenger.State → Type 0 };
 
-    // From this state of a challenger the requests are refused.
+    // From the first state of a challenger the requests are refused for this reason, which leaves
+    // the second.
     ghost open_refuses: { Self → List (OpeningRequest Self.ProverData Challenge)
-        → Challenger.State → Self.ProverError → Type 0 };
+        → Challenger.State → Challenger.State → Self.ProverError → Type 0 };
 
     // From the first state of a challenger the claims and the proof are accepted, which leaves the
     // second.
@@ -130,8 +129,8 @@ where
         requires { open_asks self.now requests.items }
         ensures opened { let s = Challenger.state in IfOk result (λ r. open_gives self.now
             requests.entry.items (s challenger.old) (openings r.0.items) r.1 (s challenger.new)) }
-        ensures refused { IfErr result (open_refuses self.now requests.entry.items
-            (Challenger.state challenger.old)) };
+        ensures refused { let s = Challenger.state in IfErr result (open_refuses self.now
+            requests.entry.items (s challenger.old) (s challenger.new)) };
 
     /// Whether the claimed values are those of the committed polynomials: Ok exactly where the
     /// scheme's relation holds, memory aside.
@@ -167,9 +166,9 @@ where
 
     // Honest requests are refused by `open` for memory alone, where witnesses are found.
     ghost honest_open: { (pcs : Self) (requests : List (OpeningRequest Self.ProverData Challenge))
-        (s : Challenger.State) (e : Self.ProverError)
+        (s t : Challenger.State) (e : Self.ProverError)
         → AreHonest (commits pcs) (opens_at pcs) requests → finds_witnesses pcs requests s
-        → open_refuses pcs requests s e → IsTrue (is_prover_memory e) };
+        → open_refuses pcs requests s t e → IsTrue (is_prover_memory e) };
 
     // `open` answers a list of values for each requested point.
     ghost each_point: { (pcs : Self) (requests : List (OpeningRequest Self.ProverData Challenge))
@@ -179,19 +178,16 @@ where
     // What `open` answers of batches that were committed to are the values of their polynomials.
     ghost true_values: { (pcs : Self) (requests : List (OpeningRequest Self.ProverData Challenge))
         (values : Openings Challenge) (proof : Self.Proof) (s t : Challenger.State)
-        → open_gives pcs requests s values proof t → AllZip (λ r v.
-        (batch : List (Self.Domain × RowMajorMatrix Self.Domain.Val))
-        (commitment : Self.Commitment) → commits pcs batch commitment r.prover_data.now
-        → values_of pcs batch (requested_points r) v) requests values };
+        → open_gives pcs requests s values proof t
+        → AreTrueValues (commits pcs) (values_of pcs) requests values };
 
     // What `open` gives is accepted from the state that it was called in, and leaves the same
-    // state: where the claims are what was answered, of batches that have the claimed commitments.
+    // state: where the claims are what was answered, of batches that have the claimed commitments,
+    // on domains of as many points.
     ghost complete: { (pcs : Self) (requests : List (OpeningRequest Self.ProverData Challenge))
-        (values : Openings Challenge)
-        (claims : List (CommitmentOpening Challenge Self.Commitment Self.Domain))
-        (proof : Self.Proof) (s t : Challenger.State)
-        → AreAnsweredBy (commits pcs) requests values claims
-        → open_gives pcs requests s values proof t → verify_accepts pcs claims proof s t };
+        (values : Openings Challenge) (proof : Self.Proof) (s t : Challenger.State)
+        → open_gives pcs requests s values proof t → AcceptsAnswers Self.Domain.size (commits pcs)
+        (λ claims. verify_accepts pcs claims proof s t) requests values };
 
     // Data that were kept of batches that were committed to can be opened.
     ghost kept_asks: { (pcs : Self) (requests : List (OpeningRequest Self.ProverData Challenge))

@@ -1,6 +1,6 @@
-//! Tests of fields, points, domains, the transform, values off a domain, periodic columns and folds
-//! that no case of `circle_cases` can tell: those over the quadratic extension, those beside a plain
-//! form, and those whose conditions take a proof.
+//! Tests of fields, points, domains, the transform, values off a domain, periodic columns, folds
+//! and words that no case of `circle_cases` can tell: those over the quadratic extension, those
+//! beside a plain form, and those whose conditions take a proof.
 #![tactic(auto)]
 
 #[cfg(test)]
@@ -12,6 +12,8 @@ mod fields;
 #[cfg(test)]
 mod folding;
 #[cfg(test)]
+mod groups;
+#[cfg(test)]
 mod off_domain;
 #[cfg(test)]
 mod periodic;
@@ -21,3 +23,5 @@ mod points;
 mod selectors;
 #[cfg(test)]
 mod transform;
+#[cfg(test)]
+mod words;

@@ -13,7 +13,7 @@ pub(crate) fn element(value: u64) -> Mersenne31 {
 }
 
 // The polynomial with these coefficients.
-fn cubic(c0: u64, c1: u64, c2: u64) -> Cubic {
+pub(crate) fn cubic(c0: u64, c1: u64, c2: u64) -> Cubic {
     Cubic::from_coefficients(&[element(c0), element(c1), element(c2)])
 }
 

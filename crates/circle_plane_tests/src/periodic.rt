@@ -45,8 +45,8 @@ fn four_at_point<F: ComplexExtendable, EF: ExtensionField<F>>(
     CirclePeriodicEvaluator::eval_at_point(alloc, columns, &CircleDomain::standard(4), t)
 }
 
-// Asserts that a column of 10, 20, 30, 40 has the value at a point of the only polynomial with these
-// values.
+// Asserts that a column of 10, 20, 30, 40 has the value at a point of the only polynomial with
+// these values.
 fn assert_at_point(
     rt: &impl Abort,
     alloc: Global,

@@ -10,10 +10,10 @@ pub(crate) type Domain = CircleDomain<Mersenne31>;
 
 pub(crate) type Rows = RowMajorMatrix<Mersenne31>;
 
-type Evaluations = CircleEvaluations<Mersenne31, Rows>;
+pub(crate) type Evaluations = CircleEvaluations<Mersenne31, Rows>;
 
 // A matrix of `height * width` entries without a pattern.
-fn scattered(
+pub(crate) fn scattered(
     rt: &impl Abort,
     alloc: Global,
     height: usize,
@@ -92,7 +92,11 @@ pub(crate) fn interpolate(
 }
 
 // Asserts that the rows of both are the same.
-fn assert_same<L: Matrix<Mersenne31>, R: Matrix<Mersenne31>>(rt: &impl Abort, left: &L, right: &R) {
+pub(crate) fn assert_same<L: Matrix<Mersenne31>, R: Matrix<Mersenne31>>(
+    rt: &impl Abort,
+    left: &L,
+    right: &R,
+) {
     assert!(rt; left.height() == right.height() && left.width() == right.width());
     for r in 0..left.height() {
         assert!(rt; left.row(r) == right.row(r));

@@ -3,8 +3,8 @@
 --
 -- Four words are needed to trust an Ok: `Accepts`, at the end of this page, whose parts (a) to (h)
 -- but (d) stand above it; `Statement`, beside this page, which says what claims and a proof are;
--- `draw` of `circle_transcript`, which says what a transcript draws of them; and `AcceptsFrom`, below
--- `Accepts`, which joins the two: what is drawn from a challenger's state (d) is accepted.
+-- `draw` of `circle_transcript`, which says what a transcript draws of them; and `AcceptsFrom`,
+-- below `Accepts`, which joins the two: what is drawn from a challenger's state (d) is accepted.
 use Rattle.std.specs.Prelude.{◌≡◌, ◌≢◌, ℕ, ◌+◌, ◌-◌, ◌/◌, ◌^◌, ◌<◌, ◌≤◌, Bool, ◌==◌}
 use Rattle.std.specs.Prelude.{if◌then◌else◌, List, [], ◌∷◌, length, map, zip, All}
 use Rattle.std.specs.Prelude.{slice_index_or, nat_lt, Ok}
@@ -96,8 +96,9 @@ module _ {F E M Com InputCom InputProof WordProof : Type 0} (k : Fields F E)
     abbrev pub first_value : ℕ → E
     first_value h =
         let lambda = slice_index_or r.proof.lambdas (place_of h) k.extension.zero in
+        let zero_at = vanishing k.field (h - params.log_blowup) (point_among h) in
         sub k.extension (reduced_at (point_among h) (claims_of h j))
-        (k.extension.mul lambda (k.embed (vanishing k.field (h - params.log_blowup) (point_among h))))
+        (k.extension.mul lambda (k.embed zero_at))
 
     -- its pair in the first layer, and the fold of that pair
     abbrev pub first_pair : ℕ → List E
@@ -271,8 +272,8 @@ module _ {F E M Com InputCom InputProof WordProof : Type 0} (k : Fields F E)
     pub rounds_authenticate : RoundsAuthenticate words
     pub chains : ChainsEnd
 
-  -- the run is accepted: all parts but (d), that the transcript draws these challenges of the claims
-  -- and the proof, which `AcceptsFrom` adds
+  -- the run is accepted: all parts but (d), that the transcript draws these challenges of the
+  -- claims and the proof, which `AcceptsFrom` adds
   pub record Accepts (inputs : Authenticates InputCom F InputProof)
       (words : Authenticates Com E WordProof) : Type 0 where
     pub fit : IsFit

@@ -165,7 +165,8 @@ where
     ensures failure { let taken = taken_of claims.now messages.now witnesses.now in IfErr result
         (IsMemoryOr (Misses ⟦<C as RunChallenger<F, EF, Com>>⟧.run shape taken challenger.old)) }
 {
-    let mut transcript = CircleVerifierTranscript::<C, F, EF>::new(alloc, challenger, shape)?;
+    let seeded = CircleVerifierTranscript::<C, F, EF>::seeded(alloc, challenger, shape)?;
+    let mut transcript = CircleVerifierTranscript::<C, F, EF>::of_seeded(challenger, seeded);
     match checking_run(alloc, &mut transcript, claims, messages, witnesses) {
         Ok(draws) => {
             transcript.finish();
@@ -317,7 +318,8 @@ where
     ensures failure { let m = ⟦<C as RunChallenger<F, EF, Com>>⟧.run in IfErr result
         (IsMemoryOr (FindsNone m shape claims.now messages.now challenger.old)) }
 {
-    let mut transcript = CircleProverTranscript::<C, F, EF>::new(alloc, challenger, shape)?;
+    let seeded = CircleProverTranscript::<C, F, EF>::seeded(alloc, challenger, shape)?;
+    let mut transcript = CircleProverTranscript::<C, F, EF>::of_seeded(challenger, seeded);
     match grinding_run(alloc, &mut transcript, claims, messages) {
         Ok(draws) => {
             transcript.finish();

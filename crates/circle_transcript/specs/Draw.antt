@@ -1,5 +1,5 @@
 -- What a run draws, as functions of the challenger's state.
-use Rattle.std.specs.Prelude.{ℕ, Bool, true, ◌&&◌, if◌then◌else◌, List, [], ◌∷◌, length, map}
+use Rattle.std.specs.Prelude.{◌≡◌, ℕ, Bool, Some, true, ◌&&◌, if◌then◌else◌, List, [], ◌∷◌, length, map}
 use Rattle.std.specs.Prelude.{flat_map, Result, Ok, Err}
 use Rattle.circle_field.specs.Circle.{Coordinates}
 use Rattle.circle_matrix.specs.declared.params.PowPhase.{PowPhase}
@@ -7,7 +7,7 @@ use Rattle.circle_matrix.specs.declared.params.PowPhase.TheVariants.{Batch, Comm
 use Rattle.circle_challenger.specs.Observing.{after_all}
 use Rattle.circle_challenger.specs.Moves.{Moves, RunMoves, after_bytes, after_elements}
 use Rattle.circle_challenger.specs.Moves.{drawn_element, after_element, drawn_numbers}
-use Rattle.circle_challenger.specs.Moves.{after_numbers, is_passed, after_pow}
+use Rattle.circle_challenger.specs.Moves.{after_numbers, is_passed, after_pow, found_at}
 use Rattle.circle_transcript.specs.declared.transcript.Numbers.{Numbers}
 use Rattle.circle_transcript.specs.Shape.{Shape, text_of}
 use Rattle.circle_transcript.specs.Numbers.{numbers_of}
@@ -106,6 +106,13 @@ module _ {C S F E Com : Type 0} (r : RunMoves C S F E Com) where
   rounds_pass bits s (round ∷ rounds) =
       is_passed r.base (r.after_commitment s round.0) bits round.1
       && rounds_pass bits (after_round bits s round) rounds
+
+  -- each round's witness is the one that a search in its state finds
+  abbrev pub AreFound : ℕ → S → List (Com × F) → Type 0
+  AreFound bits s [] = Unit {0}
+  AreFound bits s (round ∷ rounds) =
+      (found_at r.base (r.after_commitment s round.0) bits ≡ Some round.1)
+      × AreFound bits (after_round bits s round) rounds
 
   module _ (n : Numbers) (taken : Taken F E Com) (s : S) where
     -- from the state after the seed, the claims and their witness

@@ -1,8 +1,8 @@
 -- What contracts see of a transcript of the scheme.
-use Rattle.std.specs.Prelude.{◌≡◌, ℕ, Bool, List, length, zip}
+use Rattle.std.specs.Prelude.{◌≡◌, ℕ, Bool, List, Option, length, zip}
 use Rattle.std.specs.Borrow.{Bor, MutBor}
 use Rattle.circle_challenger.specs.Moves.{Moves, RunMoves, is_passed, after_pow, drawn_element}
-use Rattle.circle_challenger.specs.Moves.{after_element}
+use Rattle.circle_challenger.specs.Moves.{after_element, found_at}
 use Rattle.circle_challenger.specs.Step.{Step}
 use Rattle.circle_matrix.specs.declared.params.PowPhase.{PowPhase}
 use Rattle.circle_point.specs.declared.point.Point.{Point}
@@ -54,7 +54,8 @@ module _ {C F EF S : Type 0} where
       (length commitments)
 
 -- the phases as functions of a transcript that is about to play them: the steps, the state in which
--- the witness is checked, whether it passes, what is drawn then, and the state after it
+-- the witness is checked, whether it passes, the one that a search finds, what is drawn then, and the
+-- state after it
 module _ {C S F EF Side : Type 0} {g : _} (m : Moves C S F EF) (t : CircleTranscript C F EF Side)
     (claims : List (Point EF g × Bor (List EF))) where
   abbrev pub steps_of_batch : List Step
@@ -65,6 +66,9 @@ module _ {C S F EF Side : Type 0} {g : _} (m : Moves C S F EF) (t : CircleTransc
 
   abbrev pub batch_passes : F → Bool
   batch_passes w = is_passed m at_batch_pow t.shape.batch_pow_bits w
+
+  abbrev pub batch_found : Option F
+  batch_found = found_at m at_batch_pow t.shape.batch_pow_bits
 
   abbrev pub batch_challenge : F → List F
   batch_challenge w = drawn_element m (after_pow m at_batch_pow t.shape.batch_pow_bits w)
@@ -87,6 +91,9 @@ module _ {C S F EF Com Side : Type 0} (r : RunMoves C S F EF Com) (t : CircleTra
   -- a round
   abbrev pub commit_passes : F → Bool
   commit_passes w = is_passed r.base at_commitment t.shape.commit_pow_bits w
+
+  abbrev pub commit_found : Option F
+  commit_found = found_at r.base at_commitment t.shape.commit_pow_bits
 
   abbrev pub commit_challenge : F → List F
   commit_challenge w = drawn_element r.base (after_pow r.base at_commitment
@@ -117,6 +124,9 @@ module _ {C S F EF Side : Type 0} (m : Moves C S F EF) (t : CircleTranscript C F
 
   abbrev pub query_passes : F → Bool
   query_passes w = is_passed m at_query_pow t.shape.query_pow_bits w
+
+  abbrev pub query_found : Option F
+  query_found = found_at m at_query_pow t.shape.query_pow_bits
 
   abbrev pub query_indices : F → List ℕ
   query_indices w = drawn_indices m t.shape (after_pow m at_query_pow t.shape.query_pow_bits w)

@@ -27,5 +27,5 @@ pub mod transcript;
 pub use failure::CircleTranscriptFailure;
 pub use shape::CirclePcsShape;
 pub use transcript::{
-    CircleProverTranscript, CircleTranscript, CircleVerifierTranscript, OpeningClaim,
+    CircleProverTranscript, CircleTranscript, CircleVerifierTranscript, OpeningClaim, Seeded,
 };

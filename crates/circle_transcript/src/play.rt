@@ -12,7 +12,8 @@ ghost use Rattle.circle_matrix.specs.declared.params.PowPhase.TheVariants.{Query
 ghost use Rattle.circle_point.specs.Point.{coordinates};
 ghost use Rattle.circle_transcript.specs.Draw.{claim, widths_of, after_claims};
 ghost use Rattle.circle_transcript.specs.Claims.{claims_of};
-ghost use Rattle.circle_transcript.specs.Play.{state_of, witness_passes, after_witness};
+ghost use Rattle.circle_transcript.specs.Play.{state_of, witness_passes, witness_found};
+ghost use Rattle.circle_transcript.specs.Play.{after_witness};
 ghost use Rattle.circle_transcript.specs.Play.{guarded_challenge, after_guarded_challenge};
 ghost use Rattle.circle_transcript.specs.Play.{guarded_numbers, after_guarded_numbers};
 ghost use Rattle.circle_transcript.specs.Shape.{claim_steps, final_poly_step, pow_steps};
@@ -112,6 +113,8 @@ where
     ensures due { OnOk result (HasPlayed (pow_steps label.now bits) (due transcript.old)
         (due transcript.new)) }
     ensures needed { IfOk result (λ w. IsNone w ↔ (bits ≡ 0)) }
+    ensures found { let m = ⟦<C as FieldChallenger<F, F>>⟧.moves in IfOk result (λ w.
+        witness_found m transcript.old bits ≡ Some (or_zero m w)) }
     ensures passes { let m = ⟦<C as FieldChallenger<F, F>>⟧.moves in IfOk result (λ w.
         IsTrue (witness_passes m transcript.old bits (or_zero m w))) }
     ensures state { let m = ⟦<C as FieldChallenger<F, F>>⟧.moves in IfOk result (λ w.
@@ -185,6 +188,8 @@ where
     ensures due { let steps = guarded_challenge_steps EF.DEGREE pow_label.now bits label.now in
         OnOk result (HasPlayed steps (due transcript.old) (due transcript.new)) }
     ensures needed { IfOk result (λ r. IsNone r.1 ↔ (bits ≡ 0)) }
+    ensures found { let m = ⟦<C as FieldChallenger<F, EF>>⟧.moves in IfOk result (λ r.
+        witness_found m transcript.old bits ≡ Some (or_zero m r.1)) }
     ensures passes { let m = ⟦<C as FieldChallenger<F, EF>>⟧.moves in IfOk result (λ r.
         IsTrue (witness_passes m transcript.old bits (or_zero m r.1))) }
     ensures challenge { let m = ⟦<C as FieldChallenger<F, EF>>⟧.moves in IfOk result (λ r.
@@ -254,6 +259,8 @@ where
     ensures due { OnOk result (HasPlayed (guarded_numbers_steps QUERY_POW.now bits
         QUERY_INDICES.now width count) (due transcript.old) (due transcript.new)) }
     ensures needed { IfOk result (λ r. IsNone r.1 ↔ (bits ≡ 0)) }
+    ensures found { let m = ⟦<C as FieldChallenger<F, F>>⟧.moves in IfOk result (λ r.
+        witness_found m transcript.old bits ≡ Some (or_zero m r.1)) }
     ensures passes { let m = ⟦<C as FieldChallenger<F, F>>⟧.moves in IfOk result (λ r.
         IsTrue (witness_passes m transcript.old bits (or_zero m r.1))) }
     ensures indices { let m = ⟦<C as FieldChallenger<F, F>>⟧.moves in IfOk result (λ r.

@@ -1,6 +1,6 @@
 //! Both sides of a transcript.
 ghost use Rattle.std.specs.Prelude.{◌≡◌, ◌<◌, ◌≤◌, ◌^◌, ◌↔◌, ◌⊎◌, [], length, map, IsTrue, false};
-ghost use Rattle.std.specs.Prelude.{IsNone, IfOk, IfErr, OnOk, OnErr, Err, All};
+ghost use Rattle.std.specs.Prelude.{IsNone, IfOk, IfErr, OnOk, OnErr, Err, Some, All};
 ghost use Rattle.std.specs.Borrow.{sem, RestsIfErr};
 ghost use Rattle.circle_field.specs.Field.{of_nat};
 ghost use Rattle.circle_challenger.specs.Due.{AreNext, HasPlayed};
@@ -13,7 +13,8 @@ ghost use Rattle.circle_transcript.specs.ShapeOf.{shape_of};
 ghost use Rattle.circle_transcript.specs.Numbers.{numbers_of, indices_steps};
 ghost use Rattle.circle_transcript.specs.Transcript.{current, due, IsSame, Borrows, no_witness};
 ghost use Rattle.circle_transcript.specs.Transcript.{bad_witness, steps_of_batch, at_batch_pow};
-ghost use Rattle.circle_transcript.specs.Transcript.{batch_passes, batch_challenge, after_batch};
+ghost use Rattle.circle_transcript.specs.Transcript.{batch_passes, batch_found, batch_challenge};
+ghost use Rattle.circle_transcript.specs.Transcript.{after_batch, commit_found, query_found};
 ghost use Rattle.circle_transcript.specs.Transcript.{at_commitment, first_layer_challenge};
 ghost use Rattle.circle_transcript.specs.Transcript.{after_first_layer, commit_passes};
 ghost use Rattle.circle_transcript.specs.Transcript.{commit_challenge, after_commit, at_query_pow};
@@ -50,8 +51,9 @@ struct Numbers {
     log_final_poly_len: usize,
 }
 
-/// What a run begins with: the steps that are due, and the numbers that its calls read.
-struct Seeded {
+/// What a run begins with once its challenger is seeded: the steps that are due, and the numbers
+/// that its calls read.
+pub struct Seeded {
     due: StepsDue,
     shape: Numbers,
 }
@@ -107,8 +109,9 @@ impl<
         }
     }
 
-    /// The transcript of a challenger that was seeded.
-    fn of_seeded(challenger: &'a mut C, seeded: Seeded) -> Self
+    /// The transcript of a challenger that was [`seeded`](CircleTranscript::seeded) with this run:
+    /// the second half of `new`.
+    pub fn of_seeded(challenger: &'a mut C, seeded: Seeded) -> Self
         ensures same_reference { Borrows result challenger.entry }
         ensures same { current result ≡ challenger.old }
         ensures due { due result ≡ seeded.due.steps }
@@ -124,10 +127,11 @@ impl<
     }
 
     /// Seeds a challenger with the text of a run of this shape, and answers what the run begins
-    /// with. Where memory is refused the challenger is left as it was.
+    /// with. Where memory is refused the challenger is left as it was. The first half of `new`,
+    /// for callers that borrow the challenger again where it fails.
     ///
     /// Asks `log_final_poly_len <= 63`.
-    fn seeded(
+    pub fn seeded(
         alloc: Global,
         challenger: &mut C,
         shape: CirclePcsShape,
@@ -221,6 +225,8 @@ impl<'a, F: Field, EF: ExtensionField<F>, C: CanSample<F> + GrindingChallenger<F
         ensures due { let m = ⟦<C as FieldChallenger<F, EF>>⟧.moves in OnOk result
             (HasPlayed (steps_of_batch m self.old claims.now) (due self.old) (due self.new)) }
         ensures needed { IfOk result (λ r. IsNone r.1 ↔ (self.old.shape.batch_pow_bits ≡ 0)) }
+        ensures found { let m = ⟦<C as FieldChallenger<F, EF>>⟧.moves in IfOk result (λ r.
+            batch_found m self.old claims.now ≡ Some (or_zero m r.1)) }
         ensures passes { let m = ⟦<C as FieldChallenger<F, EF>>⟧.moves in IfOk result (λ r.
             IsTrue (batch_passes m self.old claims.now (or_zero m r.1))) }
         ensures challenge { let m = ⟦<C as FieldChallenger<F, EF>>⟧.moves in IfOk result (λ r.
@@ -264,6 +270,8 @@ impl<'a, F: Field, EF: ExtensionField<F>, C: CanSample<F> + GrindingChallenger<F
         ensures due { OnOk result (HasPlayed (round_steps EF.DEGREE self.old.shape.commit_pow_bits)
             (due self.old) (due self.new)) }
         ensures needed { IfOk result (λ r. IsNone r.1 ↔ (self.old.shape.commit_pow_bits ≡ 0)) }
+        ensures found { let m = ⟦<C as RunChallenger<F, EF, Com>>⟧.run in IfOk result (λ r.
+            commit_found m self.old commitment.now ≡ Some (or_zero m.base r.1)) }
         ensures passes { let m = ⟦<C as RunChallenger<F, EF, Com>>⟧.run in IfOk result (λ r.
             IsTrue (commit_passes m self.old commitment.now (or_zero m.base r.1))) }
         ensures challenge { let m = ⟦<C as RunChallenger<F, EF, Com>>⟧.run in IfOk result (λ r.
@@ -309,6 +317,8 @@ impl<'a, F: Field, EF: ExtensionField<F>, C: CanSample<F> + GrindingChallenger<F
         ensures due { OnOk result (HasPlayed (indices_steps EF.DEGREE self.old.shape) (due self.old)
             (due self.new)) }
         ensures needed { IfOk result (λ r. IsNone r.1 ↔ (self.old.shape.query_pow_bits ≡ 0)) }
+        ensures found { let m = ⟦<C as FieldChallenger<F, EF>>⟧.moves in IfOk result (λ r.
+            query_found m self.old final_poly.now ≡ Some (or_zero m r.1)) }
         ensures passes { let m = ⟦<C as FieldChallenger<F, EF>>⟧.moves in IfOk result (λ r.
             IsTrue (query_passes m self.old final_poly.now (or_zero m r.1))) }
         ensures indices { let m = ⟦<C as FieldChallenger<F, EF>>⟧.moves in IfOk result (λ r.

@@ -1,12 +1,26 @@
 //! Tests of the crate. What is expected of SHA-256 and of texts was computed apart from this code.
+ghost use Rattle.std.specs.Prelude.{◌≡◌, [], ◌∷◌, map};
+ghost use Rattle.circle_field.specs.Field.{of_nat};
+ghost use Rattle.circle_challenger.specs.Played.{opaque_message};
+ghost use Rattle.circle_challenger.specs.Observing.{after_all};
+ghost use Rattle.circle_challenger.specs.Separator.{seed_text};
 
 use circle_challenger::{
-    CanObserve, CanSample, CanSampleBits, GrindingChallenger, Sha256Challenger,
+    CanObserve, CanSample, CanSampleBits, DomainSeparator, GrindingChallenger, Hierarchy,
+    Interaction, InteractionPattern, Kind, Length, ProverState, Sha256Challenger,
 };
-use circle_field::{ExtensionField, Field, Mersenne31};
+use circle_field::{Cubic, ExtensionField, Field, Mersenne31};
+use std::test::Fail;
+
+mod runs;
+mod wrapped;
 
 fn element(n: u64) -> Mersenne31 {
     Mersenne31::from_u64(n)
+}
+
+fn cubic(a: u64, b: u64, c: u64) -> Cubic {
+    Cubic::from_coefficients(&[element(a), element(b), element(c)])
 }
 
 /// The first element that is drawn after these elements are taken in.
@@ -88,4 +102,86 @@ fn grinding_and_a_miss_change_the_state(rt: HostRuntime) {
     assert!(rt; !challenger.check_witness(8, Mersenne31::ZERO));
     let after_miss: Mersenne31 = challenger.sample();
     assert_eq!(rt; after_miss, element(862777544));
+}
+
+#[test]
+fn both_sides_draw_alike(rt: HostRuntime) -> Result<(), Fail> {
+    let alloc = rt.alloc();
+    let mut prover = Sha256Challenger::new();
+    let proved = runs::prove(alloc, &mut prover)?.ok_or("no witness")?;
+    assert_eq!(rt; proved.witness, element(4));
+    assert_eq!(rt; proved.alpha, cubic(435491986, 1509700079, 614995509));
+    assert_eq!(rt; proved.indices.as_slice(), [3, 1].as_slice());
+
+    let mut verifier = Sha256Challenger::new();
+    let verified = runs::verify(alloc, &mut verifier, proved.witness)?.ok_or("a miss")?;
+    assert_eq!(rt; verified.alpha, proved.alpha);
+    assert_eq!(rt; verified.indices.as_slice(), proved.indices.as_slice());
+    assert_eq!(rt; verifier, prover);
+    let next: Mersenne31 = verifier.sample();
+    assert_eq!(rt; next, element(2031691190));
+
+    let mut verifier = Sha256Challenger::new();
+    assert!(rt; runs::verify(alloc, &mut verifier, Mersenne31::ZERO)?.is_none());
+    Ok(())
+}
+
+/// A transcript of one message, at any challenger.
+fn one_message<F: Field, C: CanSample<F> + GrindingChallenger<F>, Com>(
+    challenger: &mut C,
+    separator: &DomainSeparator,
+    label: &str,
+    value: &Com,
+)
+where
+    C: CanObserve<Com>,
+    requires { separator.now.steps ≡ opaque_message label.now ∷ [] }
+    ensures { C.state challenger.new ≡ ⟦<C as CanObserve<Com>>⟧.after_observe
+        (after_all ⟦<C as CanObserve<F>>⟧.after_observe (C.state challenger.old)
+        (map (of_nat F.ops) (seed_text separator.now))) value.now }
+{
+    let mut transcript = ProverState::<C, F>::new(challenger, separator);
+    transcript.observe_opaque(label, value);
+    transcript.finish();
+}
+
+#[test]
+fn a_value_is_taken_in_as_it_is(rt: HostRuntime) -> Result<(), Fail> {
+    let alloc = rt.alloc();
+    let label = "message";
+    let steps = vec![in alloc;
+        Interaction::opaque(Hierarchy::Atomic, Kind::Message, label, Length::Scalar),
+    ]?;
+    let separator = DomainSeparator::new(alloc, 1, "one", InteractionPattern::new(steps))?;
+    let mut challenger = Sha256Challenger::new();
+    one_message::<Mersenne31, Sha256Challenger, [u8; 32]>(
+        &mut challenger,
+        &separator,
+        label,
+        &[7; 32],
+    );
+    let next: Mersenne31 = challenger.sample();
+    assert_eq!(rt; next, element(478777721));
+    Ok(())
+}
+
+#[test]
+fn a_transcript_goes_on_after_a_pause(rt: HostRuntime) -> Result<(), Fail> {
+    let alloc = rt.alloc();
+    let label = "draw";
+    let steps = vec![in alloc;
+        Interaction::algebra(Hierarchy::Atomic, Kind::Challenge, label, 3, Length::Scalar),
+    ]?;
+    let separator = DomainSeparator::new(alloc, 1, "one", InteractionPattern::new(steps))?;
+    let mut challenger = Sha256Challenger::new();
+    let (value, drawn) = wrapped::one_draw::<Cubic, Mersenne31, Sha256Challenger>(
+        &mut challenger,
+        &separator,
+        label,
+    );
+    assert_eq!(rt; value, cubic(1668035039, 2137457899, 218258125));
+    assert_eq!(rt; drawn, 1);
+    let next: Mersenne31 = challenger.sample();
+    assert_eq!(rt; next, element(2047373211));
+    Ok(())
 }

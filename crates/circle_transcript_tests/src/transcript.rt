@@ -17,6 +17,7 @@ use std::process::Abort;
 use std::test::Fail;
 
 mod runs;
+mod seeds;
 
 /// The difficulties of a run's proofs of work.
 #[derive(Clone, Copy)]

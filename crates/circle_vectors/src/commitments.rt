@@ -3,6 +3,7 @@ use circle_commit::{
     Dimensions, Mmcs, OpenedRows, RowMajorMatrix, are_below, heights_are_powers_of_two,
 };
 use circle_field::{Field, Mersenne31};
+use circle_fixtures::matrix_list::MatrixList;
 use circle_fixtures::schemes::{ListMmcs, TrustingMmcs};
 use circle_merkle::ShaMmcs;
 use std::alloc::{AllocError, Global};
@@ -144,5 +145,19 @@ fn honest_schemes_refuse_each_change(rt: HostRuntime) -> Result<(), Fail> {
 #[test]
 fn the_trusting_scheme_refuses_none(rt: HostRuntime) -> Result<(), Fail> {
     assert_eq!(rt; refused(rt.alloc(), &TrustingMmcs)?, 0);
+    Ok(())
+}
+
+// Beside the column of eight rows one of three, which no commitment takes.
+#[test]
+fn data_of_other_heights(rt: HostRuntime) -> Result<(), Fail> {
+    let mut matrices = column(rt.alloc())?;
+    let entries: Vec<Mersenne31> = (0u64..3).map(Mersenne31::from_u64).collect(rt.alloc())?;
+    matrices.push(RowMajorMatrix::new_col(entries))?;
+    let data = MatrixList::new(matrices);
+    let indices = [7usize, 2];
+    assert!(rt; are_below(&indices, ListMmcs.get_max_height(&data)));
+    let (rows, _) = ListMmcs.open_multi_batch(rt.alloc(), &indices, &data)?;
+    assert_eq!(rt; rows.len(), 2);
     Ok(())
 }

@@ -289,6 +289,12 @@ const TOO_LOW: [&[u64]; 2] = [&[7; 32], &[1, 0, 0, 0, 0, 0, 0, 0]];
 fn matrices_as_they_are(rt: HostRuntime) -> Result<(), Fail> {
     let alloc = rt.alloc();
     let one = scheme(1, 0);
+    let nothing = commit_ldes(&rt, alloc, &one, Vec::new(alloc)).err();
+    assert_eq!(&rt; nothing, Some(ProverError::NoCommittedMatrices));
+    assert_eq!(&rt;
+        quotient_ldes(&rt, alloc, &one, Vec::new(alloc), 1)?.len(),
+        0
+    );
     assert_too_low(&rt, alloc, &one, &[&[1, 0, 0, 0]])?;
     let (_, data) = commit_ldes(&rt, alloc, &one, columns(alloc, &AS_THEY_ARE)?)?;
     let matrices = one.mmcs.get_matrices(&data);

@@ -19,7 +19,8 @@ use Rattle.circle_relation.specs.declared.run.QueriedWord.{QueriedWord}
 use Rattle.circle_relation.specs.Accepts.{Fields, Run, Authenticates, FirstLayerAuthenticates, at_queries, matrices, top, is_claimed, place_of, first_value, first_pair}
 use Rattle.circle_relation.specs.Statement.{log_height}
 use Rattle.circle_relation.specs.RunOf.{run_of, heights_of, reduced_words, first_pairs, folded_words, queried, IsDrawn, IsOpened}
-use Rattle.circle_verifier.specs.FirstLayer.{reduced_word, pairs_of, folded_word, with_pairs, pair_shape}
+use Rattle.circle_verifier.specs.FirstLayer.{pairs_of, folded_word, with_pairs, pair_shape}
+use Rattle.circle_verifier.specs.Sums.{word_at}
 use Rattle.circle_verifier.proofs.FirstLayerPlaces.{kept, place-counts, any-least}
 use Rattle.circle_verifier.proofs.FirstLayerWords.{take-push, take-push-map, word-there, rows-pushed, sibling_at, at-each, length-at, first-values, siblings-at, pairs-at, folded-at}
 
@@ -114,19 +115,19 @@ module _ {F E I W IC ID IP IE WC WD WP WE : Type 0} {g : _} {k : Fields F E}
   counted xs f are = ap length are ∙ length-at k o.params.now r f
 
   -- its points
-  pub points-of : (ps : List (Coordinates F)) → ps ≡ (reduced_word k o h).1.0 → ps ≡ map (query_point k.field k.gen h o.log_max_height) o.indices.now
+  pub points-of : (ps : List (Coordinates F)) → ps ≡ (word_at k o h).1.0 → ps ≡ map (query_point k.field k.gen h o.log_max_height) o.indices.now
   points-of ps are =
       are ∙ sym (at-each k o.params.now r (query_point k.field k.gen h (top k o.params.now r)))
       ∙ ap (λ high. map (query_point k.field k.gen h high) o.indices.now) (sym w.drawn.top)
 
   -- its values, less lambda times the vanishing polynomial
   pub values-made : {word : ℕ × (List (Coordinates F) × List E)} {ps : List (Coordinates F)} {old new : List E} {lambda : E} →
-      word ≡ reduced_word k o h → ps ≡ word.1.0 → old ≡ word.1.1 → lambda ≡ slice_index_or o.proof.now.lambdas.items place lambda →
+      word ≡ word_at k o h → ps ≡ word.1.0 → old ≡ word.1.1 → lambda ≡ slice_index_or o.proof.now.lambdas.items place lambda →
       new ≡ pairwise (λ v p. sub k.extension v (k.extension.mul lambda (k.embed (vanishing k.field (h - o.params.now.log_blowup) p)))) old ps →
       new ≡ values_of k o h
   values-made {ps = ps} {lambda = lambda} is are were read made =
       let less = λ (t : E) (v : E) (p : Coordinates F). sub k.extension v (k.extension.mul t (k.embed (vanishing k.field (h - o.params.now.log_blowup) p))) in
-      let word = reduced_word k o h in
+      let word = word_at k o h in
       made ∙ ap (λ xs. pairwise (less lambda) xs ps) (were ∙ ap (λ p. p.1.1) is)
       ∙ ap (pairwise (less lambda) word.1.1) (are ∙ ap (λ p. p.1.0) is)
       ∙ ap (λ t. pairwise (less t) word.1.1 word.1.0) (read ∙ get_or_default o.proof.now.lambdas.items place lambda k.extension.zero lambda-there)
@@ -167,9 +168,9 @@ module _ {F E I W IC ID IP IE WC WD WP WE : Type 0} {g : _} {k : Fields F E}
     {o : OpenedRun F E I W IC ID IP IE WC WD WP WE g} {f : _} {words : List (QueriedWord F E f)} (a : AreReduced k o words) where
   -- the word at a place is that of a height that is claimed
   pub word-of : (n : ℕ) (word : QueriedWord F E f) → n < length words → word ≡ slice_index_or words n word →
-      IsClaimed k o n word.log_height × (queried word ≡ reduced_word k o word.log_height)
+      IsClaimed k o n word.log_height × (queried word ≡ word_at k o word.log_height)
   word-of n word lt read =
-      let t = word-there (reduced_word k o) (heights_of k o) (map queried words) n (queried word) (λ h. refl) a.reduced (omega (arith, lt, length-map words queried))
+      let t = word-there (word_at k o) (heights_of k o) (map queried words) n (queried word) (λ h. refl) a.reduced (omega (arith, lt, length-map words queried))
       (ap queried read ∙ sym (get_or-map queried words n word (queried word) lt)) in
       (record { drawn = a.drawn; opened = a.opened; at = t.0 }, t.1)
 
@@ -185,7 +186,7 @@ module _ {F E I W IC ID IP IE WC WD WP WE : Type 0} {g : _} {k : Fields F E}
 
   -- all words
   all-heights : (n : ℕ) → n ≡ length words → length (heights_of k o) ≡ n
-  all-heights n all = sym (all ∙ sym (length-map words queried) ∙ ap length a.reduced ∙ length-map (heights_of k o) (reduced_word k o))
+  all-heights n all = sym (all ∙ sym (length-map words queried) ∙ ap length a.reduced ∙ length-map (heights_of k o) (word_at k o))
 
   pub pairs-all : (rows : List (List (List E))) (n : ℕ) → n ≡ length words → rows ≡ pairs_up_to k o n → rows ≡ first_pairs k o
   pairs-all rows n all are =

@@ -1,25 +1,13 @@
--- Of one height that is claimed: the word of the queries, their pairs, and what these fold into.
+-- Of one height that is claimed: the queries' pairs, and what these fold into.
 use Rattle.std.specs.Prelude.{ℕ, ◌-◌, ◌^◌, List, [], ◌∷◌, ◌++◌}
-use Rattle.circle_field.specs.Circle.{Coordinates}
 use Rattle.circle_matrix.specs.declared.matrix.Dimensions.{Dimensions}
 use Rattle.circle_matrix.specs.DotProduct.{pairwise}
 use Rattle.circle_relation.specs.declared.run.OpenedRun.{OpenedRun}
-use Rattle.circle_relation.specs.Accepts.{Fields, at_queries, point_among, reduced_at}
-use Rattle.circle_relation.specs.Accepts.{claims_of, first_pair, folded}
+use Rattle.circle_relation.specs.Accepts.{Fields, at_queries, first_pair, folded}
 use Rattle.circle_relation.specs.RunOf.{run_of}
 
 module _ {F E I W IC ID IP IE WC WD WP WE : Type 0} {g : _} (k : Fields F E)
     (o : OpenedRun F E I W IC ID IP IE WC WD WP WE g) (h : ℕ) where
-  abbrev pub reduced_word : ℕ × (List (Coordinates F) × List E)
-  reduced_word =
-      let r = run_of o in (
-        h,
-        (
-          at_queries k o.params.now r (λ j q. point_among k o.params.now r j q h),
-          at_queries k o.params.now r (λ j q. reduced_at k o.params.now r (point_among k o.params.now r j q h) (claims_of k o.params.now r h j)),
-        ),
-      )
-
   abbrev pub pairs_of : List (List E)
   pairs_of =
       let r = run_of o in

@@ -28,7 +28,8 @@ module _ {F E I W IC ID IP IE WC WD WP WE : Type 0} {g : _} (k : Fields F E)
       let r = run_of o in
       let beta = slice_index_or r.drawn.betas n k.extension.zero in
       let twiddle = λ (q : ℕ). k.embed (round_twiddle k.field k.gen (top k o.params.now r) n q) in
-      at_queries k o.params.now r (λ j q. fold_pair k.extension beta (twiddle q) (round_pair k o.params.now r j q n))
+      let pair = λ (j q : ℕ). round_pair k o.params.now r j q n in
+      at_queries k o.params.now r (λ j q. fold_pair k.extension beta (twiddle q) (pair j q))
 
   -- for each claimed height below 2^b the queries' values that join there
   abbrev pub words_below : ℕ → List (ℕ × List E)

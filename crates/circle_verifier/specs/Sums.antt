@@ -55,13 +55,11 @@ abbrev pub word_at : {F E I W IC ID IP IE WC WD WP WE : Type 0} {g : _} →
     Fields F E → OpenedRun F E I W IC ID IP IE WC WD WP WE g → ℕ
     → ℕ × (List (Coordinates F) × List E)
 word_at k o h =
-    let r = run_of o in (
-      h,
-      (
-        at_queries k o.params.now r (λ j q. point_among k o.params.now r j q h),
-        at_queries k o.params.now r (λ j q. reduced_at k o.params.now r (point_among k o.params.now r j q h) (claims_of k o.params.now r h j)),
-      ),
-    )
+    let p = o.params.now in
+    let r = run_of o in
+    let point = λ (j q : ℕ). point_among k p r j q h in
+    let sum = λ (j q : ℕ). reduced_at k p r (point j q) (claims_of k p r h j) in
+    (h, (at_queries k p r point, at_queries k p r sum))
 
 -- none of its points is claimed of a matrix of that height
 abbrev pub IsApartIn : {F E I W IC ID IP IE WC WD WP WE : Type 0} {g : _} →

@@ -5,7 +5,8 @@ ghost use Rattle.circle_matrix.specs.Mmcs.{opened_rows};
 ghost use Rattle.circle_relation.specs.RunOf.{IsDrawn, IsOpened, heights_of, queried, joining_of};
 ghost use Rattle.circle_relation.specs.RunOf.{reduced_words, first_pairs, folded_words};
 ghost use Rattle.circle_relation.specs.RunOf.{HasFirstLayerOf, Refuses};
-ghost use Rattle.circle_verifier.specs.FirstLayer.{reduced_word, pairs_of, folded_word, with_pairs};
+ghost use Rattle.circle_verifier.specs.FirstLayer.{pairs_of, folded_word, with_pairs};
+ghost use Rattle.circle_verifier.specs.Sums.{word_at};
 ghost use Rattle.circle_verifier.specs.FirstLayer.{pair_shape};
 
 use circle_field::{ComplexExtendable, ExtensionField};
@@ -114,7 +115,7 @@ fn fold_word<
     requires place { slice_get (heights_of ⟦<EF as OverCircle<Val>>⟧.fields run.now) place
         ≡ Some word.log_height }
     requires word { let k = ⟦<EF as OverCircle<Val>>⟧.fields in
-        queried word ≡ reduced_word k run.now word.log_height }
+        queried word ≡ word_at k run.now word.log_height }
     requires rows { length rows.old ≡ length run.now.indices.now }
     ensures pairs { let k = ⟦<EF as OverCircle<Val>>⟧.fields in OnOk result (opened_rows rows.new
         ≡ with_pairs (opened_rows rows.old) (pairs_of k run.now word.log_height)) }

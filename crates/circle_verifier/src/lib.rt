@@ -3,8 +3,8 @@
 //! Before the challenger is seeded, in `verifier`: `validate_run` answers the first refusal of
 //! claims and a proof that there is reason for, or the logarithm of the greatest height
 //! (`run_tests`). `validate_claims`, `validate_parameters`, `validate_proof_shape` and
-//! `validate_points` do so of parts of these tests (`batch_tests`, `parameter_tests`, `proof_tests`,
-//! `point_tests`), which `specs/Refusals` lists in order.
+//! `validate_points` do so of parts of these tests (`batch_tests`, `parameter_tests`,
+//! `proof_tests`, `point_tests`), which `specs/Refusals` lists in order.
 //!
 //! Once the challenges of a run are drawn, by the relation of `circle_relation`, for every lawful
 //! field, extension and schemes:

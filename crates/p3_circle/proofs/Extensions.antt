@@ -36,7 +36,7 @@ module _ {F : Type 0} {k : FieldOps F} (laws : FieldLaws k) {bits : ℕ} {gen : 
 
   module _ {g : _} (d : CircleDomain F g) (positive : 1 ≤ log_size d) (fits : log_size d ≤ bits) (width : ℕ) (coeffs given : List (List F)) where
     -- values in natural order are those in the transform's order, reordered, and the other way round
-    pub natural-values : length given ≡ 2 ^ log_size d → HasValues k gen (log_size d) (shift_of d) width coeffs (other_order (log_size d) given) → HaveNaturalValues k gen d width coeffs given
+    pub natural-values : length given ≡ 2 ^ log_size d → HasValues k gen (log_size d) (shift_of d) width coeffs (other_order (log_size d) given) → HaveNaturalValues k gen (log_size d) (shift_of d) width coeffs given
     natural-values long there =
         let n = log_size d in
         let s = shift_of d in
@@ -47,7 +47,7 @@ module _ {F : Type 0} {k : FieldOps F} (laws : FieldLaws k) {bits : ℕ} {gen : 
           values = sym (other_order-points laws.ring gens f n s positive (omega (arith, fits))) ∙ ap (other_order n) there.values ∙ other_order-twice n given long;
         }
 
-    pub cfft-values : HaveNaturalValues k gen d width coeffs given → HasValues k gen (log_size d) (shift_of d) width coeffs (other_order (log_size d) given)
+    pub cfft-values : HaveNaturalValues k gen (log_size d) (shift_of d) width coeffs given → HasValues k gen (log_size d) (shift_of d) width coeffs (other_order (log_size d) given)
     cfft-values there =
         let n = log_size d in
         let s = shift_of d in

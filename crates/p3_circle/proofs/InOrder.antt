@@ -3,7 +3,8 @@ use Rattle.std.proofs.Common.{◌≡◌, List, ◌∷◌, refl, sym, ap, subst}
 use Rattle.std.specs.Prelude.{Result, Ok, Err, MatchResult, IfErr, IsErrAnd, true}
 use Rattle.p3_circle.specs.Committing.{RefusesInOrder}
 use Rattle.p3_circle.specs.Requesting.{RefusesBefore}
-use Rattle.p3_circle.specs.Scheme.{IsFirst}
+use Rattle.p3_circle.specs.Scheme.{IsFirstFrom}
+use Rattle.p3_circle.proofs.Verdicts.{first-by}
 use Rattle.circle_verifier.specs.Refusals.{Test, answer}
 use Rattle.circle_opening.specs.declared.error.ProverError.{ProverError}
 use Rattle.circle_opening.specs.declared.error.ProverError.TheVariants.{Memory}
@@ -58,6 +59,5 @@ module _ {A : Type 0} (tests : List (Test ProverError)) (result : Result A Prove
   refuses-before old = subst (λ (a : Result (Unit {0}) ProverError). MatchResult a (λ passed. Unit {0}) (λ d. (result ≡ Err d) × (old ≡ old))) (sym first) (refused-is result e handed, refl)
 
   -- the refusal is the first one
-  pub is-first : (Otherwise : ProverError → Type 0) → IfErr result (IsFirst tests Otherwise)
-  is-first Otherwise = subst (λ (answered : Result A ProverError). IfErr answered (IsFirst tests Otherwise)) (sym (refused-is result e handed))
-      (subst (λ (a : Result (Unit {0}) ProverError). MatchResult a (λ passed. Otherwise e) (λ d. e ≡ d)) (sym first) refl)
+  pub is-first : {S : Type 0} (Otherwise : ProverError → Type 0) (s : S) → IfErr result (IsFirstFrom tests Otherwise s s)
+  is-first Otherwise s = subst (λ (answered : Result A ProverError). IfErr answered (IsFirstFrom tests Otherwise s s)) (sym (refused-is result e handed)) (first-by tests (Otherwise e) e s first)

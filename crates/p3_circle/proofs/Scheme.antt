@@ -4,7 +4,8 @@ use Rattle.std.proofs.Common.{sym, subst, refl}
 use Rattle.circle_matrix.specs.declared.error.FriError.{FriError}
 use Rattle.circle_matrix.specs.declared.error.FriError.TheVariants.{Memory}
 use Rattle.circle_opening.specs.declared.error.ProverError.{ProverError}
-use Rattle.p3_circle.specs.Scheme.{says_memory}
+use Rattle.circle_opening.specs.declared.error.ProverError.TheVariants.{Memory as OutOfMemory, NoGrindingWitness, UnfitParameters, HeightTooLarge, HeightTooSmall, NotGenuine, MatrixCountMismatch, NoCommittedMatrices, PointAtInfinity, PointOnDomain, LastWordNotConstant, DomainSmallerThanTrace}
+use Rattle.p3_circle.specs.Scheme.{says_memory, says_prover_memory}
 
 -- a refusal that is the first, or else of memory
 pub first-of : {A : Type 0} (a : Result (Unit {0}) ProverError) (r : Result A ProverError) (Q : ProverError → Type 0) →
@@ -23,3 +24,18 @@ memory-said (Err e) P h = λ left p. subst (λ e. IsTrue (says_memory e)) (sym (
 pub if_both : {A E : Type 0} (r : Result A E) (P Q R : A → Type 0) → ((x : A) → P x → Q x → R x) → IfOk r P → IfOk r Q → IfOk r R
 if_both (Ok x) P Q R f p q = f x p q
 if_both (Err e) P Q R f p q = tt
+
+-- a prover's refusal that says so is of memory
+pub prover-memory : (e : ProverError) → IsTrue (says_prover_memory e) → e ≡ OutOfMemory
+prover-memory OutOfMemory said = refl
+prover-memory (NoGrindingWitness phase) said = absurd (cc)
+prover-memory UnfitParameters said = absurd (cc)
+prover-memory HeightTooLarge said = absurd (cc)
+prover-memory HeightTooSmall said = absurd (cc)
+prover-memory NotGenuine said = absurd (cc)
+prover-memory MatrixCountMismatch said = absurd (cc)
+prover-memory NoCommittedMatrices said = absurd (cc)
+prover-memory PointAtInfinity said = absurd (cc)
+prover-memory PointOnDomain said = absurd (cc)
+prover-memory LastWordNotConstant said = absurd (cc)
+prover-memory DomainSmallerThanTrace said = absurd (cc)

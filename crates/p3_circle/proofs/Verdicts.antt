@@ -45,13 +45,13 @@ of-three (inl a) = inl a
 of-three (inr b) = inr (inl b)
 
 -- a refusal is the first by the tests, or where these refuse nothing by what follows them
-pub first-by : {E : Type 0} (ts : List (Test E)) (Later : Type 0) (e : E) → answer {A = Unit {0}} ts (tt {0}) ≡ Err e
-    → MatchResult (answer {A = Unit {0}} ts (tt {0})) (λ passed. Later) (λ first. e ≡ first)
-first-by {E = E} ts Later e is = subst (λ (a : Result (Unit {0}) E). MatchResult a (λ passed. Later) (λ first. e ≡ first)) (sym is) refl
+pub first-by : {S E : Type 0} (ts : List (Test E)) (Later : Type 0) (e : E) (s : S) → answer {A = Unit {0}} ts (tt {0}) ≡ Err e
+    → MatchResult (answer {A = Unit {0}} ts (tt {0})) (λ passed. Later) (λ first. (e ≡ first) × (s ≡ s))
+first-by {E = E} ts Later e s is = subst (λ (a : Result (Unit {0}) E). MatchResult a (λ passed. Later) (λ first. (e ≡ first) × (s ≡ s))) (sym is) (refl, refl)
 
-pub later-by : {E : Type 0} (ts : List (Test E)) (Later : Type 0) (e : E) → answer {A = Unit {0}} ts (tt {0}) ≡ Ok (tt {0}) → Later
-    → MatchResult (answer {A = Unit {0}} ts (tt {0})) (λ passed. Later) (λ first. e ≡ first)
-later-by {E = E} ts Later e is later = subst (λ (a : Result (Unit {0}) E). MatchResult a (λ passed. Later) (λ first. e ≡ first)) (sym is) later
+pub later-by : {S E : Type 0} (ts : List (Test E)) (Later : Type 0) (e : E) (s t : S) → answer {A = Unit {0}} ts (tt {0}) ≡ Ok (tt {0}) → Later
+    → MatchResult (answer {A = Unit {0}} ts (tt {0})) (λ passed. Later) (λ first. (e ≡ first) × (t ≡ s))
+later-by {E = E} ts Later e s t is later = subst (λ (a : Result (Unit {0}) E). MatchResult a (λ passed. Later) (λ first. (e ≡ first) × (t ≡ s))) (sym is) later
 
 module _ {F E I W IC ID IP IE WC WD WP WE : Type 0} {g : Ghosts F} (k : Fields F E) (two : ℕ) (p : FriParameters W)
     (claims : List (CommitmentOpening E IC (CircleDomain F g))) (proof : CirclePcsProof F E I W F IC ID IP IE WC WD WP WE) (eq : F → F → Bool) (null : F) (same : E → E → Bool) where

@@ -12,7 +12,7 @@ use Rattle.circle_matrix.specs.RowMajorMatrix.{rows, width_of, height_of}
 use Rattle.circle_matrix.specs.declared.matrix.RowMajorMatrix.{RowMajorMatrix}
 use Rattle.circle_matrix.specs.declared.params.FriParameters.{FriParameters}
 use Rattle.circle_domain.specs.Domain.{log_size, shift_of, IsStandardOf, IsGenuineDomain}
-use Rattle.circle_domain.specs.Order.{cfft_order}
+use Rattle.circle_domain.specs.Order.{cfft_order, natural_order}
 use Rattle.circle_domain.specs.Ordering.{other_order}
 use Rattle.circle_domain.specs.Values.{HasValues, values_at}
 use Rattle.circle_domain.specs.declared.domain.CircleDomain.{CircleDomain}
@@ -100,28 +100,35 @@ abbrev pub HaveRowsForPoints : {F : Type 0} {g : _} → List (CircleDomain F g �
     → Type 0
 HaveRowsForPoints evaluations = All (λ e. height_of e.1 ≡ 2 ^ log_size e.0) evaluations
 
-module _ {F : Type 0} {g : _} (k : FieldOps F) (gen : ℕ → Coordinates F) where
-  -- as many coefficients as the domain has points, a row for each index, whose polynomials' values
-  -- at the points in natural order are the rows
-  pub record HaveNaturalValues (d : CircleDomain F g) (width : ℕ) (coeffs given : List (List F))
-      : Type 0 where
-    pub height : length coeffs ≡ 2 ^ log_size d
+module _ {F : Type 0} (k : FieldOps F) (gen : ℕ → Coordinates F) where
+  -- as many coefficients as the domain (n, s) has points, a row for each index, whose polynomials'
+  -- values at the points in natural order are the rows
+  pub record HaveNaturalValues (n : ℕ) (s : Coordinates F) (width : ℕ)
+      (coeffs given : List (List F)) : Type 0 where
+    pub height : length coeffs ≡ 2 ^ n
     pub widths : All (λ row. length row ≡ width) coeffs
-    pub values : natural_values_on k gen d width coeffs ≡ given
+    pub values : map (values_at k coeffs width) (natural_order k gen n s) ≡ given
 
   -- row i of the matrix has, at point i of the standard domain of 2^blowup times as many points, in
-  -- the transform's order, the values of the only polynomials whose values on the domain in natural
-  -- order are the given rows
-  pub record IsExtension (blowup : ℕ) (d : CircleDomain F g) (given made : RowMajorMatrix F)
-      : Type 0 where
+  -- the transform's order, the values of the only polynomials whose values on the domain (n, s), in
+  -- natural order, are the given rows of so many columns
+  pub record IsExtensionOf (blowup n : ℕ) (s : Coordinates F) (columns : ℕ)
+      (given : List (List F)) (made : RowMajorMatrix F) : Type 0 where
     pub coeffs : List (List F)
-    pub told : HaveNaturalValues d (width_of given) coeffs (rows given)
-    pub only : (others : List (List F)) → HaveNaturalValues d (width_of given) others (rows given)
+    pub told : HaveNaturalValues n s columns coeffs given
+    pub only : (others : List (List F)) → HaveNaturalValues n s columns others given
         → coeffs ≡ others
-    pub width : width_of made ≡ width_of given
-    pub height : height_of made ≡ 2 ^ (log_size d + blowup)
-    pub values : let n = log_size d + blowup in
-        rows made ≡ map (values_at k coeffs (width_of given)) (cfft_order k gen n (gen (n + 1)))
+    pub width : width_of made ≡ columns
+    pub height : height_of made ≡ 2 ^ (n + blowup)
+    pub values :
+        rows made ≡ map (values_at k coeffs columns)
+        (cfft_order k gen (n + blowup) (gen (n + blowup + 1)))
+
+module _ {F : Type 0} {g : _} (k : FieldOps F) (gen : ℕ → Coordinates F) where
+  -- so of a matrix of rows on a domain
+  abbrev pub IsExtension : ℕ → CircleDomain F g → RowMajorMatrix F → RowMajorMatrix F → Type 0
+  IsExtension blowup d given made =
+      IsExtensionOf k gen blowup (log_size d) (shift_of d) (width_of given) (rows given) made
 
   -- the matrices are those of the given rows, place by place
   abbrev pub AreExtensions : ℕ → List (CircleDomain F g × RowMajorMatrix F)

@@ -8,13 +8,12 @@ use Rattle.circle_matrix.specs.RowMajorMatrix.{rows, width_of}
 use Rattle.circle_matrix.specs.declared.matrix.RowMajorMatrix.{RowMajorMatrix}
 use Rattle.circle_matrix.specs.declared.params.FriParameters.{FriParameters}
 use Rattle.circle_matrix.specs.declared.pcs.OpeningRequest.{OpeningRequest}
-use Rattle.circle_domain.specs.Domain.{log_size, IsGenuineDomain}
+use Rattle.circle_domain.specs.Domain.{log_size, shift_of, IsGenuineDomain}
 use Rattle.circle_domain.specs.Selectors.{IsFinite}
 use Rattle.circle_domain.specs.Values.{lifted_values_at}
 use Rattle.circle_domain.specs.declared.domain.CircleDomain.{CircleDomain}
 use Rattle.circle_folding.specs.Queries.{IsApart}
-use Rattle.circle_opening.specs.Failure.{IsStuckFrom}
-use Rattle.circle_opening.specs.Opening.{answered_claims}
+use Rattle.circle_opening.specs.Opening.{IsStuckOn}
 use Rattle.circle_opening.specs.Requests.{AreAnswers, AreFit}
 use Rattle.circle_opening.specs.declared.error.ProverError.{ProverError}
 use Rattle.circle_point.specs.Projective.{from_line}
@@ -46,16 +45,19 @@ module _ {F E M : Type 0} {g : _} (k : Fields F E) (two_adicity : ℕ) (p : FriP
     pub rows : AllZip CanBeOpenedAt batch points
 
 module _ {F E : Type 0} {g : _} (k : Fields F E) where
+  -- coefficients of polynomials whose values on a domain, in natural order, are the rows
+  abbrev pub HaveRows : CircleDomain F g × RowMajorMatrix F → List (List F) → Type 0
+  HaveRows given coeffs =
+      HaveNaturalValues k.field k.gen (log_size given.0) (shift_of given.0) (width_of given.1)
+      coeffs (rows given.1)
+
   -- the values at points of the only polynomials whose values on a domain, in natural order, are
   -- the rows
   pub record AreValuesOfRows (given : CircleDomain F g × RowMajorMatrix F) (points : List E)
       (answers : List (List E)) : Type 0 where
     pub coeffs : List (List F)
-    pub told :
-        HaveNaturalValues k.field k.gen given.0 (width_of given.1) coeffs (rows given.1)
-    pub only : (others : List (List F))
-        → HaveNaturalValues k.field k.gen given.0 (width_of given.1) others (rows given.1)
-        → coeffs ≡ others
+    pub told : HaveRows given coeffs
+    pub only : (others : List (List F)) → HaveRows given others → coeffs ≡ others
     pub values :
         AllZip (λ t v. v ≡ lifted_values_at k.field.zero k.extension k.embed coeffs
         (width_of given.1) (from_line k.extension t)) points answers
@@ -66,11 +68,12 @@ module _ {F E : Type 0} {g : _} (k : Fields F E) where
   AreValuesOfBatch batch points values =
       AllZip (λ given rest. AreValuesOfRows given rest.0 rest.1) batch (zip points values)
 
--- with the values that are answered of requests, no run over their claims comes to a proof of work
--- that no witness passes
+-- with the values that are answered of requests, their run from this state never comes to a proof
+-- of work that no witness passes, whatever commitments its words have
 abbrev pub FindsWitnesses : {C S D F E M WC : Type 0} → Fields F E → RunMoves C S F E WC
-    → FriParameters M → (D → List (RowMajorMatrix F)) → List (OpeningRequest D E) → S → Type 0
-FindsWitnesses k r p kept requests s =
+    → FriParameters M → (List (RowMajorMatrix E) → WC → Type 0) → (D → List (RowMajorMatrix F))
+    → List (OpeningRequest D E) → S → Type 0
+FindsWitnesses k r p WordCommits kept requests s =
     (values : Openings _) (e : ProverError) → AllZip (AreAnswers kept k p.log_blowup) requests
     values
-    → ¬ IsStuckFrom r k.extension p (answered_claims p kept requests values) s e
+    → ¬ IsStuckOn k r p WordCommits kept requests values s e

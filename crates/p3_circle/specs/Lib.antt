@@ -7,4 +7,5 @@ pub mod Requesting
 pub mod Scheme
 pub mod SchemeFacts
 pub mod SchemeLaws
+pub mod Searches
 pub mod Verdict

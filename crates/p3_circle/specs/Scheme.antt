@@ -41,6 +41,11 @@ abbrev pub IsFirst : {E : Type 0} → List (Test E) → (E → Type 0) → E →
 IsFirst tests Otherwise e =
     MatchResult (answer tests (tt {0})) (λ passed. Otherwise e) (λ first. e ≡ first)
 
+-- so with the states before and after: the first refusal leaves the state as it was
+abbrev pub IsFirstFrom : {S E : Type 0} → List (Test E) → (E → Type 0) → S → S → E → Type 0
+IsFirstFrom tests Otherwise old new e =
+    MatchResult (answer tests (tt {0})) (λ passed. Otherwise e) (λ first. (e ≡ first) × (new ≡ old))
+
 -- the first refusal that there is reason for, and otherwise that of memory
 abbrev pub IsFirstOf : List (Test ProverError) → ProverError → Type 0
 IsFirstOf tests = IsFirst tests (λ e. e ≡ Memory)

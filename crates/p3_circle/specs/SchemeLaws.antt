@@ -29,12 +29,14 @@ use Rattle.circle_relation.specs.declared.proof.CirclePcsProof.{CirclePcsProof}
 use Rattle.p3_circle.specs.Committing.{commit_tests}
 use Rattle.p3_circle.specs.Honest.{AreValuesOfBatch, FindsWitnesses, IsHonestBatch}
 use Rattle.p3_circle.specs.Requesting.{opening_tests}
-use Rattle.p3_circle.specs.Scheme.{IsCommitted, IsFirst, IsFirstOf, IsGiven, says_prover_memory}
+use Rattle.p3_circle.specs.Scheme.{IsCommitted, IsFirstFrom, IsFirstOf, IsGiven}
+use Rattle.p3_circle.specs.Scheme.{says_prover_memory}
 use Rattle.p3_circle.specs.SchemeFacts.{extended-powers}
 use Rattle.p3_circle.specs.Verdict.{IsAccepted}
 use Rattle.p3_circle.specs.SchemeLaws.HonestOpenings.{all-valued, are-claimed, are-pointed, commits}
-use Rattle.p3_circle.specs.SchemeLaws.HonestOpenings.{kept-low}
+use Rattle.p3_circle.specs.SchemeLaws.HonestOpenings.{kept-low, points_in}
 use Rattle.p3_circle.specs.SchemeLaws.HonestTests.{batch-passes, requests-pass, unrefused}
+use Rattle.p3_circle.specs.SchemeLaws.HonestTests.{unrefused-from}
 use Rattle.p3_circle.specs.SchemeLaws.Unrefused.{are-fit, are-requests}
 pub mod CommitTests
 pub mod OnDomain
@@ -137,16 +139,19 @@ module _ {F E M : Type 0} {g : Ghosts F} (k : Fields F E) (base : FieldLaws k.fi
 
       -- honest requests are opened, where memory suffices and witnesses are found
       pub honest-open : {C S WC : Type 0} (r : RunMoves C S F E WC)
-          (requests : List (OpeningRequest D E)) (s : S) (err : ProverError) →
+          (WordCommits : List (RowMajorMatrix E) → WC → Type 0)
+          (requests : List (OpeningRequest D E)) (s t : S) (err : ProverError) →
           AreHonest CommitsTo (IsHonestBatch k k.two_adicity p) requests →
-          FindsWitnesses k r p kept requests s →
-          IsFirst (opening_tests kept requests k.two_adicity p k same) (IsFailure k r p kept requests s) err
+          FindsWitnesses k r p WordCommits kept requests s →
+          IsFirstFrom (opening_tests kept requests k.two_adicity p k same)
+          (IsFailure k r p WordCommits kept requests s) s t err
           → IsTrue (says_prover_memory err)
-      honest-open r requests s err honest finds refused =
+      honest-open r WordCommits requests s t err honest finds refused =
           let tests = opening_tests kept requests k.two_adicity p k same in
           let ok = requests-pass k eq eq_law same law k.two_adicity small p kept Commits requests honest.0
           honest.1 in
-          let failure = unrefused tests (IsFailure k r p kept requests s) err ok refused in
+          let failure = unrefused-from tests (IsFailure k r p WordCommits kept requests s) s t err
+          ok refused in
           let powers : All (λ r. HaveHeightsOfPowers (kept r.prover_data.now)) requests = λ i d lt.
           let h = honest.1 i d lt in extended-powers k.field k.gen p.log_blowup Commits h.batch
           (kept (slice_index_or requests i d).prover_data.now) h.committed.extended in
@@ -154,7 +159,8 @@ module _ {F E M : Type 0} {g : Ghosts F} (k : Fields F E) (base : FieldLaws k.fi
           let low = kept-low k k.two_adicity p kept Commits requests
           (λ i d lt. let h = honest.1 i d lt in (h.batch, h.commitment, h.committed)) asked in
           let never = never-too-high k base laws e eq eq_law same law gens kept p requests
-          (are-fit kept requests k.two_adicity p k same ok) asked r low s err failure in
+          (are-fit kept requests k.two_adicity p k same ok) asked r WordCommits low s err
+          failure in
           memory-is err (elim failure [
             | inl memory ↦ memory
             | inr rest ↦
@@ -170,13 +176,13 @@ module _ {F E M : Type 0} {g : Ghosts F} (k : Fields F E) (base : FieldLaws k.fi
           (inputs : I → Authenticates IC F IP) (words : M → Authenticates WC E WP)
           (mmcs : I) (WordCommits : List (RowMajorMatrix E) → WC → Type 0)
           (requests : List (OpeningRequest D E)) (values : Openings E)
-          (claims : List (CommitmentOpening E IC (CircleDomain F g)))
           (proof : CirclePcsProof F E I M F IC ID IP IE WC WD WP WE) (s t : S) →
-          AreAnsweredBy CommitsTo requests values claims →
           IsGiven p kept k r Commits (inputs mmcs) WordCommits (words p.mmcs) k.two_adicity requests s values
-          proof t → IsAccepted k r inputs words mmcs p claims proof s t
-      opening-accepted r below inputs words mmcs WordCommits requests values claims proof s t
-          answered given =
+          proof t → (claims : List (CommitmentOpening E IC (CircleDomain F g))) →
+          AreAnsweredBy points_in CommitsTo requests values claims →
+          IsAccepted k r inputs words mmcs p claims proof s t
+      opening-accepted r below inputs words mmcs WordCommits requests values proof s t given claims
+          answered =
           let accepted =
           accepts-openings k base laws e gens small r below p kept Commits (inputs mmcs) WordCommits
           (words p.mmcs) requests given.parameters given.arity given.asked values given.answers

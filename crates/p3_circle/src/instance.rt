@@ -9,7 +9,7 @@ ghost use Rattle.p3_circle.specs.Honest.{AreValuesOfBatch, FindsWitnesses, IsHon
 ghost use Rattle.p3_circle.specs.Requesting.{opening_tests};
 ghost use Rattle.p3_circle.specs.Scheme.{AreCommittedTo, AreExtended, CanBeDegree};
 ghost use Rattle.p3_circle.specs.Scheme.{CanBeEvaluated};
-ghost use Rattle.p3_circle.specs.Scheme.{HaveCommittedHeights, IsCommitted, IsFirst, IsFirstOf};
+ghost use Rattle.p3_circle.specs.Scheme.{HaveCommittedHeights, IsCommitted, IsFirstFrom, IsFirstOf};
 ghost use Rattle.p3_circle.specs.Scheme.{IsGiven};
 ghost use Rattle.p3_circle.specs.Scheme.{IsStandardOfSize, says_memory, says_prover_memory};
 ghost use Rattle.circle_verifier.specs.Tests.{run_tests};
@@ -77,7 +77,7 @@ where
 
     ghost finds_witnesses = { λ pcs. FindsWitnesses ⟦<EF as OverCircle<Val>>⟧.fields
         ⟦<C as RunChallenger<Val, EF, FriMmcs::Commitment>>⟧.run pcs.fri_params
-        InputMmcs.matrices };
+        (FriMmcs.commits pcs.fri_params.mmcs) InputMmcs.matrices };
 
     ghost open_asks = { λ pcs. HaveCommittedHeights InputMmcs.matrices };
 
@@ -87,22 +87,22 @@ where
         (FriMmcs.commits pcs.fri_params.mmcs) (FriMmcs.authenticates pcs.fri_params.mmcs)
         Val.CIRCLE_TWO_ADICITY };
 
-    ghost open_refuses = { λ pcs requests state. IsFirst (opening_tests InputMmcs.matrices
+    ghost open_refuses = { λ pcs requests old. IsFirstFrom (opening_tests InputMmcs.matrices
         requests Val.CIRCLE_TWO_ADICITY pcs.fri_params ⟦<EF as OverCircle<Val>>⟧.fields EF.eq)
         (IsFailure ⟦<EF as OverCircle<Val>>⟧.fields
         ⟦<C as RunChallenger<Val, EF, FriMmcs::Commitment>>⟧.run pcs.fri_params
-        InputMmcs.matrices requests state) };
+        (FriMmcs.commits pcs.fri_params.mmcs) InputMmcs.matrices requests old) old };
 
     ghost verify_accepts = { λ pcs claims proof. IsAccepted ⟦<EF as OverCircle<Val>>⟧.fields
         ⟦<C as RunChallenger<Val, EF, FriMmcs::Commitment>>⟧.run InputMmcs.authenticates
         FriMmcs.authenticates pcs.mmcs pcs.fri_params claims proof };
 
-    ghost verify_refuses = { λ pcs claims proof old new. IsFirst
+    ghost verify_refuses = { λ pcs claims proof old new. IsFirstFrom
         (run_tests ⟦<EF as OverCircle<Val>>⟧.fields pcs.fri_params claims proof)
         (IsRefused ⟦<EF as OverCircle<Val>>⟧.fields
         ⟦<C as RunChallenger<Val, EF, FriMmcs::Commitment>>⟧.run InputMmcs.authenticates
         FriMmcs.authenticates pcs.mmcs pcs.fri_params claims proof InputMmcs.is_memory
-        FriMmcs.is_memory old new) };
+        FriMmcs.is_memory old new) old new };
 
     ghost is_memory = { says_memory };
 
@@ -116,7 +116,8 @@ where
         Val.Operations.laws EF.Operations.laws EF.embedding Val.eq Val.eq_law EF.eq EF.eq_law
         Val.at_most_62 Val.generators_law pcs.fri_params
         InputMmcs.matrices (InputMmcs.commits pcs.mmcs)
-        ⟦<C as RunChallenger<Val, EF, FriMmcs::Commitment>>⟧.run };
+        ⟦<C as RunChallenger<Val, EF, FriMmcs::Commitment>>⟧.run
+        (FriMmcs.commits pcs.fri_params.mmcs) };
 
     ghost each_point = { λ pcs. each-point ⟦<EF as OverCircle<Val>>⟧.fields Val.CIRCLE_TWO_ADICITY
         pcs.fri_params InputMmcs.matrices (InputMmcs.commits pcs.mmcs)
@@ -183,7 +184,7 @@ where
         ensures opened { IfOk result (IsAnswer (⟦<Self as Pcs<EF, C>>⟧.open_gives self.now
             requests.entry.items) (C.state challenger.old) (C.state challenger.new)) }
         ensures refused { let p = ⟦<Self as Pcs<EF, C>>⟧ in IfErr result (p.open_refuses self.now
-            requests.entry.items (C.state challenger.old)) }
+            requests.entry.items (C.state challenger.old) (C.state challenger.new)) }
     {
         self.open(alloc, requests, challenger)
     }

@@ -26,9 +26,11 @@
 //!   matrix and point the values of the polynomials that the first committed rows fix (`values`),
 //!   and a proof that holds the commitments of the words under the challenges that the transcript
 //!   draws of the claims and the proof, their lambdas, the last word's coefficients, and the rows
-//!   and siblings at the drawn indices (`opened`, by `IsGiven`); a later refusal has its reason (`failure`): `LastWordNotConstant` is answered only where, under some
-//!   challenges, the last word is of too high degree, which it never is of matrices of low degree
-//!   (`honest_openings_end_low` of `circle_completeness`: `never`).
+//!   and siblings at the drawn indices (`opened`, by `IsGiven`); a later refusal has its reason
+//!   (`failure`): `LastWordNotConstant` is answered only where, under some challenges, the last
+//!   word is of too high degree, which it never is of matrices of low degree
+//!   (`honest_openings_end_low` of `circle_completeness`: `never`); `NoGrindingWitness` only where
+//!   in the opening's own run, whose witnesses its searches find, no witness passes.
 //!
 //! `CirclePcs` is an instance of the traits `Pcs` and `UnivariateStarkPcs` of `circle_pcs`, whose
 //! laws it meets: what `open` answers of an honest statement, `verify` accepts. The clauses of its

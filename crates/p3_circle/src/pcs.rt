@@ -12,6 +12,7 @@ ghost use Rattle.p3_circle.specs.Committing.{lde_tests, height_at, target_tests_
 ghost use Rattle.p3_circle.specs.Committing.{HaveRowsForPoints, AreExtensions};
 ghost use Rattle.p3_circle.specs.Committing.{AreValuesOfMatrix};
 ghost use Rattle.circle_opening.specs.Requests.{AreAnswered};
+ghost use Rattle.circle_opening.specs.declared.error.ProverError.TheVariants.{Memory as OutOfMemory};
 ghost use Rattle.p3_circle.specs.Scheme.{HaveCommittedHeights};
 ghost use Rattle.p3_circle.specs.Requesting.{RefusesBefore};
 ghost use Rattle.circle_verifier.specs.Tests.{IsFirstRefusal};
@@ -29,7 +30,7 @@ use circle_commit::{
 use circle_domain::CircleDomain;
 use circle_field::{ComplexExtendable, ExtensionField, Field};
 use circle_opening::{ProverError, open_requests};
-use circle_pcs::Pcs;
+use circle_pcs::{Pcs, Statements};
 use circle_plane::{PeriodicError, build_periodic_lde_table_circle};
 use circle_relation::{CirclePcsProof, InputError, OverCircle};
 use std::alloc::Global;
@@ -124,8 +125,10 @@ impl<Val: ComplexExtendable, InputMmcs: Mmcs<Val>, FriMmcs> CirclePcs<Val, Input
     ///
     /// Then `NoGrindingWitness` of a phase where no witness passes, `LastWordNotConstant` where a
     /// matrix that `commit_ldes` took isn't of low degree, and `Memory` where memory is refused;
-    /// these leave the challenger's state open. The commitments are not observed, which is the
-    /// caller's to do.
+    /// these leave the challenger's state open. Honest requests are refused for want of memory
+    /// alone; the values are those of the only polynomials of the batches that were committed to,
+    /// and claims of them are accepted by `verify` from the state that `open` was called in. The
+    /// commitments are not observed, which is the caller's to do.
     pub fn open<EF: ExtensionField<Val>, C>(
         &self,
         alloc: Global,
@@ -149,7 +152,13 @@ impl<Val: ComplexExtendable, InputMmcs: Mmcs<Val>, FriMmcs> CirclePcs<Val, Input
         ensures opened { IfOk result (IsAnswer (⟦<Self as Pcs<EF, C>>⟧.open_gives self.now
             requests.entry.items) (C.state challenger.old) (C.state challenger.new)) }
         ensures failure { let p = ⟦<Self as Pcs<EF, C>>⟧ in IfErr result (p.open_refuses self.now
-            requests.entry.items (C.state challenger.old)) }
+            requests.entry.items (C.state challenger.old) (C.state challenger.new)) }
+        ensures honest { let p = ⟦<Self as Statements<EF, C>>⟧ in IfErr result (λ e. p.is_honest
+            self.now requests.entry.items (C.state challenger.old) → e ≡ OutOfMemory) }
+        ensures only { let p = ⟦<Self as Statements<EF, C>>⟧ in IfOk result (λ r. p.are_true
+            self.now requests.entry.items (openings r.0.items)) }
+        ensures accepted { IfOk result (IsAnswer (⟦<Self as Statements<EF, C>>⟧.are_accepted self.now
+            requests.entry.items) (C.state challenger.old) (C.state challenger.new)) }
     {
         validate_requests::<Val, EF, InputMmcs, FriMmcs>(&self.mmcs, &self.fri_params, &requests)?;
         open_requests(alloc, &self.mmcs, &self.fri_params, &requests, challenger)

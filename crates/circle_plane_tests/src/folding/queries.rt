@@ -5,7 +5,10 @@ ghost use Rattle.circle_folding.specs.Chain.{round_twiddle};
 use super::{cubic, rows_of_two};
 use circle_commit::{Matrix, RowMajorMatrix};
 use circle_field::{ComplexExtendable, Cubic, ExtensionField, Field, Mersenne31};
-use circle_folding::{first_x_twiddles, fold_query_values, fold_x, next_x_twiddles, query_pairs};
+use circle_folding::{
+    first_layer_twiddles, first_x_twiddles, fold_query_values, fold_x, fold_y, next_x_twiddles,
+    query_pairs, query_points,
+};
 use std::alloc::{AllocError, Global};
 use std::process::Abort;
 use std::test::Fail;
@@ -148,5 +151,71 @@ fn queries_of_a_word_of_32(rt: HostRuntime) -> Result<(), Fail> {
     let indices = repeated_indices(alloc, 6)?;
     let word = scattered_word(alloc, 32)?;
     assert_queries_fold_alike::<Mersenne31, Cubic>(&rt, alloc, 6, &indices, word)?;
+    Ok(())
+}
+
+// A word folded by y, after a test of what is asked.
+fn folded_by_y<F: ComplexExtendable, EF: ExtensionField<F>>(
+    rt: &impl Abort,
+    alloc: Global,
+    beta: EF,
+    log_height: usize,
+    rows: &RowMajorMatrix<EF>,
+) -> Result<Vec<EF>, AllocError>
+    requires { log_height + 2 ≤ F.CIRCLE_TWO_ADICITY }
+{
+    assert!(rt; rows.width() == 2 && rows.height() == 1 << log_height);
+    fold_y::<F, EF, RowMajorMatrix<EF>>(alloc, beta, rows)
+}
+
+// Folds by y what the queries ask for in a word of `2^log_height` entries, and asserts that the
+// values are those of the whole word folded.
+fn assert_first_folds_alike<F: ComplexExtendable, EF: ExtensionField<F>>(
+    rt: &impl Abort,
+    alloc: Global,
+    log_height: usize,
+    log_max_height: usize,
+    indices: &[usize],
+    beta: EF,
+    word: Vec<EF>,
+) -> Result<(), AllocError>
+    requires positive { 1 ≤ log_height }
+    requires within { log_height ≤ log_max_height }
+    requires small { log_max_height ≤ 62 }
+    requires in_group { log_height < F.CIRCLE_TWO_ADICITY }
+    requires in_range { All (λ q. q < 2 ^ log_max_height) indices.now }
+{
+    let bits = log_max_height - log_height;
+    let mut values = asked(rt, alloc, bits, 0, indices, &word)?;
+    let siblings = asked(rt, alloc, bits, 1, indices, &word)?;
+    let points = query_points::<F>(alloc, log_height, log_max_height, indices)?;
+    let twiddles = first_layer_twiddles(alloc, log_height, log_max_height, indices, &points)?;
+    fold_query_values(
+        alloc,
+        beta,
+        bits,
+        indices,
+        &twiddles,
+        &mut values,
+        &siblings,
+    )?;
+    let rows = rows_of_two(rt, word);
+    let word = folded_by_y::<F, EF>(rt, alloc, beta, log_height - 1, &rows)?;
+    let expected = asked(rt, alloc, bits + 1, 0, indices, &word)?;
+    assert!(rt; values.as_slice() == expected.as_slice());
+    Ok(())
+}
+
+#[test]
+fn queries_of_the_tallest_word_and_of_a_lower_one(rt: HostRuntime) -> Result<(), Fail> {
+    let alloc = rt.alloc();
+    let indices = repeated_indices(alloc, 4)?;
+    for log_height in 3..5 {
+        let word = scattered_word(alloc, 1 << log_height)?;
+        let beta = cubic(3, 1, 4);
+        assert_first_folds_alike::<Mersenne31, Cubic>(
+            &rt, alloc, log_height, 4, &indices, beta, word,
+        )?;
+    }
     Ok(())
 }

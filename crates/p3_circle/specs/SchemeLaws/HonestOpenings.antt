@@ -35,6 +35,10 @@ use Rattle.p3_circle.specs.Committing.{AreExtensions, IsExtension}
 use Rattle.p3_circle.specs.Honest.{AreValuesOfBatch, AreValuesOfRows}
 use Rattle.p3_circle.specs.Scheme.{IsCommitted}
 
+-- the number of a domain's points
+abbrev pub points_in : {F : Type 0} {g : Ghosts F} → CircleDomain F g → ℕ
+points_in d = 2 ^ log_size d
+
 -- rows on domains
 abbrev Batch : (F : Type 0) → Ghosts F → Type 0
 Batch F g = List (CircleDomain F g × RowMajorMatrix F)
@@ -82,10 +86,10 @@ module _ {F E M : Type 0} {g : Ghosts F} (k : Fields F E) (two : ℕ) (p : FriPa
 
   -- claims of what is answered of one matrix
   one-claimed : (x : CircleDomain F g × RowMajorMatrix F) (m : RowMajorMatrix F) (points : List E) (values : List (List E)) (c : MatrixOpening E (CircleDomain F g)) → IsExtension k.field k.gen p.log_blowup x.0 x.1 m →
-      height_of m ≡ 2 ^ log_of (height_of m) → IsClaimedOf x points values c → matrix_claim c ≡ claimed p.log_blowup (committed m points values)
+      height_of m ≡ 2 ^ log_of (height_of m) → IsClaimedOf points_in x points values c → matrix_claim c ≡ claimed p.log_blowup (committed m points values)
   one-claimed x m points values c extension power is =
       let height = log-of x m power extension in
-      let size = ap log_size is.domain in
+      let size = pow_injective (log_size c.domain) (log_size x.0) is.domain in
       let fewer : log_size c.domain ≡ log_of (height_of m) - p.log_blowup = omega (arith, height, size) in
       let made : ℕ → List (PointClaim E) → MatrixClaim E = λ n claims. record { log_n = n; claims = claims } in
       ap (λ n. made n (map point_claim c.points.items)) fewer
@@ -93,7 +97,7 @@ module _ {F E M : Type 0} {g : Ghosts F} (k : Fields F E) (two : ℕ) (p : FriPa
       (points-claimed c.points.items ∙ ap (λ ps. pairwise claim_of ps (map (λ p. p.values.items) c.points.items)) is.points ∙ ap (pairwise claim_of points) is.values)
 
   batch-claimed : (batch : Batch F g) (ms : List (RowMajorMatrix F)) (points : List (List E)) (values : List (List (List E))) (cs : List (MatrixOpening E (CircleDomain F g))) →
-      AreExtensions k.field k.gen p.log_blowup batch ms → AllZip (IsOpenable k two p.log_blowup) ms points → AreClaimedOf batch points values cs → map matrix_claim cs ≡ map (claimed p.log_blowup) (batch_committed ms points values)
+      AreExtensions k.field k.gen p.log_blowup batch ms → AllZip (IsOpenable k two p.log_blowup) ms points → AreClaimedOf points_in batch points values cs → map matrix_claim cs ≡ map (claimed p.log_blowup) (batch_committed ms points values)
   batch-claimed [] [] points values [] made openable are = refl
   batch-claimed [] [] [] [] (c ∷ cs) made openable are = absurd are
   batch-claimed [] [] (t ∷ points) values (c ∷ cs) made openable are = absurd openable
@@ -108,14 +112,14 @@ module _ {F E M : Type 0} {g : Ghosts F} (k : Fields F E) (two : ℕ) (p : FriPa
       ∙ ap (λ rest. claimed p.log_blowup (committed m t v) ∷ rest) (batch-claimed batch ms points values cs made.1 openable.1 are.1)
 
   -- each matrix is claimed at a point
-  one-pointed : (x : CircleDomain F g × RowMajorMatrix F) (points : List E) (values : List (List E)) (c : MatrixOpening E (CircleDomain F g)) → IsClaimedOf x points values c → 1 ≤ length (map point_claim c.points.items)
+  one-pointed : (x : CircleDomain F g × RowMajorMatrix F) (points : List E) (values : List (List E)) (c : MatrixOpening E (CircleDomain F g)) → IsClaimedOf points_in x points values c → 1 ≤ length (map point_claim c.points.items)
   one-pointed x points values c is =
       let some = is.some in
       let long = length-points c.points.items in
       let same = ap length is.points in
       omega (arith, some, long, same)
 
-  batch-pointed : (batch : Batch F g) (points : List (List E)) (values : List (List (List E))) (cs : List (MatrixOpening E (CircleDomain F g))) → AreClaimedOf batch points values cs → AllByRecursion (λ m. 1 ≤ length m.claims) (map matrix_claim cs)
+  batch-pointed : (batch : Batch F g) (points : List (List E)) (values : List (List (List E))) (cs : List (MatrixOpening E (CircleDomain F g))) → AreClaimedOf points_in batch points values cs → AllByRecursion (λ m. 1 ≤ length m.claims) (map matrix_claim cs)
   batch-pointed batch points values [] are = tt
   batch-pointed [] [] [] (c ∷ cs) are = absurd are
   batch-pointed [] [] (v ∷ values) (c ∷ cs) are = absurd are
@@ -132,7 +136,7 @@ module _ {F E M : Type 0} {g : Ghosts F} (k : Fields F E) (two : ℕ) (p : FriPa
 
     -- the claims of a verifier are on what is answered
     pub are-claimed : (requests : List (OpeningRequest D E)) (values : Openings E) (claims : List (CommitmentOpening E Com (CircleDomain F g))) → AllByRecursion (IsFit kept k p.log_blowup two) requests →
-        AreAnsweredBy commits requests values claims → AreClaimed p kept Commits requests values (batch_claims claims)
+        AreAnsweredBy points_in commits requests values claims → AreClaimed p kept Commits requests values (batch_claims claims)
     are-claimed [] [] [] fit are = tt
     are-claimed [] [] (c ∷ cs) fit are = absurd are
     are-claimed [] (v ∷ vs) [] fit are = absurd are
@@ -148,7 +152,7 @@ module _ {F E M : Type 0} {g : Ghosts F} (k : Fields F E) (two : ℕ) (p : FriPa
       are-claimed rs vs cs fit.1 are.1,
     )
 
-    all-pointed : (requests : List (OpeningRequest D E)) (values : Openings E) (claims : List (CommitmentOpening E Com (CircleDomain F g))) → AreAnsweredBy commits requests values claims →
+    all-pointed : (requests : List (OpeningRequest D E)) (values : Openings E) (claims : List (CommitmentOpening E Com (CircleDomain F g))) → AreAnsweredBy points_in commits requests values claims →
         AllByRecursion (λ m. 1 ≤ length m.claims) (all_matrices (batch_claims claims))
     all-pointed requests values [] are = tt
     all-pointed [] [] (c ∷ cs) are = absurd are
@@ -158,7 +162,7 @@ module _ {F E M : Type 0} {g : Ghosts F} (k : Fields F E) (two : ℕ) (p : FriPa
         all-append (λ (m : MatrixClaim E). 1 ≤ length m.claims) (map matrix_claim c.matrices.items) (all_matrices (batch_claims cs))
         (batch-pointed are.0.batch (requested_points r) v c.matrices.items are.0.claims) (all-pointed rs vs cs are.1)
 
-    pub are-pointed : (requests : List (OpeningRequest D E)) (values : Openings E) (claims : List (CommitmentOpening E Com (CircleDomain F g))) → AreAnsweredBy commits requests values claims →
+    pub are-pointed : (requests : List (OpeningRequest D E)) (values : Openings E) (claims : List (CommitmentOpening E Com (CircleDomain F g))) → AreAnsweredBy points_in commits requests values claims →
         All (λ m. 1 ≤ length m.claims) (all_matrices (batch_claims claims))
     are-pointed requests values claims are = All-from_recursion (λ (m : MatrixClaim E). 1 ≤ length m.claims) (all_matrices (batch_claims claims)) (all-pointed requests values claims are)
 

@@ -26,7 +26,7 @@ use Rattle.p3_circle.specs.Committing.{AreExtensions, IsExtension, commit_tests,
 use Rattle.p3_circle.specs.Honest.{CanBeOpenedAt, IsHonestBatch}
 use Rattle.circle_verifier.specs.Refusals.{Test, answer, is_at_infinity}
 use Rattle.p3_circle.specs.Requesting.{is_at, is_infinite, is_unfit, lacks_matrices, has_other_counts, meets_domain, meets_domains, opening_tests, some_on_domain}
-use Rattle.p3_circle.specs.Scheme.{IsCommitted, IsFirst}
+use Rattle.p3_circle.specs.Scheme.{IsCommitted, IsFirst, IsFirstFrom}
 use Rattle.circle_verifier.proofs.Answering.{answer-append}
 use Rattle.p3_circle.specs.SchemeLaws.CommitTests.{height_fits}
 use Rattle.circle_verifier.proofs.HeightTests.{answer-none, skipped}
@@ -40,6 +40,9 @@ neither a b first second = ap (λ c. c || b) first ∙ second
 -- where no test has reason this holds of an answer
 pub unrefused : (tests : List (Test ProverError)) (Holds : ProverError → Type 0) (e : ProverError) → answer tests (tt {0}) ≡ Ok (tt {0}) → IsFirst tests Holds e → Holds e
 unrefused tests Holds e ok first = subst (λ a. MatchResult a (λ passed. Holds e) (λ f. e ≡ f)) ok first
+
+pub unrefused-from : {S : Type 0} (tests : List (Test ProverError)) (Holds : ProverError → Type 0) (s t : S) (e : ProverError) → answer tests (tt {0}) ≡ Ok (tt {0}) → IsFirstFrom tests Holds s t e → Holds e
+unrefused-from tests Holds s t e ok first = subst (λ a. MatchResult a (λ passed. Holds e) (λ f. (e ≡ f) × (t ≡ s))) ok first
 
 -- supported parameters
 pub supported : {M : Type 0} (p : FriParameters M) → AreFit p → p.max_log_arity ≡ 1 → is_unfit p ≡ false

@@ -6,22 +6,22 @@ use Rattle.circle_field.specs.Bytes.{bytes}
 use Rattle.circle_merkle.specs.Authentication.{IsShaRoot}
 use Rattle.circle_merkle.specs.ProverData.{matrices_of}
 use Rattle.circle_commands.specs.Proved.{IsCommitted, IsRequested, batch_claimed, commitments_taken}
-use Rattle.circle_commands.specs.Traces.{AreFitting, HasFittingRows, IsRefusalOfBatches}
-use Rattle.circle_commands.proofs.First.{passed_by}
+use Rattle.circle_commands.specs.Traces.{AreFitting, AreTall, HasFittingRows, IsRefusalOfBatches}
+use Rattle.circle_commands.proofs.First.{passed_by, tall-fitting}
 use Rattle.circle_commands.proofs.Proved.{proved}
 use Rattle.circle_commands.proofs.Proving.{committed_fit, requested_powers}
 use Rattle.circle_commands.proofs.prove.prove.Goals as goal
 
 pub commit_batches-requires : goal.commit_batches-requires
-commit_batches-requires c = subst AreFitting (c.deref.ensures.value ∙ sym c.deref-2.ensures.value) c.in_ok-validate_batches.ensures
+commit_batches-requires c = subst AreFitting (c.deref.ensures.value ∙ sym c.deref-2.ensures.value) (tall-fitting c.args.input.params.log_final_poly_len c.deref.result.now c.in_ok-validate_batches.ensures)
 
 pub returns-in_err-committed-clause-rows : goal.returns-in_err-committed-clause-rows
 returns-in_err-committed-clause-rows c =
-    passed_by (AreFitting c.args.input.batches.items) (IsRefusalOfBatches c.args.input.batches.items) c.from_residual-in_err-committed.result (subst AreFitting c.deref.ensures.value c.in_ok-validate_batches.ensures)
+    passed_by (AreTall c.args.input.params.log_final_poly_len c.args.input.batches.items) (IsRefusalOfBatches c.args.input.params.log_final_poly_len c.args.input.batches.items) c.from_residual-in_err-committed.result (subst (AreTall c.args.input.params.log_final_poly_len) c.deref.ensures.value c.in_ok-validate_batches.ensures)
 
 pub returns-in_err-requests-clause-rows : goal.returns-in_err-requests-clause-rows
 returns-in_err-requests-clause-rows c =
-    passed_by (AreFitting c.args.input.batches.items) (IsRefusalOfBatches c.args.input.batches.items) c.from_residual-in_err-requests.result (subst AreFitting c.deref.ensures.value c.in_ok-validate_batches.ensures)
+    passed_by (AreTall c.args.input.params.log_final_poly_len c.args.input.batches.items) (IsRefusalOfBatches c.args.input.params.log_final_poly_len c.args.input.batches.items) c.from_residual-in_err-requests.result (subst (AreTall c.args.input.params.log_final_poly_len) c.deref.ensures.value c.in_ok-validate_batches.ensures)
 
 pub open-requires : goal.open-requires
 open-requires c =
@@ -30,7 +30,7 @@ open-requires c =
 
 pub returns-in_err-values-clause-rows : goal.returns-in_err-values-clause-rows
 returns-in_err-values-clause-rows c =
-    passed_by (AreFitting c.args.input.batches.items) (IsRefusalOfBatches c.args.input.batches.items) c.from_residual-in_err-values.result (subst AreFitting c.deref.ensures.value c.in_ok-validate_batches.ensures)
+    passed_by (AreTall c.args.input.params.log_final_poly_len c.args.input.batches.items) (IsRefusalOfBatches c.args.input.params.log_final_poly_len c.args.input.batches.items) c.from_residual-in_err-values.result (subst (AreTall c.args.input.params.log_final_poly_len) c.deref.ensures.value c.in_ok-validate_batches.ensures)
 
 pub claims-requires : goal.claims-requires
 claims-requires c =
@@ -39,10 +39,10 @@ claims-requires c =
 
 pub returns-in_err-claims-clause-rows : goal.returns-in_err-claims-clause-rows
 returns-in_err-claims-clause-rows c =
-    passed_by (AreFitting c.args.input.batches.items) (IsRefusalOfBatches c.args.input.batches.items) c.from_residual-in_err-claims.result (subst AreFitting c.deref.ensures.value c.in_ok-validate_batches.ensures)
+    passed_by (AreTall c.args.input.params.log_final_poly_len c.args.input.batches.items) (IsRefusalOfBatches c.args.input.params.log_final_poly_len c.args.input.batches.items) c.from_residual-in_err-claims.result (subst (AreTall c.args.input.params.log_final_poly_len) c.deref.ensures.value c.in_ok-validate_batches.ensures)
 
 pub returns-clause-rows : goal.returns-clause-rows
-returns-clause-rows c = subst AreFitting c.deref.ensures.value c.in_ok-validate_batches.ensures
+returns-clause-rows c = subst (AreTall c.args.input.params.log_final_poly_len) c.deref.ensures.value c.in_ok-validate_batches.ensures
 
 pub returns-clause-proof : goal.returns-clause-proof
 returns-clause-proof c =

@@ -26,7 +26,7 @@ fields g = record { field = g.Val.Operations.ops; gen = g.Val.ComplexExtendable.
 
 -- what the challenger is to the run
 abbrev challenger : (g : Over) → RunMoves g.row.C.Denot g.row.C-State.Denot g.row.Val.Denot g.row.EF.Denot g.row.FriMmcs-Commitment.Denot
-challenger g = run_moves g.C.ChallengerState.state g.C.CanObserve-1.after_observe g.C.CanObserve-2.after_observe g.C.CanSample.sampled g.C.CanSample.after_sample g.C.CanSampleBits.sampled_bits g.C.CanSampleBits.after_bits g.EF.ExtensionField.DEGREE g.EF.ExtensionField.coefficients (of_nat g.Val.Operations.ops) g.Val.Operations.ops.zero
+challenger g = run_moves g.C.ChallengerState.state g.C.CanObserve-1.after_observe g.C.CanObserve-2.after_observe g.C.CanSample.sampled g.C.CanSample.after_sample g.C.CanSampleBits.sampled_bits g.C.CanSampleBits.after_bits g.C.GrindingChallenger.found_witness g.EF.ExtensionField.DEGREE g.EF.ExtensionField.coefficients (of_nat g.Val.Operations.ops) g.Val.Operations.ops.zero
 
 pub prove_words-requires-clause-top : goal.prove_words-requires-clause-top
 prove_words-requires-clause-top g c =
@@ -102,7 +102,7 @@ returns-in_err-words-clause-failure g c =
     let kept = g.InputMmcs.Mmcs.matrices in
     let requests = c.args.requests.now in
     let answers = subst (λ vs. AllZip (AreAnswers kept (fields g) p.log_blowup) requests (openings vs)) (sym c.deref.ensures.value) c.in_ok-values.ensures in
-    handed_on c.from_residual-in_err-words.result c.in_err-words.field-0.0 (IsFailure (fields g) (challenger g) p kept requests (g.C.ChallengerState.state c.args.challenger.now)) c.from_residual-in_err-words.ensures.1
+    handed_on c.from_residual-in_err-words.result c.in_err-words.field-0.0 (IsFailure (fields g) (challenger g) p (g.FriMmcs.Mmcs.commits p.mmcs) kept requests (g.C.ChallengerState.state c.args.challenger.now)) c.from_residual-in_err-words.ensures.1
     (elim c.in_err-words.ensures.failure [
       | inl refused ↦ inl refused
       | inr rest ↦

@@ -47,7 +47,7 @@ fields g = record { field = g.Val.Operations.ops; gen = g.Val.ComplexExtendable.
 
 -- what the challenger is to the run
 abbrev challenger : (g : Over) → RunMoves g.row.C.Denot g.row.C-State.Denot g.row.Val.Denot g.row.EF.Denot g.row.FriMmcs-Commitment.Denot
-challenger g = run_moves g.C.ChallengerState.state g.C.CanObserve-1.after_observe g.C.CanObserve-2.after_observe g.C.CanSample.sampled g.C.CanSample.after_sample g.C.CanSampleBits.sampled_bits g.C.CanSampleBits.after_bits g.EF.ExtensionField.DEGREE g.EF.ExtensionField.coefficients (of_nat g.Val.Operations.ops) g.Val.Operations.ops.zero
+challenger g = run_moves g.C.ChallengerState.state g.C.CanObserve-1.after_observe g.C.CanObserve-2.after_observe g.C.CanSample.sampled g.C.CanSample.after_sample g.C.CanSampleBits.sampled_bits g.C.CanSampleBits.after_bits g.C.GrindingChallenger.found_witness g.EF.ExtensionField.DEGREE g.EF.ExtensionField.coefficients (of_nat g.Val.Operations.ops) g.Val.Operations.ops.zero
 
 -- all requested matrices with their values
 abbrev nested : (g : Over) (params : FriParameters g.row.FriMmcs.Denot) (requests : List (OpeningRequest g.row.InputMmcs-ProverData.Denot g.row.EF.Denot)) (values : Openings g.row.EF.Denot) → List (List (Committed g.row.Val.Denot g.row.EF.Denot))
@@ -214,6 +214,8 @@ pub returns-clause-failure : goal.returns-clause-failure
 returns-clause-failure g c =
     let p = c.args.params.now in
     let r = challenger g in
+    let k = fields g in
+    let commits = g.FriMmcs.Mmcs.commits p.mmcs in
     let l = g.EF.Operations.ops in
     let batches = nested g p c.args.requests.now (openings c.args.values.now) in
     let claims = answered_claims p g.InputMmcs.Mmcs.matrices c.args.requests.now (openings c.args.values.now) in
@@ -224,16 +226,19 @@ returns-clause-failure g c =
     let shape = shape_is p claims (batches_of c.in_ok-widths.widths.items) c.greatest_height.result c.extra_query_index_bits-extra_bits.result (shape_of c.new-shape.result)
     (ap shape_of c.new-shape.ensures) wide high c.extra_query_index_bits-extra_bits.ensures in
     let s = g.C.ChallengerState.state c.args.challenger.now in
+    let flat = flat_map (λ b. b) batches in
+    let are : map committed_of c.deref-5.result.now ≡ flat = ap (map committed_of) c.deref-5.ensures.value ∙ c.in_ok-matrices.ensures.matrices in
     if_err _ _ c.open_words.result
     (λ e why.
     elim why [
       | inl refused ↦ inl refused
       | inr rest ↦
           elim rest [
-            | inl last ↦ inr (inl (subst (λ ms. IsTooHigh (fields g) p.log_blowup p.log_final_poly_len ms e) (ap (map committed_of) c.deref-5.ensures.value ∙ c.in_ok-matrices.ensures.matrices) last))
+            | inl last ↦ inr (inl (subst (λ ms. IsTooHigh k p.log_blowup p.log_final_poly_len ms e) are last))
             | inr stuck ↦
-                inr (inr (subst (λ cs. IsStuck r (numbers_of (shape_by p claims)) cs (seeded r (shape_by p claims) s) e) taken
-                (subst (λ sh. IsStuck r (numbers_of sh) (claims_of c.deref-4.result.now) (seeded r sh s) e) shape stuck)))
+                inr (inr (subst (λ cs. IsStuck r commits k p flat (numbers_of (shape_by p claims)) cs (seeded r (shape_by p claims) s) e) taken
+                (subst (λ sh. IsStuck r commits k p flat (numbers_of sh) (claims_of c.deref-4.result.now) (seeded r sh s) e) shape
+                (subst (λ ms. IsStuck r commits k p ms (numbers_of (shape_of c.new-shape.result)) (claims_of c.deref-4.result.now) (seeded r (shape_of c.new-shape.result) s) e) are stuck))))
           ]
     ])
     c.open_words.ensures.failure

@@ -1,24 +1,23 @@
-use Rattle.std.specs.Prelude.{◌⊎◌, All}
-use Rattle.std.proofs.Common.{◌≡◌, ◌+◌, ◌^◌, ◌<◌, ◌∷◌, [], length, map, refl, sym, ap, ◌∙◌, subst, arith}
+use Rattle.std.specs.Prelude.{All, zip}
+use Rattle.std.proofs.Common.{◌≡◌, ℕ, List, ◌+◌, ◌^◌, ◌<◌, ◌∷◌, [], length, map, refl, sym, ap, ◌∙◌, subst, arith, inl, inr}
 use Rattle.std.proofs.lemmas.List.{map-append, length_push}
+use Rattle.std.proofs.lemmas.Slice.Zip.{length-zip}
 use Rattle.std.proofs.lemmas.List.Elements.{All-nil}
 use Rattle.circle_challenger.specs.Moves.{RunMoves, run_moves}
-use Rattle.circle_matrix.specs.declared.params.PowPhase.TheVariants.{CommitPhase}
 use Rattle.circle_field.specs.Field.{of_nat}
 use Rattle.circle_relation.specs.Accepts.{Fields}
 use Rattle.circle_transcript.specs.Transcript.{numbers}
 use Rattle.circle_transcript.proofs.Playing.{handed_on, zeros_pushed}
 use Rattle.circle_runs.proofs.Runs.{rounds_all, next_round, rounds_none}
-use Rattle.circle_opening.specs.Failure.{IsStuckAfter}
+use Rattle.circle_opening.specs.Failure.{IsRoundsFailure}
 use Rattle.circle_opening.specs.Words.{word_at}
-use Rattle.circle_opening.specs.declared.error.ProverError.TheVariants.{Memory, NoGrindingWitness}
-use Rattle.circle_opening.proofs.Growing.{word_at-kept, word_at-next, rounds_begun, rounds_more, played_begun, played_more, or_stuck}
+use Rattle.circle_opening.proofs.Growing.{word_at-kept, word_at-next, rounds_begun, rounds_more, played_begun, played_more, stuck_after, words_committed}
 use Rattle.circle_opening.proofs.rounds.play_rounds.Given.{Over}
 use Rattle.circle_opening.proofs.rounds.play_rounds.Goals as goal
 
 -- what the challenger is to the run
 abbrev challenger : (g : Over) → RunMoves g.row.C.Denot g.row.C-State.Denot g.row.F.Denot g.row.EF.Denot g.row.M-Commitment.Denot
-challenger g = run_moves g.C.ChallengerState.state g.C.CanObserve-1.after_observe g.C.CanObserve-2.after_observe g.C.CanSample.sampled g.C.CanSample.after_sample g.C.CanSampleBits.sampled_bits g.C.CanSampleBits.after_bits g.EF.ExtensionField.DEGREE g.EF.ExtensionField.coefficients (of_nat g.F.Operations.ops) g.F.Operations.ops.zero
+challenger g = run_moves g.C.ChallengerState.state g.C.CanObserve-1.after_observe g.C.CanObserve-2.after_observe g.C.CanSample.sampled g.C.CanSample.after_sample g.C.CanSampleBits.sampled_bits g.C.CanSampleBits.after_bits g.C.GrindingChallenger.found_witness g.EF.ExtensionField.DEGREE g.EF.ExtensionField.coefficients (of_nat g.F.Operations.ops) g.F.Operations.ops.zero
 
 -- the fields of the run
 abbrev fields : (g : Over) → Fields g.row.F.Denot g.row.EF.Denot
@@ -61,8 +60,24 @@ returns-in_err-round-clause-failure g c =
     let bits = (numbers c.args.transcript.now).commit_pow_bits in
     let begun = g.C.ChallengerState.state c.args.transcript.now.challenger.now in
     let same_bits = ap (λ v. v.commit_pow_bits) c.loop-i.invariant.same.shape in
-    handed_on c.from_residual-in_err-round.result c.in_err-round.field-0.0 (λ e. (e ≡ Memory) ⊎ ((e ≡ NoGrindingWitness CommitPhase) × IsStuckAfter r bits begun)) c.from_residual-in_err-round.ensures.1
-    (or_stuck r bits begun _ _ _ _ same_bits c.loop-i.invariant.played c.in_err-round.ensures.failure)
+    let before = c.loop-i.invariant in
+    let rounds = c.loop-i.rounds in
+    let commits = g.M.Mmcs.commits c.args.mmcs.now in
+    let word : (ℕ → List g.row.EF.Denot) → List g.row.EF.Denot → ℕ → List g.row.EF.Denot = λ f. word_at (fields g) c.args.heights.now f c.args.log_height c.args.first.items in
+    let played = zip rounds.commitments.items rounds.witnesses.items in
+    let long : length played ≡ c.loop-i.i = (let e = length-zip rounds.commitments.items rounds.witnesses.items in omega (arith, e, before.commitments, before.witnesses)) in
+    handed_on c.from_residual-in_err-round.result c.in_err-round.field-0.0 (IsRoundsFailure r commits c.args.transcript.now (fields g) c.args.heights.now c.args.folded.now c.args.log_height c.args.first.items c.args.num_rounds) c.from_residual-in_err-round.ensures.1
+    (elim c.in_err-round.ensures.failure [
+      | inl refused ↦ inl refused
+      | inr stuck ↦
+          inr (
+            stuck.0,
+            λ f are. stuck_after r bits begun _ commits (word f) c.args.num_rounds played rounds.betas.items _ same_bits before.played
+                (words_committed commits g.M.Mmcs.matrices (word f rounds.betas.items) rounds.kept.items rounds.commitments.items rounds.witnesses.items (before.committed f are))
+                (omega (arith, long)) c.loop-i.word.items (before.word f are ∙ ap (word f rounds.betas.items) (sym long))
+                stuck.1 stuck.2 stuck.3,
+          )
+    ])
 
 pub loop-i-preserved : goal.loop-i-preserved
 loop-i-preserved g c =
@@ -100,7 +115,7 @@ loop-i-preserved g c =
       played =
           played_more r bits begun _ old.commitments.items new.commitments.items old.witnesses.items new.witnesses.items round.commitment round.witness
           (map coefficients old.betas.items) (map coefficients new.betas.items) (coefficients round.beta) _ _ (before.commitments ∙ sym before.witnesses) added.commitments added.witnesses same_bits before.played
-          played.passes played.challenge (ap (map coefficients) added.betas ∙ map-append coefficients old.betas.items (round.beta ∷ [])) played.state;
+          played.found played.passes played.challenge (ap (map coefficients) added.betas ∙ map-append coefficients old.betas.items (round.beta ∷ [])) played.state;
       length = ap length is_word ∙ played.length ∙ ap (λ m. 2 ^ m) (omega arith);
       committed = λ f are.
           rounds_more (g.M.Mmcs.commits c.args.mmcs.now) g.M.Mmcs.matrices

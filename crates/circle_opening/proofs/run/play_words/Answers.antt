@@ -1,10 +1,10 @@
-use Rattle.std.specs.Prelude.{◌⊎◌, IsTrue, Ok, Err, unwrap_or, zip}
+use Rattle.std.specs.Prelude.{IsTrue, Ok, Err, unwrap_or, zip}
 use Rattle.std.proofs.Common.{◌≡◌, ◌<◌, ◌≤◌, ◌-◌, ◌+◌, ◌^◌, ◌++◌, [], ℕ, List, All, length, map, take, refl, sym, ap, ◌∙◌, subst, arith, inl, inr}
 use Rattle.std.proofs.lemmas.List.Elements.{All-map}
-use Rattle.circle_challenger.specs.Moves.{RunMoves, run_moves, after_element, after_pow, is_passed}
+use Rattle.std.proofs.lemmas.Slice.Zip.{length-zip}
+use Rattle.circle_challenger.specs.Moves.{RunMoves, run_moves, after_element, after_pow, drawn_element, is_passed}
 use Rattle.circle_matrix.specs.declared.params.PowPhase.TheVariants.{CommitPhase, Query}
 use Rattle.circle_field.specs.Field.{of_nat}
-use Rattle.circle_folding.specs.Fold.{y_folds}
 use Rattle.circle_relation.specs.Accepts.{Fields}
 use Rattle.circle_transcript.specs.Claims.{claims_of}
 use Rattle.circle_transcript.specs.Draw.{after_final_poly, after_indices, draw_seeded, drawn_indices, taken}
@@ -16,15 +16,13 @@ use Rattle.circle_transcript.specs.declared.transcript.Numbers.{Numbers}
 use Rattle.circle_runs.proofs.Drawn.{AtRounds, at_layer, at_query, all_drawn, drawn_parts}
 use Rattle.circle_transcript.proofs.Playing.{handed_on, unwrap_none}
 use Rattle.circle_runs.proofs.Runs.{indices_due}
-use Rattle.circle_matrix.specs.RowMajorMatrix.{rows}
-use Rattle.circle_matrix.specs.DotProduct.{pairwise}
 use Rattle.circle_domain.specs.Spans.{HasXValues, XSpan}
 use Rattle.circle_words.specs.Words.{Committed, HaveHeights, committed_of, lambda}
-use Rattle.circle_opening.specs.Failure.{IsStuck, IsTooHigh, prover_error}
-use Rattle.circle_opening.specs.declared.error.ProverError.TheVariants.{Memory}
-use Rattle.circle_opening.specs.Words.{AreCommitted, first_fold, heights_of, layer_of, round_word, top_of, word_at}
-use Rattle.circle_opening.proofs.Tops.{front-of, height-known, heights-end, lower, some-heights, split-last, pairwise-map, rounds-alike, top-known, word-alike}
-use Rattle.circle_opening.proofs.Stuck.{stuck-query, stuck-rounds}
+use Rattle.circle_opening.specs.Failure.{Begins, IsRunFailure, prover_error}
+use Rattle.circle_opening.specs.Words.{AreCommitted, first_fold, heights_of, layer_of, round_word, top_of}
+use Rattle.circle_opening.proofs.Growing.{words_committed}
+use Rattle.circle_opening.proofs.Tops.{folds-split, front-of, height-known, heights-end, lower, some-heights, split-last, rounds-alike, top-known, words-alike}
+use Rattle.circle_opening.proofs.Stuck.{rounds-moved, stuck-moved, stuck-query}
 use Rattle.circle_opening.proofs.run.play_words.Given.{Over}
 use Rattle.circle_opening.proofs.run.play_words.Goals as goal
 
@@ -149,10 +147,33 @@ fields g = record { field = g.F.Operations.ops; gen = g.F.ComplexExtendable.gene
 
 -- what the challenger is to the run
 abbrev challenger : (g : Over) → RunMoves g.row.C.Denot g.row.C-State.Denot g.row.F.Denot g.row.EF.Denot g.row.M-Commitment.Denot
-challenger g = run_moves g.C.ChallengerState.state g.C.CanObserve-1.after_observe g.C.CanObserve-2.after_observe g.C.CanSample.sampled g.C.CanSample.after_sample g.C.CanSampleBits.sampled_bits g.C.CanSampleBits.after_bits g.EF.ExtensionField.DEGREE g.EF.ExtensionField.coefficients (of_nat g.F.Operations.ops) g.F.Operations.ops.zero
+challenger g = run_moves g.C.ChallengerState.state g.C.CanObserve-1.after_observe g.C.CanObserve-2.after_observe g.C.CanSample.sampled g.C.CanSample.after_sample g.C.CanSampleBits.sampled_bits g.C.CanSampleBits.after_bits g.C.GrindingChallenger.found_witness g.EF.ExtensionField.DEGREE g.EF.ExtensionField.coefficients (of_nat g.F.Operations.ops) g.F.Operations.ops.zero
 
 pub returns-in_err-rounds-clause-failure : goal.returns-in_err-rounds-clause-failure
 returns-in_err-rounds-clause-failure g c =
+    let k = fields g in
+    let p = c.args.params.now in
+    let ms = map committed_of c.args.matrices.now in
+    let b = p.log_blowup in
+    let f = p.log_final_poly_len in
+    let commits = g.M.Mmcs.commits p.mmcs in
+    let alpha = c.in_ok-alpha.alpha in
+    let bivariate = c.first_layer-bivariate.result in
+    let layers = g.M.Mmcs.matrices c.in_ok-layer.layer.kept in
+    let fold = first_fold k b ms alpha bivariate in
+    let tall = top-known ms (λ h. b + f + 2 ≤ h) c.requires.tall.0 c.requires.tall.1 in
+    let hs1 : c.deref.result.now ≡ heights_of ms = c.deref.ensures.value ∙ c.in_ok-heights.ensures in
+    let committed = subst (λ hs. AreCommitted commits (map (layer_of k b ms alpha) hs) layers c.in_ok-layer.layer.commitment) hs1 c.in_ok-layer.ensures.committed in
+    let both = folds-split k b ms alpha bivariate c.deref-2.result.now layers (map (λ w. w.items) c.in_ok-tallest.joining.items) c.in_ok-tallest.tallest.items c.requires.tall.0
+    (c.deref-2.ensures.value ∙ c.in_ok-heights.ensures) committed.rows c.in_ok-tallest.ensures.words in
+    let ends = c.in_ok-heights.ensures ∙ heights-end ms c.requires.tall.0 in
+    let kept : take (c.len.result - 1) c.deref-3.result.now ≡ lower ms =
+    front-of c.deref-3.result.now c.len.result (lower ms) (top_of ms) (c.deref-3.ensures.value ∙ ends) (c.len.ensures ∙ c.in_ok-heights.heights.ok.0 ∙ ap length ends) in
+    let are : map (λ w. w.items) c.deref-4.result.now ≡ map fold (take (c.len.result - 1) c.deref-3.result.now) =
+    ap (map (λ w. w.items)) c.deref-4.ensures.value ∙ both.0 ∙ ap (map fold) (sym kept) in
+    let high = c.greatest_height-log_max_height.ensures in
+    let alike = words-alike k b ms alpha bivariate (take (c.len.result - 1) c.deref-3.result.now) c.greatest_height-log_max_height.result c.in_ok-tallest.tallest.items c.requires.tall.0 (omega (arith, tall)) kept high both.1 in
+    let count : c.greatest_height-log_max_height.result - 1 - (b + f) ≡ top_of ms - 1 - b - f = omega (arith, high) in
     let r = challenger g in
     let zero = g.F.Operations.ops.zero in
     let n = numbers c.args.transcript.now in
@@ -162,56 +183,59 @@ returns-in_err-rounds-clause-failure g c =
     let same2 = c.first_layer-bivariate.ensures.same.shape ∙ c.batch_phase.ensures.same.shape in
     let second : AtRounds r n all s (numbers c.first_layer-bivariate.new.self) (g.C.ChallengerState.state c.first_layer-bivariate.new.self.challenger.now) =
     record { same = same2; batch = c.in_ok-alpha.ensures.passes; state = c.first_layer-bivariate.ensures.state ∙ ap (after_element r.base) (at_layer r n all s _ c.in_ok-alpha.ensures.state) } in
-    handed_on c.from_residual-in_err-rounds.result c.in_err-rounds.field-0.0 (λ e. (e ≡ Memory) ⊎ (IsTooHigh (fields g) c.args.params.now.log_blowup c.args.params.now.log_final_poly_len (map committed_of c.args.matrices.now) e ⊎ IsStuck r n claims s e)) c.from_residual-in_err-rounds.ensures.1
+    let begins : Begins r commits k p ms n claims s all alpha bivariate = record {
+      same = refl;
+      found = c.in_ok-alpha.ensures.found;
+      batching = c.in_ok-alpha.ensures.challenge;
+      first_layer = (layers, committed);
+      folding = c.first_layer-bivariate.ensures.challenge ∙ ap (drawn_element r.base) (at_layer r n all s _ c.in_ok-alpha.ensures.state);
+    } in
+    handed_on c.from_residual-in_err-rounds.result c.in_err-rounds.field-0.0 (IsRunFailure r commits k p c.args.matrices.now c.args.claims.now c.args.transcript.now) c.from_residual-in_err-rounds.ensures.1
     (elim c.in_err-rounds.ensures.failure [
       | inl refused ↦ inl refused
-      | inr stuck ↦ inr (inr (CommitPhase, stuck.0, stuck-rounds r n claims s all refl _ _ second stuck.1))
+      | inr stuck ↦
+          inr (inr (
+            CommitPhase,
+            stuck.0,
+            record {
+              taken = all;
+              alpha = alpha;
+              bivariate = bivariate;
+              begins = begins;
+              stuck = stuck-moved r commits n (numbers c.first_layer-bivariate.new.self) _ _ _ _ _ _ same2 second.state count alike (stuck.1 fold are);
+            },
+          ))
     ])
 
 pub returns-in_err-final_poly-clause-failure : goal.returns-in_err-final_poly-clause-failure
 returns-in_err-final_poly-clause-failure g c =
     let k = fields g in
+    let p = c.args.params.now in
     let ms = map committed_of c.args.matrices.now in
-    let b = c.args.params.now.log_blowup in
-    let f = c.args.params.now.log_final_poly_len in
-    let top = top_of ms in
+    let b = p.log_blowup in
+    let f = p.log_final_poly_len in
+    let commits = g.M.Mmcs.commits p.mmcs in
     let alpha = c.in_ok-alpha.alpha in
     let bivariate = c.first_layer-bivariate.result in
-    let betas = c.in_ok-rounds.rounds.betas.items in
-    let layer = layer_of k b ms alpha in
+    let layers = g.M.Mmcs.matrices c.in_ok-layer.layer.kept in
     let fold = first_fold k b ms alpha bivariate in
     let tall = top-known ms (λ h. b + f + 2 ≤ h) c.requires.tall.0 c.requires.tall.1 in
-    let ends = heights-end ms c.requires.tall.0 in
     let hs1 : c.deref.result.now ≡ heights_of ms = c.deref.ensures.value ∙ c.in_ok-heights.ensures in
-    let hs2 : c.deref-2.result.now ≡ heights_of ms = c.deref-2.ensures.value ∙ c.in_ok-heights.ensures in
-    let committed = subst (λ hs. AreCommitted (g.M.Mmcs.commits c.args.params.now.mmcs) (map layer hs) (g.M.Mmcs.matrices c.in_ok-layer.layer.kept) c.in_ok-layer.layer.commitment) hs1 c.in_ok-layer.ensures.committed in
-    let yf : ℕ → List (List g.row.EF.Denot) → List g.row.EF.Denot = λ h rs. y_folds k.field k.gen k.extension k.embed (h - 1) bivariate rs in
-    let folds = c.in_ok-tallest.ensures.words
-    ∙ ap (λ hs. pairwise yf hs (map rows (g.M.Mmcs.matrices c.in_ok-layer.layer.kept))) hs2 ∙ ap (pairwise yf (heights_of ms)) committed.rows
-    ∙ pairwise-map yf layer (heights_of ms) ∙ ap (map fold) ends in
-    let both = split-last fold (map (λ w. w.items) c.in_ok-tallest.joining.items) c.in_ok-tallest.tallest.items (lower ms) top folds in
-    let first : c.in_ok-tallest.tallest.items ≡ fold top = both.1 in
+    let committed = subst (λ hs. AreCommitted commits (map (layer_of k b ms alpha) hs) layers c.in_ok-layer.layer.commitment) hs1 c.in_ok-layer.ensures.committed in
+    let both = folds-split k b ms alpha bivariate c.deref-2.result.now layers (map (λ w. w.items) c.in_ok-tallest.joining.items) c.in_ok-tallest.tallest.items c.requires.tall.0
+    (c.deref-2.ensures.value ∙ c.in_ok-heights.ensures) committed.rows c.in_ok-tallest.ensures.words in
+    let ends = c.in_ok-heights.ensures ∙ heights-end ms c.requires.tall.0 in
     let kept : take (c.len.result - 1) c.deref-3.result.now ≡ lower ms =
-    front-of c.deref-3.result.now c.len.result (lower ms) top (c.deref-3.ensures.value ∙ c.in_ok-heights.ensures ∙ ends)
-    (c.len.ensures ∙ c.in_ok-heights.heights.ok.0 ∙ ap length (c.in_ok-heights.ensures ∙ ends)) in
+    front-of c.deref-3.result.now c.len.result (lower ms) (top_of ms) (c.deref-3.ensures.value ∙ ends) (c.len.ensures ∙ c.in_ok-heights.heights.ok.0 ∙ ap length ends) in
     let are : map (λ w. w.items) c.deref-4.result.now ≡ map fold (take (c.len.result - 1) c.deref-3.result.now) =
     ap (map (λ w. w.items)) c.deref-4.ensures.value ∙ both.0 ∙ ap (map fold) (sym kept) in
     let high = c.greatest_height-log_max_height.ensures in
-    let low : top - 1 < top = omega (arith, tall) in
-    let alike : (n : ℕ) → word_at k (take (c.len.result - 1) c.deref-3.result.now) fold (c.greatest_height-log_max_height.result - 1) c.in_ok-tallest.tallest.items betas n
-    ≡ round_word k b ms alpha bivariate betas n = λ n.
-    ap (λ hs. word_at k hs fold (c.greatest_height-log_max_height.result - 1) c.in_ok-tallest.tallest.items betas n) kept
-    ∙ ap (λ t. word_at k (lower ms) fold (t - 1) c.in_ok-tallest.tallest.items betas n) high
-    ∙ ap (λ w. word_at k (lower ms) fold (top - 1) w betas n) first
-    ∙ word-alike k (lower ms) top fold (top - 1) (fold top) betas low n
-    ∙ ap (λ hs. word_at k hs fold (top - 1) (fold top) betas n) (sym ends) in
-    let n = numbers c.args.transcript.now in
-    let claims = claims_of c.args.claims.now in
-    let s = g.C.ChallengerState.state c.args.transcript.now.challenger.now in
-    let count : c.greatest_height-log_max_height.result - 1 - (b + f) ≡ top - 1 - b - f = omega (arith, high) in
-    let is_last : c.deref-5.result.now ≡ round_word k b ms alpha bivariate betas (top - 1 - b - f) =
-    c.deref-5.ensures.value ∙ c.in_ok-rounds.ensures.word fold are ∙ alike _ ∙ ap (round_word k b ms alpha bivariate betas) count in
-    handed_on c.from_residual-in_err-final_poly.result c.in_err-final_poly.field-0.0 (λ e. (e ≡ Memory) ⊎ (IsTooHigh k b f ms e ⊎ IsStuck (challenger g) n claims s e)) c.from_residual-in_err-final_poly.ensures.1
+    let alike = words-alike k b ms alpha bivariate (take (c.len.result - 1) c.deref-3.result.now) c.greatest_height-log_max_height.result c.in_ok-tallest.tallest.items c.requires.tall.0 (omega (arith, tall)) kept high both.1 in
+    let count : c.greatest_height-log_max_height.result - 1 - (b + f) ≡ top_of ms - 1 - b - f = omega (arith, high) in
+    let betas = c.in_ok-rounds.rounds.betas.items in
+    let is_last : c.deref-5.result.now ≡ round_word k b ms alpha bivariate betas (top_of ms - 1 - b - f) =
+    c.deref-5.ensures.value ∙ c.in_ok-rounds.ensures.word fold are ∙ alike betas _ ∙ ap (round_word k b ms alpha bivariate betas) count in
+    handed_on c.from_residual-in_err-final_poly.result c.in_err-final_poly.field-0.0 (IsRunFailure (challenger g) commits k p c.args.matrices.now c.args.claims.now c.args.transcript.now) c.from_residual-in_err-final_poly.ensures.1
     (elim c.in_err-final_poly.ensures.failure [
       | inl refused ↦ inl refused
       | inr high ↦
@@ -253,25 +277,69 @@ returns-clause-due g c =
 
 pub returns-in_err-indices-clause-failure : goal.returns-in_err-indices-clause-failure
 returns-in_err-indices-clause-failure g c =
+    let k = fields g in
+    let p = c.args.params.now in
+    let ms = map committed_of c.args.matrices.now in
+    let b = p.log_blowup in
+    let f = p.log_final_poly_len in
+    let commits = g.M.Mmcs.commits p.mmcs in
+    let alpha = c.in_ok-alpha.alpha in
+    let bivariate = c.first_layer-bivariate.result in
+    let layers = g.M.Mmcs.matrices c.in_ok-layer.layer.kept in
+    let fold = first_fold k b ms alpha bivariate in
+    let tall = top-known ms (λ h. b + f + 2 ≤ h) c.requires.tall.0 c.requires.tall.1 in
+    let hs1 : c.deref.result.now ≡ heights_of ms = c.deref.ensures.value ∙ c.in_ok-heights.ensures in
+    let committed = subst (λ hs. AreCommitted commits (map (layer_of k b ms alpha) hs) layers c.in_ok-layer.layer.commitment) hs1 c.in_ok-layer.ensures.committed in
+    let both = folds-split k b ms alpha bivariate c.deref-2.result.now layers (map (λ w. w.items) c.in_ok-tallest.joining.items) c.in_ok-tallest.tallest.items c.requires.tall.0
+    (c.deref-2.ensures.value ∙ c.in_ok-heights.ensures) committed.rows c.in_ok-tallest.ensures.words in
+    let ends = c.in_ok-heights.ensures ∙ heights-end ms c.requires.tall.0 in
+    let kept : take (c.len.result - 1) c.deref-3.result.now ≡ lower ms =
+    front-of c.deref-3.result.now c.len.result (lower ms) (top_of ms) (c.deref-3.ensures.value ∙ ends) (c.len.ensures ∙ c.in_ok-heights.heights.ok.0 ∙ ap length ends) in
+    let are : map (λ w. w.items) c.deref-4.result.now ≡ map fold (take (c.len.result - 1) c.deref-3.result.now) =
+    ap (map (λ w. w.items)) c.deref-4.ensures.value ∙ both.0 ∙ ap (map fold) (sym kept) in
+    let high = c.greatest_height-log_max_height.ensures in
+    let alike = words-alike k b ms alpha bivariate (take (c.len.result - 1) c.deref-3.result.now) c.greatest_height-log_max_height.result c.in_ok-tallest.tallest.items c.requires.tall.0 (omega (arith, tall)) kept high both.1 in
+    let count : c.greatest_height-log_max_height.result - 1 - (b + f) ≡ top_of ms - 1 - b - f = omega (arith, high) in
     let r = challenger g in
     let zero = g.F.Operations.ops.zero in
     let n = numbers c.args.transcript.now in
     let s = g.C.ChallengerState.state c.args.transcript.now.challenger.now in
     let claims = claims_of c.args.claims.now in
-    let rounds = zip c.in_ok-rounds.rounds.commitments.items c.in_ok-rounds.rounds.witnesses.items in
+    let commitments = c.in_ok-rounds.rounds.commitments.items in
+    let witnesses = c.in_ok-rounds.rounds.witnesses.items in
+    let rounds = zip commitments witnesses in
+    let betas = c.in_ok-rounds.rounds.betas.items in
+    let word = round_word k b ms alpha bivariate in
     let all = taken claims (unwrap_or c.in_ok-alpha.batch zero) c.in_ok-layer.layer.commitment rounds c.in_ok-final_poly.final_poly.items zero in
     let same2 = c.first_layer-bivariate.ensures.same.shape ∙ c.batch_phase.ensures.same.shape in
     let second : AtRounds r n all s (numbers c.first_layer-bivariate.new.self) (g.C.ChallengerState.state c.first_layer-bivariate.new.self.challenger.now) =
     record { same = same2; batch = c.in_ok-alpha.ensures.passes; state = c.first_layer-bivariate.ensures.state ∙ ap (after_element r.base) (at_layer r n all s _ c.in_ok-alpha.ensures.state) } in
+    let begins : Begins r commits k p ms n claims s all alpha bivariate = record {
+      same = refl;
+      found = c.in_ok-alpha.ensures.found;
+      batching = c.in_ok-alpha.ensures.challenge;
+      first_layer = (layers, committed);
+      folding = c.first_layer-bivariate.ensures.challenge ∙ ap (drawn_element r.base) (at_layer r n all s _ c.in_ok-alpha.ensures.state);
+    } in
     let third = at_query r n all s (numbers c.play_rounds.new.transcript) _ _ _ second c.play_rounds.ensures.same.shape c.in_ok-rounds.ensures.played.passes c.in_ok-rounds.ensures.played.state in
-    handed_on c.from_residual-in_err-indices.result (prover_error c.in_err-indices.field-0.0) (λ e. (e ≡ Memory) ⊎ (IsTooHigh (fields g) c.args.params.now.log_blowup c.args.params.now.log_final_poly_len (map committed_of c.args.matrices.now) e ⊎ IsStuck r n claims s e)) c.from_residual-in_err-indices.ensures.1
+    let is_last : c.deref-5.result.now ≡ word betas (top_of ms - 1 - b - f) = c.deref-5.ensures.value ∙ c.in_ok-rounds.ensures.word fold are ∙ alike betas _ ∙ ap (word betas) count in
+    let played = rounds-moved r commits n (numbers c.first_layer-bivariate.new.self) _ _ word word rounds betas same2 second.state (λ i. refl) (record {
+      found = c.in_ok-rounds.ensures.played.found;
+      drawn = c.in_ok-rounds.ensures.played.challenges;
+      committed = words_committed commits g.M.Mmcs.matrices (word betas) c.in_ok-rounds.rounds.kept.items commitments witnesses
+          (rounds-alike commits g.M.Mmcs.matrices _ (word betas) c.in_ok-rounds.rounds.kept.items commitments (alike betas) (c.in_ok-rounds.ensures.committed fold are));
+    }) in
+    let long : length rounds ≡ top_of ms - 1 - b - f =
+    (let e = length-zip commitments witnesses in omega (arith, e, c.in_ok-rounds.ensures.commitments, c.in_ok-rounds.ensures.witnesses, count)) in
+    handed_on c.from_residual-in_err-indices.result (prover_error c.in_err-indices.field-0.0) (IsRunFailure r commits k p c.args.matrices.now c.args.claims.now c.args.transcript.now) c.from_residual-in_err-indices.ensures.1
     (elim c.in_err-indices.ensures.failure [
       | inl refused ↦ inl (ap prover_error refused)
       | inr none ↦
           inr (inr (
             Query,
             ap prover_error none,
-            stuck-query r n claims s all refl _ _ third
+            stuck-query r commits k p ms n claims s all alpha bivariate begins betas _ _ third played long
+                (subst (λ w. HasXValues k.field k.gen k.extension k.embed f (b + f) w c.in_ok-final_poly.final_poly.items) is_last c.in_ok-final_poly.ensures.values)
                 (subst (λ xs. NonePasses r.base (after_final_poly r.base (g.C.ChallengerState.state c.play_rounds.new.transcript.challenger.now) xs) (numbers c.play_rounds.new.transcript).query_pow_bits) c.deref-6.ensures.value
                 (c.query_phase.ensures.none (c.in_err-indices.was ∙ ap Err none))),
           ))
@@ -332,53 +400,43 @@ returns-clause-draws g c =
 
 pub returns-clause-words : goal.returns-clause-words
 returns-clause-words g c =
-    let k : Fields g.row.F.Denot g.row.EF.Denot = record { field = g.F.Operations.ops; gen = g.F.ComplexExtendable.generators; two_adicity = g.F.ComplexExtendable.CIRCLE_TWO_ADICITY; is_zero = λ w. g.F.PartialEq.eq w g.F.Field.ZERO; extension = g.EF.Operations.ops; embed = g.EF.ExtensionField.embed; same = g.EF.PartialEq.eq } in
+    let k = fields g in
+    let p = c.args.params.now in
     let ms = map committed_of c.args.matrices.now in
-    let b = c.args.params.now.log_blowup in
-    let f = c.args.params.now.log_final_poly_len in
-    let top = top_of ms in
+    let b = p.log_blowup in
+    let f = p.log_final_poly_len in
+    let commits = g.M.Mmcs.commits p.mmcs in
     let alpha = c.in_ok-alpha.alpha in
     let bivariate = c.first_layer-bivariate.result in
-    let betas = c.in_ok-rounds.rounds.betas.items in
-    let layer = layer_of k b ms alpha in
+    let layers = g.M.Mmcs.matrices c.in_ok-layer.layer.kept in
     let fold = first_fold k b ms alpha bivariate in
     let tall = top-known ms (λ h. b + f + 2 ≤ h) c.requires.tall.0 c.requires.tall.1 in
-    let ends = heights-end ms c.requires.tall.0 in
     let hs1 : c.deref.result.now ≡ heights_of ms = c.deref.ensures.value ∙ c.in_ok-heights.ensures in
-    let hs2 : c.deref-2.result.now ≡ heights_of ms = c.deref-2.ensures.value ∙ c.in_ok-heights.ensures in
-    let committed = subst (λ hs. AreCommitted (g.M.Mmcs.commits c.args.params.now.mmcs) (map layer hs) (g.M.Mmcs.matrices c.in_ok-layer.layer.kept) c.in_ok-layer.layer.commitment) hs1 c.in_ok-layer.ensures.committed in
-    let yf : ℕ → List (List g.row.EF.Denot) → List g.row.EF.Denot = λ h rs. y_folds k.field k.gen k.extension k.embed (h - 1) bivariate rs in
-    let folds = c.in_ok-tallest.ensures.words
-    ∙ ap (λ hs. pairwise yf hs (map rows (g.M.Mmcs.matrices c.in_ok-layer.layer.kept))) hs2 ∙ ap (pairwise yf (heights_of ms)) committed.rows
-    ∙ pairwise-map yf layer (heights_of ms) ∙ ap (map fold) ends in
-    let both = split-last fold (map (λ w. w.items) c.in_ok-tallest.joining.items) c.in_ok-tallest.tallest.items (lower ms) top folds in
-    let first : c.in_ok-tallest.tallest.items ≡ fold top = both.1 in
+    let committed = subst (λ hs. AreCommitted commits (map (layer_of k b ms alpha) hs) layers c.in_ok-layer.layer.commitment) hs1 c.in_ok-layer.ensures.committed in
+    let both = folds-split k b ms alpha bivariate c.deref-2.result.now layers (map (λ w. w.items) c.in_ok-tallest.joining.items) c.in_ok-tallest.tallest.items c.requires.tall.0
+    (c.deref-2.ensures.value ∙ c.in_ok-heights.ensures) committed.rows c.in_ok-tallest.ensures.words in
+    let ends = c.in_ok-heights.ensures ∙ heights-end ms c.requires.tall.0 in
     let kept : take (c.len.result - 1) c.deref-3.result.now ≡ lower ms =
-    front-of c.deref-3.result.now c.len.result (lower ms) top (c.deref-3.ensures.value ∙ c.in_ok-heights.ensures ∙ ends)
-    (c.len.ensures ∙ c.in_ok-heights.heights.ok.0 ∙ ap length (c.in_ok-heights.ensures ∙ ends)) in
+    front-of c.deref-3.result.now c.len.result (lower ms) (top_of ms) (c.deref-3.ensures.value ∙ ends) (c.len.ensures ∙ c.in_ok-heights.heights.ok.0 ∙ ap length ends) in
     let are : map (λ w. w.items) c.deref-4.result.now ≡ map fold (take (c.len.result - 1) c.deref-3.result.now) =
     ap (map (λ w. w.items)) c.deref-4.ensures.value ∙ both.0 ∙ ap (map fold) (sym kept) in
     let high = c.greatest_height-log_max_height.ensures in
-    let low : top - 1 < top = omega (arith, tall) in
-    let alike : (n : ℕ) → word_at k (take (c.len.result - 1) c.deref-3.result.now) fold (c.greatest_height-log_max_height.result - 1) c.in_ok-tallest.tallest.items betas n
-    ≡ round_word k b ms alpha bivariate betas n = λ n.
-    ap (λ hs. word_at k hs fold (c.greatest_height-log_max_height.result - 1) c.in_ok-tallest.tallest.items betas n) kept
-    ∙ ap (λ t. word_at k (lower ms) fold (t - 1) c.in_ok-tallest.tallest.items betas n) high
-    ∙ ap (λ w. word_at k (lower ms) fold (top - 1) w betas n) first
-    ∙ word-alike k (lower ms) top fold (top - 1) (fold top) betas low n
-    ∙ ap (λ hs. word_at k hs fold (top - 1) (fold top) betas n) (sym ends) in
+    let alike = words-alike k b ms alpha bivariate (take (c.len.result - 1) c.deref-3.result.now) c.greatest_height-log_max_height.result c.in_ok-tallest.tallest.items c.requires.tall.0 (omega (arith, tall)) kept high both.1 in
+    let count : c.greatest_height-log_max_height.result - 1 - (b + f) ≡ top_of ms - 1 - b - f = omega (arith, high) in
+    let betas = c.in_ok-rounds.rounds.betas.items in
+    let word = round_word k b ms alpha bivariate betas in
     let many : length c.in_ok-rounds.rounds.commitments.items ≡ c.greatest_height-log_max_height.result - 1 - (b + f) = c.in_ok-rounds.ensures.commitments in
     record {
       heights = c.in_ok-heights.ensures;
       top = high;
       lambdas = c.in_ok-layer.ensures.lambdas ∙ ap (map (lambda k alpha ms b)) hs1;
       first_layer = committed;
-      shapes = subst (λ hs. HaveHeights hs (g.M.Mmcs.matrices c.in_ok-layer.layer.kept)) hs1 c.in_ok-layer.ensures.shapes;
-      count = many ∙ (let e : c.greatest_height-log_max_height.result - 1 - (b + f) ≡ top - 1 - b - f = omega (arith, high) in e);
+      shapes = subst (λ hs. HaveHeights hs layers) hs1 c.in_ok-layer.ensures.shapes;
+      count = many ∙ count;
       witnesses = c.in_ok-rounds.ensures.witnesses ∙ sym many;
-      rounds = rounds-alike (g.M.Mmcs.commits c.args.params.now.mmcs) g.M.Mmcs.matrices _ (round_word k b ms alpha bivariate betas) c.in_ok-rounds.rounds.kept.items c.in_ok-rounds.rounds.commitments.items alike (c.in_ok-rounds.ensures.committed fold are);
+      rounds = rounds-alike commits g.M.Mmcs.matrices _ word c.in_ok-rounds.rounds.kept.items c.in_ok-rounds.rounds.commitments.items (alike betas) (c.in_ok-rounds.ensures.committed fold are);
       final_poly =
           subst (λ w. HasXValues k.field k.gen k.extension k.embed f (b + f) w c.in_ok-final_poly.final_poly.items)
-          (c.deref-5.ensures.value ∙ c.in_ok-rounds.ensures.word fold are ∙ alike _ ∙ ap (round_word k b ms alpha bivariate betas) (sym many))
+          (c.deref-5.ensures.value ∙ c.in_ok-rounds.ensures.word fold are ∙ alike betas _ ∙ ap word (sym many))
           c.in_ok-final_poly.ensures.values;
     }

@@ -30,7 +30,7 @@ returns-in-Err-open-clause-accepted g c =
     let points = lists c.args.points in
     let asked = c.in_ok-copies_of.ensures ∙ ap (λ vs. map (λ v. v.items) vs) c.deref-2.ensures.value in
     no-refusal _ _ _ _ c.refused-in-Err-open.ensures.other c.is_prover_memory-in-Err-open.ensures (λ can.
-    g.met.P.Pcs.honest_open pcs c.in_ok-requests.requests.items state c.in-Err-open.error
+    g.met.P.Pcs.honest_open pcs c.in_ok-requests.requests.items state (g.C.ChallengerState.state c.open.new.challenger) c.in-Err-open.error
     (is-honest commits _ _ batch commitment c.in_ok-requests.ensures c.in-Ok.ensures.committed (g.P.Pcs.opens_at pcs) points asked can.0)
     (finds commits _ _ batch commitment c.in_ok-requests.ensures c.in-Ok.ensures.committed (g.P.Pcs.finds_witnesses pcs) points state asked can.1)
     c.in-Err-open.ensures.refused)
@@ -75,11 +75,11 @@ returns-in-Ok-verify-clause-states g c =
     let one = popped _ _ c.in_ok-requests.ensures ws c.pop.new.self.items c.pop.result c.unwrap-values.result have c.pop.ensures.items c.unwrap-values.ensures in
     let made = c.in_ok-matrices.ensures in
     let answered = is-answered (g.P.Pcs.commits pcs) _ _ c.args.batch.items c.in-Ok.committed.0 c.in_ok-requests.ensures c.in-Ok.ensures.committed
-    (openings ws) _ claims _ (lists c.args.points) asked (ap openings one) c.in_ok-claims.ensures refl
+    g.P.Domain.PolynomialSpace.size (openings ws) _ claims _ (lists c.args.points) asked (ap openings one) c.in_ok-claims.ensures refl
     (made.domains ∙ c.deref-3.ensures.value ∙ c.in_ok-domains.ensures ∙ ap (λ ms. map (λ m. m.0) ms) c.deref.ensures.value)
     (made.points ∙ ap (λ vs. map (λ v. v.items) vs) c.deref-4.ensures.value) (made.values ∙ ap opened_rows c.deref-5.ensures.value)
     (All-map (λ ts. 1 ≤ length ts) (λ v. v.items) c.args.points.items c.requires.some) in
-    let accepted = g.met.P.Pcs.complete pcs requests (openings ws) claims proof state left answered c.in-Ok-open.ensures.opened in
+    let accepted = g.met.P.Pcs.complete pcs requests (openings ws) proof state left c.in-Ok-open.ensures.opened claims answered in
     g.met.P.Pcs.one_state pcs claims proof _ left _ (subst (λ s. g.P.Pcs.verify_accepts pcs claims proof s left) c.requires.same accepted) c.in-Ok-verify.ensures.accepted
 
 pub returns-clause-accepted : goal.returns-clause-accepted
@@ -96,11 +96,11 @@ returns-clause-accepted g c =
     let one = popped _ _ c.in_ok-requests.ensures ws c.pop.new.self.items c.pop.result c.unwrap-values.result have c.pop.ensures.items c.unwrap-values.ensures in
     let made = c.in_ok-matrices.ensures in
     let answered = is-answered (g.P.Pcs.commits pcs) _ _ c.args.batch.items c.in-Ok.committed.0 c.in_ok-requests.ensures c.in-Ok.ensures.committed
-    (openings ws) _ claims _ (lists c.args.points) asked (ap openings one) c.in_ok-claims.ensures refl
+    g.P.Domain.PolynomialSpace.size (openings ws) _ claims _ (lists c.args.points) asked (ap openings one) c.in_ok-claims.ensures refl
     (made.domains ∙ c.deref-3.ensures.value ∙ c.in_ok-domains.ensures ∙ ap (λ ms. map (λ m. m.0) ms) c.deref.ensures.value)
     (made.points ∙ ap (λ vs. map (λ v. v.items) vs) c.deref-4.ensures.value) (made.values ∙ ap opened_rows c.deref-5.ensures.value)
     (All-map (λ ts. 1 ≤ length ts) (λ v. v.items) c.args.points.items c.requires.some) in
-    let accepted = g.met.P.Pcs.complete pcs requests (openings ws) claims proof state left answered c.in-Ok-open.ensures.opened in
+    let accepted = g.met.P.Pcs.complete pcs requests (openings ws) proof state left c.in-Ok-open.ensures.opened claims answered in
     no-refusal _ _ _ _ c.refused-in-Err-verify.ensures.other c.is_memory.ensures (λ can.
     c.in-Err-verify.ensures.refused left (subst (λ s. g.P.Pcs.verify_accepts pcs claims proof s left) c.requires.same accepted))
 

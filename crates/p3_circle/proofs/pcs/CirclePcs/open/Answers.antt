@@ -1,6 +1,9 @@
 use Rattle.std.specs.Prelude.{Ok}
 use Rattle.std.proofs.Common.{◌≡◌, ◌∙◌, All, sym, subst}
+use Rattle.circle_challenger.specs.Moves.{RunMoves, run_moves}
+use Rattle.circle_field.specs.Field.{of_nat}
 use Rattle.circle_matrix.specs.Mmcs.{HaveHeightsOfPowers}
+use Rattle.circle_matrix.specs.Pcs.{openings}
 use Rattle.circle_matrix.specs.declared.pcs.OpeningRequest.{OpeningRequest}
 use Rattle.circle_opening.specs.Requests.{AreRequests}
 use Rattle.circle_relation.specs.Accepts.{Fields}
@@ -8,7 +11,8 @@ use Rattle.circle_verifier.specs.Refusals.{answer}
 use Rattle.p3_circle.specs.Requesting.{opening_tests}
 use Rattle.p3_circle.specs.SchemeLaws.Unrefused.{are-binary, are-fit, are-requests}
 use Rattle.p3_circle.proofs.InOrder.{refuses-before, is-first}
-use Rattle.p3_circle.proofs.Scheme.{if_both}
+use Rattle.p3_circle.specs.SchemeLaws.{honest-open, opening-accepted, true-values}
+use Rattle.p3_circle.proofs.Scheme.{if_both, prover-memory}
 use Rattle.p3_circle.proofs.Verdicts.{later-by}
 use Rattle.circle_relation.proofs.Results.{if_err}
 use Rattle.p3_circle.proofs.pcs.CirclePcs.open.Given.{Over}
@@ -16,6 +20,10 @@ use Rattle.p3_circle.proofs.pcs.CirclePcs.open.Goals as goal
 
 abbrev fields : (g : Over) → Fields g.row.Val.Denot g.row.EF.Denot
 fields g = record { field = g.Val.Operations.ops; gen = g.Val.ComplexExtendable.generators; two_adicity = g.Val.ComplexExtendable.CIRCLE_TWO_ADICITY; is_zero = λ w. g.Val.PartialEq.eq w g.Val.Field.ZERO; extension = g.EF.Operations.ops; embed = g.EF.ExtensionField.embed; same = g.EF.PartialEq.eq }
+
+-- what the challenger is to the run
+abbrev challenger : (g : Over) → RunMoves g.row.C.Denot g.row.C-State.Denot g.row.Val.Denot g.row.EF.Denot g.row.FriMmcs-Commitment.Denot
+challenger g = run_moves g.C.ChallengerState.state g.C.CanObserve-1.after_observe g.C.CanObserve-2.after_observe g.C.CanSample.sampled g.C.CanSample.after_sample g.C.CanSampleBits.sampled_bits g.C.CanSampleBits.after_bits g.C.GrindingChallenger.found_witness g.EF.ExtensionField.DEGREE g.EF.ExtensionField.coefficients (of_nat g.Val.Operations.ops) g.Val.Operations.ops.zero
 
 pub validate_requests-requires : goal.validate_requests-requires
 validate_requests-requires g c =
@@ -56,7 +64,7 @@ returns-clause-opened g c =
 pub returns-clause-failure : goal.returns-clause-failure
 returns-clause-failure g c =
     let ok = rw c.deref.ensures.value at (sym c.validate_requests.ensures ∙ c.in_ok-validate_requests.was) in
-    if_err _ _ c.open_requests.result (λ e why. later-by _ _ e ok why) (rw c.deref-2.ensures.value at c.open_requests.ensures.failure)
+    if_err _ _ c.open_requests.result (λ e why. later-by _ _ e (g.C.ChallengerState.state c.args.challenger.now) (g.C.ChallengerState.state c.open_requests.new.challenger) ok why) (rw c.deref-2.ensures.value at c.open_requests.ensures.failure)
 
 pub returns-in_err-validate_requests-clause-refused :
     goal.returns-in_err-validate_requests-clause-refused
@@ -68,4 +76,39 @@ pub returns-in_err-validate_requests-clause-failure :
     goal.returns-in_err-validate_requests-clause-failure
 returns-in_err-validate_requests-clause-failure g c =
     let first = rw c.deref.ensures.value at (sym c.validate_requests.ensures ∙ c.in_err-validate_requests.was) in
-    is-first _ c.from_residual.result c.in_err-validate_requests.field-0.0 first c.from_residual.ensures.1 _
+    is-first _ c.from_residual.result c.in_err-validate_requests.field-0.0 first c.from_residual.ensures.1 _ (g.C.ChallengerState.state c.args.challenger.now)
+
+pub returns-clause-honest : goal.returns-clause-honest
+returns-clause-honest g c =
+    let p = c.args.self.now.fri_params in
+    if_err _ _ c.open_requests.result
+    (λ e why honest. prover-memory e (honest-open (fields g) g.Val.Operations.laws g.EF.Operations.laws g.met.EF.ExtensionField.embedding g.Val.PartialEq.eq g.met.Val.Field.eq_law g.EF.PartialEq.eq g.met.EF.Field.eq_law g.met.Val.ComplexExtendable.at_most_62 g.met.Val.ComplexExtendable.generators_law p
+    g.InputMmcs.Mmcs.matrices (g.InputMmcs.Mmcs.commits c.args.self.now.mmcs) (challenger g) (g.FriMmcs.Mmcs.commits p.mmcs) c.args.requests.items (g.C.ChallengerState.state c.args.challenger.now) (g.C.ChallengerState.state c.open_requests.new.challenger) e honest.0 honest.1 why))
+    (returns-clause-failure g c)
+
+pub returns-in_err-validate_requests-clause-honest : goal.returns-in_err-validate_requests-clause-honest
+returns-in_err-validate_requests-clause-honest g c =
+    let p = c.args.self.now.fri_params in
+    if_err _ _ c.from_residual.result
+    (λ e why honest. prover-memory e (honest-open (fields g) g.Val.Operations.laws g.EF.Operations.laws g.met.EF.ExtensionField.embedding g.Val.PartialEq.eq g.met.Val.Field.eq_law g.EF.PartialEq.eq g.met.EF.Field.eq_law g.met.Val.ComplexExtendable.at_most_62 g.met.Val.ComplexExtendable.generators_law p
+    g.InputMmcs.Mmcs.matrices (g.InputMmcs.Mmcs.commits c.args.self.now.mmcs) (challenger g) (g.FriMmcs.Mmcs.commits p.mmcs) c.args.requests.items (g.C.ChallengerState.state c.args.challenger.now) (g.C.ChallengerState.state c.args.challenger.now) e honest.0 honest.1 why))
+    (returns-in_err-validate_requests-clause-failure g c)
+
+pub returns-clause-only : goal.returns-clause-only
+returns-clause-only g c =
+    let p = c.args.self.now.fri_params in
+    let opened = returns-clause-opened g c in
+    if_both c.open_requests.result _ _ _
+    (λ r given again. true-values _ (fields g) g.Val.Operations.laws g.EF.Operations.laws g.met.EF.ExtensionField.embedding g.Val.ComplexExtendable.CIRCLE_TWO_ADICITY g.met.Val.ComplexExtendable.generators_law p g.InputMmcs.Mmcs.matrices (g.InputMmcs.Mmcs.commits c.args.self.now.mmcs)
+    (challenger g) (g.InputMmcs.Mmcs.authenticates c.args.self.now.mmcs) (g.FriMmcs.Mmcs.commits p.mmcs) (g.FriMmcs.Mmcs.authenticates p.mmcs) c.args.requests.items (openings r.0.items) r.1 _ _ given)
+    opened opened
+
+pub returns-clause-accepted : goal.returns-clause-accepted
+returns-clause-accepted g c =
+    let p = c.args.self.now.fri_params in
+    let opened = returns-clause-opened g c in
+    if_both c.open_requests.result _ _ _
+    (λ r given again. opening-accepted (fields g) g.Val.Operations.laws g.EF.Operations.laws g.met.EF.ExtensionField.embedding g.Val.PartialEq.eq g.met.Val.Field.eq_law g.EF.PartialEq.eq g.met.EF.Field.eq_law g.met.Val.ComplexExtendable.at_most_62 g.met.Val.ComplexExtendable.generators_law p
+    g.InputMmcs.Mmcs.matrices (g.InputMmcs.Mmcs.commits c.args.self.now.mmcs) (challenger g) g.met.C.CanSampleBits.bits_below g.InputMmcs.Mmcs.authenticates g.FriMmcs.Mmcs.authenticates c.args.self.now.mmcs (g.FriMmcs.Mmcs.commits p.mmcs)
+    c.args.requests.items (openings r.0.items) r.1 _ _ given)
+    opened opened

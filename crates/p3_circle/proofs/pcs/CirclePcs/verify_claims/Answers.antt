@@ -23,6 +23,7 @@ run g = record {
     after_sample = g.C.CanSample.after_sample;
     sampled_bits = g.C.CanSampleBits.sampled_bits;
     after_bits = g.C.CanSampleBits.after_bits;
+    found = g.C.GrindingChallenger.found_witness;
     degree = g.EF.ExtensionField.DEGREE;
     coefficients = g.EF.ExtensionField.coefficients;
     of_nat = of_nat g.Val.Operations.ops;
@@ -46,7 +47,7 @@ pub returns-in_err-log_max_height-clause-reason : goal.returns-in_err-log_max_he
 returns-in_err-log_max_height-clause-reason g c =
     let early = refused-value (tests {IE = g.row.InputMmcs-Error.Denot} (fields g) g.Val.ComplexExtendable.CIRCLE_TWO_ADICITY c.args.self.now.fri_params c.args.claims.now c.args.proof.now g.Val.PartialEq.eq g.Val.Field.ZERO g.EF.PartialEq.eq) _ c.in_err-log_max_height.field-0.0 (sym c.validate_run.ensures ∙ c.in_err-log_max_height.was) in
     at_err _ _ c.in_err-log_max_height.field-0.0 (refused-is c.from_residual.result c.in_err-log_max_height.field-0.0 c.from_residual.ensures.1)
-    (first-by _ _ c.in_err-log_max_height.field-0.0 early)
+    (first-by _ _ c.in_err-log_max_height.field-0.0 (g.C.ChallengerState.state c.args.challenger.now) early)
 
 pub replay_transcript-requires-clause-tested : goal.replay_transcript-requires-clause-tested
 replay_transcript-requires-clause-tested g c =
@@ -81,7 +82,7 @@ pub returns-in_err-draws-clause-reason : goal.returns-in_err-draws-clause-reason
 returns-in_err-draws-clause-reason g c =
     let passed = (passed-value (tests {IE = g.row.InputMmcs-Error.Denot} (fields g) g.Val.ComplexExtendable.CIRCLE_TWO_ADICITY c.args.self.now.fri_params c.args.claims.now c.args.proof.now g.Val.PartialEq.eq g.Val.Field.ZERO g.EF.PartialEq.eq) _ _ (sym c.validate_run.ensures ∙ c.in_ok-log_max_height.was)).0 in
     at_err _ _ c.in_err-draws.field-0.0 (refused-is c.from_residual-in_err-draws.result c.in_err-draws.field-0.0 c.from_residual-in_err-draws.ensures.1)
-    (later-by _ _ c.in_err-draws.field-0.0 passed (of-three c.in_err-draws.ensures.failure))
+    (later-by _ _ c.in_err-draws.field-0.0 (g.C.ChallengerState.state c.args.challenger.now) (g.C.ChallengerState.state c.replay_transcript.new.challenger) passed (of-three c.in_err-draws.ensures.failure))
 
 pub returns-clause-first : goal.returns-clause-first
 returns-clause-first g c =
@@ -104,5 +105,5 @@ pub returns-clause-reason : goal.returns-clause-reason
 returns-clause-reason g c =
     let passed = (passed-value (tests {IE = g.row.InputMmcs-Error.Denot} (fields g) g.Val.ComplexExtendable.CIRCLE_TWO_ADICITY c.args.self.now.fri_params c.args.claims.now c.args.proof.now g.Val.PartialEq.eq g.Val.Field.ZERO g.EF.PartialEq.eq) _ _ (sym c.validate_run.ensures ∙ c.in_ok-log_max_height.was)).0 in
     if_err _ _ c.verify_drawn.result
-    (λ e why. later-by _ _ e passed (inr (inr (record { drawn = challenges_of c.in_ok-draws.draws; draws = c.in_ok-draws.ensures.drawn; reason = why }))))
+    (λ e why. later-by _ _ e (g.C.ChallengerState.state c.args.challenger.now) (g.C.ChallengerState.state c.replay_transcript.new.challenger) passed (inr (inr (record { drawn = challenges_of c.in_ok-draws.draws; draws = c.in_ok-draws.ensures.drawn; reason = why }))))
     c.verify_drawn.ensures.refused

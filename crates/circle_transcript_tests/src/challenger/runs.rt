@@ -1,0 +1,139 @@
+//! Whole runs of a described transcript, on both sides.
+ghost use Rattle.std.specs.Prelude.{◌≡◌, [], ◌∷◌, IfOk};
+ghost use Rattle.circle_challenger.specs.Played.{elements_message, element_message, opaque_message};
+ghost use Rattle.circle_challenger.specs.Played.{pow_step, element_challenge, numbers_challenge};
+
+use circle_challenger::{
+    CanObserve, CanSample, DomainSeparator, GrindingChallenger, Hierarchy, Interaction,
+    InteractionPattern, Kind, Length, ProverState, VerifierState,
+};
+use circle_field::{Cubic, ExtensionField, Field, Mersenne31};
+use std::alloc::{AllocError, Global};
+
+const POINT: &str = "opening_point";
+
+const VALUES: &str = "opened_values";
+
+const POW: &str = "batch_pow";
+
+const ALPHA: &str = "batch_challenge";
+
+const COMMITMENT: &str = "first_layer_commitment";
+
+const FINAL: &str = "final_poly";
+
+const INDICES: &str = "query_indices";
+
+/// What a run draws, and its witness.
+#[derive(Debug, Drop)]
+pub struct Drawn {
+    pub witness: Mersenne31,
+    pub alpha: Cubic,
+    pub indices: Vec<usize>,
+}
+
+/// The separator of a run with a proof of work of 8 bits.
+pub fn separator(alloc: Global) -> Result<DomainSeparator, AllocError>
+    ensures { IfOk result (λ s. s.steps ≡ elements_message 3 POINT.now 2 ∷ elements_message 3
+        VALUES.now 1 ∷ pow_step POW.now 8 ∷ element_challenge 3 ALPHA.now ∷ opaque_message
+        COMMITMENT.now ∷ element_message 3 FINAL.now ∷ numbers_challenge INDICES.now 3 2 ∷ []) }
+{
+    let steps = vec![in alloc;
+        Interaction::algebra(Hierarchy::Atomic, Kind::Message, POINT, 3, Length::Fixed(2)),
+        Interaction::algebra(
+            Hierarchy::Atomic,
+            Kind::Message,
+            VALUES,
+            3,
+            Length::Fixed(1)
+        ),
+        Interaction::algebra(Hierarchy::Atomic, Kind::Pow, POW, 1, Length::Fixed(8)),
+        Interaction::algebra(Hierarchy::Atomic, Kind::Challenge, ALPHA, 3, Length::Scalar),
+        Interaction::opaque(Hierarchy::Atomic, Kind::Message, COMMITMENT, Length::Scalar),
+        Interaction::algebra(Hierarchy::Atomic, Kind::Message, FINAL, 3, Length::Scalar),
+        Interaction::bits(
+            Hierarchy::Atomic,
+            Kind::Challenge,
+            INDICES,
+            3,
+            Length::Fixed(2)
+        ),
+    ]?;
+    DomainSeparator::new(alloc, 1, "a run", InteractionPattern::new(steps))
+}
+
+fn element(n: u64) -> Mersenne31 {
+    Mersenne31::from_u64(n)
+}
+
+fn cubic(a: u64, b: u64, c: u64) -> Cubic {
+    Cubic::from_coefficients(&[element(a), element(b), element(c)])
+}
+
+/// The prover's side of the run, or nothing where no witness passes.
+pub fn prove<C>(alloc: Global, challenger: &mut C) -> Result<Option<Drawn>, AllocError>
+where
+    C: CanSample<Mersenne31> + GrindingChallenger<Mersenne31> + CanObserve<[u8; 32]>,
+{
+    let separator = separator(alloc)?;
+    let mut transcript = ProverState::<C, Mersenne31>::new(challenger, &separator);
+    transcript.observe_extensions(POINT, &[cubic(1, 2, 3), cubic(4, 5, 6)]);
+    transcript.observe_extensions(VALUES, &[cubic(7, 8, 9)]);
+    let Some(witness) = transcript.observe_pow(POW, 8) else {
+        transcript.abort();
+        return Ok(None);
+    };
+    let alpha: Cubic = transcript.challenge_extension(ALPHA);
+    transcript.observe_opaque(COMMITMENT, &[7u8; 32]);
+    transcript.observe_extension(FINAL, &cubic(10, 11, 12));
+    match transcript.challenge_bits(alloc, INDICES, 3, 2) {
+        Ok(indices) => {
+            transcript.finish();
+            Ok(Some(Drawn {
+                witness,
+                alpha,
+                indices,
+            }))
+        }
+        Err(error) => {
+            transcript.abort();
+            Err(error)
+        }
+    }
+}
+
+/// The verifier's side of the run, or nothing where the witness misses.
+pub fn verify<C>(
+    alloc: Global,
+    challenger: &mut C,
+    witness: Mersenne31,
+) -> Result<Option<Drawn>, AllocError>
+where
+    C: CanSample<Mersenne31> + GrindingChallenger<Mersenne31> + CanObserve<[u8; 32]>,
+{
+    let separator = separator(alloc)?;
+    let mut transcript = VerifierState::<C, Mersenne31>::new(challenger, &separator);
+    transcript.observe_extensions(POINT, &[cubic(1, 2, 3), cubic(4, 5, 6)]);
+    transcript.observe_extensions(VALUES, &[cubic(7, 8, 9)]);
+    if !transcript.observe_pow(POW, 8, witness) {
+        transcript.abort();
+        return Ok(None);
+    }
+    let alpha: Cubic = transcript.challenge_extension(ALPHA);
+    transcript.observe_opaque(COMMITMENT, &[7u8; 32]);
+    transcript.observe_extension(FINAL, &cubic(10, 11, 12));
+    match transcript.challenge_bits(alloc, INDICES, 3, 2) {
+        Ok(indices) => {
+            transcript.finish();
+            Ok(Some(Drawn {
+                witness,
+                alpha,
+                indices,
+            }))
+        }
+        Err(error) => {
+            transcript.abort();
+            Err(error)
+        }
+    }
+}
