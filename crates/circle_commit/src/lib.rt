@@ -1,6 +1,13 @@
-//! What commitment schemes stand on, at one place: matrices and the trait of schemes that commit to
-//! them, records of what is opened and claimed, the parameters of FRI and the forms in JSON, all of
-//! `circle_matrix`; and the traits of polynomial commitment schemes, of `circle_pcs`.
+//! What `circle_matrix` shows, and what callers of a scheme name of `circle_pcs`, at one place.
+//!
+//! - Of `circle_matrix`: matrices, their views and maps of row indices; the traits `Mmcs` of
+//!   schemes that commit to matrices, `PolynomialSpace` of domains, `PeriodicEvaluator` and
+//!   `FriFoldingStrategy`; records of what is opened and claimed, in its module `pcs`; the
+//!   parameters of FRI and the refusals of a proof; the forms in JSON, by the trait `JsonForm`,
+//!   which is that of `circle_json`.
+//! - Of `circle_pcs`: the traits `Pcs` and `UnivariateStarkPcs`, and `round_trip` over any scheme.
+//!   Its trait `Statements`, by which clauses speak of honest requests and true answers, isn't
+//!   shown here.
 #![tactic(auto)]
 
 pub use circle_matrix::{

@@ -1,4 +1,5 @@
--- What is opened of requested matrices at the queries is what a verifier of the claims on them reads.
+-- What is opened of requested matrices at the queries is what a verifier of the claims on them
+-- reads.
 use Rattle.std.specs.Prelude.{◌≡◌, ◌≢◌, ℕ, ◌+◌, ◌-◌, ◌/◌, ◌^◌, ◌<◌, ◌≤◌, ◌==◌, if◌then◌else◌, List, [], ◌∷◌, ◌++◌, length, map, flat_map, zip, All, Some, slice_get, slice_index_or}
 use Rattle.std.specs.List.{AllZip}
 use Rattle.std.proofs.Common.{suc, refl, sym, ◌∙◌, ap, subst, arith}

@@ -1,6 +1,6 @@
 //! Why openings are complete. Those of matrices of low degree come to an end: the words of an
-//! opening (Circle STARKs, IACR ePrint 2024/278, sections 4 and 6), from those of the heights to the
-//! last one, are the values of polynomials with few coefficients.
+//! opening (Circle STARKs, IACR ePrint 2024/278, sections 4 and 6), from those of the heights to
+//! the last one, are the values of polynomials with few coefficients.
 //!
 //! What is proved, for every lawful field and extension, by calls that answer nothing and carry a
 //! law each:

@@ -1,4 +1,5 @@
--- The Lagrange polynomials of a genuine block of points, as products over the factors of its halves.
+-- The Lagrange polynomials of a genuine block of points, as products over the factors of its
+-- halves.
 use Rattle.std.specs.Prelude.{◌≡◌, ◌≢◌, ℕ, ◌^◌, ◌≤◌, List, [], ◌∷◌, ◌++◌, length, map, take, drop}
 use Rattle.std.specs.List.{AllByRecursion}
 use Rattle.std.proofs.Common.{zero, suc, sym, ◌∙◌, ap, refl, arith}

@@ -1,4 +1,5 @@
--- The shares of the points of a genuine domain, scaled, are the values of their Lagrange polynomials.
+-- The shares of the points of a genuine domain, scaled, are the values of their Lagrange
+-- polynomials.
 use Rattle.std.specs.Prelude.{◌≡◌, ◌≢◌, ℕ, ◌+◌, ◌-◌, ◌^◌, ◌<◌, ◌≤◌, List, [], ◌∷◌, ◌++◌, length, map}
 use Rattle.std.specs.List.{AllByRecursion}
 use Rattle.std.proofs.Common.{zero, suc, sym, ◌∙◌, ap, refl, arith}

@@ -1,4 +1,22 @@
 //! The order of the circle transform, as a permutation of the natural order of a domain.
+//!
+//! The standard domain of eight points, at each point its place in one order and in the other:
+//!
+//! ```text
+//!      natural order              order of the transform
+//!
+//!         2     1                        4     7
+//!      3           0                  3           0
+//!      4           7                  2           1
+//!         5     6                        5     6
+//!
+//! place in the order of the transform    0  1  2  3  4  5  6  7
+//! place in natural order                 0  7  4  3  2  5  6  1
+//! ```
+//!
+//! In the order of the transform the places `2 i` and `2 i + 1` are opposite points, with one x and
+//! opposite y, which the first step pairs; of these pairs the first and the second have opposite x,
+//! and so the third and the fourth, which the next step pairs.
 ghost use Rattle.std.specs.Prelude.{ℕ, ◌≡◌, ◌≤◌, ◌<◌, ◌^◌, ◌-◌, map, Ok, IfOk, OnOk};
 ghost use Rattle.circle_domain.specs.Ordering.{cfft_index, reversed, other_order};
 ghost use Rattle.circle_matrix.specs.Matrix.{IsPowerOfTwo};

@@ -97,7 +97,8 @@ module _ {F : Type 0} {k : FieldOps F} (laws : RingLaws k) {bits : ℕ} {gen : �
       let e : r + 2 - (1 + 1) ≡ r = omega arith in
       sym (x_factors k gen r) ∙ ap (λ a. map (factor k 1) (block_starts k gen a 2 (gen (r + 3)))) e
 
-  -- twice the squares less one of twiddles are the twiddles of half as many pairs and their opposites
+  -- twice the squares less one of twiddles are the twiddles of half as many pairs and their
+  -- opposites
   twiddles-doubled : (m : ℕ) → m + 4 ≤ bits → map (doubled_x k) (fold_x_twiddles k gen (suc m)) ≡ with_negatives k (fold_x_twiddles k gen m)
   twiddles-doubled m fits =
       let s = gen (suc m + 3) in

@@ -1,5 +1,5 @@
--- Polynomials by their coefficients at even and at odd places, and words of pairs: what a fold makes
--- of a pair, and which pairs have two given folds.
+-- Polynomials by their coefficients at even and at odd places, and words of pairs: what a fold
+-- makes of a pair, and which pairs have two given folds.
 use Rattle.std.specs.Prelude.{◌≡◌, ◌≢◌, ℕ, ◌+◌, ◌*◌, ◌/◌, ◌%◌, List, [], ◌∷◌, length, map, flat_map, All}
 use Rattle.std.specs.List.{AllByRecursion}
 use Rattle.std.proofs.Common.{zero, suc, refl, sym, ◌∙◌, ap, arith}

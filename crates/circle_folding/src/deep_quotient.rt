@@ -22,6 +22,11 @@ use std::alloc::{AllocError, Global};
 /// of [`Point::v_p`], times the sum of `alpha_powers[j] * (ps_at_x[j] - ps_at_zeta[j])`. `None`
 /// exactly where `x` is `zeta`.
 ///
+/// Each column takes two powers of the challenge. Its quotient has a real part, `1 / 2` of the
+/// difference, and an imaginary one, `-im / (2 re)` of it, and the claim is bound where both are of
+/// low degree, so each part has a power of its own: column j has `alpha^j` and `alpha^(width + j)`,
+/// and the next claim begins `2 width` powers on.
+///
 /// Asks as many claimed values as the row has entries, and at least as many powers. Takes no
 /// memory.
 pub fn deep_quotient_reduce_row<F: ComplexExtendable, EF: ExtensionField<F>>(
@@ -69,6 +74,10 @@ fn weighted_differences<F: ComplexExtendable, EF: ExtensionField<F>>(
 /// `2^(L - 1)`. Of the values of a polynomial with `2^n` coefficients plus a multiple of `v_n` it
 /// answers that multiple and leaves the values; of any word it leaves one that is orthogonal to
 /// `v_n`, of which it would answer 0.
+///
+/// Lambda is for a gap of one dimension: the quotients of true claims are the values of polynomials
+/// with `2^n` coefficients plus a multiple of `v_n`, and folding, which halves coefficients, is of
+/// use for the former alone. The prover takes the multiple away and tells it.
 ///
 /// Asks `2^L` entries with `L + 1 <= CIRCLE_TWO_ADICITY` and `1 <= log_blowup < L`. Where memory is
 /// refused the word stays as it was.

@@ -25,7 +25,8 @@ module _ {E : Type 0} (l : FieldOps E) (n : ℕ) (ps : List (Coordinates E)) whe
   abbrev pub point_at : ℕ → Coordinates E
   point_at i = slice_index_or ps i (origin l)
 
-  -- entries by index that are the values of a polynomial with 2^n coefficients plus a multiple of v_n
+  -- entries by index that are the values of a polynomial with 2^n coefficients plus a multiple of
+  -- v_n
   abbrev pub AreWide : (ℕ → E) → Type 0
   AreWide u = (f : Coordinates E → E) × IsWide l n f × ((i : ℕ) → i < length ps → f (point_at i) ≡ u i)
 

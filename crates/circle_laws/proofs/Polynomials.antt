@@ -1,5 +1,5 @@
--- Functions on the circle that are the values of a polynomial with few coefficients: sums, multiples,
--- and products with linear functions.
+-- Functions on the circle that are the values of a polynomial with few coefficients: sums,
+-- multiples, and products with linear functions.
 use Rattle.std.specs.Prelude.{◌≡◌, ℕ, [], ◌∷◌}
 use Rattle.std.proofs.Common.{zero, suc, ◌∙◌, ap, refl}
 use Rattle.circle_field.specs.Field.{FieldOps, FieldLaws, two}
@@ -82,7 +82,8 @@ module _ {E : Type 0} {l : FieldOps E} (laws : FieldLaws l) where
   half_inverse : l.mul (l.add l.one l.one) (l.inv (two l)) ≡ l.one
   half_inverse = laws.mul_inv (two l) laws.two_nonzero
 
-  -- a function that takes polynomials to those with twice as many coefficients does so of longer ones
+  -- a function that takes polynomials to those with twice as many coefficients does so of longer
+  -- ones
   step : (j : ℕ) (t : Coordinates E → E) → ((f : Coordinates E → E) → IsPolynomial l (suc j) f → IsPolynomial l (suc (suc j)) (λ p. l.mul (t p) (f p))) →
       (f : Coordinates E → E) → IsPolynomial l (suc (suc j)) f → IsPolynomial l (suc (suc (suc j))) (λ p. l.mul (t p) (f p))
   step j t times f s =

@@ -8,7 +8,8 @@ use Rattle.circle_merkle.specs.Order.{IsOrdered, entry_at}
 use Rattle.circle_merkle.specs.SamePosition.{nth, row_of, NeighborsAgree}
 use Rattle.circle_merkle.proofs.Ordered.{order-placed, order-contains, order-rises}
 
--- of numbers in ascending order the equal ones stand together, so what neighbors share they all share
+-- of numbers in ascending order the equal ones stand together, so what neighbors share they all
+-- share
 module _ {X : Type 0} (f : ℕ → ℕ) (r : ℕ → X) (n : ℕ) (ascending : (i k : ℕ) → i ≤ k → k < n → f i ≤ f k)
     (neighbors : (k : ℕ) → k + 1 < n → f k ≡ f (k + 1) → r k ≡ r (k + 1)) where
   chain : (i d : ℕ) → i + d < n → f i ≡ f (i + d) → r i ≡ r (i + d)

@@ -5,6 +5,24 @@
 //! the matrices' commitment, repeated indices included, and `verify_multi_batch` is Ok exactly
 //! where the relation holds, memory aside; each refusal is the first whose condition holds (the
 //! clause `first`).
+//!
+//! A proof has the digests of the siblings of known positions that aren't known themselves, level
+//! after level from the lowest up, on each level by position. For rows 1, 4, 5 and 7 of eight it
+//! has three digests, `d0` to `d2` in this order, where four single proofs would have twelve:
+//!
+//! ```text
+//! level 3                        root
+//!                            /           \
+//! level 2              *                       *
+//!                   /     \                 /     \
+//! level 1        *          d2           *           *
+//!              /   \                   /   \       /   \
+//! level 0    d0     *                 *     *    d1     *
+//! row         0     1     2     3     4     5     6     7
+//! ```
+//!
+//! A `*` is known: on level 0 the digest of opened rows, above it that of the two below it, joined
+//! with the opened rows of matrices that have as many rows as the level has positions.
 #![tactic(auto)]
 
 mod error;

@@ -30,6 +30,10 @@ pub(crate) struct FirstLayer<EF, Com, Data> {
 
 /// Makes the words of all heights, and commits to them by pairs.
 ///
+/// The first layer has a commitment of its own, apart from the rounds: its pairs are at opposite
+/// points and fold by y, where those of rounds fold by x; and it has the words of all heights, so
+/// that those that join a later round are fixed too before the one challenge that folds them all.
+///
 /// Asks `log_blowup >= 1`, some height, heights above the blowup and below `CIRCLE_TWO_ADICITY`,
 /// and matrices that can be opened by so many powers. Fails where memory is refused.
 pub(crate) fn commit_first_layer<F: ComplexExtendable, EF: ExtensionField<F>, M: Mmcs<EF>>(

@@ -1,6 +1,40 @@
 //! The opening of committed matrices at points, once their values there are known: the words of
 //! Circle STARKs (IACR ePrint 2024/278, sections 4 and 6) are made, committed to and folded under
 //! the challenges that the transcript draws from their commitments.
+//!
+//! The folds where committed matrices have the heights `2^6` and `2^4`, the blowup is 2 and the
+//! final polynomial is a constant. A height joins where a round leaves as many entries as it folds
+//! into:
+//!
+//! ```text
+//!                  height 2^6              height 2^4
+//!
+//!                  64 entries              16 entries      the first layer, without the
+//!                      |                       |           lambdas: one commitment for both
+//!               fold by y               fold by y          both by one challenge
+//!                      |                       |
+//!                  32 entries                  |           committed to
+//!              round 0, by x                   |
+//!                  16 entries                  |           committed to
+//!              round 1, by x                   |
+//!                   8 entries <--- plus --- 8 entries      their sum is committed to
+//!              round 2, by x
+//!                   4 entries                              committed to
+//!              round 3, by x
+//!                   2 entries                              the values of the final polynomial
+//! ```
+//!
+//! - In `src/`, `prove` has the whole: `values` for the values, `claims` and `heights` for what is
+//!   requested, `run` for the run of the transcript, with `first_layer` and `rounds` in it, and
+//!   `openings` for the rows and siblings at the queries. `error` says why there is no opening or
+//!   no commitment, and `schemes` what contracts see of the fields, the challenger and the schemes.
+//! - In `specs/`, `Opening` says what is answered, by `Words`, the words under the challenges and
+//!   what is committed to, and `Openings`, what is opened at the queries; `Requests` what is asked
+//!   and answered, `Failure` why a run comes to no end, `Schemes` the whole by the schemes.
+//! - In `proofs/`, `Growing`, `Lengths` and `FoldedLengths` are of words, `Tops` and `Tests` of
+//!   heights, `Described`, `Counts` and `Stuck` of the transcript, `Asked`, `Answered` and
+//!   `Requested` of requested matrices as claims, `Held` and `OpenedPairs` of what a proof holds
+//!   and opens. The folders have what is proved of the functions of the file of that name.
 #![tactic(auto)]
 
 mod claims;

@@ -207,7 +207,8 @@ same_widths xs ys counts same =
     sizes [] = refl
     sizes (b ∷ bs) = ap (λ n. n ∷ map (λ c. length c) (map (λ batch. map (λ matrix. length matrix) batch) bs)) (length-map b (λ m. length m)) ∙ ap (λ r. length b ∷ r) (sizes bs)
 
--- the third label, which is there where the final polynomial has several coefficients, tells how many
+-- the third label, which is there where the final polynomial has several coefficients, tells how
+-- many
 same_coefficients : (a b : Shape) → HasWritableLabels a → HasWritableLabels b → labels_of a ≡ labels_of b → a.log_final_poly_len ≡ b.log_final_poly_len
 same_coefficients a b p q same =
     told a.log_final_poly_len b.log_final_poly_len p.log_final_poly_len q.log_final_poly_len (parts _ _ _ _ (parts _ _ _ _ same).1).1

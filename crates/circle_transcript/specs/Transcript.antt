@@ -54,8 +54,8 @@ module _ {C F EF S : Type 0} where
       (length commitments)
 
 -- the phases as functions of a transcript that is about to play them: the steps, the state in which
--- the witness is checked, whether it passes, the one that a search finds, what is drawn then, and the
--- state after it
+-- the witness is checked, whether it passes, the one that a search finds, what is drawn then, and
+-- the state after it
 module _ {C S F EF Side : Type 0} {g : _} (m : Moves C S F EF) (t : CircleTranscript C F EF Side)
     (claims : List (Point EF g × Bor (List EF))) where
   abbrev pub steps_of_batch : List Step

@@ -7,6 +7,32 @@
 //! draws the query indices. Proofs of work guard the batching challenge, the folding challenges and
 //! the indices.
 //!
+//! The steps by their labels, top down. Each draw depends on the seed and on all that was taken in
+//! above it, so that none of this can be chosen in view of what is drawn:
+//!
+//! ```text
+//! seed  the shape: how claims are grouped and how wide they are, the numbers of rounds,
+//!  |    of final coefficients and of indices with their bits, difficulties, the blowup
+//!  |
+//!  |    in   opening_point, opened_values   each claim
+//!  |    in   batch_pow                      a witness, where there is a difficulty
+//!  +->  out  batch_challenge                batches all claims into words
+//!  |
+//!  |    in   first_layer_commitment         the words, without their lambdas
+//!  +->  out  bivariate_challenge            folds these words by y
+//!  |
+//!  |    in   commit_phase_commitment        in each round: its word
+//!  |    in   commit_pow                     a witness, where there is a difficulty
+//!  +->  out  fold_challenge                 folds that word by x
+//!  |
+//!  |    in   final_poly                     the coefficients that folding ends in
+//!  |    in   query_pow                      a witness, where there is a difficulty
+//!  +->  out  query_indices                  where rows and words are opened
+//! ```
+//!
+//! Not taken in are the claims' own commitments, which are for the caller to take in before it
+//! draws points, and what is tested against a commitment later: lambdas, opened rows and siblings.
+//!
 //! What is proved, for any field, extension, commitment and lawful challenger:
 //!
 //! - The steps that `CirclePcsShape::pattern` answers and the separator that `domain_separator`

@@ -21,6 +21,11 @@ use std::alloc::{AllocError, Global};
 /// the queries ask for: for each query its pairs, one for each height, and for each height what
 /// they fold into.
 ///
+/// The transcript takes no lambda in, and needs none: it has the commitment to the first layer, and
+/// the pairs are made with lambda and tested against that commitment. As the vanishing polynomial
+/// is 0 at no point of a height's word, a lambda that isn't that of the committed words makes other
+/// pairs, which authenticate only where digests collide.
+///
 /// Asks a run that was tested before its challenges were drawn, with lists of fitting lengths, and
 /// its reduced words. Fails where memory is refused.
 pub fn fold_first_layer<

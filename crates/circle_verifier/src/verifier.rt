@@ -84,6 +84,10 @@ pub fn validate_claims<F: ComplexExtendable, E, Com, CommitErr, InputMmcsErr, Fr
         return Err(FriError::NoCommittedMatrices);
     }
     let log_global_max_height = greatest.saturating_add(log_blowup);
+    // A query's index has as many bits as this logarithm, and names a point of the standard domain
+    // of the greatest height. That domain's shift has twice as great an order, which the group has
+    // only where the logarithm is below its own. An index is then also below the order of a field
+    // of one element less than the group has points, as Mersenne31.
     if log_global_max_height >= F::CIRCLE_TWO_ADICITY {
         return Err(FriError::GlobalMaxHeightTooLarge {
             log_global_max_height,
@@ -122,9 +126,13 @@ pub fn validate_parameters<M, CommitErr, InputErr>(
     check_grinding(PowPhase::Batch, params.batch_proof_of_work_bits)?;
     check_grinding(PowPhase::CommitPhase, params.commit_proof_of_work_bits)?;
     check_grinding(PowPhase::Query, params.query_proof_of_work_bits)?;
+    // Only at queries are the words compared with committed rows, with one another and with the
+    // final polynomial. Without a query any final polynomial would pass.
     if params.num_queries == 0 {
         return Err(FriError::ZeroQueries);
     }
+    // At rate one a word has as many entries as its polynomial has coefficients, and any entries
+    // are the values of such a polynomial. Every word is a codeword, so folding would refuse none.
     if params.log_blowup == 0 {
         return Err(FriError::ZeroBlowup);
     }
@@ -346,6 +354,10 @@ pub fn validate_points<F: Field, Commitment, D, M, Witness: Field, CommitErr, In
 /// and the witnesses of the proof ([`validate_proof_shape`]), the number of coefficients of the
 /// final polynomial (`FinalPolyLengthMismatch`), and the witness of the batching challenge and the
 /// claimed points ([`validate_points`]).
+///
+/// No height is read from the proof. That of the claims fixes the number of rounds and the bits of
+/// an index, and the proof's lists are compared with it: a proof with other rounds can neither make
+/// the indices wider nor the folding shorter.
 ///
 /// Takes no memory.
 pub fn validate_run<

@@ -35,7 +35,8 @@ module _ {F : Type 0} {k : FieldOps F} (laws : FieldLaws k) {bits : ℕ} {gen : 
       (sym (column-values k width (2 ^ n) positive xs points j lt) ∙ ap (λ all. column k.zero all j) (there.values ∙ sym here.values) ∙ column-values k width (2 ^ n) positive ys points j lt))
 
   module _ {g : _} (d : CircleDomain F g) (positive : 1 ≤ log_size d) (fits : log_size d ≤ bits) (width : ℕ) (coeffs given : List (List F)) where
-    -- values in natural order are those in the transform's order, reordered, and the other way round
+    -- values in natural order are those in the transform's order, reordered, and the other way
+    -- round
     pub natural-values : length given ≡ 2 ^ log_size d → HasValues k gen (log_size d) (shift_of d) width coeffs (other_order (log_size d) given) → HaveNaturalValues k gen (log_size d) (shift_of d) width coeffs given
     natural-values long there =
         let n = log_size d in

@@ -1,5 +1,5 @@
--- What is known where no test before the seeding has reason to refuse, and that none has where it is
--- known.
+-- What is known where no test before the seeding has reason to refuse, and that none has where it
+-- is known.
 use Rattle.std.proofs.Common.{not, ◌==◌, ◌&&◌, ◌||◌, ◌≡◌, ◌≢◌, ℕ, Bool, true, false, ◌+◌, ◌^◌, ◌≤◌, List, [], ◌∷◌, length, map, refl, sym, ap, ◌∙◌, arith}
 use Rattle.std.specs.Prelude.{All}
 use Rattle.std.specs.List.{list_all, list_any, AllByRecursion}

@@ -47,6 +47,10 @@ fn height_matches<F: ComplexExtendable>(
 
 // The binary logarithm of the least number of rows that can be folded, or `usize::MAX` where it
 // passes that.
+//
+// With `2^f` coefficients at which folding stops: the fold by y halves the coefficients, and one
+// round by x halves them again, so `2^(2 + f)` rows are the fewest with a round, four where the
+// final polynomial is a constant. A verifier takes claims without a round too.
 pub(crate) fn log_min_trace_height<M>(params: &FriParameters<M>) -> usize
     ensures { result ≡ min (2 + params.now.log_final_poly_len) (2 ^ 64 - 1) }
 {

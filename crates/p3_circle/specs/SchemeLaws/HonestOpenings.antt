@@ -1,4 +1,5 @@
--- What an opening answers of batches that were committed to: true values, and claims that are accepted.
+-- What an opening answers of batches that were committed to: true values, and claims that are
+-- accepted.
 use Rattle.std.specs.Prelude.{◌≡◌, ◌↔◌, ℕ, ◌+◌, ◌-◌, ◌^◌, ◌<◌, ◌≤◌, Bool, true, List, [], ◌∷◌, ◌++◌, length, map, flat_map, zip, All, slice_index_or}
 use Rattle.std.specs.List.{AllByRecursion, AllZip}
 use Rattle.std.proofs.Common.{suc, refl, sym, ◌∙◌, ap, subst, arith}
