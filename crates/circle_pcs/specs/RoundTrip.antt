@@ -39,12 +39,16 @@ abbrev pub claimed_values : {E Com Dom : Type 0} → CommitmentOpening E Com Dom
     → List (List (List E))
 claimed_values claim = map (λ m. map (λ p. p.values.items) m.points.items) claim.matrices.items
 
--- for each batch a list of values for each point of each of its matrices
+-- a list of values for each point of each matrix of a batch
+pub record HasAnswers {E Com Data Dom : Type 0} (c : Committed E Com Data Dom)
+    (values : List (List (List E))) : Type 0 where
+  pub each : length c.points.items ≡ length c.domains.items
+  pub answers : AllZip (λ points vs. length vs ≡ length points) (lists c.points) values
+
+-- so of each batch
 abbrev pub HaveAnswers : {E Com Data Dom : Type 0} → List (Committed E Com Data Dom) → Openings E
     → Type 0
-HaveAnswers committed values =
-    AllZip (λ c v. (length c.points.items ≡ length c.domains.items)
-    × AllZip (λ points vs. length vs ≡ length points) (lists c.points) v) committed values
+HaveAnswers committed values = AllZip HasAnswers committed values
 
 -- the values of the batches' polynomials at their points
 abbrev pub AreValuesOf : {E Dom M : Type 0}
@@ -104,8 +108,8 @@ module _ {E Com Data Dom M : Type 0} (commits : List (Dom × M) → Com → Data
       (Finds : List (OpeningRequest Data E) → S → Type 0) (batches : List (BatchAtPoints E Dom M))
       (state : S) : Type 0 where
     pub some : 1 ≤ length batches
-    pub open : All (λ b. OpensAt b.evaluations.items (lists b.points)) batches
-    pub find :
+    pub opens : All (λ b. OpensAt b.evaluations.items (lists b.points)) batches
+    pub finds :
         (requests : List (OpeningRequest Data E)) → AreRequestsOf batches requests
         → Finds requests state
 

@@ -1,5 +1,5 @@
 //! A committer and a verifier of any scheme, played against each other.
-ghost use Rattle.std.specs.Prelude.{◌≡◌, All, IfErr, IfOk, OnOk, map};
+ghost use Rattle.std.specs.Prelude.{◌≡◌, ◌∷◌, ◌++◌, [], All, IfErr, IfOk, OnOk, map};
 ghost use Rattle.circle_matrix.specs.Pcs.{openings};
 ghost use Rattle.circle_pcs.specs.Honest.{requested_points};
 ghost use Rattle.circle_pcs.specs.RoundTrip.{AreCommitted, HasPoints, IsCommitted};
@@ -132,9 +132,17 @@ where
 {
     let mut committed = Vec::with_capacity(alloc, batches.len())?;
     for batch in batches {
-        committed.push(commit_batch(alloc, pcs, batch)?)?;
+        push(&mut committed, commit_batch(alloc, pcs, batch)?)?;
     }
     Ok(committed)
+}
+
+// Adds an item.
+fn push<T: Drop>(items: &mut Vec<T>, item: T) -> Result<(), AllocError>
+    ensures { OnOk result (items.new.items ≡ items.old.items ++ item ∷ []) }
+{
+    items.push(item)?;
+    Ok(())
 }
 
 // Commits to a batch.
@@ -185,8 +193,10 @@ fn requests_of<'a, E: Copy, Com, Data, D>(
     alloc: Global,
     committed: &'a [Committed<E, Com, Data, D>],
 ) -> Result<Vec<OpeningRequest<'a, Data, E>>, AllocError>
-    ensures { IfOk result (λ v. map (λ r. (r.prover_data.now, requested_points r)) v.items
-        ≡ map (λ c. (c.prover_data, lists c.points)) committed.now) }
+    ensures kept { IfOk result (λ v. map (λ r. r.prover_data.now) v.items
+        ≡ map (λ c. c.prover_data) committed.now) }
+    ensures points { IfOk result (λ v. map requested_points v.items
+        ≡ map (λ c. lists c.points) committed.now) }
 {
     let mut requests = Vec::with_capacity(alloc, committed.len())?;
     for batch in committed {

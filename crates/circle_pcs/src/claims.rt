@@ -13,7 +13,7 @@ use circle_matrix::{
 use std::alloc::{AllocError, Global};
 
 // What is claimed of the batches: each matrix has these values at its points.
-pub(crate) fn claims_of<E: Copy, Com, Data: Drop, D: Copy>(
+pub(crate) fn claims_of<E: Copy, Com: Drop, Data: Drop, D: Copy>(
     alloc: Global,
     committed: Vec<Committed<E, Com, Data, D>>,
     values: &[OpenedValuesForRound<E>],
