@@ -1,10 +1,10 @@
 -- What the command `prove` writes is accepted by `verify`.
-use Rattle.std.specs.Prelude.{◌≡◌, ℕ, ◌+◌, ◌-◌, ◌^◌, ◌<◌, ◌≤◌, List, [], ◌∷◌, ◌++◌, length, map, zip, replicate, All, Vec}
+use Rattle.std.specs.Prelude.{◌≡◌, ℕ, ◌+◌, ◌^◌, ◌<◌, ◌≤◌, List, [], ◌∷◌, ◌++◌, length, map, zip, replicate, All, Vec}
 use Rattle.std.specs.List.{AllByRecursion, AllZip}
 use Rattle.std.specs.declared.alloc.Global.{Global}
 use Rattle.std.proofs.Common.{refl, sym, ◌∙◌, ap, subst, arith}
 use Rattle.std.proofs.lemmas.List.{length-map}
-use Rattle.std.proofs.lemmas.List.Elements.{All-from_recursion, All-head, All-tail, recursion_from_All}
+use Rattle.std.proofs.lemmas.List.Elements.{All-from_recursion, recursion_from_All}
 use Rattle.std.proofs.lemmas.Slice.Zip.{AllZip-long}
 use Rattle.circle_challenger.specs.Sha256Challenger.{state_of}
 use Rattle.circle_challenger.specs.Sponge.{absorbed}
@@ -32,7 +32,7 @@ use Rattle.circle_opening.specs.Schemes.{Schemes}
 use Rattle.circle_opening.proofs.Logs.{log_of-power}
 use Rattle.circle_relation.specs.Accepts.{AcceptsFrom, Fields}
 use Rattle.circle_relation.specs.RunOf.{proof_of}
-use Rattle.circle_relation.specs.Statement.{BatchClaim, MatrixClaim, PointClaim, all_matrices}
+use Rattle.circle_relation.specs.Statement.{BatchClaim, MatrixClaim, all_matrices}
 use Rattle.circle_words.specs.Words.{claim_of}
 use Rattle.circle_commands.specs.Proved.{AreCommitted, HavePoints, IsCommitted, IsExtended, IsRequested, batch_claimed, commitments_taken, matrix_claimed, points_of}
 use Rattle.circle_commands.specs.Rows.{lists}
@@ -96,9 +96,9 @@ module _ (k : Fields Mersenne31 Cubic) (blowup : ℕ) where
   batch-pointed (t ∷ ts) [] (v ∷ vs) some are = absurd are
   batch-pointed (t ∷ ts) (m ∷ ms) (v ∷ vs) some are = (some-pairs t.points.items v are.0.count some.0, batch-pointed ts ms vs some.1 are.1)
 
-  module _ {D M : Type 0} (kept : D → List (RowMajorMatrix Mersenne31)) (Commits : List (RowMajorMatrix Mersenne31) → List ℕ → Type 0) where
+  module _ {D : Type 0} (kept : D → List (RowMajorMatrix Mersenne31)) (Commits : List (RowMajorMatrix Mersenne31) → List ℕ → Type 0) where
     -- so of all batches
-    all-claimed : (p : FriParameters M) → blowup ≡ p.log_blowup → (bs : List (Vec Trace Global)) (cs : List Committed) (rs : List (OpeningRequest D Cubic)) (vs : Openings Cubic) → AreCommitted Commits blowup bs cs → AllZip (IsRequested kept) cs rs →
+    all-claimed : {M : Type 0} (p : FriParameters M) → blowup ≡ p.log_blowup → (bs : List (Vec Trace Global)) (cs : List Committed) (rs : List (OpeningRequest D Cubic)) (vs : Openings Cubic) → AreCommitted Commits blowup bs cs → AllZip (IsRequested kept) cs rs →
         AllByRecursion (IsFit kept k blowup k.two_adicity) rs → length vs ≡ length cs → AreClaimed p kept Commits rs vs (pairwise batch_claimed cs vs)
     all-claimed p same [] [] [] [] committed asked fit long = tt
     all-claimed p same [] [] [] (v ∷ vs) committed asked fit long = absurd (omega (arith, long))

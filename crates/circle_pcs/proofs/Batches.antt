@@ -124,8 +124,7 @@ module _ {E Com Data Dom M : Type 0} (commits : List (Dom × M) → Com → Data
   are-values ValuesOf (b ∷ bs) [] vs all true = absurd all
   are-values ValuesOf (b ∷ bs) (r ∷ rs) [] all true = absurd true
   are-values ValuesOf (b ∷ bs) (r ∷ rs) (v ∷ vs) all true =
-      let is : IsRequestOf commits b r = all.0 in
-      (
+      let is : IsRequestOf commits b r = all.0 in (
         subst (λ ps. ValuesOf b.evaluations.items ps v) is.points (true.0 b.evaluations.items is.commitment is.committed),
         are-values ValuesOf bs rs vs all.1 true.1,
       )

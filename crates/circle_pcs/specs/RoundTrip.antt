@@ -30,9 +30,11 @@ statement_of c = (c.commitment, c.domains.items, lists c.points)
 -- the same of a claim
 abbrev pub statement_of_claim : {E Com Dom : Type 0} → CommitmentOpening E Com Dom
     → Com × List Dom × List (List E)
-statement_of_claim claim =
-    (claim.commitment, map (λ m. m.domain) claim.matrices.items,
-    map (λ m. map (λ p. p.point) m.points.items) claim.matrices.items)
+statement_of_claim claim = (
+  claim.commitment,
+  map (λ m. m.domain) claim.matrices.items,
+  map (λ m. map (λ p. p.point) m.points.items) claim.matrices.items,
+)
 
 -- the values that a claim is of
 abbrev pub claimed_values : {E Com Dom : Type 0} → CommitmentOpening E Com Dom

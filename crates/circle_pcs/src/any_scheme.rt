@@ -74,11 +74,7 @@ pub fn round_trip<Challenge, C: ChallengerState, P: Pcs<Challenge, C>>(
     alloc: Global,
     pcs: &P,
     batches: Vec<
-        BatchAtPoints<
-            Challenge,
-            P::Domain,
-            RowMajorMatrix<<P::Domain as PolynomialSpace>::Val>,
-        >,
+        BatchAtPoints<Challenge, P::Domain, RowMajorMatrix<<P::Domain as PolynomialSpace>::Val>>,
     >,
     prover: &mut C,
     verifier: &mut C,
@@ -114,11 +110,7 @@ fn commit_batches<Challenge, C: ChallengerState, P: Pcs<Challenge, C>>(
     alloc: Global,
     pcs: &P,
     batches: Vec<
-        BatchAtPoints<
-            Challenge,
-            P::Domain,
-            RowMajorMatrix<<P::Domain as PolynomialSpace>::Val>,
-        >,
+        BatchAtPoints<Challenge, P::Domain, RowMajorMatrix<<P::Domain as PolynomialSpace>::Val>>,
     >,
 ) -> Result<
     Vec<Committed<Challenge, P::Commitment, P::ProverData, P::Domain>>,
@@ -149,11 +141,7 @@ fn push<T: Drop>(items: &mut Vec<T>, item: T) -> Result<(), AllocError>
 fn commit_batch<Challenge, C: ChallengerState, P: Pcs<Challenge, C>>(
     alloc: Global,
     pcs: &P,
-    batch: BatchAtPoints<
-        Challenge,
-        P::Domain,
-        RowMajorMatrix<<P::Domain as PolynomialSpace>::Val>,
-    >,
+    batch: BatchAtPoints<Challenge, P::Domain, RowMajorMatrix<<P::Domain as PolynomialSpace>::Val>>,
 ) -> Result<
     Committed<Challenge, P::Commitment, P::ProverData, P::Domain>,
     RoundTripError<P::ProverError, P::Error>,

@@ -1,4 +1,4 @@
-use Rattle.std.proofs.Common.{◌≡◌, ◌∙◌, ◌⊎◌, All, sym, ap, subst, inr, replicate, refl, lit≤}
+use Rattle.std.proofs.Common.{◌∙◌, All, sym, ap, subst, replicate, refl, lit≤}
 use Rattle.std.specs.List.{AllZip}
 use Rattle.circle_matrix.specs.DotProduct.{pairwise}
 use Rattle.circle_matrix.specs.Pcs.{openings}

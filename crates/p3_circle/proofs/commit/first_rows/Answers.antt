@@ -1,4 +1,4 @@
-use Rattle.std.proofs.Common.{◌≡◌, ◌*◌, ◌%◌, ◌^◌, ◌≤◌, length, take, ◌∙◌, sym, ap, arith}
+use Rattle.std.proofs.Common.{◌*◌, ◌%◌, ◌^◌, ◌≤◌, length, take, ◌∙◌, sym, ap, arith}
 use Rattle.circle_matrix.specs.RowMajorMatrix.{rows, length-rows}
 use Rattle.circle_matrix.specs.RowMajorMatrixView.{rows as view_rows}
 use Rattle.circle_domain.specs.Domain.{log_size, shift_of}

@@ -1,5 +1,4 @@
-use Rattle.std.specs.Prelude.{Ok}
-use Rattle.std.proofs.Common.{◌≡◌, ◌∙◌, All, sym, subst}
+use Rattle.std.proofs.Common.{◌∙◌, All, sym, subst}
 use Rattle.circle_challenger.specs.Moves.{RunMoves, run_moves}
 use Rattle.circle_field.specs.Field.{of_nat}
 use Rattle.circle_matrix.specs.Mmcs.{HaveHeightsOfPowers}
@@ -7,8 +6,6 @@ use Rattle.circle_matrix.specs.Pcs.{openings}
 use Rattle.circle_matrix.specs.declared.pcs.OpeningRequest.{OpeningRequest}
 use Rattle.circle_opening.specs.Requests.{AreRequests}
 use Rattle.circle_relation.specs.Accepts.{Fields}
-use Rattle.circle_verifier.specs.Refusals.{answer}
-use Rattle.p3_circle.specs.Requesting.{opening_tests}
 use Rattle.p3_circle.specs.SchemeLaws.Unrefused.{are-binary, are-fit, are-requests}
 use Rattle.p3_circle.proofs.Degrees.{high-degree}
 use Rattle.p3_circle.proofs.InOrder.{refuses-before, is-first}
