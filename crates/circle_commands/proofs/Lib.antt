@@ -1,3 +1,4 @@
+pub mod Accepted
 pub mod Claimed
 pub mod First
 pub mod Heights

@@ -6,7 +6,6 @@ use Rattle.circle_challenger.specs.declared.sha256.Sha256Challenger.{Sha256Chall
 use Rattle.circle_matrix.specs.DotProduct.{pairwise}
 use Rattle.circle_matrix.specs.Parameters.{with_scheme}
 use Rattle.circle_matrix.specs.Pcs.{Openings}
-use Rattle.circle_matrix.specs.declared.matrix.RowMajorMatrix.{RowMajorMatrix}
 use Rattle.circle_matrix.specs.declared.params.FriParameters.{FriParameters}
 use Rattle.circle_matrix.specs.declared.pcs.OpeningRequest.{OpeningRequest}
 use Rattle.circle_field.specs.declared.cubic.Cubic.{Cubic}

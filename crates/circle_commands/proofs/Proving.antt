@@ -1,5 +1,5 @@
 -- Rows that are placed on domains, and what is committed to.
-use Rattle.std.proofs.Common.{◌≡◌, ℕ, ◌+◌, ◌^◌, ◌<◌, ◌≤◌, List, [], ◌∷◌, length, map, All, refl, ap, subst, sym, ◌∙◌, arith, Vec, Global, drop, get_or}
+use Rattle.std.proofs.Common.{◌≡◌, ℕ, ◌+◌, ◌^◌, ◌<◌, ◌≤◌, List, [], ◌∷◌, length, All, ap, subst, sym, ◌∙◌, Vec, Global, drop, get_or}
 use Rattle.std.specs.List.{AllZip}
 use Rattle.std.proofs.lemmas.List.{at_drop_more, drop_all}
 use Rattle.std.proofs.lemmas.List.Elements.{All-nil, All-cons}
@@ -8,7 +8,7 @@ use Rattle.circle_matrix.specs.Matrix.{IsPowerOfTwo}
 use Rattle.circle_matrix.specs.Mmcs.{HaveHeightsOfPowers}
 use Rattle.circle_matrix.specs.declared.pcs.OpeningRequest.{OpeningRequest}
 use Rattle.circle_field.specs.declared.cubic.Cubic.{Cubic}
-use Rattle.circle_matrix.specs.RowMajorMatrix.{rows, height_of, width_of, length-rows}
+use Rattle.circle_matrix.specs.RowMajorMatrix.{height_of, width_of, length-rows}
 use Rattle.circle_matrix.specs.declared.matrix.RowMajorMatrix.{RowMajorMatrix}
 use Rattle.circle_domain.proofs.Powers.{pow_order}
 use Rattle.circle_domain.specs.Domain.{log_size, shift_of}

@@ -1,6 +1,6 @@
 -- What the verifier of the program is handed.
-use Rattle.std.proofs.Common.{◌≡◌, ℕ, ◌+◌, ◌<◌, ◌≤◌, List, [], ◌∷◌, ◌++◌, length, map, take, drop, get_or, take_all, refl, ap, sym, subst, ◌∙◌, Result, Ok, Err, OnOk, IfErr, replicate, Vec, Global}
-use Rattle.std.proofs.lemmas.List.{at_drop_more, drop_all, take_more, map-append}
+use Rattle.std.proofs.Common.{◌≡◌, ℕ, ◌+◌, ◌<◌, ◌≤◌, List, length, drop, get_or, refl, ap, sym, subst, ◌∙◌, replicate, Vec, Global}
+use Rattle.std.proofs.lemmas.List.{at_drop_more, drop_all}
 use Rattle.circle_field.specs.declared.cubic.Cubic.{Cubic}
 use Rattle.circle_field.specs.declared.mersenne31.Mersenne31.{Mersenne31}
 use Rattle.circle_challenger.specs.Sha256Challenger.{state_of}

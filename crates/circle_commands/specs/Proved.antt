@@ -1,5 +1,5 @@
 -- What the command `prove` answers.
-use Rattle.std.specs.Prelude.{◌≡◌, ℕ, ◌+◌, ◌^◌, List, [], ◌∷◌, length, map, replicate, All, Vec}
+use Rattle.std.specs.Prelude.{◌≡◌, ℕ, ◌+◌, ◌^◌, ◌≤◌, List, [], ◌∷◌, length, map, replicate, All, Vec}
 use Rattle.std.specs.List.{AllZip}
 use Rattle.std.specs.declared.alloc.Global.{Global}
 use Rattle.circle_challenger.specs.Sha256Challenger.{state_of}
@@ -49,6 +49,10 @@ pub record IsExtended (blowup : ℕ) (given : List (List Mersenne31))
   pub height : length given ≡ 2 ^ log_n
   pub extends :
       IsExtensionOf operations generators blowup log_n (generators (log_n + 1)) width given made
+
+-- each matrix has a point
+abbrev pub HavePoints : Input → Type 0
+HavePoints input = All (λ b. All (λ t. 1 ≤ length t.points.items) b.items) input.batches.items
 
 -- the points of matrices
 abbrev pub points_of : List Trace → List (List Cubic)

@@ -14,14 +14,15 @@ ghost use Rattle.circle_opening.specs.declared.error.ProverError.TheVariants.{Me
 ghost use Rattle.circle_relation.specs.StatementOf.{point_claim};
 ghost use Rattle.circle_words.specs.Words.{claim_of};
 ghost use Rattle.circle_commands.specs.Prove.{input_fields, trace_fields};
-ghost use Rattle.circle_commands.specs.Proved.{AreCommitted, ArePlaced, IsCommitted, IsProved};
+ghost use Rattle.circle_commands.specs.Proved.{AreCommitted, ArePlaced, HavePoints, IsCommitted};
+ghost use Rattle.circle_commands.specs.Proved.{IsProved};
 ghost use Rattle.circle_commands.specs.Proved.{IsRequested, batch_claimed, commitments_taken};
 ghost use Rattle.circle_commands.specs.Proved.{matrix_claimed, points_of};
 ghost use Rattle.circle_commands.specs.Traces.{AreFitting, AreFittingRows, HasFittingRows};
 ghost use Rattle.circle_commands.specs.Traces.{AreTall, AreTallRows, HasTallRows};
 ghost use Rattle.circle_commands.specs.Traces.{IsRefusalOfBatch, IsRefusalOfBatches};
 ghost use Rattle.circle_commands.specs.Traces.{IsRefusalOfRows};
-ghost use Rattle.circle_commands.specs.Verified.{batches_told, matrices_told};
+ghost use Rattle.circle_commands.specs.Verified.{IsVerified, batches_told, matrices_told};
 ghost use Rattle.circle_commands.specs.declared.prove.Refusal.TheVariants.{Prover};
 
 use crate::failure::Failure;
@@ -194,14 +195,16 @@ pub(crate) fn answer(alloc: Global, value: &Value) -> Result<String, Failure> {
 /// Before anything is committed to, refuses by the first of these, matrix after matrix:
 /// `RaggedRows` where rows differ in length or one is empty, `HeightNotPowerOfTwo`,
 /// `HeightTooLarge` above `2^24` rows, and `HeightTooSmall` below `2^(2 + log_final_poly_len)`, so
-/// below four at least. Then fails as
-/// [`CirclePcs::commit`] does of the first batch that it refuses, and then as
-/// [`CirclePcs::open`] does.
+/// below four at least. Then fails as [`CirclePcs::commit`] does of the first batch that it
+/// refuses, and then as [`CirclePcs::open`] does. Where each matrix has a point, what is answered
+/// is accepted by [`verify::verify`].
 pub fn prove(alloc: Global, input: Input) -> Result<verify::Input, Refusal>
     ensures rows { let f = input.params.log_final_poly_len in let bs = input.batches.items in
         MatchResult result (λ _. AreTall f bs) (λ e. IsRefusalOfBatches f bs e ⊎ AreTall f bs) }
     ensures proof { IfOk result (IsProved
         ⟦<Sha256Challenger as OpeningOver<Mersenne31, Cubic, Batches, Words>>⟧.schemes input) }
+    ensures accepted { let o = ⟦<Sha256Challenger as OpeningOver<Mersenne31, Cubic, Batches, Words>>⟧
+        in IfOk result (λ out. HavePoints input → IsVerified o.schemes out) }
 {
     let Input { batches, params } = input;
     validate_batches(params.log_final_poly_len, &batches)?;

@@ -19,4 +19,4 @@ pub use circle_matrix::{
     are_below, error, folding, heights_are_powers_of_two, is_power_of_two, json, log2_strict,
     matrix, mmcs, params, pcs, periodic, space, view,
 };
-pub use circle_pcs::{Pcs, UnivariateStarkPcs, round_trip};
+pub use circle_pcs::{BatchAtPoints, Pcs, RoundTripError, UnivariateStarkPcs, round_trip};

@@ -5,7 +5,7 @@ use circle_field::{Cubic, Field, Mersenne31};
 use circle_statements::batches::{Batch, Domain, Rows, commit_one, cubic, one, scattered};
 use circle_statements::openings::{Answer, claims_of, open, shown, verify};
 use circle_statements::parameters::{Numbers, Proof, SMALL, Scheme, scheme};
-use p3_circle::{Point, heights_match_domains, round_trip};
+use p3_circle::{BatchAtPoints, Point, heights_match_domains};
 use std::alloc::Global;
 use std::process::Abort;
 use std::test::Fail;
@@ -84,29 +84,34 @@ fn domains_that_are_not_standard(rt: HostRuntime) -> Result<(), Fail> {
     Ok(())
 }
 
-// A matrix of eight rows, on the standard domain.
-fn eight_rows(alloc: Global) -> Result<Vec<(Domain, Rows)>, Fail> {
-    Ok(one(alloc, (Domain::standard(3), scattered(alloc, 3, 2, 12)?))?)
+// A matrix of so many rows, on the standard domain.
+fn matrix(alloc: Global, log_rows: usize, seed: u64) -> Result<Vec<(Domain, Rows)>, Fail>
+    requires { log_rows ≤ 31 }
+{
+    let rows = scattered(alloc, log_rows, 2, seed)?;
+    Ok(one(alloc, (Domain::standard(log_rows), rows))?)
 }
 
-// A whole run, over any scheme: both challengers end in one state.
+// A whole run over two batches: both challengers end in one state.
 #[test]
 fn a_whole_run(rt: HostRuntime) -> Result<(), Fail> {
     let alloc = rt.alloc();
-    let points = one(alloc, one(alloc, cubic([1, 2, 3]))?)?;
-    let evaluations = eight_rows(alloc)?;
-    assert!(&rt; evaluations.len() == 1 && heights_match_domains(&evaluations));
-    let mut prover = Sha256Challenger::new();
-    let mut verifier = Sha256Challenger::new();
-    let run = round_trip::<Cubic, Sha256Challenger, Scheme>(
-        alloc,
-        &scheme(SMALL),
-        evaluations,
-        points,
-        &mut prover,
-        &mut verifier,
-    )?;
-    assert!(&rt; run.is_some());
+    let (short, tall) = (matrix(alloc, 3, 12)?, matrix(alloc, 4, 14)?);
+    assert!(&rt; short.len() == 1 && heights_match_domains(&short));
+    assert!(&rt; tall.len() == 1 && heights_match_domains(&tall));
+    let first = BatchAtPoints {
+        evaluations: short,
+        points: one(alloc, one(alloc, cubic([1, 2, 3]))?)?,
+    };
+    let second = BatchAtPoints {
+        evaluations: tall,
+        points: one(alloc, vec![in alloc; cubic([1, 2, 3]), cubic([4, 5, 6])]?)?,
+    };
+    let (mut prover, mut verifier) = (Sha256Challenger::new(), Sha256Challenger::new());
+    let batches = vec![in alloc; first, second]?;
+    let run = scheme(SMALL).round_trip(alloc, batches, &mut prover, &mut verifier);
+    let values = run.map_err(|_refused| Fail)?;
+    assert!(&rt; values.len() == 2);
     let (drawn, again): (Mersenne31, Mersenne31) = (prover.sample(), verifier.sample());
     assert_eq!(&rt; drawn, again);
     Ok(())

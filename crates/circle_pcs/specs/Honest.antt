@@ -1,6 +1,5 @@
 -- Requests that are honest, and the claims that a verifier is handed of what is answered of them.
-use Rattle.std.specs.Prelude.{◌≡◌, ℕ, ◌≤◌, List, [], ◌∷◌, length, map, All, Vec}
-use Rattle.std.specs.declared.alloc.Global.{Global}
+use Rattle.std.specs.Prelude.{◌≡◌, ℕ, ◌≤◌, List, [], ◌∷◌, length, map, All}
 use Rattle.std.specs.List.{AllZip}
 use Rattle.circle_matrix.specs.Pcs.{Openings}
 use Rattle.circle_matrix.specs.declared.pcs.CommitmentOpening.{CommitmentOpening}
@@ -10,10 +9,6 @@ use Rattle.circle_matrix.specs.declared.pcs.OpeningRequest.{OpeningRequest}
 -- the points of a request, for each matrix its own
 abbrev pub requested_points : {Data E : Type 0} → OpeningRequest Data E → List (List E)
 requested_points request = map (λ points. points.items) request.points.items
-
--- the lists that vectors hold
-abbrev pub lists : {E : Type 0} → Vec (Vec E Global) Global → List (List E)
-lists vectors = map (λ v. v.items) vectors.items
 
 -- for each request a list of values for each of its matrices, in it one for each of its points
 abbrev pub HaveValues : {Data E : Type 0} → List (OpeningRequest Data E) → Openings E → Type 0
@@ -72,21 +67,6 @@ module _ {E Com Data Dom M : Type 0} (commits : List (Dom × M) → Com → Data
   abbrev pub AreHonest : (List (Dom × M) → List (List E) → Type 0)
       → List (OpeningRequest Data E) → Type 0
   AreHonest OpensAt requests = (1 ≤ length requests) × All (IsHonest OpensAt) requests
-
-  -- from this state each search for a witness finds one, in the run of one request of data that
-  -- were kept of the batch
-  abbrev pub FindsFor : {S : Type 0} → (List (OpeningRequest Data E) → S → Type 0)
-      → List (Dom × M) → List (List E) → S → Type 0
-  FindsFor Finds batch points state = (request : OpeningRequest Data E) (commitment : Com)
-      → commits batch commitment request.prover_data.now → requested_points request ≡ points
-      → Finds (request ∷ []) state
-
--- a batch may be opened at these points, and from this state each search for a witness finds one
-abbrev pub OpensFrom : {E Com Data Dom M S : Type 0} → (List (Dom × M) → List (List E) → Type 0)
-    → (List (Dom × M) → Com → Data → Type 0) → (List (OpeningRequest Data E) → S → Type 0)
-    → List (Dom × M) → List (List E) → S → Type 0
-OpensFrom OpensAt commits Finds batch points state =
-    OpensAt batch points × FindsFor commits Finds batch points state
 
 -- requests are honest, and from this state each search for a witness finds one in their run
 abbrev pub IsHonestFrom : {E Com Data Dom M S : Type 0} → (List (Dom × M) → Com → Data → Type 0)

@@ -1,2 +1,3 @@
 pub mod Honest
 pub mod Kept
+pub mod RoundTrip

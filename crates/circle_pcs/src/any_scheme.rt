@@ -1,89 +1,168 @@
 //! A committer and a verifier of any scheme, played against each other.
-ghost use Rattle.std.specs.Prelude.{◌≡◌, ◌≤◌, [], ◌∷◌, false, All, IfOk, IfSome, IsSome, OnOk};
-ghost use Rattle.std.specs.Prelude.{length, map};
-ghost use Rattle.std.specs.List.{AllZip};
-ghost use Rattle.circle_matrix.specs.Mmcs.{opened_rows};
-ghost use Rattle.circle_pcs.specs.Honest.{OpensFrom, lists};
+ghost use Rattle.std.specs.Prelude.{◌≡◌, ◌∷◌, ◌++◌, [], All, IfErr, IfOk, OnOk, map};
+ghost use Rattle.circle_matrix.specs.Pcs.{openings};
+ghost use Rattle.circle_pcs.specs.Honest.{requested_points};
+ghost use Rattle.circle_pcs.specs.RoundTrip.{AreCommitted, HasPoints, IsCommitted};
+ghost use Rattle.circle_pcs.specs.RoundTrip.{IsUncommitted, IsUncommittedOf, lists};
+ghost use Rattle.circle_pcs.specs.declared.any_scheme.RoundTripError.TheVariants.{Memory};
 
+use crate::claims::claims_of;
 use crate::scheme::Pcs;
+use crate::statements::Statements;
 use circle_challenger::ChallengerState;
 use circle_field::ExtensionField;
-use circle_matrix::{
-    CommitmentOpening, MatrixOpening, OpenedValuesForMatrix, OpenedValuesForRound, OpeningRequest,
-    PointOpening, PolynomialSpace, RowMajorMatrix,
-};
+use circle_matrix::{OpenedValues, OpeningRequest, PolynomialSpace, RowMajorMatrix};
 use std::alloc::{AllocError, Global};
+use std::fmt::Debug;
+use thiserror::Error;
 
-/// Commits to a batch, opens it at points, for each matrix its own, and verifies what is answered,
-/// by two challengers that begin in one state.
-///
-/// Answers the values of the batch where they are accepted: those of its polynomials, and then both
-/// challengers end in one state. `None` says that the scheme refused, which it doesn't do of a
-/// batch that may be opened at these points, where each search for a witness finds one.
-///
-/// Asks what `commit` asks of the batch, and a list of points for each matrix, of one point at
-/// least. Fails where memory is refused.
-pub fn round_trip<Challenge, C: ChallengerState, P: Pcs<Challenge, C>>(
-    alloc: Global,
-    pcs: &P,
-    batch: Vec<
-        (
-            P::Domain,
-            RowMajorMatrix<<P::Domain as PolynomialSpace>::Val>,
-        ),
-    >,
-    points: Vec<Vec<Challenge>>,
-    prover: &mut C,
-    verifier: &mut C,
-) -> Result<Option<OpenedValuesForRound<Challenge>>, AllocError>
-where
-    Challenge: ExtensionField<<P::Domain as PolynomialSpace>::Val>,
-    requires asks { P.commit_asks pcs.now batch.items }
-    requires counted { length points.items ≡ length batch.items }
-    requires some { All (λ ts. 1 ≤ length ts.items) points.items }
-    requires same { C.state prover.old ≡ C.state verifier.old }
-    ensures accepted { IfOk result (λ o. OpensFrom (P.opens_at pcs.now) (P.commits pcs.now)
-        (P.finds_witnesses pcs.now) batch.items (lists points) (C.state prover.old) → IsSome o) }
-    ensures values { IfOk result (λ o. IfSome o (λ v. P.values_of pcs.now batch.items
-        (lists points) (opened_rows v.items))) }
-    ensures states { IfOk result (λ o. IfSome o (λ _.
-        C.state prover.new ≡ C.state verifier.new)) }
-{
-    let domains = domains_of(alloc, &batch)?;
-    let (commitment, data) = match pcs.commit(alloc, batch) {
-        Ok(committed) => committed,
-        Err(error) => return refused(P::is_prover_memory(&error)),
-    };
-    let request = OpeningRequest {
-        prover_data: &data,
-        points: copies_of(alloc, &points)?,
-    };
-    let requests = one(alloc, request)?;
-    let (mut opened, proof) = match pcs.open(alloc, requests, prover) {
-        Ok(opened) => opened,
-        Err(error) => return refused(P::is_prover_memory(&error)),
-    };
-    let values = opened.pop().unwrap();
-    let matrices = claims_of(alloc, &domains, &points, &values)?;
-    let claims = one(
-        alloc,
-        CommitmentOpening {
-            commitment,
-            matrices,
-        },
-    )?;
-    match pcs.verify(alloc, claims, &proof, verifier) {
-        Ok(()) => Ok(Some(values)),
-        Err(error) => refused(P::is_memory(&error)),
+/// A batch of matrices, and the points that each of them is opened at.
+#[derive(Drop)]
+pub struct BatchAtPoints<Challenge, Domain, Matrix> {
+    /// The matrices, each with the domain that its columns are values on.
+    pub evaluations: Vec<(Domain, Matrix)>,
+    /// For each matrix its points, each by one coordinate.
+    pub points: Vec<Vec<Challenge>>,
+}
+
+/// Why a round trip answers no values: the refusal of the call that refused, or want of memory.
+#[derive(Debug, Drop, Error)]
+#[error_bound(ProverError: Debug, VerifierError: Debug)]
+pub enum RoundTripError<ProverError, VerifierError> {
+    /// `commit` refuses a batch.
+    #[error("there is no commitment: {0:?}")]
+    Commit(ProverError),
+    /// `open` refuses the requests.
+    #[error("there is no opening: {0:?}")]
+    Open(ProverError),
+    /// `verify` refuses what was answered.
+    #[error("what was answered is refused: {0:?}")]
+    Verify(VerifierError),
+    /// Memory was refused.
+    #[error("out of memory")]
+    Memory,
+}
+
+impl<ProverError, VerifierError> From<AllocError> for RoundTripError<ProverError, VerifierError> {
+    ghost from_gives = { λ _ e. e ≡ Memory };
+
+    fn from(_refused: AllocError) -> RoundTripError<ProverError, VerifierError> {
+        RoundTripError::Memory
     }
 }
 
-// What a refusal answers, by whether it is of memory.
-fn refused<T>(memory: bool) -> Result<Option<T>, AllocError>
-    ensures none { IfOk result (λ o. o ≡ None) }
-    ensures other { OnOk result (memory ≡ false) }
+// A batch that is committed to.
+#[derive(Drop)]
+pub(crate) struct Committed<Challenge, Commitment, ProverData, Domain> {
+    pub commitment: Commitment,
+    pub prover_data: ProverData,
+    pub domains: Vec<Domain>,
+    pub points: Vec<Vec<Challenge>>,
+}
+
+/// Commits to batches, opens them all at once, each matrix at its own points, and verifies what is
+/// answered, by two challengers that begin in one state.
+///
+/// Answers, batch by batch, the values of their polynomials, once they are accepted; then both
+/// challengers end in one state. Otherwise the answer is the refusal of `commit`, `open` or
+/// `verify`, with the reason that the scheme gives for it, or `Memory`. Batches that may be opened
+/// at their points are refused for memory alone, where each search for a witness finds one.
+///
+/// Asks what `commit` asks of each batch, and a list of points for each matrix, of one point at
+/// least.
+pub fn round_trip<Challenge, C: ChallengerState, P: Pcs<Challenge, C>>(
+    alloc: Global,
+    pcs: &P,
+    batches: Vec<
+        BatchAtPoints<Challenge, P::Domain, RowMajorMatrix<<P::Domain as PolynomialSpace>::Val>>,
+    >,
+    prover: &mut C,
+    verifier: &mut C,
+) -> Result<OpenedValues<Challenge>, RoundTripError<P::ProverError, P::Error>>
+where
+    Challenge: ExtensionField<<P::Domain as PolynomialSpace>::Val>,
+    requires asks { All (λ b. P.commit_asks pcs.now b.evaluations.items) batches.items }
+    requires points { All HasPoints batches.items }
+    requires same { C.state prover.old ≡ C.state verifier.old }
+    ensures accepted { let p = ⟦<P as Statements<Challenge, C>>⟧ in IfErr result (λ e.
+        p.are_honest_batches pcs.now batches.items (C.state prover.old) → p.is_of_memory e) }
+    ensures values { let p = ⟦<P as Statements<Challenge, C>>⟧ in IfOk result (λ v.
+        p.are_values_of pcs.now batches.items (openings v.items)) }
+    ensures states { OnOk result (C.state prover.new ≡ C.state verifier.new) }
+    ensures reason { let s = C.state in IfErr result (⟦<P as Statements<Challenge, C>>⟧.is_reason
+        pcs.now batches.items (s prover.old) (s prover.new) (s verifier.new)) }
 {
-    if memory { Err(AllocError) } else { Ok(None) }
+    let committed = commit_batches(alloc, pcs, batches)?;
+    let requests = requests_of(alloc, &committed)?;
+    let (values, proof) = match pcs.open(alloc, requests, prover) {
+        Ok(opened) => opened,
+        Err(error) => return Err(RoundTripError::Open(error)),
+    };
+    let claims = claims_of(alloc, committed, &values)?;
+    match pcs.verify(alloc, claims, &proof, verifier) {
+        Ok(()) => Ok(values),
+        Err(error) => Err(RoundTripError::Verify(error)),
+    }
+}
+
+// Commits to each batch.
+fn commit_batches<Challenge, C: ChallengerState, P: Pcs<Challenge, C>>(
+    alloc: Global,
+    pcs: &P,
+    batches: Vec<
+        BatchAtPoints<Challenge, P::Domain, RowMajorMatrix<<P::Domain as PolynomialSpace>::Val>>,
+    >,
+) -> Result<
+    Vec<Committed<Challenge, P::Commitment, P::ProverData, P::Domain>>,
+    RoundTripError<P::ProverError, P::Error>,
+>
+where
+    Challenge: ExtensionField<<P::Domain as PolynomialSpace>::Val>,
+    requires { All (λ b. P.commit_asks pcs.now b.evaluations.items) batches.items }
+    ensures committed { IfOk result (λ v. AreCommitted (P.commits pcs.now) batches.items v.items) }
+    ensures refused { IfErr result (IsUncommittedOf (P.commit_refuses pcs.now) batches.items) }
+{
+    let mut committed = Vec::with_capacity(alloc, batches.len())?;
+    for batch in batches {
+        push(&mut committed, commit_batch(alloc, pcs, batch)?)?;
+    }
+    Ok(committed)
+}
+
+// Adds an item.
+fn push<T: Drop>(items: &mut Vec<T>, item: T) -> Result<(), AllocError>
+    ensures { OnOk result (items.new.items ≡ items.old.items ++ item ∷ []) }
+{
+    items.push(item)?;
+    Ok(())
+}
+
+// Commits to a batch.
+fn commit_batch<Challenge, C: ChallengerState, P: Pcs<Challenge, C>>(
+    alloc: Global,
+    pcs: &P,
+    batch: BatchAtPoints<Challenge, P::Domain, RowMajorMatrix<<P::Domain as PolynomialSpace>::Val>>,
+) -> Result<
+    Committed<Challenge, P::Commitment, P::ProverData, P::Domain>,
+    RoundTripError<P::ProverError, P::Error>,
+>
+where
+    Challenge: ExtensionField<<P::Domain as PolynomialSpace>::Val>,
+    requires { P.commit_asks pcs.now batch.evaluations.items }
+    ensures committed { IfOk result (IsCommitted (P.commits pcs.now) batch) }
+    ensures refused { IfErr result (IsUncommitted (P.commit_refuses pcs.now) batch) }
+{
+    let domains = domains_of(alloc, &batch.evaluations)?;
+    let (commitment, prover_data) = match pcs.commit(alloc, batch.evaluations) {
+        Ok(committed) => committed,
+        Err(error) => return Err(RoundTripError::Commit(error)),
+    };
+    Ok(Committed {
+        commitment,
+        prover_data,
+        domains,
+        points: batch.points,
+    })
 }
 
 // The domains of a batch.
@@ -97,6 +176,26 @@ fn domains_of<D: Copy, M>(alloc: Global, batch: &[(D, M)]) -> Result<Vec<D>, All
     Ok(domains)
 }
 
+// Requests to open what was committed to at the points.
+fn requests_of<'a, E: Copy, Com, Data, D>(
+    alloc: Global,
+    committed: &'a [Committed<E, Com, Data, D>],
+) -> Result<Vec<OpeningRequest<'a, Data, E>>, AllocError>
+    ensures kept { IfOk result (λ v. map (λ r. r.prover_data.now) v.items
+        ≡ map (λ c. c.prover_data) committed.now) }
+    ensures points { IfOk result (λ v. map requested_points v.items
+        ≡ map (λ c. lists c.points) committed.now) }
+{
+    let mut requests = Vec::with_capacity(alloc, committed.len())?;
+    for batch in committed {
+        requests.push(OpeningRequest {
+            prover_data: &batch.prover_data,
+            points: copies_of(alloc, &batch.points)?,
+        })?;
+    }
+    Ok(requests)
+}
+
 // Vectors of the same items.
 fn copies_of<E: Copy>(alloc: Global, vectors: &[Vec<E>]) -> Result<Vec<Vec<E>>, AllocError>
     ensures { IfOk result (λ copies. map (λ v. v.items) copies.items
@@ -107,60 +206,4 @@ fn copies_of<E: Copy>(alloc: Global, vectors: &[Vec<E>]) -> Result<Vec<Vec<E>>, 
         copies.push(Vec::from_slice(alloc, vector)?)?;
     }
     Ok(copies)
-}
-
-// A vector of one value.
-fn one<T: Drop>(alloc: Global, value: T) -> Result<Vec<T>, AllocError>
-    ensures { IfOk result (λ v. v.items ≡ value ∷ []) }
-{
-    let mut values = Vec::new(alloc);
-    values.push(value)?;
-    Ok(values)
-}
-
-// What is claimed of one matrix: at each point its values.
-fn claims_on<E: Copy>(
-    alloc: Global,
-    points: &[E],
-    values: &[Vec<E>],
-) -> Result<Vec<PointOpening<E>>, AllocError>
-    requires { length values.now ≡ length points.now }
-    ensures points { IfOk result (λ claims. map (λ p. p.point) claims.items ≡ points.now) }
-    ensures values { IfOk result (λ claims. map (λ p. p.values.items) claims.items
-        ≡ map (λ v. v.items) values.now) }
-{
-    let mut claims = Vec::with_capacity(alloc, points.len())?;
-    for (point, values) in points.iter().zip(values) {
-        claims.push(PointOpening {
-            point: *point,
-            values: Vec::from_slice(alloc, values)?,
-        })?;
-    }
-    Ok(claims)
-}
-
-// What is claimed of the matrices of a batch.
-fn claims_of<E: Copy, D: Copy>(
-    alloc: Global,
-    domains: &[D],
-    points: &[Vec<E>],
-    values: &[OpenedValuesForMatrix<E>],
-) -> Result<Vec<MatrixOpening<E, D>>, AllocError>
-    requires counted { length points.now ≡ length domains.now }
-    requires values { AllZip (λ ps vs. length vs ≡ length ps) (map (λ v. v.items) points.now)
-        (opened_rows values.now) }
-    ensures domains { IfOk result (λ claims. map (λ c. c.domain) claims.items ≡ domains.now) }
-    ensures points { IfOk result (λ claims. map (λ c. map (λ p. p.point) c.points.items)
-        claims.items ≡ map (λ v. v.items) points.now) }
-    ensures values { IfOk result (λ claims. map (λ c. map (λ p. p.values.items) c.points.items)
-        claims.items ≡ opened_rows values.now) }
-{
-    let mut claims = Vec::with_capacity(alloc, domains.len())?;
-    for (i, domain) in domains.iter().enumerate() {
-        claims.push(MatrixOpening {
-            domain: *domain,
-            points: claims_on(alloc, &points[i], &values[i])?,
-        })?;
-    }
-    Ok(claims)
 }

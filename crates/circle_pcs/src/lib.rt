@@ -4,15 +4,17 @@
 //! What they promise speaks of lists and of the states of the challenger alone, so that a caller
 //! over any scheme can rely on it: a verifier's Ok is one relation of the claims, the proof and the
 //! states before and after, and a refusal that isn't of memory denies it for every state after.
-//! `round_trip` is such a caller: it commits, opens and verifies, and an honest run is accepted.
+//! `round_trip` is such a caller: it commits to batches, opens them at points and verifies; an honest
+//! run is accepted, and any other answers the refusal of the call that refused.
 #![tactic(auto)]
 
 pub mod any_scheme;
+pub mod claims;
 pub mod scheme;
 pub mod stark;
 pub mod statements;
 
-pub use any_scheme::round_trip;
+pub use any_scheme::{BatchAtPoints, RoundTripError, round_trip};
 pub use scheme::Pcs;
 pub use stark::UnivariateStarkPcs;
 pub use statements::Statements;

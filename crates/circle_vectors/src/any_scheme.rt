@@ -1,10 +1,11 @@
 //! Callers over any scheme of polynomial commitments: what they say follows from the trait alone.
 ghost use Rattle.std.specs.Prelude.{◌≡◌, IfOk, IsTrue};
 
-use circle_challenger::ChallengerState;
+use circle_challenger::{ChallengerState, Sha256Challenger};
 use circle_commit::{CommitmentOpening, PolynomialSpace};
-use circle_field::ExtensionField;
-use circle_pcs::Pcs;
+use circle_field::{Cubic, ExtensionField};
+use circle_pcs::{Pcs, UnivariateStarkPcs};
+use circle_statements::parameters::Scheme;
 use std::alloc::{AllocError, Global};
 
 /// Whether a scheme accepts claims and a proof from the challenger's state: true exactly where its
@@ -59,4 +60,17 @@ where
         return Ok(false);
     }
     accepts(alloc, pcs, again, proof, second)
+}
+
+/// Whether a scheme's proofs hide what they don't tell, as its trait says.
+pub fn hides<Challenge, C: ChallengerState, P: UnivariateStarkPcs<Challenge, C>>() -> bool
+where
+    Challenge: ExtensionField<<P::Domain as PolynomialSpace>::Val>,
+{
+    P::ZK
+}
+
+#[test]
+fn nothing_is_hidden(rt: HostRuntime) {
+    assert!(&rt; !hides::<Cubic, Sha256Challenger, Scheme>());
 }

@@ -1,14 +1,10 @@
 -- What a verifier's transcript is described by, and what it takes in.
-use Rattle.std.proofs.Common.{◌≡◌, ℕ, Bool, true, false, ◌+◌, ◌-◌, ◌≤◌, List, [], ◌∷◌, ◌++◌, length, map, flat_map, zip, refl, sym, ap, ◌∙◌, append_assoc, arith, inl, inr}
-use Rattle.std.specs.Prelude.{All, Result, ◌↔◌, ◌⊎◌}
-use Rattle.std.proofs.lemmas.List.{map-append}
+use Rattle.std.proofs.Common.{◌≡◌, ℕ, ◌+◌, ◌≤◌, List, [], ◌∷◌, length, zip, sym, ap, ◌∙◌, arith, inl, inr}
+use Rattle.std.specs.Prelude.{All, Result, ◌⊎◌}
 use Rattle.std.proofs.lemmas.List.Elements.{All-head}
-use Rattle.circle_field.specs.Field.{FieldOps}
 use Rattle.circle_challenger.specs.Moves.{RunMoves}
-use Rattle.circle_matrix.specs.declared.params.FriParameters.{FriParameters}
 use Rattle.circle_matrix.specs.declared.params.PowPhase.{PowPhase}
-use Rattle.circle_domain.specs.Selectors.{IsFinite}
-use Rattle.circle_relation.specs.Statement.{PointClaim, MatrixClaim, BatchClaim, all_matrices, log_max_height}
+use Rattle.circle_relation.specs.Statement.{MatrixClaim, log_max_height}
 use Rattle.circle_matrix.specs.declared.error.FriError.{FriError}
 use Rattle.circle_matrix.specs.declared.error.FriError.TheVariants.{Memory}
 use Rattle.circle_transcript.specs.declared.failure.CircleTranscriptFailure.{CircleTranscriptFailure}
@@ -17,10 +13,7 @@ use Rattle.circle_transcript.specs.Failure.{phase_of}
 use Rattle.circle_transcript.specs.declared.transcript.Numbers.{Numbers}
 use Rattle.circle_runs.specs.Runs.{IsMiss}
 use Rattle.circle_transcript.specs.Shape.{Shape}
-use Rattle.circle_transcript.specs.Draw.{Claim, widths_of, Taken, taken, Drawn, draw}
-use Rattle.circle_verifier.specs.Refusals.{is_at_infinity}
-use Rattle.circle_relation.specs.Taken.{widths_by, point_taken, claims_taken, shape_by}
-use Rattle.circle_verifier.specs.Tests.{claimed_height}
+use Rattle.circle_transcript.specs.Draw.{Claim, Taken, taken, Drawn, draw}
 use Rattle.p3_circle.specs.Verdict.{refusal_of, IsMissedIn}
 
 -- claims that leave something to fold are of heights above what folding stops at

@@ -1,6 +1,6 @@
 -- The verifier's answers, from those of its parts.
 use Rattle.std.proofs.Common.{◌≡◌, ℕ, Bool, true, false, List, length, refl, sym, subst, ◌∙◌, arith, inl, inr}
-use Rattle.std.specs.Prelude.{Result, Ok, Err, OnOk, IfErr, MatchResult, ◌↔◌, ◌⊎◌}
+use Rattle.std.specs.Prelude.{Result, Ok, Err, IfErr, MatchResult, ◌↔◌, ◌⊎◌}
 use Rattle.std.proofs.lemmas.List.{length-map}
 use Rattle.std.proofs.lemmas.Slice.Zip.{length-zip}
 use Rattle.circle_field.specs.declared.field.Operations.{Ghosts}

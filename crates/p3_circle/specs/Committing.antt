@@ -125,7 +125,13 @@ module _ {F : Type 0} (k : FieldOps F) (gen : ℕ → Coordinates F) where
         (cfft_order k gen (n + blowup) (gen (n + blowup + 1)))
 
 module _ {F : Type 0} {g : _} (k : FieldOps F) (gen : ℕ → Coordinates F) where
-  -- so of a matrix of rows on a domain
+  -- the first 2^n points of a domain, in the transform's order, are the points in this order of the
+  -- domain of so many points with its shift
+  abbrev pub BeginsOrder : CircleDomain F g → ℕ → Type 0
+  BeginsOrder d n =
+      take (2 ^ n) (cfft_order k gen (log_size d) (shift_of d)) ≡ cfft_order k gen n (shift_of d)
+
+  -- the extension of a matrix of rows on a domain
   abbrev pub IsExtension : ℕ → CircleDomain F g → RowMajorMatrix F → RowMajorMatrix F → Type 0
   IsExtension blowup d given made =
       IsExtensionOf k gen blowup (log_size d) (shift_of d) (width_of given) (rows given) made

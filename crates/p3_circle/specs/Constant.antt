@@ -1,11 +1,70 @@
--- The relation where folding goes on to a constant: each query's chain ends in one value.
-use Rattle.std.specs.Prelude.{◌≡◌, [], ◌∷◌, All}
+-- Where folding goes on to a constant: the shape of a run and its seed, and the relation, by which
+-- each query's chain ends in one value.
+use Rattle.std.specs.Prelude.{◌≡◌, ℕ, ◌+◌, ◌-◌, ◌++◌, List, [], ◌∷◌, All, Vec, codes}
+use Rattle.std.specs.declared.alloc.Global.{Global}
+use Rattle.circle_challenger.specs.Separator.{Separator, seed_text, separator}
+use Rattle.circle_challenger.specs.Step.{Step, be64, step}
+use Rattle.circle_challenger.specs.declared.interaction.Hierarchy.TheVariants.{Atomic}
+use Rattle.circle_challenger.specs.declared.interaction.Kind.TheVariants.{Message}
+use Rattle.circle_challenger.specs.declared.interaction.Length.TheVariants.{Scalar}
+use Rattle.circle_challenger.specs.declared.interaction.ValueType.TheVariants.{Algebra}
 use Rattle.circle_matrix.specs.declared.params.FriParameters.{FriParameters}
 use Rattle.circle_relation.specs.Accepts.{Fields, Run, Authenticates, AreApart, HoldsWith}
 use Rattle.circle_relation.specs.Accepts.{InputsAuthenticate, FirstLayerAuthenticates}
 use Rattle.circle_relation.specs.Accepts.{RoundsAuthenticate, round_value, rounds, placed_queries}
 use Rattle.circle_relation.specs.RunOf.{run_of}
 use Rattle.circle_relation.specs.declared.run.OpenedRun.{OpenedRun}
+use Rattle.circle_transcript.specs.Shape.{Shape, batch_steps, claimed_widths, first_layer_steps}
+use Rattle.circle_transcript.specs.Shape.{guarded_numbers_steps, layout, rounds_steps, text_of}
+use Rattle.circle_transcript.specs.ShapeOf.{shape_for, shape_of}
+use Rattle.circle_transcript.specs.declared.shape.CirclePcsShape.{CirclePcsShape}
+
+-- the shape of a run that folds on to a constant, with these parameters over claims of these
+-- numbers of columns, from the logarithm of the greatest height and the number of further bits of
+-- an index
+abbrev pub constant_shape_for : {M : Type 0} → FriParameters M
+    → Vec (Vec (Vec ℕ Global) Global) Global → ℕ → ℕ → CirclePcsShape
+constant_shape_for params opened_widths log_max_height extra_query_index_bits = record {
+  opened_widths = opened_widths;
+  num_commit_rounds = log_max_height - 1 - params.log_blowup;
+  batch_pow_bits = params.batch_proof_of_work_bits;
+  commit_pow_bits = params.commit_proof_of_work_bits;
+  query_pow_bits = params.query_proof_of_work_bits;
+  num_queries = params.num_queries;
+  index_bits = log_max_height - 1 + extra_query_index_bits;
+  log_blowup = params.log_blowup;
+  log_final_poly_len = 0;
+}
+
+-- its steps: the final polynomial is a single element
+abbrev pub constant_steps : ℕ → Shape → List Step
+constant_steps degree s =
+    batch_steps degree (claimed_widths s) s.batch_pow_bits
+    ++ (first_layer_steps degree
+    ++ (rounds_steps degree s.commit_pow_bits s.num_commit_rounds
+    ++ step Atomic Message (Algebra degree) (codes "final_poly") Scalar
+    ∷ guarded_numbers_steps (codes "query_pow") s.query_pow_bits (codes "query_indices")
+    s.index_bits s.num_queries))
+
+-- what it is seeded with, of version 1, with two labels: the logarithm of the blowup, and how the
+-- claims are grouped
+abbrev pub constant_separator : ℕ → Shape → Separator
+constant_separator degree s =
+    separator 1 (codes "p3-circle-pcs") (constant_steps degree s)
+    (be64 s.log_blowup ∷ layout s.opened_widths ∷ [])
+
+-- a shape whose final polynomial is a constant has this seed's text
+abbrev pub HasConstantText : ℕ → CirclePcsShape → Type 0
+HasConstantText degree shape =
+    shape.log_final_poly_len ≡ 0
+    → text_of degree (shape_of shape) ≡ seed_text (constant_separator degree (shape_of shape))
+
+-- parameters whose final polynomial is a constant have this shape
+abbrev pub HaveConstantShape : {M : Type 0} → FriParameters M → Type 0
+HaveConstantShape params =
+    params.log_final_poly_len ≡ 0
+    → (widths : Vec (Vec (Vec ℕ Global) Global) Global) (height extra : ℕ)
+    → shape_for params widths height extra ≡ constant_shape_for params widths height extra
 
 module _ {F E M Com InputCom InputProof WordProof : Type 0} (k : Fields F E)
     (params : FriParameters M) (r : Run F E Com InputCom InputProof WordProof)

@@ -1,12 +1,11 @@
 -- A worked example: the searches of an opening's own run find their witnesses, though those of
 -- another run over the same claims don't.
 use Rattle.std.specs.Prelude.{◌≡◌, ℕ, ◌==◌, if◌then◌else◌, Bool, true, false, List, [], ◌∷◌}
-use Rattle.std.specs.Prelude.{Option, Some, None, flat_map, slice_get}
-use Rattle.std.proofs.Common.{zero, suc, refl, sym, ◌∙◌, ap, subst}
+use Rattle.std.specs.Prelude.{Some, None, flat_map, slice_get}
+use Rattle.std.proofs.Common.{zero, suc, refl, sym, ◌∙◌, subst}
 use Rattle.circle_challenger.specs.Moves.{RunMoves, run_moves, is_passed, after_element}
 use Rattle.circle_challenger.specs.Observing.{after_all}
 use Rattle.circle_challenger.specs.Sampling.{after_samples}
-use Rattle.circle_matrix.specs.Pcs.{Openings}
 use Rattle.circle_matrix.specs.declared.matrix.RowMajorMatrix.{RowMajorMatrix}
 use Rattle.circle_matrix.specs.declared.params.FriParameters.{FriParameters}
 use Rattle.circle_matrix.specs.declared.params.PowPhase.{PowPhase}

@@ -1,6 +1,6 @@
 -- What a verifier decides: which claims and proofs it accepts from a state of the challenger, and
 -- why it refuses others once the challenger is seeded.
-use Rattle.std.specs.Prelude.{◌≡◌, ℕ, Bool, List, Result, Ok, Err, IfErr, ◌⊎◌}
+use Rattle.std.specs.Prelude.{◌≡◌, Bool, List, Result, Ok, Err, ◌⊎◌}
 use Rattle.circle_field.specs.Field.{FieldOps}
 use Rattle.circle_challenger.specs.Moves.{RunMoves}
 use Rattle.circle_matrix.specs.declared.error.FriError.{FriError}

@@ -1,19 +1,22 @@
 //! Committing to matrices: what is refused, and what is committed to.
 ghost use Rattle.std.specs.Prelude.{◌≡◌, ◌↔◌, ℕ, ◌+◌, ◌-◌, ◌<◌, ◌≤◌, ◌^◌};
-ghost use Rattle.std.specs.Prelude.{All, IfOk, IsTrue, min};
+ghost use Rattle.std.specs.Prelude.{All, IfOk, IsTrue, min, take};
 ghost use Rattle.circle_matrix.specs.Matrix.{IsPowerOfTwo};
 ghost use Rattle.circle_matrix.specs.Mmcs.{HaveHeightsOfPowers};
 ghost use Rattle.circle_matrix.specs.RowMajorMatrix.{rows, width_of, height_of};
-ghost use Rattle.circle_domain.specs.Domain.{log_size, IsStandardOf};
+ghost use Rattle.circle_matrix.specs.RowMajorMatrixView.{rows as view_rows};
+ghost use Rattle.circle_domain.specs.Domain.{log_size, shift_of, IsStandardOf};
 ghost use Rattle.circle_domain.specs.Ordering.{other_order};
-ghost use Rattle.p3_circle.specs.Committing.{RefusesInOrder, domain_tests, evaluation_tests};
+ghost use Rattle.circle_plane.specs.CircleEvaluations.{cfft_values, domain_of};
+ghost use Rattle.p3_circle.specs.Committing.{BeginsOrder, RefusesInOrder, domain_tests};
+ghost use Rattle.p3_circle.specs.Committing.{evaluation_tests};
 ghost use Rattle.p3_circle.specs.Committing.{height_tests, matrix_tests};
 ghost use Rattle.p3_circle.specs.Committing.{target_tests, HaveRowsForPoints, IsExtendable};
 ghost use Rattle.p3_circle.specs.Committing.{IsExtension, AreExtensions, ContinuesFirst};
 ghost use Rattle.p3_circle.specs.Committing.{AreCommittedValues};
 ghost use Rattle.circle_verifier.specs.Refusals.{answer};
 
-use circle_commit::{FriParameters, Matrix, RowMajorMatrix, log2_strict};
+use circle_commit::{FriParameters, Matrix, RowMajorMatrix, RowMajorMatrixView, log2_strict};
 use circle_field::ComplexExtendable;
 use circle_opening::ProverError;
 use circle_plane::{CfftPermutable, CircleDomain, CircleEvaluations, Point};
@@ -227,6 +230,30 @@ fn continued_rows<F: ComplexExtendable>(
     let coeffs = CircleEvaluations::from_cfft_order(trace_domain, first).interpolate(alloc)?;
     let values = CircleEvaluations::evaluate(alloc, domain, coeffs)?;
     values.to_natural_order().to_row_major_matrix(alloc)
+}
+
+/// The first `2^log_rows` rows of a matrix whose rows stand in the transform's order, as evaluations
+/// on the domain of as many points with the same shift: its points in the transform's order are the
+/// first ones of the whole domain. Lends the rows and takes no memory.
+///
+/// Asks a row for each point, at most `2^62` points, and that `log_rows` is from 1 to the domain's
+/// logarithm.
+pub fn first_rows<F: ComplexExtendable>(
+    domain: CircleDomain<F>,
+    matrix: &RowMajorMatrix<F>,
+    log_rows: usize,
+) -> CircleEvaluations<F, RowMajorMatrixView<'_, F>>
+    requires size { height_of matrix.now ≡ 2 ^ log_size domain }
+    requires small { log_size domain ≤ 62 }
+    requires positive { 1 ≤ log_rows }
+    requires within { log_rows ≤ log_size domain }
+    ensures size { log_size (domain_of result) ≡ log_rows }
+    ensures shift { shift_of (domain_of result) ≡ shift_of domain }
+    ensures rows { view_rows (cfft_values result) ≡ take (2 ^ log_rows) (rows matrix.now) }
+    ensures points { BeginsOrder F.ops F.generators domain log_rows }
+{
+    let (first, _) = matrix.split_rows(1 << log_rows);
+    CircleEvaluations::from_cfft_order(CircleDomain::new(log_rows, domain.shift()), first)
 }
 
 // Whether a domain is the standard one of `2^log_n` points.

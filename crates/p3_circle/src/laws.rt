@@ -1,11 +1,17 @@
-//! Laws of the relation that a verifier decides, and of claims on words. The calls of this module
-//! answer nothing and carry what their contracts say.
-ghost use Rattle.p3_circle.specs.Constant.{AreSameOfConstants};
+//! Laws of the relation that a verifier decides, of claims on words, of runs whose final polynomial
+//! is a constant, and of points. The calls of this module answer nothing and carry what their
+//! contracts say.
+ghost use Rattle.std.specs.Prelude.{◌≡◌, IsTrue};
+ghost use Rattle.p3_circle.specs.Constant.{AreSameOfConstants, HasConstantText};
+ghost use Rattle.p3_circle.specs.Constant.{HaveConstantShape};
 
-use circle_commit::Mmcs;
-use circle_field::{ComplexExtendable, ExtensionField};
+use circle_commit::{FriParameters, Mmcs};
+use circle_field::{ComplexExtendable, ExtensionField, Field};
 pub use circle_laws::{claim_binds, quotient_binds};
+use circle_plane::Point;
 use circle_relation::{OpenedRun, OverCircle};
+use circle_transcript::CirclePcsShape;
+use std::hash::Hash;
 
 /// Where the final polynomial is a constant, the relation holds exactly where that of one final
 /// value does: each query's chain ends in that value. Takes no memory.
@@ -19,4 +25,23 @@ pub fn constant_ends<
         InputMmcs.authenticates FriMmcs.authenticates }
 {
     let _run = run;
+}
+
+/// Where the final polynomial is a constant, the shape of a run is the one that names no final
+/// polynomial, and its seed's text that of version 1, with two labels. Takes no memory.
+pub fn constant_seeds<M>(degree: usize, params: &FriParameters<M>, shape: &CirclePcsShape)
+    ensures shape { HaveConstantShape params.now }
+    ensures text { HasConstantText degree shape.now }
+{
+    let _params = params;
+    let _degree = degree;
+    let _shape = shape;
+}
+
+/// Equal points hash equally. Takes no memory.
+pub fn equal_points_hash_equally<F: Field>(a: Point<F>, b: Point<F>)
+    ensures { IsTrue (⟦<Point<F> as PartialEq>⟧.eq a b)
+        → ⟦<Point<F> as Hash>⟧.hash_input a ≡ ⟦<Point<F> as Hash>⟧.hash_input b }
+{
+    let _points = (a, b);
 }

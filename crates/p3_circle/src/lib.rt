@@ -19,7 +19,8 @@
 //!   `AreCommittedValues`). Each refuses, by tests over its input in order, the first that there is
 //!   reason for, and nothing else but memory (`refused`, by `RefusesInOrder`).
 //!   `natural_domain_for_degree` answers the standard domain of so many points, and
-//!   `build_periodic_lde_table` the table of `circle_plane`.
+//!   `build_periodic_lde_table` the table of `circle_plane`. `first_rows` lends the first rows of a
+//!   matrix as values on a smaller domain (`points`).
 //!
 //! - `CirclePcs::open` refuses, by tests over all requests in order, the first that there is reason
 //!   for, and leaves the challenger as it was (`refused`). Otherwise it answers for each request,
@@ -28,9 +29,14 @@
 //!   draws of the claims and the proof, their lambdas, the last word's coefficients, and the rows
 //!   and siblings at the drawn indices (`opened`, by `IsGiven`); a later refusal has its reason
 //!   (`failure`): `LastWordNotConstant` is answered only where, under some challenges, the last
-//!   word is of too high degree, which it never is of matrices of low degree
-//!   (`honest_openings_end_low` of `circle_completeness`: `never`); `NoGrindingWitness` only where
-//!   in the opening's own run, whose witnesses its searches find, no witness passes.
+//!   word is of too high degree, which it never is of matrices of low degree (`degree`);
+//!   `NoGrindingWitness` only where in the opening's own run, whose witnesses its searches find, no
+//!   witness passes.
+//! - `CirclePcs::round_trip` is all three calls in a row, for any number of batches, by a prover's
+//!   and a verifier's challenger in one state: it refuses honest batches for memory alone
+//!   (`accepted`), answers the values of the only polynomials (`values`), by challengers that end
+//!   in one state (`states`), and tells the refusal of the call that refused, with its reason
+//!   (`reason`).
 //!
 //! `CirclePcs` is an instance of the traits `Pcs` and `UnivariateStarkPcs` of `circle_pcs`, whose
 //! laws it meets: what `open` answers of an honest statement, `verify` accepts. The clauses of its
@@ -43,11 +49,12 @@ pub mod laws;
 pub mod pcs;
 mod replay;
 mod requests;
+pub mod round_trip;
 pub mod transcript;
 mod verdict;
 pub mod verifier;
 
-pub use circle_commit::{Pcs, UnivariateStarkPcs, round_trip};
+pub use circle_commit::{BatchAtPoints, Pcs, RoundTripError, UnivariateStarkPcs};
 pub use circle_folding::{
     CircleFriFolding, deep_quotient_reduce_row, extract_lambda, fold_x, fold_x_row, fold_y,
     x_interpolate, x_value,
@@ -61,7 +68,7 @@ pub use circle_plane::{
 pub use circle_relation::{
     CircleCommitPhaseMultiStep, CircleFriProof, CircleInputProof, CirclePcsProof, InputError,
 };
-pub use commit::heights_match_domains;
+pub use commit::{first_rows, heights_match_domains};
 pub use pcs::CirclePcs;
 pub use transcript::{
     CircleDraws, CirclePcsShape, CircleProverTranscript, CircleTranscript, CircleTranscriptFailure,

@@ -16,7 +16,7 @@ ghost use Rattle.circle_opening.specs.declared.error.ProverError.TheVariants.{Me
 ghost use Rattle.p3_circle.specs.Scheme.{HaveCommittedHeights};
 ghost use Rattle.p3_circle.specs.Requesting.{RefusesBefore};
 ghost use Rattle.circle_verifier.specs.Tests.{IsFirstRefusal};
-ghost use Rattle.p3_circle.specs.Calls.{IsAnswer, scheme_tests};
+ghost use Rattle.p3_circle.specs.Calls.{IsAnswer, IsOfHighDegreeIf, scheme_tests};
 
 use crate::commit::{
     evaluations_on, extensions, log_min_trace_height, validate_evaluations, validate_heights,
@@ -155,6 +155,8 @@ impl<Val: ComplexExtendable, InputMmcs: Mmcs<Val>, FriMmcs> CirclePcs<Val, Input
             requests.entry.items (C.state challenger.old) (C.state challenger.new)) }
         ensures honest { let p = ⟦<Self as Statements<EF, C>>⟧ in IfErr result (λ e. p.is_honest
             self.now requests.entry.items (C.state challenger.old) → e ≡ OutOfMemory) }
+        ensures degree { let k = ⟦<EF as OverCircle<Val>>⟧.fields in IfErr result (IsOfHighDegreeIf k
+            InputMmcs.matrices self.now.fri_params requests.entry.items) }
         ensures only { let p = ⟦<Self as Statements<EF, C>>⟧ in IfOk result (λ r. p.are_true
             self.now requests.entry.items (openings r.0.items)) }
         ensures accepted { IfOk result (IsAnswer (⟦<Self as Statements<EF, C>>⟧.are_accepted self.now

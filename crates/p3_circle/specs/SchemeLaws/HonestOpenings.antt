@@ -1,12 +1,12 @@
 -- What an opening answers of batches that were committed to: true values, and claims that are
 -- accepted.
-use Rattle.std.specs.Prelude.{◌≡◌, ◌↔◌, ℕ, ◌+◌, ◌-◌, ◌^◌, ◌<◌, ◌≤◌, Bool, true, List, [], ◌∷◌, ◌++◌, length, map, flat_map, zip, All, slice_index_or}
+use Rattle.std.specs.Prelude.{◌≡◌, ℕ, ◌+◌, ◌-◌, ◌^◌, ◌<◌, ◌≤◌, List, [], ◌∷◌, length, map, zip, All, slice_index_or}
 use Rattle.std.specs.List.{AllByRecursion, AllZip}
-use Rattle.std.proofs.Common.{suc, refl, sym, ◌∙◌, ap, subst, arith}
+use Rattle.std.proofs.Common.{suc, refl, sym, ◌∙◌, ap, arith}
 use Rattle.std.proofs.lemmas.List.Elements.{All-from_recursion}
 use Rattle.circle_matrix.specs.DotProduct.{pairwise}
 use Rattle.circle_matrix.specs.Pcs.{Openings}
-use Rattle.circle_matrix.specs.RowMajorMatrix.{rows, width_of, height_of}
+use Rattle.circle_matrix.specs.RowMajorMatrix.{width_of, height_of}
 use Rattle.circle_matrix.specs.declared.matrix.RowMajorMatrix.{RowMajorMatrix}
 use Rattle.circle_matrix.specs.declared.params.FriParameters.{FriParameters}
 use Rattle.circle_matrix.specs.declared.pcs.CommitmentOpening.{CommitmentOpening}
@@ -24,12 +24,12 @@ use Rattle.circle_field.specs.declared.field.Operations.{Ghosts}
 use Rattle.circle_field.specs.Circle.{AreGenerators}
 use Rattle.circle_field.specs.Field.{FieldLaws, IsEmbedding}
 use Rattle.circle_opening.specs.Requests.{AreAnswers, AreRequests, AreValuesOf, IsFit, IsOpenable, batch_committed, claimed, committed, log_of, points_of}
-use Rattle.circle_completeness.specs.Claimed.{AreClaimed, IsClaimed}
+use Rattle.circle_completeness.specs.Claimed.{AreClaimed}
 use Rattle.circle_pcs.specs.Honest.{AreAnsweredBy, AreClaimedOf, IsClaimedOf, requested_points}
 use Rattle.circle_point.specs.Projective.{from_line}
 use Rattle.circle_relation.specs.Accepts.{Fields}
 use Rattle.circle_relation.specs.Statement.{MatrixClaim, PointClaim, all_matrices}
-use Rattle.circle_relation.specs.StatementOf.{batch_claim, batch_claims, matrix_claim, matrix_claims, point_claim}
+use Rattle.circle_relation.specs.StatementOf.{batch_claims, matrix_claim, point_claim}
 use Rattle.circle_words.specs.Ratios.{points_of_height}
 use Rattle.circle_words.specs.Words.{claim_of}
 use Rattle.p3_circle.specs.Committing.{AreExtensions, IsExtension}

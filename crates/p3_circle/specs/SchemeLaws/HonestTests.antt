@@ -1,5 +1,5 @@
 -- Honest statements are refused by none of the tests before anything is drawn.
-use Rattle.std.specs.Prelude.{◌≡◌, ◌↔◌, ℕ, ◌+◌, ◌-◌, ◌^◌, ◌<◌, ◌≤◌, ◌==◌, Bool, true, false, not, ◌&&◌, ◌||◌, List, [], ◌∷◌, length, map, flat_map, zip, All, Result, Ok, MatchResult, Vec, nat_lt, nat_le, vec_len, slice_index_or}
+use Rattle.std.specs.Prelude.{◌≡◌, ◌↔◌, ℕ, ◌+◌, ◌^◌, ◌<◌, ◌≤◌, ◌==◌, Bool, true, false, not, ◌&&◌, ◌||◌, List, [], ◌∷◌, length, map, flat_map, zip, All, Ok, MatchResult, Vec, vec_len, slice_index_or}
 use Rattle.std.specs.List.{AllByRecursion, AllZip, list_any}
 use Rattle.std.specs.declared.alloc.Global.{Global}
 use Rattle.std.specs.Result.{result_and}
@@ -19,13 +19,13 @@ use Rattle.circle_field.specs.CircleGroup.{same_coordinates}
 use Rattle.circle_opening.specs.Requests.{AreFit, log_of}
 use Rattle.circle_opening.specs.declared.error.ProverError.{ProverError}
 use Rattle.circle_opening.proofs.Logs.{log_of-power}
-use Rattle.circle_pcs.specs.Honest.{AreHonest, IsHonest, requested_points}
+use Rattle.circle_pcs.specs.Honest.{IsHonest, requested_points}
 use Rattle.circle_relation.specs.Accepts.{Fields}
 use Rattle.circle_words.specs.Ratios.{points_of_height}
 use Rattle.p3_circle.specs.Committing.{AreExtensions, IsExtension, commit_tests, domain_tests, evaluation_tests, height_tests, is_degenerate, matrix_tests}
 use Rattle.p3_circle.specs.Honest.{CanBeOpenedAt, IsHonestBatch}
 use Rattle.circle_verifier.specs.Refusals.{Test, answer, is_at_infinity}
-use Rattle.p3_circle.specs.Requesting.{is_at, is_infinite, is_unfit, lacks_matrices, has_other_counts, meets_domain, meets_domains, opening_tests, some_on_domain}
+use Rattle.p3_circle.specs.Requesting.{is_at, is_infinite, is_unfit, meets_domain, opening_tests, some_on_domain}
 use Rattle.p3_circle.specs.Scheme.{IsCommitted, IsFirst, IsFirstFrom}
 use Rattle.circle_verifier.proofs.Answering.{answer-append}
 use Rattle.p3_circle.specs.SchemeLaws.CommitTests.{height_fits}

@@ -1,4 +1,4 @@
-use Rattle.std.proofs.Common.{◌≡◌, ◌∙◌, All, length, sym, ap, subst}
+use Rattle.std.proofs.Common.{◌∙◌, All, length, sym, ap, subst}
 use Rattle.std.proofs.lemmas.List.{length_push}
 use Rattle.std.proofs.lemmas.Slice.Zip.{zip_turn, zip_end}
 use Rattle.circle_matrix.specs.DotProduct.{pairwise}

@@ -1,4 +1,4 @@
-use Rattle.std.proofs.Common.{◌≡◌, ◌+◌, sym, subst, take, take_all, All}
+use Rattle.std.proofs.Common.{◌+◌, sym, subst, take, take_all, All}
 use Rattle.std.specs.List.{AllZip}
 use Rattle.circle_field.specs.Bytes.{bytes}
 use Rattle.circle_merkle.specs.Authentication.{IsShaRoot}

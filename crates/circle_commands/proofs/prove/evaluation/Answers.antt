@@ -1,4 +1,4 @@
-use Rattle.std.proofs.Common.{◌≡◌, ◌+◌, ◌^◌, ◌≤◌, ◌∙◌, length, sym, ap, arith}
+use Rattle.std.proofs.Common.{◌+◌, ◌^◌, ◌∙◌, length, sym, ap, arith}
 use Rattle.circle_field.specs.Mersenne31.{generators}
 use Rattle.circle_commands.proofs.Proving.{log_fits}
 use Rattle.circle_commands.proofs.prove.evaluation.Goals as goal

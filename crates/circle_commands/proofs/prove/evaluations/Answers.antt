@@ -1,4 +1,4 @@
-use Rattle.std.proofs.Common.{◌≡◌, ◌+◌, ◌++◌, [], ◌∷◌, length, sym, subst, take, take_all}
+use Rattle.std.proofs.Common.{◌+◌, sym, subst, take, take_all}
 use Rattle.std.specs.List.{AllZip}
 use Rattle.circle_opening.proofs.Requested.{pushed-more}
 use Rattle.circle_commands.specs.Proved.{ArePlaced}

@@ -2,7 +2,6 @@ use Rattle.std.proofs.Common.{◌≡◌, ◌∙◌, length, vec_len, sym, ap, su
 use Rattle.std.proofs.lemmas.List.{length_push}
 use Rattle.std.proofs.lemmas.Slice.Zip.{zip_turn, zip_end}
 use Rattle.circle_opening.specs.Requests.{lists_of}
-use Rattle.circle_relation.specs.StatementOf.{point_claim}
 use Rattle.circle_words.specs.Words.{claim_of}
 use Rattle.circle_matrix.specs.DotProduct.{pairwise}
 use Rattle.circle_commands.specs.Proved.{matrix_claimed}

@@ -1,4 +1,4 @@
-use Rattle.std.proofs.Common.{◌≡◌, ◌++◌, [], ◌∷◌, ◌∙◌, ap, sym, map, take, take_all}
+use Rattle.std.proofs.Common.{◌++◌, [], ◌∷◌, ◌∙◌, ap, sym, take, take_all}
 use Rattle.std.proofs.lemmas.List.{map-append, map_more}
 use Rattle.circle_opening.specs.Requests.{lists_of}
 use Rattle.circle_commands.specs.Proved.{points_of}

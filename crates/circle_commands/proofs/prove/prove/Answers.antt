@@ -1,12 +1,17 @@
-use Rattle.std.proofs.Common.{◌≡◌, ◌∙◌, ◌⊎◌, All, sym, ap, subst, inr, replicate, refl}
+use Rattle.std.proofs.Common.{◌∙◌, All, sym, ap, subst, replicate, refl, lit≤}
 use Rattle.std.specs.List.{AllZip}
 use Rattle.circle_matrix.specs.DotProduct.{pairwise}
 use Rattle.circle_matrix.specs.Pcs.{openings}
+use Rattle.circle_challenger.specs.Sponge.{number-below}
 use Rattle.circle_field.specs.Bytes.{bytes}
+use Rattle.circle_field.specs.CubicOperations.{is_embedding, laws}
+use Rattle.circle_field.specs.Mersenne31Circle.{are_generators}
+use Rattle.circle_field.specs.Mersenne31Laws.{laws as base-laws}
 use Rattle.circle_merkle.specs.Authentication.{IsShaRoot}
 use Rattle.circle_merkle.specs.ProverData.{matrices_of}
 use Rattle.circle_commands.specs.Proved.{IsCommitted, IsRequested, batch_claimed, commitments_taken}
 use Rattle.circle_commands.specs.Traces.{AreFitting, AreTall, HasFittingRows, IsRefusalOfBatches}
+use Rattle.circle_commands.proofs.Accepted.{verified}
 use Rattle.circle_commands.proofs.First.{passed_by, tall-fitting}
 use Rattle.circle_commands.proofs.Proved.{proved}
 use Rattle.circle_commands.proofs.Proving.{committed_fit, requested_powers}
@@ -55,5 +60,21 @@ returns-clause-proof c =
     (subst (λ cs. AllZip (IsRequested matrices_of) cs requests) c.deref-4.ensures.value c.in_ok-requests.ensures)
     (c.observe_commitments.ensures ∙ ap (λ s. commitments_taken s c.deref-3.result.now) c.new-challenger.ensures ∙ ap (commitments_taken (replicate 32 0)) c.deref-3.ensures.value)
     c.in_ok-values.ensures.values c.in_ok-values.ensures.opened.opening
+    (c.in_ok-claims.ensures ∙ ap (λ cs. pairwise batch_claimed cs (openings c.deref-6.result.now)) c.deref-5.ensures.value ∙ ap (λ vs. pairwise batch_claimed committed (openings vs)) c.deref-6.ensures.value)
+    refl
+
+pub returns-clause-accepted : goal.returns-clause-accepted
+returns-clause-accepted c =
+    let committed = c.in_ok-committed.committed.items in
+    let requests = c.in_ok-requests.requests.items in
+    let values = c.in_ok-values.values.items in
+    let given = c.in_ok-values.ensures.opened in
+    verified _ c.args.input _ base-laws laws is_embedding are_generators (lit≤ tt) (λ s bits h. number-below s bits)
+    c.new-scheme.result.mmcs c.with_mmcs.result.mmcs committed requests (openings values) c.observe_commitments.new.challenger c.open.new.challenger c.new-scheme.result.fri_params
+    (c.new-scheme.ensures.params ∙ c.with_mmcs.ensures) given.parameters given.arity given.asked
+    (subst (λ bs. AllZip (λ b m. IsCommitted (IsShaRoot bytes) c.new-scheme.result.fri_params.log_blowup b.items m) bs committed) c.deref-2.ensures.value c.in_ok-committed.ensures)
+    (subst (λ cs. AllZip (IsRequested matrices_of) cs requests) c.deref-4.ensures.value c.in_ok-requests.ensures)
+    (c.observe_commitments.ensures ∙ ap (λ s. commitments_taken s c.deref-3.result.now) c.new-challenger.ensures ∙ ap (commitments_taken (replicate 32 0)) c.deref-3.ensures.value)
+    given.answers given.opening
     (c.in_ok-claims.ensures ∙ ap (λ cs. pairwise batch_claimed cs (openings c.deref-6.result.now)) c.deref-5.ensures.value ∙ ap (λ vs. pairwise batch_claimed committed (openings vs)) c.deref-6.ensures.value)
     refl

@@ -1,4 +1,4 @@
-use Rattle.std.proofs.Common.{◌≡◌, ◌+◌, ◌∙◌, ap, refl, sym, subst, take, take_all}
+use Rattle.std.proofs.Common.{◌+◌, refl, sym, subst, take, take_all}
 use Rattle.std.specs.List.{AllZip}
 use Rattle.circle_merkle.specs.ProverData.{matrices_of}
 use Rattle.circle_opening.proofs.Requested.{pushed-more}

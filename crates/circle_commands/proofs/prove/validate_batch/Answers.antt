@@ -1,7 +1,6 @@
-use Rattle.std.proofs.Common.{◌≡◌, List, All, MatchResult, Result, Err, sym, subst, take_all}
+use Rattle.std.proofs.Common.{All, subst, take_all}
 use Rattle.std.proofs.lemmas.List.Elements.{All-more}
 use Rattle.circle_commands.specs.Traces.{AreTallRows, HasTallRows, IsRefusalOfBatch, IsRefusalOfRows}
-use Rattle.circle_commands.specs.declared.prove.Trace.{Trace}
 use Rattle.circle_commands.proofs.First.{first_at, refused_by}
 use Rattle.circle_commands.proofs.prove.validate_batch.Goals as goal
 

@@ -1,4 +1,4 @@
-use Rattle.std.proofs.Common.{◌≡◌, List, Vec, Global, All, MatchResult, Result, Err, sym, subst, take_all}
+use Rattle.std.proofs.Common.{Vec, Global, All, subst, take_all}
 use Rattle.std.proofs.lemmas.List.Elements.{All-more}
 use Rattle.circle_commands.specs.Traces.{AreTall, HasTallRows, IsRefusalOfBatch, IsRefusalOfBatches}
 use Rattle.circle_commands.specs.declared.prove.Trace.{Trace}

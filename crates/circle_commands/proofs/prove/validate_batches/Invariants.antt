@@ -1,4 +1,4 @@
-use Rattle.std.proofs.Common.{All, take}
+use Rattle.std.proofs.Common.{take}
 use Rattle.circle_commands.specs.Traces.{AreTall}
 use Rattle.circle_commands.proofs.prove.validate_batches.Given as goal
 

@@ -1,111 +1,163 @@
-use Rattle.std.proofs.Common.{◌≤◌, ◌∙◌, [], ◌∷◌, length, map, ap, refl, sym, subst}
-use Rattle.std.proofs.lemmas.List.Elements.{All-map}
-use Rattle.circle_matrix.specs.Mmcs.{opened_rows}
+use Rattle.std.proofs.Common.{◌∙◌, ap, sym, subst}
 use Rattle.circle_matrix.specs.Pcs.{openings}
-use Rattle.circle_pcs.specs.Honest.{lists}
-use Rattle.circle_pcs.proofs.OneRequest.{finds, have-rows, is-answered, is-honest, is-kept, no-refusal, no-values, popped, true-values}
+use Rattle.circle_pcs.specs.Honest.{AreAnsweredBy}
+use Rattle.circle_pcs.specs.RoundTrip.{AreHonestBatches, HaveAnswers, IsOfMemory, IsReason}
+use Rattle.circle_pcs.proofs.Batches.{are-answered, are-kept, are-requests, are-values, asks-for, handed, have-answers, honest-requests, of-memory, why-uncommitted}
 use Rattle.circle_pcs.proofs.any_scheme.round_trip.Goals as goal
 
-pub returns-in-Err-clause-values : goal.returns-in-Err-clause-values
-returns-in-Err-clause-values g c = no-values _ _ c.refused.ensures.none
+pub returns-in_err-committed-clause-accepted : goal.returns-in_err-committed-clause-accepted
+returns-in_err-committed-clause-accepted g c =
+    let pcs = c.args.pcs.now in
+    let batches = c.args.batches.items in
+    let state = g.C.ChallengerState.state c.args.prover.now in
+    handed (λ e. AreHonestBatches (g.P.Pcs.commits pcs) (g.P.Pcs.opens_at pcs) (g.P.Pcs.finds_witnesses pcs) batches state → IsOfMemory g.P.Pcs.is_prover_memory g.P.Pcs.is_memory e)
+    c.from_residual.result c.in_err-committed.field-0.0 c.from_residual.ensures.1
+    (λ honest. of-memory g.P.Pcs.is_prover_memory g.P.Pcs.is_memory (g.P.Pcs.opens_at pcs) (g.P.Pcs.commit_refuses pcs) (g.met.P.Pcs.honest_commit pcs) batches honest.opens c.in_err-committed.field-0.0 c.in_err-committed.ensures.refused)
 
-pub returns-in-Err-open-clause-values : goal.returns-in-Err-open-clause-values
-returns-in-Err-open-clause-values g c = no-values _ _ c.refused-in-Err-open.ensures.none
-
-pub returns-in-Err-open-clause-states : goal.returns-in-Err-open-clause-states
-returns-in-Err-open-clause-states g c = no-values _ _ c.refused-in-Err-open.ensures.none
+pub returns-in_err-committed-clause-reason : goal.returns-in_err-committed-clause-reason
+returns-in_err-committed-clause-reason g c =
+    let pcs = c.args.pcs.now in
+    let s = g.C.ChallengerState.state c.args.prover.now in
+    handed (IsReason g.P.Domain.PolynomialSpace.size (g.P.Pcs.commits pcs) (g.P.Pcs.commit_refuses pcs) (g.P.Pcs.open_gives pcs) (g.P.Pcs.open_refuses pcs) (g.P.Pcs.verify_refuses pcs) c.args.batches.items s s (g.C.ChallengerState.state c.args.verifier.now))
+    c.from_residual.result c.in_err-committed.field-0.0 c.from_residual.ensures.1
+    (why-uncommitted g.P.Domain.PolynomialSpace.size (g.P.Pcs.commits pcs) (g.P.Pcs.commit_refuses pcs) (g.P.Pcs.open_gives pcs) (g.P.Pcs.open_refuses pcs) (g.P.Pcs.verify_refuses pcs) c.args.batches.items s (g.C.ChallengerState.state c.args.verifier.now) (sym c.requires.same) c.in_err-committed.field-0.0 c.in_err-committed.ensures.refused)
 
 pub open-requires : goal.open-requires
 open-requires g c =
-    g.met.P.Pcs.kept_asks c.args.pcs.now _
-    (is-kept (g.P.Pcs.commits c.args.pcs.now) _ _ c.args.batch.items c.in-Ok.committed.0 c.in_ok-requests.ensures c.in-Ok.ensures.committed)
-
-pub returns-in-Err-open-clause-accepted : goal.returns-in-Err-open-clause-accepted
-returns-in-Err-open-clause-accepted g c =
     let pcs = c.args.pcs.now in
-    let batch = c.args.batch.items in
     let commits = g.P.Pcs.commits pcs in
-    let state = g.C.ChallengerState.state c.args.prover.now in
-    let commitment = c.in-Ok.committed.0 in
-    let points = lists c.args.points in
-    let asked = c.in_ok-copies_of.ensures ∙ ap (λ vs. map (λ v. v.items) vs) c.deref-2.ensures.value in
-    no-refusal _ _ _ _ c.refused-in-Err-open.ensures.other c.is_prover_memory-in-Err-open.ensures (λ can.
-    g.met.P.Pcs.honest_open pcs c.in_ok-requests.requests.items state (g.C.ChallengerState.state c.open.new.challenger) c.in-Err-open.error
-    (is-honest commits _ _ batch commitment c.in_ok-requests.ensures c.in-Ok.ensures.committed (g.P.Pcs.opens_at pcs) points asked can.0)
-    (finds commits _ _ batch commitment c.in_ok-requests.ensures c.in-Ok.ensures.committed (g.P.Pcs.finds_witnesses pcs) points state asked can.1)
-    c.in-Err-open.ensures.refused)
-
-pub claims_of-requires-clause-values : goal.claims_of-requires-clause-values
-claims_of-requires-clause-values g c =
-    let pcs = c.args.pcs.now in
-    let state = g.C.ChallengerState.state c.args.prover.now in
-    let left = g.C.ChallengerState.state c.open.new.challenger in
+    let batches = c.args.batches.items in
+    let committed = c.in_ok-committed.committed.items in
     let requests = c.in_ok-requests.requests.items in
-    let ws = c.in-Ok-open.opened.0.items in
-    let asked = c.in_ok-copies_of.ensures ∙ ap (λ vs. map (λ v. v.items) vs) (c.deref-2.ensures.value ∙ sym c.deref-4.ensures.value) in
-    let have = g.met.P.Pcs.each_point pcs requests (openings ws) c.in-Ok-open.opened.1 state left c.in-Ok-open.ensures.opened in
-    let one = popped _ _ c.in_ok-requests.ensures ws c.pop.new.self.items c.pop.result c.unwrap-values.result have c.pop.ensures.items c.unwrap-values.ensures in
-    have-rows _ _ c.in_ok-requests.ensures (openings ws) _ _ have (ap openings one ∙ ap (λ vs. opened_rows vs ∷ []) (sym c.deref-5.ensures.value)) asked
+    let made = c.in_ok-requests.ensures in
+    let asked = asks-for c.deref.result.now committed requests c.deref.ensures.value made.kept made.points in
+    let mine = are-requests commits batches committed requests c.in_ok-committed.ensures.committed asked in
+    g.met.P.Pcs.kept_asks pcs requests (are-kept commits batches requests mine)
+
+pub returns-in-Err-clause-accepted : goal.returns-in-Err-clause-accepted
+returns-in-Err-clause-accepted g c =
+    let pcs = c.args.pcs.now in
+    let commits = g.P.Pcs.commits pcs in
+    let batches = c.args.batches.items in
+    let committed = c.in_ok-committed.committed.items in
+    let requests = c.in_ok-requests.requests.items in
+    let made = c.in_ok-requests.ensures in
+    let asked = asks-for c.deref.result.now committed requests c.deref.ensures.value made.kept made.points in
+    let mine = are-requests commits batches committed requests c.in_ok-committed.ensures.committed asked in
+    let old = g.C.ChallengerState.state c.args.prover.now in
+    let new = g.C.ChallengerState.state c.open.new.challenger in
+    λ honest.
+    g.met.P.Pcs.honest_open pcs requests old new c.in-Err.error (honest-requests commits (g.P.Pcs.opens_at pcs) (g.P.Pcs.finds_witnesses pcs) batches requests old mine honest) (honest.finds requests mine) c.in-Err.ensures.refused
+
+pub returns-in-Err-clause-reason : goal.returns-in-Err-clause-reason
+returns-in-Err-clause-reason g c =
+    let pcs = c.args.pcs.now in
+    let commits = g.P.Pcs.commits pcs in
+    let batches = c.args.batches.items in
+    let committed = c.in_ok-committed.committed.items in
+    let requests = c.in_ok-requests.requests.items in
+    let made = c.in_ok-requests.ensures in
+    let asked = asks-for c.deref.result.now committed requests c.deref.ensures.value made.kept made.points in
+    let mine = are-requests commits batches committed requests c.in_ok-committed.ensures.committed asked in
+    (record { requests = requests; asked = mine; refused = c.in-Err.ensures.refused }, sym c.requires.same)
+
+pub claims_of-requires : goal.claims_of-requires
+claims_of-requires g c =
+    let pcs = c.args.pcs.now in
+    let commits = g.P.Pcs.commits pcs in
+    let batches = c.args.batches.items in
+    let committed = c.in_ok-committed.committed.items in
+    let requests = c.in_ok-requests.requests.items in
+    let made = c.in_ok-requests.ensures in
+    let asked = asks-for c.deref.result.now committed requests c.deref.ensures.value made.kept made.points in
+    let old = g.C.ChallengerState.state c.args.prover.now in
+    let new = g.C.ChallengerState.state c.open.new.challenger in
+    let ws = c.in-Ok.opened.0.items in
+    let proof = c.in-Ok.opened.1 in
+    subst (λ vs. HaveAnswers committed (openings vs)) (sym c.deref-2.ensures.value)
+    (have-answers commits batches committed requests (openings ws) c.requires.points c.in_ok-committed.ensures.committed asked (g.met.P.Pcs.each_point pcs requests (openings ws) proof old new c.in-Ok.ensures.opened))
 
 pub returns-in-Ok-verify-clause-values : goal.returns-in-Ok-verify-clause-values
 returns-in-Ok-verify-clause-values g c =
     let pcs = c.args.pcs.now in
-    let state = g.C.ChallengerState.state c.args.prover.now in
-    let left = g.C.ChallengerState.state c.open.new.challenger in
+    let commits = g.P.Pcs.commits pcs in
+    let batches = c.args.batches.items in
+    let committed = c.in_ok-committed.committed.items in
     let requests = c.in_ok-requests.requests.items in
-    let ws = c.in-Ok-open.opened.0.items in
-    let proof = c.in-Ok-open.opened.1 in
-    let asked = c.in_ok-copies_of.ensures ∙ ap (λ vs. map (λ v. v.items) vs) c.deref-2.ensures.value in
-    let have = g.met.P.Pcs.each_point pcs requests (openings ws) proof state left c.in-Ok-open.ensures.opened in
-    let one = popped _ _ c.in_ok-requests.ensures ws c.pop.new.self.items c.pop.result c.unwrap-values.result have c.pop.ensures.items c.unwrap-values.ensures in
-    true-values (g.P.Pcs.commits pcs) _ _ c.args.batch.items c.in-Ok.committed.0 c.in_ok-requests.ensures c.in-Ok.ensures.committed (g.P.Pcs.values_of pcs) (lists c.args.points)
-    (openings ws) _ asked (ap openings one) (g.met.P.Pcs.true_values pcs requests (openings ws) proof state left c.in-Ok-open.ensures.opened)
+    let made = c.in_ok-requests.ensures in
+    let asked = asks-for c.deref.result.now committed requests c.deref.ensures.value made.kept made.points in
+    let mine = are-requests commits batches committed requests c.in_ok-committed.ensures.committed asked in
+    let old = g.C.ChallengerState.state c.args.prover.now in
+    let new = g.C.ChallengerState.state c.open.new.challenger in
+    let ws = c.in-Ok.opened.0.items in
+    let proof = c.in-Ok.opened.1 in
+    are-values commits (g.P.Pcs.values_of pcs) batches requests (openings ws) mine (g.met.P.Pcs.true_values pcs requests (openings ws) proof old new c.in-Ok.ensures.opened)
 
 pub returns-in-Ok-verify-clause-states : goal.returns-in-Ok-verify-clause-states
 returns-in-Ok-verify-clause-states g c =
     let pcs = c.args.pcs.now in
-    let state = g.C.ChallengerState.state c.args.prover.now in
-    let left = g.C.ChallengerState.state c.open.new.challenger in
+    let commits = g.P.Pcs.commits pcs in
+    let batches = c.args.batches.items in
+    let committed = c.in_ok-committed.committed.items in
     let requests = c.in_ok-requests.requests.items in
+    let made = c.in_ok-requests.ensures in
+    let asked = asks-for c.deref.result.now committed requests c.deref.ensures.value made.kept made.points in
+    let old = g.C.ChallengerState.state c.args.prover.now in
+    let new = g.C.ChallengerState.state c.open.new.challenger in
+    let ws = c.in-Ok.opened.0.items in
+    let proof = c.in-Ok.opened.1 in
     let claims = c.in_ok-claims.claims.items in
-    let ws = c.in-Ok-open.opened.0.items in
-    let proof = c.in-Ok-open.opened.1 in
-    let asked = c.in_ok-copies_of.ensures ∙ ap (λ vs. map (λ v. v.items) vs) c.deref-2.ensures.value in
-    let have = g.met.P.Pcs.each_point pcs requests (openings ws) proof state left c.in-Ok-open.ensures.opened in
-    let one = popped _ _ c.in_ok-requests.ensures ws c.pop.new.self.items c.pop.result c.unwrap-values.result have c.pop.ensures.items c.unwrap-values.ensures in
-    let made = c.in_ok-matrices.ensures in
-    let answered = is-answered (g.P.Pcs.commits pcs) _ _ c.args.batch.items c.in-Ok.committed.0 c.in_ok-requests.ensures c.in-Ok.ensures.committed
-    g.P.Domain.PolynomialSpace.size (openings ws) _ claims _ (lists c.args.points) asked (ap openings one) c.in_ok-claims.ensures refl
-    (made.domains ∙ c.deref-3.ensures.value ∙ c.in_ok-domains.ensures ∙ ap (λ ms. map (λ m. m.0) ms) c.deref.ensures.value)
-    (made.points ∙ ap (λ vs. map (λ v. v.items) vs) c.deref-4.ensures.value) (made.values ∙ ap opened_rows c.deref-5.ensures.value)
-    (All-map (λ ts. 1 ≤ length ts) (λ v. v.items) c.args.points.items c.requires.some) in
-    let accepted = g.met.P.Pcs.complete pcs requests (openings ws) proof state left c.in-Ok-open.ensures.opened claims answered in
-    g.met.P.Pcs.one_state pcs claims proof _ left _ (subst (λ s. g.P.Pcs.verify_accepts pcs claims proof s left) c.requires.same accepted) c.in-Ok-verify.ensures.accepted
+    let size = g.P.Domain.PolynomialSpace.size in
+    let answered = subst (λ vs. AreAnsweredBy size commits requests vs claims) (c.in_ok-claims.ensures.values ∙ ap openings c.deref-2.ensures.value)
+    (are-answered commits size batches committed requests claims c.requires.points c.in_ok-committed.ensures.committed asked c.in_ok-claims.ensures.statements) in
+    let accepted = subst (λ s. g.P.Pcs.verify_accepts pcs claims proof s new) c.requires.same (g.met.P.Pcs.complete pcs requests (openings ws) proof old new c.in-Ok.ensures.opened claims answered) in
+    g.met.P.Pcs.one_state pcs claims proof _ new _ accepted c.in-Ok-verify.ensures.accepted
 
-pub returns-clause-accepted : goal.returns-clause-accepted
-returns-clause-accepted g c =
+pub returns-in-Err-verify-clause-accepted : goal.returns-in-Err-verify-clause-accepted
+returns-in-Err-verify-clause-accepted g c =
     let pcs = c.args.pcs.now in
-    let state = g.C.ChallengerState.state c.args.prover.now in
-    let left = g.C.ChallengerState.state c.open.new.challenger in
+    let commits = g.P.Pcs.commits pcs in
+    let batches = c.args.batches.items in
+    let committed = c.in_ok-committed.committed.items in
     let requests = c.in_ok-requests.requests.items in
+    let made = c.in_ok-requests.ensures in
+    let asked = asks-for c.deref.result.now committed requests c.deref.ensures.value made.kept made.points in
+    let old = g.C.ChallengerState.state c.args.prover.now in
+    let new = g.C.ChallengerState.state c.open.new.challenger in
+    let ws = c.in-Ok.opened.0.items in
+    let proof = c.in-Ok.opened.1 in
     let claims = c.in_ok-claims.claims.items in
-    let ws = c.in-Ok-open.opened.0.items in
-    let proof = c.in-Ok-open.opened.1 in
-    let asked = c.in_ok-copies_of.ensures ∙ ap (λ vs. map (λ v. v.items) vs) c.deref-2.ensures.value in
-    let have = g.met.P.Pcs.each_point pcs requests (openings ws) proof state left c.in-Ok-open.ensures.opened in
-    let one = popped _ _ c.in_ok-requests.ensures ws c.pop.new.self.items c.pop.result c.unwrap-values.result have c.pop.ensures.items c.unwrap-values.ensures in
-    let made = c.in_ok-matrices.ensures in
-    let answered = is-answered (g.P.Pcs.commits pcs) _ _ c.args.batch.items c.in-Ok.committed.0 c.in_ok-requests.ensures c.in-Ok.ensures.committed
-    g.P.Domain.PolynomialSpace.size (openings ws) _ claims _ (lists c.args.points) asked (ap openings one) c.in_ok-claims.ensures refl
-    (made.domains ∙ c.deref-3.ensures.value ∙ c.in_ok-domains.ensures ∙ ap (λ ms. map (λ m. m.0) ms) c.deref.ensures.value)
-    (made.points ∙ ap (λ vs. map (λ v. v.items) vs) c.deref-4.ensures.value) (made.values ∙ ap opened_rows c.deref-5.ensures.value)
-    (All-map (λ ts. 1 ≤ length ts) (λ v. v.items) c.args.points.items c.requires.some) in
-    let accepted = g.met.P.Pcs.complete pcs requests (openings ws) proof state left c.in-Ok-open.ensures.opened claims answered in
-    no-refusal _ _ _ _ c.refused-in-Err-verify.ensures.other c.is_memory.ensures (λ can.
-    c.in-Err-verify.ensures.refused left (subst (λ s. g.P.Pcs.verify_accepts pcs claims proof s left) c.requires.same accepted))
+    let size = g.P.Domain.PolynomialSpace.size in
+    let answered = subst (λ vs. AreAnsweredBy size commits requests vs claims) (c.in_ok-claims.ensures.values ∙ ap openings c.deref-2.ensures.value)
+    (are-answered commits size batches committed requests claims c.requires.points c.in_ok-committed.ensures.committed asked c.in_ok-claims.ensures.statements) in
+    let accepted = subst (λ s. g.P.Pcs.verify_accepts pcs claims proof s new) c.requires.same (g.met.P.Pcs.complete pcs requests (openings ws) proof old new c.in-Ok.ensures.opened claims answered) in
+    λ honest. c.in-Err-verify.ensures.refused new accepted
 
-pub returns-clause-values : goal.returns-clause-values
-returns-clause-values g c = no-values _ _ c.refused-in-Err-verify.ensures.none
-
-pub returns-clause-states : goal.returns-clause-states
-returns-clause-states g c = no-values _ _ c.refused-in-Err-verify.ensures.none
+pub returns-in-Err-verify-clause-reason : goal.returns-in-Err-verify-clause-reason
+returns-in-Err-verify-clause-reason g c =
+    let pcs = c.args.pcs.now in
+    let commits = g.P.Pcs.commits pcs in
+    let batches = c.args.batches.items in
+    let committed = c.in_ok-committed.committed.items in
+    let requests = c.in_ok-requests.requests.items in
+    let made = c.in_ok-requests.ensures in
+    let asked = asks-for c.deref.result.now committed requests c.deref.ensures.value made.kept made.points in
+    let mine = are-requests commits batches committed requests c.in_ok-committed.ensures.committed asked in
+    let old = g.C.ChallengerState.state c.args.prover.now in
+    let new = g.C.ChallengerState.state c.open.new.challenger in
+    let ws = c.in-Ok.opened.0.items in
+    let proof = c.in-Ok.opened.1 in
+    let claims = c.in_ok-claims.claims.items in
+    let size = g.P.Domain.PolynomialSpace.size in
+    let answered = subst (λ vs. AreAnsweredBy size commits requests vs claims) (c.in_ok-claims.ensures.values ∙ ap openings c.deref-2.ensures.value)
+    (are-answered commits size batches committed requests claims c.requires.points c.in_ok-committed.ensures.committed asked c.in_ok-claims.ensures.statements) in
+    record {
+      requests = requests;
+      asked = mine;
+      values = openings ws;
+      proof = proof;
+      opened = c.in-Ok.ensures.opened;
+      claims = claims;
+      answered = answered;
+      refused = subst (λ s. g.P.Pcs.verify_refuses pcs claims proof s (g.C.ChallengerState.state c.verify.new.challenger) c.in-Err-verify.error) (sym c.requires.same) c.in-Err-verify.ensures.reason;
+    }

@@ -1,5 +1,4 @@
-use Rattle.std.specs.Prelude.{Ok}
-use Rattle.std.proofs.Common.{◌≡◌, ◌∙◌, All, sym, subst}
+use Rattle.std.proofs.Common.{◌∙◌, All, sym, subst}
 use Rattle.circle_challenger.specs.Moves.{RunMoves, run_moves}
 use Rattle.circle_field.specs.Field.{of_nat}
 use Rattle.circle_matrix.specs.Mmcs.{HaveHeightsOfPowers}
@@ -7,9 +6,8 @@ use Rattle.circle_matrix.specs.Pcs.{openings}
 use Rattle.circle_matrix.specs.declared.pcs.OpeningRequest.{OpeningRequest}
 use Rattle.circle_opening.specs.Requests.{AreRequests}
 use Rattle.circle_relation.specs.Accepts.{Fields}
-use Rattle.circle_verifier.specs.Refusals.{answer}
-use Rattle.p3_circle.specs.Requesting.{opening_tests}
 use Rattle.p3_circle.specs.SchemeLaws.Unrefused.{are-binary, are-fit, are-requests}
+use Rattle.p3_circle.proofs.Degrees.{high-degree}
 use Rattle.p3_circle.proofs.InOrder.{refuses-before, is-first}
 use Rattle.p3_circle.specs.SchemeLaws.{honest-open, opening-accepted, true-values}
 use Rattle.p3_circle.proofs.Scheme.{if_both, prover-memory}
@@ -112,3 +110,19 @@ returns-clause-accepted g c =
     g.InputMmcs.Mmcs.matrices (g.InputMmcs.Mmcs.commits c.args.self.now.mmcs) (challenger g) g.met.C.CanSampleBits.bits_below g.InputMmcs.Mmcs.authenticates g.FriMmcs.Mmcs.authenticates c.args.self.now.mmcs (g.FriMmcs.Mmcs.commits p.mmcs)
     c.args.requests.items (openings r.0.items) r.1 _ _ given)
     opened opened
+
+pub returns-clause-degree : goal.returns-clause-degree
+returns-clause-degree g c =
+    let p = c.args.self.now.fri_params in
+    if_err _ _ c.open_requests.result
+    (λ e why. high-degree (fields g) g.Val.Operations.laws g.EF.Operations.laws g.met.EF.ExtensionField.embedding g.Val.PartialEq.eq g.met.Val.Field.eq_law g.EF.PartialEq.eq g.met.EF.Field.eq_law g.met.Val.ComplexExtendable.generators_law p
+    g.InputMmcs.Mmcs.matrices (challenger g) (g.FriMmcs.Mmcs.commits p.mmcs) c.args.requests.items c.requires (g.C.ChallengerState.state c.args.challenger.now) (g.C.ChallengerState.state c.open_requests.new.challenger) e why)
+    (returns-clause-failure g c)
+
+pub returns-in_err-validate_requests-clause-degree : goal.returns-in_err-validate_requests-clause-degree
+returns-in_err-validate_requests-clause-degree g c =
+    let p = c.args.self.now.fri_params in
+    if_err _ _ c.from_residual.result
+    (λ e why. high-degree (fields g) g.Val.Operations.laws g.EF.Operations.laws g.met.EF.ExtensionField.embedding g.Val.PartialEq.eq g.met.Val.Field.eq_law g.EF.PartialEq.eq g.met.EF.Field.eq_law g.met.Val.ComplexExtendable.generators_law p
+    g.InputMmcs.Mmcs.matrices (challenger g) (g.FriMmcs.Mmcs.commits p.mmcs) c.args.requests.items c.requires (g.C.ChallengerState.state c.args.challenger.now) (g.C.ChallengerState.state c.args.challenger.now) e why)
+    (returns-in_err-validate_requests-clause-failure g c)

@@ -2,15 +2,15 @@ use Rattle.std.proofs.Common.{◌∙◌, length, map, refl, sym, ap, arith}
 use Rattle.std.proofs.lemmas.List.{take_all}
 use Rattle.circle_matrix.specs.Mmcs.{opened_rows}
 use Rattle.circle_pcs.proofs.Lists.{answered-at, mapped-more, rows-long, taken-more}
-use Rattle.circle_pcs.proofs.any_scheme.claims_of.Goals as goal
+use Rattle.circle_pcs.proofs.claims.matrix_claims.Goals as goal
 
 pub bounds-values-i : goal.bounds-values-i
 bounds-values-i g c =
     let long = rows-long c.args.points.now c.args.values.now c.requires.values in
     omega (arith, long, c.requires.counted, c.loop-i-test.true)
 
-pub claims_on-requires : goal.claims_on-requires
-claims_on-requires g c =
+pub point_claims-requires : goal.point_claims-requires
+point_claims-requires g c =
     let points = c.args.points.now in
     let values = c.args.values.now in
     ap length c.deref-in-loop-i.ensures.value
@@ -25,7 +25,7 @@ loop-i-preserved g c =
     let long = rows-long points values c.requires.values in
     let p = c.index-points-i.result in
     let v = c.index-values-i.result in
-    let made = c.in_ok-claims_on.ensures in
+    let made = c.in_ok-point_claims.ensures in
     let old = c.loop-i.claims.items in
     let new = c.push.new.self.items in
     record {

@@ -1,5 +1,5 @@
 use Rattle.std.proofs.Common.{◌≡◌, length, map, take}
-use Rattle.circle_pcs.proofs.any_scheme.claims_on.Given as goal
+use Rattle.circle_pcs.proofs.claims.point_claims.Given as goal
 
 -- the claims so far are there
 abbrev pub invariant-loop-point : goal.invariant-loop-point

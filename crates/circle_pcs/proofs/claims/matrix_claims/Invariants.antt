@@ -1,6 +1,6 @@
 use Rattle.std.proofs.Common.{◌≡◌, map, take}
 use Rattle.circle_matrix.specs.Mmcs.{opened_rows}
-use Rattle.circle_pcs.proofs.any_scheme.claims_of.Given as goal
+use Rattle.circle_pcs.proofs.claims.matrix_claims.Given as goal
 
 -- the claims so far are there
 abbrev pub invariant-loop-i : goal.invariant-loop-i

@@ -2,7 +2,7 @@ use Rattle.std.proofs.Common.{◌≡◌, ◌+◌, [], ◌∷◌, ◌++◌, ◌�
 use Rattle.std.proofs.lemmas.List.{length_push, take_all}
 use Rattle.std.proofs.lemmas.Slice.Zip.{zip_turn, zip_end}
 use Rattle.circle_pcs.proofs.Lists.{mapped-more, taken-more}
-use Rattle.circle_pcs.proofs.any_scheme.claims_on.Goals as goal
+use Rattle.circle_pcs.proofs.claims.point_claims.Goals as goal
 
 pub loop-point-preserved : goal.loop-point-preserved
 loop-point-preserved g c =

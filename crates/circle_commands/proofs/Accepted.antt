@@ -1,0 +1,176 @@
+-- What the command `prove` writes is accepted by `verify`.
+use Rattle.std.specs.Prelude.{◌≡◌, ℕ, ◌+◌, ◌^◌, ◌<◌, ◌≤◌, List, [], ◌∷◌, ◌++◌, length, map, zip, replicate, All, Vec}
+use Rattle.std.specs.List.{AllByRecursion, AllZip}
+use Rattle.std.specs.declared.alloc.Global.{Global}
+use Rattle.std.proofs.Common.{refl, sym, ◌∙◌, ap, subst, arith}
+use Rattle.std.proofs.lemmas.List.{length-map}
+use Rattle.std.proofs.lemmas.List.Elements.{All-from_recursion, recursion_from_All}
+use Rattle.std.proofs.lemmas.Slice.Zip.{AllZip-long}
+use Rattle.circle_challenger.specs.Sha256Challenger.{state_of}
+use Rattle.circle_challenger.specs.Sponge.{absorbed}
+use Rattle.circle_challenger.specs.declared.sha256.Sha256Challenger.{Sha256Challenger}
+use Rattle.circle_completeness.specs.Claimed.{AreClaimed, IsClaimed}
+use Rattle.circle_completeness.proofs.Accepted.{accepts-openings}
+use Rattle.circle_domain.proofs.Powers.{pow_injective}
+use Rattle.circle_field.specs.Circle.{AreGenerators}
+use Rattle.circle_field.specs.Field.{FieldLaws, IsEmbedding}
+use Rattle.circle_field.specs.declared.cubic.Cubic.{Cubic}
+use Rattle.circle_field.specs.declared.mersenne31.Mersenne31.{Mersenne31}
+use Rattle.circle_matrix.specs.DotProduct.{pairwise}
+use Rattle.circle_matrix.specs.Parameters.{with_scheme}
+use Rattle.circle_matrix.specs.Pcs.{Openings}
+use Rattle.circle_matrix.specs.RowMajorMatrix.{height_of}
+use Rattle.circle_matrix.specs.declared.matrix.RowMajorMatrix.{RowMajorMatrix}
+use Rattle.circle_matrix.specs.declared.params.FriParameters.{FriParameters}
+use Rattle.circle_matrix.specs.declared.pcs.CommitmentOpening.{CommitmentOpening}
+use Rattle.circle_matrix.specs.declared.pcs.OpeningRequest.{OpeningRequest}
+use Rattle.circle_merkle.specs.ProverData.{matrices_of}
+use Rattle.circle_merkle.specs.declared.mmcs.ShaMmcs.{ShaMmcs}
+use Rattle.circle_opening.specs.Opening.{IsOpening}
+use Rattle.circle_opening.specs.Requests.{AreAnswers, AreFit, AreRequests, AreValuesOf, IsFit, IsOpenable, batch_committed, claimed, committed as committed_at, lists_of, log_of}
+use Rattle.circle_opening.specs.Schemes.{Schemes}
+use Rattle.circle_opening.proofs.Logs.{log_of-power}
+use Rattle.circle_relation.specs.Accepts.{AcceptsFrom, Fields}
+use Rattle.circle_relation.specs.RunOf.{proof_of}
+use Rattle.circle_relation.specs.Statement.{BatchClaim, MatrixClaim, all_matrices}
+use Rattle.circle_words.specs.Words.{claim_of}
+use Rattle.circle_commands.specs.Proved.{AreCommitted, HavePoints, IsCommitted, IsExtended, IsRequested, batch_claimed, commitments_taken, matrix_claimed, points_of}
+use Rattle.circle_commands.specs.Rows.{lists}
+use Rattle.circle_commands.specs.Traces.{HasFittingRows}
+use Rattle.circle_commands.specs.Verified.{IsVerified, batch_told, batches_told, taken_in}
+use Rattle.circle_commands.specs.declared.prove.Committed.{Committed}
+use Rattle.circle_commands.specs.declared.prove.Input.{Input}
+use Rattle.circle_commands.specs.declared.prove.Trace.{Trace}
+use Rattle.circle_commands.specs.declared.verify.Input.{Input as Claims}
+use Rattle.circle_commands.proofs.Proving.{log_fits}
+
+-- the claims have the commitments of what was committed to
+taken-same : (s : List ℕ) (cs : List Committed) (vs : Openings Cubic) (bs : List (CommitmentOpening Cubic (List ℕ) ℕ)) → length vs ≡ length cs → batches_told bs ≡ pairwise batch_claimed cs vs → commitments_taken s cs ≡ taken_in s bs
+taken-same s [] vs [] long told = refl
+taken-same s [] vs (b ∷ bs) long told = absurd (cc)
+taken-same s (c ∷ cs) [] bs long told = absurd (omega (arith, long))
+taken-same s (c ∷ cs) (v ∷ vs) [] long told = absurd (cc)
+taken-same s (c ∷ cs) (v ∷ vs) (b ∷ bs) long told =
+    let first : batch_told b ≡ batch_claimed c v = cc in
+    let rest : batches_told bs ≡ pairwise batch_claimed cs vs = cc in
+    let same : b.commitment ≡ c.commitment = ap (λ (x : BatchClaim (List ℕ) Cubic). x.commitment) first in
+    ap (λ root. commitments_taken (absorbed s root) cs) (sym same) ∙ taken-same (absorbed s b.commitment) cs vs bs (omega (arith, long)) rest
+
+both : {T : Type 0} (P : T → Type 0) (xs ys : List T) → AllByRecursion P xs → AllByRecursion P ys → AllByRecursion P (xs ++ ys)
+both P [] ys first second = second
+both P (x ∷ xs) ys first second = (first.0, both P xs ys first.1 second)
+
+some-pairs : (points : List Cubic) (values : List (List Cubic)) → length values ≡ length points → 1 ≤ length points → 1 ≤ length (pairwise claim_of points values)
+some-pairs [] values long some = absurd (omega (arith, some))
+some-pairs (t ∷ points) [] long some = absurd (omega (arith, long))
+some-pairs (t ∷ points) (v ∷ values) long some = omega arith
+
+module _ (k : Fields Mersenne31 Cubic) (blowup : ℕ) where
+  -- the claims on a matrix are those on the committed one
+  matrix-claimed : (t : Trace) (m : RowMajorMatrix Mersenne31) (vs : List (List Cubic)) → HasFittingRows t → IsExtended blowup (lists t.rows.items) m → height_of m ≡ 2 ^ log_of (height_of m) →
+      matrix_claimed t vs ≡ claimed blowup (committed_at m t.points.items vs)
+  matrix-claimed t m vs fitting extended power =
+      let n = extended.log_n in
+      let rows : length t.rows.items ≡ 2 ^ n = sym (length-map t.rows.items (λ row. row.items)) ∙ extended.height in
+      let small = log_fits n (length t.rows.items) (sym rows) fitting.at_most in
+      let given : log_of (length t.rows.items) ≡ n = ap log_of rows ∙ log_of-power n (omega (arith, small)) in
+      let high = pow_injective (log_of (height_of m)) (n + blowup) (sym power ∙ extended.extends.height) in
+      let made : ℕ → MatrixClaim Cubic = λ n. record { log_n = n; claims = pairwise claim_of t.points.items vs } in
+      ap made (given ∙ omega (arith, high))
+
+  batch-claimed : (ts : List Trace) (ms : List (RowMajorMatrix Mersenne31)) (vs : List (List (List Cubic))) → AllByRecursion HasFittingRows ts → AllZip (λ t made. IsExtended blowup (lists t.rows.items) made) ts ms →
+      AllZip (IsOpenable k k.two_adicity blowup) ms (points_of ts) → pairwise matrix_claimed ts vs ≡ map (claimed blowup) (batch_committed ms (points_of ts) vs)
+  batch-claimed [] [] vs fitting extended openable = refl
+  batch-claimed [] (m ∷ ms) vs fitting extended openable = absurd extended
+  batch-claimed (t ∷ ts) [] vs fitting extended openable = absurd extended
+  batch-claimed (t ∷ ts) (m ∷ ms) [] fitting extended openable = refl
+  batch-claimed (t ∷ ts) (m ∷ ms) (v ∷ vs) fitting extended openable =
+      ap (λ first. first ∷ pairwise matrix_claimed ts vs) (matrix-claimed t m v fitting.0 extended.0 openable.0.power)
+      ∙ ap (λ rest. claimed blowup (committed_at m t.points.items v) ∷ rest) (batch-claimed ts ms vs fitting.1 extended.1 openable.1)
+
+  -- each matrix is claimed at a point
+  batch-pointed : (ts : List Trace) (ms : List (RowMajorMatrix Mersenne31)) (vs : List (List (List Cubic))) → AllByRecursion (λ t. 1 ≤ length t.points.items) ts →
+      AllZip (λ m rest. AreValuesOf k blowup m rest.0 rest.1) ms (zip (points_of ts) vs) → AllByRecursion (λ m. 1 ≤ length m.claims) (pairwise matrix_claimed ts vs)
+  batch-pointed [] ms vs some are = tt
+  batch-pointed (t ∷ ts) ms [] some are = tt
+  batch-pointed (t ∷ ts) [] (v ∷ vs) some are = absurd are
+  batch-pointed (t ∷ ts) (m ∷ ms) (v ∷ vs) some are = (some-pairs t.points.items v are.0.count some.0, batch-pointed ts ms vs some.1 are.1)
+
+  module _ {D : Type 0} (kept : D → List (RowMajorMatrix Mersenne31)) (Commits : List (RowMajorMatrix Mersenne31) → List ℕ → Type 0) where
+    -- so of all batches
+    all-claimed : {M : Type 0} (p : FriParameters M) → blowup ≡ p.log_blowup → (bs : List (Vec Trace Global)) (cs : List Committed) (rs : List (OpeningRequest D Cubic)) (vs : Openings Cubic) → AreCommitted Commits blowup bs cs → AllZip (IsRequested kept) cs rs →
+        AllByRecursion (IsFit kept k blowup k.two_adicity) rs → length vs ≡ length cs → AreClaimed p kept Commits rs vs (pairwise batch_claimed cs vs)
+    all-claimed p same [] [] [] [] committed asked fit long = tt
+    all-claimed p same [] [] [] (v ∷ vs) committed asked fit long = absurd (omega (arith, long))
+    all-claimed p same [] [] (r ∷ rs) vs committed asked fit long = absurd asked
+    all-claimed p same [] (c ∷ cs) rs vs committed asked fit long = absurd committed
+    all-claimed p same (b ∷ bs) [] rs vs committed asked fit long = absurd committed
+    all-claimed p same (b ∷ bs) (c ∷ cs) [] vs committed asked fit long = absurd asked
+    all-claimed p same (b ∷ bs) (c ∷ cs) (r ∷ rs) [] committed asked fit long = absurd (omega (arith, long))
+    all-claimed p same (b ∷ bs) (c ∷ cs) (r ∷ rs) (v ∷ vs) committed asked fit long =
+        let is : IsCommitted Commits blowup b.items c = committed.0 in
+        let wanted : IsRequested kept c r = asked.0 in
+        let traces = c.traces.now in
+        let openable : AllZip (IsOpenable k k.two_adicity blowup) (matrices_of c.kept) (points_of traces) =
+        subst (λ ps. AllZip (IsOpenable k k.two_adicity blowup) (matrices_of c.kept) ps) wanted.points
+        (subst (λ ms. AllZip (IsOpenable k k.two_adicity blowup) ms (lists_of r.points.items)) wanted.matrices fit.0) in
+        let fitting = recursion_from_All HasFittingRows traces (subst (All HasFittingRows) (sym is.given) is.fitting) in
+        let extended = subst (λ ts. AllZip (λ t made. IsExtended blowup (lists t.rows.items) made) ts (matrices_of c.kept)) (sym is.given) is.extended in
+        let first : IsClaimed p kept Commits r v (batch_claimed c v) = record {
+          committed = subst (λ ms. Commits ms c.commitment) (sym wanted.matrices) is.commitment;
+          matrices = subst (λ n. pairwise matrix_claimed traces v ≡ map (claimed n) (batch_committed (kept r.prover_data.now) (lists_of r.points.items) v)) same
+              (batch-claimed traces (matrices_of c.kept) v fitting extended openable
+              ∙ ap (λ ms. map (claimed blowup) (batch_committed ms (points_of traces) v)) (sym wanted.matrices)
+              ∙ ap (λ ps. map (claimed blowup) (batch_committed (kept r.prover_data.now) ps v)) (sym wanted.points));
+        } in
+        (first, all-claimed p same bs cs rs vs committed.1 asked.1 fit.1 (omega (arith, long)))
+
+    all-pointed : (bs : List (Vec Trace Global)) (cs : List Committed) (rs : List (OpeningRequest D Cubic)) (vs : Openings Cubic) → AllByRecursion (λ b. All (λ t. 1 ≤ length t.points.items) b.items) bs → AreCommitted Commits blowup bs cs →
+        AllZip (IsRequested kept) cs rs → AllZip (AreAnswers kept k blowup) rs vs → AllByRecursion (λ m. 1 ≤ length m.claims) (all_matrices (pairwise batch_claimed cs vs))
+    all-pointed bs [] rs vs some committed asked are = tt
+    all-pointed bs (c ∷ cs) rs [] some committed asked are = tt
+    all-pointed [] (c ∷ cs) rs (v ∷ vs) some committed asked are = absurd committed
+    all-pointed (b ∷ bs) (c ∷ cs) [] (v ∷ vs) some committed asked are = absurd asked
+    all-pointed (b ∷ bs) (c ∷ cs) (r ∷ rs) (v ∷ vs) some committed asked are =
+        let is : IsCommitted Commits blowup b.items c = committed.0 in
+        let wanted : IsRequested kept c r = asked.0 in
+        let traces = c.traces.now in
+        let pointed = recursion_from_All (λ t. 1 ≤ length t.points.items) traces (subst (All (λ t. 1 ≤ length t.points.items)) (sym is.given) some.0) in
+        let values : AllZip (λ m rest. AreValuesOf k blowup m rest.0 rest.1) (kept r.prover_data.now) (zip (points_of traces) v) =
+        subst (λ ps. AllZip (λ m rest. AreValuesOf k blowup m rest.0 rest.1) (kept r.prover_data.now) (zip ps v)) wanted.points are.0.0 in
+        both (λ (m : MatrixClaim Cubic). 1 ≤ length m.claims) (pairwise matrix_claimed traces v) (all_matrices (pairwise batch_claimed cs vs)) (batch-pointed traces (kept r.prover_data.now) v pointed values)
+        (all-pointed bs cs rs vs some.1 committed.1 asked.1 are.1)
+
+module _ {D WD : Type 0}
+    (o : Schemes Sha256Challenger (List ℕ) Mersenne31 Cubic (ShaMmcs Mersenne31) (List ℕ) D (Vec (List ℕ) Global) (ShaMmcs Cubic) (List ℕ) WD (Vec (List ℕ) Global)) (input : Input) (output : Claims)
+    (base : FieldLaws o.fields.field) (laws : FieldLaws o.fields.extension) (e : IsEmbedding o.fields.field o.fields.extension o.fields.embed) (gens : AreGenerators o.fields.field o.fields.two_adicity o.fields.gen)
+    (small : o.fields.two_adicity ≤ 62) (below : (s : List ℕ) (n : ℕ) → n ≤ 63 → o.run.base.sampled_bits s n < 2 ^ n) where
+  -- where each matrix has a point
+  pub verified : (mmcs : ShaMmcs Mersenne31) (scheme : ShaMmcs Cubic) (committed : List Committed) (requests : List (OpeningRequest D Cubic)) (values : Openings Cubic) (start left : Sha256Challenger)
+      (p : FriParameters (ShaMmcs Cubic)) → p ≡ with_scheme input.params scheme → AreFit p → p.max_log_arity ≡ 1 → AreRequests o.kept o.fields o.fields.two_adicity p requests
+      → AreCommitted (o.Commits mmcs) p.log_blowup input.batches.items committed → AllZip (IsRequested o.kept) committed requests
+      → state_of start ≡ commitments_taken (replicate 32 0) committed → AllZip (AreAnswers o.kept o.fields p.log_blowup) requests values
+      → IsOpening p o.kept requests values o.fields o.run (proof_of output.proof) (o.Commits mmcs) (o.authenticates mmcs) (o.WordCommits scheme) (o.word_authenticates scheme) (state_of start) (state_of left)
+      → batches_told output.batches.items ≡ pairwise batch_claimed committed values → output.params ≡ input.params
+      → HavePoints input → IsVerified o output
+  verified mmcs scheme committed requests values start left p same fit arity asked batches wanted taken answers opening told kept_params some =
+      let long = AllZip-long (IsRequested o.kept) committed requests wanted in
+      let answered = AllZip-long (AreAnswers o.kept o.fields p.log_blowup) requests values answers in
+      let as_many : length values ≡ length committed = omega (arith, long, answered) in
+      let claims = pairwise batch_claimed committed values in
+      let claimed_all = all-claimed o.fields p.log_blowup o.kept (o.Commits mmcs) p refl input.batches.items committed requests values batches wanted (recursion_from_All (IsFit o.kept o.fields p.log_blowup o.fields.two_adicity) requests asked.fit) as_many in
+      let pointed = All-from_recursion (λ (m : MatrixClaim Cubic). 1 ≤ length m.claims) (all_matrices claims)
+      (all-pointed o.fields p.log_blowup o.kept (o.Commits mmcs) input.batches.items committed requests values (recursion_from_All (λ (b : Vec Trace Global). All (λ t. 1 ≤ length t.points.items) b.items) input.batches.items some) batches wanted answers) in
+      let accepted : AcceptsFrom o.fields p o.run (o.authenticates mmcs) (o.word_authenticates scheme) claims (proof_of output.proof) (state_of start) (state_of left) =
+      accepts-openings o.fields base laws e gens small o.run below p o.kept (o.Commits mmcs) (o.authenticates mmcs) (o.WordCommits scheme) (o.word_authenticates scheme) requests fit arity asked
+      values answers (proof_of output.proof) (state_of start) (state_of left) opening claims claimed_all pointed in
+      record {
+        mmcs = mmcs;
+        scheme = scheme;
+        start = start;
+        left = left;
+        taken = taken ∙ taken-same (replicate 32 0) committed values output.batches.items as_many told;
+        accepts = subst (λ (q : FriParameters (ShaMmcs Cubic)). AcceptsFrom o.fields q o.run (o.authenticates mmcs) (o.word_authenticates scheme) (batches_told output.batches.items) (proof_of output.proof) (state_of start) (state_of left))
+            (same ∙ ap (λ ps. with_scheme ps scheme) (sym kept_params))
+            (subst (λ bs. AcceptsFrom o.fields p o.run (o.authenticates mmcs) (o.word_authenticates scheme) bs (proof_of output.proof) (state_of start) (state_of left)) (sym told) accepted);
+      }

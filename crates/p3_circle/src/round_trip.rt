@@ -1,0 +1,59 @@
+//! A whole run over the scheme.
+ghost use Rattle.std.specs.Prelude.{◌≡◌, All, IfErr, IfOk, OnOk};
+ghost use Rattle.circle_matrix.specs.Pcs.{openings};
+ghost use Rattle.circle_pcs.specs.RoundTrip.{HasPoints};
+ghost use Rattle.p3_circle.specs.Committing.{HaveRowsForPoints};
+
+use crate::pcs::CirclePcs;
+use circle_challenger::{CanObserve, CanSample, GrindingChallenger};
+use circle_commit::{
+    BatchAtPoints, FriError, Mmcs, OpenedValues, RoundTripError, RowMajorMatrix, round_trip,
+};
+use circle_domain::CircleDomain;
+use circle_field::{ComplexExtendable, ExtensionField};
+use circle_opening::ProverError;
+use circle_pcs::Statements;
+use circle_relation::InputError;
+use std::alloc::Global;
+
+impl<Val: ComplexExtendable, InputMmcs: Mmcs<Val>, FriMmcs> CirclePcs<Val, InputMmcs, FriMmcs> {
+    /// Commits to batches, opens them all at once, each matrix at its own points, and verifies what
+    /// is answered, by two challengers that begin in one state.
+    ///
+    /// Answers, batch by batch, the values of the only polynomials with the batch's rows, once they
+    /// are accepted; then both challengers end in one state. Otherwise the answer is the refusal of
+    /// `commit`, `open` or `verify`, with the reason that these give for it, or `Memory`. Honest
+    /// batches are refused for memory alone, where each search for a witness finds one.
+    ///
+    /// Asks of each matrix a row for each point of its domain, and a list of points for it, of one
+    /// point at least.
+    pub fn round_trip<EF: ExtensionField<Val>, C>(
+        &self,
+        alloc: Global,
+        batches: Vec<BatchAtPoints<EF, CircleDomain<Val>, RowMajorMatrix<Val>>>,
+        prover: &mut C,
+        verifier: &mut C,
+    ) -> Result<
+        OpenedValues<EF>,
+        RoundTripError<
+            ProverError,
+            FriError<FriMmcs::Error, InputError<InputMmcs::Error, FriMmcs::Error>>,
+        >,
+    >
+    where
+        FriMmcs: Mmcs<EF>,
+        C: CanSample<Val> + GrindingChallenger<Val> + CanObserve<FriMmcs::Commitment>,
+        requires rows { All (λ b. HaveRowsForPoints b.evaluations.items) batches.items }
+        requires points { All HasPoints batches.items }
+        requires same { C.state prover.old ≡ C.state verifier.old }
+        ensures accepted { let p = ⟦<Self as Statements<EF, C>>⟧ in IfErr result (λ e.
+            p.are_honest_batches self.now batches.items (C.state prover.old) → p.is_of_memory e) }
+        ensures values { let p = ⟦<Self as Statements<EF, C>>⟧ in IfOk result (λ v.
+            p.are_values_of self.now batches.items (openings v.items)) }
+        ensures states { OnOk result (C.state prover.new ≡ C.state verifier.new) }
+        ensures reason { let s = C.state in IfErr result (⟦<Self as Statements<EF, C>>⟧.is_reason
+            self.now batches.items (s prover.old) (s prover.new) (s verifier.new)) }
+    {
+        round_trip::<EF, C, Self>(alloc, self, batches, prover, verifier)
+    }
+}
