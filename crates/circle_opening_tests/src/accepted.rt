@@ -1,4 +1,6 @@
 //! Openings on domains that are not standard are accepted, and whole runs over any scheme.
+ghost use Rattle.std.specs.Prelude.{◌≤◌};
+
 use circle_challenger::{CanSample, Sha256Challenger};
 use circle_commit::OpenedValues;
 use circle_field::{Cubic, Field, Mersenne31};
@@ -86,7 +88,7 @@ fn domains_that_are_not_standard(rt: HostRuntime) -> Result<(), Fail> {
 
 // A matrix of so many rows, on the standard domain.
 fn matrix(alloc: Global, log_rows: usize, seed: u64) -> Result<Vec<(Domain, Rows)>, Fail>
-    requires { log_rows ≤ 31 }
+    requires { log_rows ≤ 30 }
 {
     let rows = scattered(alloc, log_rows, 2, seed)?;
     Ok(one(alloc, (Domain::standard(log_rows), rows))?)
@@ -110,7 +112,7 @@ fn a_whole_run(rt: HostRuntime) -> Result<(), Fail> {
     let (mut prover, mut verifier) = (Sha256Challenger::new(), Sha256Challenger::new());
     let batches = vec![in alloc; first, second]?;
     let run = scheme(SMALL).round_trip(alloc, batches, &mut prover, &mut verifier);
-    let values = run.map_err(|_refused| Fail)?;
+    let values = run.ok().ok_or("values")?;
     assert!(&rt; values.len() == 2);
     let (drawn, again): (Mersenne31, Mersenne31) = (prover.sample(), verifier.sample());
     assert_eq!(&rt; drawn, again);
