@@ -1,0 +1,68 @@
+//! The statement whose proofs are forged: columns of 4 and of 16 rows, of which row `i` holds `i`,
+//! in one batch over standard domains, opened at two points each.
+use circle_challenger::Sha256Challenger;
+use circle_statements::batches::{Batch, Domain, commit, cubic, rows};
+use circle_statements::openings::{Claims, claims_of, open};
+use circle_statements::parameters::{Numbers, Proof, Scheme, scheme};
+use std::alloc::Global;
+use std::test::Fail;
+
+/// The matrices with their opening at forty queries, and the challenger that it leaves.
+#[derive(Drop)]
+pub(crate) struct Opening {
+    pub(crate) scheme: Scheme,
+    pub(crate) claims: Claims,
+    pub(crate) proof: Proof,
+    pub(crate) prover: Sha256Challenger,
+}
+
+/// The number of queries: more than the 32 indices that there are, so that one repeats.
+pub(crate) const QUERIES: usize = 40;
+
+/// A blowup of two, folded to `2^log_final_poly_len` coefficients, with these difficulties of the
+/// batching challenge, of the rounds and of the indices.
+pub(crate) fn numbers(log_final_poly_len: usize, work: [usize; 3]) -> Numbers {
+    Numbers {
+        log_blowup: 1,
+        log_final_poly_len,
+        num_queries: QUERIES,
+        work,
+    }
+}
+
+/// The rows of the taller column; the other has the first four.
+const ROWS: [u64; 16] = [0, 1, 2, 3, 4, 5, 6, 7, 8, 9, 10, 11, 12, 13, 14, 15];
+
+/// The coordinates of the points.
+const POINTS: [[u64; 3]; 2] = [[0, 1, 0], [0, 0, 1]];
+
+/// Commits to the columns.
+pub(crate) fn columns(alloc: Global, scheme: &Scheme) -> Result<Batch, Fail> {
+    let tall = rows(alloc, &ROWS, 1)?;
+    let short = rows(alloc, &ROWS[..4], 1)?;
+    let evaluations = vec![in alloc; (Domain::standard(2), short), (Domain::standard(4), tall)]?;
+    let at = POINTS.map(|coefficients| cubic(coefficients));
+    let of_short = Vec::from_slice(alloc, &at)?;
+    let of_tall = Vec::from_slice(alloc, &at)?;
+    commit(
+        alloc,
+        scheme,
+        evaluations,
+        vec![in alloc; of_short, of_tall]?,
+    )
+}
+
+/// Opens the columns, at these difficulties.
+pub(crate) fn proved(alloc: Global, work: [usize; 3]) -> Result<Opening, Fail> {
+    let scheme = scheme(numbers(0, work));
+    let batches = [columns(alloc, &scheme)?];
+    let mut prover = Sha256Challenger::new();
+    let (values, proof) = open(alloc, &scheme, &batches, &mut prover)?;
+    let claims = claims_of(alloc, &batches, &values)?;
+    Ok(Opening {
+        scheme,
+        claims,
+        proof,
+        prover,
+    })
+}
