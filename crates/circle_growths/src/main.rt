@@ -1,0 +1,68 @@
+//! Calls of the libraries, one a run, whose growths `checks/growths` refuses in turn.
+//!
+//! - `call NAME` makes a call and prints what was answered, `Ok` and a number that the answer comes
+//!   to or the refusal, and behind it what the call left of what it was lent.
+//! - `before NAME` ends right before the call, and prints the latter as it is then.
+//! - `after NAME` ends right after it, where what follows takes memory.
+//! - `all` makes all calls, a line for each. Any other arguments print their names.
+//!
+//! Printing takes no memory. `open` is told of with what is opened of the same matrices once more.
+//! `without_memory` makes the calls that take none.
+#![tactic(auto)]
+
+mod calls;
+mod plane;
+mod quiet;
+mod scheme;
+mod told;
+mod transcript;
+mod words;
+
+use anyhow::Result;
+use calls::{NAMES, told_of};
+use std::env;
+use told::Stage;
+
+// The stage that a word names.
+fn stage(word: &str) -> Option<Stage> {
+    match word {
+        "before" => Some(Stage::Before),
+        "after" => Some(Stage::After),
+        "call" => Some(Stage::Whole),
+        _ => None,
+    }
+}
+
+// Prints the line of a call, and says whether there is such a call.
+fn report(rt: &HostRuntime, stage: Stage, name: &str) -> Result<bool> {
+    let Some(told) = told_of(rt.alloc(), stage, name)? else {
+        return Ok(false);
+    };
+    println!(rt; "{name}: {}", told.as_str())?;
+    Ok(true)
+}
+
+// Prints the lines of all calls, or their names alone.
+fn report_all(rt: &HostRuntime, are_made: bool) -> Result<()> {
+    for name in NAMES {
+        if are_made {
+            report(rt, Stage::Whole, name)?;
+        } else {
+            println!(rt; "{name}")?;
+        }
+    }
+    Ok(())
+}
+
+fn main(rt: HostRuntime) -> Result<()> {
+    let mut args = env::args(&rt)?.skip(1);
+    let (Some(word), name) = (args.next(), args.next()) else {
+        return report_all(&rt, false);
+    };
+    if let (Some(stage), Some(name)) = (stage(word.as_str()), &name) {
+        if report(&rt, stage, name.as_str())? {
+            return Ok(());
+        }
+    }
+    report_all(&rt, word.as_str() == "all" && name.is_none())
+}

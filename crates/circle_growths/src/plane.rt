@@ -1,0 +1,227 @@
+//! Calls on elements, on domains and on values there.
+ghost use Rattle.std.specs.Prelude.{◌≤◌, IsTrue, All};
+ghost use Rattle.circle_domain.specs.Clear.{IsClearOf};
+ghost use Rattle.circle_domain.specs.Domain.{log_size, points_of};
+
+use crate::told::{Stage, Told, before, digest, told, with_number};
+use anyhow::{Result, bail};
+use circle_commit::{
+    Matrix, PeriodicEvaluator, PeriodicLdeTable, PolynomialSpace, RowMajorMatrix, is_power_of_two,
+};
+use circle_field::{
+    ComplexExtendable, Cubic, ExtensionField, Field, Mersenne31, batch_multiplicative_inverse,
+};
+use p3_circle::{CircleDomain, CircleEvaluations, CirclePeriodicEvaluator, Point, circle_basis};
+use std::alloc::{AllocError, Global};
+
+/// Domains of the circle over [`Mersenne31`].
+pub type Domain = CircleDomain<Mersenne31>;
+
+/// Matrices of [`Mersenne31`].
+pub type Rows = RowMajorMatrix<Mersenne31>;
+
+/// The elements of the numbers below `count`.
+pub fn elements(alloc: Global, count: u64) -> Result<Vec<Mersenne31>, AllocError> {
+    (0..count).map(Mersenne31::from_u64).collect(alloc)
+}
+
+/// The matrix whose row `i` is `[i]`.
+pub fn column(alloc: Global, height: u64) -> Result<Rows, AllocError> {
+    Ok(RowMajorMatrix::new_col(elements(alloc, height)?))
+}
+
+/// The element with these coefficients.
+pub fn cubic(coefficients: [u64; 3]) -> Cubic {
+    Cubic::from_coefficients(&coefficients.map(|n| Mersenne31::from_u64(n)))
+}
+
+/// `Field::powers`.
+pub fn powers(alloc: Global, stage: Stage) -> Result<Told> {
+    if stage == Stage::Before {
+        return Ok(before());
+    }
+    let base = Mersenne31::from_u64(3);
+    Ok(told(Mersenne31::powers(alloc, base, 8).map(|powers| digest(&powers))))
+}
+
+/// `batch_multiplicative_inverse`.
+pub fn inverses(alloc: Global, stage: Stage) -> Result<Told> {
+    let [one, two, five] = [1, 2, 5].map(|n| Mersenne31::from_u64(n));
+    if one.is_zero() || two.is_zero() || five.is_zero() {
+        bail!("an element is 0");
+    }
+    if stage == Stage::Before {
+        return Ok(before());
+    }
+    let inverses = batch_multiplicative_inverse(alloc, &[one, two, five]);
+    Ok(told(inverses.map(|inverses| digest(&inverses))))
+}
+
+/// `circle_basis`.
+pub fn basis(alloc: Global, stage: Stage) -> Result<Told> {
+    let point = Point::<Mersenne31>::generator(5);
+    if stage == Stage::Before {
+        return Ok(before());
+    }
+    Ok(told(circle_basis(alloc, point, 3).map(|basis| digest(&basis))))
+}
+
+/// `CircleEvaluations::interpolate` of a column on this domain.
+pub fn interpolate(alloc: Global, stage: Stage, domain: Domain) -> Result<Told> {
+    let rows = column(alloc, 8)?;
+    if domain.log_n() == 0 || domain.log_n() > 31 || !domain.is_genuine() {
+        bail!("the domain is not genuine");
+    }
+    if rows.height() != domain.size() {
+        bail!("there is not one row for each point");
+    }
+    if stage == Stage::Before {
+        return Ok(before());
+    }
+    let coefficients = CircleEvaluations::from_natural_order(domain, rows).interpolate(alloc);
+    Ok(told(coefficients.map(|rows| digest(rows.values()))))
+}
+
+/// `CircleEvaluations::evaluate` on this domain.
+pub fn evaluate(alloc: Global, stage: Stage, domain: Domain) -> Result<Told> {
+    let coefficients = column(alloc, 4)?;
+    let height = coefficients.height();
+    if domain.log_n() == 0 || domain.log_n() > 31 || !is_power_of_two(height) {
+        bail!("the height is no power of two");
+    }
+    if height > domain.size() {
+        bail!("there are more coefficients than points");
+    }
+    if stage == Stage::Before {
+        return Ok(before());
+    }
+    let values = CircleEvaluations::evaluate(alloc, domain, coefficients);
+    Ok(told(values.map(|values| digest(values.to_cfft_order().values()))))
+}
+
+/// `CircleEvaluations::extrapolate` of a column on this domain to another.
+pub fn extrapolate(alloc: Global, stage: Stage, domain: Domain, target: Domain) -> Result<Told> {
+    let rows = column(alloc, 4)?;
+    if domain.log_n() == 0 || domain.log_n() > 31 || !domain.is_genuine() {
+        bail!("the domain is not genuine");
+    }
+    if rows.height() != domain.size() {
+        bail!("there is not one row for each point");
+    }
+    if domain.log_n() > target.log_n() || target.log_n() > 31 {
+        bail!("the target is smaller, or past the group");
+    }
+    if stage == Stage::Before {
+        return Ok(before());
+    }
+    let values = CircleEvaluations::from_natural_order(domain, rows).extrapolate(alloc, target);
+    Ok(told(values.map(|values| digest(values.to_cfft_order().values()))))
+}
+
+/// `CircleEvaluations::evaluate_at_point`.
+pub fn evaluate_at_point(alloc: Global, stage: Stage) -> Result<Told> {
+    match Point::from_projective_line(cubic([0, 1, 0])) {
+        Some(at) => value_at(alloc, stage, Domain::standard(3), at),
+        None => bail!("the point is at infinity"),
+    }
+}
+
+// That call for a column on this domain, at this point.
+fn value_at<EF: ExtensionField<Mersenne31>>(
+    alloc: Global,
+    stage: Stage,
+    domain: Domain,
+    at: Point<EF>,
+) -> Result<Told> {
+    let rows = column(alloc, 8)?;
+    if domain.log_n() == 0 || domain.log_n() > 31 || !domain.is_genuine() {
+        bail!("the domain is not genuine");
+    }
+    if !domain.is_clear_of(at) || rows.height() != domain.size() {
+        bail!("the domain is not clear of the point, or there is not one row for each point");
+    }
+    if stage == Stage::Before {
+        return Ok(before());
+    }
+    let values = CircleEvaluations::from_natural_order(domain, rows).evaluate_at_point(alloc, at);
+    Ok(told(values.map(|values| digest(&values))))
+}
+
+// Whether each point of a coset is clear of a domain.
+fn is_clear_of_each<F: ComplexExtendable>(domain: CircleDomain<F>, coset: CircleDomain<F>) -> bool
+    requires in_group { log_size domain ≤ F.CIRCLE_TWO_ADICITY }
+    requires positive { 1 ≤ log_size domain }
+    requires coset_in_group { log_size coset ≤ F.CIRCLE_TWO_ADICITY }
+    requires coset_positive { 1 ≤ log_size coset }
+    ensures { IsTrue result → All (IsClearOf F.ops (λ x. x) (points_of F.ops F.generators domain))
+        (points_of F.ops F.generators coset) }
+{
+    for i in 0..coset.size() {
+        if !domain.is_clear_of(coset.nth_point(i)) {
+            return false;
+        }
+    }
+    true
+}
+
+/// `PolynomialSpace::selectors_on_coset` of these domains.
+pub fn selectors(alloc: Global, stage: Stage, domain: Domain, coset: Domain) -> Result<Told> {
+    if domain.log_n() == 0 || domain.log_n() > 31 || !domain.is_genuine() {
+        bail!("the domain is not genuine");
+    }
+    if coset.log_n() == 0 || coset.log_n() > 31 || !is_clear_of_each(domain, coset) {
+        bail!("the domain is not clear of the coset");
+    }
+    if stage == Stage::Before {
+        return Ok(before());
+    }
+    let selectors = domain.selectors_on_coset(alloc, coset);
+    Ok(told(selectors.map(|columns| digest(&columns.is_transition))))
+}
+
+/// `PolynomialSpace::split_evals`.
+pub fn split_evals(alloc: Global, stage: Stage) -> Result<Told> {
+    let domain = Domain::standard(3);
+    let rows = column(alloc, 8)?;
+    let count = 2;
+    if rows.height() != domain.size() || !is_power_of_two(count) {
+        bail!("there is not one row for each point");
+    }
+    if stage == Stage::Before {
+        return Ok(before());
+    }
+    let parts = domain.split_evals(alloc, count, rows);
+    Ok(told(parts.map(|parts| digest_of_parts(&parts))))
+}
+
+// A number that the entries of the parts come to.
+fn digest_of_parts(parts: &[Rows]) -> u32 {
+    let mut sum = 0;
+    for part in parts {
+        sum = with_number(sum, digest(part.values()));
+    }
+    sum
+}
+
+/// `PeriodicEvaluator::eval_on_lde`.
+pub fn eval_on_lde(alloc: Global, stage: Stage) -> Result<Told> {
+    let columns = vec![in alloc; elements(alloc, 2)?, elements(alloc, 4)?]?;
+    let (trace, extension) = (Domain::standard(2), Domain::standard(3));
+    if stage == Stage::Before {
+        return Ok(before());
+    }
+    let table = CirclePeriodicEvaluator::eval_on_lde(alloc, &columns, &trace, &extension);
+    Ok(told(table.map(|table| digest_of_table(&table))))
+}
+
+// A number that the entries of a table's last column come to.
+fn digest_of_table(table: &PeriodicLdeTable<Mersenne31>) -> u32 {
+    if table.width() == 0 || table.height() == 0 {
+        return 0;
+    }
+    let mut sum = 0;
+    for i in 0..table.height() {
+        sum = with_number(sum, table.get(i, table.width() - 1).value());
+    }
+    sum
+}

@@ -1,0 +1,62 @@
+//! Calls that take no memory.
+use crate::plane::{Domain, column, cubic};
+use crate::scheme::committed;
+use crate::told::{Stage, Told, before, digest};
+use anyhow::{Result, bail};
+use circle_commit::{Matrix, Mmcs};
+use circle_field::{Cubic, Field, Mersenne31};
+use circle_merkle::ShaMmcs;
+use p3_circle::{Point, cfft_permute_index, deep_quotient_reduce_row, fold_x_row, x_value};
+use std::alloc::Global;
+
+// Numbers that calls on points and domains come to.
+fn of_points() -> [usize; 3] {
+    let domain = Domain::standard(4);
+    let point = domain.nth_point(3);
+    let sum = point + point - -point;
+    [
+        cfft_permute_index(3, 4),
+        usize::from(domain.is_genuine()),
+        usize::from(domain.is_clear_of(sum * 5)),
+    ]
+}
+
+// Elements that calls on words come to, the inverse of an element first.
+fn of_words(one: Cubic, zeta: Point<Cubic>) -> Option<[Cubic; 4]> {
+    let row = [Mersenne31::ONE; 2];
+    let values = [one; 2];
+    let point = Point::<Mersenne31>::generator(4);
+    Some([
+        one.try_inverse()?,
+        fold_x_row::<Mersenne31, Cubic>(1, 2, 1, one, values),
+        x_value(&values, Mersenne31::TWO),
+        deep_quotient_reduce_row(one, &values, point, zeta, &row, &values)?,
+    ])
+}
+
+/// The calls that take no memory, where all their answers are values.
+pub fn without_memory(alloc: Global, stage: Stage) -> Result<Told> {
+    let (_, data) = committed(alloc)?;
+    let rows = column(alloc, 4)?;
+    let Some(zeta) = Point::from_projective_line(cubic([0, 1, 0])) else {
+        bail!("the point is at infinity");
+    };
+    if rows.height() < 2 {
+        bail!("there are too few rows");
+    }
+    if stage == Stage::Before {
+        return Ok(before());
+    }
+    let Some(of_words) = of_words(cubic([2, 7, 1]), zeta) else {
+        bail!("a value is none");
+    };
+    let (first, others) = rows.split_rows(2);
+    let matrices = ShaMmcs::<Mersenne31>::new().get_matrices(&data).len();
+    Ok(Told::of(format_args!(
+        "Ok {:?} {} {} {} {matrices}",
+        of_points(),
+        digest(&of_words),
+        first.height(),
+        others.height()
+    )))
+}

@@ -1,0 +1,67 @@
+//! Calls on words.
+use crate::plane::cubic;
+use crate::told::{Stage, Told, before, digest, told};
+use anyhow::{Result, bail};
+use circle_commit::{Matrix, RowMajorMatrix};
+use circle_field::{Cubic, Mersenne31};
+use p3_circle::{extract_lambda, fold_x, fold_y};
+use std::alloc::{AllocError, Global};
+
+// A word of so many entries.
+fn word(alloc: Global, count: u64) -> Result<Vec<Cubic>, AllocError> {
+    (0..count).map(|i| cubic([i, 1, i])).collect(alloc)
+}
+
+/// `extract_lambda`, with the word that it leaves.
+pub fn lambda(alloc: Global, stage: Stage, log_size: usize) -> Result<Told> {
+    let mut word = word(alloc, 8)?;
+    if log_size < 2 || log_size > 8 || word.len() != 1 << log_size {
+        bail!("the length is none for the blowup");
+    }
+    if stage == Stage::Before {
+        return Ok(Told::of(format_args!("before, left {}", digest(&word))));
+    }
+    let lambda = extract_lambda::<Mersenne31, Cubic>(alloc, &mut word, 1);
+    let answer = told(lambda.map(|lambda| digest(&[lambda])));
+    Ok(Told::of(format_args!("{}, left {}", answer.as_str(), digest(&word))))
+}
+
+// So many rows of two.
+fn pairs(alloc: Global, count: u64) -> Result<RowMajorMatrix<Cubic>> {
+    if count > 8 {
+        bail!("there are too many rows");
+    }
+    let entries = word(alloc, 2 * count)?;
+    if entries.len() % 2 != 0 {
+        bail!("the rows are no pairs");
+    }
+    Ok(RowMajorMatrix::new(entries, 2))
+}
+
+/// `fold_y`.
+pub fn by_y(alloc: Global, stage: Stage, log_height: usize) -> Result<Told> {
+    let rows = pairs(alloc, 8)?;
+    if log_height > 8 || rows.width() != 2 || rows.height() != 1 << log_height {
+        bail!("the rows are no pairs, or their number no power of two");
+    }
+    let beta = cubic([3, 1, 4]);
+    if stage == Stage::Before {
+        return Ok(before());
+    }
+    let folded = fold_y::<Mersenne31, Cubic, RowMajorMatrix<Cubic>>(alloc, beta, &rows);
+    Ok(told(folded.map(|folded| digest(&folded))))
+}
+
+/// `fold_x`.
+pub fn by_x(alloc: Global, stage: Stage, log_height: usize) -> Result<Told> {
+    let rows = pairs(alloc, 8)?;
+    if log_height > 8 || rows.width() != 2 || rows.height() != 1 << log_height {
+        bail!("the rows are no pairs, or their number no power of two");
+    }
+    let beta = cubic([3, 1, 4]);
+    if stage == Stage::Before {
+        return Ok(before());
+    }
+    let folded = fold_x::<Mersenne31, Cubic, RowMajorMatrix<Cubic>>(alloc, beta, 1, &rows);
+    Ok(told(folded.map(|folded| digest(&folded))))
+}
