@@ -15,6 +15,17 @@
 //!   after it; `finish` asks that no step is left.
 //! - `Sha256Challenger` is the sponge over the digest that the crate `sha2` defines, and its
 //!   `grind` gives the least element that passes.
+//!
+//! Its files:
+//!
+//! - In `src/`, `state.rt`: the drivers `ProverState` and `VerifierState` play a described
+//!   transcript on a borrowed challenger. `due.rt`: the steps still due, which contracts alone see.
+//! - In `specs/`, `Step`, `Separator`, `Interaction`: steps and the seed's text. `Observing`,
+//!   `Sampling`, `Grinding`, `Least`, `Played`, `Sponge`, `Sha256Challenger`: the functions of
+//!   states. `Moves`: these of one challenger as one record. `Due`, `TranscriptState`: steps due.
+//!   `Rows`: examples.
+//! - In `proofs/`, `Readings`: a seed text can be read in one way. `Witnesses`, `Draws`: searches
+//!   and draws.
 #![tactic(auto)]
 
 pub mod challenger;

@@ -20,6 +20,12 @@
 //!
 //! The texts of JSON, but for how inputs are read and what `prove` and `verify` write of them, are
 //! known to no clause; tests speak of them.
+//!
+//! Its files:
+//!
+//! - In `specs/`: one file for each command's input and answer, and `Arguments`, `Failure`, `Json`,
+//!   `Rows`, `Traces`.
+//! - In `proofs/`: what they need of lists, rows and batches.
 #![tactic(auto)]
 
 pub mod failure;

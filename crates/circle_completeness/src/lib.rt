@@ -20,6 +20,19 @@
 //! the opening began in, and the run leaves the state that the opening left
 //! (`openings_are_accepted`). Nothing is asked of the matrices' degree there: it decides whether an
 //! opening comes to an end.
+//!
+//! Its files:
+//!
+//! - In `specs/`, `LowDegree`, `LowWords`, `Honest`: matrices of low degree, words and requests.
+//!   `Claimed`, `Over`, `Accepted`: claims on answers, and their acceptance. `Rows`.
+//! - In `proofs/`, of low degree: `NearLow`, values of a polynomial plus a multiple of `v_n`,
+//!   closed under sums, multiples and, with twice as many coefficients, products with `v_n`;
+//!   `DifferenceQuotients`, quotients of differences are such values; `TrueQuotients`, `TrueWords`,
+//!   `FoldedWords`, `LastWords`, `TrueAnswers`.
+//! - In `proofs/`, of acceptance: `Heights`, `Lists`, `Items`, `Gathered`, `Inputs`: rows
+//!   authenticate. `Pairs` and those that begin with `First`: the first layer. Those that begin
+//!   with `Round`: the rounds, to the final polynomial's value. `Drawn`: the draws. `Accepted`: all
+//!   parts.
 #![tactic(auto)]
 
 pub mod acceptance;

@@ -21,6 +21,30 @@
 //!   `evaluate_periodic_column_at` that of a column that repeats (`IsPeriodicValue`).
 //! - Multiples of points, values by the halves of the coefficients, and that values on a genuine
 //!   domain tell them, by calls that answer nothing (`laws`).
+//!
+//! Its files:
+//!
+//! - In `src/`, `lagrange.rt`: the Lagrange polynomials at a point off the domain; `factors.rt`:
+//!   the factors of the transform's layers and of folds; `row_selectors.rt`, `splitting.rt`:
+//!   selectors at many points, and the rows of a part. `laws.rt`: laws for the crates above.
+//! - In `specs/`, `Order`, `Ordering`, `Values`, `Clear`, `Selectors`, `Splitting`, `Periodic`: the
+//!   definitions. `Spans`: words that are the values of polynomials with few coefficients.
+//!   `Domain`, `CfftPerm`, `Space`: what the types are, ask and give. `Layers`, `Lagrange`: blocks,
+//!   factors and weights, for folding and the transform. `Rows`: examples.
+//! - In `proofs/`, of orders: `Orders`, `Reversal`, `ReversedBlocks`, `CosetOrder`,
+//!   `NaturalValues`, `OtherOrder`; in a larger field `Lifted`, `LiftedValues`; of domains
+//!   `StandardDomain`, `Disjoint`, `NextPoints`, `Walking`, `Parts` and those beside it, `ClearOf`.
+//! - In `proofs/`, of the transform, from the bottom: `HalfSums`, the value of coefficients from
+//!   their two halves; `Blocks`, the points of a block and the factors of its halves; `Transform`,
+//!   the layers of one block give its values; `Inversion`, on a genuine domain they can be undone;
+//!   `Coefficients`, `Told`, there are such coefficients, and only they; `Layering`, `Layered`,
+//!   `Undoing`, one layer over all blocks, forward and back; `Columns`, `Stored`, `Twiddles`,
+//!   `ZeroRows`.
+//! - In `proofs/`, of values off a domain: `LagrangePolynomials`, the Lagrange polynomial of a
+//!   point as the product of `(1 + b(q) / b(p)) / 2` over the factors b of its blocks;
+//!   `LagrangeQuotients`, that it is `(v_n(q) - v_n(s)) / s_p` times `(y_p + y_q) / (x_p - x_q)`;
+//!   `LagrangeShares`, with one division for a point and its opposite; `LagrangeValues`, over an
+//!   extension; `OffDomain`, `Apart`.
 #![tactic(auto)]
 
 pub mod domain;

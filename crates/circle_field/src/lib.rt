@@ -23,6 +23,21 @@
 //!   is (1, 0) and the second (-1, 0) (`generators_law`).
 //! - Powers by sums of exponents, of squares and of what isn't 0, and sums of ones, by calls that
 //!   answer nothing (`laws`).
+//!
+//! Its files:
+//!
+//! - In `src/`, `field.rt`: `Operations` names the operations and carries their laws, as members
+//!   that contracts alone see; `Field` adds what code calls. A struct whose invariant speaks of a
+//!   field is bound by `Operations` alone, so that it carries one argument in proofs.
+//! - In `specs/`, `Field`, `Extension`, `Bytes`, `Products`: fields, extensions, bytes, products.
+//!   `Circle`, `CircleGroup`: the circle, whose points are a commutative group. `Primes`, `Fermat`,
+//!   `FastPowers`, `Residues`: primes, Fermat's little theorem, powers and sums modulo a number.
+//!   Those that begin with `Mersenne31`: the prime field. Those that begin with `Cubic`, and
+//!   `Carried`: the cubic extension of a field by a number that is no cube, and that of Mersenne31.
+//! - In `specs/`, `Ring`, `RingFacts`, `RingSound`, `RingCombine`: equations of commutative rings
+//!   by computation. `ring laws env lhs rhs refl` proves that two polynomial expressions have one
+//!   value in every commutative ring; `combine` does it under given equations.
+//! - In `proofs/`: powers, sums, halves, inverses, sums of products before they are reduced.
 #![tactic(auto)]
 
 pub mod batch_inverse;

@@ -20,6 +20,21 @@
 //! - Of polynomials in x: `x_value` is the sum of the coefficients times the basis at x;
 //!   `x_interpolate` answers coefficients exactly where so few have the word's values, and they are
 //!   the only ones that do (`values`, `only`, `none`).
+//!
+//! Its files:
+//!
+//! - In `src/`, `reduced.rt`: queries' points and the quotients of their rows; `query.rt`: their
+//!   twiddles, pairs and values; `evaluation.rt`, `interpolation.rt`: polynomials in x.
+//! - In `specs/`, `Quotient`, `Lambda`, `Fold`, `Spans`, `Queries`, `Chain`: the definitions.
+//!   `Blocks`, `Interpolation`: words of private contracts. `Rows`, `PolynomialRows`: examples.
+//! - In `proofs/`, of lambda: `Vanished`, the vanishing polynomial has one value in each block of
+//!   the transform's order; `Orthogonal`, it is orthogonal to polynomials with fewer coefficients,
+//!   and its squares add up to half the number of points; `Remainders`, so the extracted multiple
+//!   is the only one; `BlockSums`, `Weighted`.
+//! - In `proofs/`, of folds: `Sides`, a polynomial by its coefficients at even and odd places;
+//!   `FoldedSpans`, words of low degree fold to such words; `Folds`, `Twiddles`, `FirstLayer`,
+//!   `Queries`, `Places`. Of polynomials in x: `Halves`, `Parts`, `Interpolated`, `Told`. Of
+//!   quotients: `Vanishing`.
 #![tactic(auto)]
 
 pub mod deep_quotient;

@@ -8,6 +8,15 @@
 //! an object with exactly the members of a list of fields, for records of the crates above, and
 //! `specs/Coefficients` that of a list of which one item stands for itself, told from a list by
 //! `FlatForm`.
+//!
+//! Its files:
+//!
+//! - In `src/`, `form.rt`: the trait. `object.rt`: keys and members of an object.
+//! - In `specs/`, `Form`, `FormFacts`: what a form is, with its laws. `Values`: numbers, elements,
+//!   digests and lists. `Objects`, `ObjectForm`: objects of a list of fields. `Coefficients`: a
+//!   list of which one item stands for itself.
+//! - In `proofs/`: arrays item by item, objects and their keys, values written as objects of their
+//!   parts.
 #![tactic(auto)]
 
 pub mod coefficients;

@@ -15,6 +15,16 @@
 //! - `JsonForm` of `circle_json`, shown here too, reads a batch's opening, claims and the
 //!   parameters of FRI from JSON and writes them: `specs/Json` has the keys of each object, and
 //!   that the final polynomial's length may be missing.
+//!
+//! Its files:
+//!
+//! - In `src/`, `space.rt`: the trait of domains; `params.rt`: the parameters of FRI and the phases
+//!   of proofs of work; `pcs.rt`: what is opened and claimed.
+//! - In `specs/`, `Matrix`, `RowMajorMatrix`, `RowMajorMatrixView`, `PeriodicLdeTable`: what each
+//!   type is to contracts. `Mmcs`, `MmcsFacts`, `Pcs`, `Parameters`, `Selectors`: words of schemes,
+//!   parameters and selectors. `DotProduct`: sums by weights. `RowFacts`, `FlatRows`: lemmas on
+//!   rows stored one after another, for the crates above too. `Json`: the keys of objects.
+//! - In `proofs/`: column sums, parameters in JSON, powers of two, lists written from the front.
 #![tactic(auto)]
 
 pub mod error;

@@ -23,6 +23,16 @@
 //!
 //! A `*` is known: on level 0 the digest of opened rows, above it that of the two below it, joined
 //! with the opened rows of matrices that have as many rows as the level has positions.
+//!
+//! Its files:
+//!
+//! - In `src/`, `order.rt`, `positions.rt`: indices and known positions; `tree.rt`,
+//!   `prover_data.rt`: the tree; `root.rt`, `verify.rt`: the root of opened rows, and the verdict.
+//! - In `specs/`, `Tree`, `Authentication`, `Verdict`: the tree, when rows are authenticated, which
+//!   refusal is right. The others: what rows, kept data and walks are to contracts. `Worked`:
+//!   examples.
+//! - In `proofs/`, `Completeness`: what a tree gives is shown to be of its root. `Refusals`: a
+//!   right refusal is of rows that aren't. The others: walks, levels, orders and positions.
 #![tactic(auto)]
 
 mod error;

@@ -6,6 +6,15 @@
 //! states before and after, and a refusal that isn't of memory denies it for every state after.
 //! `round_trip` is such a caller: it commits to batches, opens them at points and verifies; an honest
 //! run is accepted, and any other answers the refusal of the call that refused.
+//!
+//! Its files:
+//!
+//! - In `src/`, `statements.rt`: what the members of `Pcs` say together; `any_scheme.rt`:
+//!   `round_trip`, and `claims.rt` its claims.
+//! - In `specs/`, `Kept`: data kept of batches that were committed to; `Honest`: honest requests,
+//!   and the claims that a verifier is handed; `RoundTrip`: batches at points, and why a round trip
+//!   answers no values.
+//! - In `proofs/`, `Batches`, `Lists`.
 #![tactic(auto)]
 
 pub mod any_scheme;

@@ -24,6 +24,16 @@
 //!   `IsRefusal`). `eval_at_point` answers the columns' values at a point (`values`).
 //! - Multiples of points, values by the halves of the coefficients, and that values on a genuine
 //!   domain tell them, by calls that answer nothing (`laws`).
+//!
+//! Its files:
+//!
+//! - In `specs/`, `CircleEvaluations`, `Coefficients`, `Evaluated`: what evaluations are and tell.
+//!   `PeriodicColumns`, `PeriodicRows`: columns that repeat, what is wrong with one, their table.
+//! - In `proofs/`, `Passes`, `AllLayers`, `Transformed`: coefficients are made of values and values
+//!   of coefficients. `DoubledPoints`, `DoubledValues`: the points of a domain, doubled r times,
+//!   are those of the domain of `2^r` times fewer points over and over. `NaturalRows`,
+//!   `PeriodicValues`, `PeriodicTables`, `Periods`, `Weighed`: so a table's columns are written
+//!   over the longest period and extended as one matrix.
 #![tactic(auto)]
 
 pub mod cfft;

@@ -11,6 +11,11 @@
 //!   and `s_p_at_p(n)` is `-2^n` times the y coordinate of the multiple by `2^(n-1)`.
 //! - `repeated_double`, `v_n` and `v_n_prod` are the multiple by a power of two, its x coordinate
 //!   (which is the polynomial `v_n` too), and the product of these.
+//!
+//! Its files:
+//!
+//! - In `specs/`, `Basis`, `Projective`: the definitions; `Point`: what the type is to contracts.
+//! - In `proofs/`: multiples, bases, projections, selectors, when two points are one.
 #![tactic(auto)]
 
 pub mod point;

@@ -8,6 +8,18 @@
 //!
 //! A proof and its parts are read from JSON and written as JSON by `JsonForm`; `specs/Json` has the
 //! keys of each object. There is nothing else to call here.
+//!
+//! Its files:
+//!
+//! - In `src/`, `run.rt`: `OpenedRun`, and `OverCircle`, by which a clause names the operations of
+//!   a field, its circle and an extension in one word.
+//! - In `specs/`, `Statement`, `StatementOf`: claims, a proof and challenges. `Accepts`: the
+//!   relation, part by part. `Sums`, `Taken`: sums of quotients, and what a transcript takes in.
+//!   `Reasons`: why a run is refused. `RunOf`: what is known of a run before it is opened
+//!   (`IsDrawn`) and once its lengths are tested (`IsOpened`), and the lists that calls hand on.
+//!   `Json`: keys. `Rows`: an opening.
+//! - In `proofs/`, `Contradictions`: where the relation holds no refusal has a reason but want of
+//!   memory. `AtQueries`, `ReducedSums`, `Ends`: lists over queries. `Kept`, `Shown`, `Results`.
 #![tactic(auto)]
 
 pub mod error;

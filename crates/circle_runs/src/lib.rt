@@ -8,6 +8,11 @@
 //!   phase in which no witness passes, or the first whose witness doesn't, and its difficulty.
 //! - Both sides, from equal states and with the prover's witnesses, draw equal challenges and leave
 //!   equal states (`both_runs`, clause `alike`).
+//!
+//! Its files:
+//!
+//! - In `specs/`, `Runs`: what is drawn, missed or found nowhere over a run.
+//! - In `proofs/`, `Runs`, `Drawn`.
 #![tactic(auto)]
 
 pub mod run;

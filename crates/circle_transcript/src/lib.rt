@@ -43,6 +43,15 @@
 //!   draws and the state after it; `NoWitness` and `PowWitness` come exactly where no witness
 //!   passes, and where the one at hand doesn't, and a transcript that is refused for want of
 //!   memory leaves the challenger as it was (`new`, clause `refused`).
+//!
+//! Its files:
+//!
+//! - In `src/`, `shape.rt`: what describes a run, its steps and its seed; `transcript.rt`: both
+//!   sides, whose calls `play.rt` makes of the drivers of `circle_challenger`.
+//! - In `specs/`, `Shape`, `Draw`: the definitions. `ShapeOf`, `Numbers`, `Claims`, `Transcript`,
+//!   `Failure`: what the types are; `Play`: steps of both sides; `Rows`: examples.
+//! - In `proofs/`, `Seeds`: a seed tells the shape; `Steps`, `Playing`, `Labels`; `ByHand`: steps
+//!   by hand.
 #![tactic(auto)]
 
 pub mod failure;

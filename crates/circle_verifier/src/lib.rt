@@ -27,6 +27,16 @@
 //!   (`opened`, `holds`). `verify_drawn` makes the run of claims, a proof and what was drawn, and
 //!   is Ok only where the relation accepts it (`accepted`).
 //! - Whatever these refuse, the relation has a reason for, or memory was refused (`refused`).
+//!
+//! Its files:
+//!
+//! - In `specs/`, `Refusals`: the tests before the seeding, in order; `Tests`: these over the
+//!   records; `Tested`: what they establish. `Shape`, `Batches`, `Sums`, `FirstLayer`, `Rounds`:
+//!   words of private contracts.
+//! - In `proofs/`, `Answering`, `Domains`, `HeightTests`, `Passed`, `Seeding`, `Finite`, `Claimed`:
+//!   the tests. `Sizes`, `Lengths`, `Points`, `Rows`: shapes and rows. Those that begin with
+//!   `Reduced`, `FirstLayer` and `Rounds`, and `LastWord`: each part. `Verified`: the relation, and
+//!   back.
 #![tactic(auto)]
 
 pub mod batches;

@@ -19,6 +19,14 @@
 //!   word (`lambdas`), and the word without it as rows of two (`layers`, `shapes`).
 //! - `fold_corrected` folds each of these by y, and `fold_round` a later word by x and adds to it
 //!   what was folded from its height, where that is one of the heights.
+//!
+//! Its files:
+//!
+//! - In `src/`, `corrected.rt`: words without their lambda, as rows of two, and their folds by y.
+//! - In `specs/`, `Values`, `Ratios`, `Words`: the definitions.
+//! - In `proofs/`, `Prefix`: the first rows of a committed matrix are those of a smaller domain;
+//!   `Opened`, `Known`: values by weights; `DomainPoints`, `Quotients`, `Claims`: sums of quotients
+//!   by ratios; `Pairs`, `Joining`, `Zips`.
 #![tactic(auto)]
 
 pub mod corrected;

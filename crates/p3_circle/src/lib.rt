@@ -41,6 +41,17 @@
 //! `CirclePcs` is an instance of the traits `Pcs` and `UnivariateStarkPcs` of `circle_pcs`, whose
 //! laws it meets: what `open` answers of an honest statement, `verify` accepts. The clauses of its
 //! calls cite the members of that instance, which say what each call gives and refuses.
+//!
+//! Its files:
+//!
+//! - In `specs/`, `Verdict`: what is accepted and refused. `Committing`, `Requesting`: tests in
+//!   order, and what is committed to. `Honest`: an honest statement. `Scheme`: calls as relations
+//!   of lists and states; `SchemeFacts`, `SchemeLaws` and the folder `SchemeLaws`: the proofs of
+//!   the traits' laws. `Calls`, `Replay`: words of clauses. `Constant`: folding to a constant.
+//!   `Searches`: an example of searches.
+//! - In `proofs/`, `Known`, `InOrder`, `Scheme`: tests. `Items`, `RequestLists`, `Replayed`: the
+//!   transcript. `Verdicts`: the answer. `Extensions`, `Continued`: committed rows. `Degrees`: a
+//!   last word of too high degree. `Constants`, `ConstantSeeds`.
 #![tactic(auto)]
 
 mod commit;
