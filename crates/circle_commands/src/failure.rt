@@ -126,7 +126,7 @@ impl From<verify::Refusal> for Failure {
     ghost from_gives = { λ _ failure. IsRefused failure };
 
     fn from(refusal: verify::Refusal) -> Failure {
-        Failure::Refused(verify::name(&refusal))
+        Failure::Refused(refusal.name())
     }
 }
 

@@ -142,26 +142,8 @@ impl Refusal {
         match self {
             Refusal::RaggedRows => "RaggedRows",
             Refusal::HeightNotPowerOfTwo => "HeightNotPowerOfTwo",
-            Refusal::Prover(error) => name(error),
+            Refusal::Prover(error) => error.name(),
         }
-    }
-}
-
-// The name of a prover's refusal.
-fn name(error: ProverError) -> &'static str {
-    match error {
-        ProverError::Memory => "Memory",
-        ProverError::NoGrindingWitness { .. } => "NoGrindingWitness",
-        ProverError::UnfitParameters => "UnfitParameters",
-        ProverError::HeightTooLarge => "HeightTooLarge",
-        ProverError::HeightTooSmall => "HeightTooSmall",
-        ProverError::NotGenuine => "NotGenuine",
-        ProverError::MatrixCountMismatch => "MatrixCountMismatch",
-        ProverError::NoCommittedMatrices => "NoCommittedMatrices",
-        ProverError::PointAtInfinity => "PointAtInfinity",
-        ProverError::PointOnDomain => "PointOnDomain",
-        ProverError::LastWordNotConstant => "LastWordNotConstant",
-        ProverError::DomainSmallerThanTrace => "DomainSmallerThanTrace",
     }
 }
 

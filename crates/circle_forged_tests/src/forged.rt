@@ -91,11 +91,11 @@ const BEFORE_THE_SEEDING: &[Row] = &[
     ),
 ];
 
-const INPUT_SHAPE: &[&str] = &["the input is refused: InputShapeError"];
+const INPUT_SHAPE: &[&str] = &["the input is refused: input shape error: mismatched dimensions"];
 
-const INPUT_ROWS: &str = "the input is refused: InputMmcsError(";
+const INPUT_ROWS: &str = "the input is refused: input MMCS error: ";
 
-const FIRST_LAYER: &str = "the input is refused: FirstLayerMmcsError(";
+const FIRST_LAYER: &str = "the input is refused: first layer MMCS error: ";
 
 const ROUND: &str = "the opening of a round is refused: ";
 

@@ -180,7 +180,7 @@ fn zeros_that_authenticate(rt: HostRuntime) -> Result<(), Fail> {
     let cases = [
         (
             at_every_query(alloc)?,
-            "the input is refused: OpeningPointMatchesQueryPoint",
+            "the input is refused: opening point coincides with a query point",
         ),
         (
             with_a_short_column(alloc, false)?,

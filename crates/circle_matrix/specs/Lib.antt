@@ -11,3 +11,4 @@ pub mod Pcs
 pub mod Parameters
 pub mod Selectors
 pub mod Json
+pub mod Named

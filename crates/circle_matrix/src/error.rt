@@ -1,22 +1,33 @@
 //! Why a proof is refused.
-ghost use Rattle.std.specs.Prelude.{◌≡◌};
+ghost use Rattle.std.specs.Prelude.{◌≡◌, ℕ, List};
+ghost use Rattle.circle_matrix.specs.Named.{fri_error_name};
 ghost use Rattle.circle_matrix.specs.declared.error.FriError.TheVariants.{Memory};
 
 use crate::params::PowPhase;
 use std::alloc::AllocError;
-use std::fmt::Debug;
+use std::fmt::Display;
 use thiserror::Error;
+
+/// An error with a name: that of its variant.
+pub trait Named {
+    // The letters of the name.
+    ghost name_of: { Self → List ℕ };
+
+    /// The name, as a program prints it.
+    fn name(&self) -> &'static str
+        ensures { result.now ≡ name_of self.now };
+}
 
 /// Why a proof is refused. `CommitErr` is the error of the scheme that commits to the folded words,
 /// `InputErr` that of the openings of what was committed to first.
 #[derive(Debug, Drop, Error)]
-#[error_bound(CommitErr: Debug, InputErr: Debug)]
+#[error_bound(CommitErr: Display, InputErr: Display)]
 pub enum FriError<CommitErr, InputErr> {
     /// Nothing is claimed of any matrix.
     #[error("no matrix is claimed")]
     NoCommittedMatrices,
     /// The openings of what was committed to first are refused.
-    #[error("the input is refused: {0:?}")]
+    #[error("the input is refused: {0}")]
     InputError(InputErr),
     /// The greatest height is past the points of the circle's group.
     #[error("the greatest height is 2^{log_global_max_height}, but the group has only 2^{two_adicity} points")]
@@ -122,11 +133,41 @@ pub enum FriError<CommitErr, InputErr> {
         remaining: usize,
     },
     /// The opening of a round is refused.
-    #[error("the opening of a round is refused: {0:?}")]
+    #[error("the opening of a round is refused: {0}")]
     CommitPhaseMmcsError(CommitErr),
     /// Memory was refused.
     #[error("out of memory")]
     Memory,
+}
+
+impl<CommitErr, InputErr: Named> FriError<CommitErr, InputErr> {
+    /// The variant's name, but that of the inner error where the input is refused.
+    pub fn name(&self) -> &'static str
+        ensures { result.now ≡ fri_error_name InputErr.name_of self.now }
+    {
+        match self {
+            FriError::NoCommittedMatrices => "NoCommittedMatrices",
+            FriError::InputError(inner) => inner.name(),
+            FriError::GlobalMaxHeightTooLarge { .. } => "GlobalMaxHeightTooLarge",
+            FriError::UnsupportedGrinding { .. } => "UnsupportedGrinding",
+            FriError::ZeroQueries => "ZeroQueries",
+            FriError::ZeroBlowup => "ZeroBlowup",
+            FriError::UnsupportedFoldingCap { .. } => "UnsupportedFoldingCap",
+            FriError::CommitRoundCountMismatch { .. } => "CommitRoundCountMismatch",
+            FriError::CommitPowWitnessCountMismatch { .. } => "CommitPowWitnessCountMismatch",
+            FriError::NonCanonicalPowWitness { .. } => "NonCanonicalPowWitness",
+            FriError::CommitPhaseOpeningsCountMismatch { .. } => "CommitPhaseOpeningsCountMismatch",
+            FriError::CommitPhaseQueryCountMismatch { .. } => "CommitPhaseQueryCountMismatch",
+            FriError::SiblingValuesLengthMismatch { .. } => "SiblingValuesLengthMismatch",
+            FriError::FinalPolyLengthMismatch { .. } => "FinalPolyLengthMismatch",
+            FriError::PointAtInfinity => "PointAtInfinity",
+            FriError::InvalidPowWitness(_) => "InvalidPowWitness",
+            FriError::FinalPolyMismatch => "FinalPolyMismatch",
+            FriError::UnconsumedReducedOpenings { .. } => "UnconsumedReducedOpenings",
+            FriError::CommitPhaseMmcsError(_) => "CommitPhaseMmcsError",
+            FriError::Memory => "Memory",
+        }
+    }
 }
 
 impl<CommitErr, InputErr> From<AllocError> for FriError<CommitErr, InputErr> {

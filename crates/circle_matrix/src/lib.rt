@@ -39,7 +39,7 @@ pub mod space;
 pub mod view;
 
 pub use circle_json::{JsonError, JsonForm};
-pub use error::FriError;
+pub use error::{FriError, Named};
 pub use folding::FriFoldingStrategy;
 pub use matrix::{
     Dimensions, FieldMatrix, Matrix, MatrixShape, RowIndexMap, RowIndexMappedView, RowMajorMatrix,

@@ -11,3 +11,4 @@ pub mod Opening
 pub mod SamePosition
 pub mod Verdict
 pub mod Worked
+pub mod Named

@@ -1,5 +1,6 @@
 //! Why opened rows are refused.
 ghost use Rattle.std.specs.Prelude.{◌≡◌};
+ghost use Rattle.circle_merkle.specs.Named.{merkle_tree_error_name};
 ghost use Rattle.circle_merkle.specs.declared.error.MerkleTreeError.TheVariants.{Memory};
 
 use std::alloc::AllocError;
@@ -29,6 +30,22 @@ pub enum MerkleTreeError {
     /// Memory was refused.
     #[error("out of memory")]
     Memory,
+}
+
+impl MerkleTreeError {
+    /// The variant's name.
+    pub fn name(&self) -> &'static str
+        ensures { result.now ≡ merkle_tree_error_name self.now }
+    {
+        match self {
+            MerkleTreeError::WrongIndex => "WrongIndex",
+            MerkleTreeError::WrongWidth => "WrongWidth",
+            MerkleTreeError::WrongProofLength => "WrongProofLength",
+            MerkleTreeError::DisagreeingRows => "DisagreeingRows",
+            MerkleTreeError::RootMismatch => "RootMismatch",
+            MerkleTreeError::Memory => "Memory",
+        }
+    }
 }
 
 impl From<AllocError> for MerkleTreeError {

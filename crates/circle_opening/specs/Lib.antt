@@ -5,3 +5,4 @@ pub mod Opening
 pub mod Failure
 pub mod Rows
 pub mod Schemes
+pub mod Named

@@ -1,6 +1,7 @@
 //! Why there is no commitment and no opening.
 ghost use Rattle.std.specs.Prelude.{◌≡◌};
 ghost use Rattle.circle_opening.specs.Failure.{prover_error};
+ghost use Rattle.circle_opening.specs.Named.{prover_error_name};
 ghost use Rattle.circle_opening.specs.declared.error.ProverError.TheVariants.{Memory};
 
 use circle_matrix::PowPhase;
@@ -52,6 +53,28 @@ pub enum ProverError {
     /// A domain has fewer points than the trace has rows.
     #[error("a domain is smaller than the trace")]
     DomainSmallerThanTrace,
+}
+
+impl ProverError {
+    /// The variant's name.
+    pub fn name(&self) -> &'static str
+        ensures { result.now ≡ prover_error_name self.now }
+    {
+        match self {
+            ProverError::Memory => "Memory",
+            ProverError::NoGrindingWitness { .. } => "NoGrindingWitness",
+            ProverError::UnfitParameters => "UnfitParameters",
+            ProverError::HeightTooLarge => "HeightTooLarge",
+            ProverError::HeightTooSmall => "HeightTooSmall",
+            ProverError::NotGenuine => "NotGenuine",
+            ProverError::MatrixCountMismatch => "MatrixCountMismatch",
+            ProverError::NoCommittedMatrices => "NoCommittedMatrices",
+            ProverError::PointAtInfinity => "PointAtInfinity",
+            ProverError::PointOnDomain => "PointOnDomain",
+            ProverError::LastWordNotConstant => "LastWordNotConstant",
+            ProverError::DomainSmallerThanTrace => "DomainSmallerThanTrace",
+        }
+    }
 }
 
 impl From<AllocError> for ProverError {

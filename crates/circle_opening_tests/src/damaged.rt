@@ -200,7 +200,7 @@ const BEFORE_THE_SEEDING: &[Row] = &[
     (
         COLUMN,
         Damage::ClaimedSize(0),
-        "the input is refused: DomainTooSmall { log_n: 0 }",
+        "the input is refused: tallest claimed domain is 2^0 rows; the first-layer fold needs at least 2",
         Left::Untouched,
     ),
     (
@@ -283,25 +283,25 @@ const AFTER_THE_SEEDING: &[Row] = &[
     (
         COLUMN,
         Damage::QueryOfLayerLess,
-        "the input is refused: InputShapeError",
+        "the input is refused: input shape error: mismatched dimensions",
         Left::Played,
     ),
     (
         COLUMN,
         Damage::DigestOfRound,
-        "the opening of a round is refused: RootMismatch",
+        "the opening of a round is refused: the root is not the commitment",
         Left::Played,
     ),
     (
         COLUMN,
         Damage::DigestOfLayer,
-        "the input is refused: FirstLayerMmcsError(RootMismatch)",
+        "the input is refused: first layer MMCS error: the root is not the commitment",
         Left::Played,
     ),
     (
         ANOTHER,
         Damage::Nothing,
-        "the input is refused: MatrixWithoutOpeningPoints { batch: 0, matrix: 1 }",
+        "the input is refused: batch 0, matrix 1: opened at no points; its width cannot be authenticated",
         Left::Played,
     ),
     (WORKED, Damage::Nothing, "accepted", Left::Played),

@@ -1,47 +1,83 @@
 -- Batches that are committed to, requests for them, what is answered, and the claims on that.
-use Rattle.std.specs.Prelude.{◌≡◌, ℕ, ◌<◌, ◌≤◌, Bool, IsTrue, List, [], ◌∷◌, ◌++◌, length, map, All, slice_index_or, Result, IfErr, IsErrAnd, Vec}
+use Rattle.std.specs.Prelude.{◌≡◌, ℕ, ◌<◌, ◌≤◌, Bool, IsTrue, List, [], ◌∷◌, ◌++◌, length, map, All, slice_index_or, Result, IfErr, IsErrAnd, zip}
 use Rattle.std.specs.List.{AllZip}
-use Rattle.std.specs.declared.alloc.Global.{Global}
 use Rattle.std.proofs.Common.{zero, suc, refl, sym, ◌∙◌, ap, subst, arith, Ok, Err}
 use Rattle.std.proofs.lemmas.List.{length-map}
 use Rattle.std.proofs.lemmas.List.Elements.{All-cons, All-contains, All-head, All-nil, All-tail}
 use Rattle.std.proofs.lemmas.Slice.Zip.{AllZip-long}
-use Rattle.circle_matrix.specs.Mmcs.{opened_rows}
-use Rattle.circle_matrix.specs.Pcs.{Openings, openings}
+use Rattle.circle_matrix.specs.DotProduct.{pairwise}
+use Rattle.circle_matrix.specs.Pcs.{Openings}
 use Rattle.circle_matrix.specs.declared.pcs.CommitmentOpening.{CommitmentOpening}
 use Rattle.circle_matrix.specs.declared.pcs.MatrixOpening.{MatrixOpening}
 use Rattle.circle_matrix.specs.declared.pcs.OpeningRequest.{OpeningRequest}
+use Rattle.circle_matrix.specs.declared.pcs.PointOpening.{PointOpening}
 use Rattle.circle_pcs.specs.Honest.{AreAnsweredBy, AreClaimedOf, AreHonest, AreTrueValues, HaveValues, IsAnsweredBy, IsHonest, requested_points}
 use Rattle.circle_pcs.specs.Kept.{AreKept}
-use Rattle.circle_pcs.specs.RoundTrip.{AreCommitted, AreHonestBatches, AreRequestsOf, AreValuesOf, HasAnswers, HasPoints, HaveAnswers, IsCommitted, IsOfMemory, IsReason, IsRequestOf, IsUncommitted, IsUncommittedOf, claimed_values, lists, statement_of, statement_of_claim}
+use Rattle.circle_pcs.specs.Claims.{batch_claimed, batch_told, lists, matrix_claimed, matrix_told, point_told}
+use Rattle.circle_pcs.specs.RoundTrip.{AreCommitted, AreHonestBatches, AreRequestsOf, AreValuesOf, HasAnswers, HasPoints, HaveAnswers, IsCommitted, IsOfMemory, IsReason, IsRequestOf, IsUncommitted, IsUncommittedOf}
 use Rattle.circle_pcs.specs.declared.any_scheme.BatchAtPoints.{BatchAtPoints}
 use Rattle.circle_pcs.specs.declared.any_scheme.Committed.{Committed}
 use Rattle.circle_pcs.specs.declared.any_scheme.RoundTripError.{RoundTripError}
 use Rattle.circle_pcs.specs.declared.any_scheme.RoundTripError.TheVariants.{Commit, Memory, Open, Verify}
 
+module _ {E : Type 0} where
+  -- claims of as many values as points tell the points
+  points-told : (claims : List (PointOpening E)) (points : List E) (values : List (List E)) → length values ≡ length points → map point_told claims ≡ zip points values → map (λ p. p.point) claims ≡ points
+  points-told [] [] values long told = refl
+  points-told [] (p ∷ points) [] long told = absurd (omega (arith, long))
+  points-told [] (p ∷ points) (v ∷ values) long told = absurd (cc)
+  points-told (c ∷ claims) [] values long told = absurd (cc)
+  points-told (c ∷ claims) (p ∷ points) [] long told = absurd (omega (arith, long))
+  points-told (c ∷ claims) (p ∷ points) (v ∷ values) long told =
+      let one : point_told c ≡ (p, v) = cc in
+      let rest : map point_told claims ≡ zip points values = cc in
+      let first : c.point ≡ p = ap (λ t. t.0) one in
+      ap (λ q. q ∷ map (λ p. p.point) claims) first ∙ ap (λ qs. p ∷ qs) (points-told claims points values (omega (arith, long)) rest)
+
+  -- and the values
+  values-told : (claims : List (PointOpening E)) (points : List E) (values : List (List E)) → length values ≡ length points → map point_told claims ≡ zip points values → map (λ p. p.values.items) claims ≡ values
+  values-told [] [] [] long told = refl
+  values-told [] [] (v ∷ values) long told = absurd (omega (arith, long))
+  values-told [] (p ∷ points) [] long told = absurd (omega (arith, long))
+  values-told [] (p ∷ points) (v ∷ values) long told = absurd (cc)
+  values-told (c ∷ claims) [] values long told = absurd (cc)
+  values-told (c ∷ claims) (p ∷ points) [] long told = absurd (omega (arith, long))
+  values-told (c ∷ claims) (p ∷ points) (v ∷ values) long told =
+      let one : point_told c ≡ (p, v) = cc in
+      let rest : map point_told claims ≡ zip points values = cc in
+      let first : c.values.items ≡ v = ap (λ t. t.1) one in
+      ap (λ q. q ∷ map (λ p. p.values.items) claims) first ∙ ap (λ qs. v ∷ qs) (values-told claims points values (omega (arith, long)) rest)
+
 module _ {E Dom M : Type 0} (size : Dom → ℕ) where
   -- the claims of a batch, told by their domains, points and values
-  are-claimed : (batch : List (Dom × M)) (asked : List (List E)) (claims : List (MatrixOpening E Dom)) → map (λ c. c.domain) claims ≡ map (λ m. m.0) batch →
-      map (λ c. map (λ p. p.point) c.points.items) claims ≡ asked → All (λ ts. 1 ≤ length ts) asked → AreClaimedOf size batch asked (map (λ c. map (λ p. p.values.items) c.points.items) claims) claims
-  are-claimed batch asked claims domains points some =
-      subst (λ ps. AreClaimedOf size batch ps (map (λ c. map (λ p. p.values.items) c.points.items) claims) claims) points
-      (by batch claims domains (subst (All (λ ts. 1 ≤ length ts)) (sym points) some))
-    where
-      by : (batch : List (Dom × M)) (claims : List (MatrixOpening E Dom)) → map (λ c. c.domain) claims ≡ map (λ m. m.0) batch → All (λ ts. 1 ≤ length ts) (map (λ c. map (λ p. p.point) c.points.items) claims) →
-          AreClaimedOf size batch (map (λ c. map (λ p. p.point) c.points.items) claims) (map (λ c. map (λ p. p.values.items) c.points.items) claims) claims
-      by [] [] domains some = tt
-      by [] (c ∷ claims) domains some = absurd (cc)
-      by (m ∷ batch) [] domains some = absurd (cc)
-      by (m ∷ batch) (c ∷ claims) domains some = (
-        record { domain = (let same : c.domain ≡ m.0 = cc in ap size same); points = refl; values = refl; some = All-head (λ ts. 1 ≤ length ts) _ _ some },
-        by batch claims (cc) (All-tail (λ ts. 1 ≤ length ts) _ _ some),
+  are-claimed : (batch : List (Dom × M)) (asked : List (List E)) (answers : List (List (List E))) (claims : List (MatrixOpening E Dom)) → length asked ≡ length batch → AllZip (λ ps vs. length vs ≡ length ps) asked answers →
+      All (λ ts. 1 ≤ length ts) asked → map matrix_told claims ≡ pairwise matrix_claimed (zip (map (λ m. m.0) batch) asked) answers → AreClaimedOf size batch asked answers claims
+  are-claimed [] [] [] [] long all some told = tt
+  are-claimed [] [] [] (c ∷ claims) long all some told = absurd (cc)
+  are-claimed [] [] (v ∷ answers) claims long all some told = absurd all
+  are-claimed [] (p ∷ asked) answers claims long all some told = absurd (omega (arith, long))
+  are-claimed (m ∷ batch) [] answers claims long all some told = absurd (omega (arith, long))
+  are-claimed (m ∷ batch) (p ∷ asked) [] claims long all some told = absurd all
+  are-claimed (m ∷ batch) (p ∷ asked) (v ∷ answers) [] long all some told = absurd (cc)
+  are-claimed (m ∷ batch) (p ∷ asked) (v ∷ answers) (c ∷ claims) long all some told =
+      let one : matrix_told c ≡ matrix_claimed (m.0, p) v = cc in
+      let rest : map matrix_told claims ≡ pairwise matrix_claimed (zip (map (λ m. m.0) batch) asked) answers = cc in
+      let domain : c.domain ≡ m.0 = ap (λ t. t.0) one in
+      let at : map point_told c.points.items ≡ zip p v = ap (λ t. t.1) one in (
+        record {
+          domain = ap size domain;
+          points = points-told c.points.items p v all.0 at;
+          values = values-told c.points.items p v all.0 at;
+          some = All-head (λ ts. 1 ≤ length ts) p asked some;
+        },
+        are-claimed batch asked answers claims (omega (arith, long)) all.1 (All-tail (λ ts. 1 ≤ length ts) p asked some) rest,
       )
 
 module _ {E Com Data Dom : Type 0} where
   -- requests of what was kept, at the points
   pub record AskFor (committed : List (Committed E Com Data Dom)) (requests : List (OpeningRequest Data E)) : Type 0 where
     pub kept : map (λ r. r.prover_data.now) requests ≡ map (λ c. c.prover_data) committed
-    pub points : map requested_points requests ≡ map (λ c. lists c.points) committed
+    pub points : map requested_points requests ≡ map (λ c. lists c.known.points) committed
 
   ask-rest : (c : Committed E Com Data Dom) (cs : List (Committed E Com Data Dom)) (r : OpeningRequest Data E) (rs : List (OpeningRequest Data E)) → AskFor (c ∷ cs) (r ∷ rs) → AskFor cs rs
   ask-rest c cs r rs asked = let kept = asked.kept in let points = asked.points in record { kept = cc; points = cc }
@@ -55,11 +91,11 @@ module _ {E Com Data Dom : Type 0} where
   ask-kept : (c : Committed E Com Data Dom) (cs : List (Committed E Com Data Dom)) (r : OpeningRequest Data E) (rs : List (OpeningRequest Data E)) → AskFor (c ∷ cs) (r ∷ rs) → r.prover_data.now ≡ c.prover_data
   ask-kept c cs r rs asked = let kept = asked.kept in cc
 
-  ask-points : (c : Committed E Com Data Dom) (cs : List (Committed E Com Data Dom)) (r : OpeningRequest Data E) (rs : List (OpeningRequest Data E)) → AskFor (c ∷ cs) (r ∷ rs) → requested_points r ≡ lists c.points
+  ask-points : (c : Committed E Com Data Dom) (cs : List (Committed E Com Data Dom)) (r : OpeningRequest Data E) (rs : List (OpeningRequest Data E)) → AskFor (c ∷ cs) (r ∷ rs) → requested_points r ≡ lists c.known.points
   ask-points c cs r rs asked = let points = asked.points in cc
 
   pub asks-for : (seen committed : List (Committed E Com Data Dom)) (requests : List (OpeningRequest Data E)) → seen ≡ committed → map (λ r. r.prover_data.now) requests ≡ map (λ c. c.prover_data) seen →
-      map requested_points requests ≡ map (λ c. lists c.points) seen → AskFor committed requests
+      map requested_points requests ≡ map (λ c. lists c.known.points) seen → AskFor committed requests
   asks-for seen committed requests same kept points = subst (λ cs. AskFor cs requests) same (record { kept = kept; points = points })
 
 module _ {E Com Data Dom M : Type 0} (commits : List (Dom × M) → Com → Data → Type 0) where
@@ -76,8 +112,8 @@ module _ {E Com Data Dom M : Type 0} (commits : List (Dom × M) → Com → Data
       let kept = ask-kept c cs r rs asked in
       let points = ask-points c cs r rs asked in
       let this : IsRequestOf commits b r = record {
-        commitment = c.commitment;
-        committed = subst (commits b.evaluations.items c.commitment) (sym kept) is.committed;
+        commitment = c.known.commitment;
+        committed = subst (commits b.evaluations.items c.known.commitment) (sym kept) is.committed;
         points = points ∙ ap lists is.points;
       } in
       (this, are-requests bs cs rs all.1 (ask-rest c cs r rs asked))
@@ -143,40 +179,48 @@ module _ {E Com Data Dom M : Type 0} (commits : List (Dom × M) → Com → Data
       let is : IsCommitted commits b c = all.0 in
       let first : HasPoints b = All-head HasPoints b bs points in
       let at = ask-points c cs r rs asked in
-      let long : length c.domains.items ≡ length b.evaluations.items = ap length is.domains ∙ length-map b.evaluations.items (λ m. m.0) in
+      let long : length c.known.domains.items ≡ length b.evaluations.items = ap length is.domains ∙ length-map b.evaluations.items (λ m. m.0) in
       let this : HasAnswers c v = record {
         each = ap (λ ps. length ps.items) is.points ∙ first.each ∙ sym long;
         answers = subst (λ ps. AllZip (λ points vs. length vs ≡ length points) ps v) at have.0;
       } in
       (this, have-answers bs cs rs vs (All-tail HasPoints b bs points) all.1 (ask-rest c cs r rs asked) have.1)
 
-  -- the claims that have the statements of what was committed to are of what is answered
-  pub are-answered : (size : Dom → ℕ) (batches : List (BatchAtPoints E Dom M)) (committed : List (Committed E Com Data Dom)) (requests : List (OpeningRequest Data E)) (claims : List (CommitmentOpening E Com Dom)) →
-      All HasPoints batches → AreCommitted commits batches committed → AskFor committed requests → map statement_of_claim claims ≡ map statement_of committed →
-      AreAnsweredBy size commits requests (map claimed_values claims) claims
-  are-answered size [] [] [] [] points all asked told = tt
-  are-answered size [] [] [] (q ∷ qs) points all asked told = absurd (cc)
-  are-answered size [] [] (r ∷ rs) qs points all asked told = absurd (ask-some r rs asked)
-  are-answered size [] (c ∷ cs) rs qs points all asked told = absurd all
-  are-answered size (b ∷ bs) [] rs qs points all asked told = absurd all
-  are-answered size (b ∷ bs) (c ∷ cs) [] qs points all asked told = absurd (ask-none c cs asked)
-  are-answered size (b ∷ bs) (c ∷ cs) (r ∷ rs) [] points all asked told = absurd (cc)
-  are-answered size (b ∷ bs) (c ∷ cs) (r ∷ rs) (q ∷ qs) points all asked told =
+  -- the claims on what is known of the batches are of what is answered
+  pub are-answered : (size : Dom → ℕ) (batches : List (BatchAtPoints E Dom M)) (committed : List (Committed E Com Data Dom)) (requests : List (OpeningRequest Data E)) (values : Openings E) (claims : List (CommitmentOpening E Com Dom)) →
+      All HasPoints batches → AreCommitted commits batches committed → AskFor committed requests → HaveAnswers committed values → map batch_told claims ≡ pairwise batch_claimed (map (λ c. c.known) committed) values →
+      AreAnsweredBy size commits requests values claims
+  are-answered size [] [] [] [] [] points all asked have told = tt
+  are-answered size [] [] [] [] (q ∷ qs) points all asked have told = absurd (cc)
+  are-answered size [] [] [] (v ∷ vs) qs points all asked have told = absurd have
+  are-answered size [] [] (r ∷ rs) vs qs points all asked have told = absurd (ask-some r rs asked)
+  are-answered size [] (c ∷ cs) rs vs qs points all asked have told = absurd all
+  are-answered size (b ∷ bs) [] rs vs qs points all asked have told = absurd all
+  are-answered size (b ∷ bs) (c ∷ cs) [] vs qs points all asked have told = absurd (ask-none c cs asked)
+  are-answered size (b ∷ bs) (c ∷ cs) (r ∷ rs) [] qs points all asked have told = absurd have
+  are-answered size (b ∷ bs) (c ∷ cs) (r ∷ rs) (v ∷ vs) [] points all asked have told = absurd (cc)
+  are-answered size (b ∷ bs) (c ∷ cs) (r ∷ rs) (v ∷ vs) (q ∷ qs) points all asked have told =
       let is : IsCommitted commits b c = all.0 in
+      let has : HasAnswers c v = have.0 in
       let first : HasPoints b = All-head HasPoints b bs points in
       let kept = ask-kept c cs r rs asked in
       let at = ask-points c cs r rs asked in
-      let one : statement_of_claim q ≡ statement_of c = cc in
-      let same : q.commitment ≡ c.commitment = ap (λ s. s.0) one in
-      let domains : map (λ m. m.domain) q.matrices.items ≡ c.domains.items = ap (λ s. s.1) one in
-      let claimed : map (λ m. map (λ p. p.point) m.points.items) q.matrices.items ≡ lists c.points = ap (λ s. s.2) one in
+      let one : batch_told q ≡ batch_claimed c.known v = cc in
+      let more : map batch_told qs ≡ pairwise batch_claimed (map (λ c. c.known) cs) vs = cc in
+      let same : q.commitment ≡ c.known.commitment = ap (λ t. t.0) one in
+      let matrices : map matrix_told q.matrices.items ≡ pairwise matrix_claimed (zip c.known.domains.items (lists c.known.points)) v = ap (λ t. t.1) one in
       let some : All (λ ts. 1 ≤ length ts) (requested_points r) = subst (All (λ ts. 1 ≤ length ts)) (sym (at ∙ ap lists is.points)) first.some in
-      let this : IsAnsweredBy size commits r (claimed_values q) q = record {
+      let long : length (requested_points r) ≡ length b.evaluations.items =
+          ap length at ∙ length-map c.known.points.items (λ p. p.items) ∙ has.each ∙ ap length is.domains ∙ length-map b.evaluations.items (λ m. m.0) in
+      let this : IsAnsweredBy size commits r v q = record {
         batch = b.evaluations.items;
         committed = subst (λ d. commits b.evaluations.items q.commitment d) (sym kept) (subst (λ root. commits b.evaluations.items root c.prover_data) (sym same) is.committed);
-        claims = are-claimed size b.evaluations.items (requested_points r) q.matrices.items (domains ∙ is.domains) (claimed ∙ sym at) some;
+        claims =
+            are-claimed size b.evaluations.items (requested_points r) v q.matrices.items long (subst (λ ps. AllZip (λ points vs. length vs ≡ length points) ps v) (sym at) has.answers) some
+            (subst (λ ps. map matrix_told q.matrices.items ≡ pairwise matrix_claimed (zip (map (λ m. m.0) b.evaluations.items) ps) v) (sym at)
+            (subst (λ ds. map matrix_told q.matrices.items ≡ pairwise matrix_claimed (zip ds (lists c.known.points)) v) is.domains matrices));
       } in
-      (this, are-answered size bs cs rs qs (All-tail HasPoints b bs points) all.1 (ask-rest c cs r rs asked) (cc))
+      (this, are-answered size bs cs rs vs qs (All-tail HasPoints b bs points) all.1 (ask-rest c cs r rs asked) have.1 more)
 
 -- what a call refuses for is handed on
 pub handed : {A E : Type 0} (P : E → Type 0) (r : Result A E) (e : E) → IsErrAnd r (λ x. x ≡ e) → P e → IfErr r P
@@ -198,27 +242,6 @@ one-more-committed commits [] [] b c all is = (is, tt)
 one-more-committed commits [] (d ∷ committed) b c all is = absurd all
 one-more-committed commits (a ∷ batches) [] b c all is = absurd all
 one-more-committed commits (a ∷ batches) (d ∷ committed) b c all is = (all.0, one-more-committed commits batches committed b c all.1 is)
-
-module _ {E Com Data Dom : Type 0} (committed : List (Committed E Com Data Dom)) (values : List (Vec (Vec (Vec E Global) Global) Global)) (have : HaveAnswers committed (openings values)) where
-  -- there are values for each batch
-  pub values-long : length values ≡ length committed
-  values-long = sym (length-map values (λ v. opened_rows v.items)) ∙ AllZip-long (HasAnswers {E = E} {Com = Com} {Data = Data} {Dom = Dom}) committed (openings values) have
-
-  -- and at each of as many matrices and points
-  pub has-answers : (i : ℕ) (c : Committed E Com Data Dom) (v : Vec (Vec (Vec E Global) Global) Global) → i < length committed → c ≡ slice_index_or committed i c → v ≡ slice_index_or values i v → HasAnswers c (opened_rows v.items)
-  has-answers = by committed values have
-    where
-      by : (cs : List (Committed E Com Data Dom)) (vs : List (Vec (Vec (Vec E Global) Global) Global)) → HaveAnswers cs (openings vs) → (i : ℕ) (c : Committed E Com Data Dom) (v : Vec (Vec (Vec E Global) Global) Global) → i < length cs →
-          c ≡ slice_index_or cs i c → v ≡ slice_index_or vs i v → HasAnswers c (opened_rows v.items)
-      by [] vs all i c v lt is is' = absurd (omega (arith, lt))
-      by (d ∷ cs) [] all i c v lt is is' = absurd all
-      by (d ∷ cs) (w ∷ vs) all zero c v lt is is' = subst (λ u. HasAnswers c (opened_rows u.items)) (sym is') (subst (λ e. HasAnswers e (opened_rows w.items)) (sym is) all.0)
-      by (d ∷ cs) (w ∷ vs) all (suc i) c v lt is is' = by cs vs all.1 i c v (omega (arith, lt)) is is'
-
--- a claim that has the parts of a batch
-pub same-statement : {E Com Data Dom : Type 0} (claim : CommitmentOpening E Com Dom) (c : Committed E Com Data Dom) → claim.commitment ≡ c.commitment → map (λ m. m.domain) claim.matrices.items ≡ c.domains.items →
-    map (λ m. map (λ p. p.point) m.points.items) claim.matrices.items ≡ lists c.points → statement_of_claim claim ≡ statement_of c
-same-statement claim c commitment domains points = λ i. (commitment i, domains i, points i)
 
 module _ {E Dom M PE VE : Type 0} (of_prover : PE → Bool) (of_verifier : VE → Bool) (OpensAt : List (Dom × M) → List (List E) → Type 0) (Refuses : List (Dom × M) → PE → Type 0)
     (honest : (batch : List (Dom × M)) (points : List (List E)) (e : PE) → OpensAt batch points → Refuses batch e → IsTrue (of_prover e)) where

@@ -1,10 +1,8 @@
 -- Loops that make one item for each item of a list.
-use Rattle.std.specs.Prelude.{◌≡◌, ℕ, ◌+◌, ◌<◌, List, [], ◌∷◌, ◌++◌, length, map, take, slice_index_or, Vec}
-use Rattle.std.specs.List.{AllZip}
-use Rattle.std.specs.declared.alloc.Global.{Global}
-use Rattle.std.proofs.Common.{zero, suc, refl, sym, ◌∙◌, ap, arith}
+use Rattle.std.specs.Prelude.{◌≡◌, ℕ, ◌+◌, ◌<◌, List, [], ◌∷◌, ◌++◌, length, map, take, slice_index_or, zip}
+use Rattle.std.proofs.Common.{refl, sym, ◌∙◌, ap}
 use Rattle.std.proofs.lemmas.List.{length-map, map-append, map-id, map_more}
-use Rattle.circle_matrix.specs.Mmcs.{opened_rows}
+use Rattle.circle_matrix.specs.DotProduct.{pairwise}
 
 -- one more item that is pushed: by h the made items are what by g the items of a list are
 pub mapped-more : {A B D : Type 0} (g : A → D) (h : B → D) (xs : List A) (i n : ℕ) (x : A) (old new : List B) (w : B) → n ≡ i + 1 →
@@ -19,23 +17,22 @@ pub taken-more : {A B : Type 0} (h : B → A) (xs : List A) (i n : ℕ) (x : A) 
 taken-more h xs i n x old new w next lt is pushed made so_far =
     mapped-more (λ a. a) h xs i n x old new w next lt is pushed made (so_far ∙ sym (map-id (take i xs))) ∙ map-id (take n xs)
 
-module _ {E : Type 0} where
-  -- values for each point of each matrix
-  abbrev pub HaveRows : List (Vec E Global) → List (Vec (Vec E Global) Global) → Type 0
-  HaveRows points values = AllZip (λ ps vs. length vs ≡ length ps) (map (λ v. v.items) points) (opened_rows values)
+-- what two lists are put side by side, once one of them is read
+pub zip-mapped : {A B C : Type 0} (h : B → C) (xs : List A) (ys : List B) → map (λ p. (p.0, h p.1)) (zip xs ys) ≡ zip xs (map h ys)
+zip-mapped h [] ys = refl
+zip-mapped h (x ∷ xs) [] = refl
+zip-mapped h (x ∷ xs) (y ∷ ys) = ap (λ l. (x, h y) ∷ l) (zip-mapped h xs ys)
 
-  -- are of as many matrices
-  pub rows-long : (points : List (Vec E Global)) (values : List (Vec (Vec E Global) Global)) → HaveRows points values → length values ≡ length points
-  rows-long [] [] all = refl
-  rows-long [] (v ∷ values) all = absurd all
-  rows-long (p ∷ points) [] all = absurd all
-  rows-long (p ∷ points) (v ∷ values) all = ap suc (rows-long points values all.1)
+-- so of a function of both, which reads the second
+pub pairwise-mapped : {A B C D : Type 0} (f : A → C → D) (h : B → C) (xs : List A) (ys : List B) → map (λ p. f p.0 (h p.1)) (zip xs ys) ≡ pairwise f xs (map h ys)
+pairwise-mapped f h [] ys = refl
+pairwise-mapped f h (x ∷ xs) [] = refl
+pairwise-mapped f h (x ∷ xs) (y ∷ ys) = ap (λ l. f x (h y) ∷ l) (pairwise-mapped f h xs ys)
 
-  -- and at each matrix of as many points
-  pub answered-at : (points : List (Vec E Global)) (values : List (Vec (Vec E Global) Global)) (i : ℕ) (p : Vec E Global) (v : Vec (Vec E Global) Global) → HaveRows points values →
-      i < length points → p ≡ slice_index_or points i p → v ≡ slice_index_or values i v → length v.items ≡ length p.items
-  answered-at [] values i p v all lt is is' = absurd (omega (arith, lt))
-  answered-at (q ∷ points) [] i p v all lt is is' = absurd all
-  answered-at (q ∷ points) (w ∷ values) zero p v all lt is is' =
-      ap (λ x. length x.items) is' ∙ sym (length-map w.items (λ row. row.items)) ∙ all.0 ∙ ap (λ x. length x.items) (sym is)
-  answered-at (q ∷ points) (w ∷ values) (suc i) p v all lt is is' = answered-at points values i p v all.1 (omega (arith, lt)) is is'
+-- and of three lists, of which the second and the third are read
+pub pairwise-of-zip : {A B C D G : Type 0} (f : A × C → G → D) (h : B → C) {X : Type 0} (k : X → G) (xs : List A) (ys : List B) (zs : List X) →
+    map (λ p. f (p.0.0, h p.0.1) (k p.1)) (zip (zip xs ys) zs) ≡ pairwise f (zip xs (map h ys)) (map k zs)
+pairwise-of-zip f h k [] ys zs = refl
+pairwise-of-zip f h k (x ∷ xs) [] zs = refl
+pairwise-of-zip f h k (x ∷ xs) (y ∷ ys) [] = refl
+pairwise-of-zip f h k (x ∷ xs) (y ∷ ys) (z ∷ zs) = ap (λ l. f (x, h y) (k z) ∷ l) (pairwise-of-zip f h k xs ys zs)

@@ -1,3 +1,4 @@
 pub mod Honest
 pub mod Kept
 pub mod RoundTrip
+pub mod Claims

@@ -1,11 +1,11 @@
 -- A round trip over any scheme: batches that are committed to, opened at points and verified, and
 -- why it answers no values.
-use Rattle.std.specs.Prelude.{◌≡◌, ℕ, ◌≤◌, Bool, IsTrue, List, length, map, All, Any, Vec}
-use Rattle.std.specs.declared.alloc.Global.{Global}
+use Rattle.std.specs.Prelude.{◌≡◌, ℕ, ◌≤◌, Bool, IsTrue, List, length, map, All, Any}
 use Rattle.std.specs.List.{AllZip}
 use Rattle.circle_matrix.specs.Pcs.{Openings}
 use Rattle.circle_matrix.specs.declared.pcs.CommitmentOpening.{CommitmentOpening}
 use Rattle.circle_matrix.specs.declared.pcs.OpeningRequest.{OpeningRequest}
+use Rattle.circle_pcs.specs.Claims.{lists}
 use Rattle.circle_pcs.specs.Honest.{AreAnsweredBy, requested_points}
 use Rattle.circle_pcs.specs.declared.any_scheme.BatchAtPoints.{BatchAtPoints}
 use Rattle.circle_pcs.specs.declared.any_scheme.Committed.{Committed}
@@ -13,39 +13,16 @@ use Rattle.circle_pcs.specs.declared.any_scheme.RoundTripError.{RoundTripError}
 use Rattle.circle_pcs.specs.declared.any_scheme.RoundTripError.TheVariants.{Commit, Memory}
 use Rattle.circle_pcs.specs.declared.any_scheme.RoundTripError.TheVariants.{Open, Verify}
 
--- the lists that vectors hold
-abbrev pub lists : {E : Type 0} → Vec (Vec E Global) Global → List (List E)
-lists vectors = map (λ v. v.items) vectors.items
-
 -- a list of points for each matrix, of one point at least
 pub record HasPoints {E Dom M : Type 0} (batch : BatchAtPoints E Dom M) : Type 0 where
   pub each : length batch.points.items ≡ length batch.evaluations.items
   pub some : All (λ points. 1 ≤ length points) (lists batch.points)
 
--- what is said of a batch beside its values: the commitment, the domains and the points
-abbrev pub statement_of : {E Com Data Dom : Type 0} → Committed E Com Data Dom
-    → Com × List Dom × List (List E)
-statement_of c = (c.commitment, c.domains.items, lists c.points)
-
--- the same of a claim
-abbrev pub statement_of_claim : {E Com Dom : Type 0} → CommitmentOpening E Com Dom
-    → Com × List Dom × List (List E)
-statement_of_claim claim = (
-  claim.commitment,
-  map (λ m. m.domain) claim.matrices.items,
-  map (λ m. map (λ p. p.point) m.points.items) claim.matrices.items,
-)
-
--- the values that a claim is of
-abbrev pub claimed_values : {E Com Dom : Type 0} → CommitmentOpening E Com Dom
-    → List (List (List E))
-claimed_values claim = map (λ m. map (λ p. p.values.items) m.points.items) claim.matrices.items
-
 -- a list of values for each point of each matrix of a batch
 pub record HasAnswers {E Com Data Dom : Type 0} (c : Committed E Com Data Dom)
     (values : List (List (List E))) : Type 0 where
-  pub each : length c.points.items ≡ length c.domains.items
-  pub answers : AllZip (λ points vs. length vs ≡ length points) (lists c.points) values
+  pub each : length c.known.points.items ≡ length c.known.domains.items
+  pub answers : AllZip (λ points vs. length vs ≡ length points) (lists c.known.points) values
 
 -- so of each batch
 abbrev pub HaveAnswers : {E Com Data Dom : Type 0} → List (Committed E Com Data Dom) → Openings E
@@ -87,9 +64,9 @@ module _ {E Com Data Dom M : Type 0} (commits : List (Dom × M) → Com → Data
   -- a batch is committed to
   pub record IsCommitted (batch : BatchAtPoints E Dom M) (c : Committed E Com Data Dom)
       : Type 0 where
-    pub committed : commits batch.evaluations.items c.commitment c.prover_data
-    pub domains : c.domains.items ≡ map (λ m. m.0) batch.evaluations.items
-    pub points : c.points ≡ batch.points
+    pub committed : commits batch.evaluations.items c.known.commitment c.prover_data
+    pub domains : c.known.domains.items ≡ map (λ m. m.0) batch.evaluations.items
+    pub points : c.known.points ≡ batch.points
 
   abbrev pub AreCommitted : List (BatchAtPoints E Dom M) → List (Committed E Com Data Dom) → Type 0
   AreCommitted batches committed = AllZip IsCommitted batches committed

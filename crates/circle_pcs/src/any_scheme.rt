@@ -1,19 +1,24 @@
 //! A committer and a verifier of any scheme, played against each other.
 ghost use Rattle.std.specs.Prelude.{◌≡◌, ◌∷◌, ◌++◌, [], All, IfErr, IfOk, OnOk, map};
 ghost use Rattle.circle_matrix.specs.Pcs.{openings};
+ghost use Rattle.circle_matrix.specs.Mmcs.{opened_rows};
+ghost use Rattle.circle_pcs.specs.Claims.{lists};
 ghost use Rattle.circle_pcs.specs.Honest.{requested_points};
 ghost use Rattle.circle_pcs.specs.RoundTrip.{AreCommitted, HasPoints, IsCommitted};
-ghost use Rattle.circle_pcs.specs.RoundTrip.{IsUncommitted, IsUncommittedOf, lists};
+ghost use Rattle.circle_pcs.specs.RoundTrip.{IsUncommitted, IsUncommittedOf};
 ghost use Rattle.circle_pcs.specs.declared.any_scheme.RoundTripError.TheVariants.{Memory};
 
-use crate::claims::claims_of;
+use crate::claims::{CommittedBatch, claims_of};
 use crate::scheme::Pcs;
 use crate::statements::Statements;
 use circle_challenger::ChallengerState;
 use circle_field::ExtensionField;
-use circle_matrix::{OpenedValues, OpeningRequest, PolynomialSpace, RowMajorMatrix};
+use circle_matrix::{
+    OpenedValues, OpenedValuesForMatrix, OpenedValuesForRound, OpeningRequest, PolynomialSpace,
+    RowMajorMatrix,
+};
 use std::alloc::{AllocError, Global};
-use std::fmt::Debug;
+use std::fmt::Display;
 use thiserror::Error;
 
 /// A batch of matrices, and the points that each of them is opened at.
@@ -27,16 +32,16 @@ pub struct BatchAtPoints<Challenge, Domain, Matrix> {
 
 /// Why a round trip answers no values: the refusal of the call that refused, or want of memory.
 #[derive(Debug, Drop, Error)]
-#[error_bound(ProverError: Debug, VerifierError: Debug)]
+#[error_bound(ProverError: Display, VerifierError: Display)]
 pub enum RoundTripError<ProverError, VerifierError> {
     /// `commit` refuses a batch.
-    #[error("there is no commitment: {0:?}")]
+    #[error("there is no commitment: {0}")]
     Commit(ProverError),
     /// `open` refuses the requests.
-    #[error("there is no opening: {0:?}")]
+    #[error("there is no opening: {0}")]
     Open(ProverError),
     /// `verify` refuses what was answered.
-    #[error("what was answered is refused: {0:?}")]
+    #[error("what was answered is refused: {0}")]
     Verify(VerifierError),
     /// Memory was refused.
     #[error("out of memory")]
@@ -51,13 +56,11 @@ impl<ProverError, VerifierError> From<AllocError> for RoundTripError<ProverError
     }
 }
 
-// A batch that is committed to.
+// A batch that is committed to: what a verifier knows of it, and what the committer keeps.
 #[derive(Drop)]
 pub(crate) struct Committed<Challenge, Commitment, ProverData, Domain> {
-    pub commitment: Commitment,
+    pub known: CommittedBatch<Challenge, Commitment, Domain>,
     pub prover_data: ProverData,
-    pub domains: Vec<Domain>,
-    pub points: Vec<Vec<Challenge>>,
 }
 
 /// Commits to batches, opens them all at once, each matrix at its own points, and verifies what is
@@ -98,7 +101,8 @@ where
         Ok(opened) => opened,
         Err(error) => return Err(RoundTripError::Open(error)),
     };
-    let claims = claims_of(alloc, committed, &values)?;
+    let copies = copies_of_batches(alloc, &values)?;
+    let claims = claims_of(alloc, known_batches(alloc, committed)?, copies)?;
     match pcs.verify(alloc, claims, &proof, verifier) {
         Ok(()) => Ok(values),
         Err(error) => Err(RoundTripError::Verify(error)),
@@ -157,12 +161,12 @@ where
         Ok(committed) => committed,
         Err(error) => return Err(RoundTripError::Commit(error)),
     };
-    Ok(Committed {
+    let known = CommittedBatch {
         commitment,
-        prover_data,
         domains,
         points: batch.points,
-    })
+    };
+    Ok(Committed { known, prover_data })
 }
 
 // The domains of a batch.
@@ -184,13 +188,13 @@ fn requests_of<'a, E: Copy, Com, Data, D>(
     ensures kept { IfOk result (λ v. map (λ r. r.prover_data.now) v.items
         ≡ map (λ c. c.prover_data) committed.now) }
     ensures points { IfOk result (λ v. map requested_points v.items
-        ≡ map (λ c. lists c.points) committed.now) }
+        ≡ map (λ c. lists c.known.points) committed.now) }
 {
     let mut requests = Vec::with_capacity(alloc, committed.len())?;
     for batch in committed {
         requests.push(OpeningRequest {
             prover_data: &batch.prover_data,
-            points: copies_of(alloc, &batch.points)?,
+            points: copies_of(alloc, &batch.known.points)?,
         })?;
     }
     Ok(requests)
@@ -204,6 +208,48 @@ fn copies_of<E: Copy>(alloc: Global, vectors: &[Vec<E>]) -> Result<Vec<Vec<E>>, 
     let mut copies = Vec::with_capacity(alloc, vectors.len())?;
     for vector in vectors {
         copies.push(Vec::from_slice(alloc, vector)?)?;
+    }
+    Ok(copies)
+}
+
+// What a verifier knows of the batches.
+fn known_batches<E: Copy, Com: Drop, Data: Drop, D: Copy>(
+    alloc: Global,
+    committed: Vec<Committed<E, Com, Data, D>>,
+) -> Result<Vec<CommittedBatch<E, Com, D>>, AllocError>
+    ensures { IfOk result (λ known. known.items ≡ map (λ c. c.known) committed.items) }
+{
+    let mut known = Vec::with_capacity(alloc, committed.len())?;
+    for batch in committed {
+        known.push(batch.known)?;
+    }
+    Ok(known)
+}
+
+// Opened values of a batch, copied.
+fn copies_of_rows<E: Copy>(
+    alloc: Global,
+    matrices: &[OpenedValuesForMatrix<E>],
+) -> Result<OpenedValuesForRound<E>, AllocError>
+    ensures { IfOk result (λ copies. opened_rows copies.items ≡ opened_rows matrices.now) }
+{
+    let mut copies = Vec::with_capacity(alloc, matrices.len())?;
+    for matrix in matrices {
+        copies.push(copies_of(alloc, matrix)?)?;
+    }
+    Ok(copies)
+}
+
+// Opened values, copied.
+fn copies_of_batches<E: Copy>(
+    alloc: Global,
+    batches: &[OpenedValuesForRound<E>],
+) -> Result<OpenedValues<E>, AllocError>
+    ensures { IfOk result (λ copies. openings copies.items ≡ openings batches.now) }
+{
+    let mut copies = Vec::with_capacity(alloc, batches.len())?;
+    for batch in batches {
+        copies.push(copies_of_rows(alloc, batch)?)?;
     }
     Ok(copies)
 }

@@ -1,35 +1,47 @@
 //! The claims that a verifier is handed of what was answered.
-ghost use Rattle.std.specs.Prelude.{◌≡◌, IfOk, length, map};
-ghost use Rattle.std.specs.List.{AllZip};
+ghost use Rattle.std.specs.Prelude.{◌≡◌, IfOk, map, zip};
+ghost use Rattle.circle_matrix.specs.DotProduct.{pairwise};
 ghost use Rattle.circle_matrix.specs.Mmcs.{opened_rows};
 ghost use Rattle.circle_matrix.specs.Pcs.{openings};
-ghost use Rattle.circle_pcs.specs.RoundTrip.{HaveAnswers, claimed_values, lists};
-ghost use Rattle.circle_pcs.specs.RoundTrip.{statement_of, statement_of_claim};
+ghost use Rattle.circle_pcs.specs.Claims.{batch_claimed, batch_told, lists, matrix_claimed};
+ghost use Rattle.circle_pcs.specs.Claims.{matrix_told, point_told};
 
-use crate::any_scheme::Committed;
 use circle_matrix::{
-    CommitmentOpening, MatrixOpening, OpenedValuesForMatrix, OpenedValuesForRound, PointOpening,
+    CommitmentOpening, MatrixOpening, OpenedValues, OpenedValuesForMatrix, OpenedValuesForRound,
+    PointOpening,
 };
 use std::alloc::{AllocError, Global};
 
-// What is claimed of the batches: each matrix has these values at its points.
-pub(crate) fn claims_of<E: Copy, Com: Drop, Data: Drop, D: Copy>(
+/// A batch that was committed to, without its matrices: what a verifier knows of it beside the
+/// values that it is handed.
+#[derive(Debug, Drop)]
+pub struct CommittedBatch<Challenge, Commitment, Domain> {
+    /// The commitment to the batch.
+    pub commitment: Commitment,
+    /// For each matrix the domain that it was given on, before it was extended.
+    pub domains: Vec<Domain>,
+    /// For each matrix the points that it is opened at, each by one coordinate.
+    pub points: Vec<Vec<Challenge>>,
+}
+
+/// The claims that the matrices of batches have these values at their points, as `verify` takes
+/// them: `values` as `open` answers them of requests for the same batches, matrices and points, in
+/// their order. What has no counterpart at its place is left out. Values and points are moved.
+///
+/// Fails where memory is refused.
+pub fn claims_of<Challenge: Copy, Commitment: Drop, Domain: Copy>(
     alloc: Global,
-    committed: Vec<Committed<E, Com, Data, D>>,
-    values: &[OpenedValuesForRound<E>],
-) -> Result<Vec<CommitmentOpening<E, Com, D>>, AllocError>
-    requires { HaveAnswers committed.items (openings values.now) }
-    ensures statements { IfOk result (λ claims. map statement_of_claim claims.items
-        ≡ map statement_of committed.items) }
-    ensures values { IfOk result (λ claims. map claimed_values claims.items
-        ≡ openings values.now) }
+    batches: Vec<CommittedBatch<Challenge, Commitment, Domain>>,
+    values: OpenedValues<Challenge>,
+) -> Result<Vec<CommitmentOpening<Challenge, Commitment, Domain>>, AllocError>
+    ensures { IfOk result (λ claims. map batch_told claims.items
+        ≡ pairwise batch_claimed batches.items (openings values.items)) }
 {
-    let mut claims = Vec::with_capacity(alloc, committed.len())?;
-    for batch in committed {
-        let values = &values[claims.len()];
+    let mut claims = Vec::with_capacity(alloc, batches.len())?;
+    for (batch, values) in batches.into_iter().zip(values) {
         claims.push(CommitmentOpening {
             commitment: batch.commitment,
-            matrices: matrix_claims(alloc, &batch.domains, &batch.points, values)?,
+            matrices: matrix_claims(alloc, batch.domains, batch.points, values)?,
         })?;
     }
     Ok(claims)
@@ -38,24 +50,18 @@ pub(crate) fn claims_of<E: Copy, Com: Drop, Data: Drop, D: Copy>(
 // What is claimed of the matrices of a batch.
 fn matrix_claims<E: Copy, D: Copy>(
     alloc: Global,
-    domains: &[D],
-    points: &[Vec<E>],
-    values: &[OpenedValuesForMatrix<E>],
+    domains: Vec<D>,
+    points: Vec<Vec<E>>,
+    values: OpenedValuesForRound<E>,
 ) -> Result<Vec<MatrixOpening<E, D>>, AllocError>
-    requires counted { length points.now ≡ length domains.now }
-    requires values { AllZip (λ ps vs. length vs ≡ length ps) (map (λ v. v.items) points.now)
-        (opened_rows values.now) }
-    ensures domains { IfOk result (λ claims. map (λ c. c.domain) claims.items ≡ domains.now) }
-    ensures points { IfOk result (λ claims. map (λ c. map (λ p. p.point) c.points.items)
-        claims.items ≡ map (λ v. v.items) points.now) }
-    ensures values { IfOk result (λ claims. map (λ c. map (λ p. p.values.items) c.points.items)
-        claims.items ≡ opened_rows values.now) }
+    ensures { IfOk result (λ claims. map matrix_told claims.items ≡ pairwise matrix_claimed
+        (zip domains.items (lists points)) (opened_rows values.items)) }
 {
     let mut claims = Vec::with_capacity(alloc, domains.len())?;
-    for (i, domain) in domains.iter().enumerate() {
+    for ((domain, points), values) in domains.into_iter().zip(points).zip(values) {
         claims.push(MatrixOpening {
-            domain: *domain,
-            points: point_claims(alloc, &points[i], &values[i])?,
+            domain,
+            points: point_claims(alloc, points, values)?,
         })?;
     }
     Ok(claims)
@@ -64,20 +70,15 @@ fn matrix_claims<E: Copy, D: Copy>(
 // What is claimed of one matrix: at each point its values.
 fn point_claims<E: Copy>(
     alloc: Global,
-    points: &[E],
-    values: &[Vec<E>],
+    points: Vec<E>,
+    values: OpenedValuesForMatrix<E>,
 ) -> Result<Vec<PointOpening<E>>, AllocError>
-    requires { length values.now ≡ length points.now }
-    ensures points { IfOk result (λ claims. map (λ p. p.point) claims.items ≡ points.now) }
-    ensures values { IfOk result (λ claims. map (λ p. p.values.items) claims.items
-        ≡ map (λ v. v.items) values.now) }
+    ensures { IfOk result (λ claims. map point_told claims.items
+        ≡ zip points.items (map (λ v. v.items) values.items)) }
 {
     let mut claims = Vec::with_capacity(alloc, points.len())?;
-    for (point, values) in points.iter().zip(values) {
-        claims.push(PointOpening {
-            point: *point,
-            values: Vec::from_slice(alloc, values)?,
-        })?;
+    for (point, values) in points.into_iter().zip(values) {
+        claims.push(PointOpening { point, values })?;
     }
     Ok(claims)
 }

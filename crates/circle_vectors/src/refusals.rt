@@ -15,7 +15,7 @@ const SHOWN: &[(Refusal, &str)] = &[
     ),
     (
         Refusal::FirstLayerMmcsError(AllocError),
-        "first layer MMCS error: AllocError",
+        "first layer MMCS error: memory allocation failed",
     ),
     (
         Refusal::InputShapeError,
@@ -50,6 +50,7 @@ fn refusals_are_shown(rt: HostRuntime) {
         assert_eq!(rt; shown.as_str(), *expected);
     }
     let shown = InlineText::<128>::of(&INPUT);
-    let expected = "the input is refused: DomainTooSmall { log_n: 0 }";
+    let expected = "the input is refused: tallest claimed domain is 2^0 rows; \
+        the first-layer fold needs at least 2";
     assert_eq!(rt; shown.as_str(), expected);
 }

@@ -94,7 +94,7 @@ const SHOWN: &[(Refusal, &str)] = &[
     ),
     (
         Refusal::InputError(AllocError),
-        "the input is refused: AllocError",
+        "the input is refused: memory allocation failed",
     ),
     (
         Refusal::UnconsumedReducedOpenings {

@@ -1,7 +1,8 @@
 use Rattle.std.proofs.Common.{◌∙◌, ap, sym, subst}
 use Rattle.circle_matrix.specs.Pcs.{openings}
-use Rattle.circle_pcs.specs.Honest.{AreAnsweredBy}
-use Rattle.circle_pcs.specs.RoundTrip.{AreHonestBatches, HaveAnswers, IsOfMemory, IsReason}
+use Rattle.circle_matrix.specs.DotProduct.{pairwise}
+use Rattle.circle_pcs.specs.Claims.{batch_claimed}
+use Rattle.circle_pcs.specs.RoundTrip.{AreHonestBatches, IsOfMemory, IsReason}
 use Rattle.circle_pcs.proofs.Batches.{are-answered, are-kept, are-requests, are-values, asks-for, handed, have-answers, honest-requests, of-memory, why-uncommitted}
 use Rattle.circle_pcs.proofs.any_scheme.round_trip.Goals as goal
 
@@ -61,22 +62,6 @@ returns-in-Err-clause-reason g c =
     let mine = are-requests commits batches committed requests c.in_ok-committed.ensures.committed asked in
     (record { requests = requests; asked = mine; refused = c.in-Err.ensures.refused }, sym c.requires.same)
 
-pub claims_of-requires : goal.claims_of-requires
-claims_of-requires g c =
-    let pcs = c.args.pcs.now in
-    let commits = g.P.Pcs.commits pcs in
-    let batches = c.args.batches.items in
-    let committed = c.in_ok-committed.committed.items in
-    let requests = c.in_ok-requests.requests.items in
-    let made = c.in_ok-requests.ensures in
-    let asked = asks-for c.deref.result.now committed requests c.deref.ensures.value made.kept made.points in
-    let old = g.C.ChallengerState.state c.args.prover.now in
-    let new = g.C.ChallengerState.state c.open.new.challenger in
-    let ws = c.in-Ok.opened.0.items in
-    let proof = c.in-Ok.opened.1 in
-    subst (λ vs. HaveAnswers committed (openings vs)) (sym c.deref-2.ensures.value)
-    (have-answers commits batches committed requests (openings ws) c.requires.points c.in_ok-committed.ensures.committed asked (g.met.P.Pcs.each_point pcs requests (openings ws) proof old new c.in-Ok.ensures.opened))
-
 pub returns-in-Ok-verify-clause-values : goal.returns-in-Ok-verify-clause-values
 returns-in-Ok-verify-clause-values g c =
     let pcs = c.args.pcs.now in
@@ -108,8 +93,11 @@ returns-in-Ok-verify-clause-states g c =
     let proof = c.in-Ok.opened.1 in
     let claims = c.in_ok-claims.claims.items in
     let size = g.P.Domain.PolynomialSpace.size in
-    let answered = subst (λ vs. AreAnsweredBy size commits requests vs claims) (c.in_ok-claims.ensures.values ∙ ap openings c.deref-2.ensures.value)
-    (are-answered commits size batches committed requests claims c.requires.points c.in_ok-committed.ensures.committed asked c.in_ok-claims.ensures.statements) in
+    let all = c.in_ok-committed.ensures.committed in
+    let have = have-answers commits batches committed requests (openings ws) c.requires.points all asked (g.met.P.Pcs.each_point pcs requests (openings ws) proof old new c.in-Ok.ensures.opened) in
+    let copied = c.in_ok-copies.ensures ∙ ap openings c.deref-2.ensures.value in
+    let told = c.in_ok-claims.ensures ∙ (λ i. pairwise batch_claimed (c.in_ok-known_batches.ensures i) (copied i)) in
+    let answered = are-answered commits size batches committed requests (openings ws) claims c.requires.points all asked have told in
     let accepted = subst (λ s. g.P.Pcs.verify_accepts pcs claims proof s new) c.requires.same (g.met.P.Pcs.complete pcs requests (openings ws) proof old new c.in-Ok.ensures.opened claims answered) in
     g.met.P.Pcs.one_state pcs claims proof _ new _ accepted c.in-Ok-verify.ensures.accepted
 
@@ -128,8 +116,11 @@ returns-in-Err-verify-clause-accepted g c =
     let proof = c.in-Ok.opened.1 in
     let claims = c.in_ok-claims.claims.items in
     let size = g.P.Domain.PolynomialSpace.size in
-    let answered = subst (λ vs. AreAnsweredBy size commits requests vs claims) (c.in_ok-claims.ensures.values ∙ ap openings c.deref-2.ensures.value)
-    (are-answered commits size batches committed requests claims c.requires.points c.in_ok-committed.ensures.committed asked c.in_ok-claims.ensures.statements) in
+    let all = c.in_ok-committed.ensures.committed in
+    let have = have-answers commits batches committed requests (openings ws) c.requires.points all asked (g.met.P.Pcs.each_point pcs requests (openings ws) proof old new c.in-Ok.ensures.opened) in
+    let copied = c.in_ok-copies.ensures ∙ ap openings c.deref-2.ensures.value in
+    let told = c.in_ok-claims.ensures ∙ (λ i. pairwise batch_claimed (c.in_ok-known_batches.ensures i) (copied i)) in
+    let answered = are-answered commits size batches committed requests (openings ws) claims c.requires.points all asked have told in
     let accepted = subst (λ s. g.P.Pcs.verify_accepts pcs claims proof s new) c.requires.same (g.met.P.Pcs.complete pcs requests (openings ws) proof old new c.in-Ok.ensures.opened claims answered) in
     λ honest. c.in-Err-verify.ensures.refused new accepted
 
@@ -149,8 +140,11 @@ returns-in-Err-verify-clause-reason g c =
     let proof = c.in-Ok.opened.1 in
     let claims = c.in_ok-claims.claims.items in
     let size = g.P.Domain.PolynomialSpace.size in
-    let answered = subst (λ vs. AreAnsweredBy size commits requests vs claims) (c.in_ok-claims.ensures.values ∙ ap openings c.deref-2.ensures.value)
-    (are-answered commits size batches committed requests claims c.requires.points c.in_ok-committed.ensures.committed asked c.in_ok-claims.ensures.statements) in
+    let all = c.in_ok-committed.ensures.committed in
+    let have = have-answers commits batches committed requests (openings ws) c.requires.points all asked (g.met.P.Pcs.each_point pcs requests (openings ws) proof old new c.in-Ok.ensures.opened) in
+    let copied = c.in_ok-copies.ensures ∙ ap openings c.deref-2.ensures.value in
+    let told = c.in_ok-claims.ensures ∙ (λ i. pairwise batch_claimed (c.in_ok-known_batches.ensures i) (copied i)) in
+    let answered = are-answered commits size batches committed requests (openings ws) claims c.requires.points all asked have told in
     record {
       requests = requests;
       asked = mine;

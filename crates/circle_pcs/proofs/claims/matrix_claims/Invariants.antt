@@ -1,11 +1,8 @@
-use Rattle.std.proofs.Common.{◌≡◌, map, take}
-use Rattle.circle_matrix.specs.Mmcs.{opened_rows}
+use Rattle.std.proofs.Common.{◌≡◌, length, map, take, zip}
+use Rattle.circle_pcs.specs.Claims.{matrix_claimed, matrix_told}
 use Rattle.circle_pcs.proofs.claims.matrix_claims.Given as goal
 
 -- the claims so far are there
-abbrev pub invariant-loop-i : goal.invariant-loop-i
-invariant-loop-i g l = record {
-  domains : map (λ c. c.domain) l.claims.items ≡ take l.i l.domains;
-  points : map (λ c. map (λ p. p.point) c.points.items) l.claims.items ≡ map (λ v. v.items) (take l.i l.points);
-  values : map (λ c. map (λ p. p.values.items) c.points.items) l.claims.items ≡ opened_rows (take l.i l.values);
-}
+abbrev pub invariant-loop-domain : goal.invariant-loop-domain
+invariant-loop-domain g l =
+    map matrix_told l.claims.items ≡ map (λ t. matrix_claimed (t.0.0, t.0.1.items) (map (λ v. v.items) t.1.items)) (take (length l.yielded) (zip (zip l.fn.domains.items l.fn.points.items) l.fn.values.items))

@@ -1,9 +1,7 @@
-use Rattle.std.proofs.Common.{◌≡◌, length, map, take}
+use Rattle.std.proofs.Common.{◌≡◌, length, map, take, zip}
+use Rattle.circle_pcs.specs.Claims.{point_told}
 use Rattle.circle_pcs.proofs.claims.point_claims.Given as goal
 
 -- the claims so far are there
 abbrev pub invariant-loop-point : goal.invariant-loop-point
-invariant-loop-point g l = record {
-  points : map (λ p. p.point) l.claims.items ≡ take (length l.yielded) l.points;
-  values : map (λ p. p.values.items) l.claims.items ≡ map (λ v. v.items) (take (length l.yielded) l.values);
-}
+invariant-loop-point g l = map point_told l.claims.items ≡ map (λ p. (p.0, p.1.items)) (take (length l.yielded) (zip l.fn.points.items l.fn.values.items))
