@@ -23,6 +23,16 @@ fn coefficients(rt: HostRuntime) {
 }
 
 #[test]
+fn in_place(rt: HostRuntime) {
+    let mut element = cubic(1, 2, 3);
+    element += cubic(1, 1, 1);
+    element *= cubic(0, 1, 0);
+    assert_eq!(rt; element, cubic(20, 2, 3));
+    element -= cubic(20, 2, 4);
+    assert_eq!(rt; element, cubic(0, 0, 2147483646));
+}
+
+#[test]
 fn bytes(rt: HostRuntime) {
     assert_eq!(rt; (-Mersenne31::ONE).as_u64(), 2147483646);
     assert_eq!(rt; (-Mersenne31::ONE).to_bytes(), [127, 255, 255, 254]);

@@ -14,10 +14,7 @@ mod refusals;
 // The rows 0 1, 2 3, 4 5 and 6 7.
 fn four_rows(alloc: Global) -> Result<RowMajorMatrix<u32>, AllocError> {
     let values = vec![in alloc; 0, 1, 2, 3, 4, 5, 6, 7]?;
-    if values.len() != 8 {
-        return Err(AllocError);
-    }
-    Ok(RowMajorMatrix::new(values, 2))
+    RowMajorMatrix::try_new(values, 2).ok_or(AllocError)
 }
 
 // The rows of any matrix, one after another.
@@ -112,6 +109,7 @@ fn a_mapped_view_of_a_part(rt: HostRuntime) -> Result<(), Fail> {
 fn a_view_of_a_slice(rt: HostRuntime) -> Result<(), Fail> {
     let view = RowMajorMatrixView::new(&[1u32, 2, 3, 4, 5, 6], 3);
     assert_matrix(&rt, rt.alloc(), &view, (3, 2), &[1, 2, 3, 4, 5, 6])?;
+    assert!(rt; RowMajorMatrixView::try_new(&[1u32, 2, 3], 2).is_none());
     Ok(())
 }
 

@@ -22,6 +22,16 @@ fn from_u64_reduces(rt: HostRuntime) {
     assert_eq!(rt; Mersenne31::from_u64(u64::MAX).value(), 3);
 }
 
+#[test]
+fn in_place(rt: HostRuntime) {
+    let mut element = minus_one();
+    element += Mersenne31::from_u64(5);
+    element *= Mersenne31::from_u64(3);
+    assert_eq!(rt; element.value(), 12);
+    element -= Mersenne31::from_u64(13);
+    assert_eq!(rt; element, minus_one());
+}
+
 // Binary logarithms of orders, and the coordinates of the generators of these orders.
 const GENERATORS: &[(usize, u32, u32)] = &[
     (16, 2135874973, 483411332),

@@ -19,6 +19,7 @@ pub fn answer(alloc: Global, call: &str, given: &Value) -> Result<Option<Value>>
         "is_standard" => is_standard(domain)?,
         "is_clear_of" => is_clear_of(alloc, domain, given)?,
         "points" => points(alloc, domain)?,
+        "try_nth_point" => nth_point(alloc, domain, given)?,
         "next_point" => next_point(alloc, domain, given)?,
         "try_create_disjoint_domain" => disjoint(alloc, domain, given)?,
         "split_domains" => split_domains(alloc, domain, given)?,
@@ -57,6 +58,14 @@ fn points(alloc: Global, domain: Domain) -> Result<Value> {
         points.push(coordinates(alloc, point)?)?;
     }
     Ok(Value::from(points))
+}
+
+// The coordinates of the point at a place, or null where there is none.
+fn nth_point(alloc: Global, domain: Domain, given: &Value) -> Result<Value> {
+    match domain.try_nth_point(member(alloc, given, "index")?) {
+        Some(point) => Ok(coordinates(alloc, point)?),
+        None => Ok(Value::Null),
+    }
 }
 
 fn next_point(alloc: Global, domain: Domain, given: &Value) -> Result<Value> {

@@ -38,10 +38,10 @@ fn domain_of(alloc: Global, value: &Value) -> Result<Domain> {
     if value.get("shift").is_some() {
         return Ok(CircleDomain::new(log_n, point(alloc, value, "shift")?));
     }
-    if log_n > 30 {
-        bail!("the group has no standard domain of this size");
+    match CircleDomain::try_standard(log_n) {
+        Some(domain) => Ok(domain),
+        None => bail!("the group has no standard domain of this size"),
     }
-    Ok(CircleDomain::standard(log_n))
 }
 
 /// The domain with this key.
@@ -67,10 +67,10 @@ pub fn matrix<F: Field + JsonForm>(
     for row in &rows {
         values.extend_from_slice(row)?;
     }
-    if width == 0 || values.len() % width != 0 {
-        bail!("{key} are rows of other lengths");
+    match RowMajorMatrix::try_new(values, width) {
+        Some(matrix) => Ok(matrix),
+        None => bail!("{key} are rows of other lengths"),
     }
-    Ok(RowMajorMatrix::new(values, width))
 }
 
 /// The rows of a matrix.

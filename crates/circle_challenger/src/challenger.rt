@@ -1,9 +1,11 @@
 //! The traits of challengers.
 ghost use Rattle.std.specs.Prelude.{◌≡◌, ℕ, ◌≤◌, ◌<◌, ◌^◌, IfSome, IfNone, IsTrue, Option, Some};
-ghost use Rattle.std.specs.Prelude.{true, false};
+ghost use Rattle.std.specs.Prelude.{true, false, flat_map};
 ghost use Rattle.circle_field.specs.Field.{of_nat};
 ghost use Rattle.circle_challenger.specs.Grinding.{passes, after_check};
 ghost use Rattle.circle_challenger.specs.Moves.{Moves, RunMoves};
+ghost use Rattle.circle_challenger.specs.Observing.{after_all};
+ghost use Rattle.circle_challenger.specs.Sampling.{samples, after_samples};
 
 use circle_field::{ExtensionField, Field};
 
@@ -95,13 +97,47 @@ pub trait GrindingChallenger<F: Field>: CanObserve<F> + CanSampleBits {
         ensures easy { bits ≡ 0 → result ≡ Some F.ops.zero };
 }
 
-/// What a challenger over the field `F` is to a transcript whose challenges are in the extension
-/// `EF`, for contracts alone.
+/// What a challenger over the field `F` takes in and gives of the extension `EF`, and what it is to
+/// a transcript whose challenges are there.
 ///
 /// Each challenger that samples and grinds has it, so no function asks for it: a clause cites `⟦<C
 /// as FieldChallenger<F, EF>>⟧.moves`.
 pub trait FieldChallenger<F: Field, EF: ExtensionField<F>>: CanSample<F> + GrindingChallenger<F> {
     ghost moves: { Moves Self Self.State F EF };
+
+    /// Takes in an element of the extension, its coefficients in order.
+    fn observe_algebra_element(&mut self, value: &EF)
+        ensures { Self.state self.new ≡ after_all Self.after_observe (Self.state self.old)
+            (EF.coefficients value.now) }
+    {
+        for i in 0..EF::DEGREE {
+            self.observe(&value.coefficient(i));
+        }
+    }
+
+    /// Takes in elements of the extension in order, the coefficients of each in order.
+    fn observe_algebra_slice(&mut self, values: &[EF])
+        ensures { Self.state self.new ≡ after_all Self.after_observe (Self.state self.old)
+            (flat_map EF.coefficients values.now) }
+    {
+        for value in values {
+            self.observe_algebra_element(value);
+        }
+    }
+
+    /// The element of the extension whose coefficients are the next elements, in order.
+    fn sample_algebra_element(&mut self) -> EF
+        ensures value { EF.coefficients result ≡ samples Self.sampled Self.after_sample EF.DEGREE
+            (Self.state self.old) }
+        ensures after { Self.state self.new ≡ after_samples Self.after_sample EF.DEGREE
+            (Self.state self.old) }
+    {
+        let mut value = EF::ZERO;
+        for i in 0..EF::DEGREE {
+            value = value.with_coefficient(i, self.sample());
+        }
+        value
+    }
 }
 
 impl<F: Field, EF: ExtensionField<F>, C: CanSample<F> + GrindingChallenger<F>> FieldChallenger<

@@ -8,6 +8,8 @@
 //!   lawful challenger. A witness of a proof of work passes exactly where the sampled bits are
 //!   zero, `grind` finds one where some passes, and at no difficulty nothing changes (the trait
 //!   `GrindingChallenger`).
+//! - An element of an extension is taken in, and drawn, as its coefficients in order, by any such
+//!   challenger (`FieldChallenger`).
 //! - The text of a `DomainSeparator` is that of its version, name, steps and labels, and of no
 //!   other (`DomainSeparator::text`, clause `only`).
 //! - A `ProverState` or `VerifierState` takes the text in byte by byte (`new`), each further call

@@ -11,7 +11,9 @@ ghost use Rattle.circle_challenger.specs.Played.{element_message, elements_messa
 ghost use Rattle.circle_challenger.specs.Played.{pow_step, element_challenge, numbers_challenge};
 ghost use Rattle.circle_challenger.specs.TranscriptState.{Borrows, current, due, SameChallenger};
 
-use crate::challenger::{CanObserve, CanSample, CanSampleBits, GrindingChallenger};
+use crate::challenger::{
+    CanObserve, CanSample, CanSampleBits, FieldChallenger, GrindingChallenger,
+};
 use crate::domain_separator::DomainSeparator;
 use crate::due::StepsDue;
 use circle_field::{ExtensionField, Field};
@@ -99,7 +101,7 @@ impl<'a, F: Field, C: CanSample<F> + GrindingChallenger<F>, S> TranscriptState<'
         ensures state { C.state (current self.new) ≡ after_all C.after_observe
             (C.state (current self.old)) (EF.coefficients value.now) }
     {
-        observe_coefficients::<F, EF, C>(self.challenger, value);
+        self.challenger.observe_algebra_element(value);
         self.due = self.due.after_first();
     }
 
@@ -114,7 +116,7 @@ impl<'a, F: Field, C: CanSample<F> + GrindingChallenger<F>, S> TranscriptState<'
         ensures state { C.state (current self.new) ≡ after_all C.after_observe
             (C.state (current self.old)) (flat_map EF.coefficients values.now) }
     {
-        observe_each::<F, EF, C>(self.challenger, values);
+        self.challenger.observe_algebra_slice(values);
         self.due = self.due.after_first();
     }
 
@@ -133,8 +135,8 @@ impl<'a, F: Field, C: CanSample<F> + GrindingChallenger<F>, S> TranscriptState<'
         ensures state { C.state (current self.new) ≡ after_all C.after_observe
             (C.state (current self.old)) (flat_map EF.coefficients (first.now ∷ second.now ∷ [])) }
     {
-        observe_coefficients::<F, EF, C>(self.challenger, first);
-        observe_coefficients::<F, EF, C>(self.challenger, second);
+        self.challenger.observe_algebra_element(first);
+        self.challenger.observe_algebra_element(second);
         self.due = self.due.after_first();
     }
 
@@ -166,7 +168,7 @@ impl<'a, F: Field, C: CanSample<F> + GrindingChallenger<F>, S> TranscriptState<'
         ensures state { C.state (current self.new) ≡ after_samples C.after_sample EF.DEGREE
             (C.state (current self.old)) }
     {
-        let value = sample_extension::<F, EF, C>(self.challenger);
+        let value = self.challenger.sample_algebra_element();
         self.due = self.due.after_first();
         value
     }
@@ -268,46 +270,6 @@ impl<'a, F: Field, C: CanSample<F> + GrindingChallenger<F>> TranscriptState<
         self.due = self.due.after_first();
         self.challenger.check_witness(bits, witness)
     }
-}
-
-/// Has the challenger take in the coefficients of the element, in order.
-fn observe_coefficients<F: Field, EF: ExtensionField<F>, C: CanObserve<F>>(
-    challenger: &mut C,
-    value: &EF,
-)
-    ensures { C.state challenger.new ≡ after_all C.after_observe (C.state challenger.old)
-        (EF.coefficients value.now) }
-{
-    for i in 0..EF::DEGREE {
-        challenger.observe(&value.coefficient(i));
-    }
-}
-
-/// Has the challenger take in the coefficients of each element, in order.
-fn observe_each<F: Field, EF: ExtensionField<F>, C: CanObserve<F>>(
-    challenger: &mut C,
-    values: &[EF],
-)
-    ensures { C.state challenger.new ≡ after_all C.after_observe (C.state challenger.old)
-        (flat_map EF.coefficients values.now) }
-{
-    for value in values {
-        observe_coefficients::<F, EF, C>(challenger, value);
-    }
-}
-
-/// An element of the extension whose coefficients are the challenger's next elements, in order.
-fn sample_extension<F: Field, EF: ExtensionField<F>, C: CanSample<F>>(challenger: &mut C) -> EF
-    ensures value { EF.coefficients result ≡ samples C.sampled C.after_sample EF.DEGREE
-        (C.state challenger.old) }
-    ensures state { C.state challenger.new ≡ after_samples C.after_sample EF.DEGREE
-        (C.state challenger.old) }
-{
-    let mut value = EF::ZERO;
-    for i in 0..EF::DEGREE {
-        value = value.with_coefficient(i, challenger.sample());
-    }
-    value
 }
 
 /// The challenger's next `count` numbers of `width` bits.

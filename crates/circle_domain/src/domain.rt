@@ -1,7 +1,7 @@
 //! Domains of the circle transform: twin cosets of a cyclic group of points.
 ghost use Rattle.std.specs.Prelude.{◌≡◌, ◌≢◌, ◌↔◌, ◌≤◌, ◌<◌, ◌+◌, ◌-◌, ◌*◌, ◌^◌, ℕ, length, map};
 ghost use Rattle.std.specs.Prelude.{take};
-ghost use Rattle.std.specs.Prelude.{IsTrue, IsNone, IfSome, IfOk, Some, Ok, All, AllPairs};
+ghost use Rattle.std.specs.Prelude.{IsTrue, IsNone, IsSome, IfSome, IfOk, Some, Ok, All, AllPairs};
 ghost use Rattle.std.specs.Prelude.{slice_get};
 ghost use Rattle.std.specs.Iterator.{YieldsFirstBy, item_count};
 ghost use Rattle.circle_field.specs.Circle.{opposite, lifted};
@@ -97,7 +97,7 @@ impl<F: ComplexExtendable> CircleDomain<F> {
 
     /// The standard domain of `2^log_n` points: all points of order `2^(log_n + 1)`.
     ///
-    /// Asks `log_n + 1 <= CIRCLE_TWO_ADICITY`.
+    /// Asks `log_n + 1 <= CIRCLE_TWO_ADICITY`, as [`try_standard`](Self::try_standard) tests.
     pub fn standard(log_n: usize) -> Self
         requires { log_n + 1 ≤ F.CIRCLE_TWO_ADICITY }
         ensures size { log_size result ≡ log_n }
@@ -107,6 +107,18 @@ impl<F: ComplexExtendable> CircleDomain<F> {
             log_n,
             shift: Point::generator(log_n + 1),
         }
+    }
+
+    /// What [`standard`](Self::standard) answers, and `None` where the group is too small for it.
+    pub fn try_standard(log_n: usize) -> Option<Self>
+        ensures some { IsSome result ↔ (log_n + 1 ≤ F.CIRCLE_TWO_ADICITY) }
+        ensures size { IfSome result (λ d. log_size d ≡ log_n) }
+        ensures shift { IfSome result (λ d. shift_of d ≡ F.generators (log_n + 1)) }
+    {
+        if F::CIRCLE_TWO_ADICITY <= log_n {
+            return None;
+        }
+        Some(Self::standard(log_n))
     }
 
     /// Whether the two halves are disjoint, so that the domain has `2^log_n` different points.
@@ -209,7 +221,8 @@ impl<F: ComplexExtendable> CircleDomain<F> {
 
     /// The point at place `index` of the natural order.
     ///
-    /// Asks `1 <= log_n <= CIRCLE_TWO_ADICITY` and `index < size`.
+    /// Asks `1 <= log_n <= CIRCLE_TWO_ADICITY` and `index < size`, as
+    /// [`try_nth_point`](Self::try_nth_point) tests.
     pub fn nth_point(&self, index: usize) -> Point<F>
         requires positive { 1 ≤ log_size self.now }
         requires in_group { log_size self.now ≤ F.CIRCLE_TWO_ADICITY }
@@ -222,6 +235,24 @@ impl<F: ComplexExtendable> CircleDomain<F> {
             self.shift + self.subgroup_generator() * turn
         } else {
             -self.shift + self.subgroup_generator() * (turn + 1)
+        }
+    }
+
+    /// What [`nth_point`](Self::nth_point) answers, and `None` where `log_n` is 0 or above
+    /// `CIRCLE_TWO_ADICITY`, or the index isn't below the size.
+    pub fn try_nth_point(&self, index: usize) -> Option<Point<F>>
+        ensures some { IsSome result ↔ ((1 ≤ log_size self.now)
+            × (log_size self.now ≤ F.CIRCLE_TWO_ADICITY) × (index < 2 ^ log_size self.now)) }
+        ensures point { IfSome result (λ p. slice_get (points_of F.ops F.generators self.now) index
+            ≡ Some (coordinates p)) }
+    {
+        if self.log_n == 0 || F::CIRCLE_TWO_ADICITY < self.log_n {
+            return None;
+        }
+        if index < self.size() {
+            Some(self.nth_point(index))
+        } else {
+            None
         }
     }
 

@@ -6,6 +6,7 @@
 //!   `2^log_n` of them; `is_genuine` is true exactly where the halves are disjoint, `is_standard`
 //!   exactly on standard domains, and `is_clear_of` exactly at points whose difference from each
 //!   of the domain's points has a y coordinate that is not 0.
+//! - `try_standard` and `try_nth_point` are `None` exactly where `standard` and `nth_point` ask more.
 //! - `cfft_permute_index` is the bit reversal between the two orders and its own inverse.
 //! - On a standard domain `next_point` from `first_point` walks all points in natural order and
 //!   returns (`walk`); `try_create_disjoint_domain` answers a standard domain of at least so many

@@ -6,7 +6,7 @@ ghost use Rattle.circle_field.specs.CubicFive.{five};
 use crate::extension::{ElementBytes, ExtensionField};
 use crate::field::{Field, Operations};
 use crate::mersenne31::{self, Mersenne31, fold_bits};
-use std::ops::{Add, Mul, Neg, Sub};
+use std::ops::{Add, AddAssign, Mul, MulAssign, Neg, Sub, SubAssign};
 
 /// An element of the field of `(2^31 - 1)^3` elements: a polynomial `c0 + c1 X + c2 X^2` over
 /// [`Mersenne31`], where `X^3` is 5, which is no cube there.
@@ -134,6 +134,37 @@ impl Neg for Cubic {
             c1: -self.c1,
             c2: -self.c2,
         }
+    }
+}
+
+impl AddAssign for Cubic {
+    ghost use Rattle.circle_field.specs.Cubic.{operations};
+
+    ghost add_assign_gives = { λ a b r. r ≡ operations.add a b };
+
+    fn add_assign(&mut self, rhs: Self) {
+        *self = *self + rhs;
+    }
+}
+
+impl SubAssign for Cubic {
+    ghost use Rattle.circle_field.specs.Field.{sub};
+    ghost use Rattle.circle_field.specs.Cubic.{operations};
+
+    ghost sub_assign_gives = { λ a b r. r ≡ sub operations a b };
+
+    fn sub_assign(&mut self, rhs: Self) {
+        *self = *self - rhs;
+    }
+}
+
+impl MulAssign for Cubic {
+    ghost use Rattle.circle_field.specs.Cubic.{operations};
+
+    ghost mul_assign_gives = { λ a b r. r ≡ operations.mul a b };
+
+    fn mul_assign(&mut self, rhs: Self) {
+        *self = *self * rhs;
     }
 }
 

@@ -6,11 +6,12 @@
 //! - `Mersenne31` is the field of the numbers modulo `2^31 - 1`, which is a prime (`order_prime`):
 //!   its `+ - *` and negation are the sums, products and opposites of residues, without a division
 //!   on the way (`add_gives` and the like of the operators' impls), and they have the laws of a
-//!   field in which 2 is not 0 (`Operations::laws`). `try_new` is `None` exactly for numbers that
-//!   are not below the order, `from_u64` is the sum of that many ones, `value` and `as_u64` the
-//!   residue, which gives the element back.
-//! - `Cubic` is `X^3 = 5` over it, with the same laws: 5 is no cube, so every element but 0 has an
-//!   inverse.
+//!   field in which 2 is not 0 (`Operations::laws`); `+=`, `-=` and `*=` leave the same
+//!   (`add_assign_gives` and the like). `try_new` is `None` exactly for numbers that are not below
+//!   the order, `from_u64` is the sum of that many ones, `value` and `as_u64` the residue, which
+//!   gives the element back.
+//! - `Cubic` is `X^3 = 5` over it, with the same operators and laws: 5 is no cube, so every element
+//!   but 0 has an inverse.
 //! - For every field `==` is sameness, `try_inverse` is `None` exactly at 0 and else the inverse;
 //!   `halve`, `div_2exp_u64`, `powers`, `exp_u64`, `mul_2exp_u64`, `square`, `double` and
 //!   `is_zero` are what they say, and `batch_multiplicative_inverse` is the list of the inverses

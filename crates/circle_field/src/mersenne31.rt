@@ -4,7 +4,7 @@ ghost use Rattle.circle_field.specs.Circle.{at, plus};
 
 use crate::extension::ComplexExtendable;
 use crate::field::{Field, Operations};
-use std::ops::{Add, Mul, Neg, Sub};
+use std::ops::{Add, AddAssign, Mul, MulAssign, Neg, Sub, SubAssign};
 
 /// An element of the prime field of `2^31 - 1` elements, the base field of Circle STARKs (IACR
 /// ePrint 2024/278, section 3).
@@ -180,6 +180,37 @@ impl Neg for Mersenne31 {
 
     fn neg(self) -> Self {
         Self::from_sum(Self::ORDER - self.value)
+    }
+}
+
+impl AddAssign for Mersenne31 {
+    ghost use Rattle.circle_field.specs.Mersenne31.{operations};
+
+    ghost add_assign_gives = { λ a b r. r ≡ operations.add a b };
+
+    fn add_assign(&mut self, rhs: Self) {
+        *self = *self + rhs;
+    }
+}
+
+impl SubAssign for Mersenne31 {
+    ghost use Rattle.circle_field.specs.Field.{sub};
+    ghost use Rattle.circle_field.specs.Mersenne31.{operations};
+
+    ghost sub_assign_gives = { λ a b r. r ≡ sub operations a b };
+
+    fn sub_assign(&mut self, rhs: Self) {
+        *self = *self - rhs;
+    }
+}
+
+impl MulAssign for Mersenne31 {
+    ghost use Rattle.circle_field.specs.Mersenne31.{operations};
+
+    ghost mul_assign_gives = { λ a b r. r ≡ operations.mul a b };
+
+    fn mul_assign(&mut self, rhs: Self) {
+        *self = *self * rhs;
     }
 }
 

@@ -5,7 +5,8 @@
 //! What is proved:
 //!
 //! - A matrix is its list of rows: `row`, `split_rows`, `new_col`, `copy_of`, the mapped view and
-//!   `to_row_major_matrix` say exactly which rows.
+//!   `to_row_major_matrix` say exactly which rows. `try_new` is `None` exactly where the width is 0
+//!   or doesn't divide the number of entries.
 //! - `columnwise_dot_product` answers each column's sum by weights of the rows, and
 //!   `columnwise_dot_products` the same for several lists of weights, the rows read once.
 //! - The trait `Mmcs` says what a scheme that commits to matrices promises, and `PolynomialSpace`

@@ -1,7 +1,7 @@
 //! Matrices by rows, and views of them under another order of the rows.
 ghost use Rattle.std.specs.Prelude.{◌≡◌, ℕ, ◌+◌, ◌<◌, ◌≤◌, ◌%◌, ◌/◌, List, [], ◌∷◌, length, map};
 ghost use Rattle.std.specs.Prelude.{Some, IfOk, All, slice_get, slice_index_or, take, drop};
-ghost use Rattle.std.specs.Prelude.{vec_len};
+ghost use Rattle.std.specs.Prelude.{vec_len, ◌↔◌, IsSome, IfSome};
 ghost use Rattle.std.specs.List.{range_with_len};
 ghost use Rattle.circle_matrix.specs.DotProduct.{column_sums, pairwise, with_multiple};
 ghost use Rattle.circle_matrix.specs.Matrix.{mapped_rows, rows_from};
@@ -172,7 +172,8 @@ impl<T: Copy> RowMajorMatrix<T> {
 
     /// The matrix with these entries, row after row.
     ///
-    /// Asks a width of at least 1 that divides the number of entries.
+    /// Asks a width of at least 1 that divides the number of entries, as [`try_new`](Self::try_new)
+    /// tests.
     pub fn new(values: Vec<T>, width: usize) -> Self
         requires positive { 1 ≤ width }
         requires whole { vec_len values % width ≡ 0 }
@@ -180,6 +181,21 @@ impl<T: Copy> RowMajorMatrix<T> {
         ensures content { rows result ≡ rows_from width (vec_len values / width) values.items }
     {
         RowMajorMatrix { values, width }
+    }
+
+    /// What [`new`](Self::new) answers, and `None` where the width is 0 or doesn't divide the number
+    /// of entries.
+    pub fn try_new(values: Vec<T>, width: usize) -> Option<Self>
+        ensures some { IsSome result ↔ ((1 ≤ width) × (vec_len values % width ≡ 0)) }
+        ensures shape { IfSome result (λ m. width_of m ≡ width) }
+        ensures content { IfSome result (λ m. rows m
+            ≡ rows_from width (vec_len values / width) values.items) }
+    {
+        if width != 0 && values.len() % width == 0 {
+            Some(Self::new(values, width))
+        } else {
+            None
+        }
     }
 
     /// The matrix of one column with these entries.

@@ -1,5 +1,5 @@
 //! Rows of a matrix that is stored elsewhere.
-ghost use Rattle.std.specs.Prelude.{◌≡◌, ◌≤◌, ◌%◌, ◌/◌, length};
+ghost use Rattle.std.specs.Prelude.{◌≡◌, ◌↔◌, ◌≤◌, ◌%◌, ◌/◌, length, IsSome, IfSome};
 ghost use Rattle.circle_matrix.specs.Matrix.{rows_from};
 
 use crate::matrix::{Matrix, MatrixShape};
@@ -18,7 +18,8 @@ impl<'a, T> RowMajorMatrixView<'a, T> {
 
     /// The rows of these entries, row after row.
     ///
-    /// Asks a width of at least 1 that divides the number of entries.
+    /// Asks a width of at least 1 that divides the number of entries, as [`try_new`](Self::try_new)
+    /// tests.
     pub fn new(values: &'a [T], width: usize) -> Self
         requires positive { 1 ≤ width }
         requires whole { length values.now % width ≡ 0 }
@@ -27,6 +28,21 @@ impl<'a, T> RowMajorMatrixView<'a, T> {
             values.entry.now }
     {
         RowMajorMatrixView { values, width }
+    }
+
+    /// What [`new`](Self::new) answers, and `None` where the width is 0 or doesn't divide the number
+    /// of entries.
+    pub fn try_new(values: &'a [T], width: usize) -> Option<Self>
+        ensures some { IsSome result ↔ ((1 ≤ width) × (length values.entry.now % width ≡ 0)) }
+        ensures shape { IfSome result (λ m. width_of m ≡ width) }
+        ensures content { IfSome result (λ m. rows m
+            ≡ rows_from width (length values.entry.now / width) values.entry.now) }
+    {
+        if width != 0 && values.len() % width == 0 {
+            Some(Self::new(values, width))
+        } else {
+            None
+        }
     }
 }
 

@@ -6,8 +6,8 @@ ghost use Rattle.circle_challenger.specs.Observing.{after_all};
 ghost use Rattle.circle_challenger.specs.Separator.{seed_text};
 
 use circle_challenger::{
-    CanObserve, CanSample, CanSampleBits, DomainSeparator, GrindingChallenger, Hierarchy,
-    Interaction, InteractionPattern, Kind, Length, ProverState, Sha256Challenger,
+    CanObserve, CanSample, CanSampleBits, DomainSeparator, FieldChallenger, GrindingChallenger,
+    Hierarchy, Interaction, InteractionPattern, Kind, Length, ProverState, Sha256Challenger,
 };
 use circle_field::{Cubic, ExtensionField, Field, Mersenne31};
 use std::test::Fail;
@@ -56,6 +56,19 @@ fn the_sponge_is_the_digests_of_its_states(rt: HostRuntime) {
     ] {
         assert_eq!(rt; found, element(expected));
     }
+}
+
+#[test]
+fn elements_of_the_extension_are_their_coefficients_in_order(rt: HostRuntime) {
+    let mut challenger = Sha256Challenger::new();
+    let first: Cubic = challenger.sample_algebra_element();
+    assert_eq!(rt; first, cubic(887805594, 2008966348, 1680214714));
+
+    let mut challenger = Sha256Challenger::new();
+    challenger.observe_algebra_element(&cubic(1, 2, 3));
+    challenger.observe_algebra_slice(&[cubic(4, 5, 6), cubic(7, 8, 9)]);
+    let next: Cubic = challenger.sample_algebra_element();
+    assert_eq!(rt; next, cubic(942657691, 510228239, 1162152177));
 }
 
 #[test]

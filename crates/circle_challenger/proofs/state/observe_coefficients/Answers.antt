@@ -1,8 +1,0 @@
-use Rattle.circle_challenger.proofs.Draws.{after_all-read}
-use Rattle.circle_challenger.proofs.state.observe_coefficients.Goals as goal
-
-pub loop-i-preserved : goal.loop-i-preserved
-loop-i-preserved g c =
-    let begun = g.C.ChallengerState.state c.args.challenger.now in
-    let xs = g.EF.ExtensionField.coefficients c.args.value.now in
-    after_all-read g.C.CanObserve.after_observe begun _ _ xs c.loop-i.i _ c.loop-i.invariant c.coefficient.ensures c.observe.ensures
