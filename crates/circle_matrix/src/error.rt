@@ -1,6 +1,6 @@
 //! Why a proof is refused.
 ghost use Rattle.std.specs.Prelude.{◌≡◌, ℕ, List};
-ghost use Rattle.circle_matrix.specs.Named.{fri_error_name};
+ghost use Rattle.circle_matrix.specs.Named.{fri_name};
 ghost use Rattle.circle_matrix.specs.declared.error.FriError.TheVariants.{Memory};
 
 use crate::params::PowPhase;
@@ -143,7 +143,7 @@ pub enum FriError<CommitErr, InputErr> {
 impl<CommitErr, InputErr: Named> FriError<CommitErr, InputErr> {
     /// The variant's name, but that of the inner error where the input is refused.
     pub fn name(&self) -> &'static str
-        ensures { result.now ≡ fri_error_name InputErr.name_of self.now }
+        ensures { result.now ≡ fri_name InputErr.name_of self.now }
     {
         match self {
             FriError::NoCommittedMatrices => "NoCommittedMatrices",

@@ -4,10 +4,10 @@ use Rattle.circle_merkle.specs.declared.error.MerkleTreeError.{MerkleTreeError}
 use Rattle.circle_merkle.specs.declared.error.MerkleTreeError.TheVariants as error
 
 -- the name of a variant
-abbrev pub merkle_tree_error_name : MerkleTreeError → List ℕ
-merkle_tree_error_name error.WrongIndex = codes "WrongIndex"
-merkle_tree_error_name error.WrongWidth = codes "WrongWidth"
-merkle_tree_error_name error.WrongProofLength = codes "WrongProofLength"
-merkle_tree_error_name error.DisagreeingRows = codes "DisagreeingRows"
-merkle_tree_error_name error.RootMismatch = codes "RootMismatch"
-merkle_tree_error_name error.Memory = codes "Memory"
+abbrev pub merkle_name : MerkleTreeError → List ℕ
+merkle_name error.WrongIndex = codes "WrongIndex"
+merkle_name error.WrongWidth = codes "WrongWidth"
+merkle_name error.WrongProofLength = codes "WrongProofLength"
+merkle_name error.DisagreeingRows = codes "DisagreeingRows"
+merkle_name error.RootMismatch = codes "RootMismatch"
+merkle_name error.Memory = codes "Memory"

@@ -1,6 +1,6 @@
 //! Why opened rows are refused.
 ghost use Rattle.std.specs.Prelude.{◌≡◌};
-ghost use Rattle.circle_merkle.specs.Named.{merkle_tree_error_name};
+ghost use Rattle.circle_merkle.specs.Named.{merkle_name};
 ghost use Rattle.circle_merkle.specs.declared.error.MerkleTreeError.TheVariants.{Memory};
 
 use std::alloc::AllocError;
@@ -35,7 +35,7 @@ pub enum MerkleTreeError {
 impl MerkleTreeError {
     /// The variant's name.
     pub fn name(&self) -> &'static str
-        ensures { result.now ≡ merkle_tree_error_name self.now }
+        ensures { result.now ≡ merkle_name self.now }
     {
         match self {
             MerkleTreeError::WrongIndex => "WrongIndex",

@@ -1,7 +1,7 @@
 //! Why there is no commitment and no opening.
 ghost use Rattle.std.specs.Prelude.{◌≡◌};
 ghost use Rattle.circle_opening.specs.Failure.{prover_error};
-ghost use Rattle.circle_opening.specs.Named.{prover_error_name};
+ghost use Rattle.circle_opening.specs.Named.{prover_name};
 ghost use Rattle.circle_opening.specs.declared.error.ProverError.TheVariants.{Memory};
 
 use circle_matrix::PowPhase;
@@ -58,7 +58,7 @@ pub enum ProverError {
 impl ProverError {
     /// The variant's name.
     pub fn name(&self) -> &'static str
-        ensures { result.now ≡ prover_error_name self.now }
+        ensures { result.now ≡ prover_name self.now }
     {
         match self {
             ProverError::Memory => "Memory",

@@ -4,10 +4,10 @@ use Rattle.circle_relation.specs.declared.error.InputError.{InputError}
 use Rattle.circle_relation.specs.declared.error.InputError.TheVariants as error
 
 -- the name of a variant
-abbrev pub input_error_name : {I W : Type 0} → InputError I W → List ℕ
-input_error_name (error.InputMmcsError _) = codes "InputMmcsError"
-input_error_name (error.FirstLayerMmcsError _) = codes "FirstLayerMmcsError"
-input_error_name error.InputShapeError = codes "InputShapeError"
-input_error_name error.OpeningPointMatchesQueryPoint = codes "OpeningPointMatchesQueryPoint"
-input_error_name (error.MatrixWithoutOpeningPoints _ _) = codes "MatrixWithoutOpeningPoints"
-input_error_name (error.DomainTooSmall _) = codes "DomainTooSmall"
+abbrev pub input_name : {I W : Type 0} → InputError I W → List ℕ
+input_name (error.InputMmcsError _) = codes "InputMmcsError"
+input_name (error.FirstLayerMmcsError _) = codes "FirstLayerMmcsError"
+input_name error.InputShapeError = codes "InputShapeError"
+input_name error.OpeningPointMatchesQueryPoint = codes "OpeningPointMatchesQueryPoint"
+input_name (error.MatrixWithoutOpeningPoints _ _) = codes "MatrixWithoutOpeningPoints"
+input_name (error.DomainTooSmall _) = codes "DomainTooSmall"

@@ -1,6 +1,6 @@
 //! Why what a proof opens is refused.
 ghost use Rattle.std.specs.Prelude.{◌≡◌};
-ghost use Rattle.circle_relation.specs.Named.{input_error_name};
+ghost use Rattle.circle_relation.specs.Named.{input_name};
 
 use circle_matrix::Named;
 use std::fmt::Display;
@@ -42,7 +42,7 @@ pub enum InputError<InputMmcsError, FriMmcsError> {
 
 /// The variant's name.
 impl<InputMmcsError, FriMmcsError> Named for InputError<InputMmcsError, FriMmcsError> {
-    ghost name_of = { input_error_name };
+    ghost name_of = { input_name };
 
     fn name(&self) -> &'static str {
         match self {
