@@ -1,18 +1,11 @@
 //! What is opened of committed batches, the claims on them, and what is answered to these.
-ghost use Rattle.std.specs.Prelude.{◌≡◌, List, All, IsTrue};
-ghost use Rattle.circle_matrix.specs.Mmcs.{HaveHeightsOfPowers};
-ghost use Rattle.circle_matrix.specs.declared.pcs.OpeningRequest.{OpeningRequest};
-
 use crate::batches::{Batch, Domain};
 use crate::parameters::{Data, Proof, Scheme};
 use circle_challenger::{CanObserve, CanSample, GrindingChallenger, Sha256Challenger};
-use circle_commit::{
-    CommitmentOpening, FriError, MatrixOpening, Mmcs, OpenedValues, OpenedValuesForMatrix,
-    OpenedValuesForRound, OpeningRequest, PointOpening, heights_are_powers_of_two,
-};
+use circle_commit::{CommitmentOpening, FriError, Mmcs, OpenedValues, OpeningRequest};
 use circle_field::{ComplexExtendable, Cubic, ExtensionField, Mersenne31};
 use circle_merkle::MerkleTreeError;
-use p3_circle::{CircleDomain, CirclePcs, CirclePcsProof, InputError, ProverError};
+use p3_circle::{CircleDomain, CirclePcs, CirclePcsProof, CommittedBatch, InputError, ProverError};
 use std::alloc::{AllocError, Global};
 use std::fmt::InlineText;
 
@@ -22,22 +15,6 @@ pub type Answer = Result<
     (),
     FriError<MerkleTreeError, InputError<MerkleTreeError, MerkleTreeError>>,
 >;
-
-// Whether all matrices have heights that are powers of two.
-fn have_powers<F: ComplexExtendable, EF: ExtensionField<F>, I: Mmcs<F>>(
-    mmcs: &I,
-    requests: &[OpeningRequest<I::ProverData, EF>],
-) -> bool
-    ensures { IsTrue result → (list : List (OpeningRequest I.ProverData EF)) → requests.now ≡ list
-        → All (λ r. HaveHeightsOfPowers (I.matrices r.prover_data.now)) list }
-{
-    for request in requests {
-        if !heights_are_powers_of_two(mmcs.get_matrices(request.prover_data)) {
-            return false;
-        }
-    }
-    true
-}
 
 /// `CirclePcs::open`, or `NotGenuine`, which it never answers, where it asks for other heights.
 pub fn open_at<F: ComplexExtendable, EF: ExtensionField<F>, I: Mmcs<F>, W: Mmcs<EF>, C>(
@@ -49,7 +26,7 @@ pub fn open_at<F: ComplexExtendable, EF: ExtensionField<F>, I: Mmcs<F>, W: Mmcs<
 where
     C: CanSample<F> + GrindingChallenger<F> + CanObserve<W::Commitment>,
 {
-    if !have_powers::<F, EF, I>(&scheme.mmcs, &requests) {
+    if !scheme.have_heights_of_powers(&requests) {
         return Err(ProverError::NotGenuine);
     }
     scheme.open(alloc, requests, challenger)
@@ -92,37 +69,20 @@ where
     open_at(alloc, scheme, requests_of(alloc, batches)?, challenger)
 }
 
-// The claims on a matrix that is opened to these values.
-fn claims_of_matrix(
+// What a verifier knows of the batches.
+fn known(
     alloc: Global,
-    domain: Domain,
-    points: &[Cubic],
-    values: &OpenedValuesForMatrix<Cubic>,
-) -> Result<MatrixOpening<Cubic, Domain>, AllocError> {
-    let mut claims = Vec::with_capacity(alloc, points.len())?;
-    for (point, values) in points.iter().zip(values) {
-        claims.push(PointOpening {
-            point: *point,
-            values: Vec::from_slice(alloc, values)?,
+    batches: &[Batch],
+) -> Result<Vec<CommittedBatch<Cubic, [u8; 32], Domain>>, AllocError> {
+    let mut known = Vec::with_capacity(alloc, batches.len())?;
+    for batch in batches {
+        known.push(CommittedBatch {
+            commitment: batch.commitment,
+            domains: Vec::from_slice(alloc, &batch.domains)?,
+            points: copies_of(alloc, &batch.points)?,
         })?;
     }
-    Ok(MatrixOpening {
-        domain,
-        points: claims,
-    })
-}
-
-// The claims on the matrices of a batch.
-fn claims_of_batch(
-    alloc: Global,
-    batch: &Batch,
-    values: &OpenedValuesForRound<Cubic>,
-) -> Result<Vec<MatrixOpening<Cubic, Domain>>, AllocError> {
-    let mut matrices = Vec::with_capacity(alloc, values.len())?;
-    for (domain, (points, values)) in batch.domains.iter().zip(batch.points.iter().zip(values)) {
-        matrices.push(claims_of_matrix(alloc, *domain, points, values)?)?;
-    }
-    Ok(matrices)
+    Ok(known)
 }
 
 /// The claims that the batches have these values.
@@ -131,14 +91,7 @@ pub fn claims_of(
     batches: &[Batch],
     values: &OpenedValues<Cubic>,
 ) -> Result<Claims, AllocError> {
-    let mut claims = Vec::with_capacity(alloc, batches.len())?;
-    for (batch, values) in batches.iter().zip(values) {
-        claims.push(CommitmentOpening {
-            commitment: batch.commitment,
-            matrices: claims_of_batch(alloc, batch, values)?,
-        })?;
-    }
-    Ok(claims)
+    p3_circle::claims_of(alloc, known(alloc, batches)?, values.clone()?)
 }
 
 // `CirclePcs::verify`.

@@ -65,7 +65,13 @@ pub mod transcript;
 mod verdict;
 pub mod verifier;
 
-pub use circle_commit::{BatchAtPoints, Pcs, RoundTripError, UnivariateStarkPcs};
+pub use circle_challenger::{CanObserve, CanSample, FieldChallenger, GrindingChallenger};
+pub use circle_commit::{
+    BatchAtPoints, CommitmentOpening, CommittedBatch, FriError, FriParameters, Matrix,
+    MatrixOpening, Mmcs, OpenedValues, OpeningRequest, Pcs, PeriodicLdeTable, PointOpening,
+    PolynomialSpace, PowPhase, RoundTripError, RowMajorMatrix, UnivariateStarkPcs, claims_of,
+};
+pub use circle_field::{ComplexExtendable, ExtensionField, Field};
 pub use circle_folding::{
     CircleFriFolding, deep_quotient_reduce_row, extract_lambda, fold_x, fold_x_row, fold_y,
     x_interpolate, x_value,

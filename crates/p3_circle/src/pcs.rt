@@ -1,6 +1,6 @@
 //! The scheme.
 ghost use Rattle.std.specs.Prelude.{◌≡◌, ◌+◌, ◌-◌, ◌^◌, ◌<◌, ◌≤◌, length, min};
-ghost use Rattle.std.specs.Prelude.{OnOk, IfOk, IfErr};
+ghost use Rattle.std.specs.Prelude.{OnOk, IfOk, IfErr, IsTrue};
 ghost use Rattle.circle_matrix.specs.Matrix.{IsPowerOfTwo};
 ghost use Rattle.circle_matrix.specs.Mmcs.{HaveHeightsOfPowers};
 ghost use Rattle.circle_matrix.specs.Pcs.{openings};
@@ -25,7 +25,7 @@ use crate::requests::validate_requests;
 use circle_challenger::{CanObserve, CanSample, GrindingChallenger};
 use circle_commit::{
     CommitmentOpening, FriError, FriParameters, Mmcs, OpenedValues, OpeningRequest,
-    PeriodicLdeTable, RowMajorMatrix, log2_strict,
+    PeriodicLdeTable, RowMajorMatrix, heights_are_powers_of_two, log2_strict,
 };
 use circle_domain::CircleDomain;
 use circle_field::{ComplexExtendable, ExtensionField, Field};
@@ -103,6 +103,7 @@ impl<Val: ComplexExtendable, InputMmcs: Mmcs<Val>, FriMmcs> CirclePcs<Val, Input
             self.now.fri_params.log_blowup evaluations.items (InputMmcs.matrices r.1)) }
         ensures commitment { IfOk result (λ r.
             InputMmcs.commits self.now.mmcs (InputMmcs.matrices r.1) r.0) }
+        ensures heights { IfOk result (λ r. HaveHeightsOfPowers (InputMmcs.matrices r.1)) }
     {
         if evaluations.is_empty() {
             return Err(ProverError::NoCommittedMatrices);
@@ -111,17 +112,37 @@ impl<Val: ComplexExtendable, InputMmcs: Mmcs<Val>, FriMmcs> CirclePcs<Val, Input
         Ok(self.mmcs.commit(alloc, ldes)?)
     }
 
+    /// Whether all matrices of the requests have heights that are powers of two, as
+    /// [`open`](CirclePcs::open) asks.
+    pub fn have_heights_of_powers<EF>(
+        &self,
+        requests: &[OpeningRequest<InputMmcs::ProverData, EF>],
+    ) -> bool
+        // Of the list by the name that a caller has for it, as that of a `Vec` that lends the slice.
+        ensures yes { IsTrue result → (list : _) → requests.now ≡ list
+            → HaveCommittedHeights InputMmcs.matrices list }
+        ensures no { HaveCommittedHeights InputMmcs.matrices requests.now → IsTrue result }
+    {
+        for request in requests {
+            if !heights_are_powers_of_two(self.mmcs.get_matrices(request.prover_data)) {
+                return false;
+            }
+        }
+        true
+    }
+
     /// Opens committed matrices at points: for each request, matrix and point the values of the
     /// columns' polynomials, and the proof of them all (Circle STARKs, IACR ePrint 2024/278,
     /// sections 4 to 6). The values are those of the polynomials that the first committed rows fix,
     /// as many rows as there were before the blowup. A matrix may be opened at no point; `verify`
     /// refuses it.
     ///
-    /// Asks that the matrices have heights that are powers of two, as committed ones do. Before the
-    /// challenger is seeded it is left as it was, and the first of these is answered, each tested
-    /// over all requests, by tests that take no memory: `UnfitParameters`, `NoCommittedMatrices`,
-    /// `MatrixCountMismatch`, `HeightTooSmall` and `HeightTooLarge` matrix after matrix,
-    /// `PointAtInfinity`, `PointOnDomain`.
+    /// Asks that the matrices have heights that are powers of two, as those have that `commit` and
+    /// `commit_ldes` committed to; [`have_heights_of_powers`](CirclePcs::have_heights_of_powers)
+    /// tests it of data from elsewhere. Before the challenger is seeded it is left as it was, and
+    /// the first of these is answered, each tested over all requests, by tests that take no memory:
+    /// `UnfitParameters`, `NoCommittedMatrices`, `MatrixCountMismatch`, `HeightTooSmall` and
+    /// `HeightTooLarge` matrix after matrix, `PointAtInfinity`, `PointOnDomain`.
     ///
     /// Then `NoGrindingWitness` of a phase where no witness passes, `LastWordNotConstant` where a
     /// matrix that `commit_ldes` took isn't of low degree, and `Memory` where memory is refused;
@@ -260,6 +281,7 @@ impl<Val: ComplexExtendable, InputMmcs: Mmcs<Val>, FriMmcs> CirclePcs<Val, Input
             (lde_tests Val.CIRCLE_TWO_ADICITY self.now.fri_params ldes.items) result }
         ensures matrices { IfOk result (λ r. InputMmcs.matrices r.1 ≡ ldes.items) }
         ensures commitment { IfOk result (λ r. InputMmcs.commits self.now.mmcs ldes.items r.0) }
+        ensures heights { IfOk result (λ r. HaveHeightsOfPowers (InputMmcs.matrices r.1)) }
     {
         if ldes.is_empty() {
             return Err(ProverError::NoCommittedMatrices);

@@ -1,5 +1,6 @@
-use Rattle.std.proofs.Common.{rules, ◌≡◌, ◌==◌, ◌≤◌, length, true, false, Ok, sym, ◌∙◌, arith}
+use Rattle.std.proofs.Common.{rules, ◌≡◌, ◌==◌, ◌≤◌, length, true, false, Ok, sym, subst, ◌∙◌, arith}
 use Rattle.std.proofs.lemmas.Slice.Zip.{AllZip-long}
+use Rattle.circle_matrix.specs.Mmcs.{HaveHeightsOfPowers}
 use Rattle.p3_circle.specs.Committing.{commit_tests, evaluation_tests, IsExtension}
 use Rattle.circle_opening.specs.declared.error.ProverError.TheVariants.{NoCommittedMatrices}
 use Rattle.p3_circle.proofs.Extensions.{extensions-heights}
@@ -56,3 +57,8 @@ returns-clause-refused g c =
     passes (commit_tests g.Val.ComplexExtendable.CIRCLE_TWO_ADICITY c.args.self.now.fri_params g.Val.PartialEq.eq g.Val.Operations.ops es) (Ok c.in_ok-commit.field-0)
     (skipped (length es == 0, NoCommittedMatrices) tests (tt {0}) some ∙ ok-passes tests c.in_ok-ldes.ldes c.in_ok-ldes.ensures.refused)
     tt
+
+pub returns-clause-heights : goal.returns-clause-heights
+returns-clause-heights g c =
+    subst HaveHeightsOfPowers (sym c.in_ok-commit.ensures.data)
+    (extensions-heights g.Val.Operations.ops g.Val.ComplexExtendable.generators c.args.self.now.fri_params.log_blowup c.args.evaluations.items c.in_ok-ldes.ldes.items c.in_ok-ldes.ensures.matrices)

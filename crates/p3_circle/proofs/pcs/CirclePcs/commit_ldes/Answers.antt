@@ -48,3 +48,6 @@ returns-clause-refused g c =
     (skipped (length ldes == 0, NoCommittedMatrices) (matrix_tests two p ldes) (tt {0}) some
     ∙ ap (λ ms. answer (matrix_tests two p ms) (tt {0})) (sym c.deref.ensures.value) ∙ sym c.validate_heights.ensures ∙ c.in_ok-validate_heights.was)
     tt
+
+pub returns-clause-heights : goal.returns-clause-heights
+returns-clause-heights g c = subst HaveHeightsOfPowers (sym c.in_ok-commit.ensures.data) c.requires
