@@ -2,17 +2,13 @@
 //! and how long both take.
 use crate::commitments::{Hash, number, numbers};
 use crate::evaluations::coefficients;
-use crate::proofs::{Claim, Proof};
 use crate::timing::{self, Mode};
 use crate::transforms::Size;
 use circle_challenger::{CanObserve, Sha256Challenger};
-use circle_commit::{
-    CommitmentOpening, FriParameters, MatrixOpening, Mmcs, OpenedValues, OpeningRequest,
-    PointOpening, RowMajorMatrix, heights_are_powers_of_two,
-};
+use circle_commit::{FriParameters, OpenedValues, OpeningRequest, RowMajorMatrix};
 use circle_field::{Cubic, ExtensionField, Field, Mersenne31};
-use circle_merkle::{ShaMmcs, ShaProverData};
-use p3_circle::{CircleDomain, CirclePcs, ProverError, heights_match_domains};
+use circle_presets::{Claim, Known, Proof, ProverData, Scheme, scheme};
+use p3_circle::{CircleDomain, ProverError, claims_of, heights_match_domains};
 use std::alloc::{AllocError, Global};
 use std::io::{self, ErrorKind};
 use std::time::{Duration, Instant};
@@ -21,8 +17,6 @@ use std::time::{Duration, Instant};
 const PROOFS: usize = 5;
 
 const VERIFICATIONS: usize = 50;
-
-type Scheme = CirclePcs<Mersenne31, ShaMmcs<Mersenne31>, ShaMmcs<Cubic>>;
 
 /// A matrix, and the points that it is opened at.
 #[derive(Drop)]
@@ -88,20 +82,17 @@ fn report_at(
     timing::print_result(rt, mode, time, u64::from(accepted))
 }
 
-/// The scheme: twice as many rows are committed to as there are, and 40 of them are queried.
-fn scheme() -> Scheme {
-    let params = FriParameters {
-        log_blowup: 1,
-        log_final_poly_len: 0,
-        max_log_arity: 1,
-        num_queries: 40,
-        batch_proof_of_work_bits: 0,
-        commit_proof_of_work_bits: 0,
-        query_proof_of_work_bits: 0,
-        mmcs: ShaMmcs::new(),
-    };
-    CirclePcs::new(ShaMmcs::new(), params)
-}
+/// Twice as many rows are committed to as there are, and 40 of them are queried.
+const PARAMETERS: FriParameters<()> = FriParameters {
+    log_blowup: 1,
+    log_final_poly_len: 0,
+    max_log_arity: 1,
+    num_queries: 40,
+    batch_proof_of_work_bits: 0,
+    commit_proof_of_work_bits: 0,
+    query_proof_of_work_bits: 0,
+    mmcs: (),
+};
 
 /// The challenger that prover and verifier begin with.
 fn after_commitment(commitment: &Hash) -> Sha256Challenger {
@@ -123,7 +114,7 @@ fn prove(rt: &HostRuntime, mode: Mode, statement: &Statement) -> io::Result<(Dur
 
 /// The time of one commitment to a copy of the matrix and its opening, and what they come to.
 fn prove_once(rt: &HostRuntime, statement: &Statement) -> io::Result<(Duration, Opened)> {
-    let pcs = scheme();
+    let pcs = scheme(PARAMETERS);
     let copy = statement.matrix.try_clone(rt.alloc())?;
     let domain = CircleDomain::standard(statement.size.log_rows);
     let evaluations = vec![in rt.alloc(); (domain, copy)]?;
@@ -147,19 +138,19 @@ fn open(
     alloc: Global,
     pcs: &Scheme,
     commitment: &Hash,
-    data: &ShaProverData<Mersenne31>,
+    data: &ProverData,
     points: &[Cubic],
 ) -> io::Result<(OpenedValues<Cubic>, Proof)> {
-    if !heights_are_powers_of_two(pcs.mmcs.get_matrices(data)) {
-        return Err(io::Error::from(ErrorKind::InvalidInput));
-    }
     let request = OpeningRequest {
         prover_data: data,
         points: vec![in alloc; Vec::from_slice(alloc, points)?]?,
     };
+    let requests = vec![in alloc; request]?;
+    if !pcs.have_heights_of_powers(&requests) {
+        return Err(io::Error::from(ErrorKind::InvalidInput));
+    }
     let mut challenger = after_commitment(commitment);
-    pcs.open(alloc, vec![in alloc; request]?, &mut challenger)
-        .map_err(failure)
+    pcs.open(alloc, requests, &mut challenger).map_err(failure)
 }
 
 /// The failure where a prover's call is refused.
@@ -177,7 +168,7 @@ fn verify(
     statement: &Statement,
     opened: &Opened,
 ) -> io::Result<(Duration, bool)> {
-    let pcs = scheme();
+    let pcs = scheme(PARAMETERS);
     let mut best = Duration::MAX;
     let mut accepted = true;
     for _ in 0..timing::runs(mode, VERIFICATIONS) {
@@ -192,30 +183,13 @@ fn verify(
 }
 
 /// The claims that the columns have the opened values at the points.
-fn claims(
-    alloc: Global,
-    statement: &Statement,
-    opened: &Opened,
-) -> io::Result<Vec<Claim<CircleDomain<Mersenne31>>>> {
-    let Some(values) = opened.values.first().and_then(|batch| batch.first()) else {
-        return Err(io::Error::from(ErrorKind::InvalidInput));
-    };
-    let mut points = Vec::with_capacity(alloc, values.len())?;
-    for (point, values) in statement.points.iter().zip(values) {
-        points.push(PointOpening {
-            point: *point,
-            values: Vec::from_slice(alloc, values)?,
-        })?;
-    }
-    let matrix = MatrixOpening {
-        domain: CircleDomain::standard(statement.size.log_rows),
-        points,
-    };
-    let batch = CommitmentOpening {
+fn claims(alloc: Global, statement: &Statement, opened: &Opened) -> io::Result<Vec<Claim>> {
+    let known = Known {
         commitment: opened.commitment,
-        matrices: vec![in alloc; matrix]?,
+        domains: vec![in alloc; CircleDomain::standard(statement.size.log_rows)]?,
+        points: vec![in alloc; Vec::from_slice(alloc, statement.points)?]?,
     };
-    Ok(vec![in alloc; batch]?)
+    Ok(claims_of(alloc, vec![in alloc; known]?, opened.values.clone()?)?)
 }
 
 /// The sum of the numbers of all commitments and of the digests beside the first layer's rows, and

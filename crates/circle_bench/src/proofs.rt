@@ -2,10 +2,9 @@
 use crate::timing::{self, Mode};
 use circle_challenger::{CanObserve, Sha256Challenger};
 use circle_commit::{CommitmentOpening, FriError, FriParameters, JsonForm, MatrixOpening};
-use circle_field::{Cubic, Mersenne31};
 use circle_json::member;
-use circle_merkle::ShaMmcs;
-use p3_circle::{CircleDomain, CirclePcs, CirclePcsProof, Neutral, Point};
+use circle_presets::{Claim, ClaimOn, Proof, scheme};
+use p3_circle::{CircleDomain, Neutral, Point};
 use serde_json::Value;
 use std::alloc::{AllocError, Global};
 use std::fs;
@@ -24,18 +23,10 @@ const FILE_OF_CRATE: &str = "data/two_batches_with_work.verify.json";
 /// How many times the proof is read and verified when that is timed.
 const RUNS: usize = 50;
 
-type Hash = [u8; 32];
-
-/// The claims about one batch, whose domains are told by `Domain`.
-pub type Claim<Domain> = CommitmentOpening<Cubic, Hash, Domain>;
-
-/// A proof over Merkle trees.
-pub type Proof = CirclePcsProof<Mersenne31, Cubic, ShaMmcs<Mersenne31>, ShaMmcs<Cubic>, Mersenne31>;
-
 /// What the verifier is handed.
 #[derive(Drop)]
 struct Input {
-    claims: Vec<Claim<usize>>,
+    claims: Vec<ClaimOn<usize>>,
     params: FriParameters<()>,
     proof: Proof,
 }
@@ -104,32 +95,15 @@ fn is_accepted(alloc: Global, input: Input) -> io::Result<bool> {
         challenger.observe(&claim.commitment);
         claims.push(placed(alloc, claim)?)?;
     }
-    let pcs = CirclePcs::new(ShaMmcs::new(), with_scheme(input.params));
+    let pcs = scheme(input.params);
     match pcs.verify(alloc, claims, &input.proof, &mut challenger) {
         Err(FriError::Memory) => Err(io::Error::from(AllocError)),
         verdict => Ok(verdict.is_ok()),
     }
 }
 
-/// The parameters with the scheme of the folded words.
-fn with_scheme(params: FriParameters<()>) -> FriParameters<ShaMmcs<Cubic>> {
-    FriParameters {
-        log_blowup: params.log_blowup,
-        log_final_poly_len: params.log_final_poly_len,
-        max_log_arity: params.max_log_arity,
-        num_queries: params.num_queries,
-        batch_proof_of_work_bits: params.batch_proof_of_work_bits,
-        commit_proof_of_work_bits: params.commit_proof_of_work_bits,
-        query_proof_of_work_bits: params.query_proof_of_work_bits,
-        mmcs: ShaMmcs::new(),
-    }
-}
-
 /// The claims about domains of these sizes; only their sizes count.
-fn placed(
-    alloc: Global,
-    claim: Claim<usize>,
-) -> Result<Claim<CircleDomain<Mersenne31>>, AllocError> {
+fn placed(alloc: Global, claim: ClaimOn<usize>) -> Result<Claim, AllocError> {
     let mut matrices = Vec::with_capacity(alloc, claim.matrices.len())?;
     for matrix in claim.matrices {
         matrices.push(MatrixOpening {

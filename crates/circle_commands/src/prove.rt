@@ -27,9 +27,8 @@ ghost use Rattle.circle_commands.specs.declared.prove.Refusal.TheVariants.{Prove
 
 use crate::failure::Failure;
 use crate::values::{is_rectangular, matrix};
-use crate::verify::{Batches, Claim, Words};
 use crate::{json, verify};
-use circle_challenger::{CanObserve, Sha256Challenger};
+use circle_challenger::CanObserve;
 use circle_commit::{
     CommitmentOpening, FriParameters, JsonError, JsonForm, MatrixOpening, Mmcs, OpeningRequest,
     PointOpening, RowMajorMatrix, is_power_of_two, log2_strict,
@@ -37,7 +36,10 @@ use circle_commit::{
 use circle_field::{Cubic, Mersenne31};
 use circle_json::{has_keys, member};
 use circle_opening::OpeningOver;
-use p3_circle::{CircleDomain, CirclePcs, ProverError};
+use circle_presets::{
+    Challenge, ChallengeMmcs, Challenger, ClaimOn, ProverData, Request, Scheme, Val, ValMmcs,
+};
+use p3_circle::{CircleDomain, ProverError};
 use serde_json::{Value, json};
 use std::alloc::{AllocError, Global};
 
@@ -48,19 +50,13 @@ const MIN_LOG_HEIGHT: usize = 2;
 /// The greatest number of rows of a matrix.
 const MAX_HEIGHT: usize = 1 << 24;
 
-/// The scheme that commits to batches and opens them.
-type Scheme = CirclePcs<Mersenne31, Batches, Words>;
-
-/// What is kept of a batch that is committed to.
-type Kept = <Batches as Mmcs<Mersenne31>>::ProverData;
-
 /// A batch that is committed to.
 #[derive(Drop)]
 pub(crate) struct Committed<'a> {
     /// The commitment.
     commitment: [u8; 32],
     /// What is kept of it.
-    kept: Kept,
+    kept: ProverData,
     /// The matrices as they were given.
     traces: &'a [Trace],
 }
@@ -184,15 +180,15 @@ pub fn prove(alloc: Global, input: Input) -> Result<verify::Input, Refusal>
     ensures rows { let f = input.params.log_final_poly_len in let bs = input.batches.items in
         MatchResult result (λ _. AreTall f bs) (λ e. IsRefusalOfBatches f bs e ⊎ AreTall f bs) }
     ensures proof { IfOk result (IsProved
-        ⟦<Sha256Challenger as OpeningOver<Mersenne31, Cubic, Batches, Words>>⟧.schemes input) }
-    ensures accepted { let o = ⟦<Sha256Challenger as OpeningOver<Mersenne31, Cubic, Batches, Words>>⟧
+        ⟦<Challenger as OpeningOver<Val, Challenge, ValMmcs, ChallengeMmcs>>⟧.schemes input) }
+    ensures accepted { let o = ⟦<Challenger as OpeningOver<Val, Challenge, ValMmcs, ChallengeMmcs>>⟧
         in IfOk result (λ out. HavePoints input → IsVerified o.schemes out) }
 {
     let Input { batches, params } = input;
     validate_batches(params.log_final_poly_len, &batches)?;
-    let scheme = CirclePcs::new(Batches::new(), params.with_mmcs(Words::new()));
+    let scheme = Scheme::new(ValMmcs::new(), params.with_mmcs(ChallengeMmcs::new()));
     let committed = commit_batches(alloc, &scheme, &batches)?;
-    let mut challenger = Sha256Challenger::new();
+    let mut challenger = Challenger::new();
     observe_commitments(&mut challenger, &committed);
     let requests = requests(alloc, &committed)?;
     let (values, proof) = scheme.open(alloc, requests, &mut challenger)?;
@@ -264,7 +260,7 @@ fn commit_batches<'a>(
     batches: &'a [Vec<Trace>],
 ) -> Result<Vec<Committed<'a>>, ProverError>
     requires { AreFitting batches.now }
-    ensures { IfOk result (λ v. AreCommitted (⟦<Batches as Mmcs<Mersenne31>>⟧.commits
+    ensures { IfOk result (λ v. AreCommitted (⟦<ValMmcs as Mmcs<Val>>⟧.commits
         scheme.now.mmcs) scheme.now.fri_params.log_blowup batches.now v.items) }
 {
     let mut committed = Vec::with_capacity(alloc, batches.len())?;
@@ -292,7 +288,7 @@ fn commit_batch<'a>(
     traces: &'a [Trace],
 ) -> Result<Committed<'a>, ProverError>
     requires { All HasFittingRows traces.now }
-    ensures { IfOk result (IsCommitted (⟦<Batches as Mmcs<Mersenne31>>⟧.commits scheme.now.mmcs)
+    ensures { IfOk result (IsCommitted (⟦<ValMmcs as Mmcs<Val>>⟧.commits scheme.now.mmcs)
         scheme.now.fri_params.log_blowup traces.now) }
 {
     let (commitment, kept) = scheme.commit(alloc, evaluations(alloc, traces)?)?;
@@ -331,7 +327,7 @@ fn evaluation(
 }
 
 // Takes in the commitments, in order.
-fn observe_commitments(challenger: &mut Sha256Challenger, committed: &[Committed])
+fn observe_commitments(challenger: &mut Challenger, committed: &[Committed])
     ensures { state_of challenger.new ≡ commitments_taken (state_of challenger.old) committed.now }
 {
     for batch in committed {
@@ -343,8 +339,8 @@ fn observe_commitments(challenger: &mut Sha256Challenger, committed: &[Committed
 fn requests<'a>(
     alloc: Global,
     committed: &'a [Committed<'a>],
-) -> Result<Vec<OpeningRequest<'a, Kept, Cubic>>, AllocError>
-    ensures { IfOk result (λ v. AllZip (IsRequested ⟦<Batches as Mmcs<Mersenne31>>⟧.matrices)
+) -> Result<Vec<Request<'a>>, AllocError>
+    ensures { IfOk result (λ v. AllZip (IsRequested ⟦<ValMmcs as Mmcs<Val>>⟧.matrices)
         committed.now v.items) }
 {
     let mut requests = Vec::with_capacity(alloc, committed.len())?;
@@ -373,7 +369,7 @@ fn claims(
     alloc: Global,
     committed: &[Committed],
     values: &[Vec<Vec<Vec<Cubic>>>],
-) -> Result<Vec<Claim<usize>>, AllocError>
+) -> Result<Vec<ClaimOn<usize>>, AllocError>
     requires { All (λ c. All HasFittingRows c.traces.now) committed.now }
     ensures { IfOk result (λ v. batches_told v.items
         ≡ pairwise batch_claimed committed.now (openings values.now)) }

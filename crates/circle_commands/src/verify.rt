@@ -11,41 +11,25 @@ ghost use Rattle.circle_commands.specs.Verify.{input_fields};
 
 use crate::failure::Failure;
 use crate::json;
-use circle_challenger::{CanObserve, Sha256Challenger};
-use circle_commit::{
-    CommitmentOpening, FriError, FriParameters, JsonError, JsonForm, MatrixOpening,
-};
-use circle_field::{Cubic, Mersenne31};
+use circle_challenger::CanObserve;
+use circle_commit::{CommitmentOpening, FriParameters, JsonError, JsonForm, MatrixOpening};
 use circle_json::{has_keys, member};
-use circle_merkle::{MerkleTreeError, ShaMmcs};
 use circle_opening::OpeningOver;
-use p3_circle::{CircleDomain, CirclePcs, CirclePcsProof, InputError, Neutral, Pcs, Point};
+use circle_presets::{
+    Challenge, ChallengeMmcs, Challenger, Claim, ClaimOn, Proof, Scheme, Val, ValMmcs,
+};
+use p3_circle::{CircleDomain, Neutral, Pcs, Point};
 use serde_json::{Value, json};
 use std::alloc::{AllocError, Global};
 
-/// The scheme that commits to the batches.
-pub type Batches = ShaMmcs<Mersenne31>;
-
-/// The scheme that commits to the words made of them.
-pub type Words = ShaMmcs<Cubic>;
-
-/// The claims about one batch, whose domains are told by `Domain`.
-pub type Claim<Domain> = CommitmentOpening<Cubic, [u8; 32], Domain>;
-
-/// The scheme over these.
-type Scheme = CirclePcs<Mersenne31, Batches, Words>;
-
-/// The proofs over these schemes.
-type Proof = CirclePcsProof<Mersenne31, Cubic, Batches, Words, Mersenne31>;
-
 /// Why claims or a proof are refused.
-pub type Refusal = FriError<MerkleTreeError, InputError<MerkleTreeError, MerkleTreeError>>;
+pub use circle_presets::VerifierError as Refusal;
 
 /// What the command is given.
 #[derive(Drop)]
 pub struct Input {
     /// The claims about each batch; of the domains the binary logarithms of their sizes.
-    pub batches: Vec<Claim<usize>>,
+    pub batches: Vec<ClaimOn<usize>>,
     /// The parameters of the run.
     pub params: FriParameters<()>,
     /// The proof.
@@ -55,7 +39,7 @@ pub struct Input {
 /// An object of the `batches`, the `params` and the `proof`.
 impl JsonForm for Input {
     ghost form = { object_form (input_fields (λ i. i.proof)
-        ⟦<Vec<Claim<usize>> as JsonForm>⟧.form ⟦<FriParameters<()> as JsonForm>⟧.form
+        ⟦<Vec<ClaimOn<usize>> as JsonForm>⟧.form ⟦<FriParameters<()> as JsonForm>⟧.form
         ⟦<Proof as JsonForm>⟧.form) };
 
     fn to_json(&self, alloc: Global) -> Result<Value, AllocError> {
@@ -90,8 +74,8 @@ pub(crate) fn answer(alloc: Global, value: &Value) -> Result<String, Failure> {
 /// Fails as [`CirclePcs::verify`] does, and for a proof that is verified for want of memory alone.
 pub fn verify(alloc: Global, input: Input) -> Result<(), Refusal>
     ensures accepted { OnOk result (IsVerified
-        ⟦<Sha256Challenger as OpeningOver<Mersenne31, Cubic, Batches, Words>>⟧.schemes input) }
-    ensures complete { let o = ⟦<Sha256Challenger as OpeningOver<Mersenne31, Cubic, Batches, Words>>⟧
+        ⟦<Challenger as OpeningOver<Val, Challenge, ValMmcs, ChallengeMmcs>>⟧.schemes input) }
+    ensures complete { let o = ⟦<Challenger as OpeningOver<Val, Challenge, ValMmcs, ChallengeMmcs>>⟧
         in IfErr result (λ e. IsVerified o.schemes input → e ≡ Memory) }
     ensures reason { let p = ⟦<Scheme as Pcs<Cubic, Sha256Challenger>>⟧ in IfErr result
         (λ e. (e ≡ Memory) ⊎ IsUnverified p.verify_refuses input.proof input e) }
@@ -101,14 +85,14 @@ pub fn verify(alloc: Global, input: Input) -> Result<(), Refusal>
         params,
         proof,
     } = input;
-    let mut challenger = Sha256Challenger::new();
+    let mut challenger = Challenger::new();
     observe_commitments(&mut challenger, &batches);
-    let scheme = Scheme::new(Batches::new(), params.with_mmcs(Words::new()));
+    let scheme = Scheme::new(ValMmcs::new(), params.with_mmcs(ChallengeMmcs::new()));
     scheme.verify(alloc, placed(alloc, batches)?, &proof, &mut challenger)
 }
 
 // Takes in the commitments, in order.
-fn observe_commitments(challenger: &mut Sha256Challenger, batches: &[Claim<usize>])
+fn observe_commitments(challenger: &mut Challenger, batches: &[ClaimOn<usize>])
     ensures { state_of challenger.new ≡ taken_in (state_of challenger.old) batches.now }
 {
     for batch in batches {
@@ -117,10 +101,7 @@ fn observe_commitments(challenger: &mut Sha256Challenger, batches: &[Claim<usize
 }
 
 // The claims about domains of these sizes; only their sizes count.
-fn placed(
-    alloc: Global,
-    batches: Vec<Claim<usize>>,
-) -> Result<Vec<Claim<CircleDomain<Mersenne31>>>, AllocError>
+fn placed(alloc: Global, batches: Vec<ClaimOn<usize>>) -> Result<Vec<Claim>, AllocError>
     ensures { IfOk result (λ claims. batch_claims claims.items ≡ batches_told batches.items) }
 {
     let mut claims = Vec::with_capacity(alloc, batches.len())?;
@@ -131,10 +112,7 @@ fn placed(
 }
 
 // The claims about one batch.
-fn placed_batch(
-    alloc: Global,
-    batch: Claim<usize>,
-) -> Result<Claim<CircleDomain<Mersenne31>>, AllocError>
+fn placed_batch(alloc: Global, batch: ClaimOn<usize>) -> Result<Claim, AllocError>
     ensures { IfOk result (λ claim. batch_claim claim ≡ batch_told batch) }
 {
     let mut matrices = Vec::with_capacity(alloc, batch.matrices.len())?;

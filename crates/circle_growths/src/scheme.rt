@@ -4,35 +4,17 @@ use crate::plane::{Domain, Rows, column, cubic};
 use crate::told::{Stage, Told, before, told};
 use anyhow::{Result, bail};
 use circle_challenger::{CanObserve, CanSample, Sha256Challenger};
-use circle_commit::{
-    CommitmentOpening, FriParameters, JsonForm, MatrixOpening, Mmcs, OpenedValues, OpeningRequest,
-    PointOpening, heights_are_powers_of_two,
-};
+use circle_commit::{FriParameters, JsonForm, OpenedValues, OpeningRequest};
 use circle_field::{Cubic, Mersenne31};
-use circle_merkle::ShaMmcs;
-use p3_circle::{CirclePcs, CirclePcsProof, ProverError, heights_match_domains};
+use circle_presets::{Claim, Commitment, Known, Proof, ProverData, Scheme};
+use p3_circle::{ProverError, claims_of, heights_match_domains};
 use std::alloc::{AllocError, Global};
-
-type Trees = ShaMmcs<Mersenne31>;
-
-type WordTrees = ShaMmcs<Cubic>;
-
-type Scheme = CirclePcs<Mersenne31, Trees, WordTrees>;
-
-type Proof = CirclePcsProof<Mersenne31, Cubic, Trees, WordTrees, Mersenne31>;
-
-type Commitment = <Trees as Mmcs<Mersenne31>>::Commitment;
-
-/// What the prover keeps.
-pub type Data = <Trees as Mmcs<Mersenne31>>::ProverData;
 
 type Opened = (OpenedValues<Cubic>, Proof);
 
-type Claims = Vec<CommitmentOpening<Cubic, Commitment, Domain>>;
-
 // Twice as many rows are committed to as there are, and 40 of them are queried.
 fn scheme() -> Scheme {
-    let params = FriParameters {
+    circle_presets::scheme(FriParameters {
         log_blowup: 1,
         log_final_poly_len: 0,
         max_log_arity: 1,
@@ -40,9 +22,8 @@ fn scheme() -> Scheme {
         batch_proof_of_work_bits: 0,
         commit_proof_of_work_bits: 0,
         query_proof_of_work_bits: 0,
-        mmcs: WordTrees::new(),
-    };
-    CirclePcs::new(Trees::new(), params)
+        mmcs: (),
+    })
 }
 
 // The challenger that took in the commitment.
@@ -72,7 +53,7 @@ fn batch(alloc: Global) -> Result<Vec<(Domain, Rows)>, AllocError> {
 fn committing(
     alloc: Global,
     stage: Stage,
-) -> Result<Option<Result<(Commitment, Data), ProverError>>> {
+) -> Result<Option<Result<(Commitment, ProverData), ProverError>>> {
     let evaluations = batch(alloc)?;
     if !heights_match_domains(&evaluations) {
         bail!("there is not one row for each point");
@@ -84,7 +65,7 @@ fn committing(
 }
 
 /// The commitment to the matrices, and what the prover keeps.
-pub fn committed(alloc: Global) -> Result<(Commitment, Data)> {
+pub fn committed(alloc: Global) -> Result<(Commitment, ProverData)> {
     match committing(alloc, Stage::Whole)? {
         Some(answer) => Ok(answer?),
         None => bail!("the call was not made"),
@@ -109,12 +90,9 @@ fn opening(
     alloc: Global,
     stage: Stage,
     commitment: &Commitment,
-    data: &Data,
+    data: &ProverData,
 ) -> Result<Option<Result<Opened, ProverError>>> {
     let pcs = scheme();
-    if !heights_are_powers_of_two(pcs.mmcs.get_matrices(data)) {
-        bail!("a height is no power of two");
-    }
     let points = points();
     let request = OpeningRequest {
         prover_data: data,
@@ -124,6 +102,9 @@ fn opening(
         ]?,
     };
     let requests = vec![in alloc; request]?;
+    if !pcs.have_heights_of_powers(&requests) {
+        bail!("a height is no power of two");
+    }
     let mut challenger = after_commitment(commitment);
     if stage == Stage::Before {
         return Ok(None);
@@ -132,7 +113,7 @@ fn opening(
 }
 
 // The opened values and the proof of them.
-fn opened(alloc: Global, commitment: &Commitment, data: &Data) -> Result<Opened> {
+fn opened(alloc: Global, commitment: &Commitment, data: &ProverData) -> Result<Opened> {
     match opening(alloc, Stage::Whole, commitment, data)? {
         Some(answer) => Ok(answer?),
         None => bail!("the call was not made"),
@@ -162,46 +143,29 @@ pub fn open(alloc: Global, stage: Stage) -> Result<Told> {
     Ok(Told::of(format_args!("{}, again {again}", answer.as_str())))
 }
 
-// The claims of a matrix.
-fn claims_of_matrix(
-    alloc: Global,
-    domain: Domain,
-    values: &[Vec<Cubic>],
-) -> Result<MatrixOpening<Cubic, Domain>, AllocError> {
-    let mut claims = Vec::new(alloc);
-    for (point, values) in points().iter().zip(values) {
-        claims.push(PointOpening {
-            point: *point,
-            values: Vec::from_slice(alloc, values)?,
-        })?;
-    }
-    Ok(MatrixOpening {
-        domain,
-        points: claims,
-    })
-}
-
 // The claims that the matrices have these values.
-fn claims(alloc: Global, commitment: Commitment, values: &OpenedValues<Cubic>) -> Result<Claims> {
-    let Some(batch) = values.first() else {
-        bail!("nothing was opened");
-    };
-    let mut matrices = Vec::new(alloc);
-    for (domain, values) in domains().iter().zip(batch) {
-        matrices.push(claims_of_matrix(alloc, *domain, values)?)?;
-    }
-    let claims = CommitmentOpening {
+fn claims(
+    alloc: Global,
+    commitment: Commitment,
+    values: OpenedValues<Cubic>,
+) -> Result<Vec<Claim>> {
+    let points = points();
+    let known = Known {
         commitment,
-        matrices,
+        domains: Vec::from_slice(alloc, &domains())?,
+        points: vec![in alloc;
+            Vec::from_slice(alloc, &points)?,
+            Vec::from_slice(alloc, &points)?,
+        ]?,
     };
-    Ok(vec![in alloc; claims]?)
+    Ok(claims_of(alloc, vec![in alloc; known]?, values)?)
 }
 
 /// `CirclePcs::verify`.
 pub fn verify(alloc: Global, stage: Stage) -> Result<Told> {
     let (commitment, data) = committed(alloc)?;
     let (values, proof) = opened(alloc, &commitment, &data)?;
-    let claims = claims(alloc, commitment, &values)?;
+    let claims = claims(alloc, commitment, values)?;
     let mut challenger = after_commitment(&commitment);
     if stage == Stage::Before {
         return Ok(before());

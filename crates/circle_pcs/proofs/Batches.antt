@@ -211,7 +211,7 @@ module _ {E Com Data Dom M : Type 0} (commits : List (Dom × M) → Com → Data
       let matrices : map matrix_told q.matrices.items ≡ pairwise matrix_claimed (zip c.known.domains.items (lists c.known.points)) v = ap (λ t. t.1) one in
       let some : All (λ ts. 1 ≤ length ts) (requested_points r) = subst (All (λ ts. 1 ≤ length ts)) (sym (at ∙ ap lists is.points)) first.some in
       let long : length (requested_points r) ≡ length b.evaluations.items =
-          ap length at ∙ length-map c.known.points.items (λ p. p.items) ∙ has.each ∙ ap length is.domains ∙ length-map b.evaluations.items (λ m. m.0) in
+      ap length at ∙ length-map c.known.points.items (λ p. p.items) ∙ has.each ∙ ap length is.domains ∙ length-map b.evaluations.items (λ m. m.0) in
       let this : IsAnsweredBy size commits r v q = record {
         batch = b.evaluations.items;
         committed = subst (λ d. commits b.evaluations.items q.commitment d) (sym kept) (subst (λ root. commits b.evaluations.items root c.prover_data) (sym same) is.committed);

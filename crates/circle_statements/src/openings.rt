@@ -1,20 +1,17 @@
 //! What is opened of committed batches, the claims on them, and what is answered to these.
-use crate::batches::{Batch, Domain};
+use crate::batches::Batch;
 use crate::parameters::{Data, Proof, Scheme};
 use circle_challenger::{CanObserve, CanSample, GrindingChallenger, Sha256Challenger};
 use circle_commit::{CommitmentOpening, FriError, Mmcs, OpenedValues, OpeningRequest};
 use circle_field::{ComplexExtendable, Cubic, ExtensionField, Mersenne31};
-use circle_merkle::MerkleTreeError;
-use p3_circle::{CircleDomain, CirclePcs, CirclePcsProof, CommittedBatch, InputError, ProverError};
+use circle_presets::{Claim, Known, VerifierError};
+use p3_circle::{CircleDomain, CirclePcs, CirclePcsProof, InputError, ProverError};
 use std::alloc::{AllocError, Global};
 use std::fmt::InlineText;
 
-pub type Claims = Vec<CommitmentOpening<Cubic, [u8; 32], Domain>>;
+pub type Claims = Vec<Claim>;
 
-pub type Answer = Result<
-    (),
-    FriError<MerkleTreeError, InputError<MerkleTreeError, MerkleTreeError>>,
->;
+pub type Answer = Result<(), VerifierError>;
 
 /// `CirclePcs::open`, or `NotGenuine`, which it never answers, where it asks for other heights.
 pub fn open_at<F: ComplexExtendable, EF: ExtensionField<F>, I: Mmcs<F>, W: Mmcs<EF>, C>(
@@ -70,13 +67,10 @@ where
 }
 
 // What a verifier knows of the batches.
-fn known(
-    alloc: Global,
-    batches: &[Batch],
-) -> Result<Vec<CommittedBatch<Cubic, [u8; 32], Domain>>, AllocError> {
+fn known(alloc: Global, batches: &[Batch]) -> Result<Vec<Known>, AllocError> {
     let mut known = Vec::with_capacity(alloc, batches.len())?;
     for batch in batches {
-        known.push(CommittedBatch {
+        known.push(Known {
             commitment: batch.commitment,
             domains: Vec::from_slice(alloc, &batch.domains)?,
             points: copies_of(alloc, &batch.points)?,

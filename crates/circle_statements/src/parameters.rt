@@ -1,21 +1,11 @@
 //! The scheme over Merkle trees, by the numbers of its parameters.
 ghost use Rattle.std.specs.Prelude.{◌≡◌};
 
-use circle_commit::{FriParameters, Mmcs};
-use circle_field::{Cubic, Mersenne31};
-use circle_merkle::ShaMmcs;
-use p3_circle::{CirclePcs, CirclePcsProof};
-
-pub type Trees = ShaMmcs<Mersenne31>;
-
-pub type WordTrees = ShaMmcs<Cubic>;
-
-/// What a prover keeps of committed matrices.
-pub type Data = <Trees as Mmcs<Mersenne31>>::ProverData;
-
-pub type Scheme = CirclePcs<Mersenne31, Trees, WordTrees>;
-
-pub type Proof = CirclePcsProof<Mersenne31, Cubic, Trees, WordTrees, Mersenne31>;
+use circle_commit::FriParameters;
+pub use circle_presets::{
+    ChallengeMmcs as WordTrees, Proof, ProverData as Data, Scheme, ValMmcs as Trees,
+};
+use p3_circle::CirclePcs;
 
 /// The numbers of a scheme's parameters.
 #[derive(Clone, Copy)]

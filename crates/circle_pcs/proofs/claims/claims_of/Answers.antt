@@ -1,3 +1,5 @@
+use Rattle.std.specs.Prelude.{Vec}
+use Rattle.std.specs.declared.alloc.Global.{Global}
 use Rattle.std.proofs.Common.{◌∙◌, length, map, refl, ap, arith, zip}
 use Rattle.std.proofs.lemmas.Iterator.{YieldsList-from_zip}
 use Rattle.std.proofs.lemmas.Iterator.Adapters.{YieldsList-from_vec}
@@ -5,6 +7,7 @@ use Rattle.std.proofs.lemmas.Iterator.Consumers.{YieldsList-end, YieldsList-turn
 use Rattle.std.proofs.lemmas.List.{length_push, take_all}
 use Rattle.circle_matrix.specs.Mmcs.{opened_rows}
 use Rattle.circle_pcs.specs.Claims.{batch_claimed, batch_told}
+use Rattle.circle_pcs.specs.declared.claims.CommittedBatch.{CommittedBatch}
 use Rattle.circle_pcs.proofs.Lists.{mapped-more, pairwise-mapped}
 use Rattle.circle_pcs.proofs.claims.claims_of.Goals as goal
 
@@ -13,13 +16,13 @@ loop-batch-preserved g c =
     let all = zip c.args.batches.items c.args.values.items in
     let road = YieldsList-from_zip (YieldsList-from_vec c.args.batches.items (cc) (cc)) (YieldsList-from_vec c.args.values.items (cc) (cc)) in
     let done = c.loop-batch.yielded in
-    let this = (c.in-Some.batch, c.in-Some.values) in
+    let this : CommittedBatch g.row.Challenge.Denot g.row.Commitment.Denot g.row.Domain.Denot × Vec (Vec (Vec g.row.Challenge.Denot Global) Global) Global = (c.in-Some.batch, c.in-Some.values) in
     let turn = YieldsList-turn road done _ c.loop-batch.yielded_by _ c.next.new.self this c.in-Some.is c.next.ensures.steps in
     mapped-more (λ t. batch_claimed t.0 (opened_rows t.1.items)) batch_told all (length done) _ this c.loop-batch.claims.items c.push.new.self.items _
     (length_push done this) turn.0 turn.1 c.in_ok-push.ensures.items (ap (λ ms. (c.in-Some.batch.commitment, ms)) c.in_ok-matrix_claims.ensures) c.loop-batch.invariant
 
-pub returns-then : goal.returns-then
-returns-then g c =
+pub returns : goal.returns
+returns g c =
     let all = zip c.args.batches.items c.args.values.items in
     let road = YieldsList-from_zip (YieldsList-from_vec c.args.batches.items (cc) (cc)) (YieldsList-from_vec c.args.values.items (cc) (cc)) in
     let last = YieldsList-end road c.loop-batch.yielded _ c.loop-batch.yielded_by _ c.next.new.self c.in-None.is c.next.ensures.steps in

@@ -16,8 +16,8 @@ loop-point-preserved g c =
     mapped-more (λ p. (p.0, p.1.items)) point_told all (length done) _ (c.in-Some.point, c.in-Some.values) c.loop-point.claims.items c.push.new.self.items _
     (length_push done (c.in-Some.point, c.in-Some.values)) turn.0 turn.1 c.in_ok-push.ensures.items refl c.loop-point.invariant
 
-pub returns-then : goal.returns-then
-returns-then g c =
+pub returns : goal.returns
+returns g c =
     let all = zip c.args.points.items c.args.values.items in
     let road = YieldsList-from_zip (YieldsList-from_vec c.args.points.items (cc) (cc)) (YieldsList-from_vec c.args.values.items (cc) (cc)) in
     let last = YieldsList-end road c.loop-point.yielded _ c.loop-point.yielded_by _ c.next.new.self c.in-None.is c.next.ensures.steps in
