@@ -1,73 +1,144 @@
-//! A trace is committed to, opened at a drawn point and at the next one, and verified; then a value
-//! is damaged, and the verifier refuses it.
+//! A prover commits to two batches of matrices and opens them at a drawn point and the next one; a
+//! verifier takes what it publishes, and refuses that once its commitments are exchanged.
 #![tactic(auto)]
 
-mod statement;
-mod trace;
-
 use anyhow::{Result, bail};
-use circle_challenger::Sha256Challenger;
-use circle_commit::{FriParameters, PolynomialSpace};
-use circle_domain::CircleDomain;
-use circle_field::{Cubic, Field, Mersenne31};
-use circle_merkle::ShaMmcs;
-use p3_circle::CirclePcs;
-use statement::{Scheme, after_commitment, claims, commit, drawn_point, is_accepted, open};
-use std::alloc::Global;
-use trace::fibonacci;
+use circle_presets::{
+    Challenge, Challenger, Commitment, Domain, Known, Proof, ProverData, Request, Scheme, Val,
+    VerifierError, scheme,
+};
+use p3_circle::{
+    CanObserve, Field, FieldChallenger, FriParameters, OpenedValues, PolynomialSpace,
+    RowMajorMatrix, claims_of, heights_match_domains,
+};
+use std::alloc::{AllocError, Global};
 
-/// The binary logarithm of the number of rows.
-const LOG_ROWS: usize = 10;
+/// What prover and verifier have in common: twice as many rows are committed to as there are, 40 of
+/// them are queried after a proof of work of 8 bits, and folding stops at two coefficients.
+const PARAMETERS: FriParameters<()> = FriParameters {
+    log_blowup: 1,
+    log_final_poly_len: 1,
+    max_log_arity: 1,
+    num_queries: 40,
+    batch_proof_of_work_bits: 0,
+    commit_proof_of_work_bits: 0,
+    query_proof_of_work_bits: 8,
+    mmcs: (),
+};
 
-// Twice as many rows are committed to as there are, and 40 of them are queried.
-fn scheme() -> Scheme {
-    let params = FriParameters {
-        log_blowup: 1,
-        log_final_poly_len: 0,
-        max_log_arity: 1,
-        num_queries: 40,
-        batch_proof_of_work_bits: 0,
-        commit_proof_of_work_bits: 0,
-        query_proof_of_work_bits: 8,
-        mmcs: ShaMmcs::<Cubic>::new(),
-    };
-    CirclePcs::new(ShaMmcs::<Mersenne31>::new(), params)
+/// What the verifier answers.
+type Answer = Result<(), VerifierError>;
+
+/// What the prover publishes.
+#[derive(Drop)]
+struct Published {
+    commitments: [Commitment; 2],
+    values: OpenedValues<Challenge>,
+    proof: Proof,
 }
 
-// Whether the verifier accepts the opened values, and whether it accepts them once they are
-// damaged.
-fn answers(alloc: Global) -> Result<[bool; 2]> {
-    let pcs = scheme();
-    let domain = CircleDomain::<Mersenne31>::standard(LOG_ROWS);
-    let (commitment, data) = commit(alloc, &pcs, domain, fibonacci(alloc, 1 << LOG_ROWS)?)?;
+/// A column of which each entry is one more than the square of the one before it.
+fn column(alloc: Global, rows: usize) -> Result<RowMajorMatrix<Val>, AllocError> {
+    let mut entries = Vec::new(alloc);
+    let mut entry = Val::ZERO;
+    for _row in 0..rows {
+        entries.push(entry)?;
+        entry = entry.square() + Val::ONE;
+    }
+    Ok(RowMajorMatrix::new(entries, 1))
+}
 
-    let mut prover = after_commitment(&commitment);
-    let point = drawn_point(&mut prover);
-    let Some(next) = domain.next_point(point) else {
+/// The challenger that took in the commitments, and the point that it draws.
+fn after_commitments(commitments: &[Commitment; 2]) -> (Challenger, Challenge) {
+    let mut challenger = Challenger::new();
+    for commitment in commitments {
+        challenger.observe(commitment);
+    }
+    let point = challenger.sample_algebra_element();
+    (challenger, point)
+}
+
+/// The points that the matrices of each batch are opened at.
+fn points(alloc: Global, point: Challenge) -> Result<[Vec<Vec<Challenge>>; 2]> {
+    let Some(next) = Domain::standard(6).next_point(point) else {
         bail!("the drawn point has no successor");
     };
-    let points = [point, next];
-    let (values, proof) = open(alloc, &pcs, &data, &points, &mut prover)?;
-    let Some(values) = values.first().and_then(|batch| batch.first()) else {
-        bail!("nothing was opened");
-    };
-
-    let honest = claims(alloc, commitment, domain, &points, values, Cubic::ZERO)?;
-    let damaged = claims(alloc, commitment, domain, &points, values, Cubic::ONE)?;
     Ok([
-        is_accepted(alloc, &pcs, &commitment, honest, &proof),
-        is_accepted(alloc, &pcs, &commitment, damaged, &proof),
+        vec![in alloc; vec![in alloc; point, next]?, vec![in alloc; point]?]?,
+        vec![in alloc; vec![in alloc; point, next]?]?,
     ])
 }
 
-// How an answer is told.
-fn told(accepted: bool) -> &'static str {
-    if accepted { "accepted" } else { "refused" }
+/// What is to be opened of both batches.
+fn requests(alloc: Global, data: &[ProverData; 2], point: Challenge) -> Result<Vec<Request<'_>>> {
+    let mut requests = Vec::new(alloc);
+    for (prover_data, points) in data.iter().zip(points(alloc, point)?) {
+        requests.push(Request {
+            prover_data,
+            points,
+        })?;
+    }
+    Ok(requests)
+}
+
+fn prove(alloc: Global, pcs: &Scheme) -> Result<Published> {
+    let [tall, low] = [Domain::standard(6), Domain::standard(5)];
+    let first = vec![in alloc; (tall, column(alloc, 64)?), (low, column(alloc, 32)?)]?;
+    let second = vec![in alloc; (tall, column(alloc, 64)?)]?;
+    if !heights_match_domains(&first) || !heights_match_domains(&second) {
+        bail!("a matrix has not a row for each point");
+    }
+    let (first, first_data) = pcs.commit(alloc, first)?;
+    let (second, second_data) = pcs.commit(alloc, second)?;
+
+    let commitments = [first, second];
+    let (mut challenger, point) = after_commitments(&commitments);
+    let data = [first_data, second_data];
+    let requests = requests(alloc, &data, point)?;
+    if !pcs.have_heights_of_powers(&requests) {
+        bail!("a height is no power of two");
+    }
+    let (values, proof) = pcs.open(alloc, requests, &mut challenger)?;
+    Ok(Published {
+        commitments,
+        values,
+        proof,
+    })
+}
+
+/// What the verifier answers to what is published.
+fn verify(alloc: Global, pcs: &Scheme, published: &Published) -> Result<Answer> {
+    let (mut challenger, point) = after_commitments(&published.commitments);
+    let [of_first, of_second] = points(alloc, point)?;
+    let [tall, low] = [Domain::standard(6), Domain::standard(5)];
+    let [first, second] = published.commitments;
+    let first = Known {
+        commitment: first,
+        domains: vec![in alloc; tall, low]?,
+        points: of_first,
+    };
+    let second = Known {
+        commitment: second,
+        domains: vec![in alloc; tall]?,
+        points: of_second,
+    };
+    let known = vec![in alloc; first, second]?;
+    let claims = claims_of(alloc, known, published.values.clone()?)?;
+    Ok(pcs.verify(alloc, claims, &published.proof, &mut challenger))
+}
+
+/// How an answer is told.
+fn told(answer: Answer) -> &'static str {
+    answer.map_or_else(|error| error.name(), |()| "accepted")
 }
 
 fn main(rt: HostRuntime) -> Result<()> {
-    let [opened, damaged] = answers(rt.alloc())?;
-    println!(rt; "the opened values: {}", told(opened))?;
-    println!(rt; "damaged values: {}", told(damaged))?;
+    let pcs = scheme(PARAMETERS);
+    let mut published = prove(rt.alloc(), &pcs)?;
+    let answer = verify(rt.alloc(), &pcs, &published)?;
+    println!(rt; "what was published: {}", told(answer))?;
+    published.commitments.swap(0, 1);
+    let answer = verify(rt.alloc(), &pcs, &published)?;
+    println!(rt; "its commitments exchanged: {}", told(answer))?;
     Ok(())
 }

@@ -1,7 +1,7 @@
 -- Loops that make one item for each item of a list.
 use Rattle.std.specs.Prelude.{◌≡◌, ℕ, ◌+◌, ◌<◌, List, [], ◌∷◌, ◌++◌, length, map, take, slice_index_or, zip}
-use Rattle.std.proofs.Common.{refl, sym, ◌∙◌, ap}
-use Rattle.std.proofs.lemmas.List.{length-map, map-append, map-id, map_more}
+use Rattle.std.proofs.Common.{refl, sym, ◌∙◌, ap, arith}
+use Rattle.std.proofs.lemmas.List.{map-append, map-id, map_more, take_all}
 use Rattle.circle_matrix.specs.DotProduct.{pairwise}
 
 -- one more item that is pushed: by h the made items are what by g the items of a list are
@@ -36,3 +36,7 @@ pairwise-of-zip f h k [] ys zs = refl
 pairwise-of-zip f h k (x ∷ xs) [] zs = refl
 pairwise-of-zip f h k (x ∷ xs) (y ∷ ys) [] = refl
 pairwise-of-zip f h k (x ∷ xs) (y ∷ ys) (z ∷ zs) = ap (λ l. f (x, h y) (k z) ∷ l) (pairwise-of-zip f h k xs ys zs)
+
+-- as many items as there are
+pub taken-all : {A : Type 0} (n : ℕ) (xs : List A) → n ≡ length xs → take n xs ≡ xs
+taken-all n xs all = take_all n xs (omega (arith, all))

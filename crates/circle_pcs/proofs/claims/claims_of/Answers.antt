@@ -1,14 +1,14 @@
 use Rattle.std.specs.Prelude.{Vec}
 use Rattle.std.specs.declared.alloc.Global.{Global}
-use Rattle.std.proofs.Common.{◌∙◌, length, map, refl, ap, arith, zip}
+use Rattle.std.proofs.Common.{◌∙◌, length, map, refl, ap, zip}
 use Rattle.std.proofs.lemmas.Iterator.{YieldsList-from_zip}
 use Rattle.std.proofs.lemmas.Iterator.Adapters.{YieldsList-from_vec}
 use Rattle.std.proofs.lemmas.Iterator.Consumers.{YieldsList-end, YieldsList-turn}
-use Rattle.std.proofs.lemmas.List.{length_push, take_all}
+use Rattle.std.proofs.lemmas.List.{length_push}
 use Rattle.circle_matrix.specs.Mmcs.{opened_rows}
 use Rattle.circle_pcs.specs.Claims.{batch_claimed, batch_told}
 use Rattle.circle_pcs.specs.declared.claims.CommittedBatch.{CommittedBatch}
-use Rattle.circle_pcs.proofs.Lists.{mapped-more, pairwise-mapped}
+use Rattle.circle_pcs.proofs.Lists.{mapped-more, pairwise-mapped, taken-all}
 use Rattle.circle_pcs.proofs.claims.claims_of.Goals as goal
 
 pub loop-batch-preserved : goal.loop-batch-preserved
@@ -26,5 +26,5 @@ returns g c =
     let all = zip c.args.batches.items c.args.values.items in
     let road = YieldsList-from_zip (YieldsList-from_vec c.args.batches.items (cc) (cc)) (YieldsList-from_vec c.args.values.items (cc) (cc)) in
     let last = YieldsList-end road c.loop-batch.yielded _ c.loop-batch.yielded_by _ c.next.new.self c.in-None.is c.next.ensures.steps in
-    c.loop-batch.invariant ∙ ap (map (λ t. batch_claimed t.0 (opened_rows t.1.items))) (take_all (length c.loop-batch.yielded) all (omega (arith, last.1)))
+    c.loop-batch.invariant ∙ ap (map (λ t. batch_claimed t.0 (opened_rows t.1.items))) (taken-all (length c.loop-batch.yielded) all last.1)
     ∙ pairwise-mapped batch_claimed (λ rows. opened_rows rows.items) c.args.batches.items c.args.values.items

@@ -1,14 +1,14 @@
 use Rattle.std.specs.Prelude.{Vec}
 use Rattle.std.specs.declared.alloc.Global.{Global}
-use Rattle.std.proofs.Common.{◌∙◌, length, map, refl, ap, arith, zip}
+use Rattle.std.proofs.Common.{◌∙◌, length, map, refl, ap, zip}
 use Rattle.std.proofs.lemmas.Iterator.{YieldsList-from_zip}
 use Rattle.std.proofs.lemmas.Iterator.Adapters.{YieldsList-from_vec}
 use Rattle.std.proofs.lemmas.Iterator.Consumers.{YieldsList-end, YieldsList-turn}
-use Rattle.std.proofs.lemmas.List.{length_push, take_all}
+use Rattle.std.proofs.lemmas.List.{length_push}
 use Rattle.std.specs.Iterator.Adapters.{zip_first, zip_second}
 use Rattle.std.specs.Vec.Iter.{into_iter_items, into_iter_len}
 use Rattle.circle_pcs.specs.Claims.{matrix_claimed, matrix_told}
-use Rattle.circle_pcs.proofs.Lists.{mapped-more, pairwise-of-zip}
+use Rattle.circle_pcs.proofs.Lists.{mapped-more, pairwise-of-zip, taken-all}
 use Rattle.circle_pcs.proofs.claims.matrix_claims.Goals as goal
 
 pub loop-domain-preserved : goal.loop-domain-preserved
@@ -42,5 +42,5 @@ returns g c =
     let of_values = YieldsList-from_vec c.args.values.items (ap into_iter_items second ∙ outer.second.0) (ap into_iter_len second ∙ outer.second.1 ∙ c.args.values.ok.0) in
     let road = YieldsList-from_zip (YieldsList-from_zip of_domains of_points) of_values in
     let last = YieldsList-end road c.loop-domain.yielded _ c.loop-domain.yielded_by _ c.next.new.self c.in-None.is c.next.ensures.steps in
-    c.loop-domain.invariant ∙ ap (map (λ t. matrix_claimed (t.0.0, t.0.1.items) (map (λ v. v.items) t.1.items))) (take_all (length c.loop-domain.yielded) all (omega (arith, last.1)))
+    c.loop-domain.invariant ∙ ap (map (λ t. matrix_claimed (t.0.0, t.0.1.items) (map (λ v. v.items) t.1.items))) (taken-all (length c.loop-domain.yielded) all last.1)
     ∙ pairwise-of-zip matrix_claimed (λ v. v.items) (λ rows. map (λ v. v.items) rows.items) c.args.domains.items c.args.points.items c.args.values.items

@@ -1,10 +1,10 @@
-use Rattle.std.proofs.Common.{◌∙◌, length, map, refl, ap, arith, zip}
+use Rattle.std.proofs.Common.{◌∙◌, length, map, refl, ap, zip}
 use Rattle.std.proofs.lemmas.Iterator.{YieldsList-from_zip}
 use Rattle.std.proofs.lemmas.Iterator.Adapters.{YieldsList-from_vec}
 use Rattle.std.proofs.lemmas.Iterator.Consumers.{YieldsList-end, YieldsList-turn}
-use Rattle.std.proofs.lemmas.List.{length_push, take_all}
+use Rattle.std.proofs.lemmas.List.{length_push}
 use Rattle.circle_pcs.specs.Claims.{point_told}
-use Rattle.circle_pcs.proofs.Lists.{mapped-more, zip-mapped}
+use Rattle.circle_pcs.proofs.Lists.{mapped-more, zip-mapped, taken-all}
 use Rattle.circle_pcs.proofs.claims.point_claims.Goals as goal
 
 pub loop-point-preserved : goal.loop-point-preserved
@@ -21,4 +21,4 @@ returns g c =
     let all = zip c.args.points.items c.args.values.items in
     let road = YieldsList-from_zip (YieldsList-from_vec c.args.points.items (cc) (cc)) (YieldsList-from_vec c.args.values.items (cc) (cc)) in
     let last = YieldsList-end road c.loop-point.yielded _ c.loop-point.yielded_by _ c.next.new.self c.in-None.is c.next.ensures.steps in
-    c.loop-point.invariant ∙ ap (map (λ p. (p.0, p.1.items))) (take_all (length c.loop-point.yielded) all (omega (arith, last.1))) ∙ zip-mapped (λ v. v.items) c.args.points.items c.args.values.items
+    c.loop-point.invariant ∙ ap (map (λ p. (p.0, p.1.items))) (taken-all (length c.loop-point.yielded) all last.1) ∙ zip-mapped (λ v. v.items) c.args.points.items c.args.values.items
