@@ -1,11 +1,9 @@
-//! Tests of the fields, matrices, forms in JSON, refusals and Merkle trees, by their public calls.
-//! They stand here so that the crates themselves are proved once.
+//! Tests of the fields, matrices and Merkle trees, by their public calls. They stand here so that
+//! the crates themselves are proved once.
 #![tactic(auto)]
 
 #[cfg(test)]
 mod cubic;
-#[cfg(test)]
-mod json;
 #[cfg(test)]
 mod matrices;
 #[cfg(test)]

@@ -9,7 +9,6 @@ use std::process::Abort;
 use std::test::Fail;
 
 mod columns;
-mod refusals;
 
 // The rows 0 1, 2 3, 4 5 and 6 7.
 fn four_rows(alloc: Global) -> Result<RowMajorMatrix<u32>, AllocError> {

@@ -6,6 +6,7 @@ use circle_field::{Field, Mersenne31};
 use circle_merkle::{MerkleTreeError, ShaMmcs, ShaProverData};
 use sha2::{Digest, Sha256};
 use std::alloc::{AllocError, Global};
+use std::fmt::InlineText;
 use std::process::Abort;
 use std::test::Fail;
 
@@ -38,6 +39,19 @@ const RIGHT: Hash = [
 ];
 
 const COLUMN_PROOF: &[Hash] = &[LEAF, LEFT, RIGHT];
+
+// What is told where all is as it was committed to.
+const ACCEPTED: &str = "accepted";
+
+const WRONG_INDEX: &str = "an index is out of range, or not each has its rows";
+
+const WRONG_WIDTH: &str = "the rows don't have the shapes of the matrices";
+
+const WRONG_PROOF_LENGTH: &str = "the proof has a wrong number of digests";
+
+const DISAGREEING_ROWS: &str = "two different rows stand at one position";
+
+const ROOT_MISMATCH: &str = "the root is not the commitment";
 
 // The root over the rows 1 2, 3 4, 5 6, 7 8, over 9, over 100, 200, and over -1, 0, 1, 2.
 const FOUR_ROOT: Hash = [
@@ -114,24 +128,33 @@ fn rows_at(alloc: Global, places: &[u64]) -> Result<OpenedRows<Mersenne31>, Allo
     Ok(rows)
 }
 
+// The text of a verdict.
+fn shown(verdict: Result<(), MerkleTreeError>) -> InlineText<64> {
+    match verdict {
+        Ok(()) => InlineText::of(ACCEPTED),
+        Err(refusal) => InlineText::of(refusal),
+    }
+}
+
+// What is told of rows of the column.
 fn verify(
     alloc: Global,
     indices: &[usize],
     rows: &OpenedRows<Mersenne31>,
     proof: &Vec<Hash>,
-) -> Result<(), MerkleTreeError> {
+) -> InlineText<64> {
     let dimensions = [Dimensions {
         width: 1,
         height: 8,
     }];
-    ShaMmcs::<Mersenne31>::new().verify_multi_batch(
+    shown(ShaMmcs::<Mersenne31>::new().verify_multi_batch(
         alloc,
         &COLUMN_ROOT,
         &dimensions,
         indices,
         rows,
         proof,
-    )
+    ))
 }
 
 #[test]
@@ -145,17 +168,18 @@ fn opens_a_column(rt: HostRuntime) -> Result<(), Fail> {
     let (rows, proof) = open(alloc, &[7, 2, 3, 2], &data)?;
     assert!(rt; rows == rows_at(alloc, &[7, 2, 3, 2])?);
     assert!(rt; proof.as_slice() == COLUMN_PROOF);
-    assert_eq!(rt; verify(alloc, &[7, 2, 3, 2], &rows, &proof), Ok(()));
+    let told = verify(alloc, &[7, 2, 3, 2], &rows, &proof);
+    assert_eq!(rt; told.as_str(), ACCEPTED);
     Ok(())
 }
 
-// The verdict on the rows of the column at these places, with these digests for proof.
+// What is told of the rows of the column at these places, with these digests for proof.
 fn verdict(
     alloc: Global,
     indices: &[usize],
     places: &[u64],
     proof: &[Hash],
-) -> Result<Result<(), MerkleTreeError>, AllocError> {
+) -> Result<InlineText<64>, AllocError> {
     let (rows, proof) = (rows_at(alloc, places)?, proof.to_vec(alloc)?);
     Ok(verify(alloc, indices, &rows, &proof))
 }
@@ -164,72 +188,73 @@ const FEWER: &[Hash] = &[LEAF, LEFT];
 
 const MORE: &[Hash] = &[LEAF, LEFT, RIGHT, COLUMN_ROOT];
 
-// Indices, the places whose rows are opened there, the digests for proof, and the verdict.
+// Indices, the places whose rows are opened there, the digests for proof, and what is told.
 type Case = (
     &'static [usize],
     &'static [u64],
     &'static [Hash],
-    Result<(), MerkleTreeError>,
+    &'static str,
 );
 
 const CASES: &[Case] = &[
-    (&[7, 2, 3, 2], &[7, 2, 3, 2], COLUMN_PROOF, Ok(())),
+    (&[7, 2, 3, 2], &[7, 2, 3, 2], COLUMN_PROOF, ACCEPTED),
     (
         &[7, 2, 3, 2],
         &[7, 2, 3, 2],
         MORE,
-        Err(MerkleTreeError::WrongProofLength),
+        WRONG_PROOF_LENGTH,
     ),
     (
         &[7, 2, 3, 2],
         &[7, 2, 3, 2],
         FEWER,
-        Err(MerkleTreeError::WrongProofLength),
+        WRONG_PROOF_LENGTH,
     ),
     (
         &[7, 2, 3, 2],
         &[7, 2, 3, 2],
         &[],
-        Err(MerkleTreeError::WrongProofLength),
+        WRONG_PROOF_LENGTH,
     ),
     (
         &[7, 2, 3, 2],
         &[7, 2, 4, 2],
         COLUMN_PROOF,
-        Err(MerkleTreeError::RootMismatch),
+        ROOT_MISMATCH,
     ),
     (
         &[7, 2, 3, 2],
         &[7, 2, 3, 3],
         COLUMN_PROOF,
-        Err(MerkleTreeError::DisagreeingRows),
+        DISAGREEING_ROWS,
     ),
     (
         &[7, 2, 3, 2],
         &[7, 2, 3, 3],
         FEWER,
-        Err(MerkleTreeError::DisagreeingRows),
+        DISAGREEING_ROWS,
     ),
     (
         &[8, 2, 3, 2],
         &[7, 2, 3, 2],
         COLUMN_PROOF,
-        Err(MerkleTreeError::WrongIndex),
+        WRONG_INDEX,
     ),
     (
         &[7, 2, 3, 2],
         &[7, 2, 3],
         COLUMN_PROOF,
-        Err(MerkleTreeError::WrongIndex),
+        WRONG_INDEX,
     ),
-    (&[], &[], &[], Err(MerkleTreeError::WrongIndex)),
-    (&[3, 2, 7], &[3, 2, 7], COLUMN_PROOF, Ok(())),
+    (&[], &[], &[], WRONG_INDEX),
+    (&[3, 2, 7], &[3, 2, 7], COLUMN_PROOF, ACCEPTED),
 ];
 
 #[test]
 fn refuses_what_is_changed(rt: HostRuntime) -> Result<(), Fail> {
     for (indices, places, proof, expected) in CASES {
-        assert_eq!(rt; verdict(rt.alloc(), indices, places, proof)?, *expected);
+        let told = verdict(rt.alloc(), indices, places, proof)?;
+        assert_eq!(rt; told.as_str(), *expected);
     }
     Ok(())
 }
@@ -240,21 +265,23 @@ fn refuses_a_wide_row_before_its_index(rt: HostRuntime) -> Result<(), Fail> {
     let row = vec![in alloc; element(17), element(17)]?;
     let wide = vec![in alloc; vec![in alloc; row]?]?;
     let proof = COLUMN_PROOF.to_vec(alloc)?;
-    assert_eq!(rt;
-        verify(alloc, &[8], &wide, &proof),
-        Err(MerkleTreeError::WrongWidth)
-    );
+    let told = verify(alloc, &[8], &wide, &proof);
+    assert_eq!(rt; told.as_str(), WRONG_WIDTH);
     Ok(())
 }
 
-// The verdict on the column's first row, without a proof, where matrices have this shape.
-fn shaped(
-    alloc: Global,
-    dimensions: &[Dimensions],
-) -> Result<Result<(), MerkleTreeError>, AllocError> {
+// What is told of the column's first row, without a proof, where matrices have this shape.
+fn shaped(alloc: Global, dimensions: &[Dimensions]) -> Result<InlineText<64>, AllocError> {
     let (rows, none) = (rows_at(alloc, &[0])?, Vec::new(alloc));
     let mmcs = ShaMmcs::<Mersenne31>::new();
-    Ok(mmcs.verify_multi_batch(alloc, &COLUMN_ROOT, dimensions, &[0], &rows, &none))
+    Ok(shown(mmcs.verify_multi_batch(
+        alloc,
+        &COLUMN_ROOT,
+        dimensions,
+        &[0],
+        &rows,
+        &none,
+    )))
 }
 
 // The shape of one column.
@@ -265,10 +292,10 @@ const fn column_of(height: usize) -> Dimensions {
 #[test]
 fn refuses_shapes(rt: HostRuntime) -> Result<(), Fail> {
     let alloc = rt.alloc();
-    let refused = Err(MerkleTreeError::WrongWidth);
-    assert_eq!(rt; shaped(alloc, &[])?, refused);
+    assert_eq!(rt; shaped(alloc, &[])?.as_str(), WRONG_WIDTH);
     for height in [3, 0] {
-        assert_eq!(rt; shaped(alloc, &[column_of(height)])?, refused);
+        let told = shaped(alloc, &[column_of(height)])?;
+        assert_eq!(rt; told.as_str(), WRONG_WIDTH);
     }
     Ok(())
 }
@@ -345,7 +372,7 @@ fn refuses_two_rows_at_one_position(rt: HostRuntime) -> Result<(), Fail> {
         &rows,
         &Vec::new(alloc),
     );
-    assert_eq!(rt; verdict, Err(MerkleTreeError::DisagreeingRows));
+    assert_eq!(rt; shown(verdict).as_str(), DISAGREEING_ROWS);
     Ok(())
 }
 

@@ -5,8 +5,7 @@ use circle_commit::{JsonForm, Matrix, PeriodicLdeTable, is_power_of_two};
 use circle_field::{ExtensionField, Mersenne31};
 use circle_json::member;
 use circle_plane::{
-    Butterflies, CircleEvaluations, PeriodicError, Point, build_periodic_lde_table_circle,
-    circle_basis,
+    Butterflies, CircleEvaluations, Point, build_periodic_lde_table_circle, circle_basis,
 };
 use serde_json::{Value, json};
 use std::alloc::{AllocError, Global};
@@ -211,7 +210,7 @@ fn values_at<EF: ExtensionField<Mersenne31>>(
     Ok(CircleEvaluations::from_natural_order(domain, rows).evaluate_at_point(alloc, at)?)
 }
 
-// The table's rows, or its size and some of its entries, or why there is none.
+// The table's rows, or its size and some of its entries, or the text of its refusal.
 fn table(alloc: Global, given: &Value) -> Result<Value> {
     let columns: Vec<Vec<Mersenne31>> = member(alloc, given, "columns")?;
     let trace = domain(alloc, given, "trace")?;
@@ -224,7 +223,7 @@ fn table(alloc: Global, given: &Value) -> Result<Value> {
             Some(_) => entries_at(alloc, &table, given),
             None => table_rows(alloc, &table),
         },
-        Err(refusal) => Ok(json!(in alloc; {"refused": name(refusal)})?),
+        Err(refusal) => Ok(json!(in alloc; {"refused": refusal.to_string(alloc)?})?),
     }
 }
 
@@ -273,14 +272,4 @@ fn entry_at(table: &PeriodicLdeTable<Mersenne31>, place: &[usize]) -> Result<Mer
         bail!("the table has no such column");
     }
     Ok(table.get(*i, *c))
-}
-
-fn name(refusal: PeriodicError) -> &'static str {
-    match refusal {
-        PeriodicError::Empty => "Empty",
-        PeriodicError::NotPowerOfTwo => "NotPowerOfTwo",
-        PeriodicError::LongerThanTrace => "LongerThanTrace",
-        PeriodicError::HeightTooLarge => "HeightTooLarge",
-        PeriodicError::Memory => "Memory",
-    }
 }

@@ -1,12 +1,12 @@
 //! The calls by their names.
 use crate::plane::Domain;
 use crate::told::{Stage, Told};
-use crate::{plane, quiet, scheme, transcript, words};
+use crate::{json, plane, quiet, scheme, transcript, trees, words};
 use anyhow::Result;
 use std::alloc::Global;
 
 /// The names of the calls.
-pub const NAMES: [&str; 19] = [
+pub const NAMES: [&str; 23] = [
     "powers",
     "batch_multiplicative_inverse",
     "circle_basis",
@@ -22,9 +22,13 @@ pub const NAMES: [&str; 19] = [
     "fold_x",
     "transcript",
     "has_seed_of",
+    "prover_run",
+    "from_json",
+    "verify_multi_batch",
     "commit",
     "open",
     "verify",
+    "round_trip",
     "without_memory",
 ];
 
@@ -56,9 +60,13 @@ pub fn told_of(alloc: Global, stage: Stage, name: &str) -> Result<Option<Told>> 
         "fold_x" => words::by_x(alloc, stage, 3)?,
         "transcript" => transcript::transcript(alloc, stage)?,
         "has_seed_of" => transcript::has_seed_of(alloc, stage)?,
+        "prover_run" => transcript::run(alloc, stage)?,
+        "from_json" => json::elements(alloc, stage)?,
+        "verify_multi_batch" => trees::verdict(alloc, stage)?,
         "commit" => scheme::commit(alloc, stage)?,
         "open" => scheme::open(alloc, stage)?,
         "verify" => scheme::verify(alloc, stage)?,
+        "round_trip" => scheme::round_trip(alloc, stage)?,
         "without_memory" => quiet::without_memory(alloc, stage)?,
         _ => return Ok(None),
     };

@@ -11,11 +11,13 @@
 #![tactic(auto)]
 
 mod calls;
+mod json;
 mod plane;
 mod quiet;
 mod scheme;
 mod told;
 mod transcript;
+mod trees;
 mod words;
 
 use anyhow::Result;

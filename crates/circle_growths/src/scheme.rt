@@ -7,7 +7,7 @@ use circle_challenger::{CanObserve, CanSample, Sha256Challenger};
 use circle_commit::{FriParameters, JsonForm, OpenedValues, OpeningRequest};
 use circle_field::{Cubic, Mersenne31};
 use circle_presets::{Claim, Commitment, Known, Proof, ProverData, Scheme};
-use p3_circle::{ProverError, claims_of, heights_match_domains};
+use p3_circle::{BatchAtPoints, ProverError, claims_of, heights_match_domains};
 use std::alloc::{AllocError, Global};
 
 type Opened = (OpenedValues<Cubic>, Proof);
@@ -172,4 +172,24 @@ pub fn verify(alloc: Global, stage: Stage) -> Result<Told> {
     }
     let answer = scheme().verify(alloc, claims, &proof, &mut challenger);
     Ok(told(answer.map(|()| "accepted")))
+}
+
+/// `CirclePcs::round_trip` of one column at one point.
+pub fn round_trip(alloc: Global, stage: Stage) -> Result<Told> {
+    let evaluations = vec![in alloc; (Domain::standard(2), column(alloc, 4)?)]?;
+    if evaluations.len() != 1 || !heights_match_domains(&evaluations) {
+        bail!("there is not one row for each point");
+    }
+    let [point, _] = points();
+    let batch = BatchAtPoints {
+        evaluations,
+        points: vec![in alloc; vec![in alloc; point]?]?,
+    };
+    let batches = vec![in alloc; batch]?;
+    let (mut prover, mut verifier) = (Sha256Challenger::new(), Sha256Challenger::new());
+    if stage == Stage::Before {
+        return Ok(before());
+    }
+    let answer = scheme().round_trip(alloc, batches, &mut prover, &mut verifier);
+    Ok(told(answer.map(|values| values.len())))
 }

@@ -1,6 +1,6 @@
 //! Where a run ends, and how an answer is told.
 use circle_field::{ExtensionField, Mersenne31};
-use std::fmt::{Debug, Display, InlineText};
+use std::fmt::{Display, InlineText};
 
 /// Where a run of a call ends.
 #[derive(Clone, Copy, PartialEq, Eq)]
@@ -21,11 +21,11 @@ pub fn before() -> Told {
     Told::of("before")
 }
 
-/// What is told of an answer: `Ok` and the value, or the name of the refusal.
-pub fn told<T: Display + Drop, E: Debug + Drop>(answer: Result<T, E>) -> Told {
+/// What is told of an answer: `Ok` and the value, or the text of the refusal.
+pub fn told<T: Display + Drop, E: Display + Drop>(answer: Result<T, E>) -> Told {
     match answer {
         Ok(value) => Told::of(format_args!("Ok {value}")),
-        Err(refusal) => Told::of(format_args!("{refusal:?}")),
+        Err(refusal) => Told::of(refusal),
     }
 }
 

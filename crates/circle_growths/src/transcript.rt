@@ -1,14 +1,28 @@
 //! Calls on a transcript and its shape.
+ghost use Rattle.std.specs.Prelude.{◌≡◌, [], ◌∷◌, IfOk};
+ghost use Rattle.circle_transcript.specs.Shape.{claimed_widths};
+ghost use Rattle.circle_transcript.specs.ShapeOf.{shape_of};
+
+use crate::plane::cubic;
 use crate::told::{Stage, Told, before, told};
-use anyhow::{Result, bail};
+use anyhow::Result;
 use circle_challenger::{CanSample, Sha256Challenger};
 use circle_commit::FriParameters;
 use circle_field::{Cubic, Mersenne31};
-use p3_circle::{CirclePcsShape, CircleProverTranscript};
+use circle_runs::CircleMessages;
+use p3_circle::{CirclePcsShape, CircleProverTranscript, Neutral, Point, prover_run};
 use std::alloc::{AllocError, Global};
 
-// The shape of a run over one claim of one column.
-fn shape(alloc: Global) -> Result<CirclePcsShape, AllocError> {
+// The shape of a run of one round over one claim of one column.
+fn shape(alloc: Global) -> Result<CirclePcsShape, AllocError>
+    ensures widths { IfOk result (λ s. claimed_widths (shape_of s) ≡ 1 ∷ []) }
+    ensures rounds { IfOk result (λ s. s.num_commit_rounds ≡ 1) }
+    ensures batch { IfOk result (λ s. s.batch_pow_bits ≡ 0) }
+    ensures commit { IfOk result (λ s. s.commit_pow_bits ≡ 0) }
+    ensures query { IfOk result (λ s. s.query_pow_bits ≡ 0) }
+    ensures index { IfOk result (λ s. s.index_bits ≡ 2) }
+    ensures final_poly { IfOk result (λ s. s.log_final_poly_len ≡ 0) }
+{
     let widths = vec![in alloc; 1]?;
     let matrices = vec![in alloc; widths]?;
     let batches = vec![in alloc; matrices]?;
@@ -34,9 +48,6 @@ fn drawn(challenger: &mut Sha256Challenger) -> u32 {
 /// `CircleTranscript::new`, with what its challenger draws afterwards.
 pub fn transcript(alloc: Global, stage: Stage) -> Result<Told> {
     let shape = shape(alloc)?;
-    if shape.log_final_poly_len > 63 {
-        bail!("the final polynomial is too long");
-    }
     let mut challenger = Sha256Challenger::new();
     if stage == Stage::Before {
         return Ok(Told::of(format_args!("before, draws {}", drawn(&mut challenger))));
@@ -60,11 +71,32 @@ pub fn transcript(alloc: Global, stage: Stage) -> Result<Told> {
 /// `CirclePcsShape::has_seed_of`.
 pub fn has_seed_of(alloc: Global, stage: Stage) -> Result<Told> {
     let (one, other) = (shape(alloc)?, shape(alloc)?);
-    if one.log_final_poly_len > 63 || other.log_final_poly_len > 63 {
-        bail!("the final polynomial is too long");
-    }
     if stage == Stage::Before {
         return Ok(before());
     }
     Ok(told(one.has_seed_of::<Mersenne31, Cubic>(alloc, &other)))
+}
+
+/// `prover_run` over one claim.
+pub fn run(alloc: Global, stage: Stage) -> Result<Told> {
+    let shape = shape(alloc)?;
+    let (values, final_poly) = ([cubic([5, 6, 7])], [cubic([1, 2, 3])]);
+    let claims = [(Point::<Cubic>::ZERO, values.as_slice())];
+    let messages = CircleMessages {
+        first_layer: &[7; 32],
+        commitments: &[[9; 32]],
+        final_poly: final_poly.as_slice(),
+    };
+    let mut challenger = Sha256Challenger::new();
+    if stage == Stage::Before {
+        return Ok(before());
+    }
+    let run = prover_run(
+        alloc,
+        &mut challenger,
+        shape,
+        claims.as_slice(),
+        &messages,
+    );
+    Ok(told(run.map(|(draws, _)| draws.indices.len())))
 }

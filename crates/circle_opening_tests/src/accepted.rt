@@ -9,6 +9,7 @@ use circle_statements::openings::{Answer, claims_of, open, shown, verify};
 use circle_statements::parameters::{Numbers, Proof, SMALL, Scheme, scheme};
 use p3_circle::{BatchAtPoints, Point, heights_match_domains};
 use std::alloc::Global;
+use std::fmt::InlineText;
 use std::process::Abort;
 use std::test::Fail;
 
@@ -116,5 +117,45 @@ fn a_whole_run(rt: HostRuntime) -> Result<(), Fail> {
     assert!(&rt; values.len() == 2);
     let (drawn, again): (Mersenne31, Mersenne31) = (prover.sample(), verifier.sample());
     assert_eq!(&rt; drawn, again);
+    Ok(())
+}
+
+// What is answered to a whole run over a matrix of so many rows, opened at this coordinate.
+fn run_of_one(
+    rt: &impl Abort,
+    alloc: Global,
+    log_rows: usize,
+    at: [u64; 3],
+) -> Result<InlineText<64>, Fail>
+    requires { log_rows ≤ 30 }
+{
+    let evaluations = matrix(alloc, log_rows, 12)?;
+    assert!(rt; evaluations.len() == 1 && heights_match_domains(&evaluations));
+    let batch = BatchAtPoints {
+        evaluations,
+        points: one(alloc, one(alloc, cubic(at))?)?,
+    };
+    let (mut prover, mut verifier) = (Sha256Challenger::new(), Sha256Challenger::new());
+    let run = scheme(SMALL).round_trip(alloc, one(alloc, batch)?, &mut prover, &mut verifier);
+    match run {
+        Ok(_) => Ok(InlineText::of("done")),
+        Err(refusal) => Ok(InlineText::of(refusal)),
+    }
+}
+
+// Two rows are too few; the other coordinate is of a point that four rows are committed on.
+#[test]
+fn runs_that_are_refused(rt: HostRuntime) -> Result<(), Fail> {
+    let alloc = rt.alloc();
+    let commit = run_of_one(&rt, alloc, 1, [0, 1, 0])?;
+    assert_eq!(&rt;
+        commit.as_str(),
+        "there is no commitment: a matrix has too few rows to be folded"
+    );
+    let open = run_of_one(&rt, alloc, 2, [775713575, 0, 0])?;
+    assert_eq!(&rt;
+        open.as_str(),
+        "there is no opening: an opening point lies on the committed domain of its matrix"
+    );
     Ok(())
 }

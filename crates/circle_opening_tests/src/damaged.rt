@@ -64,6 +64,7 @@ enum Damage {
     QueryOfLayerLess,
     DigestOfRound,
     DigestOfLayer,
+    DigestOfInput,
 }
 
 // Changes what a round opens.
@@ -124,6 +125,11 @@ fn apply(alloc: Global, given: &mut Opening, damage: Damage) -> Result<(), Fail>
         Damage::QueryOfLayerLess => drop(words.input_openings.first_layer_siblings.pop()),
         Damage::DigestOfLayer => {
             let digests = &mut words.input_openings.first_layer_proof;
+            *digests.first_mut().ok_or("a digest")? = [0; 32];
+        }
+        Damage::DigestOfInput => {
+            let inputs = &mut words.input_openings.input_openings;
+            let digests = &mut inputs.first_mut().ok_or("a batch")?.opening_proof;
             *digests.first_mut().ok_or("a digest")? = [0; 32];
         }
         _ => damage_round(
@@ -307,6 +313,12 @@ const AFTER_THE_SEEDING: &[Row] = &[
     (WORKED, Damage::Nothing, "accepted", Left::Played),
     (WORKED, Damage::BatchWitness, WEAK, Left::Within),
     (WORKED, Damage::ClaimedValue, WEAK, Left::Within),
+    (
+        COLUMN,
+        Damage::DigestOfInput,
+        "the input is refused: input MMCS error: the root is not the commitment",
+        Left::Played,
+    ),
 ];
 
 #[test]

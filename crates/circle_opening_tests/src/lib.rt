@@ -13,5 +13,3 @@ mod plain;
 mod refusals;
 #[cfg(test)]
 mod stubborn;
-#[cfg(test)]
-mod trusting;

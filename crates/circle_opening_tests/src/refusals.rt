@@ -1,31 +1,32 @@
 //! What is refused of requests to open, in its order.
 use crate::stubborn::Stubborn;
 use circle_challenger::{CanObserve, CanSample, GrindingChallenger, Sha256Challenger};
-use circle_commit::{OpeningRequest, PowPhase, heights_are_powers_of_two};
+use circle_commit::{OpeningRequest, heights_are_powers_of_two};
 use circle_field::{ExtensionField, Field, Mersenne31};
 use circle_fixtures::quadratic::Quadratic;
 use circle_fixtures::schemes::ListMmcs;
 use circle_statements::batches::{
     Batch, Domain, Rows, commit_one, cubic, one, rows, scattered_batch, sevens,
 };
-use circle_statements::openings::{open, open_at};
+use circle_statements::openings::{open, open_at, told};
 use circle_statements::parameters::{Data, Numbers, SMALL, Scheme, Trees, parameters, scheme};
 use p3_circle::{CirclePcs, ProverError};
 use std::alloc::Global;
+use std::fmt::InlineText;
 use std::process::Abort;
 use std::test::Fail;
 
-// Why the batches are not opened, if they aren't.
+// The text of the refusal to open the batches.
 fn refusal<C>(
     alloc: Global,
     scheme: &Scheme,
     batches: &[Batch],
     challenger: &mut C,
-) -> Option<ProverError>
+) -> InlineText<64>
 where
     C: CanSample<Mersenne31> + GrindingChallenger<Mersenne31> + CanObserve<[u8; 32]>,
 {
-    open(alloc, scheme, batches, challenger).err()
+    told(open(alloc, scheme, batches, challenger))
 }
 
 // Asserts that the batches are refused, and that the challenger is as it was.
@@ -34,11 +35,11 @@ fn assert_refused(
     alloc: Global,
     scheme: &Scheme,
     batches: &[Batch],
-    expected: ProverError,
+    expected: &str,
 ) {
     let mut challenger = Sha256Challenger::new();
     let refused = refusal(alloc, scheme, batches, &mut challenger);
-    assert_eq!(rt; refused, Some(expected));
+    assert_eq!(rt; refused.as_str(), expected);
     assert_eq!(rt; challenger, Sha256Challenger::new());
 }
 
@@ -49,9 +50,17 @@ fn of_work(work: [usize; 3]) -> Numbers {
 
 #[test]
 fn nothing_to_open(rt: HostRuntime) {
-    let nothing = ProverError::NoCommittedMatrices;
-    for numbers in [SMALL, of_work([30, 30, 30])] {
-        assert_refused(&rt, rt.alloc(), &scheme(numbers), &[], nothing);
+    let no_queries = Numbers {
+        num_queries: 0,
+        ..SMALL
+    };
+    let cases = [
+        (SMALL, "no matrix is committed to"),
+        (of_work([30, 30, 30]), "no matrix is committed to"),
+        (no_queries, "the parameters are not supported"),
+    ];
+    for (numbers, expected) in cases {
+        assert_refused(&rt, rt.alloc(), &scheme(numbers), &[], expected);
     }
 }
 
@@ -72,7 +81,8 @@ fn more_lists(alloc: Global, scheme: &Scheme) -> Result<Batch, Fail> {
 #[test]
 fn other_numbers_of_lists_of_points(rt: HostRuntime) -> Result<(), Fail> {
     let alloc = rt.alloc();
-    let (small, other) = (scheme(SMALL), ProverError::MatrixCountMismatch);
+    let other = "there is not one list of points for each matrix";
+    let small = scheme(SMALL);
     let more = [more_lists(alloc, &small)?];
     assert_refused(&rt, alloc, &small, &more, other);
     // The first matrix has too few rows for the higher blowup.
@@ -96,23 +106,22 @@ fn too_few_rows_before_points_of_their_domain(rt: HostRuntime) -> Result<(), Fai
     let small = scheme(SMALL);
     let (column, at) = (rows(alloc, &[7; 4], 1)?, [cubic(ON_FOUR_ROWS)]);
     let four = [commit_one(alloc, &small, Domain::standard(2), column, &at)?];
-    assert_refused(&rt, alloc, &small, &four, ProverError::PointOnDomain);
+    let on_domain = "an opening point lies on the committed domain of its matrix";
+    assert_refused(&rt, alloc, &small, &four, on_domain);
     for (log_blowup, log_final_poly_len) in [(2, 0), (1, 1), (1, usize::MAX), (usize::MAX, 0)] {
         let other = scheme(Numbers {
             log_blowup,
             log_final_poly_len,
             ..SMALL
         });
-        assert_refused(&rt, alloc, &other, &four, ProverError::HeightTooSmall);
+        let too_small = "a matrix has too few rows to be folded";
+        assert_refused(&rt, alloc, &other, &four, too_small);
     }
     Ok(())
 }
 
-// Why sevens are not opened at these coordinates over the quadratic extension.
-fn refusal_over_quadratic(
-    alloc: Global,
-    points: &[Quadratic],
-) -> Result<Option<ProverError>, Fail> {
+// The text of the refusal to open sevens at these coordinates over the quadratic extension.
+fn refusal_over_quadratic(alloc: Global, points: &[Quadratic]) -> Result<InlineText<64>, Fail> {
     let four = sevens(alloc, &scheme(SMALL))?;
     let request = OpeningRequest {
         prover_data: &four.data,
@@ -120,7 +129,12 @@ fn refusal_over_quadratic(
     };
     let lists = CirclePcs::new(Trees::new(), parameters(SMALL, ListMmcs));
     let mut challenger = Sha256Challenger::new();
-    Ok(open_at(alloc, &lists, one(alloc, request)?, &mut challenger).err())
+    Ok(told(open_at(
+        alloc,
+        &lists,
+        one(alloc, request)?,
+        &mut challenger,
+    )))
 }
 
 // The square of the element `X` of the quadratic extension is -1.
@@ -128,35 +142,40 @@ fn refusal_over_quadratic(
 fn points_at_infinity(rt: HostRuntime) -> Result<(), Fail> {
     let infinity = Quadratic::from_coefficients(&[Mersenne31::ZERO, Mersenne31::ONE]);
     let other = Quadratic::from_coefficients(&[Mersenne31::ONE, Mersenne31::ONE]);
-    let refused = Some(ProverError::PointAtInfinity);
-    let cases: [(&[Quadratic], Option<ProverError>); 3] = [
+    let refused = "an opening point is at infinity";
+    let cases: [(&[Quadratic], &str); 3] = [
         (&[infinity], refused),
         (&[other, -infinity], refused),
-        (&[other], None),
+        (&[other], "done"),
     ];
     for (points, expected) in cases {
-        assert_eq!(&rt; refusal_over_quadratic(rt.alloc(), points)?, expected);
+        let answer = refusal_over_quadratic(rt.alloc(), points)?;
+        assert_eq!(&rt; answer.as_str(), expected);
     }
     Ok(())
 }
 
+const OF_BATCHING: &str = "no witness passes the proof of work of the batch phase";
+
+const OF_A_ROUND: &str = "no witness passes the proof of work of the commit phase";
+
 #[test]
 fn phases_in_which_no_witness_passes(rt: HostRuntime) -> Result<(), Fail> {
     let alloc = rt.alloc();
+    let of_queries = "no witness passes the proof of work of the query phase";
     let cases = [
-        ([4, 0, 0], Some(PowPhase::Batch)),
-        ([0, 4, 0], Some(PowPhase::CommitPhase)),
-        ([0, 0, 4], Some(PowPhase::Query)),
-        ([4, 4, 4], Some(PowPhase::Batch)),
-        ([0, 4, 4], Some(PowPhase::CommitPhase)),
-        ([0, 0, 0], None),
+        ([4, 0, 0], OF_BATCHING),
+        ([0, 4, 0], OF_A_ROUND),
+        ([0, 0, 4], of_queries),
+        ([4, 4, 4], OF_BATCHING),
+        ([0, 4, 4], OF_A_ROUND),
+        ([0, 0, 0], "done"),
     ];
-    for (work, phase) in cases {
+    for (work, expected) in cases {
         let guarded = scheme(of_work(work));
         let four = [sevens(alloc, &guarded)?];
         let refused = refusal(alloc, &guarded, &four, &mut Stubborn);
-        let expected = phase.map(|phase| ProverError::NoGrindingWitness { phase });
-        assert_eq!(&rt; refused, expected);
+        assert_eq!(&rt; refused.as_str(), expected);
     }
     Ok(())
 }
@@ -208,7 +227,7 @@ fn a_column_of_too_high_degree(rt: HostRuntime) -> Result<(), Fail> {
         let domain = Domain::standard(log_n);
         let high = [as_it_is(&rt, alloc, &small, domain, entries)?];
         let refused = refusal(alloc, &small, &high, &mut Sha256Challenger::new());
-        assert_eq!(&rt; refused, Some(ProverError::LastWordNotConstant));
+        assert_eq!(&rt; refused.as_str(), "the last folded word is of too high degree");
     }
     Ok(())
 }

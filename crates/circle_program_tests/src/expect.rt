@@ -71,35 +71,20 @@ fn expect_status<W: Write>(
     Err(unexpected(status, input))
 }
 
-/// Expects the status 1 over a writer of so much room.
-pub fn expect_not_taken(alloc: Global, case: (&str, &str), room: usize) -> Result<(), Fail> {
-    expect_status(alloc, case, &mut FailingWriter { room }, 1)
-}
-
-/// Expects the status over a writer of so much room, which the line takes, and the status 1 over
-/// one that can't flush.
-pub fn expect_taken(
-    alloc: Global,
-    case: (&str, &str),
-    (room, status): (usize, u8),
-) -> Result<(), Fail> {
-    let mut output = FailingWriter { room };
-    expect_status(alloc, case, &mut output, status)?;
-    if output.room != 0 {
-        return Err(unexpected(status, "a shorter line"));
-    }
-    expect_status(alloc, case, &mut FailingFlush, 1)
-}
-
-/// Expects the status of a line of so many bytes, with its end, and the status 1 over each writer
-/// that takes fewer and over one that can't flush.
+/// Expects the status of a line of so many bytes, with its end, over a writer that takes no more,
+/// and the status 1 over each that takes fewer and over one that can't flush.
 pub fn expect_written_whole(
     alloc: Global,
     case: (&str, &str),
     (len, status): (usize, u8),
 ) -> Result<(), Fail> {
     for room in 0..len {
-        expect_not_taken(alloc, case, room)?;
+        expect_status(alloc, case, &mut FailingWriter { room }, 1)?;
     }
-    expect_taken(alloc, case, (len, status))
+    let mut output = FailingWriter { room: len };
+    expect_status(alloc, case, &mut output, status)?;
+    if output.room != 0 {
+        return Err(unexpected(status, "a shorter line"));
+    }
+    expect_status(alloc, case, &mut FailingFlush, 1)
 }

@@ -30,6 +30,11 @@ fn texts_that_are_cut_off(rt: HostRuntime) -> Result<(), Fail> {
     Ok(())
 }
 
+/// How the answer begins where no byte is changed, and where one is, with the statuses.
+const TAKEN: (&str, u8) = (r#"{"verified":true}"#, 0);
+
+const UNREADABLE: (&str, u8) = (r#"{"unreadable":""#, 2);
+
 // Puts other bytes in the place of one, and expects that the text then can't be read.
 fn expect_bytes(
     rt: &impl Abort,
@@ -42,9 +47,10 @@ fn expect_bytes(
     };
     for new in [b'"', b'{', 0xff] {
         text[i] = new;
-        let want = if new == old { 0 } else { 2 };
+        let (begins, status) = if new == old { TAKEN } else { UNREADABLE };
         let answer = answer_of(alloc, "verify", text)?;
-        assert_eq!(rt; answer.status, want, "byte {i} is {new}");
+        assert_eq!(rt; answer.status, status, "byte {i} is {new}");
+        assert!(rt; answer.written.starts_with(begins.as_bytes()), "byte {i} is {new}");
     }
     text[i] = old;
     Ok(())

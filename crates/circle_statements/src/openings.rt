@@ -120,3 +120,11 @@ pub fn shown(answer: Answer) -> InlineText<128> {
         Err(refusal) => InlineText::of(refusal),
     }
 }
+
+/// The text of a prover's refusal, `done` where there is none.
+pub fn told<T: Drop>(answer: Result<T, ProverError>) -> InlineText<64> {
+    match answer {
+        Ok(_) => InlineText::of("done"),
+        Err(refusal) => InlineText::of(refusal),
+    }
+}

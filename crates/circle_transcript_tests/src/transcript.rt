@@ -13,6 +13,7 @@ use circle_runs::{
 };
 use circle_transcript::{CirclePcsShape, CircleTranscriptFailure};
 use std::alloc::{AllocError, Global};
+use std::fmt::InlineText;
 use std::process::Abort;
 use std::test::Fail;
 
@@ -294,27 +295,38 @@ fn queries_checked(alloc: Global, witness: u64) -> Result<(), CircleTranscriptFa
     checked(alloc, &[], Difficulties { query: 8, ..NONE }, &witnesses)
 }
 
-/// Whether there is a failure, which has to be a miss of 8 bits in this phase.
-fn misses(rt: &impl Abort, verdict: Result<(), CircleTranscriptFailure>, phase: PowPhase) -> bool {
+/// Whether there is a failure, which has to be of this phase and to have this text.
+fn misses(
+    rt: &impl Abort,
+    verdict: Result<(), CircleTranscriptFailure>,
+    (phase, text): (PowPhase, &str),
+) -> bool {
     let Err(failure) = verdict else {
         return false;
     };
-    assert_eq!(rt;
-        failure,
-        CircleTranscriptFailure::PowWitness { phase, bits: 8 }
-    );
+    assert_eq!(rt; InlineText::<96>::of(failure).as_str(), text);
     assert_eq!(rt; failure.phase(), phase);
     true
 }
+
+const MISS_OF_A_ROUND: (PowPhase, &str) = (
+    PowPhase::CommitPhase,
+    "invalid proof-of-work witness for the commit phase: 8 bits required",
+);
+
+const MISS_OF_THE_QUERIES: (PowPhase, &str) = (
+    PowPhase::Query,
+    "invalid proof-of-work witness for the query phase: 8 bits required",
+);
 
 #[test]
 fn a_miss_names_its_phase(rt: HostRuntime) {
     let mut missed = (false, false);
     for witness in 0..8 {
         let verdict = round_checked(rt.alloc(), witness);
-        missed.0 |= misses(&rt, verdict, PowPhase::CommitPhase);
+        missed.0 |= misses(&rt, verdict, MISS_OF_A_ROUND);
         let verdict = queries_checked(rt.alloc(), witness);
-        missed.1 |= misses(&rt, verdict, PowPhase::Query);
+        missed.1 |= misses(&rt, verdict, MISS_OF_THE_QUERIES);
     }
     assert_eq!(rt; missed, (true, true));
 }
@@ -334,10 +346,13 @@ fn failure_of_no_witness(
 }
 
 #[test]
-fn where_no_witness_passes_the_prover_fails(rt: HostRuntime) {
-    let phase = PowPhase::Batch;
+fn where_no_witness_passes_the_prover_fails(rt: HostRuntime) -> Result<(), Fail> {
+    let failure = failure_of_no_witness(rt.alloc(), &[], Difficulties { batch: 4, ..NONE });
+    let failure = failure.ok_or("a run")?;
     assert_eq!(rt;
-        failure_of_no_witness(rt.alloc(), &[], Difficulties { batch: 4, ..NONE }),
-        Some(CircleTranscriptFailure::NoWitness { phase, bits: 4 })
+        InlineText::<96>::of(failure).as_str(),
+        "no proof-of-work witness for the batch phase: 4 bits required"
     );
+    assert_eq!(rt; failure.phase(), PowPhase::Batch);
+    Ok(())
 }

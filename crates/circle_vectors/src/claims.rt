@@ -1,12 +1,19 @@
 //! The greatest height of claims, and claims at points at infinity.
+use circle_challenger::Sha256Challenger;
 use circle_commit::{CommitmentOpening, FriError, MatrixOpening, PointOpening};
 use circle_field::{Cubic, ExtensionField, Field, Mersenne31};
+use circle_fixtures::matrix_list::MatrixList;
 use circle_fixtures::quadratic::Quadratic;
+use circle_fixtures::schemes::{ListMmcs, Nothing};
 use circle_statements::batches::one;
-use circle_statements::parameters::{Numbers, SMALL, parameters};
-use p3_circle::verifier::{validate_claims, validate_points};
-use p3_circle::{CircleDomain, InputError, Neutral, Point};
+use circle_statements::parameters::{SMALL, Trees, parameters};
+use p3_circle::verifier::validate_claims;
+use p3_circle::{
+    CircleDomain, CircleFriProof, CircleInputProof, CirclePcs, CirclePcsProof, InputError, Neutral,
+    Point,
+};
 use std::alloc::{AllocError, Global};
+use std::fmt::InlineText;
 use std::test::Fail;
 
 type Answer = Result<usize, FriError<AllocError, InputError<AllocError, AllocError>>>;
@@ -50,46 +57,75 @@ fn the_greatest_height(rt: HostRuntime) -> Result<(), Fail> {
     Ok(())
 }
 
-type QuadraticClaims = Vec<CommitmentOpening<Quadratic, (), CircleDomain<Mersenne31>>>;
+type QuadraticClaims = Vec<CommitmentOpening<Quadratic, [u8; 32], CircleDomain<Mersenne31>>>;
 
-// A matrix that is claimed at the point of this coordinate.
+// A matrix of two rows that is claimed at the point of this coordinate.
 fn claimed_at(alloc: Global, point: Quadratic) -> Result<QuadraticClaims, AllocError> {
     let claim = PointOpening {
         point,
         values: Vec::new(alloc),
     };
     let matrix = MatrixOpening {
-        domain: CircleDomain::new(2, Point::ZERO),
+        domain: CircleDomain::new(1, Point::ZERO),
         points: one(alloc, claim)?,
     };
     let batch = CommitmentOpening {
-        commitment: (),
+        commitment: [0; 32],
         matrices: one(alloc, matrix)?,
     };
     one(alloc, batch)
 }
 
-// The answer to claims at a point, where no proof of work has a difficulty.
-fn answer_at(alloc: Global, point: Quadratic) -> Result<bool, Fail> {
-    let numbers = Numbers {
-        num_queries: 1,
-        ..SMALL
+type QuadraticProof = CirclePcsProof<Mersenne31, Quadratic, Trees, ListMmcs, Mersenne31>;
+
+// A proof without rounds, as is due for two rows, that opens nothing.
+fn proof_of_nothing(alloc: Global) -> Result<QuadraticProof, AllocError> {
+    let input_openings = CircleInputProof {
+        input_openings: Vec::new(alloc),
+        first_layer_siblings: Vec::new(alloc),
+        first_layer_proof: Nothing,
     };
-    let params = parameters(numbers, ());
-    let claims = claimed_at(alloc, point)?;
-    let answer: Result<(), FriError<AllocError, AllocError>> = validate_points(
-        &params,
-        &Mersenne31::ZERO,
-        &claims,
-    );
-    Ok(matches!(answer, Err(FriError::PointAtInfinity)))
+    let fri_proof = CircleFriProof {
+        commit_phase_commits: Vec::new(alloc),
+        commit_pow_witnesses: Vec::new(alloc),
+        input_openings,
+        commit_phase_openings: Vec::new(alloc),
+        final_poly: one(alloc, Quadratic::ZERO)?,
+        pow_witness: Mersenne31::ZERO,
+    };
+    Ok(CirclePcsProof {
+        batch_pow_witness: Mersenne31::ZERO,
+        first_layer_commitment: MatrixList::new(Vec::new(alloc)),
+        lambdas: Vec::new(alloc),
+        fri_proof,
+    })
+}
+
+// The text of the answer to a claim at a point.
+fn answer_at(
+    alloc: Global,
+    point: Quadratic,
+    challenger: &mut Sha256Challenger,
+) -> Result<InlineText<128>, Fail> {
+    let scheme = CirclePcs::new(Trees::new(), parameters(SMALL, ListMmcs));
+    let proof = proof_of_nothing(alloc)?;
+    match scheme.verify(alloc, claimed_at(alloc, point)?, &proof, challenger) {
+        Ok(()) => Ok(InlineText::of("accepted")),
+        Err(refusal) => Ok(InlineText::of(refusal)),
+    }
 }
 
 // The square of the element `X` of the quadratic extension is -1.
 #[test]
 fn points_at_infinity(rt: HostRuntime) -> Result<(), Fail> {
+    let alloc = rt.alloc();
     let infinity = Quadratic::from_coefficients(&[Mersenne31::ZERO, Mersenne31::ONE]);
-    assert!(rt; answer_at(rt.alloc(), infinity)?);
-    assert!(rt; !answer_at(rt.alloc(), Quadratic::ONE)?);
+    let mut challenger = Sha256Challenger::new();
+    let answer = answer_at(alloc, infinity, &mut challenger)?;
+    assert_eq!(rt; answer.as_str(), "a claimed point is at infinity");
+    assert_eq!(rt; challenger, Sha256Challenger::new());
+    let other = answer_at(alloc, Quadratic::ONE, &mut challenger)?;
+    assert!(rt; other.as_str().starts_with("the input is refused: "));
+    assert!(rt; challenger != Sha256Challenger::new());
     Ok(())
 }

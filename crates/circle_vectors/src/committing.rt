@@ -1,13 +1,13 @@
 //! What is committed to, at worked examples, and what is refused of it.
 use circle_commit::{
-    Matrix, Mmcs, PowPhase, RowMajorMatrix, heights_are_powers_of_two, is_power_of_two,
+    Matrix, Mmcs, RowMajorMatrix, heights_are_powers_of_two, is_power_of_two,
 };
 use circle_field::{Field, Mersenne31};
 use circle_statements::batches::{Domain, Rows, one, rows};
+use circle_statements::openings::told;
 use circle_statements::parameters::{Data, Numbers, SMALL, Trees, parameters};
 use p3_circle::{CirclePcs, Neutral, Point, ProverError, heights_match_domains};
 use std::alloc::Global;
-use std::fmt::InlineText;
 use std::process::Abort;
 use std::test::Fail;
 
@@ -137,44 +137,40 @@ fn assert_refused(
     alloc: Global,
     scheme: &Scheme,
     kinds: &[Kind],
-    expected: ProverError,
+    expected: &str,
 ) -> Result<(), Fail> {
-    let committed = commit(rt, alloc, scheme, zeros(rt, alloc, kinds)?).err();
-    assert_eq!(rt; committed, Some(expected));
-    let extended = quotient_ldes(rt, alloc, scheme, zeros(rt, alloc, kinds)?, 1).err();
-    assert_eq!(rt; extended, Some(expected));
+    let committed = told(commit(rt, alloc, scheme, zeros(rt, alloc, kinds)?));
+    assert_eq!(rt; committed.as_str(), expected);
+    let extended = told(quotient_ldes(rt, alloc, scheme, zeros(rt, alloc, kinds)?, 1));
+    assert_eq!(rt; extended.as_str(), expected);
     Ok(())
 }
 
-// A blowup, the number of coefficients at which folding stops, domains, and their refusal.
-const REFUSED: &[(usize, usize, &[Kind], ProverError)] = &[
-    (1, 0, &[(2, false)], ProverError::NotGenuine),
-    (1, 0, &[(1, true)], ProverError::HeightTooSmall),
-    (1, 0, &[(1, false)], ProverError::HeightTooSmall),
-    (1, 1, &[(2, true)], ProverError::HeightTooSmall),
-    (1, usize::MAX, &[(3, true)], ProverError::HeightTooSmall),
-    (29, 0, &[(2, true)], ProverError::HeightTooLarge),
-    (29, 0, &[(2, false)], ProverError::HeightTooLarge),
-    (usize::MAX, 0, &[(2, true)], ProverError::HeightTooLarge),
-    (
-        1,
-        0,
-        &[(2, true), (2, false), (1, true)],
-        ProverError::NotGenuine,
-    ),
-    (
-        1,
-        1,
-        &[(3, true), (2, true), (2, false)],
-        ProverError::HeightTooSmall,
-    ),
+const NOT_GENUINE: &str = "a domain is not genuine: its halves meet";
+
+const TOO_SMALL: &str = "a matrix has too few rows to be folded";
+
+const TOO_LARGE: &str = "a matrix has too many rows for the group of points";
+
+// A blowup, the number of coefficients at which folding stops, domains, and the refusal's text.
+const REFUSED: &[(usize, usize, &[Kind], &str)] = &[
+    (1, 0, &[(2, false)], NOT_GENUINE),
+    (1, 0, &[(1, true)], TOO_SMALL),
+    (1, 0, &[(1, false)], TOO_SMALL),
+    (1, 1, &[(2, true)], TOO_SMALL),
+    (1, usize::MAX, &[(3, true)], TOO_SMALL),
+    (29, 0, &[(2, true)], TOO_LARGE),
+    (29, 0, &[(2, false)], TOO_LARGE),
+    (usize::MAX, 0, &[(2, true)], TOO_LARGE),
+    (1, 0, &[(2, true), (2, false), (1, true)], NOT_GENUINE),
+    (1, 1, &[(3, true), (2, true), (2, false)], TOO_SMALL),
 ];
 
 #[test]
 fn refusals_of_domains(rt: HostRuntime) -> Result<(), Fail> {
     for (log_blowup, log_final_poly_len, kinds, expected) in REFUSED {
         let scheme = scheme(*log_blowup, *log_final_poly_len);
-        assert_refused(&rt, rt.alloc(), &scheme, kinds, *expected)?;
+        assert_refused(&rt, rt.alloc(), &scheme, kinds, expected)?;
     }
     Ok(())
 }
@@ -241,8 +237,8 @@ fn assert_on_domains(
         &scheme,
         batch(alloc, Domain::standard(2), entries)?,
     )?;
-    let small = evaluations_on(rt, alloc, &scheme, &data, Domain::standard(1)).err();
-    assert_eq!(rt; small, Some(ProverError::DomainSmallerThanTrace));
+    let small = told(evaluations_on(rt, alloc, &scheme, &data, Domain::standard(1)));
+    assert_eq!(rt; small.as_str(), "a domain is smaller than the trace");
     for (domain, expected) in cases {
         assert_values(rt, alloc, &scheme, &data, *domain, expected)?;
     }
@@ -276,8 +272,8 @@ fn assert_too_low(
     scheme: &Scheme,
     entries: &[&[u64]],
 ) -> Result<(), Fail> {
-    let refused = commit_ldes(rt, alloc, scheme, columns(alloc, entries)?).err();
-    assert_eq!(rt; refused, Some(ProverError::HeightTooSmall));
+    let refused = told(commit_ldes(rt, alloc, scheme, columns(alloc, entries)?));
+    assert_eq!(rt; refused.as_str(), TOO_SMALL);
     Ok(())
 }
 
@@ -289,8 +285,8 @@ const TOO_LOW: [&[u64]; 2] = [&[7; 32], &[1, 0, 0, 0, 0, 0, 0, 0]];
 fn matrices_as_they_are(rt: HostRuntime) -> Result<(), Fail> {
     let alloc = rt.alloc();
     let one = scheme(1, 0);
-    let nothing = commit_ldes(&rt, alloc, &one, Vec::new(alloc)).err();
-    assert_eq!(&rt; nothing, Some(ProverError::NoCommittedMatrices));
+    let nothing = told(commit_ldes(&rt, alloc, &one, Vec::new(alloc)));
+    assert_eq!(&rt; nothing.as_str(), "no matrix is committed to");
     assert_eq!(&rt;
         quotient_ldes(&rt, alloc, &one, Vec::new(alloc), 1)?.len(),
         0
@@ -305,8 +301,8 @@ fn matrices_as_they_are(rt: HostRuntime) -> Result<(), Fail> {
     // Eight rows are as few as can be folded to a constant, and too few for two coefficients.
     for (log_blowup, log_final_poly_len) in [(1, 1), (2, 0), (usize::MAX, 0), (0, usize::MAX)] {
         let scheme = scheme(log_blowup, log_final_poly_len);
-        let small = evaluations_on(&rt, alloc, &scheme, &data, Domain::standard(3)).err();
-        assert_eq!(&rt; small, Some(ProverError::HeightTooSmall));
+        let small = told(evaluations_on(&rt, alloc, &scheme, &data, Domain::standard(3)));
+        assert_eq!(&rt; small.as_str(), TOO_SMALL);
         assert_too_low(&rt, alloc, &scheme, &TOO_LOW)?;
     }
     Ok(())
@@ -332,62 +328,4 @@ fn a_periodic_column(rt: HostRuntime) -> Result<(), Fail> {
     let table = scheme(1, 0).build_periodic_lde_table(alloc, &columns, trace, extension)?;
     assert_eq!(&rt; (table.width(), table.height()), (1, 2));
     Ok(())
-}
-
-const SHOWN: &[(ProverError, &str)] = &[
-    (ProverError::Memory, "out of memory"),
-    (
-        ProverError::NoGrindingWitness {
-            phase: PowPhase::Batch,
-        },
-        "no witness passes the proof of work of the batch phase",
-    ),
-    (
-        ProverError::UnfitParameters,
-        "the parameters are not supported",
-    ),
-    (
-        ProverError::HeightTooLarge,
-        "a matrix has too many rows for the group of points",
-    ),
-    (
-        ProverError::HeightTooSmall,
-        "a matrix has too few rows to be folded",
-    ),
-    (
-        ProverError::NotGenuine,
-        "a domain is not genuine: its halves meet",
-    ),
-    (
-        ProverError::MatrixCountMismatch,
-        "there is not one list of points for each matrix",
-    ),
-    (
-        ProverError::NoCommittedMatrices,
-        "no matrix is committed to",
-    ),
-    (
-        ProverError::PointAtInfinity,
-        "an opening point is at infinity",
-    ),
-    (
-        ProverError::PointOnDomain,
-        "an opening point lies on the committed domain of its matrix",
-    ),
-    (
-        ProverError::LastWordNotConstant,
-        "the last folded word is of too high degree",
-    ),
-    (
-        ProverError::DomainSmallerThanTrace,
-        "a domain is smaller than the trace",
-    ),
-];
-
-#[test]
-fn refusals_are_shown(rt: HostRuntime) {
-    for (error, expected) in SHOWN {
-        let shown = InlineText::<128>::of(*error);
-        assert_eq!(&rt; shown.as_str(), *expected);
-    }
 }

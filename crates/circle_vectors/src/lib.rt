@@ -1,5 +1,5 @@
 //! Worked examples of the scheme over several crates, with expected values from outside: what is
-//! committed to, what the verifier answers, the texts of refusals; and a verifier over any scheme.
+//! committed to and what the verifier answers; and a verifier over any scheme.
 #![tactic(auto)]
 
 pub mod any_scheme;
@@ -11,8 +11,6 @@ mod commitments;
 mod committing;
 #[cfg(test)]
 mod first_program;
-#[cfg(test)]
-mod refusals;
 #[cfg(test)]
 mod shapes;
 #[cfg(test)]

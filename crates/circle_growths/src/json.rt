@@ -1,0 +1,18 @@
+//! A call on JSON.
+use crate::plane::cubic;
+use crate::told::{Stage, Told, before, digest, told};
+use anyhow::Result;
+use circle_commit::JsonForm;
+use circle_field::Cubic;
+use std::alloc::Global;
+
+/// `JsonForm::from_json` of a list of elements.
+pub fn elements(alloc: Global, stage: Stage) -> Result<Told> {
+    let elements = vec![in alloc; cubic([2, 7, 1]), cubic([0, 1, 0])]?;
+    let value = elements.to_json(alloc)?;
+    if stage == Stage::Before {
+        return Ok(before());
+    }
+    let read = Vec::<Cubic>::from_json(alloc, &value);
+    Ok(told(read.map(|elements| digest(&elements))))
+}
