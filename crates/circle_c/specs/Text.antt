@@ -1,4 +1,4 @@
--- Which input the bytes of a text stand for.
+-- What the bytes of a text stand for.
 use Rattle.std.specs.Prelude.{◌≡◌, ℕ, ◌⊎◌, List, Some, IsUtf8}
 use Rattle.circle_json.specs.Form.{Form}
 use Rattle.serde_json.specs.Data.{Data}
@@ -10,7 +10,11 @@ use Rattle.circle_commands.specs.declared.failure.Failure.TheVariants.{Memory}
 -- the bytes are UTF-8, and a JSON text of the value
 pub record IsJsonOf (text : List ℕ) (value : Data) : Type 0 where
   pub utf8 : IsUtf8 text
-  pub value : read text ≡ Some value
+  pub is : read text ≡ Some value
+
+-- they are a JSON text of no value
+abbrev pub IsNoJson : List ℕ → Type 0
+IsNoJson text = (value : Data) → ¬ IsJsonOf text value
 
 module _ {Input : Type 0} (form : Form Input) where
   -- they are a JSON text of a value that stands for the input

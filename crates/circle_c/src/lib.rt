@@ -11,32 +11,41 @@
 //!   `Verified.IsVerified` of `circle_commands` holds (`accepted`), 1 only where the line tells of
 //!   refused memory, or of an input of which it doesn't hold (`refused`), and 2 only where they
 //!   stand for no input (`unreadable`). `circle_verify_with` does so of inputs with its parameters.
+//! - `circle_prove` answers 0 only with the text of claims and their proof, of which
+//!   `Verified.IsVerified` holds where each matrix has a point (`proved`), and 2 only where the
+//!   bytes stand for no input (`unreadable`).
 //!
 //! Its files:
 //!
-//! - In `specs/`: `Line`, what is written; `Text`, which input bytes stand for; `Params`.
+//! - In `specs/`: `Line`, what is written; `Text`, which input bytes stand for; `Params`; `Proof`,
+//!   what `circle_prove` writes.
+//! - In `proofs/`: `Depth`, how deep the JSON of claims and a proof nests; `Verdict`, what is told
+//!   of a text.
 #![tactic(auto)]
 
 ghost use Rattle.std.specs.Prelude.{◌≡◌, ◌≤◌, ◌⊎◌};
 ghost use Rattle.circle_commands.specs.Verified.{IsVerified};
 ghost use Rattle.circle_c.specs.Line.{IsSomeWritten, IsWritten, memory_line, verified_line};
 ghost use Rattle.circle_c.specs.Params.{HasParams};
+ghost use Rattle.circle_c.specs.Proof.{WritesProof};
 ghost use Rattle.circle_c.specs.Text.{StandsFor, StandsForNone};
 
 mod line;
 mod params;
+mod proof;
+mod text;
 mod verdict;
 
 pub use params::CircleParams;
 
 use circle_challenger::Sha256Challenger;
-use circle_commands::verify::{Batches, Input, Words};
-use circle_commands::{Failure, prove, shape, values};
+use circle_commands::prove::Input as Statement;
+use circle_commands::verify::{Batches, Input as Claims, Words};
+use circle_commands::{Failure, shape, values};
 use circle_commit::JsonForm;
 use circle_field::{Cubic, Mersenne31};
 use circle_opening::OpeningOver;
 use std::alloc::Global;
-use verdict::{read, verified, verified_with};
 
 /// The values of polynomials on a domain, as the program's command `values` answers.
 #[unsafe(no_mangle)]
@@ -50,20 +59,6 @@ pub extern "C" fn circle_values(
     ensures line { IsSomeWritten line.old line.new needed.new }
 {
     line::tell(values_of(alloc, text), line, needed)
-}
-
-/// Claims with their proof, as the program's command `prove` answers.
-#[unsafe(no_mangle)]
-pub extern "C" fn circle_prove(
-    alloc: Global,
-    text: &[u8],
-    line: &mut [u8],
-    needed: &mut usize,
-) -> u8
-    ensures status { result ≤ 2 }
-    ensures line { IsSomeWritten line.old line.new needed.new }
-{
-    line::tell(proof_of(alloc, text), line, needed)
 }
 
 /// The shape of claims, as the program's command `shape` answers.
@@ -80,6 +75,25 @@ pub extern "C" fn circle_shape(
     line::tell(shape_of(alloc, text), line, needed)
 }
 
+/// Claims with their proof, as the program's command `prove` answers.
+#[unsafe(no_mangle)]
+pub extern "C" fn circle_prove(
+    alloc: Global,
+    text: &[u8],
+    line: &mut [u8],
+    needed: &mut usize,
+) -> u8
+    ensures status { result ≤ 2 }
+    ensures line { IsSomeWritten line.old line.new needed.new }
+    ensures proved { let o =
+        ⟦<Sha256Challenger as OpeningOver<Mersenne31, Cubic, Batches, Words>>⟧.schemes
+        in result ≡ 0 → WritesProof o ⟦<Statement as JsonForm>⟧.form ⟦<Claims as JsonForm>⟧.form
+        text.now line.old line.new needed.new }
+    ensures unreadable { result ≡ 2 → StandsForNone ⟦<Statement as JsonForm>⟧.form text.now }
+{
+    line::tell(proof::line_of(alloc, text), line, needed)
+}
+
 /// Whether a proof shows the claims beside it, as the program's command `verify` answers.
 #[unsafe(no_mangle)]
 pub extern "C" fn circle_verify(
@@ -93,14 +107,14 @@ pub extern "C" fn circle_verify(
     ensures verified { result ≡ 0 → IsWritten verified_line line.old line.new needed.new }
     ensures accepted { let o =
         ⟦<Sha256Challenger as OpeningOver<Mersenne31, Cubic, Batches, Words>>⟧.schemes
-        in result ≡ 0 → StandsFor ⟦<Input as JsonForm>⟧.form (IsVerified o) text.now }
+        in result ≡ 0 → StandsFor ⟦<Claims as JsonForm>⟧.form (IsVerified o) text.now }
     ensures refused { let o =
         ⟦<Sha256Challenger as OpeningOver<Mersenne31, Cubic, Batches, Words>>⟧.schemes
         in result ≡ 1 → IsWritten memory_line line.old line.new needed.new
-        ⊎ StandsFor ⟦<Input as JsonForm>⟧.form (λ input. ¬ IsVerified o input) text.now }
-    ensures unreadable { result ≡ 2 → StandsForNone ⟦<Input as JsonForm>⟧.form text.now }
+        ⊎ StandsFor ⟦<Claims as JsonForm>⟧.form (λ claims. ¬ IsVerified o claims) text.now }
+    ensures unreadable { result ≡ 2 → StandsForNone ⟦<Claims as JsonForm>⟧.form text.now }
 {
-    line::tell_verdict(verified(alloc, text), line, needed)
+    line::tell_verdict(verdict::verified(alloc, text), line, needed)
 }
 
 /// As [`circle_verify`] where the text's parameters are `params`, else the status is 1 and the
@@ -118,29 +132,24 @@ pub extern "C" fn circle_verify_with(
     ensures verified { result ≡ 0 → IsWritten verified_line line.old line.new needed.new }
     ensures accepted { let o =
         ⟦<Sha256Challenger as OpeningOver<Mersenne31, Cubic, Batches, Words>>⟧.schemes
-        in result ≡ 0 → StandsFor ⟦<Input as JsonForm>⟧.form
-        (λ input. HasParams params.now input.params × IsVerified o input) text.now }
+        in result ≡ 0 → StandsFor ⟦<Claims as JsonForm>⟧.form
+        (λ claims. HasParams params.now claims.params × IsVerified o claims) text.now }
     ensures refused { let o =
         ⟦<Sha256Challenger as OpeningOver<Mersenne31, Cubic, Batches, Words>>⟧.schemes
         in result ≡ 1 → IsWritten memory_line line.old line.new needed.new
-        ⊎ StandsFor ⟦<Input as JsonForm>⟧.form
-        (λ input. ¬ (HasParams params.now input.params × IsVerified o input)) text.now }
-    ensures unreadable { result ≡ 2 → StandsForNone ⟦<Input as JsonForm>⟧.form text.now }
+        ⊎ StandsFor ⟦<Claims as JsonForm>⟧.form
+        (λ claims. ¬ (HasParams params.now claims.params × IsVerified o claims)) text.now }
+    ensures unreadable { result ≡ 2 → StandsForNone ⟦<Claims as JsonForm>⟧.form text.now }
 {
-    line::tell_verdict(verified_with(alloc, text, params), line, needed)
+    line::tell_verdict(verdict::verified_with(alloc, text, params), line, needed)
 }
 
 // The line of the command `values`.
 fn values_of(alloc: Global, text: &[u8]) -> Result<String, Failure> {
-    values::answer(alloc, &read(alloc, text)?)
-}
-
-// The line of the command `prove`.
-fn proof_of(alloc: Global, text: &[u8]) -> Result<String, Failure> {
-    prove::answer(alloc, &read(alloc, text)?)
+    values::answer(alloc, &text::value(alloc, text)?)
 }
 
 // The line of the command `shape`.
 fn shape_of(alloc: Global, text: &[u8]) -> Result<String, Failure> {
-    shape::answer(alloc, &read(alloc, text)?)
+    shape::answer(alloc, &text::value(alloc, text)?)
 }
