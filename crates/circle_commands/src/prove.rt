@@ -184,7 +184,7 @@ impl From<AllocError> for Refusal {
 /// The line that answers `value`: claims, parameters and a proof, as [`verify::Input`] reads them.
 ///
 /// Fails as [`Input`] is read and then as [`prove`] does.
-pub fn answer(alloc: Global, value: &Value) -> Result<String, Failure> {
+pub(crate) fn answer(alloc: Global, value: &Value) -> Result<String, Failure> {
     let proved = prove(alloc, Input::from_json(alloc, value)?)?;
     Ok(json::line(alloc, &proved.to_json(alloc)?)?)
 }
