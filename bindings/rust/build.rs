@@ -1,6 +1,6 @@
 //! Links the static library `circle_c` and the kit's part of the C library that it stands on.
 //!
-//! `bindings/c/build` leaves both in `bindings/c/out`. Where the first isn't there, or is older than
+//! `bindings/c/build` leaves both in `bindings/c/out`. Where the first is missing, or older than
 //! its sources, it proves and builds it, which takes tens of minutes from nothing. Where the
 //! environment's CIRCLE_LIBRARIES names a folder, both are taken from there.
 
