@@ -22,6 +22,7 @@ made, and each raises RuntimeError.
 import ctypes
 import os
 import pathlib
+import re
 
 __all__ = ["Error", "Refused", "Unreadable", "prove", "shape", "values", "verify"]
 
@@ -46,6 +47,9 @@ class Refused(Error):
 
 class Unreadable(Error):
     """The text can't be read as an input of the call."""
+
+
+_ERRORS = {(1, "refused"): Refused, (2, "unreadable"): Unreadable}
 
 
 class _Params(ctypes.Structure):
@@ -108,8 +112,12 @@ def _numbers(params):
 
 def _bytes(text):
     """The bytes of a text. A str with half of a pair of surrogates has none."""
+    if isinstance(text, bytes):
+        return text
+    if not isinstance(text, str):
+        return bytes(memoryview(text))
     try:
-        return text.encode() if isinstance(text, str) else bytes(memoryview(text))
+        return text.encode()
     except UnicodeEncodeError:
         raise Unreadable("json") from None
 
@@ -132,11 +140,11 @@ def _line(call, text, room, *params):
 
 def _error(status, told):
     """The error that a line without a result tells."""
-    kind = {1: ("refused", Refused), 2: ("unreadable", Unreadable)}.get(status)
-    parts = told.split('"')
-    if not kind or told != '{{"{}":"{}"}}\n'.format(kind[0], "".join(parts[3:4])):
-        return RuntimeError(f"the library answers {told!r}, status {status}")
-    return kind[1](parts[3])
+    found = re.fullmatch(r'\{"(\w+)":"(\w+)"\}\n', told)
+    error = found and _ERRORS.get((status, found[1]))
+    if not error:
+        return RuntimeError(f"the library answers {told!r} with status {status}")
+    return error(found[2])
 
 
 def _load():

@@ -4,6 +4,7 @@
 What is due of the cases comes from outside of the library.
 """
 
+import concurrent.futures
 import importlib.machinery
 import importlib.util
 import json
@@ -43,6 +44,7 @@ def script(name):
 
 # It reads the cases.
 verify_py = script("verify_py")
+
 
 def stored(name, kind):
     return (PROOFS / f"{name}.{kind}.json").read_text().rstrip()
@@ -179,22 +181,17 @@ class Texts(unittest.TestCase):
 
 class Threads(unittest.TestCase):
     def test_eight_call_at_once(self):
-        faults = []
+        barrier = threading.Barrier(8)
 
         def calls(name):
             text, statement = stored(name, "verify"), stored(name, "prove")
+            barrier.wait()
             for _ in range(20):
-                circle.verify(text)
-                if circle.prove(statement) != text:
-                    faults.append(name)
+                self.assertIsNone(circle.verify(text))
+                self.assertEqual(circle.prove(statement), text)
 
-        threads = [threading.Thread(target=calls, args=(NAMES[it % 5],)) for it in range(8)]
-        threading.excepthook = lambda it: faults.append(it.exc_value)
-        for thread in threads:
-            thread.start()
-        for thread in threads:
-            thread.join()
-        self.assertEqual(faults, [])
+        with concurrent.futures.ThreadPoolExecutor(8) as pool:
+            list(pool.map(calls, (NAMES[it % len(NAMES)] for it in range(8))))
 
     def test_a_small_stack_is_enough(self):
         before = threading.stack_size(1 << 20)
