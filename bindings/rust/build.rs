@@ -2,7 +2,7 @@
 //!
 //! `bindings/c/build` leaves both in `bindings/c/out`. Where the first is missing, or older than
 //! its sources, it proves and builds it, which takes tens of minutes from nothing. Where the
-//! environment's CIRCLE_LIBRARIES names a folder, both are taken from there.
+//! environment's `CIRCLE_LIBRARIES` names a folder, both are taken from there.
 
 use std::path::{Path, PathBuf};
 use std::process::{Command, ExitCode};

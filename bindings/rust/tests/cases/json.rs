@@ -116,7 +116,7 @@ struct Reader<'a> {
     rest: &'a str,
 }
 
-impl<'a> Reader<'a> {
+impl Reader<'_> {
     // Takes a mark that may have space before it, and says whether it is there.
     fn takes(&mut self, mark: char) -> bool {
         let rest = self.rest.trim_start().strip_prefix(mark);
