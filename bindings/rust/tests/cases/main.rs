@@ -29,7 +29,9 @@ fn given(case: &Json) -> String {
     }
     let mut value = read(given.get("file").expect("a file").text());
     let patch = given.get("patch").map_or(&[][..], Json::items);
-    patch.iter().for_each(|change| value.change(change));
+    for change in patch {
+        value.change(change);
+    }
     value.compact()
 }
 
