@@ -73,7 +73,7 @@ impl Input {
 /// the claims are grouped, and the text that the transcript is seeded with.
 ///
 /// Fails as [`Input::from_json`] and then as [`shape`] does.
-pub(crate) fn answer(alloc: Global, value: &Value) -> Result<String, Failure> {
+pub fn answer(alloc: Global, value: &Value) -> Result<String, Failure> {
     let shape = shape(Input::from_json(alloc, value)?)?;
     Ok(json::line(alloc, &shown(alloc, &shape)?)?)
 }

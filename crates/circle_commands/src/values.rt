@@ -100,7 +100,7 @@ impl Input {
 /// The line that answers `value`: `{"rows":[[E..]..]}`, in natural order.
 ///
 /// Fails as [`Input::from_json`] and then as [`values_at_points`] does.
-pub(crate) fn answer(alloc: Global, value: &Value) -> Result<String, Failure> {
+pub fn answer(alloc: Global, value: &Value) -> Result<String, Failure> {
     let input = Input::from_json(alloc, value)?;
     let values = values_at_points(alloc, &input)?;
     Ok(json::line(alloc, &shown(alloc, &values)?)?)
