@@ -36,15 +36,13 @@ mod proof;
 mod text;
 mod verdict;
 
-pub use params::CircleParams;
-
-use circle_challenger::Sha256Challenger;
 use circle_commands::prove::Input as Statement;
-use circle_commands::verify::{Batches, Input as Claims, Words};
+use circle_commands::verify::Input as Claims;
 use circle_commands::{Failure, shape, values};
 use circle_commit::JsonForm;
-use circle_field::{Cubic, Mersenne31};
 use circle_opening::OpeningOver;
+use circle_presets::{Challenge, ChallengeMmcs, Challenger, Val, ValMmcs};
+pub use params::CircleParams;
 use std::alloc::Global;
 
 /// The values of polynomials on a domain, as the program's command `values` answers.
@@ -86,7 +84,7 @@ pub extern "C" fn circle_prove(
     ensures status { result ≤ 2 }
     ensures line { IsSomeWritten line.old line.new needed.new }
     ensures proved { let o =
-        ⟦<Sha256Challenger as OpeningOver<Mersenne31, Cubic, Batches, Words>>⟧.schemes
+        ⟦<Challenger as OpeningOver<Val, Challenge, ValMmcs, ChallengeMmcs>>⟧.schemes
         in result ≡ 0 → WritesProof o ⟦<Statement as JsonForm>⟧.form ⟦<Claims as JsonForm>⟧.form
         text.now line.old line.new needed.new }
     ensures unreadable { result ≡ 2 → StandsForNone ⟦<Statement as JsonForm>⟧.form text.now }
@@ -106,10 +104,10 @@ pub extern "C" fn circle_verify(
     ensures line { IsSomeWritten line.old line.new needed.new }
     ensures verified { result ≡ 0 → IsWritten verified_line line.old line.new needed.new }
     ensures accepted { let o =
-        ⟦<Sha256Challenger as OpeningOver<Mersenne31, Cubic, Batches, Words>>⟧.schemes
+        ⟦<Challenger as OpeningOver<Val, Challenge, ValMmcs, ChallengeMmcs>>⟧.schemes
         in result ≡ 0 → StandsFor ⟦<Claims as JsonForm>⟧.form (IsVerified o) text.now }
     ensures refused { let o =
-        ⟦<Sha256Challenger as OpeningOver<Mersenne31, Cubic, Batches, Words>>⟧.schemes
+        ⟦<Challenger as OpeningOver<Val, Challenge, ValMmcs, ChallengeMmcs>>⟧.schemes
         in result ≡ 1 → IsWritten memory_line line.old line.new needed.new
         ⊎ StandsFor ⟦<Claims as JsonForm>⟧.form (λ claims. ¬ IsVerified o claims) text.now }
     ensures unreadable { result ≡ 2 → StandsForNone ⟦<Claims as JsonForm>⟧.form text.now }
@@ -131,11 +129,11 @@ pub extern "C" fn circle_verify_with(
     ensures line { IsSomeWritten line.old line.new needed.new }
     ensures verified { result ≡ 0 → IsWritten verified_line line.old line.new needed.new }
     ensures accepted { let o =
-        ⟦<Sha256Challenger as OpeningOver<Mersenne31, Cubic, Batches, Words>>⟧.schemes
+        ⟦<Challenger as OpeningOver<Val, Challenge, ValMmcs, ChallengeMmcs>>⟧.schemes
         in result ≡ 0 → StandsFor ⟦<Claims as JsonForm>⟧.form
         (λ claims. HasParams params.now claims.params × IsVerified o claims) text.now }
     ensures refused { let o =
-        ⟦<Sha256Challenger as OpeningOver<Mersenne31, Cubic, Batches, Words>>⟧.schemes
+        ⟦<Challenger as OpeningOver<Val, Challenge, ValMmcs, ChallengeMmcs>>⟧.schemes
         in result ≡ 1 → IsWritten memory_line line.old line.new needed.new
         ⊎ StandsFor ⟦<Claims as JsonForm>⟧.form
         (λ claims. ¬ (HasParams params.now claims.params × IsVerified o claims)) text.now }

@@ -28,11 +28,7 @@ pub(crate) fn tell(answer: Result<String, Failure>, line: &mut [u8], needed: &mu
 }
 
 /// Writes that a proof is accepted, or what the failure tells, and answers the status.
-pub(crate) fn tell_verdict(
-    verdict: Result<(), Failure>,
-    line: &mut [u8],
-    needed: &mut usize,
-) -> u8
+pub(crate) fn tell_verdict(verdict: Result<(), Failure>, line: &mut [u8], needed: &mut usize) -> u8
     ensures status { result ≤ 2 }
     ensures line { IsSomeWritten line.old line.new needed.new }
     ensures accepted { result ≡ 0 → IsOk verdict }

@@ -5,19 +5,18 @@ ghost use Rattle.circle_c.specs.Proof.{IsLineOf, IsProofLine};
 ghost use Rattle.circle_c.specs.Text.{StandsForNone};
 
 use crate::text;
-use circle_challenger::Sha256Challenger;
 use circle_commands::Failure;
 use circle_commands::prove::{self, Input as Statement};
-use circle_commands::verify::{Batches, Input as Claims, Words};
+use circle_commands::verify::Input as Claims;
 use circle_commit::JsonForm;
-use circle_field::{Cubic, Mersenne31};
 use circle_opening::OpeningOver;
+use circle_presets::{Challenge, ChallengeMmcs, Challenger, Val, ValMmcs};
 use std::alloc::{AllocError, Global};
 
 /// Proves the statement that a text has, and answers claims and proof as a line.
 pub(crate) fn line_of(alloc: Global, text: &[u8]) -> Result<String, Failure>
     ensures proved { let o =
-        ⟦<Sha256Challenger as OpeningOver<Mersenne31, Cubic, Batches, Words>>⟧.schemes
+        ⟦<Challenger as OpeningOver<Val, Challenge, ValMmcs, ChallengeMmcs>>⟧.schemes
         in IfOk result (λ line. IsProofLine o ⟦<Statement as JsonForm>⟧.form
         ⟦<Claims as JsonForm>⟧.form text.now (string_bytes line)) }
     ensures unreadable { IfErr result (λ failure. status_of failure ≡ 2

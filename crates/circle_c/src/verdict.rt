@@ -9,21 +9,20 @@ ghost use Rattle.circle_c.specs.Text.{Refuses, StandsFor};
 
 use crate::params::{CircleParams, are_numbers_of};
 use crate::text;
-use circle_challenger::Sha256Challenger;
 use circle_commands::Failure;
-use circle_commands::verify::{self, Batches, Input as Claims, Refusal, Words};
+use circle_commands::verify::{self, Input as Claims, Refusal};
 use circle_commit::{FriError, JsonForm};
-use circle_field::{Cubic, Mersenne31};
 use circle_opening::OpeningOver;
+use circle_presets::{Challenge, ChallengeMmcs, Challenger, Val, ValMmcs};
 use std::alloc::Global;
 
 /// Verifies the proof of the claims that a text has.
 pub(crate) fn verified(alloc: Global, text: &[u8]) -> Result<(), Failure>
     ensures accepted { let o =
-        ⟦<Sha256Challenger as OpeningOver<Mersenne31, Cubic, Batches, Words>>⟧.schemes
+        ⟦<Challenger as OpeningOver<Val, Challenge, ValMmcs, ChallengeMmcs>>⟧.schemes
         in OnOk result (StandsFor ⟦<Claims as JsonForm>⟧.form (IsVerified o) text.now) }
     ensures refused { let o =
-        ⟦<Sha256Challenger as OpeningOver<Mersenne31, Cubic, Batches, Words>>⟧.schemes
+        ⟦<Challenger as OpeningOver<Val, Challenge, ValMmcs, ChallengeMmcs>>⟧.schemes
         in IfErr result (Refuses ⟦<Claims as JsonForm>⟧.form (IsVerified o) text.now) }
 {
     let claims: Claims = text::input(alloc, text)?;
@@ -37,11 +36,11 @@ pub(crate) fn verified_with(
     params: &CircleParams,
 ) -> Result<(), Failure>
     ensures accepted { let o =
-        ⟦<Sha256Challenger as OpeningOver<Mersenne31, Cubic, Batches, Words>>⟧.schemes
+        ⟦<Challenger as OpeningOver<Val, Challenge, ValMmcs, ChallengeMmcs>>⟧.schemes
         in OnOk result (StandsFor ⟦<Claims as JsonForm>⟧.form
         (λ claims. HasParams params.now claims.params × IsVerified o claims) text.now) }
     ensures refused { let o =
-        ⟦<Sha256Challenger as OpeningOver<Mersenne31, Cubic, Batches, Words>>⟧.schemes
+        ⟦<Challenger as OpeningOver<Val, Challenge, ValMmcs, ChallengeMmcs>>⟧.schemes
         in IfErr result (Refuses ⟦<Claims as JsonForm>⟧.form
         (λ claims. HasParams params.now claims.params × IsVerified o claims) text.now) }
 {
@@ -55,9 +54,9 @@ pub(crate) fn verified_with(
 // Verifies the proof of these claims.
 fn verified_claims(alloc: Global, claims: Claims) -> Result<(), Failure>
     ensures accepted { OnOk result (IsVerified
-        ⟦<Sha256Challenger as OpeningOver<Mersenne31, Cubic, Batches, Words>>⟧.schemes claims) }
+        ⟦<Challenger as OpeningOver<Val, Challenge, ValMmcs, ChallengeMmcs>>⟧.schemes claims) }
     ensures refused { let o =
-        ⟦<Sha256Challenger as OpeningOver<Mersenne31, Cubic, Batches, Words>>⟧.schemes
+        ⟦<Challenger as OpeningOver<Val, Challenge, ValMmcs, ChallengeMmcs>>⟧.schemes
         in IfErr result (λ failure. (failure ≡ Memory)
         ⊎ ((status_of failure ≡ 1) × (¬ IsVerified o claims))) }
 {
