@@ -77,7 +77,7 @@ pub fn verify(alloc: Global, input: Input) -> Result<(), Refusal>
         ⟦<Challenger as OpeningOver<Val, Challenge, ValMmcs, ChallengeMmcs>>⟧.schemes input) }
     ensures complete { let o = ⟦<Challenger as OpeningOver<Val, Challenge, ValMmcs, ChallengeMmcs>>⟧
         in IfErr result (λ e. IsVerified o.schemes input → e ≡ Memory) }
-    ensures reason { let p = ⟦<Scheme as Pcs<Cubic, Sha256Challenger>>⟧ in IfErr result
+    ensures reason { let p = ⟦<Scheme as Pcs<Challenge, Challenger>>⟧ in IfErr result
         (λ e. (e ≡ Memory) ⊎ IsUnverified p.verify_refuses input.proof input e) }
 {
     let Input {
