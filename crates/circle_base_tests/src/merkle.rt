@@ -198,54 +198,14 @@ type Case = (
 
 const CASES: &[Case] = &[
     (&[7, 2, 3, 2], &[7, 2, 3, 2], COLUMN_PROOF, ACCEPTED),
-    (
-        &[7, 2, 3, 2],
-        &[7, 2, 3, 2],
-        MORE,
-        WRONG_PROOF_LENGTH,
-    ),
-    (
-        &[7, 2, 3, 2],
-        &[7, 2, 3, 2],
-        FEWER,
-        WRONG_PROOF_LENGTH,
-    ),
-    (
-        &[7, 2, 3, 2],
-        &[7, 2, 3, 2],
-        &[],
-        WRONG_PROOF_LENGTH,
-    ),
-    (
-        &[7, 2, 3, 2],
-        &[7, 2, 4, 2],
-        COLUMN_PROOF,
-        ROOT_MISMATCH,
-    ),
-    (
-        &[7, 2, 3, 2],
-        &[7, 2, 3, 3],
-        COLUMN_PROOF,
-        DISAGREEING_ROWS,
-    ),
-    (
-        &[7, 2, 3, 2],
-        &[7, 2, 3, 3],
-        FEWER,
-        DISAGREEING_ROWS,
-    ),
-    (
-        &[8, 2, 3, 2],
-        &[7, 2, 3, 2],
-        COLUMN_PROOF,
-        WRONG_INDEX,
-    ),
-    (
-        &[7, 2, 3, 2],
-        &[7, 2, 3],
-        COLUMN_PROOF,
-        WRONG_INDEX,
-    ),
+    (&[7, 2, 3, 2], &[7, 2, 3, 2], MORE, WRONG_PROOF_LENGTH),
+    (&[7, 2, 3, 2], &[7, 2, 3, 2], FEWER, WRONG_PROOF_LENGTH),
+    (&[7, 2, 3, 2], &[7, 2, 3, 2], &[], WRONG_PROOF_LENGTH),
+    (&[7, 2, 3, 2], &[7, 2, 4, 2], COLUMN_PROOF, ROOT_MISMATCH),
+    (&[7, 2, 3, 2], &[7, 2, 3, 3], COLUMN_PROOF, DISAGREEING_ROWS),
+    (&[7, 2, 3, 2], &[7, 2, 3, 3], FEWER, DISAGREEING_ROWS),
+    (&[8, 2, 3, 2], &[7, 2, 3, 2], COLUMN_PROOF, WRONG_INDEX),
+    (&[7, 2, 3, 2], &[7, 2, 3], COLUMN_PROOF, WRONG_INDEX),
     (&[], &[], &[], WRONG_INDEX),
     (&[3, 2, 7], &[3, 2, 7], COLUMN_PROOF, ACCEPTED),
 ];
@@ -274,14 +234,7 @@ fn refuses_a_wide_row_before_its_index(rt: HostRuntime) -> Result<(), Fail> {
 fn shaped(alloc: Global, dimensions: &[Dimensions]) -> Result<InlineText<64>, AllocError> {
     let (rows, none) = (rows_at(alloc, &[0])?, Vec::new(alloc));
     let mmcs = ShaMmcs::<Mersenne31>::new();
-    Ok(shown(mmcs.verify_multi_batch(
-        alloc,
-        &COLUMN_ROOT,
-        dimensions,
-        &[0],
-        &rows,
-        &none,
-    )))
+    Ok(shown(mmcs.verify_multi_batch(alloc, &COLUMN_ROOT, dimensions, &[0], &rows, &none)))
 }
 
 // The shape of one column.

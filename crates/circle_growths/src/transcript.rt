@@ -91,12 +91,6 @@ pub fn run(alloc: Global, stage: Stage) -> Result<Told> {
     if stage == Stage::Before {
         return Ok(before());
     }
-    let run = prover_run(
-        alloc,
-        &mut challenger,
-        shape,
-        claims.as_slice(),
-        &messages,
-    );
+    let run = prover_run(alloc, &mut challenger, shape, claims.as_slice(), &messages);
     Ok(told(run.map(|(draws, _)| draws.indices.len())))
 }

@@ -129,12 +129,7 @@ fn refusal_over_quadratic(alloc: Global, points: &[Quadratic]) -> Result<InlineT
     };
     let lists = CirclePcs::new(Trees::new(), parameters(SMALL, ListMmcs));
     let mut challenger = Sha256Challenger::new();
-    Ok(told(open_at(
-        alloc,
-        &lists,
-        one(alloc, request)?,
-        &mut challenger,
-    )))
+    Ok(told(open_at(alloc, &lists, one(alloc, request)?, &mut challenger)))
 }
 
 // The square of the element `X` of the quadratic extension is -1.
@@ -227,7 +222,10 @@ fn a_column_of_too_high_degree(rt: HostRuntime) -> Result<(), Fail> {
         let domain = Domain::standard(log_n);
         let high = [as_it_is(&rt, alloc, &small, domain, entries)?];
         let refused = refusal(alloc, &small, &high, &mut Sha256Challenger::new());
-        assert_eq!(&rt; refused.as_str(), "the last folded word is of too high degree");
+        assert_eq!(&rt;
+            refused.as_str(),
+            "the last folded word is of too high degree"
+        );
     }
     Ok(())
 }

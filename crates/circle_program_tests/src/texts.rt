@@ -50,7 +50,10 @@ fn expect_bytes(
         let (begins, status) = if new == old { TAKEN } else { UNREADABLE };
         let answer = answer_of(alloc, "verify", text)?;
         assert_eq!(rt; answer.status, status, "byte {i} is {new}");
-        assert!(rt; answer.written.starts_with(begins.as_bytes()), "byte {i} is {new}");
+        assert!(rt;
+            answer.written.starts_with(begins.as_bytes()),
+            "byte {i} is {new}"
+        );
     }
     text[i] = old;
     Ok(())

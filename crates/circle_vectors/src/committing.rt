@@ -1,7 +1,5 @@
 //! What is committed to, at worked examples, and what is refused of it.
-use circle_commit::{
-    Matrix, Mmcs, RowMajorMatrix, heights_are_powers_of_two, is_power_of_two,
-};
+use circle_commit::{Matrix, Mmcs, RowMajorMatrix, heights_are_powers_of_two, is_power_of_two};
 use circle_field::{Field, Mersenne31};
 use circle_statements::batches::{Domain, Rows, one, rows};
 use circle_statements::openings::told;
