@@ -26,7 +26,7 @@
  *   else reads or writes then; these three don't overlap. The bytes of line need no value before.
  * - malloc, realloc and free come from one allocator, which aligns a block to each power of two up
  *   to 16 that divides its size, as that of a C library does.
- * - The calling thread has enough stack: 1 MiB does.
+ * - The calling thread has enough stack: the 8 MiB that Linux gives do.
  * - No call is made from a signal handler, nor in the forked child of a process with threads.
  */
 #ifndef CIRCLE_H
