@@ -1,7 +1,10 @@
 //! What is refused of requests to open, in its order.
 use crate::stubborn::Stubborn;
 use circle_challenger::{CanObserve, CanSample, GrindingChallenger, Sha256Challenger};
-use circle_commit::{OpeningRequest, PowPhase, heights_are_powers_of_two};
+use circle_commit::{
+    CommitmentOpening, MatrixOpening, OpenedValues, OpeningRequest, PointOpening, PowPhase,
+    heights_are_powers_of_two,
+};
 use circle_field::{ExtensionField, Field, Mersenne31};
 use circle_fixtures::quadratic::Quadratic;
 use circle_fixtures::schemes::ListMmcs;
@@ -10,8 +13,9 @@ use circle_statements::batches::{
 };
 use circle_statements::openings::{open, open_at};
 use circle_statements::parameters::{Data, Numbers, SMALL, Scheme, Trees, parameters, scheme};
-use p3_circle::{CirclePcs, ProverError};
-use std::alloc::Global;
+use p3_circle::{CirclePcs, CirclePcsProof, ProverError};
+use std::alloc::{AllocError, Global};
+use std::fmt::InlineText;
 use std::process::Abort;
 use std::test::Fail;
 
@@ -108,19 +112,31 @@ fn too_few_rows_before_points_of_their_domain(rt: HostRuntime) -> Result<(), Fai
     Ok(())
 }
 
-// Why sevens are not opened at these coordinates over the quadratic extension.
-fn refusal_over_quadratic(
+/// A scheme over the quadratic extension, whose words are committed to as lists.
+type Lists = CirclePcs<Mersenne31, Trees, ListMmcs>;
+
+/// What is opened of matrices over it: their values and the proof.
+type OverQuadratic = (
+    OpenedValues<Quadratic>,
+    CirclePcsProof<Mersenne31, Quadratic, Trees, ListMmcs, Mersenne31>,
+);
+
+fn lists() -> Lists {
+    CirclePcs::new(Trees::new(), parameters(SMALL, ListMmcs))
+}
+
+// The opening of sevens at these coordinates over the quadratic extension.
+fn open_over_quadratic(
     alloc: Global,
+    four: &Batch,
     points: &[Quadratic],
-) -> Result<Option<ProverError>, Fail> {
-    let four = sevens(alloc, &scheme(SMALL))?;
+) -> Result<OverQuadratic, ProverError> {
     let request = OpeningRequest {
         prover_data: &four.data,
         points: one(alloc, Vec::from_slice(alloc, points)?)?,
     };
-    let lists = CirclePcs::new(Trees::new(), parameters(SMALL, ListMmcs));
     let mut challenger = Sha256Challenger::new();
-    Ok(open_at(alloc, &lists, one(alloc, request)?, &mut challenger).err())
+    open_at(alloc, &lists(), one(alloc, request)?, &mut challenger)
 }
 
 // The square of the element `X` of the quadratic extension is -1.
@@ -134,8 +150,59 @@ fn points_at_infinity(rt: HostRuntime) -> Result<(), Fail> {
         (&[other, -infinity], refused),
         (&[other], None),
     ];
+    let four = sevens(rt.alloc(), &scheme(SMALL))?;
     for (points, expected) in cases {
-        assert_eq!(&rt; refusal_over_quadratic(rt.alloc(), points)?, expected);
+        let refused = open_over_quadratic(rt.alloc(), &four, points).err();
+        assert_eq!(&rt; refused, expected);
+    }
+    Ok(())
+}
+
+// The claim that sevens have this value at a coordinate.
+fn claimed(
+    alloc: Global,
+    four: &Batch,
+    point: Quadratic,
+) -> Result<Vec<CommitmentOpening<Quadratic, [u8; 32], Domain>>, AllocError> {
+    let values = one(alloc, Quadratic::from_u64(7))?;
+    let matrix = MatrixOpening {
+        domain: Domain::standard(2),
+        points: one(alloc, PointOpening { point, values })?,
+    };
+    let batch = CommitmentOpening {
+        commitment: four.commitment,
+        matrices: one(alloc, matrix)?,
+    };
+    one(alloc, batch)
+}
+
+// The text of what is answered to sevens that are opened at one coordinate and claimed at another,
+// and whether the challenger is as it was.
+fn answer_over_quadratic(
+    alloc: Global,
+    opened: Quadratic,
+    point: Quadratic,
+) -> Result<(InlineText<128>, bool), Fail> {
+    let four = sevens(alloc, &scheme(SMALL))?;
+    let (_, proof) = open_over_quadratic(alloc, &four, &[opened])?;
+    let mut challenger = Sha256Challenger::new();
+    let answer = lists().verify(alloc, claimed(alloc, &four, point)?, &proof, &mut challenger);
+    let text = match answer {
+        Ok(()) => InlineText::of("accepted"),
+        Err(refusal) => InlineText::of(refusal),
+    };
+    Ok((text, challenger == Sha256Challenger::new()))
+}
+
+#[test]
+fn a_claim_at_infinity(rt: HostRuntime) -> Result<(), Fail> {
+    let infinity = Quadratic::from_coefficients(&[Mersenne31::ZERO, Mersenne31::ONE]);
+    let other = Quadratic::from_coefficients(&[Mersenne31::ONE, Mersenne31::ONE]);
+    let refused = "a claimed point is at infinity";
+    for (point, expected, is_left) in [(other, "accepted", false), (infinity, refused, true)] {
+        let (answer, left) = answer_over_quadratic(rt.alloc(), other, point)?;
+        assert_eq!(&rt; answer.as_str(), expected);
+        assert_eq!(&rt; left, is_left);
     }
     Ok(())
 }
