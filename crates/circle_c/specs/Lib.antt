@@ -1,4 +1,0 @@
-pub mod Line
-pub mod Params
-pub mod Proof
-pub mod Text
