@@ -4,7 +4,7 @@
 
 use anyhow::{Result, bail};
 use circle_presets::{
-    Challenge, Challenger, Commitment, Domain, Known, Proof, ProverData, Request, Scheme, Val,
+    Challenge, Challenger, Commitment, Domain, Known, Proof, ProverData, Request, Scheme,
     VerifierError, scheme,
 };
 use p3_circle::{
@@ -38,12 +38,12 @@ struct Published {
 }
 
 /// A column of which each entry is one more than the square of the one before it.
-fn column(alloc: Global, rows: usize) -> Result<RowMajorMatrix<Val>, AllocError> {
+fn column<F: Field>(alloc: Global, rows: usize) -> Result<RowMajorMatrix<F>, AllocError> {
     let mut entries = Vec::new(alloc);
-    let mut entry = Val::ZERO;
+    let mut entry = F::ZERO;
     for _row in 0..rows {
         entries.push(entry)?;
-        entry = entry.square() + Val::ONE;
+        entry = entry.square() + F::ONE;
     }
     Ok(RowMajorMatrix::new(entries, 1))
 }
