@@ -75,18 +75,24 @@ fn requests(alloc: Global, data: &[ProverData; 2], point: Challenge) -> Result<V
     Ok(requests)
 }
 
+/// Commits to matrices, each with its domain.
+fn commit(
+    alloc: Global,
+    pcs: &Scheme,
+    batch: Vec<(Domain, RowMajorMatrix<Val>)>,
+) -> Result<(Commitment, ProverData)> {
+    if !heights_match_domains(&batch) {
+        bail!("a matrix has not a row for each point");
+    }
+    Ok(pcs.commit(alloc, batch)?)
+}
+
 fn prove(alloc: Global, pcs: &Scheme) -> Result<Published> {
     let [tall, low] = [Domain::standard(6), Domain::standard(5)];
     let first = vec![in alloc; (tall, column(alloc, 64)?), (low, column(alloc, 32)?)]?;
     let second = vec![in alloc; (tall, column(alloc, 64)?)]?;
-    if !heights_match_domains(&first) {
-        bail!("a matrix has not a row for each point");
-    }
-    if !heights_match_domains(&second) {
-        bail!("a matrix has not a row for each point");
-    }
-    let (first, first_data) = pcs.commit(alloc, first)?;
-    let (second, second_data) = pcs.commit(alloc, second)?;
+    let (first, first_data) = commit(alloc, pcs, first)?;
+    let (second, second_data) = commit(alloc, pcs, second)?;
 
     let commitments = [first, second];
     let (mut challenger, point) = after_commitments(&commitments);
