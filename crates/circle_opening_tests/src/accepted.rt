@@ -126,7 +126,7 @@ fn run_of_one(
     alloc: Global,
     log_rows: usize,
     at: [u64; 3],
-) -> Result<InlineText<64>, Fail>
+) -> Result<InlineText<128>, Fail>
     requires { log_rows ≤ 30 }
 {
     let evaluations = matrix(alloc, log_rows, 12)?;
