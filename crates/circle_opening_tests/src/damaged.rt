@@ -210,6 +210,12 @@ const BEFORE_THE_SEEDING: &[Row] = &[
         Left::Untouched,
     ),
     (
+        ANOTHER,
+        Damage::ClaimedSize(0),
+        "the input is refused: DomainTooSmall { log_n: 0 }",
+        Left::Untouched,
+    ),
+    (
         COLUMN,
         Damage::ClaimedSize(usize::MAX),
         "the greatest height is 2^18446744073709551615, but the group has only 2^31 points",
