@@ -62,7 +62,8 @@ fn points(alloc: Global, domain: Domain) -> Result<Value> {
 
 // The coordinates of the point at a place, or null where there is none.
 fn nth_point(alloc: Global, domain: Domain, given: &Value) -> Result<Value> {
-    match domain.try_nth_point(member(alloc, given, "index")?) {
+    let index: usize = member(alloc, given, "index")?;
+    match domain.try_nth_point(index) {
         Some(point) => Ok(coordinates(alloc, point)?),
         None => Ok(Value::Null),
     }

@@ -4,7 +4,7 @@
 
 use anyhow::{Result, bail};
 use circle_presets::{
-    Challenge, Challenger, Commitment, Domain, Known, Proof, ProverData, Request, Scheme,
+    Challenge, Challenger, Commitment, Domain, Known, Proof, ProverData, Request, Scheme, Val,
     VerifierError, scheme,
 };
 use p3_circle::{
@@ -37,15 +37,9 @@ struct Published {
     proof: Proof,
 }
 
-/// A column of which each entry is one more than the square of the one before it.
-fn column<F: Field>(alloc: Global, rows: usize) -> Result<RowMajorMatrix<F>, AllocError> {
-    let mut entries = Vec::new(alloc);
-    let mut entry = F::ZERO;
-    for _row in 0..rows {
-        entries.push(entry)?;
-        entry = entry.square() + F::ONE;
-    }
-    Ok(RowMajorMatrix::new(entries, 1))
+/// The powers of two, so many of them, as a column.
+fn column(alloc: Global, rows: usize) -> Result<RowMajorMatrix<Val>, AllocError> {
+    Ok(RowMajorMatrix::new_col(Val::powers(alloc, Val::TWO, rows)?))
 }
 
 /// The challenger that took in the commitments, and the point that it draws.
@@ -81,15 +75,24 @@ fn requests(alloc: Global, data: &[ProverData; 2], point: Challenge) -> Result<V
     Ok(requests)
 }
 
+/// Commits to matrices, each with its domain.
+fn commit(
+    alloc: Global,
+    pcs: &Scheme,
+    batch: Vec<(Domain, RowMajorMatrix<Val>)>,
+) -> Result<(Commitment, ProverData)> {
+    if !heights_match_domains(&batch) {
+        bail!("a matrix has not a row for each point");
+    }
+    Ok(pcs.commit(alloc, batch)?)
+}
+
 fn prove(alloc: Global, pcs: &Scheme) -> Result<Published> {
     let [tall, low] = [Domain::standard(6), Domain::standard(5)];
     let first = vec![in alloc; (tall, column(alloc, 64)?), (low, column(alloc, 32)?)]?;
     let second = vec![in alloc; (tall, column(alloc, 64)?)]?;
-    if !heights_match_domains(&first) || !heights_match_domains(&second) {
-        bail!("a matrix has not a row for each point");
-    }
-    let (first, first_data) = pcs.commit(alloc, first)?;
-    let (second, second_data) = pcs.commit(alloc, second)?;
+    let (first, first_data) = commit(alloc, pcs, first)?;
+    let (second, second_data) = commit(alloc, pcs, second)?;
 
     let commitments = [first, second];
     let (mut challenger, point) = after_commitments(&commitments);
