@@ -1,2 +1,2 @@
 pub mod Depth
-pub mod Verdict
+pub mod Told

@@ -19,7 +19,7 @@
 //!
 //! - In `specs/`: `Line`, what is written; `Text`, which input bytes stand for; `Params`; `Proof`,
 //!   what `circle_prove` writes.
-//! - In `proofs/`: `Depth`, how deep the JSON of claims and a proof nests; `Verdict`, what is told
+//! - In `proofs/`: `Depth`, how deep the JSON of claims and a proof nests; `Told`, what is told
 //!   of a text.
 #![tactic(auto)]
 
@@ -36,8 +36,6 @@ mod proof;
 mod text;
 mod verdict;
 
-pub use params::CircleParams;
-
 use circle_challenger::Sha256Challenger;
 use circle_commands::prove::Input as Statement;
 use circle_commands::verify::{Batches, Input as Claims, Words};
@@ -45,6 +43,7 @@ use circle_commands::{Failure, shape, values};
 use circle_commit::JsonForm;
 use circle_field::{Cubic, Mersenne31};
 use circle_opening::OpeningOver;
+pub use params::CircleParams;
 use std::alloc::Global;
 
 /// The values of polynomials on a domain, as the program's command `values` answers.

@@ -1,5 +1,5 @@
 //! What is written to a caller's line.
-ghost use Rattle.std.specs.Prelude.{◌≡◌, ◌≤◌, Err, IfErr, IsOk, IsOkAnd, string_bytes};
+ghost use Rattle.std.specs.Prelude.{◌≡◌, ◌≤◌, MatchResult, string_bytes};
 ghost use Rattle.circle_commands.specs.Failure.{status_of};
 ghost use Rattle.circle_commands.specs.declared.failure.Failure.TheVariants.{Memory};
 ghost use Rattle.circle_c.specs.Line.{IsSomeWritten, IsWritten, memory_line, verified_line};
@@ -14,9 +14,9 @@ const FAILURE_LEN: usize = 64;
 pub(crate) fn tell(answer: Result<String, Failure>, line: &mut [u8], needed: &mut usize) -> u8
     ensures status { result ≤ 2 }
     ensures line { IsSomeWritten line.old line.new needed.new }
-    ensures answered { result ≡ 0 → IsOkAnd answer (λ text.
-        IsWritten (string_bytes text) line.old line.new needed.new) }
-    ensures failed { IfErr answer (λ failure. result ≡ status_of failure) }
+    ensures told { MatchResult answer (λ text. (result ≡ 0)
+        × IsWritten (string_bytes text) line.old line.new needed.new)
+        (λ failure. result ≡ status_of failure) }
 {
     match answer {
         Ok(text) => {
@@ -28,18 +28,13 @@ pub(crate) fn tell(answer: Result<String, Failure>, line: &mut [u8], needed: &mu
 }
 
 /// Writes that a proof is accepted, or what the failure tells, and answers the status.
-pub(crate) fn tell_verdict(
-    verdict: Result<(), Failure>,
-    line: &mut [u8],
-    needed: &mut usize,
-) -> u8
+pub(crate) fn tell_verdict(verdict: Result<(), Failure>, line: &mut [u8], needed: &mut usize) -> u8
     ensures status { result ≤ 2 }
     ensures line { IsSomeWritten line.old line.new needed.new }
-    ensures accepted { result ≡ 0 → IsOk verdict }
-    ensures refused { IfErr verdict (λ failure. result ≡ status_of failure) }
-    ensures verified { result ≡ 0 → IsWritten verified_line line.old line.new needed.new }
-    ensures memory { verdict ≡ Err Memory
-        → IsWritten memory_line line.old line.new needed.new }
+    ensures told { MatchResult verdict (λ _. (result ≡ 0)
+        × IsWritten verified_line line.old line.new needed.new)
+        (λ failure. (result ≡ status_of failure)
+        × (failure ≡ Memory → IsWritten memory_line line.old line.new needed.new)) }
 {
     match verdict {
         Ok(()) => {

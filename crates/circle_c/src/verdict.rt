@@ -73,6 +73,6 @@ fn failure_of(refusal: Refusal) -> Failure
 {
     match refusal {
         FriError::Memory => Failure::Memory,
-        refusal => Failure::from(refusal),
+        other => Failure::from(other),
     }
 }
