@@ -12,6 +12,7 @@ use Rattle.circle_field.specs.RingFacts.{neg_neg, neg_zero}
 use Rattle.circle_field.specs.Circle.{Coordinates, IsOnCircle, AreGenerators, origin, times}
 use Rattle.circle_field.proofs.Inverses.{nonzero_product}
 use Rattle.circle_point.specs.Basis.{value}
+use Rattle.circle_domain.specs.Lagrange.{lagrange_at as weight}
 use Rattle.circle_domain.specs.Layers.{factor, second_half}
 use Rattle.circle_matrix.specs.DotProduct.{dot}
 use Rattle.circle_matrix.proofs.ColumnSums.{dot-append}
@@ -19,13 +20,6 @@ use Rattle.circle_domain.proofs.HalfSums.{value-low, high-low}
 use Rattle.circle_domain.proofs.Blocks.{points, second_half-on_circle}
 use Rattle.circle_domain.proofs.Transform.{lower, upper, map-same, halves_of, split_values}
 use Rattle.circle_domain.proofs.Inversion.{factor-nonzero, first-genuine, second-genuine}
-
-module _ {F : Type 0} (k : FieldOps F) where
-  -- the Lagrange polynomial of the point p of a block of 2^m points, at q: the product of (1 + b(q) / b(p)) / 2
-  -- over the factors b of the block's halves
-  abbrev pub weight : ℕ → Coordinates F → Coordinates F → F
-  weight zero q p = k.one
-  weight (suc m) q p = k.mul (weight m q p) (k.mul (k.add (factor k m p) (factor k m q)) (k.inv (k.add (factor k m p) (factor k m p))))
 
 module _ {F : Type 0} {k : FieldOps F} (laws : RingLaws k) where
   pub dot-scaled : {X : Type 0} (f h : X → F) (u : F) (xs : List X) → dot k (map (λ x. k.mul (f x) u) xs) (map h xs) ≡ k.mul (dot k (map f xs) (map h xs)) u

@@ -9,8 +9,9 @@ use Rattle.circle_field.specs.RingFacts.{mul_one}
 use Rattle.circle_field.specs.Circle.{Coordinates}
 use Rattle.circle_point.specs.Basis.{doubled_x, iterated_x, vanishing, vanishing_product}
 use Rattle.circle_point.proofs.Multiples.{iterated_x-suc}
+use Rattle.circle_domain.specs.Lagrange.{lagrange_at as weight}
 use Rattle.circle_domain.specs.Layers.{factor}
-use Rattle.circle_domain.proofs.LagrangePolynomials.{weight, twice-nonzero}
+use Rattle.circle_domain.proofs.LagrangePolynomials.{twice-nonzero}
 
 module _ {F : Type 0} (k : FieldOps F) where
   -- the products of the weights' numerators and denominators

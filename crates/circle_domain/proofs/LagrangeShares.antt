@@ -16,11 +16,11 @@ use Rattle.circle_point.proofs.Multiples.{iterated_x-times, times-on_circle}
 use Rattle.circle_point.proofs.Selectors.{y_multiple}
 use Rattle.circle_domain.specs.Layers.{factor}
 use Rattle.circle_matrix.specs.DotProduct.{dot}
-use Rattle.circle_domain.specs.Lagrange.{shares}
+use Rattle.circle_domain.specs.Lagrange.{lagrange_at as weight, shares}
 use Rattle.circle_domain.specs.Order.{coset, with_opposites}
 use Rattle.circle_domain.proofs.Blocks.{all-append, times-plus, times-generator-past, points-cfft_order}
 use Rattle.circle_domain.proofs.Inversion.{factor-nonzero, first-genuine, flat-point, twice}
-use Rattle.circle_domain.proofs.LagrangePolynomials.{weight, neg-nonzero, lagrange}
+use Rattle.circle_domain.proofs.LagrangePolynomials.{neg-nonzero, lagrange}
 use Rattle.circle_domain.proofs.LagrangeQuotients.{share, doubled, weight-share, normalised}
 
 pub all-split : {X : Type 0} (P : X → Type 0) (xs ys : List X) → AllByRecursion P (xs ++ ys) → AllByRecursion P xs × AllByRecursion P ys
