@@ -13,6 +13,7 @@ pub mod LastWords
 pub mod Lists
 pub mod NearLow
 pub mod Pairs
+pub mod ReadRows
 pub mod RoundLists
 pub mod RoundWords
 pub mod Rounds
