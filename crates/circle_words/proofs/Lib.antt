@@ -2,6 +2,7 @@ pub mod Claims
 pub mod DomainPoints
 pub mod Joining
 pub mod Known
+pub mod Lifts
 pub mod Opened
 pub mod Pairs
 pub mod Prefix
