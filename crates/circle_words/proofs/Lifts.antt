@@ -33,10 +33,11 @@ module _ {F E : Type 0} (k : Fields F E) (laws : FieldLaws k.field) {bits : ℕ}
       ap (λ first. dot k.field (map (lagrange_at k.field n p) first) (map (value k.field c) first)) (sym (points-cfft_order k.field k.gen n s some))
       ∙ lagrange laws gens n s p c long (omega (arith, within, below)) (gens.on_circle (h + 1) (omega (arith, below))) genuine.1
 
-  -- the first rows extend to the values of the polynomials that have these rows
-  pub extended-values : (width : ℕ) (coeffs first : List (List F)) → HasValues k.field k.gen (h - blowup) (k.gen (h + 1)) width coeffs first →
+  -- rows that are the values of polynomials at the first points extend to their values
+  pub extended-by : (width : ℕ) (coeffs first : List (List F)) → length coeffs ≡ 2 ^ (h - blowup) →
+      map (values_at k.field coeffs width) (cfft_order k.field k.gen (h - blowup) (k.gen (h + 1))) ≡ first →
       (p : Coordinates F) → extended_row k blowup h width first p ≡ values_at k.field coeffs width p
-  extended-values width coeffs first told p =
+  extended-by width coeffs first long told p =
       let zero = k.field.zero in
       let there = cfft_order k.field k.gen (h - blowup) (k.gen (h + 1)) in
       let weights = map (lagrange_at k.field (h - blowup) p) there in
@@ -46,6 +47,11 @@ module _ {F E : Type 0} (k : Fields F E) (laws : FieldLaws k.field) {bits : ℕ}
       (λ j lt.
       get_or-map-range_with_len (λ j. at j p) 0 width j j zero lt (omega arith)
       ∙ sym (ap (dot k.field weights) (map-id (column zero first j))
-      ∙ ap (λ rows. dot k.field weights (column zero rows j)) (sym told.values)
+      ∙ ap (λ rows. dot k.field weights (column zero rows j)) (sym told)
       ∙ ap (dot k.field weights) (column-made zero width j at there lt)
-      ∙ first-sum (column zero coeffs j) p (length-map coeffs _ ∙ told.height))))
+      ∙ first-sum (column zero coeffs j) p (length-map coeffs _ ∙ long))))
+
+  -- the first rows extend to the values of the polynomials that have these rows
+  pub extended-values : (width : ℕ) (coeffs first : List (List F)) → HasValues k.field k.gen (h - blowup) (k.gen (h + 1)) width coeffs first →
+      (p : Coordinates F) → extended_row k blowup h width first p ≡ values_at k.field coeffs width p
+  extended-values width coeffs first told = extended-by width coeffs first told.height told.values
