@@ -84,7 +84,7 @@ is-top g params requests values asked =
 pub new-shape-requires-clause-high : goal.new-shape-requires-clause-high
 new-shape-requires-clause-high g c =
     let high = is-high g c.args.params.now c.args.requests.now (openings c.args.values.now) c.requires.requests c.requires.values in
-    let same = c.greatest_height.ensures ∙ ap (λ os. greatest (map (λ m. m.log_height) os)) c.deref-2.ensures.value ∙ top-seen (fields g) c.args.params.now.log_blowup c.in_ok-matrices.matrices.items ∙ ap top_of c.in_ok-matrices.ensures.matrices in
+    let same = c.greatest_height.ensures ∙ ap (λ (os : List (OpenedMatrix g.row.Val.Denot g.row.EF.Denot)). greatest (map (λ m. m.log_height) os)) c.deref-2.ensures.value ∙ top-seen (fields g) c.args.params.now.log_blowup c.in_ok-matrices.matrices.items ∙ ap top_of c.in_ok-matrices.ensures.matrices in
     omega (arith, high, same)
 
 pub above_widths-num_powers-requires : goal.above_widths-num_powers-requires
@@ -112,7 +112,7 @@ open_words-requires-clause-small g c =
     let t = c.requires.parameters in
     let p = c.args.params.now in
     let high = is-high g p c.args.requests.now (openings c.args.values.now) c.requires.requests c.requires.values in
-    let same = c.greatest_height.ensures ∙ ap (λ os. greatest (map (λ m. m.log_height) os)) c.deref-2.ensures.value ∙ top-seen (fields g) p.log_blowup c.in_ok-matrices.matrices.items ∙ ap top_of c.in_ok-matrices.ensures.matrices in
+    let same = c.greatest_height.ensures ∙ ap (λ (os : List (OpenedMatrix g.row.Val.Denot g.row.EF.Denot)). greatest (map (λ m. m.log_height) os)) c.deref-2.ensures.value ∙ top-seen (fields g) p.log_blowup c.in_ok-matrices.matrices.items ∙ ap top_of c.in_ok-matrices.ensures.matrices in
     let flat = flat_map (λ b. b) (nested g p c.args.requests.now (openings c.args.values.now)) in
     let some = all-some (fields g) p.log_blowup g.InputMmcs.Mmcs.matrices c.args.requests.now (openings c.args.values.now) c.requires.values c.requires.requests.some c.requires.requests.matrices in
     let low = top-known flat (λ h. h < g.Val.ComplexExtendable.CIRCLE_TWO_ADICITY) some
@@ -148,7 +148,7 @@ pub returns-clause-below : goal.returns-clause-below
 returns-clause-below g c =
     let p = c.args.params.now in
     let high = is-high g p c.args.requests.now (openings c.args.values.now) c.requires.requests c.requires.values in
-    let same = c.greatest_height.ensures ∙ ap (λ os. greatest (map (λ m. m.log_height) os)) c.deref-2.ensures.value ∙ top-seen (fields g) p.log_blowup c.in_ok-matrices.matrices.items ∙ ap top_of c.in_ok-matrices.ensures.matrices in
+    let same = c.greatest_height.ensures ∙ ap (λ (os : List (OpenedMatrix g.row.Val.Denot g.row.EF.Denot)). greatest (map (λ m. m.log_height) os)) c.deref-2.ensures.value ∙ top-seen (fields g) p.log_blowup c.in_ok-matrices.matrices.items ∙ ap top_of c.in_ok-matrices.ensures.matrices in
     let ms = ap top_of (ap (map (committed_of (fields g) p.log_blowup)) c.deref-5.ensures.value ∙ c.in_ok-matrices.ensures.matrices) in
     let is = ap (λ s. s.index_bits) c.new-shape.ensures in
     let one = c.extra_query_index_bits-extra_bits.ensures in
@@ -192,7 +192,7 @@ returns-clause-draws g c =
     let taken = ap claims_of c.deref-4.ensures.value ∙ c.in_ok-claims.ensures (fields g) p.log_blowup
     ∙ ap (flat_map (λ (m : Committed g.row.Val.Denot g.row.EF.Denot). map (point_taken l) m.claims)) (ap (map (committed_of (fields g) p.log_blowup)) c.deref.ensures.value ∙ c.in_ok-matrices.ensures.matrices) ∙ sym (all-taken p.log_blowup l batches) in
     let wide = c.in_ok-widths.ensures ∙ sym (all-widths p.log_blowup g.InputMmcs.Mmcs.matrices (fields g) c.args.requests.now (openings c.args.values.now) c.requires.values) in
-    let high = c.greatest_height.ensures ∙ ap (λ os. greatest (map (λ m. m.log_height) os)) c.deref-2.ensures.value ∙ top-seen (fields g) p.log_blowup c.in_ok-matrices.matrices.items ∙ ap top_of c.in_ok-matrices.ensures.matrices ∙ sym (is-top g p c.args.requests.now (openings c.args.values.now) c.requires.requests) in
+    let high = c.greatest_height.ensures ∙ ap (λ (os : List (OpenedMatrix g.row.Val.Denot g.row.EF.Denot)). greatest (map (λ m. m.log_height) os)) c.deref-2.ensures.value ∙ top-seen (fields g) p.log_blowup c.in_ok-matrices.matrices.items ∙ ap top_of c.in_ok-matrices.ensures.matrices ∙ sym (is-top g p c.args.requests.now (openings c.args.values.now) c.requires.requests) in
     let shape = shape_is p claims (batches_of c.in_ok-widths.widths.items) c.greatest_height.result c.extra_query_index_bits-extra_bits.result (shape_of c.new-shape.result)
     (ap shape_of c.new-shape.ensures) wide high c.extra_query_index_bits-extra_bits.ensures in
     let s = g.C.ChallengerState.state c.args.challenger.now in
@@ -224,7 +224,7 @@ returns-clause-failure g c =
     let taken = ap claims_of c.deref-4.ensures.value ∙ c.in_ok-claims.ensures (fields g) p.log_blowup
     ∙ ap (flat_map (λ (m : Committed g.row.Val.Denot g.row.EF.Denot). map (point_taken l) m.claims)) (ap (map (committed_of (fields g) p.log_blowup)) c.deref.ensures.value ∙ c.in_ok-matrices.ensures.matrices) ∙ sym (all-taken p.log_blowup l batches) in
     let wide = c.in_ok-widths.ensures ∙ sym (all-widths p.log_blowup g.InputMmcs.Mmcs.matrices (fields g) c.args.requests.now (openings c.args.values.now) c.requires.values) in
-    let high = c.greatest_height.ensures ∙ ap (λ os. greatest (map (λ m. m.log_height) os)) c.deref-2.ensures.value ∙ top-seen (fields g) p.log_blowup c.in_ok-matrices.matrices.items ∙ ap top_of c.in_ok-matrices.ensures.matrices ∙ sym (is-top g p c.args.requests.now (openings c.args.values.now) c.requires.requests) in
+    let high = c.greatest_height.ensures ∙ ap (λ (os : List (OpenedMatrix g.row.Val.Denot g.row.EF.Denot)). greatest (map (λ m. m.log_height) os)) c.deref-2.ensures.value ∙ top-seen (fields g) p.log_blowup c.in_ok-matrices.matrices.items ∙ ap top_of c.in_ok-matrices.ensures.matrices ∙ sym (is-top g p c.args.requests.now (openings c.args.values.now) c.requires.requests) in
     let shape = shape_is p claims (batches_of c.in_ok-widths.widths.items) c.greatest_height.result c.extra_query_index_bits-extra_bits.result (shape_of c.new-shape.result)
     (ap shape_of c.new-shape.ensures) wide high c.extra_query_index_bits-extra_bits.ensures in
     let s = g.C.ChallengerState.state c.args.challenger.now in
