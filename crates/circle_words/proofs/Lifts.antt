@@ -1,8 +1,7 @@
 -- The values that the first rows of a matrix extend to.
 use Rattle.std.specs.Prelude.{◌≡◌, ℕ, ◌+◌, ◌-◌, ◌^◌, ◌<◌, ◌≤◌, Bool, true, false, if◌then◌else◌, List, length, map, take, All, nat_le}
-use Rattle.std.specs.List.{range_with_len}
 use Rattle.std.proofs.Common.{sym, ◌∙◌, ap, arith}
-use Rattle.std.proofs.lemmas.Bool.{lt-leb, le-leb}
+use Rattle.std.proofs.lemmas.Bool.{le-leb}
 use Rattle.std.proofs.lemmas.List.{length-map, map-id}
 use Rattle.std.proofs.lemmas.List.Elements.{All-map}
 use Rattle.std.proofs.lemmas.List.FromFn.{fill_by_all, get_or-map-range_with_len, length-map-range_with_len}
@@ -15,7 +14,7 @@ use Rattle.circle_point.specs.Basis.{value}
 use Rattle.circle_domain.specs.Lagrange.{lagrange_at}
 use Rattle.circle_domain.specs.Order.{cfft_order}
 use Rattle.circle_domain.specs.Values.{HasValues, values_at}
-use Rattle.circle_domain.proofs.Blocks.{points, points-cfft_order}
+use Rattle.circle_domain.proofs.Blocks.{points-cfft_order}
 use Rattle.circle_domain.proofs.Columns.{column-made}
 use Rattle.circle_domain.proofs.CosetOrder.{length-cfft_order}
 use Rattle.circle_domain.proofs.LagrangePolynomials.{lagrange}
@@ -81,10 +80,7 @@ module _ {F E : Type 0} (k : Fields F E) (blowup h width : ℕ) where
       (λ p. sym (combined-columns above.ring embedding powers width first (first_weights k blowup h p) wide))
       ∙ sym (map-map combination (extended_row k blowup h width first) points)
 
-  -- what words read of a matrix of few columns, and of many
-  pub read-narrow : (rows : List (List F)) → width < lift_width → read_rows k blowup h width rows ≡ rows
-  read-narrow rows less = ap (λ b. if b then extended_rows k blowup h width rows else rows) (lt-leb lift_width width less)
-
+  -- what words read of a matrix of many columns
   pub read-wide : (rows : List (List F)) → lift_width ≤ width → read_rows k blowup h width rows ≡ extended_rows k blowup h width rows
   read-wide rows least = ap (λ b. if b then extended_rows k blowup h width rows else rows) (le-leb lift_width width least)
 

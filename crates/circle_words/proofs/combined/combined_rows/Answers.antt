@@ -1,4 +1,4 @@
-use Rattle.std.proofs.Common.{◌≡◌, ◌≤◌, ◌<◌, ◌-◌, ◌*◌, ◌%◌, ◌^◌, ◌∙◌, ℕ, sym, ap, arith, length, map, take, All}
+use Rattle.std.proofs.Common.{◌≡◌, ◌≤◌, ◌-◌, ◌*◌, ◌%◌, ◌^◌, ◌∙◌, sym, ap, arith, length, take}
 use Rattle.std.proofs.lemmas.List.{length-map, length-take-le}
 use Rattle.std.proofs.lemmas.List.Elements.{All-take}
 use Rattle.circle_matrix.specs.RowMajorMatrix.{rows, width_of, length-rows, rows-width}
@@ -6,7 +6,7 @@ use Rattle.circle_matrix.specs.RowMajorMatrixView.{rows as view_rows}
 use Rattle.circle_domain.proofs.Powers.{pow_within}
 use Rattle.circle_relation.specs.Accepts.{Fields}
 use Rattle.circle_words.specs.Lifts.{lift_width, combined, extended_word}
-use Rattle.circle_words.proofs.Lifts.{extended-combined, read-narrow, read-wide}
+use Rattle.circle_words.proofs.Lifts.{extended-combined, read-wide}
 use Rattle.circle_words.proofs.Opened.{if_ok, counted}
 use Rattle.circle_words.proofs.combined.combined_rows.Goals as goal
 
