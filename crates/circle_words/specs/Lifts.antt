@@ -1,5 +1,5 @@
--- The rows that the words of an opening read of a committed matrix, and combinations of its columns:
--- Circle STARKs (ePrint 2024/278), section 4.3.
+-- The rows that the words of an opening read of a committed matrix, and their combinations: Circle
+-- STARKs (ePrint 2024/278), section 4.3.
 use Rattle.std.specs.Prelude.{ℕ, ◌+◌, ◌-◌, ◌^◌, List, map, take, nat_le, if◌then◌else◌}
 use Rattle.circle_field.specs.Circle.{Coordinates}
 use Rattle.circle_matrix.specs.DotProduct.{dot, column_sums}

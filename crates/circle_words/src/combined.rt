@@ -2,9 +2,9 @@
 //! matrix the combination is formed on its first rows alone, and extended from there (Circle
 //! STARKs, section 4.3).
 //!
-//! Where the columns are of low degree, the combination of a matrix's columns is so too, and its
-//! first entries fix the others. To combine a row of many columns takes longer than to find such an
-//! entry by the transform.
+//! Where columns are of low degree, their combination is so too, and its first entries fix the
+//! others. A combined row takes a product for each column and each coefficient of the extension,
+//! and by the transform about half a product for each layer and each coefficient.
 ghost use Rattle.std.specs.Prelude.{◌≡◌, ◌-◌, ◌^◌, ◌<◌, ◌≤◌, ◌++◌, length, map, IfOk, OnOk};
 ghost use Rattle.circle_matrix.specs.DotProduct.{dot};
 ghost use Rattle.circle_matrix.specs.RowMajorMatrix.{rows, width_of, height_of};
@@ -19,7 +19,7 @@ use circle_relation::OverCircle;
 use std::alloc::{AllocError, Global};
 
 /// The number of columns from which on the combination of a matrix's columns is formed on its first
-/// rows alone.
+/// rows alone, and extended from there by the transform.
 pub const LIFT_WIDTH: usize = 1024;
 
 // The sum of the entries, each times its power.

@@ -247,8 +247,8 @@ fn add_matrix<F: ComplexExtendable, EF: ExtensionField<F>>(
 /// that height, in order, each times the power of the batching challenge of twice the number of
 /// columns that are claimed before it (section 6, Remark 21).
 ///
-/// Of a matrix of many columns the values are taken that its first
-/// `2^(log_height - log_blowup)` rows fix.
+/// Of a matrix of at least [`LIFT_WIDTH`](crate::LIFT_WIDTH) columns the values are taken that its
+/// first `2^(log_height - log_blowup)` rows fix.
 ///
 /// Asks `log_blowup < log_height < CIRCLE_TWO_ADICITY`, matrices that can be opened, as
 /// [`can_all_be_opened`] tests, and powers of the batching challenge from the first on. Fails where
