@@ -1,4 +1,5 @@
 pub mod Accepted
+pub mod Cut
 pub mod DifferenceQuotients
 pub mod Drawn
 pub mod FirstLayer

@@ -13,14 +13,15 @@ use Rattle.circle_matrix.specs.declared.params.FriParameters.{FriParameters}
 use Rattle.circle_matrix.specs.declared.pcs.OpeningRequest.{OpeningRequest}
 use Rattle.circle_matrix.proofs.ColumnSums.{map-agree}
 use Rattle.circle_domain.specs.Order.{cfft_order}
-use Rattle.circle_domain.specs.Values.{values_at}
+use Rattle.circle_domain.specs.Values.{HasValues, values_at}
 use Rattle.circle_domain.proofs.Blocks.{cfft_order-prefix}
 use Rattle.circle_relation.specs.Accepts.{Fields}
 use Rattle.circle_words.specs.Lifts.{extended_row, extended_rows, lift_width, read_rows}
 use Rattle.circle_words.specs.Ratios.{points_of_height}
-use Rattle.circle_words.proofs.Lifts.{extended-by}
+use Rattle.circle_words.proofs.Lifts.{extended-values}
 use Rattle.circle_opening.specs.Requests.{IsFit, log_of}
 use Rattle.circle_opening.proofs.Answered.{fit-known}
+use Rattle.circle_completeness.proofs.Cut.{cut, cut-told, cut-values}
 use Rattle.circle_completeness.specs.Honest.{AreOfLowDegree, AreReadAsIs, IsOfLowDegree, IsReadAsIs}
 
 module _ {F E : Type 0} (k : Fields F E) (blowup : ℕ) where
@@ -56,9 +57,13 @@ module _ {F E : Type 0} (k : Fields F E) (blowup : ℕ) where
         let h = log_of (height_of m) in
         let width = width_of m in
         let first = take (2 ^ (h - blowup)) (rows m) in
+        let coeffs = cut k.field width low.coeffs in
+        let told : HasValues k.field k.gen (h - blowup) (k.gen (h + 1)) width coeffs first =
+        cut-told k.field k.gen width (h - blowup) (k.gen (h + 1)) low.coeffs first low.count (sym (first-values m low below)) in
         let same : extended_rows k blowup h width (rows m) ≡ rows m =
         map-agree (extended_row k blowup h width first) (values_at k.field low.coeffs width) (points_of_height k.field k.gen h)
-        (λ i p lt. extended-by k base gens blowup h below fits width low.coeffs first low.count (sym (first-values m low below)) (slice_index_or (points_of_height k.field k.gen h) i p))
+        (λ i p lt. let q = slice_index_or (points_of_height k.field k.gen h) i p in
+        extended-values k base gens blowup h below fits width coeffs first told q ∙ cut-values k.field width low.coeffs q)
         ∙ low.values in
         either-same (nat_le lift_width width) (extended_rows k blowup h width (rows m)) (rows m) same
 

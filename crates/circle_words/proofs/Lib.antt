@@ -1,4 +1,5 @@
 pub mod Claims
+pub mod Combinations
 pub mod DomainPoints
 pub mod Joining
 pub mod Known
