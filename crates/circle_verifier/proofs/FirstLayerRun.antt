@@ -202,7 +202,7 @@ module _ {F E I W IC ID IP IE WC WD WP WE : Type 0} {g : _} {k : Fields F E}
   count-rows rows n are = ap length are ∙ length-at k o.params.now (run_of o) (λ j q. map (first_pair k o.params.now (run_of o) j q) (take n (heights_of k o)))
 
   -- all words
-  all-heights : (n : ℕ) → n ≡ length words → length (heights_of k o) ≡ n
+  pub all-heights : (n : ℕ) → n ≡ length words → length (heights_of k o) ≡ n
   all-heights n all = sym (all ∙ sym (length-map words queried) ∙ ap length a.reduced ∙ length-map (heights_of k o) (word_at k o))
 
   pub pairs-all : (rows : List (List (List E))) (n : ℕ) → n ≡ length words → rows ≡ pairs_up_to k o n → rows ≡ first_pairs k o
