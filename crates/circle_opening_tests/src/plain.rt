@@ -443,5 +443,10 @@ fn wide_matrices_by_the_plain_definitions(rt: HostRuntime) -> Result<(), Fail> {
     for width in [1023, 1024, 1025] {
         assert_plain(&rt, rt.alloc(), SMALL, &[&[(2, width, 2)]])?;
     }
+    Ok(())
+}
+
+#[test]
+fn a_wide_matrix_beside_a_narrow_one_by_the_plain_definitions(rt: HostRuntime) -> Result<(), Fail> {
     assert_plain(&rt, rt.alloc(), SMALL, &[&[(6, 1024, 2), (6, 3, 2)]])
 }

@@ -1,12 +1,12 @@
 //! Which words are of low degree: quotients under true claims and under others, sums of columns,
 //! words without their lambda.
 use crate::off_domain::{cubic, on_line};
-use crate::smaller::{coefficients, extended, prefix, values_at};
+use crate::smaller::{coefficients, extended, point_at, prefix, values_at};
 use crate::transform::{Domain, Rows, assert_same, evaluate, scattered};
 use circle_commit::{Matrix, RowMajorMatrix};
 use circle_field::{Cubic, ExtensionField, Field, Mersenne31};
 use circle_folding::{deep_quotient_reduce_row, extract_lambda};
-use circle_plane::{CircleDomain, Point, cfft_permute_index};
+use circle_plane::{CircleDomain, Point};
 use std::alloc::{AllocError, Global};
 use std::process::Abort;
 use std::test::Fail;
@@ -68,13 +68,12 @@ fn quotients(
     alpha: Cubic,
 ) -> Result<Vec<Cubic>, AllocError> {
     let width = values.len();
-    assert!(rt; width <= 64 && domain.log_n() >= 1 && domain.log_n() <= 10);
+    assert!(rt; width <= 64);
     let powers = Cubic::powers(alloc, alpha, width + 1)?;
     let mut word = Vec::new(alloc);
     for r in 0..rows.height() {
-        let (row, place) = (rows.row(r), cfft_permute_index(r, domain.log_n()));
-        assert!(rt; row.len() == width && width < powers.len() && place < domain.size());
-        let x = domain.nth_point(place);
+        let (row, x) = (rows.row(r), point_at(rt, domain, r));
+        assert!(rt; row.len() == width && width < powers.len());
         let quotient = deep_quotient_reduce_row(powers[width], &powers, x, at, row, values);
         word.push(quotient.expect(rt, "the point is none of the domain"))?;
     }

@@ -2,7 +2,7 @@
 use crate::off_domain::{cubic, on_line};
 use crate::transform::{Domain, Rows, plain_entry, scattered};
 use circle_commit::{Matrix, RowMajorMatrix};
-use circle_field::Cubic;
+use circle_field::{Cubic, Mersenne31};
 use circle_plane::{CircleDomain, CircleEvaluations, Point, cfft_permute_index, circle_basis};
 use std::alloc::{AllocError, Global};
 use std::process::Abort;
@@ -17,8 +17,9 @@ pub(crate) fn extended(
     target: Domain,
 ) -> Result<Rows, AllocError> {
     let copy = rows.try_clone(alloc)?;
-    assert!(rt; domain.log_n() >= 1 && domain.is_genuine() && target.log_n() <= 31);
-    assert!(rt; domain.log_n() <= target.log_n() && copy.height() == domain.size());
+    assert!(rt; domain.log_n() >= 1 && domain.log_n() <= 31 && domain.is_genuine());
+    assert!(rt; domain.log_n() <= target.log_n() && target.log_n() <= 31);
+    assert!(rt; copy.height() == domain.size());
     let extended = CircleEvaluations::from_cfft_order(domain, copy).extrapolate(alloc, target)?;
     Ok(extended.to_cfft_order())
 }
@@ -81,15 +82,19 @@ fn assert_values(
     Ok(())
 }
 
+// The point at a place of the transform's order.
+pub(crate) fn point_at(rt: &impl Abort, domain: Domain, place: usize) -> Point<Mersenne31> {
+    let log_n = domain.log_n();
+    assert!(rt; log_n >= 1 && log_n <= 31);
+    assert!(rt; place < domain.size());
+    domain.nth_point(cfft_permute_index(place, log_n))
+}
+
 // Asserts that the first points of a domain in the transform's order are those of a smaller one.
 fn assert_begins_with(rt: &impl Abort, larger: Domain, smaller: Domain) {
-    assert!(rt; larger.log_n() >= 1 && larger.log_n() <= 10 && smaller.log_n() >= 1);
-    assert!(rt; smaller.log_n() <= larger.log_n());
-    for i in 0..smaller.size() {
-        let place = cfft_permute_index(i, smaller.log_n());
-        let in_larger = cfft_permute_index(i, larger.log_n());
-        assert!(rt; place < smaller.size() && in_larger < larger.size());
-        assert_eq!(rt; smaller.nth_point(place), larger.nth_point(in_larger));
+    assert!(rt; smaller.log_n() <= 31);
+    for place in 0..smaller.size() {
+        assert_eq!(rt; point_at(rt, smaller, place), point_at(rt, larger, place));
     }
 }
 

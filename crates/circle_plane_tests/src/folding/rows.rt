@@ -2,11 +2,11 @@
 use super::queries::scattered_word;
 use super::{cubic, rows_of_two};
 use crate::low_degree::word_of;
+use crate::smaller::point_at;
 use crate::transform::{Domain, evaluate, scattered};
 use circle_commit::{Matrix, RowMajorMatrix};
 use circle_field::{Cubic, Field, Mersenne31};
 use circle_folding::{fold_row_with_inv_twiddle, fold_x, fold_x_row, fold_y, x_interpolate};
-use circle_plane::cfft_permute_index;
 use std::alloc::{AllocError, Global};
 use std::process::Abort;
 use std::test::Fail;
@@ -32,9 +32,9 @@ fn folded(
 // The fold by y of the pair at an index of a word of 64 entries.
 fn fold_y_row(rt: &impl Abort, index: usize, beta: Cubic, low: Cubic, high: Cubic) -> Cubic {
     assert!(rt; index < 32);
-    let place = cfft_permute_index(2 * index, 6);
-    assert!(rt; place < 64);
-    let inverse = Domain::standard(6).nth_point(place).y().try_inverse();
+    let inverse = point_at(rt, Domain::standard(6), 2 * index)
+        .y()
+        .try_inverse();
     fold_row_with_inv_twiddle(inverse.expect(rt, "a coordinate is zero"), beta, low, high)
 }
 
