@@ -60,7 +60,7 @@ returns-clause-proof c =
     (subst (λ cs. AllZip (IsRequested matrices_of) cs requests) c.deref-4.ensures.value c.in_ok-requests.ensures)
     (c.observe_commitments.ensures ∙ ap (λ s. commitments_taken s c.deref-3.result.now) c.new-challenger.ensures ∙ ap (commitments_taken (replicate 32 0)) c.deref-3.ensures.value)
     c.in_ok-values.ensures.values c.in_ok-values.ensures.opened.opening
-    (c.in_ok-claims.ensures ∙ ap (λ cs. pairwise batch_claimed cs (openings c.deref-6.result.now)) c.deref-5.ensures.value ∙ ap (λ vs. pairwise batch_claimed committed (openings vs)) c.deref-6.ensures.value)
+    (c.in_ok-claims.ensures ∙ ap (λ cs. pairwise batch_claimed cs (openings values)) c.deref-5.ensures.value)
     refl
 
 pub returns-clause-accepted : goal.returns-clause-accepted
@@ -76,5 +76,5 @@ returns-clause-accepted c =
     (subst (λ cs. AllZip (IsRequested matrices_of) cs requests) c.deref-4.ensures.value c.in_ok-requests.ensures)
     (c.observe_commitments.ensures ∙ ap (λ s. commitments_taken s c.deref-3.result.now) c.new-challenger.ensures ∙ ap (commitments_taken (replicate 32 0)) c.deref-3.ensures.value)
     given.answers given.opening
-    (c.in_ok-claims.ensures ∙ ap (λ cs. pairwise batch_claimed cs (openings c.deref-6.result.now)) c.deref-5.ensures.value ∙ ap (λ vs. pairwise batch_claimed committed (openings vs)) c.deref-6.ensures.value)
+    (c.in_ok-claims.ensures ∙ ap (λ cs. pairwise batch_claimed cs (openings values)) c.deref-5.ensures.value)
     refl
