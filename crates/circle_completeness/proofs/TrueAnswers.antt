@@ -1,5 +1,5 @@
 -- What is answered of matrices of low degree is true, so the words of their opening end in the values of a final polynomial.
-use Rattle.std.specs.Prelude.{◌≡◌, ◌↔◌, ℕ, ◌+◌, ◌-◌, ◌^◌, ◌<◌, ◌≤◌, Bool, true, List, [], ◌∷◌, length, map, flat_map, take, zip, All, slice_index_or}
+use Rattle.std.specs.Prelude.{◌≡◌, ◌↔◌, ℕ, ◌+◌, ◌-◌, ◌^◌, ◌<◌, ◌≤◌, Bool, true, List, [], ◌∷◌, length, map, flat_map, zip, All, slice_index_or}
 use Rattle.std.specs.List.{AllByRecursion, AllZip}
 use Rattle.std.proofs.Common.{sym, ◌∙◌, ap, subst, arith, inl, inr}
 use Rattle.std.proofs.lemmas.List.{length-map}
@@ -13,7 +13,7 @@ use Rattle.circle_matrix.specs.DotProduct.{pairwise}
 use Rattle.circle_matrix.specs.Matrix.{column}
 use Rattle.circle_challenger.specs.Moves.{RunMoves}
 use Rattle.circle_matrix.specs.Pcs.{Openings}
-use Rattle.circle_matrix.specs.RowMajorMatrix.{rows, width_of, height_of}
+use Rattle.circle_matrix.specs.RowMajorMatrix.{width_of, height_of}
 use Rattle.circle_matrix.specs.declared.matrix.RowMajorMatrix.{RowMajorMatrix}
 use Rattle.circle_matrix.specs.declared.params.FriParameters.{FriParameters}
 use Rattle.circle_matrix.specs.declared.pcs.OpeningRequest.{OpeningRequest}
@@ -24,7 +24,6 @@ use Rattle.circle_domain.proofs.Blocks.{all-append}
 use Rattle.circle_domain.proofs.Stored.{column-values}
 use Rattle.circle_domain.proofs.Told.{values-tell}
 use Rattle.circle_relation.specs.Accepts.{Fields}
-use Rattle.circle_words.specs.Ratios.{points_of_height}
 use Rattle.circle_words.specs.Values.{OpensTo}
 use Rattle.circle_words.specs.Words.{claim_of}
 use Rattle.circle_words.proofs.Prefix.{first-genuine, off-apart}
