@@ -1,4 +1,4 @@
-use Rattle.std.proofs.Common.{◌≡◌, ◌≢◌, ◌+◌, ◌≤◌, ◌++◌, ◌∙◌, ℕ, sym, ap, subst, length, arith}
+use Rattle.std.proofs.Common.{◌≢◌, ◌+◌, ◌≤◌, ◌++◌, ◌∙◌, sym, ap, subst, length, arith}
 use Rattle.std.specs.Prelude.{All}
 use Rattle.std.proofs.lemmas.List.Elements.{All-append}
 use Rattle.circle_field.proofs.Inverses.{take-whole}
