@@ -1,7 +1,7 @@
 -- The twiddles of words and of rounds, one list after another.
 use Rattle.std.specs.Prelude.{◌≡◌, ℕ, ◌+◌, ◌-◌, ◌<◌, ◌≤◌, List, [], ◌∷◌, ◌++◌, Some, length, map, take, drop, slice_get}
 use Rattle.std.specs.List.{flat_map, range_with_len}
-use Rattle.std.proofs.Common.{suc, refl, sym, ◌∙◌, ap, arith, length-append}
+use Rattle.std.proofs.Common.{suc, sym, ◌∙◌, ap, arith, length-append}
 use Rattle.std.proofs.Math.Seq.{take-append_seam, drop-append_seam}
 use Rattle.std.proofs.lemmas.List.{map-append, length-map, flat_map_more, drop_more}
 use Rattle.std.proofs.lemmas.Option.{slice_get_within, get_or_from_slice_get}
@@ -40,8 +40,10 @@ module _ {A : Type 0} (f : ℕ → List A) where
   -- the lists of the first rounds, with that of one more
   pub rounds-more : (n : ℕ) → flat_map f (range_with_len 0 n) ++ f n ≡ flat_map f (range_with_len 0 (n + 1))
   rounds-more n =
+      let none : 0 + n ≡ n = omega arith in
       let next : suc n ≡ n + 1 = omega arith in
-      flat_map_more f [] (range_with_len 0 n) n ∙ ap (flat_map f) (sym (range-more 0 n) ∙ ap (range_with_len 0) next)
+      let longer = range-more 0 n ∙ ap (λ m. range_with_len 0 n ++ m ∷ []) none in
+      flat_map_more f [] (range_with_len 0 n) n ∙ ap (flat_map f) (sym longer ∙ ap (range_with_len 0) next)
 
 -- of the inverses of the rounds from one on, its own, and the others
 pub next-inverses : {F : Type 0} (k : FieldOps F) (gen : ℕ → Coordinates F) (h : ℕ) (queries : List ℕ) {later : List F} (n rounds : ℕ) → n < rounds →

@@ -8,7 +8,7 @@ use Rattle.circle_matrix.specs.Mmcs.{opened_rows}
 use Rattle.circle_folding.specs.Chain.{first_layer_twiddle}
 use Rattle.circle_folding.proofs.FirstLayer.{first_layer_twiddles-nonzero}
 use Rattle.circle_verifier.specs.FirstLayer.{with_pairs}
-use Rattle.circle_verifier.proofs.FirstLayerRun.{claimed, height-within, height-large, lambda-there, siblings-there, siblings-read, counted, points-of, values-made, pairs-made, folds-made}
+use Rattle.circle_verifier.proofs.FirstLayerRun.{claimed, height-within, height-large, lambda-there, siblings-there, siblings-read, counted, values-made, pairs-made, folds-made}
 use Rattle.circle_verifier.proofs.first_layer.fold_word.Goals as goal
 
 pub entries_at-requires : goal.entries_at-requires

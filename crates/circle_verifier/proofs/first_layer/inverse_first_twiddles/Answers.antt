@@ -34,7 +34,7 @@ pub first_layer_twiddles-requires-clause-points : goal.first_layer_twiddles-requ
 first_layer_twiddles-requires-clause-points g c =
     let reduced = all_reduced c.requires.drawn c.requires.opened c.args.words.now c.requires.words in
     let word = word-of reduced c.loop-word.word-index c.word-item.result c.loop-word-test.true c.word-item.is in
-    points-of word.0 (map coordinates c.deref-of_word.result.now) (ap (map coordinates) c.deref-of_word.ensures.value ∙ ap (λ p. p.1.0) word.1)
+    points-of word.0 (map coordinates c.deref.result.now) (ap (map coordinates) c.deref.ensures.value ∙ ap (λ p. p.1.0) word.1)
 
 pub loop-word-preserved : goal.loop-word-preserved
 loop-word-preserved g c =
@@ -69,5 +69,5 @@ returns g c =
     let i = c.loop-word.word-index in
     let reduced = all_reduced c.requires.drawn c.requires.opened c.args.words.now c.requires.words in
     let all : length (heights_of k run) ≤ i = omega (arith, all-heights reduced (length c.args.words.now) refl, c.loop-word-test.false) in
-    let are = c.deref.ensures.value ∙ c.loop-word.invariant.twiddles ∙ ap (flat_map (twiddles_of k run)) (take_all i (heights_of k run) all) in
+    let are = c.deref-2.ensures.value ∙ c.loop-word.invariant.twiddles ∙ ap (flat_map (twiddles_of k run)) (take_all i (heights_of k run) all) in
     subst (λ xs. IfOk c.batch_multiplicative_inverse.result (λ r. r.items ≡ map k.field.inv xs)) are c.batch_multiplicative_inverse.ensures

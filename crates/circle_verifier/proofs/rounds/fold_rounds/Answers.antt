@@ -1,6 +1,7 @@
-use Rattle.std.proofs.Common.{◌+◌, [], ◌∷◌, ◌∙◌, sym, ap, length, map, below_more, arith}
+use Rattle.std.proofs.Common.{◌≡◌, ◌+◌, ◌-◌, [], ◌∷◌, ◌∙◌, sym, ap, length, map, below_more, arith}
 use Rattle.std.proofs.lemmas.List.{map-append, length-map}
 use Rattle.circle_relation.specs.RunOf.{joining_of}
+use Rattle.circle_verifier.specs.Rounds.{inverses_from}
 use Rattle.circle_verifier.proofs.LastWord.{last-short}
 use Rattle.circle_verifier.proofs.RoundsValues.{written-twice, length-values_in, length-folds_in, first-left, first-values, first-there}
 use Rattle.circle_verifier.proofs.RoundsOpened.{of-rounds}
@@ -44,10 +45,11 @@ loop-round-init g c =
     let first = c.in-Some.first in
     let rest = c.pop.new.self.items in
     let e = sym (map-append joining_of rest (first ∷ [])) ∙ ap (map joining_of) (sym c.in-Some.ensures.items) ∙ c.requires.folded in
+    let all : length o.betas.now ≡ length o.betas.now - 0 = omega arith in
     record {
       values = first-values k o c.requires.drawn.top c.requires.drawn.some_matrix (map joining_of rest) (joining_of first) e;
       left = ap (map joining_of) c.as_slice-left.ensures.value ∙ first-left k o c.requires.drawn.top c.requires.drawn.some_matrix (map joining_of rest) (joining_of first) e;
-      later = c.as_slice-later.ensures.value ∙ c.in_ok-inverses.ensures;
+      later = c.as_slice-later.ensures.value ∙ c.in_ok-inverses.ensures ∙ ap (inverses_from k.field k.gen o.log_max_height o.indices.now 0) all;
       shown = λ n none. absurd (omega (arith, none));
     }
 

@@ -1,4 +1,4 @@
-use Rattle.std.proofs.Common.{◌≡◌, ◌≢◌, ◌+◌, ◌≤◌, ◌++◌, ◌∙◌, ℕ, sym, ap, subst, length, arith}
+use Rattle.std.proofs.Common.{◌≢◌, ◌+◌, ◌≤◌, ◌++◌, ◌∙◌, sym, ap, subst, length, arith}
 use Rattle.std.specs.Prelude.{All}
 use Rattle.std.proofs.lemmas.List.Elements.{All-append}
 use Rattle.circle_field.proofs.Inverses.{take-whole}
@@ -19,7 +19,7 @@ loop-round-preserved g c =
     let was = c.loop-round.of_round in
     let next = c.next_x_twiddles.new.twiddles in
     let enough : n + 3 ≤ h = omega (arith, c.loop-round-test.true, c.requires.rounds) in
-    let read = c.deref-in-loop-round.ensures.value ∙ now.of_round in
+    let read = c.deref.ensures.value ∙ now.of_round in
     let longer = c.in_ok-extend_from_slice.ensures.items in
     let whole = take-whole was.len next was.items was.ok.0 (c.next_x_twiddles.auto.twiddles ∙ ap length c.deref_mut.ensures.value) in
     let others =
@@ -27,8 +27,8 @@ loop-round-preserved g c =
     (round_twiddles-nonzero g.F.Operations.laws g.met.F.ComplexExtendable.generators_law h n qs (omega (arith, enough)) c.requires.in_group c.requires.in_range) in
     record {
       twiddles =
-          longer ∙ ap (λ xs. xs ++ c.deref-in-loop-round.result.now) now.twiddles ∙ ap (λ xs. twiddles_from k gen h qs 0 n ++ xs) read
+          longer ∙ ap (λ xs. xs ++ c.deref.result.now) now.twiddles ∙ ap (λ xs. twiddles_from k gen h qs 0 n ++ xs) read
           ∙ rounds-more (λ r. round_twiddles k gen h r qs) n;
       of_round = whole ∙ c.next_x_twiddles.ensures h enough c.requires.in_group c.requires.in_range (c.deref_mut.ensures.value ∙ now.of_round);
-      nonzero = subst (All (λ t. t ≢ k.zero)) (sym longer) (All-append (λ t. t ≢ k.zero) c.loop-round.twiddles.items c.deref-in-loop-round.result.now now.nonzero others);
+      nonzero = subst (All (λ t. t ≢ k.zero)) (sym longer) (All-append (λ t. t ≢ k.zero) c.loop-round.twiddles.items c.deref.result.now now.nonzero others);
     }
