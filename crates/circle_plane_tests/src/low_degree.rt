@@ -208,7 +208,9 @@ fn assert_lambda(
     let lambda = extract_lambda::<Mersenne31, Cubic>(alloc, &mut word, log_blowup)?;
     let rest = coefficients(rt, alloc, domain, &flattened(rt, alloc, &word)?)?;
     let rest = word_of(rt, alloc, &rest)?;
-    assert!(rt; count < all.len() && all.len() == rest.len());
+    let (all, rest) = (all.as_slice(), rest.as_slice());
+    assert!(rt; count < all.len());
+    assert!(rt; count < rest.len());
     assert!(rt; lambda == all[count] && rest[..count] == all[..count]);
     assert!(rt;
         rest[count..]

@@ -75,7 +75,9 @@ fn assert_values(
 ) -> Result<(), AllocError> {
     assert!(rt; values_at(rt, alloc, domain, rows, at)?.as_slice() == values);
     let coeffs = coefficients(rt, alloc, domain, rows)?;
-    let basis = circle_basis(alloc, at, domain.log_n())?;
+    let log_n = domain.log_n();
+    assert!(rt; log_n >= 1 && log_n <= 31);
+    let basis = circle_basis(alloc, at, log_n)?;
     for (column, value) in values.iter().enumerate() {
         assert!(rt; plain_entry(rt, &coeffs, column, &basis) == *value);
     }
