@@ -98,7 +98,7 @@ module _ {D F E : Type 0} (kept : D → List (RowMajorMatrix F)) where
         pairwise (λ r v. batch_committed k blowup (kept r.prover_data.now) (points_of r) v)
         requests values
 
-    -- these are all of them, one after another
+    -- these are they, one after another
     abbrev pub AreAllRequested : List (OpeningRequest D E) → Openings E → List (OpenedMatrix F E)
         → Type 0
     AreAllRequested requests values list =
