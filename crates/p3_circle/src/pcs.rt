@@ -161,11 +161,13 @@ impl<Val: ComplexExtendable, InputMmcs: Mmcs<Val>, FriMmcs> CirclePcs<Val, Input
     /// `HeightTooLarge` matrix after matrix, `PointAtInfinity`, `PointOnDomain`.
     ///
     /// Then `NoGrindingWitness` of a phase where no witness passes, `LastWordNotConstant` where a
-    /// matrix that `commit_ldes` took isn't of low degree, and `Memory` where memory is refused;
-    /// these leave the challenger's state open. Honest requests are refused for want of memory
-    /// alone; the values are those of the only polynomials of the batches that were committed to,
-    /// and claims of them are accepted by `verify` from the state that `open` was called in. The
-    /// commitments are not observed, which is the caller's to do.
+    /// matrix of fewer than 1024 columns that `commit_ldes` took isn't of low degree, and `Memory`
+    /// where memory is refused; these leave the challenger's state open. Of a wider one that isn't
+    /// of low degree nothing is told: its words are those of the polynomials that its first rows
+    /// fix, and it may be opened to a proof that `verify` refuses. Honest requests are refused for
+    /// want of memory alone; the values are those of the only polynomials of the batches that were
+    /// committed to, and claims of them are accepted by `verify` from the state that `open` was
+    /// called in. The commitments are not observed, which is the caller's to do.
     pub fn open<EF: ExtensionField<Val>, C>(
         &self,
         alloc: Global,

@@ -69,7 +69,7 @@ returns-clause-accepted c =
     let requests = c.in_ok-requests.requests.items in
     let values = c.in_ok-values.values.items in
     let given = c.in_ok-values.ensures.opened in
-    verified _ c.args.input _ base-laws laws is_embedding are_generators (lit≤ tt) (λ s bits h. number-below s bits)
+    verified _ c.args.input _ base-laws laws is_embedding are_generators refl refl (lit≤ tt) (λ s bits h. number-below s bits)
     c.new-scheme.result.mmcs c.with_mmcs.result.mmcs committed requests (openings values) c.observe_commitments.new.challenger c.open.new.challenger c.new-scheme.result.fri_params
     (c.new-scheme.ensures.params ∙ c.with_mmcs.ensures) given.parameters given.arity given.asked
     (subst (λ bs. AllZip (λ b m. IsCommitted (IsShaRoot bytes) c.new-scheme.result.fri_params.log_blowup b.items m) bs committed) c.deref-2.ensures.value c.in_ok-committed.ensures)
