@@ -5,6 +5,7 @@
 
 mod chains;
 mod commitments;
+mod compressions;
 mod evaluations;
 mod hashing;
 mod openings;
@@ -157,6 +158,18 @@ const PROVED_LARGE: [Size; 3] = [
     },
 ];
 
+/// The matrices whose opening alone is timed.
+const OPENED_LARGE: [Size; 2] = [
+    Size {
+        log_rows: 12,
+        width: 1024,
+    },
+    Size {
+        log_rows: 12,
+        width: 2048,
+    },
+];
+
 /// The matrices whose transforms are timed.
 const LARGE: [Size; 9] = [
     Size {
@@ -217,6 +230,8 @@ fn main(rt: HostRuntime) -> io::Result<ExitCode> {
     commitments::report(&rt, mode, sizes, start, step)?;
     let sizes = mode.sizes(PROVED.as_slice(), PROVED_LARGE.as_slice());
     openings::report(&rt, mode, sizes, start, step)?;
+    let sizes = mode.sizes(PROVED.as_slice(), OPENED_LARGE.as_slice());
+    openings::report_opening(&rt, mode, sizes, start, step)?;
     let start = Cubic::from_coefficients(&[start, step, start.square()]);
     let step = Cubic::from_coefficients(&[step, start.coefficient(2), step.square()]);
     timing::report(&rt, mode, "Cubic", &CUBIC, start, step)?;

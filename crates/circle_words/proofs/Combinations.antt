@@ -12,11 +12,7 @@ use Rattle.circle_field.specs.Ring.{var, con, plus as sum, times as prod}
 use Rattle.circle_field.specs.RingSound.{ring}
 use Rattle.circle_matrix.specs.Matrix.{column}
 use Rattle.circle_matrix.specs.DotProduct.{dot, column_sums}
-
--- functions that agree everywhere
-pub map-every : {X Y : Type 0} (f h : X → Y) (xs : List X) → ((x : X) → f x ≡ h x) → map f xs ≡ map h xs
-map-every f h [] same = refl
-map-every f h (x ∷ xs) same = ap (λ y. y ∷ map f xs) (same x) ∙ ap (λ ys. h x ∷ ys) (map-every f h xs same)
+use Rattle.circle_matrix.proofs.ColumnSums.{map-agree}
 
 -- the sum at a place
 sums-read : {F : Type 0} (k : FieldOps F) (xs ys : List F) (i : ℕ) (d : F) → i < length xs → i < length ys →
@@ -55,18 +51,18 @@ module _ {F E : Type 0} {k : FieldOps F} {l : FieldOps E} {m : F → E} (laws : 
       ≡ dot l (map (λ row. dot l powers (map m row)) rows) (map m ws)
   combined-sums width [] ws wide =
       let js = range_with_len 0 width in
-      ap (dot l powers) (map-every (λ j. m (dot k ws [])) (λ _. l.zero) js (λ j. ap m (dot-none k ws) ∙ e.zero)) ∙ dot-zeros laws powers js
+      ap (dot l powers) (map-agree (λ j. m (dot k ws [])) (λ _. l.zero) js (λ i j _. ap m (dot-none k ws) ∙ e.zero)) ∙ dot-zeros laws powers js
   combined-sums width (row ∷ rows) [] wide =
       let js = range_with_len 0 width in
-      ap (dot l powers) (map-every (λ j. m k.zero) (λ _. l.zero) js (λ j. e.zero)) ∙ dot-zeros laws powers js
+      ap (dot l powers) (map-agree (λ j. m k.zero) (λ _. l.zero) js (λ i j _. e.zero)) ∙ dot-zeros laws powers js
   combined-sums width (row ∷ rows) (w ∷ ws) wide =
       let js = range_with_len 0 width in
       let read = λ (j : ℕ). slice_index_or row j k.zero in
       let rest = λ (j : ℕ). dot k ws (map (λ a. a) (column k.zero rows j)) in
       let own : map (λ j. m (read j)) js ≡ map m row =
       sym (ap (map m) (fill_by_all read row width k.zero (All-head (λ r. length r ≡ width) row rows wide) (λ j lt. refl)) ∙ map-map m read js) in
-      ap (dot l powers) (map-every (λ j. m (k.add (k.mul w (read j)) (rest j))) (λ j. l.add (l.mul (m w) (m (read j))) (m (rest j))) js
-      (λ j. e.add (k.mul w (read j)) (rest j) ∙ ap (λ v. l.add v (m (rest j))) (e.mul w (read j))))
+      ap (dot l powers) (map-agree (λ j. m (k.add (k.mul w (read j)) (rest j))) (λ j. l.add (l.mul (m w) (m (read j))) (m (rest j))) js
+      (λ i d _. let j = slice_index_or js i d in e.add (k.mul w (read j)) (rest j) ∙ ap (λ v. l.add v (m (rest j))) (e.mul w (read j))))
       ∙ dot-multiples laws (m w) (λ j. m (read j)) (λ j. m (rest j)) powers js
       ∙ ap (λ vs. l.add (l.mul (dot l powers vs) (m w)) (dot l powers (map (λ j. m (rest j)) js))) own
       ∙ ap (l.add (l.mul (dot l powers (map m row)) (m w))) (combined-sums width rows ws (All-tail (λ r. length r ≡ width) row rows wide))
@@ -111,13 +107,3 @@ module _ {F E : Type 0} {k : FieldOps F} {l : FieldOps E} {m : F → E} (base : 
       let sum = dot l entries (map m ws) in
       fill_by_all (λ i. dot k ws (map (λ a. a) (column k.zero (map coefficients entries) i))) (coefficients sum) degree k.zero (are.count sum)
       (λ i lt. coefficient-sum entries ws i lt)
-
-  -- a word is told by its coefficients
-  pub same-entries : (xs ys : List E) → map coefficients xs ≡ map coefficients ys → xs ≡ ys
-  same-entries [] [] same = refl
-  same-entries [] (y ∷ ys) same = absurd (cc)
-  same-entries (x ∷ xs) [] same = absurd (cc)
-  same-entries (x ∷ xs) (y ∷ ys) same =
-      let first : coefficients x ≡ coefficients y = cc in
-      let rest : map coefficients xs ≡ map coefficients ys = cc in
-      ap (λ v. v ∷ xs) (are.determined x y first) ∙ ap (λ vs. y ∷ vs) (same-entries xs ys rest)

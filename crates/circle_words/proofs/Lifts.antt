@@ -1,15 +1,16 @@
 -- The values that the first rows of a matrix extend to.
-use Rattle.std.specs.Prelude.{◌≡◌, ℕ, ◌+◌, ◌-◌, ◌^◌, ◌<◌, ◌≤◌, Bool, true, false, if◌then◌else◌, List, length, map, take, All, nat_le}
+use Rattle.std.specs.Prelude.{◌≡◌, ℕ, ◌+◌, ◌-◌, ◌^◌, ◌<◌, ◌≤◌, Bool, true, false, if◌then◌else◌, List, [], length, map, take, All, nat_le, slice_index_or}
 use Rattle.std.proofs.Common.{sym, ◌∙◌, ap, arith}
 use Rattle.std.proofs.lemmas.Bool.{le-leb}
-use Rattle.std.proofs.lemmas.List.{length-map, map-id}
+use Rattle.std.proofs.lemmas.List.{length-map, map-id, get_or-map, ext_get_or}
 use Rattle.std.proofs.lemmas.List.Elements.{All-map}
 use Rattle.std.proofs.lemmas.List.FromFn.{fill_by_all, get_or-map-range_with_len, length-map-range_with_len}
 use Rattle.circle_field.specs.Field.{FieldLaws, IsEmbedding}
 use Rattle.circle_field.specs.Extension.{AreCoefficients}
-use Rattle.circle_field.specs.Circle.{Coordinates, AreGenerators}
+use Rattle.circle_field.specs.Circle.{Coordinates, AreGenerators, origin}
 use Rattle.circle_matrix.specs.Matrix.{column}
 use Rattle.circle_matrix.specs.DotProduct.{dot}
+use Rattle.circle_matrix.proofs.ColumnSums.{map-agree}
 use Rattle.circle_point.specs.Basis.{value}
 use Rattle.circle_domain.specs.Lagrange.{lagrange_at}
 use Rattle.circle_domain.specs.Order.{cfft_order}
@@ -22,7 +23,7 @@ use Rattle.circle_domain.proofs.Twiddles.{map-map}
 use Rattle.circle_relation.specs.Accepts.{Fields}
 use Rattle.circle_words.specs.Lifts.{lift_width, combined, first_weights, extended_word, extended_row, extended_rows, read_rows}
 use Rattle.circle_words.specs.Ratios.{points_of_height}
-use Rattle.circle_words.proofs.Combinations.{map-every, combined-columns, coefficients-sum, same-entries}
+use Rattle.circle_words.proofs.Combinations.{combined-columns, coefficients-sum}
 use Rattle.circle_words.proofs.Prefix.{first-genuine}
 
 module _ {F E : Type 0} (k : Fields F E) (laws : FieldLaws k.field) {bits : ℕ} (gens : AreGenerators k.field bits k.gen) (blowup h : ℕ) (less : blowup < h) (below : h < bits) where
@@ -63,11 +64,18 @@ module _ {F E : Type 0} (k : Fields F E) (laws : FieldLaws k.field) {bits : ℕ}
   extended-entries {degree} {coefficients} above are first word coeffs told is =
       let points = points_of_height k.field k.gen h in
       let at = λ (p : Coordinates F). dot k.extension first (map k.embed (first_weights k blowup h p)) in
-      same-entries laws.ring above.ring are word (map at points)
-      (is
-      ∙ map-every (values_at k.field coeffs degree) (λ p. coefficients (at p)) points (λ p.
-      sym (coefficients-sum laws.ring above.ring are first (first_weights k blowup h p) ∙ extended-values degree coeffs (map coefficients first) told p))
-      ∙ sym (map-map coefficients at points))
+      let same : map coefficients word ≡ map (λ p. coefficients (at p)) points =
+      is ∙ map-agree (values_at k.field coeffs degree) (λ p. coefficients (at p)) points (λ i d _.
+      let p = slice_index_or points i d in
+      sym (coefficients-sum laws.ring above.ring are first (first_weights k blowup h p) ∙ extended-values degree coeffs (map coefficients first) told p)) in
+      let long : length word ≡ length points = sym (length-map word coefficients) ∙ ap length same ∙ length-map points (λ p. coefficients (at p)) in
+      let zero = k.extension.zero in
+      let o = origin k.field in
+      ext_get_or zero word (map at points) (long ∙ sym (length-map points at)) (λ i lt.
+      let inside : i < length points = omega (arith, lt, long) in
+      are.determined (slice_index_or word i zero) (slice_index_or (map at points) i zero)
+      (sym (get_or-map coefficients word i zero [] lt) ∙ ap (λ cs. slice_index_or cs i []) same ∙ get_or-map (λ p. coefficients (at p)) points i o [] inside
+      ∙ ap coefficients (sym (get_or-map at points i o zero inside))))
 
 module _ {F E : Type 0} (k : Fields F E) (blowup h width : ℕ) where
   -- what a combination of rows extends to is the combination of what the rows extend to
@@ -76,8 +84,8 @@ module _ {F E : Type 0} (k : Fields F E) (blowup h width : ℕ) where
   extended-combined above embedding powers first wide =
       let points = points_of_height k.field k.gen h in
       let combination = λ (row : List F). dot k.extension powers (map k.embed row) in
-      map-every (λ p. dot k.extension (combined k powers first) (map k.embed (first_weights k blowup h p))) (λ p. combination (extended_row k blowup h width first p)) points
-      (λ p. sym (combined-columns above.ring embedding powers width first (first_weights k blowup h p) wide))
+      map-agree (λ p. dot k.extension (combined k powers first) (map k.embed (first_weights k blowup h p))) (λ p. combination (extended_row k blowup h width first p)) points
+      (λ i d _. sym (combined-columns above.ring embedding powers width first (first_weights k blowup h (slice_index_or points i d)) wide))
       ∙ sym (map-map combination (extended_row k blowup h width first) points)
 
   -- what words read of a matrix of many columns

@@ -167,10 +167,7 @@ module _ {F E M : Type 0} {g : Ghosts F} (k : Fields F E) (two : ℕ) (p : FriPa
         All (λ m. 1 ≤ length m.claims) (all_matrices (batch_claims claims))
     are-pointed requests values claims are = All-from_recursion (λ (m : MatrixClaim E). 1 ≤ length m.claims) (all_matrices (batch_claims claims)) (all-pointed requests values claims are)
 
-    -- what is requested was kept of batches
-    abbrev pub AreOfBatches : List (OpeningRequest D E) → Type 0
-    AreOfBatches requests = All (λ r. (batch : Batch F g) × (commitment : Com) × commits batch commitment r.prover_data.now) requests
-
+    -- what is requested, as claims are answered of it, was kept of batches
     answered-by-recursion : (requests : List (OpeningRequest D E)) (values : Openings E) (claims : List (CommitmentOpening E Com (CircleDomain F g))) → AreAnsweredBy points_in commits requests values claims →
         AllByRecursion (λ r. (batch : Batch F g) × (commitment : Com) × commits batch commitment r.prover_data.now) requests
     answered-by-recursion [] values claims are = tt
@@ -179,13 +176,13 @@ module _ {F E M : Type 0} {g : Ghosts F} (k : Fields F E) (two : ℕ) (p : FriPa
     answered-by-recursion (r ∷ rs) (v ∷ vs) [] are = absurd are
     answered-by-recursion (r ∷ rs) (v ∷ vs) (c ∷ cs) are = ((are.0.batch, c.commitment, are.0.committed), answered-by-recursion rs vs cs are.1)
 
-    -- those that claims are answered of are kept of batches
-    pub answered-kept : (requests : List (OpeningRequest D E)) (values : Openings E) (claims : List (CommitmentOpening E Com (CircleDomain F g))) → AreAnsweredBy points_in commits requests values claims → AreOfBatches requests
+    pub answered-kept : (requests : List (OpeningRequest D E)) (values : Openings E) (claims : List (CommitmentOpening E Com (CircleDomain F g))) → AreAnsweredBy points_in commits requests values claims →
+        All (λ r. (batch : Batch F g) × (commitment : Com) × commits batch commitment r.prover_data.now) requests
     answered-kept requests values claims are =
         All-from_recursion (λ (r : OpeningRequest D E). (batch : Batch F g) × (commitment : Com) × commits batch commitment r.prover_data.now) requests (answered-by-recursion requests values claims are)
 
     -- what was kept of batches is of low degree
-    pub kept-low : (requests : List (OpeningRequest D E)) → AreOfBatches requests → AreRequests kept k two p requests → AreOfLowDegree kept k p requests
+    pub kept-low : (requests : List (OpeningRequest D E)) → All (λ r. (batch : Batch F g) × (commitment : Com) × commits batch commitment r.prover_data.now) requests → AreRequests kept k two p requests → AreOfLowDegree kept k p requests
     kept-low requests known asked = λ i d lt.
         let r = slice_index_or requests i d in
         let (batch, commitment, told) = known i d lt in
