@@ -10,9 +10,9 @@ loop-batch-preserved g c =
     let b = c.batch-item.result in
     let yes = c.can_be_opened.ensures in (
       All-more (λ b. HaveRowsForPoints b.evaluations.items) c.args.batches.now c.loop-batch.batch-index b c.loop-batch-test.true c.loop-batch.invariant.0
-      (subst (λ b. HaveRowsForPoints b.evaluations.items) c.batch-item.is (c.if-not-can_be_opened.ensures.rows refl)),
+          (subst (λ b. HaveRowsForPoints b.evaluations.items) c.batch-item.is (c.if-not-can_be_opened.ensures.rows refl)),
       All-more HasPoints c.args.batches.now c.loop-batch.batch-index b c.loop-batch-test.true c.loop-batch.invariant.1
-      (subst HasPoints c.batch-item.is (c.if-not-can_be_opened.ensures.points refl)),
+          (subst HasPoints c.batch-item.is (c.if-not-can_be_opened.ensures.points refl)),
     )
 
 pub returns : goal.returns
