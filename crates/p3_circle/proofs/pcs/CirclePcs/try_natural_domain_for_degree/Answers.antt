@@ -1,4 +1,4 @@
-use Rattle.std.proofs.Common.{rules, ◌≡◌, ◌≤◌, ◌<◌, ◌^◌, ⊥, sym, subst, arith}
+use Rattle.std.proofs.Common.{rules, ◌≡◌, ◌≤◌, ◌<◌, ◌^◌, sym, arith}
 use Rattle.p3_circle.specs.Scheme.{CanBeDegree}
 use Rattle.p3_circle.specs.SchemeLaws.CommitTests.{pow_below, power_below}
 use Rattle.p3_circle.proofs.pcs.CirclePcs.try_natural_domain_for_degree.Goals as goal
