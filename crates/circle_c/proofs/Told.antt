@@ -1,5 +1,6 @@
 -- What is told of a text that stands for an input, or for none.
-use Rattle.std.proofs.Common.{◌≡◌, ℕ, ◌≤◌, ◌⊎◌, List, Some, None, Result, Ok, Err, MatchResult, OnOk, IfErr, IsErrAnd, IsUtf8, refl, ap, sym, subst, ◌∙◌, inl, inr, ⊎_elim, arith, ⊤}
+use Rattle.std.proofs.Common.{◌≡◌, ℕ, ◌≤◌, ◌⊎◌, List, Some, None, Result, Ok, Err, MatchResult, OnOk, IfErr, IsErrAnd, IsUtf8, refl, ap, sym, subst, ◌∙◌, inl, inr, ⊎_elim, arith}
+use Rattle.std.specs.Bool.{⊤}
 use Rattle.circle_json.specs.Form.{Form}
 use Rattle.circle_json.specs.declared.error.JsonError.{JsonError}
 use Rattle.circle_json.specs.declared.error.JsonError.TheVariants.{Memory as NoMemory, MissingKey, UnknownKey, WrongKind, OutOfRange, BadHex}

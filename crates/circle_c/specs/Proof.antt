@@ -31,7 +31,7 @@ module _ {D WD : Type 0}
       pub statement : Statement
       pub claims : Claims
       pub given : IsTextOf statement_form text statement
-      pub line : IsLineOf claims_form claims line
+      pub written : IsLineOf claims_form claims line
       pub proved : IsProved o statement claims
       pub accepted : HavePoints statement → IsVerified o claims
 
