@@ -1,5 +1,6 @@
 -- How deep the JSON of claims and a proof nests.
-use Rattle.std.proofs.Common.{◌≡◌, ℕ, zero, suc, ◌+◌, ◌≤◌, max, List, [], ◌∷◌, map, arith, Vec, Global, ⊤}
+use Rattle.std.proofs.Common.{◌≡◌, ℕ, zero, suc, ◌+◌, ◌≤◌, max, List, [], ◌∷◌, map, arith, Vec, Global}
+use Rattle.std.specs.Bool.{⊤}
 use Rattle.circle_field.specs.Mersenne31.{residue}
 use Rattle.circle_field.specs.Mersenne31Laws.{same_residue}
 use Rattle.circle_field.specs.declared.cubic.Cubic.{Cubic}
@@ -82,35 +83,50 @@ module _ {E C : Type 0} (element : Form E) (commitment : Form C) (flat : IsWithi
       list (object_form (batch_fields element commitment)) 7
       (object (batch_fields element commitment) 6 (more commitment 0 text 6 (omega arith), (list (object_form (matrix_fields element)) 5 matrix, tt)))
 
+module _ {E : Type 0} (element : Form E) (flat : IsWithin element 1) where
+  siblings : IsWithin (list_form (list_form element)) 3
+  siblings = list (list_form element) 2 (list element 1 flat)
+
+module _ {F I IC ID IP IE : Type 0} (base : Form F) (batch_proof : Form IP) (number : IsWithin base 0) (path : IsWithin batch_proof 1) where
+  opening : IsWithin {T = BatchMultiOpening F I IC ID IP IE} (object_form (opening_fields base batch_proof)) 4
+  opening =
+      object (opening_fields base batch_proof) 3
+      (list (list_form (list_form base)) 2 (list (list_form base) 1 (list base 0 number)), (more batch_proof 1 path 3 (omega arith), tt))
+
+module _ {E W WC WD WP WE : Type 0} (element : Form E) (word_proof : Form WP) (flat : IsWithin element 1) (word_path : IsWithin word_proof 1) where
+  step : IsWithin {T = CircleCommitPhaseMultiStep E W WC WD WP WE} (object_form (step_fields element word_proof)) 4
+  step = object (step_fields element word_proof) 3 (more word_proof 1 word_path 3 (omega arith), (siblings element flat, tt))
+
+module _ {F E I W IC ID IP IE WC WD WP WE : Type 0} (base : Form F) (element : Form E) (batch_proof : Form IP) (word_proof : Form WP) (number : IsWithin base 0) (flat : IsWithin element 1)
+    (path : IsWithin batch_proof 1) (word_path : IsWithin word_proof 1)
+  where
+    inputs : IsWithin {T = CircleInputProof F E I W IC ID IP IE WC WD WP WE} (object_form (inputs_fields base element batch_proof word_proof)) 6
+    inputs =
+        object (inputs_fields base element batch_proof word_proof) 5 (
+          more word_proof 1 word_path 5 (omega arith),
+          (
+            more (list_form (list_form element)) 3 (siblings element flat) 5 (omega arith),
+            (list (object_form (opening_fields base batch_proof)) 4 (opening base batch_proof number path), tt),
+          ),
+        )
+
 module _ {F E I W Witness IC ID IP IE WC WD WP WE : Type 0} (base : Form F) (element : Form E) (witness : Form Witness) (batch_proof : Form IP) (commitment : Form WC) (word_proof : Form WP)
     (number : IsWithin base 0) (flat : IsWithin element 1) (one : IsWithin witness 0) (path : IsWithin batch_proof 1) (text : IsWithin commitment 0) (word_path : IsWithin word_proof 1)
   where
-    siblings : IsWithin (list_form (list_form element)) 3
-    siblings = list (list_form element) 2 (list element 1 flat)
-
-    opening : IsWithin {T = BatchMultiOpening F I IC ID IP IE} (object_form (opening_fields base batch_proof)) 4
-    opening =
-        object (opening_fields base batch_proof) 3
-        (list (list_form (list_form base)) 2 (list (list_form base) 1 (list base 0 number)), (more batch_proof 1 path 3 (omega arith), tt))
-
-    inputs : IsWithin {T = CircleInputProof F E I W IC ID IP IE WC WD WP WE} (object_form (inputs_fields base element batch_proof word_proof)) 6
-    inputs =
-        object (inputs_fields base element batch_proof word_proof) 5
-        (more word_proof 1 word_path 5 (omega arith), (more (list_form (list_form element)) 3 siblings 5 (omega arith), (list (object_form (opening_fields base batch_proof)) 4 opening, tt)))
-
-    step : IsWithin {T = CircleCommitPhaseMultiStep E W WC WD WP WE} (object_form (step_fields element word_proof)) 4
-    step = object (step_fields element word_proof) 3 (more word_proof 1 word_path 3 (omega arith), (siblings, tt))
-
     fri : IsWithin {T = CircleFriProof E W Witness (CircleInputProof F E I W IC ID IP IE WC WD WP WE) WC WD WP WE}
         (object_form (fri_fields element witness (object_form (inputs_fields base element batch_proof word_proof)) commitment word_proof)) 7
     fri =
         object (fri_fields element witness (object_form (inputs_fields base element batch_proof word_proof)) commitment word_proof) 6 (
           more (list_form commitment) 1 (list commitment 0 text) 6 (omega arith),
           (
-            more (list_form (object_form (step_fields element word_proof))) 5 (list (object_form (step_fields element word_proof)) 4 step) 6 (omega arith),
+            more (list_form (object_form (step_fields element word_proof))) 5
+                (list (object_form (step_fields element word_proof)) 4 (step element word_proof flat word_path)) 6 (omega arith),
             (
               more (list_form witness) 1 (list witness 0 one) 6 (omega arith),
-              (more (coefficients_form element) 2 (coefficients element 1 flat) 6 (omega arith), (inputs, (more witness 0 one 6 (omega arith), tt))),
+              (
+                more (coefficients_form element) 2 (coefficients element 1 flat) 6 (omega arith),
+                (inputs base element batch_proof word_proof number flat path word_path, (more witness 0 one 6 (omega arith), tt)),
+              ),
             ),
           ),
         )
