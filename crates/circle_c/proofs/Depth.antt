@@ -1,5 +1,5 @@
 -- How deep the JSON of claims and a proof nests.
-use Rattle.std.proofs.Common.{◌≡◌, ℕ, zero, suc, ◌+◌, ◌≤◌, max, List, [], ◌∷◌, map, arith, Vec, Global}
+use Rattle.std.proofs.Common.{ℕ, zero, suc, ◌+◌, ◌≤◌, List, [], ◌∷◌, map, arith, Vec, Global}
 use Rattle.std.specs.Bool.{⊤}
 use Rattle.circle_field.specs.Mersenne31.{residue}
 use Rattle.circle_field.specs.Mersenne31Laws.{same_residue}

@@ -1,5 +1,5 @@
 -- What is told of a text that stands for an input, or for none.
-use Rattle.std.proofs.Common.{◌≡◌, ℕ, ◌⊎◌, List, Some, None, Result, Ok, Err, MatchResult, IfErr, IsErrAnd, IsUtf8, refl, ap, sym, subst, ◌∙◌, inl, inr, ⊎_elim, arith}
+use Rattle.std.proofs.Common.{◌≡◌, ℕ, ◌⊎◌, List, None, Result, Ok, Err, MatchResult, IfErr, IsErrAnd, IsUtf8, refl, ap, sym, subst, ◌∙◌, inl, inr, ⊎_elim, arith}
 use Rattle.circle_json.specs.Form.{Form}
 use Rattle.circle_json.specs.declared.error.JsonError.{JsonError}
 use Rattle.circle_json.specs.declared.error.JsonError.TheVariants.{Memory as NoMemory, MissingKey, UnknownKey, WrongKind, OutOfRange, BadHex}
@@ -12,7 +12,7 @@ use Rattle.serde_json.specs.declared.error.Error.{Error}
 use Rattle.circle_commands.specs.Failure.{IsFailureOfJson, IsFailureOfText, status_of}
 use Rattle.circle_commands.specs.declared.failure.Failure.{Failure}
 use Rattle.circle_commands.specs.declared.failure.Failure.TheVariants.{Memory}
-use Rattle.circle_c.specs.Text.{IsJsonOf, IsNoJson, IsTextOf, StandsForNone}
+use Rattle.circle_c.specs.Text.{IsJsonOf, IsNoJson, StandsForNone}
 
 -- what the error of a `?` is made into
 pub failed : {A E : Type 0} (r : Result A E) (Made P : E → Type 0) → IsErrAnd r Made → ((e : E) → Made e → P e) → IfErr r P
