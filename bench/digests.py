@@ -4,6 +4,7 @@ columns and of commitments, computed from the definition.
 
 A value is the plain sum of the coefficients times the basis at the point, and coefficients are the
 solution of that system of linear equations, by elimination. Nothing is computed by layers. Digests are hashlib's.
+Compressions of a proof are counted message by message, by docs/FORMAT.md.
 """
 
 import hashlib
@@ -201,6 +202,27 @@ def openings(size, tree):
         known = {place // 2 for place in known}
 
 
+def seed_length(points, rounds):
+    """The bytes of the seed's text of one matrix, folded to a constant."""
+    labels = ["opening_point", "opened_values"] * points
+    labels += ["batch_challenge", "first_layer_commitment", "bivariate_challenge"]
+    labels += ["commit_phase_commitment", "fold_challenge"] * rounds + ["final_poly", "query_indices"]
+    steps = sum(3 + 8 + 8 + len(label) + 1 + 8 for label in labels)
+    name, blowup, layout = 8 + len("p3-circle-pcs"), 8 + 8, 8 + 3 * 8
+    return 1 + name + 8 + steps + 8 + blowup + layout
+
+
+def messages(log_rows, width, points):
+    """The bytes of each message that proving a matrix at a blowup of two hashes."""
+    rows, rounds = 2 ** (log_rows + 1), log_rows - 1
+    yield from [1 + 4 * width] * rows + [65] * (rows - 1)
+    for log_pairs in range(log_rows, 0, -1):
+        yield from [1 + 24] * 2**log_pairs + [65] * (2**log_pairs - 1)
+    elements = seed_length(points, rounds) + points * (6 + 3 * width) + 3
+    squeezes = 3 * (2 + rounds) + INDICES
+    yield from [65] * (2 + rounds) + [37] * elements + [33] * 2 * squeezes
+
+
 def main():
     passes = {
         "interpolate": lambda rows: interpolate(LOG_ROWS, rows),
@@ -225,6 +247,9 @@ def main():
         print(f"ShaMmcs commit {size} x {width}: [{number(tree[LOG_ROWS, 0])}]")
         print(f"ShaMmcs open {size} x {width}: [{proof}]")
         print(f"ShaMmcs verify {size} x {width}: [1]")
+    for points in (1, 2):
+        count = sum((length + 9 + 63) // 64 for length in messages(LOG_ROWS, WIDTHS[1], points))
+        print(f"Sha256 compressions of a proof {2**LOG_ROWS} x {WIDTHS[1]} at {points}: [{count}]")
 
 
 main()

@@ -18,7 +18,7 @@ use cubic::Cubic;
 use domain::Domain;
 use evaluation::CubicPoint;
 use field::Mersenne31;
-use merkle::Hash;
+use merkle::{Hash, Tree};
 use pcs::{Params, Proof};
 use std::time::{Duration, Instant};
 use transform::Matrix;
@@ -43,6 +43,9 @@ const PERIODIC: (u32, usize) = (14, 8);
 /// The binary logarithms of the rows of the matrices of which proofs are timed, and their columns.
 const PROVED: [u32; 3] = [12, 16, 18];
 const PROVED_WIDTH: usize = 8;
+
+/// The binary logarithm of the rows, and the columns, of the matrices whose opening alone is timed.
+const OPENED: (u32, [usize; 2]) = (12, [1024, 2048]);
 
 /// The parameters of proofs.
 const PARAMS: Params = Params { log_blowup: 1, queries: 40 };
@@ -107,6 +110,7 @@ fn main() {
             }
             report_commitments(&[SMALL], false);
             report_proofs(&[SMALL], false);
+            report_openings(SMALL, &[PROVED_WIDTH], false);
             hashing::report(false);
         }
         ["time"] => {
@@ -115,6 +119,7 @@ fn main() {
             table_line(PERIODIC.0, PERIODIC.1, true);
             report_commitments(&COMMITTED, true);
             report_proofs(&PROVED, true);
+            report_openings(OPENED.0, &OPENED.1, true);
             hashing::report(true);
         }
         _ => {
@@ -188,19 +193,49 @@ fn commitment_lines(rows: usize, width: usize, timed: bool) {
     line("verify", time, u64::from(accepted));
 }
 
-/// Prints the lines of the whole scheme over each matrix, opened at one point and at two.
-fn report_proofs(log_rows: &[u32], timed: bool) {
+/// Two points off the base field.
+fn points() -> [CubicPoint; 2] {
     let start = Mersenne31::new(123456789);
     let (step, square) = (Mersenne31::new(987654321), start.square());
     let coordinates = [
         Cubic { c0: start, c1: step, c2: square },
         Cubic { c0: step, c1: square, c2: step.square() },
     ];
-    let points = coordinates.map(CubicPoint::from_projective_line);
+    coordinates.map(CubicPoint::from_projective_line)
+}
+
+/// Prints the lines of the whole scheme over each matrix, opened at one point and at two.
+fn report_proofs(log_rows: &[u32], timed: bool) {
+    let points = points();
     for &log_rows in log_rows {
         proof_lines(log_rows, &points[..1], timed);
         proof_lines(log_rows, &points, timed);
     }
+}
+
+/// Prints a line for opening each matrix, committed to before, at one point and at two.
+fn report_openings(log_rows: u32, widths: &[usize], timed: bool) {
+    let points = points();
+    for &width in widths {
+        let committed = prover::commit(PARAMS, matrix(1 << log_rows, width));
+        opening_line(log_rows, width, &committed, &points[..1], timed);
+        opening_line(log_rows, width, &committed, &points, timed);
+    }
+}
+
+fn opening_line(
+    log_rows: u32,
+    width: usize,
+    (root, tree): &(Hash, Tree<Mersenne31>),
+    points: &[CubicPoint],
+    timed: bool,
+) {
+    let runs = if timed { PROOFS } else { 1 };
+    let open = |()| prover::open(PARAMS, tree, points, pcs::after_commitment(root));
+    let (time, (_, proof)) = fastest(runs, || (), open);
+    let time = if timed { format!("{} ns, ", time.as_nanos()) } else { String::new() };
+    let (rows, digest) = (1 << log_rows, proof_digest(root, &proof));
+    println!("CirclePcs open {rows} x {width} at {}: {time}[{digest}]", points.len());
 }
 
 fn proof_lines(log_rows: u32, points: &[CubicPoint], timed: bool) {

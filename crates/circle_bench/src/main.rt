@@ -5,6 +5,7 @@
 
 mod chains;
 mod commitments;
+mod compressions;
 mod evaluations;
 mod hashing;
 mod openings;
@@ -157,6 +158,66 @@ const PROVED_LARGE: [Size; 3] = [
     },
 ];
 
+/// The matrices whose opening alone is timed.
+const OPENED_LARGE: [Size; 2] = [
+    Size {
+        log_rows: 12,
+        width: 1024,
+    },
+    Size {
+        log_rows: 12,
+        width: 2048,
+    },
+];
+
+/// The matrices by which times grow with the rows.
+const GROWING: [Size; 11] = [
+    Size {
+        log_rows: 10,
+        width: 8,
+    },
+    Size {
+        log_rows: 11,
+        width: 8,
+    },
+    Size {
+        log_rows: 12,
+        width: 8,
+    },
+    Size {
+        log_rows: 13,
+        width: 8,
+    },
+    Size {
+        log_rows: 14,
+        width: 8,
+    },
+    Size {
+        log_rows: 15,
+        width: 8,
+    },
+    Size {
+        log_rows: 16,
+        width: 8,
+    },
+    Size {
+        log_rows: 17,
+        width: 8,
+    },
+    Size {
+        log_rows: 18,
+        width: 8,
+    },
+    Size {
+        log_rows: 19,
+        width: 8,
+    },
+    Size {
+        log_rows: 20,
+        width: 8,
+    },
+];
+
 /// The matrices whose transforms are timed.
 const LARGE: [Size; 9] = [
     Size {
@@ -197,43 +258,78 @@ const LARGE: [Size; 9] = [
     },
 ];
 
+/// What the program is asked for.
+enum Asked {
+    /// A line for each case.
+    Cases(Mode),
+
+    /// How times grow with the rows of a matrix.
+    Growth,
+}
+
 fn main(rt: HostRuntime) -> io::Result<ExitCode> {
-    let Some(mode) = mode(&rt)? else {
-        eprintln!(rt; "usage: circle_bench [time]")?;
-        return Ok(ExitCode::from(2));
-    };
     let start = Mersenne31::from_u64(123456789);
     let step = Mersenne31::from_u64(987654321);
-    timing::report(&rt, mode, "Mersenne31", &MERSENNE31, start, step)?;
-    let sizes = mode.sizes(SMALL.as_slice(), LARGE.as_slice());
-    for transform in TRANSFORMS {
-        timing::report_transform(&rt, mode, transform, sizes, start, step)?;
+    match asked(&rt)? {
+        Some(Asked::Cases(mode)) => report_cases(&rt, mode, start, step)?,
+        Some(Asked::Growth) => report_growth(&rt, start, step)?,
+        None => {
+            eprintln!(rt; "usage: circle_bench [time|rows]")?;
+            return Ok(ExitCode::from(2));
+        }
     }
-    let sizes = mode.sizes(SMALL.as_slice(), EVALUATED.as_slice());
-    evaluations::report(&rt, mode, sizes, start, step)?;
-    let sizes = mode.sizes(SMALL.as_slice(), PERIODIC.as_slice());
-    tables::report(&rt, mode, sizes, start, step)?;
-    let sizes = mode.sizes(SMALL.as_slice(), COMMITTED.as_slice());
-    commitments::report(&rt, mode, sizes, start, step)?;
-    let sizes = mode.sizes(PROVED.as_slice(), PROVED_LARGE.as_slice());
-    openings::report(&rt, mode, sizes, start, step)?;
-    let start = Cubic::from_coefficients(&[start, step, start.square()]);
-    let step = Cubic::from_coefficients(&[step, start.coefficient(2), step.square()]);
-    timing::report(&rt, mode, "Cubic", &CUBIC, start, step)?;
-    hashing::report(&rt, mode)?;
-    proofs::report(&rt, mode)?;
     Ok(ExitCode::SUCCESS)
 }
 
+/// Prints the times of the widest transform, of proofs, of their compressions alone and of
+/// verifying, for matrices of ever more rows.
+fn report_growth(rt: &HostRuntime, start: Mersenne31, step: Mersenne31) -> io::Result<()> {
+    let sizes = GROWING.as_slice();
+    timing::report_transform(rt, Mode::Times, Transform::Extrapolate, sizes, start, step)?;
+    openings::report(rt, Mode::Times, sizes, start, step)
+}
+
+/// Prints a line for each case.
+fn report_cases(
+    rt: &HostRuntime,
+    mode: Mode,
+    start: Mersenne31,
+    step: Mersenne31,
+) -> io::Result<()> {
+    timing::report(rt, mode, "Mersenne31", &MERSENNE31, start, step)?;
+    let sizes = mode.sizes(SMALL.as_slice(), LARGE.as_slice());
+    for transform in TRANSFORMS {
+        timing::report_transform(rt, mode, transform, sizes, start, step)?;
+    }
+    let sizes = mode.sizes(SMALL.as_slice(), EVALUATED.as_slice());
+    evaluations::report(rt, mode, sizes, start, step)?;
+    let sizes = mode.sizes(SMALL.as_slice(), PERIODIC.as_slice());
+    tables::report(rt, mode, sizes, start, step)?;
+    let sizes = mode.sizes(SMALL.as_slice(), COMMITTED.as_slice());
+    commitments::report(rt, mode, sizes, start, step)?;
+    let sizes = mode.sizes(PROVED.as_slice(), PROVED_LARGE.as_slice());
+    openings::report(rt, mode, sizes, start, step)?;
+    let sizes = mode.sizes(PROVED.as_slice(), OPENED_LARGE.as_slice());
+    openings::report_opening(rt, mode, sizes, start, step)?;
+    let start = Cubic::from_coefficients(&[start, step, start.square()]);
+    let step = Cubic::from_coefficients(&[step, start.coefficient(2), step.square()]);
+    timing::report(rt, mode, "Cubic", &CUBIC, start, step)?;
+    hashing::report(rt, mode)?;
+    proofs::report(rt, mode)
+}
+
 /// What the arguments ask for, or `None` where they ask for nothing that there is.
-fn mode(rt: &HostRuntime) -> io::Result<Option<Mode>> {
+fn asked(rt: &HostRuntime) -> io::Result<Option<Asked>> {
     let mut args = env::args(rt)?.skip(1);
     let Some(word) = args.next() else {
-        return Ok(Some(Mode::Digests));
+        return Ok(Some(Asked::Cases(Mode::Digests)));
     };
-    if word.as_str() == "time" && args.next().is_none() {
-        Ok(Some(Mode::Times))
-    } else {
-        Ok(None)
+    if args.next().is_some() {
+        return Ok(None);
     }
+    Ok(match word.as_str() {
+        "time" => Some(Asked::Cases(Mode::Times)),
+        "rows" => Some(Asked::Growth),
+        _ => None,
+    })
 }

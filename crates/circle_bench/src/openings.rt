@@ -1,13 +1,14 @@
 //! Lines about the whole scheme: what the proofs of matrices come to, whether they are accepted,
-//! and how long both take.
+//! and how long both take, and opening alone.
 use crate::commitments::{Hash, number, numbers};
+use crate::compressions::{self, Proved};
 use crate::evaluations::coefficients;
 use crate::timing::{self, Mode};
 use crate::transforms::Size;
 use circle_challenger::{CanObserve, Sha256Challenger};
 use circle_commit::{FriParameters, OpenedValues, OpeningRequest, RowMajorMatrix};
 use circle_field::{Cubic, ExtensionField, Field, Mersenne31};
-use circle_presets::{Claim, Known, Proof, ProverData, Scheme, scheme};
+use circle_presets::{Claim, Domain, Known, Proof, ProverData, Scheme, scheme};
 use p3_circle::{CircleDomain, ProverError, claims_of, heights_match_domains};
 use std::alloc::{AllocError, Global};
 use std::io::{self, ErrorKind};
@@ -24,6 +25,14 @@ struct Statement<'a> {
     size: Size,
     matrix: &'a RowMajorMatrix<Mersenne31>,
     points: &'a [Cubic],
+}
+
+/// A matrix of this size that was committed to.
+#[derive(Drop)]
+struct Committed {
+    size: Size,
+    commitment: Hash,
+    data: ProverData,
 }
 
 /// What is published of a statement.
@@ -49,6 +58,59 @@ pub fn report(
         report_at(rt, mode, *size, matrix, &points)?;
     }
     Ok(())
+}
+
+/// Prints a line for opening what was committed to of a matrix of each size, at one point and at
+/// two.
+pub fn report_opening(
+    rt: &HostRuntime,
+    mode: Mode,
+    sizes: &[Size],
+    start: Mersenne31,
+    step: Mersenne31,
+) -> io::Result<()> {
+    let points = points(start, step);
+    for size in sizes {
+        let pcs = scheme(PARAMETERS);
+        let matrix = size.matrix(rt.alloc(), start, step)?;
+        let evaluations = vec![in rt.alloc(); (CircleDomain::standard(size.log_rows), matrix)]?;
+        let (commitment, data) = commit(rt.alloc(), &pcs, evaluations)?;
+        let committed = Committed {
+            size: *size,
+            commitment,
+            data,
+        };
+        report_opening_at(rt, mode, &pcs, &committed, &points[..1])?;
+        report_opening_at(rt, mode, &pcs, &committed, &points)?;
+    }
+    Ok(())
+}
+
+/// Prints a line for opening what was committed to at the points.
+fn report_opening_at(
+    rt: &HostRuntime,
+    mode: Mode,
+    pcs: &Scheme,
+    committed: &Committed,
+    points: &[Cubic],
+) -> io::Result<()> {
+    let (commitment, data, size) = (committed.commitment, &committed.data, committed.size);
+    let mut best = Duration::MAX;
+    let mut last = 0;
+    for _ in 0..timing::runs(mode, PROOFS) {
+        let begin = Instant::now(rt)?;
+        let (values, proof) = open(rt.alloc(), pcs, &commitment, data, points)?;
+        best = best.min(begin.elapsed(rt)?);
+        let opened = Opened {
+            commitment,
+            values,
+            proof,
+        };
+        last = digest(rt.alloc(), &opened)?;
+    }
+    let (rows, width, count) = (size.rows(), size.width, points.len());
+    print!(rt; "CirclePcs open {rows} x {width} at {count}: ")?;
+    timing::print_result(rt, mode, best, last)
 }
 
 /// Two points off the base field, and so off each domain.
@@ -77,6 +139,13 @@ fn report_at(
     let (time, opened) = prove(rt, mode, &statement)?;
     print!(rt; "CirclePcs prove {rows} x {width} at {count}: ")?;
     timing::print_result(rt, mode, time, digest(rt.alloc(), &opened)?)?;
+    let proved = Proved {
+        size,
+        points: count,
+        log_blowup: PARAMETERS.log_blowup,
+        num_queries: PARAMETERS.num_queries,
+    };
+    compressions::report(rt, mode, proved, time)?;
     let (time, accepted) = verify(rt, mode, &statement, &opened)?;
     print!(rt; "CirclePcs verify {rows} x {width} at {count}: ")?;
     timing::print_result(rt, mode, time, u64::from(accepted))
@@ -118,11 +187,8 @@ fn prove_once(rt: &HostRuntime, statement: &Statement) -> io::Result<(Duration, 
     let copy = statement.matrix.try_clone(rt.alloc())?;
     let domain = CircleDomain::standard(statement.size.log_rows);
     let evaluations = vec![in rt.alloc(); (domain, copy)]?;
-    if !heights_match_domains(&evaluations) {
-        return Err(io::Error::from(ErrorKind::InvalidInput));
-    }
     let begin = Instant::now(rt)?;
-    let (commitment, data) = pcs.commit(rt.alloc(), evaluations).map_err(failure)?;
+    let (commitment, data) = commit(rt.alloc(), &pcs, evaluations)?;
     let (values, proof) = open(rt.alloc(), &pcs, &commitment, &data, statement.points)?;
     let time = begin.elapsed(rt)?;
     let opened = Opened {
@@ -131,6 +197,18 @@ fn prove_once(rt: &HostRuntime, statement: &Statement) -> io::Result<(Duration, 
         proof,
     };
     Ok((time, opened))
+}
+
+/// Commits to matrices on domains.
+fn commit(
+    alloc: Global,
+    pcs: &Scheme,
+    evaluations: Vec<(Domain, RowMajorMatrix<Mersenne31>)>,
+) -> io::Result<(Hash, ProverData)> {
+    if !heights_match_domains(&evaluations) {
+        return Err(io::Error::from(ErrorKind::InvalidInput));
+    }
+    pcs.commit(alloc, evaluations).map_err(failure)
 }
 
 /// The values at the points of what was committed to, and the proof of them.

@@ -30,7 +30,7 @@ pub struct Size {
     ghost positive: { 1 ≤ log_rows },
     ghost small: { log_rows ≤ 24 },
     ghost some_columns: { 1 ≤ width },
-    ghost few_columns: { width ≤ 256 },
+    ghost few_columns: { width ≤ 2048 },
 }
 
 impl Size {

@@ -1,8 +1,10 @@
 //! Cases of operations of a field: the type's name, a space, and the operation's.
+ghost use Rattle.std.specs.Prelude.{◌≢◌, All, IsTrue};
+
 use crate::given::maybe;
 use anyhow::{Result, bail};
 use circle_commit::JsonForm;
-use circle_field::{Cubic, Field, Mersenne31};
+use circle_field::{Cubic, Field, Mersenne31, batch_multiplicative_inverse};
 use circle_json::member;
 use serde_json::Value;
 use std::alloc::Global;
@@ -28,6 +30,7 @@ fn of_field<F: Field + JsonForm>(
             with_number::<F>(alloc, operation, given)?.to_json(alloc)?
         }
         "powers" => powers::<F>(alloc, given)?.to_json(alloc)?,
+        "batch_multiplicative_inverse" => inverses::<F>(alloc, given)?.to_json(alloc)?,
         _ => maybe(alloc, of_one::<F>(alloc, operation, given)?)?,
     };
     Ok(Some(answer))
@@ -73,4 +76,20 @@ fn powers<F: Field + JsonForm>(alloc: Global, given: &Value) -> Result<Vec<F>> {
     let a: F = member(alloc, given, "a")?;
     let count: usize = member(alloc, given, "n")?;
     Ok(F::powers(alloc, a, count)?)
+}
+
+// The inverses of elements.
+fn inverses<F: Field + JsonForm>(alloc: Global, given: &Value) -> Result<Vec<F>> {
+    let elements: Vec<F> = member(alloc, given, "elements")?;
+    if !have_inverses(&elements) {
+        bail!("an element is 0");
+    }
+    Ok(batch_multiplicative_inverse(alloc, &elements)?)
+}
+
+// Whether no element is 0.
+fn have_inverses<F: Field>(elements: &[F]) -> bool
+    ensures { IsTrue result → All (λ a. a ≢ F.ops.zero) elements.now }
+{
+    elements.iter().all(|a| !a.is_zero())
 }

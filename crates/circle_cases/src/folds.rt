@@ -61,7 +61,7 @@ fn extracted(
     log_size: usize,
     log_blowup: usize,
 ) -> Result<Cubic> {
-    if log_blowup == 0 || log_blowup >= log_size || log_size > 8 {
+    if log_blowup == 0 || log_blowup >= log_size || log_size > 20 {
         bail!("the blowup is none of the word's");
     }
     if word.len() != 1 << log_size {
@@ -86,7 +86,7 @@ fn by_y(
     log_height: usize,
     rows: &RowMajorMatrix<Cubic>,
 ) -> Result<Vec<Cubic>> {
-    if log_height > 8 || rows.width() != 2 || rows.height() != 1 << log_height {
+    if log_height > 20 || rows.width() != 2 || rows.height() != 1 << log_height {
         bail!("the rows are no pairs, or their number no power of two");
     }
     Ok(fold_y::<Mersenne31, Cubic, RowMajorMatrix<Cubic>>(alloc, beta, rows)?)
@@ -108,7 +108,7 @@ fn by_x(
     log_height: usize,
     rows: &RowMajorMatrix<Cubic>,
 ) -> Result<Vec<Cubic>> {
-    if log_height > 8 || rows.width() != 2 || rows.height() != 1 << log_height {
+    if log_height > 20 || rows.width() != 2 || rows.height() != 1 << log_height {
         bail!("the rows are no pairs, or their number no power of two");
     }
     Ok(fold_x::<Mersenne31, Cubic, RowMajorMatrix<Cubic>>(alloc, beta, 1, rows)?)
@@ -145,7 +145,7 @@ fn coefficients(alloc: Global, given: &Value) -> Result<Value> {
         bail!("the word is empty");
     }
     let log_points = word.len().ilog2() as usize;
-    if log_points > 10 || word.len() != 1 << log_points || log_len > log_points {
+    if log_points > 20 || word.len() != 1 << log_points || log_len > log_points {
         bail!("the length is no power of two, or smaller than that of the polynomial");
     }
     Ok(maybe(

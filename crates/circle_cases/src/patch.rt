@@ -1,5 +1,5 @@
 //! Changes of a JSON value, as JSON Patch names them: each adds, replaces or removes the value at a
-//! JSON pointer.
+//! JSON pointer. A further one, `repeat`, has the items of the list there come `times` times.
 use crate::case::{part, text};
 use anyhow::{Result, bail};
 use serde_json::Value;
@@ -23,6 +23,7 @@ fn apply_one(alloc: Global, value: &mut Value, change: &Value) -> Result<()> {
         "replace" => replace(value, path, part(change, "value")?.clone()?),
         "add" => add(alloc, value, path, part(change, "value")?.clone()?),
         "remove" => remove(value, path),
+        "repeat" => repeat(value, path, part(change, "times")?.as_u64().unwrap_or(0)),
         other => bail!("a patch has the operation {other}"),
     }
 }
@@ -63,6 +64,30 @@ fn insert(items: &mut Vec<Value>, place: &str, new: Value) -> Result<()> {
     match place.parse::<usize>() {
         Ok(place) if place < items.len() => items.insert(place, new)?,
         _ => items.push(new)?,
+    }
+    Ok(())
+}
+
+// Has the items of a list come so many times, all of them and then all again.
+fn repeat(value: &mut Value, path: &str, times: u64) -> Result<()> {
+    let Some(Value::Array(items)) = value.pointer_mut(path) else {
+        bail!("there is no list {path}");
+    };
+    let count = items.len();
+    for _ in 1..times {
+        push_first(items, count)?;
+    }
+    Ok(())
+}
+
+// Appends a copy of each of the first items of a list.
+fn push_first(items: &mut Vec<Value>, count: usize) -> Result<()> {
+    for i in 0..count {
+        let Some(item) = items.get(i) else {
+            bail!("a list has too few items");
+        };
+        let copy = item.clone()?;
+        items.push(copy)?;
     }
     Ok(())
 }

@@ -1,6 +1,6 @@
 //! The lines of a file's cases.
 use crate::case::{Case, part};
-use crate::{commands, direct};
+use crate::{commands, direct, patch};
 use anyhow::{Result, bail};
 use serde_json::Value;
 use std::fs;
@@ -37,9 +37,19 @@ pub fn report_file(rt: &HostRuntime, name: &str, tally: &mut Tally) -> Result<()
         bail!("the cases of {name} are no list");
     };
     for value in cases {
-        report_case(rt, &Case::of(value)?, tally)?;
+        report_value(rt, value, tally)?;
     }
     Ok(())
+}
+
+// Prints the line of the case that a value is, after its own patch where it has one.
+fn report_value(rt: &HostRuntime, value: &Value, tally: &mut Tally) -> Result<()> {
+    let Some(changes) = value.get("patch") else {
+        return report_case(rt, &Case::of(value)?, tally);
+    };
+    let mut changed = value.clone()?;
+    patch::apply(rt.alloc(), &mut changed, changes)?;
+    report_case(rt, &Case::of(&changed)?, tally)
 }
 
 // The answer to a case where it isn't what is due.

@@ -1,5 +1,5 @@
 -- What the command `prove` writes is accepted by `verify`.
-use Rattle.std.specs.Prelude.{◌≡◌, ℕ, ◌+◌, ◌^◌, ◌<◌, ◌≤◌, List, [], ◌∷◌, ◌++◌, length, map, zip, replicate, All, Vec}
+use Rattle.std.specs.Prelude.{◌≡◌, ℕ, ◌+◌, ◌-◌, ◌^◌, ◌<◌, ◌≤◌, List, [], ◌∷◌, ◌++◌, length, map, zip, replicate, All, Vec}
 use Rattle.std.specs.List.{AllByRecursion, AllZip}
 use Rattle.std.specs.declared.alloc.Global.{Global}
 use Rattle.std.proofs.Common.{refl, sym, ◌∙◌, ap, subst, arith}
@@ -10,16 +10,20 @@ use Rattle.circle_challenger.specs.Sha256Challenger.{state_of}
 use Rattle.circle_challenger.specs.Sponge.{absorbed}
 use Rattle.circle_challenger.specs.declared.sha256.Sha256Challenger.{Sha256Challenger}
 use Rattle.circle_completeness.specs.Claimed.{AreClaimed, IsClaimed}
+use Rattle.circle_completeness.specs.Honest.{IsOfLowDegree}
 use Rattle.circle_completeness.proofs.Accepted.{accepts-openings}
+use Rattle.circle_completeness.proofs.ReadRows.{low-read}
 use Rattle.circle_domain.proofs.Powers.{pow_injective}
-use Rattle.circle_field.specs.Circle.{AreGenerators}
-use Rattle.circle_field.specs.Field.{FieldLaws, IsEmbedding}
+use Rattle.circle_domain.specs.Values.{values_at}
+use Rattle.circle_field.specs.Circle.{AreGenerators, Coordinates}
+use Rattle.circle_field.specs.Field.{FieldLaws, FieldOps, IsEmbedding}
+use Rattle.circle_field.specs.Mersenne31.{operations, generators}
 use Rattle.circle_field.specs.declared.cubic.Cubic.{Cubic}
 use Rattle.circle_field.specs.declared.mersenne31.Mersenne31.{Mersenne31}
 use Rattle.circle_matrix.specs.DotProduct.{pairwise}
 use Rattle.circle_matrix.specs.Parameters.{with_scheme}
 use Rattle.circle_matrix.specs.Pcs.{Openings}
-use Rattle.circle_matrix.specs.RowMajorMatrix.{height_of}
+use Rattle.circle_matrix.specs.RowMajorMatrix.{width_of, height_of}
 use Rattle.circle_matrix.specs.declared.matrix.RowMajorMatrix.{RowMajorMatrix}
 use Rattle.circle_matrix.specs.declared.params.FriParameters.{FriParameters}
 use Rattle.circle_matrix.specs.declared.pcs.CommitmentOpening.{CommitmentOpening}
@@ -33,6 +37,7 @@ use Rattle.circle_opening.proofs.Logs.{log_of-power}
 use Rattle.circle_relation.specs.Accepts.{AcceptsFrom, Fields}
 use Rattle.circle_relation.specs.RunOf.{proof_of}
 use Rattle.circle_relation.specs.Statement.{BatchClaim, MatrixClaim, all_matrices}
+use Rattle.circle_words.specs.Ratios.{points_of_height}
 use Rattle.circle_words.specs.Words.{claim_of}
 use Rattle.circle_commands.specs.Proved.{AreCommitted, HavePoints, IsCommitted, IsExtended, IsRequested, batch_claimed, commitments_taken, matrix_claimed, points_of}
 use Rattle.circle_commands.specs.Rows.{lists}
@@ -68,7 +73,7 @@ some-pairs (t ∷ points) (v ∷ values) long some = omega arith
 module _ (k : Fields Mersenne31 Cubic) (blowup : ℕ) where
   -- the claims on a matrix are those on the committed one
   matrix-claimed : (t : Trace) (m : RowMajorMatrix Mersenne31) (vs : List (List Cubic)) → HasFittingRows t → IsExtended blowup (lists t.rows.items) m → height_of m ≡ 2 ^ log_of (height_of m) →
-      matrix_claimed t vs ≡ claimed blowup (committed_at m t.points.items vs)
+      matrix_claimed t vs ≡ claimed blowup (committed_at k blowup m t.points.items vs)
   matrix-claimed t m vs fitting extended power =
       let n = extended.log_n in
       let rows : length t.rows.items ≡ 2 ^ n = sym (length-map t.rows.items (λ row. row.items)) ∙ extended.height in
@@ -79,14 +84,14 @@ module _ (k : Fields Mersenne31 Cubic) (blowup : ℕ) where
       ap made (given ∙ omega (arith, high))
 
   batch-claimed : (ts : List Trace) (ms : List (RowMajorMatrix Mersenne31)) (vs : List (List (List Cubic))) → AllByRecursion HasFittingRows ts → AllZip (λ t made. IsExtended blowup (lists t.rows.items) made) ts ms →
-      AllZip (IsOpenable k k.two_adicity blowup) ms (points_of ts) → pairwise matrix_claimed ts vs ≡ map (claimed blowup) (batch_committed ms (points_of ts) vs)
+      AllZip (IsOpenable k k.two_adicity blowup) ms (points_of ts) → pairwise matrix_claimed ts vs ≡ map (claimed blowup) (batch_committed k blowup ms (points_of ts) vs)
   batch-claimed [] [] vs fitting extended openable = refl
   batch-claimed [] (m ∷ ms) vs fitting extended openable = absurd extended
   batch-claimed (t ∷ ts) [] vs fitting extended openable = absurd extended
   batch-claimed (t ∷ ts) (m ∷ ms) [] fitting extended openable = refl
   batch-claimed (t ∷ ts) (m ∷ ms) (v ∷ vs) fitting extended openable =
       ap (λ first. first ∷ pairwise matrix_claimed ts vs) (matrix-claimed t m v fitting.0 extended.0 openable.0.power)
-      ∙ ap (λ rest. claimed blowup (committed_at m t.points.items v) ∷ rest) (batch-claimed ts ms vs fitting.1 extended.1 openable.1)
+      ∙ ap (λ rest. claimed blowup (committed_at k blowup m t.points.items v) ∷ rest) (batch-claimed ts ms vs fitting.1 extended.1 openable.1)
 
   -- each matrix is claimed at a point
   batch-pointed : (ts : List Trace) (ms : List (RowMajorMatrix Mersenne31)) (vs : List (List (List Cubic))) → AllByRecursion (λ t. 1 ≤ length t.points.items) ts →
@@ -96,10 +101,46 @@ module _ (k : Fields Mersenne31 Cubic) (blowup : ℕ) where
   batch-pointed (t ∷ ts) [] (v ∷ vs) some are = absurd are
   batch-pointed (t ∷ ts) (m ∷ ms) (v ∷ vs) some are = (some-pairs t.points.items v are.0.count some.0, batch-pointed ts ms vs some.1 are.1)
 
+  module _ (same_field : k.field ≡ operations) (same_gen : k.gen ≡ generators) where
+    -- the extension of rows is of low degree
+    extended-low : (given : List (List Mersenne31)) (m : RowMajorMatrix Mersenne31) → IsExtended blowup given m → height_of m ≡ 2 ^ log_of (height_of m) → IsOfLowDegree k blowup m
+    extended-low given m extended power =
+        let n = extended.log_n in
+        let coeffs = extended.extends.coeffs in
+        let high = pow_injective (log_of (height_of m)) (n + blowup) (sym power ∙ extended.extends.height) in
+        let less : log_of (height_of m) - blowup ≡ n = omega (arith, high) in
+        let at = λ (l : FieldOps Mersenne31) (gen : ℕ → Coordinates Mersenne31) (w h : ℕ). map (values_at l coeffs w) (points_of_height l gen h) in
+        record {
+          coeffs = coeffs;
+          count = extended.extends.told.height ∙ ap (λ i. 2 ^ i) (sym less);
+          values = ap (λ l. at l k.gen (width_of m) (log_of (height_of m))) same_field ∙ ap (λ gen. at operations gen (width_of m) (log_of (height_of m))) same_gen
+              ∙ ap (λ w. at operations generators w (log_of (height_of m))) extended.extends.width ∙ ap (at operations generators extended.width) high ∙ sym extended.extends.values;
+        }
+
+    batch-low : (ts : List Trace) (ms : List (RowMajorMatrix Mersenne31)) (points : List (List Cubic)) → AllZip (λ t made. IsExtended blowup (lists t.rows.items) made) ts ms →
+        AllZip (IsOpenable k k.two_adicity blowup) ms points → AllByRecursion (IsOfLowDegree k blowup) ms
+    batch-low [] [] points extended openable = tt
+    batch-low [] (m ∷ ms) points extended openable = absurd extended
+    batch-low (t ∷ ts) [] points extended openable = absurd extended
+    batch-low (t ∷ ts) (m ∷ ms) [] extended openable = absurd openable
+    batch-low (t ∷ ts) (m ∷ ms) (p ∷ points) extended openable = (extended-low (lists t.rows.items) m extended.0 openable.0.power, batch-low ts ms points extended.1 openable.1)
+
+    -- so is all that is requested of batches that were committed to
+    all-low : {D : Type 0} (kept : D → List (RowMajorMatrix Mersenne31)) (Commits : List (RowMajorMatrix Mersenne31) → List ℕ → Type 0) (bs : List (Vec Trace Global)) (cs : List Committed) (rs : List (OpeningRequest D Cubic)) →
+        AreCommitted Commits blowup bs cs → AllZip (IsRequested kept) cs rs → AllByRecursion (IsFit kept k blowup k.two_adicity) rs → AllByRecursion (λ r. All (IsOfLowDegree k blowup) (kept r.prover_data.now)) rs
+    all-low kept Commits bs cs [] committed asked fit = tt
+    all-low kept Commits bs [] (r ∷ rs) committed asked fit = absurd asked
+    all-low kept Commits [] (c ∷ cs) (r ∷ rs) committed asked fit = absurd committed
+    all-low kept Commits (b ∷ bs) (c ∷ cs) (r ∷ rs) committed asked fit =
+        let extended = subst (AllZip (λ (t : Trace) made. IsExtended blowup (lists t.rows.items) made) b.items) (sym asked.0.matrices) committed.0.extended in (
+          All-from_recursion (IsOfLowDegree k blowup) (kept r.prover_data.now) (batch-low b.items (kept r.prover_data.now) (lists_of r.points.items) extended fit.0),
+          all-low kept Commits bs cs rs committed.1 asked.1 fit.1,
+        )
+
   module _ {D : Type 0} (kept : D → List (RowMajorMatrix Mersenne31)) (Commits : List (RowMajorMatrix Mersenne31) → List ℕ → Type 0) where
     -- so of all batches
     all-claimed : {M : Type 0} (p : FriParameters M) → blowup ≡ p.log_blowup → (bs : List (Vec Trace Global)) (cs : List Committed) (rs : List (OpeningRequest D Cubic)) (vs : Openings Cubic) → AreCommitted Commits blowup bs cs → AllZip (IsRequested kept) cs rs →
-        AllByRecursion (IsFit kept k blowup k.two_adicity) rs → length vs ≡ length cs → AreClaimed p kept Commits rs vs (pairwise batch_claimed cs vs)
+        AllByRecursion (IsFit kept k blowup k.two_adicity) rs → length vs ≡ length cs → AreClaimed k p kept Commits rs vs (pairwise batch_claimed cs vs)
     all-claimed p same [] [] [] [] committed asked fit long = tt
     all-claimed p same [] [] [] (v ∷ vs) committed asked fit long = absurd (omega (arith, long))
     all-claimed p same [] [] (r ∷ rs) vs committed asked fit long = absurd asked
@@ -116,12 +157,12 @@ module _ (k : Fields Mersenne31 Cubic) (blowup : ℕ) where
         (subst (λ ms. AllZip (IsOpenable k k.two_adicity blowup) ms (lists_of r.points.items)) wanted.matrices fit.0) in
         let fitting = recursion_from_All HasFittingRows traces (subst (All HasFittingRows) (sym is.given) is.fitting) in
         let extended = subst (λ ts. AllZip (λ t made. IsExtended blowup (lists t.rows.items) made) ts (matrices_of c.kept)) (sym is.given) is.extended in
-        let first : IsClaimed p kept Commits r v (batch_claimed c v) = record {
+        let first : IsClaimed k p kept Commits r v (batch_claimed c v) = record {
           committed = subst (λ ms. Commits ms c.commitment) (sym wanted.matrices) is.commitment;
-          matrices = subst (λ n. pairwise matrix_claimed traces v ≡ map (claimed n) (batch_committed (kept r.prover_data.now) (lists_of r.points.items) v)) same
+          matrices = subst (λ n. pairwise matrix_claimed traces v ≡ map (claimed n) (batch_committed k n (kept r.prover_data.now) (lists_of r.points.items) v)) same
               (batch-claimed traces (matrices_of c.kept) v fitting extended openable
-              ∙ ap (λ ms. map (claimed blowup) (batch_committed ms (points_of traces) v)) (sym wanted.matrices)
-              ∙ ap (λ ps. map (claimed blowup) (batch_committed (kept r.prover_data.now) ps v)) (sym wanted.points));
+              ∙ ap (λ ms. map (claimed blowup) (batch_committed k blowup ms (points_of traces) v)) (sym wanted.matrices)
+              ∙ ap (λ ps. map (claimed blowup) (batch_committed k blowup (kept r.prover_data.now) ps v)) (sym wanted.points));
         } in
         (first, all-claimed p same bs cs rs vs committed.1 asked.1 fit.1 (omega (arith, long)))
 
@@ -144,7 +185,7 @@ module _ (k : Fields Mersenne31 Cubic) (blowup : ℕ) where
 module _ {D WD : Type 0}
     (o : Schemes Sha256Challenger (List ℕ) Mersenne31 Cubic (ShaMmcs Mersenne31) (List ℕ) D (Vec (List ℕ) Global) (ShaMmcs Cubic) (List ℕ) WD (Vec (List ℕ) Global)) (input : Input) (output : Claims)
     (base : FieldLaws o.fields.field) (laws : FieldLaws o.fields.extension) (e : IsEmbedding o.fields.field o.fields.extension o.fields.embed) (gens : AreGenerators o.fields.field o.fields.two_adicity o.fields.gen)
-    (small : o.fields.two_adicity ≤ 62) (below : (s : List ℕ) (n : ℕ) → n ≤ 63 → o.run.base.sampled_bits s n < 2 ^ n) where
+    (same_field : o.fields.field ≡ operations) (same_gen : o.fields.gen ≡ generators) (small : o.fields.two_adicity ≤ 62) (below : (s : List ℕ) (n : ℕ) → n ≤ 63 → o.run.base.sampled_bits s n < 2 ^ n) where
   -- where each matrix has a point
   pub verified : (mmcs : ShaMmcs Mersenne31) (scheme : ShaMmcs Cubic) (committed : List Committed) (requests : List (OpeningRequest D Cubic)) (values : Openings Cubic) (start left : Sha256Challenger)
       (p : FriParameters (ShaMmcs Cubic)) → p ≡ with_scheme input.params scheme → AreFit p → p.max_log_arity ≡ 1 → AreRequests o.kept o.fields o.fields.two_adicity p requests
@@ -158,12 +199,15 @@ module _ {D WD : Type 0}
       let answered = AllZip-long (AreAnswers o.kept o.fields p.log_blowup) requests values answers in
       let as_many : length values ≡ length committed = omega (arith, long, answered) in
       let claims = pairwise batch_claimed committed values in
-      let claimed_all = all-claimed o.fields p.log_blowup o.kept (o.Commits mmcs) p refl input.batches.items committed requests values batches wanted (recursion_from_All (IsFit o.kept o.fields p.log_blowup o.fields.two_adicity) requests asked.fit) as_many in
+      let fits = recursion_from_All (IsFit o.kept o.fields p.log_blowup o.fields.two_adicity) requests asked.fit in
+      let low = All-from_recursion (λ (r : OpeningRequest D Cubic). All (IsOfLowDegree o.fields p.log_blowup) (o.kept r.prover_data.now)) requests
+      (all-low o.fields p.log_blowup same_field same_gen o.kept (o.Commits mmcs) input.batches.items committed requests batches wanted fits) in
+      let claimed_all = all-claimed o.fields p.log_blowup o.kept (o.Commits mmcs) p refl input.batches.items committed requests values batches wanted fits as_many in
       let pointed = All-from_recursion (λ (m : MatrixClaim Cubic). 1 ≤ length m.claims) (all_matrices claims)
       (all-pointed o.fields p.log_blowup o.kept (o.Commits mmcs) input.batches.items committed requests values (recursion_from_All (λ (b : Vec Trace Global). All (λ t. 1 ≤ length t.points.items) b.items) input.batches.items some) batches wanted answers) in
       let accepted : AcceptsFrom o.fields p o.run (o.authenticates mmcs) (o.word_authenticates scheme) claims (proof_of output.proof) (state_of start) (state_of left) =
       accepts-openings o.fields base laws e gens small o.run below p o.kept (o.Commits mmcs) (o.authenticates mmcs) (o.WordCommits scheme) (o.word_authenticates scheme) requests fit arity asked
-      values answers (proof_of output.proof) (state_of start) (state_of left) opening claims claimed_all pointed in
+      (low-read o.fields p o.kept requests low) values answers (proof_of output.proof) (state_of start) (state_of left) opening claims claimed_all pointed in
       record {
         mmcs = mmcs;
         scheme = scheme;

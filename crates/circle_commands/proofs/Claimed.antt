@@ -1,45 +1,90 @@
--- Claims that are made of two lists side by side.
-use Rattle.std.proofs.Common.{◌≡◌, ℕ, ◌+◌, ◌^◌, ◌<◌, List, [], ◌∷◌, ◌++◌, length, map, take, ap, sym, ◌∙◌, arith, min, slice_index_or}
-use Rattle.std.proofs.lemmas.List.{length-map, map-append}
-use Rattle.circle_matrix.specs.DotProduct.{pairwise}
+-- Claims that are made of what a verifier knows of batches, and of answered values.
+use Rattle.std.proofs.Common.{◌≡◌, ℕ, List, [], ◌∷◌, length, map, zip, ap, refl, ◌∙◌, arith}
 use Rattle.circle_field.specs.declared.cubic.Cubic.{Cubic}
-use Rattle.circle_opening.proofs.Logs.{log_of-power}
-use Rattle.circle_opening.proofs.Requested.{map-at, pairwise-more, pairwise-end}
+use Rattle.circle_matrix.specs.DotProduct.{pairwise}
+use Rattle.circle_matrix.specs.Pcs.{Openings}
+use Rattle.circle_matrix.specs.declared.pcs.CommitmentOpening.{CommitmentOpening}
+use Rattle.circle_matrix.specs.declared.pcs.MatrixOpening.{MatrixOpening}
+use Rattle.circle_matrix.specs.declared.pcs.PointOpening.{PointOpening}
+use Rattle.circle_pcs.specs.Claims.{Told, batch_told as all_told, matrix_told as sized, point_told}
+use Rattle.circle_pcs.specs.Claims.{matrix_claimed as sized_claim, batch_claimed as sized_claims}
+use Rattle.circle_pcs.specs.declared.claims.CommittedBatch.{CommittedBatch}
 use Rattle.circle_opening.specs.Requests.{log_of}
 use Rattle.circle_relation.specs.Statement.{BatchClaim, MatrixClaim, PointClaim}
+use Rattle.circle_relation.specs.StatementOf.{point_claim}
 use Rattle.circle_words.specs.Words.{claim_of}
-use Rattle.circle_commands.specs.Proved.{batch_claimed, matrix_claimed}
+use Rattle.circle_commands.specs.Proved.{batch_claimed, matrix_claimed, known_of, known_told, logs_of, points_of}
+use Rattle.circle_commands.specs.Verified.{batch_told, batches_told, matrices_told}
 use Rattle.circle_commands.specs.declared.prove.Committed.{Committed}
 use Rattle.circle_commands.specs.declared.prove.Trace.{Trace}
 
-module _ {A B C V X : Type 0} (f : A → B → C) (view : V → B) (told : X → C) (xs : List A) (vs : List V) where
-  -- one more claim
-  pub claimed_more : (n m : ℕ) (x : A) (v : V) (old new : List X) (made : X) → n < length xs → n < length vs → x ≡ slice_index_or xs n x → v ≡ slice_index_or vs n v
-      → m ≡ n + 1 → new ≡ old ++ made ∷ [] → told made ≡ f x (view v) → map told old ≡ pairwise f (take n xs) (take n (map view vs))
-      → map told new ≡ pairwise f (take m xs) (take m (map view vs))
-  claimed_more n m x v old new made lt lt' is is' next pushed here so_far =
-      let inside : n < length (map view vs) = omega (arith, lt', length-map vs view) in
-      ap (map told) pushed ∙ map-append told old (made ∷ [])
-      ∙ ap (λ cs. cs ++ told made ∷ []) so_far
-      ∙ ap (λ c. pairwise f (take n xs) (take n (map view vs)) ++ c ∷ []) here
-      ∙ sym (pairwise-more f xs (map view vs) n x (view v) lt inside is (map-at view vs n v lt' is'))
-      ∙ ap (λ k. pairwise f (take k xs) (take k (map view vs))) (sym next)
+-- the same claims as the relation has them
+abbrev point_as : Cubic × List Cubic → PointClaim Cubic
+point_as p = claim_of p.0 p.1
 
-  -- beyond the shorter list there is none
-  pub claimed_all : (n : ℕ) → n ≡ min (length xs) (length vs) → pairwise f (take n xs) (take n (map view vs)) ≡ pairwise f xs (map view vs)
-  claimed_all n last = pairwise-end f xs (map view vs) n (omega (arith, last, length-map vs view))
+abbrev matrix_as : Told Cubic ℕ → MatrixClaim Cubic
+matrix_as m = record { log_n = m.0; claims = map point_as m.1 }
 
--- a claim on a matrix
-pub matrix_is : (t : Trace) (values : List (List Cubic)) (n : ℕ) (claims : List (PointClaim Cubic)) → n < 64 → 2 ^ n ≡ length t.rows.items → claims ≡ pairwise claim_of t.points.items values
-    → (let made : MatrixClaim Cubic = record { log_n = n; claims = claims } in made) ≡ matrix_claimed t values
-matrix_is t values n claims small height same =
-    let with_log : ℕ → MatrixClaim Cubic = λ n. record { log_n = n; claims = claims } in
+abbrev batch_as : List ℕ × List (Told Cubic ℕ) → BatchClaim (List ℕ) Cubic
+batch_as b = record { commitment = b.0; matrices = map matrix_as b.1 }
+
+points-same : (points : List (PointOpening Cubic)) → map point_claim points ≡ map point_as (map point_told points)
+points-same [] = refl
+points-same (p ∷ ps) = ap (λ cs. point_claim p ∷ cs) (points-same ps)
+
+matrices-same : (matrices : List (MatrixOpening Cubic ℕ)) → matrices_told matrices ≡ map matrix_as (map sized matrices)
+matrices-same [] = refl
+matrices-same (m ∷ ms) =
+    let with_claims : List (PointClaim Cubic) → MatrixClaim Cubic = λ cs. record { log_n = m.domain; claims = cs } in
+    ap (λ cs. with_claims cs ∷ matrices_told ms) (points-same m.points.items)
+    ∙ ap (λ cs. matrix_as (sized m) ∷ cs) (matrices-same ms)
+
+batches-same : (batches : List (CommitmentOpening Cubic (List ℕ) ℕ)) → batches_told batches ≡ map batch_as (map all_told batches)
+batches-same [] = refl
+batches-same (b ∷ bs) =
+    let with_matrices : List (MatrixClaim Cubic) → BatchClaim (List ℕ) Cubic = λ ms. record { commitment = b.commitment; matrices = ms } in
+    ap (λ ms. with_matrices ms ∷ batches_told bs) (matrices-same b.matrices.items)
+    ∙ ap (λ cs. batch_as (all_told b) ∷ cs) (batches-same bs)
+
+-- values beside their points
+values-claimed : (points : List Cubic) (values : List (List Cubic)) → map point_as (zip points values) ≡ pairwise claim_of points values
+values-claimed [] vs = refl
+values-claimed (p ∷ ps) [] = refl
+values-claimed (p ∷ ps) (v ∷ vs) = ap (λ cs. claim_of p v ∷ cs) (values-claimed ps vs)
+
+matrices-claimed : (traces : List Trace) (values : List (List (List Cubic))) →
+    map matrix_as (pairwise sized_claim (zip (logs_of traces) (points_of traces)) values) ≡ pairwise matrix_claimed traces values
+matrices-claimed [] vs = refl
+matrices-claimed (t ∷ ts) [] = refl
+matrices-claimed (t ∷ ts) (v ∷ vs) =
     let with_claims : List (PointClaim Cubic) → MatrixClaim Cubic = λ cs. record { log_n = log_of (length t.rows.items); claims = cs } in
-    ap with_log (sym (log_of-power n small) ∙ ap log_of height) ∙ ap with_claims same
+    ap (λ cs. with_claims cs ∷ map matrix_as (pairwise sized_claim (zip (logs_of ts) (points_of ts)) vs)) (values-claimed t.points.items v)
+    ∙ ap (λ cs. matrix_claimed t v ∷ cs) (matrices-claimed ts vs)
 
--- a claim on a batch
-pub batch_is : (c : Committed) (values : List (List (List Cubic))) (matrices : List (MatrixClaim Cubic)) → matrices ≡ pairwise matrix_claimed c.traces.now values
-    → (let made : BatchClaim (List ℕ) Cubic = record { commitment = c.commitment; matrices = matrices } in made) ≡ batch_claimed c values
-batch_is c values matrices same =
+-- by what is known of a batch
+abbrev claims_by : List ℕ × List (ℕ × List Cubic) → List (List (List Cubic)) → BatchClaim (List ℕ) Cubic
+claims_by b values = batch_as (b.0, pairwise sized_claim b.1 values)
+
+batch-claimed : (c : Committed) (values : List (List (List Cubic))) → claims_by (known_of c) values ≡ batch_claimed c values
+batch-claimed c values =
     let with_matrices : List (MatrixClaim Cubic) → BatchClaim (List ℕ) Cubic = λ ms. record { commitment = c.commitment; matrices = ms } in
-    ap with_matrices same
+    ap with_matrices (matrices-claimed c.traces.now values)
+
+each-claimed : (committed : List Committed) (known : List (CommittedBatch Cubic (List ℕ) ℕ)) (values : Openings Cubic) → map known_told known ≡ map known_of committed →
+    map batch_as (pairwise sized_claims known values) ≡ pairwise batch_claimed committed values
+each-claimed [] [] vs same = refl
+each-claimed [] (k ∷ ks) vs same = absurd (omega (arith, ap length same))
+each-claimed (c ∷ cs) [] vs same = absurd (omega (arith, ap length same))
+each-claimed (c ∷ cs) (k ∷ ks) [] same = refl
+each-claimed (c ∷ cs) (k ∷ ks) (v ∷ vs) same =
+    let first : known_told k ≡ known_of c = cc in
+    let rest : map known_told ks ≡ map known_of cs = cc in
+    ap (λ b. claims_by b v ∷ map batch_as (pairwise sized_claims ks vs)) first
+    ∙ ap (λ b. b ∷ map batch_as (pairwise sized_claims ks vs)) (batch-claimed c v)
+    ∙ ap (λ bs. batch_claimed c v ∷ bs) (each-claimed cs ks vs rest)
+
+-- what is claimed of batches that are known so
+pub batches-claimed : (committed : List Committed) (known : List (CommittedBatch Cubic (List ℕ) ℕ)) (values : Openings Cubic)
+    (claims : List (CommitmentOpening Cubic (List ℕ) ℕ)) → map known_told known ≡ map known_of committed → map all_told claims ≡ pairwise sized_claims known values →
+    batches_told claims ≡ pairwise batch_claimed committed values
+batches-claimed committed known values claims same made = batches-same claims ∙ ap (map batch_as) made ∙ each-claimed committed known values same

@@ -1,5 +1,6 @@
 -- What the command `prove` answers.
-use Rattle.std.specs.Prelude.{◌≡◌, ℕ, ◌+◌, ◌^◌, ◌≤◌, List, [], ◌∷◌, length, map, replicate, All, Vec}
+use Rattle.std.specs.Prelude.{◌≡◌, ℕ, ◌+◌, ◌^◌, ◌≤◌, List, [], ◌∷◌, length, map, replicate, zip}
+use Rattle.std.specs.Prelude.{All, Vec}
 use Rattle.std.specs.List.{AllZip}
 use Rattle.std.specs.declared.alloc.Global.{Global}
 use Rattle.circle_challenger.specs.Sha256Challenger.{state_of}
@@ -22,6 +23,7 @@ use Rattle.circle_merkle.specs.declared.mmcs.ShaMmcs.{ShaMmcs}
 use Rattle.circle_opening.specs.Opening.{IsOpening}
 use Rattle.circle_opening.specs.Schemes.{Schemes}
 use Rattle.circle_opening.specs.Requests.{AreAnswers, lists_of, log_of}
+use Rattle.circle_pcs.specs.declared.claims.CommittedBatch.{CommittedBatch}
 use Rattle.circle_relation.specs.RunOf.{proof_of}
 use Rattle.circle_relation.specs.Statement.{BatchClaim, MatrixClaim}
 use Rattle.circle_words.specs.Words.{claim_of}
@@ -57,6 +59,17 @@ HavePoints input = All (λ b. All (λ t. 1 ≤ length t.points.items) b.items) i
 -- the points of matrices
 abbrev pub points_of : List Trace → List (List Cubic)
 points_of traces = map (λ t. t.points.items) traces
+
+-- the logarithms of their numbers of rows
+abbrev pub logs_of : List Trace → List ℕ
+logs_of traces = map (λ t. log_of (length t.rows.items)) traces
+
+-- what a verifier knows of a batch: its commitment, and of each matrix the size and the points
+abbrev pub known_of : Committed → List ℕ × List (ℕ × List Cubic)
+known_of c = (c.commitment, zip (logs_of c.traces.now) (points_of c.traces.now))
+
+abbrev pub known_told : CommittedBatch Cubic (List ℕ) ℕ → List ℕ × List (ℕ × List Cubic)
+known_told b = (b.commitment, zip b.domains.items (lists_of b.points.items))
 
 -- the challenger's state after the commitments were taken in, in order
 abbrev pub commitments_taken : List ℕ → List Committed → List ℕ

@@ -6,23 +6,20 @@ ghost use Rattle.std.specs.List.{AllZip};
 ghost use Rattle.circle_challenger.specs.Sha256Challenger.{state_of};
 ghost use Rattle.circle_matrix.specs.DotProduct.{pairwise};
 ghost use Rattle.circle_matrix.specs.Matrix.{IsPowerOfTwo};
-ghost use Rattle.circle_matrix.specs.Mmcs.{opened_rows};
 ghost use Rattle.circle_matrix.specs.Pcs.{openings};
 ghost use Rattle.circle_json.specs.ObjectForm.{object_form};
 ghost use Rattle.circle_opening.specs.Requests.{lists_of};
 ghost use Rattle.circle_opening.specs.declared.error.ProverError.TheVariants.{Memory};
-ghost use Rattle.circle_relation.specs.StatementOf.{point_claim};
-ghost use Rattle.circle_words.specs.Words.{claim_of};
 ghost use Rattle.circle_commands.specs.Prove.{input_fields, trace_fields};
 ghost use Rattle.circle_commands.specs.Proved.{AreCommitted, ArePlaced, HavePoints, IsCommitted};
 ghost use Rattle.circle_commands.specs.Proved.{IsProved};
 ghost use Rattle.circle_commands.specs.Proved.{IsRequested, batch_claimed, commitments_taken};
-ghost use Rattle.circle_commands.specs.Proved.{matrix_claimed, points_of};
+ghost use Rattle.circle_commands.specs.Proved.{known_of, known_told, logs_of, points_of};
 ghost use Rattle.circle_commands.specs.Traces.{AreFitting, AreFittingRows, HasFittingRows};
 ghost use Rattle.circle_commands.specs.Traces.{AreTall, AreTallRows, HasTallRows};
 ghost use Rattle.circle_commands.specs.Traces.{IsRefusalOfBatch, IsRefusalOfBatches};
 ghost use Rattle.circle_commands.specs.Traces.{IsRefusalOfRows};
-ghost use Rattle.circle_commands.specs.Verified.{IsVerified, batches_told, matrices_told};
+ghost use Rattle.circle_commands.specs.Verified.{IsVerified, batches_told};
 ghost use Rattle.circle_commands.specs.declared.prove.Refusal.TheVariants.{Prover};
 
 use crate::failure::Failure;
@@ -30,8 +27,8 @@ use crate::values::{is_rectangular, matrix};
 use crate::{json, verify};
 use circle_challenger::CanObserve;
 use circle_commit::{
-    CommitmentOpening, FriParameters, JsonError, JsonForm, MatrixOpening, Mmcs, OpeningRequest,
-    PointOpening, RowMajorMatrix, is_power_of_two, log2_strict,
+    FriParameters, JsonError, JsonForm, Mmcs, OpenedValues, OpeningRequest, RowMajorMatrix,
+    is_power_of_two, log2_strict,
 };
 use circle_field::{Cubic, Mersenne31};
 use circle_json::{has_keys, member};
@@ -39,7 +36,7 @@ use circle_opening::OpeningOver;
 use circle_presets::{
     Challenge, ChallengeMmcs, Challenger, ClaimOn, ProverData, Request, Scheme, Val, ValMmcs,
 };
-use p3_circle::{CircleDomain, ProverError};
+use p3_circle::{CircleDomain, CommittedBatch, ProverError, claims_of};
 use serde_json::{Value, json};
 use std::alloc::{AllocError, Global};
 
@@ -193,7 +190,7 @@ pub fn prove(alloc: Global, input: Input) -> Result<verify::Input, Refusal>
     let requests = requests(alloc, &committed)?;
     let (values, proof) = scheme.open(alloc, requests, &mut challenger)?;
     Ok(verify::Input {
-        batches: claims(alloc, &committed, &values)?,
+        batches: claims(alloc, &committed, values)?,
         params,
         proof,
     })
@@ -368,57 +365,54 @@ fn points(alloc: Global, traces: &[Trace]) -> Result<Vec<Vec<Cubic>>, AllocError
 fn claims(
     alloc: Global,
     committed: &[Committed],
-    values: &[Vec<Vec<Vec<Cubic>>>],
+    values: OpenedValues<Cubic>,
 ) -> Result<Vec<ClaimOn<usize>>, AllocError>
     requires { All (λ c. All HasFittingRows c.traces.now) committed.now }
     ensures { IfOk result (λ v. batches_told v.items
-        ≡ pairwise batch_claimed committed.now (openings values.now)) }
+        ≡ pairwise batch_claimed committed.now (openings values.items)) }
 {
-    let mut claims = Vec::with_capacity(alloc, committed.len())?;
-    for (batch, values) in committed.iter().zip(values) {
-        claims.push(CommitmentOpening {
-            commitment: batch.commitment,
-            matrices: matrix_claims(alloc, batch.traces, values)?,
-        })?;
-    }
-    Ok(claims)
+    claims_of(alloc, known_batches(alloc, committed)?, values)
 }
 
-// The claims that the matrices of a batch have these values.
-fn matrix_claims(
+// What a verifier knows of each batch, its matrices' sizes in place of their domains.
+fn known_batches(
     alloc: Global,
-    traces: &[Trace],
-    values: &[Vec<Vec<Cubic>>],
-) -> Result<Vec<MatrixOpening<Cubic, usize>>, AllocError>
+    committed: &[Committed],
+) -> Result<Vec<CommittedBatch<Cubic, [u8; 32], usize>>, AllocError>
+    requires { All (λ c. All HasFittingRows c.traces.now) committed.now }
+    ensures { IfOk result (λ v. map known_told v.items ≡ map known_of committed.now) }
+{
+    let mut known = Vec::with_capacity(alloc, committed.len())?;
+    for batch in committed {
+        known.push(known_batch(alloc, batch)?)?;
+    }
+    Ok(known)
+}
+
+// What a verifier knows of a batch.
+fn known_batch(
+    alloc: Global,
+    batch: &Committed,
+) -> Result<CommittedBatch<Cubic, [u8; 32], usize>, AllocError>
+    requires { All HasFittingRows batch.now.traces.now }
+    ensures { IfOk result (λ known. known_told known ≡ known_of batch.now) }
+{
+    let points = points(alloc, batch.traces)?;
+    Ok(CommittedBatch {
+        commitment: batch.commitment,
+        domains: log_heights(alloc, batch.traces)?,
+        points,
+    })
+}
+
+// The binary logarithms of the matrices' numbers of rows.
+fn log_heights(alloc: Global, traces: &[Trace]) -> Result<Vec<usize>, AllocError>
     requires { All HasFittingRows traces.now }
-    ensures { IfOk result (λ v. matrices_told v.items
-        ≡ pairwise matrix_claimed traces.now (opened_rows values.now)) }
+    ensures { IfOk result (λ v. v.items ≡ logs_of traces.now) }
 {
-    let mut claims = Vec::with_capacity(alloc, traces.len())?;
-    for (trace, values) in traces.iter().zip(values) {
-        claims.push(MatrixOpening {
-            domain: log2_strict(trace.rows.len()),
-            points: point_claims(alloc, &trace.points, values)?,
-        })?;
+    let mut logs = Vec::with_capacity(alloc, traces.len())?;
+    for trace in traces {
+        logs.push(log2_strict(trace.rows.len()))?;
     }
-    Ok(claims)
-}
-
-// The claims of these values at points.
-fn point_claims(
-    alloc: Global,
-    points: &[Cubic],
-    values: &[Vec<Cubic>],
-) -> Result<Vec<PointOpening<Cubic>>, AllocError>
-    ensures { IfOk result (λ v. map point_claim v.items
-        ≡ pairwise claim_of points.now (lists_of values.now)) }
-{
-    let mut claims = Vec::with_capacity(alloc, points.len())?;
-    for (point, values) in points.iter().zip(values) {
-        claims.push(PointOpening {
-            point: *point,
-            values: Vec::from_slice(alloc, values)?,
-        })?;
-    }
-    Ok(claims)
+    Ok(logs)
 }

@@ -30,21 +30,22 @@ use Rattle.circle_completeness.proofs.Drawn.{drawn-is, numbers-below, parts, sam
 use Rattle.circle_completeness.proofs.FirstLayer.{first-authenticates, first-siblings, folds-first, lambdas-count}
 use Rattle.circle_completeness.proofs.Heights.{claimed-same, heights-claimed, heights-same, top-same}
 use Rattle.circle_completeness.proofs.Inputs.{apart, claims-are, finite, inputs-authenticate, inputs-count, inputs-rows, reads, run-over}
+use Rattle.circle_completeness.proofs.ReadRows.{all-read}
 use Rattle.circle_completeness.proofs.Rounds.{canonical, chains, rounds-authenticate, rounds-shape}
 
 -- claims of what is answered have the parts that the answers have
-parts-are : {D F E M IC : Type 0} (p : FriParameters M) (kept : D → List (RowMajorMatrix F)) (Commits : List (RowMajorMatrix F) → IC → Type 0) (requests : List (OpeningRequest D E)) (values : Openings E)
-    (batches : List (BatchClaim IC E)) → AreClaimed p kept Commits requests values batches → parts batches ≡ parts (answered_claims p kept requests values)
-parts-are p kept Commits [] [] [] are = refl
-parts-are p kept Commits (r ∷ rs) (v ∷ vs) (b ∷ bs) are =
+parts-are : {D F E M IC : Type 0} (k : Fields F E) (p : FriParameters M) (kept : D → List (RowMajorMatrix F)) (Commits : List (RowMajorMatrix F) → IC → Type 0) (requests : List (OpeningRequest D E)) (values : Openings E)
+    (batches : List (BatchClaim IC E)) → AreClaimed k p kept Commits requests values batches → parts batches ≡ parts (answered_claims k p kept requests values)
+parts-are k p kept Commits [] [] [] are = refl
+parts-are k p kept Commits (r ∷ rs) (v ∷ vs) (b ∷ bs) are =
     ap (λ first. first ∷ parts bs) are.0.matrices
-    ∙ ap (λ rest. map (claimed p.log_blowup) (batch_committed (kept r.prover_data.now) (points_of kept r) v) ∷ rest) (parts-are p kept Commits rs vs bs are.1)
-parts-are p kept Commits [] [] (b ∷ bs) are = absurd are
-parts-are p kept Commits [] (v ∷ vs) [] are = absurd are
-parts-are p kept Commits [] (v ∷ vs) (b ∷ bs) are = absurd are
-parts-are p kept Commits (r ∷ rs) [] [] are = absurd are
-parts-are p kept Commits (r ∷ rs) [] (b ∷ bs) are = absurd are
-parts-are p kept Commits (r ∷ rs) (v ∷ vs) [] are = absurd are
+    ∙ ap (λ rest. map (claimed p.log_blowup) (batch_committed k p.log_blowup (kept r.prover_data.now) (points_of kept r) v) ∷ rest) (parts-are k p kept Commits rs vs bs are.1)
+parts-are k p kept Commits [] [] (b ∷ bs) are = absurd are
+parts-are k p kept Commits [] (v ∷ vs) [] are = absurd are
+parts-are k p kept Commits [] (v ∷ vs) (b ∷ bs) are = absurd are
+parts-are k p kept Commits (r ∷ rs) [] [] are = absurd are
+parts-are k p kept Commits (r ∷ rs) [] (b ∷ bs) are = absurd are
+parts-are k p kept Commits (r ∷ rs) (v ∷ vs) [] are = absurd are
 
 -- each matrix that is claimed at a point was answered at one
 claimed-pointed : {F E : Type 0} (blowup : ℕ) (ms : List (Committed F E)) → All (λ m. 1 ≤ length m.claims) (map (claimed blowup) ms) → All (λ m. 1 ≤ length m.claims) ms
@@ -75,25 +76,25 @@ module _ {C S D F E M IC IP WC WP : Type 0} (k : Fields F E) (base : FieldLaws k
     (WordCommits : List (RowMajorMatrix E) → WC → Type 0) (word_authenticates : Authenticates WC E WP)
     (requests : List (OpeningRequest D E)) (fit : AreFit p) (arity : p.max_log_arity ≡ 1) (asked : AreRequests kept k k.two_adicity p requests) where
   pub accepts-openings : AcceptsOpenings k r p authenticates word_authenticates kept Commits WordCommits requests
-  accepts-openings values answers proof old new opening batches claims pointed =
-      let ms = answered_matrices p kept requests values in
-      let own = answered_claims p kept requests values in
+  accepts-openings as_is values answers proof old new opening batches claims pointed =
+      let ms = answered_matrices k p kept requests values in
+      let own = answered_claims k p kept requests values in
       let drawn = opening.drawn in
       let words = opening.words in
       let run : Run F E _ IC _ _ = record { batches = batches; proof = proof; drawn = drawn } in
-      let same = parts-are p kept Commits requests values batches claims in
+      let same = parts-are k p kept Commits requests values batches claims in
       let shape = same-shape batches own same p in
       let taken = same-taken batches own same k.extension proof in
       let draws : draw r (shape_by p batches) (taken_by k.extension batches proof) old ≡ Ok (drawn_by r.base.coefficients drawn new) =
       ap (λ t. draw r (shape_by p batches) t old) taken ∙ ap (λ h. draw r h (taken_by k.extension own proof) old) shape ∙ opening.drawing in
       let high = top_of ms in
       let some = all-some k p.log_blowup kept requests values answers asked.some asked.matrices in
-      let tall = heights-known (λ h. p.log_blowup + p.log_final_poly_len + 2 ≤ h) kept requests values asked.tall in
+      let tall = heights-known k p.log_blowup (λ h. p.log_blowup + p.log_final_poly_len + 2 ≤ h) kept requests values asked.tall in
       let fits : high < k.two_adicity =
       top-known ms (λ h. h < k.two_adicity) some
-      (heights-known (λ h. h < k.two_adicity) kept requests values (fit-known kept k p.log_blowup k.two_adicity (λ m. log_of (height_of m) < k.two_adicity) (λ m points openable. openable.in_group) requests asked.fit)) in
+      (heights-known k p.log_blowup (λ h. h < k.two_adicity) kept requests values (fit-known kept k p.log_blowup k.two_adicity (λ m. log_of (height_of m) < k.two_adicity) (λ m points openable. openable.in_group) requests asked.fit)) in
       let positive : 2 ≤ high = let enough = top-known ms (λ h. p.log_blowup + p.log_final_poly_len + 2 ≤ h) some tall in omega (arith, enough) in
-      let all_claims = claims-are p kept Commits requests values batches claims in
+      let all_claims = claims-are k p kept Commits requests values batches claims in
       let shaped = shape_by p own in
       let entering = taken_by k.extension own proof in
       let n = numbers_of shaped in
@@ -110,8 +111,9 @@ module _ {C S D F E M IC IP WC WP : Type 0} (k : Fields F E) (base : FieldLaws k
       let opened = claimed-pointed p.log_blowup ms (subst (All (λ m. 1 ≤ length m.claims)) all_claims pointed) in
       let top_is = top-same k p ms run over in
       let heights_are = heights-same k p ms run over in
-      let read = reads k p kept requests values Commits authenticates run over asked answers claims opening.inputs opened in
-      let folds = folds-first over words top_is heights_are read in
+      let read = all-read k base gens p kept requests asked.fit as_is in
+      let reading = reads k p kept requests values Commits authenticates run over asked answers claims opening.inputs opened read in
+      let folds = folds-first over words top_is heights_are reading in
       record {
         drawn = drawn;
         draws = draws;
@@ -126,21 +128,21 @@ module _ {C S D F E M IC IP WC WP : Type 0} (k : Fields F E) (base : FieldLaws k
             queries = fit.queries;
             blowup = fit.blowup;
             arity = arity;
-            finite = finite k p kept requests values Commits authenticates run over asked answers claims opening.inputs opened;
+            finite = finite k p kept requests values Commits authenticates run over asked answers claims opening.inputs opened read;
             claimed = pointed;
           };
           rounds_shape = rounds-shape k p ms run top_is over words;
           inputs_shape = record {
-            inputs = inputs-count k p kept requests values Commits authenticates run over asked answers claims opening.inputs opened;
-            rows = inputs-rows k p kept requests values Commits authenticates run over asked answers claims opening.inputs opened;
+            inputs = inputs-count k p kept requests values Commits authenticates run over asked answers claims opening.inputs opened read;
+            rows = inputs-rows k p kept requests values Commits authenticates run over asked answers claims opening.inputs opened read;
             first_siblings = first-siblings over words top_is heights_are;
             lambdas = lambdas-count over words top_is heights_are;
           };
           canonical = canonical k p ms run top_is over words;
           holds = record {
-            inputs_authenticate = inputs-authenticate k p kept requests values Commits authenticates run over asked answers claims opening.inputs opened;
-            apart = apart k p kept requests values Commits authenticates run over asked answers claims opening.inputs opened base laws e gens;
-            first_layer = first-authenticates over words top_is heights_are read;
+            inputs_authenticate = inputs-authenticate k p kept requests values Commits authenticates run over asked answers claims opening.inputs opened read;
+            apart = apart k p kept requests values Commits authenticates run over asked answers claims opening.inputs opened read base laws e gens;
+            first_layer = first-authenticates over words top_is heights_are reading;
             rounds_authenticate = rounds-authenticate k p ms run top_is over words laws.ring (claimed-same k p ms run over) folds;
             chains = chains k p ms run top_is over words laws.ring (claimed-same k p ms run over) folds;
           };

@@ -17,6 +17,7 @@ use Rattle.circle_words.specs.Words.{Committed}
 use Rattle.circle_opening.specs.Openings.{OpensRows, places_of}
 use Rattle.circle_opening.specs.Requests.{AreAnswers, HasBatchRows, IsFit, all_committed, batch_committed, claimed, log_of, points_of}
 use Rattle.circle_completeness.specs.Claimed.{AreClaimed, IsClaimed}
+use Rattle.circle_completeness.proofs.ReadRows.{HasReadRows}
 use Rattle.circle_completeness.proofs.Items.{Item, claimed_of, committed_of, items-of, matrices_of}
 
 -- what holds of all of two lists holds of each
@@ -51,13 +52,14 @@ module _ {D F E M IC IP : Type 0} (k : Fields F E) (bits top : ℕ) (p : FriPara
     (authenticates : Authenticates IC F IP) (queries : List ℕ) where
   -- that of one request
   part_of : (r : OpeningRequest D E) (v : List (List (List E))) (b : BatchClaim IC E) (o : Opened (List (List F)) IP) → IsFit kept k p.log_blowup bits r → 1 ≤ length (kept r.prover_data.now) →
-      All (λ m. log_of (height_of m) ≤ top) (kept r.prover_data.now) → AllByRecursion (λ c. 1 ≤ length c.claims) (batch_committed (kept r.prover_data.now) (points_of kept r) v) →
-      AreAnswers kept k p.log_blowup r v → IsClaimed p kept Commits r v b → HasBatchRows kept Commits authenticates top queries r o →
-      (part : Part k bits p.log_blowup top Commits authenticates queries) × (batch_committed (kept r.prover_data.now) (points_of kept r) v ≡ map (committed_of k bits p.log_blowup top) part.items)
+      All (λ m. log_of (height_of m) ≤ top) (kept r.prover_data.now) → All (HasReadRows k p.log_blowup) (kept r.prover_data.now) → AllByRecursion (λ c. 1 ≤ length c.claims) (batch_committed k p.log_blowup (kept r.prover_data.now) (points_of kept r) v) →
+      AreAnswers kept k p.log_blowup r v → IsClaimed k p kept Commits r v b → HasBatchRows kept Commits authenticates top queries r o →
+      (part : Part k bits p.log_blowup top Commits authenticates queries) × (batch_committed k p.log_blowup (kept r.prover_data.now) (points_of kept r) v ≡ map (committed_of k bits p.log_blowup top) part.items)
       × (b ≡ part.batch) × (o ≡ part.opened)
-  part_of r v b o fit some low opened answers claims rows =
+  part_of r v b o fit some low read opened answers claims rows =
       let ms = kept r.prover_data.now in
-      let items = items-of k bits p.log_blowup top ms (points_of kept r) v fit answers.0 opened (recursion_from_All (λ m. log_of (height_of m) ≤ top) ms low) in
+      let items = items-of k bits p.log_blowup top ms (points_of kept r) v fit answers.0 opened (recursion_from_All (λ m. log_of (height_of m) ≤ top) ms low)
+      (recursion_from_All (HasReadRows k p.log_blowup) ms read) in
       let part : Part k bits p.log_blowup top Commits authenticates queries = record {
         items = items.0;
         batch = b;
@@ -72,23 +74,23 @@ module _ {D F E M IC IP : Type 0} (k : Fields F E) (bits top : ℕ) (p : FriPara
   -- those of all requests
   pub gathered : (requests : List (OpeningRequest D E)) (values : Openings E) (batches : List (BatchClaim IC E)) (inputs : List (Opened (List (List F)) IP)) →
       AllByRecursion (IsFit kept k p.log_blowup bits) requests → AllByRecursion (λ r. 1 ≤ length (kept r.prover_data.now)) requests →
-      AllByRecursion (λ r. All (λ m. log_of (height_of m) ≤ top) (kept r.prover_data.now)) requests →
-      AllByRecursion (λ c. 1 ≤ length c.claims) (flat_map (λ b. b) (all_committed kept requests values)) →
-      AllZip (AreAnswers kept k p.log_blowup) requests values → AreClaimed p kept Commits requests values batches → AllZip (HasBatchRows kept Commits authenticates top queries) requests inputs →
-      AreGathered k bits p.log_blowup top Commits authenticates queries (flat_map (λ b. b) (all_committed kept requests values)) batches inputs
-  gathered [] (v ∷ values) batches inputs fit some low opened answers claims rows = absurd answers
-  gathered (r ∷ requests) [] batches inputs fit some low opened answers claims rows = absurd answers
-  gathered [] [] batches (o ∷ inputs) fit some low opened answers claims rows = absurd rows
-  gathered [] [] (b ∷ batches) [] fit some low opened answers claims rows = absurd claims
-  gathered [] [] [] [] fit some low opened answers claims rows = record { parts = []; matrices = refl; batches_are = refl; inputs_are = refl }
-  gathered (r ∷ requests) (v ∷ values) batches [] fit some low opened answers claims rows = absurd rows
-  gathered (r ∷ requests) (v ∷ values) [] (o ∷ inputs) fit some low opened answers claims rows = absurd claims
-  gathered (r ∷ requests) (v ∷ values) (b ∷ batches) (o ∷ inputs) fit some low opened answers claims rows =
-      let here = batch_committed (kept r.prover_data.now) (points_of kept r) v in
-      let others = flat_map (λ b. b) (all_committed kept requests values) in
+      AllByRecursion (λ r. All (λ m. log_of (height_of m) ≤ top) (kept r.prover_data.now)) requests → AllByRecursion (λ r. All (HasReadRows k p.log_blowup) (kept r.prover_data.now)) requests →
+      AllByRecursion (λ c. 1 ≤ length c.claims) (flat_map (λ b. b) (all_committed kept k p.log_blowup requests values)) →
+      AllZip (AreAnswers kept k p.log_blowup) requests values → AreClaimed k p kept Commits requests values batches → AllZip (HasBatchRows kept Commits authenticates top queries) requests inputs →
+      AreGathered k bits p.log_blowup top Commits authenticates queries (flat_map (λ b. b) (all_committed kept k p.log_blowup requests values)) batches inputs
+  gathered [] (v ∷ values) batches inputs fit some low read opened answers claims rows = absurd answers
+  gathered (r ∷ requests) [] batches inputs fit some low read opened answers claims rows = absurd answers
+  gathered [] [] batches (o ∷ inputs) fit some low read opened answers claims rows = absurd rows
+  gathered [] [] (b ∷ batches) [] fit some low read opened answers claims rows = absurd claims
+  gathered [] [] [] [] fit some low read opened answers claims rows = record { parts = []; matrices = refl; batches_are = refl; inputs_are = refl }
+  gathered (r ∷ requests) (v ∷ values) batches [] fit some low read opened answers claims rows = absurd rows
+  gathered (r ∷ requests) (v ∷ values) [] (o ∷ inputs) fit some low read opened answers claims rows = absurd claims
+  gathered (r ∷ requests) (v ∷ values) (b ∷ batches) (o ∷ inputs) fit some low read opened answers claims rows =
+      let here = batch_committed k p.log_blowup (kept r.prover_data.now) (points_of kept r) v in
+      let others = flat_map (λ b. b) (all_committed kept k p.log_blowup requests values) in
       let IsOpened : Committed F E → Type 0 = λ c. 1 ≤ length c.claims in
-      let one = part_of r v b o fit.0 some.0 low.0 (first-known IsOpened here others opened) answers.0 claims.0 rows.0 in
-      let rest = gathered requests values batches inputs fit.1 some.1 low.1 (second-known IsOpened here others opened) answers.1 claims.1 rows.1 in
+      let one = part_of r v b o fit.0 some.0 low.0 read.0 (first-known IsOpened here others opened) answers.0 claims.0 rows.0 in
+      let rest = gathered requests values batches inputs fit.1 some.1 low.1 read.1 (second-known IsOpened here others opened) answers.1 claims.1 rows.1 in
       record {
         parts = one.0 ∷ rest.parts;
         matrices = ap (λ l. l ++ others) one.1 ∙ ap (λ l. map (committed_of k bits p.log_blowup top) one.0.items ++ l) rest.matrices;

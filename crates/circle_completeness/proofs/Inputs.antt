@@ -1,7 +1,7 @@
 -- What is opened of requested matrices at the queries is what a verifier of the claims on them
 -- reads.
 use Rattle.std.specs.Prelude.{◌≡◌, ◌≢◌, ℕ, ◌+◌, ◌-◌, ◌/◌, ◌^◌, ◌<◌, ◌≤◌, ◌==◌, if◌then◌else◌, List, [], ◌∷◌, ◌++◌, length, map, flat_map, zip, All, Some, slice_get, slice_index_or}
-use Rattle.std.specs.List.{AllZip}
+use Rattle.std.specs.List.{AllByRecursion, AllZip}
 use Rattle.std.proofs.Common.{suc, refl, sym, ◌∙◌, ap, subst, arith}
 use Rattle.std.proofs.lemmas.List.{get_or-map, length-map, map-append}
 use Rattle.std.proofs.lemmas.List.Elements.{All-from_recursion, All-map, recursion_from_All}
@@ -39,12 +39,13 @@ use Rattle.circle_completeness.specs.Over.{IsRunOver, ReadsRows}
 use Rattle.circle_completeness.proofs.Gathered.{AreGathered, Part, gathered}
 use Rattle.circle_completeness.proofs.Heights.{top-same}
 use Rattle.circle_completeness.proofs.Items.{IsAway, Item, claimed_of, claims-read, committed_of, heights-fit, highest, highest-claimed, item-away, items-low, matrices_of, order, row-long, row_in, rows-are, rows-beside, shapes-are}
+use Rattle.circle_completeness.proofs.ReadRows.{HasReadRows}
 use Rattle.circle_completeness.proofs.Lists.{each-known, flat-same, flat-twice, zip-maps}
 
-module _ {D F E M IC : Type 0} (p : FriParameters M) (kept : D → List (RowMajorMatrix F)) (Commits : List (RowMajorMatrix F) → IC → Type 0) where
+module _ {D F E M IC : Type 0} (k : Fields F E) (p : FriParameters M) (kept : D → List (RowMajorMatrix F)) (Commits : List (RowMajorMatrix F) → IC → Type 0) where
   -- what is claimed is claimed of the answered matrices
-  pub claims-are : (requests : List (OpeningRequest D E)) (values : Openings E) (batches : List (BatchClaim IC E)) → AreClaimed p kept Commits requests values batches →
-      all_matrices batches ≡ map (claimed p.log_blowup) (answered_matrices p kept requests values)
+  pub claims-are : (requests : List (OpeningRequest D E)) (values : Openings E) (batches : List (BatchClaim IC E)) → AreClaimed k p kept Commits requests values batches →
+      all_matrices batches ≡ map (claimed p.log_blowup) (answered_matrices k p kept requests values)
   claims-are [] [] [] claims = refl
   claims-are [] [] (b ∷ batches) claims = absurd claims
   claims-are [] (v ∷ values) [] claims = absurd claims
@@ -53,34 +54,35 @@ module _ {D F E M IC : Type 0} (p : FriParameters M) (kept : D → List (RowMajo
   claims-are (r ∷ requests) [] (b ∷ batches) claims = absurd claims
   claims-are (r ∷ requests) (v ∷ values) [] claims = absurd claims
   claims-are (r ∷ requests) (v ∷ values) (b ∷ batches) claims =
-      let here = batch_committed (kept r.prover_data.now) (points_of kept r) v in
+      let here = batch_committed k p.log_blowup (kept r.prover_data.now) (points_of kept r) v in
       ap (λ ms. ms ++ all_matrices batches) claims.0.matrices ∙ ap (λ ms. map (claimed p.log_blowup) here ++ ms) (claims-are requests values batches claims.1)
-      ∙ sym (map-append (claimed p.log_blowup) here (flat_map (λ b. b) (all_committed kept requests values)))
+      ∙ sym (map-append (claimed p.log_blowup) here (flat_map (λ b. b) (all_committed kept k p.log_blowup requests values)))
 
 -- a verifier's run over the answered matrices, whose queries are below the greatest height
 pub run-over : {D F E M IC IP WC WP : Type 0} (k : Fields F E) {bits : ℕ} (p : FriParameters M) (kept : D → List (RowMajorMatrix F)) (requests : List (OpeningRequest D E)) (values : Openings E)
     (Commits : List (RowMajorMatrix F) → IC → Type 0) (r : Run F E WC IC IP WP) → 1 ≤ p.log_blowup → AreRequests kept k bits p requests → AllZip (AreAnswers kept k p.log_blowup) requests values →
-    AreClaimed p kept Commits requests values r.batches → All (λ q. q < 2 ^ top_of (answered_matrices p kept requests values)) r.drawn.queries → IsRunOver k p (answered_matrices p kept requests values) r bits
+    AreClaimed k p kept Commits requests values r.batches → All (λ q. q < 2 ^ top_of (answered_matrices k p kept requests values)) r.drawn.queries → IsRunOver k p (answered_matrices k p kept requests values) r bits
 run-over k {bits} p kept requests values Commits r blowup asked answers claims below =
-    let ms = answered_matrices p kept requests values in
+    let ms = answered_matrices k p kept requests values in
     let some = all-some k p.log_blowup kept requests values answers asked.some asked.matrices in record {
       some = some;
-      tall = heights-known (λ h. p.log_blowup + p.log_final_poly_len + 2 ≤ h) kept requests values asked.tall;
+      tall = heights-known k p.log_blowup (λ h. p.log_blowup + p.log_final_poly_len + 2 ≤ h) kept requests values asked.tall;
       in_group =
           top-known ms (λ h. h < bits) some
-          (heights-known (λ h. h < bits) kept requests values (fit-known kept k p.log_blowup bits (λ m. log_of (height_of m) < bits) (λ m points openable. openable.in_group) requests asked.fit));
+          (heights-known k p.log_blowup (λ h. h < bits) kept requests values (fit-known kept k p.log_blowup bits (λ m. log_of (height_of m) < bits) (λ m points openable. openable.in_group) requests asked.fit));
       blowup = blowup;
-      claims = claims-are p kept Commits requests values r.batches claims;
+      claims = claims-are k p kept Commits requests values r.batches claims;
       below = below;
     }
 
 module _ {D F E M IC IP WC WP : Type 0} (k : Fields F E) {bits : ℕ} (p : FriParameters M) (kept : D → List (RowMajorMatrix F)) (requests : List (OpeningRequest D E)) (values : Openings E)
-    (Commits : List (RowMajorMatrix F) → IC → Type 0) (authenticates : Authenticates IC F IP) (r : Run F E WC IC IP WP) (over : IsRunOver k p (answered_matrices p kept requests values) r bits)
-    (asked : AreRequests kept k bits p requests) (answers : AllZip (AreAnswers kept k p.log_blowup) requests values) (claims : AreClaimed p kept Commits requests values r.batches)
-    (inputs : AllZip (HasBatchRows kept Commits authenticates (top_of (answered_matrices p kept requests values)) r.drawn.queries) requests r.proof.inputs)
-    (opened : All (λ m. 1 ≤ length m.claims) (answered_matrices p kept requests values)) where
+    (Commits : List (RowMajorMatrix F) → IC → Type 0) (authenticates : Authenticates IC F IP) (r : Run F E WC IC IP WP) (over : IsRunOver k p (answered_matrices k p kept requests values) r bits)
+    (asked : AreRequests kept k bits p requests) (answers : AllZip (AreAnswers kept k p.log_blowup) requests values) (claims : AreClaimed k p kept Commits requests values r.batches)
+    (inputs : AllZip (HasBatchRows kept Commits authenticates (top_of (answered_matrices k p kept requests values)) r.drawn.queries) requests r.proof.inputs)
+    (opened : All (λ m. 1 ≤ length m.claims) (answered_matrices k p kept requests values))
+    (read : AllByRecursion (λ r. All (HasReadRows k p.log_blowup) (kept r.prover_data.now)) requests) where
   abbrev ms : List (Committed F E)
-  ms = answered_matrices p kept requests values
+  ms = answered_matrices k p kept requests values
 
   abbrev high : ℕ
   high = top_of ms
@@ -99,7 +101,7 @@ module _ {D F E M IC IP WC WP : Type 0} (k : Fields F E) {bits : ℕ} (p : FriPa
       let low = heights-back k p.log_blowup (λ h. h ≤ high) kept requests values answers (matrices-low ms) in
       gathered k bits high p kept Commits authenticates qs requests values r.batches r.proof.inputs
       (recursion_from_All (IsFit kept k p.log_blowup bits) requests asked.fit) (recursion_from_All (λ (q : OpeningRequest D E). 1 ≤ length (kept q.prover_data.now)) requests asked.matrices)
-      (recursion_from_All (λ (q : OpeningRequest D E). All (λ m. log_of (height_of m) ≤ high) (kept q.prover_data.now)) requests low)
+      (recursion_from_All (λ (q : OpeningRequest D E). All (λ m. log_of (height_of m) ≤ high) (kept q.prover_data.now)) requests low) read
       (recursion_from_All (λ (m : Committed F E). 1 ≤ length m.claims) ms opened) answers claims inputs
 
   -- claims and what is opened, side by side

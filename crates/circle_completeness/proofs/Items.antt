@@ -20,6 +20,7 @@ use Rattle.circle_words.specs.Words.{Committed, claim_of, claims_on}
 use Rattle.circle_opening.specs.Requests.{AreHeights, AreValuesOf, IsOpenable, batch_committed, claimed, committed, log_of}
 use Rattle.circle_opening.proofs.Answered.{batch-heights}
 use Rattle.circle_opening.proofs.Held.{heights-listed}
+use Rattle.circle_completeness.proofs.ReadRows.{HasReadRows}
 use Rattle.circle_completeness.proofs.Lists.{greatest-power, if-same, row-below, row-place, zip-maps}
 
 module _ {E : Type 0} where
@@ -52,13 +53,14 @@ module _ {F E : Type 0} (k : Fields F E) (bits blowup top : ℕ) where
     pub widths : All (λ v. length v ≡ width_of matrix) values
     pub opened : 1 ≤ length (pairwise claim_of points values)
     pub low : log_of (height_of matrix) ≤ top
+    pub read : HasReadRows k blowup matrix
 
   abbrev pub matrices_of : List Item → List (RowMajorMatrix F)
   matrices_of items = map (λ i. i.matrix) items
 
   -- as it is committed and as it is claimed, and the logarithm of its height
   abbrev pub committed_of : Item → Committed F E
-  committed_of i = committed i.matrix i.points i.values
+  committed_of i = committed k blowup i.matrix i.points i.values
 
   abbrev pub claimed_of : Item → MatrixClaim E
   claimed_of i = claimed blowup (committed_of i)
@@ -68,15 +70,16 @@ module _ {F E : Type 0} (k : Fields F E) (bits blowup top : ℕ) where
 
   -- the matrices of a request
   pub items-of : (ms : List (RowMajorMatrix F)) (points : List (List E)) (values : List (List (List E))) → AllZip (IsOpenable k bits blowup) ms points →
-      AllZip (λ m rest. AreValuesOf k blowup m rest.0 rest.1) ms (zip points values) → AllByRecursion (λ c. 1 ≤ length c.claims) (batch_committed ms points values) → AllByRecursion (λ m. log_of (height_of m) ≤ top) ms →
-      (items : List Item) × (ms ≡ matrices_of items) × (batch_committed ms points values ≡ map committed_of items)
-  items-of [] points values openable are opened low = ([], refl, refl)
-  items-of (m ∷ ms) [] values openable are opened low = absurd openable
-  items-of (m ∷ ms) (t ∷ points) [] openable are opened low = absurd are
-  items-of (m ∷ ms) (t ∷ points) (v ∷ values) openable are opened low =
-      let one : Item = record { matrix = m; points = t; values = v; openable = openable.0; widths = are.0.widths; opened = opened.0; low = low.0 } in
-      let rest = items-of ms points values openable.1 are.1 opened.1 low.1 in
-      (one ∷ rest.0, ap (λ l. m ∷ l) rest.1, ap (λ l. committed m t v ∷ l) rest.2)
+      AllZip (λ m rest. AreValuesOf k blowup m rest.0 rest.1) ms (zip points values) → AllByRecursion (λ c. 1 ≤ length c.claims) (batch_committed k blowup ms points values) → AllByRecursion (λ m. log_of (height_of m) ≤ top) ms →
+      AllByRecursion (HasReadRows k blowup) ms →
+      (items : List Item) × (ms ≡ matrices_of items) × (batch_committed k blowup ms points values ≡ map committed_of items)
+  items-of [] points values openable are opened low read = ([], refl, refl)
+  items-of (m ∷ ms) [] values openable are opened low read = absurd openable
+  items-of (m ∷ ms) (t ∷ points) [] openable are opened low read = absurd are
+  items-of (m ∷ ms) (t ∷ points) (v ∷ values) openable are opened low read =
+      let one : Item = record { matrix = m; points = t; values = v; openable = openable.0; widths = are.0.widths; opened = opened.0; low = low.0; read = read.0 } in
+      let rest = items-of ms points values openable.1 are.1 opened.1 low.1 read.1 in
+      (one ∷ rest.0, ap (λ l. m ∷ l) rest.1, ap (λ l. committed k blowup m t v ∷ l) rest.2)
 
   -- it is claimed with its height
   claimed-height : (i : Item) → log_height blowup (claimed_of i) ≡ order i
@@ -177,7 +180,8 @@ module _ {F E : Type 0} (k : Fields F E) (bits blowup top : ℕ) where
         ∙ if-same (order i == h) (with_row row) (claims_on (committed_of i) (q / 2 ^ (top - h))) []
         (λ yes.
         ap (λ n. with_row (slice_index_or (rows i.matrix) n []))
-        (row-place high (order i) most (height_of i.matrix) is_most i.openable.power le q top within ∙ ap (λ n. q / 2 ^ (top - n)) (eqb-true (order i) h yes)))
+        (row-place high (order i) most (height_of i.matrix) is_most i.openable.power le q top within ∙ ap (λ n. q / 2 ^ (top - n)) (eqb-true (order i) h yes))
+        ∙ ap (λ rs. with_row (slice_index_or rs (q / 2 ^ (top - h)) [])) (sym i.read))
 
   -- the domain of a matrix's height is clear of the points that it is opened at
   pub record IsAway (c : Committed F E) : Type 0 where

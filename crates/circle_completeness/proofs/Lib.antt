@@ -1,4 +1,5 @@
 pub mod Accepted
+pub mod Cut
 pub mod DifferenceQuotients
 pub mod Drawn
 pub mod FirstLayer
@@ -13,6 +14,7 @@ pub mod LastWords
 pub mod Lists
 pub mod NearLow
 pub mod Pairs
+pub mod ReadRows
 pub mod RoundLists
 pub mod RoundWords
 pub mod Rounds

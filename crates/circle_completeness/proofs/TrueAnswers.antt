@@ -1,8 +1,8 @@
 -- What is answered of matrices of low degree is true, so the words of their opening end in the values of a final polynomial.
-use Rattle.std.specs.Prelude.{◌≡◌, ◌↔◌, ℕ, ◌+◌, ◌-◌, ◌^◌, ◌<◌, ◌≤◌, Bool, true, List, [], ◌∷◌, length, map, flat_map, take, zip, All, slice_index_or}
+use Rattle.std.specs.Prelude.{◌≡◌, ◌↔◌, ℕ, ◌+◌, ◌-◌, ◌^◌, ◌<◌, ◌≤◌, Bool, true, List, [], ◌∷◌, length, map, flat_map, zip, All, slice_index_or}
 use Rattle.std.specs.List.{AllByRecursion, AllZip}
 use Rattle.std.proofs.Common.{sym, ◌∙◌, ap, subst, arith, inl, inr}
-use Rattle.std.proofs.lemmas.List.{length-map, take-map}
+use Rattle.std.proofs.lemmas.List.{length-map}
 use Rattle.std.proofs.lemmas.List.Elements.{All-from_recursion, recursion_from_All}
 use Rattle.circle_field.specs.Field.{FieldLaws, IsEmbedding}
 use Rattle.circle_field.specs.Circle.{Coordinates, AreGenerators}
@@ -13,18 +13,17 @@ use Rattle.circle_matrix.specs.DotProduct.{pairwise}
 use Rattle.circle_matrix.specs.Matrix.{column}
 use Rattle.circle_challenger.specs.Moves.{RunMoves}
 use Rattle.circle_matrix.specs.Pcs.{Openings}
-use Rattle.circle_matrix.specs.RowMajorMatrix.{rows, width_of, height_of}
+use Rattle.circle_matrix.specs.RowMajorMatrix.{width_of, height_of}
 use Rattle.circle_matrix.specs.declared.matrix.RowMajorMatrix.{RowMajorMatrix}
 use Rattle.circle_matrix.specs.declared.params.FriParameters.{FriParameters}
 use Rattle.circle_matrix.specs.declared.pcs.OpeningRequest.{OpeningRequest}
 use Rattle.circle_matrix.proofs.Written.{length-pairwise, pairwise-read}
 use Rattle.circle_domain.specs.Order.{cfft_order}
 use Rattle.circle_domain.specs.Values.{values_at, lifted_values_at}
-use Rattle.circle_domain.proofs.Blocks.{all-append, cfft_order-prefix}
+use Rattle.circle_domain.proofs.Blocks.{all-append}
 use Rattle.circle_domain.proofs.Stored.{column-values}
 use Rattle.circle_domain.proofs.Told.{values-tell}
 use Rattle.circle_relation.specs.Accepts.{Fields}
-use Rattle.circle_words.specs.Ratios.{points_of_height}
 use Rattle.circle_words.specs.Values.{OpensTo}
 use Rattle.circle_words.specs.Words.{claim_of}
 use Rattle.circle_words.proofs.Prefix.{first-genuine, off-apart}
@@ -36,6 +35,7 @@ use Rattle.circle_opening.proofs.Tops.{top-known}
 use Rattle.circle_completeness.specs.Honest.{IsOfLowDegree, EndsLow, IsNeverTooHigh}
 use Rattle.circle_completeness.specs.LowDegree.{IsTrueClaim, IsTrue}
 use Rattle.circle_completeness.proofs.LastWords.{last-low}
+use Rattle.circle_completeness.proofs.ReadRows.{first-values, low-degree}
 
 module _ {F E : Type 0} (k : Fields F E) (base : FieldLaws k.field) (laws : FieldLaws k.extension) (e : IsEmbedding k.field k.extension k.embed)
     {bits : ℕ} (gens : AreGenerators k.field bits k.gen) (blowup : ℕ) where
@@ -62,25 +62,19 @@ module _ {F E : Type 0} (k : Fields F E) (base : FieldLaws k.field) (laws : Fiel
       OpensTo k blowup (log_of (height_of m)) m t values → values ≡ lifted_values_at k.field.zero k.extension k.embed low.coeffs (width_of m) (from_line k.extension t)
   opens-true m low t values below fits opens =
       let h = log_of (height_of m) in
-      let n = h - blowup in
-      let width = width_of m in
-      let s = k.gen (h + 1) in
-      let f = values_at k.field low.coeffs width in
-      let first : take (2 ^ n) (rows m) ≡ map f (cfft_order k.field k.gen n s) =
-      ap (take (2 ^ n)) (sym low.values) ∙ take-map f (2 ^ n) (points_of_height k.field k.gen h)
-      ∙ ap (map f) (cfft_order-prefix k.field k.gen n h s (omega (arith, below)) (omega arith)) in
       opens.at_point
-      ∙ same-values n h width opens.coeffs low.coeffs (from_line k.extension t) (omega (arith, below)) (omega arith) fits opens.told.height low.count (opens.told.values ∙ first)
+      ∙ same-values (h - blowup) h (width_of m) opens.coeffs low.coeffs (from_line k.extension t) (omega (arith, below)) (omega arith) fits opens.told.height low.count
+      (opens.told.values ∙ first-values k blowup m low below)
 
   -- of a matrix at all its points
   committed-true : (m : RowMajorMatrix F) (points : List E) (values : List (List E)) → IsOfLowDegree k blowup m → IsOpenable k bits blowup m points → AreValuesOf k blowup m points values →
-      IsTrue k blowup (committed m points values)
+      IsTrue k blowup (committed k blowup m points values)
   committed-true m points values low openable are =
       let h = log_of (height_of m) in
-      let c = committed m points values in record {
+      let c = committed k blowup m points values in record {
         width = width_of m;
         coeffs = low.coeffs;
-        columns = record { count = low.count; values = low.values };
+        columns = record { count = low.count; values = low.values ∙ sym (low-degree k blowup base gens m low openable.blowup openable.in_group) };
         claims = λ i d lt.
             let within : i < length points = omega (arith, lt, length-pairwise claim_of points values (sym are.count)) in
             let t = slice_index_or points i k.extension.zero in
@@ -97,7 +91,7 @@ module _ {F E : Type 0} (k : Fields F E) (base : FieldLaws k.field) (laws : Fiel
       }
 
   batch-true : (ms : List (RowMajorMatrix F)) (points : List (List E)) (values : List (List (List E))) → AllByRecursion (IsOfLowDegree k blowup) ms → AllZip (IsOpenable k bits blowup) ms points →
-      AllZip (λ m rest. AreValuesOf k blowup m rest.0 rest.1) ms (zip points values) → AllByRecursion (IsTrue k blowup) (batch_committed ms points values)
+      AllZip (λ m rest. AreValuesOf k blowup m rest.0 rest.1) ms (zip points values) → AllByRecursion (IsTrue k blowup) (batch_committed k blowup ms points values)
   batch-true [] points values low openable are = tt
   batch-true (m ∷ ms) [] values low openable are = tt
   batch-true (m ∷ ms) (t ∷ points) [] low openable are = tt
@@ -106,19 +100,19 @@ module _ {F E : Type 0} (k : Fields F E) (base : FieldLaws k.field) (laws : Fiel
 
   module _ {D : Type 0} (kept : D → List (RowMajorMatrix F)) where
     all-true : (requests : List (OpeningRequest D E)) (values : Openings E) → AllByRecursion (λ r. All (IsOfLowDegree k blowup) (kept r.prover_data.now)) requests →
-        AllByRecursion (IsFit kept k blowup bits) requests → AllZip (AreAnswers kept k blowup) requests values → AllByRecursion (IsTrue k blowup) (flat_map (λ b. b) (all_committed kept requests values))
+        AllByRecursion (IsFit kept k blowup bits) requests → AllZip (AreAnswers kept k blowup) requests values → AllByRecursion (IsTrue k blowup) (flat_map (λ b. b) (all_committed kept k blowup requests values))
     all-true [] values low fit are = tt
     all-true (r ∷ requests) [] low fit are = tt
     all-true (r ∷ requests) (v ∷ values) low fit are =
-        all-append (IsTrue k blowup) (batch_committed (kept r.prover_data.now) (points_of kept r) v) (flat_map (λ b. b) (all_committed kept requests values))
+        all-append (IsTrue k blowup) (batch_committed k blowup (kept r.prover_data.now) (points_of kept r) v) (flat_map (λ b. b) (all_committed kept k blowup requests values))
         (batch-true (kept r.prover_data.now) (points_of kept r) v (recursion_from_All (IsOfLowDegree k blowup) (kept r.prover_data.now) low.0) fit.0 are.0.0)
         (all-true requests values low.1 fit.1 are.1)
 
     -- all answers
     pub answers-true : (requests : List (OpeningRequest D E)) (values : Openings E) → All (λ r. All (IsOfLowDegree k blowup) (kept r.prover_data.now)) requests →
-        All (IsFit kept k blowup bits) requests → AllZip (AreAnswers kept k blowup) requests values → All (IsTrue k blowup) (flat_map (λ b. b) (all_committed kept requests values))
+        All (IsFit kept k blowup bits) requests → AllZip (AreAnswers kept k blowup) requests values → All (IsTrue k blowup) (flat_map (λ b. b) (all_committed kept k blowup requests values))
     answers-true requests values low fit are =
-        All-from_recursion (IsTrue k blowup) (flat_map (λ b. b) (all_committed kept requests values))
+        All-from_recursion (IsTrue k blowup) (flat_map (λ b. b) (all_committed kept k blowup requests values))
         (all-true requests values (recursion_from_All (λ (r : OpeningRequest D E). All (IsOfLowDegree k blowup) (kept r.prover_data.now)) requests low)
         (recursion_from_All (IsFit kept k blowup bits) requests fit) are)
 
@@ -128,13 +122,13 @@ pub ends-low : {D F E M : Type 0} (k : Fields F E) (base : FieldLaws k.field) (l
     {bits : ℕ} (gens : AreGenerators k.field bits k.gen) (kept : D → List (RowMajorMatrix F)) (p : FriParameters M) (requests : List (OpeningRequest D E)) →
     AreFit p → AreRequests kept k bits p requests → EndsLow kept k p requests
 ends-low k base laws e base_eq base_law eq eq_law {bits} gens kept p requests fit asked low values are alpha bivariate betas =
-    let ms = answered_matrices p kept requests values in
+    let ms = answered_matrices k p kept requests values in
     let some = all-some k p.log_blowup kept requests values are asked.some asked.matrices in
     let top_fits : top_of ms < bits =
     top-known ms (λ h. h < bits) some
-    (heights-known (λ h. h < bits) kept requests values (fit-known kept k p.log_blowup bits (λ m. log_of (height_of m) < bits) (λ m points openable. openable.in_group) requests asked.fit)) in
+    (heights-known k p.log_blowup (λ h. h < bits) kept requests values (fit-known kept k p.log_blowup bits (λ m. log_of (height_of m) < bits) (λ m points openable. openable.in_group) requests asked.fit)) in
     let tall : p.log_blowup + p.log_final_poly_len + 2 ≤ top_of ms =
-    top-known ms (λ h. p.log_blowup + p.log_final_poly_len + 2 ≤ h) some (heights-known (λ h. p.log_blowup + p.log_final_poly_len + 2 ≤ h) kept requests values asked.tall) in
+    top-known ms (λ h. p.log_blowup + p.log_final_poly_len + 2 ≤ h) some (heights-known k p.log_blowup (λ h. p.log_blowup + p.log_final_poly_len + 2 ≤ h) kept requests values asked.tall) in
     last-low k base laws e base_eq base_law eq eq_law gens p.log_blowup fit.blowup alpha ms bivariate p.log_final_poly_len betas
     (answers-true k base laws e gens p.log_blowup kept requests values low asked.fit are) top_fits (omega (arith, tall))
 

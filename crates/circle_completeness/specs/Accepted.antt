@@ -12,22 +12,24 @@ use Rattle.circle_opening.specs.Schemes.{Schemes}
 use Rattle.circle_relation.specs.Accepts.{AcceptsFrom, Authenticates, Fields}
 use Rattle.circle_relation.specs.Statement.{BatchClaim, OpeningProof, all_matrices}
 use Rattle.circle_completeness.specs.Claimed.{AreClaimed}
+use Rattle.circle_completeness.specs.Honest.{AreReadAsIs}
 
 module _ {C S F E M IC IP WC WP : Type 0} (k : Fields F E) (r : RunMoves C S F E WC)
     (p : FriParameters M) (authenticates : Authenticates IC F IP)
     (word_authenticates : Authenticates WC E WP) where
-  -- whatever an opening answers of the requests is accepted, from the state that it began in to
-  -- that which it left: where what is claimed is what was answered, of each matrix at a point at
-  -- least, under commitments of the matrices
+  -- whatever an opening answers of requested matrices whose rows are read as they are is accepted,
+  -- from the state that it began in to that which it left: where what is claimed is what was
+  -- answered, of each matrix at a point at least, under commitments of the matrices
   abbrev pub AcceptsOpenings : {D : Type 0} → (D → List (RowMajorMatrix F))
       → (List (RowMajorMatrix F) → IC → Type 0) → (List (RowMajorMatrix E) → WC → Type 0)
       → List (OpeningRequest D E) → Type 0
   AcceptsOpenings kept Commits WordCommits requests =
-      (values : Openings E) → AllZip (AreAnswers kept k p.log_blowup) requests values
+      AreReadAsIs kept k p requests
+      → (values : Openings E) → AllZip (AreAnswers kept k p.log_blowup) requests values
       → (proof : OpeningProof F E WC IP WP) (old new : S)
       → IsOpening p kept requests values k r proof Commits authenticates WordCommits
       word_authenticates old new
-      → (batches : List (BatchClaim IC E)) → AreClaimed p kept Commits requests values batches
+      → (batches : List (BatchClaim IC E)) → AreClaimed k p kept Commits requests values batches
       → All (λ m. 1 ≤ length m.claims) (all_matrices batches)
       → AcceptsFrom k p r authenticates word_authenticates batches proof old new
 

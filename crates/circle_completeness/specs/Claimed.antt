@@ -5,10 +5,11 @@ use Rattle.circle_matrix.specs.declared.matrix.RowMajorMatrix.{RowMajorMatrix}
 use Rattle.circle_matrix.specs.declared.params.FriParameters.{FriParameters}
 use Rattle.circle_matrix.specs.declared.pcs.OpeningRequest.{OpeningRequest}
 use Rattle.circle_opening.specs.Requests.{batch_committed, claimed, points_of}
+use Rattle.circle_relation.specs.Accepts.{Fields}
 use Rattle.circle_relation.specs.Statement.{BatchClaim}
 
-module _ {D F E M IC : Type 0} (p : FriParameters M) (kept : D → List (RowMajorMatrix F))
-    (Commits : List (RowMajorMatrix F) → IC → Type 0) where
+module _ {D F E M IC : Type 0} (k : Fields F E) (p : FriParameters M)
+    (kept : D → List (RowMajorMatrix F)) (Commits : List (RowMajorMatrix F) → IC → Type 0) where
   -- the claims on one batch: under a commitment of the request's matrices, what is answered of them
   pub record IsClaimed (request : OpeningRequest D E) (values : List (List (List E)))
       (batch : BatchClaim IC E) : Type 0 where
@@ -16,7 +17,8 @@ module _ {D F E M IC : Type 0} (p : FriParameters M) (kept : D → List (RowMajo
     pub matrices :
         batch.matrices
         ≡ map (claimed p.log_blowup)
-        (batch_committed (kept request.prover_data.now) (points_of kept request) values)
+        (batch_committed k p.log_blowup (kept request.prover_data.now) (points_of kept request)
+        values)
 
   -- the claims on all batches, request by request
   abbrev pub AreClaimed : List (OpeningRequest D E) → Openings E → List (BatchClaim IC E) → Type 0

@@ -1,5 +1,6 @@
--- Requests that are honest: the matrices are of low degree, and the answers are their values.
-use Rattle.std.specs.Prelude.{◌≡◌, ◌≢◌, ℕ, ◌+◌, ◌-◌, ◌^◌, List, length, map, All}
+-- Requests that are honest: the matrices are of low degree, and the answers are their values. And
+-- matrices that words read as they are.
+use Rattle.std.specs.Prelude.{◌≡◌, ◌≢◌, ◌⊎◌, ℕ, ◌+◌, ◌-◌, ◌^◌, ◌<◌, List, length, map, All}
 use Rattle.std.specs.List.{AllZip}
 use Rattle.circle_challenger.specs.Moves.{RunMoves}
 use Rattle.circle_matrix.specs.Pcs.{Openings}
@@ -16,6 +17,7 @@ use Rattle.circle_opening.specs.Words.{last_word}
 use Rattle.circle_opening.specs.declared.error.ProverError.{ProverError}
 use Rattle.circle_opening.specs.declared.error.ProverError.TheVariants.{LastWordNotConstant}
 use Rattle.circle_relation.specs.Accepts.{Fields}
+use Rattle.circle_words.specs.Lifts.{lift_width}
 use Rattle.circle_words.specs.Ratios.{points_of_height}
 
 -- the columns of a matrix of 2^h rows are, on the standard domain of 2^h points in the transform's
@@ -29,11 +31,19 @@ pub record IsOfLowDegree {F E : Type 0} (k : Fields F E) (blowup : ℕ) (m : Row
       (points_of_height k.field k.gen (log_of (height_of m)))
       ≡ rows m
 
+-- words read the rows that a matrix has: it has few columns, or is of low degree
+abbrev pub IsReadAsIs : {F E : Type 0} → Fields F E → ℕ → RowMajorMatrix F → Type 0
+IsReadAsIs k blowup m = (width_of m < lift_width) ⊎ IsOfLowDegree k blowup m
+
 module _ {D F E M : Type 0} (kept : D → List (RowMajorMatrix F)) (k : Fields F E)
     (p : FriParameters M) (requests : List (OpeningRequest D E)) where
   -- all requested matrices are of low degree
   abbrev pub AreOfLowDegree : Type 0
   AreOfLowDegree = All (λ r. All (IsOfLowDegree k p.log_blowup) (kept r.prover_data.now)) requests
+
+  -- words read the rows that each of them has
+  abbrev pub AreReadAsIs : Type 0
+  AreReadAsIs = All (λ r. All (IsReadAsIs k p.log_blowup) (kept r.prover_data.now)) requests
 
   -- where the requested matrices are of low degree and these values are answered, the word that the
   -- rounds end in is, whatever the challenges, the values of a final polynomial
@@ -44,7 +54,7 @@ module _ {D F E M : Type 0} (kept : D → List (RowMajorMatrix F)) (k : Fields F
       → (alpha bivariate : E) (betas : List E)
       → XSpan k.field k.gen k.extension k.embed p.log_final_poly_len
       (p.log_blowup + p.log_final_poly_len)
-      (last_word k p.log_blowup (answered_matrices p kept requests values) alpha
+      (last_word k p.log_blowup (answered_matrices k p kept requests values) alpha
       p.log_final_poly_len bivariate betas)
 
   -- so no opening of them is refused for a last word of too high degree

@@ -1,6 +1,6 @@
 -- The definitions at a worked example over the numbers modulo 31, whose circle has 32 points. It
 -- was computed apart from these definitions.
-use Rattle.std.specs.Prelude.{◌≡◌, ◌==◌, ℕ, ◌+◌, ◌*◌, ◌-◌, ◌%◌, ◌^◌, [], ◌∷◌, refl}
+use Rattle.std.specs.Prelude.{◌≡◌, ◌==◌, ℕ, ◌+◌, ◌*◌, ◌-◌, ◌%◌, ◌^◌, List, [], ◌∷◌, map, take, refl}
 use Rattle.std.proofs.Common.{zero, suc, ap}
 use Rattle.std.proofs.lemmas.Bool.{eqb-false}
 use Rattle.std.proofs.lemmas.List.Elements.{All-from_recursion}
@@ -11,6 +11,7 @@ use Rattle.circle_opening.specs.Words.{round_word}
 use Rattle.circle_point.specs.Projective.{from_line}
 use Rattle.circle_relation.specs.Accepts.{Fields}
 use Rattle.circle_relation.specs.Statement.{PointClaim}
+use Rattle.circle_words.specs.Lifts.{extended_rows, read_rows}
 use Rattle.circle_words.specs.Ratios.{points_of_height}
 use Rattle.circle_words.specs.Words.{Committed, reduced_word, corrected_word, claim_of}
 use Rattle.circle_completeness.specs.LowDegree.{IsTrue, IsTrueClaim}
@@ -51,6 +52,21 @@ matrix = record {
   rows = (26 ∷ []) ∷ (11 ∷ []) ∷ (11 ∷ []) ∷ (26 ∷ []) ∷ [];
   claims = claim ∷ [];
 }
+
+-- rows of which the first two are those of the matrix, and the others are of no such polynomial
+abbrev other_rows : List (List ℕ)
+other_rows = (26 ∷ []) ∷ (11 ∷ []) ∷ (0 ∷ []) ∷ (0 ∷ []) ∷ []
+
+-- the first two extend to all rows of the matrix: so are they read of 1024 columns, and of one
+-- column the rows are read as they are
+extended_lines : extended_rows fields 1 2 1 other_rows ≡ matrix.rows
+extended_lines = refl
+
+wide_lines : map (take 1) (read_rows fields 1 2 1024 other_rows) ≡ matrix.rows
+wide_lines = refl
+
+narrow_lines : read_rows fields 1 2 1 other_rows ≡ other_rows
+narrow_lines = refl
 
 -- the claim is true
 claim_row : IsTrueClaim fields 1 matrix 1 ((3 ∷ []) ∷ (2 ∷ []) ∷ []) claim

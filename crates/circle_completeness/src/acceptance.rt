@@ -16,6 +16,10 @@ use circle_relation::OverCircle;
 /// the state that the opening began in are those of the opening, they leave the state that it left,
 /// and the verifier's relation holds of them.
 ///
+/// That is so of matrices of fewer than 1024 columns, of whatever degree, and of all of low degree.
+/// A wide one of high degree is opened at the queries by its own rows, but its words are those of
+/// the extension of its first rows: what is answered of it may be refused.
+///
 /// Asks what an opening asks, and folding by two. Takes no memory.
 pub fn openings_are_accepted<
     Val: ComplexExtendable,

@@ -18,17 +18,20 @@
 //! each matrix at one point at least, under commitments of its matrices, the relation that a
 //! verifier decides holds of them, the proof and the challenges that are drawn from the state that
 //! the opening began in, and the run leaves the state that the opening left
-//! (`openings_are_accepted`). Nothing is asked of the matrices' degree there: it decides whether an
-//! opening comes to an end.
+//! (`openings_are_accepted`). Nothing is asked there of the degree of matrices of fewer than 1024
+//! columns: it decides whether an opening comes to an end. Wider ones are asked to be of low degree
+//! (`IsReadAsIs`): words read the extension of their first rows, which is then their rows, and what
+//! is opened of them at the queries are their own rows.
 //!
 //! Its files:
 //!
 //! - In `specs/`, `LowDegree`, `LowWords`, `Honest`: matrices of low degree, words and requests.
-//!   `Claimed`, `Over`, `Accepted`: claims on answers, and their acceptance. `Rows`.
+//!   `Claimed`, `Over`, `Accepted`: claims on answers, and their acceptance. `Rows`: an example.
 //! - In `proofs/`, of low degree: `NearLow`, values of a polynomial plus a multiple of `v_n`,
 //!   closed under sums, multiples and, with twice as many coefficients, products with `v_n`;
 //!   `DifferenceQuotients`, quotients of differences are such values; `TrueQuotients`, `TrueWords`,
 //!   `FoldedWords`, `LastWords`, `TrueAnswers`.
+//! - In `proofs/`, `ReadRows`: the rows that words read of a matrix are its own.
 //! - In `proofs/`, of acceptance: `Heights`, `Lists`, `Items`, `Gathered`, `Inputs`: rows
 //!   authenticate. `Pairs` and those that begin with `First`: the first layer. Those that begin
 //!   with `Round`: the rounds, to the final polynomial's value. `Drawn`: the draws. `Accepted`: all

@@ -17,6 +17,7 @@
 //!   twiddle in the first layer and round after round, `query_pairs` and `push_query_pairs` the
 //!   rows that a word's commitment, and one more word's, is asked for, and `fold_query_values`
 //!   folds each query's pair, leaving the values where memory is refused.
+//!   `fold_query_values_with_inv_twiddles` folds them where the inverses are there already.
 //! - Of polynomials in x: `x_value` is the sum of the coefficients times the basis at x;
 //!   `x_interpolate` answers coefficients exactly where so few have the word's values, and they are
 //!   the only ones that do (`values`, `only`, `none`).
@@ -50,8 +51,8 @@ pub use evaluation::x_value;
 pub use folding::{add_each, fold_row_with_inv_twiddle, fold_x, fold_x_row, fold_y};
 pub use interpolation::x_interpolate;
 pub use query::{
-    first_layer_twiddles, first_x_twiddles, fold_query_values, next_x_twiddles, push_query_pairs,
-    query_pairs, without_bits,
+    first_layer_twiddles, first_x_twiddles, fold_query_values, fold_query_values_with_inv_twiddles,
+    next_x_twiddles, push_query_pairs, query_pairs, without_bits,
 };
 pub use reduced::{Claim, MatrixRows, add_quotients, query_points, subtract_vanishing};
 pub use strategy::CircleFriFolding;

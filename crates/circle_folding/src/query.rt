@@ -5,7 +5,7 @@
 //! has the index `index >> (bits + 1)`, and its sibling is the other entry of the pair. Round `r`
 //! folds a word of `2^(log_max_height - 1 - r)` entries, so there `bits` is `r + 1`.
 ghost use Rattle.std.specs.Prelude.{◌≡◌, ◌≢◌, ◌+◌, ◌/◌, ◌^◌, ◌<◌, ◌≤◌, [], ◌∷◌, ◌++◌};
-ghost use Rattle.std.specs.Prelude.{length, map, All, IfOk, OnOk, OnErr};
+ghost use Rattle.std.specs.Prelude.{List, length, map, All, IfOk, OnOk, OnErr};
 ghost use Rattle.circle_matrix.specs.Mmcs.{opened_rows};
 ghost use Rattle.circle_point.specs.Point.{coordinates};
 ghost use Rattle.circle_matrix.specs.DotProduct.{pairwise};
@@ -180,11 +180,35 @@ pub fn fold_query_values<F: Field, EF: ExtensionField<F>>(
     ensures refused { OnErr result (values.new ≡ values.old) }
 {
     let inverses = batch_multiplicative_inverse(alloc, twiddles)?;
+    fold_query_values_with_inv_twiddles(beta, bits, indices, &inverses, values, siblings);
+    Ok(())
+}
+
+/// Folds each query's pair as [`fold_query_values`] does, where the inverses of the twiddles are
+/// there already: so one inversion can serve many words.
+///
+/// Asks the inverse of a twiddle that isn't 0, a value and a sibling for each query, and
+/// `bits < 63`. Takes no memory.
+pub fn fold_query_values_with_inv_twiddles<F: Field, EF: ExtensionField<F>>(
+    beta: EF,
+    bits: usize,
+    indices: &[usize],
+    inv_twiddles: &[F],
+    values: &mut [EF],
+    siblings: &[EF],
+)
+    requires inverses { length inv_twiddles.now ≡ length indices.now }
+    requires values { length values.old ≡ length indices.now }
+    requires siblings { length siblings.now ≡ length indices.now }
+    requires bits { bits < 63 }
+    ensures { (ts : List F) → All (λ t. t ≢ F.ops.zero) ts → inv_twiddles.now ≡ map F.ops.inv ts →
+        values.new ≡ folds EF.ops beta (map EF.embed ts)
+        (asked_pairs bits indices.now values.old siblings.now) }
+{
     for (i, value) in values.iter_mut().enumerate() {
         let (low, high) = ordered(indices[i] >> bits, *value, siblings[i]);
-        *value = fold_row_with_inv_twiddle(inverses[i], beta, low, high);
+        *value = fold_row_with_inv_twiddle(inv_twiddles[i], beta, low, high);
     }
-    Ok(())
 }
 
 // The pair of the value at a place and its sibling, as a row.

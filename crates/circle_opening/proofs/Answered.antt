@@ -24,30 +24,30 @@ both-known : {A : Type 0} (P : A → Type 0) (xs ys : List A) → AllByRecursion
 both-known P [] ys p q = q
 both-known P (x ∷ xs) ys p q = (p.0, both-known P xs ys p.1 q)
 
-module _ {F E : Type 0} (P : ℕ → Type 0) where
-  batch-known : (ms : List (RowMajorMatrix F)) (points : List (List E)) (values : List (List (List E))) → AllByRecursion (λ m. P (log_of (height_of m))) ms → AllByRecursion (λ c. P c.log_height) (batch_committed ms points values)
+module _ {F E : Type 0} (k : Fields F E) (blowup : ℕ) (P : ℕ → Type 0) where
+  batch-known : (ms : List (RowMajorMatrix F)) (points : List (List E)) (values : List (List (List E))) → AllByRecursion (λ m. P (log_of (height_of m))) ms → AllByRecursion (λ c. P c.log_height) (batch_committed k blowup ms points values)
   batch-known [] points values known = tt
   batch-known (m ∷ ms) [] values known = tt
   batch-known (m ∷ ms) (t ∷ points) [] known = tt
   batch-known (m ∷ ms) (t ∷ points) (v ∷ values) known = (known.0, batch-known ms points values known.1)
 
   all-known : {D : Type 0} (kept : D → List (RowMajorMatrix F)) (requests : List (OpeningRequest D E)) (values : Openings E) → AllByRecursion (λ r. All (λ m. P (log_of (height_of m))) (kept r.prover_data.now)) requests
-      → AllByRecursion (λ c. P c.log_height) (flat_map (λ b. b) (all_committed kept requests values))
+      → AllByRecursion (λ c. P c.log_height) (flat_map (λ b. b) (all_committed kept k blowup requests values))
   all-known kept [] values known = tt
   all-known kept (r ∷ requests) [] known = tt
   all-known kept (r ∷ requests) (v ∷ values) known =
-      both-known (λ (c : Committed F E). P c.log_height) (batch_committed (kept r.prover_data.now) (points_of kept r) v) (flat_map (λ b. b) (all_committed kept requests values))
+      both-known (λ (c : Committed F E). P c.log_height) (batch_committed k blowup (kept r.prover_data.now) (points_of kept r) v) (flat_map (λ b. b) (all_committed kept k blowup requests values))
       (batch-known (kept r.prover_data.now) (points_of kept r) v (recursion_from_All (λ m. P (log_of (height_of m))) (kept r.prover_data.now) known.0)) (all-known kept requests values known.1)
 
   -- what is known of the heights of all requested matrices
   pub heights-known : {D : Type 0} (kept : D → List (RowMajorMatrix F)) (requests : List (OpeningRequest D E)) (values : Openings E) → All (λ r. All (λ m. P (log_of (height_of m))) (kept r.prover_data.now)) requests
-      → All (λ c. P c.log_height) (flat_map (λ b. b) (all_committed kept requests values))
+      → All (λ c. P c.log_height) (flat_map (λ b. b) (all_committed kept k blowup requests values))
   heights-known kept requests values known =
-      All-from_recursion (λ (c : Committed F E). P c.log_height) (flat_map (λ b. b) (all_committed kept requests values))
+      All-from_recursion (λ (c : Committed F E). P c.log_height) (flat_map (λ b. b) (all_committed kept k blowup requests values))
       (all-known kept requests values (recursion_from_All (λ (r : OpeningRequest _ E). All (λ m. P (log_of (height_of m))) (kept r.prover_data.now)) requests known))
 
 module _ {F E : Type 0} (k : Fields F E) (blowup : ℕ) where
-  batch-some : (ms : List (RowMajorMatrix F)) (points : List (List E)) (values : List (List (List E))) → AllZip (λ m rest. AreValuesOf k blowup m rest.0 rest.1) ms (zip points values) → 1 ≤ length ms → 1 ≤ length (batch_committed ms points values)
+  batch-some : (ms : List (RowMajorMatrix F)) (points : List (List E)) (values : List (List (List E))) → AllZip (λ m rest. AreValuesOf k blowup m rest.0 rest.1) ms (zip points values) → 1 ≤ length ms → 1 ≤ length (batch_committed k blowup ms points values)
   batch-some [] points values are some = absurd (omega (arith, some))
   batch-some (m ∷ ms) [] values are some = absurd are
   batch-some (m ∷ ms) (t ∷ points) [] are some = absurd are
@@ -55,12 +55,12 @@ module _ {F E : Type 0} (k : Fields F E) (blowup : ℕ) where
 
   -- some matrix is requested
   pub all-some : {D : Type 0} (kept : D → List (RowMajorMatrix F)) (requests : List (OpeningRequest D E)) (values : Openings E) → AllZip (AreAnswers kept k blowup) requests values → 1 ≤ length requests
-      → All (λ r. 1 ≤ length (kept r.prover_data.now)) requests → 1 ≤ length (flat_map (λ b. b) (all_committed kept requests values))
+      → All (λ r. 1 ≤ length (kept r.prover_data.now)) requests → 1 ≤ length (flat_map (λ b. b) (all_committed kept k blowup requests values))
   all-some kept [] values are some known = absurd (omega (arith, some))
   all-some kept (r ∷ requests) [] are some known = absurd are
   all-some kept (r ∷ requests) (v ∷ values) are some known =
       let here = batch-some (kept r.prover_data.now) (points_of kept r) v are.0.0 (known 0 r (omega arith)) in
-      omega (arith, here, length-append (batch_committed (kept r.prover_data.now) (points_of kept r) v) (flat_map (λ b. b) (all_committed kept requests values)))
+      omega (arith, here, length-append (batch_committed k blowup (kept r.prover_data.now) (points_of kept r) v) (flat_map (λ b. b) (all_committed kept k blowup requests values)))
 
 -- what a relation of two lists says of the first
 left-known : {A B : Type 0} (R : A → B → Type 0) (P : A → Type 0) → ((a : A) (b : B) → R a b → P a) → (xs : List A) (ys : List B) → AllZip R xs ys → AllByRecursion P xs
@@ -84,30 +84,30 @@ second-known P [] ys known = known
 second-known P (x ∷ xs) ys known = second-known P xs ys known.1
 
 module _ {F E : Type 0} (k : Fields F E) (blowup : ℕ) (P : ℕ → Type 0) where
-  batch-back : (ms : List (RowMajorMatrix F)) (points : List (List E)) (values : List (List (List E))) → AllZip (λ m rest. AreValuesOf k blowup m rest.0 rest.1) ms (zip points values) → AllByRecursion (λ c. P c.log_height) (batch_committed ms points values)
+  batch-back : (ms : List (RowMajorMatrix F)) (points : List (List E)) (values : List (List (List E))) → AllZip (λ m rest. AreValuesOf k blowup m rest.0 rest.1) ms (zip points values) → AllByRecursion (λ c. P c.log_height) (batch_committed k blowup ms points values)
       → AllByRecursion (λ m. P (log_of (height_of m))) ms
   batch-back [] points values are known = tt
   batch-back (m ∷ ms) [] values are known = absurd are
   batch-back (m ∷ ms) (t ∷ points) [] are known = absurd are
   batch-back (m ∷ ms) (t ∷ points) (v ∷ values) are known = (known.0, batch-back ms points values are.1 known.1)
 
-  all-back : {D : Type 0} (kept : D → List (RowMajorMatrix F)) (requests : List (OpeningRequest D E)) (values : Openings E) → AllZip (AreAnswers kept k blowup) requests values → AllByRecursion (λ c. P c.log_height) (flat_map (λ b. b) (all_committed kept requests values))
+  all-back : {D : Type 0} (kept : D → List (RowMajorMatrix F)) (requests : List (OpeningRequest D E)) (values : Openings E) → AllZip (AreAnswers kept k blowup) requests values → AllByRecursion (λ c. P c.log_height) (flat_map (λ b. b) (all_committed kept k blowup requests values))
       → AllByRecursion (λ r. All (λ m. P (log_of (height_of m))) (kept r.prover_data.now)) requests
   all-back kept [] values are known = tt
   all-back kept (r ∷ requests) [] are known = absurd are
   all-back kept (r ∷ requests) (v ∷ values) are known =
-      let here = batch_committed (kept r.prover_data.now) (points_of kept r) v in
-      let rest = flat_map (λ b. b) (all_committed kept requests values) in (
+      let here = batch_committed k blowup (kept r.prover_data.now) (points_of kept r) v in
+      let rest = flat_map (λ b. b) (all_committed kept k blowup requests values) in (
         All-from_recursion (λ m. P (log_of (height_of m))) (kept r.prover_data.now) (batch-back (kept r.prover_data.now) (points_of kept r) v are.0.0 (first-known (λ (c : Committed F E). P c.log_height) here rest known)),
         all-back kept requests values are.1 (second-known (λ (c : Committed F E). P c.log_height) here rest known),
       )
 
   -- what is known of the height of each answered matrix is known of each requested one
-  pub heights-back : {D : Type 0} (kept : D → List (RowMajorMatrix F)) (requests : List (OpeningRequest D E)) (values : Openings E) → AllZip (AreAnswers kept k blowup) requests values → All (λ c. P c.log_height) (flat_map (λ b. b) (all_committed kept requests values))
+  pub heights-back : {D : Type 0} (kept : D → List (RowMajorMatrix F)) (requests : List (OpeningRequest D E)) (values : Openings E) → AllZip (AreAnswers kept k blowup) requests values → All (λ c. P c.log_height) (flat_map (λ b. b) (all_committed kept k blowup requests values))
       → All (λ r. All (λ m. P (log_of (height_of m))) (kept r.prover_data.now)) requests
   heights-back kept requests values are known =
       All-from_recursion (λ (r : OpeningRequest _ E). All (λ m. P (log_of (height_of m))) (kept r.prover_data.now)) requests
-      (all-back kept requests values are (recursion_from_All (λ (c : Committed F E). P c.log_height) (flat_map (λ b. b) (all_committed kept requests values)) known))
+      (all-back kept requests values are (recursion_from_All (λ (c : Committed F E). P c.log_height) (flat_map (λ b. b) (all_committed kept k blowup requests values)) known))
 
 -- the heights of a batch
 pub batch-heights : {F : Type 0} (top : ℕ) (ms : List (RowMajorMatrix F)) → 1 ≤ length ms → All (λ m. height_of m ≡ 2 ^ log_of (height_of m)) ms → All (λ m. log_of (height_of m) ≤ top) ms → AreHeights top ms

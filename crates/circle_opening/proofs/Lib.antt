@@ -9,9 +9,9 @@ pub mod Lengths
 pub mod Logs
 pub mod OpenedPairs
 pub mod Requested
+pub mod Seen
 pub mod Sided
 pub mod Stuck
-pub mod Tests
 pub mod Threes
 pub mod Tops
 pub mod Zipped

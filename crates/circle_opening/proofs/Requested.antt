@@ -16,6 +16,7 @@ use Rattle.circle_domain.specs.Selectors.{IsFinite}
 use Rattle.circle_matrix.specs.DotProduct.{pairwise}
 use Rattle.circle_relation.specs.Accepts.{Fields}
 use Rattle.circle_relation.specs.Statement.{PointClaim}
+use Rattle.circle_words.specs.Lifts.{read_rows}
 use Rattle.circle_words.specs.Values.{AreOff, AreOpened}
 use Rattle.circle_words.specs.Words.{Committed, claim_of, committed_of}
 use Rattle.circle_words.specs.declared.reduced.OpenedMatrix.{OpenedMatrix}
@@ -187,13 +188,13 @@ zip-take (suc n) [] vs = refl
 zip-take (suc n) (p ∷ ps) [] = refl
 zip-take (suc n) (p ∷ ps) (v ∷ vs) = ap (λ rest. (p, v) ∷ rest) (zip-take n ps vs)
 
-module _ {F E : Type 0} where
+module _ {F E : Type 0} (k : Fields F E) (blowup : ℕ) where
   -- a matrix, as it is opened, with the points and values that it has in a request
   abbrev made-of : ℕ → RowMajorMatrix F → List E → List (PointClaim E) → Committed F E
-  made-of h m ps claims = record { log_height = h; rows = rows m; claims = claims }
+  made-of h m ps claims = record { log_height = h; rows = read_rows k blowup h (width_of m) (rows m); claims = claims }
 
   pub committed-is : (o : OpenedMatrix F E) (m : RowMajorMatrix F) (ps : List E) (vs : List (Vec E Global)) → o.log_height ≡ log_of (height_of m) → o.rows.now ≡ m → o.points.now ≡ ps → o.values.now ≡ vs →
-      committed_of o ≡ committed m ps (lists_of vs)
+      committed_of k blowup o ≡ committed k blowup m ps (lists_of vs)
   committed-is o m ps vs log same points values =
       let claims : List (PointClaim E) = pairwise (λ t v. claim_of t v.items) o.points.now o.values.now in
       ap (λ h. made-of h o.rows.now ps claims) log ∙ ap (λ r. made-of (log_of (height_of m)) r ps claims) same
@@ -202,27 +203,27 @@ module _ {F E : Type 0} where
   -- one more matrix of a batch
   pub committed-more : (ms : List (RowMajorMatrix F)) (points : List (Vec E Global)) (values : List (Vec (Vec E Global) Global)) (i n : ℕ) (o : OpenedMatrix F E) (m : RowMajorMatrix F) (p : Vec E Global) (v : Vec (Vec E Global) Global)
       (first : List (Committed F E)) (old new : List (OpenedMatrix F E)) → n ≡ i + 1 → i < length ms → i < length points → i < length values → m ≡ slice_index_or ms i m → p ≡ slice_index_or points i p → v ≡ slice_index_or values i v →
-      new ≡ old ++ o ∷ [] → committed_of o ≡ committed m p.items (lists_of v.items) → map committed_of old ≡ first ++ batch_committed (take i ms) (take i (lists_of points)) (take i (opened_rows values)) →
-      map committed_of new ≡ first ++ batch_committed (take n ms) (take n (lists_of points)) (take n (opened_rows values))
+      new ≡ old ++ o ∷ [] → committed_of k blowup o ≡ committed k blowup m p.items (lists_of v.items) → map (committed_of k blowup) old ≡ first ++ batch_committed k blowup (take i ms) (take i (lists_of points)) (take i (opened_rows values)) →
+      map (committed_of k blowup) new ≡ first ++ batch_committed k blowup (take n ms) (take n (lists_of points)) (take n (opened_rows values))
   committed-more ms points values i n o m p v first old new next lt lt' lt'' is is' is'' pushed made so_far =
       let ps = lists_of points in
       let vs = opened_rows values in
       let rows : Vec (Vec E Global) Global → List (List E) = λ v. lists_of v.items in
-      let f : RowMajorMatrix F → List E × List (List E) → Committed F E = λ m rest. committed m rest.0 rest.1 in
+      let f : RowMajorMatrix F → List E × List (List E) → Committed F E = λ m rest. committed k blowup m rest.0 rest.1 in
       let inner : i < length ps = omega (arith, lt', length-map points (λ v. v.items)) in
       let outer : i < length vs = omega (arith, lt'', length-map values rows) in
       let here = side-by-side ps vs i p.items (rows v) inner outer (map-at (λ v. v.items) points i p lt' is') (map-at rows values i v lt'' is'') in
       let inside : i < length (zip ps vs) = omega (arith, inner, outer, length-zip ps vs) in
-      ap (map committed_of) pushed ∙ map-append committed_of old (o ∷ []) ∙ ap (λ l. l ++ committed_of o ∷ []) so_far ∙ append_assoc first (pairwise f (take i ms) (zip (take i ps) (take i vs))) (committed_of o ∷ [])
+      ap (map (committed_of k blowup)) pushed ∙ map-append (committed_of k blowup) old (o ∷ []) ∙ ap (λ l. l ++ committed_of k blowup o ∷ []) so_far ∙ append_assoc first (pairwise f (take i ms) (zip (take i ps) (take i vs))) (committed_of k blowup o ∷ [])
       ∙ ap (λ l. first ++ l)
       (ap (λ d. pairwise f (take i ms) (zip (take i ps) (take i vs)) ++ d ∷ []) made ∙ ap (λ z. pairwise f (take i ms) z ++ f m (p.items, rows v) ∷ []) (zip-take i ps vs)
       ∙ sym (pairwise-more f ms (zip ps vs) i m (p.items, rows v) lt inside is here) ∙ ap (pairwise f (take (i + 1) ms)) (sym (zip-take (i + 1) ps vs)) ∙ ap (λ a. pairwise f (take a ms) (zip (take a ps) (take a vs))) (sym next))
 
   -- all matrices of a batch
   pub committed-all : (ms : List (RowMajorMatrix F)) (ps : List (List E)) (vs : List (List (List E))) (i : ℕ) → i ≡ min (length ms) (min (length ps) (length vs)) →
-      batch_committed (take i ms) (take i ps) (take i vs) ≡ batch_committed ms ps vs
+      batch_committed k blowup (take i ms) (take i ps) (take i vs) ≡ batch_committed k blowup ms ps vs
   committed-all ms ps vs i end =
-      let f : RowMajorMatrix F → List E × List (List E) → Committed F E = λ m rest. committed m rest.0 rest.1 in
+      let f : RowMajorMatrix F → List E × List (List E) → Committed F E = λ m rest. committed k blowup m rest.0 rest.1 in
       ap (pairwise f (take i ms)) (zip-take i ps vs) ∙ pairwise-end f ms (zip ps vs) i (omega (arith, end, length-zip ps vs))
 
 module _ {F E : Type 0} (k : Fields F E) (blowup : ℕ) where

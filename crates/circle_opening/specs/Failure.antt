@@ -151,19 +151,22 @@ module _ {C S F E Com : Type 0} (r : RunMoves C S F E Com)
   -- challenger that is seeded with its shape
   module _ {M : Type 0} {g : _} (k : Fields F E) (p : FriParameters M)
       (matrices : List (OpenedMatrix F E)) (claims : List (Point E g × Bor (List E))) where
+    -- the matrices as words see them
+    abbrev pub seen : List (Committed F E)
+    seen = map (committed_of k p.log_blowup) matrices
+
     abbrev pub IsRunFailure :
         {Side : Type 0} → CircleTranscript C F E Side → ProverError → Type 0
     IsRunFailure t e =
         (e ≡ Memory)
-        ⊎ IsTooHigh k p.log_blowup p.log_final_poly_len (map committed_of matrices) e
-        ⊎ IsStuck k p (map committed_of matrices) (numbers t) (claims_of claims)
-        (r.base.state (current t)) e
+        ⊎ IsTooHigh k p.log_blowup p.log_final_poly_len seen e
+        ⊎ IsStuck k p seen (numbers t) (claims_of claims) (r.base.state (current t)) e
 
     abbrev pub IsShapeFailure : CirclePcsShape → C → ProverError → Type 0
     IsShapeFailure shape challenger e =
         (e ≡ Memory)
-        ⊎ IsTooHigh k p.log_blowup p.log_final_poly_len (map committed_of matrices) e
-        ⊎ IsStuck k p (map committed_of matrices) (numbers_of (shape_of shape)) (claims_of claims)
+        ⊎ IsTooHigh k p.log_blowup p.log_final_poly_len seen e
+        ⊎ IsStuck k p seen (numbers_of (shape_of shape)) (claims_of claims)
         (seeded r (shape_of shape) (r.base.state challenger)) e
 
   -- so it does in the run over claims on matrices under these parameters, before it is seeded

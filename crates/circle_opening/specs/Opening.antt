@@ -78,11 +78,12 @@ module _ {F E WC IP WP : Type 0} (k : Fields F E) (matrices : List (Committed F 
             p.commit_proof_of_work_bits ≡ 0 → All (λ w. w ≡ k.field.zero) proof.witnesses
         pub query_zero : p.query_proof_of_work_bits ≡ 0 → proof.query_witness ≡ k.field.zero
 
-module _ {D F E M : Type 0} (p : FriParameters M) (kept : D → List (RowMajorMatrix F))
-    (requests : List (OpeningRequest D E)) (values : Openings E) where
+module _ {D F E M : Type 0} (k : Fields F E) (p : FriParameters M)
+    (kept : D → List (RowMajorMatrix F)) (requests : List (OpeningRequest D E))
+    (values : Openings E) where
   -- the requested matrices with the values that are answered, batch by batch and one after another
   abbrev pub answered : List (List (Committed F E))
-  answered = all_committed kept requests values
+  answered = all_committed kept k p.log_blowup requests values
 
   abbrev pub answered_matrices : List (Committed F E)
   answered_matrices = flat_map (λ b. b) answered
@@ -91,31 +92,35 @@ module _ {D F E M : Type 0} (p : FriParameters M) (kept : D → List (RowMajorMa
   abbrev pub answered_claims : List (BatchClaim (Unit {0}) E)
   answered_claims = map (claimed_batch p.log_blowup) answered
 
-  module _ {C S IC IP WC WP : Type 0} (k : Fields F E) (r : RunMoves C S F E WC)
-      (proof : OpeningProof F E WC IP WP) where
-    -- the challenges are those that the transcript draws of the claims and the proof, and the proof
-    -- holds what the words under these challenges and the queries ask for
-    pub record IsOpening (Commits : List (RowMajorMatrix F) → IC → Type 0)
-        (authenticates : Authenticates IC F IP)
-        (WordCommits : List (RowMajorMatrix E) → WC → Type 0)
-        (word_authenticates : Authenticates WC E WP) (old new : S) : Type 0 where
-      pub drawn : Challenges E
-      pub drawing :
-          draw r (shape_by p answered_claims) (taken_by k.extension answered_claims proof)
-          old ≡ Ok (drawn_by r.base.coefficients drawn new)
-      pub words :
-          HoldsWords k answered_matrices drawn proof p WordCommits word_authenticates
-      pub inputs :
-          AllZip (HasBatchRows kept Commits authenticates (top_of answered_matrices)
-          drawn.queries) requests proof.inputs
+module _ {D F E M C S IC IP WC WP : Type 0} (p : FriParameters M)
+    (kept : D → List (RowMajorMatrix F)) (requests : List (OpeningRequest D E))
+    (values : Openings E) (k : Fields F E) (r : RunMoves C S F E WC)
+    (proof : OpeningProof F E WC IP WP) where
+  -- the challenges are those that the transcript draws of the claims and the proof, and the proof
+  -- holds what the words under these challenges and the queries ask for
+  pub record IsOpening (Commits : List (RowMajorMatrix F) → IC → Type 0)
+      (authenticates : Authenticates IC F IP)
+      (WordCommits : List (RowMajorMatrix E) → WC → Type 0)
+      (word_authenticates : Authenticates WC E WP) (old new : S) : Type 0 where
+    pub drawn : Challenges E
+    pub drawing :
+        let claims = answered_claims k p kept requests values in
+        draw r (shape_by p claims) (taken_by k.extension claims proof) old
+        ≡ Ok (drawn_by r.base.coefficients drawn new)
+    pub words :
+        HoldsWords k (answered_matrices k p kept requests values) drawn proof p WordCommits
+        word_authenticates
+    pub inputs :
+        let top = top_of (answered_matrices k p kept requests values) in
+        AllZip (HasBatchRows kept Commits authenticates top drawn.queries) requests proof.inputs
 
 -- with values of requests their run comes to a proof of work that no witness passes
 abbrev pub IsStuckOn : {C S D F E M WC : Type 0} → Fields F E → RunMoves C S F E WC
     → FriParameters M → (List (RowMajorMatrix E) → WC → Type 0) → (D → List (RowMajorMatrix F))
     → List (OpeningRequest D E) → Openings E → S → ProverError → Type 0
 IsStuckOn k r p Commits kept requests values s e =
-    IsStuckFrom r Commits k p (answered_matrices p kept requests values)
-    (answered_claims p kept requests values) s e
+    IsStuckFrom r Commits k p (answered_matrices k p kept requests values)
+    (answered_claims k p kept requests values) s e
 
 -- why requests are not opened: memory was refused; or with the values that they ask for the last
 -- word is of too high degree, or no witness passes where their run looks for one
@@ -125,7 +130,7 @@ abbrev pub IsFailure : {C S D F E M WC : Type 0} → Fields F E → RunMoves C S
 IsFailure k r p Commits kept requests s e =
     (e ≡ Memory) ⊎ ((values : Openings _)
     × AllZip (AreAnswers kept k p.log_blowup) requests values
-    × (IsTooHigh k p.log_blowup p.log_final_poly_len (answered_matrices p kept requests values) e
+    × (IsTooHigh k p.log_blowup p.log_final_poly_len (answered_matrices k p kept requests values) e
     ⊎ IsStuckOn k r p Commits kept requests values s e))
 
 -- witnesses are zero where there is no difficulty

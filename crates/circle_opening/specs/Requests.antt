@@ -1,5 +1,5 @@
 -- What is asked to be opened, and what is answered.
-use Rattle.std.specs.Prelude.{◌≡◌, ℕ, ◌+◌, ◌-◌, ◌^◌, ◌<◌, ◌≤◌, List, length, map, zip}
+use Rattle.std.specs.Prelude.{◌≡◌, ℕ, ◌+◌, ◌-◌, ◌^◌, ◌<◌, ◌≤◌, List, length, map, zip, flat_map}
 use Rattle.std.specs.Prelude.{All, nat_le, Vec, ◌++◌}
 use Rattle.std.specs.List.{AllZip, filter, range_with_len}
 use Rattle.std.specs.declared.alloc.Global.{Global}
@@ -15,6 +15,7 @@ use Rattle.circle_matrix.specs.DotProduct.{pairwise}
 use Rattle.circle_relation.specs.Accepts.{Authenticates, Fields}
 use Rattle.circle_relation.specs.RunOf.{opened_batch}
 use Rattle.circle_relation.specs.Statement.{BatchClaim, MatrixClaim, Opened}
+use Rattle.circle_words.specs.Lifts.{read_rows}
 use Rattle.circle_words.specs.Values.{AreOff, AreOpened}
 use Rattle.circle_words.specs.Words.{CanBeOpened, Committed, claim_of, committed_of}
 use Rattle.circle_opening.specs.Openings.{OpensRows, places_of}
@@ -41,19 +42,20 @@ module _ {F E : Type 0} where
     pub widths : All (λ v. length v ≡ width_of m) values
     pub opened : AreOpened k blowup (log_of (height_of m)) m points values
 
-  -- a matrix with its points and the values there
-  abbrev pub committed : RowMajorMatrix F → List E → List (List E) → Committed F E
-  committed m points values = record {
+  -- a matrix by the rows that words read of it, with its points and the values there
+  abbrev pub committed : Fields F E → ℕ → RowMajorMatrix F → List E → List (List E)
+      → Committed F E
+  committed k blowup m points values = record {
     log_height = log_of (height_of m);
-    rows = rows m;
+    rows = read_rows k blowup (log_of (height_of m)) (width_of m) (rows m);
     claims = pairwise claim_of points values;
   }
 
   -- the matrices of a batch
-  abbrev pub batch_committed : List (RowMajorMatrix F) → List (List E) → List (List (List E))
-      → List (Committed F E)
-  batch_committed matrices points values =
-      pairwise (λ m rest. committed m rest.0 rest.1) matrices (zip points values)
+  abbrev pub batch_committed : Fields F E → ℕ → List (RowMajorMatrix F) → List (List E)
+      → List (List (List E)) → List (Committed F E)
+  batch_committed k blowup matrices points values =
+      pairwise (λ m rest. committed k blowup m rest.0 rest.1) matrices (zip points values)
 
   -- for each of several points of each matrix of a batch the values that they ask for
   abbrev pub AreBatchValues : Fields F E → ℕ → List (RowMajorMatrix F) → List (List E)
@@ -74,11 +76,13 @@ module _ {F E : Type 0} where
 abbrev pub lists_of : {E : Type 0} → List (Vec E Global) → List (List E)
 lists_of vectors = map (λ v. v.items) vectors
 
--- the matrices of a list, and then those of a batch
-abbrev pub with_batch : {F E : Type 0} → List (OpenedMatrix F E) → List (RowMajorMatrix F)
-    → List (Vec E Global) → List (Vec (Vec E Global) Global) → List (Committed F E)
-with_batch list matrices points values =
-    map committed_of list ++ batch_committed matrices (lists_of points) (opened_rows values)
+-- to a list of opened matrices those of a batch were added
+abbrev pub AddsBatch : {F E : Type 0} → Fields F E → ℕ → List (RowMajorMatrix F)
+    → List (Vec E Global) → List (Vec (Vec E Global) Global) → List (OpenedMatrix F E)
+    → List (OpenedMatrix F E) → Type 0
+AddsBatch k blowup matrices points values old new =
+    map (committed_of k blowup) new ≡ map (committed_of k blowup) old
+    ++ batch_committed k blowup matrices (lists_of points) (opened_rows values)
 
 -- kept of what a committer keeps are the matrices
 module _ {D F E : Type 0} (kept : D → List (RowMajorMatrix F)) where
@@ -86,13 +90,20 @@ module _ {D F E : Type 0} (kept : D → List (RowMajorMatrix F)) where
   abbrev pub points_of : OpeningRequest D E → List (List E)
   points_of request = lists_of request.points.items
 
-  -- all requested matrices, batch by batch, with the values that are answered
-  abbrev pub all_committed : List (OpeningRequest D E) → Openings E
-      → List (List (Committed F E))
-  all_committed requests values =
-      pairwise (λ r v. batch_committed (kept r.prover_data.now) (points_of r) v) requests values
-
   module _ (k : Fields F E) (blowup : ℕ) where
+    -- all requested matrices, batch by batch, with the values that are answered
+    abbrev pub all_committed : List (OpeningRequest D E) → Openings E
+        → List (List (Committed F E))
+    all_committed requests values =
+        pairwise (λ r v. batch_committed k blowup (kept r.prover_data.now) (points_of r) v)
+        requests values
+
+    -- these are they, one after another
+    abbrev pub AreAllRequested : List (OpeningRequest D E) → Openings E → List (OpenedMatrix F E)
+        → Type 0
+    AreAllRequested requests values list =
+        map (committed_of k blowup) list ≡ flat_map (λ b. b) (all_committed requests values)
+
     -- the matrices of a request can be opened at its points, of which there is a list for each
     abbrev pub IsFit : ℕ → OpeningRequest D E → Type 0
     IsFit two_adicity r =

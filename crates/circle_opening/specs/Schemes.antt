@@ -53,17 +53,17 @@ module _ {C S F E I IC ID IP W WC WD WP : Type 0} (o : Schemes C S F E I IC ID I
     abbrev pub AreWordsFor : CommittedWords F E WC WD → Type 0
     AreWordsFor words =
         AreMade o.fields o.WordCommits o.word_kept p
-        (answered_matrices p o.kept requests (openings values)) words
+        (answered_matrices o.fields p o.kept requests (openings values)) words
 
     abbrev pub IsPlayed : C → CommittedWords F E WC WD → C → Type 0
     IsPlayed old words new =
-        let claims = answered_claims p o.kept requests (openings values) in
+        let claims = answered_claims o.fields p o.kept requests (openings values) in
         draw o.run (shape_by p claims) (taken_in (claims_taken o.fields.extension claims) words)
         (o.run.base.state old) ≡ Ok (drawn_leaving o.run words.draws new)
 
     abbrev pub IsNotPlayed : C → ProverError → Type 0
     IsNotPlayed old e =
         (e ≡ Memory) ⊎ IsTooHigh o.fields p.log_blowup p.log_final_poly_len
-        (answered_matrices p o.kept requests (openings values)) e
+        (answered_matrices o.fields p o.kept requests (openings values)) e
         ⊎ IsStuckOn o.fields o.run p (o.WordCommits p.mmcs) o.kept requests (openings values)
         (o.run.base.state old) e

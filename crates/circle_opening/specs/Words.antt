@@ -18,7 +18,7 @@ use Rattle.circle_transcript.specs.Draw.{rounds_pass, AreFound}
 use Rattle.circle_domain.specs.Spans.{HasXValues, XSpan}
 use Rattle.circle_transcript.specs.Transcript.{current, numbers}
 use Rattle.circle_transcript.specs.declared.transcript.CircleTranscript.{CircleTranscript}
-use Rattle.circle_words.specs.Words.{Committed, HaveHeights, committed_of, corrected_word, lambda}
+use Rattle.circle_words.specs.Words.{Committed, HaveHeights, corrected_word, lambda}
 use Rattle.circle_words.specs.Words.{layers_of, next_word, pairs_of, y_folded}
 use Rattle.circle_words.specs.declared.reduced.OpenedMatrix.{OpenedMatrix}
 use Rattle.circle_opening.specs.declared.rounds.Rounds.{Rounds}
@@ -190,7 +190,7 @@ ArePlayed r old new rounds =
 -- so many rounds leave the coefficients at which folding stops
 abbrev pub rounds_for : {F E M : Type 0} → FriParameters M → List (OpenedMatrix F E) → ℕ
 rounds_for p matrices =
-    top_of (map committed_of matrices) - 1 - p.log_blowup - p.log_final_poly_len
+    greatest (map (λ m. m.log_height) matrices) - 1 - p.log_blowup - p.log_final_poly_len
 
 -- what was made are the words of these matrices, under parameters and the scheme of the words
 abbrev pub AreMade : {F E M Com D : Type 0} → Fields F E

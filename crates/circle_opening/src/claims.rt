@@ -1,7 +1,7 @@
 //! Requested matrices with the values that are answered, as an opening and its transcript take
 //! them in.
-ghost use Rattle.std.specs.Prelude.{◌≡◌, ◌<◌, ◌≤◌, ◌++◌, All, IfOk, OnOk};
-ghost use Rattle.std.specs.Prelude.{length, map, zip, flat_map};
+ghost use Rattle.std.specs.Prelude.{ℕ, ◌≡◌, ◌<◌, ◌≤◌, ◌++◌, All, IfOk, OnOk};
+ghost use Rattle.std.specs.Prelude.{length, map, flat_map};
 ghost use Rattle.std.specs.List.{AllZip};
 ghost use Rattle.circle_matrix.specs.Mmcs.{opened_rows};
 ghost use Rattle.circle_matrix.specs.Pcs.{openings};
@@ -10,11 +10,12 @@ ghost use Rattle.circle_matrix.specs.DotProduct.{pairwise};
 ghost use Rattle.circle_domain.specs.Selectors.{IsFinite};
 ghost use Rattle.circle_transcript.specs.Claims.{claims_of};
 ghost use Rattle.circle_transcript.specs.ShapeOf.{batches_of, matrices_of};
+ghost use Rattle.circle_relation.specs.Accepts.{Fields};
 ghost use Rattle.circle_words.specs.Words.{claim_of, committed_of};
 ghost use Rattle.circle_opening.specs.Requests.{AreAnswers, IsFit, IsOpenable};
 ghost use Rattle.circle_opening.specs.Requests.{IsReady};
-ghost use Rattle.circle_opening.specs.Requests.{AreBatchValues, all_committed, lists_of};
-ghost use Rattle.circle_opening.specs.Requests.{with_batch};
+ghost use Rattle.circle_opening.specs.Requests.{AddsBatch, AreAllRequested, AreBatchValues};
+ghost use Rattle.circle_opening.specs.Requests.{lists_of};
 ghost use Rattle.circle_relation.specs.Taken.{point_taken};
 
 use circle_field::{ComplexExtendable, ExtensionField, Field};
@@ -43,8 +44,8 @@ fn push_matrices<'a, F: ComplexExtendable, EF: ExtensionField<F>>(
         (lists_of points.now) (opened_rows values.now) }
     requires openable { All (IsReady ⟦<EF as OverCircle<F>>⟧.fields F.CIRCLE_TWO_ADICITY)
         list.old.items }
-    ensures matrices { OnOk result (map committed_of list.new.items
-        ≡ with_batch list.old.items matrices.now points.now values.now) }
+    ensures matrices { OnOk result (AddsBatch ⟦<EF as OverCircle<F>>⟧.fields log_blowup matrices.now
+        points.now values.now list.old.items list.new.items) }
     ensures openable { OnOk result (All (IsReady ⟦<EF as OverCircle<F>>⟧.fields
         F.CIRCLE_TWO_ADICITY) list.new.items) }
 {
@@ -74,8 +75,8 @@ pub(crate) fn opened_matrices<'a, F: ComplexExtendable, EF: ExtensionField<F>, M
         F.CIRCLE_TWO_ADICITY) requests.now }
     requires values { AllZip (AreAnswers M.matrices ⟦<EF as OverCircle<F>>⟧.fields log_blowup)
         requests.now (openings values.now) }
-    ensures matrices { IfOk result (λ v. map committed_of v.items ≡ flat_map (λ b. b)
-        (all_committed M.matrices requests.now (openings values.now))) }
+    ensures matrices { IfOk result (λ v. AreAllRequested M.matrices ⟦<EF as OverCircle<F>>⟧.fields
+        log_blowup requests.now (openings values.now) v.items) }
     ensures openable { IfOk result (λ v. All (IsReady ⟦<EF as OverCircle<F>>⟧.fields
         F.CIRCLE_TWO_ADICITY) v.items) }
 {
@@ -125,8 +126,8 @@ pub(crate) fn opened_claims<'a, F: Copy, EF: Field>(
     matrices: &[OpenedMatrix<'a, F, EF>],
 ) -> Result<Vec<OpeningClaim<'a, EF>>, AllocError>
     requires finite { All (λ m. All (IsFinite EF.ops) m.points.now) matrices.now }
-    ensures { IfOk result (λ v. claims_of v.items
-        ≡ flat_map (λ m. map (point_taken EF.ops) m.claims) (map committed_of matrices.now)) }
+    ensures { IfOk result (λ v. (k : Fields F EF) (blowup : ℕ) → claims_of v.items ≡ flat_map
+        (λ m. map (point_taken EF.ops) m.claims) (map (committed_of k blowup) matrices.now)) }
 {
     let mut claims = Vec::new(alloc);
     for matrix in matrices {

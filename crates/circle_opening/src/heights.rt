@@ -1,7 +1,9 @@
 //! The heights of committed matrices.
-ghost use Rattle.std.specs.Prelude.{◌≡◌, ◌==◌, map, IfOk};
+ghost use Rattle.std.specs.Prelude.{ℕ, ◌≡◌, ◌==◌, map, IfOk};
 ghost use Rattle.std.specs.List.{list_any};
-ghost use Rattle.circle_opening.specs.Words.{top_of, heights_of};
+ghost use Rattle.circle_matrix.specs.Mmcs.{greatest};
+ghost use Rattle.circle_relation.specs.Accepts.{Fields};
+ghost use Rattle.circle_opening.specs.Words.{heights_of};
 ghost use Rattle.circle_words.specs.Words.{committed_of};
 
 use circle_words::OpenedMatrix;
@@ -9,7 +11,7 @@ use std::alloc::{AllocError, Global};
 
 /// The binary logarithm of the greatest height, 0 where there is no matrix.
 pub(crate) fn greatest_height<F: Copy, EF>(matrices: &[OpenedMatrix<F, EF>]) -> usize
-    ensures { result ≡ top_of (map committed_of matrices.now) }
+    ensures { result ≡ greatest (map (λ m. m.log_height) matrices.now) }
 {
     let mut greatest = 0;
     for matrix in matrices {
@@ -30,7 +32,8 @@ pub(crate) fn committed_heights<F: Copy, EF>(
     alloc: Global,
     matrices: &[OpenedMatrix<F, EF>],
 ) -> Result<Vec<usize>, AllocError>
-    ensures { IfOk result (λ v. v.items ≡ heights_of (map committed_of matrices.now)) }
+    ensures { IfOk result (λ v. (k : Fields F EF) (blowup : ℕ) →
+        v.items ≡ heights_of (map (committed_of k blowup) matrices.now)) }
 {
     let mut heights = Vec::new(alloc);
     for log_height in 0..=greatest_height(matrices) {

@@ -31,7 +31,7 @@
 //! - In `specs/`, `Opening` says what is answered, by `Words`, the words under the challenges and
 //!   what is committed to, and `Openings`, what is opened at the queries; `Requests` what is asked
 //!   and answered, `Failure` why a run comes to no end, `Schemes` the whole by the schemes.
-//! - In `proofs/`, `Growing`, `Lengths` and `FoldedLengths` are of words, `Tops` and `Tests` of
+//! - In `proofs/`, `Growing`, `Lengths` and `FoldedLengths` are of words, `Tops` and `Seen` of
 //!   heights, `Described`, `Counts` and `Stuck` of the transcript, `Asked`, `Answered` and
 //!   `Requested` of requested matrices as claims, `Held` and `OpenedPairs` of what a proof holds
 //!   and opens. The folders have what is proved of the functions of the file of that name.

@@ -185,8 +185,8 @@ fn prove_words<
 ///
 /// Asks supported parameters, a request, some matrix in each, and matrices that can be opened at
 /// their points and leave something to fold. Refuses `NoGrindingWitness` of a phase where no
-/// witness passes, `LastWordNotConstant` where some matrix isn't of low degree, and `Memory` where
-/// memory is refused.
+/// witness passes, `LastWordNotConstant` where the last word is of too high degree, as some matrix
+/// of fewer than 1024 columns is, and `Memory` where memory is refused.
 pub fn open_requests<
     Val: ComplexExtendable,
     EF: ExtensionField<Val>,

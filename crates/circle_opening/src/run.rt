@@ -67,7 +67,8 @@ where
     requires coefficients { (numbers transcript.old).log_final_poly_len
         ≡ params.now.log_final_poly_len }
     requires blowup { 1 ≤ params.now.log_blowup }
-    requires tall { AreTall params.now (map committed_of matrices.now) }
+    requires tall { let k = ⟦<EF as OverCircle<F>>⟧.fields in AreTall params.now
+        (map (committed_of k params.now.log_blowup) matrices.now) }
     requires openable { All (CanBeOpened ⟦<EF as OverCircle<F>>⟧.fields F.CIRCLE_TWO_ADICITY
         num_powers) matrices.now }
     ensures same { IsSame transcript.old transcript.new }
@@ -82,8 +83,8 @@ where
         (numbers transcript.old).query_pow_bits ≡ 0 → w.witnesses.query ≡ F.ops.zero) }
     ensures draws { let m = ⟦<C as RunChallenger<F, EF, M::Commitment>>⟧.run in IfOk result (λ w.
         DrawsFrom m transcript.old (taken_in (claims_of claims.now) w) w.draws transcript.new) }
-    ensures words { IfOk result (AreMade ⟦<EF as OverCircle<F>>⟧.fields M.commits M.matrices
-        params.now (map committed_of matrices.now)) }
+    ensures words { let k = ⟦<EF as OverCircle<F>>⟧.fields in IfOk result (AreMade k M.commits
+        M.matrices params.now (map (committed_of k params.now.log_blowup) matrices.now)) }
     ensures failure { IfErr result (IsRunFailure ⟦<C as RunChallenger<F, EF, M::Commitment>>⟧.run
         (M.commits params.now.mmcs) ⟦<EF as OverCircle<F>>⟧.fields params.now matrices.now
         claims.now transcript.old) }
@@ -174,7 +175,8 @@ where
     requires coefficients { shape.log_final_poly_len ≡ params.now.log_final_poly_len }
     requires small { ArePlayable (numbers_of (shape_of shape)) }
     requires blowup { 1 ≤ params.now.log_blowup }
-    requires tall { AreTall params.now (map committed_of matrices.now) }
+    requires tall { let k = ⟦<EF as OverCircle<F>>⟧.fields in AreTall params.now
+        (map (committed_of k params.now.log_blowup) matrices.now) }
     requires openable { All (CanBeOpened ⟦<EF as OverCircle<F>>⟧.fields F.CIRCLE_TWO_ADICITY
         num_powers) matrices.now }
     ensures below { IfOk result (λ w. All (λ i. i < 2 ^ shape.index_bits) w.draws.indices.items) }
@@ -186,8 +188,8 @@ where
         shape.query_pow_bits ≡ 0 → w.witnesses.query ≡ F.ops.zero) }
     ensures draws { let m = ⟦<C as RunChallenger<F, EF, M::Commitment>>⟧.run in IfOk result (λ w.
         Draws m shape (taken_in (claims_of claims.now) w) challenger.old w.draws challenger.new) }
-    ensures words { IfOk result (AreMade ⟦<EF as OverCircle<F>>⟧.fields M.commits M.matrices
-        params.now (map committed_of matrices.now)) }
+    ensures words { let k = ⟦<EF as OverCircle<F>>⟧.fields in IfOk result (AreMade k M.commits
+        M.matrices params.now (map (committed_of k params.now.log_blowup) matrices.now)) }
     ensures failure { IfErr result (IsShapeFailure ⟦<C as RunChallenger<F, EF, M::Commitment>>⟧.run
         (M.commits params.now.mmcs) ⟦<EF as OverCircle<F>>⟧.fields params.now matrices.now
         claims.now shape challenger.old) }

@@ -210,6 +210,12 @@ const BEFORE_THE_SEEDING: &[Row] = &[
         Left::Untouched,
     ),
     (
+        ANOTHER,
+        Damage::ClaimedSize(0),
+        "the input is refused: tallest claimed domain is 2^0 rows; the first-layer fold needs at least 2",
+        Left::Untouched,
+    ),
+    (
         COLUMN,
         Damage::ClaimedSize(usize::MAX),
         "the greatest height is 2^18446744073709551615, but the group has only 2^31 points",

@@ -7,17 +7,20 @@ use circle_commit::{
     Matrix, Mmcs, OpenedValues, OpenedValuesForRound, RowMajorMatrix, heights_are_powers_of_two,
 };
 use circle_field::{Cubic, ExtensionField, Field, Mersenne31};
+use circle_json::JsonForm;
 use circle_statements::batches::{Batch, Size, one, scattered_batches};
 use circle_statements::openings::{Answer, claims_of, open, verify};
-use circle_statements::parameters::{Numbers, Proof, SMALL, Scheme, scheme};
-use p3_circle::CirclePcsShape;
+use circle_statements::parameters::{Numbers, Proof, SMALL, Scheme, WordTrees, scheme};
+use p3_circle::{CircleFriProof, CirclePcsProof, CirclePcsShape};
 use std::alloc::{AllocError, Global};
 use std::process::Abort;
 use std::test::Fail;
 
+mod opened;
 mod words;
 
-use words::{Opened, assert_siblings, final_poly, first_words, folded, join, on_line, values_at};
+use opened::{opened_inputs, opened_rounds};
+use words::{Opened, final_poly, first_words, folded, join, on_line, values_at};
 
 // Asserts that a committed matrix has these values at the points.
 fn assert_values_of(
@@ -152,6 +155,7 @@ fn grind(rt: &impl Abort, challenger: &mut Sha256Challenger, bits: usize) -> Mer
 struct Layer {
     words: Vec<Vec<Cubic>>,
     commitment: [u8; 32],
+    data: <WordTrees as Mmcs<Cubic>>::ProverData,
 }
 
 // Commits to words by pairs, and takes the commitment in.
@@ -169,9 +173,13 @@ fn commit_words(
         matrices.push(RowMajorMatrix::new(values, 2))?;
     }
     assert!(rt; !matrices.is_empty() && heights_are_powers_of_two(&matrices));
-    let (commitment, _) = scheme.fri_params.mmcs.commit(alloc, matrices)?;
+    let (commitment, data) = scheme.fri_params.mmcs.commit(alloc, matrices)?;
     challenger.observe(&commitment);
-    Ok(Layer { words, commitment })
+    Ok(Layer {
+        words,
+        commitment,
+        data,
+    })
 }
 
 /// The rounds, with their witnesses, and the last word.
@@ -226,28 +234,35 @@ fn play_rounds(
     Ok(rounds)
 }
 
-// Takes in the claims on the matrices, and asserts that the proof holds what is found, drawn and
-// committed to up to the rounds. Answers the first layer.
-fn assert_first_layer(
+/// What is found and committed to before the rounds.
+#[derive(Drop)]
+struct First {
+    witness: Mersenne31,
+    lambdas: Vec<Cubic>,
+    layer: Layer,
+}
+
+// Takes in the claims on the matrices, finds the first witness, and commits to the first layer.
+fn play_first(
     rt: &impl Abort,
     alloc: Global,
     scheme: &Scheme,
     matrices: &[Opened],
-    proof: &Proof,
     challenger: &mut Sha256Challenger,
-) -> Result<Layer, AllocError> {
+) -> Result<First, AllocError> {
     for matrix in matrices {
         observe_claims(rt, challenger, matrix);
     }
     let params = &scheme.fri_params;
     let witness = grind(rt, challenger, params.batch_proof_of_work_bits);
-    assert_eq!(rt; proof.batch_pow_witness, witness);
     let alpha = draw(challenger);
     let (lambdas, words) = first_words(rt, alloc, matrices, params.log_blowup, alpha)?;
-    assert!(rt; proof.lambdas.as_slice() == lambdas.as_slice());
-    let first = commit_words(rt, alloc, scheme, words, challenger)?;
-    assert_eq!(rt; proof.first_layer_commitment, first.commitment);
-    Ok(first)
+    let layer = commit_words(rt, alloc, scheme, words, challenger)?;
+    Ok(First {
+        witness,
+        lambdas,
+        layer,
+    })
 }
 
 // What the words of the first layer fold to by the y coordinates.
@@ -264,34 +279,30 @@ fn folded_first(
     Ok(waiting)
 }
 
-// Asserts that the proof holds what is committed to and found in the rounds.
-fn assert_rounds(rt: &impl Abort, rounds: &Rounds, proof: &Proof) {
-    let found = &proof.fri_proof;
-    assert!(rt; found.commit_pow_witnesses.as_slice() == rounds.witnesses.as_slice());
-    assert_eq!(rt; found.commit_phase_commits.len(), rounds.layers.len());
-    for (commitment, round) in found.commit_phase_commits.iter().zip(&rounds.layers) {
-        assert!(rt; *commitment == round.commitment);
-    }
+// The commitments of the rounds.
+fn commitments_of(alloc: Global, rounds: &Rounds) -> Result<Vec<[u8; 32]>, AllocError> {
+    rounds
+        .layers
+        .iter()
+        .map(|layer| layer.commitment)
+        .collect(alloc)
 }
 
-// Takes in the final polynomial, and asserts that the proof has it and the witness after it.
-fn assert_final_poly(
+// Takes in the final polynomial. Answers it and the witness after it.
+fn play_final_poly(
     rt: &impl Abort,
     alloc: Global,
     scheme: &Scheme,
     rounds: &Rounds,
-    proof: &Proof,
     challenger: &mut Sha256Challenger,
-) -> Result<(), AllocError> {
-    let (params, found) = (&scheme.fri_params, &proof.fri_proof);
+) -> Result<(Vec<Cubic>, Mersenne31), AllocError> {
+    let params = &scheme.fri_params;
     let coefficients = final_poly(rt, alloc, &rounds.word, params.log_final_poly_len)?;
-    assert!(rt; found.final_poly.as_slice() == coefficients.as_slice());
     for coefficient in &coefficients {
         observe(challenger, *coefficient);
     }
     let witness = grind(rt, challenger, params.query_proof_of_work_bits);
-    assert_eq!(rt; found.pow_witness, witness);
-    Ok(())
+    Ok((coefficients, witness))
 }
 
 // Draws so many indices of so many bits.
@@ -310,49 +321,59 @@ fn drawn_indices(
     Ok(indices)
 }
 
-// Asserts that the proof has the siblings of the queries.
-fn assert_queries(
-    rt: &impl Abort,
-    top: usize,
-    indices: &[usize],
-    first: &Layer,
-    rounds: &Rounds,
-    proof: &Proof,
-) {
-    let found = &proof.fri_proof;
-    let of_first = &found.input_openings.first_layer_siblings;
-    assert_siblings(rt, &first.words, top, indices, of_first);
-    assert_eq!(rt; found.commit_phase_openings.len(), rounds.layers.len());
-    for (opened, round) in found.commit_phase_openings.iter().zip(&rounds.layers) {
-        assert_siblings(rt, &round.words, top, indices, &opened.sibling_values);
+// The binary logarithm of the greatest height.
+fn top_of(matrices: &[Opened]) -> usize {
+    let mut top = 0;
+    for matrix in matrices {
+        top = top.max(matrix.log_height);
     }
+    top
 }
 
-// Asserts that a proof of values has what the plain definitions give. That its rows and digests are
-// those of the commitments is left to the verifier.
-fn assert_plain_proof<'a>(
+// The proof of values by the plain definitions.
+fn plain_proof<'a>(
     rt: &impl Abort,
     alloc: Global,
     scheme: &Scheme,
     batches: &'a [Batch],
     values: &'a OpenedValues<Cubic>,
-    proof: &Proof,
     challenger: &mut Sha256Challenger,
-) -> Result<(), AllocError> {
+) -> Result<Proof, AllocError> {
     let matrices = opened_matrices(rt, alloc, scheme, batches, values)?;
-    let mut top = 0;
-    for matrix in &matrices {
-        top = top.max(matrix.log_height);
-    }
+    let top = top_of(&matrices);
     seed(rt, alloc, scheme, values, top, challenger)?;
-    let first = assert_first_layer(rt, alloc, scheme, &matrices, proof, challenger)?;
-    let waiting = folded_first(rt, alloc, &first, draw(challenger))?;
+    let first = play_first(rt, alloc, scheme, &matrices, challenger)?;
+    let waiting = folded_first(rt, alloc, &first.layer, draw(challenger))?;
     let rounds = play_rounds(rt, alloc, scheme, waiting, challenger)?;
-    assert_rounds(rt, &rounds, proof);
-    assert_final_poly(rt, alloc, scheme, &rounds, proof, challenger)?;
+    let (final_poly, pow_witness) = play_final_poly(rt, alloc, scheme, &rounds, challenger)?;
     let queries = scheme.fri_params.num_queries;
     let indices = drawn_indices(rt, alloc, queries, top, challenger)?;
-    assert_queries(rt, top, &indices, &first, &rounds, proof);
+    let input_openings = opened_inputs(rt, alloc, scheme, batches, &first.layer, top, &indices)?;
+    let fri_proof = CircleFriProof {
+        commit_phase_commits: commitments_of(alloc, &rounds)?,
+        commit_phase_openings: opened_rounds(rt, alloc, scheme, &rounds.layers, top, &indices)?,
+        commit_pow_witnesses: rounds.witnesses,
+        input_openings,
+        final_poly,
+        pow_witness,
+    };
+    Ok(CirclePcsProof {
+        batch_pow_witness: first.witness,
+        first_layer_commitment: first.layer.commitment,
+        lambdas: first.lambdas,
+        fri_proof,
+    })
+}
+
+// Asserts that both proofs have the same text, byte for byte.
+fn assert_same_text(
+    rt: &impl Abort,
+    alloc: Global,
+    left: &Proof,
+    right: &Proof,
+) -> Result<(), AllocError> {
+    let (left, right) = (left.to_json(alloc)?, right.to_json(alloc)?);
+    assert_eq!(rt; left.to_string(alloc)?, right.to_string(alloc)?);
     Ok(())
 }
 
@@ -380,8 +401,9 @@ fn assert_plain(
     let (mut first, mut second) = (Sha256Challenger::new(), Sha256Challenger::new());
     let (values, proof) = open(alloc, &scheme, &batches, &mut first)?;
     assert_values(rt, alloc, &scheme, &batches, &values)?;
-    assert_plain_proof(rt, alloc, &scheme, &batches, &values, &proof, &mut second)?;
+    let plain = plain_proof(rt, alloc, &scheme, &batches, &values, &mut second)?;
     assert_eq!(rt; first, second);
+    assert_same_text(rt, alloc, &proof, &plain)?;
     assert!(rt; answer_to(alloc, &scheme, &batches, &values, &proof)?.is_ok());
     Ok(())
 }
@@ -390,9 +412,12 @@ const THREE: &[&[Size]] = &[&[(3, 3, 1)], &[(5, 2, 2), (3, 1, 1)], &[(5, 1, 3)]]
 
 const TALL: &[&[Size]] = &[&[(6, 2, 1)], &[(5, 2, 2), (5, 3, 1)]];
 
+// Columns of four and of sixteen rows, each opened at two points.
+const TWO_HEIGHTS: &[&[Size]] = &[&[(2, 1, 2), (4, 1, 2)]];
+
 // Blowups, numbers of coefficients, difficulties and sizes.
 const CASES: &[(usize, usize, [usize; 3], &[&[Size]])] = &[
-    (1, 0, [0; 3], &[&[(2, 1, 1), (4, 1, 2)]]),
+    (1, 0, [0; 3], TWO_HEIGHTS),
     (2, 0, [4, 3, 5], THREE),
     (1, 1, [0; 3], THREE),
     (2, 2, [0, 2, 0], TALL),
@@ -416,7 +441,12 @@ fn an_opening_by_the_plain_definitions(rt: HostRuntime) -> Result<(), Fail> {
 #[test]
 fn wide_matrices_by_the_plain_definitions(rt: HostRuntime) -> Result<(), Fail> {
     for width in [1023, 1024, 1025] {
-        assert_plain(&rt, rt.alloc(), SMALL, &[&[(2, width, 1)]])?;
+        assert_plain(&rt, rt.alloc(), SMALL, &[&[(2, width, 2)]])?;
     }
     Ok(())
+}
+
+#[test]
+fn a_wide_matrix_beside_a_narrow_one_by_the_plain_definitions(rt: HostRuntime) -> Result<(), Fail> {
+    assert_plain(&rt, rt.alloc(), SMALL, &[&[(6, 1024, 2), (6, 3, 2)]])
 }

@@ -6,6 +6,7 @@ use std::process::Abort;
 use std::test::Fail;
 
 mod queries;
+mod rows;
 mod strategy;
 
 fn element(value: u64) -> Mersenne31 {

@@ -14,6 +14,8 @@ mod folding;
 #[cfg(test)]
 mod groups;
 #[cfg(test)]
+mod low_degree;
+#[cfg(test)]
 mod off_domain;
 #[cfg(test)]
 mod periodic;
@@ -21,6 +23,8 @@ mod periodic;
 mod points;
 #[cfg(test)]
 mod selectors;
+#[cfg(test)]
+mod smaller;
 #[cfg(test)]
 mod transform;
 #[cfg(test)]

@@ -107,9 +107,9 @@ fn a_coset_has_the_selectors_of_its_points(rt: HostRuntime) -> Result<(), Fail> 
     let alloc = rt.alloc();
     let generator = Point::<Mersenne31>::generator(31);
     let domain = Domain::new(8, generator * 3);
-    let coset = Domain::new(8, generator * 5);
+    let coset = Domain::new(18, generator * 5);
     let rows = selectors_on_coset(&rt, alloc, domain, coset)?;
-    assert_eq!(&rt; rows.is_first_row.len(), 256);
+    assert_eq!(&rt; rows.is_first_row.len(), 1 << 18);
     for (i, at) in coset.points().enumerate() {
         assert_row(&rt, &rows, i, selectors(&rt, domain, coordinate(&rt, at)));
     }

@@ -32,7 +32,7 @@ pub(crate) fn scattered(
 }
 
 // The sum of a column's entries, each times its factor.
-fn plain_entry<EF: ExtensionField<Mersenne31>>(
+pub(crate) fn plain_entry<EF: ExtensionField<Mersenne31>>(
     rt: &impl Abort,
     matrix: &Rows,
     column: usize,

@@ -26,9 +26,9 @@ pub fn cubic(coefficients: [u64; 3]) -> Cubic {
     Cubic::from_coefficients(&coefficients.map(|n| Mersenne31::from_u64(n)))
 }
 
-/// The standard domain of `2^log_n` points, of a thousand at most.
+/// The standard domain of `2^log_n` points, of `2^14` at most.
 pub fn standard(log_n: usize) -> Result<Domain, Fail> {
-    if log_n > 10 {
+    if log_n > 14 {
         return Err(Fail::new("the domain is too large"));
     }
     Ok(Domain::standard(log_n))
@@ -53,7 +53,7 @@ pub fn rows(alloc: Global, entries: &[u64], width: usize) -> Result<Rows, Fail> 
 
 /// A matrix of `2^log_n` rows without a pattern.
 pub fn scattered(alloc: Global, log_n: usize, width: usize, seed: u64) -> Result<Rows, Fail> {
-    if log_n > 10 || width > 2048 {
+    if log_n > 14 || width > 2048 {
         return Err(Fail::new("the matrix is too large"));
     }
     let mut state = Mersenne31::from_u64(seed);
@@ -142,8 +142,8 @@ pub fn sevens(alloc: Global, scheme: &Scheme) -> Result<Batch, Fail> {
 /// points that it is opened at.
 pub type Size = (usize, usize, u64);
 
-// So many coordinates that no element of the base field is.
-fn points_of(alloc: Global, count: u64, seed: u64) -> Result<Vec<Cubic>, AllocError> {
+/// So many coordinates that no element of the base field is.
+pub fn points_of(alloc: Global, count: u64, seed: u64) -> Result<Vec<Cubic>, AllocError> {
     let mut points = Vec::new(alloc);
     for k in 0..count {
         points.push(cubic([seed, 1, k]))?;

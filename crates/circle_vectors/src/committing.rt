@@ -318,12 +318,84 @@ fn domains_and_limits(rt: HostRuntime) {
     assert!(&rt; !Scheme::ZK);
 }
 
+// So many columns of one seven each.
+fn periodic_sevens(alloc: Global, count: usize) -> Result<Vec<Vec<Mersenne31>>, Fail> {
+    let mut columns = Vec::with_capacity(alloc, count)?;
+    for _ in 0..count {
+        columns.push(one(alloc, Mersenne31::from_u64(7))?)?;
+    }
+    Ok(columns)
+}
+
 #[test]
-fn a_periodic_column(rt: HostRuntime) -> Result<(), Fail> {
-    let alloc = rt.alloc();
-    let columns = one(alloc, one(alloc, Mersenne31::from_u64(7))?)?;
+fn periodic_columns(rt: HostRuntime) -> Result<(), Fail> {
+    let (alloc, scheme) = (rt.alloc(), scheme(1, 0));
     let (trace, extension) = (Domain::standard(4), Domain::standard(5));
-    let table = scheme(1, 0).build_periodic_lde_table(alloc, &columns, trace, extension)?;
-    assert_eq!(&rt; (table.width(), table.height()), (1, 2));
+    for count in [1, 2000] {
+        let columns = periodic_sevens(alloc, count)?;
+        let table = scheme.build_periodic_lde_table(alloc, &columns, trace, extension)?;
+        assert_eq!(&rt; (table.width(), table.height()), (count, 2));
+    }
+    Ok(())
+}
+
+/// Matrices of sevens: how many they are, the binary logarithm of their height, and their width.
+type Sevens = (usize, usize, usize);
+
+// Matrices of sevens on standard domains.
+fn sevens(
+    rt: &impl Abort,
+    alloc: Global,
+    (count, log_n, width): Sevens,
+) -> Result<Vec<(Domain, Rows)>, Fail> {
+    assert!(rt; log_n <= 14 && width <= 2000);
+    let entries = vec![in alloc; 7; width << log_n]?;
+    let mut batch = Vec::with_capacity(alloc, count)?;
+    for _ in 0..count {
+        batch.push((Domain::standard(log_n), rows(alloc, &entries, width)?))?;
+    }
+    Ok(batch)
+}
+
+// Asserts that a matrix has sevens alone, in so many rows.
+fn assert_sevens(rt: &impl Abort, matrix: &Rows, height: usize, width: usize) {
+    assert_eq!(rt; (matrix.height(), matrix.width()), (height, width));
+    assert!(rt; matrix.values().iter().all(|entry| entry.value() == 7));
+}
+
+// A blowup's binary logarithm, and what is extended.
+const CONSTANTS: [(usize, Sevens); 4] = [
+    (1, (40, 2, 1)),
+    (1, (1, 14, 1)),
+    (1, (1, 2, 2000)),
+    (9, (1, 2, 1)),
+];
+
+// Asserts that the extensions of sevens, and their values on their own domain, have sevens alone.
+fn assert_constants(
+    rt: &impl Abort,
+    alloc: Global,
+    log_blowup: usize,
+    size: Sevens,
+) -> Result<(), Fail> {
+    let (count, log_n, width) = size;
+    assert!(rt; log_n <= 14 && log_blowup <= 10);
+    let scheme = scheme(log_blowup, 0);
+    let ldes = quotient_ldes(rt, alloc, &scheme, sevens(rt, alloc, size)?, 1)?;
+    assert_eq!(rt; ldes.len(), count);
+    for matrix in &ldes {
+        assert_sevens(rt, matrix, 1 << (log_n + log_blowup), width);
+    }
+    let (_, data) = commit_ldes(rt, alloc, &scheme, ldes)?;
+    let values = evaluations_on(rt, alloc, &scheme, &data, Domain::standard(log_n))?;
+    assert_sevens(rt, &values, 1 << log_n, width);
+    Ok(())
+}
+
+#[test]
+fn constants_of_large_sizes(rt: HostRuntime) -> Result<(), Fail> {
+    for (log_blowup, size) in CONSTANTS {
+        assert_constants(&rt, rt.alloc(), log_blowup, size)?;
+    }
     Ok(())
 }

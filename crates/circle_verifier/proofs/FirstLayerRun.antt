@@ -1,5 +1,6 @@
 -- A run's words of the first layer, each of one height that is claimed.
-use Rattle.std.specs.Prelude.{◌≡◌, ℕ, true, ◌+◌, ◌-◌, ◌/◌, ◌<◌, ◌≤◌, List, [], ◌∷◌, ◌++◌, length, map, take, All, slice_get, slice_index_or, Some, Vec}
+use Rattle.std.specs.Prelude.{◌≡◌, ℕ, true, ◌+◌, ◌-◌, ◌/◌, ◌<◌, ◌≤◌, List, [], ◌∷◌, ◌++◌, length, map, take, drop, All, slice_get, slice_index_or, Some, Vec}
+use Rattle.std.specs.List.{flat_map}
 use Rattle.std.specs.declared.alloc.Global.{Global}
 use Rattle.std.proofs.Common.{suc, refl, sym, ◌∙◌, ap, subst, arith}
 use Rattle.std.proofs.lemmas.List.{get_or-map, get_or_default, length-map, take_all}
@@ -19,8 +20,9 @@ use Rattle.circle_relation.specs.declared.run.QueriedWord.{QueriedWord}
 use Rattle.circle_relation.specs.Accepts.{Fields, Run, Authenticates, FirstLayerAuthenticates, at_queries, matrices, top, is_claimed, place_of, first_value, first_pair}
 use Rattle.circle_relation.specs.Statement.{log_height}
 use Rattle.circle_relation.specs.RunOf.{run_of, heights_of, reduced_words, first_pairs, folded_words, queried, IsDrawn, IsOpened}
-use Rattle.circle_verifier.specs.FirstLayer.{pairs_of, folded_word, with_pairs, pair_shape}
+use Rattle.circle_verifier.specs.FirstLayer.{twiddles_of, pairs_of, folded_word, with_pairs, pair_shape}
 use Rattle.circle_verifier.specs.Sums.{word_at}
+use Rattle.circle_verifier.proofs.Twiddles.{heights-split, part-within, first-part, later-parts}
 use Rattle.circle_verifier.proofs.FirstLayerPlaces.{kept, place-counts, any-least}
 use Rattle.circle_verifier.proofs.FirstLayerWords.{take-push, take-push-map, word-there, rows-pushed, sibling_at, at-each, length-at, first-values, siblings-at, pairs-at, folded-at}
 
@@ -164,6 +166,21 @@ module _ {F E I W IC ID IP IE WC WD WP WE : Type 0} {g : _} {k : Fields F E}
       ∙ rows-pushed k o.params.now r pair (take place (heights_of k o)) h
       ∙ ap (λ hs. at_queries k o.params.now r (λ j q. map (pair j q) hs)) (sym (take-push (heights_of k o) place h w.at))
 
+  -- of the inverses of this height and of those above it, its own, and the others
+  pub next-inverses : {later : List F} → later ≡ map k.field.inv (flat_map (twiddles_of k o) (drop place (heights_of k o))) →
+      (length o.indices.now ≤ length later) × (take (length o.indices.now) later ≡ map k.field.inv (twiddles_of k o h))
+      × (drop (length o.indices.now) later ≡ map k.field.inv (flat_map (twiddles_of k o) (drop (place + 1) (heights_of k o))))
+  next-inverses are =
+      let twiddles = twiddles_of k o in
+      let n = length o.indices.now in
+      let rest = drop (place + 1) (heights_of k o) in
+      let long = length-map o.indices.now (first_layer_twiddle k.field k.gen h o.log_max_height) in
+      let parts = are ∙ ap (λ hs. map k.field.inv (flat_map twiddles hs)) (heights-split (heights_of k o) place h w.at) in (
+        omega (arith, ap length parts, part-within k.field.inv twiddles h rest n long),
+        ap (take n) parts ∙ first-part k.field.inv twiddles h rest n long,
+        ap (drop n) parts ∙ later-parts k.field.inv twiddles h rest n long,
+      )
+
 module _ {F E I W IC ID IP IE WC WD WP WE : Type 0} {g : _} {k : Fields F E}
     {o : OpenedRun F E I W IC ID IP IE WC WD WP WE g} {f : _} {words : List (QueriedWord F E f)} (a : AreReduced k o words) where
   -- the word at a place is that of a height that is claimed
@@ -185,7 +202,7 @@ module _ {F E I W IC ID IP IE WC WD WP WE : Type 0} {g : _} {k : Fields F E}
   count-rows rows n are = ap length are ∙ length-at k o.params.now (run_of o) (λ j q. map (first_pair k o.params.now (run_of o) j q) (take n (heights_of k o)))
 
   -- all words
-  all-heights : (n : ℕ) → n ≡ length words → length (heights_of k o) ≡ n
+  pub all-heights : (n : ℕ) → n ≡ length words → length (heights_of k o) ≡ n
   all-heights n all = sym (all ∙ sym (length-map words queried) ∙ ap length a.reduced ∙ length-map (heights_of k o) (word_at k o))
 
   pub pairs-all : (rows : List (List (List E))) (n : ℕ) → n ≡ length words → rows ≡ pairs_up_to k o n → rows ≡ first_pairs k o

@@ -19,4 +19,5 @@ pub mod RoundsWaiting
 pub mod Rows
 pub mod Seeding
 pub mod Sizes
+pub mod Twiddles
 pub mod Verified

@@ -18,7 +18,7 @@ last-same (w ∷ ws) (z ∷ zs) x y e =
     let same = last-same ws zs x y rest in
     (ap (λ h. h ∷ ws) first ∙ ap (λ t. z ∷ t) same.0, same.1)
 
-range-more : (a n : ℕ) → range_with_len a (suc n) ≡ range_with_len a n ++ (a + n) ∷ []
+pub range-more : (a n : ℕ) → range_with_len a (suc n) ≡ range_with_len a n ++ (a + n) ∷ []
 range-more a zero = let same : a ≡ a + zero = omega arith in ap (λ m. m ∷ []) same
 range-more a (suc n) =
     let same : a + 1 + n ≡ a + suc n = omega arith in

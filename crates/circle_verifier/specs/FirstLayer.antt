@@ -1,13 +1,18 @@
--- Of one height that is claimed: the queries' pairs, and what these fold into.
-use Rattle.std.specs.Prelude.{ℕ, ◌-◌, ◌^◌, List, [], ◌∷◌, ◌++◌}
+-- Of one height that is claimed: the queries' twiddles, the queries' pairs, and what these fold
+-- into.
+use Rattle.std.specs.Prelude.{ℕ, ◌-◌, ◌^◌, List, [], ◌∷◌, ◌++◌, map}
 use Rattle.circle_matrix.specs.declared.matrix.Dimensions.{Dimensions}
 use Rattle.circle_matrix.specs.DotProduct.{pairwise}
+use Rattle.circle_folding.specs.Chain.{first_layer_twiddle}
 use Rattle.circle_relation.specs.declared.run.OpenedRun.{OpenedRun}
 use Rattle.circle_relation.specs.Accepts.{Fields, at_queries, first_pair, folded}
 use Rattle.circle_relation.specs.RunOf.{run_of}
 
 module _ {F E I W IC ID IP IE WC WD WP WE : Type 0} {g : _} (k : Fields F E)
     (o : OpenedRun F E I W IC ID IP IE WC WD WP WE g) (h : ℕ) where
+  abbrev pub twiddles_of : List F
+  twiddles_of = map (first_layer_twiddle k.field k.gen h o.log_max_height) o.indices.now
+
   abbrev pub pairs_of : List (List E)
   pairs_of =
       let r = run_of o in

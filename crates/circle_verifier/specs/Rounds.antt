@@ -1,14 +1,25 @@
--- A run between two rounds, as contracts see it.
+-- A run between two rounds, as contracts see it, and the twiddles of all rounds.
 use Rattle.std.specs.Prelude.{ℕ, ◌<◌, List, length, map, zip, slice_index_or}
-use Rattle.std.specs.List.{filter, range_with_len}
+use Rattle.std.specs.List.{filter, flat_map, range_with_len}
+use Rattle.circle_field.specs.Field.{FieldOps}
+use Rattle.circle_field.specs.Circle.{Coordinates}
 use Rattle.circle_folding.specs.Fold.{fold_pair}
-use Rattle.circle_folding.specs.Chain.{round_twiddle}
+use Rattle.circle_folding.specs.Chain.{round_twiddle, round_twiddles}
 use Rattle.circle_relation.specs.Statement.{Opened}
 use Rattle.circle_relation.specs.declared.run.OpenedRun.{OpenedRun}
 use Rattle.circle_relation.specs.Accepts.{Fields, Authenticates, top, is_claimed, at_queries}
 use Rattle.circle_relation.specs.Accepts.{folded, sibling_in, round_value, round_pair}
 use Rattle.circle_relation.specs.Accepts.{RoundAuthenticates}
 use Rattle.circle_relation.specs.RunOf.{run_of}
+
+-- the queries' twiddles of so many rounds from round n on, one round after another, for queries
+-- below 2^h, and their inverses
+module _ {F : Type 0} (k : FieldOps F) (gen : ℕ → Coordinates F) (h : ℕ) (queries : List ℕ) where
+  abbrev pub twiddles_from : ℕ → ℕ → List F
+  twiddles_from n count = flat_map (λ r. round_twiddles k gen h r queries) (range_with_len n count)
+
+  abbrev pub inverses_from : ℕ → ℕ → List F
+  inverses_from n count = map k.inv (twiddles_from n count)
 
 module _ {F E I W IC ID IP IE WC WD WP WE : Type 0} {g : _} (k : Fields F E)
     (o : OpenedRun F E I W IC ID IP IE WC WD WP WE g) where

@@ -1,17 +1,18 @@
 //! The first layer: the reduced words of all heights, which are folded by y.
 ghost use Rattle.std.specs.Prelude.{◌≡◌, ◌/◌, ◌<◌, ◌≤◌, [], Some, length, map, All};
 ghost use Rattle.std.specs.Prelude.{OnOk, IfOk, IfErr, slice_get, slice_index_or};
+ghost use Rattle.std.specs.List.{flat_map};
 ghost use Rattle.circle_matrix.specs.Mmcs.{opened_rows};
 ghost use Rattle.circle_relation.specs.RunOf.{IsDrawn, IsOpened, heights_of, queried, joining_of};
 ghost use Rattle.circle_relation.specs.RunOf.{reduced_words, first_pairs, folded_words};
 ghost use Rattle.circle_relation.specs.RunOf.{HasFirstLayerOf, Refuses};
-ghost use Rattle.circle_verifier.specs.FirstLayer.{pairs_of, folded_word, with_pairs};
+ghost use Rattle.circle_verifier.specs.FirstLayer.{twiddles_of, pairs_of, folded_word, with_pairs};
 ghost use Rattle.circle_verifier.specs.Sums.{word_at};
 ghost use Rattle.circle_verifier.specs.FirstLayer.{pair_shape};
 
-use circle_field::{ComplexExtendable, ExtensionField};
+use circle_field::{ComplexExtendable, ExtensionField, batch_multiplicative_inverse};
 use circle_folding::{
-    first_layer_twiddles, fold_query_values, push_query_pairs, subtract_vanishing,
+    first_layer_twiddles, fold_query_values_with_inv_twiddles, push_query_pairs, subtract_vanishing,
 };
 use circle_matrix::{Dimensions, FriError, Mmcs, OpenedRows};
 use circle_relation::{InputError, OpenedRun, OverCircle, QueriedWord, QueryValues};
@@ -27,7 +28,8 @@ use std::alloc::{AllocError, Global};
 /// pairs, which authenticate only where digests collide.
 ///
 /// Asks a run that was tested before its challenges were drawn, with lists of fitting lengths, and
-/// its reduced words. Fails where memory is refused.
+/// its reduced words. The twiddles of all heights are inverted together. Fails where memory is
+/// refused.
 pub fn fold_first_layer<
     Val: ComplexExtendable,
     EF: ExtensionField<Val>,
@@ -47,11 +49,15 @@ pub fn fold_first_layer<
     ensures folded { let k = ⟦<EF as OverCircle<Val>>⟧.fields in
         IfOk result (λ r. map joining_of r.1.items ≡ folded_words k run.now) }
 {
+    let inverses = inverse_first_twiddles(alloc, run, &words)?;
+    let mut later = inverses.as_slice();
     let mut rows = empty_rows(alloc, run.indices)?;
     let mut folded = Vec::with_capacity(alloc, words.len())?;
     for word in words {
-        let values = fold_word(alloc, run, folded.len(), word, &mut rows)?;
+        let (inv_twiddles, rest) = later.split_at(run.indices.len());
+        let values = fold_word(alloc, run, folded.len(), word, inv_twiddles, &mut rows)?;
         folded.push(values)?;
+        later = rest;
     }
     Ok((rows, folded))
 }
@@ -100,9 +106,37 @@ pub fn authenticate_first_layer<
     }
 }
 
+// The inverses of the queries' twiddles in these words, word after word, by one inversion.
+fn inverse_first_twiddles<
+    Val: ComplexExtendable,
+    EF: ExtensionField<Val>,
+    InputMmcs: Mmcs<Val>,
+    FriMmcs: Mmcs<EF>,
+>(
+    alloc: Global,
+    run: &OpenedRun<Val, EF, InputMmcs, FriMmcs>,
+    words: &[QueriedWord<Val, EF>],
+) -> Result<Vec<Val>, AllocError>
+    requires drawn { IsDrawn ⟦<EF as OverCircle<Val>>⟧.fields run.now }
+    requires opened { IsOpened ⟦<EF as OverCircle<Val>>⟧.fields run.now }
+    requires words { let k = ⟦<EF as OverCircle<Val>>⟧.fields in
+        map queried words.now ≡ reduced_words k run.now }
+    ensures { let k = ⟦<EF as OverCircle<Val>>⟧.fields in
+        IfOk result (λ r. r.items
+        ≡ map Val.ops.inv (flat_map (twiddles_of k run.now) (heights_of k run.now))) }
+{
+    let (top, indices) = (run.log_max_height, run.indices);
+    let mut twiddles = Vec::with_capacity(alloc, words.len().saturating_mul(indices.len()))?;
+    for word in words {
+        let of_word = first_layer_twiddles(alloc, word.log_height, top, indices, &word.points)?;
+        twiddles.extend_from_slice(&of_word)?;
+    }
+    batch_multiplicative_inverse(alloc, &twiddles)
+}
+
 // Takes from the values of the word in this place of the heights its lambda times the vanishing
-// polynomial, adds the pairs that the queries ask for to their rows, and folds them. Where memory
-// is refused the rows are of no use.
+// polynomial, adds the pairs that the queries ask for to their rows, and folds them by the inverses
+// of their twiddles. Where memory is refused the rows are of no use.
 fn fold_word<
     Val: ComplexExtendable,
     EF: ExtensionField<Val>,
@@ -113,6 +147,7 @@ fn fold_word<
     run: &OpenedRun<Val, EF, InputMmcs, FriMmcs>,
     place: usize,
     word: QueriedWord<Val, EF>,
+    inv_twiddles: &[Val],
     rows: &mut [Vec<Vec<EF>>],
 ) -> Result<QueryValues<EF>, AllocError>
     requires drawn { IsDrawn ⟦<EF as OverCircle<Val>>⟧.fields run.now }
@@ -121,6 +156,8 @@ fn fold_word<
         ≡ Some word.log_height }
     requires word { let k = ⟦<EF as OverCircle<Val>>⟧.fields in
         queried word ≡ word_at k run.now word.log_height }
+    requires inverses { let k = ⟦<EF as OverCircle<Val>>⟧.fields in
+        inv_twiddles.now ≡ map Val.ops.inv (twiddles_of k run.now word.log_height) }
     requires rows { length rows.old ≡ length run.now.indices.now }
     ensures pairs { let k = ⟦<EF as OverCircle<Val>>⟧.fields in OnOk result (opened_rows rows.new
         ≡ with_pairs (opened_rows rows.old) (pairs_of k run.now word.log_height)) }
@@ -137,18 +174,16 @@ fn fold_word<
     let siblings = entries_at(alloc, &openings.first_layer_siblings, place)?;
     let degree = log_height - run.params.log_blowup;
     subtract_vanishing(run.proof.lambdas[place], degree, &points, &mut values);
-    let twiddles = first_layer_twiddles(alloc, log_height, top, indices, &points)?;
     let bits = top - log_height;
     push_query_pairs(alloc, rows, bits, indices, &values, &siblings)?;
-    fold_query_values(
-        alloc,
+    fold_query_values_with_inv_twiddles(
         run.bivariate,
         bits,
         indices,
-        &twiddles,
+        inv_twiddles,
         &mut values,
         &siblings,
-    )?;
+    );
     Ok(QueryValues { log_height, values })
 }
 

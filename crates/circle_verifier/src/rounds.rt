@@ -3,14 +3,15 @@ ghost use Rattle.std.specs.Prelude.{◌≡◌, ◌+◌, ◌-◌, ◌/◌, ◌^�
 ghost use Rattle.std.specs.Prelude.{slice_index_or, OnOk, IfOk, IfErr};
 ghost use Rattle.circle_matrix.specs.DotProduct.{pairwise};
 ghost use Rattle.circle_folding.specs.Chain.{round_twiddles};
-ghost use Rattle.circle_verifier.specs.Rounds.{values_in, siblings_in, folds_in};
+ghost use Rattle.circle_verifier.specs.Rounds.{inverses_from, values_in, siblings_in, folds_in};
 ghost use Rattle.circle_verifier.specs.Rounds.{words_below, HasRoundOf};
 ghost use Rattle.circle_relation.specs.RunOf.{IsDrawn, IsOpened, folded_words, joining_of};
 ghost use Rattle.circle_relation.specs.RunOf.{last_values, HasRoundsOf, Refuses};
 
-use circle_field::{ComplexExtendable, ExtensionField, Field};
+use circle_field::{ComplexExtendable, ExtensionField, Field, batch_multiplicative_inverse};
 use circle_folding::{
-    add_each, first_x_twiddles, fold_query_values, next_x_twiddles, query_pairs, without_bits,
+    add_each, first_x_twiddles, fold_query_values_with_inv_twiddles, next_x_twiddles, query_pairs,
+    without_bits,
 };
 use circle_matrix::{Dimensions, FriError, Mmcs};
 use circle_relation::{InputError, OpenedRun, OverCircle, QueryValues};
@@ -22,8 +23,8 @@ use std::alloc::{AllocError, Global};
 /// authenticate, by `CommitPhaseMmcsError`.
 ///
 /// Asks a run that was tested before its challenges were drawn, with lists of fitting lengths, and
-/// what the first layer folds into. Each round is asked once, for all queries, and its twiddles are
-/// inverted together. Fails with `Memory` where memory is refused.
+/// what the first layer folds into. Each round is asked once, for all queries, and the twiddles of
+/// all rounds are inverted together. Fails with `Memory` where memory is refused.
 #[tactic(auto, unfolding(circle_relation::specs::Reasons::IsReason))]
 pub fn fold_rounds<
     Val: ComplexExtendable,
@@ -52,14 +53,39 @@ pub fn fold_rounds<
         return Ok(Vec::new(alloc));
     };
     let mut values = first.values;
-    let mut twiddles = first_x_twiddles::<Val>(alloc, run.log_max_height, run.indices)?;
+    let (rounds, top) = (run.betas.len(), run.log_max_height);
+    let inverses = inverse_round_twiddles::<Val>(alloc, top, rounds, run.indices)?;
+    let mut later = inverses.as_slice();
     let mut left = waiting.as_slice();
-    for round in 0..run.betas.len() {
-        fold_round(alloc, run, round, &twiddles, &mut values)?;
+    for round in 0..rounds {
+        let (inv_twiddles, rest) = later.split_at(run.indices.len());
+        fold_round(alloc, run, round, inv_twiddles, &mut values)?;
         left = join(run, round, left, &mut values);
-        next_x_twiddles(round, run.indices, &mut twiddles);
+        later = rest;
     }
     Ok(values)
+}
+
+// The inverses of the queries' twiddles in so many rounds, round after round, by one inversion.
+fn inverse_round_twiddles<F: ComplexExtendable>(
+    alloc: Global,
+    log_max_height: usize,
+    rounds: usize,
+    indices: &[usize],
+) -> Result<Vec<F>, AllocError>
+    requires rounds { rounds + 2 ≤ log_max_height }
+    requires in_group { log_max_height < F.CIRCLE_TWO_ADICITY }
+    requires in_range { All (λ q. q < 2 ^ log_max_height) indices.now }
+    ensures { IfOk result (λ inverses. inverses.items
+        ≡ inverses_from F.ops F.generators log_max_height indices.now 0 rounds) }
+{
+    let mut twiddles = Vec::with_capacity(alloc, rounds.saturating_mul(indices.len()))?;
+    let mut of_round = first_x_twiddles::<F>(alloc, log_max_height, indices)?;
+    for round in 0..rounds {
+        twiddles.extend_from_slice(&of_round)?;
+        next_x_twiddles(round, indices, &mut of_round);
+    }
+    batch_multiplicative_inverse(alloc, &twiddles)
 }
 
 // Folds the queries' values in the word of a round, where their pairs authenticate.
@@ -73,13 +99,13 @@ fn fold_round<
     alloc: Global,
     run: &OpenedRun<Val, EF, InputMmcs, FriMmcs>,
     round: usize,
-    twiddles: &[Val],
+    inv_twiddles: &[Val],
     values: &mut [EF],
 ) -> Result<(), FriError<FriMmcs::Error, InputError<InputMmcs::Error, FriMmcs::Error>>>
     requires drawn { IsDrawn ⟦<EF as OverCircle<Val>>⟧.fields run.now }
     requires round { round < length run.now.betas.now }
-    requires twiddles { twiddles.now ≡ round_twiddles Val.ops Val.generators
-        run.now.log_max_height round run.now.indices.now }
+    requires inverses { inv_twiddles.now ≡ map Val.ops.inv (round_twiddles Val.ops Val.generators
+        run.now.log_max_height round run.now.indices.now) }
     requires values { values.old ≡ values_in ⟦<EF as OverCircle<Val>>⟧.fields run.now round }
     ensures folded { let k = ⟦<EF as OverCircle<Val>>⟧.fields in
         OnOk result (values.new ≡ folds_in k run.now round) }
@@ -91,16 +117,8 @@ fn fold_round<
     let opening = &run.proof.fri_proof.commit_phase_openings[round];
     let siblings = first_entries(alloc, &opening.sibling_values)?;
     authenticate_round(alloc, run, round, values, &siblings)?;
-    let beta = run.betas[round];
-    fold_query_values(
-        alloc,
-        beta,
-        round + 1,
-        run.indices,
-        twiddles,
-        values,
-        &siblings,
-    )?;
+    let (beta, bits) = (run.betas[round], round + 1);
+    fold_query_values_with_inv_twiddles(beta, bits, run.indices, inv_twiddles, values, &siblings);
     Ok(())
 }
 

@@ -1,7 +1,9 @@
 pub mod Claims
+pub mod Combinations
 pub mod DomainPoints
 pub mod Joining
 pub mod Known
+pub mod Lifts
 pub mod Opened
 pub mod Pairs
 pub mod Prefix

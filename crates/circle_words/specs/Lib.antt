@@ -1,3 +1,4 @@
+pub mod Lifts
 pub mod Ratios
 pub mod Values
 pub mod Words

@@ -15,12 +15,13 @@ use Rattle.circle_relation.specs.Sums.{Adds, reduced}
 use Rattle.circle_relation.specs.Accepts.{Fields}
 use Rattle.circle_relation.specs.Statement.{PointClaim}
 use Rattle.circle_matrix.specs.declared.matrix.RowMajorMatrix.{RowMajorMatrix}
+use Rattle.circle_words.specs.Lifts.{read_rows}
 use Rattle.circle_words.specs.Ratios.{points_of_height}
 use Rattle.circle_words.specs.Values.{AreOff}
 use Rattle.circle_words.specs.declared.reduced.OpenedMatrix.{OpenedMatrix}
 
--- a committed matrix: the logarithm of its height, its rows, and the points that it is opened at
--- with its columns' values there
+-- a committed matrix: the logarithm of its height, its rows as words read them, and the points that
+-- it is opened at with its columns' values there
 pub record Committed (F E : Type 0) : Type 0 where
   pub log_height : ℕ
   pub rows : List (List F)
@@ -62,10 +63,10 @@ abbrev pub pairs_of : {E : Type 0} → List E → List (List E)
 pairs_of word = rows_from 2 (length word / 2) word
 
 -- what contracts see of a matrix that is opened
-abbrev pub committed_of : {F E : Type 0} → OpenedMatrix F E → Committed F E
-committed_of m = record {
+abbrev pub committed_of : {F E : Type 0} → Fields F E → ℕ → OpenedMatrix F E → Committed F E
+committed_of k blowup m = record {
   log_height = m.log_height;
-  rows = rows m.rows.now;
+  rows = read_rows k blowup m.log_height (width_of m.rows.now) (rows m.rows.now);
   claims = pairwise (λ t v. claim_of t v.items) m.points.now m.values.now;
 }
 
@@ -108,27 +109,27 @@ abbrev pub OfPowers : {F E : Type 0} → Fields F E → List E → (E → Type 0
 OfPowers k powers Holds = (alpha : _) → ArePowers k.extension alpha powers → Holds alpha
 
 -- the words of matrices that are opened
-module _ {F E : Type 0} (k : Fields F E) (matrices : List (OpenedMatrix F E)) where
+module _ {F E : Type 0} (k : Fields F E) (matrices : List (OpenedMatrix F E)) (blowup : ℕ) where
   abbrev pub opened_word : E → ℕ → List E
-  opened_word alpha = reduced_word k alpha (map committed_of matrices)
+  opened_word alpha = reduced_word k alpha (map (committed_of k blowup) matrices)
 
   -- its multiple of the vanishing polynomial, and what is left, in rows of two
-  abbrev pub opened_lambda : ℕ → E → ℕ → E
-  opened_lambda blowup alpha = lambda k alpha (map committed_of matrices) blowup
+  abbrev pub opened_lambda : E → ℕ → E
+  opened_lambda alpha = lambda k alpha (map (committed_of k blowup) matrices) blowup
 
-  abbrev pub opened_rows : ℕ → E → ℕ → List (List E)
-  opened_rows blowup alpha h =
-      pairs_of (corrected_word k alpha (map committed_of matrices) blowup h)
+  abbrev pub opened_rows : E → ℕ → List (List E)
+  opened_rows alpha h =
+      pairs_of (corrected_word k alpha (map (committed_of k blowup) matrices) blowup h)
 
-  abbrev pub layers_of : ℕ → E → List ℕ → List (List (List E))
-  layers_of blowup alpha heights = map (opened_rows blowup alpha) heights
+  abbrev pub layers_of : E → List ℕ → List (List (List E))
+  layers_of alpha heights = map (opened_rows alpha) heights
 
 -- to sums over the points of its height, what the claims on a matrix that is opened add
-abbrev pub AddsClaims : {F E : Type 0} → Fields F E → OpenedMatrix F E → E → E → E → List E
+abbrev pub AddsClaims : {F E : Type 0} → Fields F E → ℕ → OpenedMatrix F E → E → E → E → List E
     → List E → Type 0
-AddsClaims k m alpha =
+AddsClaims k blowup m alpha =
     Adds k.extension k.embed alpha (points_of_height k.field k.gen m.log_height) (origin k.field)
-    (claims_on (committed_of m))
+    (claims_on (committed_of k blowup m))
 
 -- what rows of two of the height 2^h fold into by y
 abbrev pub y_folded : {F E : Type 0} → Fields F E → E → ℕ → List (List E) → List E

@@ -33,7 +33,7 @@ fn layer<F: ComplexExtendable, EF: ExtensionField<F>>(
     ensures width { IfOk result (λ r. width_of r.1 ≡ 2) }
     ensures height { IfOk result (λ r. height_of r.1 ≡ 2 ^ (log_height - 1)) }
 {
-    let mut word = reduced_word(alloc, log_height, powers, matrices)?;
+    let mut word = reduced_word(alloc, log_height, log_blowup, powers, matrices)?;
     let lambda = extract_lambda::<F, EF>(alloc, &mut word, log_blowup)?;
     Ok((lambda, RowMajorMatrix::new(word, 2)))
 }

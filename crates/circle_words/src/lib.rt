@@ -13,6 +13,11 @@
 //! - `standard_points` answers the points of a standard domain in the order of the transform, and
 //!   `vanishing_ratios` at each of them the imaginary part of a claimed point's vanishing function
 //!   over the real one.
+//! - `combined_rows` answers at each row of a matrix the sum of the entries that words read there,
+//!   each times its power of the batching challenge. Of a matrix of at least `LIFT_WIDTH` columns
+//!   words read the values of the polynomials that the first committed rows fix (`read_rows`): the
+//!   sums are formed on these rows alone, and their coefficients extended by the transform. Rows of
+//!   low degree are read as they are, which `circle_completeness` proves.
 //! - `reduced_word` has at each point of a height's domain the quotients there of the claims on
 //!   matrices of that height, each times its power of the batching challenge, added up (`word`).
 //! - `first_layer` answers for each height the multiple of the vanishing polynomial in the reduced
@@ -22,19 +27,23 @@
 //!
 //! Its files:
 //!
-//! - In `src/`, `corrected.rt`: words without their lambda, as rows of two, and their folds by y.
-//! - In `specs/`, `Values`, `Ratios`, `Words`: the definitions.
+//! - In `src/`, `combined.rt`: combinations of columns; `corrected.rt`: words without their lambda,
+//!   as rows of two, and their folds by y.
+//! - In `specs/`, `Values`, `Ratios`, `Lifts`, `Words`: the definitions.
 //! - In `proofs/`, `Prefix`: the first rows of a committed matrix are those of a smaller domain;
-//!   `Opened`, `Known`: values by weights; `DomainPoints`, `Quotients`, `Claims`: sums of quotients
-//!   by ratios; `Pairs`, `Joining`, `Zips`.
+//!   `Lifts`: what they extend to; `Combinations`: to combine extended rows is to extend what is
+//!   combined; `Opened`, `Known`: values by weights; `DomainPoints`, `Quotients`, `Claims`: sums of
+//!   quotients by ratios; `Pairs`, `Joining`, `Zips`.
 #![tactic(auto)]
 
+pub mod combined;
 pub mod corrected;
 pub mod ratios;
 pub mod reduced;
 pub mod rounds;
 pub mod values;
 
+pub use combined::{LIFT_WIDTH, combined_rows};
 pub use corrected::{first_layer, fold_corrected};
 pub use ratios::{PointRatios, standard_points, vanishing_ratios};
 pub use reduced::{OpenedMatrix, can_all_be_opened, reduced_word};

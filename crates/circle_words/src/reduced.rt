@@ -3,7 +3,7 @@
 ghost use Rattle.std.specs.Prelude.{◌≡◌, ◌≢◌, ◌^◌, ◌<◌, ◌≤◌, length, map, All};
 ghost use Rattle.std.specs.Prelude.{IsTrue, IsNone, IfSome, IfOk, OnOk};
 ghost use Rattle.std.specs.List.{Any};
-ghost use Rattle.circle_matrix.specs.RowMajorMatrix.{rows, width_of};
+ghost use Rattle.circle_matrix.specs.RowMajorMatrix.{width_of};
 ghost use Rattle.circle_matrix.specs.DotProduct.{dot};
 ghost use Rattle.circle_domain.specs.Selectors.{IsFinite};
 ghost use Rattle.circle_folding.specs.Queries.{IsApart};
@@ -13,6 +13,7 @@ ghost use Rattle.circle_words.specs.Ratios.{points_of_height, AreRatiosOf, with_
 ghost use Rattle.circle_words.specs.Values.{AreOff};
 ghost use Rattle.circle_words.specs.Words.{AddsClaims, CanBeOpened, OfPowers, opened_word};
 
+use crate::combined::combined_rows;
 use crate::ratios::{PointRatios, standard_points, vanishing_ratios};
 use crate::values::are_off_domain;
 use circle_field::{ComplexExtendable, ExtensionField, Field};
@@ -85,35 +86,6 @@ pub fn can_all_be_opened<F: ComplexExtendable, EF: ExtensionField<F>>(
         }
     }
     true
-}
-
-// For each row the sum of its entries, each times its power.
-fn combined_rows<F: Field, EF: ExtensionField<F>>(
-    alloc: Global,
-    matrix: &RowMajorMatrix<F>,
-    powers: &[EF],
-) -> Result<Vec<EF>, AllocError>
-    requires enough { width_of matrix.now ≤ length powers.now }
-    ensures { IfOk result (λ made. made.items
-        ≡ map (λ row. dot EF.ops powers.now (map EF.embed row)) (rows matrix.now)) }
-{
-    let mut combined = Vec::with_capacity(alloc, matrix.height())?;
-    for r in 0..matrix.height() {
-        combined.push(combined_row(matrix.row(r), powers))?;
-    }
-    Ok(combined)
-}
-
-// The sum of the entries, each times its power.
-fn combined_row<F: Field, EF: ExtensionField<F>>(row: &[F], powers: &[EF]) -> EF
-    requires enough { length row.now ≤ length powers.now }
-    ensures { result ≡ dot EF.ops powers.now (map EF.embed row.now) }
-{
-    let mut sum = EF::ZERO;
-    for (j, entry) in row.iter().enumerate() {
-        sum = sum + powers[j].times_base(*entry);
-    }
-    sum
 }
 
 // The sum of claimed values, each times its power.
@@ -237,6 +209,7 @@ fn all_ratios<F: ComplexExtendable, EF: ExtensionField<F>>(
 // behind them.
 fn add_matrix<F: ComplexExtendable, EF: ExtensionField<F>>(
     alloc: Global,
+    log_blowup: usize,
     sums: &mut [EF],
     offset: EF,
     powers: &[EF],
@@ -245,17 +218,18 @@ fn add_matrix<F: ComplexExtendable, EF: ExtensionField<F>>(
 ) -> Result<EF, AllocError>
     requires openable { CanBeOpened ⟦<EF as OverCircle<F>>⟧.fields F.CIRCLE_TWO_ADICITY
         (length powers.now) matrix.now }
+    requires blowup { log_blowup < matrix.now.log_height }
     requires size { length sums.old ≡ 2 ^ matrix.now.log_height }
     requires right { All (AreRatiosOf EF.ops EF.embed
         (points_of_height F.ops F.generators matrix.now.log_height)) ratios.now }
     requires known { All (λ t. Any (λ r. r.point ≡ t) ratios.now) matrix.now.points.now }
-    ensures sums { let k = ⟦<EF as OverCircle<F>>⟧.fields in IfOk result (λ after. OfPowers k
-        powers.now (λ alpha. AddsClaims k matrix.now alpha offset after sums.old sums.new)) }
+    ensures sums { let k = ⟦<EF as OverCircle<F>>⟧.fields in let m = matrix.now in IfOk result (λ o.
+        OfPowers k powers.now (λ a. AddsClaims k log_blowup m a offset o sums.old sums.new)) }
 {
     if matrix.points.is_empty() {
         return Ok(offset);
     }
-    let combined = combined_rows(alloc, matrix.rows, powers)?;
+    let combined = combined_rows(alloc, matrix.log_height, log_blowup, matrix.rows, powers)?;
     let mut after = offset;
     for (i, point) in matrix.points.iter().enumerate() {
         let values = &matrix.values[i];
@@ -273,29 +247,35 @@ fn add_matrix<F: ComplexExtendable, EF: ExtensionField<F>>(
 /// that height, in order, each times the power of the batching challenge of twice the number of
 /// columns that are claimed before it (section 6, Remark 21).
 ///
-/// Asks `1 <= log_height < CIRCLE_TWO_ADICITY`, matrices that can be opened, as
+/// Of a matrix of at least [`LIFT_WIDTH`](crate::LIFT_WIDTH) columns the values are taken that its
+/// first `2^(log_height - log_blowup)` rows fix.
+///
+/// Asks `log_blowup < log_height < CIRCLE_TWO_ADICITY`, matrices that can be opened, as
 /// [`can_all_be_opened`] tests, and powers of the batching challenge from the first on. Fails where
 /// memory is refused.
 pub fn reduced_word<F: ComplexExtendable, EF: ExtensionField<F>>(
     alloc: Global,
     log_height: usize,
+    log_blowup: usize,
     powers: &[EF],
     matrices: &[OpenedMatrix<F, EF>],
 ) -> Result<Vec<EF>, AllocError>
-    requires positive { 1 ≤ log_height }
+    requires blowup { log_blowup < log_height }
     requires in_group { log_height < F.CIRCLE_TWO_ADICITY }
     requires openable { All (CanBeOpened ⟦<EF as OverCircle<F>>⟧.fields F.CIRCLE_TWO_ADICITY
         (length powers.now)) matrices.now }
     ensures count { IfOk result (λ word. length word.items ≡ 2 ^ log_height) }
     ensures word { let k = ⟦<EF as OverCircle<F>>⟧.fields in IfOk result (λ word. OfPowers k
-        powers.now (λ alpha. word.items ≡ opened_word k matrices.now alpha log_height)) }
+        powers.now (λ a. word.items ≡ opened_word k matrices.now log_blowup a log_height)) }
 {
     let ratios = all_ratios(alloc, log_height, matrices)?;
     let mut word = vec![in alloc; EF::ZERO; 1 << log_height]?;
     let mut offset = EF::ONE;
     for matrix in matrices {
         if matrix.log_height == log_height {
-            offset = add_matrix(alloc, &mut word, offset, powers, &ratios, matrix)?;
+            offset = add_matrix(
+                alloc, log_blowup, &mut word, offset, powers, &ratios, matrix,
+            )?;
         }
     }
     Ok(word)

@@ -93,7 +93,10 @@ fn weights_at<'a, EF: Field>(
 }
 
 // The domain of the first points of that of a height.
-fn first_domain<F: ComplexExtendable>(log_blowup: usize, log_height: usize) -> CircleDomain<F>
+pub(crate) fn first_domain<F: ComplexExtendable>(
+    log_blowup: usize,
+    log_height: usize,
+) -> CircleDomain<F>
     requires blowup { log_blowup < log_height }
     requires in_group { log_height < F.CIRCLE_TWO_ADICITY }
     ensures size { log_size result ≡ log_height - log_blowup }

@@ -5,6 +5,7 @@ use Rattle.std.specs.List.{AllByRecursion, AllZip}
 use Rattle.std.proofs.Common.{refl, sym, subst, arith, inl, inr}
 use Rattle.std.proofs.lemmas.List.Elements.{recursion_from_All}
 use Rattle.circle_completeness.proofs.Accepted.{accepts-openings}
+use Rattle.circle_completeness.proofs.ReadRows.{low-read}
 use Rattle.circle_challenger.specs.Moves.{RunMoves}
 use Rattle.circle_matrix.specs.Mmcs.{HaveHeightsOfPowers}
 use Rattle.circle_matrix.specs.Pcs.{Openings}
@@ -33,8 +34,8 @@ use Rattle.p3_circle.specs.Scheme.{IsCommitted, IsFirstFrom, IsFirstOf, IsGiven}
 use Rattle.p3_circle.specs.Scheme.{says_prover_memory}
 use Rattle.p3_circle.specs.SchemeFacts.{extended-powers}
 use Rattle.p3_circle.specs.Verdict.{IsAccepted}
-use Rattle.p3_circle.specs.SchemeLaws.HonestOpenings.{all-valued, are-claimed, are-pointed, commits}
-use Rattle.p3_circle.specs.SchemeLaws.HonestOpenings.{kept-low, points_in}
+use Rattle.p3_circle.specs.SchemeLaws.HonestOpenings.{all-valued, answered-kept, are-claimed, are-pointed}
+use Rattle.p3_circle.specs.SchemeLaws.HonestOpenings.{commits, kept-low, points_in}
 use Rattle.p3_circle.specs.SchemeLaws.HonestTests.{batch-passes, requests-pass, unrefused}
 use Rattle.p3_circle.specs.SchemeLaws.HonestTests.{unrefused-from}
 use Rattle.p3_circle.specs.SchemeLaws.Unrefused.{are-fit, are-requests}
@@ -183,10 +184,12 @@ module _ {F E M : Type 0} {g : Ghosts F} (k : Fields F E) (base : FieldLaws k.fi
           IsAccepted k r inputs words mmcs p claims proof s t
       opening-accepted r below inputs words mmcs WordCommits requests values proof s t given claims
           answered =
+          let kept_of = answered-kept k k.two_adicity p kept Commits requests values claims answered in
+          let low = kept-low k k.two_adicity p kept Commits requests kept_of given.asked in
           let accepted =
           accepts-openings k base laws e gens small r below p kept Commits (inputs mmcs) WordCommits
-          (words p.mmcs) requests given.parameters given.arity given.asked values given.answers
-          (proof_of proof) s t given.opening
+          (words p.mmcs) requests given.parameters given.arity given.asked
+          (low-read k p kept requests low) values given.answers (proof_of proof) s t given.opening
           (batch_claims claims) (are-claimed k k.two_adicity p kept Commits requests values claims
           (recursion_from_All (IsFit kept k p.log_blowup k.two_adicity) requests given.asked.fit) answered)
           (are-pointed k k.two_adicity p kept Commits requests values claims answered) in

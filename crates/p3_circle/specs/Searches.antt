@@ -99,9 +99,9 @@ module _ {F E : Type 0} (k : Fields F E) where
       → FindsWitnesses k picky p CommitsToOne kept requests s
   own-run-finds p easy kept requests s =
       λ values e answers stuck.
-      let claims = answered_claims p kept requests values in
+      let claims = answered_claims k p kept requests values in
       let shape = shape_by p claims in
-      never p easy (numbers_of shape) refl (answered_matrices p kept requests values)
+      never p easy (numbers_of shape) refl (answered_matrices k p kept requests values)
       (claims_taken k.extension claims) (seeded picky shape s) stuck.0 stuck.2
 
   -- a run over the same claims with a commitment of nothing is stuck at one bit before its queries

@@ -1,6 +1,6 @@
 //! The scheme.
-ghost use Rattle.std.specs.Prelude.{◌≡◌, ◌+◌, ◌-◌, ◌^◌, ◌<◌, ◌≤◌, length, min};
-ghost use Rattle.std.specs.Prelude.{OnOk, IfOk, IfErr, IsTrue};
+ghost use Rattle.std.specs.Prelude.{◌≡◌, ◌↔◌, ◌+◌, ◌-◌, ◌^◌, ◌<◌, ◌≤◌, length, min};
+ghost use Rattle.std.specs.Prelude.{OnOk, IfOk, IfErr, IfSome, IsSome, IsTrue};
 ghost use Rattle.circle_matrix.specs.Matrix.{IsPowerOfTwo};
 ghost use Rattle.circle_matrix.specs.Mmcs.{HaveHeightsOfPowers};
 ghost use Rattle.circle_matrix.specs.Pcs.{openings};
@@ -13,7 +13,7 @@ ghost use Rattle.p3_circle.specs.Committing.{HaveRowsForPoints, AreExtensions};
 ghost use Rattle.p3_circle.specs.Committing.{AreValuesOfMatrix};
 ghost use Rattle.circle_opening.specs.Requests.{AreAnswered};
 ghost use Rattle.circle_opening.specs.declared.error.ProverError.TheVariants.{Memory as OutOfMemory};
-ghost use Rattle.p3_circle.specs.Scheme.{HaveCommittedHeights};
+ghost use Rattle.p3_circle.specs.Scheme.{CanBeDegree, HaveCommittedHeights, IsStandardOfSize};
 ghost use Rattle.p3_circle.specs.Requesting.{RefusesBefore};
 ghost use Rattle.circle_verifier.specs.Tests.{IsFirstRefusal};
 ghost use Rattle.p3_circle.specs.Calls.{IsAnswer, IsOfHighDegreeIf, scheme_tests};
@@ -25,7 +25,7 @@ use crate::requests::validate_requests;
 use circle_challenger::{CanObserve, CanSample, GrindingChallenger};
 use circle_commit::{
     CommitmentOpening, FriError, FriParameters, Mmcs, OpenedValues, OpeningRequest,
-    PeriodicLdeTable, RowMajorMatrix, heights_are_powers_of_two, log2_strict,
+    PeriodicLdeTable, RowMajorMatrix, heights_are_powers_of_two, is_power_of_two, log2_strict,
 };
 use circle_domain::CircleDomain;
 use circle_field::{ComplexExtendable, ExtensionField, Field};
@@ -79,6 +79,22 @@ impl<Val: ComplexExtendable, InputMmcs: Mmcs<Val>, FriMmcs> CirclePcs<Val, Input
         ensures standard { IsStandardDomain Val.CIRCLE_TWO_ADICITY Val.generators result }
     {
         CircleDomain::standard(log2_strict(degree))
+    }
+
+    /// What [`natural_domain_for_degree`](Self::natural_domain_for_degree) answers, and `None` of a
+    /// degree that it doesn't take.
+    pub fn try_natural_domain_for_degree(&self, degree: usize) -> Option<CircleDomain<Val>>
+        ensures some { IsSome result ↔ CanBeDegree Val.CIRCLE_TWO_ADICITY degree }
+        ensures domain { IfSome result
+            (IsStandardOfSize Val.CIRCLE_TWO_ADICITY Val.generators degree) }
+    {
+        if degree < 2 || !is_power_of_two(degree) {
+            return None;
+        }
+        if log2_strict(degree) >= Val::CIRCLE_TWO_ADICITY {
+            return None;
+        }
+        Some(self.natural_domain_for_degree(degree))
     }
 
     /// Commits to matrices, each with the domain on which its columns are values of polynomials, a
@@ -145,11 +161,13 @@ impl<Val: ComplexExtendable, InputMmcs: Mmcs<Val>, FriMmcs> CirclePcs<Val, Input
     /// `HeightTooLarge` matrix after matrix, `PointAtInfinity`, `PointOnDomain`.
     ///
     /// Then `NoGrindingWitness` of a phase where no witness passes, `LastWordNotConstant` where a
-    /// matrix that `commit_ldes` took isn't of low degree, and `Memory` where memory is refused;
-    /// these leave the challenger's state open. Honest requests are refused for want of memory
-    /// alone; the values are those of the only polynomials of the batches that were committed to,
-    /// and claims of them are accepted by `verify` from the state that `open` was called in. The
-    /// commitments are not observed, which is the caller's to do.
+    /// matrix of fewer than 1024 columns that `commit_ldes` took isn't of low degree, and `Memory`
+    /// where memory is refused; these leave the challenger's state open. Of a wider one that isn't
+    /// of low degree nothing is told: its words are those of the polynomials that its first rows
+    /// fix, and it may be opened to a proof that `verify` refuses. Honest requests are refused for
+    /// want of memory alone; the values are those of the only polynomials of the batches that were
+    /// committed to, and claims of them are accepted by `verify` from the state that `open` was
+    /// called in. The commitments are not observed, which is the caller's to do.
     pub fn open<EF: ExtensionField<Val>, C>(
         &self,
         alloc: Global,

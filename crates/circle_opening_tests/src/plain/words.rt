@@ -55,32 +55,29 @@ pub(crate) fn values_at(
 // height, each times its power of the batching challenge.
 fn reduced_entry(
     rt: &impl Abort,
-    alloc: Global,
     matrices: &[Opened],
     log_height: usize,
     place: usize,
-    alpha: Cubic,
-) -> Result<Cubic, AllocError> {
+    powers: &[Cubic],
+) -> Cubic {
     let x = point_at(rt, log_height, place);
     let (mut sum, mut offset) = (Cubic::ZERO, Cubic::ONE);
     for matrix in matrices {
         if matrix.log_height == log_height {
             assert!(rt; place < matrix.rows.height());
             let row = matrix.rows.row(place);
-            assert!(rt; row.len() <= 4096);
-            let powers = Cubic::powers(alloc, alpha, row.len() + 1)?;
             assert!(rt; row.len() < powers.len());
             let last = powers[row.len()];
             for (at, values) in matrix.points.iter().zip(matrix.values) {
                 assert!(rt; row.len() == values.len());
                 let zeta = on_line(rt, *at);
-                let quotient = deep_quotient_reduce_row(last, &powers, x, zeta, row, values);
+                let quotient = deep_quotient_reduce_row(last, powers, x, zeta, row, values);
                 sum = sum + offset * quotient.expect(rt, "the point is none of the domain");
                 offset = offset * last.square();
             }
         }
     }
-    Ok(sum)
+    sum
 }
 
 // The values of the vanishing polynomial in the transform's order.
@@ -127,9 +124,10 @@ fn reduced(
     alpha: Cubic,
 ) -> Result<Vec<Cubic>, AllocError> {
     assert!(rt; log_height <= 12);
+    let powers = Cubic::powers(alloc, alpha, 2049)?;
     let mut word = Vec::new(alloc);
     for place in 0..1 << log_height {
-        word.push(reduced_entry(rt, alloc, matrices, log_height, place, alpha)?)?;
+        word.push(reduced_entry(rt, matrices, log_height, place, &powers))?;
     }
     Ok(word)
 }
@@ -199,27 +197,29 @@ pub(crate) fn folded(
     Ok(folded)
 }
 
-/// Asserts that these are, for each query, of each word, the entries beside the one that the query
-/// falls on.
-pub(crate) fn assert_siblings(
+/// For each query, of each word, the entry beside the one that the query falls on.
+pub(crate) fn siblings(
     rt: &impl Abort,
+    alloc: Global,
     words: &[Vec<Cubic>],
     top: usize,
     indices: &[usize],
-    siblings: &[Vec<Cubic>],
-) {
-    assert!(rt; top <= 12 && siblings.len() == indices.len());
-    for (index, of_query) in indices.iter().zip(siblings) {
-        assert!(rt; of_query.len() == words.len());
-        for (word, sibling) in words.iter().zip(of_query) {
+) -> Result<Vec<Vec<Cubic>>, AllocError> {
+    assert!(rt; top <= 12);
+    let mut siblings = Vec::new(alloc);
+    for index in indices {
+        let mut of_query = Vec::new(alloc);
+        for word in words {
             assert!(rt; word.len() >= 1);
             let log_len = word.len().ilog2() as usize;
             assert!(rt; log_len <= top);
             let place = (*index >> (top - log_len)) ^ 1;
             assert!(rt; place < word.len());
-            assert!(rt; word[place] == *sibling);
+            of_query.push(word[place])?;
         }
+        siblings.push(of_query)?;
     }
+    Ok(siblings)
 }
 
 /// Adds to a word the one of its length that waits, if there is one.

@@ -31,7 +31,7 @@ fn folds_of(
     log_height: usize,
     rows: RowMajorMatrix<Cubic>,
 ) -> Result<Vec<Cubic>, AllocError> {
-    assert!(rt; log_height <= 8 && rows.width() == 2 && rows.height() == 1 << log_height);
+    assert!(rt; log_height <= 20 && rows.width() == 2 && rows.height() == 1 << log_height);
     <CircleFriFolding as FriFoldingStrategy<Mersenne31, Cubic>>::fold_matrix(
         &CircleFriFolding,
         alloc,
@@ -54,6 +54,17 @@ fn a_pair_folds_to_the_value_at_the_challenge(rt: HostRuntime) -> Result<(), Fai
     let rows = RowMajorMatrix::new(Vec::from_slice(rt.alloc(), &pair())?, 2);
     let folded = folds_of(&rt, rt.alloc(), beta, 0, rows)?;
     assert!(&rt; folded.len() == 1 && folded[0] == five);
+    Ok(())
+}
+
+#[test]
+fn a_constant_of_many_pairs_folds_to_itself(rt: HostRuntime) -> Result<(), Fail> {
+    let seven = Cubic::from_u64(7);
+    let entries = vec![in rt.alloc(); seven; 1 << 14]?;
+    let rows = RowMajorMatrix::new(entries, 2);
+    let folded = folds_of(&rt, rt.alloc(), Cubic::from_u64(3), 13, rows)?;
+    assert_eq!(&rt; folded.len(), 1 << 13);
+    assert!(&rt; folded.iter().all(|entry| *entry == seven));
     Ok(())
 }
 

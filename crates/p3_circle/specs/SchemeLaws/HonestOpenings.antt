@@ -87,7 +87,7 @@ module _ {F E M : Type 0} {g : Ghosts F} (k : Fields F E) (two : ℕ) (p : FriPa
 
   -- claims of what is answered of one matrix
   one-claimed : (x : CircleDomain F g × RowMajorMatrix F) (m : RowMajorMatrix F) (points : List E) (values : List (List E)) (c : MatrixOpening E (CircleDomain F g)) → IsExtension k.field k.gen p.log_blowup x.0 x.1 m →
-      height_of m ≡ 2 ^ log_of (height_of m) → IsClaimedOf points_in x points values c → matrix_claim c ≡ claimed p.log_blowup (committed m points values)
+      height_of m ≡ 2 ^ log_of (height_of m) → IsClaimedOf points_in x points values c → matrix_claim c ≡ claimed p.log_blowup (committed k p.log_blowup m points values)
   one-claimed x m points values c extension power is =
       let height = log-of x m power extension in
       let size = pow_injective (log_size c.domain) (log_size x.0) is.domain in
@@ -98,7 +98,7 @@ module _ {F E M : Type 0} {g : Ghosts F} (k : Fields F E) (two : ℕ) (p : FriPa
       (points-claimed c.points.items ∙ ap (λ ps. pairwise claim_of ps (map (λ p. p.values.items) c.points.items)) is.points ∙ ap (pairwise claim_of points) is.values)
 
   batch-claimed : (batch : Batch F g) (ms : List (RowMajorMatrix F)) (points : List (List E)) (values : List (List (List E))) (cs : List (MatrixOpening E (CircleDomain F g))) →
-      AreExtensions k.field k.gen p.log_blowup batch ms → AllZip (IsOpenable k two p.log_blowup) ms points → AreClaimedOf points_in batch points values cs → map matrix_claim cs ≡ map (claimed p.log_blowup) (batch_committed ms points values)
+      AreExtensions k.field k.gen p.log_blowup batch ms → AllZip (IsOpenable k two p.log_blowup) ms points → AreClaimedOf points_in batch points values cs → map matrix_claim cs ≡ map (claimed p.log_blowup) (batch_committed k p.log_blowup ms points values)
   batch-claimed [] [] points values [] made openable are = refl
   batch-claimed [] [] [] [] (c ∷ cs) made openable are = absurd are
   batch-claimed [] [] (t ∷ points) values (c ∷ cs) made openable are = absurd openable
@@ -110,7 +110,7 @@ module _ {F E M : Type 0} {g : Ghosts F} (k : Fields F E) (two : ℕ) (p : FriPa
   batch-claimed (x ∷ batch) (m ∷ ms) (t ∷ points) (v ∷ values) [] made openable are = absurd are
   batch-claimed (x ∷ batch) (m ∷ ms) (t ∷ points) (v ∷ values) (c ∷ cs) made openable are =
       ap (λ first. first ∷ map matrix_claim cs) (one-claimed x m t v c made.0 openable.0.power are.0)
-      ∙ ap (λ rest. claimed p.log_blowup (committed m t v) ∷ rest) (batch-claimed batch ms points values cs made.1 openable.1 are.1)
+      ∙ ap (λ rest. claimed p.log_blowup (committed k p.log_blowup m t v) ∷ rest) (batch-claimed batch ms points values cs made.1 openable.1 are.1)
 
   -- each matrix is claimed at a point
   one-pointed : (x : CircleDomain F g × RowMajorMatrix F) (points : List E) (values : List (List E)) (c : MatrixOpening E (CircleDomain F g)) → IsClaimedOf points_in x points values c → 1 ≤ length (map point_claim c.points.items)
@@ -137,7 +137,7 @@ module _ {F E M : Type 0} {g : Ghosts F} (k : Fields F E) (two : ℕ) (p : FriPa
 
     -- the claims of a verifier are on what is answered
     pub are-claimed : (requests : List (OpeningRequest D E)) (values : Openings E) (claims : List (CommitmentOpening E Com (CircleDomain F g))) → AllByRecursion (IsFit kept k p.log_blowup two) requests →
-        AreAnsweredBy points_in commits requests values claims → AreClaimed p kept Commits requests values (batch_claims claims)
+        AreAnsweredBy points_in commits requests values claims → AreClaimed k p kept Commits requests values (batch_claims claims)
     are-claimed [] [] [] fit are = tt
     are-claimed [] [] (c ∷ cs) fit are = absurd are
     are-claimed [] (v ∷ vs) [] fit are = absurd are
@@ -166,6 +166,20 @@ module _ {F E M : Type 0} {g : Ghosts F} (k : Fields F E) (two : ℕ) (p : FriPa
     pub are-pointed : (requests : List (OpeningRequest D E)) (values : Openings E) (claims : List (CommitmentOpening E Com (CircleDomain F g))) → AreAnsweredBy points_in commits requests values claims →
         All (λ m. 1 ≤ length m.claims) (all_matrices (batch_claims claims))
     are-pointed requests values claims are = All-from_recursion (λ (m : MatrixClaim E). 1 ≤ length m.claims) (all_matrices (batch_claims claims)) (all-pointed requests values claims are)
+
+    -- what is requested, as claims are answered of it, was kept of batches
+    answered-by-recursion : (requests : List (OpeningRequest D E)) (values : Openings E) (claims : List (CommitmentOpening E Com (CircleDomain F g))) → AreAnsweredBy points_in commits requests values claims →
+        AllByRecursion (λ r. (batch : Batch F g) × (commitment : Com) × commits batch commitment r.prover_data.now) requests
+    answered-by-recursion [] values claims are = tt
+    answered-by-recursion (r ∷ rs) [] [] are = absurd are
+    answered-by-recursion (r ∷ rs) [] (c ∷ cs) are = absurd are
+    answered-by-recursion (r ∷ rs) (v ∷ vs) [] are = absurd are
+    answered-by-recursion (r ∷ rs) (v ∷ vs) (c ∷ cs) are = ((are.0.batch, c.commitment, are.0.committed), answered-by-recursion rs vs cs are.1)
+
+    pub answered-kept : (requests : List (OpeningRequest D E)) (values : Openings E) (claims : List (CommitmentOpening E Com (CircleDomain F g))) → AreAnsweredBy points_in commits requests values claims →
+        All (λ r. (batch : Batch F g) × (commitment : Com) × commits batch commitment r.prover_data.now) requests
+    answered-kept requests values claims are =
+        All-from_recursion (λ (r : OpeningRequest D E). (batch : Batch F g) × (commitment : Com) × commits batch commitment r.prover_data.now) requests (answered-by-recursion requests values claims are)
 
     -- what was kept of batches is of low degree
     pub kept-low : (requests : List (OpeningRequest D E)) → All (λ r. (batch : Batch F g) × (commitment : Com) × commits batch commitment r.prover_data.now) requests → AreRequests kept k two p requests → AreOfLowDegree kept k p requests

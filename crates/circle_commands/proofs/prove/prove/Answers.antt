@@ -60,7 +60,7 @@ returns-clause-proof c =
     (subst (λ cs. AllZip (IsRequested matrices_of) cs requests) c.deref-4.ensures.value c.in_ok-requests.ensures)
     (c.observe_commitments.ensures ∙ ap (λ s. commitments_taken s c.deref-3.result.now) c.new-challenger.ensures ∙ ap (commitments_taken (replicate 32 0)) c.deref-3.ensures.value)
     c.in_ok-values.ensures.values c.in_ok-values.ensures.opened.opening
-    (c.in_ok-claims.ensures ∙ ap (λ cs. pairwise batch_claimed cs (openings c.deref-6.result.now)) c.deref-5.ensures.value ∙ ap (λ vs. pairwise batch_claimed committed (openings vs)) c.deref-6.ensures.value)
+    (c.in_ok-claims.ensures ∙ ap (λ cs. pairwise batch_claimed cs (openings values)) c.deref-5.ensures.value)
     refl
 
 pub returns-clause-accepted : goal.returns-clause-accepted
@@ -69,12 +69,12 @@ returns-clause-accepted c =
     let requests = c.in_ok-requests.requests.items in
     let values = c.in_ok-values.values.items in
     let given = c.in_ok-values.ensures.opened in
-    verified _ c.args.input _ base-laws laws is_embedding are_generators (lit≤ tt) (λ s bits h. number-below s bits)
+    verified _ c.args.input _ base-laws laws is_embedding are_generators refl refl (lit≤ tt) (λ s bits h. number-below s bits)
     c.new-scheme.result.mmcs c.with_mmcs.result.mmcs committed requests (openings values) c.observe_commitments.new.challenger c.open.new.challenger c.new-scheme.result.fri_params
     (c.new-scheme.ensures.params ∙ c.with_mmcs.ensures) given.parameters given.arity given.asked
     (subst (λ bs. AllZip (λ b m. IsCommitted (IsShaRoot bytes) c.new-scheme.result.fri_params.log_blowup b.items m) bs committed) c.deref-2.ensures.value c.in_ok-committed.ensures)
     (subst (λ cs. AllZip (IsRequested matrices_of) cs requests) c.deref-4.ensures.value c.in_ok-requests.ensures)
     (c.observe_commitments.ensures ∙ ap (λ s. commitments_taken s c.deref-3.result.now) c.new-challenger.ensures ∙ ap (commitments_taken (replicate 32 0)) c.deref-3.ensures.value)
     given.answers given.opening
-    (c.in_ok-claims.ensures ∙ ap (λ cs. pairwise batch_claimed cs (openings c.deref-6.result.now)) c.deref-5.ensures.value ∙ ap (λ vs. pairwise batch_claimed committed (openings vs)) c.deref-6.ensures.value)
+    (c.in_ok-claims.ensures ∙ ap (λ cs. pairwise batch_claimed cs (openings values)) c.deref-5.ensures.value)
     refl

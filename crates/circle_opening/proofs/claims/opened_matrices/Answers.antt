@@ -73,25 +73,26 @@ loop-request-preserved g c =
     let r = c.in-Some.request.now in
     let b = c.in-Some.values.now in
     let here = map-at (λ (v : Vec (Vec (Vec g.row.EF.Denot Global) Global) Global). opened_rows v.items) batches i b turn.1 (turn.3 b) in
-    let batch = λ (ms : List (RowMajorMatrix g.row.F.Denot)) (ps : List (Vec g.row.EF.Denot Global)) (vs : List (Vec (Vec g.row.EF.Denot Global) Global)). batch_committed ms (lists_of ps) (opened_rows vs) in
-    let old = map committed_of c.loop-request.list.items in
+    let batch = λ (ms : List (RowMajorMatrix g.row.F.Denot)) (ps : List (Vec g.row.EF.Denot Global)) (vs : List (Vec (Vec g.row.EF.Denot Global) Global)). batch_committed k c.args.log_blowup ms (lists_of ps) (opened_rows vs) in
+    let old = map (committed_of k c.args.log_blowup) c.loop-request.list.items in
     let pushed = c.in_ok-push_matrices.ensures.matrices
     ∙ ap (λ ms. old ++ batch ms c.deref.result.now c.deref-in-loop-request.result.now) c.get_matrices-matrices.ensures
     ∙ ap (λ ps. old ++ batch (kept r.prover_data.now) ps c.deref-in-loop-request.result.now) c.deref.ensures.value
     ∙ ap (λ vs. old ++ batch (kept r.prover_data.now) r.points.items vs) c.deref-in-loop-request.ensures.value in
     let next = length_push c.loop-request.yielded (c.in-Some.request, c.in-Some.values) in
-    let f = λ (q : OpeningRequest _ g.row.EF.Denot) (v : List (List (List g.row.EF.Denot))). batch_committed (kept q.prover_data.now) (points_of kept q) v in
+    let f = λ (q : OpeningRequest _ g.row.EF.Denot) (v : List (List (List g.row.EF.Denot))). batch_committed k c.args.log_blowup (kept q.prover_data.now) (points_of kept q) v in
     record {
-      matrices = requests-more f requests (openings batches) i _ r (opened_rows b.items) old (map committed_of c.push_matrices.new.list.items) next turn.0 (omega (arith, turn.1, length-map batches (λ v. opened_rows v.items))) (turn.2 r) here pushed c.loop-request.invariant.matrices;
+      matrices = requests-more f requests (openings batches) i _ r (opened_rows b.items) old (map (committed_of k c.args.log_blowup) c.push_matrices.new.list.items) next turn.0 (omega (arith, turn.1, length-map batches (λ v. opened_rows v.items))) (turn.2 r) here pushed c.loop-request.invariant.matrices;
       openable = c.in_ok-push_matrices.ensures.openable;
     }
 
 pub returns-clause-matrices : goal.returns-clause-matrices
 returns-clause-matrices g c =
+    let k : Fields g.row.F.Denot g.row.EF.Denot = record { field = g.F.Operations.ops; gen = g.F.ComplexExtendable.generators; two_adicity = g.F.ComplexExtendable.CIRCLE_TWO_ADICITY; is_zero = λ w. g.F.PartialEq.eq w g.F.Field.ZERO; extension = g.EF.Operations.ops; embed = g.EF.ExtensionField.embed; same = g.EF.PartialEq.eq } in
     let kept = g.M.Mmcs.matrices in
     let requests = c.args.requests.now in
     let batches = c.args.values.now in
     let last = zip_end requests batches c.loop-request.yielded _ _ c.next.new.self _ (cc) (cc) c.loop-request.yielded_by c.in-None.is c.next.ensures.steps in
-    let f = λ (q : OpeningRequest _ g.row.EF.Denot) (v : List (List (List g.row.EF.Denot))). batch_committed (kept q.prover_data.now) (points_of kept q) v in
+    let f = λ (q : OpeningRequest _ g.row.EF.Denot) (v : List (List (List g.row.EF.Denot))). batch_committed k c.args.log_blowup (kept q.prover_data.now) (points_of kept q) v in
     c.loop-request.invariant.matrices
     ∙ ap (flat_map (λ b. b)) (pairwise-end f requests (openings batches) (length c.loop-request.yielded) (omega (arith, last, length-map batches (λ v. opened_rows v.items))))

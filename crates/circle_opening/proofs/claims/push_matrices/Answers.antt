@@ -40,20 +40,21 @@ loop-matrix-preserved g c =
     let o : OpenedMatrix g.row.F.Denot g.row.EF.Denot = record { log_height = c.log2_strict.result; rows = c.in-Some.matrix; points = c.deref.result; values = c.deref-in-loop-matrix.result } in
     let old = c.loop-matrix.list.items in
     let new = c.push.new.self.items in
-    let made = committed-is o m p.items v.items log refl c.deref.ensures.value c.deref-in-loop-matrix.ensures.value in
+    let made = committed-is k c.args.log_blowup o m p.items v.items log refl c.deref.ensures.value c.deref-in-loop-matrix.ensures.value in
     let next = length_push c.loop-matrix.yielded (c.in-Some.matrix, (c.in-Some.points, c.in-Some.values)) in
     let ready = ready-is k c.args.log_blowup two o m p.items v.items log refl c.deref.ensures.value c.deref-in-loop-matrix.ensures.value open_at valued in
     record {
-      matrices = committed-more ms points values i _ o m p v (map committed_of c.args.list.now.items) old new next turn.0 turn.1 turn.2 turn.3 turn.4 turn.5 c.in_ok-push.ensures.items made c.loop-matrix.invariant.matrices;
+      matrices = committed-more k c.args.log_blowup ms points values i _ o m p v (map (committed_of k c.args.log_blowup) c.args.list.now.items) old new next turn.0 turn.1 turn.2 turn.3 turn.4 turn.5 c.in_ok-push.ensures.items made c.loop-matrix.invariant.matrices;
       openable = All-same (IsReady k two) new (old ++ o ∷ []) c.in_ok-push.ensures.items (All-push (IsReady k two) old o c.loop-matrix.invariant.openable ready);
     }
 
 pub returns-clause-matrices : goal.returns-clause-matrices
 returns-clause-matrices g c =
+    let k : Fields g.row.F.Denot g.row.EF.Denot = record { field = g.F.Operations.ops; gen = g.F.ComplexExtendable.generators; two_adicity = g.F.ComplexExtendable.CIRCLE_TWO_ADICITY; is_zero = λ w. g.F.PartialEq.eq w g.F.Field.ZERO; extension = g.EF.Operations.ops; embed = g.EF.ExtensionField.embed; same = g.EF.PartialEq.eq } in
     let ms = c.args.matrices.now in
     let points = c.args.points.now in
     let values = c.args.values.now in
     let last = three_end ms points values c.loop-matrix.yielded _ _ c.next.new.self _ (cc) (cc) (cc) c.loop-matrix.yielded_by c.in-None.is c.next.ensures.steps in
     c.loop-matrix.invariant.matrices
-    ∙ ap (λ b. map committed_of c.args.list.now.items ++ b)
-    (committed-all ms (lists_of points) (opened_rows values) (length c.loop-matrix.yielded) (omega (arith, last, length-map points (λ v. v.items), length-map values (λ v. lists_of v.items))))
+    ∙ ap (λ b. map (committed_of k c.args.log_blowup) c.args.list.now.items ++ b)
+    (committed-all k c.args.log_blowup ms (lists_of points) (opened_rows values) (length c.loop-matrix.yielded) (omega (arith, last, length-map points (λ v. v.items), length-map values (λ v. lists_of v.items))))

@@ -37,8 +37,8 @@ prove_words-requires-clause-top g c =
     let two = g.Val.ComplexExtendable.CIRCLE_TWO_ADICITY in
     let answers = subst (λ vs. AllZip (AreAnswers kept (fields g) p.log_blowup) requests (openings vs)) (sym c.deref.ensures.value) c.in_ok-values.ensures in
     let some = all-some (fields g) p.log_blowup kept requests values answers c.requires.requests.some c.requires.requests.matrices in
-    let low = top-known (answered_matrices p kept requests values) (λ h. h < two) some
-    (heights-known (λ h. h < two) kept requests values (fit-known kept (fields g) p.log_blowup two (λ m. log_of (height_of m) < two) (λ m points can. can.in_group) requests c.requires.requests.fit)) in
+    let low = top-known (answered_matrices (fields g) p kept requests values) (λ h. h < two) some
+    (heights-known (fields g) p.log_blowup (λ h. h < two) kept requests values (fit-known kept (fields g) p.log_blowup two (λ m. log_of (height_of m) < two) (λ m points can. can.in_group) requests c.requires.requests.fit)) in
     omega (arith, low, c.in_ok-words.ensures.words.top, g.met.Val.ComplexExtendable.at_most_62)
 
 pub prove_words-requires-clause-heights : goal.prove_words-requires-clause-heights
@@ -49,7 +49,7 @@ prove_words-requires-clause-heights g c =
     let values = openings c.deref.result.now in
     let two = g.Val.ComplexExtendable.CIRCLE_TWO_ADICITY in
     let answers = subst (λ vs. AllZip (AreAnswers kept (fields g) p.log_blowup) requests (openings vs)) (sym c.deref.ensures.value) c.in_ok-values.ensures in
-    let flat = answered_matrices p kept requests values in
+    let flat = answered_matrices (fields g) p kept requests values in
     let powers = fit-known kept (fields g) p.log_blowup two (λ m. height_of m ≡ 2 ^ log_of (height_of m)) (λ m points can. can.power) requests c.requires.requests.fit in
     let low = heights-back (fields g) p.log_blowup (λ h. h ≤ top_of flat) kept requests values answers (matrices-low flat) in
     subst (λ t. All (λ (r : OpeningRequest g.row.InputMmcs-ProverData.Denot g.row.EF.Denot). AreHeights t (kept r.prover_data.now)) requests) (sym c.in_ok-words.ensures.words.top)
@@ -62,10 +62,10 @@ prove_words-requires-clause-words g c =
     let requests = c.args.requests.now in
     let values = openings c.deref.result.now in
     let answers = subst (λ vs. AllZip (AreAnswers kept (fields g) p.log_blowup) requests (openings vs)) (sym c.deref.ensures.value) c.in_ok-values.ensures in (
-      answered_matrices p kept requests values,
+      answered_matrices (fields g) p kept requests values,
       (
         all-some (fields g) p.log_blowup kept requests values answers c.requires.requests.some c.requires.requests.matrices,
-        heights-known (λ h. p.log_blowup + p.log_final_poly_len + 2 ≤ h) kept requests values c.requires.requests.tall,
+        heights-known (fields g) p.log_blowup (λ h. p.log_blowup + p.log_final_poly_len + 2 ≤ h) kept requests values c.requires.requests.tall,
       ),
       c.in_ok-words.ensures.words,
     )
@@ -79,8 +79,8 @@ returns-clause-proof g c =
     let w = c.in_ok-words.words in
     let proof = c.in_ok-proof.proof in
     let same : c.deref.result.now ≡ c.in_ok-values.values.items = c.deref.ensures.value in
-    let claims = answered_claims p kept requests (openings c.deref.result.now) in
-    let flat = answered_matrices p kept requests (openings c.deref.result.now) in
+    let claims = answered_claims (fields g) p kept requests (openings c.deref.result.now) in
+    let flat = answered_matrices (fields g) p kept requests (openings c.deref.result.now) in
     let s = g.C.ChallengerState.state c.args.challenger.now in
     let end = g.C.ChallengerState.state c.play_requests.new.challenger in
     let l = g.EF.Operations.ops in

@@ -3,6 +3,7 @@ use Rattle.std.specs.Prelude.{Ok}
 use Rattle.std.specs.List.{AllZip}
 use Rattle.std.specs.Prelude.{IfOk, slice_index_or}
 use Rattle.std.proofs.lemmas.Nat.{pow_pos}
+use Rattle.circle_matrix.specs.Mmcs.{greatest}
 use Rattle.circle_matrix.specs.Pcs.{Openings}
 use Rattle.circle_matrix.specs.RowMajorMatrix.{height_of}
 use Rattle.circle_matrix.specs.declared.params.FriParameters.{FriParameters}
@@ -37,6 +38,7 @@ use Rattle.circle_opening.proofs.Asked.{all-taken, all-widths, top-claimed}
 use Rattle.circle_opening.proofs.Counts.{queries-count}
 use Rattle.circle_opening.proofs.Described.{claims_widths, shape_is}
 use Rattle.circle_opening.specs.declared.run.CommittedWords.{CommittedWords}
+use Rattle.circle_opening.proofs.Seen.{top-seen}
 use Rattle.circle_opening.proofs.Stuck.{draw-moved}
 use Rattle.circle_opening.proofs.Tops.{top-known}
 use Rattle.circle_opening.proofs.prove.play_requests.Given.{Over}
@@ -51,7 +53,7 @@ challenger g = run_moves g.C.ChallengerState.state g.C.CanObserve-1.after_observ
 
 -- all requested matrices with their values
 abbrev nested : (g : Over) (params : FriParameters g.row.FriMmcs.Denot) (requests : List (OpeningRequest g.row.InputMmcs-ProverData.Denot g.row.EF.Denot)) (values : Openings g.row.EF.Denot) → List (List (Committed g.row.Val.Denot g.row.EF.Denot))
-nested g params requests values = all_committed g.InputMmcs.Mmcs.matrices requests values
+nested g params requests values = all_committed g.InputMmcs.Mmcs.matrices (fields g) params.log_blowup requests values
 
 pub opened_claims-requires : goal.opened_claims-requires
 opened_claims-requires g c = record {
@@ -69,20 +71,20 @@ is-high g params requests values asked answers =
     let flat = flat_map (λ b. b) (nested g params requests values) in
     top-known flat (λ h. params.log_blowup + params.log_final_poly_len + 2 ≤ h)
     (all-some (fields g) params.log_blowup g.InputMmcs.Mmcs.matrices requests values answers asked.some asked.matrices)
-    (heights-known (λ h. params.log_blowup + params.log_final_poly_len + 2 ≤ h) g.InputMmcs.Mmcs.matrices requests values asked.tall)
+    (heights-known (fields g) params.log_blowup (λ h. params.log_blowup + params.log_final_poly_len + 2 ≤ h) g.InputMmcs.Mmcs.matrices requests values asked.tall)
 
 -- the greatest height that is claimed
 is-top : (g : Over) (params : FriParameters g.row.FriMmcs.Denot) (requests : List (OpeningRequest g.row.InputMmcs-ProverData.Denot g.row.EF.Denot)) (values : Openings g.row.EF.Denot)
     → AreRequests g.InputMmcs.Mmcs.matrices (fields g) g.Val.ComplexExtendable.CIRCLE_TWO_ADICITY params requests
-    → log_max_height params.log_blowup (all_matrices (answered_claims params g.InputMmcs.Mmcs.matrices requests values)) ≡ top_of (flat_map (λ b. b) (nested g params requests values))
+    → log_max_height params.log_blowup (all_matrices (answered_claims (fields g) params g.InputMmcs.Mmcs.matrices requests values)) ≡ top_of (flat_map (λ b. b) (nested g params requests values))
 is-top g params requests values asked =
     top-claimed params.log_blowup (nested g params requests values)
-    (λ i m lt. let tall = heights-known (λ h. params.log_blowup + params.log_final_poly_len + 2 ≤ h) g.InputMmcs.Mmcs.matrices requests values asked.tall i m lt in omega (arith, tall))
+    (λ i m lt. let tall = heights-known (fields g) params.log_blowup (λ h. params.log_blowup + params.log_final_poly_len + 2 ≤ h) g.InputMmcs.Mmcs.matrices requests values asked.tall i m lt in omega (arith, tall))
 
 pub new-shape-requires-clause-high : goal.new-shape-requires-clause-high
 new-shape-requires-clause-high g c =
     let high = is-high g c.args.params.now c.args.requests.now (openings c.args.values.now) c.requires.requests c.requires.values in
-    let same = c.greatest_height.ensures ∙ ap top_of (ap (map committed_of) c.deref-2.ensures.value ∙ c.in_ok-matrices.ensures.matrices) in
+    let same = c.greatest_height.ensures ∙ ap (λ (os : List (OpenedMatrix g.row.Val.Denot g.row.EF.Denot)). greatest (map (λ m. m.log_height) os)) c.deref-2.ensures.value ∙ top-seen (fields g) c.args.params.now.log_blowup c.in_ok-matrices.matrices.items ∙ ap top_of c.in_ok-matrices.ensures.matrices in
     omega (arith, high, same)
 
 pub above_widths-num_powers-requires : goal.above_widths-num_powers-requires
@@ -98,9 +100,9 @@ open_words-requires-clause-claims g c =
     let p = c.args.params.now in
     let l = g.EF.Operations.ops in
     let batches = nested g p c.args.requests.now (openings c.args.values.now) in
-    let claims = answered_claims p g.InputMmcs.Mmcs.matrices c.args.requests.now (openings c.args.values.now) in
-    let taken = ap claims_of c.deref-4.ensures.value ∙ c.in_ok-claims.ensures
-    ∙ ap (flat_map (λ (m : Committed g.row.Val.Denot g.row.EF.Denot). map (point_taken l) m.claims)) (ap (map committed_of) c.deref.ensures.value ∙ c.in_ok-matrices.ensures.matrices) ∙ sym (all-taken p.log_blowup l batches) in
+    let claims = answered_claims (fields g) p g.InputMmcs.Mmcs.matrices c.args.requests.now (openings c.args.values.now) in
+    let taken = ap claims_of c.deref-4.ensures.value ∙ c.in_ok-claims.ensures (fields g) p.log_blowup
+    ∙ ap (flat_map (λ (m : Committed g.row.Val.Denot g.row.EF.Denot). map (point_taken l) m.claims)) (ap (map (committed_of (fields g) p.log_blowup)) c.deref.ensures.value ∙ c.in_ok-matrices.ensures.matrices) ∙ sym (all-taken p.log_blowup l batches) in
     let wide = c.in_ok-widths.ensures ∙ sym (all-widths p.log_blowup g.InputMmcs.Mmcs.matrices (fields g) c.args.requests.now (openings c.args.values.now) c.requires.values) in
     ap (λ cs. widths_of cs) taken ∙ claims_widths l claims
     ∙ sym (ap (λ ws. flat_map (λ m. m) (flat_map (λ b. b) ws)) (ap (λ s. batches_of s.opened_widths.items) c.new-shape.ensures ∙ wide))
@@ -110,12 +112,12 @@ open_words-requires-clause-small g c =
     let t = c.requires.parameters in
     let p = c.args.params.now in
     let high = is-high g p c.args.requests.now (openings c.args.values.now) c.requires.requests c.requires.values in
-    let same = c.greatest_height.ensures ∙ ap top_of (ap (map committed_of) c.deref-2.ensures.value ∙ c.in_ok-matrices.ensures.matrices) in
+    let same = c.greatest_height.ensures ∙ ap (λ (os : List (OpenedMatrix g.row.Val.Denot g.row.EF.Denot)). greatest (map (λ m. m.log_height) os)) c.deref-2.ensures.value ∙ top-seen (fields g) p.log_blowup c.in_ok-matrices.matrices.items ∙ ap top_of c.in_ok-matrices.ensures.matrices in
     let flat = flat_map (λ b. b) (nested g p c.args.requests.now (openings c.args.values.now)) in
     let some = all-some (fields g) p.log_blowup g.InputMmcs.Mmcs.matrices c.args.requests.now (openings c.args.values.now) c.requires.values c.requires.requests.some c.requires.requests.matrices in
     let low = top-known flat (λ h. h < g.Val.ComplexExtendable.CIRCLE_TWO_ADICITY) some
     (subst (All (λ (m : Committed g.row.Val.Denot g.row.EF.Denot). m.log_height < g.Val.ComplexExtendable.CIRCLE_TWO_ADICITY)) c.in_ok-matrices.ensures.matrices
-    (All-map (λ (m : Committed g.row.Val.Denot g.row.EF.Denot). m.log_height < g.Val.ComplexExtendable.CIRCLE_TWO_ADICITY) committed_of c.in_ok-matrices.matrices.items
+    (All-map (λ (m : Committed g.row.Val.Denot g.row.EF.Denot). m.log_height < g.Val.ComplexExtendable.CIRCLE_TWO_ADICITY) (committed_of (fields g) p.log_blowup) c.in_ok-matrices.matrices.items
     (λ i d lt. let m = slice_index_or c.in_ok-matrices.matrices.items i d in (c.in_ok-matrices.ensures.openable i d lt (suc (width_of m.rows.now)) (omega arith)).in_group))) in
     let most = g.met.Val.ComplexExtendable.at_most_62 in
     let one = c.extra_query_index_bits-extra_bits.ensures in
@@ -130,9 +132,9 @@ open_words-requires-clause-small g c =
 pub open_words-requires-clause-tall : goal.open_words-requires-clause-tall
 open_words-requires-clause-tall g c =
     let p = c.args.params.now in
-    subst (AreTall p) (sym (ap (map committed_of) c.deref-5.ensures.value ∙ c.in_ok-matrices.ensures.matrices)) (
+    subst (AreTall p) (sym (ap (map (committed_of (fields g) p.log_blowup)) c.deref-5.ensures.value ∙ c.in_ok-matrices.ensures.matrices)) (
       all-some (fields g) p.log_blowup g.InputMmcs.Mmcs.matrices c.args.requests.now (openings c.args.values.now) c.requires.values c.requires.requests.some c.requires.requests.matrices,
-      heights-known (λ h. p.log_blowup + p.log_final_poly_len + 2 ≤ h) g.InputMmcs.Mmcs.matrices c.args.requests.now (openings c.args.values.now) c.requires.requests.tall,
+      heights-known (fields g) p.log_blowup (λ h. p.log_blowup + p.log_final_poly_len + 2 ≤ h) g.InputMmcs.Mmcs.matrices c.args.requests.now (openings c.args.values.now) c.requires.requests.tall,
     )
 
 pub open_words-requires-clause-openable : goal.open_words-requires-clause-openable
@@ -146,8 +148,8 @@ pub returns-clause-below : goal.returns-clause-below
 returns-clause-below g c =
     let p = c.args.params.now in
     let high = is-high g p c.args.requests.now (openings c.args.values.now) c.requires.requests c.requires.values in
-    let same = c.greatest_height.ensures ∙ ap top_of (ap (map committed_of) c.deref-2.ensures.value ∙ c.in_ok-matrices.ensures.matrices) in
-    let ms = ap top_of (ap (map committed_of) c.deref-5.ensures.value ∙ c.in_ok-matrices.ensures.matrices) in
+    let same = c.greatest_height.ensures ∙ ap (λ (os : List (OpenedMatrix g.row.Val.Denot g.row.EF.Denot)). greatest (map (λ m. m.log_height) os)) c.deref-2.ensures.value ∙ top-seen (fields g) p.log_blowup c.in_ok-matrices.matrices.items ∙ ap top_of c.in_ok-matrices.ensures.matrices in
+    let ms = ap top_of (ap (map (committed_of (fields g) p.log_blowup)) c.deref-5.ensures.value ∙ c.in_ok-matrices.ensures.matrices) in
     let is = ap (λ s. s.index_bits) c.new-shape.ensures in
     let one = c.extra_query_index_bits-extra_bits.ensures in
     if_ok2 c.open_words.result _ _ _
@@ -186,11 +188,11 @@ returns-clause-draws g c =
     let r = challenger g in
     let l = g.EF.Operations.ops in
     let batches = nested g p c.args.requests.now (openings c.args.values.now) in
-    let claims = answered_claims p g.InputMmcs.Mmcs.matrices c.args.requests.now (openings c.args.values.now) in
-    let taken = ap claims_of c.deref-4.ensures.value ∙ c.in_ok-claims.ensures
-    ∙ ap (flat_map (λ (m : Committed g.row.Val.Denot g.row.EF.Denot). map (point_taken l) m.claims)) (ap (map committed_of) c.deref.ensures.value ∙ c.in_ok-matrices.ensures.matrices) ∙ sym (all-taken p.log_blowup l batches) in
+    let claims = answered_claims (fields g) p g.InputMmcs.Mmcs.matrices c.args.requests.now (openings c.args.values.now) in
+    let taken = ap claims_of c.deref-4.ensures.value ∙ c.in_ok-claims.ensures (fields g) p.log_blowup
+    ∙ ap (flat_map (λ (m : Committed g.row.Val.Denot g.row.EF.Denot). map (point_taken l) m.claims)) (ap (map (committed_of (fields g) p.log_blowup)) c.deref.ensures.value ∙ c.in_ok-matrices.ensures.matrices) ∙ sym (all-taken p.log_blowup l batches) in
     let wide = c.in_ok-widths.ensures ∙ sym (all-widths p.log_blowup g.InputMmcs.Mmcs.matrices (fields g) c.args.requests.now (openings c.args.values.now) c.requires.values) in
-    let high = c.greatest_height.ensures ∙ ap top_of (ap (map committed_of) c.deref-2.ensures.value ∙ c.in_ok-matrices.ensures.matrices) ∙ sym (is-top g p c.args.requests.now (openings c.args.values.now) c.requires.requests) in
+    let high = c.greatest_height.ensures ∙ ap (λ (os : List (OpenedMatrix g.row.Val.Denot g.row.EF.Denot)). greatest (map (λ m. m.log_height) os)) c.deref-2.ensures.value ∙ top-seen (fields g) p.log_blowup c.in_ok-matrices.matrices.items ∙ ap top_of c.in_ok-matrices.ensures.matrices ∙ sym (is-top g p c.args.requests.now (openings c.args.values.now) c.requires.requests) in
     let shape = shape_is p claims (batches_of c.in_ok-widths.widths.items) c.greatest_height.result c.extra_query_index_bits-extra_bits.result (shape_of c.new-shape.result)
     (ap shape_of c.new-shape.ensures) wide high c.extra_query_index_bits-extra_bits.ensures in
     let s = g.C.ChallengerState.state c.args.challenger.now in
@@ -208,7 +210,7 @@ pub returns-clause-words : goal.returns-clause-words
 returns-clause-words g c =
     let p = c.args.params.now in
     subst (λ ms. IfOk c.open_words.result (AreWordsOf (fields g) p.log_blowup p.log_final_poly_len (g.FriMmcs.Mmcs.commits p.mmcs) g.FriMmcs.Mmcs.matrices ms))
-    (ap (map committed_of) c.deref-5.ensures.value ∙ c.in_ok-matrices.ensures.matrices) c.open_words.ensures.words
+    (ap (map (committed_of (fields g) p.log_blowup)) c.deref-5.ensures.value ∙ c.in_ok-matrices.ensures.matrices) c.open_words.ensures.words
 
 pub returns-clause-failure : goal.returns-clause-failure
 returns-clause-failure g c =
@@ -218,16 +220,16 @@ returns-clause-failure g c =
     let commits = g.FriMmcs.Mmcs.commits p.mmcs in
     let l = g.EF.Operations.ops in
     let batches = nested g p c.args.requests.now (openings c.args.values.now) in
-    let claims = answered_claims p g.InputMmcs.Mmcs.matrices c.args.requests.now (openings c.args.values.now) in
-    let taken = ap claims_of c.deref-4.ensures.value ∙ c.in_ok-claims.ensures
-    ∙ ap (flat_map (λ (m : Committed g.row.Val.Denot g.row.EF.Denot). map (point_taken l) m.claims)) (ap (map committed_of) c.deref.ensures.value ∙ c.in_ok-matrices.ensures.matrices) ∙ sym (all-taken p.log_blowup l batches) in
+    let claims = answered_claims (fields g) p g.InputMmcs.Mmcs.matrices c.args.requests.now (openings c.args.values.now) in
+    let taken = ap claims_of c.deref-4.ensures.value ∙ c.in_ok-claims.ensures (fields g) p.log_blowup
+    ∙ ap (flat_map (λ (m : Committed g.row.Val.Denot g.row.EF.Denot). map (point_taken l) m.claims)) (ap (map (committed_of (fields g) p.log_blowup)) c.deref.ensures.value ∙ c.in_ok-matrices.ensures.matrices) ∙ sym (all-taken p.log_blowup l batches) in
     let wide = c.in_ok-widths.ensures ∙ sym (all-widths p.log_blowup g.InputMmcs.Mmcs.matrices (fields g) c.args.requests.now (openings c.args.values.now) c.requires.values) in
-    let high = c.greatest_height.ensures ∙ ap top_of (ap (map committed_of) c.deref-2.ensures.value ∙ c.in_ok-matrices.ensures.matrices) ∙ sym (is-top g p c.args.requests.now (openings c.args.values.now) c.requires.requests) in
+    let high = c.greatest_height.ensures ∙ ap (λ (os : List (OpenedMatrix g.row.Val.Denot g.row.EF.Denot)). greatest (map (λ m. m.log_height) os)) c.deref-2.ensures.value ∙ top-seen (fields g) p.log_blowup c.in_ok-matrices.matrices.items ∙ ap top_of c.in_ok-matrices.ensures.matrices ∙ sym (is-top g p c.args.requests.now (openings c.args.values.now) c.requires.requests) in
     let shape = shape_is p claims (batches_of c.in_ok-widths.widths.items) c.greatest_height.result c.extra_query_index_bits-extra_bits.result (shape_of c.new-shape.result)
     (ap shape_of c.new-shape.ensures) wide high c.extra_query_index_bits-extra_bits.ensures in
     let s = g.C.ChallengerState.state c.args.challenger.now in
     let flat = flat_map (λ b. b) batches in
-    let are : map committed_of c.deref-5.result.now ≡ flat = ap (map committed_of) c.deref-5.ensures.value ∙ c.in_ok-matrices.ensures.matrices in
+    let are : map (committed_of (fields g) p.log_blowup) c.deref-5.result.now ≡ flat = ap (map (committed_of (fields g) p.log_blowup)) c.deref-5.ensures.value ∙ c.in_ok-matrices.ensures.matrices in
     if_err _ _ c.open_words.result
     (λ e why.
     elim why [

@@ -27,5 +27,5 @@ pub returns-in-Err-clause-failure : goal.returns-in-Err-clause-failure
 returns-in-Err-clause-failure g c =
     elim c.in-Err.ensures.failure [
       | inl refused ↦ inl refused
-      | inr rest ↦ inr (or_moved (λ n s. IsStuck (challenger g) (g.M.Mmcs.commits c.args.params.now.mmcs) (fields g) c.args.params.now (map committed_of c.args.matrices.now) n (claims_of c.args.claims.now) s c.in-Err.failure) _ _ _ _ (c.of_seeded-transcript.ensures.shape ∙ c.in_ok-seeded.ensures.shape) (ap g.C.ChallengerState.state c.of_seeded-transcript.ensures.same ∙ c.in_ok-seeded.ensures.state) rest)
+      | inr rest ↦ inr (or_moved (λ n s. IsStuck (challenger g) (g.M.Mmcs.commits c.args.params.now.mmcs) (fields g) c.args.params.now (map (committed_of (fields g) c.args.params.now.log_blowup) c.args.matrices.now) n (claims_of c.args.claims.now) s c.in-Err.failure) _ _ _ _ (c.of_seeded-transcript.ensures.shape ∙ c.in_ok-seeded.ensures.shape) (ap g.C.ChallengerState.state c.of_seeded-transcript.ensures.same ∙ c.in_ok-seeded.ensures.state) rest)
     ]

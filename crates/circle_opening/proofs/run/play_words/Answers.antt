@@ -3,6 +3,7 @@ use Rattle.std.proofs.Common.{◌≡◌, ◌<◌, ◌≤◌, ◌-◌, ◌+◌, �
 use Rattle.std.proofs.lemmas.List.Elements.{All-map}
 use Rattle.std.proofs.lemmas.Slice.Zip.{length-zip}
 use Rattle.circle_challenger.specs.Moves.{RunMoves, run_moves, after_element, after_pow, drawn_element, is_passed}
+use Rattle.circle_matrix.specs.Mmcs.{greatest}
 use Rattle.circle_matrix.specs.declared.params.PowPhase.TheVariants.{CommitPhase, Query}
 use Rattle.circle_field.specs.Field.{of_nat}
 use Rattle.circle_relation.specs.Accepts.{Fields}
@@ -22,40 +23,44 @@ use Rattle.circle_opening.specs.Failure.{Begins, IsRunFailure, prover_error}
 use Rattle.circle_opening.specs.Words.{AreCommitted, first_fold, heights_of, layer_of, round_word, top_of}
 use Rattle.circle_opening.proofs.Growing.{words_committed}
 use Rattle.circle_opening.proofs.Tops.{folds-split, front-of, height-known, heights-end, lower, some-heights, split-last, rounds-alike, top-known, words-alike}
+use Rattle.circle_opening.proofs.Seen.{top-seen}
 use Rattle.circle_opening.proofs.Stuck.{rounds-moved, stuck-moved, stuck-query}
 use Rattle.circle_opening.proofs.run.play_words.Given.{Over}
 use Rattle.circle_opening.proofs.run.play_words.Goals as goal
 
+abbrev fields : (g : Over) → Fields g.row.F.Denot g.row.EF.Denot
+fields g = record { field = g.F.Operations.ops; gen = g.F.ComplexExtendable.generators; two_adicity = g.F.ComplexExtendable.CIRCLE_TWO_ADICITY; is_zero = λ w. g.F.PartialEq.eq w g.F.Field.ZERO; extension = g.EF.Operations.ops; embed = g.EF.ExtensionField.embed; same = g.EF.PartialEq.eq }
+
 pub commit_first_layer-requires-clause-some : goal.commit_first_layer-requires-clause-some
 commit_first_layer-requires-clause-some g c =
-    let ms = map committed_of c.args.matrices.now in
-    subst (λ hs. 1 ≤ length hs) (sym (c.deref.ensures.value ∙ c.in_ok-heights.ensures)) (some-heights ms c.requires.tall.0)
+    let ms = map (committed_of (fields g) c.args.params.now.log_blowup) c.args.matrices.now in
+    subst (λ hs. 1 ≤ length hs) (sym (c.deref.ensures.value ∙ c.in_ok-heights.ensures (fields g) c.args.params.now.log_blowup)) (some-heights ms c.requires.tall.0)
 
 pub commit_first_layer-requires-clause-heights : goal.commit_first_layer-requires-clause-heights
 commit_first_layer-requires-clause-heights g c =
-    let ms = map committed_of c.args.matrices.now in
+    let ms = map (committed_of (fields g) c.args.params.now.log_blowup) c.args.matrices.now in
     let P : ℕ → Type 0 = λ h. (c.args.params.now.log_blowup < h) × (h < g.F.ComplexExtendable.CIRCLE_TWO_ADICITY) in
-    subst (All P) (sym (c.deref.ensures.value ∙ c.in_ok-heights.ensures))
+    subst (All P) (sym (c.deref.ensures.value ∙ c.in_ok-heights.ensures (fields g) c.args.params.now.log_blowup))
     (height-known ms P
     (λ i m lt.
     let tall = c.requires.tall.1 i m lt in
-    let low = All-map (λ (v : Committed g.row.F.Denot g.row.EF.Denot). v.log_height < g.F.ComplexExtendable.CIRCLE_TWO_ADICITY) committed_of c.args.matrices.now (λ j d inside. (c.requires.openable j d inside).in_group) i m lt in
+    let low = All-map (λ (v : Committed g.row.F.Denot g.row.EF.Denot). v.log_height < g.F.ComplexExtendable.CIRCLE_TWO_ADICITY) (committed_of (fields g) c.args.params.now.log_blowup) c.args.matrices.now (λ j d inside. (c.requires.openable j d inside).in_group) i m lt in
     (omega (arith, tall), low)))
 
 pub fold_first_layer-requires-clause-some : goal.fold_first_layer-requires-clause-some
 fold_first_layer-requires-clause-some g c =
-    let ms = map committed_of c.args.matrices.now in
-    subst (λ hs. 1 ≤ length hs) (sym (c.deref-2.ensures.value ∙ c.in_ok-heights.ensures)) (some-heights ms c.requires.tall.0)
+    let ms = map (committed_of (fields g) c.args.params.now.log_blowup) c.args.matrices.now in
+    subst (λ hs. 1 ≤ length hs) (sym (c.deref-2.ensures.value ∙ c.in_ok-heights.ensures (fields g) c.args.params.now.log_blowup)) (some-heights ms c.requires.tall.0)
 
 pub fold_first_layer-requires-clause-heights : goal.fold_first_layer-requires-clause-heights
 fold_first_layer-requires-clause-heights g c =
-    let ms = map committed_of c.args.matrices.now in
+    let ms = map (committed_of (fields g) c.args.params.now.log_blowup) c.args.matrices.now in
     let P : ℕ → Type 0 = λ h. (1 ≤ h) × (h < g.F.ComplexExtendable.CIRCLE_TWO_ADICITY) in
-    subst (All P) (sym (c.deref-2.ensures.value ∙ c.in_ok-heights.ensures))
+    subst (All P) (sym (c.deref-2.ensures.value ∙ c.in_ok-heights.ensures (fields g) c.args.params.now.log_blowup))
     (height-known ms P
     (λ i m lt.
     let tall = c.requires.tall.1 i m lt in
-    let low = All-map (λ (v : Committed g.row.F.Denot g.row.EF.Denot). v.log_height < g.F.ComplexExtendable.CIRCLE_TWO_ADICITY) committed_of c.args.matrices.now (λ j d inside. (c.requires.openable j d inside).in_group) i m lt in
+    let low = All-map (λ (v : Committed g.row.F.Denot g.row.EF.Denot). v.log_height < g.F.ComplexExtendable.CIRCLE_TWO_ADICITY) (committed_of (fields g) c.args.params.now.log_blowup) c.args.matrices.now (λ j d inside. (c.requires.openable j d inside).in_group) i m lt in
     (omega (arith, tall), low)))
 
 pub first_layer-bivariate-requires : goal.first_layer-bivariate-requires
@@ -63,26 +68,26 @@ first_layer-bivariate-requires g c = record { next = (_, c.in_ok-alpha.ensures.d
 
 pub overflow_add-log_points : goal.overflow_add-log_points
 overflow_add-log_points g c =
-    let ms = map committed_of c.args.matrices.now in
+    let ms = map (committed_of (fields g) c.args.params.now.log_blowup) c.args.matrices.now in
     let tall = top-known ms (λ h. c.args.params.now.log_blowup + c.args.params.now.log_final_poly_len + 2 ≤ h) c.requires.tall.0 c.requires.tall.1 in
     let low = top-known ms (λ h. h < g.F.ComplexExtendable.CIRCLE_TWO_ADICITY) c.requires.tall.0
-    (All-map (λ (v : Committed g.row.F.Denot g.row.EF.Denot). v.log_height < g.F.ComplexExtendable.CIRCLE_TWO_ADICITY) committed_of c.args.matrices.now (λ j d inside. (c.requires.openable j d inside).in_group)) in
+    (All-map (λ (v : Committed g.row.F.Denot g.row.EF.Denot). v.log_height < g.F.ComplexExtendable.CIRCLE_TWO_ADICITY) (committed_of (fields g) c.args.params.now.log_blowup) c.args.matrices.now (λ j d inside. (c.requires.openable j d inside).in_group)) in
     omega (arith, tall, low, g.met.F.ComplexExtendable.at_most_62)
 
 pub overflow_sub-log_max_height : goal.overflow_sub-log_max_height
 overflow_sub-log_max_height g c =
-    let tall = top-known (map committed_of c.args.matrices.now) (λ h. c.args.params.now.log_blowup + c.args.params.now.log_final_poly_len + 2 ≤ h) c.requires.tall.0 c.requires.tall.1 in
-    omega (arith, tall, c.greatest_height-log_max_height.ensures)
+    let tall = top-known (map (committed_of (fields g) c.args.params.now.log_blowup) c.args.matrices.now) (λ h. c.args.params.now.log_blowup + c.args.params.now.log_final_poly_len + 2 ≤ h) c.requires.tall.0 c.requires.tall.1 in
+    omega (arith, tall, (c.greatest_height-log_max_height.ensures ∙ top-seen (fields g) c.args.params.now.log_blowup c.args.matrices.now))
 
 pub overflow_sub-log_max_height-2 : goal.overflow_sub-log_max_height-2
 overflow_sub-log_max_height-2 g c =
-    let tall = top-known (map committed_of c.args.matrices.now) (λ h. c.args.params.now.log_blowup + c.args.params.now.log_final_poly_len + 2 ≤ h) c.requires.tall.0 c.requires.tall.1 in
-    omega (arith, tall, c.greatest_height-log_max_height.ensures)
+    let tall = top-known (map (committed_of (fields g) c.args.params.now.log_blowup) c.args.matrices.now) (λ h. c.args.params.now.log_blowup + c.args.params.now.log_final_poly_len + 2 ≤ h) c.requires.tall.0 c.requires.tall.1 in
+    omega (arith, tall, (c.greatest_height-log_max_height.ensures ∙ top-seen (fields g) c.args.params.now.log_blowup c.args.matrices.now))
 
 pub overflow_sub-log_max_height-3 : goal.overflow_sub-log_max_height-3
 overflow_sub-log_max_height-3 g c =
-    let tall = top-known (map committed_of c.args.matrices.now) (λ h. c.args.params.now.log_blowup + c.args.params.now.log_final_poly_len + 2 ≤ h) c.requires.tall.0 c.requires.tall.1 in
-    omega (arith, tall, c.greatest_height-log_max_height.ensures)
+    let tall = top-known (map (committed_of (fields g) c.args.params.now.log_blowup) c.args.matrices.now) (λ h. c.args.params.now.log_blowup + c.args.params.now.log_final_poly_len + 2 ≤ h) c.requires.tall.0 c.requires.tall.1 in
+    omega (arith, tall, (c.greatest_height-log_max_height.ensures ∙ top-seen (fields g) c.args.params.now.log_blowup c.args.matrices.now))
 
 pub play_rounds-requires-clause-next : goal.play_rounds-requires-clause-next
 play_rounds-requires-clause-next g c =
@@ -90,7 +95,7 @@ play_rounds-requires-clause-next g c =
     let n = numbers c.args.transcript.now in
     let b = c.args.params.now.log_blowup in
     let f = c.args.params.now.log_final_poly_len in
-    let top = top_of (map committed_of c.args.matrices.now) in
+    let top = greatest (map (λ m. m.log_height) c.args.matrices.now) in
     let same2 = c.first_layer-bivariate.ensures.same.shape ∙ c.batch_phase.ensures.same.shape in
     let count : top - 1 - b - f ≡ c.greatest_height-log_max_height.result - 1 - (b + f) = omega (arith, c.greatest_height-log_max_height.ensures) in (
       indices_steps degree n,
@@ -101,49 +106,46 @@ play_rounds-requires-clause-next g c =
 
 pub play_rounds-requires-clause-first : goal.play_rounds-requires-clause-first
 play_rounds-requires-clause-first g c =
-    let ms = map committed_of c.args.matrices.now in
+    let ms = map (committed_of (fields g) c.args.params.now.log_blowup) c.args.matrices.now in
     let size : ℕ → ℕ = λ h. 2 ^ (h - 1) in
-    let all = c.in_ok-tallest.ensures.lengths ∙ ap (map size) (c.deref-2.ensures.value ∙ c.in_ok-heights.ensures ∙ heights-end ms c.requires.tall.0) in
+    let all = c.in_ok-tallest.ensures.lengths ∙ ap (map size) (c.deref-2.ensures.value ∙ c.in_ok-heights.ensures (fields g) c.args.params.now.log_blowup ∙ heights-end ms c.requires.tall.0) in
     (split-last size (map (λ w. length w.items) c.in_ok-tallest.joining.items) (length c.in_ok-tallest.tallest.items) (lower ms) (top_of ms) all).1
-    ∙ ap size (sym c.greatest_height-log_max_height.ensures)
+    ∙ ap size (sym (c.greatest_height-log_max_height.ensures ∙ top-seen (fields g) c.args.params.now.log_blowup c.args.matrices.now))
 
 pub play_rounds-requires-clause-in_group : goal.play_rounds-requires-clause-in_group
 play_rounds-requires-clause-in_group g c =
-    let ms = map committed_of c.args.matrices.now in
+    let ms = map (committed_of (fields g) c.args.params.now.log_blowup) c.args.matrices.now in
     let tall = top-known ms (λ h. c.args.params.now.log_blowup + c.args.params.now.log_final_poly_len + 2 ≤ h) c.requires.tall.0 c.requires.tall.1 in
     let low = top-known ms (λ h. h < g.F.ComplexExtendable.CIRCLE_TWO_ADICITY) c.requires.tall.0
-    (All-map (λ (v : Committed g.row.F.Denot g.row.EF.Denot). v.log_height < g.F.ComplexExtendable.CIRCLE_TWO_ADICITY) committed_of c.args.matrices.now (λ j d inside. (c.requires.openable j d inside).in_group)) in
-    omega (arith, tall, low, c.greatest_height-log_max_height.ensures)
+    (All-map (λ (v : Committed g.row.F.Denot g.row.EF.Denot). v.log_height < g.F.ComplexExtendable.CIRCLE_TWO_ADICITY) (committed_of (fields g) c.args.params.now.log_blowup) c.args.matrices.now (λ j d inside. (c.requires.openable j d inside).in_group)) in
+    omega (arith, tall, low, (c.greatest_height-log_max_height.ensures ∙ top-seen (fields g) c.args.params.now.log_blowup c.args.matrices.now))
 
 pub play_rounds-requires-clause-words : goal.play_rounds-requires-clause-words
 play_rounds-requires-clause-words g c =
-    let ms = map committed_of c.args.matrices.now in
+    let ms = map (committed_of (fields g) c.args.params.now.log_blowup) c.args.matrices.now in
     let size : ℕ → ℕ = λ h. 2 ^ (h - 1) in
-    let same = c.deref-2.ensures.value ∙ c.in_ok-heights.ensures ∙ heights-end ms c.requires.tall.0 in
+    let same = c.deref-2.ensures.value ∙ c.in_ok-heights.ensures (fields g) c.args.params.now.log_blowup ∙ heights-end ms c.requires.tall.0 in
     let all = c.in_ok-tallest.ensures.lengths ∙ ap (map size) same in
     let joining = (split-last size (map (λ w. length w.items) c.in_ok-tallest.joining.items) (length c.in_ok-tallest.tallest.items) (lower ms) (top_of ms) all).0 in
     let kept : take (c.len.result - 1) c.deref-3.result.now ≡ lower ms =
-    front-of c.deref-3.result.now c.len.result (lower ms) (top_of ms) (c.deref-3.ensures.value ∙ c.in_ok-heights.ensures ∙ heights-end ms c.requires.tall.0)
-    (c.len.ensures ∙ c.in_ok-heights.heights.ok.0 ∙ ap length (c.in_ok-heights.ensures ∙ heights-end ms c.requires.tall.0)) in
+    front-of c.deref-3.result.now c.len.result (lower ms) (top_of ms) (c.deref-3.ensures.value ∙ c.in_ok-heights.ensures (fields g) c.args.params.now.log_blowup ∙ heights-end ms c.requires.tall.0)
+    (c.len.ensures ∙ c.in_ok-heights.heights.ok.0 ∙ ap length (c.in_ok-heights.ensures (fields g) c.args.params.now.log_blowup ∙ heights-end ms c.requires.tall.0)) in
     ap (map (λ w. length w.items)) c.deref-4.ensures.value ∙ joining ∙ ap (map size) (sym kept)
 
 pub final_coefficients-requires-clause-length : goal.final_coefficients-requires-clause-length
 final_coefficients-requires-clause-length g c =
-    let tall = top-known (map committed_of c.args.matrices.now) (λ h. c.args.params.now.log_blowup + c.args.params.now.log_final_poly_len + 2 ≤ h) c.requires.tall.0 c.requires.tall.1 in
+    let tall = top-known (map (committed_of (fields g) c.args.params.now.log_blowup) c.args.matrices.now) (λ h. c.args.params.now.log_blowup + c.args.params.now.log_final_poly_len + 2 ≤ h) c.requires.tall.0 c.requires.tall.1 in
     let left : c.greatest_height-log_max_height.result - 1 - (c.greatest_height-log_max_height.result - 1 - (c.args.params.now.log_blowup + c.args.params.now.log_final_poly_len)) ≡ c.args.params.now.log_blowup + c.args.params.now.log_final_poly_len =
-    omega (arith, tall, c.greatest_height-log_max_height.ensures) in
+    omega (arith, tall, (c.greatest_height-log_max_height.ensures ∙ top-seen (fields g) c.args.params.now.log_blowup c.args.matrices.now)) in
     ap length c.deref-5.ensures.value ∙ c.in_ok-rounds.ensures.length ∙ ap (λ n. 2 ^ n) left
 
 pub final_coefficients-requires-clause-in_group : goal.final_coefficients-requires-clause-in_group
 final_coefficients-requires-clause-in_group g c =
-    let ms = map committed_of c.args.matrices.now in
+    let ms = map (committed_of (fields g) c.args.params.now.log_blowup) c.args.matrices.now in
     let tall = top-known ms (λ h. c.args.params.now.log_blowup + c.args.params.now.log_final_poly_len + 2 ≤ h) c.requires.tall.0 c.requires.tall.1 in
     let low = top-known ms (λ h. h < g.F.ComplexExtendable.CIRCLE_TWO_ADICITY) c.requires.tall.0
-    (All-map (λ (v : Committed g.row.F.Denot g.row.EF.Denot). v.log_height < g.F.ComplexExtendable.CIRCLE_TWO_ADICITY) committed_of c.args.matrices.now (λ j d inside. (c.requires.openable j d inside).in_group)) in
+    (All-map (λ (v : Committed g.row.F.Denot g.row.EF.Denot). v.log_height < g.F.ComplexExtendable.CIRCLE_TWO_ADICITY) (committed_of (fields g) c.args.params.now.log_blowup) c.args.matrices.now (λ j d inside. (c.requires.openable j d inside).in_group)) in
     omega (arith, tall, low)
-
-abbrev fields : (g : Over) → Fields g.row.F.Denot g.row.EF.Denot
-fields g = record { field = g.F.Operations.ops; gen = g.F.ComplexExtendable.generators; two_adicity = g.F.ComplexExtendable.CIRCLE_TWO_ADICITY; is_zero = λ w. g.F.PartialEq.eq w g.F.Field.ZERO; extension = g.EF.Operations.ops; embed = g.EF.ExtensionField.embed; same = g.EF.PartialEq.eq }
 
 -- what the challenger is to the run
 abbrev challenger : (g : Over) → RunMoves g.row.C.Denot g.row.C-State.Denot g.row.F.Denot g.row.EF.Denot g.row.M-Commitment.Denot
@@ -153,7 +155,7 @@ pub returns-in_err-rounds-clause-failure : goal.returns-in_err-rounds-clause-fai
 returns-in_err-rounds-clause-failure g c =
     let k = fields g in
     let p = c.args.params.now in
-    let ms = map committed_of c.args.matrices.now in
+    let ms = map (committed_of (fields g) c.args.params.now.log_blowup) c.args.matrices.now in
     let b = p.log_blowup in
     let f = p.log_final_poly_len in
     let commits = g.M.Mmcs.commits p.mmcs in
@@ -162,16 +164,16 @@ returns-in_err-rounds-clause-failure g c =
     let layers = g.M.Mmcs.matrices c.in_ok-layer.layer.kept in
     let fold = first_fold k b ms alpha bivariate in
     let tall = top-known ms (λ h. b + f + 2 ≤ h) c.requires.tall.0 c.requires.tall.1 in
-    let hs1 : c.deref.result.now ≡ heights_of ms = c.deref.ensures.value ∙ c.in_ok-heights.ensures in
+    let hs1 : c.deref.result.now ≡ heights_of ms = c.deref.ensures.value ∙ c.in_ok-heights.ensures (fields g) c.args.params.now.log_blowup in
     let committed = subst (λ hs. AreCommitted commits (map (layer_of k b ms alpha) hs) layers c.in_ok-layer.layer.commitment) hs1 c.in_ok-layer.ensures.committed in
     let both = folds-split k b ms alpha bivariate c.deref-2.result.now layers (map (λ w. w.items) c.in_ok-tallest.joining.items) c.in_ok-tallest.tallest.items c.requires.tall.0
-    (c.deref-2.ensures.value ∙ c.in_ok-heights.ensures) committed.rows c.in_ok-tallest.ensures.words in
-    let ends = c.in_ok-heights.ensures ∙ heights-end ms c.requires.tall.0 in
+    (c.deref-2.ensures.value ∙ c.in_ok-heights.ensures (fields g) c.args.params.now.log_blowup) committed.rows c.in_ok-tallest.ensures.words in
+    let ends = c.in_ok-heights.ensures (fields g) c.args.params.now.log_blowup ∙ heights-end ms c.requires.tall.0 in
     let kept : take (c.len.result - 1) c.deref-3.result.now ≡ lower ms =
     front-of c.deref-3.result.now c.len.result (lower ms) (top_of ms) (c.deref-3.ensures.value ∙ ends) (c.len.ensures ∙ c.in_ok-heights.heights.ok.0 ∙ ap length ends) in
     let are : map (λ w. w.items) c.deref-4.result.now ≡ map fold (take (c.len.result - 1) c.deref-3.result.now) =
     ap (map (λ w. w.items)) c.deref-4.ensures.value ∙ both.0 ∙ ap (map fold) (sym kept) in
-    let high = c.greatest_height-log_max_height.ensures in
+    let high = c.greatest_height-log_max_height.ensures ∙ top-seen (fields g) c.args.params.now.log_blowup c.args.matrices.now in
     let alike = words-alike k b ms alpha bivariate (take (c.len.result - 1) c.deref-3.result.now) c.greatest_height-log_max_height.result c.in_ok-tallest.tallest.items c.requires.tall.0 (omega (arith, tall)) kept high both.1 in
     let count : c.greatest_height-log_max_height.result - 1 - (b + f) ≡ top_of ms - 1 - b - f = omega (arith, high) in
     let r = challenger g in
@@ -211,7 +213,7 @@ pub returns-in_err-final_poly-clause-failure : goal.returns-in_err-final_poly-cl
 returns-in_err-final_poly-clause-failure g c =
     let k = fields g in
     let p = c.args.params.now in
-    let ms = map committed_of c.args.matrices.now in
+    let ms = map (committed_of (fields g) c.args.params.now.log_blowup) c.args.matrices.now in
     let b = p.log_blowup in
     let f = p.log_final_poly_len in
     let commits = g.M.Mmcs.commits p.mmcs in
@@ -220,16 +222,16 @@ returns-in_err-final_poly-clause-failure g c =
     let layers = g.M.Mmcs.matrices c.in_ok-layer.layer.kept in
     let fold = first_fold k b ms alpha bivariate in
     let tall = top-known ms (λ h. b + f + 2 ≤ h) c.requires.tall.0 c.requires.tall.1 in
-    let hs1 : c.deref.result.now ≡ heights_of ms = c.deref.ensures.value ∙ c.in_ok-heights.ensures in
+    let hs1 : c.deref.result.now ≡ heights_of ms = c.deref.ensures.value ∙ c.in_ok-heights.ensures (fields g) c.args.params.now.log_blowup in
     let committed = subst (λ hs. AreCommitted commits (map (layer_of k b ms alpha) hs) layers c.in_ok-layer.layer.commitment) hs1 c.in_ok-layer.ensures.committed in
     let both = folds-split k b ms alpha bivariate c.deref-2.result.now layers (map (λ w. w.items) c.in_ok-tallest.joining.items) c.in_ok-tallest.tallest.items c.requires.tall.0
-    (c.deref-2.ensures.value ∙ c.in_ok-heights.ensures) committed.rows c.in_ok-tallest.ensures.words in
-    let ends = c.in_ok-heights.ensures ∙ heights-end ms c.requires.tall.0 in
+    (c.deref-2.ensures.value ∙ c.in_ok-heights.ensures (fields g) c.args.params.now.log_blowup) committed.rows c.in_ok-tallest.ensures.words in
+    let ends = c.in_ok-heights.ensures (fields g) c.args.params.now.log_blowup ∙ heights-end ms c.requires.tall.0 in
     let kept : take (c.len.result - 1) c.deref-3.result.now ≡ lower ms =
     front-of c.deref-3.result.now c.len.result (lower ms) (top_of ms) (c.deref-3.ensures.value ∙ ends) (c.len.ensures ∙ c.in_ok-heights.heights.ok.0 ∙ ap length ends) in
     let are : map (λ w. w.items) c.deref-4.result.now ≡ map fold (take (c.len.result - 1) c.deref-3.result.now) =
     ap (map (λ w. w.items)) c.deref-4.ensures.value ∙ both.0 ∙ ap (map fold) (sym kept) in
-    let high = c.greatest_height-log_max_height.ensures in
+    let high = c.greatest_height-log_max_height.ensures ∙ top-seen (fields g) c.args.params.now.log_blowup c.args.matrices.now in
     let alike = words-alike k b ms alpha bivariate (take (c.len.result - 1) c.deref-3.result.now) c.greatest_height-log_max_height.result c.in_ok-tallest.tallest.items c.requires.tall.0 (omega (arith, tall)) kept high both.1 in
     let count : c.greatest_height-log_max_height.result - 1 - (b + f) ≡ top_of ms - 1 - b - f = omega (arith, high) in
     let betas = c.in_ok-rounds.rounds.betas.items in
@@ -255,7 +257,7 @@ query_phase-requires-clause-next g c =
     let degree = g.EF.ExtensionField.DEGREE in
     let b = c.args.params.now.log_blowup in
     let f = c.args.params.now.log_final_poly_len in
-    let top = top_of (map committed_of c.args.matrices.now) in
+    let top = greatest (map (λ m. m.log_height) c.args.matrices.now) in
     let n = numbers c.args.transcript.now in
     let count : top - 1 - b - f ≡ c.greatest_height-log_max_height.result - 1 - (b + f) = omega (arith, c.greatest_height-log_max_height.ensures) in (
       [],
@@ -268,7 +270,7 @@ returns-clause-due g c =
     let degree = g.EF.ExtensionField.DEGREE in
     let b = c.args.params.now.log_blowup in
     let f = c.args.params.now.log_final_poly_len in
-    let top = top_of (map committed_of c.args.matrices.now) in
+    let top = greatest (map (λ m. m.log_height) c.args.matrices.now) in
     let n = numbers c.args.transcript.now in
     let count : top - 1 - b - f ≡ c.greatest_height-log_max_height.result - 1 - (b + f) = omega (arith, c.greatest_height-log_max_height.ensures) in
     c.in_ok-indices.ensures.due []
@@ -279,7 +281,7 @@ pub returns-in_err-indices-clause-failure : goal.returns-in_err-indices-clause-f
 returns-in_err-indices-clause-failure g c =
     let k = fields g in
     let p = c.args.params.now in
-    let ms = map committed_of c.args.matrices.now in
+    let ms = map (committed_of (fields g) c.args.params.now.log_blowup) c.args.matrices.now in
     let b = p.log_blowup in
     let f = p.log_final_poly_len in
     let commits = g.M.Mmcs.commits p.mmcs in
@@ -288,16 +290,16 @@ returns-in_err-indices-clause-failure g c =
     let layers = g.M.Mmcs.matrices c.in_ok-layer.layer.kept in
     let fold = first_fold k b ms alpha bivariate in
     let tall = top-known ms (λ h. b + f + 2 ≤ h) c.requires.tall.0 c.requires.tall.1 in
-    let hs1 : c.deref.result.now ≡ heights_of ms = c.deref.ensures.value ∙ c.in_ok-heights.ensures in
+    let hs1 : c.deref.result.now ≡ heights_of ms = c.deref.ensures.value ∙ c.in_ok-heights.ensures (fields g) c.args.params.now.log_blowup in
     let committed = subst (λ hs. AreCommitted commits (map (layer_of k b ms alpha) hs) layers c.in_ok-layer.layer.commitment) hs1 c.in_ok-layer.ensures.committed in
     let both = folds-split k b ms alpha bivariate c.deref-2.result.now layers (map (λ w. w.items) c.in_ok-tallest.joining.items) c.in_ok-tallest.tallest.items c.requires.tall.0
-    (c.deref-2.ensures.value ∙ c.in_ok-heights.ensures) committed.rows c.in_ok-tallest.ensures.words in
-    let ends = c.in_ok-heights.ensures ∙ heights-end ms c.requires.tall.0 in
+    (c.deref-2.ensures.value ∙ c.in_ok-heights.ensures (fields g) c.args.params.now.log_blowup) committed.rows c.in_ok-tallest.ensures.words in
+    let ends = c.in_ok-heights.ensures (fields g) c.args.params.now.log_blowup ∙ heights-end ms c.requires.tall.0 in
     let kept : take (c.len.result - 1) c.deref-3.result.now ≡ lower ms =
     front-of c.deref-3.result.now c.len.result (lower ms) (top_of ms) (c.deref-3.ensures.value ∙ ends) (c.len.ensures ∙ c.in_ok-heights.heights.ok.0 ∙ ap length ends) in
     let are : map (λ w. w.items) c.deref-4.result.now ≡ map fold (take (c.len.result - 1) c.deref-3.result.now) =
     ap (map (λ w. w.items)) c.deref-4.ensures.value ∙ both.0 ∙ ap (map fold) (sym kept) in
-    let high = c.greatest_height-log_max_height.ensures in
+    let high = c.greatest_height-log_max_height.ensures ∙ top-seen (fields g) c.args.params.now.log_blowup c.args.matrices.now in
     let alike = words-alike k b ms alpha bivariate (take (c.len.result - 1) c.deref-3.result.now) c.greatest_height-log_max_height.result c.in_ok-tallest.tallest.items c.requires.tall.0 (omega (arith, tall)) kept high both.1 in
     let count : c.greatest_height-log_max_height.result - 1 - (b + f) ≡ top_of ms - 1 - b - f = omega (arith, high) in
     let r = challenger g in
@@ -402,7 +404,7 @@ pub returns-clause-words : goal.returns-clause-words
 returns-clause-words g c =
     let k = fields g in
     let p = c.args.params.now in
-    let ms = map committed_of c.args.matrices.now in
+    let ms = map (committed_of (fields g) c.args.params.now.log_blowup) c.args.matrices.now in
     let b = p.log_blowup in
     let f = p.log_final_poly_len in
     let commits = g.M.Mmcs.commits p.mmcs in
@@ -411,23 +413,23 @@ returns-clause-words g c =
     let layers = g.M.Mmcs.matrices c.in_ok-layer.layer.kept in
     let fold = first_fold k b ms alpha bivariate in
     let tall = top-known ms (λ h. b + f + 2 ≤ h) c.requires.tall.0 c.requires.tall.1 in
-    let hs1 : c.deref.result.now ≡ heights_of ms = c.deref.ensures.value ∙ c.in_ok-heights.ensures in
+    let hs1 : c.deref.result.now ≡ heights_of ms = c.deref.ensures.value ∙ c.in_ok-heights.ensures (fields g) c.args.params.now.log_blowup in
     let committed = subst (λ hs. AreCommitted commits (map (layer_of k b ms alpha) hs) layers c.in_ok-layer.layer.commitment) hs1 c.in_ok-layer.ensures.committed in
     let both = folds-split k b ms alpha bivariate c.deref-2.result.now layers (map (λ w. w.items) c.in_ok-tallest.joining.items) c.in_ok-tallest.tallest.items c.requires.tall.0
-    (c.deref-2.ensures.value ∙ c.in_ok-heights.ensures) committed.rows c.in_ok-tallest.ensures.words in
-    let ends = c.in_ok-heights.ensures ∙ heights-end ms c.requires.tall.0 in
+    (c.deref-2.ensures.value ∙ c.in_ok-heights.ensures (fields g) c.args.params.now.log_blowup) committed.rows c.in_ok-tallest.ensures.words in
+    let ends = c.in_ok-heights.ensures (fields g) c.args.params.now.log_blowup ∙ heights-end ms c.requires.tall.0 in
     let kept : take (c.len.result - 1) c.deref-3.result.now ≡ lower ms =
     front-of c.deref-3.result.now c.len.result (lower ms) (top_of ms) (c.deref-3.ensures.value ∙ ends) (c.len.ensures ∙ c.in_ok-heights.heights.ok.0 ∙ ap length ends) in
     let are : map (λ w. w.items) c.deref-4.result.now ≡ map fold (take (c.len.result - 1) c.deref-3.result.now) =
     ap (map (λ w. w.items)) c.deref-4.ensures.value ∙ both.0 ∙ ap (map fold) (sym kept) in
-    let high = c.greatest_height-log_max_height.ensures in
+    let high = c.greatest_height-log_max_height.ensures ∙ top-seen (fields g) c.args.params.now.log_blowup c.args.matrices.now in
     let alike = words-alike k b ms alpha bivariate (take (c.len.result - 1) c.deref-3.result.now) c.greatest_height-log_max_height.result c.in_ok-tallest.tallest.items c.requires.tall.0 (omega (arith, tall)) kept high both.1 in
     let count : c.greatest_height-log_max_height.result - 1 - (b + f) ≡ top_of ms - 1 - b - f = omega (arith, high) in
     let betas = c.in_ok-rounds.rounds.betas.items in
     let word = round_word k b ms alpha bivariate betas in
     let many : length c.in_ok-rounds.rounds.commitments.items ≡ c.greatest_height-log_max_height.result - 1 - (b + f) = c.in_ok-rounds.ensures.commitments in
     record {
-      heights = c.in_ok-heights.ensures;
+      heights = c.in_ok-heights.ensures (fields g) c.args.params.now.log_blowup;
       top = high;
       lambdas = c.in_ok-layer.ensures.lambdas ∙ ap (map (lambda k alpha ms b)) hs1;
       first_layer = committed;

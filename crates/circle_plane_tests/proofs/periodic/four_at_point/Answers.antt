@@ -1,4 +1,5 @@
-use Rattle.std.proofs.Common.{rules, ◌≡◌, ◌+◌, ◌-◌, ◌^◌, ◌≤◌, ◌∙◌, [], sym, ap, subst, length, map, arith, get_or}
+use Rattle.std.proofs.Common.{rules, ◌≡◌, ◌+◌, ◌-◌, ◌^◌, ◌≤◌, ◌∙◌, [], sym, ap, subst, length, map, arith, get_or, All}
+use Rattle.std.proofs.lemmas.List.Elements.{All-map}
 use Rattle.circle_field.specs.Circle.{Coordinates, times}
 use Rattle.circle_point.specs.Point.{coordinates}
 use Rattle.circle_point.specs.Projective.{from_line}
@@ -7,7 +8,6 @@ use Rattle.circle_domain.specs.Domain.{log_size, shift_of}
 use Rattle.circle_domain.specs.Order.{natural_order}
 use Rattle.circle_domain.specs.Selectors.{IsFinite}
 use Rattle.circle_domain.proofs.Powers.{pow_injective}
-use Rattle.circle_plane.proofs.EachMore.{items-at}
 use Rattle.circle_plane_tests.proofs.periodic.four_at_point.Goals as goal
 
 pub eval_at_point-requires : goal.eval_at_point-requires
@@ -18,12 +18,8 @@ eval_at_point-requires g c = λ i lt two.
     let m = g.EF.ExtensionField.embed in
     let columns = c.args.columns.now in
     let all = map (λ column. column.items) columns in
-    let one : length columns ≡ 1 = search rules in
-    let first : i ≡ 0 = omega (arith, lt, one) in
-    let v = c.index-columns-0.result in
-    let counted : c.len.result ≡ 4 = search rules in
-    let four : length (get_or all i []) ≡ 4 =
-    ap (λ j. length (get_or all j [])) first ∙ ap length (items-at columns 0 v (omega (arith, one)) c.index-columns-0.is) ∙ sym v.ok.0 ∙ sym c.len.ensures ∙ counted in
+    let fours : All (λ column. length column.items ≡ 4) columns = search rules in
+    let four : length (get_or all i []) ≡ 4 = All-map (λ column. length column ≡ 4) (λ column. column.items) columns fours i [] lt in
     let size : log_size c.standard-2.result ≡ 4 = c.standard-2.ensures.size in
     let room : 5 ≤ g.F.ComplexExtendable.CIRCLE_TWO_ADICITY = search rules in
     let finite : IsFinite l c.args.t = search rules in

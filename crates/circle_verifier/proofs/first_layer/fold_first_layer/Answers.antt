@@ -1,12 +1,14 @@
-use Rattle.std.proofs.Common.{◌≡◌, ◌+◌, ◌++◌, [], ◌∷◌, ◌∙◌, List, Vec, Global, sym, ap, length, map, take, drop}
+use Rattle.std.proofs.Common.{◌≡◌, ◌+◌, ◌++◌, [], ◌∷◌, ◌∙◌, List, Vec, Global, sym, ap, length, map, take, drop, arith}
+use Rattle.std.specs.List.{flat_map}
 use Rattle.std.proofs.lemmas.List.{length_push, map-append, length-map}
 use Rattle.std.proofs.lemmas.Iterator.Adapters.{YieldsList-from_vec}
 use Rattle.std.proofs.lemmas.Iterator.Consumers.{YieldsList-turn, YieldsList-end}
 use Rattle.circle_field.proofs.Inverses.{take-whole}
 use Rattle.circle_matrix.specs.Mmcs.{opened_rows}
 use Rattle.circle_relation.specs.Accepts.{Fields}
-use Rattle.circle_relation.specs.RunOf.{folded_words, joining_of}
-use Rattle.circle_verifier.proofs.FirstLayerRun.{pairs_up_to, all_reduced, word-of, place-of, none-yet, count-rows, pairs-all, folded-all, folded-more, pairs-more}
+use Rattle.circle_relation.specs.RunOf.{heights_of, folded_words, joining_of, queried}
+use Rattle.circle_verifier.specs.FirstLayer.{twiddles_of}
+use Rattle.circle_verifier.proofs.FirstLayerRun.{pairs_up_to, all_reduced, word-of, place-of, none-yet, count-rows, pairs-all, folded-all, folded-more, pairs-more, next-inverses}
 use Rattle.circle_verifier.proofs.first_layer.fold_first_layer.Goals as goal
 
 pub loop-word-init : goal.loop-word-init
@@ -16,7 +18,30 @@ loop-word-init g c =
       count = c.in_ok-folded.ensures.len;
       folded = ap (map joining_of) c.in_ok-folded.ensures.items;
       pairs = none-yet reduced c.in_ok-rows.ensures;
+      later = c.as_slice-later.ensures.value ∙ c.in_ok-inverses.ensures;
     }
+
+pub inverse_first_twiddles-requires-clause-words : goal.inverse_first_twiddles-requires-clause-words
+inverse_first_twiddles-requires-clause-words g c = ap (map queried) c.deref.ensures.value ∙ c.requires.words
+
+pub split_at-requires : goal.split_at-requires
+split_at-requires g c =
+    let reduced = all_reduced c.requires.drawn c.requires.opened c.args.words.items c.requires.words in
+    let given = c.into_iter-word-iterator.ensures.into_iter_gives in
+    let all = YieldsList-from_vec c.args.words.items given.0 (given.1 ∙ c.args.words.ok.0) in
+    let t = YieldsList-turn all c.loop-word.yielded _ c.loop-word.yielded_by _ c.next.new.self c.in-Some.word c.in-Some.is c.next.ensures.steps in
+    let word = word-of reduced (length c.loop-word.yielded) c.in-Some.word t.0 t.1 in
+    let later = next-inverses word.0 c.loop-word.invariant.later in
+    omega (arith, later.0)
+
+pub fold_word-requires-clause-inverses : goal.fold_word-requires-clause-inverses
+fold_word-requires-clause-inverses g c =
+    let reduced = all_reduced c.requires.drawn c.requires.opened c.args.words.items c.requires.words in
+    let given = c.into_iter-word-iterator.ensures.into_iter_gives in
+    let all = YieldsList-from_vec c.args.words.items given.0 (given.1 ∙ c.args.words.ok.0) in
+    let t = YieldsList-turn all c.loop-word.yielded _ c.loop-word.yielded_by _ c.next.new.self c.in-Some.word c.in-Some.is c.next.ensures.steps in
+    let word = word-of reduced (length c.loop-word.yielded) c.in-Some.word t.0 t.1 in
+    c.split_at.ensures.front ∙ (next-inverses word.0 c.loop-word.invariant.later).1
 
 pub fold_word-requires-clause-place : goal.fold_word-requires-clause-place
 fold_word-requires-clause-place g c =
@@ -67,6 +92,9 @@ loop-word-preserved g c =
           ap (map joining_of) c.in_ok-push.ensures.items ∙ map-append joining_of c.loop-word.folded.items (c.in_ok-values.values ∷ [])
           ∙ folded-more word.0 c.loop-word.invariant.folded c.in_ok-values.ensures.folded
           ∙ ap (λ n. take n (folded_words k run)) more;
+      later =
+          c.split_at.ensures.back ∙ (next-inverses word.0 c.loop-word.invariant.later).2
+          ∙ ap (λ n. map k.field.inv (flat_map (twiddles_of k run) (drop n (heights_of k run)))) more;
       pairs = ap opened_rows whole ∙ pairs-more word.0 held c.in_ok-values.ensures.pairs ∙ ap (pairs_up_to k run) more;
     }
 

@@ -1,7 +1,9 @@
-use Rattle.std.proofs.Common.{◌≡◌, length, map, take}
+use Rattle.std.proofs.Common.{◌≡◌, length, map, take, drop}
+use Rattle.std.specs.List.{flat_map}
 use Rattle.circle_matrix.specs.Mmcs.{opened_rows}
 use Rattle.circle_relation.specs.Accepts.{Fields}
-use Rattle.circle_relation.specs.RunOf.{folded_words, joining_of}
+use Rattle.circle_relation.specs.RunOf.{heights_of, folded_words, joining_of}
+use Rattle.circle_verifier.specs.FirstLayer.{twiddles_of}
 use Rattle.circle_verifier.proofs.FirstLayerRun.{pairs_up_to}
 use Rattle.circle_verifier.proofs.first_layer.fold_first_layer.Given as goal
 
@@ -14,4 +16,5 @@ invariant-loop-word g l =
       count : l.folded.len ≡ done;
       folded : map joining_of l.folded.items ≡ take done (folded_words k l.run);
       pairs : opened_rows l.rows.items ≡ pairs_up_to k l.run done;
+      later : l.later ≡ map k.field.inv (flat_map (twiddles_of k l.run) (drop done (heights_of k l.run)));
     }

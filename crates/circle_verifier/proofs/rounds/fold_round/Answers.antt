@@ -1,6 +1,7 @@
-use Rattle.std.proofs.Common.{◌≡◌, ◌∙◌, Vec, Global, sym, ap, subst, length, map, slice_index_or, arith}
-use Rattle.std.proofs.lemmas.List.{get_or_default}
+use Rattle.std.proofs.Common.{◌≡◌, ◌∙◌, Vec, Global, refl, sym, ap, subst, length, map, slice_index_or, arith}
+use Rattle.std.proofs.lemmas.List.{get_or_default, length-map}
 use Rattle.std.specs.List.{All}
+use Rattle.circle_folding.specs.Chain.{round_twiddle, round_twiddles}
 use Rattle.circle_folding.proofs.Queries.{round_twiddles-nonzero}
 use Rattle.circle_relation.specs.Accepts.{Fields}
 use Rattle.circle_verifier.proofs.RoundsValues.{length-values_in, length-siblings_in, folds-of, round-within}
@@ -27,18 +28,18 @@ authenticate_round-requires-clause-siblings g c =
     let are = c.in_ok-siblings.ensures ∙ ap (map head) c.deref.ensures.value ∙ siblings-are (fields g) o c.requires.drawn c.args.round c.requires.round c.index-opening.result.now c.index-opening.ensures in
     c.deref-2.ensures.value ∙ are
 
-pub fold_query_values-requires-clause-nonzero : goal.fold_query_values-requires-clause-nonzero
-fold_query_values-requires-clause-nonzero g c =
+pub fold_query_values_with_inv_twiddles-requires-clause-inverses : goal.fold_query_values_with_inv_twiddles-requires-clause-inverses
+fold_query_values_with_inv_twiddles-requires-clause-inverses g c =
     let o = c.args.run.now in
-    let enough = round-within (fields g) o c.requires.drawn c.args.round c.requires.round in
-    subst (All (λ t. t ≡ g.Val.Operations.ops.zero → ⊥)) (sym c.requires.twiddles)
-    (round_twiddles-nonzero g.Val.Operations.laws g.met.Val.ComplexExtendable.generators_law o.log_max_height c.args.round o.indices.now (omega (arith, enough)) c.requires.drawn.in_group c.requires.drawn.below)
+    let k = g.Val.Operations.ops in
+    let twiddle = round_twiddle k g.Val.ComplexExtendable.generators o.log_max_height c.args.round in
+    ap length c.requires.inverses ∙ length-map (map twiddle o.indices.now) k.inv ∙ length-map o.indices.now twiddle
 
-pub fold_query_values-requires-clause-values : goal.fold_query_values-requires-clause-values
-fold_query_values-requires-clause-values g c = ap length c.requires.values ∙ length-values_in (fields g) c.args.run.now c.args.round
+pub fold_query_values_with_inv_twiddles-requires-clause-values : goal.fold_query_values_with_inv_twiddles-requires-clause-values
+fold_query_values_with_inv_twiddles-requires-clause-values g c = ap length c.requires.values ∙ length-values_in (fields g) c.args.run.now c.args.round
 
-pub fold_query_values-requires-clause-siblings : goal.fold_query_values-requires-clause-siblings
-fold_query_values-requires-clause-siblings g c =
+pub fold_query_values_with_inv_twiddles-requires-clause-siblings : goal.fold_query_values_with_inv_twiddles-requires-clause-siblings
+fold_query_values_with_inv_twiddles-requires-clause-siblings g c =
     let head : Vec g.row.EF.Denot Global → g.row.EF.Denot = λ row. slice_index_or row.items 0 g.EF.Operations.ops.zero in
     let o = c.args.run.now in
     let are = c.in_ok-siblings.ensures ∙ ap (map head) c.deref.ensures.value ∙ siblings-are (fields g) o c.requires.drawn c.args.round c.requires.round c.index-opening.result.now c.index-opening.ensures in
@@ -50,6 +51,9 @@ returns-clause-folded g c =
     let o = c.args.run.now in
     let are = c.in_ok-siblings.ensures ∙ ap (map head) c.deref.ensures.value ∙ siblings-are (fields g) o c.requires.drawn c.args.round c.requires.round c.index-opening.result.now c.index-opening.ensures in
     let beta = c.index-run-round.result in
-    c.in_ok-fold_query_values.ensures.folded
-    ∙ folds-of (fields g) o c.args.round (slice_index_or o.betas.now c.args.round beta) c.args.twiddles.now c.args.values.now c.deref-3.result.now c.requires.drawn.top
-    (get_or_default o.betas.now c.args.round beta g.EF.Operations.ops.zero c.requires.round) c.requires.twiddles c.requires.values (c.deref-3.ensures.value ∙ are)
+    let enough = round-within (fields g) o c.requires.drawn c.args.round c.requires.round in
+    let twiddles = round_twiddles g.Val.Operations.ops g.Val.ComplexExtendable.generators o.log_max_height c.args.round o.indices.now in
+    let nonzero = round_twiddles-nonzero g.Val.Operations.laws g.met.Val.ComplexExtendable.generators_law o.log_max_height c.args.round o.indices.now (omega (arith, enough)) c.requires.drawn.in_group c.requires.drawn.below in
+    c.fold_query_values_with_inv_twiddles.ensures twiddles nonzero c.requires.inverses
+    ∙ folds-of (fields g) o c.args.round (slice_index_or o.betas.now c.args.round beta) twiddles c.args.values.now c.deref-3.result.now c.requires.drawn.top
+    (get_or_default o.betas.now c.args.round beta g.EF.Operations.ops.zero c.requires.round) refl c.requires.values (c.deref-3.ensures.value ∙ are)

@@ -1,11 +1,11 @@
-use Rattle.std.proofs.Common.{◌+◌, ◌≤◌, [], ◌∷◌, ◌∙◌, sym, ap, length, map, below_more, arith}
+use Rattle.std.proofs.Common.{◌≡◌, ◌+◌, ◌-◌, [], ◌∷◌, ◌∙◌, sym, ap, length, map, below_more, arith}
 use Rattle.std.proofs.lemmas.List.{map-append, length-map}
-use Rattle.circle_field.proofs.Inverses.{take-whole}
-use Rattle.circle_folding.specs.Chain.{round_twiddle}
 use Rattle.circle_relation.specs.RunOf.{joining_of}
+use Rattle.circle_verifier.specs.Rounds.{inverses_from}
 use Rattle.circle_verifier.proofs.LastWord.{last-short}
-use Rattle.circle_verifier.proofs.RoundsValues.{written-twice, length-values_in, length-folds_in, first-left, first-values, first-there, round-within}
+use Rattle.circle_verifier.proofs.RoundsValues.{written-twice, length-values_in, length-folds_in, first-left, first-values, first-there}
 use Rattle.circle_verifier.proofs.RoundsOpened.{of-rounds}
+use Rattle.circle_verifier.proofs.Twiddles.{next-inverses}
 use Rattle.circle_verifier.proofs.rounds.fold_rounds.Invariants.{fields}
 use Rattle.circle_verifier.proofs.rounds.fold_rounds.Goals as goal
 
@@ -21,8 +21,22 @@ returns-in_default-clause-shown g c =
     absurd (first-there (fields g) c.args.run.now c.requires.drawn.top c.requires.drawn.some_matrix words
     (omega (arith, length-map c.args.folded.items joining_of, c.args.folded.ok.0, c.in_default.ensures.cases.0)) c.requires.folded)
 
-pub first_x_twiddles-requires-clause-height : goal.first_x_twiddles-requires-clause-height
-first_x_twiddles-requires-clause-height g c = omega (arith, last-short (fields g) c.args.run.now c.requires.drawn, c.requires.drawn.blowup)
+pub inverse_round_twiddles-requires-clause-rounds : goal.inverse_round_twiddles-requires-clause-rounds
+inverse_round_twiddles-requires-clause-rounds g c =
+    let o = c.args.run.now in
+    omega (arith, c.requires.drawn.betas, c.requires.drawn.top, c.requires.drawn.blowup, last-short (fields g) o c.requires.drawn)
+
+pub split_at-requires : goal.split_at-requires
+split_at-requires g c =
+    let o = c.args.run.now in
+    let k = g.Val.Operations.ops in
+    omega (arith, (next-inverses k g.Val.ComplexExtendable.generators o.log_max_height o.indices.now c.loop-round.round (length o.betas.now) c.loop-round-test.true c.loop-round.invariant.later).0)
+
+pub fold_round-requires-clause-inverses : goal.fold_round-requires-clause-inverses
+fold_round-requires-clause-inverses g c =
+    let o = c.args.run.now in
+    let k = g.Val.Operations.ops in
+    c.split_at.ensures.front ∙ (next-inverses k g.Val.ComplexExtendable.generators o.log_max_height o.indices.now c.loop-round.round (length o.betas.now) c.loop-round-test.true c.loop-round.invariant.later).1
 
 pub loop-round-init : goal.loop-round-init
 loop-round-init g c =
@@ -31,11 +45,11 @@ loop-round-init g c =
     let first = c.in-Some.first in
     let rest = c.pop.new.self.items in
     let e = sym (map-append joining_of rest (first ∷ [])) ∙ ap (map joining_of) (sym c.in-Some.ensures.items) ∙ c.requires.folded in
+    let all : length o.betas.now ≡ length o.betas.now - 0 = omega arith in
     record {
       values = first-values k o c.requires.drawn.top c.requires.drawn.some_matrix (map joining_of rest) (joining_of first) e;
       left = ap (map joining_of) c.as_slice-left.ensures.value ∙ first-left k o c.requires.drawn.top c.requires.drawn.some_matrix (map joining_of rest) (joining_of first) e;
-      count = ap length c.in_ok-twiddles.ensures ∙ length-map o.indices.now (round_twiddle k.field k.gen o.log_max_height 0);
-      twiddles = λ some. c.in_ok-twiddles.ensures;
+      later = c.as_slice-later.ensures.value ∙ c.in_ok-inverses.ensures ∙ ap (inverses_from k.field k.gen o.log_max_height o.indices.now 0) all;
       shown = λ n none. absurd (omega (arith, none));
     }
 
@@ -46,19 +60,14 @@ loop-round-preserved g c =
     let n = c.loop-round.round in
     let now = c.loop-round.invariant in
     let values = c.loop-round.values in
-    let twiddles = c.loop-round.twiddles in
-    let next = c.next_x_twiddles.new.twiddles in
     let long = ap length now.values ∙ length-values_in k o n in
-    let whole = take-whole twiddles.len next twiddles.items twiddles.ok.0 (c.next_x_twiddles.auto.twiddles ∙ ap length c.deref_mut-in-loop-round-2.ensures.value) in
-    let enough : n + 3 ≤ o.log_max_height = round-within k o c.requires.drawn n c.loop-round-test.true in
     record {
       values = written-twice values.len c.join-left.new.values c.fold_round.new.values values.items values.ok.0
           (ap length c.in_ok-fold_round.ensures.folded ∙ length-folds_in k o n ∙ sym long)
           (ap length c.join-left.ensures.values ∙ length-values_in k o (n + 1) ∙ sym long)
           ∙ c.join-left.ensures.values;
       left = c.join-left.ensures.left;
-      count = ap length whole ∙ c.next_x_twiddles.auto.twiddles ∙ ap length c.deref_mut-in-loop-round-2.ensures.value ∙ now.count;
-      twiddles = λ more. whole ∙ c.next_x_twiddles.ensures o.log_max_height enough c.requires.drawn.in_group c.requires.drawn.below (c.deref_mut-in-loop-round-2.ensures.value ∙ now.twiddles c.loop-round-test.true);
+      later = c.split_at.ensures.back ∙ (next-inverses k.field k.gen o.log_max_height o.indices.now n (length o.betas.now) c.loop-round-test.true now.later).2;
       shown = below_more _ _ now.shown c.in_ok-fold_round.ensures.shown;
     }
 

@@ -1,8 +1,7 @@
 use Rattle.std.proofs.Common.{◌≡◌, ℕ, ◌-◌, ◌<◌, length, map}
-use Rattle.circle_folding.specs.Chain.{round_twiddles}
 use Rattle.circle_relation.specs.Accepts.{Fields}
 use Rattle.circle_relation.specs.RunOf.{joining_of}
-use Rattle.circle_verifier.specs.Rounds.{values_in, words_below, HasRoundOf}
+use Rattle.circle_verifier.specs.Rounds.{inverses_from, values_in, words_below, HasRoundOf}
 use Rattle.circle_verifier.proofs.rounds.fold_rounds.Given as goal
 
 abbrev pub fields : (g : goal.Over) → Fields g.row.Val.Denot g.row.EF.Denot
@@ -12,7 +11,6 @@ abbrev pub invariant-loop-round : goal.invariant-loop-round
 invariant-loop-round g l = record {
   values : l.values.items ≡ values_in (fields g) l.run l.round;
   left : map joining_of l.left ≡ words_below (fields g) l.run (l.run.log_max_height - l.round);
-  count : length l.twiddles.items ≡ length l.run.indices.now;
-  twiddles : l.round < length l.run.betas.now → l.twiddles.items ≡ round_twiddles g.Val.Operations.ops g.Val.ComplexExtendable.generators l.run.log_max_height l.round l.run.indices.now;
+  later : l.later ≡ inverses_from g.Val.Operations.ops g.Val.ComplexExtendable.generators l.run.log_max_height l.run.indices.now l.round (length l.run.betas.now - l.round);
   shown : (n : ℕ) → n < l.round → HasRoundOf (fields g) l.run g.FriMmcs.Mmcs.authenticates n;
 }

@@ -11,7 +11,7 @@ use Rattle.circle_words.proofs.corrected.first_layer.Goals as goal
 pub loop-log_height-preserved : goal.loop-log_height-preserved
 loop-log_height-preserved g c =
     let k : Fields g.row.F.Denot g.row.EF.Denot = record { field = g.F.Operations.ops; gen = g.F.ComplexExtendable.generators; two_adicity = g.F.ComplexExtendable.CIRCLE_TWO_ADICITY; is_zero = λ w. g.F.PartialEq.eq w g.F.Field.ZERO; extension = g.EF.Operations.ops; embed = g.EF.ExtensionField.embed; same = g.EF.PartialEq.eq } in
-    let ms = map committed_of c.args.matrices.now in
+    let ms = map (committed_of k c.args.log_blowup) c.args.matrices.now in
     let heights = c.args.heights.now in
     let i = c.loop-log_height.log_height-index in
     let h = slice_index_or heights i 0 in

@@ -36,7 +36,7 @@ returns-clause-rows g c = λ alpha are.
     let is_word = lent ∙ c.in_ok-word.ensures.word alpha are in
     let kept : length new ≡ length word.items = c.extract_lambda.auto.lde ∙ ap length lent in
     let k : Fields g.row.F.Denot g.row.EF.Denot = record { field = g.F.Operations.ops; gen = g.F.ComplexExtendable.generators; two_adicity = g.F.ComplexExtendable.CIRCLE_TWO_ADICITY; is_zero = λ w. g.F.PartialEq.eq w g.F.Field.ZERO; extension = g.EF.Operations.ops; embed = g.EF.ExtensionField.embed; same = g.EF.PartialEq.eq } in
-    let ms = map committed_of c.args.matrices.now in
+    let ms = map (committed_of k B) c.args.matrices.now in
     let rest : new ≡ corrected_word k alpha ms B h =
     c.in_ok-lambda.ensures.remainder h (ap length lent ∙ c.in_ok-word.ensures.count)
     ∙ ap (λ x. remainder_of k.field k.gen k.extension k.embed B h x c.deref_mut.result.now) (returns-clause-lambda g c alpha are)

@@ -13,17 +13,20 @@ use Rattle.circle_domain.specs.Order.{natural_order}
 use Rattle.circle_domain.proofs.CosetOrder.{length-cfft_order}
 use Rattle.circle_matrix.proofs.Written.{length-pairwise, pairwise-read}
 use Rattle.circle_folding.specs.Queries.{IsApart, with_multiples, claim_quotients}
+use Rattle.circle_relation.specs.Accepts.{Fields}
 use Rattle.circle_relation.specs.Sums.{Adds}
 use Rattle.circle_relation.proofs.ReducedSums.{adds-both, adds-same, adds-claim}
 use Rattle.circle_point.specs.Projective.{from_line}
 use Rattle.circle_point.proofs.Projections.{line_norm-zero, from_line-on_circle}
 use Rattle.circle_relation.specs.Statement.{PointClaim}
+use Rattle.circle_words.specs.Lifts.{read_rows}
 use Rattle.circle_words.specs.Ratios.{points_of_height, vanishing_ratio, with_quotients}
 use Rattle.circle_words.specs.Words.{committed_of, claim_of}
 use Rattle.circle_words.specs.declared.ratios.PointRatios.{PointRatios}
 use Rattle.circle_words.proofs.Claims.{claims_among, among-more}
 use Rattle.circle_words.proofs.DomainPoints.{order-on, lifted-on}
 use Rattle.circle_words.proofs.Known.{right-of}
+use Rattle.circle_words.proofs.Lifts.{length-read, read-widths}
 use Rattle.circle_words.proofs.Prefix.{off-apart}
 use Rattle.circle_words.proofs.Quotients.{fast-quotients}
 use Rattle.circle_words.proofs.reduced.add_matrix.Goals as goal
@@ -50,13 +53,17 @@ add_quotients-requires-clause-ratios g c =
 
 pub add_quotients-requires-clause-combined : goal.add_quotients-requires-clause-combined
 add_quotients-requires-clause-combined g c =
+    let fields : Fields g.row.F.Denot g.row.EF.Denot = record { field = g.F.Operations.ops; gen = g.F.ComplexExtendable.generators; two_adicity = g.F.ComplexExtendable.CIRCLE_TWO_ADICITY; is_zero = λ w. g.F.PartialEq.eq w g.F.Field.ZERO; extension = g.EF.Operations.ops; embed = g.EF.ExtensionField.embed; same = g.EF.PartialEq.eq } in
+    let h = c.args.matrix.now.log_height in
     let m = c.args.matrix.now.rows.now in
     ap length (c.deref-in-loop-i.ensures.value ∙ c.in_ok-combined.ensures)
-    ∙ length-map (rows m) (λ row. dot g.EF.Operations.ops c.args.powers.now (map g.EF.ExtensionField.embed row))
-    ∙ length-rows m ∙ c.requires.openable.rows ∙ sym (c.loop-i.invariant.counted ∙ c.requires.size)
+    ∙ length-map (read_rows fields c.args.log_blowup h (width_of m) (rows m)) (λ row. dot fields.extension c.args.powers.now (map fields.embed row))
+    ∙ length-read fields g.F.Operations.laws g.met.F.ComplexExtendable.generators_law c.args.log_blowup h (width_of m) c.requires.openable.positive (rows m) (length-rows m ∙ c.requires.openable.rows)
+    ∙ sym (c.loop-i.invariant.counted ∙ c.requires.size)
 
 pub loop-i-preserved : goal.loop-i-preserved
 loop-i-preserved g c =
+    let fields : Fields g.row.F.Denot g.row.EF.Denot = record { field = g.F.Operations.ops; gen = g.F.ComplexExtendable.generators; two_adicity = g.F.ComplexExtendable.CIRCLE_TWO_ADICITY; is_zero = λ w. g.F.PartialEq.eq w g.F.Field.ZERO; extension = g.EF.Operations.ops; embed = g.EF.ExtensionField.embed; same = g.EF.PartialEq.eq } in
     let l = g.EF.Operations.ops in
     let k = g.F.Operations.ops in
     let embed = g.EF.ExtensionField.embed in
@@ -65,7 +72,8 @@ loop-i-preserved g c =
     let m = matrix.rows.now in
     let h = matrix.log_height in
     let points = points_of_height k gen h in
-    let ms = committed_of matrix in
+    let ms = committed_of fields c.args.log_blowup matrix in
+    let all = read_rows fields c.args.log_blowup h (width_of m) (rows m) in
     let i = c.loop-i.i in
     let t = c.point-item.result in
     let vs = c.index-matrix-i.result in
@@ -103,8 +111,11 @@ loop-i-preserved g c =
     let counted : length old ≡ length c.args.sums.now = c.loop-i.invariant.counted in
     let of_points : length points ≡ length old =
     length-cfft_order g.F.Operations.laws.ring g.met.F.ComplexExtendable.generators_law h (gen (h + 1)) c.requires.openable.positive ∙ sym (counted ∙ c.requires.size) in
-    let of_rows : length (rows m) ≡ length old = length-rows m ∙ c.requires.openable.rows ∙ sym (counted ∙ c.requires.size) in
-    let widths : All (λ row. length row ≡ length values) (rows m) = λ j d lt. rows-width m j d lt ∙ sym wide in
+    let of_rows : length all ≡ length old =
+    length-read fields g.F.Operations.laws g.met.F.ComplexExtendable.generators_law c.args.log_blowup h (width_of m) c.requires.openable.positive (rows m) (length-rows m ∙ c.requires.openable.rows)
+    ∙ sym (counted ∙ c.requires.size) in
+    let widths : All (λ row. length row ≡ length values) all = λ j d lt.
+    read-widths fields g.F.Operations.laws g.met.F.ComplexExtendable.generators_law c.args.log_blowup h (width_of m) c.requires.openable.positive (rows m) (rows-width m) j d lt ∙ sym wide in
     record {
       counted = omega (arith, counted, c.add_quotients.auto.sums);
       adds = λ alpha are.
@@ -112,29 +123,30 @@ loop-i-preserved g c =
           c.index-powers-len.is ∙ ap (λ ws. slice_index_or ws c.len.result power) are
           ∙ get_or-map-range_with_len (nth_power l alpha) 0 (length c.args.powers.now) c.len.result (length values) power (omega (arith, long, enough)) (omega (arith, long)) in
           let is_claimed : c.combined_values-claimed.result ≡ dot l c.args.powers.now values = c.combined_values-claimed.ensures ∙ ap (dot l c.args.powers.now) (c.deref.ensures.value ∙ ap (λ v. v.items) read_v) in
-          let made : new ≡ with_multiples l c.loop-i.after old (claim_quotients l embed alpha points z (rows m) values) =
+          let made : new ≡ with_multiples l c.loop-i.after old (claim_quotients l embed alpha points z all values) =
           c.add_quotients.ensures
           ∙ ap (λ top. with_quotients l half top c.combined_values-claimed.result ratios c.deref-in-loop-i.result.now old) (g.met.EF.Field.mul_law _ _ _ c.mul.ensures)
           ∙ ap (λ rs. with_quotients l half (l.mul half power) c.combined_values-claimed.result rs c.deref-in-loop-i.result.now old) right
           ∙ ap (λ cs. with_quotients l half (l.mul half power) c.combined_values-claimed.result (map (vanishing_ratio l embed z) points) cs old) (c.deref-in-loop-i.ensures.value ∙ c.in_ok-combined.ensures)
           ∙ fast-quotients g.EF.Operations.laws g.EF.PartialEq.eq g.met.EF.Field.eq_law embed alpha c.loop-i.after half power c.combined_values-claimed.result c.args.powers.now z values
-          c.halve-half.ensures are is_power is_claimed (omega (arith, enough)) hz points (rows m) old on apart widths in
-          let step : Adds l embed alpha points (origin k) (λ j. (claim, slice_index_or (rows m) j []) ∷ []) c.loop-i.after (l.mul (l.mul c.loop-i.after power) power) old new =
-          adds-claim g.EF.Operations.laws.ring embed alpha points (origin k) claim z (rows m) c.loop-i.after power old new refl is_power of_points of_rows made in
-          let more = adds-both l embed alpha points (origin k) (claims_among ms (take i ms.claims)) (λ j. (claim, slice_index_or (rows m) j []) ∷ []) c.args.offset c.loop-i.after (l.mul (l.mul c.loop-i.after power) power)
+          c.halve-half.ensures are is_power is_claimed (omega (arith, enough)) hz points all old on apart widths in
+          let step : Adds l embed alpha points (origin k) (λ j. (claim, slice_index_or all j []) ∷ []) c.loop-i.after (l.mul (l.mul c.loop-i.after power) power) old new =
+          adds-claim g.EF.Operations.laws.ring embed alpha points (origin k) claim z all c.loop-i.after power old new refl is_power of_points of_rows made in
+          let more = adds-both l embed alpha points (origin k) (claims_among ms (take i ms.claims)) (λ j. (claim, slice_index_or all j []) ∷ []) c.args.offset c.loop-i.after (l.mul (l.mul c.loop-i.after power) power)
           c.args.sums.now old new (c.loop-i.invariant.adds alpha are) step in
           let after : c.mul-after.result ≡ l.mul (l.mul c.loop-i.after power) power =
           g.met.EF.Field.mul_law _ _ _ c.mul-after.ensures ∙ ap (λ o. l.mul o power) (g.met.EF.Field.mul_law _ _ _ c.mul-in-loop-i.ensures) in
           subst (λ o. Adds l embed alpha points (origin k) (claims_among ms (take (i + 1) ms.claims)) c.args.offset o c.args.sums.now new) (sym after)
-          (adds-same l embed alpha points (origin k) (λ j. claims_among ms (take i ms.claims) j ++ (claim, slice_index_or (rows m) j []) ∷ []) (claims_among ms (take (i + 1) ms.claims)) c.args.offset
+          (adds-same l embed alpha points (origin k) (λ j. claims_among ms (take i ms.claims) j ++ (claim, slice_index_or all j []) ∷ []) (claims_among ms (take (i + 1) ms.claims)) c.args.offset
           (l.mul (l.mul c.loop-i.after power) power) c.args.sums.now new more (λ j lt. among-more ms i claim j inside claimed));
     }
 
 pub returns : goal.returns
 returns g c =
+    let fields : Fields g.row.F.Denot g.row.EF.Denot = record { field = g.F.Operations.ops; gen = g.F.ComplexExtendable.generators; two_adicity = g.F.ComplexExtendable.CIRCLE_TWO_ADICITY; is_zero = λ w. g.F.PartialEq.eq w g.F.Field.ZERO; extension = g.EF.Operations.ops; embed = g.EF.ExtensionField.embed; same = g.EF.PartialEq.eq } in
     let l = g.EF.Operations.ops in
     let matrix = c.args.matrix.now in
-    let ms = committed_of matrix in
+    let ms = committed_of fields c.args.log_blowup matrix in
     let points = points_of_height g.F.Operations.ops g.F.ComplexExtendable.generators matrix.log_height in
     let whole : take c.loop-i.i ms.claims ≡ ms.claims =
     take_all c.loop-i.i ms.claims (omega (arith, c.loop-i-test.false, length-pairwise (λ t v. claim_of t v.items) matrix.points.now matrix.values.now (sym c.requires.openable.valued))) in

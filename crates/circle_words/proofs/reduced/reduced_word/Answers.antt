@@ -6,6 +6,7 @@ use Rattle.std.proofs.lemmas.List.FromFn.{get_or-map-range_with_len, length-map-
 use Rattle.circle_field.specs.Circle.{origin}
 use Rattle.circle_field.proofs.Inverses.{take-whole}
 use Rattle.circle_domain.proofs.Powers.{pow_within}
+use Rattle.circle_relation.specs.Accepts.{Fields}
 use Rattle.circle_relation.specs.Sums.{reduced, Adds}
 use Rattle.circle_relation.proofs.ReducedSums.{adds-both, adds-same, adds-all}
 use Rattle.circle_words.specs.Ratios.{points_of_height}
@@ -25,19 +26,21 @@ add_matrix-requires-clause-known g c =
 
 pub loop-matrix-preserved : goal.loop-matrix-preserved
 loop-matrix-preserved g c =
+    let fields : Fields g.row.F.Denot g.row.EF.Denot = record { field = g.F.Operations.ops; gen = g.F.ComplexExtendable.generators; two_adicity = g.F.ComplexExtendable.CIRCLE_TWO_ADICITY; is_zero = λ w. g.F.PartialEq.eq w g.F.Field.ZERO; extension = g.EF.Operations.ops; embed = g.EF.ExtensionField.embed; same = g.EF.PartialEq.eq } in
+    let committed = committed_of fields c.args.log_blowup in
     let l = g.EF.Operations.ops in
     let k = g.F.Operations.ops in
     let embed = g.EF.ExtensionField.embed in
     let h = c.args.log_height in
     let points = points_of_height k g.F.ComplexExtendable.generators h in
-    let ms = map committed_of c.args.matrices.now in
+    let ms = map committed c.args.matrices.now in
     let i = c.loop-matrix.matrix-index in
     let one = c.matrix-item.result in
-    let m = committed_of one in
+    let m = committed one in
     let old = c.loop-matrix.word in
     let begun = c.in_ok-word.word.items in
-    let inside : i < length ms = omega (arith, c.loop-matrix-test.true, length-map c.args.matrices.now committed_of) in
-    let is : slice_index_or ms i m ≡ m = get_or-map committed_of c.args.matrices.now i one m c.loop-matrix-test.true ∙ ap committed_of (sym c.matrix-item.is) in
+    let inside : i < length ms = omega (arith, c.loop-matrix-test.true, length-map c.args.matrices.now committed) in
+    let is : slice_index_or ms i m ≡ m = get_or-map committed c.args.matrices.now i one m c.loop-matrix-test.true ∙ ap committed (sym c.matrix-item.is) in
     elim c.if-matrix-log_height.branch [
       | then-matrix-log_height+in_ok-offset w ↦
           let new = w.add_matrix.new.sums in
@@ -71,12 +74,14 @@ loop-matrix-preserved g c =
 
 pub returns-clause-word : goal.returns-clause-word
 returns-clause-word g c =
+    let fields : Fields g.row.F.Denot g.row.EF.Denot = record { field = g.F.Operations.ops; gen = g.F.ComplexExtendable.generators; two_adicity = g.F.ComplexExtendable.CIRCLE_TWO_ADICITY; is_zero = λ w. g.F.PartialEq.eq w g.F.Field.ZERO; extension = g.EF.Operations.ops; embed = g.EF.ExtensionField.embed; same = g.EF.PartialEq.eq } in
+    let committed = committed_of fields c.args.log_blowup in
     let l = g.EF.Operations.ops in
     let k = g.F.Operations.ops in
     let embed = g.EF.ExtensionField.embed in
     let h = c.args.log_height in
     let points = points_of_height k g.F.ComplexExtendable.generators h in
-    let ms = map committed_of c.args.matrices.now in
+    let ms = map committed c.args.matrices.now in
     let begun = c.in_ok-word.word.items in
     let small : 2 ^ h ≤ 2 ^ 62 = pow_within h 62 (omega (arith, c.requires.in_group, g.met.F.ComplexExtendable.at_most_62)) in
     let zeros : begun ≡ replicate (2 ^ h) c.ZERO.result = c.in_ok-word.ensures.items_if_clones_equal (λ y same. g.met.EF.Field.clone_law _ _ same) ∙ ap (λ n. replicate n c.ZERO.result) (omega (arith, small)) in
@@ -84,7 +89,7 @@ returns-clause-word g c =
     let f = λ (j : ℕ). reduced l embed alpha 0 (slice_index_or points j (origin k)) (claims_at h ms j) in
     let adds : Adds l embed alpha points (origin k) (claims_at h ms) l.one c.loop-matrix.offset begun c.loop-matrix.word.items =
     subst (λ cs. Adds l embed alpha points (origin k) (claims_at h cs) l.one c.loop-matrix.offset begun c.loop-matrix.word.items)
-    (take_all c.loop-matrix.matrix-index ms (omega (arith, c.loop-matrix-test.false, length-map c.args.matrices.now committed_of))) (c.loop-matrix.invariant.adds alpha are) in
+    (take_all c.loop-matrix.matrix-index ms (omega (arith, c.loop-matrix-test.false, length-map c.args.matrices.now committed))) (c.loop-matrix.invariant.adds alpha are) in
     let counted : length begun ≡ 2 ^ h = ap length zeros ∙ length-replicate (2 ^ h) c.ZERO.result in
     ext_get_or l.zero c.loop-matrix.word.items (map f (range_with_len 0 (2 ^ h))) (c.loop-matrix.invariant.counted ∙ sym (length-map-range_with_len f 0 (2 ^ h)))
     (λ j lt.

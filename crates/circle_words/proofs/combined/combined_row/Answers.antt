@@ -2,7 +2,7 @@ use Rattle.std.proofs.Common.{◌≡◌, ◌<◌, ◌∙◌, sym, ap, length, ma
 use Rattle.std.proofs.lemmas.List.{length-map, get_or-map}
 use Rattle.circle_matrix.proofs.ColumnSums.{dot-more}
 use Rattle.circle_folding.proofs.Weighted.{dot-take}
-use Rattle.circle_words.proofs.reduced.combined_row.Goals as goal
+use Rattle.circle_words.proofs.combined.combined_row.Goals as goal
 
 pub loop-j-preserved : goal.loop-j-preserved
 loop-j-preserved g c =

@@ -1,0 +1,73 @@
+use Rattle.std.proofs.Common.{◌≡◌, ◌≢◌, ◌≤◌, ◌++◌, ◌∙◌, refl, sym, ap, subst, length, map, take, arith}
+use Rattle.std.specs.Prelude.{All, IfOk}
+use Rattle.std.specs.List.{flat_map}
+use Rattle.std.proofs.lemmas.List.{take_all}
+use Rattle.std.proofs.lemmas.List.Elements.{All-append}
+use Rattle.circle_point.specs.Point.{coordinates}
+use Rattle.circle_folding.proofs.FirstLayer.{first_layer_twiddles-nonzero}
+use Rattle.circle_relation.specs.RunOf.{heights_of}
+use Rattle.circle_verifier.specs.FirstLayer.{twiddles_of}
+use Rattle.circle_verifier.proofs.FirstLayerRun.{all_reduced, word-of, all-heights, height-within, height-large, points-of}
+use Rattle.circle_verifier.proofs.Twiddles.{heights-more}
+use Rattle.circle_verifier.proofs.first_layer.inverse_first_twiddles.Invariants.{fields}
+use Rattle.circle_verifier.proofs.first_layer.inverse_first_twiddles.Goals as goal
+
+pub first_layer_twiddles-requires-clause-positive : goal.first_layer_twiddles-requires-clause-positive
+first_layer_twiddles-requires-clause-positive g c =
+    let reduced = all_reduced c.requires.drawn c.requires.opened c.args.words.now c.requires.words in
+    let word = word-of reduced c.loop-word.word-index c.word-item.result c.loop-word-test.true c.word-item.is in
+    omega (arith, height-large word.0)
+
+pub first_layer_twiddles-requires-clause-within : goal.first_layer_twiddles-requires-clause-within
+first_layer_twiddles-requires-clause-within g c =
+    let reduced = all_reduced c.requires.drawn c.requires.opened c.args.words.now c.requires.words in
+    let word = word-of reduced c.loop-word.word-index c.word-item.result c.loop-word-test.true c.word-item.is in
+    height-within word.0
+
+pub first_layer_twiddles-requires-clause-in_group : goal.first_layer_twiddles-requires-clause-in_group
+first_layer_twiddles-requires-clause-in_group g c =
+    let reduced = all_reduced c.requires.drawn c.requires.opened c.args.words.now c.requires.words in
+    let word = word-of reduced c.loop-word.word-index c.word-item.result c.loop-word-test.true c.word-item.is in
+    omega (arith, height-within word.0, c.requires.drawn.in_group)
+
+pub first_layer_twiddles-requires-clause-points : goal.first_layer_twiddles-requires-clause-points
+first_layer_twiddles-requires-clause-points g c =
+    let reduced = all_reduced c.requires.drawn c.requires.opened c.args.words.now c.requires.words in
+    let word = word-of reduced c.loop-word.word-index c.word-item.result c.loop-word-test.true c.word-item.is in
+    points-of word.0 (map coordinates c.deref.result.now) (ap (map coordinates) c.deref.ensures.value ∙ ap (λ p. p.1.0) word.1)
+
+pub loop-word-preserved : goal.loop-word-preserved
+loop-word-preserved g c =
+    let reduced = all_reduced c.requires.drawn c.requires.opened c.args.words.now c.requires.words in
+    let word = word-of reduced c.loop-word.word-index c.word-item.result c.loop-word-test.true c.word-item.is in
+    let k = fields g in
+    let run = c.args.run.now in
+    let i = c.loop-word.word-index in
+    let h = c.word-item.result.log_height in
+    let now = c.loop-word.invariant in
+    let added = c.deref-in-loop-word.result.now in
+    let read = c.deref-in-loop-word.ensures.value ∙ c.in_ok-of_word.ensures in
+    let longer = c.in_ok-extend_from_slice.ensures.items in
+    let within = height-within word.0 in
+    let others =
+    subst (All (λ t. t ≢ g.Val.Operations.ops.zero)) (sym read)
+    (first_layer_twiddles-nonzero g.Val.Operations.laws g.met.Val.ComplexExtendable.generators_law h run.log_max_height run.indices.now
+    (omega (arith, height-large word.0)) within (omega (arith, within, c.requires.drawn.in_group)) c.requires.drawn.below) in
+    record {
+      twiddles =
+          longer ∙ ap (λ xs. xs ++ added) now.twiddles ∙ ap (λ xs. flat_map (twiddles_of k run) (take i (heights_of k run)) ++ xs) read
+          ∙ heights-more (twiddles_of k run) (heights_of k run) i h word.0.at;
+      nonzero =
+          subst (All (λ t. t ≢ g.Val.Operations.ops.zero)) (sym longer)
+          (All-append (λ t. t ≢ g.Val.Operations.ops.zero) c.loop-word.twiddles.items added now.nonzero others);
+    }
+
+pub returns : goal.returns
+returns g c =
+    let k = fields g in
+    let run = c.args.run.now in
+    let i = c.loop-word.word-index in
+    let reduced = all_reduced c.requires.drawn c.requires.opened c.args.words.now c.requires.words in
+    let all : length (heights_of k run) ≤ i = omega (arith, all-heights reduced (length c.args.words.now) refl, c.loop-word-test.false) in
+    let are = c.deref-2.ensures.value ∙ c.loop-word.invariant.twiddles ∙ ap (flat_map (twiddles_of k run)) (take_all i (heights_of k run) all) in
+    subst (λ xs. IfOk c.batch_multiplicative_inverse.result (λ r. r.items ≡ map k.field.inv xs)) are c.batch_multiplicative_inverse.ensures
