@@ -197,7 +197,28 @@ pub(crate) fn folded(
     Ok(folded)
 }
 
-/// For each query, of each word, the entry beside the one that the query falls on.
+// Of each word the entry beside the one that a query falls on.
+fn siblings_at(
+    rt: &impl Abort,
+    alloc: Global,
+    words: &[Vec<Cubic>],
+    top: usize,
+    index: usize,
+) -> Result<Vec<Cubic>, AllocError> {
+    assert!(rt; top <= 12);
+    let mut siblings = Vec::new(alloc);
+    for word in words {
+        assert!(rt; word.len() >= 1);
+        let log_len = word.len().ilog2() as usize;
+        assert!(rt; log_len <= top);
+        let place = (index >> (top - log_len)) ^ 1;
+        assert!(rt; place < word.len());
+        siblings.push(word[place])?;
+    }
+    Ok(siblings)
+}
+
+/// Those of all queries.
 pub(crate) fn siblings(
     rt: &impl Abort,
     alloc: Global,
@@ -205,19 +226,9 @@ pub(crate) fn siblings(
     top: usize,
     indices: &[usize],
 ) -> Result<Vec<Vec<Cubic>>, AllocError> {
-    assert!(rt; top <= 12);
     let mut siblings = Vec::new(alloc);
     for index in indices {
-        let mut of_query = Vec::new(alloc);
-        for word in words {
-            assert!(rt; word.len() >= 1);
-            let log_len = word.len().ilog2() as usize;
-            assert!(rt; log_len <= top);
-            let place = (*index >> (top - log_len)) ^ 1;
-            assert!(rt; place < word.len());
-            of_query.push(word[place])?;
-        }
-        siblings.push(of_query)?;
+        siblings.push(siblings_at(rt, alloc, words, top, *index)?)?;
     }
     Ok(siblings)
 }

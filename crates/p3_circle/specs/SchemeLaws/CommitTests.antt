@@ -48,7 +48,7 @@ module _ {X E : Type 0} (tests : X → List (Test E)) where
       let both = both-pass (answer (tests x) (tt {0})) (answer (flat_map tests xs) (tt {0})) (sym (answer-append (tests x) (flat_map tests xs) (tt {0})) ∙ passed) in
       All-cons (λ y. answer (tests y) (tt {0}) ≡ Ok (tt {0})) x xs both.0 (each-passes xs both.1)
 
-pow_below : (h m : ℕ) → h < m → 2 ^ h < 2 ^ m
+pub pow_below : (h m : ℕ) → h < m → 2 ^ h < 2 ^ m
 pow_below h m lt = let next : 2 ^ suc h ≤ 2 ^ m = pow_within (suc h) m lt in omega (arith, next, pow-suc 2 h, pow_pos h)
 
 -- a power of two below another has the smaller logarithm
