@@ -1,4 +1,5 @@
-use Rattle.std.proofs.Common.{rules, ◌≡◌, ◌+◌, ◌-◌, ◌^◌, ◌≤◌, ◌∙◌, [], sym, ap, subst, length, map, arith, get_or, All}
+use Rattle.std.proofs.Common.{rules, ◌≡◌, ◌+◌, ◌-◌, ◌^◌, ◌<◌, ◌≤◌, ◌∙◌, [], sym, ap, subst, length, map, arith, get_or, All}
+use Rattle.std.proofs.lemmas.List.{length-map}
 use Rattle.std.proofs.lemmas.List.Elements.{All-map}
 use Rattle.circle_field.specs.Circle.{Coordinates, times}
 use Rattle.circle_point.specs.Point.{coordinates}
@@ -19,7 +20,8 @@ eval_at_point-requires g c = λ i lt two.
     let columns = c.args.columns.now in
     let all = map (λ column. column.items) columns in
     let fours : All (λ column. length column.items ≡ 4) columns = search rules in
-    let four : length (get_or all i []) ≡ 4 = All-map (λ column. length column ≡ 4) (λ column. column.items) columns fours i [] lt in
+    let within : i < length all = omega (arith, lt, length-map columns (λ column. column.items)) in
+    let four : length (get_or all i []) ≡ 4 = All-map (λ column. length column ≡ 4) (λ column. column.items) columns fours i [] within in
     let size : log_size c.standard-2.result ≡ 4 = c.standard-2.ensures.size in
     let room : 5 ≤ g.F.ComplexExtendable.CIRCLE_TWO_ADICITY = search rules in
     let finite : IsFinite l c.args.t = search rules in
