@@ -270,7 +270,7 @@ enum Asked {
 fn main(rt: HostRuntime) -> io::Result<ExitCode> {
     let start = Mersenne31::from_u64(123456789);
     let step = Mersenne31::from_u64(987654321);
-    match asked(&rt)? {
+    match asked_for(&rt)? {
         Some(Asked::Cases(mode)) => report_cases(&rt, mode, start, step)?,
         Some(Asked::Growth) => report_growth(&rt, start, step)?,
         None => {
@@ -319,7 +319,7 @@ fn report_cases(
 }
 
 /// What the arguments ask for, or `None` where they ask for nothing that there is.
-fn asked(rt: &HostRuntime) -> io::Result<Option<Asked>> {
+fn asked_for(rt: &HostRuntime) -> io::Result<Option<Asked>> {
     let mut args = env::args(rt)?.skip(1);
     let Some(word) = args.next() else {
         return Ok(Some(Asked::Cases(Mode::Digests)));
