@@ -1,5 +1,5 @@
 -- What is told of a text that stands for an input, or for none.
-use Rattle.std.proofs.Common.{◌≡◌, ℕ, ◌⊎◌, List, None, Result, Ok, Err, MatchResult, IfErr, IsErrAnd, IsUtf8, refl, ap, sym, subst, ◌∙◌, inl, inr, ⊎_elim, arith}
+use Rattle.std.proofs.Common.{◌≡◌, ℕ, ◌⊎◌, ◌≤◌, List, None, Result, Ok, Err, MatchResult, IfOk, IfErr, OnOk, IsErrAnd, IsUtf8, refl, ap, sym, subst, ◌∙◌, inl, inr, ⊎_elim, arith}
 use Rattle.circle_json.specs.Form.{Form}
 use Rattle.circle_json.specs.declared.error.JsonError.{JsonError}
 use Rattle.circle_json.specs.declared.error.JsonError.TheVariants.{Memory as NoMemory, MissingKey, UnknownKey, WrongKind, OutOfRange, BadHex}
@@ -11,8 +11,8 @@ use Rattle.serde_json.specs.declared.error.Code.TheVariants.{Invalid, NumberOutO
 use Rattle.serde_json.specs.declared.error.Error.{Error}
 use Rattle.circle_commands.specs.Failure.{IsFailureOfJson, IsFailureOfText, status_of}
 use Rattle.circle_commands.specs.declared.failure.Failure.{Failure}
-use Rattle.circle_commands.specs.declared.failure.Failure.TheVariants.{Memory}
-use Rattle.circle_c.specs.Text.{IsJsonOf, IsNoJson, StandsForNone}
+use Rattle.circle_commands.specs.declared.failure.Failure.TheVariants.{Usage, Input, Json, Unfit, Refused, Memory}
+use Rattle.circle_c.specs.Text.{IsJsonOf, IsNoJson, IsTextOf, Refuses, StandsForNone}
 
 -- what the error of a `?` is made into
 pub failed : {A E : Type 0} (r : Result A E) (Made P : E → Type 0) → IsErrAnd r Made → ((e : E) → Made e → P e) → IfErr r P
@@ -75,3 +75,34 @@ pub unreadable_line : {T B : Type 0} (V : T → Type 0) (answer : Result T Failu
     → IfErr answer (λ failure. status_of failure ≡ 2 → B) → status ≡ 2 → B
 unreadable_line V (Ok line) status told h e = let a = told.0 in absurd (omega arith)
 unreadable_line V (Err failure) status told h e = h (sym told ∙ e)
+
+-- memory that is refused has another status
+pub of_memory : {B : Type 0} (failure : Failure) → failure ≡ Memory → status_of failure ≡ 2 → B
+of_memory failure m e = let a = ap status_of m in absurd (omega arith)
+
+-- a failure's status isn't 0
+fails : (failure : Failure) → 1 ≤ status_of failure
+fails Usage = omega arith
+fails Input = omega arith
+fails Json = omega arith
+fails (Unfit error) = omega arith
+fails (Refused refusal) = omega arith
+fails Memory = omega arith
+
+-- status 0 tells what an accepted verdict does
+pub accepted : {T A : Type 0} (V : Type 0) (W : Failure → Type 0) (verdict : Result T Failure) (status : ℕ) → MatchResult verdict (λ _. (status ≡ 0) × V) (λ failure. (status ≡ status_of failure) × W failure)
+    → OnOk verdict A → status ≡ 0 → A
+accepted V W (Ok _) status told h e = h
+accepted V W (Err failure) status told h e = let a = told.0 in let b = fails failure in absurd (omega arith)
+
+-- and of a line that it was written
+pub written_line : {T : Type 0} (P V : T → Type 0) (answer : Result T Failure) (status : ℕ) → MatchResult answer (λ line. (status ≡ 0) × V line) (λ failure. status ≡ status_of failure)
+    → IfOk answer P → status ≡ 0 → (line : T) × (P line × V line)
+written_line P V (Ok line) status told h e = (line, (h, told.1))
+written_line P V (Err failure) status told h e = let b = fails failure in absurd (omega arith)
+
+-- a verdict of an input that a text stands for
+pub of_input : {Given V T : Type 0} (form : Form Given) (text : List ℕ) (Is : Given → Type 0) (given : Given) (verdict : Result T Failure) → IsTextOf form text given → (Is given → V)
+    → IfErr verdict (λ failure. (failure ≡ Memory) ⊎ ((status_of failure ≡ 1) × (¬ V))) → IfErr verdict (Refuses form Is text)
+of_input form text Is given (Ok _) reads then h = tt
+of_input form text Is given (Err failure) reads then h = ⊎_elim (λ m. inl m) (λ n. inr (inl (n.0, (given, (reads, λ it. n.1 (then it)))))) h
