@@ -1,0 +1,84 @@
+/*
+ * Circle STARK commitments, proved: the commands of the program circle_tool, called from C.
+ *
+ * Link libcircle_c.a and then the kit's liblibc_c.a, or libcircle.so, which holds both.
+ *
+ * Each call judges one JSON text, which is lent for the call, in UTF-8 and without an end mark.
+ * It answers the program's status:
+ *
+ *   0  there is a result
+ *   1  the input is refused, for memory too
+ *   2  the text can't be read as an input of the command
+ *
+ * and the line that the program writes, with its newline at the end and no zero byte after it. The
+ * line's length is written to *needed whatever it is. Where it is at most line_len, the line is
+ * written to line[0] up to line[*needed - 1]; else nothing is written to line. docs/PROGRAM.md has
+ * the inputs and the lines. CIRCLE_LINE_LEN bytes hold each line of circle_verify,
+ * circle_verify_with and every refusal.
+ *
+ * A call keeps nothing: the same text gets the same answer, where memory suffices. It may be made
+ * from any thread, and from several at once, each with a line and a needed of its own.
+ *
+ * What the caller owes, which nothing tests:
+ *
+ * - No pointer is null, also where the length beside it is 0. text points to text_len bytes that
+ *   nobody writes while the call runs, line to line_len bytes and needed to one size_t that nobody
+ *   else reads or writes then; these three don't overlap. The bytes of line need no value before.
+ * - malloc, realloc and free come from one allocator, which aligns a block to each power of two up
+ *   to 16 that divides its size, as that of a C library does.
+ * - The calling thread has enough stack: 1 MiB does.
+ * - No call is made from a signal handler, nor in the forked child of a process with threads.
+ */
+#ifndef CIRCLE_H
+#define CIRCLE_H
+
+#include <stddef.h>
+#include <stdint.h>
+
+#ifdef __cplusplus
+extern "C" {
+#endif
+
+/* A line of this many bytes holds what circle_verify and circle_verify_with write, and refusals. */
+#define CIRCLE_LINE_LEN 64
+
+/* The parameters of proofs, as docs/PROGRAM.md has them in "params". */
+typedef struct circle_params {
+    size_t batch_pow_bits;
+    size_t commit_pow_bits;
+    size_t log_blowup;
+    size_t log_final_poly_len;
+    size_t max_log_arity;
+    size_t num_queries;
+    size_t query_pow_bits;
+} circle_params;
+
+/* The values of polynomials on a domain: {"rows":..}. */
+uint8_t circle_values(const uint8_t *text, size_t text_len, uint8_t *line, size_t line_len,
+                      size_t *needed);
+
+/* Claims with their proof, which circle_verify takes. Where the line doesn't fit, a call with a
+ * longer one proves anew. */
+uint8_t circle_prove(const uint8_t *text, size_t text_len, uint8_t *line, size_t line_len,
+                     size_t *needed);
+
+/* Status 0, {"verified":true}, exactly where the text's proof is accepted, memory aside. Parameters
+ * and claims are read from the text too: see circle_verify_with and docs/SECURITY.md. */
+uint8_t circle_verify(const uint8_t *text, size_t text_len, uint8_t *line, size_t line_len,
+                      size_t *needed);
+
+/* The shape of claims: how they are grouped, and what the transcript is seeded with. */
+uint8_t circle_shape(const uint8_t *text, size_t text_len, uint8_t *line, size_t line_len,
+                     size_t *needed);
+
+/* As circle_verify where the text's parameters are *params, each of the seven; else status 1 and
+ * {"refused":"ParametersDiffer"}, which is found after faults of the JSON and before the command's
+ * own refusals. params points to a circle_params that nobody writes while the call runs. */
+uint8_t circle_verify_with(const uint8_t *text, size_t text_len, const circle_params *params,
+                           uint8_t *line, size_t line_len, size_t *needed);
+
+#ifdef __cplusplus
+}
+#endif
+
+#endif

@@ -1,0 +1,283 @@
+/* What checks/bindings_c runs: calls of the library, by which circle.h is tested.
+ *
+ *   tests judge COMMAND                judges standard input, with lines of several lengths
+ *   tests with N N N N N N N           the same by circle_verify_with and these parameters
+ *   tests once COMMAND                 judges it by one call, and takes no memory beside
+ *   tests threads (COMMAND FILE)..     judges the files in eight threads at once
+ *   tests time COMMAND FILE N          prints how many nanoseconds each of N calls took
+ *
+ * `judge`, `with` and `once` print the line and end with the status. Where a call breaks what
+ * circle.h says, standard error says so and the status is 9.
+ */
+#define _POSIX_C_SOURCE 200809L
+
+#include "circle.h"
+
+#include <fcntl.h>
+#include <pthread.h>
+#include <stdio.h>
+#include <stdlib.h>
+#include <string.h>
+#include <time.h>
+#include <unistd.h>
+
+#define THREADS 8
+#define ROUNDS 6
+#define GUARD 16
+#define MARK 0xa5
+#define MOST ((size_t)16 << 20)
+
+typedef struct bytes {
+    uint8_t *at;
+    size_t len;
+} bytes;
+
+/* A text and what is made of it. */
+typedef struct task {
+    const char *command;
+    bytes text;
+    bytes line;
+    uint8_t status;
+} task;
+
+typedef struct work {
+    const task *tasks;
+    size_t count;
+    size_t first;
+    const char *fault;
+} work;
+
+static const circle_params *params;
+
+static void fail(const char *why) {
+    fprintf(stderr, "%s\n", why);
+    exit(9);
+}
+
+static void *room(size_t len) {
+    void *at = malloc(len == 0 ? 1 : len);
+    if (at == NULL) {
+        fail("no memory for the test itself");
+    }
+    return at;
+}
+
+static uint8_t call(const char *command, bytes text, bytes line, size_t *needed) {
+    if (strcmp(command, "values") == 0) {
+        return circle_values(text.at, text.len, line.at, line.len, needed);
+    }
+    if (strcmp(command, "prove") == 0) {
+        return circle_prove(text.at, text.len, line.at, line.len, needed);
+    }
+    if (strcmp(command, "shape") == 0) {
+        return circle_shape(text.at, text.len, line.at, line.len, needed);
+    }
+    if (strcmp(command, "verify") == 0) {
+        return circle_verify(text.at, text.len, line.at, line.len, needed);
+    }
+    if (strcmp(command, "with") == 0) {
+        return circle_verify_with(text.at, text.len, params, line.at, line.len, needed);
+    }
+    fail("no such command");
+    return 9;
+}
+
+/* Reads to the end, into a block of just as many bytes, so that a byte more is seen by valgrind. */
+static bytes read_all(int file) {
+    bytes read_in = {room(MOST), 0};
+    size_t most = MOST;
+    ssize_t now;
+    while ((now = read(file, read_in.at + read_in.len, most - read_in.len)) > 0) {
+        read_in.len += (size_t)now;
+        if (read_in.len == most) {
+            most *= 2;
+            read_in.at = realloc(read_in.at, most);
+            if (read_in.at == NULL) {
+                fail("no memory for the test itself");
+            }
+        }
+    }
+    bytes text = {room(read_in.len), read_in.len};
+    memcpy(text.at, read_in.at, read_in.len);
+    free(read_in.at);
+    return text;
+}
+
+static bytes read_file(const char *path) {
+    int file = open(path, O_RDONLY);
+    if (file < 0) {
+        fail("a file can't be read");
+    }
+    bytes text = read_all(file);
+    close(file);
+    return text;
+}
+
+static int all_marked(const uint8_t *at, size_t len) {
+    for (size_t place = 0; place < len; place++) {
+        if (at[place] != MARK) {
+            return 0;
+        }
+    }
+    return 1;
+}
+
+/* Judges the text with a line of `len` bytes, behind which a guard stands. What is due are the
+ * length and the status of an earlier call, unless there was none. */
+static bytes judged(const char *command, bytes text, size_t len, const size_t *due,
+                    uint8_t *status) {
+    bytes line = {room(len + GUARD), len};
+    size_t needed = (size_t)-1;
+    memset(line.at, MARK, len + GUARD);
+    uint8_t now = call(command, text, line, &needed);
+    size_t written = needed <= len ? needed : 0;
+    if (now > 2 || (due != NULL && (now != *status || needed != *due))) {
+        fail("two calls differ, or a status is above 2");
+    }
+    if (!all_marked(line.at + written, len + GUARD - written)) {
+        fail("bytes were written where none are to be");
+    }
+    if (written > 0 && line.at[written - 1] != '\n') {
+        fail("the line doesn't end with a newline");
+    }
+    *status = now;
+    line.len = needed;
+    return line;
+}
+
+static int judge(const char *command, bytes text) {
+    uint8_t status = 0;
+    bytes copy = {room(text.len), text.len};
+    memcpy(copy.at, text.at, text.len);
+    bytes none = judged(command, text, 0, NULL, &status);
+    size_t needed = none.len;
+    bytes less = judged(command, text, needed - 1, &needed, &status);
+    bytes more = judged(command, text, needed + 1, &needed, &status);
+    bytes line = judged(command, text, needed, &needed, &status);
+    if (memcmp(line.at, more.at, needed) != 0 || memcmp(copy.at, text.at, text.len) != 0) {
+        fail("two lines differ, or the text was changed");
+    }
+    fwrite(line.at, 1, needed, stdout);
+    free(none.at);
+    free(less.at);
+    free(more.at);
+    free(line.at);
+    free(copy.at);
+    return status;
+}
+
+/* One call, by memory that is there from the start. */
+static int once(const char *command) {
+    static uint8_t given[MOST], written[MOST];
+    bytes text = {given, 0}, line = {written, MOST};
+    size_t needed = 0, done = 0;
+    ssize_t now;
+    while ((now = read(0, given + text.len, MOST - text.len)) > 0) {
+        text.len += (size_t)now;
+    }
+    uint8_t status = call(command, text, line, &needed);
+    while (needed <= MOST && done < needed && (now = write(1, written + done, needed - done)) > 0) {
+        done += (size_t)now;
+    }
+    return done == needed ? status : 9;
+}
+
+static void *work_on(void *given) {
+    work *own = given;
+    for (size_t turn = 0; turn < ROUNDS * own->count; turn++) {
+        const task *due = &own->tasks[(own->first + turn) % own->count];
+        bytes line = {room(due->line.len), due->line.len};
+        size_t needed = 0;
+        uint8_t status = call(due->command, due->text, line, &needed);
+        if (status != due->status || needed != line.len ||
+            memcmp(line.at, due->line.at, needed) != 0) {
+            own->fault = "a call beside others answers another line";
+        }
+        free(line.at);
+    }
+    return NULL;
+}
+
+static int threads(int count, char **words) {
+    size_t number = (size_t)count / 2;
+    task *tasks = room(number * sizeof *tasks);
+    for (size_t at = 0; at < number; at++) {
+        task *now = &tasks[at];
+        now->command = words[2 * at];
+        now->text = read_file(words[2 * at + 1]);
+        bytes none = judged(now->command, now->text, 0, NULL, &now->status);
+        now->line = judged(now->command, now->text, none.len, &none.len, &now->status);
+        free(none.at);
+    }
+    pthread_t ids[THREADS];
+    work works[THREADS];
+    for (size_t at = 0; at < THREADS; at++) {
+        works[at] = (work){tasks, number, at, NULL};
+        if (pthread_create(&ids[at], NULL, work_on, &works[at]) != 0) {
+            fail("a thread doesn't start");
+        }
+    }
+    for (size_t at = 0; at < THREADS; at++) {
+        pthread_join(ids[at], NULL);
+    }
+    for (size_t at = 0; at < THREADS; at++) {
+        if (works[at].fault != NULL) {
+            fail(works[at].fault);
+        }
+    }
+    for (size_t at = 0; at < number; at++) {
+        free(tasks[at].text.at);
+        free(tasks[at].line.at);
+    }
+    free(tasks);
+    return 0;
+}
+
+static int time_calls(const char *command, const char *path, size_t calls) {
+    bytes text = read_file(path), line = {room(MOST), MOST};
+    struct timespec start, end;
+    size_t needed = 0;
+    uint8_t status = 0;
+    clock_gettime(CLOCK_MONOTONIC, &start);
+    for (size_t at = 0; at < calls; at++) {
+        status |= call(command, text, line, &needed);
+    }
+    clock_gettime(CLOCK_MONOTONIC, &end);
+    double spent = (double)(end.tv_sec - start.tv_sec) * 1e9;
+    spent += (double)(end.tv_nsec - start.tv_nsec);
+    printf("%.0f\n", spent / (double)calls);
+    free(text.at);
+    free(line.at);
+    return status;
+}
+
+int main(int argc, char **argv) {
+    const char *mode = argc > 1 ? argv[1] : "";
+    circle_params own;
+    int status = 9;
+    if (strcmp(mode, "judge") == 0 && argc == 3) {
+        bytes text = read_all(0);
+        status = judge(argv[2], text);
+        free(text.at);
+    } else if (strcmp(mode, "with") == 0 && argc == 9) {
+        size_t *numbers[] = {&own.batch_pow_bits,     &own.commit_pow_bits, &own.log_blowup,
+                             &own.log_final_poly_len, &own.max_log_arity,   &own.num_queries,
+                             &own.query_pow_bits};
+        for (int at = 0; at < 7; at++) {
+            *numbers[at] = strtoull(argv[2 + at], NULL, 10);
+        }
+        params = &own;
+        bytes text = read_all(0);
+        status = judge("with", text);
+        free(text.at);
+    } else if (strcmp(mode, "once") == 0 && argc == 3) {
+        status = once(argv[2]);
+    } else if (strcmp(mode, "threads") == 0 && argc > 3 && argc % 2 == 0) {
+        status = threads(argc - 2, argv + 2);
+    } else if (strcmp(mode, "time") == 0 && argc == 5) {
+        status = time_calls(argv[2], argv[3], strtoull(argv[4], NULL, 10));
+    } else {
+        fprintf(stderr, "usage: tests judge|with|once|threads|time ..\n");
+    }
+    return status;
+}

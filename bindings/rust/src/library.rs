@@ -1,0 +1,103 @@
+//! The calls of the static library `circle_c`, as `bindings/c/circle.h` declares them.
+
+use crate::{Params, Refusal};
+
+extern "C" {
+    fn circle_values(
+        text: *const u8,
+        text_len: usize,
+        line: *mut u8,
+        line_len: usize,
+        needed: *mut usize,
+    ) -> u8;
+    fn circle_prove(
+        text: *const u8,
+        text_len: usize,
+        line: *mut u8,
+        line_len: usize,
+        needed: *mut usize,
+    ) -> u8;
+    fn circle_verify(
+        text: *const u8,
+        text_len: usize,
+        line: *mut u8,
+        line_len: usize,
+        needed: *mut usize,
+    ) -> u8;
+    fn circle_shape(
+        text: *const u8,
+        text_len: usize,
+        line: *mut u8,
+        line_len: usize,
+        needed: *mut usize,
+    ) -> u8;
+    fn circle_verify_with(
+        text: *const u8,
+        text_len: usize,
+        params: *const Params,
+        line: *mut u8,
+        line_len: usize,
+        needed: *mut usize,
+    ) -> u8;
+}
+
+/// What the library is asked to do of a text.
+#[derive(Clone, Copy)]
+pub(crate) enum Call<'a> {
+    Values,
+    Prove,
+    Verify,
+    VerifyWith(&'a Params),
+    Shape,
+}
+
+impl Call<'_> {
+    // Makes the call, writes the length of its line to `needed`, and the line into the room of
+    // `line` where that suffices; answers the status.
+    fn make(self, text: &str, line: &mut Vec<u8>, needed: &mut usize) -> u8 {
+        let (start, len) = (text.as_ptr(), text.len());
+        let (room, room_len) = (line.as_mut_ptr(), line.capacity());
+        // SAFETY: the declarations above are those of the header. No pointer is null. The text and
+        // the parameters are borrowed for the call. The vector and the number are borrowed for it
+        // to write to, and the vector's bytes need no value before. The library's memory comes from
+        // the C library's malloc, realloc and free.
+        unsafe {
+            match self {
+                Call::Values => circle_values(start, len, room, room_len, needed),
+                Call::Prove => circle_prove(start, len, room, room_len, needed),
+                Call::Verify => circle_verify(start, len, room, room_len, needed),
+                Call::VerifyWith(params) => {
+                    circle_verify_with(start, len, params, room, room_len, needed)
+                }
+                Call::Shape => circle_shape(start, len, room, room_len, needed),
+            }
+        }
+    }
+
+    /// The line that the library answers `text`, without its newline, or why there is no result.
+    ///
+    /// `room` is the length that there is room for at first. Where the line is longer, the call is
+    /// made once more.
+    pub(crate) fn line(self, text: &str, room: usize) -> Result<String, Refusal> {
+        let mut line = Vec::new();
+        let mut needed = room;
+        let status = loop {
+            line.try_reserve_exact(needed)
+                .map_err(|_| Refusal::Memory)?;
+            let status = self.make(text, &mut line, &mut needed);
+            if needed <= line.capacity() {
+                break status;
+            }
+        };
+        // SAFETY: the last call wrote that many bytes, since they fit.
+        unsafe { line.set_len(needed) };
+        let mut line = String::from_utf8(line).map_err(|_| Refusal::Unknown)?;
+        if line.pop() != Some('\n') {
+            return Err(Refusal::Unknown);
+        }
+        match status {
+            0 => Ok(line),
+            _ => Err(Refusal::told(&line)),
+        }
+    }
+}

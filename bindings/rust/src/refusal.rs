@@ -1,0 +1,180 @@
+//! Why there is no result.
+
+use std::error::Error;
+use std::fmt;
+
+// The enum of refusals, whose names are those that the program writes.
+macro_rules! refusals {
+    (
+        unreadable {
+            $($(#[$unreadable_doc:meta])* $unreadable:ident = $unreadable_name:literal,)*
+        }
+        refused {
+            $($(#[$refused_doc:meta])* $refused:ident = $refused_name:literal,)*
+        }
+    ) => {
+        /// Why a text has no result. `docs/PROGRAM.md` tells where each is given, and which comes
+        /// first.
+        #[derive(Clone, Copy, Debug, PartialEq, Eq, Hash)]
+        #[non_exhaustive]
+        pub enum Refusal {
+            $($(#[$unreadable_doc])* $unreadable,)*
+            $($(#[$refused_doc])* $refused,)*
+            /// The library's answer isn't one that this crate knows: they don't belong together.
+            Unknown,
+        }
+
+        impl Refusal {
+            /// All refusals but `Unknown`.
+            pub const ALL: &'static [Refusal] = &[
+                $(Refusal::$unreadable,)*
+                $(Refusal::$refused,)*
+            ];
+
+            /// The name that the program writes.
+            pub fn name(self) -> &'static str {
+                match self {
+                    $(Refusal::$unreadable => $unreadable_name,)*
+                    $(Refusal::$refused => $refused_name,)*
+                    Refusal::Unknown => "unknown",
+                }
+            }
+
+            /// Whether the text can't be read as an input of the call. Otherwise it is refused.
+            pub fn is_unreadable(self) -> bool {
+                matches!(self, $(Refusal::$unreadable)|*)
+            }
+        }
+    };
+}
+
+refusals! {
+    unreadable {
+        /// The program's arguments are no command. No call of this crate is answered so.
+        Usage = "usage",
+        /// Reading the input fails. No call of this crate is answered so.
+        Input = "input",
+        /// The text isn't JSON, or nests too deeply.
+        Json = "json",
+        /// A key is missing.
+        MissingKey = "MissingKey",
+        /// There is a further key.
+        UnknownKey = "UnknownKey",
+        /// A value is of another kind.
+        WrongKind = "WrongKind",
+        /// A number is negative or too large.
+        OutOfRange = "OutOfRange",
+        /// A digest isn't 64 hexadecimal digits.
+        BadHex = "BadHex",
+    }
+
+    refused {
+        /// Memory is refused. This is no verdict.
+        Memory = "Memory",
+        /// The text's parameters aren't those that the caller gave.
+        ParametersDiffer = "ParametersDiffer",
+        /// A domain is too small.
+        DomainTooSmall = "DomainTooSmall",
+        /// A domain is too large.
+        DomainTooLarge = "DomainTooLarge",
+        /// The shift isn't a point of the circle.
+        NotOnCircle = "NotOnCircle",
+        /// Rows differ in length, or one is empty.
+        RaggedRows = "RaggedRows",
+        /// The number of rows isn't a power of two, or exceeds the number of points.
+        BadHeight = "BadHeight",
+        /// The number of a matrix's rows isn't a power of two.
+        HeightNotPowerOfTwo = "HeightNotPowerOfTwo",
+        /// A matrix has too few rows, or a shape has no room.
+        HeightTooSmall = "HeightTooSmall",
+        /// A height is past what can be committed to, or past the circle's group.
+        HeightTooLarge = "HeightTooLarge",
+        /// There is no matrix.
+        NoCommittedMatrices = "NoCommittedMatrices",
+        /// Nothing can be proved by these parameters.
+        UnfitParameters = "UnfitParameters",
+        /// A matrix is opened at a point of the domain that it is committed on.
+        PointOnDomain = "PointOnDomain",
+        /// No witness passes a proof of work.
+        NoGrindingWitness = "NoGrindingWitness",
+        /// The greatest committed height is past the circle's group.
+        GlobalMaxHeightTooLarge = "GlobalMaxHeightTooLarge",
+        /// A proof of work has too many bits.
+        UnsupportedGrinding = "UnsupportedGrinding",
+        /// `num_queries` is 0.
+        ZeroQueries = "ZeroQueries",
+        /// `log_blowup` is 0.
+        ZeroBlowup = "ZeroBlowup",
+        /// `max_log_arity` isn't 1.
+        UnsupportedFoldingCap = "UnsupportedFoldingCap",
+        /// The proof has another number of rounds than is due.
+        CommitRoundCountMismatch = "CommitRoundCountMismatch",
+        /// The proof has another number of the rounds' witnesses than is due.
+        CommitPowWitnessCountMismatch = "CommitPowWitnessCountMismatch",
+        /// The proof has another number of opened rounds than is due.
+        CommitPhaseOpeningsCountMismatch = "CommitPhaseOpeningsCountMismatch",
+        /// A round is opened at another number of queries than is due.
+        CommitPhaseQueryCountMismatch = "CommitPhaseQueryCountMismatch",
+        /// A round's siblings are another number than is due.
+        SiblingValuesLengthMismatch = "SiblingValuesLengthMismatch",
+        /// The final polynomial has another number of coefficients than is due.
+        FinalPolyLengthMismatch = "FinalPolyLengthMismatch",
+        /// A witness isn't 0 where its proof of work has no bits.
+        NonCanonicalPowWitness = "NonCanonicalPowWitness",
+        /// A claimed coordinate belongs to no point.
+        PointAtInfinity = "PointAtInfinity",
+        /// A witness doesn't pass its proof of work.
+        InvalidPowWitness = "InvalidPowWitness",
+        /// The opened rows or siblings don't have the shape of the claims.
+        InputShapeError = "InputShapeError",
+        /// A matrix is claimed at no point.
+        MatrixWithoutOpeningPoints = "MatrixWithoutOpeningPoints",
+        /// Opened rows are not those of a batch.
+        InputMmcsError = "InputMmcsError",
+        /// Opened rows are not those of the first layer.
+        FirstLayerMmcsError = "FirstLayerMmcsError",
+        /// Opened rows are not those of a round.
+        CommitPhaseMmcsError = "CommitPhaseMmcsError",
+        /// A claimed point is queried.
+        OpeningPointMatchesQueryPoint = "OpeningPointMatchesQueryPoint",
+        /// Values are left over after the last round.
+        UnconsumedReducedOpenings = "UnconsumedReducedOpenings",
+        /// A query ends in another value than the final polynomial's.
+        FinalPolyMismatch = "FinalPolyMismatch",
+    }
+}
+
+impl Refusal {
+    // The refusal that a line of the library tells, which stands without its newline.
+    pub(crate) fn told(line: &str) -> Refusal {
+        let said = |refusal: &&Refusal| refusal.line() == line;
+        Refusal::ALL
+            .iter()
+            .find(said)
+            .copied()
+            .unwrap_or(Refusal::Unknown)
+    }
+
+    // The line that the program writes, without its newline.
+    fn line(self) -> String {
+        let kind = if self.is_unreadable() {
+            "unreadable"
+        } else {
+            "refused"
+        };
+        format!("{{\"{kind}\":\"{}\"}}", self.name())
+    }
+}
+
+impl fmt::Display for Refusal {
+    fn fmt(&self, formatter: &mut fmt::Formatter<'_>) -> fmt::Result {
+        let kind = if self.is_unreadable() {
+            "unreadable"
+        } else {
+            "refused"
+        };
+        write!(formatter, "{kind}: {}", self.name())
+    }
+}
+
+impl Error for Refusal {}

@@ -1,0 +1,4 @@
+pub mod Line
+pub mod Params
+pub mod Proof
+pub mod Text
