@@ -102,6 +102,7 @@ class Cases(unittest.TestCase):
             if case["call"] not in CALLS:
                 continue
             count += 1
+            case = verify_py.whole(case)
             found = answer(case["call"], given_text(case["given"]))
             with self.subTest(case["name"]):
                 self.assertTrue(is_due(found, case["due"]), (found, case["due"]))
