@@ -4,9 +4,9 @@ use crate::statement::Opening;
 use circle_challenger::Sha256Challenger;
 use circle_commit::{MatrixOpening, PointOpening, PowPhase};
 use circle_field::{Cubic, Field, Mersenne31};
+use circle_presets::{ChallengeMmcs, Proof, Scheme, ValMmcs};
 use circle_runs::CircleDraws;
 use circle_statements::batches::{Domain, cubic, one};
-use circle_statements::parameters::{Proof, Scheme, Trees, WordTrees};
 use circle_transcript::CircleTranscriptFailure;
 use p3_circle::{CircleFriProof, CircleInputProof, Neutral, Point};
 use std::alloc::Global;
@@ -158,7 +158,7 @@ fn drawn(
 ) -> Result<Result<CircleDraws<Cubic>, CircleTranscriptFailure>, Fail> {
     let mut challenger = Sha256Challenger::new();
     let params = &given.scheme.fri_params;
-    play::<Trees, WordTrees, Sha256Challenger>(
+    play::<ValMmcs, ChallengeMmcs, Sha256Challenger>(
         alloc,
         params,
         &given.claims,
@@ -202,10 +202,10 @@ fn damage_witnesses(proof: &mut Proof, damage: OfWitnesses) -> Result<(), Fail> 
 }
 
 /// The openings of the batch and of the first layer.
-type Inputs = CircleInputProof<Mersenne31, Cubic, Trees, WordTrees>;
+type Inputs = CircleInputProof<Mersenne31, Cubic, ValMmcs, ChallengeMmcs>;
 
 /// What is proved of the words.
-type Words = CircleFriProof<Cubic, WordTrees, Mersenne31, Inputs>;
+type Words = CircleFriProof<Cubic, ChallengeMmcs, Mersenne31, Inputs>;
 
 // The siblings of this round.
 fn siblings(words: &mut Words, round: usize) -> Result<&mut Vec<Vec<Cubic>>, Fail> {

@@ -6,9 +6,10 @@ use crate::played::play;
 use crate::statement::{Opening, columns, numbers, proved};
 use circle_challenger::Sha256Challenger;
 use circle_field::{Cubic, ExtensionField};
+use circle_presets::{ChallengeMmcs, ValMmcs};
 use circle_statements::batches::Domain;
 use circle_statements::openings::{open, shown, verify};
-use circle_statements::parameters::{Trees, WordTrees, scheme};
+use circle_statements::parameters::scheme;
 use p3_circle::ProverError;
 use std::alloc::Global;
 use std::fmt::InlineText;
@@ -171,7 +172,7 @@ const AFTER_THE_SEEDING: &[Row] = &[
 fn played(alloc: Global, given: &Opening) -> Result<Sha256Challenger, Fail> {
     let mut challenger = Sha256Challenger::new();
     let params = &given.scheme.fri_params;
-    play::<Trees, WordTrees, Sha256Challenger>(
+    play::<ValMmcs, ChallengeMmcs, Sha256Challenger>(
         alloc,
         params,
         &given.claims,

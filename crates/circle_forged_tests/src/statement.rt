@@ -1,9 +1,10 @@
 //! The statement whose proofs are forged: columns of 4 and of 16 rows, of which row `i` holds `i`,
 //! in one batch over standard domains, opened at two points each.
 use circle_challenger::Sha256Challenger;
+use circle_presets::{Proof, Scheme};
 use circle_statements::batches::{Batch, Domain, commit, cubic, rows};
 use circle_statements::openings::{Claims, claims_of, open};
-use circle_statements::parameters::{Numbers, Proof, Scheme, scheme};
+use circle_statements::parameters::{Numbers, scheme};
 use std::alloc::Global;
 use std::test::Fail;
 

@@ -1,5 +1,6 @@
 pub mod Tree
 pub mod Rows
+pub mod Message
 pub mod Authentication
 pub mod RowBytes
 pub mod Walk

@@ -37,6 +37,7 @@
 
 mod error;
 mod hashing;
+mod message;
 mod mmcs;
 mod order;
 mod positions;

@@ -1,12 +1,17 @@
 //! Openings on domains that are not standard are accepted, and whole runs over any scheme.
-ghost use Rattle.std.specs.Prelude.{◌≤◌};
+ghost use Rattle.std.specs.Prelude.{◌≡◌, ◌≤◌, length, All, IsTrue};
+ghost use Rattle.circle_pcs.specs.RoundTrip.{HasPoints};
+ghost use Rattle.p3_circle.specs.Committing.{HaveRowsForPoints};
 
-use circle_challenger::{CanSample, Sha256Challenger};
+use circle_challenger::Sha256Challenger;
 use circle_commit::OpenedValues;
-use circle_field::{Cubic, Field, Mersenne31};
-use circle_statements::batches::{Batch, Domain, Rows, commit_one, cubic, one, scattered};
+use circle_field::Cubic;
+use circle_presets::{Proof, Scheme};
+use circle_statements::batches::{
+    Batch, Domain, Rows, Size, commit_one, cubic, one, points_of, scattered, standard,
+};
 use circle_statements::openings::{Answer, claims_of, open, shown, verify};
-use circle_statements::parameters::{Numbers, Proof, SMALL, Scheme, scheme};
+use circle_statements::parameters::{Numbers, SMALL, scheme};
 use p3_circle::{BatchAtPoints, Point, heights_match_domains};
 use std::alloc::Global;
 use std::fmt::InlineText;
@@ -87,56 +92,135 @@ fn domains_that_are_not_standard(rt: HostRuntime) -> Result<(), Fail> {
     Ok(())
 }
 
-// A matrix of so many rows, on the standard domain.
-fn matrix(alloc: Global, log_rows: usize, seed: u64) -> Result<Vec<(Domain, Rows)>, Fail>
-    requires { log_rows ≤ 30 }
-{
-    let rows = scattered(alloc, log_rows, 2, seed)?;
-    Ok(one(alloc, (Domain::standard(log_rows), rows))?)
+type AtPoints = BatchAtPoints<Cubic, Domain, Rows>;
+
+// Matrices of these sizes on standard domains, with their points.
+fn at_points(alloc: Global, sizes: &[Size], seed: u64) -> Result<AtPoints, Fail> {
+    let mut evaluations = Vec::new(alloc);
+    let mut points = Vec::new(alloc);
+    for (log_n, width, count) in sizes {
+        let matrix = scattered(alloc, *log_n, *width, seed)?;
+        evaluations.push((standard(*log_n)?, matrix))?;
+        points.push(points_of(alloc, *count, seed)?)?;
+    }
+    Ok(BatchAtPoints {
+        evaluations,
+        points,
+    })
 }
 
-// A whole run over two batches: both challengers end in one state.
-#[test]
-fn a_whole_run(rt: HostRuntime) -> Result<(), Fail> {
-    let alloc = rt.alloc();
-    let (short, tall) = (matrix(alloc, 3, 12)?, matrix(alloc, 4, 14)?);
-    assert!(&rt; short.len() == 1 && heights_match_domains(&short));
-    assert!(&rt; tall.len() == 1 && heights_match_domains(&tall));
-    let first = BatchAtPoints {
-        evaluations: short,
-        points: one(alloc, one(alloc, cubic([1, 2, 3]))?)?,
-    };
-    let second = BatchAtPoints {
-        evaluations: tall,
-        points: one(alloc, vec![in alloc; cubic([1, 2, 3]), cubic([4, 5, 6])]?)?,
-    };
+// Batches of these sizes.
+fn all_at_points(alloc: Global, sizes: &[&[Size]]) -> Result<Vec<AtPoints>, Fail> {
+    let mut batches = Vec::new(alloc);
+    for (i, of_batch) in sizes.iter().enumerate() {
+        batches.push(at_points(alloc, of_batch, i as u64)?)?;
+    }
+    Ok(batches)
+}
+
+// Whether each list has a point.
+fn have_points(lists: &[Vec<Cubic>]) -> bool
+    ensures { IsTrue result → All (λ points. 1 ≤ length points.items) lists.now }
+{
+    lists.iter().all(|points| !points.is_empty())
+}
+
+// Whether a batch has rows for the points of its domains, and points for its matrices.
+fn can_be_opened(batch: &AtPoints) -> bool
+    ensures rows { IsTrue result → HaveRowsForPoints batch.now.evaluations.items }
+    ensures points { IsTrue result → HasPoints batch.now }
+{
+    heights_match_domains(&batch.evaluations)
+        && batch.points.len() == batch.evaluations.len()
+        && have_points(&batch.points)
+}
+
+// Whether so has each batch.
+fn can_all_be_opened(batches: &[AtPoints]) -> bool
+    // Of the list by the name that a caller has for it, as that of a `Vec` that lends the slice.
+    ensures rows { IsTrue result → (list : _) → batches.now ≡ list
+        → All (λ b. HaveRowsForPoints b.evaluations.items) list }
+    ensures points { IsTrue result → (list : _) → batches.now ≡ list → All HasPoints list }
+{
+    for batch in batches {
+        if !can_be_opened(batch) {
+            return false;
+        }
+    }
+    true
+}
+
+// Asserts that a whole run over batches of these sizes answers values, and that both challengers
+// end in one state.
+fn assert_whole_run(
+    rt: &impl Abort,
+    alloc: Global,
+    numbers: Numbers,
+    sizes: &[&[Size]],
+) -> Result<(), Fail> {
+    let batches = all_at_points(alloc, sizes)?;
+    assert!(rt; can_all_be_opened(&batches));
     let (mut prover, mut verifier) = (Sha256Challenger::new(), Sha256Challenger::new());
-    let batches = vec![in alloc; first, second]?;
-    let run = scheme(SMALL).round_trip(alloc, batches, &mut prover, &mut verifier);
+    let run = scheme(numbers).round_trip(alloc, batches, &mut prover, &mut verifier);
     let values = run.ok().ok_or("values")?;
-    assert!(&rt; values.len() == 2);
-    let (drawn, again): (Mersenne31, Mersenne31) = (prover.sample(), verifier.sample());
-    assert_eq!(&rt; drawn, again);
+    assert_eq!(rt; values.len(), sizes.len());
+    assert_eq!(rt; verifier, prover);
     Ok(())
 }
 
-// What is answered to a whole run over a matrix of so many rows, opened at this coordinate.
+const FOUR_ROWS: &[Size] = &[(2, 1, 1)];
+
+const NINE_HEIGHTS: &[Size] = &[
+    (2, 1, 1),
+    (3, 1, 1),
+    (4, 1, 1),
+    (5, 1, 1),
+    (6, 1, 1),
+    (7, 1, 1),
+    (8, 1, 1),
+    (9, 1, 1),
+    (10, 1, 1),
+];
+
+// The binary logarithm of the blowup, the number of queries, and the sizes of the batches.
+const RUNS: &[(usize, usize, &[&[Size]])] = &[
+    (1, 2, &[&[(3, 2, 1)], &[(4, 2, 2)]]),
+    (1, 2, &[FOUR_ROWS; 9]),
+    (1, 2, &[&[(2, 1, 1); 9]]),
+    (1, 2, &[NINE_HEIGHTS]),
+    (1, 2, &[&[(2, 1, 9)]]),
+    (1, 2, &[&[(2, 40, 1)]]),
+    (1, 2, &[&[(13, 1, 1)]]),
+    (5, 2, &[FOUR_ROWS]),
+    (1, 200, &[FOUR_ROWS]),
+];
+
+#[test]
+fn whole_runs(rt: HostRuntime) -> Result<(), Fail> {
+    for (log_blowup, num_queries, sizes) in RUNS {
+        let numbers = Numbers {
+            log_blowup: *log_blowup,
+            num_queries: *num_queries,
+            ..SMALL
+        };
+        assert_whole_run(&rt, rt.alloc(), numbers, sizes)?;
+    }
+    Ok(())
+}
+
+// What is answered to a whole run over a column of so many rows, opened at this coordinate.
 fn run_of_one(
     rt: &impl Abort,
     alloc: Global,
-    log_rows: usize,
+    log_n: usize,
     at: [u64; 3],
-) -> Result<InlineText<128>, Fail>
-    requires { log_rows ≤ 30 }
-{
-    let evaluations = matrix(alloc, log_rows, 12)?;
-    assert!(rt; evaluations.len() == 1 && heights_match_domains(&evaluations));
-    let batch = BatchAtPoints {
-        evaluations,
-        points: one(alloc, one(alloc, cubic(at))?)?,
-    };
+) -> Result<InlineText<128>, Fail> {
+    let mut batch = at_points(alloc, &[(log_n, 1, 0)], 12)?;
+    batch.points = one(alloc, one(alloc, cubic(at))?)?;
+    let batches = one(alloc, batch)?;
+    assert!(rt; can_all_be_opened(&batches));
     let (mut prover, mut verifier) = (Sha256Challenger::new(), Sha256Challenger::new());
-    let run = scheme(SMALL).round_trip(alloc, one(alloc, batch)?, &mut prover, &mut verifier);
+    let run = scheme(SMALL).round_trip(alloc, batches, &mut prover, &mut verifier);
     match run {
         Ok(_) => Ok(InlineText::of("done")),
         Err(refusal) => Ok(InlineText::of(refusal)),

@@ -3,9 +3,10 @@
 use circle_challenger::Sha256Challenger;
 use circle_commit::{MatrixOpening, PointOpening};
 use circle_field::{Cubic, Field, Mersenne31};
+use circle_presets::{ChallengeMmcs, Proof, Scheme};
 use circle_statements::batches::{Domain, Size, scattered_batch};
 use circle_statements::openings::{Claims, claims_of, open, shown, verify};
-use circle_statements::parameters::{Numbers, Proof, Scheme, WordTrees, scheme};
+use circle_statements::parameters::{Numbers, scheme};
 use p3_circle::{CircleCommitPhaseMultiStep, Neutral, Point};
 use std::alloc::Global;
 use std::fmt::InlineText;
@@ -69,7 +70,7 @@ enum Damage {
 
 // Changes what a round opens.
 fn damage_round(
-    round: &mut CircleCommitPhaseMultiStep<Cubic, WordTrees>,
+    round: &mut CircleCommitPhaseMultiStep<Cubic, ChallengeMmcs>,
     damage: Damage,
 ) -> Result<(), Fail> {
     match damage {

@@ -8,9 +8,10 @@ use circle_commit::{
 };
 use circle_field::{Cubic, ExtensionField, Field, Mersenne31};
 use circle_json::JsonForm;
+use circle_presets::{ChallengeMmcs, Proof, Scheme};
 use circle_statements::batches::{Batch, Size, one, scattered_batches};
 use circle_statements::openings::{Answer, claims_of, open, verify};
-use circle_statements::parameters::{Numbers, Proof, SMALL, Scheme, WordTrees, scheme};
+use circle_statements::parameters::{Numbers, SMALL, scheme};
 use p3_circle::{CircleFriProof, CirclePcsProof, CirclePcsShape};
 use std::alloc::{AllocError, Global};
 use std::process::Abort;
@@ -155,7 +156,7 @@ fn grind(rt: &impl Abort, challenger: &mut Sha256Challenger, bits: usize) -> Mer
 struct Layer {
     words: Vec<Vec<Cubic>>,
     commitment: [u8; 32],
-    data: <WordTrees as Mmcs<Cubic>>::ProverData,
+    data: <ChallengeMmcs as Mmcs<Cubic>>::ProverData,
 }
 
 // Commits to words by pairs, and takes the commitment in.

@@ -5,11 +5,12 @@ use circle_commit::{OpeningRequest, heights_are_powers_of_two};
 use circle_field::{ExtensionField, Field, Mersenne31};
 use circle_fixtures::quadratic::Quadratic;
 use circle_fixtures::schemes::ListMmcs;
+use circle_presets::{ProverData, Scheme, ValMmcs};
 use circle_statements::batches::{
     Batch, Domain, Rows, commit_one, cubic, one, rows, scattered_batch, sevens,
 };
 use circle_statements::openings::{open, open_at, told};
-use circle_statements::parameters::{Data, Numbers, SMALL, Scheme, Trees, parameters, scheme};
+use circle_statements::parameters::{Numbers, SMALL, parameters, scheme};
 use p3_circle::{CirclePcs, ProverError};
 use std::alloc::Global;
 use std::fmt::InlineText;
@@ -127,7 +128,7 @@ fn refusal_over_quadratic(alloc: Global, points: &[Quadratic]) -> Result<InlineT
         prover_data: &four.data,
         points: one(alloc, Vec::from_slice(alloc, points)?)?,
     };
-    let lists = CirclePcs::new(Trees::new(), parameters(SMALL, ListMmcs));
+    let lists = CirclePcs::new(ValMmcs::new(), parameters(SMALL, ListMmcs));
     let mut challenger = Sha256Challenger::new();
     Ok(told(open_at(alloc, &lists, one(alloc, request)?, &mut challenger)))
 }
@@ -181,7 +182,7 @@ fn commit_ldes(
     alloc: Global,
     scheme: &Scheme,
     ldes: Vec<Rows>,
-) -> Result<([u8; 32], Data), ProverError> {
+) -> Result<([u8; 32], ProverData), ProverError> {
     assert!(rt; heights_are_powers_of_two(&ldes));
     scheme.commit_ldes(alloc, ldes)
 }

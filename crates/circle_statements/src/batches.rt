@@ -1,14 +1,13 @@
 //! Matrices by their entries, and batches of them that are committed to.
 ghost use Rattle.std.specs.Prelude.{◌≡◌, [], ◌∷◌, IfOk};
 
-use crate::parameters::{Data, Scheme};
 use circle_commit::{Mmcs, RowMajorMatrix};
 use circle_field::{ComplexExtendable, Cubic, ExtensionField, Field, Mersenne31};
+pub use circle_presets::Domain;
+use circle_presets::{ProverData, Scheme};
 use p3_circle::{CircleDomain, CirclePcs, heights_match_domains};
 use std::alloc::{AllocError, Global};
 use std::test::Fail;
-
-pub type Domain = CircleDomain<Mersenne31>;
 
 pub type Rows = RowMajorMatrix<Mersenne31>;
 
@@ -69,7 +68,7 @@ pub fn scattered(alloc: Global, log_n: usize, width: usize, seed: u64) -> Result
 #[derive(Drop)]
 pub struct Batch {
     pub commitment: [u8; 32],
-    pub data: Data,
+    pub data: ProverData,
     /// The domain that each matrix was given on.
     pub domains: Vec<Domain>,
     pub points: Vec<Vec<Cubic>>,

@@ -1,10 +1,9 @@
 //! What is opened of committed batches, the claims on them, and what is answered to these.
 use crate::batches::Batch;
-use crate::parameters::{Data, Proof, Scheme};
 use circle_challenger::{CanObserve, CanSample, GrindingChallenger, Sha256Challenger};
 use circle_commit::{CommitmentOpening, FriError, Mmcs, OpenedValues, OpeningRequest};
 use circle_field::{ComplexExtendable, Cubic, ExtensionField, Mersenne31};
-use circle_presets::{Claim, Known, VerifierError};
+use circle_presets::{Claim, Known, Proof, ProverData, Scheme, VerifierError};
 use p3_circle::{CircleDomain, CirclePcs, CirclePcsProof, InputError, ProverError};
 use std::alloc::{AllocError, Global};
 use std::fmt::InlineText;
@@ -42,7 +41,7 @@ fn copies_of(alloc: Global, points: &[Vec<Cubic>]) -> Result<Vec<Vec<Cubic>>, Al
 fn requests_of(
     alloc: Global,
     batches: &[Batch],
-) -> Result<Vec<OpeningRequest<'_, Data, Cubic>>, AllocError> {
+) -> Result<Vec<OpeningRequest<'_, ProverData, Cubic>>, AllocError> {
     let mut requests = Vec::with_capacity(alloc, batches.len())?;
     for batch in batches {
         requests.push(OpeningRequest {

@@ -2,9 +2,7 @@
 ghost use Rattle.std.specs.Prelude.{◌≡◌};
 
 use circle_commit::FriParameters;
-pub use circle_presets::{
-    ChallengeMmcs as WordTrees, Proof, ProverData as Data, Scheme, ValMmcs as Trees,
-};
+use circle_presets::{ChallengeMmcs, Scheme, ValMmcs};
 use p3_circle::CirclePcs;
 
 /// The numbers of a scheme's parameters.
@@ -48,5 +46,5 @@ pub fn parameters<W>(numbers: Numbers, mmcs: W) -> FriParameters<W>
 
 /// The scheme over trees with these parameters.
 pub fn scheme(numbers: Numbers) -> Scheme {
-    CirclePcs::new(Trees::new(), parameters(numbers, WordTrees::new()))
+    CirclePcs::new(ValMmcs::new(), parameters(numbers, ChallengeMmcs::new()))
 }

@@ -5,7 +5,7 @@ use circle_challenger::{ChallengerState, Sha256Challenger};
 use circle_commit::{CommitmentOpening, PolynomialSpace};
 use circle_field::{Cubic, ExtensionField};
 use circle_pcs::{Pcs, UnivariateStarkPcs};
-use circle_statements::parameters::Scheme;
+use circle_presets::Scheme;
 use std::alloc::{AllocError, Global};
 
 /// Whether a scheme accepts claims and a proof from the challenger's state: true exactly where its

@@ -5,8 +5,9 @@ use circle_field::{Cubic, ExtensionField, Field, Mersenne31};
 use circle_fixtures::matrix_list::MatrixList;
 use circle_fixtures::quadratic::Quadratic;
 use circle_fixtures::schemes::{ListMmcs, Nothing};
+use circle_presets::ValMmcs;
 use circle_statements::batches::one;
-use circle_statements::parameters::{SMALL, Trees, parameters};
+use circle_statements::parameters::{SMALL, parameters};
 use p3_circle::verifier::validate_claims;
 use p3_circle::{
     CircleDomain, CircleFriProof, CircleInputProof, CirclePcs, CirclePcsProof, InputError, Neutral,
@@ -76,7 +77,7 @@ fn claimed_at(alloc: Global, point: Quadratic) -> Result<QuadraticClaims, AllocE
     one(alloc, batch)
 }
 
-type QuadraticProof = CirclePcsProof<Mersenne31, Quadratic, Trees, ListMmcs, Mersenne31>;
+type QuadraticProof = CirclePcsProof<Mersenne31, Quadratic, ValMmcs, ListMmcs, Mersenne31>;
 
 // A proof without rounds, as is due for two rows, that opens nothing.
 fn proof_of_nothing(alloc: Global) -> Result<QuadraticProof, AllocError> {
@@ -107,7 +108,7 @@ fn answer_at(
     point: Quadratic,
     challenger: &mut Sha256Challenger,
 ) -> Result<InlineText<128>, Fail> {
-    let scheme = CirclePcs::new(Trees::new(), parameters(SMALL, ListMmcs));
+    let scheme = CirclePcs::new(ValMmcs::new(), parameters(SMALL, ListMmcs));
     let proof = proof_of_nothing(alloc)?;
     match scheme.verify(alloc, claimed_at(alloc, point)?, &proof, challenger) {
         Ok(()) => Ok(InlineText::of("accepted")),

@@ -1,17 +1,18 @@
 //! What is committed to, at worked examples, and what is refused of it.
 use circle_commit::{Matrix, Mmcs, RowMajorMatrix, heights_are_powers_of_two, is_power_of_two};
 use circle_field::{Field, Mersenne31};
+use circle_presets::{ProverData, ValMmcs};
 use circle_statements::batches::{Domain, Rows, one, rows};
 use circle_statements::openings::told;
-use circle_statements::parameters::{Data, Numbers, SMALL, Trees, parameters};
+use circle_statements::parameters::{Numbers, SMALL, parameters};
 use p3_circle::{CirclePcs, Neutral, Point, ProverError, heights_match_domains};
 use std::alloc::Global;
 use std::process::Abort;
 use std::test::Fail;
 
-type Committed = ([u8; 32], Data);
+type Committed = ([u8; 32], ProverData);
 
-type Scheme = CirclePcs<Mersenne31, Trees, ()>;
+type Scheme = CirclePcs<Mersenne31, ValMmcs, ()>;
 
 // The values of 1 + 2y + 3x + 4xy at the four points of the standard domain in natural order.
 const FOUR: &[u64] = &[32767, 2147319810, 2147450878, 163843];
@@ -41,7 +42,7 @@ fn scheme(log_blowup: usize, log_final_poly_len: usize) -> Scheme {
         log_final_poly_len,
         ..SMALL
     };
-    CirclePcs::new(Trees::new(), parameters(numbers, ()))
+    CirclePcs::new(ValMmcs::new(), parameters(numbers, ()))
 }
 
 // The batch of one column over a domain.
@@ -88,7 +89,7 @@ fn evaluations_on(
     rt: &impl Abort,
     alloc: Global,
     scheme: &Scheme,
-    data: &Data,
+    data: &ProverData,
     domain: Domain,
 ) -> Result<Rows, ProverError> {
     let matrices = scheme.mmcs.get_matrices(data);
@@ -211,7 +212,7 @@ fn assert_values(
     rt: &impl Abort,
     alloc: Global,
     scheme: &Scheme,
-    data: &Data,
+    data: &ProverData,
     domain: Domain,
     expected: &[u64],
 ) -> Result<(), ProverError> {

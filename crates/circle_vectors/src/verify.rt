@@ -4,9 +4,9 @@ use circle_challenger::{CanObserve, CanSample, GrindingChallenger, Sha256Challen
 use circle_commit::{FriError, Mmcs};
 use circle_field::{Cubic, Field, Mersenne31};
 use circle_fixtures::schemes::ListMmcs;
+use circle_presets::{ChallengeMmcs, ValMmcs};
 use circle_statements::batches::one;
 use circle_statements::openings::shown;
-use circle_statements::parameters::{Trees, WordTrees};
 use p3_circle::InputError;
 use std::alloc::{AllocError, Global};
 use std::process::Abort;
@@ -30,8 +30,8 @@ fn zero_poly(alloc: Global, size: Size) -> Result<Vec<Cubic>, AllocError> {
 }
 
 // Zeros over trees, proved from the fresh challenger.
-fn honest(alloc: Global, size: Size) -> Result<Zeros<Trees, WordTrees>, Fail> {
-    let schemes = (Trees::new(), WordTrees::new());
+fn honest(alloc: Global, size: Size) -> Result<Zeros<ValMmcs, ChallengeMmcs>, Fail> {
+    let schemes = (ValMmcs::new(), ChallengeMmcs::new());
     let final_poly = zero_poly(alloc, size)?;
     prove(
         alloc,
@@ -81,7 +81,7 @@ where
 #[test]
 fn zeros_are_accepted(rt: HostRuntime) -> Result<(), Fail> {
     for size in [FOUR, EIGHT] {
-        let trees = (Trees::new(), WordTrees::new());
+        let trees = (ValMmcs::new(), ChallengeMmcs::new());
         assert_accepted(&rt, rt.alloc(), trees, size)?;
         assert_accepted(&rt, rt.alloc(), (ListMmcs, ListMmcs), size)?;
     }
@@ -89,7 +89,7 @@ fn zeros_are_accepted(rt: HostRuntime) -> Result<(), Fail> {
 }
 
 // What a caller over any scheme answers of the zeros over this one.
-fn accepts_as_any(alloc: Global, zeros: Zeros<Trees, WordTrees>) -> Result<bool, AllocError> {
+fn accepts_as_any(alloc: Global, zeros: Zeros<ValMmcs, ChallengeMmcs>) -> Result<bool, AllocError> {
     let Zeros {
         scheme,
         claims,
@@ -112,7 +112,7 @@ fn zeros_over_any_scheme(rt: HostRuntime) -> Result<(), Fail> {
 #[test]
 fn another_final_polynomial(rt: HostRuntime) -> Result<(), Fail> {
     let alloc = rt.alloc();
-    let schemes = (Trees::new(), WordTrees::new());
+    let schemes = (ValMmcs::new(), ChallengeMmcs::new());
     let last = one(alloc, Cubic::ONE)?;
     let proved = prove(alloc, schemes, FOUR, last, &mut Sha256Challenger::new())?;
     let answer = shown(verify(alloc, proved, &mut Sha256Challenger::new()));

@@ -3,8 +3,8 @@ use super::Layer;
 use super::words::siblings;
 use circle_commit::{BatchMultiOpening, Matrix, Mmcs, OpenedRows, are_below};
 use circle_field::{Cubic, Mersenne31};
+use circle_presets::{ChallengeMmcs, Scheme, ValMmcs};
 use circle_statements::batches::Batch;
-use circle_statements::parameters::{Scheme, Trees, WordTrees};
 use p3_circle::{CircleCommitPhaseMultiStep, CircleInputProof};
 use std::alloc::{AllocError, Global};
 use std::process::Abort;
@@ -75,7 +75,7 @@ pub(crate) fn opened_inputs(
     first: &Layer,
     top: usize,
     indices: &[usize],
-) -> Result<CircleInputProof<Mersenne31, Cubic, Trees, WordTrees>, AllocError> {
+) -> Result<CircleInputProof<Mersenne31, Cubic, ValMmcs, ChallengeMmcs>, AllocError> {
     let mut input_openings = Vec::new(alloc);
     for batch in batches {
         input_openings.push(BatchMultiOpening {
@@ -99,7 +99,7 @@ pub(crate) fn opened_rounds(
     layers: &[Layer],
     top: usize,
     indices: &[usize],
-) -> Result<Vec<CircleCommitPhaseMultiStep<Cubic, WordTrees>>, AllocError> {
+) -> Result<Vec<CircleCommitPhaseMultiStep<Cubic, ChallengeMmcs>>, AllocError> {
     let mut opened = Vec::new(alloc);
     for layer in layers {
         let mmcs = &scheme.fri_params.mmcs;
