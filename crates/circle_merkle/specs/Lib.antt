@@ -1,6 +1,5 @@
 pub mod Tree
 pub mod Rows
-pub mod Message
 pub mod Authentication
 pub mod RowBytes
 pub mod Walk

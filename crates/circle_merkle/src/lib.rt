@@ -37,7 +37,6 @@
 
 mod error;
 mod hashing;
-mod message;
 mod mmcs;
 mod order;
 mod positions;

@@ -1,6 +1,6 @@
 use Rattle.std.proofs.Common.{◌++◌, ◌+◌, ◌∙◌, ◌<◌, [], refl, sym, subst, take, length, arith, get_or}
 use Rattle.std.proofs.lemmas.Option.{get_or_from_slice_get}
-use Rattle.circle_merkle.specs.Message.{HoldsMessage}
+use Rattle.sha2.specs.Hashers.{Holds256}
 use Rattle.circle_matrix.specs.declared.matrix.Dimensions.{Dimensions}
 use Rattle.circle_merkle.specs.Rows.{bytes_of_height}
 use Rattle.circle_merkle.proofs.OpenedBytes.{opened-with, opened-without}
@@ -25,8 +25,8 @@ loop-j-preserved g c m held =
           let row = w.row.result.now in
           let at = get_or_from_slice_get rows j row [] w.row.ensures in
           let e = opened-with bytes height dims rows j dim nothing row [] short long refl at m (sym (c.height.ensures nothing) ∙ w.if-height.true) in
-          subst (λ h. HoldsMessage h after) (sym w.message-is) (subst (HoldsMessage w.absorb_row.new.message) (sym e) (w.absorb_row.ensures before (c.loop-j.invariant m held)))
+          subst (λ h. Holds256 h after) (sym w.hasher-is) (subst (Holds256 w.absorb_row.new.hasher) (sym e) (w.absorb_row.ensures before (c.loop-j.invariant m held)))
       | else-height w ↦
           let e = opened-without bytes height dims rows j dim nothing (get_or rows j []) [] short long refl refl m (λ same. w.if-height.false (c.height.ensures nothing ∙ same)) in
-          subst (λ h. HoldsMessage h after) (sym w.message-is) (subst (HoldsMessage c.loop-j.message) (sym e) (c.loop-j.invariant m held))
+          subst (λ h. Holds256 h after) (sym w.hasher-is) (subst (Holds256 c.loop-j.hasher) (sym e) (c.loop-j.invariant m held))
     ]
