@@ -130,9 +130,10 @@ fn can_be_opened(batch: &AtPoints) -> bool
     ensures rows { IsTrue result → HaveRowsForPoints batch.now.evaluations.items }
     ensures points { IsTrue result → HasPoints batch.now }
 {
-    heights_match_domains(&batch.evaluations)
-        && batch.points.len() == batch.evaluations.len()
-        && have_points(&batch.points)
+    if batch.points.len() != batch.evaluations.len() {
+        return false;
+    }
+    heights_match_domains(&batch.evaluations) && have_points(&batch.points)
 }
 
 // Whether so has each batch.

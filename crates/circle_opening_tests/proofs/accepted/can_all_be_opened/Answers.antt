@@ -6,7 +6,7 @@ use Rattle.p3_circle.specs.Committing.{HaveRowsForPoints}
 use Rattle.circle_opening_tests.proofs.accepted.can_all_be_opened.Goals as goal
 
 pub loop-batch-preserved : goal.loop-batch-preserved
-loop-batch-preserved g c =
+loop-batch-preserved c =
     let b = c.batch-item.result in
     let yes = c.can_be_opened.ensures in (
       All-more (λ b. HaveRowsForPoints b.evaluations.items) c.args.batches.now c.loop-batch.batch-index b c.loop-batch-test.true c.loop-batch.invariant.0
@@ -16,7 +16,7 @@ loop-batch-preserved g c =
     )
 
 pub returns : goal.returns
-returns g c =
+returns c =
     let all = take_all c.loop-batch.batch-index c.args.batches.now c.loop-batch-test.false in
     record {
       rows = λ _ list same. subst (All (λ b. HaveRowsForPoints b.evaluations.items)) (all ∙ same) c.loop-batch.invariant.0;
