@@ -45,7 +45,7 @@ const PROVED: [u32; 3] = [12, 16, 18];
 const PROVED_WIDTH: usize = 8;
 
 /// The binary logarithm of the rows, and the columns, of the matrices whose opening alone is timed.
-const OPENED: (u32, [usize; 2]) = (12, [1024, 2048]);
+const OPENED: (u32, [usize; 3]) = (12, [1023, 1024, 2048]);
 
 /// The parameters of proofs.
 const PARAMS: Params = Params { log_blowup: 1, queries: 40 };
