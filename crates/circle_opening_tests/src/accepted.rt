@@ -136,7 +136,7 @@ fn can_be_opened(batch: &AtPoints) -> bool
     heights_match_domains(&batch.evaluations) && have_points(&batch.points)
 }
 
-// Whether so has each batch.
+// Whether each of the batches has these.
 fn can_all_be_opened(batches: &[AtPoints]) -> bool
     // Of the list by the name that a caller has for it, as that of a `Vec` that lends the slice.
     ensures rows { IsTrue result → (list : _) → batches.now ≡ list
