@@ -79,15 +79,6 @@ module _ {T : Type 0} where
         below ≡ level_digests matrices level (2 * height) →
         above ≡ level_digests matrices (suc level) height
 
-    -- where these are the digests of a pair on the level below, this is the one over them
-    abbrev pub IsParent :
-        List (RowMajorMatrix T) → ℕ → ℕ → List ℕ → List ℕ → List ℕ → Type 0
-    IsParent matrices height i left right above =
-        (level : ℕ) → size_of (dimensions_of matrices) (suc level) ≡ height →
-        digest hash (matrix_rows bytes matrices) level (2 * i) ≡ left →
-        digest hash (matrix_rows bytes matrices) level (2 * i + 1) ≡ right →
-        above ≡ digest hash (matrix_rows bytes matrices) (suc level) i
-
     -- the root of the tree over matrices
     pub record IsRoot (matrices : List (RowMajorMatrix T)) (commitment : List ℕ) : Type 0 where
       pub levels : ℕ

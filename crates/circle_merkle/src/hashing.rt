@@ -47,24 +47,27 @@ pub fn rows_digest<T: ElementBytes, R: RowOfEach<T>>(rows: &R, height: usize) ->
     hasher.finalize()
 }
 
+/// The digest of two digests behind a byte.
+pub fn digest_of_pair(first: u8, left: &Hash, right: &Hash) -> Hash
+    ensures { result ≡ sha256 ((first ∷ left.now) ++ right.now) }
+{
+    let mut hasher = Sha256::new();
+    hasher.update([first].as_slice());
+    hasher.update(left.as_slice());
+    hasher.update(right.as_slice());
+    hasher.finalize()
+}
+
 /// The digest of a node with these two below it.
 pub fn node_digest(left: &Hash, right: &Hash) -> Hash
     ensures { result ≡ node_digest_of sha256 left.now right.now }
 {
-    let mut hasher = Sha256::new();
-    hasher.update([1u8].as_slice());
-    hasher.update(left.as_slice());
-    hasher.update(right.as_slice());
-    hasher.finalize()
+    digest_of_pair(1, left, right)
 }
 
 /// The digest of a node at whose position rows of this digest stand too.
 pub fn joined_digest(node: &Hash, rows: &Hash) -> Hash
     ensures { result ≡ sha256 ((2 ∷ node.now) ++ rows.now) }
 {
-    let mut hasher = Sha256::new();
-    hasher.update([2u8].as_slice());
-    hasher.update(node.as_slice());
-    hasher.update(rows.as_slice());
-    hasher.finalize()
+    digest_of_pair(2, node, rows)
 }

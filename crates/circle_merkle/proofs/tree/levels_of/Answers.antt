@@ -3,9 +3,11 @@ use Rattle.std.specs.List.{range_with_len}
 use Rattle.std.proofs.lemmas.List.FromFn.{length-map-range_with_len}
 use Rattle.sha2.specs.Sha256.{sha256}
 use Rattle.circle_matrix.specs.Mmcs.{dimensions_of}
-use Rattle.circle_merkle.specs.Tree.{digest}
+use Rattle.circle_merkle.specs.RowBytes.{matrix_bytes}
+use Rattle.circle_merkle.specs.Tree.{digest, rows_digest}
 use Rattle.circle_merkle.specs.Rows.{size_of, matrix_rows}
-use Rattle.circle_merkle.proofs.Maps.{items-at, items-count, items-more}
+use Rattle.circle_merkle.proofs.Maps.{items-at, items-count, items-more, map-agree}
+use Rattle.circle_merkle.proofs.TreeSteps.{digest-lowest}
 use Rattle.circle_merkle.proofs.Powers.{halves, level_size}
 use Rattle.circle_merkle.proofs.tree.levels_of.Goals as goal
 
@@ -16,8 +18,8 @@ loop-level-init g c =
     let h = digest sha256 (matrix_rows g.T.ElementBytes.bytes c.args.matrices.now) 0 in
     let size : size_of (dimensions_of c.args.matrices.now) 0 ≡ c.args.top = omega (arith, c.requires.greatest) in
     let whole : c.args.top ≡ 2 ^ (count - 0) = sym power ∙ (let same : count ≡ count - 0 = omega arith in ap (λ k. 2 ^ k) same) in
-    ap (map (λ level. level.items)) (c.in_ok-push.ensures.items ∙ ap (λ before. before ++ c.in_ok-lowest_level.field-0 ∷ []) c.in_ok-levels.ensures.items)
-    ∙ ap (λ level. level ∷ []) (c.in_ok-lowest_level.ensures size)
+    ap (map (λ level. level.items)) (c.in_ok-push.ensures.items ∙ ap (λ before. before ++ c.in_ok-rows_level.field-0 ∷ []) c.in_ok-levels.ensures.items)
+    ∙ ap (λ level. level ∷ []) (c.in_ok-rows_level.ensures ∙ map-agree (λ i. rows_digest sha256 (matrix_bytes g.T.ElementBytes.bytes c.args.top i c.args.matrices.now)) h 0 c.args.top (λ i lt. digest-lowest sha256 g.T.ElementBytes.bytes c.args.matrices.now c.args.top i size))
     ∙ ap (λ n. map h (range_with_len 0 n) ∷ []) whole
 
 pub index-requires : goal.index-requires

@@ -1,19 +1,42 @@
-use Rattle.std.proofs.Common.{◌+◌, ◌*◌, ◌<◌, ◌++◌, ◌∷◌, [], ◌∙◌, ap, sym, map, get_or, suc, arith, ℕ}
+use Rattle.std.proofs.Common.{◌≡◌, ◌/◌, ◌∙◌, [], ap, sym, get_or, length, map, arith}
 use Rattle.std.specs.List.{range_with_len}
-use Rattle.std.proofs.lemmas.List.FromFn.{map-range_with_len_more, get_or-map-range_with_len}
+use Rattle.std.proofs.lemmas.Result.{IfOk-weaker}
+use Rattle.std.proofs.lemmas.List.FromFn.{length-map-range_with_len}
 use Rattle.sha2.specs.Sha256.{sha256}
-use Rattle.circle_merkle.specs.Tree.{digest}
-use Rattle.circle_merkle.specs.Rows.{matrix_rows}
+use Rattle.circle_merkle.specs.Lanes.{pair_digest}
+use Rattle.circle_merkle.specs.Authentication.{IsNextLevel}
+use Rattle.circle_merkle.proofs.Levels.{joined-level, plain-level}
 use Rattle.circle_merkle.proofs.tree.next_level.Goals as goal
 
-pub loop-i-preserved : goal.loop-i-preserved
-loop-i-preserved g c level e below =
-    let i = c.loop-i.i in
-    let rows = matrix_rows g.T.ElementBytes.bytes c.args.matrices.now in
-    let f = digest sha256 rows (suc level) in
-    let below-at = λ (k : ℕ) (lt : k < 2 * c.args.height). sym (ap (λ ds. get_or ds k []) below ∙ get_or-map-range_with_len (digest sha256 rows level) 0 (2 * c.args.height) k k [] lt (omega arith)) in
-    let left = below-at (2 * i) (omega arith) in
-    let right = below-at (2 * i + 1) (omega arith) in
-    c.in_ok-push.ensures.items ∙ ap (λ before. before ++ c.parent_digest.result ∷ []) (c.loop-i.invariant level e below)
-    ∙ ap (λ x. map f (range_with_len 0 i) ++ x ∷ []) (c.parent_digest.ensures level e left right)
-    ∙ sym (map-range_with_len_more f 0 i i (omega arith))
+pub returns-then-not-some_has_height : goal.returns-then-not-some_has_height
+returns-then-not-some_has_height g c level size under =
+    let below = c.args.below.now in
+    let half : length below / 2 ≡ c.args.height = omega arith in
+    c.in_ok-nodes.ensures
+    ∙ ap (λ n. map (pair_digest sha256 1 below) (range_with_len 0 n)) half
+    ∙ plain-level g.T.ElementBytes.bytes c.args.matrices.now level c.args.height below size under (sym c.some_has_height.ensures ∙ c.if-not-some_has_height.true)
+
+pub returns : goal.returns
+returns g c =
+    let below = c.args.below.now in
+    let pairs = c.in_ok-with_rows.field-0.items in
+    let lent = c.deref-3.result.now in
+    let half : length below / 2 ≡ c.args.height = omega arith in
+    let nodes = c.in_ok-nodes.ensures ∙ ap (λ n. map (pair_digest sha256 1 below) (range_with_len 0 n)) half in
+    let many : length c.in_ok-nodes.nodes.items ≡ c.args.height = ap length nodes ∙ length-map-range_with_len (pair_digest sha256 1 below) 0 c.args.height in
+    let same : length c.deref.result.now ≡ c.args.height = ap length c.deref.ensures.value ∙ many in
+    let count : length lent / 2 ≡ c.args.height = omega (arith, ap length c.deref-3.ensures.value, c.in_ok-with_rows.ensures.count, same) in
+    IfOk-weaker c.pairs_level-2.result (λ next. next.items ≡ map (pair_digest sha256 2 lent) (range_with_len 0 (length lent / 2)))
+    (λ next. IsNextLevel sha256 g.T.ElementBytes.bytes c.args.matrices.now c.args.height below next.items)
+    (λ next made level size under.
+    made
+    ∙ ap (λ n. map (pair_digest sha256 2 lent) (range_with_len 0 n)) count
+    ∙ ap (λ xs. map (pair_digest sha256 2 xs) (range_with_len 0 c.args.height)) c.deref-3.ensures.value
+    ∙ joined-level g.T.ElementBytes.bytes c.args.matrices.now level c.args.height below size under c.in_ok-nodes.nodes.items c.in_ok-rows.rows.items pairs nodes c.in_ok-rows.ensures
+    (λ i lt.
+    let at = c.in_ok-with_rows.ensures.pairs i (omega (arith, same)) in (
+      at.0 ∙ ap (λ xs. get_or xs i []) c.deref.ensures.value,
+      at.1 ∙ ap (λ xs. get_or xs i []) c.deref-2.ensures.value,
+    ))
+    (sym c.some_has_height.ensures ∙ c.if-not-some_has_height.false))
+    c.pairs_level-2.ensures
