@@ -7,6 +7,7 @@ use circle_merkle::{MerkleTreeError, ShaMmcs, ShaProverData};
 use sha2::{Digest, Sha256};
 use std::alloc::{AllocError, Global};
 use std::fmt::InlineText;
+use std::ops::Range;
 use std::process::Abort;
 use std::test::Fail;
 
@@ -57,6 +58,13 @@ const ROOT_MISMATCH: &str = "the root is not the commitment";
 const FOUR_ROOT: Hash = [
     0x15, 0x38, 0x44, 0x0c, 0xc0, 0x19, 0x4d, 0x26, 0x63, 0xd9, 0x87, 0xcb, 0xcb, 0xfd, 0x40, 0x4d,
     0xdc, 0x90, 0xc5, 0xbd, 0x84, 0x5c, 0x53, 0x6c, 0x97, 0x69, 0x24, 0x28, 0x66, 0xe3, 0xe1, 0x3b,
+];
+
+// The root over 64 rows of 20 columns, of the entries 0, 1, 2, .., over 32 rows of one column, of
+// 5000, 5001, .., and over two rows of three, of 7000 to 7005.
+const MANY_ROOT: Hash = [
+    0x07, 0x32, 0x5a, 0xa6, 0x27, 0x66, 0xb3, 0x91, 0x8a, 0xe5, 0x6f, 0xa4, 0x46, 0x5f, 0xa6, 0x06,
+    0x70, 0xb0, 0x80, 0xdd, 0x5b, 0x85, 0x9d, 0x74, 0xb6, 0x47, 0x52, 0x59, 0x5c, 0x93, 0x7a, 0x75,
 ];
 
 fn element(value: u64) -> Mersenne31 {
@@ -155,6 +163,28 @@ fn verify(
         rows,
         proof,
     ))
+}
+
+// The matrix of this width with these entries, each by one more than the one before it.
+fn counting(
+    alloc: Global,
+    entries: Range<u64>,
+    width: usize,
+) -> Result<RowMajorMatrix<Mersenne31>, AllocError> {
+    let values: Vec<u64> = entries.collect(alloc)?;
+    matrix(alloc, &values, width)
+}
+
+// Rows of two blocks, and rows beside nodes, sixteen at a time and in what is left.
+#[test]
+fn commits_to_many_rows(rt: HostRuntime) -> Result<(), Fail> {
+    let alloc = rt.alloc();
+    let high = counting(alloc, 0..1280, 20)?;
+    let lower = counting(alloc, 5000..5032, 1)?;
+    let lowest = counting(alloc, 7000..7006, 3)?;
+    let (root, _data) = commit(alloc, vec![in alloc; high, lower, lowest]?)?;
+    assert!(rt; root == MANY_ROOT);
+    Ok(())
 }
 
 #[test]
