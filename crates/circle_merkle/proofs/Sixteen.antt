@@ -47,6 +47,11 @@ pub eight_same : (a b c d e f g h a2 b2 c2 d2 e2 f2 g2 h2 : ℕ) → a ≡ a2 �
     → a ∷ b ∷ c ∷ d ∷ e ∷ f ∷ g ∷ h ∷ [] ≡ a2 ∷ b2 ∷ c2 ∷ d2 ∷ e2 ∷ f2 ∷ g2 ∷ h2 ∷ []
 eight_same a b c d e f g h a2 b2 c2 d2 e2 f2 g2 h2 ea eb ec ed ee ef eg eh = rw (ea, eb, ec, ed, ee, ef, eg, eh) refl
 
+-- an item of eight from place t on
+pub part-at : {X : Type 0} (xs : List X) (t j p : ℕ) (d : X) → j < 8 → p ≡ t + j → get_or (take (t + 8 - t) (drop t xs)) j d ≡ get_or xs p d
+part-at xs t j p d low is =
+    get_or-take (t + 8 - t) (drop t xs) j d (omega arith) ∙ get_or-drop t xs j d ∙ ap (λ k. get_or xs k d) (sym is)
+
 -- one more round
 pub rounds_more : (h w v next : List ℕ) (t n k x : ℕ) → n ≡ t + 1 → v ≡ rounds h w t → k ≡ slice_index round_constants t
     → x ≡ slice_index w t → next ≡ round v k x → next ≡ rounds h w n

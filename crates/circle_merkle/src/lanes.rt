@@ -188,91 +188,15 @@ fn eight_rounds(v: &mut [Words; 8], words: &[Words; 64], t: usize)
         → lane i v.old ≡ rounds_of h w t → lane i v.new ≡ rounds_of h w (t + 8) }
 {
     let [mut a, mut b, mut c, mut d, mut e, mut f, mut g, mut h] = *v;
-    round(&a, &b, &c, &mut d, &e, &f, &g, &mut h, ROUND[t], &words[t]);
-    round(
-        &h,
-        &a,
-        &b,
-        &mut c,
-        &d,
-        &e,
-        &f,
-        &mut g,
-        ROUND[t + 1],
-        &words[t + 1],
-    );
-    round(
-        &g,
-        &h,
-        &a,
-        &mut b,
-        &c,
-        &d,
-        &e,
-        &mut f,
-        ROUND[t + 2],
-        &words[t + 2],
-    );
-    round(
-        &f,
-        &g,
-        &h,
-        &mut a,
-        &b,
-        &c,
-        &d,
-        &mut e,
-        ROUND[t + 3],
-        &words[t + 3],
-    );
-    round(
-        &e,
-        &f,
-        &g,
-        &mut h,
-        &a,
-        &b,
-        &c,
-        &mut d,
-        ROUND[t + 4],
-        &words[t + 4],
-    );
-    round(
-        &d,
-        &e,
-        &f,
-        &mut g,
-        &h,
-        &a,
-        &b,
-        &mut c,
-        ROUND[t + 5],
-        &words[t + 5],
-    );
-    round(
-        &c,
-        &d,
-        &e,
-        &mut f,
-        &g,
-        &h,
-        &a,
-        &mut b,
-        ROUND[t + 6],
-        &words[t + 6],
-    );
-    round(
-        &b,
-        &c,
-        &d,
-        &mut e,
-        &f,
-        &g,
-        &h,
-        &mut a,
-        ROUND[t + 7],
-        &words[t + 7],
-    );
+    let (k, w) = (&ROUND[t..t + 8], &words[t..t + 8]);
+    round(&a, &b, &c, &mut d, &e, &f, &g, &mut h, k[0], &w[0]);
+    round(&h, &a, &b, &mut c, &d, &e, &f, &mut g, k[1], &w[1]);
+    round(&g, &h, &a, &mut b, &c, &d, &e, &mut f, k[2], &w[2]);
+    round(&f, &g, &h, &mut a, &b, &c, &d, &mut e, k[3], &w[3]);
+    round(&e, &f, &g, &mut h, &a, &b, &c, &mut d, k[4], &w[4]);
+    round(&d, &e, &f, &mut g, &h, &a, &b, &mut c, k[5], &w[5]);
+    round(&c, &d, &e, &mut f, &g, &h, &a, &mut b, k[6], &w[6]);
+    round(&b, &c, &d, &mut e, &f, &g, &h, &mut a, k[7], &w[7]);
     *v = [a, b, c, d, e, f, g, h];
 }
 
