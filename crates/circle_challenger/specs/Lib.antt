@@ -1,6 +1,7 @@
 pub mod Due
 pub mod Grinding
 pub mod Interaction
+pub mod Lanes
 pub mod Least
 pub mod Moves
 pub mod Observing

@@ -10,7 +10,7 @@ use Rattle.std.proofs.lemmas.List.FromFn.{get_or-map-range_with_len}
 use Rattle.sha2.specs.Sha256.{sha256}
 use Rattle.circle_matrix.specs.Mmcs.{dimensions_of}
 use Rattle.circle_merkle.specs.Authentication.{level_digests}
-use Rattle.circle_merkle.specs.Lanes.{pair_digest, row_digests}
+use Rattle.circle_merkle.specs.Messages.{pair_digest, row_digests}
 use Rattle.circle_merkle.specs.RowBytes.{matrix_bytes}
 use Rattle.circle_merkle.specs.Rows.{matrix_rows, size_of}
 use Rattle.circle_merkle.specs.Tree.{digest, node_digest, rows_digest}

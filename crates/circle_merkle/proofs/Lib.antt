@@ -19,7 +19,5 @@ pub mod LevelNodes
 pub mod Fits
 pub mod Heights
 pub mod Refusals
-pub mod Shifts
-pub mod Sixteen
 pub mod Padded
 pub mod Levels

@@ -12,4 +12,4 @@ pub mod SamePosition
 pub mod Verdict
 pub mod Worked
 pub mod Named
-pub mod Lanes
+pub mod Messages

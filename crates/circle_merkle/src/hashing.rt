@@ -8,11 +8,9 @@ ghost use Rattle.circle_merkle.specs.Tree.{rows_digest as rows_digest_of};
 ghost use Rattle.circle_merkle.specs.Rows.{bytes_of_height};
 
 use crate::rows::RowOfEach;
+pub use circle_challenger::lanes::Hash;
 use circle_field::ElementBytes;
 use sha2::{Digest, Sha256};
-
-/// A digest of SHA-256.
-pub type Hash = [u8; 32];
 
 // Adds the bytes of a row's entries to the message.
 fn absorb_row<T: ElementBytes>(hasher: &mut Sha256, row: &[T])

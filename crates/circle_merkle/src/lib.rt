@@ -26,21 +26,19 @@
 //!
 //! Its files:
 //!
-//! - In `src/`, `lanes.rt`: SHA-256 of sixteen messages at once, which costs about half of what it
-//!   costs one after another; `messages.rt`: what a tree hashes, put together for it; `order.rt`,
-//!   `positions.rt`: indices and known positions; `tree.rt`, `prover_data.rt`: the tree; `root.rt`,
-//!   `verify.rt`: the root of opened rows, and the verdict.
+//! - In `src/`, `messages.rt`: what a tree hashes, put together for `circle_challenger::lanes`, by
+//!   sixteen messages; `order.rt`, `positions.rt`: indices and known positions; `tree.rt`,
+//!   `prover_data.rt`: the tree; `root.rt`, `verify.rt`: the root of opened rows, and the verdict.
 //! - In `specs/`, `Tree`, `Authentication`, `Verdict`: the tree, when rows are authenticated, which
-//!   refusal is right. `Lanes`: words of messages side by side. The others: what rows, kept data and
+//!   refusal is right. `Messages`: what is hashed by sixteen. The others: what rows, kept data and
 //!   walks are to contracts. `Worked`: examples.
 //! - In `proofs/`, `Completeness`: what a tree gives is shown to be of its root. `Refusals`: a
-//!   right refusal is of rows that aren't. `Shifts`, `Sixteen`, `Padded`, `Levels`: sixteen messages
-//!   at once. The others: walks, levels, orders and positions.
+//!   right refusal is of rows that aren't. `Padded`, `Levels`: sixteen messages at once. The others:
+//!   walks, levels, orders and positions.
 #![tactic(auto)]
 
 mod error;
 mod hashing;
-mod lanes;
 mod messages;
 mod mmcs;
 mod order;

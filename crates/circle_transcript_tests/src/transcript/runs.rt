@@ -5,9 +5,7 @@ use circle_challenger::{CanSample, Sha256Challenger};
 use circle_field::{Cubic, Mersenne31};
 use circle_point::Point;
 use circle_runs::{CircleMessages, prover_run};
-use circle_transcript::{
-    CirclePcsShape, CircleProverTranscript, CircleTranscriptFailure, CircleVerifierTranscript,
-};
+use circle_transcript::{CirclePcsShape, CircleTranscriptFailure, CircleVerifierTranscript};
 use std::alloc::Global;
 use std::test::Fail;
 
@@ -64,21 +62,4 @@ fn an_abandoned_transcript_gives_the_challenger_back(rt: HostRuntime) {
     assert!(rt; drawn == Ok(cubic(1618322056, 275400548, 1748926505)));
     let next: Mersenne31 = challenger.sample();
     assert_eq!(rt; next, element(1257372603));
-}
-
-#[test]
-fn a_transcript_that_is_refused_memory_leaves_the_challenger(rt: HostRuntime) -> Result<(), Fail> {
-    let alloc = rt.alloc();
-    let shape = CirclePcsShape::new(&params(1, NONE), Vec::new(alloc), 3, 1);
-    let mut challenger = Sha256Challenger::new();
-    let begun = CircleProverTranscript::<Sha256Challenger, Mersenne31, Cubic>::new(
-        alloc,
-        &mut challenger,
-        shape,
-    );
-    match begun {
-        Ok(transcript) => transcript.abort(),
-        Err(_) => assert_eq!(rt; challenger, Sha256Challenger::new()),
-    }
-    Ok(())
 }

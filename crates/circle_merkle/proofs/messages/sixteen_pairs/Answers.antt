@@ -3,7 +3,7 @@ use Rattle.std.specs.List.{range_with_len}
 use Rattle.std.proofs.lemmas.List.FromFn.{length-map-range_with_len}
 use Rattle.std.proofs.lemmas.Simd.{map-map}
 use Rattle.sha2.specs.Sha256.{padded_message, sha256}
-use Rattle.circle_merkle.specs.Lanes.{pair_message}
+use Rattle.circle_merkle.specs.Messages.{pair_message}
 use Rattle.circle_merkle.proofs.Padded.{length-padded, messages-length, messages-more, sixteen-at}
 use Rattle.circle_merkle.proofs.messages.sixteen_pairs.Goals as goal
 

@@ -1,5 +1,5 @@
 use Rattle.std.proofs.Common.{◌-◌}
-use Rattle.circle_merkle.specs.Lanes.{pair_message}
+use Rattle.circle_merkle.specs.Messages.{pair_message}
 use Rattle.circle_merkle.proofs.Padded.{AreMessages}
 use Rattle.circle_merkle.proofs.messages.sixteen_pairs.Given as goal
 

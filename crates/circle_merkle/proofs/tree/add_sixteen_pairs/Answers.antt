@@ -1,7 +1,7 @@
 use Rattle.std.proofs.Common.{◌≡◌, ◌+◌, ◌*◌, ◌++◌, ◌∙◌, ap, map, arith}
 use Rattle.std.specs.List.{range_with_len}
 use Rattle.sha2.specs.Sha256.{sha256}
-use Rattle.circle_merkle.specs.Lanes.{pair_digest}
+use Rattle.circle_merkle.specs.Messages.{pair_digest}
 use Rattle.circle_merkle.proofs.Levels.{range-joined}
 use Rattle.circle_merkle.proofs.tree.add_sixteen_pairs.Goals as goal
 

@@ -1,5 +1,5 @@
 use Rattle.std.proofs.Common.{◌≡◌, ◌*◌}
-use Rattle.circle_merkle.specs.Lanes.{row_digests}
+use Rattle.circle_merkle.specs.Messages.{row_digests}
 use Rattle.circle_merkle.proofs.tree.add_sixteen_rows.Given as goal
 
 abbrev pub invariant-loop-group : goal.invariant-loop-group

@@ -3,7 +3,7 @@ use Rattle.std.specs.List.{range_with_len}
 use Rattle.std.proofs.lemmas.Result.{IfOk-weaker}
 use Rattle.std.proofs.lemmas.List.FromFn.{length-map-range_with_len}
 use Rattle.sha2.specs.Sha256.{sha256}
-use Rattle.circle_merkle.specs.Lanes.{pair_digest}
+use Rattle.circle_merkle.specs.Messages.{pair_digest}
 use Rattle.circle_merkle.specs.Authentication.{IsNextLevel}
 use Rattle.circle_merkle.proofs.Levels.{joined-level, plain-level}
 use Rattle.circle_merkle.proofs.tree.next_level.Goals as goal

@@ -2,7 +2,7 @@ use Rattle.std.proofs.Common.{◌++◌, ◌∷◌, [], ◌∙◌, ap, sym, map, 
 use Rattle.std.specs.List.{range_with_len}
 use Rattle.std.proofs.lemmas.List.FromFn.{map-range_with_len_more}
 use Rattle.sha2.specs.Sha256.{sha256}
-use Rattle.circle_merkle.specs.Lanes.{pair_digest}
+use Rattle.circle_merkle.specs.Messages.{pair_digest}
 use Rattle.circle_merkle.proofs.tree.pairs_level.Goals as goal
 
 pub loop-i-preserved : goal.loop-i-preserved

@@ -1,5 +1,5 @@
 use Rattle.std.proofs.Common.{◌≡◌}
-use Rattle.circle_merkle.specs.Lanes.{row_digests}
+use Rattle.circle_merkle.specs.Messages.{row_digests}
 use Rattle.circle_merkle.proofs.tree.rows_level.Given as goal
 
 abbrev pub invariant-loop-i : goal.invariant-loop-i
