@@ -1,8 +1,9 @@
 //! Worked examples of the scheme over several crates, with expected values from outside: what is
-//! committed to and what the verifier answers; and a verifier over any scheme.
+//! committed to and what the verifier answers; and a caller of it over any scheme.
 #![tactic(auto)]
 
-pub mod any_scheme;
+#[cfg(test)]
+mod any_scheme;
 #[cfg(test)]
 mod claims;
 #[cfg(test)]
