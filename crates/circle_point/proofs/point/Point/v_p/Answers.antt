@@ -5,6 +5,12 @@ use Rattle.circle_point.specs.Point.{coordinates}
 use Rattle.circle_point.proofs.Selectors.{vanishing_norm}
 use Rattle.circle_point.proofs.point.Point.v_p.Goals as goal
 
+pub returns-clause-re : goal.returns-clause-re
+returns-clause-re g c = grind (arith, common_steps, g.met.EF.Field.sub_law, g.met.EF.Field.one_law)
+
+pub returns-clause-im : goal.returns-clause-im
+returns-clause-im g c = grind (arith, common_steps, g.met.EF.Field.neg_law)
+
 pub returns-clause-norm : goal.returns-clause-norm
 returns-clause-norm g c =
     let k = g.EF.Operations.ops in
