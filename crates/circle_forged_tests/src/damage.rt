@@ -2,13 +2,15 @@
 use crate::played::play;
 use crate::statement::Opening;
 use circle_challenger::Sha256Challenger;
-use circle_commit::{MatrixOpening, PointOpening, PowPhase};
+use circle_commit::{BatchMultiOpening, MatrixOpening, PointOpening, PowPhase};
 use circle_field::{Cubic, Field, Mersenne31};
 use circle_presets::{ChallengeMmcs, Proof, Scheme, ValMmcs};
 use circle_runs::CircleDraws;
 use circle_statements::batches::{Domain, cubic, one};
 use circle_transcript::CircleTranscriptFailure;
-use p3_circle::{CircleFriProof, CircleInputProof, Neutral, Point};
+use p3_circle::{
+    CircleCommitPhaseMultiStep, CircleFriProof, CircleInputProof, Neutral, Point,
+};
 use std::alloc::Global;
 use std::test::Fail;
 
@@ -16,6 +18,8 @@ use std::test::Fail;
 #[derive(Clone, Copy, Debug)]
 pub(crate) enum Damage {
     Nothing,
+    /// Nothing of an opening with a proof of work of the batching challenge.
+    NothingOfWorked,
     Parameters(OfParameters),
     Claims(OfClaims),
     Witnesses(OfWitnesses),
@@ -23,6 +27,8 @@ pub(crate) enum Damage {
     FirstLayer(OfFirstLayer),
     /// One element of one opened row is raised by one.
     OpenedRow,
+    /// The first digest that shows the opened rows is zero.
+    Digest,
 }
 
 /// What is changed of the parameters.
@@ -38,9 +44,13 @@ pub(crate) enum OfParameters {
 /// What is changed of the claims.
 #[derive(Clone, Copy, Debug)]
 pub(crate) enum OfClaims {
+    /// There are none.
+    None,
     /// The first matrix is claimed to be on a domain with this logarithm of its size.
     Size(usize),
     Value,
+    /// A value, where there is a proof of work of the batching challenge.
+    ValueOfWorked,
     Point,
     /// The second matrix is claimed at no point.
     NoPoints,
@@ -55,6 +65,8 @@ pub(crate) enum OfWitnesses {
     Round,
     Batch,
     BatchAndQuery,
+    /// The witness of the batching challenge, for which there is work, is zero.
+    BatchMissing,
     /// The witness of the indices, for which there is work, is one that doesn't pass.
     Missing,
 }
@@ -62,12 +74,19 @@ pub(crate) enum OfWitnesses {
 /// What is changed of the rounds and of the word that they end in.
 #[derive(Clone, Copy, Debug)]
 pub(crate) enum OfRounds {
+    CommitmentLess,
+    OpeningLess,
     /// Round 1 is opened at a query less.
     QueryLess,
+    /// A query of round 0 has a sibling less.
+    SiblingLess,
     /// A query of round 2 has a sibling more.
     SiblingMore,
     /// A sibling is raised by one.
     Sibling,
+    /// The first digest that shows the pairs of round 0 is zero.
+    Digest,
+    CoefficientMore,
     FinalPolynomial,
 }
 
@@ -82,11 +101,16 @@ pub(crate) enum OfFirstLayer {
     QueryLess,
     /// At a query whose index is drawn before, the sibling in this place is raised by one.
     SiblingOfRepeated(usize),
+    /// The first digest that shows the pairs is zero.
+    Digest,
 }
 
 /// The difficulties at which the opening to be changed is made.
 pub(crate) fn difficulties(damage: Damage) -> [usize; 3] {
     match damage {
+        Damage::NothingOfWorked
+        | Damage::Claims(OfClaims::ValueOfWorked)
+        | Damage::Witnesses(OfWitnesses::BatchMissing) => [8, 0, 0],
         Damage::Witnesses(OfWitnesses::Missing) => [0, 0, 8],
         _ => [0; 3],
     }
@@ -96,6 +120,12 @@ pub(crate) fn difficulties(damage: Damage) -> [usize; 3] {
 fn raise<F: Field>(element: Option<&mut F>) -> Result<(), Fail> {
     let element = element.ok_or("an element")?;
     *element = *element + F::ONE;
+    Ok(())
+}
+
+// Puts zeros in the place of the first digest.
+fn blank(digests: &mut Vec<[u8; 32]>) -> Result<(), Fail> {
+    *digests.first_mut().ok_or("a digest")? = [0; 32];
     Ok(())
 }
 
@@ -134,7 +164,7 @@ fn damage_matrices(
             let first = matrices.first_mut().ok_or("a matrix")?;
             first.domain = Domain::new(log_n, Point::ZERO);
         }
-        OfClaims::Value => {
+        OfClaims::Value | OfClaims::ValueOfWorked => {
             let first = matrices.first_mut().ok_or("a matrix")?;
             let claim = first.points.first_mut().ok_or("a point")?;
             raise(claim.values.first_mut())?;
@@ -147,6 +177,7 @@ fn damage_matrices(
             matrices.get_mut(1).ok_or("two matrices")?.points = Vec::new(alloc);
         }
         OfClaims::TwoRows => matrices.push(two_rows(alloc)?)?,
+        OfClaims::None => {}
     }
     Ok(())
 }
@@ -196,6 +227,7 @@ fn damage_witnesses(proof: &mut Proof, damage: OfWitnesses) -> Result<(), Fail> 
             words.pow_witness = Mersenne31::ONE;
             proof.batch_pow_witness = Mersenne31::ONE;
         }
+        OfWitnesses::BatchMissing => proof.batch_pow_witness = Mersenne31::ZERO,
         OfWitnesses::Missing => {}
     }
     Ok(())
@@ -207,23 +239,29 @@ type Inputs = CircleInputProof<Mersenne31, Cubic, ValMmcs, ChallengeMmcs>;
 /// What is proved of the words.
 type Words = CircleFriProof<Cubic, ChallengeMmcs, Mersenne31, Inputs>;
 
-// The siblings of this round.
-fn siblings(words: &mut Words, round: usize) -> Result<&mut Vec<Vec<Cubic>>, Fail> {
-    let opening = words.commit_phase_openings.get_mut(round).ok_or("a round")?;
-    Ok(&mut opening.sibling_values)
+/// What is opened of a round.
+type Round = CircleCommitPhaseMultiStep<Cubic, ChallengeMmcs>;
+
+fn round(words: &mut Words, number: usize) -> Result<&mut Round, Fail> {
+    Ok(words.commit_phase_openings.get_mut(number).ok_or("a round")?)
+}
+
+// The siblings of the first query of this round.
+fn siblings(words: &mut Words, number: usize) -> Result<&mut Vec<Cubic>, Fail> {
+    let opening = round(words, number)?;
+    Ok(opening.sibling_values.first_mut().ok_or("a query")?)
 }
 
 fn damage_rounds(words: &mut Words, damage: OfRounds) -> Result<(), Fail> {
     match damage {
-        OfRounds::QueryLess => drop(siblings(words, 1)?.pop()),
-        OfRounds::SiblingMore => {
-            let first = siblings(words, 2)?.first_mut().ok_or("a query")?;
-            first.push(Cubic::ZERO)?;
-        }
-        OfRounds::Sibling => {
-            let first = siblings(words, 0)?.first_mut().ok_or("a query")?;
-            raise(first.first_mut())?;
-        }
+        OfRounds::CommitmentLess => drop(words.commit_phase_commits.pop()),
+        OfRounds::OpeningLess => drop(words.commit_phase_openings.pop()),
+        OfRounds::QueryLess => drop(round(words, 1)?.sibling_values.pop()),
+        OfRounds::SiblingLess => drop(siblings(words, 0)?.pop()),
+        OfRounds::SiblingMore => siblings(words, 2)?.push(Cubic::ZERO)?,
+        OfRounds::Sibling => raise(siblings(words, 0)?.first_mut())?,
+        OfRounds::Digest => blank(&mut round(words, 0)?.opening_proof)?,
+        OfRounds::CoefficientMore => words.final_poly.push(Cubic::ZERO)?,
         OfRounds::FinalPolynomial => raise(words.final_poly.first_mut())?,
     }
     Ok(())
@@ -246,7 +284,8 @@ fn damage_first_layer(
 ) -> Result<(), Fail> {
     let indices = drawn(alloc, given)??.indices;
     let lambdas = &mut given.proof.lambdas;
-    let siblings = &mut given.proof.fri_proof.input_openings.first_layer_siblings;
+    let inputs = &mut given.proof.fri_proof.input_openings;
+    let siblings = &mut inputs.first_layer_siblings;
     match damage {
         OfFirstLayer::LambdaMore => lambdas.push(Cubic::ZERO)?,
         OfFirstLayer::LambdaLess => drop(lambdas.pop()),
@@ -256,13 +295,19 @@ fn damage_first_layer(
             let query = repeated(&indices).ok_or("no index repeats")?;
             raise(siblings.get_mut(query).ok_or("a query")?.get_mut(place))?;
         }
+        OfFirstLayer::Digest => blank(&mut inputs.first_layer_proof)?,
     }
     Ok(())
 }
 
+// What is opened of the batch.
+fn opened(inputs: &mut Inputs) -> Result<&mut BatchMultiOpening<Mersenne31, ValMmcs>, Fail> {
+    Ok(inputs.input_openings.first_mut().ok_or("a batch")?)
+}
+
 // Adds one to the element of the first query's row of the second matrix.
 fn damage_row(inputs: &mut Inputs) -> Result<(), Fail> {
-    let batch = inputs.input_openings.first_mut().ok_or("a batch")?;
+    let batch = opened(inputs)?;
     let rows = batch.opened_values.first_mut().ok_or("a query")?;
     raise(rows.get_mut(1).ok_or("two matrices")?.first_mut())
 }
@@ -270,9 +315,13 @@ fn damage_row(inputs: &mut Inputs) -> Result<(), Fail> {
 /// Changes the opening.
 pub(crate) fn apply(alloc: Global, given: &mut Opening, damage: Damage) -> Result<(), Fail> {
     match damage {
-        Damage::Nothing => Ok(()),
+        Damage::Nothing | Damage::NothingOfWorked => Ok(()),
         Damage::Parameters(of) => {
             damage_parameters(&mut given.scheme, of);
+            Ok(())
+        }
+        Damage::Claims(OfClaims::None) => {
+            given.claims = Vec::new(alloc);
             Ok(())
         }
         Damage::Claims(of) => {
@@ -284,5 +333,8 @@ pub(crate) fn apply(alloc: Global, given: &mut Opening, damage: Damage) -> Resul
         Damage::Rounds(of) => damage_rounds(&mut given.proof.fri_proof, of),
         Damage::FirstLayer(of) => damage_first_layer(alloc, given, of),
         Damage::OpenedRow => damage_row(&mut given.proof.fri_proof.input_openings),
+        Damage::Digest => {
+            blank(&mut opened(&mut given.proof.fri_proof.input_openings)?.opening_proof)
+        }
     }
 }

@@ -31,6 +31,38 @@ type Row = (Damage, &'static [&'static str], When);
 
 const BEFORE_THE_SEEDING: &[Row] = &[
     (
+        Damage::Claims(OfClaims::None),
+        &["no matrix is claimed"],
+        When::Before,
+    ),
+    (
+        Damage::Claims(OfClaims::Size(0)),
+        &[
+            "the input is refused: tallest claimed domain is 2^0 rows; the first-layer fold needs at least 2",
+        ],
+        When::Before,
+    ),
+    (
+        Damage::Rounds(OfRounds::CommitmentLess),
+        &["the proof commits to 2 rounds, and 3 are due"],
+        When::Before,
+    ),
+    (
+        Damage::Rounds(OfRounds::OpeningLess),
+        &["the proof opens 2 rounds, and 3 are due"],
+        When::Before,
+    ),
+    (
+        Damage::Rounds(OfRounds::SiblingLess),
+        &["a query of round 0 has 0 siblings, and 1 are due"],
+        When::Before,
+    ),
+    (
+        Damage::Rounds(OfRounds::CoefficientMore),
+        &["the final polynomial has 2 coefficients, and 1 are due"],
+        When::Before,
+    ),
+    (
         Damage::Witnesses(OfWitnesses::RoundLess),
         &["the proof has witnesses for 2 rounds, and 3 are due"],
         When::Before,
@@ -98,6 +130,10 @@ const INPUT_ROWS: &str = "the input is refused: input MMCS error: ";
 
 const FIRST_LAYER: &str = "the input is refused: first layer MMCS error: ";
 
+const NO_POINTS: &str = "the input is refused: batch 0, matrix 1: opened at no points; its width cannot be authenticated";
+
+const WEAK: &str = "a witness of a proof of work does not pass (batch)";
+
 const ROUND: &str = "the opening of a round is refused: ";
 
 const LAST_WORD: &str = "a query is folded to another value than the final polynomial's";
@@ -112,6 +148,22 @@ const REFUSED: &[&str] = &[
 
 const AFTER_THE_SEEDING: &[Row] = &[
     (Damage::Nothing, &["accepted"], When::After),
+    (Damage::NothingOfWorked, &["accepted"], When::After),
+    (
+        Damage::Digest,
+        &["the input is refused: input MMCS error: the root is not the commitment"],
+        When::After,
+    ),
+    (
+        Damage::FirstLayer(OfFirstLayer::Digest),
+        &["the input is refused: first layer MMCS error: the root is not the commitment"],
+        When::After,
+    ),
+    (
+        Damage::Rounds(OfRounds::Digest),
+        &["the opening of a round is refused: the root is not the commitment"],
+        When::After,
+    ),
     (
         Damage::FirstLayer(OfFirstLayer::LambdaMore),
         INPUT_SHAPE,
@@ -159,8 +211,18 @@ const AFTER_THE_SEEDING: &[Row] = &[
     ),
     (Damage::Claims(OfClaims::Value), REFUSED, When::After),
     (Damage::Claims(OfClaims::Point), REFUSED, When::After),
-    (Damage::Claims(OfClaims::NoPoints), REFUSED, When::After),
+    (Damage::Claims(OfClaims::NoPoints), &[NO_POINTS], When::After),
     (Damage::Claims(OfClaims::TwoRows), REFUSED, When::After),
+    (
+        Damage::Claims(OfClaims::ValueOfWorked),
+        &[WEAK],
+        When::Within,
+    ),
+    (
+        Damage::Witnesses(OfWitnesses::BatchMissing),
+        &[WEAK],
+        When::Within,
+    ),
     (
         Damage::Witnesses(OfWitnesses::Missing),
         &["a witness of a proof of work does not pass (query)"],
@@ -200,7 +262,6 @@ fn answer_to(alloc: Global, given: Opening) -> Answered {
         scheme,
         claims,
         proof,
-        prover: _,
     } = given;
     let mut verifier = Sha256Challenger::new();
     let answer = shown(verify(alloc, &scheme, claims, &proof, &mut verifier));
@@ -226,16 +287,6 @@ fn forged_proofs(rt: HostRuntime) -> Result<(), Fail> {
             );
         }
     }
-    Ok(())
-}
-
-#[test]
-fn both_sides_end_in_one_state(rt: HostRuntime) -> Result<(), Fail> {
-    let given = proved(rt.alloc(), [0; 3])?;
-    let prover = given.prover.clone()?;
-    let (answer, verifier) = answer_to(rt.alloc(), given);
-    assert_eq!(rt; answer.as_str(), "accepted");
-    assert_eq!(rt; verifier, prover);
     Ok(())
 }
 

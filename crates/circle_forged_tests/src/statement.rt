@@ -8,13 +8,12 @@ use circle_statements::parameters::{Numbers, scheme};
 use std::alloc::Global;
 use std::test::Fail;
 
-/// The matrices with their opening at forty queries, and the challenger that it leaves.
+/// The matrices with their opening at forty queries.
 #[derive(Drop)]
 pub(crate) struct Opening {
     pub(crate) scheme: Scheme,
     pub(crate) claims: Claims,
     pub(crate) proof: Proof,
-    pub(crate) prover: Sha256Challenger,
 }
 
 /// The number of queries: more than the 32 indices that there are, so that one repeats.
@@ -57,13 +56,11 @@ pub(crate) fn columns(alloc: Global, scheme: &Scheme) -> Result<Batch, Fail> {
 pub(crate) fn proved(alloc: Global, work: [usize; 3]) -> Result<Opening, Fail> {
     let scheme = scheme(numbers(0, work));
     let batches = [columns(alloc, &scheme)?];
-    let mut prover = Sha256Challenger::new();
-    let (values, proof) = open(alloc, &scheme, &batches, &mut prover)?;
+    let (values, proof) = open(alloc, &scheme, &batches, &mut Sha256Challenger::new())?;
     let claims = claims_of(alloc, &batches, &values)?;
     Ok(Opening {
         scheme,
         claims,
         proof,
-        prover,
     })
 }

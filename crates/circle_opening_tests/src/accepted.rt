@@ -8,11 +8,11 @@ use circle_commit::OpenedValues;
 use circle_field::Cubic;
 use circle_presets::{Proof, Scheme};
 use circle_statements::batches::{
-    Batch, Domain, Rows, Size, commit_one, cubic, one, points_of, scattered, standard,
+    AtPoints, Batch, Domain, Size, at_points, commit_one, cubic, one, scattered,
 };
 use circle_statements::openings::{Answer, claims_of, open, shown, verify};
 use circle_statements::parameters::{Numbers, SMALL, scheme};
-use p3_circle::{BatchAtPoints, Point, heights_match_domains};
+use p3_circle::{Point, heights_match_domains};
 use std::alloc::Global;
 use std::fmt::InlineText;
 use std::process::Abort;
@@ -90,23 +90,6 @@ fn domains_that_are_not_standard(rt: HostRuntime) -> Result<(), Fail> {
         assert_turned(&rt, rt.alloc(), log_final_poly_len, turned, 13)?;
     }
     Ok(())
-}
-
-type AtPoints = BatchAtPoints<Cubic, Domain, Rows>;
-
-// Matrices of these sizes on standard domains, with their points.
-fn at_points(alloc: Global, sizes: &[Size], seed: u64) -> Result<AtPoints, Fail> {
-    let mut evaluations = Vec::new(alloc);
-    let mut points = Vec::new(alloc);
-    for (log_n, width, count) in sizes {
-        let matrix = scattered(alloc, *log_n, *width, seed)?;
-        evaluations.push((standard(*log_n)?, matrix))?;
-        points.push(points_of(alloc, *count, seed)?)?;
-    }
-    Ok(BatchAtPoints {
-        evaluations,
-        points,
-    })
 }
 
 // Batches of these sizes.

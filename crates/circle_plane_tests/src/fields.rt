@@ -1,4 +1,4 @@
-//! Inverses together, and operations of the quadratic extension.
+//! Inverses together, and powers in the quadratic extension.
 use circle_field::{ExtensionField, Field, Mersenne31, batch_multiplicative_inverse};
 use circle_fixtures::quadratic::Quadratic;
 use std::alloc::AllocError;
@@ -33,41 +33,4 @@ fn powers(rt: HostRuntime) -> Result<(), AllocError> {
     let powers = Quadratic::powers(rt.alloc(), quadratic(0, 1), 4)?;
     assert_eq!(rt; powers.as_slice(), expected.as_slice());
     Ok(())
-}
-
-#[test]
-fn quadratic_products(rt: HostRuntime) {
-    let (a, b) = (quadratic(123456789, 987654321), quadratic(31, 1000000007));
-    for (left, right) in [
-        (a * b, quadratic(1753848307, 2102596007)),
-        ((a - b) * (a + b), a.square() - b.square()),
-        (a + -a, Quadratic::ZERO),
-        (a.halve().double(), a),
-        (Quadratic::TWO, Quadratic::from_u64(2)),
-    ] {
-        assert_eq!(rt; left, right);
-    }
-}
-
-#[test]
-fn quadratic_inverses(rt: HostRuntime) {
-    assert_eq!(rt; Quadratic::ZERO.try_inverse(), None);
-    for (value, inverse) in [
-        (quadratic(0, 1), quadratic(0, 2147483646)),
-        (quadratic(1, 2), quadratic(858993459, 429496729)),
-        (
-            quadratic(123456789, 987654321),
-            quadratic(1759746630, 1990861959),
-        ),
-    ] {
-        assert_eq!(rt; value.try_inverse(), Some(inverse));
-    }
-}
-
-#[test]
-fn quadratic_coefficients(rt: HostRuntime) {
-    let a = quadratic(7, 8);
-    let (c0, c1): (Mersenne31, Mersenne31) = (a.coefficient(0), a.coefficient(1));
-    assert_eq!(rt; (c0.value(), c1.value()), (7, 8));
-    assert_eq!(rt; Quadratic::from_base(Mersenne31::ONE), Quadratic::ONE);
 }

@@ -1,10 +1,9 @@
-//! The circle transform over Mersenne31: the fast form beside the plain one.
+//! Matrices over Mersenne31 and calls of the circle transform, which the other tests share.
 use circle_commit::{Matrix, RowMajorMatrix};
 use circle_field::{ExtensionField, Field, Mersenne31};
-use circle_plane::{CircleDomain, CircleEvaluations, Point, circle_basis};
+use circle_plane::{CircleDomain, CircleEvaluations};
 use std::alloc::{AllocError, Global};
 use std::process::Abort;
-use std::test::Fail;
 
 pub(crate) type Domain = CircleDomain<Mersenne31>;
 
@@ -45,25 +44,6 @@ pub(crate) fn plain_entry<EF: ExtensionField<Mersenne31>>(
         sum = sum + factors[r] * EF::from_base(row[column]);
     }
     sum
-}
-
-// The rows of the sum over the basis at each point in natural order.
-fn plain_rows(
-    rt: &impl Abort,
-    alloc: Global,
-    domain: Domain,
-    coeffs: &Rows,
-) -> Result<Rows, AllocError> {
-    assert!(rt; domain.log_n() >= 1 && domain.log_n() <= 10);
-    let mut values = Vec::new(alloc);
-    for point in domain.points() {
-        let basis = circle_basis(alloc, point, domain.log_n())?;
-        for column in 0..coeffs.width() {
-            values.push(plain_entry(rt, coeffs, column, &basis))?;
-        }
-    }
-    assert!(rt; coeffs.width() >= 1 && values.len() % coeffs.width() == 0);
-    Ok(RowMajorMatrix::new(values, coeffs.width()))
 }
 
 // `CircleEvaluations::evaluate`, after a test of what it asks.
@@ -110,31 +90,4 @@ pub(crate) fn column(alloc: Global, values: &[u64]) -> Result<Rows, AllocError> 
         .map(|value| Mersenne31::from_u64(*value))
         .collect(alloc)?;
     Ok(RowMajorMatrix::new_col(values))
-}
-
-// Asserts that scattered coefficients have the same values in both forms.
-fn assert_evaluated(
-    rt: &impl Abort,
-    alloc: Global,
-    log_n: usize,
-    width: usize,
-) -> Result<(), AllocError> {
-    assert!(rt; log_n >= 1 && log_n < 6 && width <= 11);
-    let shift = Point::<Mersenne31>::generator(31) * (7919 * log_n + width);
-    let domain = CircleDomain::new(log_n, shift);
-    let coeffs = scattered(rt, alloc, 1 << (log_n / 2), width, log_n as u64)?;
-    let plain = plain_rows(rt, alloc, domain, &coeffs)?;
-    let fast = evaluate(rt, alloc, domain, coeffs)?.to_natural_order();
-    assert_same(rt, &fast, &plain);
-    Ok(())
-}
-
-#[test]
-fn the_fast_form_beside_the_plain_one(rt: HostRuntime) -> Result<(), Fail> {
-    for log_n in 1..6 {
-        for width in [1, 4, 11] {
-            assert_evaluated(&rt, rt.alloc(), log_n, width)?;
-        }
-    }
-    Ok(())
 }

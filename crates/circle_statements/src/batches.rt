@@ -5,7 +5,7 @@ use circle_commit::{Mmcs, RowMajorMatrix};
 use circle_field::{ComplexExtendable, Cubic, ExtensionField, Field, Mersenne31};
 pub use circle_presets::Domain;
 use circle_presets::{ProverData, Scheme};
-use p3_circle::{CircleDomain, CirclePcs, heights_match_domains};
+use p3_circle::{BatchAtPoints, CircleDomain, CirclePcs, heights_match_domains};
 use std::alloc::{AllocError, Global};
 use std::test::Fail;
 
@@ -150,13 +150,11 @@ pub fn points_of(alloc: Global, count: u64, seed: u64) -> Result<Vec<Cubic>, All
     Ok(points)
 }
 
-/// Commits to matrices of these sizes on standard domains.
-pub fn scattered_batch(
-    alloc: Global,
-    scheme: &Scheme,
-    sizes: &[Size],
-    seed: u64,
-) -> Result<Batch, Fail> {
+/// Matrices on their domains, with the points that each is opened at.
+pub type AtPoints = BatchAtPoints<Cubic, Domain, Rows>;
+
+/// Matrices of these sizes on standard domains, with their points.
+pub fn at_points(alloc: Global, sizes: &[Size], seed: u64) -> Result<AtPoints, Fail> {
     let mut evaluations = Vec::new(alloc);
     let mut points = Vec::new(alloc);
     for (log_n, width, count) in sizes {
@@ -164,6 +162,23 @@ pub fn scattered_batch(
         evaluations.push((standard(*log_n)?, matrix))?;
         points.push(points_of(alloc, *count, seed)?)?;
     }
+    Ok(BatchAtPoints {
+        evaluations,
+        points,
+    })
+}
+
+/// Commits to matrices of these sizes.
+pub fn scattered_batch(
+    alloc: Global,
+    scheme: &Scheme,
+    sizes: &[Size],
+    seed: u64,
+) -> Result<Batch, Fail> {
+    let BatchAtPoints {
+        evaluations,
+        points,
+    } = at_points(alloc, sizes, seed)?;
     commit(alloc, scheme, evaluations, points)
 }
 
