@@ -6,6 +6,9 @@ use Rattle.circle_folding.specs.Fold.{fold_pair, folds}
 use Rattle.circle_folding.proofs.Folds.{two-entries}
 use Rattle.circle_folding.proofs.folding.fold_rows.Goals as goal
 
+pub batch_multiplicative_inverse-requires : goal.batch_multiplicative_inverse-requires
+batch_multiplicative_inverse-requires g c = c.requires.nonzero
+
 pub loop-j-preserved : goal.loop-j-preserved
 loop-j-preserved g c =
     let k = g.F.Operations.ops in

@@ -6,6 +6,9 @@ use Rattle.circle_folding.specs.Chain.{round_twiddle}
 use Rattle.circle_folding.proofs.Queries.{first-twiddle}
 use Rattle.circle_folding.proofs.query.first_x_twiddles.Goals as goal
 
+pub loop-index-init : goal.loop-index-init
+loop-index-init g c = c.in_ok-twiddles.ensures.items
+
 pub loop-index-preserved : goal.loop-index-preserved
 loop-index-preserved g c =
     let k = g.F.Operations.ops in
