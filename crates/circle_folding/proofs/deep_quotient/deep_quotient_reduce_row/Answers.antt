@@ -1,10 +1,10 @@
-use Rattle.std.proofs.Common.{◌≡◌, ◌∙◌, sym, ap, subst, refl, IsNone}
+use Rattle.std.proofs.Common.{◌≡◌, ◌∙◌, refl, sym, ap, subst, IsNone}
 use Rattle.std.proofs.lemmas.Bool.{false≢true}
-use Rattle.circle_folding.specs.Quotient.{real_part, imaginary_part}
 use Rattle.circle_field.specs.Field.{sub}
 use Rattle.circle_field.specs.Circle.{lifted, IsOnCircle}
 use Rattle.circle_field.specs.CircleGroup.{lifted-on_circle}
 use Rattle.circle_point.specs.Point.{coordinates}
+use Rattle.circle_folding.specs.Quotient.{real_part, imaginary_part}
 use Rattle.circle_folding.proofs.Vanishing.{real_part-zero, zero-real_part}
 use Rattle.circle_folding.proofs.Weighted.{claimed_quotient}
 use Rattle.circle_folding.proofs.deep_quotient.deep_quotient_reduce_row.Goals as goal

@@ -1,4 +1,4 @@
-use Rattle.std.proofs.Common.{◌≡◌, ◌≤◌, ◌<◌, ◌∙◌, sym, ap, arith, rules, length}
+use Rattle.std.proofs.Common.{◌≡◌, ◌≤◌, ◌<◌, ◌∙◌, sym, ap, arith, length}
 use Rattle.std.proofs.lemmas.Nat.{pow_pos}
 use Rattle.circle_point.specs.Basis.{iterated_x, x_value}
 use Rattle.circle_domain.proofs.Lifted.{lifted-iterated_x}
@@ -26,7 +26,7 @@ pub x_value-requires-2 : goal.x_value-requires-2
 x_value-requires-2 g t c =
     let half = half-power (length c.args.coefficients.now) c.requires.0 c.requires.1 c.if-half-eq0.false in
     let smaller : length c.split_at.result.1.now < length c.args.coefficients.now = omega (arith, c.split_at.ensures.back_len, half.3, c.if-half-eq0.false) in
-    λ κs outlives. (search (rules, smaller), (outlives.0, (outlives.1, (half.0, omega (arith, c.split_at.ensures.back_len, half.3, half.2)))))
+    λ κs outlives. (omega (arith, smaller, c.decreases), (outlives.0, (outlives.1, (half.0, omega (arith, c.split_at.ensures.back_len, half.3, half.2)))))
 
 pub log2_strict-requires : goal.log2_strict-requires
 log2_strict-requires g t c =
