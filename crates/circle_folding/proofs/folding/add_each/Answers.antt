@@ -3,6 +3,15 @@ use Rattle.circle_matrix.proofs.Written.{written, written-read, written-more, wr
 use Rattle.circle_matrix.specs.DotProduct.{pairwise}
 use Rattle.circle_folding.proofs.folding.add_each.Goals as goal
 
+pub bounds-others-i : goal.bounds-others-i
+bounds-others-i g c = omega (arith, c.loop-i-test.true, c.requires)
+
+pub offset_bounds-others-i : goal.offset_bounds-others-i
+offset_bounds-others-i g c = omega (arith, c.loop-i-test.true, c.requires)
+
+pub add-requires : goal.add-requires
+add-requires g c = g.met.E.Field.can_add_law _ c.index-others-i.result
+
 pub loop-i-preserved : goal.loop-i-preserved
 loop-i-preserved g c =
     let k = g.E.Operations.ops in

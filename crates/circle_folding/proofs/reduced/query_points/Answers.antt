@@ -6,6 +6,12 @@ use Rattle.circle_folding.specs.Queries.{query_point}
 use Rattle.circle_folding.proofs.Places.{place-below, point-at}
 use Rattle.circle_folding.proofs.reduced.query_points.Goals as goal
 
+pub overflow_shr-place : goal.overflow_shr-place
+overflow_shr-place g c = omega (arith, c.requires.small)
+
+pub cfft_permute_index-requires-clause-small : goal.cfft_permute_index-requires-clause-small
+cfft_permute_index-requires-clause-small g c = omega (arith, c.requires.within, c.requires.small)
+
 pub standard-domain-requires : goal.standard-domain-requires
 standard-domain-requires g c = omega (arith, c.requires.in_group)
 
