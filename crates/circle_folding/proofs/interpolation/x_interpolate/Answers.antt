@@ -9,6 +9,12 @@ use Rattle.circle_folding.proofs.Lengths.{length-multiples}
 use Rattle.circle_folding.proofs.Standard.{shifted-one, found-values, others-zero, only-ones, half-power-inverse}
 use Rattle.circle_folding.proofs.interpolation.x_interpolate.Goals as goal
 
+pub log2_strict-log_points-requires : goal.log2_strict-log_points-requires
+log2_strict-log_points-requires g c = (c.requires.0, c.requires.1)
+
+pub overflow_shl-log_len : goal.overflow_shl-log_len
+overflow_shl-log_len g c = omega (arith, c.requires.2, c.requires.3, g.met.F.ComplexExtendable.at_most_62)
+
 pub all_multiples-requires : goal.all_multiples-requires
 all_multiples-requires g c =
     let m = c.requires.0 in
