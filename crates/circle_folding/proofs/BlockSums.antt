@@ -21,6 +21,13 @@ take-blocks n i xs =
     let e : (i + 1) * n ≡ i * n + n = ap (λ m. m * n) (add-one i) ∙ suc-mul i n in
     ap (λ m. take m xs) e ∙ take-add (i * n) n xs
 
+-- block i of m is within them
+pub block-fits : (n i m count : ℕ) → i < m → count ≡ m * n → i * n + n ≤ count
+block-fits n i m count lt long =
+    let below : (i + 1) * n ≤ m * n = let le : i + 1 ≤ m = omega (arith, lt) in mul-le-mul_right n le in
+    let next : (i + 1) * n ≡ i * n + n = ap (λ j. j * n) (add-one i) ∙ suc-mul i n in
+    omega (arith, below, next, long)
+
 module _ {F : Type 0} {k : FieldOps F} (laws : RingLaws k) where
   sum-append : (xs : List F) (x : F) → sum_of k (xs ++ x ∷ []) ≡ k.add (sum_of k xs) x
   sum-append [] x = laws.add_comm x k.zero

@@ -11,6 +11,12 @@ use Rattle.circle_matrix.proofs.Written.{range-more}
 use Rattle.circle_domain.proofs.Twiddles.{first_factors, second_factors, next_factors, length-layer_factors, length-coset, even-pow, map-map, made-count, made-read}
 use Rattle.circle_domain.proofs.factors.layer_twiddles.Goals as goal
 
+pub first_points-requires-clause-positive : goal.first_points-requires-clause-positive
+first_points-requires-clause-positive g c = c.requires.positive
+
+pub first_points-requires-clause-in_group : goal.first_points-requires-clause-in_group
+first_points-requires-clause-in_group g c = c.requires.in_group
+
 pub loop-layer-init : goal.loop-layer-init
 loop-layer-init g c =
     let k = g.F.Operations.ops in

@@ -10,6 +10,20 @@ use Rattle.circle_domain.specs.Lagrange.{shares}
 use Rattle.circle_domain.proofs.LagrangeShares.{shares-more}
 use Rattle.circle_domain.proofs.lagrange.shares_of.Goals as goal
 
+pub loop-i-init : goal.loop-i-init
+loop-i-init g c = c.in_ok-shares.ensures.items
+
+pub index-inverse-requires : goal.index-inverse-requires
+index-inverse-requires g c =
+    let l = g.EF.Operations.ops in
+    let points = c.args.points.now in
+    let apart = λ (r : Point g.row.F.Denot g.F.Operations). sub l (g.EF.ExtensionField.embed (coordinates r).x) (coordinates c.args.at).x in
+    let inverses = c.in_ok-inverses.inverses in
+    let made : inverses.items ≡ map l.inv (map apart points) =
+    c.in_ok-inverses.ensures ∙ ap (map l.inv) (c.deref.ensures.value ∙ c.in_ok-differences.ensures) in
+    let long : length inverses.items ≡ length points = ap length made ∙ length-map (map apart points) l.inv ∙ length-map points apart in
+    omega (arith, long, inverses.ok.0, c.loop-i-test.true)
+
 pub batch_multiplicative_inverse-requires : goal.batch_multiplicative_inverse-requires
 batch_multiplicative_inverse-requires g c =
     let NonZero : g.row.EF.Denot → Type 0 = λ d. d ≢ g.EF.Operations.ops.zero in

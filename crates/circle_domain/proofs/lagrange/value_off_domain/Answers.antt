@@ -1,4 +1,4 @@
-use Rattle.std.proofs.Common.{◌∙◌, sym, ap, arith, map}
+use Rattle.std.proofs.Common.{◌∙◌, sym, ap, arith, map, ◌^◌, length}
 use Rattle.circle_point.specs.Basis.{value}
 use Rattle.circle_domain.specs.Domain.{log_size, shift_of}
 use Rattle.circle_matrix.specs.DotProduct.{dot}
@@ -6,6 +6,23 @@ use Rattle.circle_domain.specs.Ordering.{reordered}
 use Rattle.circle_domain.specs.Values.{Interpolates}
 use Rattle.circle_domain.proofs.NaturalValues.{natural-told, reordered-points}
 use Rattle.circle_domain.proofs.lagrange.value_off_domain.Goals as goal
+
+pub lagrange_weights-requires-clause-genuine : goal.lagrange_weights-requires-clause-genuine
+lagrange_weights-requires-clause-genuine g c = c.requires.genuine
+
+pub lagrange_weights-requires-clause-in_group : goal.lagrange_weights-requires-clause-in_group
+lagrange_weights-requires-clause-in_group g c = c.requires.in_group
+
+pub lagrange_weights-requires-clause-clear : goal.lagrange_weights-requires-clause-clear
+lagrange_weights-requires-clause-clear g c = c.requires.clear
+
+pub reordered_dot_product-requires-clause-shares : goal.reordered_dot_product-requires-clause-shares
+reordered_dot_product-requires-clause-shares g c =
+    ap length c.deref.ensures.value ∙ c.in_ok-weights.ensures.count ∙ ap (λ n. 2 ^ n) (sym c.log_n.ensures)
+
+pub reordered_dot_product-requires-clause-size : goal.reordered_dot_product-requires-clause-size
+reordered_dot_product-requires-clause-size g c =
+    c.requires.size ∙ ap (λ n. 2 ^ n) (sym c.log_n.ensures)
 
 pub reordered_dot_product-requires-clause-small : goal.reordered_dot_product-requires-clause-small
 reordered_dot_product-requires-clause-small g c = omega (arith, c.log_n.ensures, c.requires.in_group, g.met.F.ComplexExtendable.at_most_62)

@@ -1,10 +1,21 @@
-use Rattle.std.proofs.Common.{◌≡◌, ◌-◌, ◌+◌, ◌++◌, ◌∙◌, sym, ap, map, arith}
+use Rattle.std.proofs.Common.{◌≡◌, ◌-◌, ◌+◌, ◌++◌, ◌∙◌, sym, ap, map, arith, [], ◌∷◌}
 use Rattle.circle_field.specs.Circle.{plus}
 use Rattle.circle_domain.specs.Domain.{shift_of, log_size}
 use Rattle.circle_domain.specs.Order.{coset}
 use Rattle.circle_point.specs.Point.{coordinates}
 use Rattle.circle_domain.proofs.Twiddles.{coset-more}
 use Rattle.circle_domain.proofs.ordering.first_points.Goals as goal
+
+pub size-requires : goal.size-requires
+size-requires g c = omega (arith, c.requires.in_group, g.met.F.ComplexExtendable.at_most_62)
+
+pub loop-log_order-init : goal.loop-log_order-init
+loop-log_order-init g c =
+    ap (map coordinates) (c.in_ok-push.ensures.items ∙ ap (λ ps. ps ++ c.shift.result ∷ []) c.in_ok-points.ensures.items)
+    ∙ ap (λ p. p ∷ []) c.shift.ensures
+
+pub generator-requires : goal.generator-requires
+generator-requires g c = omega (arith, c.loop-log_order-test.true, c.log_n-log_order-end.ensures, c.requires.in_group)
 
 pub loop-log_order-preserved : goal.loop-log_order-preserved
 loop-log_order-preserved g c =

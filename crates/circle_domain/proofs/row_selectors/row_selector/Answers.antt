@@ -1,4 +1,4 @@
-use Rattle.std.proofs.Common.{◌≡◌, ◌≢◌, ◌<◌, ◌++◌, [], ◌∷◌, ◌∙◌, sym, ap, arith, length, map, take, slice_index_or}
+use Rattle.std.proofs.Common.{◌≡◌, ◌≢◌, ◌<◌, ◌++◌, [], ◌∷◌, ◌∙◌, sym, ap, arith, length, map, take, slice_index_or, All, subst}
 use Rattle.std.proofs.lemmas.List.{length-map, take_more, take_all, get_or-map}
 use Rattle.circle_field.specs.Circle.{Coordinates, plus, opposite}
 use Rattle.circle_point.specs.Point.{coordinates}
@@ -9,6 +9,28 @@ use Rattle.circle_domain.specs.Selectors.{zero_at}
 use Rattle.circle_domain.proofs.Reciprocals.{reciprocal}
 use Rattle.circle_matrix.proofs.Written.{length-pairwise, pairwise-read}
 use Rattle.circle_domain.proofs.row_selectors.row_selector.Goals as goal
+
+pub batch_multiplicative_inverse-requires : goal.batch_multiplicative_inverse-requires
+batch_multiplicative_inverse-requires g c =
+    let NonZero : g.row.F.Denot → Type 0 = λ y. y ≢ g.F.Operations.ops.zero in
+    subst (All NonZero) (sym (c.deref.ensures.value ∙ c.in_ok-differences.ensures)) c.requires.apart
+
+pub loop-i-init : goal.loop-i-init
+loop-i-init g c = c.in_ok-values.ensures.items
+
+pub bounds-vanishing-i : goal.bounds-vanishing-i
+bounds-vanishing-i g c = omega (arith, c.loop-i-test.true, c.requires.count)
+
+pub index-requires : goal.index-requires
+index-requires g c =
+    let k = g.F.Operations.ops in
+    let points = c.args.points.now in
+    let height = λ (q : Point g.row.F.Denot g.F.Operations). (plus k (coordinates q) (opposite k (coordinates c.args.row))).y in
+    let inverses = c.in_ok-inverses.inverses in
+    let made : inverses.items ≡ map k.inv (map height points) =
+    c.in_ok-inverses.ensures ∙ ap (map k.inv) (c.deref.ensures.value ∙ c.in_ok-differences.ensures) in
+    let long : length inverses.items ≡ length points = ap length made ∙ length-map (map height points) k.inv ∙ length-map points height in
+    omega (arith, long, inverses.ok.0, c.loop-i-test.true)
 
 pub loop-i-preserved : goal.loop-i-preserved
 loop-i-preserved g c =

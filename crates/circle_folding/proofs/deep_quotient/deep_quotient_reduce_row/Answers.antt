@@ -1,11 +1,25 @@
-use Rattle.std.proofs.Common.{rules, ◌∙◌, sym, ap, subst, refl, IsNone}
+use Rattle.std.proofs.Common.{◌≡◌, ◌∙◌, refl, sym, ap, subst, IsNone}
 use Rattle.std.proofs.lemmas.Bool.{false≢true}
+use Rattle.circle_field.specs.Field.{sub}
 use Rattle.circle_field.specs.Circle.{lifted, IsOnCircle}
 use Rattle.circle_field.specs.CircleGroup.{lifted-on_circle}
 use Rattle.circle_point.specs.Point.{coordinates}
+use Rattle.circle_folding.specs.Quotient.{real_part, imaginary_part}
 use Rattle.circle_folding.proofs.Vanishing.{real_part-zero, zero-real_part}
 use Rattle.circle_folding.proofs.Weighted.{claimed_quotient}
 use Rattle.circle_folding.proofs.deep_quotient.deep_quotient_reduce_row.Goals as goal
+
+pub mul-requires : goal.mul-requires
+mul-requires g c = g.met.EF.Field.can_mul_law c.args.alpha_pow_width _
+
+pub sub-requires : goal.sub-requires
+sub-requires g c = g.met.EF.Field.can_sub_law _ c.mul.result
+
+pub mul-requires-2 : goal.mul-requires-2
+mul-requires-2 g c = g.met.EF.Field.can_mul_law c.sub.result _
+
+pub mul-requires-3 : goal.mul-requires-3
+mul-requires-3 g c = g.met.EF.Field.can_mul_law c.mul-2.result _
 
 pub returns-in_err-inverse-clause-none : goal.returns-in_err-inverse-clause-none
 returns-in_err-inverse-clause-none g c =
@@ -29,7 +43,23 @@ returns-clause-none g c =
     )
 
 pub returns-clause-value : goal.returns-clause-value
-returns-clause-value g c = search rules
+returns-clause-value g c =
+    let l = g.EF.Operations.ops in
+    let top = c.args.alpha_pow_width in
+    let mul_law = g.met.EF.Field.mul_law in
+    let re = real_part l g.EF.ExtensionField.embed (coordinates c.args.x) (coordinates c.args.zeta) in
+    let im = imaginary_part l g.EF.ExtensionField.embed (coordinates c.args.x) (coordinates c.args.zeta) in
+    let part : c.sub.result ≡ sub l re (l.mul top im) =
+    g.met.EF.Field.sub_law _ _ _ c.sub.ensures
+    ∙ ap (λ r. sub l r c.mul.result) c.v_p-re.ensures.re
+    ∙ ap (sub l re) (mul_law _ _ _ c.mul.ensures ∙ ap (l.mul top) c.v_p-re.ensures.im) in
+    let half : c.in_ok-inverse.inverse ≡ l.inv (l.add re re) =
+    c.in_ok-inverse.ensures.inverse ∙ ap l.inv (c.double.ensures ∙ ap (λ r. l.add r r) c.v_p-re.ensures.re) in
+    mul_law _ _ _ c.mul-3.ensures
+    ∙ ap (λ a. l.mul a c.weighted_differences-sum.result) (mul_law _ _ _ c.mul-2.ensures
+    ∙ ap (λ a. l.mul a c.in_ok-inverse.inverse) part
+    ∙ ap (l.mul (sub l re (l.mul top im))) half)
+    ∙ ap (l.mul (l.mul (sub l re (l.mul top im)) (l.inv (l.add re re)))) c.weighted_differences-sum.ensures
 
 pub returns-clause-claim : goal.returns-clause-claim
 returns-clause-claim g c = λ alpha top powers.

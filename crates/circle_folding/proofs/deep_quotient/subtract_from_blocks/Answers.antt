@@ -1,5 +1,5 @@
-use Rattle.std.proofs.Common.{◌≡◌, ◌<◌, ◌≤◌, ◌+◌, ◌-◌, ◌*◌, ◌∙◌, refl, sym, ap, length, map, take, drop, get_or, arith, length-drop, add-one}
-use Rattle.std.proofs.Math.Nat.{mul-le-mul_right, suc-mul}
+use Rattle.std.proofs.Common.{◌≡◌, ◌<◌, ◌≤◌, ◌+◌, ◌-◌, ◌*◌, ◌∙◌, refl, sym, ap, length, map, take, drop, get_or, arith, length-drop, add-one, ◌++◌, rules}
+use Rattle.std.proofs.Math.Nat.{mul-le-mul_right, suc-mul, zero-mul}
 use Rattle.std.proofs.lemmas.List.{length-map, length-take-le, get_or-map}
 use Rattle.circle_field.specs.Field.{sub}
 use Rattle.circle_point.specs.Point.{coordinates}
@@ -7,8 +7,37 @@ use Rattle.circle_point.specs.declared.point.Point.{Point}
 use Rattle.circle_matrix.specs.DotProduct.{pairwise}
 use Rattle.circle_domain.proofs.Layered.{block-more, block-end}
 use Rattle.circle_folding.specs.Blocks.{spread}
-use Rattle.circle_folding.proofs.BlockSums.{made-spread}
+use Rattle.circle_folding.proofs.BlockSums.{made-spread, block-fits}
 use Rattle.circle_folding.proofs.deep_quotient.subtract_from_blocks.Goals as goal
+
+pub loop-i-init : goal.loop-i-init
+loop-i-init g c =
+    let k = g.EF.Operations.ops in
+    let f = λ (a v : g.row.EF.Denot). sub k a (k.mul c.args.multiple v) in
+    let x = λ (p : Point g.row.F.Denot g.F.Operations). g.EF.ExtensionField.embed (coordinates p).x in
+    let vs = map x c.args.points.now in
+    let word = c.args.word.now in
+    ap (λ m. take m word ++ pairwise f (drop m word) (spread c.args.size vs)) (zero-mul c.args.size)
+
+pub overflow_mul-start : goal.overflow_mul-start
+overflow_mul-start g c = omega (arith, block-fits c.args.size c.loop-i.i (length c.args.points.now) (length c.loop-i.word) c.loop-i-test.true (c.loop-i.auto.word ∙ c.requires))
+
+pub overflow_add-start : goal.overflow_add-start
+overflow_add-start g c = omega (arith, block-fits c.args.size c.loop-i.i (length c.args.points.now) (length c.loop-i.word) c.loop-i-test.true (c.loop-i.auto.word ∙ c.requires))
+
+pub offset_bounds-word-start : goal.offset_bounds-word-start
+offset_bounds-word-start g c =
+    let within : c.loop-i.i * c.args.size ≤ length c.loop-i.word = omega (arith, block-fits c.args.size c.loop-i.i (length c.args.points.now) (length c.loop-i.word) c.loop-i-test.true (c.loop-i.auto.word ∙ c.requires)) in
+    search rules
+
+pub slice_bounds-subtract-start : goal.slice_bounds-subtract-start
+slice_bounds-subtract-start g c = omega (arith, block-fits c.args.size c.loop-i.i (length c.args.points.now) (length c.loop-i.word) c.loop-i-test.true (c.loop-i.auto.word ∙ c.requires))
+
+pub slice_bounds-subtract-end : goal.slice_bounds-subtract-end
+slice_bounds-subtract-end g c = omega (arith, block-fits c.args.size c.loop-i.i (length c.args.points.now) (length c.loop-i.word) c.loop-i-test.true (c.loop-i.auto.word ∙ c.requires))
+
+pub slice_bounds-subtract-count : goal.slice_bounds-subtract-count
+slice_bounds-subtract-count g c = omega (arith, block-fits c.args.size c.loop-i.i (length c.args.points.now) (length c.loop-i.word) c.loop-i-test.true (c.loop-i.auto.word ∙ c.requires))
 
 pub loop-i-preserved : goal.loop-i-preserved
 loop-i-preserved g c =

@@ -6,6 +6,30 @@ use Rattle.circle_folding.specs.Quotient.{differences}
 use Rattle.circle_folding.proofs.Weighted.{dot-take}
 use Rattle.circle_folding.proofs.deep_quotient.weighted_differences.Goals as goal
 
+pub loop-j-init : goal.loop-j-init
+loop-j-init g c = c.ZERO-sum.ensures ∙ g.met.EF.Field.zero_law
+
+pub bounds-values-j : goal.bounds-values-j
+bounds-values-j g c = omega (arith, c.loop-j-test.true, c.requires.widths)
+
+pub offset_bounds-values-j : goal.offset_bounds-values-j
+offset_bounds-values-j g c = omega (arith, c.loop-j-test.true, c.requires.widths)
+
+pub bounds-weights-j : goal.bounds-weights-j
+bounds-weights-j g c = omega (arith, c.loop-j-test.true, c.requires.enough)
+
+pub offset_bounds-weights-j : goal.offset_bounds-weights-j
+offset_bounds-weights-j g c = omega (arith, c.loop-j-test.true, c.requires.enough)
+
+pub sub-requires : goal.sub-requires
+sub-requires g c = g.met.EF.Field.can_sub_law _ c.index-values-j.result
+
+pub mul-requires : goal.mul-requires
+mul-requires g c = g.met.EF.Field.can_mul_law _ c.sub.result
+
+pub add-sum-requires : goal.add-sum-requires
+add-sum-requires g c = g.met.EF.Field.can_add_law _ c.mul.result
+
 pub loop-j-preserved : goal.loop-j-preserved
 loop-j-preserved g c =
     let l = g.EF.Operations.ops in

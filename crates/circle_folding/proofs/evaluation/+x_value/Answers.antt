@@ -1,9 +1,15 @@
-use Rattle.std.proofs.Common.{◌≡◌, ◌≤◌, ◌<◌, ◌∙◌, sym, ap, arith, rules, length}
+use Rattle.std.proofs.Common.{◌≡◌, ◌≤◌, ◌<◌, ◌∙◌, sym, ap, arith, length}
 use Rattle.std.proofs.lemmas.Nat.{pow_pos}
 use Rattle.circle_point.specs.Basis.{iterated_x, x_value}
 use Rattle.circle_domain.proofs.Lifted.{lifted-iterated_x}
 use Rattle.circle_folding.proofs.Halves.{x_value-single, x_value-halves, half-power}
 use Rattle.circle_folding.proofs.evaluation.+x_value.Goals as goal
+
+pub bounds-coefficients-0 : goal.bounds-coefficients-0
+bounds-coefficients-0 g t c = omega (arith, c.requires.1, pow_pos c.requires.0)
+
+pub add-requires : goal.add-requires
+add-requires g t c = g.met.EF.Field.can_add_law c.x_value.result _
 
 pub returns-then-half-eq0 : goal.returns-then-half-eq0
 returns-then-half-eq0 g t c =
@@ -14,13 +20,13 @@ pub x_value-requires : goal.x_value-requires
 x_value-requires g t c =
     let half = half-power (length c.args.coefficients.now) c.requires.0 c.requires.1 c.if-half-eq0.false in
     let smaller : length c.split_at.result.0.now < length c.args.coefficients.now = omega (arith, c.split_at.ensures.front_len, half.3, c.if-half-eq0.false) in
-    λ κs outlives. (search (rules, smaller), (outlives.0, (outlives.1, (half.0, c.split_at.ensures.front_len ∙ half.2))))
+    λ κs outlives. (omega (arith, smaller, c.decreases), (outlives.0, (outlives.1, (half.0, c.split_at.ensures.front_len ∙ half.2))))
 
 pub x_value-requires-2 : goal.x_value-requires-2
 x_value-requires-2 g t c =
     let half = half-power (length c.args.coefficients.now) c.requires.0 c.requires.1 c.if-half-eq0.false in
     let smaller : length c.split_at.result.1.now < length c.args.coefficients.now = omega (arith, c.split_at.ensures.back_len, half.3, c.if-half-eq0.false) in
-    λ κs outlives. (search (rules, smaller), (outlives.0, (outlives.1, (half.0, omega (arith, c.split_at.ensures.back_len, half.3, half.2)))))
+    λ κs outlives. (omega (arith, smaller, c.decreases), (outlives.0, (outlives.1, (half.0, omega (arith, c.split_at.ensures.back_len, half.3, half.2)))))
 
 pub log2_strict-requires : goal.log2_strict-requires
 log2_strict-requires g t c =

@@ -1,7 +1,16 @@
-use Rattle.std.proofs.Common.{◌≡◌, ◌<◌, ◌∙◌, sym, ap, length, slice_index_or, slice_set, arith}
+use Rattle.std.proofs.Common.{◌≡◌, ◌<◌, ◌∙◌, sym, ap, subst, length, slice_index_or, slice_set, arith}
 use Rattle.circle_matrix.proofs.Written.{written, written-read, written-more, written-all, length-pairwise, pairwise-read}
 use Rattle.circle_matrix.specs.DotProduct.{pairwise}
 use Rattle.circle_folding.proofs.folding.add_each.Goals as goal
+
+pub bounds-others-i : goal.bounds-others-i
+bounds-others-i g c = omega (arith, c.loop-i-test.true, c.requires)
+
+pub offset_bounds-others-i : goal.offset_bounds-others-i
+offset_bounds-others-i g c = omega (arith, c.loop-i-test.true, c.requires)
+
+pub add-requires : goal.add-requires
+add-requires g c = g.met.E.Field.can_add_law _ c.index-others-i.result
 
 pub loop-i-preserved : goal.loop-i-preserved
 loop-i-preserved g c =
@@ -14,7 +23,7 @@ loop-i-preserved g c =
     let o = c.index-others-i.result in
     let sum = c.add.result in
     let long : length new ≡ length old = length-pairwise k.add old others (sym c.requires) in
-    let of_others : i < length others = omega (arith, c.loop-i-test.true, c.requires) in
+    let of_others : i < length others = subst (λ n. i < n) (sym c.requires) c.loop-i-test.true in
     let read : v ≡ slice_index_or old i c.index-values-i.result = ap (λ xs. slice_index_or xs i c.index-values-i.result) c.loop-i.invariant ∙ written-read i new old c.index-values-i.result long in
     let made : sum ≡ slice_index_or new i sum =
     g.met.E.Field.add_law _ _ _ c.add.ensures ∙ ap (λ a. k.add a o) read ∙ ap (k.add (slice_index_or old i c.index-values-i.result)) c.index-others-i.is

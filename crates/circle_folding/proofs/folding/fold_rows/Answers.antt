@@ -6,6 +6,42 @@ use Rattle.circle_folding.specs.Fold.{fold_pair, folds}
 use Rattle.circle_folding.proofs.Folds.{two-entries}
 use Rattle.circle_folding.proofs.folding.fold_rows.Goals as goal
 
+pub row-row-requires : goal.row-row-requires
+row-row-requires g c =
+    let k = g.F.Operations.ops in
+    let ts = c.args.twiddles.now in
+    let inverses : c.deref-inverse-items.result.now ≡ map k.inv ts = c.deref-inverse-items.ensures.value ∙ c.in_ok-inverses.ensures in
+    omega (arith, c.loop-j-test.true, ap length inverses, length-map ts k.inv, c.requires.height)
+
+pub bounds-row-0 : goal.bounds-row-0
+bounds-row-0 g c =
+    let k = g.F.Operations.ops in
+    let ts = c.args.twiddles.now in
+    let matrix = c.args.evals.now in
+    let rows = g.M.Matrix.rows matrix in
+    let j = c.loop-j.j in
+    let row = c.row-row.result.now in
+    let inverses : c.deref-inverse-items.result.now ≡ map k.inv ts = c.deref-inverse-items.ensures.value ∙ c.in_ok-inverses.ensures in
+    let of_rows : j < length rows = omega (arith, c.loop-j-test.true, ap length inverses, length-map ts k.inv, c.requires.height, g.met.M.Matrix.height_law matrix) in
+    let there : get_or rows j row ≡ row = get_or_from_slice_get rows j row row c.row-row.ensures in
+    omega (arith, ap length (sym there) ∙ g.met.M.Matrix.width_law matrix j row of_rows ∙ c.requires.width)
+
+pub bounds-row-1 : goal.bounds-row-1
+bounds-row-1 g c =
+    let k = g.F.Operations.ops in
+    let ts = c.args.twiddles.now in
+    let matrix = c.args.evals.now in
+    let rows = g.M.Matrix.rows matrix in
+    let j = c.loop-j.j in
+    let row = c.row-row.result.now in
+    let inverses : c.deref-inverse-items.result.now ≡ map k.inv ts = c.deref-inverse-items.ensures.value ∙ c.in_ok-inverses.ensures in
+    let of_rows : j < length rows = omega (arith, c.loop-j-test.true, ap length inverses, length-map ts k.inv, c.requires.height, g.met.M.Matrix.height_law matrix) in
+    let there : get_or rows j row ≡ row = get_or_from_slice_get rows j row row c.row-row.ensures in
+    omega (arith, ap length (sym there) ∙ g.met.M.Matrix.width_law matrix j row of_rows ∙ c.requires.width)
+
+pub batch_multiplicative_inverse-requires : goal.batch_multiplicative_inverse-requires
+batch_multiplicative_inverse-requires g c = c.requires.nonzero
+
 pub loop-j-preserved : goal.loop-j-preserved
 loop-j-preserved g c =
     let k = g.F.Operations.ops in

@@ -1,4 +1,4 @@
-use Rattle.std.proofs.Common.{rules, ℕ, ◌≡◌, ◌≢◌, ◌+◌, ◌^◌, ◌≤◌, ◌∙◌, sym, ap, subst, length, All, arith}
+use Rattle.std.proofs.Common.{ℕ, ◌≡◌, ◌≢◌, ◌+◌, ◌^◌, ◌≤◌, ◌∙◌, sym, ap, subst, length, All, arith}
 use Rattle.std.proofs.lemmas.Result.{IfOk-weaker}
 use Rattle.circle_domain.specs.Domain.{log_size, shift_of}
 use Rattle.circle_folding.specs.Fold.{fold_x_twiddles}
@@ -6,6 +6,9 @@ use Rattle.circle_folding.proofs.FoldedSpans.{x-halves, x-shows}
 use Rattle.circle_folding.proofs.Folds.{folds-of}
 use Rattle.circle_folding.proofs.Twiddles.{length-fold_x_twiddles, fold_x_twiddles-of, fold_x_twiddles-nonzero}
 use Rattle.circle_folding.proofs.folding.fold_x.Goals as goal
+
+pub x_twiddles-requires-clause-two_pairs : goal.x_twiddles-requires-clause-two_pairs
+x_twiddles-requires-clause-two_pairs g c = omega (arith, c.standard-domain.ensures.size, c.requires.arity)
 
 pub log2_strict-log_height-requires : goal.log2_strict-log_height-requires
 log2_strict-log_height-requires g c = (c.requires.height.0, c.height.ensures ∙ c.requires.height.1)
@@ -31,7 +34,7 @@ fold_rows-requires g c =
     let same = c.log2_strict-log_height.ensures.only power.0 (c.height.ensures ∙ power.1) in
     let are = c.deref.ensures.value ∙ fold_x_twiddles-of k gen r c.args.log_arity (log_size c.standard-domain.result) (shift_of c.standard-domain.result) c.in_ok-x_twiddles.field-0.items c.requires.arity c.standard-domain.ensures.size c.standard-domain.ensures.shift c.in_ok-x_twiddles.ensures in
     record {
-      width = search rules;
+      width = c.requires.width;
       height = power.1 ∙ ap (λ n. 2 ^ n) (sym same) ∙ sym (ap length are ∙ length-fold_x_twiddles k gen r);
       nonzero = subst (All (λ t. t ≢ k.zero)) (sym are) (fold_x_twiddles-nonzero g.F.Operations.laws g.met.F.ComplexExtendable.generators_law r (omega (arith, same, power.2)));
     }

@@ -1,4 +1,4 @@
-use Rattle.std.proofs.Common.{◌≡◌, ◌≢◌, ◌∙◌, sym, ap, subst, get_or, length, IfSome, arith}
+use Rattle.std.proofs.Common.{◌≡◌, ◌≢◌, ◌∙◌, sym, ap, subst, get_or, length, IfSome, arith, ◌<◌, ◌^◌}
 use Rattle.circle_field.proofs.Inverses.{some_unless}
 use Rattle.circle_domain.specs.Domain.{log_size, shift_of}
 use Rattle.circle_point.specs.Point.{coordinates}
@@ -6,6 +6,22 @@ use Rattle.circle_folding.specs.Fold.{fold_x_twiddles}
 use Rattle.circle_folding.proofs.Folds.{by-entries}
 use Rattle.circle_folding.proofs.Twiddles.{x_twiddle-of, fold_x_twiddles-nonzero, length-fold_x_twiddles}
 use Rattle.circle_folding.proofs.folding.fold_x_row.Goals as goal
+
+pub standard-domain-requires : goal.standard-domain-requires
+standard-domain-requires g c = omega (arith, c.requires.in_group, c.requires.arity)
+
+pub cfft_permute_index-requires-clause-small : goal.cfft_permute_index-requires-clause-small
+cfft_permute_index-requires-clause-small g c = omega (arith, c.requires.in_group, c.requires.arity, g.met.F.ComplexExtendable.at_most_62)
+
+pub nth_point-requires-clause-positive : goal.nth_point-requires-clause-positive
+nth_point-requires-clause-positive g c = omega (arith, c.standard-domain.ensures.size)
+
+pub nth_point-requires-clause-in_group : goal.nth_point-requires-clause-in_group
+nth_point-requires-clause-in_group g c = omega (arith, c.standard-domain.ensures.size, c.requires.in_group, c.requires.arity)
+
+pub nth_point-requires-clause-in_range : goal.nth_point-requires-clause-in_range
+nth_point-requires-clause-in_range g c =
+    subst (λ n. c.cfft_permute_index.result < 2 ^ n) (sym c.standard-domain.ensures.size) c.cfft_permute_index.ensures.below
 
 pub unwrap-requires : goal.unwrap-requires
 unwrap-requires g c =

@@ -1,4 +1,4 @@
-use Rattle.std.proofs.Common.{rules, ℕ, ◌≡◌, ◌≢◌, ◌+◌, ◌^◌, ◌≤◌, ◌∙◌, sym, ap, subst, length, All, arith}
+use Rattle.std.proofs.Common.{ℕ, ◌≡◌, ◌≢◌, ◌+◌, ◌^◌, ◌≤◌, ◌∙◌, sym, ap, subst, length, All, arith}
 use Rattle.std.proofs.lemmas.Result.{IfOk-weaker}
 use Rattle.circle_domain.specs.Domain.{log_size, shift_of}
 use Rattle.circle_folding.specs.Fold.{fold_y_twiddles}
@@ -6,6 +6,9 @@ use Rattle.circle_folding.proofs.FoldedSpans.{y-halves, y-shows}
 use Rattle.circle_folding.proofs.Folds.{folds-of}
 use Rattle.circle_folding.proofs.Twiddles.{length-fold_y_twiddles, fold_y_twiddles-of, fold_y_twiddles-nonzero}
 use Rattle.circle_folding.proofs.folding.fold_y.Goals as goal
+
+pub y_twiddles-requires-clause-positive : goal.y_twiddles-requires-clause-positive
+y_twiddles-requires-clause-positive g c = omega (arith, c.standard.ensures.size)
 
 pub log2_strict-log_height-requires : goal.log2_strict-log_height-requires
 log2_strict-log_height-requires g c = (c.requires.height.0, c.height.ensures ∙ c.requires.height.1)
@@ -31,7 +34,7 @@ fold_rows-requires g c =
     let same = c.log2_strict-log_height.ensures.only power.0 (c.height.ensures ∙ power.1) in
     let are = c.deref.ensures.value ∙ fold_y_twiddles-of k gen r (log_size c.standard.result) (shift_of c.standard.result) c.in_ok-twiddles.twiddles.items c.standard.ensures.size c.standard.ensures.shift c.in_ok-twiddles.ensures in
     record {
-      width = search rules;
+      width = c.requires.width;
       height = power.1 ∙ ap (λ n. 2 ^ n) (sym same) ∙ sym (ap length are ∙ length-fold_y_twiddles k gen r);
       nonzero = subst (All (λ t. t ≢ k.zero)) (sym are) (fold_y_twiddles-nonzero g.F.Operations.laws g.met.F.ComplexExtendable.generators_law r (omega (arith, same, power.2)));
     }

@@ -1,4 +1,4 @@
-use Rattle.std.proofs.Common.{◌≡◌, ◌≤◌, ◌<◌, ◌^◌, ◌∙◌, sym, ap, arith, rules, suc, length, ◌++◌, append-nil, take, drop}
+use Rattle.std.proofs.Common.{◌≡◌, ◌≤◌, ◌<◌, ◌^◌, ◌∙◌, sym, ap, arith, suc, length, ◌++◌, append-nil, take, drop}
 use Rattle.std.proofs.Math.Nat.{pow-suc}
 use Rattle.std.proofs.lemmas.Nat.{pow_pos}
 use Rattle.std.proofs.lemmas.Result.{on_ok_weaker}
@@ -18,13 +18,13 @@ pub push_factors-requires : goal.push_factors-requires
 push_factors-requires g t c =
     let half = half-power (length c.args.xs.now) c.requires.0 c.requires.1 c.if-half-eq0.false in
     let smaller : length c.split_at.result.0.now < length c.args.xs.now = omega (arith, c.split_at.ensures.front_len, half.3, c.if-half-eq0.false) in
-    λ κs outlives. (search (rules, smaller), (outlives, (half.0, c.split_at.ensures.front_len ∙ half.2)))
+    λ κs outlives. (omega (arith, smaller, c.decreases), (outlives, (half.0, c.split_at.ensures.front_len ∙ half.2)))
 
 pub push_factors-requires-2 : goal.push_factors-requires-2
 push_factors-requires-2 g t c =
     let half = half-power (length c.args.xs.now) c.requires.0 c.requires.1 c.if-half-eq0.false in
     let smaller : length c.split_at.result.1.now < length c.args.xs.now = omega (arith, c.split_at.ensures.back_len, half.3, c.if-half-eq0.false) in
-    λ κs outlives. (search (rules, smaller), (outlives, (half.0, omega (arith, c.split_at.ensures.back_len, half.3, half.2))))
+    λ κs outlives. (omega (arith, smaller, c.decreases), (outlives, (half.0, omega (arith, c.split_at.ensures.back_len, half.3, half.2))))
 
 pub log2_strict-requires : goal.log2_strict-requires
 log2_strict-requires g t c =

@@ -1,4 +1,4 @@
-use Rattle.std.proofs.Common.{◌≡◌, ◌-◌, ◌<◌, ◌^◌, ◌∙◌, sym, ap, arith, rules, suc, length, take, drop, length-drop}
+use Rattle.std.proofs.Common.{◌≡◌, ◌-◌, ◌<◌, ◌^◌, ◌∙◌, sym, ap, arith, suc, length, take, drop, length-drop}
 use Rattle.std.proofs.Math.Nat.{pow-suc}
 use Rattle.std.proofs.lemmas.Nat.{pow_pos}
 use Rattle.circle_domain.proofs.Powers.{pow_injective}
@@ -17,13 +17,13 @@ pub to_multiples-requires : goal.to_multiples-requires
 to_multiples-requires g t c =
     let half = half-power (length c.args.values.now) c.requires.0 c.requires.1 c.if-half-eq0.false in
     let smaller : length c.split_at_mut-low.result.0.now < length c.args.values.now = omega (arith, c.split_at_mut-low.ensures.front_len, half.3, c.if-half-eq0.false) in
-    λ κs outlives. (search (rules, smaller), (outlives.0, (outlives.1, (half.0, c.split_at_mut-low.ensures.front_len ∙ half.2, omega (arith, c.split_at.ensures.front_len, half.2, pow_pos half.0)))))
+    λ κs outlives. (omega (arith, smaller, c.decreases), (outlives.0, (outlives.1, (half.0, c.split_at_mut-low.ensures.front_len ∙ half.2, omega (arith, c.split_at.ensures.front_len, half.2, pow_pos half.0)))))
 
 pub to_multiples-requires-2 : goal.to_multiples-requires-2
 to_multiples-requires-2 g t c =
     let half = half-power (length c.args.values.now) c.requires.0 c.requires.1 c.if-half-eq0.false in
     let smaller : length c.split_at_mut-low.result.1.now < length c.args.values.now = omega (arith, c.split_at_mut-low.ensures.back_len, half.3, c.if-half-eq0.false) in
-    λ κs outlives. (search (rules, smaller), (outlives.0, (outlives.1, (half.0, omega (arith, c.split_at_mut-low.ensures.back_len, half.3, half.2), omega (arith, c.split_at.ensures.back_len, ap length (rest-whole c.args.inverses.now), length-drop 1 c.args.inverses.now, c.requires.2, c.requires.1, half.3, half.2, pow_pos half.0)))))
+    λ κs outlives. (omega (arith, smaller, c.decreases), (outlives.0, (outlives.1, (half.0, omega (arith, c.split_at_mut-low.ensures.back_len, half.3, half.2), omega (arith, c.split_at.ensures.back_len, ap length (rest-whole c.args.inverses.now), length-drop 1 c.args.inverses.now, c.requires.2, c.requires.1, half.3, half.2, pow_pos half.0)))))
 
 pub combine-requires : goal.combine-requires
 combine-requires g t c =

@@ -1,8 +1,23 @@
-use Rattle.std.proofs.Common.{◌≡◌, ◌<◌, sym, ◌∙◌, ap, arith, length, slice_index_or, slice_set}
+use Rattle.std.proofs.Common.{◌≡◌, ◌<◌, sym, ◌∙◌, ap, arith, length, slice_index_or, slice_set, refl}
 use Rattle.circle_field.specs.Field.{sub}
 use Rattle.circle_matrix.proofs.Written.{written, written-read, written-more, written-all, length-pairwise, pairwise-read}
 use Rattle.circle_matrix.specs.DotProduct.{pairwise}
 use Rattle.circle_folding.proofs.interpolation.combine.Goals as goal
+
+pub loop-i-init : goal.loop-i-init
+loop-i-init g c = record { low = refl; high = refl }
+
+pub bounds-lows-i : goal.bounds-lows-i
+bounds-lows-i g c = omega (arith, c.loop-i-test.true, c.loop-i.auto.lows)
+
+pub bounds-highs-i : goal.bounds-highs-i
+bounds-highs-i g c = omega (arith, c.loop-i-test.true, c.loop-i.auto.highs, c.requires)
+
+pub add-requires : goal.add-requires
+add-requires g c = g.met.EF.Field.can_add_law c.index-lows-i.result _
+
+pub sub-requires : goal.sub-requires
+sub-requires g c = g.met.EF.Field.can_sub_law c.index-lows-i.result _
 
 pub loop-i-preserved : goal.loop-i-preserved
 loop-i-preserved g c =

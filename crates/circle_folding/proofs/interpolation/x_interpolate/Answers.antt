@@ -1,4 +1,5 @@
-use Rattle.std.proofs.Common.{◌≡◌, ◌+◌, ◌*◌, ◌%◌, ◌≤◌, ◌^◌, All, length, map, take, drop, ◌∙◌, sym, ap, subst, arith, rules}
+use Rattle.std.proofs.Common.{◌≡◌, ◌+◌, ◌*◌, ◌%◌, ◌≤◌, ◌^◌, All, length, map, take, drop, ◌∙◌, refl, sym, ap, subst, arith}
+use Rattle.std.proofs.lemmas.Bool.{false≢true}
 use Rattle.std.proofs.lemmas.List.Elements.{All-from_recursion, recursion_from_All}
 use Rattle.circle_field.specs.Field.{nth_power, two}
 use Rattle.circle_domain.specs.Order.{coset}
@@ -7,6 +8,12 @@ use Rattle.circle_domain.proofs.Powers.{pow_injective, pow_within}
 use Rattle.circle_folding.proofs.Lengths.{length-multiples}
 use Rattle.circle_folding.proofs.Standard.{shifted-one, found-values, others-zero, only-ones, half-power-inverse}
 use Rattle.circle_folding.proofs.interpolation.x_interpolate.Goals as goal
+
+pub log2_strict-log_points-requires : goal.log2_strict-log_points-requires
+log2_strict-log_points-requires g c = (c.requires.0, c.requires.1)
+
+pub overflow_shl-log_len : goal.overflow_shl-log_len
+overflow_shl-log_len g c = omega (arith, c.requires.2, c.requires.3, g.met.F.ComplexExtendable.at_most_62)
 
 pub all_multiples-requires : goal.all_multiples-requires
 all_multiples-requires g c =
@@ -43,8 +50,7 @@ returns-then-not-are_zero-clause-none g c m long span =
     let zeros = others-zero g.F.Operations.laws g.EF.Operations.laws g.met.EF.ExtensionField.embedding g.met.F.ComplexExtendable.generators_law m fits word made long is_made b few span.0 span.1 in
     let all : All (λ z. z ≡ l.zero) c.split_at.result.1.now =
     subst (All (λ z. z ≡ l.zero)) (sym (c.split_at.ensures.back ∙ ap (λ n. drop n made) shift)) (All-from_recursion (λ z. z ≡ l.zero) (drop (2 ^ b) made) zeros) in
-    let wrong = c.if-not-are_zero.ensures.1 all in
-    search (rules, wrong)
+    false≢true (c.if-not-are_zero.ensures.1 all)
 
 pub returns-clause-values : goal.returns-clause-values
 returns-clause-values g c m long =
@@ -69,7 +75,7 @@ returns-clause-values g c m long =
     let unit = half-power-inverse g.F.Operations.laws g.EF.Operations.laws g.met.EF.ExtensionField.embedding g.met.F.ComplexExtendable.generators_law m c.div_2exp_u64-factor.result factor in
     let scaled : c.in_ok-scaled.field-0.items ≡ map (l.mul (embed c.div_2exp_u64-factor.result)) (take (2 ^ b) made) =
     c.in_ok-scaled.ensures ∙ ap (map (l.mul (embed c.div_2exp_u64-factor.result))) (c.split_at.ensures.front ∙ ap (λ n. take n made) shift) in
-    let all : All (λ z. z ≡ l.zero) c.split_at.result.1.now = c.if-not-are_zero.ensures.0 (search rules) in
+    let all : All (λ z. z ≡ l.zero) c.split_at.result.1.now = c.if-not-are_zero.ensures.0 refl in
     let zeros = recursion_from_All (λ z. z ≡ l.zero) (drop (2 ^ b) made) (subst (All (λ z. z ≡ l.zero)) (c.split_at.ensures.back ∙ ap (λ n. drop n made) shift) all) in
     found-values g.F.Operations.laws g.EF.Operations.laws g.met.EF.ExtensionField.embedding g.met.F.ComplexExtendable.generators_law m fits word made long is_made b few
     (embed c.div_2exp_u64-factor.result) c.in_ok-scaled.field-0.items unit zeros scaled

@@ -10,6 +10,23 @@ use Rattle.circle_folding.proofs.Queries.{signed, signed-even, signed-odd}
 use Rattle.circle_folding.proofs.query.first_layer_twiddles.Goals as goal
 use Rattle.circle_folding.proofs.query.first_layer_twiddles.Goals.{then-place-eq0, else-place-eq0}
 
+pub loop-i-init : goal.loop-i-init
+loop-i-init g c = c.in_ok-twiddles.ensures.items
+
+pub overflow_shr-place : goal.overflow_shr-place
+overflow_shr-place g c = omega (arith, c.requires.small)
+
+pub neg-twiddle-requires : goal.neg-twiddle-requires
+neg-twiddle-requires g c = g.met.F.Field.can_neg_law _
+
+pub offset_bounds-points-i : goal.offset_bounds-points-i
+offset_bounds-points-i g c =
+    let qs = c.args.indices.now in
+    let points = c.args.points.now in
+    let one_each : length (map coordinates points) ≡ length qs =
+    ap length c.requires.points ∙ length-map qs (query_point g.F.Operations.ops g.F.ComplexExtendable.generators c.args.log_height c.args.log_max_height) in
+    omega (arith, c.loop-i-test.true, one_each, length-map points coordinates)
+
 pub bounds-points-i : goal.bounds-points-i
 bounds-points-i g c =
     let qs = c.args.indices.now in

@@ -1,6 +1,15 @@
-use Rattle.std.proofs.Common.{◌≡◌, ◌∙◌, ap, slice_index_or}
+use Rattle.std.proofs.Common.{◌≡◌, ◌∙◌, ap, slice_index_or, length}
+use Rattle.std.proofs.lemmas.List.{length-map}
 use Rattle.circle_folding.proofs.Queries.{folds-read}
 use Rattle.circle_folding.proofs.query.fold_query_values.Goals as goal
+
+pub batch_multiplicative_inverse-requires : goal.batch_multiplicative_inverse-requires
+batch_multiplicative_inverse-requires g c = c.requires.nonzero
+
+pub fold_query_values_with_inv_twiddles-requires-clause-inverses : goal.fold_query_values_with_inv_twiddles-requires-clause-inverses
+fold_query_values_with_inv_twiddles-requires-clause-inverses g c =
+    ap length (c.deref.ensures.value ∙ c.in_ok-inverses.ensures)
+    ∙ length-map c.args.twiddles.now g.F.Operations.ops.inv ∙ c.requires.twiddles
 
 pub returns-clause-folded : goal.returns-clause-folded
 returns-clause-folded g c =

@@ -7,6 +7,27 @@ use Rattle.circle_folding.specs.Chain.{pair_of, asked_pairs}
 use Rattle.circle_folding.proofs.Queries.{length-asked_pairs, asked_pairs-read}
 use Rattle.circle_folding.proofs.query.push_query_pairs.Goals as goal
 
+pub bounds-indices-i : goal.bounds-indices-i
+bounds-indices-i g c = omega (arith, c.loop-i-test.true, c.requires.rows)
+
+pub offset_bounds-indices-i : goal.offset_bounds-indices-i
+offset_bounds-indices-i g c = omega (arith, c.loop-i-test.true, c.requires.rows)
+
+pub bounds-values-i : goal.bounds-values-i
+bounds-values-i g c = omega (arith, c.loop-i-test.true, c.requires.rows, c.requires.values)
+
+pub offset_bounds-values-i : goal.offset_bounds-values-i
+offset_bounds-values-i g c = omega (arith, c.loop-i-test.true, c.requires.rows, c.requires.values)
+
+pub bounds-siblings-i : goal.bounds-siblings-i
+bounds-siblings-i g c = omega (arith, c.loop-i-test.true, c.requires.rows, c.requires.siblings)
+
+pub offset_bounds-siblings-i : goal.offset_bounds-siblings-i
+offset_bounds-siblings-i g c = omega (arith, c.loop-i-test.true, c.requires.rows, c.requires.siblings)
+
+pub overflow_shr-indices : goal.overflow_shr-indices
+overflow_shr-indices g c = omega (arith, c.requires.bits)
+
 pub loop-i-preserved : goal.loop-i-preserved
 loop-i-preserved g c =
     let T = g.row.T.Denot in

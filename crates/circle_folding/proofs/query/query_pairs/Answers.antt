@@ -8,6 +8,15 @@ use Rattle.circle_folding.proofs.FirstLayer.{pushed-onto_nothing}
 use Rattle.circle_folding.proofs.Queries.{length-asked_pairs}
 use Rattle.circle_folding.proofs.query.query_pairs.Goals as goal
 
+pub loop-init : goal.loop-init
+loop-init g c = ap opened_rows c.in_ok-rows.ensures.items
+
+pub push_query_pairs-requires-clause-values : goal.push_query_pairs-requires-clause-values
+push_query_pairs-requires-clause-values g c = c.requires.values
+
+pub push_query_pairs-requires-clause-siblings : goal.push_query_pairs-requires-clause-siblings
+push_query_pairs-requires-clause-siblings g c = c.requires.siblings
+
 pub loop-preserved : goal.loop-preserved
 loop-preserved g c =
     let T = g.row.T.Denot in

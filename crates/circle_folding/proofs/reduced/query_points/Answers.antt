@@ -1,10 +1,32 @@
-use Rattle.std.proofs.Common.{◌≡◌, ◌-◌, ◌/◌, ◌++◌, ◌^◌, [], ◌∷◌, ◌∙◌, sym, ap, map, take, arith, slice_index_or}
+use Rattle.std.proofs.Common.{◌≡◌, ◌-◌, ◌/◌, ◌++◌, ◌^◌, [], ◌∷◌, ◌∙◌, sym, ap, map, take, arith, slice_index_or, ◌<◌, subst}
 use Rattle.std.proofs.lemmas.List.{map-append, map_more, take_all}
 use Rattle.circle_field.specs.Circle.{origin}
 use Rattle.circle_point.specs.Point.{coordinates}
 use Rattle.circle_folding.specs.Queries.{query_point}
 use Rattle.circle_folding.proofs.Places.{place-below, point-at}
 use Rattle.circle_folding.proofs.reduced.query_points.Goals as goal
+
+pub overflow_shr-place : goal.overflow_shr-place
+overflow_shr-place g c = omega (arith, c.requires.small)
+
+pub cfft_permute_index-requires-clause-small : goal.cfft_permute_index-requires-clause-small
+cfft_permute_index-requires-clause-small g c = omega (arith, c.requires.within, c.requires.small)
+
+pub standard-domain-requires : goal.standard-domain-requires
+standard-domain-requires g c = omega (arith, c.requires.in_group)
+
+pub loop-query-init : goal.loop-query-init
+loop-query-init g c = ap (map coordinates) c.in_ok-points.ensures.items
+
+pub nth_point-requires-clause-positive : goal.nth_point-requires-clause-positive
+nth_point-requires-clause-positive g c = omega (arith, c.standard-domain.ensures.size, c.requires.positive)
+
+pub nth_point-requires-clause-in_group : goal.nth_point-requires-clause-in_group
+nth_point-requires-clause-in_group g c = omega (arith, c.standard-domain.ensures.size, c.requires.in_group)
+
+pub nth_point-requires-clause-in_range : goal.nth_point-requires-clause-in_range
+nth_point-requires-clause-in_range g c =
+    subst (λ n. c.cfft_permute_index.result < 2 ^ n) (sym c.standard-domain.ensures.size) c.cfft_permute_index.ensures.below
 
 pub cfft_permute_index-requires-clause-in_range : goal.cfft_permute_index-requires-clause-in_range
 cfft_permute_index-requires-clause-in_range g c =

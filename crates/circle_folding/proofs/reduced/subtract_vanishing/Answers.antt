@@ -8,6 +8,18 @@ use Rattle.circle_matrix.proofs.Written.{written, written-read, written-more, wr
 use Rattle.circle_matrix.specs.DotProduct.{pairwise}
 use Rattle.circle_folding.proofs.reduced.subtract_vanishing.Goals as goal
 
+pub bounds-points-i : goal.bounds-points-i
+bounds-points-i g c = omega (arith, c.loop-i-test.true, c.requires.points)
+
+pub offset_bounds-points-i : goal.offset_bounds-points-i
+offset_bounds-points-i g c = omega (arith, c.loop-i-test.true, c.requires.points)
+
+pub v_n-requires : goal.v_n-requires
+v_n-requires g c = c.requires.positive
+
+pub sub-requires : goal.sub-requires
+sub-requires g c = g.met.EF.Field.can_sub_law _ c.times_base.result
+
 pub loop-i-preserved : goal.loop-i-preserved
 loop-i-preserved g c =
     let l = g.EF.Operations.ops in

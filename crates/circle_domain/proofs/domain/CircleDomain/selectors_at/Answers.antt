@@ -1,4 +1,4 @@
-use Rattle.std.proofs.Common.{◌≡◌, ◌≢◌, ◌∙◌, sym, ap, subst}
+use Rattle.std.proofs.Common.{◌≡◌, ◌≢◌, ◌∙◌, sym, ap, subst, arith}
 use Rattle.circle_field.specs.Circle.{Coordinates, plus, opposite, lifted}
 use Rattle.circle_field.specs.Field.{sub}
 use Rattle.circle_point.specs.Point.{coordinates}
@@ -7,6 +7,26 @@ use Rattle.circle_domain.specs.Selectors.{zero_at, normaliser, last_row}
 use Rattle.circle_domain.proofs.Lifted.{lifted-opposite}
 use Rattle.circle_domain.proofs.Reciprocals.{normaliser-nonzero, lifted-reciprocal, vanishing-nonzero, clear-first, clear-last}
 use Rattle.circle_domain.proofs.domain.CircleDomain.selectors_at.Goals as goal
+
+pub vanishing_poly-vanishing-requires : goal.vanishing_poly-vanishing-requires
+vanishing_poly-vanishing-requires g c = c.requires.genuine.0
+
+pub s_p_at_p-requires-clause-positive : goal.s_p_at_p-requires-clause-positive
+s_p_at_p-requires-clause-positive g c = c.requires.genuine.0
+
+pub s_p_at_p-requires-clause-small : goal.s_p_at_p-requires-clause-small
+s_p_at_p-requires-clause-small g c = omega (arith, c.requires.in_group, g.met.F.ComplexExtendable.at_most_62)
+
+pub returns-clause-first : goal.returns-clause-first
+returns-clause-first g c =
+    let l = g.EF.Operations.ops in
+    let p = lifted g.EF.ExtensionField.embed (shift_of c.args.self.now) in
+    g.met.EF.Field.mul_law _ _ _ c.mul.ensures
+    ∙ ap (l.mul c.vanishing_poly-vanishing.result) c.inverse_zero_at-2.ensures
+    ∙ ap (λ v. l.mul v (l.inv (zero_at l p (coordinates c.args.at)))) c.vanishing_poly-vanishing.ensures
+
+pub returns-clause-inverse : goal.returns-clause-inverse
+returns-clause-inverse g c = c.inverse.ensures ∙ ap g.EF.Operations.ops.inv c.vanishing_poly-vanishing.ensures
 
 pub inverse-normaliser-requires : goal.inverse-normaliser-requires
 inverse-normaliser-requires g c = λ z.

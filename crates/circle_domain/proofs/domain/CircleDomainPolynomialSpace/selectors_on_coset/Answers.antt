@@ -1,4 +1,5 @@
-use Rattle.std.proofs.Common.{◌≡◌, ◌≢◌, ◌∙◌, sym, ap, subst, refl, map, All}
+use Rattle.std.proofs.Common.{◌≡◌, ◌≢◌, ◌∙◌, sym, ap, subst, refl, map, All, length, arith}
+use Rattle.std.proofs.lemmas.List.{length-map}
 use Rattle.circle_field.specs.Circle.{Coordinates, plus, opposite}
 use Rattle.circle_field.specs.Extension.{identity_embedding}
 use Rattle.circle_field.specs.Field.{sub}
@@ -13,6 +14,37 @@ use Rattle.circle_domain.proofs.Reciprocals.{normaliser-nonzero, vanishing-nonze
 use Rattle.circle_domain.proofs.SelectorRows.{all-mapped, selector-rows}
 use Rattle.circle_domain.proofs.Twiddles.{map-map}
 use Rattle.circle_domain.proofs.domain.CircleDomainPolynomialSpace.selectors_on_coset.Goals as goal
+
+pub natural_points-requires-clause-positive : goal.natural_points-requires-clause-positive
+natural_points-requires-clause-positive g c = c.requires.coset_positive
+
+pub natural_points-requires-clause-in_group : goal.natural_points-requires-clause-in_group
+natural_points-requires-clause-in_group g c = c.requires.coset_in_group
+
+pub vanishing_values-requires : goal.vanishing_values-requires
+vanishing_values-requires g c = c.requires.genuine.0
+
+pub row_selector-requires-clause-count : goal.row_selector-requires-clause-count
+row_selector-requires-clause-count g c =
+    let points = c.in_ok-points.points.items in
+    let value = λ (p : Point g.row.F.Denot g.F.Operations). vanishing_on g.F.Operations.ops (log_size c.args.self.now) (shift_of c.args.self.now) (coordinates p) in
+    ap length (c.deref-3.ensures.value ∙ c.in_ok-vanishing.ensures ∙ ap (map value) c.deref.ensures.value)
+    ∙ length-map points value
+    ∙ ap length (sym c.deref-2.ensures.value)
+
+pub row_selector-requires-2-clause-count : goal.row_selector-requires-2-clause-count
+row_selector-requires-2-clause-count g c =
+    let points = c.in_ok-points.points.items in
+    let value = λ (p : Point g.row.F.Denot g.F.Operations). vanishing_on g.F.Operations.ops (log_size c.args.self.now) (shift_of c.args.self.now) (coordinates p) in
+    ap length (c.deref-5.ensures.value ∙ c.in_ok-vanishing.ensures ∙ ap (map value) c.deref.ensures.value)
+    ∙ length-map points value
+    ∙ ap length (sym c.deref-4.ensures.value)
+
+pub s_p_at_p-requires-clause-positive : goal.s_p_at_p-requires-clause-positive
+s_p_at_p-requires-clause-positive g c = c.requires.genuine.0
+
+pub s_p_at_p-requires-clause-small : goal.s_p_at_p-requires-clause-small
+s_p_at_p-requires-clause-small g c = omega (arith, c.requires.in_group, g.met.F.ComplexExtendable.at_most_62)
 
 pub row_selector-requires-clause-apart : goal.row_selector-requires-clause-apart
 row_selector-requires-clause-apart g c =

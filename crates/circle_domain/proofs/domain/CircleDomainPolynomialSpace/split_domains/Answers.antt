@@ -5,6 +5,16 @@ use Rattle.circle_domain.specs.declared.domain.CircleDomain.{CircleDomain}
 use Rattle.circle_domain.proofs.PartLists.{parts_room, part_sizes, shifts_next, are_parts}
 use Rattle.circle_domain.proofs.domain.CircleDomainPolynomialSpace.split_domains.Goals as goal
 
+pub nth_point-requires-clause-positive : goal.nth_point-requires-clause-positive
+nth_point-requires-clause-positive g c =
+    omega (arith, parts_room c.log2_strict.result c.args.self.now.log_n c.args.num_chunks c.log2_strict.ensures.power c.requires.room)
+
+pub nth_point-requires-clause-in_group : goal.nth_point-requires-clause-in_group
+nth_point-requires-clause-in_group g c = omega (arith, c.requires.standard.0)
+
+pub nth_point-requires-clause-in_range : goal.nth_point-requires-clause-in_range
+nth_point-requires-clause-in_range g c = omega (arith, c.loop-i-test.true, c.requires.room)
+
 pub overflow_sub-log_n : goal.overflow_sub-log_n
 overflow_sub-log_n g c = omega (
   arith,
