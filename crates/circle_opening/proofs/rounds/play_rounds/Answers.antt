@@ -10,6 +10,7 @@ use Rattle.circle_transcript.specs.Transcript.{numbers}
 use Rattle.circle_transcript.proofs.Playing.{handed_on, zeros_pushed}
 use Rattle.circle_runs.proofs.Runs.{rounds_all, next_round, rounds_none}
 use Rattle.circle_opening.specs.Failure.{IsRoundsFailure}
+use Rattle.circle_opening.specs.declared.error.ProverError.TheVariants.{Memory}
 use Rattle.circle_opening.specs.Words.{word_at}
 use Rattle.circle_opening.proofs.Growing.{word_at-kept, word_at-next, rounds_begun, rounds_more, played_begun, played_more, stuck_after, words_committed}
 use Rattle.circle_opening.proofs.rounds.play_rounds.Given.{Over}
@@ -187,3 +188,15 @@ pub returns-clause-word : goal.returns-clause-word
 returns-clause-word g c = λ f are.
     let ended : c.loop-i.i ≡ c.args.num_rounds = omega arith in
     c.loop-i.invariant.word f are ∙ ap (word_at (fields g) c.args.heights.now f c.args.log_height c.args.first.items c.loop-i.rounds.betas.items) ended
+
+pub play_round-requires-clause-positive : goal.play_round-requires-clause-positive
+play_round-requires-clause-positive g c =
+    let within : c.loop-i.i < c.args.num_rounds = omega arith in
+    omega (arith, within, c.requires.fewer)
+
+pub play_round-requires-clause-in_group : goal.play_round-requires-clause-in_group
+play_round-requires-clause-in_group g c = omega (arith, c.requires.in_group)
+
+pub returns-in_err-word-clause-failure : goal.returns-in_err-word-clause-failure
+returns-in_err-word-clause-failure g c =
+    handed_on c.from_residual-in_err-word.result Memory (IsRoundsFailure (challenger g) (g.M.Mmcs.commits c.args.mmcs.now) c.args.transcript.now (fields g) c.args.heights.now c.args.folded.now c.args.log_height c.args.first.items c.args.num_rounds) c.from_residual-in_err-word.ensures.1 (inl refl)
