@@ -1,5 +1,5 @@
 use Rattle.std.specs.Prelude.{All, zip}
-use Rattle.std.proofs.Common.{◌≡◌, ℕ, List, ◌+◌, ◌^◌, ◌<◌, ◌∷◌, [], length, map, refl, sym, ap, ◌∙◌, subst, arith, inl, inr}
+use Rattle.std.proofs.Common.{◌≡◌, ℕ, List, ◌+◌, ◌-◌, ◌^◌, ◌<◌, ◌≤◌, ◌∷◌, [], length, map, refl, sym, ap, ◌∙◌, subst, arith, inl, inr}
 use Rattle.std.proofs.lemmas.List.{map-append, length_push}
 use Rattle.std.proofs.lemmas.Slice.Zip.{length-zip}
 use Rattle.std.proofs.lemmas.List.Elements.{All-nil}
@@ -10,6 +10,7 @@ use Rattle.circle_transcript.specs.Transcript.{numbers}
 use Rattle.circle_transcript.proofs.Playing.{handed_on, zeros_pushed}
 use Rattle.circle_runs.proofs.Runs.{rounds_all, next_round, rounds_none}
 use Rattle.circle_opening.specs.Failure.{IsRoundsFailure}
+use Rattle.circle_opening.specs.declared.error.ProverError.TheVariants.{Memory}
 use Rattle.circle_opening.specs.Words.{word_at}
 use Rattle.circle_opening.proofs.Growing.{word_at-kept, word_at-next, rounds_begun, rounds_more, played_begun, played_more, stuck_after, words_committed}
 use Rattle.circle_opening.proofs.rounds.play_rounds.Given.{Over}
@@ -137,3 +138,65 @@ pub returns-clause-due : goal.returns-clause-due
 returns-clause-due g c = λ rest e.
     c.loop-i.invariant.due rest e
     ∙ rounds_none g.EF.ExtensionField.DEGREE (numbers c.args.transcript.now).commit_pow_bits c.args.num_rounds c.loop-i.i rest (omega arith)
+
+pub play_round-requires-clause-small : goal.play_round-requires-clause-small
+play_round-requires-clause-small g c =
+    subst (λ n. n.commit_pow_bits ≤ 63) (sym c.loop-i.invariant.same.shape) c.requires.small
+
+pub play_round-requires-clause-word : goal.play_round-requires-clause-word
+play_round-requires-clause-word g c = c.loop-i.invariant.length
+
+pub play_round-requires-clause-words : goal.play_round-requires-clause-words
+play_round-requires-clause-words g c = c.requires.words
+
+pub returns-in_err-round-clause-same : goal.returns-in_err-round-clause-same
+returns-in_err-round-clause-same g c = record {
+  challenger = c.play_round.ensures.same.challenger ∙ c.loop-i.invariant.same.challenger;
+  shape = c.play_round.ensures.same.shape ∙ c.loop-i.invariant.same.shape;
+}
+
+pub returns-in_err-word-clause-same : goal.returns-in_err-word-clause-same
+returns-in_err-word-clause-same g c = record {
+  challenger = c.play_round.ensures.same.challenger ∙ c.loop-i.invariant.same.challenger;
+  shape = c.play_round.ensures.same.shape ∙ c.loop-i.invariant.same.shape;
+}
+
+pub returns-clause-same : goal.returns-clause-same
+returns-clause-same g c = c.loop-i.invariant.same
+
+pub returns-clause-commitments : goal.returns-clause-commitments
+returns-clause-commitments g c = c.loop-i.invariant.commitments ∙ omega arith
+
+pub returns-clause-witnesses : goal.returns-clause-witnesses
+returns-clause-witnesses g c = c.loop-i.invariant.witnesses ∙ omega arith
+
+pub returns-clause-easy : goal.returns-clause-easy
+returns-clause-easy g c = c.loop-i.invariant.easy
+
+pub returns-clause-played : goal.returns-clause-played
+returns-clause-played g c = c.loop-i.invariant.played
+
+pub returns-clause-length : goal.returns-clause-length
+returns-clause-length g c =
+    let ended : c.loop-i.i ≡ c.args.num_rounds = omega arith in
+    c.loop-i.invariant.length ∙ ap (λ n. 2 ^ (c.args.log_height - n)) ended
+
+pub returns-clause-committed : goal.returns-clause-committed
+returns-clause-committed g c = c.loop-i.invariant.committed
+
+pub returns-clause-word : goal.returns-clause-word
+returns-clause-word g c = λ f are.
+    let ended : c.loop-i.i ≡ c.args.num_rounds = omega arith in
+    c.loop-i.invariant.word f are ∙ ap (word_at (fields g) c.args.heights.now f c.args.log_height c.args.first.items c.loop-i.rounds.betas.items) ended
+
+pub play_round-requires-clause-positive : goal.play_round-requires-clause-positive
+play_round-requires-clause-positive g c =
+    let within : c.loop-i.i < c.args.num_rounds = omega arith in
+    omega (arith, within, c.requires.fewer)
+
+pub play_round-requires-clause-in_group : goal.play_round-requires-clause-in_group
+play_round-requires-clause-in_group g c = omega (arith, c.requires.in_group)
+
+pub returns-in_err-word-clause-failure : goal.returns-in_err-word-clause-failure
+returns-in_err-word-clause-failure g c =
+    handed_on c.from_residual-in_err-word.result Memory (IsRoundsFailure (challenger g) (g.M.Mmcs.commits c.args.mmcs.now) c.args.transcript.now (fields g) c.args.heights.now c.args.folded.now c.args.log_height c.args.first.items c.args.num_rounds) c.from_residual-in_err-word.ensures.1 (inl refl)

@@ -442,3 +442,60 @@ returns-clause-words g c =
           (c.deref-5.ensures.value ∙ c.in_ok-rounds.ensures.word fold are ∙ alike betas _ ∙ ap word (sym many))
           c.in_ok-final_poly.ensures.values;
     }
+
+pub batch_phase-requires-clause-next : goal.batch_phase-requires-clause-next
+batch_phase-requires-clause-next g c = (_, c.requires.next)
+
+pub batch_phase-requires-clause-small : goal.batch_phase-requires-clause-small
+batch_phase-requires-clause-small g c = c.requires.small.batch
+
+pub play_rounds-requires-clause-small : goal.play_rounds-requires-clause-small
+play_rounds-requires-clause-small g c =
+    subst (λ n. n.commit_pow_bits ≤ 63) (sym (c.first_layer-bivariate.ensures.same.shape ∙ c.batch_phase.ensures.same.shape)) c.requires.small.commit
+
+pub query_phase-requires-clause-small : goal.query_phase-requires-clause-small
+query_phase-requires-clause-small g c =
+    subst (λ n. n.query_pow_bits ≤ 63) (sym (c.play_rounds.ensures.same.shape ∙ c.first_layer-bivariate.ensures.same.shape ∙ c.batch_phase.ensures.same.shape)) c.requires.small.query
+
+pub query_phase-requires-clause-narrow : goal.query_phase-requires-clause-narrow
+query_phase-requires-clause-narrow g c =
+    subst (λ n. n.index_bits ≤ 63) (sym (c.play_rounds.ensures.same.shape ∙ c.first_layer-bivariate.ensures.same.shape ∙ c.batch_phase.ensures.same.shape)) c.requires.small.index
+
+pub returns-in_err-alpha-clause-same : goal.returns-in_err-alpha-clause-same
+returns-in_err-alpha-clause-same g c = c.batch_phase.ensures.same
+
+pub returns-in_err-heights-clause-same : goal.returns-in_err-heights-clause-same
+returns-in_err-heights-clause-same g c = c.batch_phase.ensures.same
+
+pub returns-in_err-layer-clause-same : goal.returns-in_err-layer-clause-same
+returns-in_err-layer-clause-same g c = c.batch_phase.ensures.same
+
+pub returns-in_err-tallest-clause-same : goal.returns-in_err-tallest-clause-same
+returns-in_err-tallest-clause-same g c = record {
+  challenger = c.first_layer-bivariate.ensures.same.challenger ∙ c.batch_phase.ensures.same.challenger;
+  shape = c.first_layer-bivariate.ensures.same.shape ∙ c.batch_phase.ensures.same.shape;
+}
+
+pub returns-in_err-rounds-clause-same : goal.returns-in_err-rounds-clause-same
+returns-in_err-rounds-clause-same g c = record {
+  challenger = c.play_rounds.ensures.same.challenger ∙ c.first_layer-bivariate.ensures.same.challenger ∙ c.batch_phase.ensures.same.challenger;
+  shape = c.play_rounds.ensures.same.shape ∙ c.first_layer-bivariate.ensures.same.shape ∙ c.batch_phase.ensures.same.shape;
+}
+
+pub returns-in_err-final_poly-clause-same : goal.returns-in_err-final_poly-clause-same
+returns-in_err-final_poly-clause-same g c = record {
+  challenger = c.play_rounds.ensures.same.challenger ∙ c.first_layer-bivariate.ensures.same.challenger ∙ c.batch_phase.ensures.same.challenger;
+  shape = c.play_rounds.ensures.same.shape ∙ c.first_layer-bivariate.ensures.same.shape ∙ c.batch_phase.ensures.same.shape;
+}
+
+pub returns-in_err-indices-clause-same : goal.returns-in_err-indices-clause-same
+returns-in_err-indices-clause-same g c = record {
+  challenger = c.query_phase.ensures.same.challenger ∙ c.play_rounds.ensures.same.challenger ∙ c.first_layer-bivariate.ensures.same.challenger ∙ c.batch_phase.ensures.same.challenger;
+  shape = c.query_phase.ensures.same.shape ∙ c.play_rounds.ensures.same.shape ∙ c.first_layer-bivariate.ensures.same.shape ∙ c.batch_phase.ensures.same.shape;
+}
+
+pub returns-clause-same : goal.returns-clause-same
+returns-clause-same g c = record {
+  challenger = c.query_phase.ensures.same.challenger ∙ c.play_rounds.ensures.same.challenger ∙ c.first_layer-bivariate.ensures.same.challenger ∙ c.batch_phase.ensures.same.challenger;
+  shape = c.query_phase.ensures.same.shape ∙ c.play_rounds.ensures.same.shape ∙ c.first_layer-bivariate.ensures.same.shape ∙ c.batch_phase.ensures.same.shape;
+}

@@ -1,6 +1,6 @@
-use Rattle.std.specs.Prelude.{zip, false, ◌⊎◌}
-use Rattle.std.proofs.Common.{◌≡◌, ◌+◌, ◌<◌, ◌≤◌, ◌∷◌, [], length, take, map, refl, ap, ◌∙◌, arith, inr}
-use Rattle.std.proofs.lemmas.List.{map-append}
+use Rattle.std.specs.Prelude.{zip, true, false, ◌⊎◌}
+use Rattle.std.proofs.Common.{◌≡◌, ℕ, List, ◌+◌, ◌<◌, ◌≤◌, ◌∷◌, [], length, take, map, refl, sym, ap, ◌∙◌, subst, arith, inr}
+use Rattle.std.proofs.lemmas.List.{map-append, take_all}
 use Rattle.circle_transcript.specs.Draw.{after_rounds, fold_challenges, rounds_pass}
 use Rattle.circle_transcript.specs.Transcript.{numbers}
 use Rattle.circle_matrix.specs.declared.params.PowPhase.TheVariants.{CommitPhase}
@@ -85,3 +85,43 @@ returns-in_err-beta-clause-failure g c =
     let whole = misses_all r bits begun (zip commitments witnesses) (zip (take (i + 1) commitments) (take (i + 1) witnesses)) _ (zip_split commitments witnesses (i + 1) within_next c.requires.paired) missed in
     handed_on c.from_residual.result c.in_err-beta.field-0.0 (λ e. (e ≡ Memory) ⊎ ((e ≡ PowWitness CommitPhase bits) × (rounds_pass r bits begun (zip commitments witnesses) ≡ false))) c.from_residual.ensures.1
     (inr (c.in_err-beta.ensures.failure ∙ ap (PowWitness CommitPhase) same_bits, whole))
+
+pub commit_round-requires-clause-small : goal.commit_round-requires-clause-small
+commit_round-requires-clause-small g c =
+    subst (λ n. n.commit_pow_bits ≤ 63) (sym c.loop-i.invariant.same.shape) c.requires.small
+
+pub returns-in_err-beta-clause-same : goal.returns-in_err-beta-clause-same
+returns-in_err-beta-clause-same g c = record {
+  challenger = c.commit_round.ensures.same.challenger ∙ c.loop-i.invariant.same.challenger;
+  shape = c.commit_round.ensures.same.shape ∙ c.loop-i.invariant.same.shape;
+}
+
+pub returns-in-Err-clause-same : goal.returns-in-Err-clause-same
+returns-in-Err-clause-same g c = record {
+  challenger = c.commit_round.ensures.same.challenger ∙ c.loop-i.invariant.same.challenger;
+  shape = c.commit_round.ensures.same.shape ∙ c.loop-i.invariant.same.shape;
+}
+
+pub returns-clause-same : goal.returns-clause-same
+returns-clause-same g c = c.loop-i.invariant.same
+
+-- at the loop's end the rounds so far are all of them
+abbrev all_rounds : {A B : Type 0} (us : List A) (vs : List B) (i : ℕ) → length us ≤ i → length vs ≡ length us → zip (take i us) (take i vs) ≡ zip us vs
+all_rounds us vs i ended same = ap (λ v. zip v (take i vs)) (take_all i us ended) ∙ ap (zip us) (take_all i vs (omega arith))
+
+pub returns-clause-passes : goal.returns-clause-passes
+returns-clause-passes g c =
+    subst (λ v. rounds_pass (challenger g) (numbers c.args.transcript.now).commit_pow_bits (g.C.ChallengerState.state c.args.transcript.now.challenger.now) v ≡ true)
+    (all_rounds c.args.commitments.now c.args.witnesses.now c.loop-i.i c.loop-i-test.false c.requires.paired) c.loop-i.invariant.passes
+
+pub returns-clause-challenges : goal.returns-clause-challenges
+returns-clause-challenges g c =
+    c.loop-i.invariant.challenges
+    ∙ ap (fold_challenges (challenger g) (numbers c.args.transcript.now).commit_pow_bits (g.C.ChallengerState.state c.args.transcript.now.challenger.now))
+    (all_rounds c.args.commitments.now c.args.witnesses.now c.loop-i.i c.loop-i-test.false c.requires.paired)
+
+pub returns-clause-state : goal.returns-clause-state
+returns-clause-state g c =
+    c.loop-i.invariant.state
+    ∙ ap (after_rounds (challenger g) (numbers c.args.transcript.now).commit_pow_bits (g.C.ChallengerState.state c.args.transcript.now.challenger.now))
+    (all_rounds c.args.commitments.now c.args.witnesses.now c.loop-i.i c.loop-i-test.false c.requires.paired)

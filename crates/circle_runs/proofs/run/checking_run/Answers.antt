@@ -1,5 +1,5 @@
-use Rattle.std.specs.Prelude.{◌⊎◌, Ok, Err, IfErr}
-use Rattle.std.proofs.Common.{◌≡◌, List, [], length, refl, ap, ◌∙◌, subst, inl, inr}
+use Rattle.std.specs.Prelude.{◌⊎◌, Ok, Err, All, IfErr}
+use Rattle.std.proofs.Common.{◌≡◌, ◌<◌, ◌≤◌, ◌^◌, ◌++◌, List, [], length, refl, sym, ap, ◌∙◌, subst, inl, inr}
 use Rattle.circle_matrix.specs.declared.params.PowPhase.TheVariants.{Batch, CommitPhase, Query}
 use Rattle.std.specs.Borrow.{Bor}
 use Rattle.circle_point.specs.declared.point.Point.{Point}
@@ -11,6 +11,9 @@ use Rattle.circle_challenger.specs.Moves.{RunMoves, run_moves, after_element}
 use Rattle.circle_transcript.specs.declared.failure.CircleTranscriptFailure.TheVariants.{Memory}
 use Rattle.circle_transcript.specs.Draw.{Taken, draw_seeded}
 use Rattle.circle_runs.specs.Runs.{taken_with, taken_of, drawn_of, IsMiss}
+use Rattle.circle_transcript.specs.Shape.{rounds_steps}
+use Rattle.circle_transcript.specs.Numbers.{indices_steps}
+use Rattle.circle_transcript.specs.declared.transcript.Numbers.{Numbers}
 use Rattle.circle_transcript.specs.Transcript.{numbers}
 use Rattle.circle_transcript.proofs.Playing.{handed_on}
 use Rattle.circle_runs.proofs.Runs.{indices_due}
@@ -98,3 +101,67 @@ returns-clause-draws g c =
     subst (λ v. draw_seeded r n (taken_beside c.args.claims.now c.args.messages.now c.args.witnesses.now v) s ≡ Ok drawn) c.deref.ensures.value
     (all_drawn r n all s _ _ third drawn.alpha drawn.bivariate drawn.betas drawn.indices _ _ _ drawn.state c.in_ok-alpha.ensures.state second c.in_ok-indices.ensures.passes
     c.in_ok-alpha.ensures.challenge c.first_layer-bivariate.ensures.challenge c.in_ok-betas.ensures.challenges c.in_ok-indices.ensures.indices c.in_ok-indices.ensures.state)
+
+pub batch_phase-requires-clause-next : goal.batch_phase-requires-clause-next
+batch_phase-requires-clause-next g c = (_, c.requires.next)
+
+pub batch_phase-requires-clause-small : goal.batch_phase-requires-clause-small
+batch_phase-requires-clause-small g c = c.requires.small.batch
+
+pub first_layer-bivariate-requires : goal.first_layer-bivariate-requires
+first_layer-bivariate-requires g c = record { next = (_, c.in_ok-alpha.ensures.due _ c.requires.next) }
+
+pub checking_rounds-requires-clause-next : goal.checking_rounds-requires-clause-next
+checking_rounds-requires-clause-next g c =
+    let n = numbers c.args.transcript.now in (
+      _,
+      c.first_layer-bivariate.ensures.due _ (c.in_ok-alpha.ensures.due _ c.requires.next)
+          ∙ ap (λ (v : Numbers). rounds_steps g.EF.ExtensionField.DEGREE v.commit_pow_bits (length c.args.messages.now.commitments.now) ++ indices_steps g.EF.ExtensionField.DEGREE n)
+          (sym (c.first_layer-bivariate.ensures.same.shape ∙ c.batch_phase.ensures.same.shape)),
+    )
+
+pub checking_rounds-requires-clause-small : goal.checking_rounds-requires-clause-small
+checking_rounds-requires-clause-small g c =
+    subst (λ n. n.commit_pow_bits ≤ 63) (sym (c.first_layer-bivariate.ensures.same.shape ∙ c.batch_phase.ensures.same.shape)) c.requires.small.commit
+
+pub checking_rounds-requires-clause-paired : goal.checking_rounds-requires-clause-paired
+checking_rounds-requires-clause-paired g c = ap length c.deref.ensures.value ∙ c.requires.paired
+
+pub query_phase-requires-clause-small : goal.query_phase-requires-clause-small
+query_phase-requires-clause-small g c =
+    subst (λ n. n.query_pow_bits ≤ 63) (sym (c.checking_rounds.ensures.same.shape ∙ c.first_layer-bivariate.ensures.same.shape ∙ c.batch_phase.ensures.same.shape)) c.requires.small.query
+
+pub query_phase-requires-clause-narrow : goal.query_phase-requires-clause-narrow
+query_phase-requires-clause-narrow g c =
+    subst (λ n. n.index_bits ≤ 63) (sym (c.checking_rounds.ensures.same.shape ∙ c.first_layer-bivariate.ensures.same.shape ∙ c.batch_phase.ensures.same.shape)) c.requires.small.index
+
+pub query_phase-requires-clause-count : goal.query_phase-requires-clause-count
+query_phase-requires-clause-count g c =
+    c.requires.count
+    ∙ ap (λ n. 2 ^ n.log_final_poly_len) (sym (c.checking_rounds.ensures.same.shape ∙ c.first_layer-bivariate.ensures.same.shape ∙ c.batch_phase.ensures.same.shape))
+
+pub returns-in_err-alpha-clause-same : goal.returns-in_err-alpha-clause-same
+returns-in_err-alpha-clause-same g c = c.batch_phase.ensures.same
+
+pub returns-in_err-betas-clause-same : goal.returns-in_err-betas-clause-same
+returns-in_err-betas-clause-same g c = record {
+  challenger = c.checking_rounds.ensures.same.challenger ∙ c.first_layer-bivariate.ensures.same.challenger ∙ c.batch_phase.ensures.same.challenger;
+  shape = c.checking_rounds.ensures.same.shape ∙ c.first_layer-bivariate.ensures.same.shape ∙ c.batch_phase.ensures.same.shape;
+}
+
+pub returns-in_err-indices-clause-same : goal.returns-in_err-indices-clause-same
+returns-in_err-indices-clause-same g c = record {
+  challenger = c.query_phase.ensures.same.challenger ∙ c.checking_rounds.ensures.same.challenger ∙ c.first_layer-bivariate.ensures.same.challenger ∙ c.batch_phase.ensures.same.challenger;
+  shape = c.query_phase.ensures.same.shape ∙ c.checking_rounds.ensures.same.shape ∙ c.first_layer-bivariate.ensures.same.shape ∙ c.batch_phase.ensures.same.shape;
+}
+
+pub returns-clause-same : goal.returns-clause-same
+returns-clause-same g c = record {
+  challenger = c.query_phase.ensures.same.challenger ∙ c.checking_rounds.ensures.same.challenger ∙ c.first_layer-bivariate.ensures.same.challenger ∙ c.batch_phase.ensures.same.challenger;
+  shape = c.query_phase.ensures.same.shape ∙ c.checking_rounds.ensures.same.shape ∙ c.first_layer-bivariate.ensures.same.shape ∙ c.batch_phase.ensures.same.shape;
+}
+
+pub returns-clause-below : goal.returns-clause-below
+returns-clause-below g c =
+    subst (λ n. All (λ i. i < 2 ^ n.index_bits) c.in_ok-indices.indices.items)
+    (c.checking_rounds.ensures.same.shape ∙ c.first_layer-bivariate.ensures.same.shape ∙ c.batch_phase.ensures.same.shape) c.in_ok-indices.ensures.below

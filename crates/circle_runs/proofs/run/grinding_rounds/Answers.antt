@@ -1,6 +1,6 @@
-use Rattle.std.specs.Prelude.{◌⊎◌, All, unwrap_or}
-use Rattle.std.proofs.Common.{◌≡◌, ◌+◌, ◌<◌, ◌++◌, ◌∷◌, [], length, map, refl, sym, ap, ◌∙◌, subst, arith, inr}
-use Rattle.std.proofs.lemmas.List.{map-append, length_push}
+use Rattle.std.specs.Prelude.{zip, true, ◌⊎◌, All, unwrap_or}
+use Rattle.std.proofs.Common.{◌≡◌, ◌+◌, ◌<◌, ◌≤◌, ◌++◌, ◌∷◌, [], length, map, refl, sym, ap, ◌∙◌, subst, arith, inr}
+use Rattle.std.proofs.lemmas.List.{map-append, length_push, take_all}
 use Rattle.std.proofs.lemmas.List.Elements.{All-from_recursion}
 use Rattle.circle_transcript.specs.Draw.{after_rounds, fold_challenges, rounds_pass}
 use Rattle.circle_runs.specs.Runs.{HasStuckRound}
@@ -93,3 +93,51 @@ returns-in_err-beta-clause-failure g c =
     c.loop-commitment.invariant.passes c.loop-commitment.invariant.state c.in_err-beta.ensures.none in
     handed_on c.from_residual.result c.in_err-beta.field-0.0 (λ e. (e ≡ Memory) ⊎ ((e ≡ NoWitness CommitPhase bits) × HasStuckRound r bits begun commitments)) c.from_residual.ensures.1
     (inr (c.in_err-beta.ensures.failure ∙ ap (NoWitness CommitPhase) same_bits, stuck))
+
+pub commit_round-requires-clause-small : goal.commit_round-requires-clause-small
+commit_round-requires-clause-small g c =
+    subst (λ n. n.commit_pow_bits ≤ 63) (sym c.loop-commitment.invariant.same.shape) c.requires.small
+
+pub returns-in_err-beta-clause-same : goal.returns-in_err-beta-clause-same
+returns-in_err-beta-clause-same g c = record {
+  challenger = c.commit_round.ensures.same.challenger ∙ c.loop-commitment.invariant.same.challenger;
+  shape = c.commit_round.ensures.same.shape ∙ c.loop-commitment.invariant.same.shape;
+}
+
+pub returns-in-Err-clause-same : goal.returns-in-Err-clause-same
+returns-in-Err-clause-same g c = record {
+  challenger = c.commit_round.ensures.same.challenger ∙ c.loop-commitment.invariant.same.challenger;
+  shape = c.commit_round.ensures.same.shape ∙ c.loop-commitment.invariant.same.shape;
+}
+
+pub returns-in-Err-push-clause-same : goal.returns-in-Err-push-clause-same
+returns-in-Err-push-clause-same g c = record {
+  challenger = c.commit_round.ensures.same.challenger ∙ c.loop-commitment.invariant.same.challenger;
+  shape = c.commit_round.ensures.same.shape ∙ c.loop-commitment.invariant.same.shape;
+}
+
+pub returns-clause-same : goal.returns-clause-same
+returns-clause-same g c = c.loop-commitment.invariant.same
+
+pub returns-clause-count : goal.returns-clause-count
+returns-clause-count g c = c.loop-commitment.invariant.count ∙ omega arith
+
+pub returns-clause-easy : goal.returns-clause-easy
+returns-clause-easy g c = c.loop-commitment.invariant.easy
+
+pub returns-clause-passes : goal.returns-clause-passes
+returns-clause-passes g c =
+    subst (λ v. rounds_pass (challenger g) (numbers c.args.transcript.now).commit_pow_bits (g.C.ChallengerState.state c.args.transcript.now.challenger.now) (zip v c.loop-commitment.witnesses.items) ≡ true)
+    (take_all c.loop-commitment.commitment-index c.args.commitments.now c.loop-commitment-test.false) c.loop-commitment.invariant.passes
+
+pub returns-clause-challenges : goal.returns-clause-challenges
+returns-clause-challenges g c =
+    c.loop-commitment.invariant.challenges
+    ∙ ap (λ v. fold_challenges (challenger g) (numbers c.args.transcript.now).commit_pow_bits (g.C.ChallengerState.state c.args.transcript.now.challenger.now) (zip v c.loop-commitment.witnesses.items))
+    (take_all c.loop-commitment.commitment-index c.args.commitments.now c.loop-commitment-test.false)
+
+pub returns-clause-state : goal.returns-clause-state
+returns-clause-state g c =
+    c.loop-commitment.invariant.state
+    ∙ ap (λ v. after_rounds (challenger g) (numbers c.args.transcript.now).commit_pow_bits (g.C.ChallengerState.state c.args.transcript.now.challenger.now) (zip v c.loop-commitment.witnesses.items))
+    (take_all c.loop-commitment.commitment-index c.args.commitments.now c.loop-commitment-test.false)

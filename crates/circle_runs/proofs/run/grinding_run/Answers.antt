@@ -1,5 +1,5 @@
-use Rattle.std.specs.Prelude.{◌⊎◌, Ok, Err, unwrap_or}
-use Rattle.std.proofs.Common.{◌≡◌, [], length, map, refl, sym, ap, ◌∙◌, subst, inl, inr}
+use Rattle.std.specs.Prelude.{◌⊎◌, Ok, Err, All, unwrap_or}
+use Rattle.std.proofs.Common.{◌≡◌, ◌<◌, ◌≤◌, ◌^◌, ◌++◌, [], length, map, refl, sym, ap, ◌∙◌, subst, inl, inr}
 use Rattle.circle_matrix.specs.declared.params.PowPhase.TheVariants.{Batch, CommitPhase, Query}
 use Rattle.circle_field.specs.Field.{of_nat}
 use Rattle.circle_challenger.specs.Moves.{RunMoves, run_moves, after_element}
@@ -7,6 +7,9 @@ use Rattle.circle_transcript.specs.declared.failure.CircleTranscriptFailure.TheV
 use Rattle.circle_transcript.specs.Claims.{claims_of}
 use Rattle.circle_transcript.specs.Draw.{draw_seeded}
 use Rattle.circle_runs.specs.Runs.{taken_with, IsStuck}
+use Rattle.circle_transcript.specs.Shape.{rounds_steps}
+use Rattle.circle_transcript.specs.Numbers.{indices_steps}
+use Rattle.circle_transcript.specs.declared.transcript.Numbers.{Numbers}
 use Rattle.circle_transcript.specs.Transcript.{numbers}
 use Rattle.circle_transcript.proofs.Playing.{handed_on, unwrap_none}
 use Rattle.circle_runs.proofs.Runs.{indices_due}
@@ -120,3 +123,67 @@ pub returns-clause-easy_query : goal.returns-clause-easy_query
 returns-clause-easy_query g c = λ none.
     let same = c.grinding_rounds.ensures.same.shape ∙ c.first_layer-bivariate.ensures.same.shape ∙ c.batch_phase.ensures.same.shape in
     c.or_zero-query_witness.ensures ∙ unwrap_none g.F.Operations.ops.zero c.in_ok-indices.query (c.in_ok-indices.ensures.needed.1 (ap (λ v. v.query_pow_bits) same ∙ none))
+
+pub batch_phase-requires-clause-next : goal.batch_phase-requires-clause-next
+batch_phase-requires-clause-next g c = (_, c.requires.next)
+
+pub batch_phase-requires-clause-small : goal.batch_phase-requires-clause-small
+batch_phase-requires-clause-small g c = c.requires.small.batch
+
+pub first_layer-bivariate-requires : goal.first_layer-bivariate-requires
+first_layer-bivariate-requires g c = record { next = (_, c.in_ok-alpha.ensures.due _ c.requires.next) }
+
+pub grinding_rounds-requires-clause-next : goal.grinding_rounds-requires-clause-next
+grinding_rounds-requires-clause-next g c =
+    let n = numbers c.args.transcript.now in (
+      _,
+      c.first_layer-bivariate.ensures.due _ (c.in_ok-alpha.ensures.due _ c.requires.next)
+          ∙ ap (λ (v : Numbers). rounds_steps g.EF.ExtensionField.DEGREE v.commit_pow_bits (length c.args.messages.now.commitments.now) ++ indices_steps g.EF.ExtensionField.DEGREE n)
+          (sym (c.first_layer-bivariate.ensures.same.shape ∙ c.batch_phase.ensures.same.shape)),
+    )
+
+pub grinding_rounds-requires-clause-small : goal.grinding_rounds-requires-clause-small
+grinding_rounds-requires-clause-small g c =
+    subst (λ n. n.commit_pow_bits ≤ 63) (sym (c.first_layer-bivariate.ensures.same.shape ∙ c.batch_phase.ensures.same.shape)) c.requires.small.commit
+
+pub query_phase-requires-clause-small : goal.query_phase-requires-clause-small
+query_phase-requires-clause-small g c =
+    subst (λ n. n.query_pow_bits ≤ 63) (sym (c.grinding_rounds.ensures.same.shape ∙ c.first_layer-bivariate.ensures.same.shape ∙ c.batch_phase.ensures.same.shape)) c.requires.small.query
+
+pub query_phase-requires-clause-narrow : goal.query_phase-requires-clause-narrow
+query_phase-requires-clause-narrow g c =
+    subst (λ n. n.index_bits ≤ 63) (sym (c.grinding_rounds.ensures.same.shape ∙ c.first_layer-bivariate.ensures.same.shape ∙ c.batch_phase.ensures.same.shape)) c.requires.small.index
+
+pub query_phase-requires-clause-count : goal.query_phase-requires-clause-count
+query_phase-requires-clause-count g c =
+    c.requires.count
+    ∙ ap (λ n. 2 ^ n.log_final_poly_len) (sym (c.grinding_rounds.ensures.same.shape ∙ c.first_layer-bivariate.ensures.same.shape ∙ c.batch_phase.ensures.same.shape))
+
+pub returns-in_err-alpha-clause-same : goal.returns-in_err-alpha-clause-same
+returns-in_err-alpha-clause-same g c = c.batch_phase.ensures.same
+
+pub returns-in_err-betas-clause-same : goal.returns-in_err-betas-clause-same
+returns-in_err-betas-clause-same g c = record {
+  challenger = c.grinding_rounds.ensures.same.challenger ∙ c.first_layer-bivariate.ensures.same.challenger ∙ c.batch_phase.ensures.same.challenger;
+  shape = c.grinding_rounds.ensures.same.shape ∙ c.first_layer-bivariate.ensures.same.shape ∙ c.batch_phase.ensures.same.shape;
+}
+
+pub returns-in_err-indices-clause-same : goal.returns-in_err-indices-clause-same
+returns-in_err-indices-clause-same g c = record {
+  challenger = c.query_phase.ensures.same.challenger ∙ c.grinding_rounds.ensures.same.challenger ∙ c.first_layer-bivariate.ensures.same.challenger ∙ c.batch_phase.ensures.same.challenger;
+  shape = c.query_phase.ensures.same.shape ∙ c.grinding_rounds.ensures.same.shape ∙ c.first_layer-bivariate.ensures.same.shape ∙ c.batch_phase.ensures.same.shape;
+}
+
+pub returns-clause-same : goal.returns-clause-same
+returns-clause-same g c = record {
+  challenger = c.query_phase.ensures.same.challenger ∙ c.grinding_rounds.ensures.same.challenger ∙ c.first_layer-bivariate.ensures.same.challenger ∙ c.batch_phase.ensures.same.challenger;
+  shape = c.query_phase.ensures.same.shape ∙ c.grinding_rounds.ensures.same.shape ∙ c.first_layer-bivariate.ensures.same.shape ∙ c.batch_phase.ensures.same.shape;
+}
+
+pub returns-clause-below : goal.returns-clause-below
+returns-clause-below g c =
+    subst (λ n. All (λ i. i < 2 ^ n.index_bits) c.in_ok-indices.indices.items)
+    (c.grinding_rounds.ensures.same.shape ∙ c.first_layer-bivariate.ensures.same.shape ∙ c.batch_phase.ensures.same.shape) c.in_ok-indices.ensures.below
+
+pub returns-clause-count : goal.returns-clause-count
+returns-clause-count g c = c.in_ok-betas.ensures.count
