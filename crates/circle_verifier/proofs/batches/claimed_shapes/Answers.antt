@@ -45,3 +45,7 @@ returns g c =
     c.loop-matrix.invariant
     ∙ ap (map (λ m. claimed_shape c.args.log_blowup (matrix_claim m))) (take_all c.loop-matrix.matrix-index matrices c.loop-matrix-test.false)
     ∙ sym (map-map (claimed_shape c.args.log_blowup) matrix_claim matrices)
+
+pub overflow_shl-log_n : goal.overflow_shl-log_n
+overflow_shl-log_n g c =
+    omega (arith, small-there c.args.log_blowup c.args.matrices.now c.loop-matrix.matrix-index c.matrix-item.result c.loop-matrix-test.true c.matrix-item.is c.requires, c.log_n.ensures)
