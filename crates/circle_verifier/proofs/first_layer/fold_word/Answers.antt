@@ -116,3 +116,12 @@ returns-clause-folded g c =
     (omega (arith, height-large w)) within (omega (arith, within, c.requires.drawn.in_group)) c.requires.drawn.below in
     let folds-are = c.fold_query_values_with_inv_twiddles.ensures twiddles nonzero c.requires.inverses in
     ap (λ xs. (c.args.word.log_height, xs)) (kept ∙ folds-are ∙ folds-made w refl made)
+
+pub push_query_pairs-requires-clause-rows : goal.push_query_pairs-requires-clause-rows
+push_query_pairs-requires-clause-rows g c = c.requires.rows
+
+pub push_query_pairs-requires-clause-bits : goal.push_query_pairs-requires-clause-bits
+push_query_pairs-requires-clause-bits g c = omega (arith, c.requires.drawn.in_group, g.met.Val.ComplexExtendable.at_most_62)
+
+pub fold_query_values_with_inv_twiddles-requires-clause-bits : goal.fold_query_values_with_inv_twiddles-requires-clause-bits
+fold_query_values_with_inv_twiddles-requires-clause-bits g c = omega (arith, c.requires.drawn.in_group, g.met.Val.ComplexExtendable.at_most_62)

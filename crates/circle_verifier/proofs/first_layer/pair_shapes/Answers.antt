@@ -23,3 +23,9 @@ loop-log_height-preserved c =
 pub returns : goal.returns
 returns c =
     c.loop-log_height.invariant ∙ ap (map pair_shape) (take_all c.loop-log_height.log_height-index c.args.heights.now c.loop-log_height-test.false)
+
+pub overflow_sub-log_height : goal.overflow_sub-log_height
+overflow_sub-log_height c = (c.requires c.loop-log_height.log_height-index 0 c.loop-log_height-test.true).0
+
+pub overflow_shl-log_height : goal.overflow_shl-log_height
+overflow_shl-log_height c = omega (arith, (c.requires c.loop-log_height.log_height-index 0 c.loop-log_height-test.true).1)
