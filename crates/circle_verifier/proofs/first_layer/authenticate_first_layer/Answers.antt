@@ -7,6 +7,7 @@ use Rattle.circle_verifier.specs.FirstLayer.{pair_shape}
 use Rattle.circle_verifier.proofs.ReducedWords.{handed_on}
 use Rattle.circle_verifier.proofs.FirstLayerRun.{heights-fit, layer-asked}
 use Rattle.circle_relation.proofs.Shown.{moved}
+use Rattle.std.proofs.lemmas.Result.{IfOk-from_err}
 use Rattle.circle_verifier.proofs.first_layer.authenticate_first_layer.Goals as goal
 
 pub pair_shapes-requires : goal.pair_shapes-requires
@@ -45,3 +46,9 @@ returns-in-Ok-clause-shown g c =
     moved (g.FriMmcs.Mmcs.authenticates run.params.now.mmcs) run.proof.now.first_layer_commitment run.proof.now.fri_proof.input_openings.first_layer_proof _ _ _ _ _ _
     (c.deref.ensures.value ∙ c.in_ok-dimensions.ensures ∙ ap (map pair_shape) c.requires.heights)
     (c.deref-2.ensures.value ∙ c.in_ok-places.ensures) c.requires.pairs c.in-Ok.ensures.accepted
+
+pub returns-in_err-dimensions-clause-shown : goal.returns-in_err-dimensions-clause-shown
+returns-in_err-dimensions-clause-shown g c = IfOk-from_err c.from_residual.result _ c.from_residual.ensures.0
+
+pub returns-in_err-places-clause-shown : goal.returns-in_err-places-clause-shown
+returns-in_err-places-clause-shown g c = IfOk-from_err c.from_residual-in_err-places.result _ c.from_residual-in_err-places.ensures.0

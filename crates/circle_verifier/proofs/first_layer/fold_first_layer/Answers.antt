@@ -11,6 +11,7 @@ use Rattle.circle_verifier.specs.FirstLayer.{twiddles_of}
 use Rattle.circle_verifier.specs.Sums.{word_at}
 use Rattle.circle_verifier.proofs.FirstLayerRun.{IsClaimed, pairs_up_to, all_reduced, word-of, place-of, none-yet, count-rows, pairs-all, folded-all, folded-more, pairs-more, next-inverses}
 use Rattle.circle_verifier.proofs.first_layer.fold_first_layer.Given as given
+use Rattle.std.proofs.lemmas.Result.{IfOk-from_err}
 use Rattle.circle_verifier.proofs.first_layer.fold_first_layer.Goals as goal
 use Rattle.circle_verifier.proofs.first_layer.fold_first_layer.Goals.{In-Some}
 
@@ -121,3 +122,33 @@ fold_word-requires-clause-drawn g c = c.requires.drawn
 
 pub fold_word-requires-clause-opened : goal.fold_word-requires-clause-opened
 fold_word-requires-clause-opened g c = c.requires.opened
+
+pub returns-in_err-inverses-clause-pairs : goal.returns-in_err-inverses-clause-pairs
+returns-in_err-inverses-clause-pairs g c = IfOk-from_err c.from_residual.result _ c.from_residual.ensures.0
+
+pub returns-in_err-inverses-clause-folded : goal.returns-in_err-inverses-clause-folded
+returns-in_err-inverses-clause-folded g c = IfOk-from_err c.from_residual.result _ c.from_residual.ensures.0
+
+pub returns-in_err-rows-clause-pairs : goal.returns-in_err-rows-clause-pairs
+returns-in_err-rows-clause-pairs g c = IfOk-from_err c.from_residual-in_err-rows.result _ c.from_residual-in_err-rows.ensures.0
+
+pub returns-in_err-rows-clause-folded : goal.returns-in_err-rows-clause-folded
+returns-in_err-rows-clause-folded g c = IfOk-from_err c.from_residual-in_err-rows.result _ c.from_residual-in_err-rows.ensures.0
+
+pub returns-in_err-folded-clause-pairs : goal.returns-in_err-folded-clause-pairs
+returns-in_err-folded-clause-pairs g c = IfOk-from_err c.from_residual-in_err-folded.result _ c.from_residual-in_err-folded.ensures.0
+
+pub returns-in_err-folded-clause-folded : goal.returns-in_err-folded-clause-folded
+returns-in_err-folded-clause-folded g c = IfOk-from_err c.from_residual-in_err-folded.result _ c.from_residual-in_err-folded.ensures.0
+
+pub returns-in_err-values-clause-pairs : goal.returns-in_err-values-clause-pairs
+returns-in_err-values-clause-pairs g c = IfOk-from_err c.from_residual-in_err-values.result _ c.from_residual-in_err-values.ensures.0
+
+pub returns-in_err-values-clause-folded : goal.returns-in_err-values-clause-folded
+returns-in_err-values-clause-folded g c = IfOk-from_err c.from_residual-in_err-values.result _ c.from_residual-in_err-values.ensures.0
+
+pub returns-in_err-push-clause-pairs : goal.returns-in_err-push-clause-pairs
+returns-in_err-push-clause-pairs g c = IfOk-from_err c.from_residual-in_err-push.result _ c.from_residual-in_err-push.ensures.0
+
+pub returns-in_err-push-clause-folded : goal.returns-in_err-push-clause-folded
+returns-in_err-push-clause-folded g c = IfOk-from_err c.from_residual-in_err-push.result _ c.from_residual-in_err-push.ensures.0

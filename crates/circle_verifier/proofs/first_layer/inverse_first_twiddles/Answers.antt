@@ -12,6 +12,7 @@ use Rattle.circle_verifier.proofs.FirstLayerRun.{IsClaimed, all_reduced, word-of
 use Rattle.circle_verifier.proofs.Twiddles.{heights-more}
 use Rattle.circle_verifier.proofs.first_layer.inverse_first_twiddles.Invariants.{fields}
 use Rattle.circle_verifier.proofs.first_layer.inverse_first_twiddles.Given as given
+use Rattle.std.proofs.lemmas.Result.{IfOk-from_err}
 use Rattle.circle_verifier.proofs.first_layer.inverse_first_twiddles.Goals as goal
 use Rattle.circle_verifier.proofs.first_layer.inverse_first_twiddles.Goals.{After-deref}
 
@@ -94,3 +95,12 @@ first_layer_twiddles-requires-clause-below g c = c.requires.drawn.below
 pub batch_multiplicative_inverse-requires : goal.batch_multiplicative_inverse-requires
 batch_multiplicative_inverse-requires g c =
     subst (All (λ (t : g.row.Val.Denot). t ≢ g.Val.Operations.ops.zero)) (sym c.deref-2.ensures.value) c.loop-word.invariant.nonzero
+
+pub returns-in_err-twiddles : goal.returns-in_err-twiddles
+returns-in_err-twiddles g c = IfOk-from_err c.from_residual.result _ c.from_residual.ensures.0
+
+pub returns-in_err-of_word : goal.returns-in_err-of_word
+returns-in_err-of_word g c = IfOk-from_err c.from_residual-in_err-of_word.result _ c.from_residual-in_err-of_word.ensures.0
+
+pub returns-in_err-extend_from_slice : goal.returns-in_err-extend_from_slice
+returns-in_err-extend_from_slice g c = IfOk-from_err c.from_residual-in_err-extend_from_slice.result _ c.from_residual-in_err-extend_from_slice.ensures.0

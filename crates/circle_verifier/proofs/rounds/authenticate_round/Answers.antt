@@ -5,7 +5,7 @@ use Rattle.circle_relation.specs.Reasons.{IsReason}
 use Rattle.circle_verifier.proofs.RoundsValues.{length-values_in, length-siblings_in, asked-rows, round-within}
 use Rattle.circle_verifier.proofs.RoundsOpened.{shifted-one, of-steps, shown-round, round-shown, of-commits}
 use Rattle.circle_verifier.proofs.rounds.authenticate_round.Given as given
-use Rattle.std.specs.Prelude.{Result, Ok, Err, IfOk, IsErrAnd}
+use Rattle.std.proofs.lemmas.Result.{IfOk-from_err}
 use Rattle.circle_relation.specs.RunOf.{Refuses}
 use Rattle.circle_verifier.proofs.ReducedWords.{handed_on}
 use Rattle.circle_matrix.specs.declared.error.FriError.TheVariants.{Memory}
@@ -30,11 +30,6 @@ module _ (n top two : ℕ) (deep : n + 3 ≤ top) (below : top < two) (few : two
 
   shift-low : top - 2 - n < 64
   shift-low = omega arith
-
--- an error has no value
-no-value : {A E : Type 0} (r : Result A E) (P : A → Type 0) (Q : E → Type 0) → IsErrAnd r Q → IfOk r P
-no-value (Ok x) P Q is = absurd is
-no-value (Err e) P Q is = tt
 
 pub query_pairs-requires-clause-values : goal.query_pairs-requires-clause-values
 query_pairs-requires-clause-values g c = ap length c.requires.values ∙ length-values_in (fields g) c.args.run.now c.args.round
@@ -112,11 +107,11 @@ unfolding IsReason
 returns-in_err-pairs-clause-refused g c = handed_on c.from_residual.result Memory (Refuses (fields g) c.args.run.now g.InputMmcs.Mmcs.authenticates g.FriMmcs.Mmcs.authenticates g.InputMmcs.Mmcs.is_memory g.FriMmcs.Mmcs.is_memory) c.from_residual.ensures.1 tt
 
 pub returns-in_err-pairs-clause-shown : goal.returns-in_err-pairs-clause-shown
-returns-in_err-pairs-clause-shown g c = no-value c.from_residual.result _ _ c.from_residual.ensures.1
+returns-in_err-pairs-clause-shown g c = IfOk-from_err c.from_residual.result _ c.from_residual.ensures.0
 
 pub returns-in_err-places-clause-refused : goal.returns-in_err-places-clause-refused
 unfolding IsReason
 returns-in_err-places-clause-refused g c = handed_on c.from_residual-in_err-places.result Memory (Refuses (fields g) c.args.run.now g.InputMmcs.Mmcs.authenticates g.FriMmcs.Mmcs.authenticates g.InputMmcs.Mmcs.is_memory g.FriMmcs.Mmcs.is_memory) c.from_residual-in_err-places.ensures.1 tt
 
 pub returns-in_err-places-clause-shown : goal.returns-in_err-places-clause-shown
-returns-in_err-places-clause-shown g c = no-value c.from_residual-in_err-places.result _ _ c.from_residual-in_err-places.ensures.1
+returns-in_err-places-clause-shown g c = IfOk-from_err c.from_residual-in_err-places.result _ c.from_residual-in_err-places.ensures.0

@@ -9,7 +9,7 @@ use Rattle.circle_verifier.proofs.RoundsOpened.{of-steps, one-sibling, siblings-
 use Rattle.circle_verifier.proofs.rounds.fold_round.Given as given
 use Rattle.circle_relation.specs.RunOf.{Refuses}
 use Rattle.circle_verifier.proofs.ReducedWords.{handed_on}
-use Rattle.std.specs.Prelude.{Result, Ok, Err, IfOk, IsErrAnd}
+use Rattle.std.proofs.lemmas.Result.{IfOk-from_err}
 use Rattle.circle_matrix.specs.declared.error.FriError.TheVariants.{Memory}
 use Rattle.circle_relation.specs.Reasons.{IsReason}
 use Rattle.circle_verifier.proofs.rounds.fold_round.Goals as goal
@@ -23,11 +23,6 @@ module _ (n top two : ℕ) (deep : n + 3 ≤ top) (below : top < two) (few : two
 
   one-low : n + 1 < 63
   one-low = omega arith
-
--- an error has no value
-no-value : {A E : Type 0} (r : Result A E) (P : A → Type 0) (Q : E → Type 0) → IsErrAnd r Q → IfOk r P
-no-value (Ok x) P Q is = absurd is
-no-value (Err e) P Q is = tt
 
 pub index-opening-requires : goal.index-opening-requires
 index-opening-requires g c =
@@ -108,13 +103,13 @@ unfolding IsReason
 returns-in_err-siblings-clause-refused g c = handed_on c.from_residual.result Memory (Refuses (fields g) c.args.run.now g.InputMmcs.Mmcs.authenticates g.FriMmcs.Mmcs.authenticates g.InputMmcs.Mmcs.is_memory g.FriMmcs.Mmcs.is_memory) c.from_residual.ensures.1 tt
 
 pub returns-in_err-siblings-clause-folded : goal.returns-in_err-siblings-clause-folded
-returns-in_err-siblings-clause-folded g c = no-value c.from_residual.result _ _ c.from_residual.ensures.1
+returns-in_err-siblings-clause-folded g c = IfOk-from_err c.from_residual.result _ c.from_residual.ensures.0
 
 pub returns-in_err-siblings-clause-shown : goal.returns-in_err-siblings-clause-shown
-returns-in_err-siblings-clause-shown g c = no-value c.from_residual.result _ _ c.from_residual.ensures.1
+returns-in_err-siblings-clause-shown g c = IfOk-from_err c.from_residual.result _ c.from_residual.ensures.0
 
 pub returns-in_err-authenticate_round-clause-folded : goal.returns-in_err-authenticate_round-clause-folded
-returns-in_err-authenticate_round-clause-folded g c = no-value c.from_residual-in_err-authenticate_round.result _ _ c.from_residual-in_err-authenticate_round.ensures.1
+returns-in_err-authenticate_round-clause-folded g c = IfOk-from_err c.from_residual-in_err-authenticate_round.result _ c.from_residual-in_err-authenticate_round.ensures.0
 
 pub returns-in_err-authenticate_round-clause-shown : goal.returns-in_err-authenticate_round-clause-shown
-returns-in_err-authenticate_round-clause-shown g c = no-value c.from_residual-in_err-authenticate_round.result _ _ c.from_residual-in_err-authenticate_round.ensures.1
+returns-in_err-authenticate_round-clause-shown g c = IfOk-from_err c.from_residual-in_err-authenticate_round.result _ c.from_residual-in_err-authenticate_round.ensures.0

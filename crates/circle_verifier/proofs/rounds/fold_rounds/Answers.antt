@@ -9,6 +9,9 @@ use Rattle.circle_verifier.proofs.Twiddles.{next-inverses}
 use Rattle.circle_verifier.proofs.rounds.fold_rounds.Invariants.{fields}
 use Rattle.circle_verifier.proofs.ReducedWords.{handed_on}
 use Rattle.circle_field.proofs.Inverses.{take-whole}
+use Rattle.std.proofs.lemmas.Result.{IfOk-from_err}
+use Rattle.circle_matrix.specs.declared.error.FriError.TheVariants.{Memory}
+use Rattle.circle_relation.specs.Reasons.{IsReason}
 use Rattle.circle_verifier.proofs.rounds.fold_rounds.Goals as goal
 
 pub returns-in_default-clause-values : goal.returns-in_default-clause-values
@@ -123,3 +126,19 @@ returns-clause-values g c =
     let o = c.args.run.now in
     let last : c.loop-round.round ≡ length o.betas.now = le_antisymm c.loop-round.auto.round-end c.loop-round-test.false in
     c.loop-round.invariant.values ∙ ap (values_in (fields g) o) (last ∙ c.requires.drawn.betas)
+
+pub returns-in_err-inverses-clause-values : goal.returns-in_err-inverses-clause-values
+returns-in_err-inverses-clause-values g c = IfOk-from_err c.from_residual.result _ c.from_residual.ensures.0
+
+pub returns-in_err-inverses-clause-shown : goal.returns-in_err-inverses-clause-shown
+returns-in_err-inverses-clause-shown g c = IfOk-from_err c.from_residual.result _ c.from_residual.ensures.0
+
+pub returns-in_err-fold_round-clause-values : goal.returns-in_err-fold_round-clause-values
+returns-in_err-fold_round-clause-values g c = IfOk-from_err c.from_residual-in_err-fold_round.result _ c.from_residual-in_err-fold_round.ensures.0
+
+pub returns-in_err-fold_round-clause-shown : goal.returns-in_err-fold_round-clause-shown
+returns-in_err-fold_round-clause-shown g c = IfOk-from_err c.from_residual-in_err-fold_round.result _ c.from_residual-in_err-fold_round.ensures.0
+
+pub returns-in_err-inverses-clause-refused : goal.returns-in_err-inverses-clause-refused
+unfolding IsReason
+returns-in_err-inverses-clause-refused g c = handed_on c.from_residual.result Memory (Refuses (fields g) c.args.run.now g.InputMmcs.Mmcs.authenticates g.FriMmcs.Mmcs.authenticates g.InputMmcs.Mmcs.is_memory g.FriMmcs.Mmcs.is_memory) c.from_residual.ensures.1 tt
