@@ -11,6 +11,7 @@ use Rattle.std.specs.Prelude.{All}
 use Rattle.circle_matrix.specs.declared.pcs.MatrixOpening.{MatrixOpening}
 use Rattle.circle_domain.specs.declared.domain.CircleDomain.{CircleDomain}
 use Rattle.circle_domain.specs.Domain.{log_size}
+use Rattle.std.proofs.lemmas.Result.{IfOk-from_err}
 use Rattle.circle_verifier.proofs.batches.authenticate_batch.Goals as goal
 
 small-heights : {E F : Type 0} {g : _} (blowup top : ℕ) (ms ds : List (MatrixOpening E (CircleDomain F g))) →
@@ -67,4 +68,8 @@ log_max_height-height-requires g c =
 pub without_bits-requires : goal.without_bits-requires
 without_bits-requires g c = omega (arith, c.requires.drawn.in_group, g.met.Val.ComplexExtendable.at_most_62)
 
+pub returns-in_err-shapes-clause-shown : goal.returns-in_err-shapes-clause-shown
+returns-in_err-shapes-clause-shown g c = IfOk-from_err c.from_residual.result _ c.from_residual.ensures.0
 
+pub returns-in_err-places-clause-shown : goal.returns-in_err-places-clause-shown
+returns-in_err-places-clause-shown g c = IfOk-from_err c.from_residual-in_err-places.result _ c.from_residual-in_err-places.ensures.0

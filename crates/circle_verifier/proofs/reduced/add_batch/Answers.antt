@@ -11,6 +11,7 @@ use Rattle.circle_relation.specs.StatementOf.{point_claim, matrix_claim, matrix_
 use Rattle.circle_relation.specs.Sums.{on_row, claims_at, AreApartFrom, AreApartAt, Adds}
 use Rattle.circle_relation.proofs.ReducedSums.{adds-both, adds-same, adds-none}
 use Rattle.circle_verifier.proofs.ReducedRows.{All-there, All-under, rows-wide, claims-more, claims-other}
+use Rattle.std.proofs.lemmas.Option.{MatchOption-from_none}
 use Rattle.circle_verifier.proofs.reduced.add_batch.Goals as goal
 use Rattle.circle_verifier.proofs.reduced.add_batch.Goals.{then-log_n-word+in_ok-after, else-log_n-word}
 
@@ -155,3 +156,9 @@ add_matrix-requires-clause-points g c = c.requires.points ∙ sym c.loop-i.invar
 
 pub add_matrix-requires-clause-opened : goal.add_matrix-requires-clause-opened
 add_matrix-requires-clause-opened g c = c.requires.opened ∙ sym c.loop-i.invariant.counted
+
+pub returns-in_err-after-clause-apart : goal.returns-in_err-after-clause-apart
+returns-in_err-after-clause-apart g c = MatchOption-from_none c.from_residual.result _ c.from_residual.ensures
+
+pub returns-in_err-after-clause-sums : goal.returns-in_err-after-clause-sums
+returns-in_err-after-clause-sums g c = MatchOption-from_none c.from_residual.result _ c.from_residual.ensures

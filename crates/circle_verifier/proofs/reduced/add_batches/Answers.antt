@@ -13,6 +13,7 @@ use Rattle.circle_relation.specs.RunOf.{run_of, opened_batch}
 use Rattle.circle_relation.specs.Sums.{claims_at, all_claims_at, HasRowsOf, AreApartFrom, AreApartAt, Adds}
 use Rattle.circle_relation.proofs.ReducedSums.{adds-both, adds-same, adds-none}
 use Rattle.circle_verifier.proofs.ReducedRows.{pair-read, of-batch, all_matrices-more, all_claims-more}
+use Rattle.std.proofs.lemmas.Option.{MatchOption-from_none}
 use Rattle.circle_verifier.proofs.reduced.add_batches.Goals as goal
 
 pub add_batch-requires-clause-opened : goal.add_batch-requires-clause-opened
@@ -178,3 +179,9 @@ index-requires g c =
 
 pub add_batch-requires-clause-points : goal.add_batch-requires-clause-points
 add_batch-requires-clause-points g c = c.requires.points ∙ sym c.loop-i.invariant.counted
+
+pub returns-in_err-offset-clause-apart : goal.returns-in_err-offset-clause-apart
+returns-in_err-offset-clause-apart g c = MatchOption-from_none c.from_residual.result _ c.from_residual.ensures
+
+pub returns-in_err-offset-clause-sums : goal.returns-in_err-offset-clause-sums
+returns-in_err-offset-clause-sums g c = MatchOption-from_none c.from_residual.result _ c.from_residual.ensures

@@ -17,6 +17,7 @@ use Rattle.circle_verifier.specs.Sums.{claims_on}
 use Rattle.circle_relation.proofs.ReducedSums.{adds-both, adds-same, adds-claim, meets-not, adds-none}
 use Rattle.circle_domain.specs.Selectors.{IsFinite}
 use Rattle.circle_field.proofs.Inverses.{some_unless}
+use Rattle.std.proofs.lemmas.Option.{MatchOption-from_none}
 use Rattle.circle_verifier.proofs.reduced.add_matrix.Goals as goal
 
 pub returns-in_err-add_quotients-clause-none : goal.returns-in_err-add_quotients-clause-none
@@ -151,3 +152,9 @@ bounds-word-len g c =
     subst (λ (o : PointOpening g.row.EF.Denot). length o.values.items < length c.args.word.now.powers.now) (sym c.opening-item.is)
     (c.requires.enough c.loop-opening.opening-index opening c.loop-opening-test.true) in
     omega (arith, enough, c.len.ensures, opening.values.ok.0)
+
+pub returns-in_err-add_quotients-clause-apart : goal.returns-in_err-add_quotients-clause-apart
+returns-in_err-add_quotients-clause-apart g c = MatchOption-from_none c.from_residual.result _ c.from_residual.ensures
+
+pub returns-in_err-add_quotients-clause-sums : goal.returns-in_err-add_quotients-clause-sums
+returns-in_err-add_quotients-clause-sums g c = MatchOption-from_none c.from_residual.result _ c.from_residual.ensures

@@ -13,6 +13,7 @@ use Rattle.circle_relation.specs.RunOf.{run_of, Refuses}
 use Rattle.circle_relation.specs.Sums.{all_claims_at, AreApartAt, Adds}
 use Rattle.circle_relation.proofs.ReducedSums.{adds-all}
 use Rattle.circle_verifier.proofs.ReducedWords.{handed_on, below-top, points-at, sums-at, apart-at}
+use Rattle.std.proofs.lemmas.Result.{IfOk-from_err}
 use Rattle.circle_verifier.proofs.reduced.reduced_word.Goals as goal
 
 pub add_batches-requires-clause-small : goal.add_batches-requires-clause-small
@@ -144,3 +145,15 @@ add_batches-requires-clause-enough g c = c.requires.enough
 
 pub add_batches-requires-clause-finite : goal.add_batches-requires-clause-finite
 add_batches-requires-clause-finite g c = c.requires.drawn.finite
+
+pub returns-in_err-points-clause-word : goal.returns-in_err-points-clause-word
+returns-in_err-points-clause-word g c = IfOk-from_err c.from_residual.result _ c.from_residual.ensures.0
+
+pub returns-in_err-points-clause-apart : goal.returns-in_err-points-clause-apart
+returns-in_err-points-clause-apart g c = IfOk-from_err c.from_residual.result _ c.from_residual.ensures.0
+
+pub returns-in_err-values-clause-word : goal.returns-in_err-values-clause-word
+returns-in_err-values-clause-word g c = IfOk-from_err c.from_residual-in_err-values.result _ c.from_residual-in_err-values.ensures.0
+
+pub returns-in_err-values-clause-apart : goal.returns-in_err-values-clause-apart
+returns-in_err-values-clause-apart g c = IfOk-from_err c.from_residual-in_err-values.result _ c.from_residual-in_err-values.ensures.0

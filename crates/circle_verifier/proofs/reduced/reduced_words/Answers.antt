@@ -9,6 +9,7 @@ use Rattle.circle_relation.specs.RunOf.{run_of, queried, Refuses}
 use Rattle.circle_verifier.specs.Sums.{word_at, IsApartIn}
 use Rattle.circle_verifier.proofs.ReducedWords.{handed_on, heights-fit, apart-all}
 use Rattle.circle_relation.specs.Statement.{MatrixClaim, all_matrices}
+use Rattle.std.proofs.lemmas.Result.{IfOk-from_err}
 use Rattle.circle_verifier.proofs.reduced.reduced_words.Goals as goal
 
 pub returns-in_err-powers-clause-refused : goal.returns-in_err-powers-clause-refused
@@ -116,3 +117,21 @@ returns-in_err-word-clause-refused g c =
     let k : Fields g.row.Val.Denot g.row.EF.Denot = record { field = g.Val.Operations.ops; gen = g.Val.ComplexExtendable.generators; two_adicity = g.Val.ComplexExtendable.CIRCLE_TWO_ADICITY; is_zero = λ w. g.Val.PartialEq.eq w g.Val.Field.ZERO; extension = g.EF.Operations.ops; embed = g.EF.ExtensionField.embed; same = g.EF.PartialEq.eq } in
     handed_on c.from_residual-in_err-word.result c.in_err-word.field-0.0 (Refuses k c.args.run.now g.InputMmcs.Mmcs.authenticates g.FriMmcs.Mmcs.authenticates g.InputMmcs.Mmcs.is_memory g.FriMmcs.Mmcs.is_memory)
     c.from_residual-in_err-word.ensures.1 c.in_err-word.ensures.refused
+
+pub returns-in_err-powers-clause-words : goal.returns-in_err-powers-clause-words
+returns-in_err-powers-clause-words g c = IfOk-from_err c.from_residual.result _ c.from_residual.ensures.0
+
+pub returns-in_err-powers-clause-apart : goal.returns-in_err-powers-clause-apart
+returns-in_err-powers-clause-apart g c = IfOk-from_err c.from_residual.result _ c.from_residual.ensures.0
+
+pub returns-in_err-words-clause-words : goal.returns-in_err-words-clause-words
+returns-in_err-words-clause-words g c = IfOk-from_err c.from_residual-in_err-words.result _ c.from_residual-in_err-words.ensures.0
+
+pub returns-in_err-words-clause-apart : goal.returns-in_err-words-clause-apart
+returns-in_err-words-clause-apart g c = IfOk-from_err c.from_residual-in_err-words.result _ c.from_residual-in_err-words.ensures.0
+
+pub returns-in_err-word-clause-words : goal.returns-in_err-word-clause-words
+returns-in_err-word-clause-words g c = IfOk-from_err c.from_residual-in_err-word.result _ c.from_residual-in_err-word.ensures.0
+
+pub returns-in_err-word-clause-apart : goal.returns-in_err-word-clause-apart
+returns-in_err-word-clause-apart g c = IfOk-from_err c.from_residual-in_err-word.result _ c.from_residual-in_err-word.ensures.0
