@@ -1,5 +1,5 @@
 use Rattle.std.proofs.Common.{ℕ, ◌++◌, [], ◌∷◌, ◌∙◌, List, Vec, Global, sym, ap, map, take}
-use Rattle.std.proofs.lemmas.List.{map-append, map_more}
+use Rattle.std.proofs.lemmas.List.{map-append, map_more, take_all}
 use Rattle.circle_matrix.specs.Mmcs.{opened_rows}
 use Rattle.circle_verifier.proofs.first_layer.empty_rows.Goals as goal
 
@@ -14,3 +14,7 @@ loop-preserved g c =
     ∙ ap (λ rows. rows ++ entries c.new.result ∷ []) c.loop.invariant
     ∙ ap (λ rows. map none (take i qs) ++ map (λ (row : Vec T Global). row.items) rows ∷ []) c.new.ensures.items
     ∙ sym (map_more none qs i 0 c.loop-test.true)
+
+pub returns : goal.returns
+returns g c =
+    c.loop.invariant ∙ ap (map (λ _. [])) (take_all c.loop.index c.args.indices.now c.loop-test.false)

@@ -8,8 +8,25 @@ use Rattle.circle_matrix.specs.Mmcs.{opened_rows}
 use Rattle.circle_relation.specs.Accepts.{Fields}
 use Rattle.circle_relation.specs.RunOf.{heights_of, folded_words, joining_of, queried}
 use Rattle.circle_verifier.specs.FirstLayer.{twiddles_of}
-use Rattle.circle_verifier.proofs.FirstLayerRun.{pairs_up_to, all_reduced, word-of, place-of, none-yet, count-rows, pairs-all, folded-all, folded-more, pairs-more, next-inverses}
+use Rattle.circle_verifier.specs.Sums.{word_at}
+use Rattle.circle_verifier.proofs.FirstLayerRun.{IsClaimed, pairs_up_to, all_reduced, word-of, place-of, none-yet, count-rows, pairs-all, folded-all, folded-more, pairs-more, next-inverses}
+use Rattle.circle_verifier.proofs.first_layer.fold_first_layer.Given as given
+use Rattle.std.proofs.lemmas.Result.{IfOk-from_err}
 use Rattle.circle_verifier.proofs.first_layer.fold_first_layer.Goals as goal
+use Rattle.circle_verifier.proofs.first_layer.fold_first_layer.Goals.{In-Some}
+
+abbrev fields : (g : given.Over) → Fields g.row.Val.Denot g.row.EF.Denot
+fields g = record { field = g.Val.Operations.ops; gen = g.Val.ComplexExtendable.generators; two_adicity = g.Val.ComplexExtendable.CIRCLE_TWO_ADICITY; is_zero = λ w. g.Val.PartialEq.eq w g.Val.Field.ZERO; extension = g.EF.Operations.ops; embed = g.EF.ExtensionField.embed; same = g.EF.PartialEq.eq }
+
+-- the word of this turn
+word-here : (g : given.Over) (c : In-Some g) → IsClaimed (fields g) c.args.run.now (length c.loop-word.yielded) c.in-Some.word.log_height
+    × (queried c.in-Some.word ≡ word_at (fields g) c.args.run.now c.in-Some.word.log_height)
+word-here g c =
+    let reduced = all_reduced c.requires.drawn c.requires.opened c.args.words.items c.requires.words in
+    let given = c.into_iter-word-iterator.ensures.into_iter_gives in
+    let all = YieldsList-from_vec c.args.words.items given.0 (given.1 ∙ c.args.words.ok.0) in
+    let t = YieldsList-turn all c.loop-word.yielded _ c.loop-word.yielded_by _ c.next.new.self c.in-Some.word c.in-Some.is c.next.ensures.steps in
+    word-of reduced (length c.loop-word.yielded) c.in-Some.word t.0 t.1
 
 pub loop-word-init : goal.loop-word-init
 loop-word-init g c =
@@ -26,39 +43,24 @@ inverse_first_twiddles-requires-clause-words g c = ap (map queried) c.deref.ensu
 
 pub split_at-requires : goal.split_at-requires
 split_at-requires g c =
-    let reduced = all_reduced c.requires.drawn c.requires.opened c.args.words.items c.requires.words in
-    let given = c.into_iter-word-iterator.ensures.into_iter_gives in
-    let all = YieldsList-from_vec c.args.words.items given.0 (given.1 ∙ c.args.words.ok.0) in
-    let t = YieldsList-turn all c.loop-word.yielded _ c.loop-word.yielded_by _ c.next.new.self c.in-Some.word c.in-Some.is c.next.ensures.steps in
-    let word = word-of reduced (length c.loop-word.yielded) c.in-Some.word t.0 t.1 in
+    let word = word-here g (goal.at.split_at-requires g c).In-Some in
     let later = next-inverses word.0 c.loop-word.invariant.later in
     omega (arith, later.0)
 
 pub fold_word-requires-clause-inverses : goal.fold_word-requires-clause-inverses
 fold_word-requires-clause-inverses g c =
-    let reduced = all_reduced c.requires.drawn c.requires.opened c.args.words.items c.requires.words in
-    let given = c.into_iter-word-iterator.ensures.into_iter_gives in
-    let all = YieldsList-from_vec c.args.words.items given.0 (given.1 ∙ c.args.words.ok.0) in
-    let t = YieldsList-turn all c.loop-word.yielded _ c.loop-word.yielded_by _ c.next.new.self c.in-Some.word c.in-Some.is c.next.ensures.steps in
-    let word = word-of reduced (length c.loop-word.yielded) c.in-Some.word t.0 t.1 in
+    let word = word-here g (goal.at.fold_word-requires-clause-inverses g c).In-Some in
     c.split_at.ensures.front ∙ (next-inverses word.0 c.loop-word.invariant.later).1
 
 pub fold_word-requires-clause-place : goal.fold_word-requires-clause-place
 fold_word-requires-clause-place g c =
     let reduced = all_reduced c.requires.drawn c.requires.opened c.args.words.items c.requires.words in
-    let given = c.into_iter-word-iterator.ensures.into_iter_gives in
-    let all = YieldsList-from_vec c.args.words.items given.0 (given.1 ∙ c.args.words.ok.0) in
-    let t = YieldsList-turn all c.loop-word.yielded _ c.loop-word.yielded_by _ c.next.new.self c.in-Some.word c.in-Some.is c.next.ensures.steps in
-    let word = word-of reduced (length c.loop-word.yielded) c.in-Some.word t.0 t.1 in
+    let word = word-here g (goal.at.fold_word-requires-clause-place g c).In-Some in
     place-of reduced (c.len-in-loop-word.ensures ∙ c.loop-word.invariant.count) word.0
 
 pub fold_word-requires-clause-word : goal.fold_word-requires-clause-word
 fold_word-requires-clause-word g c =
-    let reduced = all_reduced c.requires.drawn c.requires.opened c.args.words.items c.requires.words in
-    let given = c.into_iter-word-iterator.ensures.into_iter_gives in
-    let all = YieldsList-from_vec c.args.words.items given.0 (given.1 ∙ c.args.words.ok.0) in
-    let t = YieldsList-turn all c.loop-word.yielded _ c.loop-word.yielded_by _ c.next.new.self c.in-Some.word c.in-Some.is c.next.ensures.steps in
-    let word = word-of reduced (length c.loop-word.yielded) c.in-Some.word t.0 t.1 in
+    let word = word-here g (goal.at.fold_word-requires-clause-word g c).In-Some in
     word.1
 
 pub fold_word-requires-clause-rows : goal.fold_word-requires-clause-rows
@@ -71,13 +73,8 @@ fold_word-requires-clause-rows g c =
 
 pub loop-word-preserved : goal.loop-word-preserved
 loop-word-preserved g c =
-    let reduced = all_reduced c.requires.drawn c.requires.opened c.args.words.items c.requires.words in
-    let given = c.into_iter-word-iterator.ensures.into_iter_gives in
-    let all = YieldsList-from_vec c.args.words.items given.0 (given.1 ∙ c.args.words.ok.0) in
-    let t = YieldsList-turn all c.loop-word.yielded _ c.loop-word.yielded_by _ c.next.new.self c.in-Some.word c.in-Some.is c.next.ensures.steps in
-    let word = word-of reduced (length c.loop-word.yielded) c.in-Some.word t.0 t.1 in
-    let k : Fields g.row.Val.Denot g.row.EF.Denot =
-    record { field = g.Val.Operations.ops; gen = g.Val.ComplexExtendable.generators; two_adicity = g.Val.ComplexExtendable.CIRCLE_TWO_ADICITY; is_zero = λ w. g.Val.PartialEq.eq w g.Val.Field.ZERO; extension = g.EF.Operations.ops; embed = g.EF.ExtensionField.embed; same = g.EF.PartialEq.eq } in
+    let word = word-here g (goal.at.loop-word-preserved g c).In-Some in
+    let k = fields g in
     let run = c.args.run.now in
     let done = length c.loop-word.yielded in
     let old = c.loop-word.rows in
@@ -113,3 +110,45 @@ returns-clause-folded g c =
     let all = YieldsList-from_vec c.args.words.items given.0 (given.1 ∙ c.args.words.ok.0) in
     let t = YieldsList-end all c.loop-word.yielded _ c.loop-word.yielded_by _ c.next.new.self c.in-None.is c.next.ensures.steps in
     folded-all reduced (map joining_of c.loop-word.folded.items) (length c.loop-word.yielded) t.1 c.loop-word.invariant.folded
+
+pub inverse_first_twiddles-requires-clause-drawn : goal.inverse_first_twiddles-requires-clause-drawn
+inverse_first_twiddles-requires-clause-drawn g c = c.requires.drawn
+
+pub inverse_first_twiddles-requires-clause-opened : goal.inverse_first_twiddles-requires-clause-opened
+inverse_first_twiddles-requires-clause-opened g c = c.requires.opened
+
+pub fold_word-requires-clause-drawn : goal.fold_word-requires-clause-drawn
+fold_word-requires-clause-drawn g c = c.requires.drawn
+
+pub fold_word-requires-clause-opened : goal.fold_word-requires-clause-opened
+fold_word-requires-clause-opened g c = c.requires.opened
+
+pub returns-in_err-inverses-clause-pairs : goal.returns-in_err-inverses-clause-pairs
+returns-in_err-inverses-clause-pairs g c = IfOk-from_err c.from_residual.result _ c.from_residual.ensures.0
+
+pub returns-in_err-inverses-clause-folded : goal.returns-in_err-inverses-clause-folded
+returns-in_err-inverses-clause-folded g c = IfOk-from_err c.from_residual.result _ c.from_residual.ensures.0
+
+pub returns-in_err-rows-clause-pairs : goal.returns-in_err-rows-clause-pairs
+returns-in_err-rows-clause-pairs g c = IfOk-from_err c.from_residual-in_err-rows.result _ c.from_residual-in_err-rows.ensures.0
+
+pub returns-in_err-rows-clause-folded : goal.returns-in_err-rows-clause-folded
+returns-in_err-rows-clause-folded g c = IfOk-from_err c.from_residual-in_err-rows.result _ c.from_residual-in_err-rows.ensures.0
+
+pub returns-in_err-folded-clause-pairs : goal.returns-in_err-folded-clause-pairs
+returns-in_err-folded-clause-pairs g c = IfOk-from_err c.from_residual-in_err-folded.result _ c.from_residual-in_err-folded.ensures.0
+
+pub returns-in_err-folded-clause-folded : goal.returns-in_err-folded-clause-folded
+returns-in_err-folded-clause-folded g c = IfOk-from_err c.from_residual-in_err-folded.result _ c.from_residual-in_err-folded.ensures.0
+
+pub returns-in_err-values-clause-pairs : goal.returns-in_err-values-clause-pairs
+returns-in_err-values-clause-pairs g c = IfOk-from_err c.from_residual-in_err-values.result _ c.from_residual-in_err-values.ensures.0
+
+pub returns-in_err-values-clause-folded : goal.returns-in_err-values-clause-folded
+returns-in_err-values-clause-folded g c = IfOk-from_err c.from_residual-in_err-values.result _ c.from_residual-in_err-values.ensures.0
+
+pub returns-in_err-push-clause-pairs : goal.returns-in_err-push-clause-pairs
+returns-in_err-push-clause-pairs g c = IfOk-from_err c.from_residual-in_err-push.result _ c.from_residual-in_err-push.ensures.0
+
+pub returns-in_err-push-clause-folded : goal.returns-in_err-push-clause-folded
+returns-in_err-push-clause-folded g c = IfOk-from_err c.from_residual-in_err-push.result _ c.from_residual-in_err-push.ensures.0

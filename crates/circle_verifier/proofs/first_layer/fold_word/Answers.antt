@@ -9,6 +9,7 @@ use Rattle.circle_folding.specs.Chain.{first_layer_twiddle}
 use Rattle.circle_folding.proofs.FirstLayer.{first_layer_twiddles-nonzero}
 use Rattle.circle_verifier.specs.FirstLayer.{with_pairs}
 use Rattle.circle_verifier.proofs.FirstLayerRun.{claimed, height-within, height-large, lambda-there, siblings-there, siblings-read, counted, values-made, pairs-made, folds-made}
+use Rattle.std.proofs.lemmas.Result.{IfOk-from_err}
 use Rattle.circle_verifier.proofs.first_layer.fold_word.Goals as goal
 
 pub entries_at-requires : goal.entries_at-requires
@@ -116,3 +117,24 @@ returns-clause-folded g c =
     (omega (arith, height-large w)) within (omega (arith, within, c.requires.drawn.in_group)) c.requires.drawn.below in
     let folds-are = c.fold_query_values_with_inv_twiddles.ensures twiddles nonzero c.requires.inverses in
     ap (λ xs. (c.args.word.log_height, xs)) (kept ∙ folds-are ∙ folds-made w refl made)
+
+pub push_query_pairs-requires-clause-rows : goal.push_query_pairs-requires-clause-rows
+push_query_pairs-requires-clause-rows g c = c.requires.rows
+
+pub push_query_pairs-requires-clause-bits : goal.push_query_pairs-requires-clause-bits
+push_query_pairs-requires-clause-bits g c = omega (arith, c.requires.drawn.in_group, g.met.Val.ComplexExtendable.at_most_62)
+
+pub fold_query_values_with_inv_twiddles-requires-clause-bits : goal.fold_query_values_with_inv_twiddles-requires-clause-bits
+fold_query_values_with_inv_twiddles-requires-clause-bits g c = omega (arith, c.requires.drawn.in_group, g.met.Val.ComplexExtendable.at_most_62)
+
+pub returns-in_err-siblings-clause-pairs : goal.returns-in_err-siblings-clause-pairs
+returns-in_err-siblings-clause-pairs g c = IfOk-from_err c.from_residual.result _ c.from_residual.ensures.0
+
+pub returns-in_err-siblings-clause-folded : goal.returns-in_err-siblings-clause-folded
+returns-in_err-siblings-clause-folded g c = IfOk-from_err c.from_residual.result _ c.from_residual.ensures.0
+
+pub returns-in_err-push_query_pairs-clause-pairs : goal.returns-in_err-push_query_pairs-clause-pairs
+returns-in_err-push_query_pairs-clause-pairs g c = IfOk-from_err c.from_residual-in_err-push_query_pairs.result _ c.from_residual-in_err-push_query_pairs.ensures.0
+
+pub returns-in_err-push_query_pairs-clause-folded : goal.returns-in_err-push_query_pairs-clause-folded
+returns-in_err-push_query_pairs-clause-folded g c = IfOk-from_err c.from_residual-in_err-push_query_pairs.result _ c.from_residual-in_err-push_query_pairs.ensures.0

@@ -62,3 +62,6 @@ pub returns-clause-ended : goal.returns-clause-ended
 returns-clause-ended g c =
     let o = c.args.run.now in
     all-end (fields g) o.params.now (run_of o) (λ j lt. c.loop-j.invariant j (omega (arith, lt, c.loop-j-test.false)))
+
+pub overflow_shr-index : goal.overflow_shr-index
+overflow_shr-index g c = omega (arith, c.requires.drawn.in_group, g.met.Val.ComplexExtendable.at_most_62)

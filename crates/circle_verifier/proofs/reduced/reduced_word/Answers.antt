@@ -1,4 +1,4 @@
-use Rattle.std.proofs.Common.{◌≡◌, ℕ, ◌<◌, ◌∙◌, refl, sym, ap, subst, length, map, arith, slice_index_or, replicate}
+use Rattle.std.proofs.Common.{◌≡◌, ℕ, ◌<◌, ◌∙◌, refl, sym, ap, subst, length, map, arith, slice_index_or, replicate, lt_of_le_of_lt, le_trans, le_of_lt}
 use Rattle.std.specs.Prelude.{zip}
 use Rattle.std.specs.Vec.{with_items}
 use Rattle.std.proofs.lemmas.List.{length-map, length-replicate, get_or-replicate, with_items_is}
@@ -13,6 +13,7 @@ use Rattle.circle_relation.specs.RunOf.{run_of, Refuses}
 use Rattle.circle_relation.specs.Sums.{all_claims_at, AreApartAt, Adds}
 use Rattle.circle_relation.proofs.ReducedSums.{adds-all}
 use Rattle.circle_verifier.proofs.ReducedWords.{handed_on, below-top, points-at, sums-at, apart-at}
+use Rattle.std.proofs.lemmas.Result.{IfOk-from_err}
 use Rattle.circle_verifier.proofs.reduced.reduced_word.Goals as goal
 
 pub add_batches-requires-clause-small : goal.add_batches-requires-clause-small
@@ -110,3 +111,49 @@ returns-in-Some-clause-word g c =
     let stored : (with_items c.in_ok-values.values new).items ≡ new =
     with_items_is c.in_ok-values.values new (omega (arith, adds.counted, c.deref_mut.ensures.len)) in
     ap (λ xs. (h, (map coordinates ps, xs))) stored ∙ ap (λ xs. (h, (xs, new))) (of_points ∙ sym (points-at k c.args.run.now.params.now r h)) ∙ ap (λ ss. (h, (at_queries k c.args.run.now.params.now r (λ j q. point_among k c.args.run.now.params.now r j q h), ss))) sums
+
+pub query_points-requires-clause-positive : goal.query_points-requires-clause-positive
+query_points-requires-clause-positive g c = c.requires.positive
+
+pub query_points-requires-clause-within : goal.query_points-requires-clause-within
+query_points-requires-clause-within g c = c.requires.within
+
+pub query_points-requires-clause-in_group : goal.query_points-requires-clause-in_group
+query_points-requires-clause-in_group g c = lt_of_le_of_lt c.requires.within c.requires.drawn.in_group
+
+pub query_points-requires-clause-small : goal.query_points-requires-clause-small
+query_points-requires-clause-small g c = le_trans (le_of_lt c.requires.drawn.in_group) g.met.Val.ComplexExtendable.at_most_62
+
+pub query_points-requires-clause-below : goal.query_points-requires-clause-below
+query_points-requires-clause-below g c = c.requires.drawn.below
+
+pub add_batches-requires-clause-queries : goal.add_batches-requires-clause-queries
+add_batches-requires-clause-queries g c =
+    let queries = c.args.run.now.indices.now in
+    let zeros : c.in_ok-values.values.items ≡ replicate (length queries) c.ZERO.result =
+    c.in_ok-values.ensures.items_if_clones_equal (λ y same. g.met.EF.Field.clone_law _ _ same) in
+    sym (ap length (c.deref_mut.ensures.value ∙ zeros) ∙ length-replicate (length queries) c.ZERO.result)
+
+pub add_batches-requires-clause-blowup : goal.add_batches-requires-clause-blowup
+add_batches-requires-clause-blowup g c = refl
+
+pub add_batches-requires-clause-opened : goal.add_batches-requires-clause-opened
+add_batches-requires-clause-opened g c = c.requires.opened
+
+pub add_batches-requires-clause-enough : goal.add_batches-requires-clause-enough
+add_batches-requires-clause-enough g c = c.requires.enough
+
+pub add_batches-requires-clause-finite : goal.add_batches-requires-clause-finite
+add_batches-requires-clause-finite g c = c.requires.drawn.finite
+
+pub returns-in_err-points-clause-word : goal.returns-in_err-points-clause-word
+returns-in_err-points-clause-word g c = IfOk-from_err c.from_residual.result _ c.from_residual.ensures.0
+
+pub returns-in_err-points-clause-apart : goal.returns-in_err-points-clause-apart
+returns-in_err-points-clause-apart g c = IfOk-from_err c.from_residual.result _ c.from_residual.ensures.0
+
+pub returns-in_err-values-clause-word : goal.returns-in_err-values-clause-word
+returns-in_err-values-clause-word g c = IfOk-from_err c.from_residual-in_err-values.result _ c.from_residual-in_err-values.ensures.0
+
+pub returns-in_err-values-clause-apart : goal.returns-in_err-values-clause-apart
+returns-in_err-values-clause-apart g c = IfOk-from_err c.from_residual-in_err-values.result _ c.from_residual-in_err-values.ensures.0

@@ -1,5 +1,5 @@
 use Rattle.std.proofs.Common.{◌≡◌, ◌++◌, ◌∷◌, [], ◌∙◌, List, Vec, Global, sym, ap, length, map, take, slice_index_or, arith}
-use Rattle.std.proofs.lemmas.List.{take_more, length-map, get_or-map, get_or_default}
+use Rattle.std.proofs.lemmas.List.{take_more, length-map, get_or-map, get_or_default, take_all}
 use Rattle.circle_verifier.proofs.rounds.first_entries.Goals as goal
 
 pub index-requires : goal.index-requires
@@ -30,3 +30,9 @@ loop-row-preserved g c =
     ∙ ap (λ before. before ++ e ∷ []) c.loop-row.invariant
     ∙ ap (λ x. take i (map f rows) ++ x ∷ []) (here ∙ ap f c.row-item.is ∙ sym (get_or-map f rows i row k.zero c.loop-row-test.true))
     ∙ sym (take_more (map f rows) i k.zero (omega (arith, c.loop-row-test.true, length-map rows f)))
+
+pub returns : goal.returns
+returns g c =
+    let f : Vec g.row.E.Denot Global → g.row.E.Denot = λ row. slice_index_or row.items 0 g.E.Operations.ops.zero in
+    let rows = c.args.rows.now in
+    c.loop-row.invariant ∙ take_all c.loop-row.row-index (map f rows) (omega (arith, c.loop-row-test.false, length-map rows f))

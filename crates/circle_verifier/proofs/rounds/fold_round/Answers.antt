@@ -1,4 +1,4 @@
-use Rattle.std.proofs.Common.{◌≡◌, ◌∙◌, Vec, Global, refl, sym, ap, subst, length, map, slice_index_or, arith}
+use Rattle.std.proofs.Common.{◌≡◌, ◌∙◌, ℕ, ◌+◌, ◌<◌, ◌≤◌, Fits, w64, Vec, Global, refl, sym, ap, subst, length, map, slice_index_or, arith}
 use Rattle.std.proofs.lemmas.List.{get_or_default, length-map}
 use Rattle.std.specs.List.{All}
 use Rattle.circle_folding.specs.Chain.{round_twiddle, round_twiddles}
@@ -7,10 +7,22 @@ use Rattle.circle_relation.specs.Accepts.{Fields}
 use Rattle.circle_verifier.proofs.RoundsValues.{length-values_in, length-siblings_in, folds-of, round-within}
 use Rattle.circle_verifier.proofs.RoundsOpened.{of-steps, one-sibling, siblings-are}
 use Rattle.circle_verifier.proofs.rounds.fold_round.Given as given
+use Rattle.circle_relation.specs.RunOf.{Refuses}
+use Rattle.circle_verifier.proofs.ReducedWords.{handed_on}
+use Rattle.std.proofs.lemmas.Result.{IfOk-from_err}
+use Rattle.circle_matrix.specs.declared.error.FriError.TheVariants.{Memory}
+use Rattle.circle_relation.specs.Reasons.{IsReason}
 use Rattle.circle_verifier.proofs.rounds.fold_round.Goals as goal
 
 abbrev fields : (g : given.Over) → Fields g.row.Val.Denot g.row.EF.Denot
 fields g = record { field = g.Val.Operations.ops; gen = g.Val.ComplexExtendable.generators; two_adicity = g.Val.ComplexExtendable.CIRCLE_TWO_ADICITY; is_zero = λ w. g.Val.PartialEq.eq w g.Val.Field.ZERO; extension = g.EF.Operations.ops; embed = g.EF.ExtensionField.embed; same = g.EF.PartialEq.eq }
+
+module _ (n top two : ℕ) (deep : n + 3 ≤ top) (below : top < two) (few : two ≤ 62) where
+  one-fits : Fits w64 (n + 1)
+  one-fits = omega arith
+
+  one-low : n + 1 < 63
+  one-low = omega arith
 
 pub index-opening-requires : goal.index-opening-requires
 index-opening-requires g c =
@@ -57,3 +69,47 @@ returns-clause-folded g c =
     c.fold_query_values_with_inv_twiddles.ensures twiddles nonzero c.requires.inverses
     ∙ folds-of (fields g) o c.args.round (slice_index_or o.betas.now c.args.round beta) twiddles c.args.values.now c.deref-3.result.now c.requires.drawn.top
     (get_or_default o.betas.now c.args.round beta g.EF.Operations.ops.zero c.requires.round) refl c.requires.values (c.deref-3.ensures.value ∙ are)
+
+pub authenticate_round-requires-clause-drawn : goal.authenticate_round-requires-clause-drawn
+authenticate_round-requires-clause-drawn g c = c.requires.drawn
+
+pub authenticate_round-requires-clause-round : goal.authenticate_round-requires-clause-round
+authenticate_round-requires-clause-round g c = c.requires.round
+
+pub authenticate_round-requires-clause-values : goal.authenticate_round-requires-clause-values
+authenticate_round-requires-clause-values g c = c.requires.values
+
+pub returns-in_err-authenticate_round-clause-refused : goal.returns-in_err-authenticate_round-clause-refused
+returns-in_err-authenticate_round-clause-refused g c =
+    handed_on c.from_residual-in_err-authenticate_round.result c.in_err-authenticate_round.field-0.0
+    (Refuses (fields g) c.args.run.now g.InputMmcs.Mmcs.authenticates g.FriMmcs.Mmcs.authenticates g.InputMmcs.Mmcs.is_memory g.FriMmcs.Mmcs.is_memory)
+    c.from_residual-in_err-authenticate_round.ensures.1 c.in_err-authenticate_round.ensures.refused
+
+pub overflow_add-bits : goal.overflow_add-bits
+overflow_add-bits g c =
+    let o = c.args.run.now in
+    one-fits c.args.round o.log_max_height g.Val.ComplexExtendable.CIRCLE_TWO_ADICITY (round-within (fields g) o c.requires.drawn c.args.round c.requires.round) c.requires.drawn.in_group g.met.Val.ComplexExtendable.at_most_62
+
+pub fold_query_values_with_inv_twiddles-requires-clause-bits : goal.fold_query_values_with_inv_twiddles-requires-clause-bits
+fold_query_values_with_inv_twiddles-requires-clause-bits g c =
+    let o = c.args.run.now in
+    one-low c.args.round o.log_max_height g.Val.ComplexExtendable.CIRCLE_TWO_ADICITY (round-within (fields g) o c.requires.drawn c.args.round c.requires.round) c.requires.drawn.in_group g.met.Val.ComplexExtendable.at_most_62
+
+pub returns-clause-shown : goal.returns-clause-shown
+returns-clause-shown g c = c.in_ok-authenticate_round.ensures.shown
+
+pub returns-in_err-siblings-clause-refused : goal.returns-in_err-siblings-clause-refused
+unfolding IsReason
+returns-in_err-siblings-clause-refused g c = handed_on c.from_residual.result Memory (Refuses (fields g) c.args.run.now g.InputMmcs.Mmcs.authenticates g.FriMmcs.Mmcs.authenticates g.InputMmcs.Mmcs.is_memory g.FriMmcs.Mmcs.is_memory) c.from_residual.ensures.1 tt
+
+pub returns-in_err-siblings-clause-folded : goal.returns-in_err-siblings-clause-folded
+returns-in_err-siblings-clause-folded g c = IfOk-from_err c.from_residual.result _ c.from_residual.ensures.0
+
+pub returns-in_err-siblings-clause-shown : goal.returns-in_err-siblings-clause-shown
+returns-in_err-siblings-clause-shown g c = IfOk-from_err c.from_residual.result _ c.from_residual.ensures.0
+
+pub returns-in_err-authenticate_round-clause-folded : goal.returns-in_err-authenticate_round-clause-folded
+returns-in_err-authenticate_round-clause-folded g c = IfOk-from_err c.from_residual-in_err-authenticate_round.result _ c.from_residual-in_err-authenticate_round.ensures.0
+
+pub returns-in_err-authenticate_round-clause-shown : goal.returns-in_err-authenticate_round-clause-shown
+returns-in_err-authenticate_round-clause-shown g c = IfOk-from_err c.from_residual-in_err-authenticate_round.result _ c.from_residual-in_err-authenticate_round.ensures.0
