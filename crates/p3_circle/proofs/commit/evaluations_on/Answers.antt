@@ -35,3 +35,23 @@ continued_rows-requires-clause-large g c =
 pub is_standard_of-requires-clause-below : goal.is_standard_of-requires-clause-below
 is_standard_of-requires-clause-below g c =
     (target-passed g.F.ComplexExtendable.CIRCLE_TWO_ADICITY c.args.params.now (height_of c.args.committed.now) c.log2_strict-log_height.result (c.log2_strict-log_height.ensures.power ∙ c.height.ensures) (log_size c.args.domain) (sym c.validate_target.ensures ∙ c.in_ok-validate_target.was)).1
+
+pub returns-clause-values : goal.returns-clause-values
+returns-clause-values g c = record {
+  log_height = c.log2_strict-log_height.result;
+  height = sym (c.log2_strict-log_height.ensures.power ∙ c.height.ensures);
+  width = c.in_ok-continued_rows.ensures.width;
+  there = λ standard. absurd (let yes = c.is_standard_of.ensures.1 standard in cc (yes, c.if-is_standard_of.false));
+  elsewhere = λ no. c.in_ok-continued_rows.ensures.rows;
+}
+
+pub returns-then-is_standard_of-clause-values : goal.returns-then-is_standard_of-clause-values
+returns-then-is_standard_of-clause-values g c =
+    let height = sym (c.log2_strict-log_height.ensures.power ∙ c.height.ensures) in
+    record {
+      log_height = c.log2_strict-log_height.result;
+      height = height;
+      width = c.in_ok-natural_rows.ensures.width;
+      there = λ standard. c.in_ok-natural_rows.ensures.rows _ height;
+      elsewhere = λ no. absurd (no (c.is_standard_of.ensures.0 c.if-is_standard_of.true));
+    }

@@ -1,6 +1,7 @@
 use Rattle.std.proofs.Common.{◌≡◌, ◌^◌, ◌∙◌, sym, subst, length}
+use Rattle.std.proofs.lemmas.List.{map-id}
 use Rattle.std.proofs.lemmas.Iterator.Adapters.{YieldsList-from_vec}
-use Rattle.std.proofs.lemmas.Iterator.Consumers.{YieldsList-turn}
+use Rattle.std.proofs.lemmas.Iterator.Consumers.{YieldsList-turn, YieldsList-end}
 use Rattle.circle_matrix.specs.RowMajorMatrix.{height_of}
 use Rattle.circle_matrix.specs.declared.matrix.RowMajorMatrix.{RowMajorMatrix}
 use Rattle.circle_domain.specs.Domain.{log_size}
@@ -35,3 +36,12 @@ loop-domain-preserved g c =
     subst (AreExtensions k gen c.args.log_blowup _) (sym c.in_ok-push.ensures.items)
     (AllZip-more (λ rows matrix. IsExtension k gen c.args.log_blowup rows.0 rows.1 matrix) c.loop-domain.yielded c.loop-domain.made.items (c.in-Some.domain, c.in-Some.matrix) c.in_ok-extension.field-0
     c.loop-domain.invariant c.in_ok-extension.ensures)
+
+pub returns : goal.returns
+returns g c =
+    let given = c.into_iter-domain-iterator.ensures.into_iter_gives in
+    let es = c.args.evaluations.items in
+    let all = YieldsList-from_vec es given.0 (given.1 ∙ c.args.evaluations.ok.0) in
+    let last = YieldsList-end all c.loop-domain.yielded _ c.loop-domain.yielded_by _ c.next.new.self c.in-None.is c.next.ensures.steps in
+    subst (λ es. AreExtensions g.F.Operations.ops g.F.ComplexExtendable.generators c.args.log_blowup es c.loop-domain.made.items)
+    (sym (map-id c.loop-domain.yielded) ∙ last.0) c.loop-domain.invariant

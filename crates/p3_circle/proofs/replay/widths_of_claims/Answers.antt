@@ -1,5 +1,7 @@
 use Rattle.std.proofs.Common.{length, map, ap, ◌∙◌}
-use Rattle.circle_relation.specs.StatementOf.{matrix_claims, batch_claim}
+use Rattle.std.proofs.lemmas.List.{take_all}
+use Rattle.circle_relation.specs.StatementOf.{matrix_claims, batch_claim, batch_claims}
+use Rattle.circle_relation.specs.Taken.{widths_by}
 use Rattle.circle_transcript.specs.ShapeOf.{matrices_of}
 use Rattle.p3_circle.proofs.Items.{pushed-more}
 use Rattle.p3_circle.proofs.replay.widths_of_claims.Goals as goal
@@ -10,3 +12,7 @@ loop-batch-preserved g c =
     c.loop-batch.widths.items c.push.new.self.items c.in_ok-widths_of_batch.field-0
     c.loop-batch-test.true c.batch-item.is c.in_ok-push.ensures.items
     (c.in_ok-widths_of_batch.ensures ∙ ap (λ ms. map (λ m. map (λ c. length c.values) m.claims) (matrix_claims ms)) c.deref.ensures.value) c.loop-batch.invariant
+
+pub returns : goal.returns
+returns g c =
+    c.loop-batch.invariant ∙ ap (λ bs. widths_by (batch_claims bs)) (take_all c.loop-batch.batch-index c.args.claims.now c.loop-batch-test.false)

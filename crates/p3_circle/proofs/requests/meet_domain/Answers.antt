@@ -8,14 +8,15 @@ use Rattle.circle_domain.specs.Selectors.{IsFinite}
 use Rattle.circle_relation.specs.Accepts.{Fields}
 use Rattle.p3_circle.specs.Requesting.{HasDomain, some_on_domain}
 use Rattle.p3_circle.specs.SchemeLaws.CommitTests.{at-item}
-use Rattle.p3_circle.proofs.RequestLists.{any-more, any-here, any-end, pair-at, pairs-within}
+use Rattle.p3_circle.proofs.RequestLists.{any-more, any-here, any-end, pair-at, pairs-within, pair-sources}
 use Rattle.p3_circle.proofs.requests.meet_domain.Goals as goal
 
 pub is_on_domain-requires-clause-domain : goal.is_on_domain-requires-clause-domain
 is_on_domain-requires-clause-domain g c =
     let ms = c.args.matrices.now in
     let vs = c.args.points.now in
-    let turn = zip_turn ms vs c.loop-matrix.yielded _ _ c.next.new.self _ (cc) (cc) c.loop-matrix.yielded_by _ c.in-Some.is c.next.ensures.steps in
+    let from = pair-sources c.into_iter-matrix-iterator.ensures.into_iter_gives c.zip-matrix-items.ensures.first c.iter.ensures.rest c.zip-matrix-items.ensures.second.0 in
+    let turn = zip_turn ms vs c.loop-matrix.yielded _ _ c.next.new.self _ from.0 from.1 c.loop-matrix.yielded_by _ c.in-Some.is c.next.ensures.steps in
     let m = c.in-Some.matrix.now in
     at-item (HasDomain g.F.ComplexExtendable.CIRCLE_TWO_ADICITY) ms (length c.loop-matrix.yielded) m c.requires.domains turn.0 (turn.2 m)
 
@@ -23,7 +24,8 @@ pub is_on_domain-requires-clause-finite : goal.is_on_domain-requires-clause-fini
 is_on_domain-requires-clause-finite g c =
     let ms = c.args.matrices.now in
     let vs = c.args.points.now in
-    let turn = zip_turn ms vs c.loop-matrix.yielded _ _ c.next.new.self _ (cc) (cc) c.loop-matrix.yielded_by _ c.in-Some.is c.next.ensures.steps in
+    let from = pair-sources c.into_iter-matrix-iterator.ensures.into_iter_gives c.zip-matrix-items.ensures.first c.iter.ensures.rest c.zip-matrix-items.ensures.second.0 in
+    let turn = zip_turn ms vs c.loop-matrix.yielded _ _ c.next.new.self _ from.0 from.1 c.loop-matrix.yielded_by _ c.in-Some.is c.next.ensures.steps in
     let v = c.in-Some.points.now in
     let finite = IsFinite g.EF.Operations.ops in
     subst (All finite) (sym c.deref.ensures.value)
@@ -34,7 +36,8 @@ returns-then-is_on_domain g c =
     let k : Fields g.row.F.Denot g.row.EF.Denot = record { field = g.F.Operations.ops; gen = g.F.ComplexExtendable.generators; two_adicity = g.F.ComplexExtendable.CIRCLE_TWO_ADICITY; is_zero = λ w. g.F.PartialEq.eq w g.F.Field.ZERO; extension = g.EF.Operations.ops; embed = g.EF.ExtensionField.embed; same = g.EF.PartialEq.eq } in
     let ms = c.args.matrices.now in
     let vs = c.args.points.now in
-    let turn = zip_turn ms vs c.loop-matrix.yielded _ _ c.next.new.self _ (cc) (cc) c.loop-matrix.yielded_by _ c.in-Some.is c.next.ensures.steps in
+    let from = pair-sources c.into_iter-matrix-iterator.ensures.into_iter_gives c.zip-matrix-items.ensures.first c.iter.ensures.rest c.zip-matrix-items.ensures.second.0 in
+    let turn = zip_turn ms vs c.loop-matrix.yielded _ _ c.next.new.self _ from.0 from.1 c.loop-matrix.yielded_by _ c.in-Some.is c.next.ensures.steps in
     let m = c.in-Some.matrix.now in
     let v = c.in-Some.points.now in
     let i = length c.loop-matrix.yielded in
@@ -48,7 +51,8 @@ loop-matrix-preserved g c =
     let k : Fields g.row.F.Denot g.row.EF.Denot = record { field = g.F.Operations.ops; gen = g.F.ComplexExtendable.generators; two_adicity = g.F.ComplexExtendable.CIRCLE_TWO_ADICITY; is_zero = λ w. g.F.PartialEq.eq w g.F.Field.ZERO; extension = g.EF.Operations.ops; embed = g.EF.ExtensionField.embed; same = g.EF.PartialEq.eq } in
     let ms = c.args.matrices.now in
     let vs = c.args.points.now in
-    let turn = zip_turn ms vs c.loop-matrix.yielded _ _ c.next.new.self _ (cc) (cc) c.loop-matrix.yielded_by _ c.in-Some.is c.next.ensures.steps in
+    let from = pair-sources c.into_iter-matrix-iterator.ensures.into_iter_gives c.zip-matrix-items.ensures.first c.iter.ensures.rest c.zip-matrix-items.ensures.second.0 in
+    let turn = zip_turn ms vs c.loop-matrix.yielded _ _ c.next.new.self _ from.0 from.1 c.loop-matrix.yielded_by _ c.in-Some.is c.next.ensures.steps in
     let m = c.in-Some.matrix.now in
     let v = c.in-Some.points.now in
     let i = length c.loop-matrix.yielded in
@@ -63,6 +67,7 @@ returns g c =
     let k : Fields g.row.F.Denot g.row.EF.Denot = record { field = g.F.Operations.ops; gen = g.F.ComplexExtendable.generators; two_adicity = g.F.ComplexExtendable.CIRCLE_TWO_ADICITY; is_zero = λ w. g.F.PartialEq.eq w g.F.Field.ZERO; extension = g.EF.Operations.ops; embed = g.EF.ExtensionField.embed; same = g.EF.PartialEq.eq } in
     let ms = c.args.matrices.now in
     let vs = c.args.points.now in
-    let last = zip_end ms vs c.loop-matrix.yielded _ _ c.next.new.self _ (cc) (cc) c.loop-matrix.yielded_by c.in-None.is c.next.ensures.steps in
+    let from = pair-sources c.into_iter-matrix-iterator.ensures.into_iter_gives c.zip-matrix-items.ensures.first c.iter.ensures.rest c.zip-matrix-items.ensures.second.0 in
+    let last = zip_end ms vs c.loop-matrix.yielded _ _ c.next.new.self _ from.0 from.1 c.loop-matrix.yielded_by c.in-None.is c.next.ensures.steps in
     let test : RowMajorMatrix g.row.F.Denot × Vec g.row.EF.Denot Global → Bool = λ asked. some_on_domain k g.EF.PartialEq.eq asked.0 asked.1.items in
     sym (any-end test (zip ms vs) (length c.loop-matrix.yielded) (omega (arith, last, length-zip ms vs)) c.loop-matrix.invariant)

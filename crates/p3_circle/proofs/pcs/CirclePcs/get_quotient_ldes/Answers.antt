@@ -1,8 +1,14 @@
 use Rattle.std.proofs.Common.{◌∙◌, sym, subst}
 use Rattle.std.specs.Prelude.{All}
-use Rattle.p3_circle.specs.Committing.{IsExtendable}
+use Rattle.p3_circle.specs.Committing.{HaveRowsForPoints, IsExtendable}
 use Rattle.p3_circle.specs.SchemeLaws.CommitTests.{all-extendable}
 use Rattle.p3_circle.proofs.pcs.CirclePcs.get_quotient_ldes.Goals as goal
+
+pub validate_evaluations-requires : goal.validate_evaluations-requires
+validate_evaluations-requires g c = subst HaveRowsForPoints (sym c.deref.ensures.value) c.requires
+
+pub extensions-requires-clause-rows : goal.extensions-requires-clause-rows
+extensions-requires-clause-rows g c = c.requires
 
 pub extensions-requires-clause-extendable : goal.extensions-requires-clause-extendable
 extensions-requires-clause-extendable g c =
