@@ -19,7 +19,8 @@
 //!   (`IsDrawn`) and once its lengths are tested (`IsOpened`), and the lists that calls hand on.
 //!   `Json`: keys. `Rows`: an opening.
 //! - In `proofs/`, `Contradictions`: where the relation holds no refusal has a reason but want of
-//!   memory. `AtQueries`, `ReducedSums`, `Ends`: lists over queries. `Kept`, `Shown`, `Results`.
+//!   memory. `AtQueries`, `ReducedSums`, `Ends`: lists over queries. `Pairs`: loops over pairs.
+//!   `Kept`, `Shown`, `Results`.
 #![tactic(auto)]
 
 pub mod error;

@@ -1,7 +1,4 @@
 -- A test of the items of a list, one after another.
-use Rattle.std.proofs.Common.{Iter}
-use Rattle.std.specs.Iterator.Adapters.{zip_first, zip_second}
-use Rattle.std.specs.Slice.Iter.{iter_rest}
 use Rattle.std.specs.Prelude.{◌≡◌, ℕ, ◌+◌, ◌<◌, ◌≤◌, Bool, true, false, ◌||◌, List, length, take, zip, slice_index_or}
 use Rattle.std.specs.List.{list_any}
 use Rattle.std.proofs.Common.{sym, ◌∙◌, ap, arith}
@@ -34,8 +31,3 @@ module _ {A B : Type 0} (firsts : List A) (seconds : List B) where
 
   pub pairs-within : (i : ℕ) → i < length firsts → i < length seconds → i < length (zip firsts seconds)
   pairs-within i la lb = let e = length-zip firsts seconds in omega (arith, e, la, lb)
-
-pub pair-sources : {A B : Type 0} {s z : _} {i : Iter A} {ks : List A} {vs : List B} →
-    s ≡ z → zip_first z ≡ i → iter_rest i ≡ ks → iter_rest (zip_second z) ≡ vs → (iter_rest (zip_first s) ≡ ks) × (iter_rest (zip_second s) ≡ vs)
-pair-sources same first of_first of_second =
-    (ap (λ z. iter_rest (zip_first z)) same ∙ ap iter_rest first ∙ of_first, ap (λ z. iter_rest (zip_second z)) same ∙ of_second)

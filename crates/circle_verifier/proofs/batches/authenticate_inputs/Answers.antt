@@ -1,22 +1,16 @@
-use Rattle.std.proofs.Common.{◌≡◌, ◌∙◌, ◌<◌, ◌≤◌, List, Iter, length, get_or, ap, subst, arith}
+use Rattle.std.proofs.Common.{◌≡◌, ◌<◌, ◌≤◌, length, get_or, subst, arith}
 use Rattle.std.specs.Prelude.{All, map, zip}
-use Rattle.std.specs.Iterator.Adapters.{zip_first, zip_second}
-use Rattle.std.specs.Slice.Iter.{iter_rest}
 use Rattle.std.proofs.lemmas.List.{take_all, length_push}
 use Rattle.std.proofs.lemmas.Slice.Zip.{zip_turn, zip_end}
 use Rattle.circle_relation.specs.Accepts.{Fields, InputAuthenticates}
 use Rattle.circle_relation.specs.RunOf.{run_of, opened_batch, Refuses}
 use Rattle.circle_relation.specs.Statement.{all_matrices, log_max_height}
 use Rattle.circle_relation.specs.StatementOf.{batch_claim, batch_claims}
+use Rattle.circle_relation.proofs.Pairs.{pair-sources}
 use Rattle.circle_verifier.proofs.Rows.{batch-within, rows-reason, handed-on, pairs-length, pair-of-all, pair-more}
 use Rattle.circle_verifier.proofs.batches.authenticate_inputs.Given as given
 use Rattle.circle_verifier.proofs.batches.authenticate_inputs.Goals as goal
 use Rattle.circle_verifier.proofs.batches.authenticate_inputs.Goals.{In-Some}
-
-pair-sources : {A B : Type 0} {s z : _} {i : Iter A} {ks : List A} {vs : List B} →
-    s ≡ z → zip_first z ≡ i → iter_rest i ≡ ks → iter_rest (zip_second z) ≡ vs → (iter_rest (zip_first s) ≡ ks) × (iter_rest (zip_second s) ≡ vs)
-pair-sources same first of_first of_second =
-    (ap (λ z. iter_rest (zip_first z)) same ∙ ap iter_rest first ∙ of_first, ap (λ z. iter_rest (zip_second z)) same ∙ of_second)
 
 -- where this turn's pair is
 turn-here : (g : given.Over) (c : In-Some g) →

@@ -6,9 +6,10 @@ use Rattle.std.proofs.lemmas.Slice.Zip.{zip_turn, zip_end, length-zip}
 use Rattle.circle_matrix.specs.declared.matrix.RowMajorMatrix.{RowMajorMatrix}
 use Rattle.circle_domain.specs.Selectors.{IsFinite}
 use Rattle.circle_relation.specs.Accepts.{Fields}
+use Rattle.circle_relation.proofs.Pairs.{pair-sources}
 use Rattle.p3_circle.specs.Requesting.{HasDomain, some_on_domain}
 use Rattle.p3_circle.specs.SchemeLaws.CommitTests.{at-item}
-use Rattle.p3_circle.proofs.RequestLists.{any-more, any-here, any-end, pair-at, pairs-within, pair-sources}
+use Rattle.p3_circle.proofs.RequestLists.{any-more, any-here, any-end, pair-at, pairs-within}
 use Rattle.p3_circle.proofs.requests.meet_domain.Goals as goal
 
 pub is_on_domain-requires-clause-domain : goal.is_on_domain-requires-clause-domain
