@@ -124,3 +124,21 @@ returns-clause-accepted g c =
       count = counted.0 c.if-not-branch.false ∙ ap (λ l. taken_below c.args.indices.now l l) (sym same);
       root = sym (c.in_ok-root.ensures power.0 (top ∙ power.1)) ∙ c.if-not-same_digest.ensures.0 refl;
     }
+
+pub agrees-requires-clause-greatest : goal.agrees-requires-clause-greatest
+agrees-requires-clause-greatest g c = c.greatest_height-top.ensures
+
+pub agrees-requires-clause-shape : goal.agrees-requires-clause-shape
+agrees-requires-clause-shape g c = c.if-not-has_shape.ensures.0 refl
+
+pub root-requires-clause-some : goal.root-requires-clause-some
+root-requires-clause-some g c = (c.if-not-has_indices.ensures.0 refl).some
+
+pub root-requires-clause-in_range : goal.root-requires-clause-in_range
+root-requires-clause-in_range g c = subst (λ n. All (λ i. i < n) c.args.indices.now) (sym c.greatest_height-top.ensures) (c.if-not-has_indices.ensures.0 refl).in_range
+
+pub returns-then-not-has_shape-clause-refused : goal.returns-then-not-has_shape-clause-refused
+returns-then-not-has_shape-clause-refused g c = λ shape. absurd (let yes = c.if-not-has_shape.ensures.1 shape in cc)
+
+pub returns-then-not-has_indices-clause-refused : goal.returns-then-not-has_indices-clause-refused
+returns-then-not-has_indices-clause-refused g c = (c.if-not-has_shape.ensures.0 refl, λ known. absurd (let yes = c.if-not-has_indices.ensures.1 known in cc))
