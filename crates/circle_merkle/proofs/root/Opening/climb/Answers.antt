@@ -1,4 +1,4 @@
-use Rattle.std.proofs.Common.{◌++◌, [], ◌∙◌, append-nil, refl, sym, ap}
+use Rattle.std.proofs.Common.{◌++◌, ◌∙◌, append-nil, refl, sym, ap}
 use Rattle.std.proofs.lemmas.List.{nil_from_length}
 use Rattle.circle_merkle.specs.Climb.{climbed, left_of}
 use Rattle.circle_merkle.specs.Opening.{parent_in}
