@@ -42,9 +42,6 @@ last_level count e f = omega arith
 last_within : {n m : ℕ} (count : ℕ) → n ≡ m → m ≡ count + 1 → n - 1 < m
 last_within count e f = omega arith
 
-upper_count : {n m : ℕ} (count : ℕ) → n ≡ count + 1 → m + 1 ≡ n → count ≡ m
-upper_count count e f = omega arith
-
 pub levels_of-requires-clause-power : goal.levels_of-requires-clause-power
 levels_of-requires-clause-power g c =
     let matrices = c.args.matrices.items in
