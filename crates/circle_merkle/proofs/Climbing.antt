@@ -2,11 +2,11 @@
 use Rattle.std.specs.Prelude.{◌≡◌, ℕ, ◌+◌, ◌*◌, ◌/◌, ◌%◌, ◌<◌, ◌==◌, ◌&&◌, ◌||◌, Bool, true, false, not, List, [], ◌∷◌, ◌++◌, map, filter, drop, min, slice_index_or, if◌then◌else◌}
 use Rattle.std.specs.List.{range_with_len}
 use Rattle.std.proofs.Common.{zero, suc, refl, sym, ap, ◌∙◌, arith}
-use Rattle.std.proofs.lemmas.Bool.{eq-eqb, ne_eqb}
+use Rattle.std.proofs.lemmas.Bool.{eq-eqb}
 use Rattle.circle_merkle.specs.declared.root.Node.{Node}
 use Rattle.circle_merkle.specs.Tree.{sibling}
 use Rattle.circle_merkle.specs.Climb.{joined, lone, climbed}
-use Rattle.circle_merkle.proofs.Pairs.{Starts, starts-filter, range-pair, sibling-even, sibling-odd, half-even, half-odd, missing, missing-even, missing-odd, above}
+use Rattle.circle_merkle.proofs.Pairs.{Starts, starts-filter, apart, low-even, low-odd, range-pair, sibling-even, half-even, half-odd, missing, missing-even, missing-odd, above}
 
 module _ (up : ℕ → List ℕ → List ℕ → List ℕ) (known given : ℕ → List ℕ) (place over : ℕ → ℕ) where
   abbrev node : ℕ → Node
@@ -18,7 +18,7 @@ module _ (up : ℕ → List ℕ → List ℕ → List ℕ) (known given : ℕ �
   climbed-lone p low [] d ds h lt = refl
   climbed-lone p low (q ∷ rest) d ds h lt =
       ap (λ b. if b then joined up (node p) (node q) ∷ climbed up (map node rest) (d ∷ ds) else lone up (node p) d ∷ climbed up (node q ∷ map node rest) ds)
-      (ne_eqb q (sibling p) (λ e. absurd (omega arith)))
+      (apart q (sibling p) low h lt)
 
   module _ (a : ℕ) where
     joined-is : min (place (2 * a)) (place (2 * a + 1)) ≡ over a → joined up (node (2 * a)) (node (2 * a + 1)) ≡ record { position = a; place = over a; digest = up (over a) (known (2 * a)) (known (2 * a + 1)) }
@@ -38,12 +38,6 @@ module _ (up : ℕ → List ℕ → List ℕ → List ℕ) (known given : ℕ �
         let odd : (2 * a + 1) % 2 ≡ 1 = omega arith in
         let above = λ (r h k : ℕ). let n : Node = record { position = h; place = k; digest = if r == 0 then up k (known (2 * a + 1)) d else up k d (known (2 * a + 1)) } in n in
         ap (λ r. above r ((2 * a + 1) / 2) (place (2 * a + 1))) odd ∙ ap (λ h. above 1 h (place (2 * a + 1))) (half-odd a) ∙ ap (above 1 a) same
-
-    low-even : sibling (2 * a) < 2 * (a + 1)
-    low-even = omega (arith, sibling-even a)
-
-    low-odd : sibling (2 * a + 1) < 2 * (a + 1)
-    low-odd = omega (arith, sibling-odd a)
 
     -- the node over this pair, where the tests say which digests are known
     parent : Bool → Bool → Node
@@ -71,10 +65,10 @@ module _ (up : ℕ → List ℕ → List ℕ → List ℕ) (known given : ℕ �
         (eq-eqb (2 * a + 1) (sibling (2 * a)) (sym (sibling-even a)))
         ∙ ap (λ n. n ∷ climbed up (map node xs) (map given ys ++ later)) (joined-is at) ∙ ap (λ ns. parent true true ∷ ns) e
     climbed-step true false at xs ys later above h e =
-        climbed-lone (2 * a) (2 * (a + 1)) xs (given (2 * a + 1)) (map given ys ++ later) h low-even
+        climbed-lone (2 * a) (2 * (a + 1)) xs (given (2 * a + 1)) (map given ys ++ later) h (low-even a)
         ∙ ap (λ n. n ∷ climbed up (map node xs) (map given ys ++ later)) (lone-even at (given (2 * a + 1))) ∙ ap (λ ns. parent true false ∷ ns) e
     climbed-step false true at xs ys later above h e =
-        climbed-lone (2 * a + 1) (2 * (a + 1)) xs (given (2 * a)) (map given ys ++ later) h low-odd
+        climbed-lone (2 * a + 1) (2 * (a + 1)) xs (given (2 * a)) (map given ys ++ later) h (low-odd a)
         ∙ ap (λ n. n ∷ climbed up (map node xs) (map given ys ++ later)) (lone-odd at (given (2 * a))) ∙ ap (λ ns. parent false true ∷ ns) e
     climbed-step false false at xs ys later above h e = e
 

@@ -3,6 +3,7 @@ use Rattle.std.specs.Prelude.{◌≡◌, ◌≢◌, ℕ, ◌+◌, ◌/◌, ◌^�
 use Rattle.std.specs.List.{flat_map}
 use Rattle.std.proofs.Common.{zero, suc, refl, sym, ap, ◌∙◌, arith, append-nil, append_assoc, add-one}
 use Rattle.std.proofs.lemmas.Bool.{eq-eqb, ne_eqb}
+use Rattle.std.proofs.lemmas.List.{flat_map_more, take_more}
 use Rattle.circle_matrix.specs.declared.matrix.Dimensions.{Dimensions}
 use Rattle.circle_merkle.specs.Order.{place_of}
 use Rattle.circle_merkle.specs.Rows.{bytes_of_height, opened_at}
@@ -44,6 +45,14 @@ module _ {T : Type 0} (bytes : T → List ℕ) (height : ℕ) where
     opened-without e =
         more ∙ ap (λ b. (before ++ bytes_of_height bytes (take j dims) height (take j rows)) ++ (if b then flat_map bytes row else [])) (ne_eqb dim.height height e)
         ∙ append-nil (before ++ bytes_of_height bytes (take j dims) height (take j rows))
+
+-- the bytes of one entry more
+pub entry-more : {X A : Type 0} (f : X → List A) (before : List A) (xs : List X) (i : ℕ) (x : X) (bs : List A) → i < length xs → x ≡ slice_index_or xs i x → bs ≡ f x →
+    (before ++ flat_map f (take i xs)) ++ bs ≡ before ++ flat_map f (take (i + 1) xs)
+entry-more f before xs i x bs lt at e =
+    ap (λ b. (before ++ flat_map f (take i xs)) ++ b) e
+    ∙ flat_map_more f before (take i xs) x
+    ∙ ap (λ ys. before ++ flat_map f ys) (ap (λ y. take i xs ++ y ∷ []) at ∙ sym (take_more xs i x lt))
 
 -- the rows of the first index that stands below a position are those at its place
 pub opened_at-place : {T : Type 0} (level i : ℕ) (indices : List ℕ) (opened : List (List (List T))) → length opened ≡ length indices →

@@ -2,7 +2,7 @@
 use Rattle.std.specs.Prelude.{◌≡◌, ℕ, ◌+◌, ◌-◌, ◌*◌, ◌/◌, ◌%◌, ◌^◌, ◌<◌, ◌≤◌, ◌==◌, ◌&&◌, ◌||◌, Bool, true, false, not, List, [], ◌∷◌, filter, if◌then◌else◌}
 use Rattle.std.specs.List.{range_with_len}
 use Rattle.std.specs.Int.Bits.{bit_xor, xor_zero_r}
-use Rattle.std.proofs.Common.{zero, suc, refl, sym, ap, ◌∙◌, arith, lit<, ⊎_elim}
+use Rattle.std.proofs.Common.{zero, suc, refl, sym, ap, subst, ◌∙◌, arith, lit<, ⊎_elim}
 use Rattle.std.proofs.lemmas.Bool.{eq-eqb, ne_eqb, cases_eq}
 use Rattle.std.proofs.lemmas.Nat.{xor_block}
 use Rattle.circle_merkle.specs.Tree.{sibling}
@@ -58,26 +58,29 @@ pub starts-filter : (k : ℕ → Bool) (b n : ℕ) → Starts b (filter k (range
 starts-filter k b zero = tt
 starts-filter k b (suc n) = starts-cond b (k b) (filter k (range_with_len (b + 1) n)) (starts-filter k (b + 1) n)
 
+pub apart : (q s low : ℕ) → low ≤ q → s < low → (q == s) ≡ false
+apart q s low le lt = ne_eqb q s (λ e. absurd (omega arith))
+
 module _ (p low : ℕ) where
   siblings-lone : (xs : List ℕ) → Starts low xs → sibling p < low → siblings_of (p ∷ xs) ≡ sibling p ∷ siblings_of xs
   siblings-lone [] h lt = refl
   siblings-lone (q ∷ rest) h lt =
-      ap (λ b. if b then siblings_of rest else sibling p ∷ siblings_of (q ∷ rest)) (ne_eqb q (sibling p) (λ e. absurd (omega arith)))
+      ap (λ b. if b then siblings_of rest else sibling p ∷ siblings_of (q ∷ rest)) (apart q (sibling p) low h lt)
 
   parents-lone : (xs : List ℕ) → Starts low xs → sibling p < low → parents_of (p ∷ xs) ≡ p / 2 ∷ parents_of xs
   parents-lone [] h lt = refl
   parents-lone (q ∷ rest) h lt =
-      ap (λ b. p / 2 ∷ (if b then parents_of rest else parents_of (q ∷ rest))) (ne_eqb q (sibling p) (λ e. absurd (omega arith)))
+      ap (λ b. p / 2 ∷ (if b then parents_of rest else parents_of (q ∷ rest))) (apart q (sibling p) low h lt)
 
 module _ (a : ℕ) where
   both : (2 * a + 1 == sibling (2 * a)) ≡ true
   both = eq-eqb (2 * a + 1) (sibling (2 * a)) (sym (sibling-even a))
 
-  low-even : sibling (2 * a) < 2 * (a + 1)
-  low-even = omega (arith, sibling-even a)
+  pub low-even : sibling (2 * a) < 2 * (a + 1)
+  low-even = subst (λ s. s < 2 * (a + 1)) (sym (sibling-even a)) (omega arith)
 
-  low-odd : sibling (2 * a + 1) < 2 * (a + 1)
-  low-odd = omega (arith, sibling-odd a)
+  pub low-odd : sibling (2 * a + 1) < 2 * (a + 1)
+  low-odd = subst (λ s. s < 2 * (a + 1)) (sym (sibling-odd a)) (omega arith)
 
   siblings-step : (t u : Bool) (xs ys : List ℕ) → Starts (2 * (a + 1)) xs → siblings_of xs ≡ ys →
       siblings_of (if t then 2 * a ∷ (if u then (2 * a + 1) ∷ xs else xs) else (if u then (2 * a + 1) ∷ xs else xs))

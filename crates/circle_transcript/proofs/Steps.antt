@@ -33,3 +33,14 @@ pub guarded : {A : Type 0} (a b c d p : List A) (x y : A) → b ≡ a ++ x ∷ [
 guarded a b c d p x y first more last =
     last ∙ ap (λ v. v ++ y ∷ []) (more ∙ ap (λ v. v ++ p) first)
     ∙ append_assoc (a ++ x ∷ []) p (y ∷ []) ∙ append_assoc a (x ∷ []) (p ++ y ∷ [])
+
+-- five lists after none, one after another
+pub five_after : {A : Type 0} (a b c d e f p q r s t : List A) → a ≡ [] → b ≡ a ++ p → c ≡ b ++ q → d ≡ c ++ r → e ≡ d ++ s → f ≡ e ++ t → f ≡ (p ++ q) ++ (r ++ (s ++ t))
+five_after a b c d e f p q r s t none first second third fourth fifth =
+    fifth ∙ ap (λ v. v ++ t) fourth ∙ append_assoc d s t
+    ∙ ap (λ v. v ++ (s ++ t)) third ∙ append_assoc c r (s ++ t)
+    ∙ ap (λ v. v ++ (r ++ (s ++ t))) (second ∙ ap (λ v. v ++ q) (first ∙ ap (λ v. v ++ p) none))
+
+-- steps of one degree as those of an equal one
+pub at_degree : {A : Type 0} (f : ℕ → List A) (a b : List A) (m n : ℕ) → b ≡ a ++ f m → m ≡ n → b ≡ a ++ f n
+at_degree f a b m n more same = more ∙ ap (λ k. a ++ f k) same

@@ -1,7 +1,9 @@
-use Rattle.std.proofs.Common.{◌++◌, ◌∙◌, ◌<◌, [], refl, sym, ap, length, arith, get_or}
+use Rattle.std.proofs.Common.{◌++◌, ◌∙◌, ◌<◌, ◌≤◌, [], append-nil, refl, sym, ap, length, take, arith, get_or}
 use Rattle.std.specs.List.{flat_map}
+use Rattle.std.proofs.lemmas.List.{take_all}
 use Rattle.std.proofs.lemmas.Option.{get_or_from_slice_get}
 use Rattle.circle_matrix.specs.declared.matrix.Dimensions.{Dimensions}
+use Rattle.circle_merkle.specs.Rows.{bytes_of_height}
 use Rattle.circle_merkle.proofs.OpenedBytes.{opened-with, opened-without}
 use Rattle.circle_merkle.proofs.messages.add_entries.Goals as goal
 use Rattle.circle_merkle.proofs.messages.add_entries.Goals.{then-height+in_ok-add_row, else-height}
@@ -31,3 +33,25 @@ loop-j-preserved g c =
           ∙ c.loop-j.invariant
           ∙ sym (opened-without bytes height dims rows j dim nothing (get_or rows j []) [] short long refl refl before (λ same. w.if-height.false (c.height.ensures nothing ∙ same)))
     ]
+
+pub loop-j-init : goal.loop-j-init
+loop-j-init g c = sym (append-nil c.args.messages.now.items)
+
+pub height-requires : goal.height-requires
+height-requires g c = omega (arith, c.loop-j-test.true, c.count-j-end.ensures)
+
+pub row-requires : goal.row-requires
+row-requires g c = omega (arith, c.loop-j-test.true, c.count-j-end.ensures)
+
+pub returns : goal.returns
+returns g c =
+    let dims = g.R.RowOfEach.dimensions c.args.rows.now in
+    let rows = g.R.RowOfEach.rows c.args.rows.now in
+    let j = c.loop-j.j in
+    let before = c.args.messages.now.items in
+    let bytes = bytes_of_height g.T.ElementBytes.bytes in
+    let short : length dims ≤ j = omega (arith, c.loop-j-test.false, c.count-j-end.ensures) in
+    let long : length rows ≤ j = omega (arith, short, g.met.R.RowOfEach.one_each c.args.rows.now) in
+    c.loop-j.invariant
+    ∙ ap (λ ds. before ++ bytes ds c.args.height (take j rows)) (take_all j dims short)
+    ∙ ap (λ rs. before ++ bytes dims c.args.height rs) (take_all j rows long)

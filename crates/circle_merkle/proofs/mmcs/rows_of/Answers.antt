@@ -1,5 +1,5 @@
 use Rattle.std.proofs.Common.{◌≡◌, ◌++◌, ◌∷◌, ◌∙◌, [], ap, sym, map, take, arith, get_or}
-use Rattle.std.proofs.lemmas.List.{map-append, take_more}
+use Rattle.std.proofs.lemmas.List.{map-append, take_all, take_more}
 use Rattle.std.proofs.lemmas.Option.{get_or_from_slice_get}
 use Rattle.circle_matrix.specs.RowMajorMatrix.{rows, height_of}
 use Rattle.circle_matrix.specs.Mmcs.{max_height, row_at}
@@ -44,3 +44,9 @@ loop-matrix-preserved g c =
     ∙ ap (λ before. before ++ c.in_ok-from_slice.field-0.items ∷ []) c.loop-matrix.invariant
     ∙ ap (λ x. map f (take k matrices) ++ x ∷ []) row
     ∙ sym (ap (map f) (take_more matrices k m c.loop-matrix-test.true ∙ ap (λ x. take k matrices ++ x ∷ []) (sym c.matrix-item.is)) ∙ map-append f (take k matrices) (m ∷ []))
+
+pub loop-matrix-init : goal.loop-matrix-init
+loop-matrix-init g c = ap (map (λ row. row.items)) c.in_ok-rows.ensures.items
+
+pub returns : goal.returns
+returns g c = c.loop-matrix.invariant ∙ ap (λ ms. map (λ m. get_or (rows m) (row_at (max_height c.args.matrices.now) (height_of m) c.args.index) []) ms) (take_all c.loop-matrix.matrix-index c.args.matrices.now c.loop-matrix-test.false)

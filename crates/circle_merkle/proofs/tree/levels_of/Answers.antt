@@ -1,4 +1,4 @@
-use Rattle.std.proofs.Common.{◌≡◌, ◌+◌, ◌-◌, ◌*◌, ◌/◌, ◌^◌, ◌++◌, ◌∷◌, [], ◌∙◌, ap, sym, map, length, suc, arith, ℕ, add-one}
+use Rattle.std.proofs.Common.{◌≡◌, ◌<◌, ◌+◌, ◌-◌, ◌*◌, ◌/◌, ◌^◌, ◌++◌, ◌∷◌, [], ◌∙◌, ap, sym, map, length, suc, arith, ℕ, add-one}
 use Rattle.std.specs.List.{range_with_len}
 use Rattle.std.proofs.lemmas.List.FromFn.{length-map-range_with_len}
 use Rattle.sha2.specs.Sha256.{sha256}
@@ -10,6 +10,9 @@ use Rattle.circle_merkle.proofs.Maps.{items-at, items-count, items-more, map-agr
 use Rattle.circle_merkle.proofs.TreeSteps.{digest-lowest}
 use Rattle.circle_merkle.proofs.Powers.{halves, level_size}
 use Rattle.circle_merkle.proofs.tree.levels_of.Goals as goal
+
+next_small : {level count : ℕ} → level < count → count < 64 → level + 1 < 64
+next_small below small = omega arith
 
 pub loop-level-init : goal.loop-level-init
 loop-level-init g c =
@@ -65,3 +68,12 @@ returns g c count e =
     c.loop-level.invariant
     ∙ ap (λ n. map (λ level. map (digest sha256 rows level) (range_with_len 0 (2 ^ (n - level)))) (range_with_len 0 (c.loop-level.level + 1))) (sym same)
     ∙ ap (λ n. map (λ level. map (digest sha256 rows level) (range_with_len 0 (2 ^ (count - level)))) (range_with_len 0 (n + 1))) end
+
+pub overflow_add-count : goal.overflow_add-count
+overflow_add-count g c = omega (arith, c.log2_strict-count.ensures.bound)
+
+pub overflow_add-level : goal.overflow_add-level
+overflow_add-level g c = (let small : c.loop-level.level + 1 < 64 = next_small c.loop-level-test.true c.log2_strict-count.ensures.bound in omega (arith, small))
+
+pub overflow_shr-top : goal.overflow_shr-top
+overflow_shr-top g c = next_small c.loop-level-test.true c.log2_strict-count.ensures.bound

@@ -4,6 +4,8 @@ use Rattle.std.proofs.lemmas.Result.{IfOk-weaker}
 use Rattle.std.proofs.lemmas.List.FromFn.{length-map-range_with_len}
 use Rattle.sha2.specs.Sha256.{sha256}
 use Rattle.circle_merkle.specs.Messages.{pair_digest}
+use Rattle.circle_merkle.specs.RowBytes.{matrix_bytes}
+use Rattle.circle_merkle.specs.Tree.{rows_digest}
 use Rattle.circle_merkle.specs.Authentication.{IsNextLevel}
 use Rattle.circle_merkle.proofs.Levels.{joined-level, plain-level}
 use Rattle.circle_merkle.proofs.tree.next_level.Goals as goal
@@ -40,3 +42,14 @@ returns g c =
     ))
     (sym c.some_has_height.ensures ∙ c.if-not-some_has_height.false))
     c.pairs_level-2.ensures
+
+pub with_rows-requires : goal.with_rows-requires
+with_rows-requires g c =
+    let below = c.args.below.now in
+    let bytes = g.T.ElementBytes.bytes in
+    let height = c.args.height in
+    let half : length below / 2 ≡ height = omega arith in
+    let nodes = c.in_ok-nodes.ensures ∙ ap (λ n. map (pair_digest sha256 1 below) (range_with_len 0 n)) half in
+    ap length (c.deref-2.ensures.value ∙ c.in_ok-rows.ensures)
+    ∙ length-map-range_with_len (λ i. rows_digest sha256 (matrix_bytes bytes height i c.args.matrices.now)) 0 height
+    ∙ sym (ap length (c.deref.ensures.value ∙ nodes) ∙ length-map-range_with_len (pair_digest sha256 1 below) 0 height)

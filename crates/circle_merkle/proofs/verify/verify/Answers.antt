@@ -1,4 +1,5 @@
 use Rattle.std.proofs.Common.{◌≡◌, ◌<◌, ◌^◌, ◌∙◌, refl, sym, ap, subst, length, map, All, arith}
+use Rattle.std.proofs.lemmas.Bool.{false≢true}
 use Rattle.std.proofs.lemmas.List.{length-map}
 use Rattle.circle_matrix.specs.Matrix.{IsPowerOfTwo}
 use Rattle.circle_matrix.specs.Mmcs.{greatest, heights}
@@ -21,7 +22,7 @@ pub returns-then-not-agrees-clause-refused : goal.returns-then-not-agrees-clause
 returns-then-not-agrees-clause-refused g c = (
   c.if-not-has_shape.ensures.0 refl,
   c.if-not-has_indices.ensures.0 refl,
-  λ agree. absurd (let yes = (c.if-not-agrees.ensures c.args.indices.now (subst (IsOrdered c.args.indices.now) (sym c.deref.ensures.value) c.in_ok-order.ensures)).1 agree in cc),
+  λ agree. absurd (false≢true ((c.if-not-agrees.ensures c.args.indices.now (subst (IsOrdered c.args.indices.now) (sym c.deref.ensures.value) c.in_ok-order.ensures)).1 agree)),
 )
 
 pub returns-then-not-branch-clause-refused : goal.returns-then-not-branch-clause-refused
@@ -40,7 +41,7 @@ returns-then-not-branch-clause-refused g c =
       λ levels e h.
           let top = c.greatest_height-top.ensures in
           let same : levels ≡ c.log2_strict.result = sym (c.log2_strict.ensures.only levels (top ∙ e)) in
-          let yes = counted.1 (h ∙ ap (λ l. taken_below c.args.indices.now l l) same) in absurd (let false_is = c.if-not-branch.true in cc),
+          absurd (false≢true (sym c.if-not-branch.true ∙ counted.1 (h ∙ ap (λ l. taken_below c.args.indices.now l l) same))),
     )
 
 pub invariant_of-opening : goal.invariant_of-opening
@@ -99,7 +100,7 @@ returns-then-not-same_digest-clause-refused g c =
       (λ levels e.
           let same : levels ≡ c.log2_strict.result = sym (c.log2_strict.ensures.only levels (top ∙ e)) in
           counted.0 c.if-not-branch.false ∙ ap (λ l. taken_below c.args.indices.now l l) (sym same)),
-      (λ levels e h. absurd (let yes = c.if-not-same_digest.ensures.1 (c.in_ok-root.ensures levels (top ∙ e) ∙ h) in cc)),
+      (λ levels e h. absurd (false≢true (c.if-not-same_digest.ensures.1 (c.in_ok-root.ensures levels (top ∙ e) ∙ h)))),
     )
 
 pub returns-clause-accepted : goal.returns-clause-accepted
@@ -124,3 +125,21 @@ returns-clause-accepted g c =
       count = counted.0 c.if-not-branch.false ∙ ap (λ l. taken_below c.args.indices.now l l) (sym same);
       root = sym (c.in_ok-root.ensures power.0 (top ∙ power.1)) ∙ c.if-not-same_digest.ensures.0 refl;
     }
+
+pub agrees-requires-clause-greatest : goal.agrees-requires-clause-greatest
+agrees-requires-clause-greatest g c = c.greatest_height-top.ensures
+
+pub agrees-requires-clause-shape : goal.agrees-requires-clause-shape
+agrees-requires-clause-shape g c = c.if-not-has_shape.ensures.0 refl
+
+pub root-requires-clause-some : goal.root-requires-clause-some
+root-requires-clause-some g c = (c.if-not-has_indices.ensures.0 refl).some
+
+pub root-requires-clause-in_range : goal.root-requires-clause-in_range
+root-requires-clause-in_range g c = subst (λ n. All (λ i. i < n) c.args.indices.now) (sym c.greatest_height-top.ensures) (c.if-not-has_indices.ensures.0 refl).in_range
+
+pub returns-then-not-has_shape-clause-refused : goal.returns-then-not-has_shape-clause-refused
+returns-then-not-has_shape-clause-refused g c = λ shape. absurd (false≢true (c.if-not-has_shape.ensures.1 shape))
+
+pub returns-then-not-has_indices-clause-refused : goal.returns-then-not-has_indices-clause-refused
+returns-then-not-has_indices-clause-refused g c = (c.if-not-has_shape.ensures.0 refl, λ known. absurd (false≢true (c.if-not-has_indices.ensures.1 known)))

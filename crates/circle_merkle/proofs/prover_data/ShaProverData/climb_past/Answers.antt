@@ -1,4 +1,5 @@
-use Rattle.std.proofs.Common.{◌++◌, ◌∷◌, [], ◌/◌, ◌-◌, ◌<◌, ◌^◌, ◌∙◌, ap, sym, subst, map, All, List, ℕ, vec_len}
+use Rattle.std.proofs.Common.{◌++◌, ◌∷◌, [], ◌/◌, ◌-◌, ◌<◌, ◌^◌, ◌∙◌, append-nil, ap, sym, subst, map, All, List, ℕ, vec_len}
+use Rattle.std.proofs.lemmas.List.{nil_from_length}
 use Rattle.sha2.specs.Sha256.{sha256}
 use Rattle.circle_merkle.specs.Tree.{digest}
 use Rattle.circle_merkle.specs.Rows.{matrix_rows}
@@ -45,3 +46,19 @@ loop-position-preserved g c =
       proof = ap (λ is. c.loop-position.proof.items ++ map at is) (sym siblings) ∙ c.loop-position.invariant.proof;
       within = subst (λ (is : List ℕ). All (λ i. i < 2 ^ (vec_len c.args.self.now.upper - c.args.level)) is) siblings c.loop-position.invariant.within;
     }
+
+pub digest-requires-clause-below : goal.digest-requires-clause-below
+digest-requires-clause-below g c = c.requires.below
+
+pub returns-clause-parents : goal.returns-clause-parents
+returns-clause-parents g c =
+    let parents = c.loop-position.parents.items in
+    let none = nil_from_length c.loop-position.rest.now c.in_default.ensures.cases in
+    sym (append-nil parents) ∙ ap (λ ps. parents ++ parents_of ps) (sym none) ∙ c.loop-position.invariant.parents
+
+pub returns-clause-proof : goal.returns-clause-proof
+returns-clause-proof g c =
+    let proof = c.loop-position.proof.items in
+    let at = digest sha256 (matrix_rows g.T.ElementBytes.bytes c.args.self.now.matrices.items) c.args.level in
+    let none = nil_from_length c.loop-position.rest.now c.in_default.ensures.cases in
+    sym (append-nil proof) ∙ ap (λ ps. proof ++ map at (siblings_of ps)) (sym none) ∙ c.loop-position.invariant.proof

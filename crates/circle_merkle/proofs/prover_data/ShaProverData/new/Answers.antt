@@ -1,4 +1,4 @@
-use Rattle.std.proofs.Common.{◌≤◌, ℕ, List, Vec, Global, All, ◌≡◌, ◌+◌, ◌-◌, ◌^◌, ◌<◌, ◌∙◌, ◌∷◌, [], ap, sym, map, length, vec_len, arith, get_or}
+use Rattle.std.proofs.Common.{◌≤◌, ℕ, List, Vec, Global, All, ◌≡◌, ◌+◌, ◌-◌, ◌^◌, ◌<◌, ◌∙◌, ◌∷◌, [], refl, ap, sym, map, length, vec_len, arith, get_or}
 use Rattle.sha2.specs.Sha256.{sha256}
 use Rattle.circle_matrix.specs.Matrix.{IsPowerOfTwo}
 use Rattle.circle_matrix.specs.declared.matrix.RowMajorMatrix.{RowMajorMatrix}
@@ -33,6 +33,15 @@ is_tree bytes matrices some len powers levels top greatest tree =
       long = levels.ok.0 ∙ whole-length sha256 bytes matrices power.0 levels.items whole;
     }
 
+some_levels : {n m : ℕ} (count : ℕ) → n ≡ m → m ≡ count + 1 → 1 ≤ n
+some_levels count e f = omega arith
+
+last_level : {n m : ℕ} (count : ℕ) → n ≡ m → m ≡ count + 1 → n - 1 ≡ count
+last_level count e f = omega arith
+
+last_within : {n m : ℕ} (count : ℕ) → n ≡ m → m ≡ count + 1 → n - 1 < m
+last_within count e f = omega arith
+
 pub levels_of-requires-clause-power : goal.levels_of-requires-clause-power
 levels_of-requires-clause-power g c =
     let matrices = c.args.matrices.items in
@@ -46,7 +55,7 @@ overflow_sub-len g c =
     let levels = c.in_ok-levels.levels in
     let t : IsTree bytes matrices levels = is_tree bytes matrices c.requires.some c.args.matrices.ok.0 c.requires.powers_of_two levels c.greatest_height-top.result
     (c.greatest_height-top.ensures ∙ ap max_height c.deref.ensures.value) (λ count e. c.in_ok-levels.ensures count e ∙ ap (λ ms. tree_levels sha256 bytes ms count) c.deref-2.ensures.value) in
-    omega (arith, t.long, c.len.ensures)
+    some_levels t.count c.len.ensures t.long
 
 pub index-requires : goal.index-requires
 index-requires g c =
@@ -55,7 +64,7 @@ index-requires g c =
     let levels = c.in_ok-levels.levels in
     let t : IsTree bytes matrices levels = is_tree bytes matrices c.requires.some c.args.matrices.ok.0 c.requires.powers_of_two levels c.greatest_height-top.result
     (c.greatest_height-top.ensures ∙ ap max_height c.deref.ensures.value) (λ count e. c.in_ok-levels.ensures count e ∙ ap (λ ms. tree_levels sha256 bytes ms count) c.deref-2.ensures.value) in
-    omega (arith, t.long, c.len.ensures)
+    last_within t.count c.len.ensures t.long
 
 pub index-root-requires : goal.index-root-requires
 index-root-requires g c =
@@ -64,7 +73,7 @@ index-root-requires g c =
     let levels = c.in_ok-levels.levels in
     let t : IsTree bytes matrices levels = is_tree bytes matrices c.requires.some c.args.matrices.ok.0 c.requires.powers_of_two levels c.greatest_height-top.result
     (c.greatest_height-top.ensures ∙ ap max_height c.deref.ensures.value) (λ count e. c.in_ok-levels.ensures count e ∙ ap (λ ms. tree_levels sha256 bytes ms count) c.deref-2.ensures.value) in
-    let last : c.len.result - 1 ≡ t.count = omega (arith, t.long, c.len.ensures) in
+    let last = last_level t.count c.len.ensures t.long in
     let v = c.index.result.now in
     let root : v.items ≡ digest sha256 (matrix_rows bytes matrices) t.count 0 ∷ [] =
     whole-root sha256 bytes matrices t.count levels.items t.tree v (c.index.ensures ∙ ap (λ k. get_or levels.items k v) last) in
@@ -108,7 +117,7 @@ returns-clause-root g c =
     let levels = c.in_ok-levels.levels in
     let t : IsTree bytes matrices levels = is_tree bytes matrices c.requires.some c.args.matrices.ok.0 c.requires.powers_of_two levels c.greatest_height-top.result
     (c.greatest_height-top.ensures ∙ ap max_height c.deref.ensures.value) (λ count e. c.in_ok-levels.ensures count e ∙ ap (λ ms. tree_levels sha256 bytes ms count) c.deref-2.ensures.value) in
-    let last : c.len.result - 1 ≡ t.count = omega (arith, t.long, c.len.ensures) in
+    let last = last_level t.count c.len.ensures t.long in
     let v = c.index.result.now in
     let root : v.items ≡ digest sha256 (matrix_rows bytes matrices) t.count 0 ∷ [] =
     whole-root sha256 bytes matrices t.count levels.items t.tree v (c.index.ensures ∙ ap (λ k. get_or levels.items k v) last) in
@@ -117,3 +126,9 @@ returns-clause-root g c =
       top = t.top;
       root = sym (c.index-root.ensures ∙ ap (λ ds. get_or ds 0 c.index-root.result.now) root);
     }
+
+pub levels_of-requires-clause-greatest : goal.levels_of-requires-clause-greatest
+levels_of-requires-clause-greatest g c = c.greatest_height-top.ensures ∙ ap max_height (c.deref.ensures.value ∙ sym c.deref-2.ensures.value)
+
+pub returns-clause-matrices : goal.returns-clause-matrices
+returns-clause-matrices g c = refl
