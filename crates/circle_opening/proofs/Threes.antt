@@ -67,6 +67,16 @@ module _ {A B C : Type 0} where
         omega (arith, k.5, ap length y.1.1.1),
       )
 
+  -- what a loop over them reads from
+  pub three-sources : {s z : Three A B C} {w : Zip (Iter B) (Iter C)} {i : Iter A} {j : Iter B} {ls : List A} {bs : List B} {cs : List C} →
+      s ≡ z → zip_first z ≡ i → iter_rest i ≡ ls → zip_second z ≡ w → zip_first w ≡ j → iter_rest j ≡ bs → iter_rest (zip_second w) ≡ cs →
+      (first_left s ≡ ls) × (second_left s ≡ bs) × (third_left s ≡ cs)
+  three-sources same first of_first second inner of_inner of_third = (
+    ap first_left same ∙ ap iter_rest first ∙ of_first,
+    ap second_left same ∙ ap (λ v. iter_rest (zip_first v)) second ∙ ap iter_rest inner ∙ of_inner,
+    ap third_left same ∙ ap (λ v. iter_rest (zip_second v)) second ∙ of_third,
+  )
+
   module _ (ls : List A) (bs : List B) (cs : List C) (xs : List (Item A B C)) (s t u : Three A B C) (r : Option (Item A B C)) (first : first_left s ≡ ls) (second : second_left s ≡ bs) (third : third_left s ≡ cs) (y : Yields steps s xs t) where
     -- a turn of the loop
     pub three_turn : (p : Item A B C) → r ≡ Some p → steps t r u →

@@ -11,6 +11,7 @@ use Rattle.circle_words.specs.Words.{claim_of}
 use Rattle.circle_opening.specs.Requests.{lists_of}
 use Rattle.circle_relation.specs.Taken.{point_taken}
 use Rattle.circle_opening.proofs.Requested.{map-at, pairwise-more, pairwise-end, more-after}
+use Rattle.circle_opening.proofs.Pairs.{pair-sources}
 use Rattle.circle_opening.proofs.claims.append_claims.Goals as goal
 
 pub loop-point-preserved : goal.loop-point-preserved
@@ -20,7 +21,8 @@ loop-point-preserved g c =
     let vectors = c.args.values.now in
     let values = lists_of vectors in
     let done = length c.loop-point.yielded in
-    let turn = zip_turn points vectors c.loop-point.yielded _ _ c.next.new.self _ (cc) (cc) c.loop-point.yielded_by _ c.in-Some.is c.next.ensures.steps in
+    let from = pair-sources c.into_iter-point-iterator.ensures.into_iter_gives c.zip-point-items.ensures.first c.iter.ensures.rest c.zip-point-items.ensures.second.0 in
+    let turn = zip_turn points vectors c.loop-point.yielded _ _ c.next.new.self _ from.0 from.1 c.loop-point.yielded_by _ c.in-Some.is c.next.ensures.steps in
     let p = c.in-Some.point.now in
     let v = c.in-Some.values.now in
     let here : v.items ≡ slice_index_or values done v.items = map-at (λ v. v.items) vectors done v turn.1 (turn.3 v) in
@@ -39,7 +41,8 @@ returns g c =
     let points = c.args.points.now in
     let vectors = c.args.values.now in
     let values = lists_of vectors in
-    let last = zip_end points vectors c.loop-point.yielded _ _ c.next.new.self _ (cc) (cc) c.loop-point.yielded_by c.in-None.is c.next.ensures.steps in
+    let from = pair-sources c.into_iter-point-iterator.ensures.into_iter_gives c.zip-point-items.ensures.first c.iter.ensures.rest c.zip-point-items.ensures.second.0 in
+    let last = zip_end points vectors c.loop-point.yielded _ _ c.next.new.self _ from.0 from.1 c.loop-point.yielded_by c.in-None.is c.next.ensures.steps in
     c.loop-point.invariant
     ∙ ap (λ cs. claims_of c.args.claims.now.items ++ map (point_taken g.EF.Operations.ops) cs)
     (pairwise-end claim_of points values (length c.loop-point.yielded) (omega (arith, last, length-map vectors (λ v. v.items))))

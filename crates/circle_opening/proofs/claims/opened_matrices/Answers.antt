@@ -11,6 +11,7 @@ use Rattle.circle_relation.specs.Accepts.{Fields}
 use Rattle.circle_words.specs.Words.{committed_of}
 use Rattle.circle_opening.specs.Requests.{AreAnswers, AreValuesOf, IsFit, IsOpenable, batch_committed, lists_of, points_of}
 use Rattle.circle_opening.proofs.Requested.{at-place, map-at, pairwise-end, requests-more}
+use Rattle.circle_opening.proofs.Pairs.{pair-sources}
 use Rattle.circle_opening.proofs.claims.opened_matrices.Goals as goal
 
 pub push_matrices-requires-clause-fit : goal.push_matrices-requires-clause-fit
@@ -21,7 +22,8 @@ push_matrices-requires-clause-fit g c =
     let requests = c.args.requests.now in
     let batches = c.args.values.now in
     let i = length c.loop-request.yielded in
-    let turn = zip_turn requests batches c.loop-request.yielded _ _ c.next.new.self _ (cc) (cc) c.loop-request.yielded_by _ c.in-Some.is c.next.ensures.steps in
+    let from = pair-sources c.into_iter-request-iterator.ensures.into_iter_gives c.zip-request-items.ensures.first c.iter.ensures.rest c.zip-request-items.ensures.second.0 in
+    let turn = zip_turn requests batches c.loop-request.yielded _ _ c.next.new.self _ from.0 from.1 c.loop-request.yielded_by _ c.in-Some.is c.next.ensures.steps in
     let r = c.in-Some.request.now in
     let b = c.in-Some.values.now in
     let fit = subst (IsFit kept k c.args.log_blowup two) (sym (turn.2 r)) (c.requires.fit i r turn.0) in
@@ -36,7 +38,8 @@ push_matrices-requires-clause-count g c =
     let requests = c.args.requests.now in
     let batches = c.args.values.now in
     let i = length c.loop-request.yielded in
-    let turn = zip_turn requests batches c.loop-request.yielded _ _ c.next.new.self _ (cc) (cc) c.loop-request.yielded_by _ c.in-Some.is c.next.ensures.steps in
+    let from = pair-sources c.into_iter-request-iterator.ensures.into_iter_gives c.zip-request-items.ensures.first c.iter.ensures.rest c.zip-request-items.ensures.second.0 in
+    let turn = zip_turn requests batches c.loop-request.yielded _ _ c.next.new.self _ from.0 from.1 c.loop-request.yielded_by _ c.in-Some.is c.next.ensures.steps in
     let r = c.in-Some.request.now in
     let b = c.in-Some.values.now in
     let here = map-at (λ (v : Vec (Vec (Vec g.row.EF.Denot Global) Global) Global). opened_rows v.items) batches i b turn.1 (turn.3 b) in
@@ -51,7 +54,8 @@ push_matrices-requires-clause-values g c =
     let requests = c.args.requests.now in
     let batches = c.args.values.now in
     let i = length c.loop-request.yielded in
-    let turn = zip_turn requests batches c.loop-request.yielded _ _ c.next.new.self _ (cc) (cc) c.loop-request.yielded_by _ c.in-Some.is c.next.ensures.steps in
+    let from = pair-sources c.into_iter-request-iterator.ensures.into_iter_gives c.zip-request-items.ensures.first c.iter.ensures.rest c.zip-request-items.ensures.second.0 in
+    let turn = zip_turn requests batches c.loop-request.yielded _ _ c.next.new.self _ from.0 from.1 c.loop-request.yielded_by _ c.in-Some.is c.next.ensures.steps in
     let r = c.in-Some.request.now in
     let b = c.in-Some.values.now in
     let here = map-at (λ (v : Vec (Vec (Vec g.row.EF.Denot Global) Global) Global). opened_rows v.items) batches i b turn.1 (turn.3 b) in
@@ -69,7 +73,8 @@ loop-request-preserved g c =
     let requests = c.args.requests.now in
     let batches = c.args.values.now in
     let i = length c.loop-request.yielded in
-    let turn = zip_turn requests batches c.loop-request.yielded _ _ c.next.new.self _ (cc) (cc) c.loop-request.yielded_by _ c.in-Some.is c.next.ensures.steps in
+    let from = pair-sources c.into_iter-request-iterator.ensures.into_iter_gives c.zip-request-items.ensures.first c.iter.ensures.rest c.zip-request-items.ensures.second.0 in
+    let turn = zip_turn requests batches c.loop-request.yielded _ _ c.next.new.self _ from.0 from.1 c.loop-request.yielded_by _ c.in-Some.is c.next.ensures.steps in
     let r = c.in-Some.request.now in
     let b = c.in-Some.values.now in
     let here = map-at (λ (v : Vec (Vec (Vec g.row.EF.Denot Global) Global) Global). opened_rows v.items) batches i b turn.1 (turn.3 b) in
@@ -92,7 +97,8 @@ returns-clause-matrices g c =
     let kept = g.M.Mmcs.matrices in
     let requests = c.args.requests.now in
     let batches = c.args.values.now in
-    let last = zip_end requests batches c.loop-request.yielded _ _ c.next.new.self _ (cc) (cc) c.loop-request.yielded_by c.in-None.is c.next.ensures.steps in
+    let from = pair-sources c.into_iter-request-iterator.ensures.into_iter_gives c.zip-request-items.ensures.first c.iter.ensures.rest c.zip-request-items.ensures.second.0 in
+    let last = zip_end requests batches c.loop-request.yielded _ _ c.next.new.self _ from.0 from.1 c.loop-request.yielded_by c.in-None.is c.next.ensures.steps in
     let f = λ (q : OpeningRequest _ g.row.EF.Denot) (v : List (List (List g.row.EF.Denot))). batch_committed k c.args.log_blowup (kept q.prover_data.now) (points_of kept q) v in
     c.loop-request.invariant.matrices
     ∙ ap (flat_map (λ b. b)) (pairwise-end f requests (openings batches) (length c.loop-request.yielded) (omega (arith, last, length-map batches (λ v. opened_rows v.items))))

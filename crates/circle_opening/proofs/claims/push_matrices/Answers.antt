@@ -8,7 +8,7 @@ use Rattle.circle_words.specs.Words.{committed_of}
 use Rattle.circle_words.specs.declared.reduced.OpenedMatrix.{OpenedMatrix}
 use Rattle.circle_opening.specs.Requests.{IsReady, lists_of, log_of}
 use Rattle.circle_opening.proofs.Requested.{committed-all, committed-is, committed-more, openable-at, ready-is, valued-at}
-use Rattle.circle_opening.proofs.Threes.{three_turn, three_end}
+use Rattle.circle_opening.proofs.Threes.{three-sources, three_turn, three_end}
 use Rattle.circle_opening.proofs.claims.push_matrices.Goals as goal
 
 pub log2_strict-requires : goal.log2_strict-requires
@@ -16,7 +16,8 @@ log2_strict-requires g c =
     let k : Fields g.row.F.Denot g.row.EF.Denot = record { field = g.F.Operations.ops; gen = g.F.ComplexExtendable.generators; two_adicity = g.F.ComplexExtendable.CIRCLE_TWO_ADICITY; is_zero = λ w. g.F.PartialEq.eq w g.F.Field.ZERO; extension = g.EF.Operations.ops; embed = g.EF.ExtensionField.embed; same = g.EF.PartialEq.eq } in
     let ms = c.args.matrices.now in
     let points = c.args.points.now in
-    let turn = three_turn ms points c.args.values.now c.loop-matrix.yielded _ _ c.next.new.self _ (cc) (cc) (cc) c.loop-matrix.yielded_by _ c.in-Some.is c.next.ensures.steps in
+    let from = three-sources c.into_iter-matrix-iterator.ensures.into_iter_gives c.zip-matrix-items.ensures.first c.iter.ensures.rest c.zip-matrix-items.ensures.second c.zip.ensures.first c.iter-2.ensures.rest c.zip.ensures.second.0 in
+    let turn = three_turn ms points c.args.values.now c.loop-matrix.yielded _ _ c.next.new.self _ from.0 from.1 from.2 c.loop-matrix.yielded_by _ c.in-Some.is c.next.ensures.steps in
     let m = c.in-Some.matrix.now in
     let p = c.in-Some.points.now in
     let open_at = openable-at k c.args.log_blowup g.F.ComplexExtendable.CIRCLE_TWO_ADICITY ms points (length c.loop-matrix.yielded) m p c.requires.fit turn.0 turn.1 turn.3 turn.4 in
@@ -30,7 +31,8 @@ loop-matrix-preserved g c =
     let points = c.args.points.now in
     let values = c.args.values.now in
     let i = length c.loop-matrix.yielded in
-    let turn = three_turn ms points values c.loop-matrix.yielded _ _ c.next.new.self _ (cc) (cc) (cc) c.loop-matrix.yielded_by _ c.in-Some.is c.next.ensures.steps in
+    let from = three-sources c.into_iter-matrix-iterator.ensures.into_iter_gives c.zip-matrix-items.ensures.first c.iter.ensures.rest c.zip-matrix-items.ensures.second c.zip.ensures.first c.iter-2.ensures.rest c.zip.ensures.second.0 in
+    let turn = three_turn ms points values c.loop-matrix.yielded _ _ c.next.new.self _ from.0 from.1 from.2 c.loop-matrix.yielded_by _ c.in-Some.is c.next.ensures.steps in
     let m = c.in-Some.matrix.now in
     let p = c.in-Some.points.now in
     let v = c.in-Some.values.now in
@@ -54,7 +56,8 @@ returns-clause-matrices g c =
     let ms = c.args.matrices.now in
     let points = c.args.points.now in
     let values = c.args.values.now in
-    let last = three_end ms points values c.loop-matrix.yielded _ _ c.next.new.self _ (cc) (cc) (cc) c.loop-matrix.yielded_by c.in-None.is c.next.ensures.steps in
+    let from = three-sources c.into_iter-matrix-iterator.ensures.into_iter_gives c.zip-matrix-items.ensures.first c.iter.ensures.rest c.zip-matrix-items.ensures.second c.zip.ensures.first c.iter-2.ensures.rest c.zip.ensures.second.0 in
+    let last = three_end ms points values c.loop-matrix.yielded _ _ c.next.new.self _ from.0 from.1 from.2 c.loop-matrix.yielded_by c.in-None.is c.next.ensures.steps in
     c.loop-matrix.invariant.matrices
     ∙ ap (λ b. map (committed_of k c.args.log_blowup) c.args.list.now.items ++ b)
     (committed-all k c.args.log_blowup ms (lists_of points) (opened_rows values) (length c.loop-matrix.yielded) (omega (arith, last, length-map points (λ v. v.items), length-map values (λ v. lists_of v.items))))

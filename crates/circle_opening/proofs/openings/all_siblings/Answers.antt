@@ -3,6 +3,7 @@ use Rattle.std.proofs.lemmas.List.{length_push, map-append}
 use Rattle.std.proofs.lemmas.Slice.Zip.{zip_turn, zip_end}
 use Rattle.circle_opening.specs.Openings.{siblings_at}
 use Rattle.circle_opening.proofs.Sided.{pair-pushed, pair-all}
+use Rattle.circle_opening.proofs.Pairs.{pair-sources}
 use Rattle.circle_opening.proofs.openings.all_siblings.Goals as goal
 
 pub loop-index-preserved : goal.loop-index-preserved
@@ -10,7 +11,8 @@ loop-index-preserved g c =
     let E : Type 0 = g.row.EF.Denot in
     let indices = c.args.indices.now in
     let rows = c.args.rows.now in
-    let turn = zip_turn indices rows c.loop-index.yielded _ _ c.next.new.self _ (cc) (cc) c.loop-index.yielded_by _ c.in-Some.is c.next.ensures.steps in
+    let from = pair-sources c.into_iter-index-iterator.ensures.into_iter_gives c.zip-index-items.ensures.first c.iter.ensures.rest c.zip-index-items.ensures.second.0 in
+    let turn = zip_turn indices rows c.loop-index.yielded _ _ c.next.new.self _ from.0 from.1 c.loop-index.yielded_by _ c.in-Some.is c.next.ensures.steps in
     let q = c.in-Some.index.now in
     let opened = c.in-Some.opened.now in
     let made = c.in_ok-siblings_of.field-0 in
@@ -27,7 +29,8 @@ returns g c =
     let E : Type 0 = g.row.EF.Denot in
     let indices = c.args.indices.now in
     let rows = c.args.rows.now in
-    let last = zip_end indices rows c.loop-index.yielded _ _ c.next.new.self _ (cc) (cc) c.loop-index.yielded_by c.in-None.is c.next.ensures.steps in
+    let from = pair-sources c.into_iter-index-iterator.ensures.into_iter_gives c.zip-index-items.ensures.first c.iter.ensures.rest c.zip-index-items.ensures.second.0 in
+    let last = zip_end indices rows c.loop-index.yielded _ _ c.next.new.self _ from.0 from.1 c.loop-index.yielded_by c.in-None.is c.next.ensures.steps in
     let f : ℕ → List (List E) → List E = siblings_at g.EF.Operations.ops.zero c.args.log_max_height c.args.heights.now in
     let view : Vec (Vec E Global) Global → List (List E) = λ r. map (λ v. v.items) r.items in
     c.loop-index.invariant ∙ pair-all f view indices rows c.requires.queries (length c.loop-index.yielded) last

@@ -3,6 +3,7 @@ use Rattle.std.proofs.lemmas.List.{get_or_default, length_push}
 use Rattle.std.proofs.lemmas.Slice.Zip.{zip_turn, zip_end}
 use Rattle.circle_opening.specs.Openings.{sibling_in}
 use Rattle.circle_opening.proofs.Sided.{pair-pushed, pair-all}
+use Rattle.circle_opening.proofs.Pairs.{pair-sources}
 use Rattle.circle_opening.proofs.openings.siblings_of.Goals as goal
 
 pub loop-log_height-preserved : goal.loop-log_height-preserved
@@ -10,7 +11,8 @@ loop-log_height-preserved g c =
     let E : Type 0 = g.row.EF.Denot in
     let heights = c.args.heights.now in
     let rows = c.args.rows.now in
-    let turn = zip_turn heights rows c.loop-log_height.yielded _ _ c.next.new.self _ (cc) (cc) c.loop-log_height.yielded_by _ c.in-Some.is c.next.ensures.steps in
+    let from = pair-sources c.into_iter-log_height-iterator.ensures.into_iter_gives c.zip-log_height-items.ensures.first c.iter.ensures.rest c.zip-log_height-items.ensures.second.0 in
+    let turn = zip_turn heights rows c.loop-log_height.yielded _ _ c.next.new.self _ from.0 from.1 c.loop-log_height.yielded_by _ c.in-Some.is c.next.ensures.steps in
     let h = c.in-Some.log_height.now in
     let row = c.in-Some.row.now in
     let n = length c.loop-log_height.yielded in
@@ -27,7 +29,8 @@ returns g c =
     let E : Type 0 = g.row.EF.Denot in
     let heights = c.args.heights.now in
     let rows = c.args.rows.now in
-    let last = zip_end heights rows c.loop-log_height.yielded _ _ c.next.new.self _ (cc) (cc) c.loop-log_height.yielded_by c.in-None.is c.next.ensures.steps in
+    let from = pair-sources c.into_iter-log_height-iterator.ensures.into_iter_gives c.zip-log_height-items.ensures.first c.iter.ensures.rest c.zip-log_height-items.ensures.second.0 in
+    let last = zip_end heights rows c.loop-log_height.yielded _ _ c.next.new.self _ from.0 from.1 c.loop-log_height.yielded_by c.in-None.is c.next.ensures.steps in
     let f : ℕ → List E → E = λ m r. sibling_in g.EF.Operations.ops.zero (c.args.index / 2 ^ (c.args.log_max_height - m)) r in
     let view : Vec E Global → List E = λ r. r.items in
     c.loop-log_height.invariant ∙ pair-all f view heights rows c.requires.count _ last

@@ -10,6 +10,7 @@ use Rattle.circle_relation.specs.Accepts.{Fields}
 use Rattle.circle_words.specs.Values.{AreOff, AreOpened}
 use Rattle.circle_opening.specs.Requests.{AreValuesOf, IsOpenable, lists_of, log_of}
 use Rattle.circle_opening.proofs.Requested.{openable-at, values-of, values-more, as-long}
+use Rattle.circle_opening.proofs.Pairs.{pair-sources}
 use Rattle.circle_opening.proofs.values.batch_values.Goals as goal
 
 pub log2_strict-log_height-requires : goal.log2_strict-log_height-requires
@@ -17,7 +18,8 @@ log2_strict-log_height-requires g c =
     let k : Fields g.row.F.Denot g.row.EF.Denot = record { field = g.F.Operations.ops; gen = g.F.ComplexExtendable.generators; two_adicity = g.F.ComplexExtendable.CIRCLE_TWO_ADICITY; is_zero = λ w. g.F.PartialEq.eq w g.F.Field.ZERO; extension = g.EF.Operations.ops; embed = g.EF.ExtensionField.embed; same = g.EF.PartialEq.eq } in
     let ms = c.args.matrices.now in
     let points = c.args.points.now in
-    let turn = zip_turn ms points c.loop-matrix.yielded _ _ c.next.new.self _ (cc) (cc) c.loop-matrix.yielded_by _ c.in-Some.is c.next.ensures.steps in
+    let from = pair-sources c.into_iter-matrix-iterator.ensures.into_iter_gives c.zip-matrix-items.ensures.first c.iter.ensures.rest c.zip-matrix-items.ensures.second.0 in
+    let turn = zip_turn ms points c.loop-matrix.yielded _ _ c.next.new.self _ from.0 from.1 c.loop-matrix.yielded_by _ c.in-Some.is c.next.ensures.steps in
     let m = c.in-Some.matrix.now in
     let p = c.in-Some.points.now in
     let open_at = openable-at k c.args.log_blowup g.F.ComplexExtendable.CIRCLE_TWO_ADICITY ms points (length c.loop-matrix.yielded) m p c.requires.fit turn.0 turn.1 (turn.2 m) (turn.3 p) in
@@ -28,7 +30,8 @@ opened_values-requires-clause-blowup g c =
     let k : Fields g.row.F.Denot g.row.EF.Denot = record { field = g.F.Operations.ops; gen = g.F.ComplexExtendable.generators; two_adicity = g.F.ComplexExtendable.CIRCLE_TWO_ADICITY; is_zero = λ w. g.F.PartialEq.eq w g.F.Field.ZERO; extension = g.EF.Operations.ops; embed = g.EF.ExtensionField.embed; same = g.EF.PartialEq.eq } in
     let ms = c.args.matrices.now in
     let points = c.args.points.now in
-    let turn = zip_turn ms points c.loop-matrix.yielded _ _ c.next.new.self _ (cc) (cc) c.loop-matrix.yielded_by _ c.in-Some.is c.next.ensures.steps in
+    let from = pair-sources c.into_iter-matrix-iterator.ensures.into_iter_gives c.zip-matrix-items.ensures.first c.iter.ensures.rest c.zip-matrix-items.ensures.second.0 in
+    let turn = zip_turn ms points c.loop-matrix.yielded _ _ c.next.new.self _ from.0 from.1 c.loop-matrix.yielded_by _ c.in-Some.is c.next.ensures.steps in
     let m = c.in-Some.matrix.now in
     let p = c.in-Some.points.now in
     let open_at = openable-at k c.args.log_blowup g.F.ComplexExtendable.CIRCLE_TWO_ADICITY ms points (length c.loop-matrix.yielded) m p c.requires.fit turn.0 turn.1 (turn.2 m) (turn.3 p) in
@@ -40,7 +43,8 @@ opened_values-requires-clause-in_group g c =
     let k : Fields g.row.F.Denot g.row.EF.Denot = record { field = g.F.Operations.ops; gen = g.F.ComplexExtendable.generators; two_adicity = g.F.ComplexExtendable.CIRCLE_TWO_ADICITY; is_zero = λ w. g.F.PartialEq.eq w g.F.Field.ZERO; extension = g.EF.Operations.ops; embed = g.EF.ExtensionField.embed; same = g.EF.PartialEq.eq } in
     let ms = c.args.matrices.now in
     let points = c.args.points.now in
-    let turn = zip_turn ms points c.loop-matrix.yielded _ _ c.next.new.self _ (cc) (cc) c.loop-matrix.yielded_by _ c.in-Some.is c.next.ensures.steps in
+    let from = pair-sources c.into_iter-matrix-iterator.ensures.into_iter_gives c.zip-matrix-items.ensures.first c.iter.ensures.rest c.zip-matrix-items.ensures.second.0 in
+    let turn = zip_turn ms points c.loop-matrix.yielded _ _ c.next.new.self _ from.0 from.1 c.loop-matrix.yielded_by _ c.in-Some.is c.next.ensures.steps in
     let m = c.in-Some.matrix.now in
     let p = c.in-Some.points.now in
     let open_at = openable-at k c.args.log_blowup g.F.ComplexExtendable.CIRCLE_TWO_ADICITY ms points (length c.loop-matrix.yielded) m p c.requires.fit turn.0 turn.1 (turn.2 m) (turn.3 p) in
@@ -52,7 +56,8 @@ opened_values-requires-clause-off g c =
     let k : Fields g.row.F.Denot g.row.EF.Denot = record { field = g.F.Operations.ops; gen = g.F.ComplexExtendable.generators; two_adicity = g.F.ComplexExtendable.CIRCLE_TWO_ADICITY; is_zero = λ w. g.F.PartialEq.eq w g.F.Field.ZERO; extension = g.EF.Operations.ops; embed = g.EF.ExtensionField.embed; same = g.EF.PartialEq.eq } in
     let ms = c.args.matrices.now in
     let points = c.args.points.now in
-    let turn = zip_turn ms points c.loop-matrix.yielded _ _ c.next.new.self _ (cc) (cc) c.loop-matrix.yielded_by _ c.in-Some.is c.next.ensures.steps in
+    let from = pair-sources c.into_iter-matrix-iterator.ensures.into_iter_gives c.zip-matrix-items.ensures.first c.iter.ensures.rest c.zip-matrix-items.ensures.second.0 in
+    let turn = zip_turn ms points c.loop-matrix.yielded _ _ c.next.new.self _ from.0 from.1 c.loop-matrix.yielded_by _ c.in-Some.is c.next.ensures.steps in
     let m = c.in-Some.matrix.now in
     let p = c.in-Some.points.now in
     let open_at = openable-at k c.args.log_blowup g.F.ComplexExtendable.CIRCLE_TWO_ADICITY ms points (length c.loop-matrix.yielded) m p c.requires.fit turn.0 turn.1 (turn.2 m) (turn.3 p) in
@@ -88,7 +93,8 @@ returns-clause-count g c =
     let k : Fields g.row.F.Denot g.row.EF.Denot = record { field = g.F.Operations.ops; gen = g.F.ComplexExtendable.generators; two_adicity = g.F.ComplexExtendable.CIRCLE_TWO_ADICITY; is_zero = λ w. g.F.PartialEq.eq w g.F.Field.ZERO; extension = g.EF.Operations.ops; embed = g.EF.ExtensionField.embed; same = g.EF.PartialEq.eq } in
     let ms = c.args.matrices.now in
     let points = c.args.points.now in
-    let last = zip_end ms points c.loop-matrix.yielded _ _ c.next.new.self _ (cc) (cc) c.loop-matrix.yielded_by c.in-None.is c.next.ensures.steps in
+    let from = pair-sources c.into_iter-matrix-iterator.ensures.into_iter_gives c.zip-matrix-items.ensures.first c.iter.ensures.rest c.zip-matrix-items.ensures.second.0 in
+    let last = zip_end ms points c.loop-matrix.yielded _ _ c.next.new.self _ from.0 from.1 c.loop-matrix.yielded_by c.in-None.is c.next.ensures.steps in
     let lists = length-map points (λ v. v.items) in
     let long = as-long (IsOpenable k g.F.ComplexExtendable.CIRCLE_TWO_ADICITY c.args.log_blowup) ms (lists_of points) c.requires.fit in
     omega (arith, c.loop-matrix.invariant.count, last, lists, long)
@@ -98,7 +104,8 @@ returns-clause-values g c =
     let k : Fields g.row.F.Denot g.row.EF.Denot = record { field = g.F.Operations.ops; gen = g.F.ComplexExtendable.generators; two_adicity = g.F.ComplexExtendable.CIRCLE_TWO_ADICITY; is_zero = λ w. g.F.PartialEq.eq w g.F.Field.ZERO; extension = g.EF.Operations.ops; embed = g.EF.ExtensionField.embed; same = g.EF.PartialEq.eq } in
     let ms = c.args.matrices.now in
     let points = c.args.points.now in
-    let last = zip_end ms points c.loop-matrix.yielded _ _ c.next.new.self _ (cc) (cc) c.loop-matrix.yielded_by c.in-None.is c.next.ensures.steps in
+    let from = pair-sources c.into_iter-matrix-iterator.ensures.into_iter_gives c.zip-matrix-items.ensures.first c.iter.ensures.rest c.zip-matrix-items.ensures.second.0 in
+    let last = zip_end ms points c.loop-matrix.yielded _ _ c.next.new.self _ from.0 from.1 c.loop-matrix.yielded_by c.in-None.is c.next.ensures.steps in
     let lists = length-map points (λ v. v.items) in
     let long = as-long (IsOpenable k g.F.ComplexExtendable.CIRCLE_TWO_ADICITY c.args.log_blowup) ms (lists_of points) c.requires.fit in
     let i = length c.loop-matrix.yielded in
