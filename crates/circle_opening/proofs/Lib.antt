@@ -8,7 +8,6 @@ pub mod Held
 pub mod Lengths
 pub mod Logs
 pub mod OpenedPairs
-pub mod Pairs
 pub mod Requested
 pub mod Seen
 pub mod Sided

@@ -11,7 +11,7 @@ use Rattle.circle_words.specs.Words.{claim_of}
 use Rattle.circle_opening.specs.Requests.{lists_of}
 use Rattle.circle_relation.specs.Taken.{point_taken}
 use Rattle.circle_opening.proofs.Requested.{map-at, pairwise-more, pairwise-end, more-after}
-use Rattle.circle_opening.proofs.Pairs.{pair-sources}
+use Rattle.circle_relation.proofs.Pairs.{pair-sources}
 use Rattle.circle_opening.proofs.claims.append_claims.Goals as goal
 
 pub loop-point-preserved : goal.loop-point-preserved

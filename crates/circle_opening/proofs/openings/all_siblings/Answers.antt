@@ -3,7 +3,7 @@ use Rattle.std.proofs.lemmas.List.{length_push, map-append}
 use Rattle.std.proofs.lemmas.Slice.Zip.{zip_turn, zip_end}
 use Rattle.circle_opening.specs.Openings.{siblings_at}
 use Rattle.circle_opening.proofs.Sided.{pair-pushed, pair-all}
-use Rattle.circle_opening.proofs.Pairs.{pair-sources}
+use Rattle.circle_relation.proofs.Pairs.{pair-sources}
 use Rattle.circle_opening.proofs.openings.all_siblings.Goals as goal
 
 pub loop-index-preserved : goal.loop-index-preserved
