@@ -8,9 +8,7 @@ use circle_presets::{ChallengeMmcs, Proof, Scheme, ValMmcs};
 use circle_runs::CircleDraws;
 use circle_statements::batches::{Domain, cubic, one};
 use circle_transcript::CircleTranscriptFailure;
-use p3_circle::{
-    CircleCommitPhaseMultiStep, CircleFriProof, CircleInputProof, Neutral, Point,
-};
+use p3_circle::{CircleCommitPhaseMultiStep, CircleFriProof, CircleInputProof, Neutral, Point};
 use std::alloc::Global;
 use std::test::Fail;
 
@@ -243,7 +241,12 @@ type Words = CircleFriProof<Cubic, ChallengeMmcs, Mersenne31, Inputs>;
 type Round = CircleCommitPhaseMultiStep<Cubic, ChallengeMmcs>;
 
 fn round(words: &mut Words, number: usize) -> Result<&mut Round, Fail> {
-    Ok(words.commit_phase_openings.get_mut(number).ok_or("a round")?)
+    Ok(
+        words
+            .commit_phase_openings
+            .get_mut(number)
+            .ok_or("a round")?,
+    )
 }
 
 // The siblings of the first query of this round.

@@ -130,7 +130,8 @@ const INPUT_ROWS: &str = "the input is refused: input MMCS error: ";
 
 const FIRST_LAYER: &str = "the input is refused: first layer MMCS error: ";
 
-const NO_POINTS: &str = "the input is refused: batch 0, matrix 1: opened at no points; its width cannot be authenticated";
+const NO_POINTS: &str =
+    "the input is refused: batch 0, matrix 1: opened at no points; its width cannot be authenticated";
 
 const WEAK: &str = "a witness of a proof of work does not pass (batch)";
 
@@ -211,7 +212,11 @@ const AFTER_THE_SEEDING: &[Row] = &[
     ),
     (Damage::Claims(OfClaims::Value), REFUSED, When::After),
     (Damage::Claims(OfClaims::Point), REFUSED, When::After),
-    (Damage::Claims(OfClaims::NoPoints), &[NO_POINTS], When::After),
+    (
+        Damage::Claims(OfClaims::NoPoints),
+        &[NO_POINTS],
+        When::After,
+    ),
     (Damage::Claims(OfClaims::TwoRows), REFUSED, When::After),
     (
         Damage::Claims(OfClaims::ValueOfWorked),
