@@ -1,5 +1,10 @@
 use Rattle.std.proofs.Common.{◌≡◌, ◌∙◌, map, refl, sym, ap, subst, arith, ◌+◌, ◌≤◌, List, le_trans, le_of_lt, ℕ}
+use Rattle.std.specs.Prelude.{All}
+use Rattle.std.proofs.lemmas.Result.{IfOk-from_err}
 use Rattle.circle_matrix.specs.Mmcs.{opened_rows}
+use Rattle.circle_matrix.specs.declared.pcs.MatrixOpening.{MatrixOpening}
+use Rattle.circle_domain.specs.declared.domain.CircleDomain.{CircleDomain}
+use Rattle.circle_domain.specs.Domain.{log_size}
 use Rattle.circle_relation.specs.Accepts.{Fields, InputAuthenticates}
 use Rattle.circle_relation.specs.RunOf.{run_of, opened_batch}
 use Rattle.circle_relation.specs.Statement.{log_max_height}
@@ -7,16 +12,26 @@ use Rattle.circle_relation.specs.StatementOf.{matrix_claims, batch_claim}
 use Rattle.circle_verifier.specs.Batches.{claimed_shape, RefusesRows}
 use Rattle.circle_verifier.proofs.Rows.{at-most, refusal-refuses}
 use Rattle.circle_relation.proofs.Shown.{moved, same-bits}
-use Rattle.std.specs.Prelude.{All}
-use Rattle.circle_matrix.specs.declared.pcs.MatrixOpening.{MatrixOpening}
-use Rattle.circle_domain.specs.declared.domain.CircleDomain.{CircleDomain}
-use Rattle.circle_domain.specs.Domain.{log_size}
-use Rattle.std.proofs.lemmas.Result.{IfOk-from_err}
 use Rattle.circle_verifier.proofs.batches.authenticate_batch.Goals as goal
 
 small-heights : {E F : Type 0} {g : _} (blowup top : ℕ) (ms ds : List (MatrixOpening E (CircleDomain F g))) →
     All (λ m. log_size m.domain + blowup ≤ top) ms → top ≤ 62 → ds ≡ ms → All (λ m. log_size m.domain + blowup ≤ 62) ds
 small-heights blowup top ms ds all small is = subst (All (λ m. log_size m.domain + blowup ≤ 62)) (sym is) (λ i d lt. le_trans (all i d lt) small)
+
+pub claimed_shapes-requires : goal.claimed_shapes-requires
+claimed_shapes-requires g c =
+    let run = c.args.run.now in
+    small-heights run.params.now.log_blowup run.log_max_height c.args.batch.now.matrices.items c.deref.result.now
+    c.requires.heights (le_trans (le_of_lt c.requires.drawn.in_group) g.met.Val.ComplexExtendable.at_most_62) c.deref.ensures.value
+
+pub returns-in_err-shapes-clause-shown : goal.returns-in_err-shapes-clause-shown
+returns-in_err-shapes-clause-shown g c = IfOk-from_err c.from_residual.result _ c.from_residual.ensures.0
+
+pub log_max_height-height-requires : goal.log_max_height-height-requires
+log_max_height-height-requires g c =
+    let run = c.args.run.now in
+    small-heights run.params.now.log_blowup run.log_max_height c.args.batch.now.matrices.items c.deref-2.result.now
+    c.requires.heights (le_trans (le_of_lt c.requires.drawn.in_group) g.met.Val.ComplexExtendable.at_most_62) c.deref-2.ensures.value
 
 pub overflow_sub-run : goal.overflow_sub-run
 overflow_sub-run g c =
@@ -27,6 +42,12 @@ overflow_sub-run g c =
     c.log_max_height-height.ensures ∙ ap (λ ms. log_max_height blowup (matrix_claims ms)) c.deref-2.ensures.value in
     let below = at-most blowup run.log_max_height matrices c.requires.heights in
     omega (arith, is, below)
+
+pub without_bits-requires : goal.without_bits-requires
+without_bits-requires g c = omega (arith, c.requires.drawn.in_group, g.met.Val.ComplexExtendable.at_most_62)
+
+pub returns-in_err-places-clause-shown : goal.returns-in_err-places-clause-shown
+returns-in_err-places-clause-shown g c = IfOk-from_err c.from_residual-in_err-places.result _ c.from_residual-in_err-places.ensures.0
 
 pub returns-in-Ok-clause-shown : goal.returns-in-Ok-clause-shown
 returns-in-Ok-clause-shown g c =
@@ -52,24 +73,3 @@ returns-clause-refused g c =
     (sym (c.deref-3.ensures.value ∙ c.in_ok-shapes.ensures ∙ ap (λ ms. map (claimed_shape blowup) (matrix_claims ms)) c.deref.ensures.value))
     (sym (c.deref-4.ensures.value ∙ c.in_ok-places.ensures ∙ same-bits run.indices.now _ _ _ _ c.requires.drawn.top (c.log_max_height-height.ensures ∙ ap (λ ms. log_max_height blowup (matrix_claims ms)) c.deref-2.ensures.value)))
     (sym (ap opened_rows c.deref-5.ensures.value)) shown)))
-
-pub claimed_shapes-requires : goal.claimed_shapes-requires
-claimed_shapes-requires g c =
-    let run = c.args.run.now in
-    small-heights run.params.now.log_blowup run.log_max_height c.args.batch.now.matrices.items c.deref.result.now
-    c.requires.heights (le_trans (le_of_lt c.requires.drawn.in_group) g.met.Val.ComplexExtendable.at_most_62) c.deref.ensures.value
-
-pub log_max_height-height-requires : goal.log_max_height-height-requires
-log_max_height-height-requires g c =
-    let run = c.args.run.now in
-    small-heights run.params.now.log_blowup run.log_max_height c.args.batch.now.matrices.items c.deref-2.result.now
-    c.requires.heights (le_trans (le_of_lt c.requires.drawn.in_group) g.met.Val.ComplexExtendable.at_most_62) c.deref-2.ensures.value
-
-pub without_bits-requires : goal.without_bits-requires
-without_bits-requires g c = omega (arith, c.requires.drawn.in_group, g.met.Val.ComplexExtendable.at_most_62)
-
-pub returns-in_err-shapes-clause-shown : goal.returns-in_err-shapes-clause-shown
-returns-in_err-shapes-clause-shown g c = IfOk-from_err c.from_residual.result _ c.from_residual.ensures.0
-
-pub returns-in_err-places-clause-shown : goal.returns-in_err-places-clause-shown
-returns-in_err-places-clause-shown g c = IfOk-from_err c.from_residual-in_err-places.result _ c.from_residual-in_err-places.ensures.0

@@ -1,5 +1,6 @@
 use Rattle.std.proofs.Common.{◌≡◌, ◌<◌, ◌≤◌, length, get_or, subst, arith}
 use Rattle.std.specs.Prelude.{All, map, zip}
+use Rattle.std.proofs.lemmas.Result.{IfOk-from_err}
 use Rattle.std.proofs.lemmas.List.{take_all, length_push}
 use Rattle.std.proofs.lemmas.Slice.Zip.{zip_turn, zip_end}
 use Rattle.circle_relation.specs.Accepts.{Fields, InputAuthenticates}
@@ -25,6 +26,9 @@ turn-here g c =
     let turn = zip_turn claims opened c.loop-batch.yielded _ _ c.next.new.self _ from.0 from.1 c.loop-batch.yielded_by _ c.in-Some.is c.next.ensures.steps in
     (turn.0, turn.1, turn.2 c.in-Some.batch.now, turn.3 c.in-Some.opening.now)
 
+pub authenticate_batch-requires-clause-drawn : goal.authenticate_batch-requires-clause-drawn
+authenticate_batch-requires-clause-drawn g c = c.requires.drawn
+
 pub authenticate_batch-requires-clause-heights : goal.authenticate_batch-requires-clause-heights
 authenticate_batch-requires-clause-heights g c =
     let run = c.args.run.now in
@@ -45,6 +49,9 @@ loop-batch-preserved g c =
     let o = c.in-Some.opening.now in
     pair-more batch_claim opened_batch claims opened (InputAuthenticates k run.params.now (run_of run) (g.InputMmcs.Mmcs.authenticates run.mmcs.now)) (length c.loop-batch.yielded) b o turn.0 turn.1 turn.2 turn.3 _ (length_push c.loop-batch.yielded (c.in-Some.batch, c.in-Some.opening))
     c.loop-batch.invariant c.in_ok-authenticate_batch.ensures.shown
+
+pub returns-in_err-authenticate_batch-clause-shown : goal.returns-in_err-authenticate_batch-clause-shown
+returns-in_err-authenticate_batch-clause-shown g c = IfOk-from_err c.from_residual.result _ c.from_residual.ensures.0
 
 pub returns-in_err-authenticate_batch-clause-refused : goal.returns-in_err-authenticate_batch-clause-refused
 returns-in_err-authenticate_batch-clause-refused g c =
@@ -73,6 +80,3 @@ returns-clause-shown g c =
     let pairs = zip (batch_claims claims) (map opened_batch opened) in
     subst (All (InputAuthenticates k run.params.now (run_of run) (g.InputMmcs.Mmcs.authenticates run.mmcs.now)))
     (take_all (length c.loop-batch.yielded) pairs (omega (arith, last, pairs-length batch_claim opened_batch claims opened))) c.loop-batch.invariant
-
-pub authenticate_batch-requires-clause-drawn : goal.authenticate_batch-requires-clause-drawn
-authenticate_batch-requires-clause-drawn g c = c.requires.drawn

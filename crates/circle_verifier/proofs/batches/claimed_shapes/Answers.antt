@@ -1,7 +1,7 @@
 use Rattle.std.proofs.Common.{◌≡◌, ◌+◌, ◌^◌, ◌<◌, ◌≤◌, ◌∙◌, ℕ, List, [], ◌∷◌, ◌++◌, All, length, get_or, take, map, sym, ap, ap₂, subst, arith}
-use Rattle.std.proofs.lemmas.Nat.{one_shl}
 use Rattle.std.proofs.lemmas.List.{take_all, map_more}
 use Rattle.std.proofs.lemmas.Simd.{map-map}
+use Rattle.std.proofs.lemmas.Nat.{one_shl}
 use Rattle.circle_matrix.specs.declared.matrix.Dimensions.{Dimensions}
 use Rattle.circle_matrix.specs.declared.pcs.MatrixOpening.{MatrixOpening}
 use Rattle.circle_domain.specs.declared.domain.CircleDomain.{CircleDomain}
@@ -27,6 +27,10 @@ pub overflow_add-log_n : goal.overflow_add-log_n
 overflow_add-log_n g c =
     omega (arith, small-there c.args.log_blowup c.args.matrices.now c.loop-matrix.matrix-index c.matrix-item.result c.loop-matrix-test.true c.matrix-item.is c.requires, c.log_n.ensures)
 
+pub overflow_shl-log_n : goal.overflow_shl-log_n
+overflow_shl-log_n g c =
+    omega (arith, small-there c.args.log_blowup c.args.matrices.now c.loop-matrix.matrix-index c.matrix-item.result c.loop-matrix-test.true c.matrix-item.is c.requires, c.log_n.ensures)
+
 pub loop-matrix-preserved : goal.loop-matrix-preserved
 loop-matrix-preserved g c =
     let blowup = c.args.log_blowup in
@@ -45,7 +49,3 @@ returns g c =
     c.loop-matrix.invariant
     ∙ ap (map (λ m. claimed_shape c.args.log_blowup (matrix_claim m))) (take_all c.loop-matrix.matrix-index matrices c.loop-matrix-test.false)
     ∙ sym (map-map (claimed_shape c.args.log_blowup) matrix_claim matrices)
-
-pub overflow_shl-log_n : goal.overflow_shl-log_n
-overflow_shl-log_n g c =
-    omega (arith, small-there c.args.log_blowup c.args.matrices.now c.loop-matrix.matrix-index c.matrix-item.result c.loop-matrix-test.true c.matrix-item.is c.requires, c.log_n.ensures)

@@ -1,4 +1,4 @@
-use Rattle.std.proofs.Common.{rules, nat_cmp, ◌≡◌, ◌+◌, ◌<◌, ◌≤◌, ℕ, List, ◌∷◌, ◌∙◌, All, length, get_or, drop, sym, ap, subst, arith}
+use Rattle.std.proofs.Common.{rules, nat_cmp, ◌≡◌, ◌+◌, ◌<◌, ◌≤◌, ℕ, List, ◌∙◌, All, length, get_or, drop, sym, ap, subst, arith}
 use Rattle.std.specs.Prelude.{max}
 use Rattle.std.specs.Ordering.{ord_max}
 use Rattle.std.proofs.lemmas.List.{at_drop_more, at_drop_all}

@@ -1,4 +1,4 @@
-use Rattle.std.proofs.Common.{◌≡◌, ◌<◌, ◌∙◌, ◌+◌, ℕ, Bool, true, false, List, length, take, sym, ap, arith, slice_index_or}
+use Rattle.std.proofs.Common.{◌≡◌, ◌<◌, ◌∙◌, ◌+◌, ℕ, Bool, true, false, List, length, take, sym, ap, slice_index_or}
 use Rattle.std.specs.List.{list_any}
 use Rattle.std.proofs.lemmas.Bool.{or_from}
 use Rattle.std.proofs.lemmas.List.{take_all}
@@ -12,15 +12,15 @@ module _ {X : Type 0} (p : X → Bool) (xs : List X) (i : ℕ) (x : X) (within :
   some-here : p x ≡ true → true ≡ list_any p xs
   some-here hit = sym (list_any_at p xs i x within (ap p (sym is) ∙ hit))
 
-pub loop-batch-preserved : goal.loop-batch-preserved
-loop-batch-preserved g c =
-    none-more _ c.args.claims.now c.loop-batch.batch-index c.batch-item.result c.loop-batch-test.true c.batch-item.is c.loop-batch.invariant
-    (ap (list_any _) (sym c.deref.ensures.value) ∙ sym c.batch_has_domain.ensures ∙ c.if-batch_has_domain.false)
-
 pub returns-then-batch_has_domain : goal.returns-then-batch_has_domain
 returns-then-batch_has_domain g c =
     some-here _ c.args.claims.now c.loop-batch.batch-index c.batch-item.result c.loop-batch-test.true c.batch-item.is
     (ap (list_any _) (sym c.deref.ensures.value) ∙ sym c.batch_has_domain.ensures ∙ c.if-batch_has_domain.true)
+
+pub loop-batch-preserved : goal.loop-batch-preserved
+loop-batch-preserved g c =
+    none-more _ c.args.claims.now c.loop-batch.batch-index c.batch-item.result c.loop-batch-test.true c.batch-item.is c.loop-batch.invariant
+    (ap (list_any _) (sym c.deref.ensures.value) ∙ sym c.batch_has_domain.ensures ∙ c.if-batch_has_domain.false)
 
 pub returns : goal.returns
 returns g c =

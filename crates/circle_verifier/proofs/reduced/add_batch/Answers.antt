@@ -1,6 +1,7 @@
 use Rattle.std.proofs.Common.{◌≡◌, ◌≢◌, ℕ, ◌+◌, ◌≤◌, ◌<◌, [], ◌++◌, ◌∙◌, refl, sym, ap, subst, length, map, take, All, arith, slice_index_or}
 use Rattle.std.proofs.lemmas.List.{length-map, get_or-map, take_all}
 use Rattle.std.proofs.lemmas.List.Elements.{All-more, All-nil}
+use Rattle.std.proofs.lemmas.Option.{MatchOption-from_none}
 use Rattle.circle_field.specs.Circle.{origin}
 use Rattle.circle_matrix.specs.Mmcs.{opened_rows}
 use Rattle.circle_domain.specs.Selectors.{IsFinite}
@@ -11,9 +12,19 @@ use Rattle.circle_relation.specs.StatementOf.{point_claim, matrix_claim, matrix_
 use Rattle.circle_relation.specs.Sums.{on_row, claims_at, AreApartFrom, AreApartAt, Adds}
 use Rattle.circle_relation.proofs.ReducedSums.{adds-both, adds-same, adds-none}
 use Rattle.circle_verifier.proofs.ReducedRows.{All-there, All-under, rows-wide, claims-more, claims-other}
-use Rattle.std.proofs.lemmas.Option.{MatchOption-from_none}
 use Rattle.circle_verifier.proofs.reduced.add_batch.Goals as goal
 use Rattle.circle_verifier.proofs.reduced.add_batch.Goals.{then-log_n-word+in_ok-after, else-log_n-word}
+
+pub loop-i-init : goal.loop-i-init
+loop-i-init g c =
+    let l = g.EF.Operations.ops in
+    let embed = g.EF.ExtensionField.embed in
+    let points = map coordinates c.args.word.now.points.now in
+    record {
+      counted = refl;
+      apart = All-nil (λ (m : MatrixClaim g.row.EF.Denot). log_height c.args.word.now.log_blowup m ≡ c.args.word.now.log_height → AreApartFrom l embed points m.claims);
+      adds = λ alpha are. adds-none l embed alpha points (origin g.Val.Operations.ops) c.args.offset c.args.sums.now;
+    }
 
 pub overflow_add-log_n : goal.overflow_add-log_n
 overflow_add-log_n g c =
@@ -23,6 +34,12 @@ overflow_add-log_n g c =
     let is : slice_index_or (matrix_claims matrices) c.loop-i.i m ≡ m = get_or-map matrix_claim matrices c.loop-i.i c.index-matrices-i.result m c.loop-i-test.true ∙ ap matrix_claim (sym c.index-matrices-i.is) in
     let small : log_height c.args.word.now.log_blowup m ≤ 62 = All-there (λ m. log_height c.args.word.now.log_blowup m ≤ 62) (matrix_claims matrices) c.loop-i.i m c.requires.small inside is in
     omega (arith, small, c.log_n.ensures)
+
+pub add_matrix-requires-clause-points : goal.add_matrix-requires-clause-points
+add_matrix-requires-clause-points g c = c.requires.points ∙ sym c.loop-i.invariant.counted
+
+pub add_matrix-requires-clause-opened : goal.add_matrix-requires-clause-opened
+add_matrix-requires-clause-opened g c = c.requires.opened ∙ sym c.loop-i.invariant.counted
 
 pub add_matrix-requires-clause-rows : goal.add_matrix-requires-clause-rows
 add_matrix-requires-clause-rows g c =
@@ -71,6 +88,12 @@ returns-in_err-after-clause-none g c = λ none apart.
     let same : log_height blowup m ≡ h = omega (arith, c.if-log_n-word.true, c.log_n.ensures) in
     c.in_err-after.ensures.none refl
     (subst (λ ps. far (map point_claim ps)) (sym c.deref.ensures.value) (All-there (λ m. log_height blowup m ≡ h → far m.claims) (matrix_claims matrices) i m apart inside is same))
+
+pub returns-in_err-after-clause-apart : goal.returns-in_err-after-clause-apart
+returns-in_err-after-clause-apart g c = MatchOption-from_none c.from_residual.result _ c.from_residual.ensures
+
+pub returns-in_err-after-clause-sums : goal.returns-in_err-after-clause-sums
+returns-in_err-after-clause-sums g c = MatchOption-from_none c.from_residual.result _ c.from_residual.ensures
 
 pub loop-i-preserved : goal.loop-i-preserved
 loop-i-preserved g c =
@@ -139,26 +162,3 @@ returns-clause-sums g c = λ alpha are.
     let whole : take c.loop-i.i ms ≡ ms = take_all c.loop-i.i ms (omega (arith, c.loop-i-test.false, length-map c.args.matrices.now matrix_claim)) in
     subst (λ ms. Adds g.EF.Operations.ops g.EF.ExtensionField.embed alpha (map coordinates c.args.word.now.points.now) (origin g.Val.Operations.ops)
     (claims_at c.args.word.now.log_blowup c.args.word.now.log_height ms (opened_rows c.args.opened.now)) c.args.offset c.loop-i.after c.args.sums.now c.loop-i.sums) whole (c.loop-i.invariant.adds alpha are)
-
-pub loop-i-init : goal.loop-i-init
-loop-i-init g c =
-    let l = g.EF.Operations.ops in
-    let embed = g.EF.ExtensionField.embed in
-    let points = map coordinates c.args.word.now.points.now in
-    record {
-      counted = refl;
-      apart = All-nil (λ (m : MatrixClaim g.row.EF.Denot). log_height c.args.word.now.log_blowup m ≡ c.args.word.now.log_height → AreApartFrom l embed points m.claims);
-      adds = λ alpha are. adds-none l embed alpha points (origin g.Val.Operations.ops) c.args.offset c.args.sums.now;
-    }
-
-pub add_matrix-requires-clause-points : goal.add_matrix-requires-clause-points
-add_matrix-requires-clause-points g c = c.requires.points ∙ sym c.loop-i.invariant.counted
-
-pub add_matrix-requires-clause-opened : goal.add_matrix-requires-clause-opened
-add_matrix-requires-clause-opened g c = c.requires.opened ∙ sym c.loop-i.invariant.counted
-
-pub returns-in_err-after-clause-apart : goal.returns-in_err-after-clause-apart
-returns-in_err-after-clause-apart g c = MatchOption-from_none c.from_residual.result _ c.from_residual.ensures
-
-pub returns-in_err-after-clause-sums : goal.returns-in_err-after-clause-sums
-returns-in_err-after-clause-sums g c = MatchOption-from_none c.from_residual.result _ c.from_residual.ensures

@@ -3,6 +3,7 @@ use Rattle.std.specs.Prelude.{zip}
 use Rattle.std.proofs.lemmas.List.{length-map, get_or-map, take_all}
 use Rattle.std.proofs.lemmas.List.Elements.{All-append, All-nil}
 use Rattle.std.proofs.lemmas.Slice.Zip.{length-zip}
+use Rattle.std.proofs.lemmas.Option.{MatchOption-from_none}
 use Rattle.circle_field.specs.Circle.{origin}
 use Rattle.circle_matrix.specs.Mmcs.{opened_rows}
 use Rattle.circle_domain.specs.Selectors.{IsFinite}
@@ -13,8 +14,29 @@ use Rattle.circle_relation.specs.RunOf.{run_of, opened_batch}
 use Rattle.circle_relation.specs.Sums.{claims_at, all_claims_at, HasRowsOf, AreApartFrom, AreApartAt, Adds}
 use Rattle.circle_relation.proofs.ReducedSums.{adds-both, adds-same, adds-none}
 use Rattle.circle_verifier.proofs.ReducedRows.{pair-read, of-batch, all_matrices-more, all_claims-more}
-use Rattle.std.proofs.lemmas.Option.{MatchOption-from_none}
 use Rattle.circle_verifier.proofs.reduced.add_batches.Goals as goal
+
+pub loop-i-init : goal.loop-i-init
+loop-i-init g c =
+    let l = g.EF.Operations.ops in
+    let embed = g.EF.ExtensionField.embed in
+    let points = map coordinates c.args.word.now.points.now in
+    record {
+      counted = refl;
+      apart = All-nil (λ (m : MatrixClaim g.row.EF.Denot). log_height c.args.word.now.log_blowup m ≡ c.args.word.now.log_height → AreApartFrom l embed points m.claims);
+      adds = λ alpha are.
+          subst (λ e. Adds l embed alpha points (origin g.Val.Operations.ops) (λ j. []) l.one e c.args.sums.now c.args.sums.now) (sym (c.ONE-offset.ensures ∙ g.met.EF.Field.one_law))
+          (adds-none l embed alpha points (origin g.Val.Operations.ops) l.one c.args.sums.now);
+    }
+
+pub index-requires : goal.index-requires
+index-requires g c =
+    let openings = c.args.run.now.proof.now.fri_proof.input_openings.input_openings in
+    let long = openings.ok.0 ∙ sym (length-map openings.items opened_batch) ∙ c.requires.opened.shape.inputs ∙ length-map c.args.run.now.claims.now batch_claim in
+    subst (λ n. c.loop-i.i < n) (sym long) c.loop-i-test.true
+
+pub add_batch-requires-clause-points : goal.add_batch-requires-clause-points
+add_batch-requires-clause-points g c = c.requires.points ∙ sym c.loop-i.invariant.counted
 
 pub add_batch-requires-clause-opened : goal.add_batch-requires-clause-opened
 add_batch-requires-clause-opened g c =
@@ -102,6 +124,12 @@ returns-in_err-offset-clause-none g c = λ none apart.
     AreApartFrom g.EF.Operations.ops g.EF.ExtensionField.embed (map coordinates c.args.word.now.points.now) m.claims in
     c.in_err-offset.ensures.none refl (subst (λ ms. All far (matrix_claims ms)) (sym c.deref-in-loop-i.ensures.value) (of-batch batches i b inside is far apart))
 
+pub returns-in_err-offset-clause-apart : goal.returns-in_err-offset-clause-apart
+returns-in_err-offset-clause-apart g c = MatchOption-from_none c.from_residual.result _ c.from_residual.ensures
+
+pub returns-in_err-offset-clause-sums : goal.returns-in_err-offset-clause-sums
+returns-in_err-offset-clause-sums g c = MatchOption-from_none c.from_residual.result _ c.from_residual.ensures
+
 pub loop-i-preserved : goal.loop-i-preserved
 loop-i-preserved g c =
     let l = g.EF.Operations.ops in
@@ -158,30 +186,3 @@ returns-clause-sums g c = λ alpha are.
           (all_claims_at c.args.word.now.log_blowup c.args.word.now.log_height (zip bs (run_of c.args.run.now).proof.inputs)) g.EF.Operations.ops.one c.loop-i.offset c.args.sums.now c.loop-i.sums)
           whole (c.loop-i.invariant.adds alpha are),
     )
-
-pub loop-i-init : goal.loop-i-init
-loop-i-init g c =
-    let l = g.EF.Operations.ops in
-    let embed = g.EF.ExtensionField.embed in
-    let points = map coordinates c.args.word.now.points.now in
-    record {
-      counted = refl;
-      apart = All-nil (λ (m : MatrixClaim g.row.EF.Denot). log_height c.args.word.now.log_blowup m ≡ c.args.word.now.log_height → AreApartFrom l embed points m.claims);
-      adds = λ alpha are.
-          subst (λ e. Adds l embed alpha points (origin g.Val.Operations.ops) (λ j. []) l.one e c.args.sums.now c.args.sums.now) (sym (c.ONE-offset.ensures ∙ g.met.EF.Field.one_law))
-          (adds-none l embed alpha points (origin g.Val.Operations.ops) l.one c.args.sums.now);
-    }
-
-pub index-requires : goal.index-requires
-index-requires g c =
-    let openings = c.args.run.now.proof.now.fri_proof.input_openings.input_openings in
-    omega (arith, c.loop-i-test.true, c.requires.opened.shape.inputs, length-map c.args.run.now.claims.now batch_claim, length-map openings.items opened_batch, openings.ok.0)
-
-pub add_batch-requires-clause-points : goal.add_batch-requires-clause-points
-add_batch-requires-clause-points g c = c.requires.points ∙ sym c.loop-i.invariant.counted
-
-pub returns-in_err-offset-clause-apart : goal.returns-in_err-offset-clause-apart
-returns-in_err-offset-clause-apart g c = MatchOption-from_none c.from_residual.result _ c.from_residual.ensures
-
-pub returns-in_err-offset-clause-sums : goal.returns-in_err-offset-clause-sums
-returns-in_err-offset-clause-sums g c = MatchOption-from_none c.from_residual.result _ c.from_residual.ensures

@@ -3,22 +3,56 @@ use Rattle.std.specs.Prelude.{IfSome}
 use Rattle.std.proofs.lemmas.List.{length-map, get_or-map, map-append, take_more, take_all}
 use Rattle.std.proofs.lemmas.List.Elements.{All-more, All-nil}
 use Rattle.std.proofs.lemmas.List.FromFn.{get_or-map-range_with_len}
+use Rattle.std.proofs.lemmas.Option.{MatchOption-from_none}
 use Rattle.circle_field.specs.Field.{nth_power}
 use Rattle.circle_field.specs.Circle.{origin}
+use Rattle.circle_field.proofs.Inverses.{some_unless}
 use Rattle.circle_matrix.specs.Mmcs.{opened_rows}
 use Rattle.circle_matrix.specs.declared.pcs.PointOpening.{PointOpening}
 use Rattle.circle_point.specs.Point.{coordinates}
 use Rattle.circle_point.specs.Projective.{from_line}
+use Rattle.circle_domain.specs.Selectors.{IsFinite}
 use Rattle.circle_folding.specs.Queries.{IsApart, matrix_rows, claim_quotients, with_multiples, HaveWidth}
 use Rattle.circle_relation.specs.Statement.{PointClaim}
 use Rattle.circle_relation.specs.StatementOf.{point_claim}
 use Rattle.circle_relation.specs.Sums.{on_row, AreApartFrom, Adds}
 use Rattle.circle_verifier.specs.Sums.{claims_on}
 use Rattle.circle_relation.proofs.ReducedSums.{adds-both, adds-same, adds-claim, meets-not, adds-none}
-use Rattle.circle_domain.specs.Selectors.{IsFinite}
-use Rattle.circle_field.proofs.Inverses.{some_unless}
-use Rattle.std.proofs.lemmas.Option.{MatchOption-from_none}
 use Rattle.circle_verifier.proofs.reduced.add_matrix.Goals as goal
+
+pub loop-opening-init : goal.loop-opening-init
+loop-opening-init g c =
+    let l = g.EF.Operations.ops in
+    let points = map coordinates c.args.word.now.points.now in
+    record {
+      counted = refl;
+      apart = All-nil (λ (k : PointClaim g.row.EF.Denot). IsApart g.EF.ExtensionField.embed points (from_line l k.point));
+      adds = λ alpha are. adds-none l g.EF.ExtensionField.embed alpha points (origin g.Val.Operations.ops) c.args.offset c.args.sums.now;
+    }
+
+pub unwrap-point-requires : goal.unwrap-point-requires
+unwrap-point-requires g c =
+    let finite = subst (λ (o : PointOpening g.row.EF.Denot). IsFinite g.EF.Operations.ops o.point) (sym c.opening-item.is)
+    (c.requires.finite c.loop-opening.opening-index c.opening-item.result c.loop-opening-test.true) in
+    some_unless c.from_projective_line.result (λ none. finite (c.from_projective_line.ensures.none.0 none))
+
+pub add_quotients-requires-clause-points : goal.add_quotients-requires-clause-points
+add_quotients-requires-clause-points g c = c.requires.points ∙ sym c.loop-opening.invariant.counted
+
+pub add_quotients-requires-clause-opened : goal.add_quotients-requires-clause-opened
+add_quotients-requires-clause-opened g c = c.requires.opened ∙ sym c.loop-opening.invariant.counted
+
+pub add_quotients-requires-clause-rows : goal.add_quotients-requires-clause-rows
+add_quotients-requires-clause-rows g c =
+    subst (λ vs. HaveWidth (length vs) c.args.rows.now) (sym c.deref.ensures.value)
+    (subst (λ (o : PointOpening g.row.EF.Denot). HaveWidth (length o.values.items) c.args.rows.now) (sym c.opening-item.is)
+    (c.requires.rows c.loop-opening.opening-index c.opening-item.result c.loop-opening-test.true))
+
+pub add_quotients-requires-clause-enough : goal.add_quotients-requires-clause-enough
+add_quotients-requires-clause-enough g c =
+    subst (λ vs. length vs < length c.args.word.now.powers.now) (sym c.deref.ensures.value)
+    (subst (λ (o : PointOpening g.row.EF.Denot). length o.values.items < length c.args.word.now.powers.now) (sym c.opening-item.is)
+    (c.requires.enough c.loop-opening.opening-index c.opening-item.result c.loop-opening-test.true))
 
 pub returns-in_err-add_quotients-clause-none : goal.returns-in_err-add_quotients-clause-none
 returns-in_err-add_quotients-clause-none g c = λ none apart.
@@ -33,6 +67,20 @@ returns-in_err-add_quotients-clause-none g c = λ none apart.
     get_or-map point_claim claims i opening (point_claim opening) within ∙ ap point_claim (sym c.opening-item.is) in
     meets-not l g.EF.ExtensionField.embed (map coordinates c.args.word.now.points.now) (map point_claim claims) i (point_claim opening) (coordinates c.unwrap-point.result)
     (omega (arith, within, length-map claims point_claim)) claimed point (c.in_err-add_quotients.ensures.none refl) apart
+
+pub returns-in_err-add_quotients-clause-apart : goal.returns-in_err-add_quotients-clause-apart
+returns-in_err-add_quotients-clause-apart g c = MatchOption-from_none c.from_residual.result _ c.from_residual.ensures
+
+pub returns-in_err-add_quotients-clause-sums : goal.returns-in_err-add_quotients-clause-sums
+returns-in_err-add_quotients-clause-sums g c = MatchOption-from_none c.from_residual.result _ c.from_residual.ensures
+
+pub bounds-word-len : goal.bounds-word-len
+bounds-word-len g c =
+    let opening = c.opening-item.result in
+    let enough : length opening.values.items < length c.args.word.now.powers.now =
+    subst (λ (o : PointOpening g.row.EF.Denot). length o.values.items < length c.args.word.now.powers.now) (sym c.opening-item.is)
+    (c.requires.enough c.loop-opening.opening-index opening c.loop-opening-test.true) in
+    subst (λ n. n < length c.args.word.now.powers.now) (sym (c.len.ensures ∙ opening.values.ok.0)) enough
 
 pub mul-requires : goal.mul-requires
 mul-requires g c = g.met.EF.Field.can_mul_law c.loop-opening.after _
@@ -110,51 +158,3 @@ returns-clause-sums g c = λ alpha are.
     let whole : take c.loop-opening.opening-index all ≡ all = take_all c.loop-opening.opening-index all (omega (arith, c.loop-opening-test.false, length-map c.args.claims.now point_claim)) in
     subst (λ cs. Adds g.EF.Operations.ops g.EF.ExtensionField.embed alpha (map coordinates c.args.word.now.points.now) (origin g.Val.Operations.ops)
     (claims_on c.args.rows.now cs) c.args.offset c.loop-opening.after c.args.sums.now c.loop-opening.sums) whole (c.loop-opening.invariant.adds alpha are)
-
-pub loop-opening-init : goal.loop-opening-init
-loop-opening-init g c =
-    let l = g.EF.Operations.ops in
-    let points = map coordinates c.args.word.now.points.now in
-    record {
-      counted = refl;
-      apart = All-nil (λ (k : PointClaim g.row.EF.Denot). IsApart g.EF.ExtensionField.embed points (from_line l k.point));
-      adds = λ alpha are. adds-none l g.EF.ExtensionField.embed alpha points (origin g.Val.Operations.ops) c.args.offset c.args.sums.now;
-    }
-
-pub unwrap-point-requires : goal.unwrap-point-requires
-unwrap-point-requires g c =
-    let finite = subst (λ (o : PointOpening g.row.EF.Denot). IsFinite g.EF.Operations.ops o.point) (sym c.opening-item.is)
-    (c.requires.finite c.loop-opening.opening-index c.opening-item.result c.loop-opening-test.true) in
-    some_unless c.from_projective_line.result (λ none. finite (c.from_projective_line.ensures.none.0 none))
-
-pub add_quotients-requires-clause-points : goal.add_quotients-requires-clause-points
-add_quotients-requires-clause-points g c = c.requires.points ∙ sym c.loop-opening.invariant.counted
-
-pub add_quotients-requires-clause-opened : goal.add_quotients-requires-clause-opened
-add_quotients-requires-clause-opened g c = c.requires.opened ∙ sym c.loop-opening.invariant.counted
-
-pub add_quotients-requires-clause-rows : goal.add_quotients-requires-clause-rows
-add_quotients-requires-clause-rows g c =
-    subst (λ vs. HaveWidth (length vs) c.args.rows.now) (sym c.deref.ensures.value)
-    (subst (λ (o : PointOpening g.row.EF.Denot). HaveWidth (length o.values.items) c.args.rows.now) (sym c.opening-item.is)
-    (c.requires.rows c.loop-opening.opening-index c.opening-item.result c.loop-opening-test.true))
-
-pub add_quotients-requires-clause-enough : goal.add_quotients-requires-clause-enough
-add_quotients-requires-clause-enough g c =
-    subst (λ vs. length vs < length c.args.word.now.powers.now) (sym c.deref.ensures.value)
-    (subst (λ (o : PointOpening g.row.EF.Denot). length o.values.items < length c.args.word.now.powers.now) (sym c.opening-item.is)
-    (c.requires.enough c.loop-opening.opening-index c.opening-item.result c.loop-opening-test.true))
-
-pub bounds-word-len : goal.bounds-word-len
-bounds-word-len g c =
-    let opening = c.opening-item.result in
-    let enough : length opening.values.items < length c.args.word.now.powers.now =
-    subst (λ (o : PointOpening g.row.EF.Denot). length o.values.items < length c.args.word.now.powers.now) (sym c.opening-item.is)
-    (c.requires.enough c.loop-opening.opening-index opening c.loop-opening-test.true) in
-    omega (arith, enough, c.len.ensures, opening.values.ok.0)
-
-pub returns-in_err-add_quotients-clause-apart : goal.returns-in_err-add_quotients-clause-apart
-returns-in_err-add_quotients-clause-apart g c = MatchOption-from_none c.from_residual.result _ c.from_residual.ensures
-
-pub returns-in_err-add_quotients-clause-sums : goal.returns-in_err-add_quotients-clause-sums
-returns-in_err-add_quotients-clause-sums g c = MatchOption-from_none c.from_residual.result _ c.from_residual.ensures
