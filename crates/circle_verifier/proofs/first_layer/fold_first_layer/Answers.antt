@@ -3,6 +3,7 @@ use Rattle.std.specs.List.{flat_map}
 use Rattle.std.proofs.lemmas.List.{length_push, map-append, length-map}
 use Rattle.std.proofs.lemmas.Iterator.Adapters.{YieldsList-from_vec}
 use Rattle.std.proofs.lemmas.Iterator.Consumers.{YieldsList-turn, YieldsList-end}
+use Rattle.std.proofs.lemmas.Result.{IfOk-from_err}
 use Rattle.circle_field.proofs.Inverses.{take-whole}
 use Rattle.circle_matrix.specs.Mmcs.{opened_rows}
 use Rattle.circle_relation.specs.Accepts.{Fields}
@@ -11,7 +12,6 @@ use Rattle.circle_verifier.specs.FirstLayer.{twiddles_of}
 use Rattle.circle_verifier.specs.Sums.{word_at}
 use Rattle.circle_verifier.proofs.FirstLayerRun.{IsClaimed, pairs_up_to, all_reduced, word-of, place-of, none-yet, count-rows, pairs-all, folded-all, folded-more, pairs-more, next-inverses}
 use Rattle.circle_verifier.proofs.first_layer.fold_first_layer.Given as given
-use Rattle.std.proofs.lemmas.Result.{IfOk-from_err}
 use Rattle.circle_verifier.proofs.first_layer.fold_first_layer.Goals as goal
 use Rattle.circle_verifier.proofs.first_layer.fold_first_layer.Goals.{In-Some}
 
@@ -28,6 +28,33 @@ word-here g c =
     let t = YieldsList-turn all c.loop-word.yielded _ c.loop-word.yielded_by _ c.next.new.self c.in-Some.word c.in-Some.is c.next.ensures.steps in
     word-of reduced (length c.loop-word.yielded) c.in-Some.word t.0 t.1
 
+pub inverse_first_twiddles-requires-clause-drawn : goal.inverse_first_twiddles-requires-clause-drawn
+inverse_first_twiddles-requires-clause-drawn g c = c.requires.drawn
+
+pub inverse_first_twiddles-requires-clause-opened : goal.inverse_first_twiddles-requires-clause-opened
+inverse_first_twiddles-requires-clause-opened g c = c.requires.opened
+
+pub inverse_first_twiddles-requires-clause-words : goal.inverse_first_twiddles-requires-clause-words
+inverse_first_twiddles-requires-clause-words g c = ap (map queried) c.deref.ensures.value ∙ c.requires.words
+
+pub returns-in_err-inverses-clause-pairs : goal.returns-in_err-inverses-clause-pairs
+returns-in_err-inverses-clause-pairs g c = IfOk-from_err c.from_residual.result _ c.from_residual.ensures.0
+
+pub returns-in_err-inverses-clause-folded : goal.returns-in_err-inverses-clause-folded
+returns-in_err-inverses-clause-folded g c = IfOk-from_err c.from_residual.result _ c.from_residual.ensures.0
+
+pub returns-in_err-rows-clause-pairs : goal.returns-in_err-rows-clause-pairs
+returns-in_err-rows-clause-pairs g c = IfOk-from_err c.from_residual-in_err-rows.result _ c.from_residual-in_err-rows.ensures.0
+
+pub returns-in_err-rows-clause-folded : goal.returns-in_err-rows-clause-folded
+returns-in_err-rows-clause-folded g c = IfOk-from_err c.from_residual-in_err-rows.result _ c.from_residual-in_err-rows.ensures.0
+
+pub returns-in_err-folded-clause-pairs : goal.returns-in_err-folded-clause-pairs
+returns-in_err-folded-clause-pairs g c = IfOk-from_err c.from_residual-in_err-folded.result _ c.from_residual-in_err-folded.ensures.0
+
+pub returns-in_err-folded-clause-folded : goal.returns-in_err-folded-clause-folded
+returns-in_err-folded-clause-folded g c = IfOk-from_err c.from_residual-in_err-folded.result _ c.from_residual-in_err-folded.ensures.0
+
 pub loop-word-init : goal.loop-word-init
 loop-word-init g c =
     let reduced = all_reduced c.requires.drawn c.requires.opened c.args.words.items c.requires.words in
@@ -38,19 +65,17 @@ loop-word-init g c =
       later = c.as_slice-later.ensures.value ∙ c.in_ok-inverses.ensures;
     }
 
-pub inverse_first_twiddles-requires-clause-words : goal.inverse_first_twiddles-requires-clause-words
-inverse_first_twiddles-requires-clause-words g c = ap (map queried) c.deref.ensures.value ∙ c.requires.words
-
 pub split_at-requires : goal.split_at-requires
 split_at-requires g c =
     let word = word-here g (goal.at.split_at-requires g c).In-Some in
     let later = next-inverses word.0 c.loop-word.invariant.later in
     omega (arith, later.0)
 
-pub fold_word-requires-clause-inverses : goal.fold_word-requires-clause-inverses
-fold_word-requires-clause-inverses g c =
-    let word = word-here g (goal.at.fold_word-requires-clause-inverses g c).In-Some in
-    c.split_at.ensures.front ∙ (next-inverses word.0 c.loop-word.invariant.later).1
+pub fold_word-requires-clause-drawn : goal.fold_word-requires-clause-drawn
+fold_word-requires-clause-drawn g c = c.requires.drawn
+
+pub fold_word-requires-clause-opened : goal.fold_word-requires-clause-opened
+fold_word-requires-clause-opened g c = c.requires.opened
 
 pub fold_word-requires-clause-place : goal.fold_word-requires-clause-place
 fold_word-requires-clause-place g c =
@@ -63,6 +88,11 @@ fold_word-requires-clause-word g c =
     let word = word-here g (goal.at.fold_word-requires-clause-word g c).In-Some in
     word.1
 
+pub fold_word-requires-clause-inverses : goal.fold_word-requires-clause-inverses
+fold_word-requires-clause-inverses g c =
+    let word = word-here g (goal.at.fold_word-requires-clause-inverses g c).In-Some in
+    c.split_at.ensures.front ∙ (next-inverses word.0 c.loop-word.invariant.later).1
+
 pub fold_word-requires-clause-rows : goal.fold_word-requires-clause-rows
 fold_word-requires-clause-rows g c =
     let reduced = all_reduced c.requires.drawn c.requires.opened c.args.words.items c.requires.words in
@@ -70,6 +100,18 @@ fold_word-requires-clause-rows g c =
     let entries : Vec (Vec g.row.EF.Denot Global) Global → List (List g.row.EF.Denot) = λ rows. map (λ row. row.items) rows.items in
     ap length c.deref_mut.ensures.value ∙ sym (length-map rows entries)
     ∙ count-rows reduced (opened_rows rows) (length c.loop-word.yielded) c.loop-word.invariant.pairs
+
+pub returns-in_err-values-clause-pairs : goal.returns-in_err-values-clause-pairs
+returns-in_err-values-clause-pairs g c = IfOk-from_err c.from_residual-in_err-values.result _ c.from_residual-in_err-values.ensures.0
+
+pub returns-in_err-values-clause-folded : goal.returns-in_err-values-clause-folded
+returns-in_err-values-clause-folded g c = IfOk-from_err c.from_residual-in_err-values.result _ c.from_residual-in_err-values.ensures.0
+
+pub returns-in_err-push-clause-pairs : goal.returns-in_err-push-clause-pairs
+returns-in_err-push-clause-pairs g c = IfOk-from_err c.from_residual-in_err-push.result _ c.from_residual-in_err-push.ensures.0
+
+pub returns-in_err-push-clause-folded : goal.returns-in_err-push-clause-folded
+returns-in_err-push-clause-folded g c = IfOk-from_err c.from_residual-in_err-push.result _ c.from_residual-in_err-push.ensures.0
 
 pub loop-word-preserved : goal.loop-word-preserved
 loop-word-preserved g c =
@@ -110,45 +152,3 @@ returns-clause-folded g c =
     let all = YieldsList-from_vec c.args.words.items given.0 (given.1 ∙ c.args.words.ok.0) in
     let t = YieldsList-end all c.loop-word.yielded _ c.loop-word.yielded_by _ c.next.new.self c.in-None.is c.next.ensures.steps in
     folded-all reduced (map joining_of c.loop-word.folded.items) (length c.loop-word.yielded) t.1 c.loop-word.invariant.folded
-
-pub inverse_first_twiddles-requires-clause-drawn : goal.inverse_first_twiddles-requires-clause-drawn
-inverse_first_twiddles-requires-clause-drawn g c = c.requires.drawn
-
-pub inverse_first_twiddles-requires-clause-opened : goal.inverse_first_twiddles-requires-clause-opened
-inverse_first_twiddles-requires-clause-opened g c = c.requires.opened
-
-pub fold_word-requires-clause-drawn : goal.fold_word-requires-clause-drawn
-fold_word-requires-clause-drawn g c = c.requires.drawn
-
-pub fold_word-requires-clause-opened : goal.fold_word-requires-clause-opened
-fold_word-requires-clause-opened g c = c.requires.opened
-
-pub returns-in_err-inverses-clause-pairs : goal.returns-in_err-inverses-clause-pairs
-returns-in_err-inverses-clause-pairs g c = IfOk-from_err c.from_residual.result _ c.from_residual.ensures.0
-
-pub returns-in_err-inverses-clause-folded : goal.returns-in_err-inverses-clause-folded
-returns-in_err-inverses-clause-folded g c = IfOk-from_err c.from_residual.result _ c.from_residual.ensures.0
-
-pub returns-in_err-rows-clause-pairs : goal.returns-in_err-rows-clause-pairs
-returns-in_err-rows-clause-pairs g c = IfOk-from_err c.from_residual-in_err-rows.result _ c.from_residual-in_err-rows.ensures.0
-
-pub returns-in_err-rows-clause-folded : goal.returns-in_err-rows-clause-folded
-returns-in_err-rows-clause-folded g c = IfOk-from_err c.from_residual-in_err-rows.result _ c.from_residual-in_err-rows.ensures.0
-
-pub returns-in_err-folded-clause-pairs : goal.returns-in_err-folded-clause-pairs
-returns-in_err-folded-clause-pairs g c = IfOk-from_err c.from_residual-in_err-folded.result _ c.from_residual-in_err-folded.ensures.0
-
-pub returns-in_err-folded-clause-folded : goal.returns-in_err-folded-clause-folded
-returns-in_err-folded-clause-folded g c = IfOk-from_err c.from_residual-in_err-folded.result _ c.from_residual-in_err-folded.ensures.0
-
-pub returns-in_err-values-clause-pairs : goal.returns-in_err-values-clause-pairs
-returns-in_err-values-clause-pairs g c = IfOk-from_err c.from_residual-in_err-values.result _ c.from_residual-in_err-values.ensures.0
-
-pub returns-in_err-values-clause-folded : goal.returns-in_err-values-clause-folded
-returns-in_err-values-clause-folded g c = IfOk-from_err c.from_residual-in_err-values.result _ c.from_residual-in_err-values.ensures.0
-
-pub returns-in_err-push-clause-pairs : goal.returns-in_err-push-clause-pairs
-returns-in_err-push-clause-pairs g c = IfOk-from_err c.from_residual-in_err-push.result _ c.from_residual-in_err-push.ensures.0
-
-pub returns-in_err-push-clause-folded : goal.returns-in_err-push-clause-folded
-returns-in_err-push-clause-folded g c = IfOk-from_err c.from_residual-in_err-push.result _ c.from_residual-in_err-push.ensures.0

@@ -2,6 +2,7 @@ use Rattle.std.proofs.Common.{◌≡◌, ◌<◌, ◌++◌, ◌∙◌, List, Vec
 use Rattle.std.specs.Prelude.{All}
 use Rattle.std.specs.Vec.{with_items}
 use Rattle.std.proofs.lemmas.List.{length-map}
+use Rattle.std.proofs.lemmas.Result.{IfOk-from_err}
 use Rattle.circle_field.proofs.Inverses.{take-whole}
 use Rattle.circle_point.specs.Point.{coordinates}
 use Rattle.circle_matrix.specs.Mmcs.{opened_rows}
@@ -9,7 +10,6 @@ use Rattle.circle_folding.specs.Chain.{first_layer_twiddle}
 use Rattle.circle_folding.proofs.FirstLayer.{first_layer_twiddles-nonzero}
 use Rattle.circle_verifier.specs.FirstLayer.{with_pairs}
 use Rattle.circle_verifier.proofs.FirstLayerRun.{claimed, height-within, height-large, lambda-there, siblings-there, siblings-read, counted, values-made, pairs-made, folds-made}
-use Rattle.std.proofs.lemmas.Result.{IfOk-from_err}
 use Rattle.circle_verifier.proofs.first_layer.fold_word.Goals as goal
 
 pub entries_at-requires : goal.entries_at-requires
@@ -17,6 +17,12 @@ entries_at-requires g c =
     let w = claimed c.requires.drawn c.requires.opened c.args.place c.args.word.log_height c.requires.place in
     let Within : List (Vec g.row.EF.Denot Global) → Type 0 = λ lists. All (λ list. c.args.place < length list.items) lists in
     subst Within (sym c.deref.ensures.value) (siblings-there w)
+
+pub returns-in_err-siblings-clause-pairs : goal.returns-in_err-siblings-clause-pairs
+returns-in_err-siblings-clause-pairs g c = IfOk-from_err c.from_residual.result _ c.from_residual.ensures.0
+
+pub returns-in_err-siblings-clause-folded : goal.returns-in_err-siblings-clause-folded
+returns-in_err-siblings-clause-folded g c = IfOk-from_err c.from_residual.result _ c.from_residual.ensures.0
 
 pub overflow_sub-degree : goal.overflow_sub-degree
 overflow_sub-degree g c =
@@ -46,6 +52,9 @@ overflow_sub-bits g c =
     let w = claimed c.requires.drawn c.requires.opened c.args.place c.args.word.log_height c.requires.place in
     height-within w
 
+pub push_query_pairs-requires-clause-rows : goal.push_query_pairs-requires-clause-rows
+push_query_pairs-requires-clause-rows g c = c.requires.rows
+
 pub push_query_pairs-requires-clause-values : goal.push_query_pairs-requires-clause-values
 push_query_pairs-requires-clause-values g c =
     let w = claimed c.requires.drawn c.requires.opened c.args.place c.args.word.log_height c.requires.place in
@@ -59,6 +68,15 @@ pub push_query_pairs-requires-clause-siblings : goal.push_query_pairs-requires-c
 push_query_pairs-requires-clause-siblings g c =
     let w = claimed c.requires.drawn c.requires.opened c.args.place c.args.word.log_height c.requires.place in
     counted w c.deref-4.result.now _ (siblings-read w c.deref-4.ensures.value c.in_ok-siblings.ensures c.deref.ensures.value)
+
+pub push_query_pairs-requires-clause-bits : goal.push_query_pairs-requires-clause-bits
+push_query_pairs-requires-clause-bits g c = omega (arith, c.requires.drawn.in_group, g.met.Val.ComplexExtendable.at_most_62)
+
+pub returns-in_err-push_query_pairs-clause-pairs : goal.returns-in_err-push_query_pairs-clause-pairs
+returns-in_err-push_query_pairs-clause-pairs g c = IfOk-from_err c.from_residual-in_err-push_query_pairs.result _ c.from_residual-in_err-push_query_pairs.ensures.0
+
+pub returns-in_err-push_query_pairs-clause-folded : goal.returns-in_err-push_query_pairs-clause-folded
+returns-in_err-push_query_pairs-clause-folded g c = IfOk-from_err c.from_residual-in_err-push_query_pairs.result _ c.from_residual-in_err-push_query_pairs.ensures.0
 
 pub fold_query_values_with_inv_twiddles-requires-clause-inverses : goal.fold_query_values_with_inv_twiddles-requires-clause-inverses
 fold_query_values_with_inv_twiddles-requires-clause-inverses g c =
@@ -80,6 +98,9 @@ pub fold_query_values_with_inv_twiddles-requires-clause-siblings : goal.fold_que
 fold_query_values_with_inv_twiddles-requires-clause-siblings g c =
     let w = claimed c.requires.drawn c.requires.opened c.args.place c.args.word.log_height c.requires.place in
     counted w c.deref-5.result.now _ (siblings-read w c.deref-5.ensures.value c.in_ok-siblings.ensures c.deref.ensures.value)
+
+pub fold_query_values_with_inv_twiddles-requires-clause-bits : goal.fold_query_values_with_inv_twiddles-requires-clause-bits
+fold_query_values_with_inv_twiddles-requires-clause-bits g c = omega (arith, c.requires.drawn.in_group, g.met.Val.ComplexExtendable.at_most_62)
 
 pub returns-clause-pairs : goal.returns-clause-pairs
 returns-clause-pairs g c =
@@ -117,24 +138,3 @@ returns-clause-folded g c =
     (omega (arith, height-large w)) within (omega (arith, within, c.requires.drawn.in_group)) c.requires.drawn.below in
     let folds-are = c.fold_query_values_with_inv_twiddles.ensures twiddles nonzero c.requires.inverses in
     ap (λ xs. (c.args.word.log_height, xs)) (kept ∙ folds-are ∙ folds-made w refl made)
-
-pub push_query_pairs-requires-clause-rows : goal.push_query_pairs-requires-clause-rows
-push_query_pairs-requires-clause-rows g c = c.requires.rows
-
-pub push_query_pairs-requires-clause-bits : goal.push_query_pairs-requires-clause-bits
-push_query_pairs-requires-clause-bits g c = omega (arith, c.requires.drawn.in_group, g.met.Val.ComplexExtendable.at_most_62)
-
-pub fold_query_values_with_inv_twiddles-requires-clause-bits : goal.fold_query_values_with_inv_twiddles-requires-clause-bits
-fold_query_values_with_inv_twiddles-requires-clause-bits g c = omega (arith, c.requires.drawn.in_group, g.met.Val.ComplexExtendable.at_most_62)
-
-pub returns-in_err-siblings-clause-pairs : goal.returns-in_err-siblings-clause-pairs
-returns-in_err-siblings-clause-pairs g c = IfOk-from_err c.from_residual.result _ c.from_residual.ensures.0
-
-pub returns-in_err-siblings-clause-folded : goal.returns-in_err-siblings-clause-folded
-returns-in_err-siblings-clause-folded g c = IfOk-from_err c.from_residual.result _ c.from_residual.ensures.0
-
-pub returns-in_err-push_query_pairs-clause-pairs : goal.returns-in_err-push_query_pairs-clause-pairs
-returns-in_err-push_query_pairs-clause-pairs g c = IfOk-from_err c.from_residual-in_err-push_query_pairs.result _ c.from_residual-in_err-push_query_pairs.ensures.0
-
-pub returns-in_err-push_query_pairs-clause-folded : goal.returns-in_err-push_query_pairs-clause-folded
-returns-in_err-push_query_pairs-clause-folded g c = IfOk-from_err c.from_residual-in_err-push_query_pairs.result _ c.from_residual-in_err-push_query_pairs.ensures.0

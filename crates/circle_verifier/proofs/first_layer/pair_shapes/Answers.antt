@@ -11,6 +11,12 @@ shapes-more heights i shapes height within before high =
     let shape : ℕ → Dimensions = λ n. record { width = 2; height = n } in
     ap (λ ss. ss ++ shape height ∷ []) before ∙ ap (λ n. map pair_shape (take i heights) ++ shape n ∷ []) high ∙ sym (map_more pair_shape heights i 0 within)
 
+pub overflow_sub-log_height : goal.overflow_sub-log_height
+overflow_sub-log_height c = (c.requires c.loop-log_height.log_height-index 0 c.loop-log_height-test.true).0
+
+pub overflow_shl-log_height : goal.overflow_shl-log_height
+overflow_shl-log_height c = omega (arith, (c.requires c.loop-log_height.log_height-index 0 c.loop-log_height-test.true).1)
+
 pub loop-log_height-preserved : goal.loop-log_height-preserved
 loop-log_height-preserved c =
     let heights = c.args.heights.now in
@@ -23,9 +29,3 @@ loop-log_height-preserved c =
 pub returns : goal.returns
 returns c =
     c.loop-log_height.invariant ∙ ap (map pair_shape) (take_all c.loop-log_height.log_height-index c.args.heights.now c.loop-log_height-test.false)
-
-pub overflow_sub-log_height : goal.overflow_sub-log_height
-overflow_sub-log_height c = (c.requires c.loop-log_height.log_height-index 0 c.loop-log_height-test.true).0
-
-pub overflow_shl-log_height : goal.overflow_shl-log_height
-overflow_shl-log_height c = omega (arith, (c.requires c.loop-log_height.log_height-index 0 c.loop-log_height-test.true).1)

@@ -22,6 +22,9 @@ overflow_sub-bits g c = omega (arith, last-short (fields g) c.args.run.now c.req
 pub loop-j-init : goal.loop-j-init
 loop-j-init g c = λ j none. absurd (omega arith)
 
+pub overflow_shr-index : goal.overflow_shr-index
+overflow_shr-index g c = omega (arith, c.requires.drawn.in_group, g.met.Val.ComplexExtendable.at_most_62)
+
 pub x_at-x-requires-clause-in_group : goal.x_at-x-requires-clause-in_group
 x_at-x-requires-clause-in_group g c = omega (arith, last-short (fields g) c.args.run.now c.requires.drawn, c.requires.drawn.in_group)
 
@@ -62,6 +65,3 @@ pub returns-clause-ended : goal.returns-clause-ended
 returns-clause-ended g c =
     let o = c.args.run.now in
     all-end (fields g) o.params.now (run_of o) (λ j lt. c.loop-j.invariant j (omega (arith, lt, c.loop-j-test.false)))
-
-pub overflow_shr-index : goal.overflow_shr-index
-overflow_shr-index g c = omega (arith, c.requires.drawn.in_group, g.met.Val.ComplexExtendable.at_most_62)

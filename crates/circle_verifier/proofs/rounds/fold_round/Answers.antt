@@ -1,17 +1,17 @@
 use Rattle.std.proofs.Common.{◌≡◌, ◌∙◌, ℕ, ◌+◌, ◌<◌, ◌≤◌, Fits, w64, Vec, Global, refl, sym, ap, subst, length, map, slice_index_or, arith}
 use Rattle.std.proofs.lemmas.List.{get_or_default, length-map}
 use Rattle.std.specs.List.{All}
+use Rattle.std.proofs.lemmas.Result.{IfOk-from_err}
+use Rattle.circle_matrix.specs.declared.error.FriError.TheVariants.{Memory}
 use Rattle.circle_folding.specs.Chain.{round_twiddle, round_twiddles}
 use Rattle.circle_folding.proofs.Queries.{round_twiddles-nonzero}
 use Rattle.circle_relation.specs.Accepts.{Fields}
+use Rattle.circle_relation.specs.RunOf.{Refuses}
+use Rattle.circle_relation.specs.Reasons.{IsReason}
 use Rattle.circle_verifier.proofs.RoundsValues.{length-values_in, length-siblings_in, folds-of, round-within}
 use Rattle.circle_verifier.proofs.RoundsOpened.{of-steps, one-sibling, siblings-are}
-use Rattle.circle_verifier.proofs.rounds.fold_round.Given as given
-use Rattle.circle_relation.specs.RunOf.{Refuses}
 use Rattle.circle_verifier.proofs.ReducedWords.{handed_on}
-use Rattle.std.proofs.lemmas.Result.{IfOk-from_err}
-use Rattle.circle_matrix.specs.declared.error.FriError.TheVariants.{Memory}
-use Rattle.circle_relation.specs.Reasons.{IsReason}
+use Rattle.circle_verifier.proofs.rounds.fold_round.Given as given
 use Rattle.circle_verifier.proofs.rounds.fold_round.Goals as goal
 
 abbrev fields : (g : given.Over) → Fields g.row.Val.Denot g.row.EF.Denot
@@ -33,12 +33,48 @@ first_entries-requires g c =
     subst (λ rows. All (λ row. length row ≡ 1) (map (λ row. row.items) rows)) (sym c.deref.ensures.value)
     (one-sibling (fields g) c.args.run.now c.requires.drawn c.args.round c.requires.round c.index-opening.result.now c.index-opening.ensures)
 
+pub returns-in_err-siblings-clause-folded : goal.returns-in_err-siblings-clause-folded
+returns-in_err-siblings-clause-folded g c = IfOk-from_err c.from_residual.result _ c.from_residual.ensures.0
+
+pub returns-in_err-siblings-clause-shown : goal.returns-in_err-siblings-clause-shown
+returns-in_err-siblings-clause-shown g c = IfOk-from_err c.from_residual.result _ c.from_residual.ensures.0
+
+pub returns-in_err-siblings-clause-refused : goal.returns-in_err-siblings-clause-refused
+unfolding IsReason
+returns-in_err-siblings-clause-refused g c = handed_on c.from_residual.result Memory (Refuses (fields g) c.args.run.now g.InputMmcs.Mmcs.authenticates g.FriMmcs.Mmcs.authenticates g.InputMmcs.Mmcs.is_memory g.FriMmcs.Mmcs.is_memory) c.from_residual.ensures.1 tt
+
+pub authenticate_round-requires-clause-drawn : goal.authenticate_round-requires-clause-drawn
+authenticate_round-requires-clause-drawn g c = c.requires.drawn
+
+pub authenticate_round-requires-clause-round : goal.authenticate_round-requires-clause-round
+authenticate_round-requires-clause-round g c = c.requires.round
+
+pub authenticate_round-requires-clause-values : goal.authenticate_round-requires-clause-values
+authenticate_round-requires-clause-values g c = c.requires.values
+
 pub authenticate_round-requires-clause-siblings : goal.authenticate_round-requires-clause-siblings
 authenticate_round-requires-clause-siblings g c =
     let head : Vec g.row.EF.Denot Global → g.row.EF.Denot = λ row. slice_index_or row.items 0 g.EF.Operations.ops.zero in
     let o = c.args.run.now in
     let are = c.in_ok-siblings.ensures ∙ ap (map head) c.deref.ensures.value ∙ siblings-are (fields g) o c.requires.drawn c.args.round c.requires.round c.index-opening.result.now c.index-opening.ensures in
     c.deref-2.ensures.value ∙ are
+
+pub returns-in_err-authenticate_round-clause-folded : goal.returns-in_err-authenticate_round-clause-folded
+returns-in_err-authenticate_round-clause-folded g c = IfOk-from_err c.from_residual-in_err-authenticate_round.result _ c.from_residual-in_err-authenticate_round.ensures.0
+
+pub returns-in_err-authenticate_round-clause-shown : goal.returns-in_err-authenticate_round-clause-shown
+returns-in_err-authenticate_round-clause-shown g c = IfOk-from_err c.from_residual-in_err-authenticate_round.result _ c.from_residual-in_err-authenticate_round.ensures.0
+
+pub returns-in_err-authenticate_round-clause-refused : goal.returns-in_err-authenticate_round-clause-refused
+returns-in_err-authenticate_round-clause-refused g c =
+    handed_on c.from_residual-in_err-authenticate_round.result c.in_err-authenticate_round.field-0.0
+    (Refuses (fields g) c.args.run.now g.InputMmcs.Mmcs.authenticates g.FriMmcs.Mmcs.authenticates g.InputMmcs.Mmcs.is_memory g.FriMmcs.Mmcs.is_memory)
+    c.from_residual-in_err-authenticate_round.ensures.1 c.in_err-authenticate_round.ensures.refused
+
+pub overflow_add-bits : goal.overflow_add-bits
+overflow_add-bits g c =
+    let o = c.args.run.now in
+    one-fits c.args.round o.log_max_height g.Val.ComplexExtendable.CIRCLE_TWO_ADICITY (round-within (fields g) o c.requires.drawn c.args.round c.requires.round) c.requires.drawn.in_group g.met.Val.ComplexExtendable.at_most_62
 
 pub fold_query_values_with_inv_twiddles-requires-clause-inverses : goal.fold_query_values_with_inv_twiddles-requires-clause-inverses
 fold_query_values_with_inv_twiddles-requires-clause-inverses g c =
@@ -57,6 +93,11 @@ fold_query_values_with_inv_twiddles-requires-clause-siblings g c =
     let are = c.in_ok-siblings.ensures ∙ ap (map head) c.deref.ensures.value ∙ siblings-are (fields g) o c.requires.drawn c.args.round c.requires.round c.index-opening.result.now c.index-opening.ensures in
     ap length (c.deref-3.ensures.value ∙ are) ∙ length-siblings_in (fields g) o c.args.round
 
+pub fold_query_values_with_inv_twiddles-requires-clause-bits : goal.fold_query_values_with_inv_twiddles-requires-clause-bits
+fold_query_values_with_inv_twiddles-requires-clause-bits g c =
+    let o = c.args.run.now in
+    one-low c.args.round o.log_max_height g.Val.ComplexExtendable.CIRCLE_TWO_ADICITY (round-within (fields g) o c.requires.drawn c.args.round c.requires.round) c.requires.drawn.in_group g.met.Val.ComplexExtendable.at_most_62
+
 pub returns-clause-folded : goal.returns-clause-folded
 returns-clause-folded g c =
     let head : Vec g.row.EF.Denot Global → g.row.EF.Denot = λ row. slice_index_or row.items 0 g.EF.Operations.ops.zero in
@@ -70,46 +111,5 @@ returns-clause-folded g c =
     ∙ folds-of (fields g) o c.args.round (slice_index_or o.betas.now c.args.round beta) twiddles c.args.values.now c.deref-3.result.now c.requires.drawn.top
     (get_or_default o.betas.now c.args.round beta g.EF.Operations.ops.zero c.requires.round) refl c.requires.values (c.deref-3.ensures.value ∙ are)
 
-pub authenticate_round-requires-clause-drawn : goal.authenticate_round-requires-clause-drawn
-authenticate_round-requires-clause-drawn g c = c.requires.drawn
-
-pub authenticate_round-requires-clause-round : goal.authenticate_round-requires-clause-round
-authenticate_round-requires-clause-round g c = c.requires.round
-
-pub authenticate_round-requires-clause-values : goal.authenticate_round-requires-clause-values
-authenticate_round-requires-clause-values g c = c.requires.values
-
-pub returns-in_err-authenticate_round-clause-refused : goal.returns-in_err-authenticate_round-clause-refused
-returns-in_err-authenticate_round-clause-refused g c =
-    handed_on c.from_residual-in_err-authenticate_round.result c.in_err-authenticate_round.field-0.0
-    (Refuses (fields g) c.args.run.now g.InputMmcs.Mmcs.authenticates g.FriMmcs.Mmcs.authenticates g.InputMmcs.Mmcs.is_memory g.FriMmcs.Mmcs.is_memory)
-    c.from_residual-in_err-authenticate_round.ensures.1 c.in_err-authenticate_round.ensures.refused
-
-pub overflow_add-bits : goal.overflow_add-bits
-overflow_add-bits g c =
-    let o = c.args.run.now in
-    one-fits c.args.round o.log_max_height g.Val.ComplexExtendable.CIRCLE_TWO_ADICITY (round-within (fields g) o c.requires.drawn c.args.round c.requires.round) c.requires.drawn.in_group g.met.Val.ComplexExtendable.at_most_62
-
-pub fold_query_values_with_inv_twiddles-requires-clause-bits : goal.fold_query_values_with_inv_twiddles-requires-clause-bits
-fold_query_values_with_inv_twiddles-requires-clause-bits g c =
-    let o = c.args.run.now in
-    one-low c.args.round o.log_max_height g.Val.ComplexExtendable.CIRCLE_TWO_ADICITY (round-within (fields g) o c.requires.drawn c.args.round c.requires.round) c.requires.drawn.in_group g.met.Val.ComplexExtendable.at_most_62
-
 pub returns-clause-shown : goal.returns-clause-shown
 returns-clause-shown g c = c.in_ok-authenticate_round.ensures.shown
-
-pub returns-in_err-siblings-clause-refused : goal.returns-in_err-siblings-clause-refused
-unfolding IsReason
-returns-in_err-siblings-clause-refused g c = handed_on c.from_residual.result Memory (Refuses (fields g) c.args.run.now g.InputMmcs.Mmcs.authenticates g.FriMmcs.Mmcs.authenticates g.InputMmcs.Mmcs.is_memory g.FriMmcs.Mmcs.is_memory) c.from_residual.ensures.1 tt
-
-pub returns-in_err-siblings-clause-folded : goal.returns-in_err-siblings-clause-folded
-returns-in_err-siblings-clause-folded g c = IfOk-from_err c.from_residual.result _ c.from_residual.ensures.0
-
-pub returns-in_err-siblings-clause-shown : goal.returns-in_err-siblings-clause-shown
-returns-in_err-siblings-clause-shown g c = IfOk-from_err c.from_residual.result _ c.from_residual.ensures.0
-
-pub returns-in_err-authenticate_round-clause-folded : goal.returns-in_err-authenticate_round-clause-folded
-returns-in_err-authenticate_round-clause-folded g c = IfOk-from_err c.from_residual-in_err-authenticate_round.result _ c.from_residual-in_err-authenticate_round.ensures.0
-
-pub returns-in_err-authenticate_round-clause-shown : goal.returns-in_err-authenticate_round-clause-shown
-returns-in_err-authenticate_round-clause-shown g c = IfOk-from_err c.from_residual-in_err-authenticate_round.result _ c.from_residual-in_err-authenticate_round.ensures.0
