@@ -1,12 +1,13 @@
 //! What is changed of an opening.
 use crate::played::play;
-use crate::statement::Opening;
+use crate::statement::{Opening, numbers};
 use circle_challenger::Sha256Challenger;
 use circle_commit::{BatchMultiOpening, MatrixOpening, PointOpening, PowPhase};
 use circle_field::{Cubic, Field, Mersenne31};
 use circle_presets::{ChallengeMmcs, Proof, Scheme, ValMmcs};
 use circle_runs::CircleDraws;
 use circle_statements::batches::{Domain, cubic, one};
+use circle_statements::parameters::Numbers;
 use circle_transcript::CircleTranscriptFailure;
 use p3_circle::{CircleCommitPhaseMultiStep, CircleFriProof, CircleInputProof, Neutral, Point};
 use std::alloc::Global;
@@ -103,14 +104,21 @@ pub(crate) enum OfFirstLayer {
     Digest,
 }
 
-/// The difficulties at which the opening to be changed is made.
-pub(crate) fn difficulties(damage: Damage) -> [usize; 3] {
+/// The numbers of the parameters by which the opening to be changed is made.
+pub(crate) fn numbers_for(damage: Damage) -> Numbers {
     match damage {
         Damage::NothingOfWorked
         | Damage::Claims(OfClaims::ValueOfWorked)
-        | Damage::Witnesses(OfWitnesses::BatchMissing) => [8, 0, 0],
-        Damage::Witnesses(OfWitnesses::Missing) => [0, 0, 8],
-        _ => [0; 3],
+        | Damage::Witnesses(OfWitnesses::BatchMissing) => numbers(0, [8, 0, 0]),
+        Damage::Witnesses(OfWitnesses::Missing) => numbers(0, [0, 0, 8]),
+        // Where there are more queries, they fall on every pair, and no digest is left to show.
+        Damage::Digest
+        | Damage::FirstLayer(OfFirstLayer::Digest)
+        | Damage::Rounds(OfRounds::Digest) => Numbers {
+            num_queries: 4,
+            ..numbers(0, [0; 3])
+        },
+        _ => numbers(0, [0; 3]),
     }
 }
 

@@ -1,6 +1,6 @@
 //! What is answered to an opening that was changed, and the state that this leaves.
 use crate::damage::{
-    Damage, OfClaims, OfFirstLayer, OfParameters, OfRounds, OfWitnesses, apply, difficulties,
+    Damage, OfClaims, OfFirstLayer, OfParameters, OfRounds, OfWitnesses, apply, numbers_for,
 };
 use crate::played::play;
 use crate::statement::{Opening, columns, numbers, proved};
@@ -278,7 +278,7 @@ fn forged_proofs(rt: HostRuntime) -> Result<(), Fail> {
     let alloc = rt.alloc();
     for rows in [BEFORE_THE_SEEDING, AFTER_THE_SEEDING] {
         for (damage, expected, when) in rows {
-            let mut given = proved(alloc, difficulties(*damage))?;
+            let mut given = proved(alloc, numbers_for(*damage))?;
             apply(alloc, &mut given, *damage)?;
             let due = due(alloc, &given, *when)?;
             let (answer, left) = answer_to(alloc, given);

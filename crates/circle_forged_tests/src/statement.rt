@@ -8,7 +8,7 @@ use circle_statements::parameters::{Numbers, scheme};
 use std::alloc::Global;
 use std::test::Fail;
 
-/// The matrices with their opening at forty queries.
+/// The matrices with their opening.
 #[derive(Drop)]
 pub(crate) struct Opening {
     pub(crate) scheme: Scheme,
@@ -52,9 +52,9 @@ pub(crate) fn columns(alloc: Global, scheme: &Scheme) -> Result<Batch, Fail> {
     )
 }
 
-/// Opens the columns, at these difficulties.
-pub(crate) fn proved(alloc: Global, work: [usize; 3]) -> Result<Opening, Fail> {
-    let scheme = scheme(numbers(0, work));
+/// Opens the columns, by parameters with these numbers.
+pub(crate) fn proved(alloc: Global, numbers: Numbers) -> Result<Opening, Fail> {
+    let scheme = scheme(numbers);
     let batches = [columns(alloc, &scheme)?];
     let (values, proof) = open(alloc, &scheme, &batches, &mut Sha256Challenger::new())?;
     let claims = claims_of(alloc, &batches, &values)?;
