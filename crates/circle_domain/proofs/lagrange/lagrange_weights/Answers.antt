@@ -104,3 +104,9 @@ returns-clause-sum g c =
     (let fits = c.requires.in_group in omega (arith, fits)) c.args.domain.shift.on_circle c.args.at.on_circle c.requires.clear coeffs c.mul.result long
     (scale ∙ lifted-scale g.F.Operations.laws g.EF.Operations.laws g.met.EF.ExtensionField.embedding n s q normal (inverse ∙ ap k.inv is)
     (normalisation-nonzero g.F.Operations.laws n s c.requires.genuine c.args.domain.shift.on_circle))
+
+pub sub-vanishing-requires : goal.sub-vanishing-requires
+sub-vanishing-requires g c = g.met.EF.Field.can_sub_law c.v_n.result c.from_base.result
+
+pub mul-requires : goal.mul-requires
+mul-requires g c = g.met.EF.Field.can_mul_law c.sub-vanishing.result c.from_base-2.result

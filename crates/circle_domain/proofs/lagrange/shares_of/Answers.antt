@@ -72,3 +72,12 @@ returns g c =
     let l = g.EF.Operations.ops in
     let up = λ (r : Point g.row.F.Denot g.F.Operations). lifted g.EF.ExtensionField.embed (coordinates r) in
     c.loop-i.invariant ∙ ap (λ ps. shares l (coordinates c.args.at) (map up ps)) (take_all c.loop-i.i c.args.points.now (omega (arith, c.loop-i-test.false)))
+
+pub mul-other-requires : goal.mul-other-requires
+mul-other-requires g c = g.met.EF.Field.can_mul_law c.index-inverse.result.now c.y-in-loop-i.result
+
+pub add-requires : goal.add-requires
+add-requires g c = g.met.EF.Field.can_add_law c.times_base-own.result c.mul-other.result
+
+pub sub-requires : goal.sub-requires
+sub-requires g c = g.met.EF.Field.can_sub_law c.times_base-own.result c.mul-other.result

@@ -84,3 +84,12 @@ returns g c =
     let points = c.args.points.now in
     c.loop-i.invariant
     ∙ take_all c.loop-i.i (pairwise f zs points) (omega (arith, c.loop-i-test.false, c.requires.count, length-pairwise f zs points c.requires.count))
+
+pub add-numerator-requires : goal.add-numerator-requires
+add-numerator-requires g c = g.met.F.Field.can_add_law c.x.result c.ONE.result
+
+pub mul-requires : goal.mul-requires
+mul-requires g c = g.met.F.Field.can_mul_law c.add-numerator.result c.index.result.now
+
+pub mul-requires-in-loop-i : goal.mul-requires-in-loop-i
+mul-requires-in-loop-i g c = g.met.F.Field.can_mul_law c.index-vanishing-i.result c.mul.result

@@ -39,3 +39,6 @@ returns g c =
     ∙ ap (map (λ p. vanishing_on g.F.Operations.ops (log_size c.args.domain)
     (shift_of c.args.domain) (coordinates p)))
     (take_all c.loop-point.point-index c.args.points.now (omega (arith, c.loop-point-test.false)))
+
+pub sub-requires : goal.sub-requires
+sub-requires g c = g.met.F.Field.can_sub_law c.v_n.result c.v_n-at_shift.result
