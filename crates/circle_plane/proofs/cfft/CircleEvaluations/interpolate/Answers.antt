@@ -1,5 +1,7 @@
-use Rattle.std.proofs.Common.{rules, ◌≡◌, ℕ, ◌+◌, ◌*◌, ◌/◌, ◌^◌, ◌<◌, ◌++◌, ◌∙◌, sym, ap, subst, map, take, drop, slice_index_or, length, arith, All}
+use Rattle.std.proofs.Common.{rules, ◌≡◌, ℕ, ◌+◌, ◌*◌, ◌/◌, ◌^◌, ◌<◌, ◌≤◌, ◌%◌, ◌++◌, ◌∙◌, sym, ap, subst, map, take, drop, slice_index_or, length, arith, All}
+use Rattle.std.proofs.Math.Nat.{mul-le-mul_right}
 use Rattle.std.proofs.lemmas.List.{length-map}
+use Rattle.std.proofs.lemmas.Nat.{pow_pos}
 use Rattle.circle_field.specs.Field.{two, nth_power}
 use Rattle.circle_field.proofs.Inverses.{take-whole}
 use Rattle.circle_matrix.specs.Matrix.{rows_from, column}
@@ -15,7 +17,7 @@ use Rattle.circle_domain.proofs.Columns.{rows-same_columns}
 use Rattle.circle_domain.proofs.TwoPowers.{inverse_power}
 use Rattle.circle_domain.proofs.Told.{values-tell}
 use Rattle.circle_domain.proofs.CosetOrder.{other_order-points}
-use Rattle.circle_domain.proofs.Stored.{height, rows-values, column-values}
+use Rattle.circle_domain.proofs.Stored.{whole, height, rows-values, column-values}
 use Rattle.circle_domain.proofs.Twiddles.{length-layer_factors, made-count}
 use Rattle.circle_transform.specs.Butterflies.{total, scaled_difference}
 use Rattle.circle_transform.specs.Passes.{factors_at, ascending, to_coefficients}
@@ -43,6 +45,26 @@ backward_passes-requires-clause-layers g c l lt =
     let read : ts ≡ f l = ap (λ all. factors_at all l) c.deref.ensures.value ∙ factors-made f items n l c.in_ok-inverses.ensures below in
     let count = ap length read ∙ length-map (layer_factors k gen n s l) k.inv ∙ length-layer_factors k gen n l s in
     ap (λ w. length ts * (2 ^ l * w + 2 ^ l * w)) wide ∙ layer-entries k gen n s width l ts below count ∙ sym long ∙ sym (ap length c.deref_mut.ensures.value)
+
+pub backward_passes-requires-clause-some : goal.backward_passes-requires-clause-some
+backward_passes-requires-clause-some g c =
+    let n = log_size c.args.self.domain in
+    let values = c.args.self.values in
+    let width = g.M.MatrixShape.width values in
+    let holds = holds-rows c.in_ok-matrix.matrix n width (g.M.Matrix.rows values) c.in_ok-matrix.ensures.rows c.in_ok-matrix.ensures.width (g.met.M.Matrix.height_law values ∙ c.args.self.row_for_each_point) in
+    let long : length c.deref_mut.result.now ≡ 2 ^ n * width = ap length (c.deref_mut.ensures.value ∙ c.into_values-entries.ensures) ∙ holds.long in
+    let some : 1 * width ≤ 2 ^ n * width = mul-le-mul_right width (pow_pos n) in
+    omega (arith, long, some, g.met.M.Matrix.width_positive values)
+
+pub new-requires-clause-whole : goal.new-requires-clause-whole
+new-requires-clause-whole g c =
+    let n = log_size c.args.self.domain in
+    let values = c.args.self.values in
+    let width = g.M.MatrixShape.width values in
+    let holds = holds-rows c.in_ok-matrix.matrix n width (g.M.Matrix.rows values) c.in_ok-matrix.ensures.rows c.in_ok-matrix.ensures.width (g.met.M.Matrix.height_law values ∙ c.args.self.row_for_each_point) in
+    let old = c.into_values-entries.result in
+    let total : old.len ≡ 2 ^ n * width = old.ok.0 ∙ ap length c.into_values-entries.ensures ∙ holds.long in
+    ap (λ w. old.len % w) (c.width-width.ensures ∙ c.in_ok-matrix.ensures.width) ∙ whole old.len (2 ^ n) width total (g.met.M.Matrix.width_positive values)
 
 pub returns : goal.returns
 returns g c =
