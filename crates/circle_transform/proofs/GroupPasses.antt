@@ -82,6 +82,13 @@ module _ {F : Type 0} {fs : ℕ → List F} {n stride count : ℕ} (layers : Lay
   pub blocks-number : count < 2 ^ 64 → count / (stride * 2 ^ n % 18446744073709551616) ≡ blocks
   blocks-number small = ap (λ m. count / m) (block-size small) ∙ ap (λ m. m / (2 ^ n * stride)) (sym blocks-whole) ∙ mul-div_cancel blocks block-entries
 
+  -- each block ends within the entries
+  pub block-ends : (small : count < 2 ^ 64) (i : ℕ) → i < blocks → (i + 1) * (stride * 2 ^ n % 18446744073709551616) ≤ count
+  block-ends small i inside =
+      let size = stride * 2 ^ n % 18446744073709551616 in
+      let next : (i + 1) * size ≤ blocks * size = let le : i + 1 ≤ blocks = omega (arith, inside) in mul-le-mul_right size le in
+      omega (arith, next, ap (λ m. blocks * m) (block-size small) ∙ blocks-whole)
+
   -- each layer has a factor for each of their parts
   pub parts-of-blocks : (l : ℕ) → l < n → length (fs l) ≡ blocks * 2 ^ (n - 1 - l)
   parts-of-blocks l below =

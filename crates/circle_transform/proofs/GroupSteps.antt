@@ -68,6 +68,19 @@ block-layer twiddles stride count index l v xs long wide small below has read wh
       factors_are = ap (λ m. take m (drop (index * p) xs)) one ∙ ap (λ m. take m (drop (index * m) xs)) is_parts ∙ ap (λ ys. take (2 ^ (n - 1 - l)) (drop (index * 2 ^ (n - 1 - l)) ys)) items;
     }
 
+-- its factors end where they are read to
+pub factors-end : {F : Type 0} (twiddles : List (Vec F Global)) (stride count index l : ℕ) (v : Vec F Global) (xs : List F) → count ≡ 2 ^ length twiddles * stride → 1 ≤ stride → count < 2 ^ 64 →
+    l < length twiddles → HasFactors (length twiddles) index (factors_at twiddles) → v ≡ slice_index_or twiddles l v → xs ≡ v.items →
+    (index + 1) * (1 * 2 ^ (length twiddles - 1 - l) % 18446744073709551616) ≤ length xs
+factors-end twiddles stride count index l v xs long wide small below has read whole =
+    let n = length twiddles in
+    let few : 2 ^ n ≤ count = few-lanes n stride count long wide in
+    let fits : 2 ^ n < 2 ^ 64 = omega (arith, few, small) in
+    let exponent : n < 64 = small-exponent n fits in
+    let is_parts = one_shl (n - 1 - l) 64 (omega (arith, exponent)) in
+    let items : xs ≡ factors_at twiddles l = whole ∙ ap (λ w. w.items) read ∙ sym (get_or-map (λ w. w.items) twiddles l v [] below) in
+    omega (arith, ap (λ m. (index + 1) * m) is_parts, has l below, ap length items)
+
 -- a block's number is below the number of factors of any layer
 pub factors-long : {F : Type 0} (twiddles : List (Vec F Global)) (l index : ℕ) (v : Vec F Global) (xs : List F) → l < length twiddles → HasFactors (length twiddles) index (factors_at twiddles) →
     v ≡ slice_index_or twiddles l v → xs ≡ v.items → index + 1 ≤ length xs

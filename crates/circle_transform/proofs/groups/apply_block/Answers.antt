@@ -1,4 +1,4 @@
-use Rattle.std.proofs.Common.{rules, ◌≡◌, ◌≤◌, ◌<◌, ◌+◌, ◌-◌, ◌*◌, ◌^◌, ◌%◌, ◌∙◌, length, ap, arith}
+use Rattle.std.proofs.Common.{rules, ◌≡◌, ◌≤◌, ◌<◌, ◌+◌, ◌-◌, ◌*◌, ◌^◌, ◌%◌, ◌∙◌, length, sym, ap, arith}
 use Rattle.std.proofs.Math.Nat.{mul-le-mul_right}
 use Rattle.std.proofs.lemmas.Nat.{one_shl}
 use Rattle.circle_transform.specs.Butterflies.{count_of}
@@ -30,6 +30,29 @@ overflow_mul-group-in-loop-row g c =
     let stride = c.args.rows * c.args.width in
     let small : stride ≤ length c.args.block.now = lane-within (length c.args.twiddles.now) stride (length c.args.block.now) c.requires.length in
     search rules
+
+pub apply_group-requires-clause-group : goal.apply_group-requires-clause-group
+apply_group-requires-clause-group g c =
+    let next : (c.loop-row.row + 1) * c.args.width ≤ c.args.rows * c.args.width = let le : c.loop-row.row + 1 ≤ c.args.rows = omega (arith, c.loop-row-test.true) in mul-le-mul_right c.args.width le in
+    (c.requires.wide, omega (arith, next))
+
+pub apply_group-requires-clause-factors : goal.apply_group-requires-clause-factors
+apply_group-requires-clause-factors g c = c.requires.factors
+
+pub scale_group-requires-clause-group : goal.scale_group-requires-clause-group
+scale_group-requires-clause-group g c =
+    let next : (c.loop-row.row + 1) * c.args.width ≤ c.args.rows * c.args.width = let le : c.loop-row.row + 1 ≤ c.args.rows = omega (arith, c.loop-row-test.true) in mul-le-mul_right c.args.width le in
+    (c.requires.wide, omega (arith, next))
+
+pub scale_group-requires-clause-length : goal.scale_group-requires-clause-length
+scale_group-requires-clause-length g c =
+    let next : (c.loop-row.row + 1) * c.args.width ≤ c.args.rows * c.args.width = let le : c.loop-row.row + 1 ≤ c.args.rows = omega (arith, c.loop-row-test.true) in mul-le-mul_right c.args.width le in
+    let n = length c.args.twiddles.now in
+    let stride = c.args.rows * c.args.width in
+    let wide : 1 ≤ stride = omega (arith, next, c.requires.wide) in
+    let few : 2 ^ n ≤ length c.args.block.now = few-lanes n stride (length c.args.block.now) c.requires.length wide in
+    let fits : 2 ^ n < 2 ^ 64 = omega arith in
+    c.apply_group.auto.block ∙ c.loop-row.auto.block ∙ c.requires.length ∙ ap (λ m. m * stride) (sym (one_shl n 64 (small-exponent n fits)))
 
 pub apply_group-requires-clause-room : goal.apply_group-requires-clause-room
 apply_group-requires-clause-room g c =

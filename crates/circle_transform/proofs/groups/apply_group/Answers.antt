@@ -3,7 +3,7 @@ use Rattle.std.proofs.Math.Nat.{mul-le-mul_right}
 use Rattle.circle_transform.specs.Butterflies.{count_of}
 use Rattle.circle_transform.specs.Groups.{block_factors, ChangesRows, in_order}
 use Rattle.circle_transform.specs.Passes.{factors_at}
-use Rattle.circle_transform.proofs.GroupSteps.{small-exponent, few-lanes, factors-long, block-layer, layer-some, layer-entries, layer-pairs, rows-untouched, rows-layer}
+use Rattle.circle_transform.proofs.GroupSteps.{small-exponent, few-lanes, factors-long, factors-end, block-layer, layer-some, layer-entries, layer-pairs, rows-untouched, rows-layer}
 use Rattle.circle_transform.proofs.groups.apply_group.Goals as goal
 
 pub loop-done-init : goal.loop-done-init
@@ -39,6 +39,36 @@ overflow_shl-layer g c =
     let few : 2 ^ n ≤ length c.args.block.now = few-lanes n c.args.group.stride (length c.args.block.now) c.requires.length wide in
     let fits : 2 ^ n < 2 ^ 64 = omega arith in
     omega (arith, small-exponent n fits, c.next_layer-layer.ensures, g.met.B.Order.is_layer n c.loop-done.done c.loop-done-test.true)
+
+pub overflow_mul-factors : goal.overflow_mul-factors
+overflow_mul-factors g c =
+    let tw = c.args.twiddles.now in
+    let l = c.next_layer-layer.result in
+    let below : l < length tw = omega (arith, c.next_layer-layer.ensures, g.met.B.Order.is_layer (length tw) c.loop-done.done c.loop-done-test.true) in
+    let wide : 1 ≤ c.args.group.stride = omega (arith, c.requires.group.0, c.requires.group.1) in
+    let small : length c.args.block.now < 2 ^ 64 = omega arith in
+    let ends = factors-end tw c.args.group.stride (length c.args.block.now) c.args.index l c.index-twiddles-layer.result c.deref.result.now c.requires.length wide small below c.requires.factors c.index-twiddles-layer.is c.deref.ensures.value in
+    omega (arith, ends, c.deref.type_inv)
+
+pub overflow_mul-factors-in-loop-done : goal.overflow_mul-factors-in-loop-done
+overflow_mul-factors-in-loop-done g c =
+    let tw = c.args.twiddles.now in
+    let l = c.next_layer-layer.result in
+    let below : l < length tw = omega (arith, c.next_layer-layer.ensures, g.met.B.Order.is_layer (length tw) c.loop-done.done c.loop-done-test.true) in
+    let wide : 1 ≤ c.args.group.stride = omega (arith, c.requires.group.0, c.requires.group.1) in
+    let small : length c.args.block.now < 2 ^ 64 = omega arith in
+    let ends = factors-end tw c.args.group.stride (length c.args.block.now) c.args.index l c.index-twiddles-layer.result c.deref.result.now c.requires.length wide small below c.requires.factors c.index-twiddles-layer.is c.deref.ensures.value in
+    omega (arith, ends, c.deref.type_inv)
+
+pub slice_bounds-factors-end : goal.slice_bounds-factors-end
+slice_bounds-factors-end g c =
+    let tw = c.args.twiddles.now in
+    let l = c.next_layer-layer.result in
+    let below : l < length tw = omega (arith, c.next_layer-layer.ensures, g.met.B.Order.is_layer (length tw) c.loop-done.done c.loop-done-test.true) in
+    let wide : 1 ≤ c.args.group.stride = omega (arith, c.requires.group.0, c.requires.group.1) in
+    let small : length c.args.block.now < 2 ^ 64 = omega arith in
+    let ends = factors-end tw c.args.group.stride (length c.args.block.now) c.args.index l c.index-twiddles-layer.result c.deref.result.now c.requires.length wide small below c.requires.factors c.index-twiddles-layer.is c.deref.ensures.value in
+    omega (arith, ends)
 
 pub combine_parts-requires-clause-some : goal.combine_parts-requires-clause-some
 combine_parts-requires-clause-some g c =

@@ -5,7 +5,7 @@ use borrow.Rule.Slice.PartMut.{mid_of}
 use Rattle.circle_transform.specs.Butterflies.{count_of}
 use Rattle.circle_transform.specs.Passes.{factors_at}
 use Rattle.circle_transform.proofs.GroupSteps.{small-exponent, few-lanes, lane-within, rows-some}
-use Rattle.circle_transform.proofs.GroupPasses.{LayersOf, blocks, blocks-whole, block-entries, block-size, blocks-number, lane-some, block-within, block-has, pairs-counted, pairs-half, pairs-room, blocks-none, blocks-more, blocks-all}
+use Rattle.circle_transform.proofs.GroupPasses.{LayersOf, blocks, blocks-whole, block-entries, block-size, blocks-number, block-ends, lane-some, block-within, block-has, pairs-counted, pairs-half, pairs-room, blocks-none, blocks-more, blocks-all}
 use Rattle.circle_transform.proofs.groups.apply_pass.Goals as goal
 
 pub overflow_mul-size : goal.overflow_mul-size
@@ -54,17 +54,49 @@ loop-index-init g c =
 
 pub offset_bounds-entries-index : goal.offset_bounds-entries-index
 offset_bounds-entries-index g c =
+    let start : c.loop-index.index * (c.args.rows * c.args.width * 2 ^ length c.args.twiddles.now % 18446744073709551616) ≤ length c.loop-index.entries =
     let tw = c.args.twiddles.now in
     let n = length tw in
     let stride = c.args.rows * c.args.width in
     let count = length c.args.entries.now in
     let layers : LayersOf (factors_at tw) n stride count = record { some = c.requires.some; some_layer = c.requires.some_layer; are = c.requires.layers } in
     let small : count < 2 ^ 64 = omega arith in
-    let size = (stride * 2 ^ n % 18446744073709551616) in
-    let whole : (blocks layers) * size ≡ count = ap (λ m. (blocks layers) * m) (block-size layers small) ∙ blocks-whole layers in
-    let upto : c.loop-index.index * size ≤ (blocks layers) * size = let le : c.loop-index.index ≤ blocks layers = omega (arith, blocks-number layers small, c.loop-index-test.true) in mul-le-mul_right size le in
-    let start : c.loop-index.index * size ≤ length c.loop-index.entries = omega (arith, upto, whole, c.loop-index.auto.entries) in
+    let ends = block-ends layers small c.loop-index.index (omega (arith, blocks-number layers small, c.loop-index-test.true)) in
+    omega (arith, ends, c.loop-index.auto.entries) in
     search rules
+
+pub overflow_mul-block : goal.overflow_mul-block
+overflow_mul-block g c =
+    let tw = c.args.twiddles.now in
+    let n = length tw in
+    let stride = c.args.rows * c.args.width in
+    let count = length c.args.entries.now in
+    let layers : LayersOf (factors_at tw) n stride count = record { some = c.requires.some; some_layer = c.requires.some_layer; are = c.requires.layers } in
+    let small : count < 2 ^ 64 = omega arith in
+    let ends = block-ends layers small c.loop-index.index (omega (arith, blocks-number layers small, c.loop-index-test.true)) in
+    omega (arith, ends, small)
+
+pub overflow_mul-block-in-loop-index : goal.overflow_mul-block-in-loop-index
+overflow_mul-block-in-loop-index g c =
+    let tw = c.args.twiddles.now in
+    let n = length tw in
+    let stride = c.args.rows * c.args.width in
+    let count = length c.args.entries.now in
+    let layers : LayersOf (factors_at tw) n stride count = record { some = c.requires.some; some_layer = c.requires.some_layer; are = c.requires.layers } in
+    let small : count < 2 ^ 64 = omega arith in
+    let ends = block-ends layers small c.loop-index.index (omega (arith, blocks-number layers small, c.loop-index-test.true)) in
+    omega (arith, ends, small)
+
+pub slice_bounds-block-end : goal.slice_bounds-block-end
+slice_bounds-block-end g c =
+    let tw = c.args.twiddles.now in
+    let n = length tw in
+    let stride = c.args.rows * c.args.width in
+    let count = length c.args.entries.now in
+    let layers : LayersOf (factors_at tw) n stride count = record { some = c.requires.some; some_layer = c.requires.some_layer; are = c.requires.layers } in
+    let small : count < 2 ^ 64 = omega arith in
+    let ends = block-ends layers small c.loop-index.index (omega (arith, blocks-number layers small, c.loop-index-test.true)) in
+    omega (arith, ends, c.loop-index.auto.entries)
 
 pub apply_block-requires-clause-some : goal.apply_block-requires-clause-some
 apply_block-requires-clause-some g c =

@@ -1,4 +1,5 @@
-use Rattle.std.proofs.Common.{◌≡◌, ◌+◌, ◌-◌, ◌*◌, ◌∙◌, length, arith, refl}
+use Rattle.std.proofs.Common.{◌≡◌, ◌≤◌, ◌+◌, ◌-◌, ◌*◌, ◌∙◌, length, arith, refl, rules}
+use Rattle.circle_transform.proofs.Lanes.{row-fits}
 use Rattle.circle_transform.proofs.LaneWrites.{paired-none, paired-more, paired-all}
 use Rattle.circle_transform.proofs.groups.combine_lanes.Goals as goal
 
@@ -9,6 +10,62 @@ loop-lane-init g c =
       rows = paired-none g.F.Operations.ops.zero g.B.Butterfly.lower g.B.Butterfly.upper c.args.factor r.offset r.width r.stride c.args.half c.split_at_mut-lows.result.0.now c.split_at_mut-lows.result.1.now;
       count = omega arith;
     }
+
+pub overflow_mul-start : goal.overflow_mul-start
+overflow_mul-start g c =
+    let r = c.args.group in
+    let i = c.loop-lane.lane in
+    let fits : i * r.stride + r.offset + r.width ≤ length c.loop-lane.lows =
+    row-fits g.F.Operations.ops.zero r.offset r.width r.stride c.args.half i (i * r.stride + r.offset) r.width refl refl c.requires.group.1 c.loop-lane-test.true c.loop-lane.lows (c.loop-lane.auto.lows ∙ c.split_at_mut-lows.ensures.front_len) in
+    omega (arith, fits)
+
+pub overflow_add-start : goal.overflow_add-start
+overflow_add-start g c =
+    let r = c.args.group in
+    let i = c.loop-lane.lane in
+    let fits : i * r.stride + r.offset + r.width ≤ length c.loop-lane.lows =
+    row-fits g.F.Operations.ops.zero r.offset r.width r.stride c.args.half i (i * r.stride + r.offset) r.width refl refl c.requires.group.1 c.loop-lane-test.true c.loop-lane.lows (c.loop-lane.auto.lows ∙ c.split_at_mut-lows.ensures.front_len) in
+    omega (arith, fits)
+
+pub overflow_add-end : goal.overflow_add-end
+overflow_add-end g c =
+    let r = c.args.group in
+    let i = c.loop-lane.lane in
+    let fits : i * r.stride + r.offset + r.width ≤ length c.loop-lane.lows =
+    row-fits g.F.Operations.ops.zero r.offset r.width r.stride c.args.half i (i * r.stride + r.offset) r.width refl refl c.requires.group.1 c.loop-lane-test.true c.loop-lane.lows (c.loop-lane.auto.lows ∙ c.split_at_mut-lows.ensures.front_len) in
+    omega (arith, fits)
+
+pub slice_bounds-combine_rows-end : goal.slice_bounds-combine_rows-end
+slice_bounds-combine_rows-end g c =
+    let r = c.args.group in
+    let i = c.loop-lane.lane in
+    let fits : i * r.stride + r.offset + r.width ≤ length c.loop-lane.lows =
+    row-fits g.F.Operations.ops.zero r.offset r.width r.stride c.args.half i (i * r.stride + r.offset) r.width refl refl c.requires.group.1 c.loop-lane-test.true c.loop-lane.lows (c.loop-lane.auto.lows ∙ c.split_at_mut-lows.ensures.front_len) in
+    omega (arith, fits)
+
+pub slice_bounds-combine_rows-end-in-loop-lane : goal.slice_bounds-combine_rows-end-in-loop-lane
+slice_bounds-combine_rows-end-in-loop-lane g c =
+    let r = c.args.group in
+    let i = c.loop-lane.lane in
+    let fits : i * r.stride + r.offset + r.width ≤ length c.loop-lane.highs =
+    row-fits g.F.Operations.ops.zero r.offset r.width r.stride c.args.half i (i * r.stride + r.offset) r.width refl refl c.requires.group.1 c.loop-lane-test.true c.loop-lane.highs (omega (arith, c.loop-lane.auto.highs, c.requires.length, c.split_at_mut-lows.ensures.back_len)) in
+    omega (arith, fits)
+
+pub offset_bounds-lows-start : goal.offset_bounds-lows-start
+offset_bounds-lows-start g c =
+    let r = c.args.group in
+    let i = c.loop-lane.lane in
+    let fits : i * r.stride + r.offset + r.width ≤ length c.loop-lane.lows =
+    row-fits g.F.Operations.ops.zero r.offset r.width r.stride c.args.half i (i * r.stride + r.offset) r.width refl refl c.requires.group.1 c.loop-lane-test.true c.loop-lane.lows (c.loop-lane.auto.lows ∙ c.split_at_mut-lows.ensures.front_len) in
+    search rules
+
+pub offset_bounds-highs-start : goal.offset_bounds-highs-start
+offset_bounds-highs-start g c =
+    let r = c.args.group in
+    let i = c.loop-lane.lane in
+    let fits : i * r.stride + r.offset + r.width ≤ length c.loop-lane.highs =
+    row-fits g.F.Operations.ops.zero r.offset r.width r.stride c.args.half i (i * r.stride + r.offset) r.width refl refl c.requires.group.1 c.loop-lane-test.true c.loop-lane.highs (omega (arith, c.loop-lane.auto.highs, c.requires.length, c.split_at_mut-lows.ensures.back_len)) in
+    search rules
 
 pub combine_rows-requires-clause-room : goal.combine_rows-requires-clause-room
 combine_rows-requires-clause-room g c = omega (arith, c.loop-lane.invariant.count, c.loop-lane-test.true, c.requires.room)

@@ -29,6 +29,36 @@ loop-i-init g c =
       count = omega arith;
     }
 
+pub overflow_mul-part : goal.overflow_mul-part
+overflow_mul-part g c =
+    let i = c.loop-i.i in
+    let size = (c.args.half + c.args.half) * c.args.group.stride in
+    let next : (i + 1) * size ≤ length c.args.factors.now * size = let le : i + 1 ≤ length c.args.factors.now = omega (arith, c.loop-i-test.true) in mul-le-mul_right size le in
+    omega (arith, next, c.loop-i.auto.block, c.requires.length)
+
+pub overflow_mul-part-in-loop-i : goal.overflow_mul-part-in-loop-i
+overflow_mul-part-in-loop-i g c =
+    let i = c.loop-i.i in
+    let size = (c.args.half + c.args.half) * c.args.group.stride in
+    let next : (i + 1) * size ≤ length c.args.factors.now * size = let le : i + 1 ≤ length c.args.factors.now = omega (arith, c.loop-i-test.true) in mul-le-mul_right size le in
+    omega (arith, next, c.loop-i.auto.block, c.requires.length)
+
+pub slice_bounds-part-end : goal.slice_bounds-part-end
+slice_bounds-part-end g c =
+    let i = c.loop-i.i in
+    let size = (c.args.half + c.args.half) * c.args.group.stride in
+    let next : (i + 1) * size ≤ length c.args.factors.now * size = let le : i + 1 ≤ length c.args.factors.now = omega (arith, c.loop-i-test.true) in mul-le-mul_right size le in
+    omega (arith, next, c.loop-i.auto.block, c.requires.length)
+
+pub offset_bounds-block-i : goal.offset_bounds-block-i
+offset_bounds-block-i g c =
+    let i = c.loop-i.i in
+    let size = (c.args.half + c.args.half) * c.args.group.stride in
+    let start : i * size ≤ length c.loop-i.block =
+    let next : (i + 1) * size ≤ length c.args.factors.now * size = let le : i + 1 ≤ length c.args.factors.now = omega (arith, c.loop-i-test.true) in mul-le-mul_right size le in
+    omega (arith, next, c.loop-i.auto.block, c.requires.length) in
+    search rules
+
 pub combine_lanes-requires-clause-room : goal.combine_lanes-requires-clause-room
 combine_lanes-requires-clause-room g c =
     let next : (c.loop-i.i + 1) * c.args.half ≤ length c.args.factors.now * c.args.half = let le : c.loop-i.i + 1 ≤ length c.args.factors.now = omega (arith, c.loop-i-test.true) in mul-le-mul_right c.args.half le in

@@ -10,6 +10,38 @@ loop-lane-init g c =
     let r = c.args.group in
     rows-none k.zero r.offset r.width r.stride c.args.lanes (mapped_column k.zero (λ a. k.mul a c.in-Some.factor) r.offset r.width r.stride c.args.lanes c.args.block.now) c.args.block.now
 
+pub overflow_mul-start : goal.overflow_mul-start
+overflow_mul-start g c =
+    let r = c.args.group in
+    let i = c.loop-lane.lane in
+    let fits : i * r.stride + r.offset + r.width ≤ length c.loop-lane.block =
+    row-fits g.F.Operations.ops.zero r.offset r.width r.stride c.args.lanes i (i * r.stride + r.offset) r.width refl refl c.requires.group.1 c.loop-lane-test.true c.loop-lane.block (c.loop-lane.auto.block ∙ c.requires.length) in
+    omega (arith, fits)
+
+pub overflow_add-start : goal.overflow_add-start
+overflow_add-start g c =
+    let r = c.args.group in
+    let i = c.loop-lane.lane in
+    let fits : i * r.stride + r.offset + r.width ≤ length c.loop-lane.block =
+    row-fits g.F.Operations.ops.zero r.offset r.width r.stride c.args.lanes i (i * r.stride + r.offset) r.width refl refl c.requires.group.1 c.loop-lane-test.true c.loop-lane.block (c.loop-lane.auto.block ∙ c.requires.length) in
+    omega (arith, fits)
+
+pub overflow_add-start-in-loop-lane : goal.overflow_add-start-in-loop-lane
+overflow_add-start-in-loop-lane g c =
+    let r = c.args.group in
+    let i = c.loop-lane.lane in
+    let fits : i * r.stride + r.offset + r.width ≤ length c.loop-lane.block =
+    row-fits g.F.Operations.ops.zero r.offset r.width r.stride c.args.lanes i (i * r.stride + r.offset) r.width refl refl c.requires.group.1 c.loop-lane-test.true c.loop-lane.block (c.loop-lane.auto.block ∙ c.requires.length) in
+    omega (arith, fits)
+
+pub slice_bounds-scale_entries-end : goal.slice_bounds-scale_entries-end
+slice_bounds-scale_entries-end g c =
+    let r = c.args.group in
+    let i = c.loop-lane.lane in
+    let fits : i * r.stride + r.offset + r.width ≤ length c.loop-lane.block =
+    row-fits g.F.Operations.ops.zero r.offset r.width r.stride c.args.lanes i (i * r.stride + r.offset) r.width refl refl c.requires.group.1 c.loop-lane-test.true c.loop-lane.block (c.loop-lane.auto.block ∙ c.requires.length) in
+    omega (arith, fits)
+
 pub offset_bounds-block-start : goal.offset_bounds-block-start
 offset_bounds-block-start g c =
     let r = c.args.group in

@@ -1,9 +1,46 @@
-use Rattle.std.proofs.Common.{◌≡◌, ◌+◌, ◌*◌, ◌≤◌, sym, ◌∙◌, arith, length, take, drop, ◌-◌, refl, length-drop}
+use Rattle.std.proofs.Common.{rules, ◌≡◌, ◌+◌, ◌*◌, ◌≤◌, sym, ◌∙◌, arith, length, take, drop, ◌-◌, refl, length-drop}
 use Rattle.std.proofs.lemmas.List.{length-take-le}
 use Rattle.std.proofs.Math.Nat.{mul-le-mul_right}
 use Rattle.circle_domain.specs.Layers.{layer}
 use Rattle.circle_domain.proofs.Layered.{layer-more, block-end}
 use Rattle.circle_transform.proofs.layers.apply_layer.Goals as goal
+
+pub overflow_mul-start : goal.overflow_mul-start
+overflow_mul-start g c =
+    let i = c.loop-i.i in
+    let len = c.args.half + c.args.half in
+    let below : (i + 1) * len ≤ length c.args.factors.now * len = let le : i + 1 ≤ length c.args.factors.now = omega (arith, c.loop-i-test.true) in mul-le-mul_right len le in
+    omega (arith, below, c.requires, c.loop-i.auto.values)
+
+pub overflow_add-block : goal.overflow_add-block
+overflow_add-block g c =
+    let i = c.loop-i.i in
+    let len = c.args.half + c.args.half in
+    let below : (i + 1) * len ≤ length c.args.factors.now * len = let le : i + 1 ≤ length c.args.factors.now = omega (arith, c.loop-i-test.true) in mul-le-mul_right len le in
+    omega (arith, below, c.requires, c.loop-i.auto.values)
+
+pub overflow_add-block-in-loop-i : goal.overflow_add-block-in-loop-i
+overflow_add-block-in-loop-i g c =
+    let i = c.loop-i.i in
+    let len = c.args.half + c.args.half in
+    let below : (i + 1) * len ≤ length c.args.factors.now * len = let le : i + 1 ≤ length c.args.factors.now = omega (arith, c.loop-i-test.true) in mul-le-mul_right len le in
+    omega (arith, below, c.requires, c.loop-i.auto.values)
+
+pub slice_bounds-block-end : goal.slice_bounds-block-end
+slice_bounds-block-end g c =
+    let i = c.loop-i.i in
+    let len = c.args.half + c.args.half in
+    let below : (i + 1) * len ≤ length c.args.factors.now * len = let le : i + 1 ≤ length c.args.factors.now = omega (arith, c.loop-i-test.true) in mul-le-mul_right len le in
+    omega (arith, below, c.requires, c.loop-i.auto.values)
+
+pub offset_bounds-values-start : goal.offset_bounds-values-start
+offset_bounds-values-start g c =
+    let i = c.loop-i.i in
+    let len = c.args.half + c.args.half in
+    let start : i * len ≤ length c.loop-i.values =
+    let below : (i + 1) * len ≤ length c.args.factors.now * len = let le : i + 1 ≤ length c.args.factors.now = omega (arith, c.loop-i-test.true) in mul-le-mul_right len le in
+    omega (arith, below, c.requires, c.loop-i.auto.values) in
+    search rules
 
 pub loop-i-preserved : goal.loop-i-preserved
 loop-i-preserved g c =

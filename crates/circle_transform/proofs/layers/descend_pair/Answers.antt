@@ -1,9 +1,35 @@
-use Rattle.std.proofs.Common.{◌≡◌, ◌+◌, ◌*◌, ◌≤◌, sym, ◌∙◌, ap, arith, length, take, drop, ◌-◌, ◌++◌, length-drop}
+use Rattle.std.proofs.Common.{rules, ◌≡◌, ◌+◌, ◌*◌, ◌≤◌, sym, ◌∙◌, ap, arith, length, take, drop, ◌-◌, ◌++◌, length-drop}
 use Rattle.std.proofs.lemmas.List.{length-take-le}
 use Rattle.std.proofs.Math.Nat.{mul-le-mul_right}
 use Rattle.circle_transform.proofs.BlockParts.{part-more, part-end}
 use Rattle.circle_transform.proofs.PairBlocks.{descend_rest, descend_rest-more, descend_rest-none}
 use Rattle.circle_transform.proofs.layers.descend_pair.Goals as goal
+
+pub overflow_mul-start-in-loop-i : goal.overflow_mul-start-in-loop-i
+overflow_mul-start-in-loop-i g c =
+    let i = c.loop-i.i in
+    let below : (i + 1) * (4 * c.args.quarter) ≤ length c.args.uppers.now * (4 * c.args.quarter) = let le : i + 1 ≤ length c.args.uppers.now = omega (arith, c.loop-i-test.true) in mul-le-mul_right (4 * c.args.quarter) le in
+    omega (arith, below, c.requires.values, c.loop-i.auto.values)
+
+pub overflow_add-block : goal.overflow_add-block
+overflow_add-block g c =
+    let i = c.loop-i.i in
+    let below : (i + 1) * (4 * c.args.quarter) ≤ length c.args.uppers.now * (4 * c.args.quarter) = let le : i + 1 ≤ length c.args.uppers.now = omega (arith, c.loop-i-test.true) in mul-le-mul_right (4 * c.args.quarter) le in
+    omega (arith, below, c.requires.values, c.loop-i.auto.values)
+
+pub slice_bounds-block-end : goal.slice_bounds-block-end
+slice_bounds-block-end g c =
+    let i = c.loop-i.i in
+    let below : (i + 1) * (4 * c.args.quarter) ≤ length c.args.uppers.now * (4 * c.args.quarter) = let le : i + 1 ≤ length c.args.uppers.now = omega (arith, c.loop-i-test.true) in mul-le-mul_right (4 * c.args.quarter) le in
+    omega (arith, below, c.requires.values, c.loop-i.auto.values)
+
+pub offset_bounds-values-start : goal.offset_bounds-values-start
+offset_bounds-values-start g c =
+    let i = c.loop-i.i in
+    let start : i * (4 * c.args.quarter) ≤ length c.loop-i.values =
+    let below : (i + 1) * (4 * c.args.quarter) ≤ length c.args.uppers.now * (4 * c.args.quarter) = let le : i + 1 ≤ length c.args.uppers.now = omega (arith, c.loop-i-test.true) in mul-le-mul_right (4 * c.args.quarter) le in
+    omega (arith, below, c.requires.values, c.loop-i.auto.values) in
+    search rules
 
 pub loop-i-preserved : goal.loop-i-preserved
 loop-i-preserved g c =

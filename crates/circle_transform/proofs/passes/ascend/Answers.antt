@@ -1,10 +1,19 @@
-use Rattle.std.proofs.Common.{◌≡◌, ◌<◌, ◌+◌, ◌*◌, ◌%◌, sym, ◌∙◌, ap, arith, length}
+use Rattle.std.proofs.Common.{◌≡◌, ◌<◌, ◌+◌, ◌*◌, ◌%◌, ◌^◌, sym, ◌∙◌, ap, arith, length}
 use Rattle.std.proofs.lemmas.List.{map-id}
 use Rattle.circle_domain.specs.Layers.{layer}
 use Rattle.circle_transform.specs.Parts.{factors_of_part}
-use Rattle.circle_transform.proofs.BlockSizes.{upper-blocks, lower-blocks}
+use Rattle.circle_transform.proofs.BlockSizes.{block-fits, upper-blocks, lower-blocks}
 use Rattle.circle_transform.proofs.BlockLayers.{ascend-step}
 use Rattle.circle_transform.proofs.passes.ascend.Goals as goal
+
+pub half_of-requires-clause-fits : goal.half_of-requires-clause-fits
+half_of-requires-clause-fits g c =
+    let count = length c.args.values.now in
+    let twiddles = c.args.twiddles.now in
+    let l = length twiddles % 2 + 2 * c.loop-pair.pair in
+    let here : l < length twiddles = omega (arith, c.loop-pair-test.true) in
+    let small : count < 2 ^ 64 = omega arith in
+    omega (arith, block-fits c.args.width count c.args.part twiddles c.requires.wide c.requires.some c.requires.layers l here, small)
 
 pub ascend_pair-requires-clause-values : goal.ascend_pair-requires-clause-values
 ascend_pair-requires-clause-values g c =

@@ -1,8 +1,17 @@
-use Rattle.std.proofs.Common.{◌≡◌, ◌<◌, ◌+◌, ◌-◌, ◌*◌, ◌%◌, sym, ◌∙◌, ap, arith, length}
+use Rattle.std.proofs.Common.{◌≡◌, ◌<◌, ◌+◌, ◌-◌, ◌*◌, ◌%◌, ◌^◌, sym, ◌∙◌, ap, arith, length}
 use Rattle.circle_transform.specs.Parts.{factors_of_part}
-use Rattle.circle_transform.proofs.BlockSizes.{upper-blocks, lower-blocks}
+use Rattle.circle_transform.proofs.BlockSizes.{block-fits, upper-blocks, lower-blocks}
 use Rattle.circle_transform.proofs.BlockLayers.{descend-step}
 use Rattle.circle_transform.proofs.passes.descend.Goals as goal
+
+pub half_of-requires-clause-fits : goal.half_of-requires-clause-fits
+half_of-requires-clause-fits g c =
+    let count = length c.args.values.now in
+    let twiddles = c.args.twiddles.now in
+    let l = length twiddles % 2 + 2 * (c.loop-pair.pair - 1) in
+    let here : l < length twiddles = omega (arith, c.loop-pair-test.true, c.loop-pair.auto.pair) in
+    let small : count < 2 ^ 64 = omega arith in
+    omega (arith, block-fits c.args.width count c.args.part twiddles c.requires.wide c.requires.some c.requires.layers l here, small)
 
 pub descend_pair-requires-clause-values : goal.descend_pair-requires-clause-values
 descend_pair-requires-clause-values g c =

@@ -30,6 +30,42 @@ offset_bounds-entries-start g c =
     let within : i * c.half_of-size.result ≤ length c.loop-part.entries = omega (arith, fit, start, c.loop-part.auto.entries) in
     search rules
 
+pub overflow_mul-start : goal.overflow_mul-start
+overflow_mul-start g c =
+    let width = c.args.width in
+    let twiddles = c.args.twiddles.now in
+    let count = length c.args.entries.now in
+    let i = c.loop-part.part in
+    let some_layer : 0 < length twiddles = grind (arith, c.is_empty.ensures, c.if-is_empty.false) in
+    let here : i < count / size width twiddles = omega (arith, c.loop-part-test.true, ap (λ s. count / s) c.half_of-size.ensures) in
+    let fit : i * size width twiddles + size width twiddles ≤ count = part-fits width count twiddles c.requires.wide c.requires.layers some_layer i here in
+    let start : i * c.half_of-size.result ≡ i * size width twiddles = ap (λ s. i * s) c.half_of-size.ensures in
+    omega (arith, fit, start, c.half_of-size.ensures, c.loop-part.auto.entries)
+
+pub overflow_add-start : goal.overflow_add-start
+overflow_add-start g c =
+    let width = c.args.width in
+    let twiddles = c.args.twiddles.now in
+    let count = length c.args.entries.now in
+    let i = c.loop-part.part in
+    let some_layer : 0 < length twiddles = grind (arith, c.is_empty.ensures, c.if-is_empty.false) in
+    let here : i < count / size width twiddles = omega (arith, c.loop-part-test.true, ap (λ s. count / s) c.half_of-size.ensures) in
+    let fit : i * size width twiddles + size width twiddles ≤ count = part-fits width count twiddles c.requires.wide c.requires.layers some_layer i here in
+    let start : i * c.half_of-size.result ≡ i * size width twiddles = ap (λ s. i * s) c.half_of-size.ensures in
+    omega (arith, fit, start, c.half_of-size.ensures, c.loop-part.auto.entries)
+
+pub slice_bounds-descend-end : goal.slice_bounds-descend-end
+slice_bounds-descend-end g c =
+    let width = c.args.width in
+    let twiddles = c.args.twiddles.now in
+    let count = length c.args.entries.now in
+    let i = c.loop-part.part in
+    let some_layer : 0 < length twiddles = grind (arith, c.is_empty.ensures, c.if-is_empty.false) in
+    let here : i < count / size width twiddles = omega (arith, c.loop-part-test.true, ap (λ s. count / s) c.half_of-size.ensures) in
+    let fit : i * size width twiddles + size width twiddles ≤ count = part-fits width count twiddles c.requires.wide c.requires.layers some_layer i here in
+    let start : i * c.half_of-size.result ≡ i * size width twiddles = ap (λ s. i * s) c.half_of-size.ensures in
+    omega (arith, fit, start, c.half_of-size.ensures, c.loop-part.auto.entries)
+
 pub descend-requires-clause-layers : goal.descend-requires-clause-layers
 descend-requires-clause-layers g c =
     let width = c.args.width in

@@ -1,8 +1,18 @@
-use Rattle.std.proofs.Common.{◌≡◌, ◌+◌, ◌*◌, ◌/◌, ◌^◌, sym, ◌∙◌, ap, arith, length}
+use Rattle.std.proofs.Common.{◌≡◌, ◌<◌, ◌+◌, ◌*◌, ◌/◌, ◌^◌, sym, ◌∙◌, ap, arith, length}
 use Rattle.circle_transform.specs.Passes.{factors_at}
 use Rattle.circle_transform.specs.Parts.{part_of}
-use Rattle.circle_transform.proofs.BlockSizes.{blocks-fit, factors-read}
+use Rattle.circle_transform.proofs.BlockSizes.{block-fits, blocks-fit, factors-read}
 use Rattle.circle_transform.proofs.passes.factors_of.Goals as goal
+
+pub half_of-requires-clause-fits : goal.half_of-requires-clause-fits
+half_of-requires-clause-fits g c =
+    let small : c.args.count < 2 ^ 64 = omega arith in
+    omega (arith, block-fits c.args.width c.args.count c.args.part c.args.twiddles.now c.requires.wide c.requires.some c.requires.layers c.args.layer c.requires.within, small)
+
+pub overflow_mul-half_of : goal.overflow_mul-half_of
+overflow_mul-half_of g c =
+    let small : c.args.count < 2 ^ 64 = omega arith in
+    omega (arith, c.half_of.ensures, block-fits c.args.width c.args.count c.args.part c.args.twiddles.now c.requires.wide c.requires.some c.requires.layers c.args.layer c.requires.within, small)
 
 pub nth_part-requires : goal.nth_part-requires
 nth_part-requires g c =

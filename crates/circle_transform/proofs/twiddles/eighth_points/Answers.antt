@@ -1,4 +1,4 @@
-use Rattle.std.proofs.Common.{◌≡◌, ℕ, ◌<◌, ◌-◌, ◌+◌, ◌++◌, ◌∙◌, sym, ap, map, length, slice_index_or, arith}
+use Rattle.std.proofs.Common.{◌≡◌, ℕ, ◌<◌, ◌-◌, ◌+◌, ◌++◌, ◌∙◌, sym, ap, map, length, slice_index_or, arith, [], ◌∷◌}
 use Rattle.std.proofs.Math.ListN.{get_or-map}
 use Rattle.std.proofs.lemmas.List.{length-map}
 use Rattle.std.proofs.lemmas.List.FromFn.{get_or-map-range_with_len, length-map-range_with_len}
@@ -8,6 +8,11 @@ use Rattle.circle_domain.specs.Layers.{block_starts}
 use Rattle.circle_point.specs.Point.{coordinates}
 use Rattle.circle_transform.proofs.QuarterTurns.{block_starts-more}
 use Rattle.circle_transform.proofs.twiddles.eighth_points.Goals as goal
+
+pub loop-log_order-init : goal.loop-log_order-init
+loop-log_order-init g c =
+    ap (map coordinates) (c.in_ok-push.ensures.items ∙ ap (λ ps. ps ++ c.shift.result ∷ []) c.in_ok-points.ensures.items)
+    ∙ ap (λ p. p ∷ []) c.shift.ensures
 
 pub index-requires : goal.index-requires
 index-requires g c =
