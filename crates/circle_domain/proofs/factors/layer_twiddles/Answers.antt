@@ -92,3 +92,9 @@ loop-layer-preserved g c =
     ∙ ap (λ xs. xs ++ factors.items ∷ []) c.loop-layer.invariant
     ∙ ap (λ y. map f (range_with_len 0 layer) ++ y ∷ []) (made ∙ ap f (let z : layer ≡ 0 + layer = omega arith in z))
     ∙ sym (range-more f 0 layer)
+
+pub returns : goal.returns
+returns g c =
+    let f = layer_factors g.F.Operations.ops g.F.ComplexExtendable.generators (log_size c.args.domain) (shift_of c.args.domain) in
+    let end : c.loop-layer.layer ≡ log_size c.args.domain = omega (arith, c.loop-layer-test.false, c.log_n-layer-end.ensures, c.requires.positive) in
+    c.loop-layer.invariant ∙ ap (λ m. map f (range_with_len 0 m)) end

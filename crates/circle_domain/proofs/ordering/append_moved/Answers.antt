@@ -1,6 +1,6 @@
-use Rattle.std.proofs.Common.{◌≡◌, ◌<◌, ◌++◌, [], ◌∷◌, ◌∙◌, sym, ap, map, take, slice_index_or, length, arith, append_assoc}
+use Rattle.std.proofs.Common.{◌≡◌, ◌<◌, ◌≤◌, ◌++◌, [], ◌∷◌, ◌∙◌, sym, ap, map, take, slice_index_or, length, arith, append_assoc}
 use Rattle.std.proofs.Math.ListN.{get_or-map}
-use Rattle.std.proofs.lemmas.List.{length-map, take_more, map-append, get_or_append_left}
+use Rattle.std.proofs.lemmas.List.{length-map, take_more, take_all, map-append, get_or_append_left}
 use Rattle.circle_field.specs.Circle.{Coordinates, plus}
 use Rattle.circle_point.specs.Point.{coordinates}
 use Rattle.circle_domain.proofs.ordering.append_moved.Goals as goal
@@ -28,3 +28,11 @@ loop-i-preserved g c =
           ∙ ap (λ xs. before ++ xs) (sym (map-append f (take i before) (slice_index_or before i (coordinates p) ∷ [])) ∙ ap (map f) (sym (take_more before i (coordinates p) here)));
       long = omega arith;
     }
+
+pub returns : goal.returns
+returns g c =
+    let f = λ (p : Coordinates g.row.F.Denot). plus g.F.Operations.ops p (coordinates c.args.step) in
+    let before = map coordinates c.args.points.now.items in
+    let end : length before ≤ c.loop-i.i =
+    omega (arith, c.loop-i-test.false, c.len-i-end.ensures, length-map c.args.points.now.items coordinates, c.args.points.now.ok.0) in
+    c.loop-i.invariant.moved ∙ ap (λ xs. before ++ map f xs) (take_all c.loop-i.i before end)

@@ -1,4 +1,4 @@
-use Rattle.std.proofs.Common.{◌≡◌, Some, ◌∙◌, sym, ap, refl, inr, ⊎_elim}
+use Rattle.std.proofs.Common.{◌≡◌, Some, ◌∙◌, sym, ap, subst, refl, inl, inr, ⊎_elim, IsNone}
 use Rattle.std.proofs.lemmas.Bool.{false≢true}
 use Rattle.circle_field.specs.Circle.{Coordinates, plus, lifted}
 use Rattle.circle_point.specs.Point.{coordinates}
@@ -47,3 +47,19 @@ returns-clause-walk g c = λ standard i p q here next e.
     some_of c.to_projective_line.result (to_line l (coordinates c.add.result)) (λ none. finite (sym (ap (λ (r : Coordinates g.row.Ext.Denot). r.x) same) ∙ c.to_projective_line.ensures.none.0 none))
     c.to_projective_line.ensures.value
     ∙ ap (λ (r : Coordinates g.row.Ext.Denot). Some (to_line l r)) same
+
+pub returns-in_err-point-clause-none : goal.returns-in_err-point-clause-none
+returns-in_err-point-clause-none g c = (
+  λ none. inr (inl (λ finite. finite (c.in_err-point.ensures.none.0 refl))),
+  λ _. subst IsNone (sym c.from_residual.ensures) refl,
+)
+
+pub returns-then-not-is_standard-clause-none : goal.returns-then-not-is_standard-clause-none
+returns-then-not-is_standard-clause-none g c = (
+  λ none. inl (λ standard. false≢true (sym c.if-not-is_standard.true ∙ c.is_standard.ensures.1 standard)),
+  λ _. refl,
+)
+
+pub returns-then-not-is_standard-clause-walk : goal.returns-then-not-is_standard-clause-walk
+returns-then-not-is_standard-clause-walk g c = λ standard.
+    absurd (false≢true (sym c.if-not-is_standard.true ∙ c.is_standard.ensures.1 standard))
