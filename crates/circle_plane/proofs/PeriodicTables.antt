@@ -2,9 +2,10 @@
 use Rattle.std.specs.Prelude.{◌≡◌, ℕ, ◌+◌, ◌-◌, ◌*◌, ◌%◌, ◌^◌, ◌<◌, ◌≤◌, List, [], All, Some, length, map, slice_get, slice_index_or}
 use Rattle.std.specs.List.{range_with_len}
 use Rattle.std.proofs.Common.{sym, ap, ◌∙◌, subst, refl, arith}
-use Rattle.std.proofs.Math.Nat.{mod-lt}
+use Rattle.std.proofs.Math.Nat.{mod-lt, zero-mul}
 use Rattle.std.proofs.lemmas.Nat.{pow-add, pow_pos}
 use Rattle.std.proofs.lemmas.List.{length-map, get_or-map}
+use Rattle.std.proofs.lemmas.List.Elements.{All-nil}
 use Rattle.std.proofs.lemmas.List.FromFn.{get_or-map-range_with_len, length-map-range_with_len}
 use Rattle.std.proofs.lemmas.Option.{get_or_from_slice_get, slice_get_within, slice_get-get_or}
 use Rattle.circle_field.specs.Field.{FieldOps, FieldLaws}
@@ -156,3 +157,17 @@ module _ {F : Type 0} {k : FieldOps F} (laws : FieldLaws k) {gen : ℕ → Coord
             subst (IsPeriodicValue k gen k (λ x. x) n (slice_index_or columns c []) p) (sym entry)
             ((column-coefficients values c lt).values n p within (natural-on_circle laws.ring gens m s (omega (arith, positive, within, larger)) (omega (arith, fits)) on i p here));
       }
+
+-- the table of no columns
+pub empty-table : {F : Type 0} (k : FieldOps F) (gen : ℕ → Coordinates F) (bits n m : ℕ) (s : Coordinates F) (columns : List (List F)) (table : PeriodicLdeTable F) →
+    columns ≡ [] → table_width table ≡ 0 → table_height_of table ≡ 0 → IsPeriodicTable k gen bits n m s columns table
+empty-table k gen bits n m s columns table none wide tall =
+    let nothing = zero-mul (2 ^ (m - n)) in
+    let made : IsPeriodicTable k gen bits n m s [] table = record {
+      width = wide;
+      height = tall ∙ sym nothing;
+      columns_fit = All-nil (IsPeriod (2 ^ n));
+      counted = omega (arith, nothing);
+      values = λ fits i c p at lt. absurd (omega (arith, lt));
+    } in
+    subst (λ all. IsPeriodicTable k gen bits n m s all table) (sym none) made

@@ -82,11 +82,21 @@ extrapolate-requires-clause-genuine g c =
     subst (λ j. IsGenuine k j (shift_of (domain_of c.from_natural_order.result))) (sym (ap log_size c.from_natural_order.ensures.domain ∙ c.standard.ensures.size))
     (subst (IsGenuine k l) (sym (ap shift_of c.from_natural_order.ensures.domain ∙ c.standard.ensures.shift)) genuine)
 
+pub extrapolate-requires-clause-larger : goal.extrapolate-requires-clause-larger
+extrapolate-requires-clause-larger g c =
+    omega (arith, ap log_size c.from_natural_order.ensures.domain ∙ c.standard.ensures.size, c.new-extension.ensures.size)
+
 pub extrapolate-requires-clause-in_group : goal.extrapolate-requires-clause-in_group
 extrapolate-requires-clause-in_group g c =
     let h = log_period c.args.trace_log_n c.args.period c.log2_strict-log_period.result (map (λ column. column.items) c.args.periodic_table.now)
     (omega (arith, c.requires.some, length-map c.args.periodic_table.now (λ column. column.items))) c.requires.fit c.requires.longest c.log2_strict-log_period.ensures.power in
     omega (arith, h.1, c.requires.in_group, c.new-extension.ensures.size, c.if-log_blowup-CIRCLE_TWO_ADICITY.false, c.CIRCLE_TWO_ADICITY.ensures)
+
+pub returns-clause-width : goal.returns-clause-width
+returns-clause-width g c =
+    IfOk-weaker c.to_row_major_matrix.result _ _
+    (λ made is. is ∙ c.to_natural_order.ensures.width ∙ c.in_ok-extended.ensures.width ∙ c.from_natural_order.ensures.width ∙ c.in_ok-repeated.ensures.width)
+    c.to_row_major_matrix.ensures.width
 
 pub returns-clause-height : goal.returns-clause-height
 returns-clause-height g c =

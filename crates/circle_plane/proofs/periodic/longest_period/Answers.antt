@@ -1,6 +1,6 @@
-use Rattle.std.proofs.Common.{◌≡◌, ◌≤◌, ◌<◌, ◌∙◌, [], sym, ap, subst, length, map, max, arith, get_or, All}
+use Rattle.std.proofs.Common.{◌≡◌, ◌≤◌, ◌<◌, ◌∙◌, [], refl, sym, ap, subst, length, map, max, arith, get_or, All}
 use Rattle.std.proofs.lemmas.List.{length-map, get_or-map, take_all}
-use Rattle.std.proofs.lemmas.List.Elements.{All-more}
+use Rattle.std.proofs.lemmas.List.Elements.{All-more, All-nil}
 use Rattle.circle_matrix.specs.Mmcs.{greatest}
 use Rattle.circle_plane.specs.PeriodicColumns.{IsPeriod, IsFault, IsFirstFault}
 use Rattle.circle_plane.proofs.EachMore.{items-at}
@@ -20,6 +20,9 @@ returns-in_err-check_period-clause-refusal g c =
     let e = c.in_err-check_period.field-0.0 in
     handed_on c.from_residual.result e (IsFirstFault c.args.trace_len periods) c.from_residual.ensures.1
     (i, omega (arith, within, length-map all length), c.loop-column.invariant.fit, subst (λ n. IsFault c.args.trace_len n e) (sym at) c.in_err-check_period.ensures.refusal)
+
+pub loop-column-init : goal.loop-column-init
+loop-column-init g c = record { fit = All-nil (IsPeriod c.args.trace_len); longest = refl }
 
 pub loop-column-preserved : goal.loop-column-preserved
 loop-column-preserved g c =

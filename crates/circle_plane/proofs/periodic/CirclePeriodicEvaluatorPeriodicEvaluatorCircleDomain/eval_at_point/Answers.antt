@@ -57,6 +57,14 @@ evaluate_periodic_column_at-requires-clause-clear g c =
     IsClearOf l g.EF.ExtensionField.embed (natural_order g.F.Operations.ops gen j (gen (j + 1))) (times l (2 ^ (log_size c.args.trace_domain.now - j)) (from_line l c.args.point))) at
     (λ two. (c.requires i c.loop-column-test.true two).4)
 
+pub loop-column-init : goal.loop-column-init
+loop-column-init g c =
+    let none = c.in_ok-values.ensures.items in
+    record {
+      count = ap length none;
+      each = λ j lt. absurd (omega (arith, lt, ap length none));
+    }
+
 pub loop-column-preserved : goal.loop-column-preserved
 loop-column-preserved g c =
     let l = g.EF.Operations.ops in

@@ -1,6 +1,6 @@
 use Rattle.std.proofs.Common.{◌≡◌, ◌≢◌, ◌-◌, ◌*◌, ◌^◌, ◌≤◌, ◌∙◌, All, sym, ap, subst, length, map, arith}
-use Rattle.std.proofs.lemmas.Bool.{eqb-false}
-use Rattle.std.proofs.lemmas.List.{length-map}
+use Rattle.std.proofs.lemmas.Bool.{eqb-false, eqb-true}
+use Rattle.std.proofs.lemmas.List.{length-map, nil_from_length}
 use Rattle.std.proofs.lemmas.List.FromFn.{length-map-range_with_len}
 use Rattle.std.proofs.lemmas.Nat.{pow_pos}
 use Rattle.circle_matrix.specs.Mmcs.{greatest}
@@ -10,10 +10,17 @@ use Rattle.circle_plane.specs.PeriodicColumns.{columns_of, IsPeriod, IsFirstFaul
 use Rattle.circle_plane.specs.PeriodicRows.{AreExtended, table_row}
 use Rattle.circle_plane.specs.declared.periodic.PeriodicError.TheVariants.{Memory}
 use Rattle.circle_plane.proofs.Checked.{checked}
-use Rattle.circle_plane.proofs.PeriodicTables.{columns-powers, constant-extended, extended-table}
+use Rattle.circle_plane.proofs.PeriodicTables.{columns-powers, constant-extended, extended-table, empty-table}
 use Rattle.circle_plane.proofs.Periods.{greatest-positive, entries-counted}
 use Rattle.circle_plane.proofs.Refused.{handed_on, fault-refusal}
 use Rattle.circle_plane.proofs.periodic.CirclePeriodicEvaluatorPeriodicEvaluatorCircleDomain.eval_on_lde.Goals as goal
+
+pub returns-then-is_empty-clause-table : goal.returns-then-is_empty-clause-table
+returns-then-is_empty-clause-table g c =
+    let columns = c.args.periodic_table.now in
+    let none = nil_from_length (columns_of columns) (length-map columns (λ column. column.items) ∙ eqb-true (length columns) 0 (sym c.if-is_empty.ensures)) in
+    empty-table g.F.Operations.ops g.F.ComplexExtendable.generators g.F.ComplexExtendable.CIRCLE_TWO_ADICITY (log_size c.args.trace_domain.now)
+    (log_size c.args.lde_domain.now) (shift_of c.args.lde_domain.now) (columns_of columns) c.empty.result none c.empty.ensures.width c.empty.ensures.height
 
 pub returns-in_err-period-clause-refusal : goal.returns-in_err-period-clause-refusal
 returns-in_err-period-clause-refusal g c =
@@ -44,6 +51,9 @@ returns-in_err-height-clause-refusal g c =
     handed_on c.from_residual-in_err-height.result c.in_err-height.field-0.0 (IsRefusal size periods blowup) c.from_residual-in_err-height.ensures.1
     (subst (IsRefusal size periods blowup) (sym refused.0)
     (subst (λ n. All (IsPeriod n) periods) c.size.ensures c.in_ok-period.ensures.fit, omega (arith, refused.1, total)))
+
+pub repeated_rows-requires-clause-some : goal.repeated_rows-requires-clause-some
+repeated_rows-requires-clause-some g c = omega (arith, eqb-false (length c.args.periodic_table.now) 0 (sym c.if-is_empty.ensures))
 
 pub repeated_rows-requires-clause-powers : goal.repeated_rows-requires-clause-powers
 repeated_rows-requires-clause-powers g c = columns-powers c.size.result (columns_of c.args.periodic_table.now) c.in_ok-period.ensures.fit
@@ -77,6 +87,9 @@ returns-then-period-eq1-clause-table g c =
     extended-table k gen bits n m s all c.new.result matrix c.new.ensures.width c.new.ensures.height c.new.ensures.rows known.some known.fit known.counted
     (c.in_ok-constants.ensures.width ∙ sym known.listed) (size ∙ known.tall)
     (constant-extended k gen bits n m s all (rows matrix) (2 ^ n) c.in_ok-height.height known.fit one positive c.in_ok-constants.ensures.rows)
+
+pub extended_rows-requires-clause-some : goal.extended_rows-requires-clause-some
+extended_rows-requires-clause-some g c = omega (arith, eqb-false (length c.args.periodic_table.now) 0 (sym c.if-is_empty.ensures))
 
 pub extended_rows-requires-clause-fit : goal.extended_rows-requires-clause-fit
 extended_rows-requires-clause-fit g c =
