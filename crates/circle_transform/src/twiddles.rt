@@ -4,8 +4,8 @@
 //! quarter turn and the opposite of that. So the first two layers are made of one point in four.
 //! The factors of the other layers are x coordinates of doubles, and doubles of quarter turns are
 //! opposites: so an inverse takes one product with one of the layer above.
-ghost use Rattle.std.specs.Prelude.{ℕ, ◌≡◌, ◌≢◌, ◌≤◌, ◌+◌, ◌-◌, ◌^◌, ◌/◌, ◌%◌};
-ghost use Rattle.std.specs.Prelude.{All, IfOk, OnOk, length, map};
+ghost use Rattle.std.specs.Prelude.{ℕ, ◌≡◌, ◌≢◌, ◌≤◌, ◌+◌, ◌-◌, ◌*◌, ◌^◌, ◌/◌, ◌%◌, ◌++◌};
+ghost use Rattle.std.specs.Prelude.{All, IfOk, OnOk, length, map, take, drop};
 ghost use Rattle.std.specs.List.{range_with_len};
 ghost use Rattle.circle_point.specs.Point.{coordinates};
 ghost use Rattle.circle_domain.specs.Domain.{factors_by_layer, log_size, shift_of};
@@ -199,20 +199,34 @@ fn higher_inverses<F: Field>(alloc: Global, factors: &[F]) -> Result<Vec<F>, All
     requires nonzero { All (λ a. a ≢ F.ops.zero) factors.now }
     ensures { IfOk result (λ inverses. inverses.items ≡ map F.ops.inv factors.now) }
 {
-    let above = factors.len() / 2 + 1;
     let top = factors.len() - 3;
     let mut inverses = Vec::from_slice(alloc, factors)?;
     inverses.truncate(top);
     inverses.append(&mut batch_multiplicative_inverse(alloc, &factors[top..])?)?;
     for j in (0..top / 4).rev() {
-        let first = inverses[above + 2 * j + 1].double();
-        let second = -inverses[above + 2 * j].double();
-        inverses[4 * j] = factors[4 * j + 1] * first;
-        inverses[4 * j + 1] = factors[4 * j] * first;
-        inverses[4 * j + 2] = factors[4 * j + 3] * second;
-        inverses[4 * j + 3] = factors[4 * j + 2] * second;
+        invert_four(&mut inverses, factors, j);
     }
     Ok(inverses)
+}
+
+// Writes the inverses of four factors, `4 * j` and the next, where those of all above them stand.
+fn invert_four<F: Field>(inverses: &mut [F], factors: &[F], j: usize)
+    requires length { length inverses.old ≡ length factors.now }
+    requires room { 4 * j + 7 ≤ length factors.now }
+    requires fours { (length factors.now + 1) % 4 ≡ 0 }
+    requires linked { AreLinked F.ops ((length factors.now + 1) / 2) factors.now }
+    requires nonzero { All (λ a. a ≢ F.ops.zero) factors.now }
+    requires above { inverses.old
+        ≡ take (4 * j + 4) factors.now ++ map F.ops.inv (drop (4 * j + 4) factors.now) }
+    ensures { inverses.new ≡ take (4 * j) factors.now ++ map F.ops.inv (drop (4 * j) factors.now) }
+{
+    let above = factors.len() / 2 + 1;
+    let first = inverses[above + 2 * j + 1].double();
+    let second = -inverses[above + 2 * j].double();
+    inverses[4 * j] = factors[4 * j + 1] * first;
+    inverses[4 * j + 1] = factors[4 * j] * first;
+    inverses[4 * j + 2] = factors[4 * j + 3] * second;
+    inverses[4 * j + 3] = factors[4 * j + 2] * second;
 }
 
 // All layers by themselves, from the factors of all but the first or from their inverses.
