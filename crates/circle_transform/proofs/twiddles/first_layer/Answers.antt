@@ -1,7 +1,13 @@
-use Rattle.std.proofs.Common.{◌≡◌, ◌<◌, ◌+◌, ◌*◌, ◌++◌, ◌∷◌, ◌∙◌, sym, ap, drop, length, slice_index_or, arith}
+use Rattle.std.proofs.Common.{◌≡◌, ◌<◌, ◌≤◌, ◌+◌, ◌*◌, ◌++◌, ◌∷◌, ◌∙◌, sym, ap, drop, length, slice_index_or, arith, append-nil}
+use Rattle.std.proofs.lemmas.List.{drop_all}
 use Rattle.circle_transform.specs.Twiddles.{first_of_second}
 use Rattle.circle_transform.proofs.TwiddleRows.{pushed_four, drop_pair}
 use Rattle.circle_transform.proofs.twiddles.first_layer.Goals as goal
+
+pub loop-i-init : goal.loop-i-init
+loop-i-init g c =
+    let rest = first_of_second g.F.Operations.ops (g.F.ComplexExtendable.generators 2).y c.args.second.now in
+    ap (λ ys. ys ++ rest) c.in_ok-first.ensures.items
 
 pub loop-i-preserved : goal.loop-i-preserved
 loop-i-preserved g c =
@@ -37,3 +43,11 @@ neg-requires g c = g.met.F.Field.can_neg_law _
 
 pub neg-requires-in-loop-i : goal.neg-requires-in-loop-i
 neg-requires-in-loop-i g c = g.met.F.Field.can_neg_law _
+
+pub returns : goal.returns
+returns g c =
+    let made_of = first_of_second g.F.Operations.ops (g.F.ComplexExtendable.generators 2).y in
+    let xs = c.args.second.now in
+    let made = c.loop-i.first.items in
+    let end : length xs ≤ 2 * c.loop-i.i = omega (arith, c.loop-i-test.false, c.requires.pairs) in
+    sym (append-nil made) ∙ ap (λ ys. made ++ made_of ys) (sym (drop_all (2 * c.loop-i.i) xs end)) ∙ c.loop-i.invariant

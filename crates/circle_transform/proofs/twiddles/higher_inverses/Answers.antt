@@ -34,3 +34,9 @@ pub loop-j-preserved : goal.loop-j-preserved
 loop-j-preserved g c =
     let old = c.loop-j.inverses in
     take-whole old.len c.invert_four.new.inverses old.items old.ok.0 (c.invert_four.auto.inverses ∙ ap length c.deref_mut.ensures.value) ∙ c.invert_four.ensures
+
+pub returns : goal.returns
+returns g c =
+    let xs = c.args.factors.now in
+    let end : 4 * c.loop-j.j ≡ 0 = omega (arith, c.loop-j-test.false) in
+    c.loop-j.invariant ∙ ap (λ n. take n xs ++ map g.F.Operations.ops.inv (drop n xs)) end

@@ -1,4 +1,4 @@
-use Rattle.std.proofs.Common.{◌≡◌, ◌≤◌, ◌+◌, ◌-◌, ◌*◌, ◌^◌, ◌%◌, ◌++◌, [], ◌∷◌, ◌∙◌, length, map, take, drop, sym, ap, arith, suc, append_assoc}
+use Rattle.std.proofs.Common.{◌≡◌, ◌≤◌, ◌+◌, ◌-◌, ◌*◌, ◌^◌, ◌%◌, ◌++◌, [], ◌∷◌, ◌∙◌, length, map, take, drop, sym, ap, arith, suc, append_assoc, append-nil}
 use Rattle.std.proofs.Math.Nat.{pow-suc}
 use Rattle.std.proofs.lemmas.List.{map-append}
 use Rattle.circle_domain.proofs.Powers.{pow_within}
@@ -54,3 +54,9 @@ loop-layer-preserved g c =
           ∙ ap (λ i. map (λ w. w.items) made ++ halving_parts i rest) (sym e)
           ∙ c.loop-layer.invariant.parts;
     }
+
+pub returns : goal.returns
+returns g c =
+    let made = map (λ w. w.items) c.loop-layer.layers.items in
+    let end : c.args.log_n - c.loop-layer.layer ≡ 0 = omega (arith, c.loop-layer-test.false) in
+    sym (append-nil made) ∙ ap (λ i. made ++ halving_parts i c.loop-layer.rest.now) (sym end) ∙ c.loop-layer.invariant.parts
