@@ -3,6 +3,15 @@ use Rattle.circle_matrix.proofs.Written.{written-all}
 use Rattle.circle_transform.proofs.BlockFour.{unwritten, combined, length-combined, combined-more}
 use Rattle.circle_transform.proofs.layers.combine_four.Goals as goal
 
+pub bounds-b-i-in-loop-i : goal.bounds-b-i-in-loop-i
+bounds-b-i-in-loop-i g c = omega (arith, c.loop-i-test.true, c.loop-i.auto.b, c.requires.b_length)
+
+pub bounds-c-i-in-loop-i : goal.bounds-c-i-in-loop-i
+bounds-c-i-in-loop-i g c = omega (arith, c.loop-i-test.true, c.loop-i.auto.c, c.requires.c_length)
+
+pub bounds-d-i-in-loop-i : goal.bounds-d-i-in-loop-i
+bounds-d-i-in-loop-i g c = omega (arith, c.loop-i-test.true, c.loop-i.auto.d, c.requires.d_length)
+
 pub loop-i-preserved : goal.loop-i-preserved
 loop-i-preserved g c =
     let fin = g.S.Finish.finished c.args.finish in

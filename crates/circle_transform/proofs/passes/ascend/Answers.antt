@@ -15,6 +15,12 @@ half_of-requires-clause-fits g c =
     let small : count < 2 ^ 64 = omega arith in
     omega (arith, block-fits c.args.width count c.args.part twiddles c.requires.wide c.requires.some c.requires.layers l here, small)
 
+pub factors_of-uppers-requires-clause-layers : goal.factors_of-uppers-requires-clause-layers
+factors_of-uppers-requires-clause-layers g c = c.requires.layers
+
+pub factors_of-lowers-requires-clause-layers : goal.factors_of-lowers-requires-clause-layers
+factors_of-lowers-requires-clause-layers g c = c.requires.layers
+
 pub ascend_pair-requires-clause-values : goal.ascend_pair-requires-clause-values
 ascend_pair-requires-clause-values g c =
     let width = c.args.width in

@@ -23,6 +23,9 @@ batch_multiplicative_inverse-requires g c =
     subst (All NonZero) (sym (c.deref.ensures.value ∙ at.1))
     (All-from_recursion NonZero (f m) (layer_factors-nonzero g.F.Operations.laws g.met.F.ComplexExtendable.generators_law n s c.requires.in_group c.args.domain.shift.on_circle c.requires.genuine.1 m at.0))
 
+pub loop-factors-init : goal.loop-factors-init
+loop-factors-init g c = ap (map (λ w. w.items)) c.in_ok-inverses.ensures.items
+
 pub loop-factors-preserved : goal.loop-factors-preserved
 loop-factors-preserved g c =
     let k = g.F.Operations.ops in

@@ -7,6 +7,11 @@ use Rattle.circle_domain.specs.Layers.{block_starts}
 use Rattle.circle_transform.proofs.QuarterTurns.{with_turns, second_layer-is}
 use Rattle.circle_transform.proofs.twiddles.second_layer.Goals as goal
 
+pub loop-point-init : goal.loop-point-init
+loop-point-init g c =
+    let rest = with_turns g.F.Operations.ops (g.F.ComplexExtendable.generators 2).y (map coordinates c.deref-point-items.result.now) in
+    ap (λ ys. ys ++ rest) c.in_ok-factors.ensures.items
+
 pub loop-point-preserved : goal.loop-point-preserved
 loop-point-preserved g c =
     let k = g.F.Operations.ops in
