@@ -28,12 +28,6 @@ s_p_at_p-requires-clause-positive g c = omega (arith, c.log_n.ensures, c.require
 pub s_p_at_p-requires-clause-small : goal.s_p_at_p-requires-clause-small
 s_p_at_p-requires-clause-small g c = omega (arith, c.log_n.ensures, c.requires.in_group, g.met.F.ComplexExtendable.at_most_62)
 
-pub v_n-requires : goal.v_n-requires
-v_n-requires g c = omega (arith, c.log_n-2.ensures, c.requires.genuine.0)
-
-pub v_n-requires-2 : goal.v_n-requires-2
-v_n-requires-2 g c = omega (arith, c.log_n-3.ensures, c.requires.genuine.0)
-
 pub shares_of-requires : goal.shares_of-requires
 shares_of-requires g c =
     let k = g.F.Operations.ops in

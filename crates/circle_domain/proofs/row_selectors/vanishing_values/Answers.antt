@@ -8,12 +8,6 @@ use Rattle.circle_domain.specs.Selectors.{vanishing_on}
 use Rattle.circle_domain.proofs.Pointwise.{map_pushed}
 use Rattle.circle_domain.proofs.row_selectors.vanishing_values.Goals as goal
 
-pub v_n-at_shift-requires : goal.v_n-at_shift-requires
-v_n-at_shift-requires g c = omega (arith, c.log_n-log_n.ensures, c.requires)
-
-pub v_n-requires : goal.v_n-requires
-v_n-requires g c = omega (arith, c.log_n-log_n.ensures, c.requires)
-
 pub loop-point-preserved : goal.loop-point-preserved
 loop-point-preserved g c =
     let k = g.F.Operations.ops in

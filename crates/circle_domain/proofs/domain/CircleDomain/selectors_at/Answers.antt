@@ -8,9 +8,6 @@ use Rattle.circle_domain.proofs.Lifted.{lifted-opposite}
 use Rattle.circle_domain.proofs.Reciprocals.{normaliser-nonzero, lifted-reciprocal, vanishing-nonzero, clear-first, clear-last}
 use Rattle.circle_domain.proofs.domain.CircleDomain.selectors_at.Goals as goal
 
-pub vanishing_poly-vanishing-requires : goal.vanishing_poly-vanishing-requires
-vanishing_poly-vanishing-requires g c = c.requires.genuine.0
-
 pub s_p_at_p-requires-clause-positive : goal.s_p_at_p-requires-clause-positive
 s_p_at_p-requires-clause-positive g c = c.requires.genuine.0
 
