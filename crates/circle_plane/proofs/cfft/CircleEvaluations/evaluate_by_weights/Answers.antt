@@ -8,10 +8,6 @@ use Rattle.circle_domain.proofs.Coefficients.{rows-told}
 use Rattle.circle_domain.proofs.OffDomain.{columns-values}
 use Rattle.circle_plane.proofs.cfft.CircleEvaluations.evaluate_by_weights.Goals as goal
 
-pub columnwise_dot_product-requires : goal.columnwise_dot_product-requires
-columnwise_dot_product-requires g c =
-    ap length c.deref.ensures.value ∙ c.requires.count ∙ sym c.args.self.now.row_for_each_point
-
 pub returns-clause-only : goal.returns-clause-only
 returns-clause-only g c =
     let k = g.F.Operations.ops in
