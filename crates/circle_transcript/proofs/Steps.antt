@@ -28,6 +28,14 @@ pub pushed : (xs ys : List Interaction) (x : Interaction) (s : Step) → ys ≡ 
 pushed xs ys x s more same =
     ap (map step_of) more ∙ map-append step_of xs (x ∷ []) ∙ ap (λ v. map step_of xs ++ v ∷ []) same
 
+-- a value and another one, one after another
+pub twice : {A : Type 0} (a b c : List A) (x y : A) → b ≡ a ++ x ∷ [] → c ≡ b ++ y ∷ [] → c ≡ a ++ x ∷ y ∷ []
+twice a b c x y first last = last ∙ ap (λ v. v ++ y ∷ []) first ∙ append_assoc a (x ∷ []) (y ∷ [])
+
+-- values and another one
+pub then_one : {A : Type 0} (a b c p : List A) (y : A) → b ≡ a ++ p → c ≡ b ++ y ∷ [] → c ≡ a ++ (p ++ y ∷ [])
+then_one a b c p y first last = last ∙ ap (λ v. v ++ y ∷ []) first ∙ append_assoc a p (y ∷ [])
+
 -- a step, more steps and another step, one after another
 pub guarded : {A : Type 0} (a b c d p : List A) (x y : A) → b ≡ a ++ x ∷ [] → c ≡ b ++ p → d ≡ c ++ y ∷ [] → d ≡ a ++ (x ∷ (p ++ y ∷ []))
 guarded a b c d p x y first more last =

@@ -33,6 +33,7 @@ use circle_point::Point;
 use std::alloc::Global;
 
 /// Takes in a claim: the coordinates of its point, and its values.
+#[tactic(auto, unfolding(crate::specs::Shape::claim_steps))]
 fn observe_claim<'a, C, F: Field, EF: ExtensionField<F>, S>(
     transcript: &mut TranscriptState<'a, C, F, S>,
     point: Point<EF>,

@@ -10,6 +10,7 @@ ghost use Rattle.circle_transcript.specs.Shape.{round_steps, rounds_steps, final
 ghost use Rattle.circle_transcript.specs.Shape.{query_steps, steps_of, pow_steps};
 ghost use Rattle.circle_transcript.specs.Shape.{guarded_challenge_steps, widths_in, batch_layout};
 ghost use Rattle.circle_transcript.specs.Shape.{layout, version_of, separator_of, text_of};
+ghost use Rattle.circle_transcript.specs.Shape.{labels_of};
 ghost use Rattle.circle_transcript.specs.Shape.{IsSameRun};
 ghost use Rattle.circle_transcript.specs.ShapeOf.{Appends, matrices_of, batches_of};
 
@@ -195,9 +196,23 @@ impl CirclePcsShape {
         ensures fits { IfOk result (λ _. self.now.log_blowup < 2 ^ 64) }
     {
         let pattern = self.pattern::<F, EF>(alloc)?;
-        let separator = DomainSeparator::new(alloc, self.version(), NAME, pattern)?
-            .instance(alloc, &in_eight_bytes(self.log_blowup))?
-            .instance(alloc, &self.opening_layout(alloc)?)?;
+        let separator = DomainSeparator::new(alloc, self.version(), NAME, pattern)?;
+        self.labelled(alloc, separator)
+    }
+
+    /// A separator with the labels of the shape after its own.
+    fn labelled(
+        &self,
+        alloc: Global,
+        separator: DomainSeparator,
+    ) -> Result<DomainSeparator, AllocError>
+        ensures separator { IfOk result (λ s. s ≡ record separator {
+          labels = separator.labels ++ labels_of (shape_of self.now);
+        }) }
+        ensures fits { IfOk result (λ _. self.now.log_blowup < 2 ^ 64) }
+    {
+        let separator = separator.instance(alloc, &in_eight_bytes(self.log_blowup))?;
+        let separator = separator.instance(alloc, &self.opening_layout(alloc)?)?;
         if self.log_final_poly_len == 0 {
             return Ok(separator);
         }

@@ -160,6 +160,7 @@ impl<
     /// Takes in the commitment to the first layer, and draws the challenge that folds that layer.
     ///
     /// Asks that these are the next steps.
+    #[tactic(auto, unfolding(crate::specs::Shape::first_layer_steps))]
     pub fn first_layer<Com>(&mut self, commitment: &Com) -> EF
     where
         C: CanObserve<Com>,
@@ -214,6 +215,7 @@ impl<'a, F: Field, EF: ExtensionField<F>, C: CanSample<F> + GrindingChallenger<F
     ///
     /// Asks that these are the next steps, so that the claims have the described numbers of values,
     /// and that the difficulty is at most 63.
+    #[tactic(auto, unfolding(crate::specs::Shape::batch_steps))]
     pub fn batch_phase(
         &mut self,
         claims: &[OpeningClaim<EF>],
@@ -257,6 +259,7 @@ impl<'a, F: Field, EF: ExtensionField<F>, C: CanSample<F> + GrindingChallenger<F
     /// then only `abort` may follow.
     ///
     /// Asks that these are the next steps, and that the difficulty is at most 63.
+    #[tactic(auto, unfolding(crate::specs::Shape::round_steps))]
     pub fn commit_round<Com>(
         &mut self,
         commitment: &Com,
@@ -304,6 +307,7 @@ impl<'a, F: Field, EF: ExtensionField<F>, C: CanSample<F> + GrindingChallenger<F
     ///
     /// Asks that these are the next steps, that the difficulty and the number of bits of an index
     /// are at most 63, and that there are as many coefficients as the shape says.
+    #[tactic(auto, unfolding(crate::specs::Shape::query_steps))]
     pub fn query_phase(
         &mut self,
         alloc: Global,
@@ -363,6 +367,7 @@ impl<'a, F: Field, EF: ExtensionField<F>, C: CanSample<F> + GrindingChallenger<F
     ///
     /// Asks that these are the next steps, so that the claims have the described numbers of values,
     /// and that the difficulty is at most 63.
+    #[tactic(auto, unfolding(crate::specs::Shape::batch_steps))]
     pub fn batch_phase(
         &mut self,
         claims: &[OpeningClaim<EF>],
@@ -403,6 +408,7 @@ impl<'a, F: Field, EF: ExtensionField<F>, C: CanSample<F> + GrindingChallenger<F
     /// pass, and then only `abort` may follow.
     ///
     /// Asks that these are the next steps, and that the difficulty is at most 63.
+    #[tactic(auto, unfolding(crate::specs::Shape::round_steps))]
     pub fn commit_round<Com>(
         &mut self,
         commitment: &Com,
@@ -447,6 +453,7 @@ impl<'a, F: Field, EF: ExtensionField<F>, C: CanSample<F> + GrindingChallenger<F
     ///
     /// Asks that these are the next steps, that the difficulty and the number of bits of an index
     /// are at most 63, and that there are as many coefficients as the shape says.
+    #[tactic(auto, unfolding(crate::specs::Shape::query_steps))]
     pub fn query_phase(
         &mut self,
         alloc: Global,

@@ -12,22 +12,9 @@ pub challenge_extension-requires : goal.challenge_extension-requires
 challenge_extension-requires g c =
     record { next = next_is _ _ _ (c.in_ok-witness.ensures.due _ (c.requires.next.1 ∙ append_assoc (pow_steps c.args.pow_label.now c.args.bits) _ _)) }
 
-pub returns-clause-same_reference : goal.returns-clause-same_reference
-returns-clause-same_reference g c =
-    c.challenge_extension.ensures.same_reference ∙ c.in_ok-witness.ensures.same_reference
-
 pub returns-clause-due : goal.returns-clause-due
 returns-clause-due g c = λ rest e.
     left_is _ _ _ _ (c.in_ok-witness.ensures.due _ (e ∙ append_assoc (pow_steps c.args.pow_label.now c.args.bits) _ _)) c.challenge_extension.ensures.due
-
-pub returns-clause-needed : goal.returns-clause-needed
-returns-clause-needed g c = c.in_ok-witness.ensures.needed
-
-pub returns-clause-found : goal.returns-clause-found
-returns-clause-found g c = c.in_ok-witness.ensures.found
-
-pub returns-clause-passes : goal.returns-clause-passes
-returns-clause-passes g c = c.in_ok-witness.ensures.passes
 
 pub returns-clause-challenge : goal.returns-clause-challenge
 returns-clause-challenge g c =

@@ -1,17 +1,7 @@
 use Rattle.circle_transcript.specs.Shape.{claim_steps}
 use Rattle.circle_transcript.specs.Draw.{after_claims_by}
-use Rattle.circle_transcript.proofs.Playing.{next_is, left_is, claim_taken}
+use Rattle.circle_transcript.proofs.Playing.{left_is, claim_taken}
 use Rattle.circle_transcript.proofs.play.observe_claim.Goals as goal
-
-pub observe_extension_pair-requires : goal.observe_extension_pair-requires
-unfolding claim_steps
-observe_extension_pair-requires g c = record { next = next_is _ _ _ c.requires.next.1 }
-
-pub observe_extensions-requires : goal.observe_extensions-requires
-unfolding claim_steps
-observe_extensions-requires g c =
-    let e = left_is _ _ _ _ c.requires.next.1 c.observe_extension_pair.ensures.due in
-    record { next = next_is _ _ _ e }
 
 pub returns-clause-due : goal.returns-clause-due
 unfolding claim_steps

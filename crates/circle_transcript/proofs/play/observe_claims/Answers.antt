@@ -1,5 +1,5 @@
 use Rattle.std.proofs.Common.{◌+◌, ◌<◌, ◌++◌, ◌∷◌, [], length, drop, take, flat_map, refl, sym, ap, ◌∙◌, append_assoc, arith}
-use Rattle.std.proofs.lemmas.List.{map-append}
+use Rattle.std.proofs.lemmas.List.{map-append, take_all, drop_all}
 use Rattle.circle_transcript.specs.Shape.{claim_steps}
 use Rattle.circle_transcript.specs.Draw.{widths_of, after_claims_by}
 use Rattle.circle_transcript.specs.Claims.{claim_of, claims_of}
@@ -34,3 +34,14 @@ loop-point-preserved g c =
           ∙ sym (claims-append observe coefficients begun (claims_of (take i claims)) (claim_of item ∷ []))
           ∙ ap (after_claims_by observe coefficients begun) (sym (ap claims_of front_of ∙ map-append claim_of (take i claims) (item ∷ [])));
     }
+
+pub returns-clause-due : goal.returns-clause-due
+returns-clause-due g c = λ rest e.
+    let degree = g.EF.ExtensionField.DEGREE in
+    c.loop-point.invariant.due rest e ∙ ap (λ xs. flat_map (claim_steps degree) (widths_of (claims_of xs)) ++ rest) (drop_all c.loop-point.point-index c.args.claims.now c.loop-point-test.false)
+
+pub returns-clause-state : goal.returns-clause-state
+returns-clause-state g c =
+    let begun = g.C.ChallengerState.state c.args.transcript.now.challenger.now in
+    c.loop-point.invariant.state
+    ∙ ap (λ xs. after_claims_by g.C.CanObserve.after_observe g.EF.ExtensionField.coefficients begun (claims_of xs)) (take_all c.loop-point.point-index c.args.claims.now c.loop-point-test.false)

@@ -1,5 +1,5 @@
 use Rattle.std.proofs.Common.{◌≡◌, ◌<◌, ◌++◌, ◌∷◌, [], length, take, sym, ap, ◌∙◌, arith}
-use Rattle.std.proofs.lemmas.List.{map-append}
+use Rattle.std.proofs.lemmas.List.{map-append, take_all}
 use Rattle.circle_transcript.specs.ShapeOf.{matrices_of, batches_of}
 use Rattle.circle_transcript.proofs.Playing.{take_read}
 use Rattle.circle_transcript.proofs.shape.copied_batches.Goals as goal
@@ -17,3 +17,6 @@ loop-batch-preserved c =
     ∙ ap (λ before. before ++ matrices_of copy.items ∷ []) c.loop-batch.invariant
     ∙ ap (λ last. batches_of (take i batches) ++ last ∷ []) same
     ∙ sym (ap batches_of (take_read batches i b within c.batch-item.is) ∙ map-append (λ b. matrices_of b.items) (take i batches) (b ∷ []))
+
+pub returns : goal.returns
+returns c = c.loop-batch.invariant ∙ ap batches_of (take_all c.loop-batch.batch-index c.args.batches.now c.loop-batch-test.false)

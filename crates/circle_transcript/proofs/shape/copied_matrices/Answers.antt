@@ -1,5 +1,5 @@
 use Rattle.std.proofs.Common.{◌≡◌, ◌<◌, ◌++◌, ◌∷◌, [], length, take, sym, ap, ◌∙◌, arith}
-use Rattle.std.proofs.lemmas.List.{map-append}
+use Rattle.std.proofs.lemmas.List.{map-append, take_all}
 use Rattle.circle_transcript.specs.ShapeOf.{matrices_of}
 use Rattle.circle_transcript.proofs.Playing.{take_read}
 use Rattle.circle_transcript.proofs.shape.copied_matrices.Goals as goal
@@ -17,3 +17,6 @@ loop-matrix-preserved c =
     ∙ ap (λ before. before ++ copy.items ∷ []) c.loop-matrix.invariant
     ∙ ap (λ last. matrices_of (take i matrices) ++ last ∷ []) same
     ∙ sym (ap matrices_of (take_read matrices i m within c.matrix-item.is) ∙ map-append (λ m. m.items) (take i matrices) (m ∷ []))
+
+pub returns : goal.returns
+returns c = c.loop-matrix.invariant ∙ ap matrices_of (take_all c.loop-matrix.matrix-index c.args.matrices.now c.loop-matrix-test.false)

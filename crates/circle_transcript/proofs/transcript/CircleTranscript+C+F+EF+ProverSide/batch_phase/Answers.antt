@@ -8,11 +8,6 @@ use Rattle.circle_transcript.specs.Claims.{claims_of}
 use Rattle.circle_transcript.proofs.Playing.{on_ok}
 use Rattle.circle_transcript.proofs.transcript.CircleTranscript+C+F+EF+ProverSide.batch_phase.Goals as goal
 
-pub observe_claims-requires : goal.observe_claims-requires
-unfolding batch_steps
-observe_claims-requires g c =
-    record { next = (_, c.resume-transcript.ensures.due ∙ c.take.ensures.steps ∙ c.requires.next.1 ∙ append_assoc (flat_map (claim_steps g.EF.ExtensionField.DEGREE) (widths_of (claims_of c.args.claims.now))) _ _) }
-
 pub grinding_challenge-drawn-requires-clause-next : goal.grinding_challenge-drawn-requires-clause-next
 unfolding batch_steps
 grinding_challenge-drawn-requires-clause-next g c =

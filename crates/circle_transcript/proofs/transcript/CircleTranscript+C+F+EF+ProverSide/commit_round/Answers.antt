@@ -3,13 +3,8 @@ use Rattle.std.proofs.Common.{◌≡◌, ◌∙◌, sym, ap, subst}
 use Rattle.circle_challenger.specs.Grinding.{passes, after_check}
 use Rattle.circle_challenger.specs.Sampling.{samples, after_samples}
 use Rattle.circle_transcript.specs.Shape.{round_steps}
-use Rattle.circle_transcript.proofs.Playing.{next_is, left_is, on_ok}
+use Rattle.circle_transcript.proofs.Playing.{left_is, on_ok}
 use Rattle.circle_transcript.proofs.transcript.CircleTranscript+C+F+EF+ProverSide.commit_round.Goals as goal
-
-pub observe_opaque-requires : goal.observe_opaque-requires
-unfolding round_steps
-observe_opaque-requires g c =
-    record { next = next_is _ _ _ (c.resume-transcript.ensures.due ∙ c.take.ensures.steps ∙ c.requires.next.1) }
 
 pub grinding_challenge-drawn-requires-clause-next : goal.grinding_challenge-drawn-requires-clause-next
 unfolding round_steps

@@ -4,16 +4,8 @@ use Rattle.circle_challenger.specs.Grinding.{passes, after_check}
 use Rattle.circle_challenger.specs.Observing.{after_all}
 use Rattle.circle_challenger.specs.Sampling.{samples, after_samples}
 use Rattle.circle_transcript.specs.Shape.{query_steps}
-use Rattle.circle_transcript.proofs.Playing.{next_is, left_is, on_ok}
+use Rattle.circle_transcript.proofs.Playing.{left_is, on_ok}
 use Rattle.circle_transcript.proofs.transcript.CircleTranscript+C+F+EF+VerifierSide.query_phase.Goals as goal
-
-pub observe_final_poly-requires : goal.observe_final_poly-requires
-unfolding query_steps
-observe_final_poly-requires g c =
-    record {
-      next = next_is _ _ _ (c.resume-transcript.ensures.due ∙ c.take.ensures.steps ∙ c.requires.next.1);
-      count = c.requires.count;
-    }
 
 pub checking_indices-drawn-requires-clause-next : goal.checking_indices-drawn-requires-clause-next
 unfolding query_steps

@@ -1,18 +1,7 @@
 use Rattle.std.proofs.Common.{◌∙◌}
 use Rattle.circle_transcript.specs.Shape.{first_layer_steps}
-use Rattle.circle_transcript.proofs.Playing.{next_is, left_is}
+use Rattle.circle_transcript.proofs.Playing.{left_is}
 use Rattle.circle_transcript.proofs.transcript.CircleTranscript.first_layer.Goals as goal
-
-pub observe_opaque-requires : goal.observe_opaque-requires
-unfolding first_layer_steps
-observe_opaque-requires g c =
-    record { next = next_is _ _ _ (c.resume-transcript.ensures.due ∙ c.take.ensures.steps ∙ c.requires.next.1) }
-
-pub challenge_extension-challenge-requires : goal.challenge_extension-challenge-requires
-unfolding first_layer_steps
-challenge_extension-challenge-requires g c =
-    let e = left_is _ _ _ _ (c.resume-transcript.ensures.due ∙ c.take.ensures.steps ∙ c.requires.next.1) c.observe_opaque.ensures.due in
-    record { next = next_is _ _ _ e }
 
 pub returns-clause-due : goal.returns-clause-due
 unfolding first_layer_steps
