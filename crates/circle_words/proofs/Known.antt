@@ -1,10 +1,11 @@
 -- Ratios that were made, found by their point.
-use Rattle.std.specs.Prelude.{◌≡◌, ℕ, List, [], ◌∷◌, ◌++◌, map, All, true, Option, Some, None, IfSome}
+use Rattle.std.specs.Prelude.{◌≡◌, ℕ, ◌+◌, ◌<◌, length, slice_index_or, List, [], ◌∷◌, ◌++◌, map, All, true, Option, Some, None, IfSome}
 use Rattle.std.specs.Borrow.{Bor}
 use Rattle.std.specs.List.{Any}
 use Rattle.std.specs.Option.{is_some}
-use Rattle.std.proofs.Common.{zero, suc, refl, sym, ◌∙◌, ap, subst, arith}
-use Rattle.std.proofs.lemmas.Bool.{false≢true}
+use Rattle.std.proofs.Common.{zero, suc, refl, sym, ◌∙◌, ap, subst, arith, ⊎_elim}
+use Rattle.std.proofs.lemmas.Bool.{false≢true, cases_lt}
+use Rattle.std.proofs.lemmas.List.{get_or_default}
 use Rattle.circle_field.specs.Field.{FieldOps}
 use Rattle.circle_field.specs.Circle.{Coordinates}
 use Rattle.circle_point.specs.Projective.{from_line}
@@ -51,3 +52,11 @@ module _ {E : Type 0} where
   found-of xs h p found P all has =
       subst (λ x. P (weights_for h p x)) has.4.2 (subst (λ t. P (weights_for h t has.1.weights)) has.4.1 (subst (λ n. P (weights_for n has.1.point has.1.weights)) has.4.0
       (subst P has.3 (all has.0 has.1 has.2))))
+
+-- what holds of those below a place, and of the one there, holds of those below the next
+pub below-more : {A : Type 0} (P : A → Type 0) (xs : List A) (i : ℕ) (x : A) → i < length xs → x ≡ slice_index_or xs i x →
+    ((j : ℕ) (d : A) → j < i → P (slice_index_or xs j d)) → P x → (j : ℕ) (d : A) → j < i + 1 → P (slice_index_or xs j d)
+below-more P xs i x within is before here j d below =
+    ⊎_elim (before j d)
+    (λ past. let same : j ≡ i = omega (arith, below, past) in
+    subst (λ k. P (slice_index_or xs k d)) (sym same) (subst P (is ∙ get_or_default xs i x d within) here)) (cases_lt j i)

@@ -8,6 +8,12 @@ use Rattle.circle_relation.specs.Accepts.{Fields}
 use Rattle.circle_words.specs.Words.{committed_of, lambda, pairs_of, corrected_word, HaveHeights}
 use Rattle.circle_words.proofs.corrected.first_layer.Goals as goal
 
+pub layer-requires-clause-height : goal.layer-requires-clause-height
+layer-requires-clause-height g c = c.requires.heights c.loop-log_height.log_height-index 0 c.loop-log_height-test.true
+
+pub layer-requires-clause-openable : goal.layer-requires-clause-openable
+layer-requires-clause-openable g c = c.requires.openable
+
 pub loop-log_height-preserved : goal.loop-log_height-preserved
 loop-log_height-preserved g c =
     let k : Fields g.row.F.Denot g.row.EF.Denot = record { field = g.F.Operations.ops; gen = g.F.ComplexExtendable.generators; two_adicity = g.F.ComplexExtendable.CIRCLE_TWO_ADICITY; is_zero = λ w. g.F.PartialEq.eq w g.F.Field.ZERO; extension = g.EF.Operations.ops; embed = g.EF.ExtensionField.embed; same = g.EF.PartialEq.eq } in

@@ -1,4 +1,5 @@
 use Rattle.std.proofs.Common.{◌≡◌, ◌≢◌, ◌∙◌, sym, ap, subst, length, map, All}
+use Rattle.std.proofs.lemmas.List.{length-map}
 use Rattle.circle_field.proofs.Inverses.{take-whole}
 use Rattle.circle_point.specs.Point.{coordinates}
 use Rattle.circle_matrix.specs.DotProduct.{pairwise}
@@ -13,6 +14,14 @@ batch_multiplicative_inverse-requires g c =
     subst (All NonZero) (sym (c.deref.ensures.value ∙ c.in_ok-real.ensures.real))
     (reals-nonzero g.EF.Operations.laws g.EF.PartialEq.eq g.met.EF.Field.eq_law g.EF.ExtensionField.embed (map coordinates points) (coordinates c.args.zeta)
     (points-on g.met.EF.ExtensionField.embedding (λ p. p.on_circle) points) c.args.zeta.on_circle c.requires.apart)
+
+pub multiply_each-requires : goal.multiply_each-requires
+multiply_each-requires g c =
+    let points = map coordinates c.args.points.now in
+    let inv = g.EF.Operations.ops.inv in
+    let real = c.deref.ensures.value ∙ c.in_ok-real.ensures.real in
+    ap length (c.deref_mut.ensures.value ∙ c.in_ok-real.ensures.imaginary) ∙ length-map points _
+    ∙ sym (ap length (c.deref-2.ensures.value ∙ c.in_ok-inverses.ensures) ∙ length-map c.deref.result.now inv ∙ ap length real ∙ length-map points _)
 
 pub returns : goal.returns
 returns g c =

@@ -1,6 +1,7 @@
 use Rattle.std.proofs.Common.{◌≡◌, ◌≢◌, ◌<◌, ◌+◌, ◌++◌, [], ◌∷◌, ◌∙◌, refl, sym, ap, subst, arith, map, take, length, slice_index_or, All}
 use Rattle.std.specs.Prelude.{IfSome, vec_len}
 use Rattle.std.specs.List.{Any}
+use Rattle.std.proofs.lemmas.Bool.{eqb-true}
 use Rattle.std.proofs.lemmas.List.{take_all, length-map}
 use Rattle.std.proofs.lemmas.List.FromFn.{get_or-map-range_with_len}
 use Rattle.circle_field.specs.Field.{nth_power}
@@ -15,7 +16,7 @@ use Rattle.circle_matrix.proofs.Written.{length-pairwise, pairwise-read}
 use Rattle.circle_folding.specs.Queries.{IsApart, with_multiples, claim_quotients}
 use Rattle.circle_relation.specs.Accepts.{Fields}
 use Rattle.circle_relation.specs.Sums.{Adds}
-use Rattle.circle_relation.proofs.ReducedSums.{adds-both, adds-same, adds-claim}
+use Rattle.circle_relation.proofs.ReducedSums.{adds-none, adds-both, adds-same, adds-claim}
 use Rattle.circle_point.specs.Projective.{from_line}
 use Rattle.circle_point.proofs.Projections.{line_norm-zero, from_line-on_circle}
 use Rattle.circle_relation.specs.Statement.{PointClaim}
@@ -36,6 +37,46 @@ unwrap-ratios-requires g c =
     some_unless c.ratios_at.result (λ none.
     let known = c.requires.known c.loop-i.i c.point-item.result c.loop-i-test.true in
     c.ratios_at.ensures.none none known.0 known.1 known.2 (ap (λ (r : PointRatios g.row.EF.Denot). r.point) known.3 ∙ known.4 ∙ sym c.point-item.is))
+
+pub returns-then-is_empty : goal.returns-then-is_empty
+returns-then-is_empty g c =
+    let fields : Fields g.row.F.Denot g.row.EF.Denot = record { field = g.F.Operations.ops; gen = g.F.ComplexExtendable.generators; two_adicity = g.F.ComplexExtendable.CIRCLE_TWO_ADICITY; is_zero = λ w. g.F.PartialEq.eq w g.F.Field.ZERO; extension = g.EF.Operations.ops; embed = g.EF.ExtensionField.embed; same = g.EF.PartialEq.eq } in
+    let l = g.EF.Operations.ops in
+    let matrix = c.args.matrix.now in
+    let ms = committed_of fields c.args.log_blowup matrix in
+    let points = points_of_height g.F.Operations.ops g.F.ComplexExtendable.generators matrix.log_height in
+    let none : length matrix.points.now ≡ 0 = eqb-true (length matrix.points.now) 0 (sym c.if-is_empty.ensures) in
+    let unclaimed : [] ≡ ms.claims =
+    take_all 0 ms.claims (omega (arith, none, length-pairwise (λ t v. claim_of t v.items) matrix.points.now matrix.values.now (sym c.requires.openable.valued))) in
+    record {
+      sums = λ alpha are.
+          subst (λ cs. Adds l g.EF.ExtensionField.embed alpha points (origin g.F.Operations.ops) (claims_among ms cs) c.args.offset c.args.offset c.args.sums.now c.args.sums.now) unclaimed
+          (adds-none l g.EF.ExtensionField.embed alpha points (origin g.F.Operations.ops) c.args.offset c.args.sums.now);
+    }
+
+pub bounds-powers-len : goal.bounds-powers-len
+bounds-powers-len g c =
+    let matrix = c.args.matrix.now in
+    let i = c.loop-i.i in
+    let vs = c.index-matrix-i.result in
+    let within : i < length matrix.points.now = c.loop-i-test.true in
+    let valued : i < length matrix.values.now = omega (arith, within, c.requires.openable.valued) in
+    let read_v : slice_index_or matrix.values.now i vs ≡ vs = sym c.index-matrix-i.is in
+    let wide : length vs.items ≡ width_of matrix.rows.now = ap (λ v. length v.items) (sym read_v) ∙ c.requires.openable.widths i vs valued in
+    let lent = ap (λ v. vec_len v) read_v in
+    omega (arith, c.len.ensures, lent, vs.ok.0, wide, c.requires.openable.enough)
+
+pub combined_values-claimed-requires : goal.combined_values-claimed-requires
+combined_values-claimed-requires g c =
+    let matrix = c.args.matrix.now in
+    let i = c.loop-i.i in
+    let vs = c.index-matrix-i.result in
+    let within : i < length matrix.points.now = c.loop-i-test.true in
+    let valued : i < length matrix.values.now = omega (arith, within, c.requires.openable.valued) in
+    let read_v : slice_index_or matrix.values.now i vs ≡ vs = sym c.index-matrix-i.is in
+    let wide : length vs.items ≡ width_of matrix.rows.now = ap (λ v. length v.items) (sym read_v) ∙ c.requires.openable.widths i vs valued in
+    let lent = ap length (c.deref.ensures.value ∙ ap (λ v. v.items) read_v) in
+    record { enough = omega (arith, lent, wide, c.requires.openable.enough) }
 
 pub add_quotients-requires-clause-ratios : goal.add_quotients-requires-clause-ratios
 add_quotients-requires-clause-ratios g c =

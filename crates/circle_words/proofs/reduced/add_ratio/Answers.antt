@@ -2,6 +2,7 @@ use Rattle.std.proofs.Common.{◌≡◌, ◌∙◌, refl, sym, ap, subst, map}
 use Rattle.std.specs.Prelude.{IfSome}
 use Rattle.std.proofs.lemmas.List.Elements.{All-same, All-push}
 use Rattle.std.specs.List.{Any}
+use Rattle.circle_folding.specs.Queries.{IsApart}
 use Rattle.circle_point.specs.Point.{coordinates}
 use Rattle.circle_point.specs.Projective.{from_line}
 use Rattle.circle_words.specs.Ratios.{vanishing_ratio, AreRatiosOf}
@@ -13,6 +14,13 @@ pub returns-then-is_some-clause-known : goal.returns-then-is_some-clause-known
 returns-then-is_some-clause-known g c =
     known-of c.ratios_at.result c.args.all.now.items c.args.point (sym c.is_some.ensures ∙ c.if-is_some.true)
     (subst (λ xs. IfSome c.ratios_at.result (λ found. Any (λ r. (r.point ≡ c.args.point) × (r.ratios.items ≡ found.now)) xs)) c.deref.ensures.value c.ratios_at.ensures.some)
+
+pub vanishing_ratios-requires : goal.vanishing_ratios-requires
+vanishing_ratios-requires g c =
+    let l = g.EF.Operations.ops in
+    let is : coordinates c.unwrap-zeta.result ≡ from_line l c.args.point =
+    subst (λ o. IfSome o (λ p. coordinates p ≡ from_line l c.args.point)) c.unwrap-zeta.ensures c.from_projective_line.ensures.point in
+    record { apart = subst (IsApart g.EF.ExtensionField.embed (map coordinates c.args.domain.now)) (sym is) c.requires.apart }
 
 pub returns-clause-right : goal.returns-clause-right
 returns-clause-right g c =

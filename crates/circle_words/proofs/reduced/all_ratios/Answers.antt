@@ -30,6 +30,14 @@ add_ratios-requires-clause-apart g c =
     subst (λ ps. IsApart m ps (from_line l (slice_index_or one.points.now i t))) (sym listed)
     (off-apart g.F.Operations.laws g.EF.Operations.laws g.met.EF.ExtensionField.embedding g.met.F.ComplexExtendable.generators_law h (slice_index_or one.points.now i t) c.requires.positive (omega (arith, top)) (off.0 i t lt) (off.1 i t lt))
 
+pub add_ratios-requires-clause-finite : goal.add_ratios-requires-clause-finite
+add_ratios-requires-clause-finite g c =
+    let l = g.EF.Operations.ops in
+    let gen = g.F.ComplexExtendable.generators in
+    let h = c.args.log_height in
+    let Due : OpenedMatrix g.row.F.Denot g.row.EF.Denot → Type 0 = λ o. o.log_height ≡ h → All (λ t. l.mul t t ≢ l.neg l.one) o.points.now × All (λ t. IsClearOf l g.EF.ExtensionField.embed (natural_order g.F.Operations.ops gen h (gen (h + 1))) (from_line l t)) o.points.now in
+    (subst Due (sym c.matrix-item.is) (c.requires.off c.loop-matrix.matrix-index c.matrix-item.result c.loop-matrix-test.true) c.if-matrix-log_height.true).0
+
 pub add_ratios-requires-clause-right : goal.add_ratios-requires-clause-right
 add_ratios-requires-clause-right g c =
     let listed : map coordinates c.deref.result.now ≡ points_of_height g.F.Operations.ops g.F.ComplexExtendable.generators c.args.log_height = ap (map coordinates) c.deref.ensures.value ∙ c.in_ok-domain.ensures in

@@ -8,9 +8,9 @@ use Rattle.circle_field.proofs.Inverses.{take-whole}
 use Rattle.circle_domain.proofs.Powers.{pow_within}
 use Rattle.circle_relation.specs.Accepts.{Fields}
 use Rattle.circle_relation.specs.Sums.{reduced, Adds}
-use Rattle.circle_relation.proofs.ReducedSums.{adds-both, adds-same, adds-all}
-use Rattle.circle_words.specs.Ratios.{points_of_height}
-use Rattle.circle_words.specs.Words.{committed_of, claims_on, claims_at}
+use Rattle.circle_relation.proofs.ReducedSums.{adds-none, adds-both, adds-same, adds-all}
+use Rattle.circle_words.specs.Ratios.{points_of_height, AreRatiosOf}
+use Rattle.circle_words.specs.Words.{CanBeOpened, committed_of, claims_on, claims_at}
 use Rattle.circle_words.specs.declared.ratios.PointRatios.{PointRatios}
 use Rattle.circle_words.specs.declared.reduced.OpenedMatrix.{OpenedMatrix}
 use Rattle.circle_words.proofs.Claims.{claims-more, claims-left}
@@ -23,6 +23,36 @@ add_matrix-requires-clause-known g c =
     let Due : OpenedMatrix g.row.F.Denot g.row.EF.Denot → Type 0 = λ o. o.log_height ≡ c.args.log_height → Known c.in_ok-ratios.ratios.items o in
     subst (λ all. Known all c.matrix-item.result) (sym c.deref.ensures.value)
     (subst Due (sym c.matrix-item.is) (c.in_ok-ratios.ensures.known c.loop-matrix.matrix-index c.matrix-item.result c.loop-matrix-test.true) c.if-matrix-log_height.true)
+
+pub add_matrix-requires-clause-openable : goal.add_matrix-requires-clause-openable
+add_matrix-requires-clause-openable g c =
+    let fields : Fields g.row.F.Denot g.row.EF.Denot = record { field = g.F.Operations.ops; gen = g.F.ComplexExtendable.generators; two_adicity = g.F.ComplexExtendable.CIRCLE_TWO_ADICITY; is_zero = λ w. g.F.PartialEq.eq w g.F.Field.ZERO; extension = g.EF.Operations.ops; embed = g.EF.ExtensionField.embed; same = g.EF.PartialEq.eq } in
+    subst (CanBeOpened fields g.F.ComplexExtendable.CIRCLE_TWO_ADICITY (length c.args.powers.now)) (sym c.matrix-item.is)
+    (c.requires.openable c.loop-matrix.matrix-index c.matrix-item.result c.loop-matrix-test.true)
+
+pub add_matrix-requires-clause-right : goal.add_matrix-requires-clause-right
+add_matrix-requires-clause-right g c =
+    let Right : ℕ → List (PointRatios g.row.EF.Denot) → Type 0 =
+    λ h all. All (AreRatiosOf g.EF.Operations.ops g.EF.ExtensionField.embed (points_of_height g.F.Operations.ops g.F.ComplexExtendable.generators h)) all in
+    subst (Right c.matrix-item.result.log_height) (sym c.deref.ensures.value)
+    (subst (λ h. Right h c.in_ok-ratios.ratios.items) (sym c.if-matrix-log_height.true) c.in_ok-ratios.ensures.right)
+
+pub loop-matrix-init : goal.loop-matrix-init
+loop-matrix-init g c =
+    let l = g.EF.Operations.ops in
+    let k = g.F.Operations.ops in
+    let embed = g.EF.ExtensionField.embed in
+    let h = c.args.log_height in
+    let points = points_of_height k g.F.ComplexExtendable.generators h in
+    let begun = c.in_ok-word.word.items in
+    let small : 2 ^ h ≤ 2 ^ 62 = pow_within h 62 (omega (arith, c.requires.in_group, g.met.F.ComplexExtendable.at_most_62)) in
+    let zeros : begun ≡ replicate (2 ^ h) c.ZERO.result = c.in_ok-word.ensures.items_if_clones_equal (λ y same. g.met.EF.Field.clone_law _ _ same) ∙ ap (λ n. replicate n c.ZERO.result) (omega (arith, small)) in
+    record {
+      counted = ap length zeros ∙ length-replicate (2 ^ h) c.ZERO.result;
+      adds = λ alpha are.
+          subst (λ o. Adds l embed alpha points (origin k) (λ j. []) l.one o begun begun) (sym (c.ONE-offset.ensures ∙ g.met.EF.Field.one_law))
+          (adds-none l embed alpha points (origin k) l.one begun);
+    }
 
 pub loop-matrix-preserved : goal.loop-matrix-preserved
 loop-matrix-preserved g c =

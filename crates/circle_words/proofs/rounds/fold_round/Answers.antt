@@ -12,6 +12,20 @@ use Rattle.circle_folding.proofs.Twiddles.{length-fold_x_twiddles}
 use Rattle.circle_words.proofs.rounds.fold_round.Goals as goal
 use Rattle.circle_words.proofs.rounds.fold_round.Goals.{in-Some, in_default}
 
+pub bounds-folded-place : goal.bounds-folded-place
+bounds-folded-place g c =
+    let hs = c.args.heights.now in
+    let words = c.args.folded.now in
+    let counted : length words ≡ length hs = sym (length-map words (λ w. length w.items)) ∙ ap length c.requires.words ∙ length-map hs (λ n. 2 ^ (n - 1)) in
+    omega (arith, counted, c.in-Some.ensures.some.0)
+
+pub offset_bounds-folded-place : goal.offset_bounds-folded-place
+offset_bounds-folded-place g c =
+    let hs = c.args.heights.now in
+    let words = c.args.folded.now in
+    let counted : length words ≡ length hs = sym (length-map words (λ w. length w.items)) ∙ ap length c.requires.words ∙ length-map hs (λ n. 2 ^ (n - 1)) in
+    omega (arith, counted, c.in-Some.ensures.some.0)
+
 pub add_each-requires : goal.add_each-requires
 add_each-requires g c =
     let k = g.F.Operations.ops in

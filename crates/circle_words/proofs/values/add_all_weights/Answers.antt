@@ -1,9 +1,24 @@
-use Rattle.std.proofs.Common.{◌≡◌, subst, arith, take, All}
+use Rattle.std.proofs.Common.{◌≡◌, sym, subst, arith, take, All}
 use Rattle.std.specs.List.{Any}
 use Rattle.std.proofs.lemmas.List.{take_all}
 use Rattle.std.proofs.lemmas.List.Elements.{All-more, All-weaker}
+use Rattle.circle_domain.specs.Selectors.{IsFinite}
+use Rattle.circle_relation.specs.Accepts.{Fields}
+use Rattle.circle_words.specs.Values.{IsOffDomain}
 use Rattle.circle_words.specs.declared.values.PointWeights.{PointWeights}
 use Rattle.circle_words.proofs.values.add_all_weights.Goals as goal
+
+pub loop-point-init : goal.loop-point-init
+loop-point-init g c = record { right = c.requires.right; known = λ i t lt. absurd (omega (arith, lt)) }
+
+pub add_weights-requires-clause-finite : goal.add_weights-requires-clause-finite
+add_weights-requires-clause-finite g c =
+    subst (IsFinite g.EF.Operations.ops) (sym c.point-item.is) (c.requires.off.0 c.loop-point.point-index c.point-item.result c.loop-point-test.true)
+
+pub add_weights-requires-clause-off : goal.add_weights-requires-clause-off
+add_weights-requires-clause-off g c =
+    let k : Fields g.row.F.Denot g.row.EF.Denot = record { field = g.F.Operations.ops; gen = g.F.ComplexExtendable.generators; two_adicity = g.F.ComplexExtendable.CIRCLE_TWO_ADICITY; is_zero = λ w. g.F.PartialEq.eq w g.F.Field.ZERO; extension = g.EF.Operations.ops; embed = g.EF.ExtensionField.embed; same = g.EF.PartialEq.eq } in
+    subst (IsOffDomain k c.args.log_height) (sym c.point-item.is) (c.requires.off.1 c.loop-point.point-index c.point-item.result c.loop-point-test.true)
 
 pub loop-point-preserved : goal.loop-point-preserved
 loop-point-preserved g c =
