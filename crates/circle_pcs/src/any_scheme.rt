@@ -97,7 +97,7 @@ where
 {
     let committed = commit_batches(alloc, pcs, batches)?;
     let requests = requests_of(alloc, &committed)?;
-    let (values, proof) = match pcs.open(alloc, requests, prover) {
+    let (values, proof) = match open_requests(alloc, pcs, requests, prover) {
         Ok(opened) => opened,
         Err(error) => return Err(RoundTripError::Open(error)),
     };
@@ -107,6 +107,24 @@ where
         Ok(()) => Ok(values),
         Err(error) => Err(RoundTripError::Verify(error)),
     }
+}
+
+// Opens what was committed to at the points.
+fn open_requests<Challenge, C: ChallengerState, P: Pcs<Challenge, C>>(
+    alloc: Global,
+    pcs: &P,
+    requests: Vec<OpeningRequest<'_, P::ProverData, Challenge>>,
+    challenger: &mut C,
+) -> Result<(OpenedValues<Challenge>, P::Proof), P::ProverError>
+where
+    Challenge: ExtensionField<<P::Domain as PolynomialSpace>::Val>,
+    requires asks { P.open_asks pcs.now requests.items }
+    ensures opened { let s = C.state in IfOk result (λ r. P.open_gives pcs.now
+        requests.entry.items (s challenger.old) (openings r.0.items) r.1 (s challenger.new)) }
+    ensures refused { let s = C.state in IfErr result (P.open_refuses pcs.now
+        requests.entry.items (s challenger.old) (s challenger.new)) }
+{
+    pcs.open(alloc, requests, challenger)
 }
 
 // Commits to each batch.

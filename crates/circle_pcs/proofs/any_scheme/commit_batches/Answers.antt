@@ -1,6 +1,7 @@
 use Rattle.std.proofs.Common.{sym, ◌∙◌, length, subst}
 use Rattle.std.proofs.lemmas.Iterator.Adapters.{YieldsList-from_vec}
-use Rattle.std.proofs.lemmas.Iterator.Consumers.{YieldsList-turn}
+use Rattle.std.proofs.lemmas.Iterator.Consumers.{YieldsList-end, YieldsList-turn}
+use Rattle.std.proofs.lemmas.List.{map-id}
 use Rattle.circle_pcs.specs.RoundTrip.{AreCommitted, IsUncommittedOf}
 use Rattle.circle_pcs.proofs.Batches.{handed, one-uncommitted, one-more-committed}
 use Rattle.circle_pcs.proofs.any_scheme.commit_batches.Goals as goal
@@ -17,3 +18,10 @@ pub loop-batch-preserved : goal.loop-batch-preserved
 loop-batch-preserved g c =
     subst (AreCommitted (g.P.Pcs.commits c.args.pcs.now) _) (sym c.in_ok-push.ensures)
     (one-more-committed (g.P.Pcs.commits c.args.pcs.now) c.loop-batch.yielded c.loop-batch.committed.items c.in-Some.batch c.in_ok-commit_batch.field-0 c.loop-batch.invariant c.in_ok-commit_batch.ensures.committed)
+
+pub returns-clause-committed : goal.returns-clause-committed
+returns-clause-committed g c =
+    let given = c.into_iter-batch-iterator.ensures.into_iter_gives in
+    let road = YieldsList-from_vec c.args.batches.items given.0 (given.1 ∙ c.args.batches.ok.0) in
+    let last = YieldsList-end road c.loop-batch.yielded _ c.loop-batch.yielded_by _ c.next.new.self c.in-None.is c.next.ensures.steps in
+    subst (λ bs. AreCommitted (g.P.Pcs.commits c.args.pcs.now) bs c.loop-batch.committed.items) (sym (map-id c.loop-batch.yielded) ∙ last.0) c.loop-batch.invariant
