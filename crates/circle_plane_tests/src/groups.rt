@@ -1,10 +1,11 @@
 //! The circle transform over Mersenne31, without groups and by groups of layers, beside one layer
 //! over all entries after another.
-use crate::transform::{Domain, Evaluations, Rows, assert_same, evaluate, scattered};
-use circle_commit::{Matrix, RowMajorMatrix};
+use crate::smaller::{coefficients, extended};
+use crate::transform::{Domain, Evaluations, Rows, assert_same, evaluate, rows_of, scattered};
+use circle_commit::Matrix;
 use circle_domain::layer_twiddles;
 use circle_field::{Field, Mersenne31};
-use circle_plane::{CircleDomain, CircleEvaluations};
+use circle_plane::CircleEvaluations;
 use std::alloc::{AllocError, Global};
 use std::process::Abort;
 use std::test::Fail;
@@ -43,6 +44,45 @@ fn backward_layer(
     }
 }
 
+// From coefficients to values: one layer after another, the last first.
+fn forward_layers(
+    rt: &impl Abort,
+    entries: &mut [Mersenne31],
+    width: usize,
+    twiddles: &[Vec<Mersenne31>],
+) {
+    assert!(rt; width <= 64 && twiddles.len() <= 8);
+    for layer in (0..twiddles.len()).rev() {
+        forward_layer(rt, entries, width << layer, &twiddles[layer]);
+    }
+}
+
+// From values to coefficients times `2^log_n`: one layer after another.
+fn backward_layers(
+    rt: &impl Abort,
+    entries: &mut [Mersenne31],
+    width: usize,
+    twiddles: &[Vec<Mersenne31>],
+) {
+    assert!(rt; width <= 64 && twiddles.len() <= 8);
+    for layer in 0..twiddles.len() {
+        backward_layer(rt, entries, width << layer, &twiddles[layer]);
+    }
+}
+
+// These entries with zeros behind them, so many in all.
+fn padded(
+    alloc: Global,
+    entries: &[Mersenne31],
+    count: usize,
+) -> Result<Vec<Mersenne31>, AllocError> {
+    let mut all = Vec::from_slice(alloc, entries)?;
+    for _ in entries.len()..count {
+        all.push(Mersenne31::ZERO)?;
+    }
+    Ok(all)
+}
+
 // The rows in the transform's order by one layer over the whole matrix after another.
 fn evaluate_by_layers(
     rt: &impl Abort,
@@ -50,21 +90,12 @@ fn evaluate_by_layers(
     domain: Domain,
     coeffs: &Rows,
 ) -> Result<Rows, AllocError> {
-    assert!(rt; domain.log_n() >= 1 && domain.log_n() <= 8 && coeffs.width() <= 64);
+    let width = coeffs.width();
+    assert!(rt; domain.log_n() >= 1 && domain.log_n() <= 8 && width <= 64);
     let twiddles = layer_twiddles(alloc, domain)?;
-    let len = domain.size() * coeffs.width();
-    let mut entries = vec![in alloc; Mersenne31::ZERO; len]?;
-    let stored = coeffs.values();
-    for i in 0..stored.len() {
-        assert!(rt; i < entries.len());
-        entries[i] = stored[i];
-    }
-    for layer in (0..domain.log_n()).rev() {
-        assert!(rt; layer < twiddles.len() && layer < 8);
-        forward_layer(rt, &mut entries, coeffs.width() << layer, &twiddles[layer]);
-    }
-    assert!(rt; coeffs.width() >= 1 && entries.len() % coeffs.width() == 0);
-    Ok(RowMajorMatrix::new(entries, coeffs.width()))
+    let mut entries = padded(alloc, coeffs.values(), domain.size() * width)?;
+    forward_layers(rt, &mut entries, width, &twiddles);
+    Ok(rows_of(rt, entries, width))
 }
 
 // The coefficients by one layer over the whole matrix after another, from rows in the transform's
@@ -73,21 +104,16 @@ fn interpolate_by_layers(
     rt: &impl Abort,
     alloc: Global,
     domain: Domain,
-    rows: Rows,
+    rows: &Rows,
 ) -> Result<Rows, AllocError> {
-    assert!(rt; domain.log_n() >= 1 && domain.log_n() <= 8 && rows.width() <= 64);
+    assert!(rt; domain.log_n() >= 1 && domain.log_n() <= 8);
     let twiddles = layer_twiddles(alloc, domain)?;
-    let width = rows.width();
-    let mut entries = rows.into_values();
-    for layer in 0..domain.log_n() {
-        assert!(rt; layer < twiddles.len() && layer < 8);
-        backward_layer(rt, &mut entries, width << layer, &twiddles[layer]);
+    let mut entries = Vec::from_slice(alloc, rows.values())?;
+    backward_layers(rt, &mut entries, rows.width(), &twiddles);
+    for entry in entries.iter_mut() {
+        *entry = entry.div_2exp_u64(domain.log_n() as u64);
     }
-    for i in 0..entries.len() {
-        entries[i] = entries[i].div_2exp_u64(domain.log_n() as u64);
-    }
-    assert!(rt; width >= 1 && entries.len() % width == 0);
-    Ok(RowMajorMatrix::new(entries, width))
+    Ok(rows_of(rt, entries, rows.width()))
 }
 
 // `CircleEvaluations::evaluate_grouped`, after a test of what it asks.
@@ -113,8 +139,9 @@ fn interpolate_grouped(
     rows: Rows,
     group: usize,
 ) -> Result<Rows, AllocError> {
-    assert!(rt; domain.log_n() >= 1 && domain.log_n() <= 31 && domain.is_genuine() && group >= 1);
-    assert!(rt; rows.height() == domain.size());
+    assert!(rt;
+        group >= 1 && domain.log_n() <= 31 && domain.is_genuine() && rows.height() == domain.size()
+    );
     let evaluations = CircleEvaluations::from_cfft_order(domain, rows);
     let (coeffs, _) = evaluations.interpolate_grouped(alloc, group)?;
     Ok(coeffs)
@@ -147,11 +174,7 @@ fn assert_interpolated(
     rows: &Rows,
     coeffs: &Rows,
 ) -> Result<(), AllocError> {
-    assert!(rt; domain.log_n() >= 1 && domain.log_n() <= 31 && domain.is_genuine());
-    let copy = rows.try_clone(alloc)?;
-    assert!(rt; copy.height() == domain.size());
-    let evaluations = CircleEvaluations::from_cfft_order(domain, copy);
-    assert_same(rt, &evaluations.interpolate(alloc)?, coeffs);
+    assert_same(rt, &coefficients(rt, alloc, domain, rows)?, coeffs);
     for group in GROUPS {
         let copy = rows.try_clone(alloc)?;
         assert_same(
@@ -163,23 +186,18 @@ fn assert_interpolated(
     Ok(())
 }
 
-// Asserts that rows in the transform's order have these values on a larger domain.
-fn assert_extrapolated(
+// Asserts that the values of these coefficients on a larger domain are the same by layers, by the
+// transforms, and by those of the rows that the coefficients have on the domain.
+fn assert_extended(
     rt: &impl Abort,
     alloc: Global,
     (domain, target): (Domain, Domain),
-    rows: Rows,
-    values: &Rows,
+    coeffs: &Rows,
+    rows: &Rows,
 ) -> Result<(), AllocError> {
-    assert!(rt; domain.log_n() >= 1 && domain.log_n() <= 31 && domain.is_genuine());
-    assert!(rt; rows.height() == domain.size());
-    assert!(rt; domain.log_n() <= target.log_n() && target.log_n() <= 31);
-    let evaluations = CircleEvaluations::from_cfft_order(domain, rows);
-    assert_same(
-        rt,
-        &evaluations.extrapolate(alloc, target)?.to_cfft_order(),
-        values,
-    );
+    let values = evaluate_by_layers(rt, alloc, target, coeffs)?;
+    assert_evaluated(rt, alloc, target, coeffs, &values)?;
+    assert_same(rt, &extended(rt, alloc, domain, rows, target)?, &values);
     Ok(())
 }
 
@@ -191,15 +209,12 @@ fn assert_as_by_layers(
     width: usize,
 ) -> Result<(), AllocError> {
     assert!(rt; log_n >= 1 && log_n <= 6 && width >= 1 && width <= 4);
-    let domain = CircleDomain::standard(log_n);
-    let target = CircleDomain::standard(log_n + 2);
+    let (domain, target) = (Domain::standard(log_n), Domain::standard(log_n + 2));
     let rows = scattered(rt, alloc, 1 << log_n, width, log_n as u64)?;
-    let coeffs = interpolate_by_layers(rt, alloc, domain, rows.try_clone(alloc)?)?;
+    let coeffs = interpolate_by_layers(rt, alloc, domain, &rows)?;
     assert_interpolated(rt, alloc, domain, &rows, &coeffs)?;
     assert_evaluated(rt, alloc, domain, &coeffs, &rows)?;
-    let values = evaluate_by_layers(rt, alloc, target, &coeffs)?;
-    assert_evaluated(rt, alloc, target, &coeffs, &values)?;
-    assert_extrapolated(rt, alloc, (domain, target), rows, &values)
+    assert_extended(rt, alloc, (domain, target), &coeffs, &rows)
 }
 
 #[test]

@@ -1,9 +1,10 @@
 //! The weights of values off a domain over Mersenne31 and its cubic extension, beside quotients.
+use crate::smaller::point_at;
 use crate::transform::Rows;
 use circle_commit::Matrix;
 use circle_domain::{LagrangeWeights, lagrange_weights};
 use circle_field::{Cubic, ExtensionField, Field, Mersenne31};
-use circle_plane::{CircleDomain, CircleEvaluations, Point, cfft_permute_index};
+use circle_plane::{CircleDomain, CircleEvaluations, Point};
 use std::alloc::{AllocError, Global};
 use std::process::Abort;
 use std::test::Fail;
@@ -30,8 +31,8 @@ pub(crate) fn evaluate_at_point(
     rows: Rows,
     at: Point<Cubic>,
 ) -> Result<Vec<Cubic>, AllocError> {
-    assert!(rt; domain.log_n() >= 1 && domain.log_n() <= 31 && domain.is_genuine());
-    assert!(rt; domain.is_clear_of(at) && rows.height() == domain.size());
+    assert!(rt; domain.log_n() <= 31 && domain.is_genuine() && rows.height() == domain.size());
+    assert!(rt; domain.is_clear_of(at));
     CircleEvaluations::from_natural_order(domain, rows).evaluate_at_point(alloc, at)
 }
 
@@ -42,8 +43,7 @@ fn weights(
     domain: CircleDomain<Mersenne31>,
     at: Point<Cubic>,
 ) -> Result<LagrangeWeights<Cubic>, AllocError> {
-    assert!(rt; domain.log_n() >= 1 && domain.log_n() <= 31 && domain.is_genuine());
-    assert!(rt; domain.is_clear_of(at));
+    assert!(rt; domain.log_n() <= 31 && domain.is_genuine() && domain.is_clear_of(at));
     lagrange_weights(alloc, domain, at)
 }
 
@@ -51,23 +51,20 @@ fn weights(
 // the weight's point and what normalises it.
 fn assert_weights(
     rt: &impl Abort,
-    alloc: Global,
     domain: CircleDomain<Mersenne31>,
     at: Point<Cubic>,
-) -> Result<(), AllocError> {
-    let weights = weights(rt, alloc, domain, at)?;
+    weights: &LagrangeWeights<Cubic>,
+) {
     let log_n = domain.log_n();
     assert!(rt; log_n >= 1 && log_n <= 31 && weights.shares.len() == domain.size());
     let vanishing = at.v_n(log_n) - Cubic::from_base(domain.shift().v_n(log_n));
     for (i, share) in weights.shares.iter().enumerate() {
-        assert!(rt; i < domain.size());
-        let point = domain.nth_point(cfft_permute_index(i, log_n));
+        let point = point_at(rt, domain, i);
         let difference = at - point;
         let denominator = difference.y() * Cubic::from_base(point.s_p_at_p(log_n));
         let numerator = vanishing * (difference.x() + Cubic::ONE);
-        assert_eq!(rt; *share * weights.scale * denominator, numerator);
+        assert!(rt; *share * weights.scale * denominator == numerator);
     }
-    Ok(())
 }
 
 #[test]
@@ -79,7 +76,7 @@ fn lagrange_polynomials_are_quotients(rt: HostRuntime) -> Result<(), Fail> {
             CircleDomain::standard(log_n),
             CircleDomain::new(log_n, shift),
         ] {
-            assert_weights(&rt, rt.alloc(), domain, at)?;
+            assert_weights(&rt, domain, at, &weights(&rt, rt.alloc(), domain, at)?);
         }
     }
     Ok(())

@@ -25,11 +25,11 @@ fn halves_of_a_domain(rt: HostRuntime) {
     let domain = CircleDomain::<Mersenne31>::standard(3);
     for (a, point) in domain.coset0().enumerate() {
         assert!(rt; a < 4);
-        assert_eq!(rt; point, domain.nth_point(2 * a));
+        assert!(rt; point == domain.nth_point(2 * a));
     }
     for (a, point) in domain.coset1().enumerate() {
         assert!(rt; a < 4);
-        assert_eq!(rt; point, domain.nth_point(2 * a + 1));
+        assert!(rt; point == domain.nth_point(2 * a + 1));
     }
     assert_eq!(rt; (domain.coset0().count(), domain.coset1().count()), (4, 4));
 }

@@ -57,6 +57,16 @@ fn coefficients(
     )
 }
 
+// The first 2^8 of 2^9 coefficients, of which the others must be zero.
+fn lower_half(rt: &impl Abort, alloc: Global, coeffs: &Rows) -> Result<Rows, AllocError> {
+    assert!(rt; coeffs.height() == 512);
+    let (low, high) = coeffs.split_rows(256);
+    for r in 0..high.height() {
+        assert!(rt; high.row(r).iter().all(|entry| entry.is_zero()));
+    }
+    RowMajorMatrix::copy_of(alloc, &low)
+}
+
 // The values on the standard domain of 2^8 points of the polynomial with these values on that of
 // 2^9, which must have no more than 2^8 coefficients.
 fn on_the_smaller_domain(
@@ -64,13 +74,7 @@ fn on_the_smaller_domain(
     alloc: Global,
     values: Vec<Mersenne31>,
 ) -> Result<Rows, AllocError> {
-    let coeffs = coefficients(rt, alloc, values)?;
-    assert!(rt; coeffs.height() == 512);
-    let (low, high) = coeffs.split_rows(256);
-    for r in 0..high.height() {
-        assert!(rt; high.row(r).iter().all(|entry| entry.is_zero()));
-    }
-    let low = RowMajorMatrix::copy_of(alloc, &low)?;
+    let low = lower_half(rt, alloc, &coefficients(rt, alloc, values)?)?;
     evaluate(rt, alloc, Domain::standard(8), low)?
         .to_natural_order()
         .to_row_major_matrix(alloc)
@@ -129,19 +133,32 @@ fn selectors_are_polynomials(rt: HostRuntime) -> Result<(), Fail> {
     Ok(())
 }
 
-#[test]
-fn the_vanishing_polynomial_is_one_of_the_basis(rt: HostRuntime) -> Result<(), Fail> {
-    let alloc = rt.alloc();
-    let domain = Domain::standard(8);
+// The values of a domain's vanishing polynomial on the standard domain of 2^9 points.
+fn vanishing_values(
+    rt: &impl Abort,
+    alloc: Global,
+    domain: Domain,
+) -> Result<Vec<Mersenne31>, AllocError> {
     let mut values = Vec::new(alloc);
     for at in Domain::standard(9).points() {
-        values.push(vanishing(&rt, domain, coordinate(&rt, at)))?;
+        values.push(vanishing(rt, domain, coordinate(rt, at)))?;
     }
-    let coeffs = coefficients(&rt, alloc, values)?;
-    assert_eq!(&rt; coeffs.values().len(), 512);
-    for (i, coeff) in coeffs.values().iter().enumerate() {
-        assert_eq!(&rt; coeff.value(), if i == 256 { 1 } else { 0 });
+    Ok(values)
+}
+
+// Asserts that of 2^9 coefficients that at 2^8 is one, and all others are zero.
+fn assert_of_basis(rt: &impl Abort, coeffs: &[Mersenne31]) {
+    assert_eq!(rt; coeffs.len(), 512);
+    for (i, coeff) in coeffs.iter().enumerate() {
+        assert_eq!(rt; coeff.value(), if i == 256 { 1 } else { 0 });
     }
+}
+
+#[test]
+fn the_vanishing_polynomial_is_one_of_the_basis(rt: HostRuntime) -> Result<(), Fail> {
+    let (alloc, domain) = (rt.alloc(), Domain::standard(8));
+    let coeffs = coefficients(&rt, alloc, vanishing_values(&rt, alloc, domain)?)?;
+    assert_of_basis(&rt, coeffs.values());
     for at in domain.points() {
         assert!(&rt; vanishing(&rt, domain, coordinate(&rt, at)).is_zero());
     }

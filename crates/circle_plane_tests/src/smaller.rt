@@ -17,9 +17,12 @@ pub(crate) fn extended(
     target: Domain,
 ) -> Result<Rows, AllocError> {
     let copy = rows.try_clone(alloc)?;
-    assert!(rt; domain.log_n() >= 1 && domain.log_n() <= 31 && domain.is_genuine());
-    assert!(rt; domain.log_n() <= target.log_n() && target.log_n() <= 31);
-    assert!(rt; copy.height() == domain.size());
+    assert!(rt;
+        domain.log_n() <= target.log_n()
+            && target.log_n() <= 31
+            && domain.is_genuine()
+            && copy.height() == domain.size()
+    );
     let extended = CircleEvaluations::from_cfft_order(domain, copy).extrapolate(alloc, target)?;
     Ok(extended.to_cfft_order())
 }
@@ -32,8 +35,7 @@ pub(crate) fn coefficients(
     rows: &Rows,
 ) -> Result<Rows, AllocError> {
     let copy = rows.try_clone(alloc)?;
-    assert!(rt; domain.log_n() >= 1 && domain.log_n() <= 31 && domain.is_genuine());
-    assert!(rt; copy.height() == domain.size());
+    assert!(rt; domain.log_n() <= 31 && domain.is_genuine() && copy.height() == domain.size());
     CircleEvaluations::from_cfft_order(domain, copy).interpolate(alloc)
 }
 
@@ -46,8 +48,8 @@ pub(crate) fn values_at(
     at: Point<Cubic>,
 ) -> Result<Vec<Cubic>, AllocError> {
     let copy = rows.try_clone(alloc)?;
-    assert!(rt; domain.log_n() >= 1 && domain.log_n() <= 31 && domain.is_genuine());
-    assert!(rt; domain.is_clear_of(at) && copy.height() == domain.size());
+    assert!(rt; domain.log_n() <= 31 && domain.is_genuine() && copy.height() == domain.size());
+    assert!(rt; domain.is_clear_of(at));
     CircleEvaluations::from_cfft_order(domain, copy).evaluate_at_point(alloc, at)
 }
 
@@ -63,6 +65,13 @@ pub(crate) fn prefix(
     RowMajorMatrix::copy_of(alloc, &first)
 }
 
+// Asserts that the columns of coefficients have these values at the point of this basis.
+fn assert_values_by_basis(rt: &impl Abort, coeffs: &Rows, basis: &[Cubic], values: &[Cubic]) {
+    for (column, value) in values.iter().enumerate() {
+        assert!(rt; plain_entry(rt, coeffs, column, basis) == *value);
+    }
+}
+
 // Asserts that the columns of rows have these values at a point, by Lagrange polynomials and by
 // coefficients.
 fn assert_values(
@@ -73,14 +82,13 @@ fn assert_values(
     at: Point<Cubic>,
     values: &[Cubic],
 ) -> Result<(), AllocError> {
-    assert!(rt; values_at(rt, alloc, domain, rows, at)?.as_slice() == values);
-    let coeffs = coefficients(rt, alloc, domain, rows)?;
     let log_n = domain.log_n();
     assert!(rt; log_n >= 1 && log_n <= 31);
     let basis = circle_basis(alloc, at, log_n)?;
-    for (column, value) in values.iter().enumerate() {
-        assert!(rt; plain_entry(rt, &coeffs, column, &basis) == *value);
-    }
+    let coeffs = coefficients(rt, alloc, domain, rows)?;
+    assert_values_by_basis(rt, &coeffs, &basis, values);
+    let found = values_at(rt, alloc, domain, rows, at)?;
+    assert!(rt; found.as_slice() == values);
     Ok(())
 }
 
@@ -96,7 +104,7 @@ pub(crate) fn point_at(rt: &impl Abort, domain: Domain, place: usize) -> Point<M
 fn assert_begins_with(rt: &impl Abort, larger: Domain, smaller: Domain) {
     assert!(rt; smaller.log_n() <= 31);
     for place in 0..smaller.size() {
-        assert_eq!(rt; point_at(rt, smaller, place), point_at(rt, larger, place));
+        assert!(rt; point_at(rt, smaller, place) == point_at(rt, larger, place));
     }
 }
 
@@ -120,9 +128,9 @@ fn assert_alike(
     assert_values(rt, alloc, domain, &rows, at, &values)?;
     let all = extended(rt, alloc, domain, &rows, larger)?;
     assert_values(rt, alloc, larger, &all, at, &values)?;
+    let first = prefix(rt, alloc, &all, 1 << log_n)?;
     let smaller = CircleDomain::new(log_n, larger.shift());
     assert_begins_with(rt, larger, smaller);
-    let first = prefix(rt, alloc, &all, 1 << log_n)?;
     assert_values(rt, alloc, smaller, &first, at, &values)
 }
 

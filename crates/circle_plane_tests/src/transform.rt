@@ -11,6 +11,12 @@ pub(crate) type Rows = RowMajorMatrix<Mersenne31>;
 
 pub(crate) type Evaluations = CircleEvaluations<Mersenne31, Rows>;
 
+// The rows of this width that these entries make up.
+pub(crate) fn rows_of(rt: &impl Abort, entries: Vec<Mersenne31>, width: usize) -> Rows {
+    assert!(rt; width >= 1 && entries.len() % width == 0);
+    RowMajorMatrix::new(entries, width)
+}
+
 // A matrix of `height * width` entries without a pattern.
 pub(crate) fn scattered(
     rt: &impl Abort,
@@ -26,8 +32,7 @@ pub(crate) fn scattered(
         state = state * Mersenne31::from_u64(1103515245) + Mersenne31::from_u64(12345);
         values.push(state)?;
     }
-    assert!(rt; values.len() % width == 0);
-    Ok(RowMajorMatrix::new(values, width))
+    Ok(rows_of(rt, values, width))
 }
 
 // The sum of a column's entries, each times its factor.
@@ -66,8 +71,7 @@ pub(crate) fn interpolate(
     domain: Domain,
     rows: Rows,
 ) -> Result<Rows, AllocError> {
-    assert!(rt; domain.log_n() >= 1 && domain.log_n() <= 31 && domain.is_genuine());
-    assert!(rt; rows.height() == domain.size());
+    assert!(rt; domain.log_n() <= 31 && domain.is_genuine() && rows.height() == domain.size());
     CircleEvaluations::from_natural_order(domain, rows).interpolate(alloc)
 }
 

@@ -77,18 +77,54 @@ pub fn assert_pairs<EF: Field>(
     }
 }
 
+// Asserts that the entries of the word that the indices without so many lowest bits ask for are
+// these values.
+fn assert_asked<EF: Field>(
+    rt: &impl Abort,
+    alloc: Global,
+    bits: usize,
+    indices: &[usize],
+    word: &[EF],
+    values: &[EF],
+) -> Result<(), AllocError> {
+    let expected = asked(rt, alloc, bits, 0, indices, word)?;
+    assert!(rt; values == expected.as_slice());
+    Ok(())
+}
+
+// The siblings of the values that the indices without so many lowest bits ask for, after a test of
+// the pairs that both make up.
+fn siblings_of<EF: Field>(
+    rt: &impl Abort,
+    alloc: Global,
+    bits: usize,
+    indices: &[usize],
+    word: &[EF],
+    values: &[EF],
+) -> Result<Vec<EF>, AllocError>
+    requires small { bits < 63 }
+    requires values { length values.now ≡ length indices.now }
+    ensures { IfOk result (λ siblings. length siblings.items ≡ length indices.now) }
+{
+    let siblings = asked(rt, alloc, bits, 1, indices, word)?;
+    let pairs = query_pairs(alloc, bits, indices, values, &siblings)?;
+    assert_pairs(rt, bits, indices, word, 1, &pairs);
+    Ok(siblings)
+}
+
 // A word folded by x, after a test of what is asked.
 fn folded<F: ComplexExtendable, EF: ExtensionField<F>>(
     rt: &impl Abort,
     alloc: Global,
     beta: EF,
     log_height: usize,
-    rows: &RowMajorMatrix<EF>,
+    word: Vec<EF>,
 ) -> Result<Vec<EF>, AllocError>
     requires { log_height + 3 ≤ F.CIRCLE_TWO_ADICITY }
 {
+    let rows = rows_of_two(rt, word);
     assert!(rt; rows.width() == 2 && rows.height() == 1 << log_height);
-    fold_x::<F, EF, RowMajorMatrix<EF>>(alloc, beta, 1, rows)
+    fold_x::<F, EF, RowMajorMatrix<EF>>(alloc, beta, 1, &rows)
 }
 
 // Folds a word of `2^(log_max_height - 1)` entries until two are left, and what the queries ask
@@ -132,14 +168,10 @@ fn assert_rounds<F: ComplexExtendable, EF: ExtensionField<F>>(
     for round in 0..log_max_height - 2 {
         assert!(rt; word.len() > 1);
         let beta = word[1];
-        let siblings = asked(rt, alloc, round + 1, 1, indices, &word)?;
-        let pairs = query_pairs(alloc, round + 1, indices, values, &siblings)?;
-        assert_pairs(rt, round + 1, indices, &word, 1, &pairs);
+        let siblings = siblings_of(rt, alloc, round + 1, indices, &word, values)?;
         fold_query_values(alloc, beta, round + 1, indices, twiddles, values, &siblings)?;
-        let rows = rows_of_two(rt, word);
-        word = folded::<F, EF>(rt, alloc, beta, log_max_height - 2 - round, &rows)?;
-        let expected = asked(rt, alloc, round + 2, 0, indices, &word)?;
-        assert!(rt; &*values == expected.as_slice());
+        word = folded::<F, EF>(rt, alloc, beta, log_max_height - 2 - round, word)?;
+        assert_asked(rt, alloc, round + 2, indices, &word, values)?;
         next_x_twiddles(round, indices, twiddles);
     }
     Ok(())
@@ -160,12 +192,46 @@ fn folded_by_y<F: ComplexExtendable, EF: ExtensionField<F>>(
     alloc: Global,
     beta: EF,
     log_height: usize,
-    rows: &RowMajorMatrix<EF>,
+    word: Vec<EF>,
 ) -> Result<Vec<EF>, AllocError>
     requires { log_height + 2 ≤ F.CIRCLE_TWO_ADICITY }
 {
+    let rows = rows_of_two(rt, word);
     assert!(rt; rows.width() == 2 && rows.height() == 1 << log_height);
-    fold_y::<F, EF, RowMajorMatrix<EF>>(alloc, beta, rows)
+    fold_y::<F, EF, RowMajorMatrix<EF>>(alloc, beta, &rows)
+}
+
+// What the queries ask for in a word of `2^log_height` entries, folded by y.
+fn folded_values<F: ComplexExtendable, EF: ExtensionField<F>>(
+    rt: &impl Abort,
+    alloc: Global,
+    log_height: usize,
+    log_max_height: usize,
+    indices: &[usize],
+    beta: EF,
+    word: &[EF],
+) -> Result<Vec<EF>, AllocError>
+    requires positive { 1 ≤ log_height }
+    requires within { log_height ≤ log_max_height }
+    requires small { log_max_height ≤ 62 }
+    requires in_group { log_height < F.CIRCLE_TWO_ADICITY }
+    requires in_range { All (λ q. q < 2 ^ log_max_height) indices.now }
+{
+    let bits = log_max_height - log_height;
+    let points = query_points::<F>(alloc, log_height, log_max_height, indices)?;
+    let twiddles = first_layer_twiddles(alloc, log_height, log_max_height, indices, &points)?;
+    let siblings = asked(rt, alloc, bits, 1, indices, word)?;
+    let mut values = asked(rt, alloc, bits, 0, indices, word)?;
+    fold_query_values(
+        alloc,
+        beta,
+        bits,
+        indices,
+        &twiddles,
+        &mut values,
+        &siblings,
+    )?;
+    Ok(values)
 }
 
 // Folds by y what the queries ask for in a word of `2^log_height` entries, and asserts that the
@@ -185,25 +251,18 @@ fn assert_first_folds_alike<F: ComplexExtendable, EF: ExtensionField<F>>(
     requires in_group { log_height < F.CIRCLE_TWO_ADICITY }
     requires in_range { All (λ q. q < 2 ^ log_max_height) indices.now }
 {
-    let bits = log_max_height - log_height;
-    let mut values = asked(rt, alloc, bits, 0, indices, &word)?;
-    let siblings = asked(rt, alloc, bits, 1, indices, &word)?;
-    let points = query_points::<F>(alloc, log_height, log_max_height, indices)?;
-    let twiddles = first_layer_twiddles(alloc, log_height, log_max_height, indices, &points)?;
-    fold_query_values(
+    let values = folded_values::<F, EF>(
+        rt,
         alloc,
-        beta,
-        bits,
+        log_height,
+        log_max_height,
         indices,
-        &twiddles,
-        &mut values,
-        &siblings,
+        beta,
+        &word,
     )?;
-    let rows = rows_of_two(rt, word);
-    let word = folded_by_y::<F, EF>(rt, alloc, beta, log_height - 1, &rows)?;
-    let expected = asked(rt, alloc, bits + 1, 0, indices, &word)?;
-    assert!(rt; values.as_slice() == expected.as_slice());
-    Ok(())
+    let word = folded_by_y::<F, EF>(rt, alloc, beta, log_height - 1, word)?;
+    let bits = log_max_height - log_height + 1;
+    assert_asked(rt, alloc, bits, indices, &word, &values)
 }
 
 #[test]

@@ -1,9 +1,9 @@
 //! Folds of whole words beside those of their pairs, and the degrees of what words fold to.
 use super::queries::scattered_word;
 use super::{cubic, rows_of_two};
-use crate::low_degree::word_of;
+use crate::low_degree::evaluated_word;
 use crate::smaller::point_at;
-use crate::transform::{Domain, evaluate, scattered};
+use crate::transform::{Domain, scattered};
 use circle_commit::{Matrix, RowMajorMatrix};
 use circle_field::{Cubic, Field, Mersenne31};
 use circle_folding::{fold_row_with_inv_twiddle, fold_x, fold_x_row, fold_y, x_interpolate};
@@ -38,20 +38,31 @@ fn fold_y_row(rt: &impl Abort, index: usize, beta: Cubic, low: Cubic, high: Cubi
     fold_row_with_inv_twiddle(inverse.expect(rt, "a coordinate is zero"), beta, low, high)
 }
 
+// Asserts that a word of 64 entries folds by y and by x as its pairs do.
+fn assert_pairs_fold(
+    rt: &impl Abort,
+    beta: Cubic,
+    rows: &RowMajorMatrix<Cubic>,
+    by_y: &[Cubic],
+    by_x: &[Cubic],
+) {
+    assert!(rt; rows.height() == 32 && by_y.len() == 32 && by_x.len() == 32);
+    for i in 0..32 {
+        let row = rows.row(i);
+        assert!(rt; row.len() == 2);
+        let (low, high) = (row[0], row[1]);
+        assert!(rt; by_y[i] == fold_y_row(rt, i, beta, low, high));
+        assert!(rt; by_x[i] == fold_x_row::<Mersenne31, Cubic>(i, 5, 1, beta, [low, high]));
+    }
+}
+
 #[test]
 fn whole_words_fold_as_their_pairs(rt: HostRuntime) -> Result<(), Fail> {
     let (alloc, beta) = (rt.alloc(), cubic(3, 1, 4));
     let rows = rows_of_two(&rt, scattered_word(alloc, 64)?);
     let by_y = folded(&rt, alloc, beta, &rows, true)?;
     let by_x = folded(&rt, alloc, beta, &rows, false)?;
-    assert!(&rt; rows.height() == 32 && by_y.len() == 32 && by_x.len() == 32);
-    for i in 0..32 {
-        let row = rows.row(i);
-        assert!(&rt; row.len() == 2);
-        assert!(&rt; by_y[i] == fold_y_row(&rt, i, beta, row[0], row[1]));
-        let of_pair = fold_x_row::<Mersenne31, Cubic>(i, 5, 1, beta, [row[0], row[1]]);
-        assert!(&rt; by_x[i] == of_pair);
-    }
+    assert_pairs_fold(&rt, beta, &rows, &by_y, &by_x);
     Ok(())
 }
 
@@ -82,8 +93,7 @@ fn assert_folds(
     assert!(rt; log_n >= 1 && log_n <= 5 && log_blowup >= 1 && log_blowup <= 3);
     let coeffs = scattered(rt, alloc, 1 << log_n, 3, log_n as u64)?;
     let domain = Domain::standard(log_n + log_blowup);
-    let rows = evaluate(rt, alloc, domain, coeffs)?.to_cfft_order();
-    let mut word = word_of(rt, alloc, &rows)?;
+    let mut word = evaluated_word(rt, alloc, domain, coeffs)?;
     for round in 0..log_n {
         let pairs = rows_of_two(rt, word);
         word = folded(rt, alloc, cubic(round as u64, 1, 4), &pairs, round == 0)?;
