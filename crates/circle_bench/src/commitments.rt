@@ -51,26 +51,29 @@ pub fn report(
     for size in sizes {
         let matrix = size.matrix(rt.alloc(), start, step)?;
         let (time, committed) = commit(rt, mode, *size, &matrix)?;
-        print_line(rt, mode, "commit", *size, time, number(&committed.root))?;
-        let (time, opened) = open(rt, mode, &committed)?;
-        print_line(rt, mode, "open", *size, time, numbers(&opened.proof))?;
-        let (time, accepted) = verify(rt, mode, &committed, &opened)?;
-        print_line(rt, mode, "verify", *size, time, u64::from(accepted))?;
+        let digest = number(&committed.root);
+        timing::print_line(rt, mode, "ShaMmcs", "commit", *size, time, digest)?;
+        report_opening(rt, mode, &committed)?;
     }
     Ok(())
 }
 
-/// Prints the line of a pass.
-fn print_line(
-    rt: &HostRuntime,
-    mode: Mode,
-    name: &str,
-    size: Size,
-    time: Duration,
-    digest: u64,
-) -> io::Result<()> {
-    print!(rt; "ShaMmcs {name} {} x {}: ", size.rows(), size.width)?;
-    timing::print_result(rt, mode, time, digest)
+/// Prints a line for opening what was committed to, and one for verifying that.
+fn report_opening(rt: &HostRuntime, mode: Mode, committed: &Committed) -> io::Result<()> {
+    let size = committed.size;
+    let (time, opened) = open(rt, mode, committed)?;
+    let digest = numbers(&opened.proof);
+    timing::print_line(rt, mode, "ShaMmcs", "open", size, time, digest)?;
+    let (time, accepted) = verify(rt, mode, committed, &opened)?;
+    timing::print_line(
+        rt,
+        mode,
+        "ShaMmcs",
+        "verify",
+        size,
+        time,
+        u64::from(accepted),
+    )
 }
 
 /// The shortest time of a commitment to the matrix, and the last one.
@@ -95,7 +98,7 @@ fn commit_once(
     size: Size,
     matrix: &RowMajorMatrix<Mersenne31>,
 ) -> io::Result<(Duration, Committed)> {
-    let inputs = vec![in rt.alloc(); matrix.try_clone(rt.alloc())?]?;
+    let inputs = batch_of(rt.alloc(), matrix)?;
     if inputs.is_empty() || !heights_are_powers_of_two(&inputs) {
         return Err(io::Error::from(ErrorKind::InvalidInput));
     }
@@ -105,38 +108,51 @@ fn commit_once(
     Ok((time, Committed { size, root, data }))
 }
 
+/// A copy of the matrix, a batch of its own.
+fn batch_of(
+    alloc: Global,
+    matrix: &RowMajorMatrix<Mersenne31>,
+) -> Result<Vec<RowMajorMatrix<Mersenne31>>, AllocError> {
+    Ok(vec![in alloc; matrix.try_clone(alloc)?]?)
+}
+
 /// The indices that are opened, below the number of rows.
 fn indices(alloc: Global, rows: usize) -> Result<Vec<usize>, AllocError> {
-    (0..INDICES)
-        .map(|k| k.wrapping_mul(FACTOR) % rows.max(1))
-        .collect(alloc)
+    let mut indices = Vec::with_capacity(alloc, INDICES)?;
+    for k in 0..INDICES {
+        indices.push(k.wrapping_mul(FACTOR) % rows.max(1))?;
+    }
+    Ok(indices)
 }
 
 /// The shortest time of an opening, and the last one.
 fn open(rt: &HostRuntime, mode: Mode, committed: &Committed) -> io::Result<(Duration, Opened)> {
+    let (mut best, mut opened) = open_once(rt, committed)?;
+    for _ in 1..timing::runs(mode, RUNS) {
+        let (time, next) = open_once(rt, committed)?;
+        best = best.min(time);
+        opened = next;
+    }
+    Ok((best, opened))
+}
+
+/// The time of one opening.
+fn open_once(rt: &HostRuntime, committed: &Committed) -> io::Result<(Duration, Opened)> {
     let mmcs = ShaMmcs::<Mersenne31>::new();
     let indices = indices(rt.alloc(), committed.size.rows())?;
     let top = mmcs.get_max_height(&committed.data);
     if indices.is_empty() || !are_below(&indices, top) {
         return Err(io::Error::from(ErrorKind::InvalidInput));
     }
-    let mut best = Duration::MAX;
-    let mut rows = Vec::new(rt.alloc());
-    let mut proof = Vec::new(rt.alloc());
-    for _ in 0..timing::runs(mode, RUNS) {
-        let begin = Instant::now(rt)?;
-        let opened = mmcs.open_multi_batch(rt.alloc(), &indices, &committed.data)?;
-        best = best.min(begin.elapsed(rt)?);
-        (rows, proof) = opened;
-    }
-    Ok((
-        best,
-        Opened {
-            indices,
-            rows,
-            proof,
-        },
-    ))
+    let begin = Instant::now(rt)?;
+    let (rows, proof) = mmcs.open_multi_batch(rt.alloc(), &indices, &committed.data)?;
+    let time = begin.elapsed(rt)?;
+    let opened = Opened {
+        indices,
+        rows,
+        proof,
+    };
+    Ok((time, opened))
 }
 
 /// The shortest time of a verification, and whether the rows were accepted.
@@ -175,7 +191,9 @@ pub fn number(digest: &Hash) -> u64 {
 
 /// The sum of the numbers of digests.
 pub fn numbers(digests: &[Hash]) -> u64 {
-    digests
-        .iter()
-        .fold(0u64, |sum, digest| sum.wrapping_add(number(digest)))
+    let mut sum = 0u64;
+    for digest in digests {
+        sum = sum.wrapping_add(number(digest));
+    }
+    sum
 }

@@ -65,9 +65,11 @@ fn of_transcript(proved: Proved, rounds: u64) -> u64 {
         3,
         (proved.num_queries as u64).saturating_mul(2),
     ];
-    parts
-        .iter()
-        .fold(0u64, |sum, part| sum.saturating_add(*part))
+    let mut sum = 0u64;
+    for part in parts {
+        sum = sum.saturating_add(part);
+    }
+    sum
 }
 
 /// Those of a proof: of the trees of the words, by pairs, of the matrix's tree, and of the

@@ -21,11 +21,10 @@ pub fn report(
         return Err(io::Error::from(ErrorKind::InvalidInput));
     };
     for size in sizes {
-        let (rows, width) = (size.rows(), size.width);
         let runs = timing::runs(mode, timing::runs_of(*size));
         let (time, digest) = fastest(rt, *size, at, start, step, runs)?;
-        print!(rt; "Cubic evaluate_at_point {rows} x {width}: ")?;
-        timing::print_result(rt, mode, time, u64::from(digest))?;
+        let digest = u64::from(digest);
+        timing::print_line(rt, mode, "Cubic", "evaluate_at_point", *size, time, digest)?;
     }
     Ok(())
 }
@@ -41,7 +40,7 @@ fn fastest(
 ) -> io::Result<(Duration, u32)> {
     let matrix = size.matrix(rt.alloc(), start, step)?;
     let domain = CircleDomain::standard(size.log_rows);
-    if !(domain.is_genuine() && domain.is_clear_of(at)) {
+    if !domain.is_genuine() || !domain.is_clear_of(at) {
         return Err(io::Error::from(ErrorKind::InvalidInput));
     }
     let evaluations = CircleEvaluations::from_cfft_order(domain, matrix);

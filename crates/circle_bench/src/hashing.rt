@@ -23,22 +23,26 @@ const RUNS: u32 = 9;
 /// Prints a line for elements that are taken in, and one for proofs of work.
 pub fn report(rt: &HostRuntime, mode: Mode) -> io::Result<()> {
     match mode {
-        Mode::Digests => {
-            let (_, next) = observe(rt, OBSERVED, 1)?;
-            println!(rt; "Sha256Challenger observe {OBSERVED}: {}", next.value())?;
-            let (_, witness) = grind(rt, BITS, 1)?;
-            println!(rt; "Sha256Challenger grind {BITS}: {witness}")
-        }
-        Mode::Times => {
-            let (time, next) = observe(rt, OBSERVED_TIMED, RUNS)?;
-            println!(rt;
-                "Sha256Challenger observe {OBSERVED_TIMED}: {time} ns, {}",
-                next.value()
-            )?;
-            let (time, witness) = grind(rt, BITS_TIMED, RUNS)?;
-            println!(rt; "Sha256Challenger grind {BITS_TIMED}: {time} ns a trial, {witness}")
-        }
+        Mode::Digests => report_digests(rt),
+        Mode::Times => report_times(rt),
     }
+}
+
+fn report_digests(rt: &HostRuntime) -> io::Result<()> {
+    let (_, next) = observe(rt, OBSERVED, 1)?;
+    println!(rt; "Sha256Challenger observe {OBSERVED}: {}", next.value())?;
+    let (_, witness) = grind(rt, BITS, 1)?;
+    println!(rt; "Sha256Challenger grind {BITS}: {witness}")
+}
+
+fn report_times(rt: &HostRuntime) -> io::Result<()> {
+    let (time, next) = observe(rt, OBSERVED_TIMED, RUNS)?;
+    println!(rt;
+        "Sha256Challenger observe {OBSERVED_TIMED}: {time} ns, {}",
+        next.value()
+    )?;
+    let (time, witness) = grind(rt, BITS_TIMED, RUNS)?;
+    println!(rt; "Sha256Challenger grind {BITS_TIMED}: {time} ns a trial, {witness}")
 }
 
 /// The nanoseconds of an element that is taken in, in the fastest run, and the element drawn at
@@ -69,7 +73,10 @@ fn grind(rt: &HostRuntime, bits: usize, runs: u32) -> io::Result<(u128, u32)>
         let begin = Instant::now(rt)?;
         let witness = challenger.grind(bits);
         let time = begin.elapsed(rt)?;
-        last = witness.map_or(0, |w| w.value());
+        last = match witness {
+            Some(witness) => witness.value(),
+            None => 0,
+        };
         best = best.min(timing::nanoseconds_each(time, last.saturating_add(1)));
     }
     Ok((best, last))

@@ -302,6 +302,22 @@ fn report_cases(
     step: Mersenne31,
 ) -> io::Result<()> {
     timing::report(rt, mode, "Mersenne31", &MERSENNE31, start, step)?;
+    report_passes(rt, mode, start, step)?;
+    report_schemes(rt, mode, start, step)?;
+    let start = Cubic::from_coefficients(&[start, step, start.square()]);
+    let step = Cubic::from_coefficients(&[step, start.coefficient(2), step.square()]);
+    timing::report(rt, mode, "Cubic", &CUBIC, start, step)?;
+    hashing::report(rt, mode)?;
+    proofs::report(rt, mode)
+}
+
+/// Prints the lines of transforms, of values at a point and of tables.
+fn report_passes(
+    rt: &HostRuntime,
+    mode: Mode,
+    start: Mersenne31,
+    step: Mersenne31,
+) -> io::Result<()> {
     let sizes = mode.sizes(SMALL.as_slice(), LARGE.as_slice());
     for transform in TRANSFORMS {
         timing::report_transform(rt, mode, transform, sizes, start, step)?;
@@ -309,18 +325,22 @@ fn report_cases(
     let sizes = mode.sizes(SMALL.as_slice(), EVALUATED.as_slice());
     evaluations::report(rt, mode, sizes, start, step)?;
     let sizes = mode.sizes(SMALL.as_slice(), PERIODIC.as_slice());
-    tables::report(rt, mode, sizes, start, step)?;
+    tables::report(rt, mode, sizes, start, step)
+}
+
+/// Prints the lines of commitments, of proofs and of openings.
+fn report_schemes(
+    rt: &HostRuntime,
+    mode: Mode,
+    start: Mersenne31,
+    step: Mersenne31,
+) -> io::Result<()> {
     let sizes = mode.sizes(SMALL.as_slice(), COMMITTED.as_slice());
     commitments::report(rt, mode, sizes, start, step)?;
     let sizes = mode.sizes(PROVED.as_slice(), PROVED_LARGE.as_slice());
     openings::report(rt, mode, sizes, start, step)?;
     let sizes = mode.sizes(PROVED.as_slice(), OPENED_LARGE.as_slice());
-    openings::report_opening(rt, mode, sizes, start, step)?;
-    let start = Cubic::from_coefficients(&[start, step, start.square()]);
-    let step = Cubic::from_coefficients(&[step, start.coefficient(2), step.square()]);
-    timing::report(rt, mode, "Cubic", &CUBIC, start, step)?;
-    hashing::report(rt, mode)?;
-    proofs::report(rt, mode)
+    openings::report_opening(rt, mode, sizes, start, step)
 }
 
 /// What the arguments ask for, or `None` where they ask for nothing that there is.

@@ -6,9 +6,9 @@ use crate::evaluations::coefficients;
 use crate::timing::{self, Mode};
 use crate::transforms::Size;
 use circle_challenger::{CanObserve, Sha256Challenger};
-use circle_commit::{FriParameters, OpenedValues, OpeningRequest, RowMajorMatrix};
+use circle_commit::{FriError, FriParameters, OpenedValues, OpeningRequest, RowMajorMatrix};
 use circle_field::{Cubic, ExtensionField, Field, Mersenne31};
-use circle_presets::{Claim, Domain, Known, Proof, ProverData, Scheme, scheme};
+use circle_presets::{Claim, Domain, Known, Proof, ProverData, Request, Scheme, scheme};
 use p3_circle::{CircleDomain, ProverError, claims_of, heights_match_domains};
 use std::alloc::{AllocError, Global};
 use std::io::{self, ErrorKind};
@@ -19,11 +19,14 @@ const PROOFS: usize = 5;
 
 const VERIFICATIONS: usize = 50;
 
+/// Matrices of [`Mersenne31`].
+type Rows = RowMajorMatrix<Mersenne31>;
+
 /// A matrix, and the points that it is opened at.
 #[derive(Drop)]
 struct Statement<'a> {
     size: Size,
-    matrix: &'a RowMajorMatrix<Mersenne31>,
+    matrix: &'a Rows,
     points: &'a [Cubic],
 }
 
@@ -70,20 +73,24 @@ pub fn report_opening(
     step: Mersenne31,
 ) -> io::Result<()> {
     let points = points(start, step);
+    let pcs = scheme(PARAMETERS);
     for size in sizes {
-        let pcs = scheme(PARAMETERS);
         let matrix = size.matrix(rt.alloc(), start, step)?;
-        let evaluations = vec![in rt.alloc(); (CircleDomain::standard(size.log_rows), matrix)]?;
-        let (commitment, data) = commit(rt.alloc(), &pcs, evaluations)?;
-        let committed = Committed {
-            size: *size,
-            commitment,
-            data,
-        };
-        report_opening_at(rt, mode, &pcs, &committed, &points[..1])?;
-        report_opening_at(rt, mode, &pcs, &committed, &points)?;
+        let committed = &commit_matrix(rt.alloc(), &pcs, *size, matrix)?;
+        report_opening_at(rt, mode, &pcs, committed, &points[..1])?;
+        report_opening_at(rt, mode, &pcs, committed, &points)?;
     }
     Ok(())
+}
+
+/// Commits to the matrix of a size.
+fn commit_matrix(alloc: Global, pcs: &Scheme, size: Size, matrix: Rows) -> io::Result<Committed> {
+    let (commitment, data) = commit(alloc, pcs, evaluations(alloc, size, matrix)?)?;
+    Ok(Committed {
+        size,
+        commitment,
+        data,
+    })
 }
 
 /// Prints a line for opening what was committed to at the points.
@@ -94,23 +101,43 @@ fn report_opening_at(
     committed: &Committed,
     points: &[Cubic],
 ) -> io::Result<()> {
-    let (commitment, data, size) = (committed.commitment, &committed.data, committed.size);
     let mut best = Duration::MAX;
     let mut last = 0;
     for _ in 0..timing::runs(mode, PROOFS) {
-        let begin = Instant::now(rt)?;
-        let (values, proof) = open(rt.alloc(), pcs, &commitment, data, points)?;
-        best = best.min(begin.elapsed(rt)?);
-        let opened = Opened {
-            commitment,
-            values,
-            proof,
-        };
-        last = digest(rt.alloc(), &opened)?;
+        let (time, digest) = open_once(rt, pcs, committed, points)?;
+        best = best.min(time);
+        last = digest;
     }
-    let (rows, width, count) = (size.rows(), size.width, points.len());
-    print!(rt; "CirclePcs open {rows} x {width} at {count}: ")?;
-    timing::print_result(rt, mode, best, last)
+    print_line(rt, mode, "open", committed.size, points.len(), best, last)
+}
+
+/// The time of one opening at the points, and the digest of what it comes to.
+fn open_once(
+    rt: &HostRuntime,
+    pcs: &Scheme,
+    committed: &Committed,
+    points: &[Cubic],
+) -> io::Result<(Duration, u64)> {
+    let commitment = &committed.commitment;
+    let begin = Instant::now(rt)?;
+    let (_values, proof) = open(rt.alloc(), pcs, commitment, &committed.data, points)?;
+    let time = begin.elapsed(rt)?;
+    Ok((time, digest(rt.alloc(), commitment, &proof)?))
+}
+
+/// Prints the line of a pass over a matrix at so many points.
+fn print_line(
+    rt: &HostRuntime,
+    mode: Mode,
+    name: &str,
+    size: Size,
+    points: usize,
+    time: Duration,
+    digest: u64,
+) -> io::Result<()> {
+    let (rows, width) = (size.rows(), size.width);
+    print!(rt; "CirclePcs {name} {rows} x {width} at {points}: ")?;
+    timing::print_result(rt, mode, time, digest)
 }
 
 /// Two points off the base field, and so off each domain.
@@ -127,28 +154,46 @@ fn report_at(
     rt: &HostRuntime,
     mode: Mode,
     size: Size,
-    matrix: &RowMajorMatrix<Mersenne31>,
+    matrix: &Rows,
     points: &[Cubic],
 ) -> io::Result<()> {
-    let (rows, width, count) = (size.rows(), size.width, points.len());
     let statement = Statement {
         size,
         matrix,
         points,
     };
     let (time, opened) = prove(rt, mode, &statement)?;
-    print!(rt; "CirclePcs prove {rows} x {width} at {count}: ")?;
-    timing::print_result(rt, mode, time, digest(rt.alloc(), &opened)?)?;
+    report_proof(rt, mode, &statement, time, &opened)?;
+    let (time, accepted) = verify(rt, mode, &statement, &opened)?;
+    print_line(
+        rt,
+        mode,
+        "verify",
+        size,
+        points.len(),
+        time,
+        u64::from(accepted),
+    )
+}
+
+/// Prints the line of a proof, and the one of the compressions that it asks for.
+fn report_proof(
+    rt: &HostRuntime,
+    mode: Mode,
+    statement: &Statement,
+    time: Duration,
+    opened: &Opened,
+) -> io::Result<()> {
+    let (size, points) = (statement.size, statement.points.len());
+    let digest = digest(rt.alloc(), &opened.commitment, &opened.proof)?;
+    print_line(rt, mode, "prove", size, points, time, digest)?;
     let proved = Proved {
         size,
-        points: count,
+        points,
         log_blowup: PARAMETERS.log_blowup,
         num_queries: PARAMETERS.num_queries,
     };
-    compressions::report(rt, mode, proved, time)?;
-    let (time, accepted) = verify(rt, mode, &statement, &opened)?;
-    print!(rt; "CirclePcs verify {rows} x {width} at {count}: ")?;
-    timing::print_result(rt, mode, time, u64::from(accepted))
+    compressions::report(rt, mode, proved, time)
 }
 
 /// Twice as many rows are committed to as there are, and 40 of them are queried.
@@ -185,25 +230,38 @@ fn prove(rt: &HostRuntime, mode: Mode, statement: &Statement) -> io::Result<(Dur
 fn prove_once(rt: &HostRuntime, statement: &Statement) -> io::Result<(Duration, Opened)> {
     let pcs = scheme(PARAMETERS);
     let copy = statement.matrix.try_clone(rt.alloc())?;
-    let domain = CircleDomain::standard(statement.size.log_rows);
-    let evaluations = vec![in rt.alloc(); (domain, copy)]?;
+    let evaluations = evaluations(rt.alloc(), statement.size, copy)?;
     let begin = Instant::now(rt)?;
-    let (commitment, data) = commit(rt.alloc(), &pcs, evaluations)?;
-    let (values, proof) = open(rt.alloc(), &pcs, &commitment, &data, statement.points)?;
-    let time = begin.elapsed(rt)?;
-    let opened = Opened {
+    let opened = commit_and_open(rt.alloc(), &pcs, evaluations, statement.points)?;
+    Ok((begin.elapsed(rt)?, opened))
+}
+
+/// Commits to matrices on domains, and opens them at the points.
+fn commit_and_open(
+    alloc: Global,
+    pcs: &Scheme,
+    evaluations: Vec<(Domain, Rows)>,
+    points: &[Cubic],
+) -> io::Result<Opened> {
+    let (commitment, data) = commit(alloc, pcs, evaluations)?;
+    let (values, proof) = open(alloc, pcs, &commitment, &data, points)?;
+    Ok(Opened {
         commitment,
         values,
         proof,
-    };
-    Ok((time, opened))
+    })
+}
+
+/// The matrix of a size on its domain, a batch of its own.
+fn evaluations(alloc: Global, size: Size, matrix: Rows) -> Result<Vec<(Domain, Rows)>, AllocError> {
+    Ok(vec![in alloc; (CircleDomain::standard(size.log_rows), matrix)]?)
 }
 
 /// Commits to matrices on domains.
 fn commit(
     alloc: Global,
     pcs: &Scheme,
-    evaluations: Vec<(Domain, RowMajorMatrix<Mersenne31>)>,
+    evaluations: Vec<(Domain, Rows)>,
 ) -> io::Result<(Hash, ProverData)> {
     if !heights_match_domains(&evaluations) {
         return Err(io::Error::from(ErrorKind::InvalidInput));
@@ -219,16 +277,32 @@ fn open(
     data: &ProverData,
     points: &[Cubic],
 ) -> io::Result<(OpenedValues<Cubic>, Proof)> {
-    let request = OpeningRequest {
-        prover_data: data,
-        points: vec![in alloc; Vec::from_slice(alloc, points)?]?,
-    };
-    let requests = vec![in alloc; request]?;
+    let requests = requests(alloc, data, points)?;
     if !pcs.have_heights_of_powers(&requests) {
         return Err(io::Error::from(ErrorKind::InvalidInput));
     }
     let mut challenger = after_commitment(commitment);
     pcs.open(alloc, requests, &mut challenger).map_err(failure)
+}
+
+/// The request to open one matrix at the points.
+fn requests<'a>(
+    alloc: Global,
+    prover_data: &'a ProverData,
+    points: &[Cubic],
+) -> Result<Vec<Request<'a>>, AllocError> {
+    let points = points_of_batch(alloc, points)?;
+    Ok(vec![in alloc;
+        OpeningRequest {
+            prover_data,
+            points
+        },
+    ]?)
+}
+
+/// The points of the only matrix of a batch.
+fn points_of_batch(alloc: Global, points: &[Cubic]) -> Result<Vec<Vec<Cubic>>, AllocError> {
+    Ok(vec![in alloc; Vec::from_slice(alloc, points)?]?)
 }
 
 /// The failure where a prover's call is refused.
@@ -253,11 +327,25 @@ fn verify(
         let claims = claims(rt.alloc(), statement, opened)?;
         let begin = Instant::now(rt)?;
         let mut challenger = after_commitment(&opened.commitment);
-        let verdict = pcs.verify(rt.alloc(), claims, &opened.proof, &mut challenger);
+        let verdict = is_accepted(rt.alloc(), &pcs, claims, &opened.proof, &mut challenger)?;
         best = best.min(begin.elapsed(rt)?);
-        accepted = accepted && verdict.is_ok();
+        accepted = accepted && verdict;
     }
     Ok((best, accepted))
+}
+
+/// Whether the verifier accepts the claims.
+pub fn is_accepted(
+    alloc: Global,
+    pcs: &Scheme,
+    claims: Vec<Claim>,
+    proof: &Proof,
+    challenger: &mut Sha256Challenger,
+) -> io::Result<bool> {
+    match pcs.verify(alloc, claims, proof, challenger) {
+        Err(FriError::Memory) => Err(io::Error::from(AllocError)),
+        verdict => Ok(verdict.is_ok()),
+    }
 }
 
 /// The claims that the columns have the opened values at the points.
@@ -265,18 +353,17 @@ fn claims(alloc: Global, statement: &Statement, opened: &Opened) -> io::Result<V
     let known = Known {
         commitment: opened.commitment,
         domains: vec![in alloc; CircleDomain::standard(statement.size.log_rows)]?,
-        points: vec![in alloc; Vec::from_slice(alloc, statement.points)?]?,
+        points: points_of_batch(alloc, statement.points)?,
     };
     Ok(claims_of(alloc, vec![in alloc; known]?, opened.values.clone()?)?)
 }
 
 /// The sum of the numbers of all commitments and of the digests beside the first layer's rows, and
 /// of the residues of the lambdas and of the final polynomial's coefficients.
-fn digest(alloc: Global, opened: &Opened) -> Result<u64, AllocError> {
-    let proof = &opened.proof;
+fn digest(alloc: Global, commitment: &Hash, proof: &Proof) -> Result<u64, AllocError> {
     let fri = &proof.fri_proof;
     Ok(
-        number(&opened.commitment)
+        number(commitment)
             .wrapping_add(number(&proof.first_layer_commitment))
             .wrapping_add(numbers(&fri.commit_phase_commits))
             .wrapping_add(numbers(&fri.input_openings.first_layer_proof))
@@ -287,10 +374,9 @@ fn digest(alloc: Global, opened: &Opened) -> Result<u64, AllocError> {
 
 /// The sum of the residues of the elements' coefficients.
 fn residues(alloc: Global, elements: &[Cubic]) -> Result<u64, AllocError> {
-    let coefficients = coefficients(alloc, elements)?;
-    Ok(
-        coefficients
-            .iter()
-            .fold(0u64, |sum, x| sum.wrapping_add(u64::from(x.value()))),
-    )
+    let mut sum = 0u64;
+    for coefficient in &coefficients(alloc, elements)? {
+        sum = sum.wrapping_add(u64::from(coefficient.value()));
+    }
+    Ok(sum)
 }

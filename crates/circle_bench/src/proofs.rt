@@ -1,7 +1,8 @@
 //! Lines about a stored proof: whether it is accepted, and how long reading and verifying it take.
+use crate::openings;
 use crate::timing::{self, Mode};
 use circle_challenger::{CanObserve, Sha256Challenger};
-use circle_commit::{CommitmentOpening, FriError, FriParameters, JsonForm, MatrixOpening};
+use circle_commit::{CommitmentOpening, FriParameters, JsonForm, MatrixOpening};
 use circle_json::member;
 use circle_presets::{Claim, ClaimOn, Proof, scheme};
 use p3_circle::{CircleDomain, Neutral, Point};
@@ -33,26 +34,47 @@ struct Input {
 
 /// Prints a line for reading the proof, one for verifying it, and one for both.
 pub fn report(rt: &HostRuntime, mode: Mode) -> io::Result<()> {
-    let text = fs::read(rt, FILE).or_else(|_| fs::read(rt, FILE_OF_CRATE))?;
+    let ([reading, verifying, both], accepted) = fastest(rt, mode)?;
+    print_line(rt, mode, "read", reading, accepted)?;
+    print_line(rt, mode, "verify", verifying, accepted)?;
+    print_line(rt, mode, "read and verify", both, accepted)
+}
+
+/// The shortest times of reading, of verifying and of both, and whether the proof was accepted each
+/// time.
+fn fastest(rt: &HostRuntime, mode: Mode) -> io::Result<([Duration; 3], bool)> {
+    let text = text(rt)?;
     let mut best = [Duration::MAX; 3];
     let mut accepted = true;
     for _ in 0..timing::runs(mode, RUNS) {
-        let begin = Instant::now(rt)?;
-        let input = read(rt.alloc(), &text)?;
-        let reading = begin.elapsed(rt)?;
-        let middle = Instant::now(rt)?;
-        accepted = accepted && is_accepted(rt.alloc(), input)?;
-        let verifying = middle.elapsed(rt)?;
-        let both = begin.elapsed(rt)?;
+        let ([reading, verifying, both], is_accepted) = read_and_verify(rt, &text)?;
         best = [
             best[0].min(reading),
             best[1].min(verifying),
             best[2].min(both),
         ];
+        accepted = accepted && is_accepted;
     }
-    print_line(rt, mode, "read", best[0], accepted)?;
-    print_line(rt, mode, "verify", best[1], accepted)?;
-    print_line(rt, mode, "read and verify", best[2], accepted)
+    Ok((best, accepted))
+}
+
+/// The text of the file.
+fn text(rt: &HostRuntime) -> io::Result<Vec<u8>> {
+    match fs::read(rt, FILE) {
+        Ok(text) => Ok(text),
+        Err(_) => fs::read(rt, FILE_OF_CRATE),
+    }
+}
+
+/// The times of reading the proof once, of verifying it and of both, and whether it was accepted.
+fn read_and_verify(rt: &HostRuntime, text: &[u8]) -> io::Result<([Duration; 3], bool)> {
+    let begin = Instant::now(rt)?;
+    let input = read(rt.alloc(), text)?;
+    let reading = begin.elapsed(rt)?;
+    let middle = Instant::now(rt)?;
+    let accepted = is_accepted(rt.alloc(), input)?;
+    let verifying = middle.elapsed(rt)?;
+    Ok(([reading, verifying, begin.elapsed(rt)?], accepted))
 }
 
 /// Prints the line of a pass: 1 where the proof was accepted each time, else 0.
@@ -69,7 +91,9 @@ fn print_line(
 
 /// What a text of JSON stands for.
 fn read(alloc: Global, text: &[u8]) -> io::Result<Input> {
-    let value = Value::from_slice(alloc, text).map_err(|_| unreadable())?;
+    let Ok(value) = Value::from_slice(alloc, text) else {
+        return Err(unreadable());
+    };
     Ok(Input {
         claims: part(alloc, &value, "batches")?,
         params: part(alloc, &value, "params")?,
@@ -79,7 +103,10 @@ fn read(alloc: Global, text: &[u8]) -> io::Result<Input> {
 
 /// What the member of an object with this key stands for.
 fn part<T: JsonForm>(alloc: Global, value: &Value, key: &str) -> io::Result<T> {
-    member(alloc, value, key).map_err(|_| unreadable())
+    match member(alloc, value, key) {
+        Ok(part) => Ok(part),
+        Err(_) => Err(unreadable()),
+    }
 }
 
 /// The failure of a text that isn't a proof.
@@ -90,16 +117,23 @@ fn unreadable() -> io::Error {
 /// Whether the verifier accepts.
 fn is_accepted(alloc: Global, input: Input) -> io::Result<bool> {
     let mut challenger = Sha256Challenger::new();
-    let mut claims = Vec::with_capacity(alloc, input.claims.len())?;
-    for claim in input.claims {
-        challenger.observe(&claim.commitment);
-        claims.push(placed(alloc, claim)?)?;
-    }
+    let claims = observed(alloc, input.claims, &mut challenger)?;
     let pcs = scheme(input.params);
-    match pcs.verify(alloc, claims, &input.proof, &mut challenger) {
-        Err(FriError::Memory) => Err(io::Error::from(AllocError)),
-        verdict => Ok(verdict.is_ok()),
+    openings::is_accepted(alloc, &pcs, claims, &input.proof, &mut challenger)
+}
+
+/// The claims, whose commitments the challenger takes in.
+fn observed(
+    alloc: Global,
+    claims: Vec<ClaimOn<usize>>,
+    challenger: &mut Sha256Challenger,
+) -> Result<Vec<Claim>, AllocError> {
+    let mut observed = Vec::with_capacity(alloc, claims.len())?;
+    for claim in claims {
+        challenger.observe(&claim.commitment);
+        observed.push(placed(alloc, claim)?)?;
     }
+    Ok(observed)
 }
 
 /// The claims about domains of these sizes; only their sizes count.

@@ -20,12 +20,11 @@ pub fn report(
     step: Mersenne31,
 ) -> io::Result<()> {
     for size in sizes {
-        let (rows, width) = (size.rows(), size.width);
         let runs = timing::runs(mode, timing::runs_of(*size));
         let columns = columns(rt.alloc(), *size, start, step)?;
         let (time, digest) = fastest(rt, &columns, size.log_rows, step, runs)?;
-        print!(rt; "PeriodicLdeTable build {rows} x {width}: ")?;
-        timing::print_result(rt, mode, time, u64::from(digest))?;
+        let digest = u64::from(digest);
+        timing::print_line(rt, mode, "PeriodicLdeTable", "build", *size, time, digest)?;
     }
     Ok(())
 }

@@ -56,26 +56,30 @@ pub fn report<F: ExtensionField<Mersenne31>>(
     step: F,
 ) -> io::Result<()> {
     for case in cases {
-        let name = case.operation.name();
-        match mode {
-            Mode::Digests => {
-                let (_, last) = fastest(rt, case.operation, start, step, SMALL, 1)?;
-                println!(rt; "{field} {name} {SMALL}: {:?}", numbers(rt.alloc(), last)?)?;
-            }
-            Mode::Times => {
-                let (time, last) = fastest(rt, case.operation, start, step, case.large, RUNS)?;
-                let hundredths = hundredths_of_nanoseconds(time, case.large);
-                println!(rt;
-                    "{field} {name} {}: {}.{:02} ns, {:?}",
-                    case.large,
-                    hundredths / 100,
-                    hundredths % 100,
-                    numbers(rt.alloc(), last)?
-                )?;
-            }
-        }
+        report_case(rt, mode, field, *case, start, step)?;
     }
     Ok(())
+}
+
+/// Prints the line of a chain.
+fn report_case<F: ExtensionField<Mersenne31>>(
+    rt: &HostRuntime,
+    mode: Mode,
+    field: &str,
+    case: Case,
+    start: F,
+    step: F,
+) -> io::Result<()> {
+    let (size, runs) = match mode {
+        Mode::Digests => (SMALL, 1),
+        Mode::Times => (case.large, RUNS),
+    };
+    let (time, last) = fastest(rt, case.operation, start, step, size, runs)?;
+    print!(rt; "{field} {} {size}: ", case.operation.name())?;
+    if mode == Mode::Times {
+        print_time_of_one(rt, time, size)?;
+    }
+    println!(rt; "{:?}", numbers(rt.alloc(), last)?)
 }
 
 /// The shortest time of a run, and the last element. Each run begins where the one before it ended,
@@ -104,16 +108,19 @@ fn fastest<F: Field>(
     Ok((best, x))
 }
 
-/// The time of one of `size` operations in hundredths of a nanosecond.
-fn hundredths_of_nanoseconds(time: Duration, size: usize) -> u128 {
-    time.as_nanos().saturating_mul(100) / (size.max(1) as u128)
+/// Prints the time of one of `size` operations in nanoseconds, with two places.
+fn print_time_of_one(rt: &HostRuntime, time: Duration, size: usize) -> io::Result<()> {
+    let hundredths = time.as_nanos().saturating_mul(100) / (size.max(1) as u128);
+    print!(rt; "{}.{:02} ns, ", hundredths / 100, hundredths % 100)
 }
 
 /// The residues of an element's coefficients.
 fn numbers<F: ExtensionField<Mersenne31>>(alloc: Global, x: F) -> Result<Vec<u32>, AllocError> {
-    (0..F::DEGREE)
-        .map(|i| x.coefficient(i).value())
-        .collect(alloc)
+    let mut numbers = Vec::with_capacity(alloc, F::DEGREE)?;
+    for i in 0..F::DEGREE {
+        numbers.push(x.coefficient(i).value())?;
+    }
+    Ok(numbers)
 }
 
 /// Prints a line for each size.
@@ -126,13 +133,26 @@ pub fn report_transform(
     step: Mersenne31,
 ) -> io::Result<()> {
     for size in sizes {
-        let (name, rows, width) = (transform.name(), size.rows(), size.width);
-        print!(rt; "Mersenne31 {name} {rows} x {width}: ")?;
         let runs = runs(mode, runs_of(*size));
         let (time, digest) = fastest_transform(rt, transform, *size, start, step, runs)?;
-        print_result(rt, mode, time, u64::from(digest))?;
+        let (name, digest) = (transform.name(), u64::from(digest));
+        print_line(rt, mode, "Mersenne31", name, *size, time, digest)?;
     }
     Ok(())
+}
+
+/// Prints the line of a pass over a matrix of this size.
+pub fn print_line(
+    rt: &HostRuntime,
+    mode: Mode,
+    kind: &str,
+    name: &str,
+    size: Size,
+    time: Duration,
+    digest: u64,
+) -> io::Result<()> {
+    print!(rt; "{kind} {name} {} x {}: ", size.rows(), size.width)?;
+    print_result(rt, mode, time, digest)
 }
 
 /// Prints the end of a line: the time, where times are printed, and the digest.
