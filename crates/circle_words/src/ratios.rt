@@ -4,7 +4,7 @@
 //! the quotient `(re - top * im) / (2 re)` is `(1 - top * im / re) / 2`. So of each point of the
 //! domain one ratio serves every claim at the point, and one inversion serves all ratios.
 ghost use Rattle.std.specs.Prelude.{◌≡◌, ◌<◌, ◌≤◌, map, All, IfOk};
-ghost use Rattle.std.specs.Prelude.{length};
+ghost use Rattle.std.specs.Prelude.{length, [], ◌∷◌, ◌++◌, OnOk};
 ghost use Rattle.circle_point.specs.Point.{coordinates};
 ghost use Rattle.circle_matrix.specs.DotProduct.{pairwise};
 ghost use Rattle.circle_domain.specs.Order.{with_opposites};
@@ -88,11 +88,27 @@ fn vanishing_parts<F: Field, EF: ExtensionField<F>>(
     let mut real = Vec::with_capacity(alloc, points.len())?;
     let mut imaginary = Vec::with_capacity(alloc, points.len())?;
     for point in points {
-        let (re, im) = point.v_p(zeta);
-        real.push(re)?;
-        imaginary.push(im)?;
+        push_parts(&mut real, &mut imaginary, *point, zeta)?;
     }
     Ok((real, imaginary))
+}
+
+// Adds the real and the imaginary part of the vanishing function of `zeta` at a point.
+fn push_parts<F: Field, EF: ExtensionField<F>>(
+    real: &mut Vec<EF>,
+    imaginary: &mut Vec<EF>,
+    point: Point<F>,
+    zeta: Point<EF>,
+) -> Result<(), AllocError>
+    ensures real { OnOk result (real.new.items ≡ real.old.items
+        ++ real_part EF.ops EF.embed (coordinates point) (coordinates zeta) ∷ []) }
+    ensures imaginary { OnOk result (imaginary.new.items ≡ imaginary.old.items
+        ++ imaginary_part EF.ops EF.embed (coordinates point) (coordinates zeta) ∷ []) }
+{
+    let (re, im) = point.v_p(zeta);
+    real.push(re)?;
+    imaginary.push(im)?;
+    Ok(())
 }
 
 // Multiplies each entry by the factor at its place.

@@ -1,4 +1,4 @@
-use Rattle.std.proofs.Common.{◌∙◌, sym, ap, arith, map}
+use Rattle.std.proofs.Common.{◌∙◌, refl, sym, ap, arith, map}
 use Rattle.std.proofs.lemmas.List.{take_all}
 use Rattle.circle_domain.proofs.Twiddles.{map-map}
 use Rattle.circle_field.specs.Circle.{Coordinates}
@@ -14,11 +14,12 @@ loop-point-preserved g c =
     let m = g.EF.ExtensionField.embed in
     let z = coordinates c.args.zeta in
     let i = c.loop-point.point-index in
+    let p = c.point-item.result in
     record {
-      real = map_pushed (λ p. real_part l m (coordinates p) z) c.args.points.now i c.point-item.result c.loop-point.real.items c.push.new.self.items c.v_p.result.0
-          c.loop-point-test.true c.point-item.is c.in_ok-push.ensures.items c.loop-point.invariant.real c.v_p.ensures.re;
-      imaginary = map_pushed (λ p. imaginary_part l m (coordinates p) z) c.args.points.now i c.point-item.result c.loop-point.imaginary.items c.push-in-loop-point.new.self.items c.v_p.result.1
-          c.loop-point-test.true c.point-item.is c.in_ok-push-2.ensures.items c.loop-point.invariant.imaginary c.v_p.ensures.im;
+      real = map_pushed (λ p. real_part l m (coordinates p) z) c.args.points.now i p c.loop-point.real.items c.push_parts.new.real.items _
+          c.loop-point-test.true c.point-item.is c.in_ok-push_parts.ensures.real c.loop-point.invariant.real refl;
+      imaginary = map_pushed (λ p. imaginary_part l m (coordinates p) z) c.args.points.now i p c.loop-point.imaginary.items c.push_parts.new.imaginary.items _
+          c.loop-point-test.true c.point-item.is c.in_ok-push_parts.ensures.imaginary c.loop-point.invariant.imaginary refl;
     }
 
 pub returns-clause-real : goal.returns-clause-real
