@@ -1,6 +1,7 @@
 //! Tests of the crate. What is expected of SHA-256 and of texts was computed apart from this code.
-ghost use Rattle.std.specs.Prelude.{◌≡◌, [], ◌∷◌, map};
+ghost use Rattle.std.specs.Prelude.{◌≡◌, [], ◌∷◌, IfOk, map};
 ghost use Rattle.circle_field.specs.Field.{of_nat};
+ghost use Rattle.circle_challenger.specs.Interaction.{step_of};
 ghost use Rattle.circle_challenger.specs.Played.{opaque_message};
 ghost use Rattle.circle_challenger.specs.Observing.{after_all};
 ghost use Rattle.circle_challenger.specs.Separator.{seed_text};
@@ -10,6 +11,9 @@ use circle_challenger::{
     Hierarchy, Interaction, InteractionPattern, Kind, Length, ProverState, Sha256Challenger,
 };
 use circle_field::{Cubic, ExtensionField, Field, Mersenne31};
+use runs::Drawn;
+use std::alloc::{AllocError, Global};
+use std::process::Abort;
 use std::test::Fail;
 
 mod runs;
@@ -21,6 +25,12 @@ fn element(n: u64) -> Mersenne31 {
 
 fn cubic(a: u64, b: u64, c: u64) -> Cubic {
     Cubic::from_coefficients(&[element(a), element(b), element(c)])
+}
+
+/// Asserts the next element that is drawn.
+fn assert_next(rt: &impl Abort, challenger: &mut Sha256Challenger, expected: u64) {
+    let next: Mersenne31 = challenger.sample();
+    assert_eq!(rt; next, element(expected));
 }
 
 /// The first element that is drawn after these elements are taken in.
@@ -62,13 +72,13 @@ fn the_sponge_is_the_digests_of_its_states(rt: HostRuntime) {
 fn elements_of_the_extension_are_their_coefficients_in_order(rt: HostRuntime) {
     let mut challenger = Sha256Challenger::new();
     let first: Cubic = challenger.sample_algebra_element();
-    assert_eq!(rt; first, cubic(887805594, 2008966348, 1680214714));
+    assert!(rt; first == cubic(887805594, 2008966348, 1680214714));
 
     let mut challenger = Sha256Challenger::new();
     challenger.observe_algebra_element(&cubic(1, 2, 3));
     challenger.observe_algebra_slice(&[cubic(4, 5, 6), cubic(7, 8, 9)]);
     let next: Cubic = challenger.sample_algebra_element();
-    assert_eq!(rt; next, cubic(942657691, 510228239, 1162152177));
+    assert!(rt; next == cubic(942657691, 510228239, 1162152177));
 }
 
 #[test]
@@ -91,7 +101,7 @@ fn grinding_without_a_difficulty_changes_nothing(rt: HostRuntime) {
     let mut challenger = Sha256Challenger::new();
     assert_eq!(rt; challenger.grind(0), Some(Mersenne31::ZERO));
     assert!(rt; challenger.check_witness(0, element(9)));
-    assert_eq!(rt; challenger, Sha256Challenger::new());
+    assert!(rt; challenger == Sha256Challenger::new());
 }
 
 #[test]
@@ -101,7 +111,7 @@ fn grinding_finds_the_least_witness(rt: HostRuntime) {
         assert_eq!(rt; prover.grind(bits), Some(element(witness)), "{bits} bits");
         let mut verifier = Sha256Challenger::new();
         assert!(rt; verifier.check_witness(bits, element(witness)));
-        assert_eq!(rt; prover, verifier);
+        assert!(rt; prover == verifier);
     }
 }
 
@@ -109,33 +119,37 @@ fn grinding_finds_the_least_witness(rt: HostRuntime) {
 fn grinding_and_a_miss_change_the_state(rt: HostRuntime) {
     let mut challenger = Sha256Challenger::new();
     let _ = challenger.grind(8);
-    let after: Mersenne31 = challenger.sample();
-    assert_eq!(rt; after, element(1493963882));
+    assert_next(&rt, &mut challenger, 1493963882);
     let mut challenger = Sha256Challenger::new();
     assert!(rt; !challenger.check_witness(8, Mersenne31::ZERO));
-    let after_miss: Mersenne31 = challenger.sample();
-    assert_eq!(rt; after_miss, element(862777544));
+    assert_next(&rt, &mut challenger, 862777544);
+}
+
+/// Asserts what a run draws, and its witness.
+fn assert_drawn(rt: &impl Abort, drawn: &Drawn) {
+    assert_eq!(rt; drawn.witness, element(4));
+    assert!(rt; drawn.alpha == cubic(435491986, 1509700079, 614995509));
+    assert!(rt; drawn.indices.as_slice() == [3, 1].as_slice());
 }
 
 #[test]
 fn both_sides_draw_alike(rt: HostRuntime) -> Result<(), Fail> {
-    let alloc = rt.alloc();
     let mut prover = Sha256Challenger::new();
-    let proved = runs::prove(alloc, &mut prover)?.ok_or("no witness")?;
-    assert_eq!(rt; proved.witness, element(4));
-    assert_eq!(rt; proved.alpha, cubic(435491986, 1509700079, 614995509));
-    assert_eq!(rt; proved.indices.as_slice(), [3, 1].as_slice());
-
+    let proved = runs::prove(rt.alloc(), &mut prover)?.ok_or("no witness")?;
+    assert_drawn(&rt, &proved);
     let mut verifier = Sha256Challenger::new();
-    let verified = runs::verify(alloc, &mut verifier, proved.witness)?.ok_or("a miss")?;
-    assert_eq!(rt; verified.alpha, proved.alpha);
-    assert_eq!(rt; verified.indices.as_slice(), proved.indices.as_slice());
-    assert_eq!(rt; verifier, prover);
-    let next: Mersenne31 = verifier.sample();
-    assert_eq!(rt; next, element(2031691190));
+    let verified = runs::verify(rt.alloc(), &mut verifier, proved.witness)?.ok_or("a miss")?;
+    assert_drawn(&rt, &verified);
+    assert!(rt; verifier == prover);
+    assert_next(&rt, &mut verifier, 2031691190);
+    Ok(())
+}
 
+#[test]
+fn another_witness_misses(rt: HostRuntime) -> Result<(), Fail> {
     let mut verifier = Sha256Challenger::new();
-    assert!(rt; runs::verify(alloc, &mut verifier, Mersenne31::ZERO)?.is_none());
+    let verified = runs::verify(rt.alloc(), &mut verifier, Mersenne31::ZERO)?;
+    assert!(rt; verified.is_none());
     Ok(())
 }
 
@@ -158,14 +172,19 @@ where
     transcript.finish();
 }
 
+/// The separator of a transcript of this one step.
+fn of_one_step(alloc: Global, step: Interaction) -> Result<DomainSeparator, AllocError>
+    ensures { IfOk result (λ s. s.steps ≡ step_of step ∷ []) }
+{
+    let steps = vec![in alloc; step]?;
+    DomainSeparator::new(alloc, 1, "one", InteractionPattern::new(steps))
+}
+
 #[test]
 fn a_value_is_taken_in_as_it_is(rt: HostRuntime) -> Result<(), Fail> {
-    let alloc = rt.alloc();
     let label = "message";
-    let steps = vec![in alloc;
-        Interaction::opaque(Hierarchy::Atomic, Kind::Message, label, Length::Scalar),
-    ]?;
-    let separator = DomainSeparator::new(alloc, 1, "one", InteractionPattern::new(steps))?;
+    let step = Interaction::opaque(Hierarchy::Atomic, Kind::Message, label, Length::Scalar);
+    let separator = of_one_step(rt.alloc(), step)?;
     let mut challenger = Sha256Challenger::new();
     one_message::<Mersenne31, Sha256Challenger, [u8; 32]>(
         &mut challenger,
@@ -173,28 +192,22 @@ fn a_value_is_taken_in_as_it_is(rt: HostRuntime) -> Result<(), Fail> {
         label,
         &[7; 32],
     );
-    let next: Mersenne31 = challenger.sample();
-    assert_eq!(rt; next, element(478777721));
+    assert_next(&rt, &mut challenger, 478777721);
     Ok(())
 }
 
 #[test]
 fn a_transcript_goes_on_after_a_pause(rt: HostRuntime) -> Result<(), Fail> {
-    let alloc = rt.alloc();
     let label = "draw";
-    let steps = vec![in alloc;
-        Interaction::algebra(Hierarchy::Atomic, Kind::Challenge, label, 3, Length::Scalar),
-    ]?;
-    let separator = DomainSeparator::new(alloc, 1, "one", InteractionPattern::new(steps))?;
+    let step = Interaction::algebra(Hierarchy::Atomic, Kind::Challenge, label, 3, Length::Scalar);
+    let separator = of_one_step(rt.alloc(), step)?;
     let mut challenger = Sha256Challenger::new();
     let (value, drawn) = wrapped::one_draw::<Cubic, Mersenne31, Sha256Challenger>(
         &mut challenger,
         &separator,
         label,
     );
-    assert_eq!(rt; value, cubic(1668035039, 2137457899, 218258125));
-    assert_eq!(rt; drawn, 1);
-    let next: Mersenne31 = challenger.sample();
-    assert_eq!(rt; next, element(2047373211));
+    assert!(rt; value == cubic(1668035039, 2137457899, 218258125) && drawn == 1);
+    assert_next(&rt, &mut challenger, 2047373211);
     Ok(())
 }

@@ -1,5 +1,6 @@
 //! Tests of the transcript. The seed's text was computed apart from this code.
 ghost use Rattle.std.specs.Prelude.{◌≡◌, ◌≤◌, ◌<◌, [], ◌∷◌, IfOk, length, flat_map};
+ghost use Rattle.circle_challenger.specs.Sha256Challenger.{state_of};
 ghost use Rattle.circle_transcript.specs.Shape.{claimed_widths};
 ghost use Rattle.circle_transcript.specs.ShapeOf.{shape_of, batches_of};
 
@@ -152,30 +153,11 @@ where
     )
 }
 
-/// Asserts what a run draws.
-fn assert_draws(
-    rt: &impl Abort,
-    draws: &CircleDraws<Cubic>,
-    alpha: Cubic,
-    bivariate: Cubic,
-    betas: &[Cubic],
-    indices: &[usize],
-) {
-    assert_eq!(rt; (draws.alpha, draws.bivariate), (alpha, bivariate));
-    assert_eq!(rt; draws.betas.as_slice(), betas);
-    assert_eq!(rt; draws.indices.as_slice(), indices);
-}
-
 /// Asserts that two runs draw the same.
 fn assert_alike(rt: &impl Abort, first: &CircleDraws<Cubic>, second: &CircleDraws<Cubic>) {
-    assert_draws(
-        rt,
-        first,
-        second.alpha,
-        second.bivariate,
-        &second.betas,
-        &second.indices,
-    );
+    assert!(rt; first.alpha == second.alpha && first.bivariate == second.bivariate);
+    assert!(rt; first.betas.as_slice() == second.betas.as_slice());
+    assert!(rt; first.indices.as_slice() == second.indices.as_slice());
 }
 
 #[test]
@@ -198,7 +180,7 @@ fn assert_same_text(
 {
     let one = shape.domain_separator::<Mersenne31, Cubic>(alloc)?;
     let other = other.domain_separator::<Mersenne31, Cubic>(alloc)?;
-    assert_eq!(rt; one.text(), other.text());
+    assert!(rt; one.text() == other.text());
     Ok(())
 }
 
@@ -212,9 +194,14 @@ fn without_rounds_their_difficulty_is_not_named(rt: HostRuntime) -> Result<(), F
     Ok(())
 }
 
-#[test]
-fn both_runs_draw_alike(rt: HostRuntime) -> Result<(), Fail> {
-    let alloc = rt.alloc();
+/// What both sides of a run of two rounds over one claim draw.
+fn drawn_by_both(
+    alloc: Global,
+    prover: &mut Sha256Challenger,
+    verifier: &mut Sha256Challenger,
+) -> Result<(CircleDraws<Cubic>, CircleDraws<Cubic>), CircleTranscriptFailure>
+    requires { state_of prover.old ≡ state_of verifier.old }
+{
     let bits = Difficulties {
         batch: 8,
         commit: 3,
@@ -223,26 +210,24 @@ fn both_runs_draw_alike(rt: HostRuntime) -> Result<(), Fail> {
     let shape = shape(alloc, 2, bits)?;
     let values = [cubic(5, 6, 7)];
     let claims = [(Point::<Cubic>::ZERO, values.as_slice())];
-    let mut prover = Sha256Challenger::new();
-    let mut verifier = Sha256Challenger::new();
     let final_poly = [cubic(1, 2, 3)];
     let messages = CircleMessages {
         first_layer: &[7; 32],
         commitments: &[[9; 32], [8; 32]],
         final_poly: final_poly.as_slice(),
     };
-    let runs = both_runs(
-        alloc,
-        &mut prover,
-        &mut verifier,
-        shape,
-        claims.as_slice(),
-        &messages,
-    );
+    both_runs(alloc, prover, verifier, shape, claims.as_slice(), &messages)
+}
+
+#[test]
+fn both_runs_draw_alike(rt: HostRuntime) -> Result<(), Fail> {
+    let mut prover = Sha256Challenger::new();
+    let mut verifier = Sha256Challenger::new();
+    let runs = drawn_by_both(rt.alloc(), &mut prover, &mut verifier);
     let (first, second) = runs.map_err(|_| "no run")?;
     assert_eq!(rt; first.betas.len(), 2);
     assert_alike(&rt, &first, &second);
-    assert_eq!(rt; prover, verifier);
+    assert!(rt; prover == verifier);
     Ok(())
 }
 
@@ -295,17 +280,26 @@ fn queries_checked(alloc: Global, witness: u64) -> Result<(), CircleTranscriptFa
     checked(alloc, &[], Difficulties { query: 8, ..NONE }, &witnesses)
 }
 
+/// Asserts that a failure is of this phase and has this text.
+fn assert_failure(
+    rt: &impl Abort,
+    failure: CircleTranscriptFailure,
+    (phase, text): (PowPhase, &str),
+) {
+    assert_eq!(rt; InlineText::<96>::of(failure).as_str(), text);
+    assert_eq!(rt; failure.phase(), phase);
+}
+
 /// Whether there is a failure, which has to be of this phase and to have this text.
 fn misses(
     rt: &impl Abort,
     verdict: Result<(), CircleTranscriptFailure>,
-    (phase, text): (PowPhase, &str),
+    expected: (PowPhase, &str),
 ) -> bool {
     let Err(failure) = verdict else {
         return false;
     };
-    assert_eq!(rt; InlineText::<96>::of(failure).as_str(), text);
-    assert_eq!(rt; failure.phase(), phase);
+    assert_failure(rt, failure, expected);
     true
 }
 
@@ -331,6 +325,11 @@ fn a_miss_names_its_phase(rt: HostRuntime) {
     assert_eq!(rt; missed, (true, true));
 }
 
+const NO_WITNESS: (PowPhase, &str) = (
+    PowPhase::Batch,
+    "no proof-of-work witness for the batch phase: 4 bits required",
+);
+
 /// Why the prover fails where no witness passes.
 fn failure_of_no_witness(
     alloc: Global,
@@ -348,11 +347,6 @@ fn failure_of_no_witness(
 #[test]
 fn where_no_witness_passes_the_prover_fails(rt: HostRuntime) -> Result<(), Fail> {
     let failure = failure_of_no_witness(rt.alloc(), &[], Difficulties { batch: 4, ..NONE });
-    let failure = failure.ok_or("a run")?;
-    assert_eq!(rt;
-        InlineText::<96>::of(failure).as_str(),
-        "no proof-of-work witness for the batch phase: 4 bits required"
-    );
-    assert_eq!(rt; failure.phase(), PowPhase::Batch);
+    assert_failure(&rt, failure.ok_or("a run")?, NO_WITNESS);
     Ok(())
 }

@@ -1,11 +1,12 @@
 //! Whole runs of a described transcript, on both sides.
-ghost use Rattle.std.specs.Prelude.{◌≡◌, [], ◌∷◌, IfOk};
+ghost use Rattle.std.specs.Prelude.{◌≡◌, [], ◌∷◌, IfOk, OnOk};
 ghost use Rattle.circle_challenger.specs.Played.{elements_message, element_message, opaque_message};
 ghost use Rattle.circle_challenger.specs.Played.{pow_step, element_challenge, numbers_challenge};
+ghost use Rattle.circle_challenger.specs.TranscriptState.{due, SameChallenger};
 
 use circle_challenger::{
     CanObserve, CanSample, DomainSeparator, GrindingChallenger, Hierarchy, Interaction,
-    InteractionPattern, Kind, Length, ProverState, VerifierState,
+    InteractionPattern, Kind, Length, ProverState, TranscriptState, VerifierState,
 };
 use circle_field::{Cubic, ExtensionField, Field, Mersenne31};
 use std::alloc::{AllocError, Global};
@@ -70,6 +71,30 @@ fn cubic(a: u64, b: u64, c: u64) -> Cubic {
     Cubic::from_coefficients(&[element(a), element(b), element(c)])
 }
 
+/// What the run draws after its proof of work, which had this witness.
+fn draw<C, S>(
+    alloc: Global,
+    transcript: &mut TranscriptState<C, Mersenne31, S>,
+    witness: Mersenne31,
+) -> Result<Drawn, AllocError>
+where
+    C: CanSample<Mersenne31> + GrindingChallenger<Mersenne31> + CanObserve<[u8; 32]>,
+    requires { due transcript.old ≡ element_challenge 3 ALPHA.now ∷ opaque_message COMMITMENT.now
+        ∷ element_message 3 FINAL.now ∷ numbers_challenge INDICES.now 3 2 ∷ [] }
+    ensures same_reference { SameChallenger transcript.old transcript.new }
+    ensures due { OnOk result (due transcript.new ≡ []) }
+{
+    let alpha: Cubic = transcript.challenge_extension(ALPHA);
+    transcript.observe_opaque(COMMITMENT, &[7u8; 32]);
+    transcript.observe_extension(FINAL, &cubic(10, 11, 12));
+    let indices = transcript.challenge_bits(alloc, INDICES, 3, 2)?;
+    Ok(Drawn {
+        witness,
+        alpha,
+        indices,
+    })
+}
+
 /// The prover's side of the run, or nothing where no witness passes.
 pub fn prove<C>(alloc: Global, challenger: &mut C) -> Result<Option<Drawn>, AllocError>
 where
@@ -83,17 +108,10 @@ where
         transcript.abort();
         return Ok(None);
     };
-    let alpha: Cubic = transcript.challenge_extension(ALPHA);
-    transcript.observe_opaque(COMMITMENT, &[7u8; 32]);
-    transcript.observe_extension(FINAL, &cubic(10, 11, 12));
-    match transcript.challenge_bits(alloc, INDICES, 3, 2) {
-        Ok(indices) => {
+    match draw(alloc, &mut transcript, witness) {
+        Ok(drawn) => {
             transcript.finish();
-            Ok(Some(Drawn {
-                witness,
-                alpha,
-                indices,
-            }))
+            Ok(Some(drawn))
         }
         Err(error) => {
             transcript.abort();
@@ -119,17 +137,10 @@ where
         transcript.abort();
         return Ok(None);
     }
-    let alpha: Cubic = transcript.challenge_extension(ALPHA);
-    transcript.observe_opaque(COMMITMENT, &[7u8; 32]);
-    transcript.observe_extension(FINAL, &cubic(10, 11, 12));
-    match transcript.challenge_bits(alloc, INDICES, 3, 2) {
-        Ok(indices) => {
+    match draw(alloc, &mut transcript, witness) {
+        Ok(drawn) => {
             transcript.finish();
-            Ok(Some(Drawn {
-                witness,
-                alpha,
-                indices,
-            }))
+            Ok(Some(drawn))
         }
         Err(error) => {
             transcript.abort();

@@ -11,6 +11,7 @@ use circle_challenger::{
 use circle_field::{Cubic, Mersenne31};
 use circle_transcript::CirclePcsShape;
 use std::alloc::{AllocError, Global};
+use std::process::Abort;
 use std::test::Fail;
 
 /// A step of elements of the cubic extension.
@@ -66,14 +67,18 @@ fn listed(alloc: Global) -> Result<DomainSeparator, AllocError> {
 #[test]
 fn listed_steps_make_the_seed_of_a_shape(rt: HostRuntime) -> Result<(), Fail> {
     let alloc = rt.alloc();
-    let listed = listed(alloc)?;
-    assert_eq!(rt; listed.pattern().steps(), steps(alloc)?.as_slice());
-    assert_eq!(rt; listed.labels().len(), 2);
-    assert_eq!(rt; listed.text().len(), 480);
-    let shape = shape(alloc, 1, NONE)?;
-    let separator = shape.domain_separator::<Mersenne31, Cubic>(alloc)?;
-    assert_eq!(rt; listed.text(), separator.text());
+    let (listed, steps) = (listed(alloc)?, steps(alloc)?);
+    let separator = shape(alloc, 1, NONE)?.domain_separator::<Mersenne31, Cubic>(alloc)?;
+    assert_listed(&rt, &listed, &steps, separator.text());
     Ok(())
+}
+
+/// Asserts that a separator is of these steps and of two labels, and has this text.
+fn assert_listed(rt: &impl Abort, listed: &DomainSeparator, steps: &[Interaction], text: &[u8]) {
+    assert!(rt; listed.pattern().steps() == steps);
+    assert!(rt; listed.labels().len() == 2);
+    assert!(rt; listed.text().len() == 480);
+    assert!(rt; listed.text() == text);
 }
 
 /// The shape over one claim of four columns with one round, whose indices have so many bits.
@@ -107,8 +112,8 @@ fn first_drawn(alloc: Global, shape: &CirclePcsShape) -> Result<Mersenne31, Allo
 fn the_bits_of_an_index_reach_the_seed(rt: HostRuntime) -> Result<(), Fail> {
     let alloc = rt.alloc();
     let (eight, nine) = (of_index_bits(alloc, 8)?, of_index_bits(alloc, 9)?);
-    assert_eq!(rt; first_drawn(alloc, &eight)?, element(1561129955));
-    assert_eq!(rt; first_drawn(alloc, &nine)?, element(1556354232));
+    let drawn = (first_drawn(alloc, &eight)?, first_drawn(alloc, &nine)?);
+    assert!(rt; drawn == (element(1561129955), element(1556354232)));
     assert!(rt; !eight.has_seed_of::<Mersenne31, Cubic>(alloc, &nine)?);
     Ok(())
 }
