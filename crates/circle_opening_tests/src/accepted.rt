@@ -4,33 +4,31 @@ ghost use Rattle.circle_pcs.specs.RoundTrip.{HasPoints};
 ghost use Rattle.p3_circle.specs.Committing.{HaveRowsForPoints};
 
 use circle_challenger::Sha256Challenger;
-use circle_commit::OpenedValues;
+use circle_commit::{OpenedValues, RoundTripError};
 use circle_field::Cubic;
-use circle_presets::{Proof, Scheme};
+use circle_presets::{Scheme, VerifierError};
 use circle_statements::batches::{
     AtPoints, Batch, Domain, Size, at_points, commit_one, cubic, one, scattered,
 };
-use circle_statements::openings::{Answer, claims_of, open, shown, verify};
+use circle_statements::openings::{claims_of, open, shown, verify};
 use circle_statements::parameters::{Numbers, SMALL, scheme};
-use p3_circle::{Point, heights_match_domains};
+use p3_circle::{Point, ProverError, heights_match_domains};
 use std::alloc::Global;
 use std::fmt::InlineText;
 use std::process::Abort;
 use std::test::Fail;
 
-/// What is opened of batches: their values and the proof.
-type Opened = (OpenedValues<Cubic>, Proof);
-
-// What is answered to the opening of the batches.
+// The text of what is answered to the opening of the batches.
 fn answer_to(
     alloc: Global,
     scheme: &Scheme,
     batches: &[Batch],
-    opened: &Opened,
-    challenger: &mut Sha256Challenger,
-) -> Result<Answer, Fail> {
-    let claims = claims_of(alloc, batches, &opened.0)?;
-    Ok(verify(alloc, scheme, claims, &opened.1, challenger))
+    prover: &mut Sha256Challenger,
+    verifier: &mut Sha256Challenger,
+) -> Result<InlineText<128>, Fail> {
+    let (values, proof) = open(alloc, scheme, batches, prover)?;
+    let claims = claims_of(alloc, batches, &values)?;
+    Ok(shown(verify(alloc, scheme, claims, &proof, verifier)))
 }
 
 // Asserts that what is opened is accepted, and that both sides end in one state.
@@ -41,10 +39,9 @@ fn assert_accepted(
     batches: &[Batch],
 ) -> Result<(), Fail> {
     let (mut prover, mut verifier) = (Sha256Challenger::new(), Sha256Challenger::new());
-    let opened = open(alloc, scheme, batches, &mut prover)?;
-    let answer = shown(answer_to(alloc, scheme, batches, &opened, &mut verifier)?);
+    let answer = answer_to(alloc, scheme, batches, &mut prover, &mut verifier)?;
     assert_eq!(rt; answer.as_str(), "accepted");
-    assert_eq!(rt; verifier, prover);
+    assert!(rt; verifier == prover);
     Ok(())
 }
 
@@ -75,8 +72,7 @@ fn assert_turned(
     turned: Domain,
     seed: u64,
 ) -> Result<(), Fail> {
-    assert!(rt; turned.log_n() <= 31);
-    assert!(rt; turned.is_genuine() && !turned.is_standard());
+    assert!(rt; turned.log_n() <= 31 && turned.is_genuine() && !turned.is_standard());
     let at = cubic([0, 1, 0]);
     assert_one(rt, alloc, log_final_poly_len, turned, 2, seed, &[at])
 }
@@ -134,6 +130,23 @@ fn can_all_be_opened(batches: &[AtPoints]) -> bool
     true
 }
 
+/// What a whole run answers.
+type Run = Result<OpenedValues<Cubic>, RoundTripError<ProverError, VerifierError>>;
+
+// `CirclePcs::round_trip`, after a test of what it asks, and whether both challengers end in one
+// state.
+fn whole_run(
+    rt: &impl Abort,
+    alloc: Global,
+    numbers: Numbers,
+    batches: Vec<AtPoints>,
+) -> (Run, bool) {
+    assert!(rt; can_all_be_opened(&batches));
+    let (mut prover, mut verifier) = (Sha256Challenger::new(), Sha256Challenger::new());
+    let run = scheme(numbers).round_trip(alloc, batches, &mut prover, &mut verifier);
+    (run, verifier == prover)
+}
+
 // Asserts that a whole run over batches of these sizes answers values, and that both challengers
 // end in one state.
 fn assert_whole_run(
@@ -143,12 +156,9 @@ fn assert_whole_run(
     sizes: &[&[Size]],
 ) -> Result<(), Fail> {
     let batches = all_at_points(alloc, sizes)?;
-    assert!(rt; can_all_be_opened(&batches));
-    let (mut prover, mut verifier) = (Sha256Challenger::new(), Sha256Challenger::new());
-    let run = scheme(numbers).round_trip(alloc, batches, &mut prover, &mut verifier);
+    let (run, is_one_state) = whole_run(rt, alloc, numbers, batches);
     let values = run.ok().ok_or("values")?;
-    assert_eq!(rt; values.len(), sizes.len());
-    assert_eq!(rt; verifier, prover);
+    assert!(rt; values.len() == sizes.len() && is_one_state);
     Ok(())
 }
 
@@ -192,6 +202,13 @@ fn whole_runs(rt: HostRuntime) -> Result<(), Fail> {
     Ok(())
 }
 
+// A column of so many rows, with this coordinate of a point.
+fn column_at(alloc: Global, log_n: usize, at: [u64; 3]) -> Result<Vec<AtPoints>, Fail> {
+    let mut batch = at_points(alloc, &[(log_n, 1, 0)], 12)?;
+    batch.points = one(alloc, one(alloc, cubic(at))?)?;
+    Ok(one(alloc, batch)?)
+}
+
 // What is answered to a whole run over a column of so many rows, opened at this coordinate.
 fn run_of_one(
     rt: &impl Abort,
@@ -199,31 +216,35 @@ fn run_of_one(
     log_n: usize,
     at: [u64; 3],
 ) -> Result<InlineText<128>, Fail> {
-    let mut batch = at_points(alloc, &[(log_n, 1, 0)], 12)?;
-    batch.points = one(alloc, one(alloc, cubic(at))?)?;
-    let batches = one(alloc, batch)?;
-    assert!(rt; can_all_be_opened(&batches));
-    let (mut prover, mut verifier) = (Sha256Challenger::new(), Sha256Challenger::new());
-    let run = scheme(SMALL).round_trip(alloc, batches, &mut prover, &mut verifier);
+    let batches = column_at(alloc, log_n, at)?;
+    let (run, _) = whole_run(rt, alloc, SMALL, batches);
     match run {
         Ok(_) => Ok(InlineText::of("done")),
         Err(refusal) => Ok(InlineText::of(refusal)),
     }
 }
 
+// Asserts that a run over so many rows, opened at this coordinate, is answered by this text.
+fn assert_refused(
+    rt: &impl Abort,
+    alloc: Global,
+    log_n: usize,
+    at: [u64; 3],
+    expected: &str,
+) -> Result<(), Fail> {
+    let answer = run_of_one(rt, alloc, log_n, at)?;
+    assert_eq!(rt; answer.as_str(), expected);
+    Ok(())
+}
+
+const NO_COMMITMENT: &str = "there is no commitment: a matrix has too few rows to be folded";
+
+const NO_OPENING: &str =
+    "there is no opening: an opening point lies on the committed domain of its matrix";
+
 // Two rows are too few; the other coordinate is of a point that four rows are committed on.
 #[test]
 fn runs_that_are_refused(rt: HostRuntime) -> Result<(), Fail> {
-    let alloc = rt.alloc();
-    let commit = run_of_one(&rt, alloc, 1, [0, 1, 0])?;
-    assert_eq!(&rt;
-        commit.as_str(),
-        "there is no commitment: a matrix has too few rows to be folded"
-    );
-    let open = run_of_one(&rt, alloc, 2, [775713575, 0, 0])?;
-    assert_eq!(&rt;
-        open.as_str(),
-        "there is no opening: an opening point lies on the committed domain of its matrix"
-    );
-    Ok(())
+    assert_refused(&rt, rt.alloc(), 1, [0, 1, 0], NO_COMMITMENT)?;
+    assert_refused(&rt, rt.alloc(), 2, [775713575, 0, 0], NO_OPENING)
 }

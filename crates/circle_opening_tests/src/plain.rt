@@ -10,7 +10,7 @@ use circle_field::{Cubic, ExtensionField, Field, Mersenne31};
 use circle_json::JsonForm;
 use circle_presets::{ChallengeMmcs, Proof, Scheme};
 use circle_statements::batches::{Batch, Size, one, scattered_batches};
-use circle_statements::openings::{Answer, claims_of, open, verify};
+use circle_statements::openings::{claims_of, open, verify};
 use circle_statements::parameters::{Numbers, SMALL, scheme};
 use p3_circle::{CircleFriProof, CirclePcsProof, CirclePcsShape};
 use std::alloc::{AllocError, Global};
@@ -20,7 +20,7 @@ use std::test::Fail;
 mod opened;
 mod words;
 
-use opened::{opened_inputs, opened_rounds};
+use opened::{Inputs, Round, opened_inputs, opened_rounds};
 use words::{Opened, final_poly, first_words, folded, join, on_line, values_at};
 
 // Asserts that a committed matrix has these values at the points.
@@ -39,6 +39,22 @@ fn assert_values_of(
     Ok(())
 }
 
+// Asserts that the matrices of a batch have these values.
+fn assert_values_of_batch(
+    rt: &impl Abort,
+    alloc: Global,
+    scheme: &Scheme,
+    batch: &Batch,
+    values: &OpenedValuesForRound<Cubic>,
+) -> Result<(), AllocError> {
+    let matrices = scheme.mmcs.get_matrices(&batch.data);
+    assert!(rt; values.len() == matrices.len());
+    for (rows, (points, values)) in matrices.iter().zip(batch.points.iter().zip(values)) {
+        assert_values_of(rt, alloc, rows, points, values)?;
+    }
+    Ok(())
+}
+
 // Asserts that all committed matrices have these values.
 fn assert_values(
     rt: &impl Abort,
@@ -47,13 +63,30 @@ fn assert_values(
     batches: &[Batch],
     values: &OpenedValues<Cubic>,
 ) -> Result<(), AllocError> {
-    assert_eq!(rt; values.len(), batches.len());
+    assert!(rt; values.len() == batches.len());
     for (batch, values) in batches.iter().zip(values) {
-        let matrices = scheme.mmcs.get_matrices(&batch.data);
-        assert_eq!(rt; values.len(), matrices.len());
-        for (rows, (points, values)) in matrices.iter().zip(batch.points.iter().zip(values)) {
-            assert_values_of(rt, alloc, rows, points, values)?;
-        }
+        assert_values_of_batch(rt, alloc, scheme, batch, values)?;
+    }
+    Ok(())
+}
+
+// Adds the matrices of a batch with their values.
+fn push_matrices<'a>(
+    rt: &impl Abort,
+    opened: &mut Vec<Opened<'a>>,
+    scheme: &Scheme,
+    batch: &'a Batch,
+    values: &'a OpenedValuesForRound<Cubic>,
+) -> Result<(), AllocError> {
+    let matrices = scheme.mmcs.get_matrices(&batch.data);
+    for (rows, (points, values)) in matrices.iter().zip(batch.points.iter().zip(values)) {
+        assert!(rt; rows.height() >= 1);
+        opened.push(Opened {
+            log_height: rows.height().ilog2() as usize,
+            rows,
+            points,
+            values,
+        })?;
     }
     Ok(())
 }
@@ -68,16 +101,7 @@ fn opened_matrices<'a>(
 ) -> Result<Vec<Opened<'a>>, AllocError> {
     let mut opened = Vec::new(alloc);
     for (batch, values) in batches.iter().zip(values) {
-        let matrices = scheme.mmcs.get_matrices(&batch.data);
-        for (rows, (points, values)) in matrices.iter().zip(batch.points.iter().zip(values)) {
-            assert!(rt; rows.height() >= 1);
-            opened.push(Opened {
-                log_height: rows.height().ilog2() as usize,
-                rows,
-                points,
-                values,
-            })?;
-        }
+        push_matrices(rt, &mut opened, scheme, batch, values)?;
     }
     Ok(opened)
 }
@@ -94,6 +118,18 @@ fn widths_of(
     Ok(widths)
 }
 
+// Those of all batches.
+fn all_widths(
+    alloc: Global,
+    values: &OpenedValues<Cubic>,
+) -> Result<Vec<Vec<Vec<usize>>>, AllocError> {
+    let mut widths = Vec::new(alloc);
+    for batch in values {
+        widths.push(widths_of(alloc, batch)?)?;
+    }
+    Ok(widths)
+}
+
 // Seeds the challenger with the shape of the run.
 fn seed(
     rt: &impl Abort,
@@ -106,11 +142,7 @@ fn seed(
     let params = &scheme.fri_params;
     assert!(rt; params.log_blowup <= 8 && params.log_final_poly_len <= 8 && top <= 12);
     assert!(rt; params.log_blowup + params.log_final_poly_len < top);
-    let mut widths = Vec::new(alloc);
-    for batch in values {
-        widths.push(widths_of(alloc, batch)?)?;
-    }
-    let shape = CirclePcsShape::new(params, widths, top, 1);
+    let shape = CirclePcsShape::new(params, all_widths(alloc, values)?, top, 1);
     assert!(rt; shape.log_final_poly_len <= 63);
     let separator = shape.domain_separator::<Mersenne31, Cubic>(alloc)?;
     separator.seed::<Mersenne31, Sha256Challenger>(challenger);
@@ -128,8 +160,9 @@ fn observe(challenger: &mut Sha256Challenger, element: Cubic) {
 // Takes in the claims on a matrix.
 fn observe_claims(rt: &impl Abort, challenger: &mut Sha256Challenger, matrix: &Opened) {
     for (at, values) in matrix.points.iter().zip(matrix.values) {
-        observe(challenger, on_line(rt, *at).x());
-        observe(challenger, on_line(rt, *at).y());
+        let point = on_line(rt, *at);
+        observe(challenger, point.x());
+        observe(challenger, point.y());
         for value in values {
             observe(challenger, *value);
         }
@@ -159,6 +192,21 @@ struct Layer {
     data: <ChallengeMmcs as Mmcs<Cubic>>::ProverData,
 }
 
+// The matrices of the words' pairs.
+fn pairs_of(
+    rt: &impl Abort,
+    alloc: Global,
+    words: &[Vec<Cubic>],
+) -> Result<Vec<RowMajorMatrix<Cubic>>, AllocError> {
+    let mut matrices = Vec::new(alloc);
+    for word in words {
+        let values = Vec::from_slice(alloc, word)?;
+        assert!(rt; values.len() % 2 == 0);
+        matrices.push(RowMajorMatrix::new(values, 2))?;
+    }
+    Ok(matrices)
+}
+
 // Commits to words by pairs, and takes the commitment in.
 fn commit_words(
     rt: &impl Abort,
@@ -167,12 +215,7 @@ fn commit_words(
     words: Vec<Vec<Cubic>>,
     challenger: &mut Sha256Challenger,
 ) -> Result<Layer, AllocError> {
-    let mut matrices = Vec::new(alloc);
-    for word in &words {
-        let values = Vec::from_slice(alloc, word)?;
-        assert!(rt; values.len() % 2 == 0);
-        matrices.push(RowMajorMatrix::new(values, 2))?;
-    }
+    let matrices = pairs_of(rt, alloc, &words)?;
     assert!(rt; !matrices.is_empty() && heights_are_powers_of_two(&matrices));
     let (commitment, data) = scheme.fri_params.mmcs.commit(alloc, matrices)?;
     challenger.observe(&commitment);
@@ -331,28 +374,77 @@ fn top_of(matrices: &[Opened]) -> usize {
     top
 }
 
-// The proof of values by the plain definitions.
-fn plain_proof<'a>(
+/// All that is played of a proof before its queries.
+#[derive(Drop)]
+struct Played {
+    first: First,
+    rounds: Rounds,
+    final_poly: Vec<Cubic>,
+    pow_witness: Mersenne31,
+}
+
+// Plays the first layer, the rounds and the final polynomial.
+fn play_words(
     rt: &impl Abort,
     alloc: Global,
     scheme: &Scheme,
-    batches: &'a [Batch],
-    values: &'a OpenedValues<Cubic>,
+    matrices: &[Opened],
     challenger: &mut Sha256Challenger,
-) -> Result<Proof, AllocError> {
-    let matrices = opened_matrices(rt, alloc, scheme, batches, values)?;
-    let top = top_of(&matrices);
-    seed(rt, alloc, scheme, values, top, challenger)?;
-    let first = play_first(rt, alloc, scheme, &matrices, challenger)?;
+) -> Result<Played, AllocError> {
+    let first = play_first(rt, alloc, scheme, matrices, challenger)?;
     let waiting = folded_first(rt, alloc, &first.layer, draw(challenger))?;
     let rounds = play_rounds(rt, alloc, scheme, waiting, challenger)?;
     let (final_poly, pow_witness) = play_final_poly(rt, alloc, scheme, &rounds, challenger)?;
-    let queries = scheme.fri_params.num_queries;
-    let indices = drawn_indices(rt, alloc, queries, top, challenger)?;
-    let input_openings = opened_inputs(rt, alloc, scheme, batches, &first.layer, top, &indices)?;
+    Ok(Played {
+        first,
+        rounds,
+        final_poly,
+        pow_witness,
+    })
+}
+
+/// What is opened of the batches and of the first layer, and of the rounds.
+type Openings = (Inputs, Vec<Round>);
+
+// Draws the queries, and opens at them what was committed to.
+fn play_queries(
+    rt: &impl Abort,
+    alloc: Global,
+    scheme: &Scheme,
+    batches: &[Batch],
+    played: &Played,
+    top: usize,
+    challenger: &mut Sha256Challenger,
+) -> Result<Openings, AllocError> {
+    let indices = drawn_indices(rt, alloc, scheme.fri_params.num_queries, top, challenger)?;
+    let inputs = opened_inputs(
+        rt,
+        alloc,
+        scheme,
+        batches,
+        &played.first.layer,
+        top,
+        &indices,
+    )?;
+    let rounds = opened_rounds(rt, alloc, scheme, &played.rounds.layers, top, &indices)?;
+    Ok((inputs, rounds))
+}
+
+// The proof of what was played and opened.
+fn proof_of(
+    alloc: Global,
+    played: Played,
+    (input_openings, commit_phase_openings): Openings,
+) -> Result<Proof, AllocError> {
+    let Played {
+        first,
+        rounds,
+        final_poly,
+        pow_witness,
+    } = played;
     let fri_proof = CircleFriProof {
         commit_phase_commits: commitments_of(alloc, &rounds)?,
-        commit_phase_openings: opened_rounds(rt, alloc, scheme, &rounds.layers, top, &indices)?,
+        commit_phase_openings,
         commit_pow_witnesses: rounds.witnesses,
         input_openings,
         final_poly,
@@ -366,6 +458,28 @@ fn plain_proof<'a>(
     })
 }
 
+// The proof of values by the plain definitions.
+fn plain_proof<'a>(
+    rt: &impl Abort,
+    alloc: Global,
+    scheme: &Scheme,
+    batches: &'a [Batch],
+    values: &'a OpenedValues<Cubic>,
+    challenger: &mut Sha256Challenger,
+) -> Result<Proof, AllocError> {
+    let matrices = opened_matrices(rt, alloc, scheme, batches, values)?;
+    let top = top_of(&matrices);
+    seed(rt, alloc, scheme, values, top, challenger)?;
+    let played = play_words(rt, alloc, scheme, &matrices, challenger)?;
+    let openings = play_queries(rt, alloc, scheme, batches, &played, top, challenger)?;
+    proof_of(alloc, played, openings)
+}
+
+// The text of a proof.
+fn text_of(alloc: Global, proof: &Proof) -> Result<String, AllocError> {
+    proof.to_json(alloc)?.to_string(alloc)
+}
+
 // Asserts that both proofs have the same text, byte for byte.
 fn assert_same_text(
     rt: &impl Abort,
@@ -373,21 +487,39 @@ fn assert_same_text(
     left: &Proof,
     right: &Proof,
 ) -> Result<(), AllocError> {
-    let (left, right) = (left.to_json(alloc)?, right.to_json(alloc)?);
-    assert_eq!(rt; left.to_string(alloc)?, right.to_string(alloc)?);
+    let (left, right) = (text_of(alloc, left)?, text_of(alloc, right)?);
+    assert_eq!(rt; left, right);
     Ok(())
 }
 
-// What is answered to the opening.
-fn answer_to(
+// Asserts that the opening is accepted.
+fn assert_accepted(
+    rt: &impl Abort,
     alloc: Global,
     scheme: &Scheme,
     batches: &[Batch],
     values: &OpenedValues<Cubic>,
     proof: &Proof,
-) -> Result<Answer, AllocError> {
+) -> Result<(), AllocError> {
     let claims = claims_of(alloc, batches, values)?;
-    Ok(verify(alloc, scheme, claims, proof, &mut Sha256Challenger::new()))
+    assert!(rt; verify(alloc, scheme, claims, proof, &mut Sha256Challenger::new()).is_ok());
+    Ok(())
+}
+
+// Asserts that batches are opened as by the plain definitions.
+fn assert_opened(
+    rt: &impl Abort,
+    alloc: Global,
+    scheme: &Scheme,
+    batches: &[Batch],
+) -> Result<(), Fail> {
+    let (mut first, mut second) = (Sha256Challenger::new(), Sha256Challenger::new());
+    let (values, proof) = open(alloc, scheme, batches, &mut first)?;
+    assert_values(rt, alloc, scheme, batches, &values)?;
+    let plain = plain_proof(rt, alloc, scheme, batches, &values, &mut second)?;
+    assert!(rt; first == second);
+    assert_same_text(rt, alloc, &proof, &plain)?;
+    Ok(assert_accepted(rt, alloc, scheme, batches, &values, &proof)?)
 }
 
 // Asserts that batches of matrices of these sizes are opened as by the plain definitions.
@@ -399,14 +531,7 @@ fn assert_plain(
 ) -> Result<(), Fail> {
     let scheme = scheme(numbers);
     let batches = scattered_batches(alloc, &scheme, sizes)?;
-    let (mut first, mut second) = (Sha256Challenger::new(), Sha256Challenger::new());
-    let (values, proof) = open(alloc, &scheme, &batches, &mut first)?;
-    assert_values(rt, alloc, &scheme, &batches, &values)?;
-    let plain = plain_proof(rt, alloc, &scheme, &batches, &values, &mut second)?;
-    assert_eq!(rt; first, second);
-    assert_same_text(rt, alloc, &proof, &plain)?;
-    assert!(rt; answer_to(alloc, &scheme, &batches, &values, &proof)?.is_ok());
-    Ok(())
+    assert_opened(rt, alloc, &scheme, &batches)
 }
 
 const THREE: &[&[Size]] = &[&[(3, 3, 1)], &[(5, 2, 2), (3, 1, 1)], &[(5, 1, 3)]];

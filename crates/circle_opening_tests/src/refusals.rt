@@ -6,13 +6,11 @@ use circle_field::{ExtensionField, Field, Mersenne31};
 use circle_fixtures::quadratic::Quadratic;
 use circle_fixtures::schemes::ListMmcs;
 use circle_presets::{ProverData, Scheme, ValMmcs};
-use circle_statements::batches::{
-    Batch, Domain, Rows, commit_one, cubic, one, rows, scattered_batch, sevens,
-};
+use circle_statements::batches::{Batch, Domain, Rows, cubic, one, rows, scattered_batch, sevens};
 use circle_statements::openings::{open, open_at, told};
 use circle_statements::parameters::{Numbers, SMALL, parameters, scheme};
 use p3_circle::{CirclePcs, ProverError};
-use std::alloc::Global;
+use std::alloc::{AllocError, Global};
 use std::fmt::InlineText;
 use std::process::Abort;
 use std::test::Fail;
@@ -41,7 +39,7 @@ fn assert_refused(
     let mut challenger = Sha256Challenger::new();
     let refused = refusal(alloc, scheme, batches, &mut challenger);
     assert_eq!(rt; refused.as_str(), expected);
-    assert_eq!(rt; challenger, Sha256Challenger::new());
+    assert!(rt; challenger == Sha256Challenger::new());
 }
 
 // The small numbers with other difficulties.
@@ -79,34 +77,39 @@ fn more_lists(alloc: Global, scheme: &Scheme) -> Result<Batch, Fail> {
     Ok(more)
 }
 
+const OTHER_NUMBER: &str = "there is not one list of points for each matrix";
+
+// The first matrix has too few rows for the higher blowup.
+const HIGH_BLOWUP: Numbers = Numbers {
+    log_blowup: 2,
+    ..SMALL
+};
+
 #[test]
 fn other_numbers_of_lists_of_points(rt: HostRuntime) -> Result<(), Fail> {
-    let alloc = rt.alloc();
-    let other = "there is not one list of points for each matrix";
-    let small = scheme(SMALL);
-    let more = [more_lists(alloc, &small)?];
-    assert_refused(&rt, alloc, &small, &more, other);
-    // The first matrix has too few rows for the higher blowup.
-    let high_blowup = Numbers {
-        log_blowup: 2,
-        ..SMALL
-    };
+    let (alloc, small) = (rt.alloc(), scheme(SMALL));
+    let more = more_lists(alloc, &small)?;
+    assert_refused(&rt, alloc, &small, &[more], OTHER_NUMBER);
     let batches = [sevens(alloc, &small)?, fewer_lists(alloc, &small)?];
-    for numbers in [SMALL, high_blowup] {
-        assert_refused(&rt, alloc, &scheme(numbers), &batches, other);
-    }
+    assert_refused(&rt, alloc, &small, &batches, OTHER_NUMBER);
+    assert_refused(&rt, alloc, &scheme(HIGH_BLOWUP), &batches, OTHER_NUMBER);
     Ok(())
 }
 
 // The coordinate of a point of the domain on which four rows are committed to.
 const ON_FOUR_ROWS: [u64; 3] = [775713575, 0, 0];
 
+// Four sevens, opened at that point.
+fn on_four_rows(alloc: Global, scheme: &Scheme) -> Result<Batch, Fail> {
+    let mut batch = sevens(alloc, scheme)?;
+    batch.points = one(alloc, one(alloc, cubic(ON_FOUR_ROWS))?)?;
+    Ok(batch)
+}
+
 #[test]
 fn too_few_rows_before_points_of_their_domain(rt: HostRuntime) -> Result<(), Fail> {
-    let alloc = rt.alloc();
-    let small = scheme(SMALL);
-    let (column, at) = (rows(alloc, &[7; 4], 1)?, [cubic(ON_FOUR_ROWS)]);
-    let four = [commit_one(alloc, &small, Domain::standard(2), column, &at)?];
+    let (alloc, small) = (rt.alloc(), scheme(SMALL));
+    let four = [on_four_rows(alloc, &small)?];
     let on_domain = "an opening point lies on the committed domain of its matrix";
     assert_refused(&rt, alloc, &small, &four, on_domain);
     for (log_blowup, log_final_poly_len) in [(2, 0), (1, 1), (1, usize::MAX), (usize::MAX, 0)] {
@@ -121,16 +124,29 @@ fn too_few_rows_before_points_of_their_domain(rt: HostRuntime) -> Result<(), Fai
     Ok(())
 }
 
+// A request to open one matrix at these coordinates.
+fn request_at<'a>(
+    alloc: Global,
+    prover_data: &'a ProverData,
+    points: &[Quadratic],
+) -> Result<Vec<OpeningRequest<'a, ProverData, Quadratic>>, AllocError> {
+    let points = one(alloc, Vec::from_slice(alloc, points)?)?;
+    one(
+        alloc,
+        OpeningRequest {
+            prover_data,
+            points,
+        },
+    )
+}
+
 // The text of the refusal to open sevens at these coordinates over the quadratic extension.
 fn refusal_over_quadratic(alloc: Global, points: &[Quadratic]) -> Result<InlineText<64>, Fail> {
     let four = sevens(alloc, &scheme(SMALL))?;
-    let request = OpeningRequest {
-        prover_data: &four.data,
-        points: one(alloc, Vec::from_slice(alloc, points)?)?,
-    };
+    let requests = request_at(alloc, &four.data, points)?;
     let lists = CirclePcs::new(ValMmcs::new(), parameters(SMALL, ListMmcs));
     let mut challenger = Sha256Challenger::new();
-    Ok(told(open_at(alloc, &lists, one(alloc, request)?, &mut challenger)))
+    Ok(told(open_at(alloc, &lists, requests, &mut challenger)))
 }
 
 // The square of the element `X` of the quadratic extension is -1.
@@ -196,14 +212,12 @@ fn as_it_is(
     entries: &[u64],
 ) -> Result<Batch, Fail> {
     let ldes = one(alloc, rows(alloc, entries, 1)?)?;
-    let points = one(alloc, one(alloc, cubic([0, 1, 0]))?)?;
-    let domains = one(alloc, domain)?;
     let (commitment, data) = commit_ldes(rt, alloc, scheme, ldes)?;
     Ok(Batch {
         commitment,
         data,
-        domains,
-        points,
+        domains: one(alloc, domain)?,
+        points: one(alloc, one(alloc, cubic([0, 1, 0]))?)?,
     })
 }
 

@@ -1,6 +1,6 @@
 //! What a proof opens at the queries: rows, the entries beside those that are asked for, digests.
 use super::Layer;
-use super::words::siblings;
+use super::words::{place_in, siblings};
 use circle_commit::{BatchMultiOpening, Matrix, Mmcs, OpenedRows, are_below};
 use circle_field::{Cubic, Mersenne31};
 use circle_presets::{ChallengeMmcs, Scheme, ValMmcs};
@@ -8,6 +8,21 @@ use circle_statements::batches::Batch;
 use p3_circle::{CircleCommitPhaseMultiStep, CircleInputProof};
 use std::alloc::{AllocError, Global};
 use std::process::Abort;
+
+// The places that queries fall on among so many rows.
+fn places_in(
+    rt: &impl Abort,
+    alloc: Global,
+    height: usize,
+    top: usize,
+    indices: &[usize],
+) -> Result<Vec<usize>, AllocError> {
+    let mut places = Vec::new(alloc);
+    for index in indices {
+        places.push(place_in(rt, height, top, *index))?;
+    }
+    Ok(places)
+}
 
 // The digests that show the rows of committed matrices at the queries.
 fn digests_at<T: Copy, M: Mmcs<T>>(
@@ -19,15 +34,17 @@ fn digests_at<T: Copy, M: Mmcs<T>>(
     indices: &[usize],
 ) -> Result<M::MultiProof, AllocError> {
     let height = mmcs.get_max_height(data);
-    assert!(rt; height >= 1 && top <= 12);
-    let log_height = height.ilog2() as usize;
-    assert!(rt; log_height <= top);
-    let bits = top - log_height;
-    let places: Vec<usize> = indices.iter().map(|index| *index >> bits).collect(alloc)?;
+    let places = places_in(rt, alloc, height, top, indices)?;
     assert!(rt; !places.is_empty() && are_below(&places, height));
     let (_, proof) = mmcs.open_multi_batch(alloc, &places, data)?;
     Ok(proof)
 }
+
+/// What is opened of the batches and of the first layer.
+pub(crate) type Inputs = CircleInputProof<Mersenne31, Cubic, ValMmcs, ChallengeMmcs>;
+
+/// What is opened of a round's words.
+pub(crate) type Round = CircleCommitPhaseMultiStep<Cubic, ChallengeMmcs>;
 
 // The rows of a batch's matrices that a query falls on, matrix by matrix.
 fn rows_at(
@@ -40,10 +57,7 @@ fn rows_at(
 ) -> Result<Vec<Vec<Mersenne31>>, AllocError> {
     let mut rows = Vec::new(alloc);
     for matrix in scheme.mmcs.get_matrices(&batch.data) {
-        assert!(rt; matrix.height() >= 1 && top <= 12);
-        let log_height = matrix.height().ilog2() as usize;
-        assert!(rt; log_height <= top);
-        let place = index >> (top - log_height);
+        let place = place_in(rt, matrix.height(), top, index);
         assert!(rt; place < matrix.height());
         rows.push(Vec::from_slice(alloc, matrix.row(place))?)?;
     }
@@ -66,6 +80,25 @@ fn all_rows(
     Ok(rows)
 }
 
+// What is opened of the batches.
+fn opened_batches(
+    rt: &impl Abort,
+    alloc: Global,
+    scheme: &Scheme,
+    batches: &[Batch],
+    top: usize,
+    indices: &[usize],
+) -> Result<Vec<BatchMultiOpening<Mersenne31, ValMmcs>>, AllocError> {
+    let mut opened = Vec::new(alloc);
+    for batch in batches {
+        opened.push(BatchMultiOpening {
+            opened_values: all_rows(rt, alloc, scheme, batch, top, indices)?,
+            opening_proof: digests_at(rt, alloc, &scheme.mmcs, &batch.data, top, indices)?,
+        })?;
+    }
+    Ok(opened)
+}
+
 /// What is opened of the batches and of the first layer.
 pub(crate) fn opened_inputs(
     rt: &impl Abort,
@@ -75,17 +108,10 @@ pub(crate) fn opened_inputs(
     first: &Layer,
     top: usize,
     indices: &[usize],
-) -> Result<CircleInputProof<Mersenne31, Cubic, ValMmcs, ChallengeMmcs>, AllocError> {
-    let mut input_openings = Vec::new(alloc);
-    for batch in batches {
-        input_openings.push(BatchMultiOpening {
-            opened_values: all_rows(rt, alloc, scheme, batch, top, indices)?,
-            opening_proof: digests_at(rt, alloc, &scheme.mmcs, &batch.data, top, indices)?,
-        })?;
-    }
+) -> Result<Inputs, AllocError> {
     let mmcs = &scheme.fri_params.mmcs;
     Ok(CircleInputProof {
-        input_openings,
+        input_openings: opened_batches(rt, alloc, scheme, batches, top, indices)?,
         first_layer_siblings: siblings(rt, alloc, &first.words, top, indices)?,
         first_layer_proof: digests_at(rt, alloc, mmcs, &first.data, top, indices)?,
     })
@@ -99,7 +125,7 @@ pub(crate) fn opened_rounds(
     layers: &[Layer],
     top: usize,
     indices: &[usize],
-) -> Result<Vec<CircleCommitPhaseMultiStep<Cubic, ChallengeMmcs>>, AllocError> {
+) -> Result<Vec<Round>, AllocError> {
     let mut opened = Vec::new(alloc);
     for layer in layers {
         let mmcs = &scheme.fri_params.mmcs;

@@ -34,6 +34,14 @@ fn point_at(rt: &impl Abort, log_n: usize, place: usize) -> Point<Mersenne31> {
     domain.nth_point(cfft_permute_index(place, log_n))
 }
 
+// The domain that a matrix is committed on.
+fn domain_of(rt: &impl Abort, rows: &RowMajorMatrix<Mersenne31>) -> Domain {
+    assert!(rt; rows.height() >= 2);
+    let log_height = rows.height().ilog2() as usize;
+    assert!(rt; log_height >= 1 && log_height <= 12);
+    Domain::standard(log_height)
+}
+
 /// The values of a committed matrix's columns at a point.
 pub(crate) fn values_at(
     rt: &impl Abort,
@@ -41,13 +49,11 @@ pub(crate) fn values_at(
     rows: &RowMajorMatrix<Mersenne31>,
     at: Cubic,
 ) -> Result<Vec<Cubic>, AllocError> {
-    assert!(rt; rows.height() >= 2);
-    let log_height = rows.height().ilog2() as usize;
-    assert!(rt; log_height >= 1 && log_height <= 12);
-    let domain = Domain::standard(log_height);
-    let (copy, point) = (rows.try_clone(alloc)?, on_line(rt, at));
+    let (domain, point) = (domain_of(rt, rows), on_line(rt, at));
+    let copy = rows.try_clone(alloc)?;
     assert!(rt; domain.log_n() >= 1 && domain.log_n() <= 31 && domain.is_genuine());
-    assert!(rt; domain.is_clear_of(point) && copy.height() == domain.size());
+    assert!(rt; domain.is_clear_of(point));
+    assert!(rt; copy.height() == domain.size());
     CircleEvaluations::from_cfft_order(domain, copy).evaluate_at_point(alloc, point)
 }
 
@@ -169,6 +175,28 @@ pub(crate) fn first_words(
     Ok((lambdas, words))
 }
 
+// The coordinate that a pair of a word of so many entries is folded by.
+fn coordinate(rt: &impl Abort, len: usize, is_first: bool, j: usize) -> Mersenne31 {
+    assert!(rt; len >= 2 && j <= 4096);
+    let log_len = len.ilog2() as usize;
+    assert!(rt; log_len <= 11);
+    if is_first {
+        point_at(rt, log_len, 2 * j).y()
+    } else {
+        point_at(rt, log_len + 1, 4 * j).x()
+    }
+}
+
+// The entry that a pair is folded to.
+fn folded_entry(rt: &impl Abort, word: &[Cubic], beta: Cubic, is_first: bool, j: usize) -> Cubic {
+    assert!(rt; j <= 4096);
+    assert!(rt; 2 * j + 1 < word.len());
+    let (low, high) = (word[2 * j], word[2 * j + 1]);
+    let twiddle = coordinate(rt, word.len(), is_first, j);
+    let inverse = twiddle.try_inverse().expect(rt, "a coordinate is zero");
+    (low + high + beta * (low - high).times_base(inverse)).halve()
+}
+
 /// A word folded by a challenge: by the y coordinates of its points, or by the x coordinates that
 /// its entries belong to.
 pub(crate) fn folded(
@@ -179,22 +207,19 @@ pub(crate) fn folded(
     is_first: bool,
 ) -> Result<Vec<Cubic>, AllocError> {
     assert!(rt; word.len() >= 2 && word.len() <= 4096);
-    let log_len = word.len().ilog2() as usize;
-    assert!(rt; log_len <= 11);
     let mut folded = Vec::new(alloc);
     for j in 0..word.len() / 2 {
-        assert!(rt; j <= 4096);
-        assert!(rt; 2 * j + 1 < word.len());
-        let twiddle = if is_first {
-            point_at(rt, log_len, 2 * j).y()
-        } else {
-            point_at(rt, log_len + 1, 4 * j).x()
-        };
-        let (low, high) = (word[2 * j], word[2 * j + 1]);
-        let inverse = twiddle.try_inverse().expect(rt, "a coordinate is zero");
-        folded.push((low + high + beta * (low - high).times_base(inverse)).halve())?;
+        folded.push(folded_entry(rt, word, beta, is_first, j))?;
     }
     Ok(folded)
+}
+
+/// The place that a query falls on among so many rows, where it is drawn among `2^top`.
+pub(crate) fn place_in(rt: &impl Abort, height: usize, top: usize, index: usize) -> usize {
+    assert!(rt; height >= 1 && top <= 12);
+    let log_height = height.ilog2() as usize;
+    assert!(rt; log_height <= top);
+    index >> (top - log_height)
 }
 
 // Of each word the entry beside the one that a query falls on.
@@ -205,13 +230,9 @@ fn siblings_at(
     top: usize,
     index: usize,
 ) -> Result<Vec<Cubic>, AllocError> {
-    assert!(rt; top <= 12);
     let mut siblings = Vec::new(alloc);
     for word in words {
-        assert!(rt; word.len() >= 1);
-        let log_len = word.len().ilog2() as usize;
-        assert!(rt; log_len <= top);
-        let place = (index >> (top - log_len)) ^ 1;
+        let place = place_in(rt, word.len(), top, index) ^ 1;
         assert!(rt; place < word.len());
         siblings.push(word[place])?;
     }
@@ -245,6 +266,23 @@ pub(crate) fn join(rt: &impl Abort, word: &mut [Cubic], waiting: &[Vec<Cubic>]) 
     }
 }
 
+// Asserts that a polynomial in x of `2^log_len` coefficients has these values.
+fn assert_values(
+    rt: &impl Abort,
+    coefficients: &[Cubic],
+    log_len: usize,
+    log_points: usize,
+    word: &[Cubic],
+) {
+    assert!(rt; log_len <= log_points && log_points <= 10);
+    assert!(rt; coefficients.len() == 1 << log_len);
+    for (place, entry) in word.iter().enumerate() {
+        assert!(rt; place < 1024);
+        let x = point_at(rt, log_points + 1, 2 * place).x();
+        assert!(rt; x_value(coefficients, x) == *entry);
+    }
+}
+
 /// The coefficients of the polynomial whose values the last word is.
 pub(crate) fn final_poly(
     rt: &impl Abort,
@@ -257,11 +295,6 @@ pub(crate) fn final_poly(
     assert!(rt; word.len() == 1 << log_points && log_len <= log_points && log_points <= 10);
     let found = x_interpolate::<Mersenne31, Cubic>(alloc, word, log_len)?;
     let coefficients = found.expect(rt, "the degree is too high");
-    assert!(rt; coefficients.len() == 1 << log_len);
-    for (place, entry) in word.iter().enumerate() {
-        assert!(rt; place < 1024);
-        let x = point_at(rt, log_points + 1, 2 * place).x();
-        assert!(rt; x_value(&coefficients, x) == *entry);
-    }
+    assert_values(rt, &coefficients, log_len, log_points, word);
     Ok(coefficients)
 }
