@@ -31,9 +31,6 @@ slice_bounds-total-end g c = omega (arith, block-fits c.args.size c.loop-i.i (le
 pub slice_bounds-total-count : goal.slice_bounds-total-count
 slice_bounds-total-count g c = omega (arith, block-fits c.args.size c.loop-i.i (length c.args.points.now) (length c.args.word.now) c.loop-i-test.true c.requires)
 
-pub add-sum-requires : goal.add-sum-requires
-add-sum-requires g c = g.met.EF.Field.can_add_law _ c.times_base.result
-
 pub loop-i-preserved : goal.loop-i-preserved
 loop-i-preserved g c =
     let l = g.EF.Operations.ops in

@@ -8,9 +8,6 @@ use Rattle.circle_folding.proofs.evaluation.+x_value.Goals as goal
 pub bounds-coefficients-0 : goal.bounds-coefficients-0
 bounds-coefficients-0 g t c = omega (arith, c.requires.1, pow_pos c.requires.0)
 
-pub add-requires : goal.add-requires
-add-requires g t c = g.met.EF.Field.can_add_law c.x_value.result _
-
 pub returns-then-half-eq0 : goal.returns-then-half-eq0
 returns-then-half-eq0 g t c =
     let some : 1 ≤ length c.args.coefficients.now = omega (arith, c.requires.1, pow_pos c.requires.0) in

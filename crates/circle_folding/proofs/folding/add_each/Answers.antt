@@ -9,9 +9,6 @@ bounds-others-i g c = omega (arith, c.loop-i-test.true, c.requires)
 pub offset_bounds-others-i : goal.offset_bounds-others-i
 offset_bounds-others-i g c = omega (arith, c.loop-i-test.true, c.requires)
 
-pub add-requires : goal.add-requires
-add-requires g c = g.met.E.Field.can_add_law _ c.index-others-i.result
-
 pub loop-i-preserved : goal.loop-i-preserved
 loop-i-preserved g c =
     let k = g.E.Operations.ops in

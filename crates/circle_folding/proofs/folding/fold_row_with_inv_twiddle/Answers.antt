@@ -4,18 +4,6 @@ use Rattle.circle_domain.proofs.Lifted.{lifted-inverse}
 use Rattle.circle_folding.proofs.Folds.{fold-halved}
 use Rattle.circle_folding.proofs.folding.fold_row_with_inv_twiddle.Goals as goal
 
-pub add-requires : goal.add-requires
-add-requires g c = g.met.EF.Field.can_add_law c.args.low _
-
-pub sub-requires : goal.sub-requires
-sub-requires g c = g.met.EF.Field.can_sub_law c.args.low _
-
-pub mul-requires : goal.mul-requires
-mul-requires g c = g.met.EF.Field.can_mul_law c.args.beta _
-
-pub add-requires-2 : goal.add-requires-2
-add-requires-2 g c = g.met.EF.Field.can_add_law c.add.result _
-
 pub returns : goal.returns
 returns g c = λ t nonzero inverse.
     let l = g.EF.Operations.ops in

@@ -13,12 +13,6 @@ bounds-lows-i g c = omega (arith, c.loop-i-test.true, c.loop-i.auto.lows)
 pub bounds-highs-i : goal.bounds-highs-i
 bounds-highs-i g c = omega (arith, c.loop-i-test.true, c.loop-i.auto.highs, c.requires)
 
-pub add-requires : goal.add-requires
-add-requires g c = g.met.EF.Field.can_add_law c.index-lows-i.result _
-
-pub sub-requires : goal.sub-requires
-sub-requires g c = g.met.EF.Field.can_sub_law c.index-lows-i.result _
-
 pub loop-i-preserved : goal.loop-i-preserved
 loop-i-preserved g c =
     let ops = g.EF.Operations.ops in

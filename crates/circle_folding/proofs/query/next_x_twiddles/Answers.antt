@@ -16,12 +16,6 @@ offset_bounds-indices-i g c = omega (arith, c.loop-i-test.true, c.requires.count
 pub overflow_shr-pair : goal.overflow_shr-pair
 overflow_shr-pair g c = omega (arith, c.requires.round)
 
-pub sub-doubled-requires : goal.sub-doubled-requires
-sub-doubled-requires g c = g.met.F.Field.can_sub_law c.double.result _
-
-pub neg-requires : goal.neg-requires
-neg-requires g c = g.met.F.Field.can_neg_law c.sub-doubled.result
-
 pub loop-i-preserved : goal.loop-i-preserved
 loop-i-preserved g c =
     let k = g.F.Operations.ops in

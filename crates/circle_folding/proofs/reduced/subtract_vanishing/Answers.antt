@@ -17,9 +17,6 @@ offset_bounds-points-i g c = omega (arith, c.loop-i-test.true, c.requires.points
 pub v_n-requires : goal.v_n-requires
 v_n-requires g c = c.requires.positive
 
-pub sub-requires : goal.sub-requires
-sub-requires g c = g.met.EF.Field.can_sub_law _ c.times_base.result
-
 pub loop-i-preserved : goal.loop-i-preserved
 loop-i-preserved g c =
     let l = g.EF.Operations.ops in
