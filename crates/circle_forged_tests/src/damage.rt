@@ -160,6 +160,14 @@ fn two_rows(alloc: Global) -> Result<MatrixOpening<Cubic, Domain>, Fail> {
     })
 }
 
+// The first claim on the first matrix.
+fn first_claim(
+    matrices: &mut [MatrixOpening<Cubic, Domain>],
+) -> Result<&mut PointOpening<Cubic>, Fail> {
+    let first = matrices.first_mut().ok_or("a matrix")?;
+    Ok(first.points.first_mut().ok_or("a point")?)
+}
+
 fn damage_matrices(
     alloc: Global,
     matrices: &mut Vec<MatrixOpening<Cubic, Domain>>,
@@ -167,18 +175,12 @@ fn damage_matrices(
 ) -> Result<(), Fail> {
     match damage {
         OfClaims::Size(log_n) => {
-            let first = matrices.first_mut().ok_or("a matrix")?;
-            first.domain = Domain::new(log_n, Point::ZERO);
+            matrices.first_mut().ok_or("a matrix")?.domain = Domain::new(log_n, Point::ZERO);
         }
         OfClaims::Value | OfClaims::ValueOfWorked => {
-            let first = matrices.first_mut().ok_or("a matrix")?;
-            let claim = first.points.first_mut().ok_or("a point")?;
-            raise(claim.values.first_mut())?;
+            raise(first_claim(matrices)?.values.first_mut())?;
         }
-        OfClaims::Point => {
-            let first = matrices.first_mut().ok_or("a matrix")?;
-            first.points.first_mut().ok_or("a point")?.point = cubic([0, 1, 1]);
-        }
+        OfClaims::Point => first_claim(matrices)?.point = cubic([0, 1, 1]),
         OfClaims::NoPoints => {
             matrices.get_mut(1).ok_or("two matrices")?.points = Vec::new(alloc);
         }

@@ -6,13 +6,14 @@ use crate::played::play;
 use crate::statement::{Opening, columns, numbers, proved};
 use circle_challenger::Sha256Challenger;
 use circle_field::{Cubic, ExtensionField};
-use circle_presets::{ChallengeMmcs, ValMmcs};
-use circle_statements::batches::Domain;
+use circle_presets::{ChallengeMmcs, Scheme, ValMmcs};
+use circle_statements::batches::{Batch, Domain};
 use circle_statements::openings::{open, shown, verify};
 use circle_statements::parameters::scheme;
 use p3_circle::ProverError;
 use std::alloc::Global;
 use std::fmt::InlineText;
+use std::process::Abort;
 use std::test::Fail;
 
 /// When the answer is given, which fixes the state of the challenger.
@@ -273,44 +274,67 @@ fn answer_to(alloc: Global, given: Opening) -> Answered {
     (answer, verifier)
 }
 
+// The opening with this change.
+fn changed(alloc: Global, damage: Damage) -> Result<Opening, Fail> {
+    let mut given = proved(alloc, numbers_for(damage))?;
+    apply(alloc, &mut given, damage)?;
+    Ok(given)
+}
+
+// Whether the answer begins with one of the texts.
+fn is_expected(answer: &str, expected: &[&str]) -> bool {
+    expected.iter().any(|text| answer.starts_with(*text))
+}
+
+// Asserts that the opening with this change is answered as expected, and which state that leaves.
+fn assert_answered(
+    rt: &impl Abort,
+    alloc: Global,
+    (damage, expected, when): &Row,
+) -> Result<(), Fail> {
+    let given = changed(alloc, *damage)?;
+    let due = due(alloc, &given, *when)?;
+    let (answer, left) = answer_to(alloc, given);
+    let answer = answer.as_str();
+    assert!(rt;
+        is_expected(answer, expected),
+        "{damage:?} is answered: {answer}"
+    );
+    assert!(rt;
+        due.is_none_or(|due| due == left),
+        "{damage:?} leaves another state"
+    );
+    Ok(())
+}
+
 #[test]
 fn forged_proofs(rt: HostRuntime) -> Result<(), Fail> {
-    let alloc = rt.alloc();
     for rows in [BEFORE_THE_SEEDING, AFTER_THE_SEEDING] {
-        for (damage, expected, when) in rows {
-            let mut given = proved(alloc, numbers_for(*damage))?;
-            apply(alloc, &mut given, *damage)?;
-            let due = due(alloc, &given, *when)?;
-            let (answer, left) = answer_to(alloc, given);
-            let is_expected = expected
-                .iter()
-                .any(|text| answer.as_str().starts_with(*text));
-            assert!(rt; is_expected, "{damage:?} is answered: {}", answer.as_str());
-            assert!(rt;
-                due.is_none_or(|due| due == left),
-                "{damage:?} leaves another state"
-            );
+        for row in rows {
+            assert_answered(&rt, rt.alloc(), row)?;
         }
     }
     Ok(())
 }
 
-// The taller column is committed on the standard domain of 32 points, the first of which is the
-// domain's shift.
-#[test]
-fn a_point_of_the_committed_domain(rt: HostRuntime) -> Result<(), Fail> {
-    let alloc = rt.alloc();
-    let scheme = scheme(numbers(0, [0; 3]));
-    let mut batch = columns(alloc, &scheme)?;
-    let first = Domain::standard(5)
-        .shift()
-        .to_projective_line()
-        .ok_or("the half turn")?;
+// The columns, the taller of which is opened at a point that it is committed on: on the standard
+// domain of 32 points, the first of which is the domain's shift.
+fn at_a_committed_point(alloc: Global, scheme: &Scheme) -> Result<Batch, Fail> {
+    let shift = Domain::standard(5).shift();
+    let first = shift.to_projective_line().ok_or("the half turn")?;
+    let mut batch = columns(alloc, scheme)?;
     let points = batch.points.get_mut(1).ok_or("two matrices")?;
     points.push(Cubic::from_base(first))?;
+    Ok(batch)
+}
+
+#[test]
+fn a_point_of_the_committed_domain(rt: HostRuntime) -> Result<(), Fail> {
+    let (alloc, scheme) = (rt.alloc(), scheme(numbers(0, [0; 3])));
+    let batches = [at_a_committed_point(alloc, &scheme)?];
     let mut challenger = Sha256Challenger::new();
-    let refused = open(alloc, &scheme, &[batch], &mut challenger).err();
+    let refused = open(alloc, &scheme, &batches, &mut challenger).err();
     assert_eq!(rt; refused, Some(ProverError::PointOnDomain));
-    assert_eq!(rt; challenger, Sha256Challenger::new());
+    assert!(rt; challenger == Sha256Challenger::new());
     Ok(())
 }

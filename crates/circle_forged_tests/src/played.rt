@@ -109,6 +109,28 @@ fn shape<M>(
     Ok(CirclePcsShape::new(params, batches, TOP, 1))
 }
 
+// The shape of a run over one batch of claims, which are taken in as these.
+fn shape_for<M>(
+    alloc: Global,
+    params: &FriParameters<M>,
+    matrices: &[MatrixOpening<Cubic, Domain>],
+    taken: &[OpeningClaim<Cubic>],
+) -> Result<CirclePcsShape, Fail>
+    ensures widths { IfOk result (λ s. claimed_widths (shape_of s)
+        ≡ widths_of (claims_of taken.now)) }
+    ensures batch { IfOk result (λ s. s.batch_pow_bits ≤ 30) }
+    ensures commit { IfOk result (λ s. s.commit_pow_bits ≤ 30) }
+    ensures query { IfOk result (λ s. s.query_pow_bits ≤ 30) }
+    ensures index { IfOk result (λ s. s.index_bits ≡ TOP) }
+    ensures final_poly { IfOk result (λ s. s.log_final_poly_len ≤ 2) }
+{
+    let widths = widths(alloc, matrices)?;
+    if lengths(alloc, taken)? != joined(alloc, &widths)? {
+        return Err(Fail::new("the numbers of values"));
+    }
+    shape(alloc, params, widths)
+}
+
 // The witnesses of the proof.
 fn witnesses<I: Mmcs<Mersenne31>, W: Mmcs<Cubic>>(
     alloc: Global,
@@ -135,12 +157,8 @@ where
     let [batch] = claims else {
         return Err(Fail::new("the number of batches"));
     };
-    let widths = widths(alloc, &batch.matrices)?;
     let taken = taken(alloc, &batch.matrices)?;
-    if lengths(alloc, &taken)? != joined(alloc, &widths)? {
-        return Err(Fail::new("the numbers of values"));
-    }
-    let shape = shape(alloc, params, widths)?;
+    let shape = shape_for(alloc, params, &batch.matrices, &taken)?;
     let words = &proof.fri_proof;
     let messages = CircleMessages {
         first_layer: &proof.first_layer_commitment,

@@ -1,11 +1,12 @@
 //! The statement whose proofs are forged: columns of 4 and of 16 rows, of which row `i` holds `i`,
 //! in one batch over standard domains, opened at two points each.
 use circle_challenger::Sha256Challenger;
+use circle_field::Cubic;
 use circle_presets::{Proof, Scheme};
-use circle_statements::batches::{Batch, Domain, commit, cubic, rows};
+use circle_statements::batches::{Batch, Domain, Rows, commit, cubic, rows};
 use circle_statements::openings::{Claims, claims_of, open};
 use circle_statements::parameters::{Numbers, scheme};
-use std::alloc::Global;
+use std::alloc::{AllocError, Global};
 use std::test::Fail;
 
 /// The matrices with their opening.
@@ -36,20 +37,26 @@ const ROWS: [u64; 16] = [0, 1, 2, 3, 4, 5, 6, 7, 8, 9, 10, 11, 12, 13, 14, 15];
 /// The coordinates of the points.
 const POINTS: [[u64; 3]; 2] = [[0, 1, 0], [0, 0, 1]];
 
+// The columns on their domains.
+fn evaluations(alloc: Global) -> Result<Vec<(Domain, Rows)>, Fail> {
+    let mut evaluations = Vec::new(alloc);
+    evaluations.push((Domain::standard(2), rows(alloc, &ROWS[..4], 1)?))?;
+    evaluations.push((Domain::standard(4), rows(alloc, &ROWS, 1)?))?;
+    Ok(evaluations)
+}
+
+// The coordinates for each of the columns.
+fn points(alloc: Global) -> Result<Vec<Vec<Cubic>>, AllocError> {
+    let at = POINTS.map(|coefficients| cubic(coefficients));
+    let mut points = Vec::new(alloc);
+    points.push(Vec::from_slice(alloc, &at)?)?;
+    points.push(Vec::from_slice(alloc, &at)?)?;
+    Ok(points)
+}
+
 /// Commits to the columns.
 pub(crate) fn columns(alloc: Global, scheme: &Scheme) -> Result<Batch, Fail> {
-    let tall = rows(alloc, &ROWS, 1)?;
-    let short = rows(alloc, &ROWS[..4], 1)?;
-    let evaluations = vec![in alloc; (Domain::standard(2), short), (Domain::standard(4), tall)]?;
-    let at = POINTS.map(|coefficients| cubic(coefficients));
-    let of_short = Vec::from_slice(alloc, &at)?;
-    let of_tall = Vec::from_slice(alloc, &at)?;
-    commit(
-        alloc,
-        scheme,
-        evaluations,
-        vec![in alloc; of_short, of_tall]?,
-    )
+    commit(alloc, scheme, evaluations(alloc)?, points(alloc)?)
 }
 
 /// Opens the columns, by parameters with these numbers.

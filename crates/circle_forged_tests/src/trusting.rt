@@ -2,7 +2,9 @@
 use crate::played::play;
 use crate::statement::{QUERIES, numbers};
 use crate::unhearing::Unhearing;
-use circle_commit::{BatchMultiOpening, CommitmentOpening, FriError, MatrixOpening, PointOpening};
+use circle_commit::{
+    BatchMultiOpening, CommitmentOpening, FriError, FriParameters, MatrixOpening, PointOpening,
+};
 use circle_field::{Cubic, ExtensionField, Field, Mersenne31};
 use circle_fixtures::schemes::{Nothing, TrustingMmcs};
 use circle_statements::batches::{Domain, cubic, one};
@@ -13,6 +15,7 @@ use p3_circle::{
 };
 use std::alloc::{AllocError, Global};
 use std::fmt::InlineText;
+use std::process::Abort;
 use std::test::Fail;
 
 type Claims = Vec<CommitmentOpening<Cubic, Nothing, Domain>>;
@@ -174,39 +177,50 @@ fn shown(answer: Answer) -> InlineText<128> {
     }
 }
 
+// The challenger that the verifier's transcript leaves over the claims and the proof.
+fn played(
+    alloc: Global,
+    params: &FriParameters<TrustingMmcs>,
+    zeros: &Zeros,
+) -> Result<Unhearing, Fail> {
+    let mut challenger = Unhearing::new();
+    play::<TrustingMmcs, TrustingMmcs, Unhearing>(
+        alloc,
+        params,
+        &zeros.claims,
+        &zeros.proof,
+        &mut challenger,
+    )??;
+    Ok(challenger)
+}
+
+// Asserts that the answer is of this text, and that the whole transcript is played.
+fn assert_answered(
+    rt: &impl Abort,
+    alloc: Global,
+    zeros: Zeros,
+    expected: &str,
+) -> Result<(), Fail> {
+    let params = parameters(numbers(zeros.log_final_poly_len, [0; 3]), TrustingMmcs);
+    let due = played(alloc, &params, &zeros)?;
+    let scheme = CirclePcs::new(TrustingMmcs, params);
+    let mut verifier = Unhearing::new();
+    let answer = scheme.verify(alloc, zeros.claims, &zeros.proof, &mut verifier);
+    assert_eq!(rt; shown(answer).as_str(), expected);
+    assert!(rt; verifier == due);
+    Ok(())
+}
+
+const ON_A_QUERY: &str = "the input is refused: opening point coincides with a query point";
+
+const OF_TWO_LEFT: &str = "1 values are left over, the next of height 2^1";
+
+const OF_FOUR_LEFT: &str = "1 values are left over, the next of height 2^2";
+
 #[test]
 fn zeros_that_authenticate(rt: HostRuntime) -> Result<(), Fail> {
     let alloc = rt.alloc();
-    let cases = [
-        (
-            at_every_query(alloc)?,
-            "the input is refused: opening point coincides with a query point",
-        ),
-        (
-            with_a_short_column(alloc, false)?,
-            "1 values are left over, the next of height 2^1",
-        ),
-        (
-            with_a_short_column(alloc, true)?,
-            "1 values are left over, the next of height 2^2",
-        ),
-    ];
-    for (zeros, expected) in cases {
-        let numbers = numbers(zeros.log_final_poly_len, [0; 3]);
-        let params = parameters(numbers, TrustingMmcs);
-        let mut due = Unhearing::new();
-        play::<TrustingMmcs, TrustingMmcs, Unhearing>(
-            alloc,
-            &params,
-            &zeros.claims,
-            &zeros.proof,
-            &mut due,
-        )??;
-        let scheme = CirclePcs::new(TrustingMmcs, params);
-        let mut verifier = Unhearing::new();
-        let answer = scheme.verify(alloc, zeros.claims, &zeros.proof, &mut verifier);
-        assert_eq!(rt; shown(answer).as_str(), expected);
-        assert_eq!(rt; verifier, due);
-    }
-    Ok(())
+    assert_answered(&rt, alloc, at_every_query(alloc)?, ON_A_QUERY)?;
+    assert_answered(&rt, alloc, with_a_short_column(alloc, false)?, OF_TWO_LEFT)?;
+    assert_answered(&rt, alloc, with_a_short_column(alloc, true)?, OF_FOUR_LEFT)
 }
