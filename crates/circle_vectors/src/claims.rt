@@ -124,7 +124,7 @@ fn points_at_infinity(rt: HostRuntime) -> Result<(), Fail> {
     let mut challenger = Sha256Challenger::new();
     let answer = answer_at(alloc, infinity, &mut challenger)?;
     assert_eq!(rt; answer.as_str(), "a claimed point is at infinity");
-    assert_eq!(rt; challenger, Sha256Challenger::new());
+    assert!(rt; challenger == Sha256Challenger::new());
     let other = answer_at(alloc, Quadratic::ONE, &mut challenger)?;
     assert!(rt; other.as_str().starts_with("the input is refused: "));
     assert!(rt; challenger != Sha256Challenger::new());

@@ -1,11 +1,11 @@
 //! Opened rows and what is refused, over each scheme of commitments.
-use circle_commit::{
-    Dimensions, Mmcs, OpenedRows, RowMajorMatrix, are_below, heights_are_powers_of_two,
-};
+use crate::first_program::column;
+use circle_commit::{Dimensions, Mmcs, OpenedRows, are_below, heights_are_powers_of_two};
 use circle_field::{Field, Mersenne31};
 use circle_fixtures::matrix_list::MatrixList;
 use circle_fixtures::schemes::{ListMmcs, TrustingMmcs};
 use circle_merkle::ShaMmcs;
+use circle_statements::batches::one;
 use std::alloc::{AllocError, Global};
 use std::test::Fail;
 
@@ -27,6 +27,13 @@ const COLUMN: Dimensions = Dimensions {
 const WIDE: Dimensions = Dimensions {
     width: 2,
     height: 8,
+};
+
+// The opening itself.
+const UNCHANGED: &Change = &Change {
+    indices: INDICES,
+    entries: &[17, 12, 13, 12],
+    dimensions: COLUMN,
 };
 
 // The changes that each scheme has to refuse.
@@ -58,18 +65,11 @@ const CHANGES: &[Change] = &[
     },
 ];
 
-// The matrix of one column 10, 11, .. 17.
-fn column(alloc: Global) -> Result<Vec<RowMajorMatrix<Mersenne31>>, AllocError> {
-    let entries: Vec<Mersenne31> = (10u64..18).map(Mersenne31::from_u64).collect(alloc)?;
-    Ok(vec![in alloc; RowMajorMatrix::new_col(entries)]?)
-}
-
 // A list of rows for each of these entries, each the only row of its index.
 fn rows_of(alloc: Global, entries: &[u64]) -> Result<OpenedRows<Mersenne31>, AllocError> {
     let mut rows = Vec::new(alloc);
     for entry in entries {
-        let row = vec![in alloc; Mersenne31::from_u64(*entry)]?;
-        rows.push(vec![in alloc; row]?)?;
+        rows.push(one(alloc, one(alloc, Mersenne31::from_u64(*entry))?)?)?;
     }
     Ok(rows)
 }
@@ -102,30 +102,50 @@ fn refuses<M: Mmcs<Mersenne31>>(
     }
 }
 
-// The commitment to the column, and its proof of the opening at 7, 2, 3 and 2.
-fn opened<M: Mmcs<Mersenne31>>(
+// Commits to the column 10, 11, .. 17.
+fn committed<M: Mmcs<Mersenne31>>(
     alloc: Global,
     mmcs: &M,
-) -> Result<(M::Commitment, M::MultiProof), Fail> {
-    let inputs = column(alloc)?;
+) -> Result<(M::Commitment, M::ProverData), Fail> {
+    let inputs = one(alloc, column(alloc, 10..18)?)?;
     if inputs.is_empty() || !heights_are_powers_of_two(&inputs) {
         return Err(Fail::new("the column"));
     }
-    let (commitment, data) = mmcs.commit(alloc, inputs)?;
-    if !are_below(&INDICES, mmcs.get_max_height(&data)) {
+    Ok(mmcs.commit(alloc, inputs)?)
+}
+
+// The proof of the opening at 7, 2, 3 and 2.
+fn opened<M: Mmcs<Mersenne31>>(
+    alloc: Global,
+    mmcs: &M,
+    data: &M::ProverData,
+) -> Result<M::MultiProof, Fail> {
+    if !are_below(&INDICES, mmcs.get_max_height(data)) {
         return Err(Fail::new("the height"));
     }
-    let (rows, proof) = mmcs.open_multi_batch(alloc, &INDICES, &data)?;
-    if rows != rows_of(alloc, &[17, 12, 13, 12])? {
+    let (rows, proof) = mmcs.open_multi_batch(alloc, &INDICES, data)?;
+    if rows != rows_of(alloc, UNCHANGED.entries)? {
         return Err(Fail::new("the rows"));
     }
-    mmcs.verify_multi_batch(alloc, &commitment, &[COLUMN], &INDICES, &rows, &proof)?;
+    Ok(proof)
+}
+
+// The commitment to the column, and its proof of the opening at 7, 2, 3 and 2.
+fn proved<M: Mmcs<Mersenne31>>(
+    alloc: Global,
+    mmcs: &M,
+) -> Result<(M::Commitment, M::MultiProof), Fail> {
+    let (commitment, data) = committed(alloc, mmcs)?;
+    let proof = opened(alloc, mmcs, &data)?;
     Ok((commitment, proof))
 }
 
 // How many of the changes a scheme refuses, after it took the opening itself.
 fn refused<M: Mmcs<Mersenne31>>(alloc: Global, mmcs: &M) -> Result<usize, Fail> {
-    let (commitment, proof) = opened(alloc, mmcs)?;
+    let (commitment, proof) = proved(alloc, mmcs)?;
+    if refuses(alloc, mmcs, &commitment, &proof, UNCHANGED)? {
+        return Err(Fail::new("the opening"));
+    }
     let mut count = 0;
     for change in CHANGES {
         if refuses(alloc, mmcs, &commitment, &proof, change)? {
@@ -137,8 +157,9 @@ fn refused<M: Mmcs<Mersenne31>>(alloc: Global, mmcs: &M) -> Result<usize, Fail> 
 
 #[test]
 fn honest_schemes_refuse_each_change(rt: HostRuntime) -> Result<(), Fail> {
-    assert_eq!(rt; refused(rt.alloc(), &ShaMmcs::<Mersenne31>::new())?, 5);
-    assert_eq!(rt; refused(rt.alloc(), &ListMmcs)?, 5);
+    let by_trees = refused(rt.alloc(), &ShaMmcs::<Mersenne31>::new())?;
+    let by_lists = refused(rt.alloc(), &ListMmcs)?;
+    assert_eq!(rt; (by_trees, by_lists), (5, 5));
     Ok(())
 }
 
@@ -148,16 +169,19 @@ fn the_trusting_scheme_refuses_none(rt: HostRuntime) -> Result<(), Fail> {
     Ok(())
 }
 
-// Beside the column of eight rows one of three, which no commitment takes.
+// The column of eight rows and one of three, which no commitment takes.
+fn of_eight_and_three(alloc: Global) -> Result<MatrixList<Mersenne31>, AllocError> {
+    let mut matrices = one(alloc, column(alloc, 10..18)?)?;
+    matrices.push(column(alloc, 0..3)?)?;
+    Ok(MatrixList::new(matrices))
+}
+
 #[test]
 fn data_of_other_heights(rt: HostRuntime) -> Result<(), Fail> {
-    let mut matrices = column(rt.alloc())?;
-    let entries: Vec<Mersenne31> = (0u64..3).map(Mersenne31::from_u64).collect(rt.alloc())?;
-    matrices.push(RowMajorMatrix::new_col(entries))?;
-    let data = MatrixList::new(matrices);
+    let data = of_eight_and_three(rt.alloc())?;
     let indices = [7usize, 2];
     assert!(rt; are_below(&indices, ListMmcs.get_max_height(&data)));
     let (rows, _) = ListMmcs.open_multi_batch(rt.alloc(), &indices, &data)?;
-    assert_eq!(rt; rows.len(), 2);
+    assert!(rt; rows.len() == 2);
     Ok(())
 }

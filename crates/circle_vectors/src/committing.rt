@@ -110,9 +110,27 @@ fn assert_column(rt: &impl Abort, matrix: &Rows, expected: &[u64]) {
     }
 }
 
+// Asserts that matrices are the columns of these entries.
+fn assert_columns(rt: &impl Abort, matrices: &[Rows], expected: &[&[u64]]) {
+    assert!(rt; matrices.len() == expected.len());
+    for (matrix, entries) in matrices.iter().zip(expected) {
+        assert_column(rt, matrix, entries);
+    }
+}
+
 /// The binary logarithm of a domain's size, and whether it is the standard one: the halves of the
 /// others meet.
 type Kind = (usize, bool);
+
+// The domain of this kind.
+fn domain_of(rt: &impl Abort, (log_n, is_standard): Kind) -> Domain {
+    assert!(rt; log_n <= 10);
+    if is_standard {
+        Domain::standard(log_n)
+    } else {
+        Domain::new(log_n, Point::ZERO)
+    }
+}
 
 // A column of zeros over each of the domains.
 fn zeros(rt: &impl Abort, alloc: Global, kinds: &[Kind]) -> Result<Vec<(Domain, Rows)>, Fail> {
@@ -120,11 +138,7 @@ fn zeros(rt: &impl Abort, alloc: Global, kinds: &[Kind]) -> Result<Vec<(Domain, 
     for (log_n, is_standard) in kinds {
         assert!(rt; *log_n <= 10);
         let entries = vec![in alloc; Mersenne31::ZERO; 1 << *log_n]?;
-        let domain = if *is_standard {
-            Domain::standard(*log_n)
-        } else {
-            Domain::new(*log_n, Point::ZERO)
-        };
+        let domain = domain_of(rt, (*log_n, *is_standard));
         batch.push((domain, RowMajorMatrix::new_col(entries)))?;
     }
     Ok(batch)
@@ -138,9 +152,10 @@ fn assert_refused(
     kinds: &[Kind],
     expected: &str,
 ) -> Result<(), Fail> {
-    let committed = told(commit(rt, alloc, scheme, zeros(rt, alloc, kinds)?));
+    let (to_commit, to_extend) = (zeros(rt, alloc, kinds)?, zeros(rt, alloc, kinds)?);
+    let committed = told(commit(rt, alloc, scheme, to_commit));
+    let extended = told(quotient_ldes(rt, alloc, scheme, to_extend, 1));
     assert_eq!(rt; committed.as_str(), expected);
-    let extended = told(quotient_ldes(rt, alloc, scheme, zeros(rt, alloc, kinds)?, 1));
     assert_eq!(rt; extended.as_str(), expected);
     Ok(())
 }
@@ -185,10 +200,9 @@ fn assert_extended(
 ) -> Result<(), Fail> {
     let given = batch(alloc, Domain::standard(2), FOUR)?;
     let ldes = quotient_ldes(rt, alloc, scheme, given, num_chunks)?;
-    assert!(rt; ldes.len() == 1);
-    assert_column(rt, &ldes[0], EIGHT_BY_PAIRS);
+    assert_columns(rt, &ldes, &[EIGHT_BY_PAIRS]);
     let (same, _) = commit_ldes(rt, alloc, scheme, ldes)?;
-    assert_eq!(rt; same, *commitment);
+    assert!(rt; same == *commitment);
     Ok(())
 }
 
@@ -198,9 +212,7 @@ fn a_polynomial_of_four_coefficients(rt: HostRuntime) -> Result<(), Fail> {
     let scheme = scheme(1, 0);
     let given = batch(alloc, Domain::standard(2), FOUR)?;
     let (commitment, data) = commit(&rt, alloc, &scheme, given)?;
-    let matrices = scheme.mmcs.get_matrices(&data);
-    assert!(&rt; matrices.len() == 1);
-    assert_column(&rt, &matrices[0], EIGHT_BY_PAIRS);
+    assert_columns(&rt, scheme.mmcs.get_matrices(&data), &[EIGHT_BY_PAIRS]);
     for num_chunks in [0, 1, 7] {
         assert_extended(&rt, alloc, &scheme, num_chunks, &commitment)?;
     }
@@ -229,13 +241,8 @@ fn assert_on_domains(
     entries: &[u64],
     cases: &[(Domain, &[u64])],
 ) -> Result<(), Fail> {
-    let scheme = scheme(1, 0);
-    let (_, data) = commit(
-        rt,
-        alloc,
-        &scheme,
-        batch(alloc, Domain::standard(2), entries)?,
-    )?;
+    let (scheme, given) = (scheme(1, 0), batch(alloc, Domain::standard(2), entries)?);
+    let (_, data) = commit(rt, alloc, &scheme, given)?;
     let small = told(evaluations_on(rt, alloc, &scheme, &data, Domain::standard(1)));
     assert_eq!(rt; small.as_str(), "a domain is smaller than the trace");
     for (domain, expected) in cases {
@@ -280,29 +287,36 @@ const AS_THEY_ARE: [&[u64]; 2] = [&[1, 0, 0, 0, 0, 0, 0, 0], &[7; 16]];
 
 const TOO_LOW: [&[u64]; 2] = [&[7; 32], &[1, 0, 0, 0, 0, 0, 0, 0]];
 
+// Asserts that no matrices are nothing to commit to, and that their extensions are none.
+fn assert_nothing(rt: &impl Abort, alloc: Global, scheme: &Scheme) -> Result<(), Fail> {
+    let refused = told(commit_ldes(rt, alloc, scheme, Vec::new(alloc)));
+    assert_eq!(rt; refused.as_str(), "no matrix is committed to");
+    assert!(rt; quotient_ldes(rt, alloc, scheme, Vec::new(alloc), 1)?.is_empty());
+    Ok(())
+}
+
+// Asserts that eight rows are too few to be folded by this scheme.
+fn assert_too_few(
+    rt: &impl Abort,
+    alloc: Global,
+    scheme: &Scheme,
+    data: &ProverData,
+) -> Result<(), Fail> {
+    let small = told(evaluations_on(rt, alloc, scheme, data, Domain::standard(3)));
+    assert_eq!(rt; small.as_str(), TOO_SMALL);
+    assert_too_low(rt, alloc, scheme, &TOO_LOW)
+}
+
 #[test]
 fn matrices_as_they_are(rt: HostRuntime) -> Result<(), Fail> {
-    let alloc = rt.alloc();
-    let one = scheme(1, 0);
-    let nothing = told(commit_ldes(&rt, alloc, &one, Vec::new(alloc)));
-    assert_eq!(&rt; nothing.as_str(), "no matrix is committed to");
-    assert_eq!(&rt;
-        quotient_ldes(&rt, alloc, &one, Vec::new(alloc), 1)?.len(),
-        0
-    );
+    let (alloc, one) = (rt.alloc(), scheme(1, 0));
+    assert_nothing(&rt, alloc, &one)?;
     assert_too_low(&rt, alloc, &one, &[&[1, 0, 0, 0]])?;
     let (_, data) = commit_ldes(&rt, alloc, &one, columns(alloc, &AS_THEY_ARE)?)?;
-    let matrices = one.mmcs.get_matrices(&data);
-    assert_eq!(&rt; matrices.len(), AS_THEY_ARE.len());
-    for (matrix, expected) in matrices.iter().zip(AS_THEY_ARE) {
-        assert_column(&rt, matrix, expected);
-    }
+    assert_columns(&rt, one.mmcs.get_matrices(&data), &AS_THEY_ARE);
     // Eight rows are as few as can be folded to a constant, and too few for two coefficients.
     for (log_blowup, log_final_poly_len) in [(1, 1), (2, 0), (usize::MAX, 0), (0, usize::MAX)] {
-        let scheme = scheme(log_blowup, log_final_poly_len);
-        let small = told(evaluations_on(&rt, alloc, &scheme, &data, Domain::standard(3)));
-        assert_eq!(&rt; small.as_str(), TOO_SMALL);
-        assert_too_low(&rt, alloc, &scheme, &TOO_LOW)?;
+        assert_too_few(&rt, alloc, &scheme(log_blowup, log_final_poly_len), &data)?;
     }
     Ok(())
 }
@@ -335,7 +349,7 @@ fn periodic_columns(rt: HostRuntime) -> Result<(), Fail> {
     for count in [1, 2000] {
         let columns = periodic_sevens(alloc, count)?;
         let table = scheme.build_periodic_lde_table(alloc, &columns, trace, extension)?;
-        assert_eq!(&rt; (table.width(), table.height()), (count, 2));
+        assert!(&rt; table.width() == count && table.height() == 2);
     }
     Ok(())
 }
@@ -360,7 +374,7 @@ fn sevens(
 
 // Asserts that a matrix has sevens alone, in so many rows.
 fn assert_sevens(rt: &impl Abort, matrix: &Rows, height: usize, width: usize) {
-    assert_eq!(rt; (matrix.height(), matrix.width()), (height, width));
+    assert!(rt; matrix.height() == height && matrix.width() == width);
     assert!(rt; matrix.values().iter().all(|entry| entry.value() == 7));
 }
 
@@ -372,6 +386,22 @@ const CONSTANTS: [(usize, Sevens); 4] = [
     (9, (1, 2, 1)),
 ];
 
+// The extensions of sevens, which have sevens alone.
+fn extended_sevens(
+    rt: &impl Abort,
+    alloc: Global,
+    scheme: &Scheme,
+    size: Sevens,
+    height: usize,
+) -> Result<Vec<Rows>, Fail> {
+    let ldes = quotient_ldes(rt, alloc, scheme, sevens(rt, alloc, size)?, 1)?;
+    assert!(rt; ldes.len() == size.0);
+    for matrix in &ldes {
+        assert_sevens(rt, matrix, height, size.2);
+    }
+    Ok(ldes)
+}
+
 // Asserts that the extensions of sevens, and their values on their own domain, have sevens alone.
 fn assert_constants(
     rt: &impl Abort,
@@ -379,14 +409,10 @@ fn assert_constants(
     log_blowup: usize,
     size: Sevens,
 ) -> Result<(), Fail> {
-    let (count, log_n, width) = size;
+    let (_, log_n, width) = size;
     assert!(rt; log_n <= 14 && log_blowup <= 10);
     let scheme = scheme(log_blowup, 0);
-    let ldes = quotient_ldes(rt, alloc, &scheme, sevens(rt, alloc, size)?, 1)?;
-    assert_eq!(rt; ldes.len(), count);
-    for matrix in &ldes {
-        assert_sevens(rt, matrix, 1 << (log_n + log_blowup), width);
-    }
+    let ldes = extended_sevens(rt, alloc, &scheme, size, 1 << (log_n + log_blowup))?;
     let (_, data) = commit_ldes(rt, alloc, &scheme, ldes)?;
     let values = evaluations_on(rt, alloc, &scheme, &data, Domain::standard(log_n))?;
     assert_sevens(rt, &values, 1 << log_n, width);

@@ -5,10 +5,14 @@ use circle_field::{Field, Mersenne31};
 use circle_merkle::{MerkleTreeError, ShaMmcs};
 use std::alloc::{AllocError, Global};
 use std::ops::Range;
+use std::process::Abort;
 use std::test::Fail;
 
-// The matrix of one column with these entries.
-fn column(alloc: Global, entries: Range<u64>) -> Result<RowMajorMatrix<Mersenne31>, AllocError> {
+/// The matrix of one column with these entries.
+pub(crate) fn column(
+    alloc: Global,
+    entries: Range<u64>,
+) -> Result<RowMajorMatrix<Mersenne31>, AllocError> {
     let entries: Vec<Mersenne31> = entries.map(Mersenne31::from_u64).collect(alloc)?;
     Ok(RowMajorMatrix::new_col(entries))
 }
@@ -17,6 +21,16 @@ fn column(alloc: Global, entries: Range<u64>) -> Result<RowMajorMatrix<Mersenne3
 fn columns(alloc: Global) -> Result<Vec<RowMajorMatrix<Mersenne31>>, AllocError> {
     Ok(vec![in alloc; column(alloc, 10..18)?, column(alloc, 20..24)?]?)
 }
+
+const TALL: Dimensions = Dimensions {
+    width: 1,
+    height: 8,
+};
+
+const LOW: Dimensions = Dimensions {
+    width: 1,
+    height: 4,
+};
 
 // Commits to the columns, opens them at the indices and verifies what was opened. Gives no answer
 // where the indices or the heights aren't what the calls ask.
@@ -34,15 +48,7 @@ fn commit_open_verify(
         return Ok(None);
     }
     let (rows, proof) = mmcs.open_multi_batch(alloc, indices, &data)?;
-    let tall = Dimensions {
-        width: 1,
-        height: 8,
-    };
-    let low = Dimensions {
-        width: 1,
-        height: 4,
-    };
-    mmcs.verify_multi_batch(alloc, &commitment, &[tall, low], indices, &rows, &proof)?;
+    mmcs.verify_multi_batch(alloc, &commitment, &[TALL, LOW], indices, &rows, &proof)?;
     Ok(Some(rows))
 }
 
@@ -51,17 +57,31 @@ fn entry(rows: &[Vec<Vec<Mersenne31>>], place: usize, matrix: usize) -> Option<M
     rows.get(place)?.get(matrix)?.first().copied()
 }
 
+// Places, matrices and the only entries of their rows.
+const OPENED: &[(usize, usize, u64)] = &[(0, 0, 15), (0, 1, 22), (1, 0, 10), (1, 1, 20)];
+
+// Asserts that the rows are those at 5, 0 and 5.
+fn assert_opened(rt: &impl Abort, rows: &[Vec<Vec<Mersenne31>>]) {
+    assert!(rt; rows.len() == 3);
+    for (place, matrix, value) in OPENED {
+        let entry = entry(rows, *place, *matrix);
+        assert!(rt;
+            entry == Some(Mersenne31::from_u64(*value)),
+            "at {place} of {matrix}"
+        );
+    }
+}
+
+// Asserts that there is no answer at these indices.
+fn assert_none(rt: &impl Abort, alloc: Global, indices: &[usize]) -> Result<(), Fail> {
+    assert!(rt; commit_open_verify(alloc, indices)?.is_none());
+    Ok(())
+}
+
 #[test]
 fn opens_two_columns(rt: HostRuntime) -> Result<(), Fail> {
-    let Some(rows) = commit_open_verify(rt.alloc(), &[5, 0, 5])? else {
-        return Err(Fail::new("refused"));
-    };
-    assert_eq!(rt; entry(&rows, 0, 0), Some(Mersenne31::from_u64(15)));
-    assert_eq!(rt; entry(&rows, 0, 1), Some(Mersenne31::from_u64(22)));
-    assert_eq!(rt; entry(&rows, 1, 0), Some(Mersenne31::from_u64(10)));
-    assert_eq!(rt; entry(&rows, 1, 1), Some(Mersenne31::from_u64(20)));
-    assert_eq!(rt; rows.len(), 3);
-    assert!(rt; commit_open_verify(rt.alloc(), &[8])?.is_none());
-    assert!(rt; commit_open_verify(rt.alloc(), &[])?.is_none());
-    Ok(())
+    let rows = commit_open_verify(rt.alloc(), &[5, 0, 5])?.ok_or("refused")?;
+    assert_opened(&rt, &rows);
+    assert_none(&rt, rt.alloc(), &[8])?;
+    assert_none(&rt, rt.alloc(), &[])
 }

@@ -29,10 +29,13 @@ fn zero_poly(alloc: Global, size: Size) -> Result<Vec<Cubic>, AllocError> {
     vec![in alloc; Cubic::ZERO; size.coefficients]
 }
 
-// Zeros over trees, proved from the fresh challenger.
-fn honest(alloc: Global, size: Size) -> Result<Zeros<ValMmcs, ChallengeMmcs>, Fail> {
+// Zeros over trees, proved from the fresh challenger with this final polynomial.
+fn proved(
+    alloc: Global,
+    size: Size,
+    final_poly: Vec<Cubic>,
+) -> Result<Zeros<ValMmcs, ChallengeMmcs>, Fail> {
     let schemes = (ValMmcs::new(), ChallengeMmcs::new());
-    let final_poly = zero_poly(alloc, size)?;
     prove(
         alloc,
         schemes,
@@ -40,6 +43,11 @@ fn honest(alloc: Global, size: Size) -> Result<Zeros<ValMmcs, ChallengeMmcs>, Fa
         final_poly,
         &mut Sha256Challenger::new(),
     )
+}
+
+// Zeros over trees, proved honestly.
+fn honest(alloc: Global, size: Size) -> Result<Zeros<ValMmcs, ChallengeMmcs>, Fail> {
+    proved(alloc, size, zero_poly(alloc, size)?)
 }
 
 // What is answered from the state of the challenger.
@@ -73,8 +81,7 @@ where
     let honest = prove(alloc, schemes, size, zero_poly(alloc, size)?, &mut prover)?;
     let mut verifier = Sha256Challenger::new();
     assert!(rt; verify(alloc, honest, &mut verifier).is_ok());
-    assert!(rt; verifier != Sha256Challenger::new());
-    assert_eq!(rt; verifier, prover);
+    assert!(rt; verifier != Sha256Challenger::new() && verifier == prover);
     Ok(())
 }
 
@@ -98,13 +105,19 @@ fn accepts_as_any(alloc: Global, zeros: Zeros<ValMmcs, ChallengeMmcs>) -> Result
     accepts(alloc, &scheme, claims, &proof, &mut Sha256Challenger::new())
 }
 
+// Four zeros, proved honestly, with another final polynomial.
+fn with_another_polynomial(alloc: Global) -> Result<Zeros<ValMmcs, ChallengeMmcs>, Fail> {
+    let mut other = honest(alloc, FOUR)?;
+    other.proof.fri_proof.final_poly = one(alloc, Cubic::ONE)?;
+    Ok(other)
+}
+
 #[test]
 fn zeros_over_any_scheme(rt: HostRuntime) -> Result<(), Fail> {
     let alloc = rt.alloc();
-    assert!(rt; accepts_as_any(alloc, honest(alloc, FOUR)?)?);
-    let mut other = honest(alloc, FOUR)?;
-    other.proof.fri_proof.final_poly = one(alloc, Cubic::ONE)?;
-    assert!(rt; !accepts_as_any(alloc, other)?);
+    let accepts_honest = accepts_as_any(alloc, honest(alloc, FOUR)?)?;
+    let accepts_other = accepts_as_any(alloc, with_another_polynomial(alloc)?)?;
+    assert!(rt; accepts_honest && !accepts_other);
     Ok(())
 }
 
@@ -112,9 +125,7 @@ fn zeros_over_any_scheme(rt: HostRuntime) -> Result<(), Fail> {
 #[test]
 fn another_final_polynomial(rt: HostRuntime) -> Result<(), Fail> {
     let alloc = rt.alloc();
-    let schemes = (ValMmcs::new(), ChallengeMmcs::new());
-    let last = one(alloc, Cubic::ONE)?;
-    let proved = prove(alloc, schemes, FOUR, last, &mut Sha256Challenger::new())?;
+    let proved = proved(alloc, FOUR, one(alloc, Cubic::ONE)?)?;
     let answer = shown(verify(alloc, proved, &mut Sha256Challenger::new()));
     let mismatch = "a query is folded to another value than the final polynomial's";
     assert_eq!(rt; answer.as_str(), mismatch);

@@ -71,21 +71,14 @@ pub(super) struct Zeros<I: Mmcs<Mersenne31>, W: Mmcs<Cubic>> {
     pub proof: Proof<I, W>,
 }
 
-/// What the prover keeps of what it committed to.
+/// The commitments to the first layer and to the word of the round, and what the prover keeps of
+/// these.
 #[derive(Drop)]
-struct Kept<I: Mmcs<Mersenne31>, W: Mmcs<Cubic>> {
-    column: I::ProverData,
-    layer: W::ProverData,
-    word: W::ProverData,
-}
-
-// The commitments to the first layer and to the word of the round, and the coefficients of the
-// final polynomial.
-#[derive(Drop)]
-struct Sent<W: Mmcs<Cubic>> {
+struct Words<W: Mmcs<Cubic>> {
     first_layer: W::Commitment,
     rounds: Vec<W::Commitment>,
-    final_poly: Vec<Cubic>,
+    layer: W::ProverData,
+    word: W::ProverData,
 }
 
 // Parameters of three queries, a blowup of two and no proofs of work.
@@ -256,16 +249,29 @@ where
     Ok(draws.indices)
 }
 
+// Commits to the words.
+fn commit_words<W: Mmcs<Cubic>>(alloc: Global, mmcs: &W, size: Size) -> Result<Words<W>, Fail> {
+    let (first_layer, layer) = commit_zeros(alloc, mmcs, size.height, 2)?;
+    let (round, word) = commit_zeros(alloc, mmcs, size.height / 2, 2)?;
+    Ok(Words {
+        first_layer,
+        rounds: one(alloc, round)?,
+        layer,
+        word,
+    })
+}
+
 // Opens the column and the first layer at the queries.
 fn input_proof<I: Mmcs<Mersenne31>, W: Mmcs<Cubic>>(
     alloc: Global,
     scheme: &Scheme<I, W>,
-    kept: &Kept<I, W>,
+    column: &I::ProverData,
+    layer: &W::ProverData,
     queries: &[usize],
 ) -> Result<CircleInputProof<Mersenne31, Cubic, I, W>, Fail> {
-    let batch = opened(alloc, &scheme.mmcs, &kept.column, queries)?;
+    let batch = opened(alloc, &scheme.mmcs, column, queries)?;
     let words = &scheme.fri_params.mmcs;
-    let pairs = opened(alloc, words, &kept.layer, &halves(alloc, queries)?)?;
+    let pairs = opened(alloc, words, layer, &halves(alloc, queries)?)?;
     Ok(CircleInputProof {
         input_openings: one(alloc, batch)?,
         first_layer_siblings: siblings(alloc, queries)?,
@@ -274,52 +280,88 @@ fn input_proof<I: Mmcs<Mersenne31>, W: Mmcs<Cubic>>(
 }
 
 // Opens the word of the round at the queries.
-fn round<I: Mmcs<Mersenne31>, W: Mmcs<Cubic>>(
+fn round<W: Mmcs<Cubic>>(
     alloc: Global,
-    scheme: &Scheme<I, W>,
-    kept: &Kept<I, W>,
+    mmcs: &W,
+    word: &W::ProverData,
     queries: &[usize],
 ) -> Result<CircleCommitPhaseMultiStep<Cubic, W>, Fail> {
     let indices = halves(alloc, &halves(alloc, queries)?)?;
-    let pairs = opened(alloc, &scheme.fri_params.mmcs, &kept.word, &indices)?;
+    let pairs = opened(alloc, mmcs, word, &indices)?;
     Ok(CircleCommitPhaseMultiStep {
         sibling_values: siblings(alloc, queries)?,
         opening_proof: pairs.opening_proof,
     })
 }
 
+/// What is opened of the inputs and of the round.
+type Openings<I, W> = (
+    CircleInputProof<Mersenne31, Cubic, I, W>,
+    CircleCommitPhaseMultiStep<Cubic, W>,
+);
+
 // Draws and opens the queries.
-fn proof_of<I: Mmcs<Mersenne31>, W: Mmcs<Cubic>, C>(
+fn openings<I: Mmcs<Mersenne31>, W: Mmcs<Cubic>, C>(
     alloc: Global,
     scheme: &Scheme<I, W>,
     size: Size,
-    sent: Sent<W>,
-    kept: &Kept<I, W>,
+    column: &I::ProverData,
+    words: &Words<W>,
+    final_poly: &[Cubic],
+    challenger: &mut C,
+) -> Result<Openings<I, W>, Fail>
+where
+    C: CanSample<Mersenne31> + GrindingChallenger<Mersenne31> + CanObserve<W::Commitment>,
+{
+    let messages = CircleMessages {
+        first_layer: &words.first_layer,
+        commitments: &words.rounds,
+        final_poly,
+    };
+    let queries = queries(alloc, size, &messages, challenger)?;
+    let inputs = input_proof(alloc, scheme, column, &words.layer, &queries)?;
+    let round = round(alloc, &scheme.fri_params.mmcs, &words.word, &queries)?;
+    Ok((inputs, round))
+}
+
+// The proof with these commitments and openings.
+fn proof_of<I: Mmcs<Mersenne31>, W: Mmcs<Cubic>>(
+    alloc: Global,
+    words: Words<W>,
+    (input_openings, round): Openings<I, W>,
+    final_poly: Vec<Cubic>,
+) -> Result<Proof<I, W>, Fail> {
+    let fri_proof = CircleFriProof {
+        commit_phase_commits: words.rounds,
+        commit_pow_witnesses: one(alloc, Mersenne31::ZERO)?,
+        input_openings,
+        commit_phase_openings: one(alloc, round)?,
+        final_poly,
+        pow_witness: Mersenne31::ZERO,
+    };
+    Ok(CirclePcsProof {
+        batch_pow_witness: Mersenne31::ZERO,
+        first_layer_commitment: words.first_layer,
+        lambdas: one(alloc, Cubic::ZERO)?,
+        fri_proof,
+    })
+}
+
+// Commits to the words of this column, opens them, and puts the proof together.
+fn proved<I: Mmcs<Mersenne31>, W: Mmcs<Cubic>, C>(
+    alloc: Global,
+    scheme: &Scheme<I, W>,
+    size: Size,
+    column: &I::ProverData,
+    final_poly: Vec<Cubic>,
     challenger: &mut C,
 ) -> Result<Proof<I, W>, Fail>
 where
     C: CanSample<Mersenne31> + GrindingChallenger<Mersenne31> + CanObserve<W::Commitment>,
 {
-    let messages = CircleMessages {
-        first_layer: &sent.first_layer,
-        commitments: &sent.rounds,
-        final_poly: &sent.final_poly,
-    };
-    let queries = queries(alloc, size, &messages, challenger)?;
-    let fri_proof = CircleFriProof {
-        commit_phase_commits: sent.rounds,
-        commit_pow_witnesses: one(alloc, Mersenne31::ZERO)?,
-        input_openings: input_proof(alloc, scheme, kept, &queries)?,
-        commit_phase_openings: one(alloc, round(alloc, scheme, kept, &queries)?)?,
-        final_poly: sent.final_poly,
-        pow_witness: Mersenne31::ZERO,
-    };
-    Ok(CirclePcsProof {
-        batch_pow_witness: Mersenne31::ZERO,
-        first_layer_commitment: sent.first_layer,
-        lambdas: one(alloc, Cubic::ZERO)?,
-        fri_proof,
-    })
+    let words = commit_words(alloc, &scheme.fri_params.mmcs, size)?;
+    let openings = openings(alloc, scheme, size, column, &words, &final_poly, challenger)?;
+    proof_of(alloc, words, openings, final_poly)
 }
 
 /// The zeros of this size, proved from the challenger's state with this final polynomial, which is
@@ -338,22 +380,9 @@ where
 {
     let (mmcs, words) = schemes;
     let scheme = CirclePcs::new(mmcs, parameters(size.log_final_poly_len, words));
-    let words = &scheme.fri_params.mmcs;
     let (commitment, column) = commit_zeros(alloc, &scheme.mmcs, size.height, 1)?;
-    let (first_layer, layer) = commit_zeros(alloc, words, size.height, 2)?;
-    let (round, word) = commit_zeros(alloc, words, size.height / 2, 2)?;
-    let kept = Kept {
-        column,
-        layer,
-        word,
-    };
-    let sent = Sent {
-        first_layer,
-        rounds: one(alloc, round)?,
-        final_poly,
-    };
-    let proof = proof_of(alloc, &scheme, size, sent, &kept, challenger)?;
     let claims = claimed_zero(alloc, commitment, size.log_n)?;
+    let proof = proved(alloc, &scheme, size, &column, final_poly, challenger)?;
     Ok(Zeros {
         scheme,
         claims,
