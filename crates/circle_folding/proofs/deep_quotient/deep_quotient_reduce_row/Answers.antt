@@ -9,18 +9,6 @@ use Rattle.circle_folding.proofs.Vanishing.{real_part-zero, zero-real_part}
 use Rattle.circle_folding.proofs.Weighted.{claimed_quotient}
 use Rattle.circle_folding.proofs.deep_quotient.deep_quotient_reduce_row.Goals as goal
 
-pub mul-requires : goal.mul-requires
-mul-requires g c = g.met.EF.Field.can_mul_law c.args.alpha_pow_width _
-
-pub sub-requires : goal.sub-requires
-sub-requires g c = g.met.EF.Field.can_sub_law _ c.mul.result
-
-pub mul-requires-2 : goal.mul-requires-2
-mul-requires-2 g c = g.met.EF.Field.can_mul_law c.sub.result _
-
-pub mul-requires-3 : goal.mul-requires-3
-mul-requires-3 g c = g.met.EF.Field.can_mul_law c.mul-2.result _
-
 pub returns-in_err-inverse-clause-none : goal.returns-in_err-inverse-clause-none
 returns-in_err-inverse-clause-none g c =
     let l = g.EF.Operations.ops in

@@ -21,15 +21,6 @@ bounds-weights-j g c = omega (arith, c.loop-j-test.true, c.requires.enough)
 pub offset_bounds-weights-j : goal.offset_bounds-weights-j
 offset_bounds-weights-j g c = omega (arith, c.loop-j-test.true, c.requires.enough)
 
-pub sub-requires : goal.sub-requires
-sub-requires g c = g.met.EF.Field.can_sub_law _ c.index-values-j.result
-
-pub mul-requires : goal.mul-requires
-mul-requires g c = g.met.EF.Field.can_mul_law _ c.sub.result
-
-pub add-sum-requires : goal.add-sum-requires
-add-sum-requires g c = g.met.EF.Field.can_add_law _ c.mul.result
-
 pub loop-j-preserved : goal.loop-j-preserved
 loop-j-preserved g c =
     let l = g.EF.Operations.ops in

@@ -108,9 +108,6 @@ batch_phase-requires-clause-next g c = (_, c.requires.next)
 pub batch_phase-requires-clause-small : goal.batch_phase-requires-clause-small
 batch_phase-requires-clause-small g c = c.requires.small.batch
 
-pub first_layer-bivariate-requires : goal.first_layer-bivariate-requires
-first_layer-bivariate-requires g c = record { next = (_, c.in_ok-alpha.ensures.due _ c.requires.next) }
-
 pub checking_rounds-requires-clause-next : goal.checking_rounds-requires-clause-next
 checking_rounds-requires-clause-next g c =
     let n = numbers c.args.transcript.now in (

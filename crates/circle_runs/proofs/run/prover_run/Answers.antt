@@ -30,9 +30,6 @@ returns-in-Ok-clause-easy_rounds g c =
     subst (λ n. n.commit_pow_bits ≡ 0 → All (λ w. w ≡ g.F.Operations.ops.zero) c.in-Ok.draws.1.rounds.items)
     (c.of_seeded-transcript.ensures.shape ∙ c.in_ok-seeded.ensures.shape) c.in-Ok.ensures.easy_rounds
 
-pub seeded-requires : goal.seeded-requires
-seeded-requires g c = record { final_poly = c.requires.small.final_poly }
-
 pub grinding_run-requires-clause-next : goal.grinding_run-requires-clause-next
 grinding_run-requires-clause-next g c =
     let degree = g.EF.ExtensionField.DEGREE in

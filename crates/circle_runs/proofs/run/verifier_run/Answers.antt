@@ -26,9 +26,6 @@ returns-in-Ok-clause-below g c =
     subst (λ n. All (λ i. i < 2 ^ n.index_bits) c.in-Ok.draws.indices.items)
     (c.of_seeded-transcript.ensures.shape ∙ c.in_ok-seeded.ensures.shape) c.in-Ok.ensures.below
 
-pub seeded-requires : goal.seeded-requires
-seeded-requires g c = record { final_poly = c.requires.small.final_poly }
-
 pub checking_run-requires-clause-next : goal.checking_run-requires-clause-next
 checking_run-requires-clause-next g c =
     let degree = g.EF.ExtensionField.DEGREE in
