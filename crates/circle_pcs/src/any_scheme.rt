@@ -97,7 +97,7 @@ where
 {
     let committed = commit_batches(alloc, pcs, batches)?;
     let requests = requests_of(alloc, &committed)?;
-    let (values, proof) = match open_requests(alloc, pcs, requests, prover) {
+    let (values, proof) = match open_committed(alloc, pcs, requests, prover) {
         Ok(opened) => opened,
         Err(error) => return Err(RoundTripError::Open(error)),
     };
@@ -110,7 +110,7 @@ where
 }
 
 // Opens what was committed to at the points.
-fn open_requests<Challenge, C: ChallengerState, P: Pcs<Challenge, C>>(
+fn open_committed<Challenge, C: ChallengerState, P: Pcs<Challenge, C>>(
     alloc: Global,
     pcs: &P,
     requests: Vec<OpeningRequest<'_, P::ProverData, Challenge>>,

@@ -23,8 +23,8 @@ returns-in_err-committed-clause-reason g c =
     c.from_residual.result c.in_err-committed.field-0.0 c.from_residual.ensures.1
     (why-uncommitted g.P.Domain.PolynomialSpace.size (g.P.Pcs.commits pcs) (g.P.Pcs.commit_refuses pcs) (g.P.Pcs.open_gives pcs) (g.P.Pcs.open_refuses pcs) (g.P.Pcs.verify_refuses pcs) c.args.batches.items s (g.C.ChallengerState.state c.args.verifier.now) (sym c.requires.same) c.in_err-committed.field-0.0 c.in_err-committed.ensures.refused)
 
-pub open_requests-requires : goal.open_requests-requires
-open_requests-requires g c =
+pub open_committed-requires : goal.open_committed-requires
+open_committed-requires g c =
     let pcs = c.args.pcs.now in
     let commits = g.P.Pcs.commits pcs in
     let batches = c.args.batches.items in
@@ -46,7 +46,7 @@ returns-in-Err-clause-accepted g c =
     let asked = asks-for c.deref.result.now committed requests c.deref.ensures.value made.kept made.points in
     let mine = are-requests commits batches committed requests c.in_ok-committed.ensures.committed asked in
     let old = g.C.ChallengerState.state c.args.prover.now in
-    let new = g.C.ChallengerState.state c.open_requests.new.challenger in
+    let new = g.C.ChallengerState.state c.open_committed.new.challenger in
     λ honest.
     g.met.P.Pcs.honest_open pcs requests old new c.in-Err.error (honest-requests commits (g.P.Pcs.opens_at pcs) (g.P.Pcs.finds_witnesses pcs) batches requests old mine honest) (honest.finds requests mine) c.in-Err.ensures.refused
 
@@ -73,7 +73,7 @@ returns-in-Ok-verify-clause-values g c =
     let asked = asks-for c.deref.result.now committed requests c.deref.ensures.value made.kept made.points in
     let mine = are-requests commits batches committed requests c.in_ok-committed.ensures.committed asked in
     let old = g.C.ChallengerState.state c.args.prover.now in
-    let new = g.C.ChallengerState.state c.open_requests.new.challenger in
+    let new = g.C.ChallengerState.state c.open_committed.new.challenger in
     let ws = c.in-Ok.opened.0.items in
     let proof = c.in-Ok.opened.1 in
     are-values commits (g.P.Pcs.values_of pcs) batches requests (openings ws) mine (g.met.P.Pcs.true_values pcs requests (openings ws) proof old new c.in-Ok.ensures.opened)
@@ -88,7 +88,7 @@ returns-in-Ok-verify-clause-states g c =
     let made = c.in_ok-requests.ensures in
     let asked = asks-for c.deref.result.now committed requests c.deref.ensures.value made.kept made.points in
     let old = g.C.ChallengerState.state c.args.prover.now in
-    let new = g.C.ChallengerState.state c.open_requests.new.challenger in
+    let new = g.C.ChallengerState.state c.open_committed.new.challenger in
     let ws = c.in-Ok.opened.0.items in
     let proof = c.in-Ok.opened.1 in
     let claims = c.in_ok-claims.claims.items in
@@ -111,7 +111,7 @@ returns-in-Err-verify-clause-accepted g c =
     let made = c.in_ok-requests.ensures in
     let asked = asks-for c.deref.result.now committed requests c.deref.ensures.value made.kept made.points in
     let old = g.C.ChallengerState.state c.args.prover.now in
-    let new = g.C.ChallengerState.state c.open_requests.new.challenger in
+    let new = g.C.ChallengerState.state c.open_committed.new.challenger in
     let ws = c.in-Ok.opened.0.items in
     let proof = c.in-Ok.opened.1 in
     let claims = c.in_ok-claims.claims.items in
@@ -135,7 +135,7 @@ returns-in-Err-verify-clause-reason g c =
     let asked = asks-for c.deref.result.now committed requests c.deref.ensures.value made.kept made.points in
     let mine = are-requests commits batches committed requests c.in_ok-committed.ensures.committed asked in
     let old = g.C.ChallengerState.state c.args.prover.now in
-    let new = g.C.ChallengerState.state c.open_requests.new.challenger in
+    let new = g.C.ChallengerState.state c.open_committed.new.challenger in
     let ws = c.in-Ok.opened.0.items in
     let proof = c.in-Ok.opened.1 in
     let claims = c.in_ok-claims.claims.items in
