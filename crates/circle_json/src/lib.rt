@@ -11,7 +11,7 @@
 //!
 //! Its files:
 //!
-//! - In `src/`, `form.rt`: the trait. `object.rt`: keys and members of an object.
+//! - In `src/`, `form.rt`: the trait. `object.rt`: keys and members of an object, read and written.
 //! - In `specs/`, `Form`, `FormFacts`: what a form is, with its laws. `Values`: numbers, elements,
 //!   digests and lists. `Objects`, `ObjectForm`: objects of a list of fields. `Coefficients`: a
 //!   list of which one item stands for itself.
@@ -27,4 +27,4 @@ pub mod object;
 pub use coefficients::{FlatForm, coefficients_from_json, coefficients_to_json};
 pub use error::JsonError;
 pub use form::JsonForm;
-pub use object::{has_keys, member};
+pub use object::{has_keys, member, put_member};

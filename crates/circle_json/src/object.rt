@@ -1,6 +1,7 @@
 //! Objects whose members are the parts of a value.
 ghost use Rattle.std.specs.Prelude.{◌≡◌, ◌↔◌, map, All, IsTrue, IsSome, Some, IfOk, IfErr};
 ghost use Rattle.std.specs.Prelude.{MatchResult};
+ghost use Rattle.serde_json.specs.Data.{put as with_member};
 ghost use Rattle.serde_json.specs.Find.{as_object, get};
 ghost use Rattle.serde_json.specs.View.{view, members_view};
 ghost use Rattle.circle_json.specs.declared.error.JsonError.{JsonError};
@@ -10,7 +11,7 @@ ghost use Rattle.circle_json.specs.Objects.{HasKeys, HasMember, RefusesKeys, Ref
 use crate::error::JsonError;
 use crate::form::JsonForm;
 use serde_json::{Map, Value};
-use std::alloc::Global;
+use std::alloc::{AllocError, Global};
 
 /// Tests that a JSON value is an object with exactly these keys.
 ///
@@ -57,4 +58,21 @@ pub fn member<T: JsonForm>(alloc: Global, object: &Value, key: &str) -> Result<T
 {
     let value = object.get(key).ok_or(JsonError::MissingKey)?;
     T::from_json(alloc, value)
+}
+
+/// Gives an object the member with this key that is the value's form.
+///
+/// Fails where memory is refused, and the object stays as it was.
+pub fn put_member<T: JsonForm>(
+    alloc: Global,
+    object: &mut Map<String, Value>,
+    key: &str,
+    value: &T,
+) -> Result<(), AllocError>
+    ensures member { IfOk result (λ _. members_view object.new.entries
+        ≡ with_member key.now (T.form.written value.now) (members_view object.old.entries)) }
+    ensures reads { IfOk result (λ _. T.form.reads (T.form.written value.now) value.now) }
+    ensures kept { IfErr result (λ _. object.new.entries ≡ object.old.entries) }
+{
+    serde_json::put(object, alloc, key, value.to_json(alloc)?)
 }

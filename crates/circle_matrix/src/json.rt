@@ -10,8 +10,8 @@ ghost use Rattle.circle_matrix.specs.Json.{whole_fields};
 use crate::mmcs::Mmcs;
 use crate::params::FriParameters;
 use crate::pcs::{BatchMultiOpening, CommitmentOpening, MatrixOpening, PointOpening};
-use circle_json::{JsonError, JsonForm, has_keys, member};
-use serde_json::{Value, json};
+use circle_json::{JsonError, JsonForm, has_keys, member, put_member};
+use serde_json::{Map, Value, json};
 use std::alloc::{AllocError, Global};
 
 /// An object of the point, under `point`, and the values, under `values`.
@@ -19,10 +19,10 @@ impl<Challenge: JsonForm + Drop> JsonForm for PointOpening<Challenge> {
     ghost form = { object_form (point_fields Challenge.form) };
 
     fn to_json(&self, alloc: Global) -> Result<Value, AllocError> {
-        json!(in alloc; {
-            "point": self.point.to_json(alloc)?,
-            "values": self.values.to_json(alloc)?
-        })
+        let mut object = Map::new(alloc);
+        put_member(alloc, &mut object, "point", &self.point)?;
+        put_member(alloc, &mut object, "values", &self.values)?;
+        Ok(Value::Object(object))
     }
 
     fn from_json(alloc: Global, value: &Value) -> Result<Self, JsonError> {
@@ -39,10 +39,10 @@ impl<Challenge: JsonForm + Drop> JsonForm for MatrixOpening<Challenge, usize> {
     ghost form = { object_form (matrix_fields Challenge.form) };
 
     fn to_json(&self, alloc: Global) -> Result<Value, AllocError> {
-        json!(in alloc; {
-            "log_n": self.domain.to_json(alloc)?,
-            "points": self.points.to_json(alloc)?
-        })
+        let mut object = Map::new(alloc);
+        put_member(alloc, &mut object, "log_n", &self.domain)?;
+        put_member(alloc, &mut object, "points", &self.points)?;
+        Ok(Value::Object(object))
     }
 
     fn from_json(alloc: Global, value: &Value) -> Result<Self, JsonError> {
@@ -60,10 +60,10 @@ impl<Challenge: JsonForm + Drop, Commitment: JsonForm + Drop> JsonForm
     ghost form = { object_form (batch_fields Challenge.form Commitment.form) };
 
     fn to_json(&self, alloc: Global) -> Result<Value, AllocError> {
-        json!(in alloc; {
-            "commitment": self.commitment.to_json(alloc)?,
-            "matrices": self.matrices.to_json(alloc)?
-        })
+        let mut object = Map::new(alloc);
+        put_member(alloc, &mut object, "commitment", &self.commitment)?;
+        put_member(alloc, &mut object, "matrices", &self.matrices)?;
+        Ok(Value::Object(object))
     }
 
     fn from_json(alloc: Global, value: &Value) -> Result<Self, JsonError> {
@@ -83,10 +83,10 @@ where
     ghost form = { object_form (opening_fields T.form M.MultiProof.form) };
 
     fn to_json(&self, alloc: Global) -> Result<Value, AllocError> {
-        json!(in alloc; {
-            "opened_values": self.opened_values.to_json(alloc)?,
-            "opening_proof": self.opening_proof.to_json(alloc)?
-        })
+        let mut object = Map::new(alloc);
+        put_member(alloc, &mut object, "opened_values", &self.opened_values)?;
+        put_member(alloc, &mut object, "opening_proof", &self.opening_proof)?;
+        Ok(Value::Object(object))
     }
 
     fn from_json(alloc: Global, value: &Value) -> Result<Self, JsonError> {

@@ -1,8 +1,9 @@
 //! Proofs, read from JSON and written as JSON.
 ghost use Rattle.circle_json.specs.ObjectForm.{object_form};
 ghost use Rattle.circle_relation.specs.Json.{fri_fields, input_fields, proof_fields, step_fields};
-ghost use Rattle.std.specs.Prelude.{IfOk, IfErr, codes};
-ghost use Rattle.serde_json.specs.View.{view};
+ghost use Rattle.std.specs.Prelude.{◌≡◌, IfOk, IfErr, codes};
+ghost use Rattle.serde_json.specs.Data.{put as with_member};
+ghost use Rattle.serde_json.specs.View.{view, members_view};
 ghost use Rattle.circle_json.specs.Coefficients.{coefficients_form};
 ghost use Rattle.circle_json.specs.Objects.{HasMember, RefusesMember};
 
@@ -10,9 +11,10 @@ use crate::proof::{CircleCommitPhaseMultiStep, CircleFriProof, CircleInputProof,
 use circle_field::Field;
 use circle_json::{
     FlatForm, JsonError, JsonForm, coefficients_from_json, coefficients_to_json, has_keys, member,
+    put_member,
 };
 use circle_matrix::Mmcs;
-use serde_json::{Value, json};
+use serde_json::{Map, Value};
 use std::alloc::{AllocError, Global};
 
 /// An object of the `opening_proof` and the `sibling_values`.
@@ -23,10 +25,10 @@ where
     ghost form = { object_form (step_fields F.JsonForm.form M.MultiProof.form) };
 
     fn to_json(&self, alloc: Global) -> Result<Value, AllocError> {
-        json!(in alloc; {
-            "opening_proof": self.opening_proof.to_json(alloc)?,
-            "sibling_values": self.sibling_values.to_json(alloc)?
-        })
+        let mut object = Map::new(alloc);
+        put_member(alloc, &mut object, "opening_proof", &self.opening_proof)?;
+        put_member(alloc, &mut object, "sibling_values", &self.sibling_values)?;
+        Ok(Value::Object(object))
     }
 
     fn from_json(alloc: Global, value: &Value) -> Result<Self, JsonError> {
@@ -53,11 +55,21 @@ where
         InputMmcs.MultiProof.form FriMmcs.MultiProof.form) };
 
     fn to_json(&self, alloc: Global) -> Result<Value, AllocError> {
-        json!(in alloc; {
-            "first_layer_proof": self.first_layer_proof.to_json(alloc)?,
-            "first_layer_siblings": self.first_layer_siblings.to_json(alloc)?,
-            "input_openings": self.input_openings.to_json(alloc)?
-        })
+        let mut object = Map::new(alloc);
+        put_member(
+            alloc,
+            &mut object,
+            "first_layer_proof",
+            &self.first_layer_proof,
+        )?;
+        put_member(
+            alloc,
+            &mut object,
+            "first_layer_siblings",
+            &self.first_layer_siblings,
+        )?;
+        put_member(alloc, &mut object, "input_openings", &self.input_openings)?;
+        Ok(Value::Object(object))
     }
 
     fn from_json(alloc: Global, value: &Value) -> Result<Self, JsonError> {
@@ -88,6 +100,27 @@ fn final_poly<F: FlatForm + Drop>(alloc: Global, object: &Value) -> Result<Vec<F
     coefficients_from_json(alloc, value)
 }
 
+// Gives an object the member `final_poly` that is the form of these coefficients.
+fn put_final_poly<F: FlatForm>(
+    alloc: Global,
+    object: &mut Map<String, Value>,
+    coefficients: &Vec<F>,
+) -> Result<(), AllocError>
+    ensures member { IfOk result (λ _. members_view object.new.entries
+        ≡ with_member (codes "final_poly")
+        ((coefficients_form F.JsonForm.form).written coefficients.now)
+        (members_view object.old.entries)) }
+    ensures reads { IfOk result (λ _. let form = coefficients_form F.JsonForm.form in
+        form.reads (form.written coefficients.now) coefficients.now) }
+{
+    serde_json::put(
+        object,
+        alloc,
+        "final_poly",
+        coefficients_to_json(alloc, coefficients)?,
+    )
+}
+
 /// An object of the parts, each under its name; a final polynomial of one coefficient is that
 /// coefficient.
 impl<
@@ -104,14 +137,29 @@ where
         M.Commitment.form M.MultiProof.form) };
 
     fn to_json(&self, alloc: Global) -> Result<Value, AllocError> {
-        json!(in alloc; {
-            "commit_phase_commits": self.commit_phase_commits.to_json(alloc)?,
-            "commit_phase_openings": self.commit_phase_openings.to_json(alloc)?,
-            "commit_pow_witnesses": self.commit_pow_witnesses.to_json(alloc)?,
-            "final_poly": coefficients_to_json(alloc, &self.final_poly)?,
-            "input_openings": self.input_openings.to_json(alloc)?,
-            "pow_witness": self.pow_witness.to_json(alloc)?
-        })
+        let mut object = Map::new(alloc);
+        put_member(
+            alloc,
+            &mut object,
+            "commit_phase_commits",
+            &self.commit_phase_commits,
+        )?;
+        put_member(
+            alloc,
+            &mut object,
+            "commit_phase_openings",
+            &self.commit_phase_openings,
+        )?;
+        put_member(
+            alloc,
+            &mut object,
+            "commit_pow_witnesses",
+            &self.commit_pow_witnesses,
+        )?;
+        put_final_poly(alloc, &mut object, &self.final_poly)?;
+        put_member(alloc, &mut object, "input_openings", &self.input_openings)?;
+        put_member(alloc, &mut object, "pow_witness", &self.pow_witness)?;
+        Ok(Value::Object(object))
     }
 
     fn from_json(alloc: Global, value: &Value) -> Result<Self, JsonError> {
@@ -154,12 +202,22 @@ where
         InputMmcs.MultiProof.form FriMmcs.Commitment.form FriMmcs.MultiProof.form) };
 
     fn to_json(&self, alloc: Global) -> Result<Value, AllocError> {
-        json!(in alloc; {
-            "batch_pow_witness": self.batch_pow_witness.to_json(alloc)?,
-            "first_layer_commitment": self.first_layer_commitment.to_json(alloc)?,
-            "fri_proof": self.fri_proof.to_json(alloc)?,
-            "lambdas": self.lambdas.to_json(alloc)?
-        })
+        let mut object = Map::new(alloc);
+        put_member(
+            alloc,
+            &mut object,
+            "batch_pow_witness",
+            &self.batch_pow_witness,
+        )?;
+        put_member(
+            alloc,
+            &mut object,
+            "first_layer_commitment",
+            &self.first_layer_commitment,
+        )?;
+        put_member(alloc, &mut object, "fri_proof", &self.fri_proof)?;
+        put_member(alloc, &mut object, "lambdas", &self.lambdas)?;
+        Ok(Value::Object(object))
     }
 
     fn from_json(alloc: Global, value: &Value) -> Result<Self, JsonError> {

@@ -1,13 +1,12 @@
-use Rattle.std.proofs.Common.{codes, refl, rules, arith}
+use Rattle.std.proofs.Common.{refl, rules, arith}
 use Rattle.circle_json.proofs.Records.{read_of}
+use Rattle.circle_json.specs.Objects.{members_written}
 use Rattle.circle_relation.specs.Json.{step_fields}
-use Rattle.serde_json.specs.Data.{member, no_members}
-use Rattle.serde_json.specs.View.{view}
 use Rattle.serde_json.specs.declared.value.Value.{the_lemmas}
 use Rattle.circle_relation.proofs.json.CircleCommitPhaseMultiStepJsonForm.to_json.Goals as goal
 
-pub returns-in-Ok-json-4-clause-reads : goal.returns-in-Ok-json-4-clause-reads
-returns-in-Ok-json-4-clause-reads g c =
-    read_of (step_fields g.F.JsonForm.form g.M.MultiProof.JsonForm.form) c.args.self.now _
-    (member (codes "opening_proof") (view c.in_ok-to_json.field-0) (member (codes "sibling_values") (view c.in_ok-to_json-2.field-0) no_members)) (search (rules, the_lemmas))
-    (omega arith, ((_, refl, c.in_ok-to_json.ensures.reads), ((_, refl, c.in_ok-to_json-2.ensures.reads), tt)))
+pub returns-clause-reads : goal.returns-clause-reads
+returns-clause-reads g c =
+    let fields = step_fields g.F.JsonForm.form g.M.MultiProof.JsonForm.form in
+    read_of fields c.args.self.now _ (members_written fields c.args.self.now) (search (rules, the_lemmas))
+    (omega arith, ((_, refl, c.in_ok-put_member.ensures.reads), ((_, refl, c.in_ok-put_member-2.ensures.reads), tt)))
