@@ -4,6 +4,7 @@ use Rattle.std.proofs.Common.{zero, suc, inl, inr, refl, sym, ◌∙◌, ap, sub
 use Rattle.std.proofs.lemmas.Bool.{cases_lt}
 use Rattle.std.proofs.lemmas.List.{length_push, get_or_append_left}
 use Rattle.std.proofs.lemmas.List.Elements.{All-push, All-nil}
+use Rattle.std.proofs.lemmas.Nat.{pow_pos}
 use Rattle.std.proofs.lemmas.Option.{slice_get_within, same_Some}
 use Rattle.std.proofs.Math.Seq.{get_or-append_seam}
 use Rattle.circle_challenger.specs.Moves.{RunMoves, found_at, is_passed}
@@ -26,6 +27,18 @@ all_of_one P x xs is p = subst (All P) (sym is) (All-push P [] x (All-nil P) p)
 -- half of a power of two
 pub half_power : (h n : ℕ) → 1 ≤ h → n ≡ 2 ^ h → n / 2 ≡ 2 ^ (h - 1)
 half_power h n positive is = let even = twice-half h positive in omega (arith, is, even)
+
+-- a power of two of a positive exponent is at least 2
+pub even_power : (h n : ℕ) → 1 ≤ h → n ≡ 2 ^ h → 2 ≤ n
+even_power h n positive is =
+    let even = twice-half h positive in
+    let least : 1 ≤ 2 ^ (h - 1) = omega (arith, pow_pos (h - 1)) in
+    omega (arith, is, even, least)
+
+-- a power of two that isn't 1 has a positive exponent
+pub positive_power : (m n : ℕ) → n ≡ 2 ^ m → 2 ≤ n → 1 ≤ m
+positive_power zero n is even = absurd (omega (arith, is, even))
+positive_power (suc m) n is even = omega arith
 
 -- a word of a power of two has half as many pairs
 pub length-pairs_of : {E : Type 0} (word : List E) (h : ℕ) → 1 ≤ h → length word ≡ 2 ^ h → length (pairs_of word) ≡ 2 ^ (h - 1)

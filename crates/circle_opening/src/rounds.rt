@@ -3,6 +3,7 @@
 ghost use Rattle.std.specs.Prelude.{◌≡◌, ℕ, ◌≤◌, ◌-◌, ◌+◌, ◌^◌, ◌++◌, [], ◌∷◌, length, map, All};
 ghost use Rattle.std.specs.Prelude.{IsTrue, IfOk, IfErr, OnOk, Some};
 ghost use Rattle.circle_challenger.specs.Due.{AreNext, HasPlayed};
+ghost use Rattle.circle_matrix.specs.Matrix.{IsPowerOfTwo};
 ghost use Rattle.circle_transcript.specs.Shape.{round_steps, rounds_steps};
 ghost use Rattle.circle_transcript.specs.Transcript.{current, due, numbers, IsSame};
 ghost use Rattle.circle_transcript.specs.Transcript.{commit_passes, commit_found, commit_challenge};
@@ -49,13 +50,14 @@ pub(crate) struct Rounds<F, EF, Com, Data> {
     pub betas: Vec<EF>,
 }
 
-// Commits to a word, by pairs.
+// Commits to a word, by pairs. Asks a number of entries that is a power of two, and even.
 fn commit_word<EF: Field, M: Mmcs<EF>>(
     alloc: Global,
     mmcs: &M,
     word: Vec<EF>,
 ) -> Result<(M::Commitment, M::ProverData), AllocError>
-    requires { (m : ℕ) × (length word.items ≡ 2 ^ (m + 1)) }
+    requires power { IsPowerOfTwo (length word.items) }
+    requires pairs { 2 ≤ length word.items }
     ensures { IfOk result (λ r. AreCommitted (M.commits mmcs.now) (pairs_of word.items ∷ [])
         (M.matrices r.1) r.0) }
 {

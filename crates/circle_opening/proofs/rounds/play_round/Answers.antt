@@ -9,14 +9,15 @@ use Rattle.circle_words.specs.Words.{IsNextWord, pairs_of}
 use Rattle.circle_transcript.specs.Transcript.{after_commit, commit_challenge, commit_passes}
 use Rattle.circle_transcript.proofs.Playing.{handed_on, unwrap_none}
 use Rattle.circle_opening.specs.Failure.{IsRoundFailure, prover_error}
-use Rattle.circle_opening.proofs.Growing.{first_rows, length-pairs_of}
+use Rattle.circle_opening.proofs.Growing.{even_power, first_rows, length-pairs_of}
 use Rattle.circle_opening.proofs.rounds.play_round.Given.{Over}
 use Rattle.circle_opening.proofs.rounds.play_round.Goals as goal
 
-pub commit_word-requires : goal.commit_word-requires
-commit_word-requires g c =
-    let positive = c.requires.positive in
-    (c.args.log_height - 1, c.requires.word ∙ ap (λ n. 2 ^ n) (omega (arith, positive)))
+pub commit_word-requires-clause-power : goal.commit_word-requires-clause-power
+commit_word-requires-clause-power g c = (c.args.log_height, c.requires.word)
+
+pub commit_word-requires-clause-pairs : goal.commit_word-requires-clause-pairs
+commit_word-requires-clause-pairs g c = even_power c.args.log_height (length c.args.word.items) c.requires.positive c.requires.word
 
 pub fold_round-requires-clause-rows : goal.fold_round-requires-clause-rows
 fold_round-requires-clause-rows g c =
