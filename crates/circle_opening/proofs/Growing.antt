@@ -1,5 +1,5 @@
 -- Words and rounds that are pushed one after another.
-use Rattle.std.specs.Prelude.{◌≡◌, ℕ, ◌+◌, ◌-◌, ◌/◌, ◌^◌, ◌<◌, ◌≤◌, ◌++◌, List, [], ◌∷◌, length, map, zip, All, Some, IsTrue, slice_get, slice_index_or}
+use Rattle.std.specs.Prelude.{◌≡◌, ℕ, ◌+◌, ◌-◌, ◌/◌, ◌%◌, ◌^◌, ◌<◌, ◌≤◌, ◌++◌, List, [], ◌∷◌, length, map, zip, All, Some, IsTrue, slice_get, slice_index_or}
 use Rattle.std.proofs.Common.{zero, suc, inl, inr, refl, sym, ◌∙◌, ap, subst, arith}
 use Rattle.std.proofs.lemmas.Bool.{cases_lt}
 use Rattle.std.proofs.lemmas.List.{length_push, get_or_append_left}
@@ -39,6 +39,10 @@ even_power h n positive is =
 pub positive_power : (m n : ℕ) → n ≡ 2 ^ m → 2 ≤ n → 1 ≤ m
 positive_power zero n is even = absurd (omega (arith, is, even))
 positive_power (suc m) n is even = omega arith
+
+-- and is made of pairs
+pub whole_pairs : (m n : ℕ) → n ≡ 2 ^ m → 2 ≤ n → n % 2 ≡ 0
+whole_pairs m n is even = let half = twice-half m (positive_power m n is even) in omega (arith, is, half)
 
 -- a word of a power of two has half as many pairs
 pub length-pairs_of : {E : Type 0} (word : List E) (h : ℕ) → 1 ≤ h → length word ≡ 2 ^ h → length (pairs_of word) ≡ 2 ^ (h - 1)

@@ -1,9 +1,15 @@
-use Rattle.std.proofs.Common.{◌≡◌, ◌+◌, ◌-◌, ◌/◌, ◌^◌, ◌++◌, ◌∷◌, [], ◌∙◌, sym, ap, arith, length}
+use Rattle.std.proofs.Common.{◌≡◌, ◌-◌, ◌/◌, ◌^◌, ◌++◌, ◌∷◌, [], ◌∙◌, sym, ap, arith, length}
 use Rattle.circle_matrix.specs.Matrix.{IsPowerOfTwo}
 use Rattle.circle_matrix.specs.RowFacts.{length-rows_from}
 use Rattle.circle_matrix.specs.RowMajorMatrix.{height_of, length-rows}
-use Rattle.circle_opening.proofs.Growing.{all_of_one, half_power, positive_power}
+use Rattle.circle_opening.proofs.Growing.{all_of_one, half_power, positive_power, whole_pairs}
 use Rattle.circle_opening.proofs.rounds.commit_word.Goals as goal
+
+pub new-requires-clause-whole : goal.new-requires-clause-whole
+new-requires-clause-whole g c =
+    let word = c.args.word in
+    let power = c.requires.power in
+    whole_pairs power.0 word.len (omega (arith, word.ok.0, power.1)) (omega (arith, word.ok.0, c.requires.pairs))
 
 pub commit-requires-clause-powers_of_two : goal.commit-requires-clause-powers_of_two
 commit-requires-clause-powers_of_two g c =

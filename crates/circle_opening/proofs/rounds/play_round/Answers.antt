@@ -1,6 +1,6 @@
 use Rattle.std.specs.Prelude.{IsTrue, Some, unwrap_or}
 use Rattle.std.proofs.lemmas.List.{length-map}
-use Rattle.std.proofs.Common.{◌≡◌, ◌<◌, All, ◌-◌, ◌^◌, ◌∙◌, sym, ap, subst, arith, length, map, inr}
+use Rattle.std.proofs.Common.{◌≡◌, ◌<◌, All, ◌∙◌, sym, ap, subst, arith, length, map, inr}
 use Rattle.circle_challenger.specs.Moves.{RunMoves, run_moves}
 use Rattle.circle_field.specs.Field.{of_nat}
 use Rattle.circle_matrix.specs.RowMajorMatrix.{length-rows, rows, width_of}
