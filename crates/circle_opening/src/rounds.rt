@@ -124,6 +124,24 @@ where
     })
 }
 
+// No rounds, with room for so many.
+fn no_rounds<F: Field, EF: Field, Com: Drop, Data: Drop>(
+    alloc: Global,
+    capacity: usize,
+) -> Result<Rounds<F, EF, Com, Data>, AllocError>
+    ensures commitments { IfOk result (λ rounds. rounds.commitments.items ≡ []) }
+    ensures kept { IfOk result (λ rounds. rounds.kept.items ≡ []) }
+    ensures witnesses { IfOk result (λ rounds. rounds.witnesses.items ≡ []) }
+    ensures betas { IfOk result (λ rounds. rounds.betas.items ≡ []) }
+{
+    Ok(Rounds {
+        commitments: Vec::with_capacity(alloc, capacity)?,
+        kept: Vec::with_capacity(alloc, capacity)?,
+        witnesses: Vec::with_capacity(alloc, capacity)?,
+        betas: Vec::with_capacity(alloc, capacity)?,
+    })
+}
+
 // Adds a round to those that were played, and answers the word that it leaves.
 fn add_round<F: Field, EF: Field, Com: Drop, Data: Drop>(
     rounds: &mut Rounds<F, EF, Com, Data>,
@@ -188,12 +206,7 @@ where
         (IsRoundsFailure m (M.commits mmcs.now) transcript.old ⟦<EF as OverCircle<F>>⟧.fields
         heights.now folded.now log_height first.items num_rounds) }
 {
-    let mut rounds = Rounds {
-        commitments: Vec::with_capacity(alloc, num_rounds)?,
-        kept: Vec::with_capacity(alloc, num_rounds)?,
-        witnesses: Vec::with_capacity(alloc, num_rounds)?,
-        betas: Vec::with_capacity(alloc, num_rounds)?,
-    };
+    let mut rounds = no_rounds(alloc, num_rounds)?;
     let mut word = first;
     for i in 0..num_rounds {
         let round = play_round(

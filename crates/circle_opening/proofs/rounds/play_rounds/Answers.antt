@@ -29,10 +29,10 @@ loop-i-init g c =
     let bits = (numbers c.args.transcript.now).commit_pow_bits in
     let begun = g.C.ChallengerState.state c.args.transcript.now.challenger.now in
     let coefficients = g.EF.ExtensionField.coefficients in
-    let no_commitments = c.in_ok-with_capacity.ensures.items in
-    let no_kept = c.in_ok-with_capacity-2.ensures.items in
-    let no_witnesses = c.in_ok-with_capacity-3.ensures.items in
-    let no_betas = c.in_ok-with_capacity-4.ensures.items in
+    let no_commitments = c.in_ok-rounds.ensures.commitments in
+    let no_kept = c.in_ok-rounds.ensures.kept in
+    let no_witnesses = c.in_ok-rounds.ensures.witnesses in
+    let no_betas = c.in_ok-rounds.ensures.betas in
     record {
       same = record { challenger = refl; shape = refl };
       due = λ rest e. rounds_all g.EF.ExtensionField.DEGREE bits c.args.num_rounds rest _ e;
