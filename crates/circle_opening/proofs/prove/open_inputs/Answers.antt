@@ -17,6 +17,14 @@ log2_strict-log_height-requires g c =
     let known = subst (λ (q : OpeningRequest g.row.InputMmcs-ProverData.Denot g.row.EF.Denot). AreHeights c.args.log_max_height (g.InputMmcs.Mmcs.matrices q.prover_data.now)) (sym c.request-item.is) (c.requires.heights c.loop-request.request-index r c.loop-request-test.true) in
     (log_of (max_height (g.InputMmcs.Mmcs.matrices r.prover_data.now)), c.get_max_height.ensures ∙ known.power)
 
+pub overflow_sub-bits : goal.overflow_sub-bits
+overflow_sub-bits g c =
+    let r = c.request-item.result in
+    let known = subst (λ (q : OpeningRequest g.row.InputMmcs-ProverData.Denot g.row.EF.Denot). AreHeights c.args.log_max_height (g.InputMmcs.Mmcs.matrices q.prover_data.now)) (sym c.request-item.is) (c.requires.heights c.loop-request.request-index r c.loop-request-test.true) in
+    let h = log_of (max_height (g.InputMmcs.Mmcs.matrices r.prover_data.now)) in
+    let is : c.log2_strict-log_height.result ≡ h = c.log2_strict-log_height.ensures.only h (c.get_max_height.ensures ∙ known.power) in
+    omega (arith, known.fits, is)
+
 pub open_rows-requires-clause-powers : goal.open_rows-requires-clause-powers
 open_rows-requires-clause-powers g c =
     let r = c.request-item.result in

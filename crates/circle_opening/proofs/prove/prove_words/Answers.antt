@@ -16,6 +16,14 @@ use Rattle.circle_opening.proofs.prove.prove_words.Goals as goal
 abbrev fields : (g : Over) → Fields g.row.Val.Denot g.row.EF.Denot
 fields g = record { field = g.Val.Operations.ops; gen = g.Val.ComplexExtendable.generators; two_adicity = g.Val.ComplexExtendable.CIRCLE_TWO_ADICITY; is_zero = λ w. g.Val.PartialEq.eq w g.Val.Field.ZERO; extension = g.EF.Operations.ops; embed = g.EF.ExtensionField.embed; same = g.EF.PartialEq.eq }
 
+pub open_inputs-requires-clause-below : goal.open_inputs-requires-clause-below
+open_inputs-requires-clause-below g c =
+    subst (All (λ q. q < 2 ^ c.args.words.log_max_height)) (sym c.deref.ensures.value) c.requires.below
+
+pub open_siblings-requires-clause-below : goal.open_siblings-requires-clause-below
+open_siblings-requires-clause-below g c =
+    subst (All (λ q. q < 2 ^ c.args.words.log_max_height)) (sym c.deref-3.ensures.value) c.requires.below
+
 pub open_siblings-requires-clause-bits : goal.open_siblings-requires-clause-bits
 open_siblings-requires-clause-bits g c =
     let known = c.requires.words in
