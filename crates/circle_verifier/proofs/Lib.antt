@@ -18,6 +18,7 @@ pub mod RoundsValues
 pub mod RoundsWaiting
 pub mod Rows
 pub mod Seeding
+pub mod ShapeTests
 pub mod Sizes
 pub mod Twiddles
 pub mod Verified
