@@ -82,6 +82,12 @@ bounds-word-len g c =
     (c.requires.enough c.loop-opening.opening-index opening c.loop-opening-test.true) in
     subst (λ n. n < length c.args.word.now.powers.now) (sym (c.len.ensures ∙ opening.values.ok.0)) enough
 
+pub mul-requires : goal.mul-requires
+mul-requires g c = g.met.EF.Field.can_mul_law c.loop-opening.after (slice_index_or c.args.word.now.powers.now c.len.result c.index-word-len.result)
+
+pub mul-after-requires : goal.mul-after-requires
+mul-after-requires g c = g.met.EF.Field.can_mul_law c.mul.result (slice_index_or c.args.word.now.powers.now c.len.result c.index-word-len.result)
+
 pub loop-opening-preserved : goal.loop-opening-preserved
 loop-opening-preserved g c =
     let l = g.EF.Operations.ops in
