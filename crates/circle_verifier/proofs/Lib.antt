@@ -4,6 +4,7 @@ pub mod Domains
 pub mod Finite
 pub mod FirstLayerPlaces
 pub mod FirstLayerRun
+pub mod FirstLayerTwiddles
 pub mod FirstLayerWords
 pub mod HeightTests
 pub mod LastWord

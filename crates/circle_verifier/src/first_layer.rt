@@ -1,8 +1,11 @@
 //! The first layer: the reduced words of all heights, which are folded by y.
-ghost use Rattle.std.specs.Prelude.{◌≡◌, ◌/◌, ◌<◌, ◌≤◌, [], Some, length, map, All};
+ghost use Rattle.std.specs.Prelude.{◌≡◌, ◌/◌, ◌^◌, ◌<◌, ◌≤◌, [], Some, length, map, All};
 ghost use Rattle.std.specs.Prelude.{OnOk, IfOk, IfErr, slice_get, slice_index_or};
 ghost use Rattle.std.specs.List.{flat_map};
 ghost use Rattle.circle_matrix.specs.Mmcs.{opened_rows};
+ghost use Rattle.circle_point.specs.Point.{coordinates};
+ghost use Rattle.circle_folding.specs.Chain.{first_layer_twiddle};
+ghost use Rattle.circle_folding.specs.Queries.{query_point};
 ghost use Rattle.circle_relation.specs.RunOf.{IsDrawn, IsOpened, heights_of, queried, joining_of};
 ghost use Rattle.circle_relation.specs.RunOf.{reduced_words, first_pairs, folded_words};
 ghost use Rattle.circle_relation.specs.RunOf.{HasFirstLayerOf, Refuses};
@@ -49,7 +52,7 @@ pub fn fold_first_layer<
     ensures folded { let k = ⟦<EF as OverCircle<Val>>⟧.fields in
         IfOk result (λ r. map joining_of r.1.items ≡ folded_words k run.now) }
 {
-    let inverses = inverse_first_twiddles(alloc, run, &words)?;
+    let inverses = inverse_first_twiddles(alloc, run.log_max_height, run.indices, &words)?;
     let mut later = inverses.as_slice();
     let mut rows = empty_rows(alloc, run.indices)?;
     let mut folded = Vec::with_capacity(alloc, words.len())?;
@@ -107,28 +110,29 @@ pub fn authenticate_first_layer<
 }
 
 // The inverses of the queries' twiddles in these words, word after word, by one inversion.
-fn inverse_first_twiddles<
-    Val: ComplexExtendable,
-    EF: ExtensionField<Val>,
-    InputMmcs: Mmcs<Val>,
-    FriMmcs: Mmcs<EF>,
->(
+fn inverse_first_twiddles<Val: ComplexExtendable, EF>(
     alloc: Global,
-    run: &OpenedRun<Val, EF, InputMmcs, FriMmcs>,
+    log_max_height: usize,
+    indices: &[usize],
     words: &[QueriedWord<Val, EF>],
 ) -> Result<Vec<Val>, AllocError>
-    requires drawn { IsDrawn ⟦<EF as OverCircle<Val>>⟧.fields run.now }
-    requires opened { IsOpened ⟦<EF as OverCircle<Val>>⟧.fields run.now }
-    requires words { let k = ⟦<EF as OverCircle<Val>>⟧.fields in
-        map queried words.now ≡ reduced_words k run.now }
-    ensures { let k = ⟦<EF as OverCircle<Val>>⟧.fields in
-        IfOk result (λ r. r.items
-        ≡ map Val.ops.inv (flat_map (twiddles_of k run.now) (heights_of k run.now))) }
+    requires in_group { log_max_height < Val.CIRCLE_TWO_ADICITY }
+    requires below { All (λ q. q < 2 ^ log_max_height) indices.now }
+    requires heights { All (λ w. (1 ≤ w.log_height) × (w.log_height ≤ log_max_height)) words.now }
+    requires points { All (λ w. map coordinates w.points.items ≡ map (query_point Val.ops
+        Val.generators w.log_height log_max_height) indices.now) words.now }
+    ensures { IfOk result (λ r. r.items ≡ map Val.ops.inv (flat_map (λ w. map (first_layer_twiddle
+        Val.ops Val.generators w.log_height log_max_height) indices.now) words.now)) }
 {
-    let (top, indices) = (run.log_max_height, run.indices);
     let mut twiddles = Vec::with_capacity(alloc, words.len().saturating_mul(indices.len()))?;
     for word in words {
-        let of_word = first_layer_twiddles(alloc, word.log_height, top, indices, &word.points)?;
+        let of_word = first_layer_twiddles(
+            alloc,
+            word.log_height,
+            log_max_height,
+            indices,
+            &word.points,
+        )?;
         twiddles.extend_from_slice(&of_word)?;
     }
     batch_multiplicative_inverse(alloc, &twiddles)

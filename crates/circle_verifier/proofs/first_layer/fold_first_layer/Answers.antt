@@ -1,16 +1,20 @@
-use Rattle.std.proofs.Common.{◌≡◌, ◌+◌, ◌++◌, [], ◌∷◌, ◌∙◌, List, Vec, Global, sym, ap, length, map, take, drop, arith}
+use Rattle.std.proofs.Common.{◌≡◌, ◌≤◌, ◌+◌, ◌++◌, [], ◌∷◌, ◌∙◌, List, Vec, Global, sym, ap, subst, length, map, take, drop, arith}
+use Rattle.std.specs.Prelude.{All}
 use Rattle.std.specs.List.{flat_map}
 use Rattle.std.proofs.lemmas.List.{length_push, map-append, length-map}
 use Rattle.std.proofs.lemmas.Iterator.Adapters.{YieldsList-from_vec}
 use Rattle.std.proofs.lemmas.Iterator.Consumers.{YieldsList-turn, YieldsList-end}
 use Rattle.std.proofs.lemmas.Result.{IfOk-from_err}
 use Rattle.circle_field.proofs.Inverses.{take-whole}
+use Rattle.circle_point.specs.Point.{coordinates}
 use Rattle.circle_matrix.specs.Mmcs.{opened_rows}
+use Rattle.circle_folding.specs.Queries.{query_point}
 use Rattle.circle_relation.specs.Accepts.{Fields}
 use Rattle.circle_relation.specs.RunOf.{heights_of, folded_words, joining_of, queried}
 use Rattle.circle_verifier.specs.FirstLayer.{twiddles_of}
 use Rattle.circle_verifier.specs.Sums.{word_at}
 use Rattle.circle_verifier.proofs.FirstLayerRun.{IsClaimed, pairs_up_to, all_reduced, word-of, place-of, none-yet, count-rows, pairs-all, folded-all, folded-more, pairs-more, next-inverses}
+use Rattle.circle_verifier.proofs.FirstLayerTwiddles.{heights-fit, points-fit, twiddles-are}
 use Rattle.circle_verifier.proofs.first_layer.fold_first_layer.Given as given
 use Rattle.circle_verifier.proofs.first_layer.fold_first_layer.Goals as goal
 use Rattle.circle_verifier.proofs.first_layer.fold_first_layer.Goals.{In-Some}
@@ -28,14 +32,23 @@ word-here g c =
     let t = YieldsList-turn all c.loop-word.yielded _ c.loop-word.yielded_by _ c.next.new.self c.in-Some.word c.in-Some.is c.next.ensures.steps in
     word-of reduced (length c.loop-word.yielded) c.in-Some.word t.0 t.1
 
-pub inverse_first_twiddles-requires-clause-drawn : goal.inverse_first_twiddles-requires-clause-drawn
-inverse_first_twiddles-requires-clause-drawn g c = c.requires.drawn
+pub inverse_first_twiddles-requires-clause-in_group : goal.inverse_first_twiddles-requires-clause-in_group
+inverse_first_twiddles-requires-clause-in_group g c = c.requires.drawn.in_group
 
-pub inverse_first_twiddles-requires-clause-opened : goal.inverse_first_twiddles-requires-clause-opened
-inverse_first_twiddles-requires-clause-opened g c = c.requires.opened
+pub inverse_first_twiddles-requires-clause-below : goal.inverse_first_twiddles-requires-clause-below
+inverse_first_twiddles-requires-clause-below g c = c.requires.drawn.below
 
-pub inverse_first_twiddles-requires-clause-words : goal.inverse_first_twiddles-requires-clause-words
-inverse_first_twiddles-requires-clause-words g c = ap (map queried) c.deref.ensures.value ∙ c.requires.words
+pub inverse_first_twiddles-requires-clause-heights : goal.inverse_first_twiddles-requires-clause-heights
+inverse_first_twiddles-requires-clause-heights g c =
+    let reduced = all_reduced c.requires.drawn c.requires.opened c.args.words.items c.requires.words in
+    subst (λ ws. All (λ w. (1 ≤ w.log_height) × (w.log_height ≤ c.args.run.now.log_max_height)) ws) (sym c.deref.ensures.value) (heights-fit reduced)
+
+pub inverse_first_twiddles-requires-clause-points : goal.inverse_first_twiddles-requires-clause-points
+inverse_first_twiddles-requires-clause-points g c =
+    let k = fields g in
+    let run = c.args.run.now in
+    let reduced = all_reduced c.requires.drawn c.requires.opened c.args.words.items c.requires.words in
+    subst (λ ws. All (λ w. map coordinates w.points.items ≡ map (query_point k.field k.gen w.log_height run.log_max_height) run.indices.now) ws) (sym c.deref.ensures.value) (points-fit reduced)
 
 pub returns-in_err-inverses-clause-pairs : goal.returns-in_err-inverses-clause-pairs
 returns-in_err-inverses-clause-pairs g c = IfOk-from_err c.from_residual.result _ c.from_residual.ensures.0
@@ -57,12 +70,17 @@ returns-in_err-folded-clause-folded g c = IfOk-from_err c.from_residual-in_err-f
 
 pub loop-word-init : goal.loop-word-init
 loop-word-init g c =
+    let k = fields g in
+    let run = c.args.run.now in
     let reduced = all_reduced c.requires.drawn c.requires.opened c.args.words.items c.requires.words in
     record {
       count = c.in_ok-folded.ensures.len;
       folded = ap (map joining_of) c.in_ok-folded.ensures.items;
       pairs = none-yet reduced c.in_ok-rows.ensures;
-      later = c.as_slice-later.ensures.value ∙ c.in_ok-inverses.ensures;
+      later =
+          c.as_slice-later.ensures.value ∙ c.in_ok-inverses.ensures
+          ∙ ap (λ ws. map k.field.inv (flat_map (λ w. twiddles_of k run w.log_height) ws)) c.deref.ensures.value
+          ∙ ap (map k.field.inv) (twiddles-are reduced);
     }
 
 pub split_at-requires : goal.split_at-requires
