@@ -6,7 +6,7 @@ use anyhow::Result;
 use std::alloc::Global;
 
 /// The names of the calls.
-pub const NAMES: [&str; 23] = [
+pub const NAMES: &[&str] = &[
     "powers",
     "batch_multiplicative_inverse",
     "circle_basis",
@@ -33,42 +33,36 @@ pub const NAMES: [&str; 23] = [
 ];
 
 /// What is told of the call with this name, or none where there is no such call.
-pub fn told_of(alloc: Global, stage: Stage, name: &str) -> Result<Option<Told>> {
-    let told = match name {
-        "powers" => plane::powers(alloc, stage)?,
-        "batch_multiplicative_inverse" => plane::inverses(alloc, stage)?,
-        "circle_basis" => plane::basis(alloc, stage)?,
-        "interpolate" => plane::interpolate(alloc, stage, Domain::standard(3))?,
-        "evaluate" => plane::evaluate(alloc, stage, Domain::standard(3))?,
-        "extrapolate" => plane::extrapolate(
-            alloc,
-            stage,
-            Domain::standard(2),
-            Domain::standard(3),
-        )?,
-        "evaluate_at_point" => plane::evaluate_at_point(alloc, stage)?,
+pub fn told_of(alloc: Global, stage: Stage, name: &str) -> Option<Result<Told>> {
+    Some(match name {
+        "powers" => plane::powers(alloc, stage),
+        "batch_multiplicative_inverse" => plane::inverses(alloc, stage),
+        "circle_basis" => plane::basis(alloc, stage),
+        "interpolate" => plane::interpolate(alloc, stage, Domain::standard(3)),
+        "evaluate" => plane::evaluate(alloc, stage, Domain::standard(3)),
+        "extrapolate" => plane::extrapolate(alloc, stage, Domain::standard(2), Domain::standard(3)),
+        "evaluate_at_point" => plane::evaluate_at_point(alloc, stage),
         "selectors_on_coset" => plane::selectors(
             alloc,
             stage,
             Domain::standard(2),
             Domain::standard(3),
-        )?,
-        "split_evals" => plane::split_evals(alloc, stage)?,
-        "eval_on_lde" => plane::eval_on_lde(alloc, stage)?,
-        "extract_lambda" => words::lambda(alloc, stage, 3)?,
-        "fold_y" => words::by_y(alloc, stage, 3)?,
-        "fold_x" => words::by_x(alloc, stage, 3)?,
-        "transcript" => transcript::transcript(alloc, stage)?,
-        "has_seed_of" => transcript::has_seed_of(alloc, stage)?,
-        "prover_run" => transcript::run(alloc, stage)?,
-        "from_json" => json::elements(alloc, stage)?,
-        "verify_multi_batch" => trees::verdict(alloc, stage)?,
-        "commit" => scheme::commit(alloc, stage)?,
-        "open" => scheme::open(alloc, stage)?,
-        "verify" => scheme::verify(alloc, stage)?,
-        "round_trip" => scheme::round_trip(alloc, stage)?,
-        "without_memory" => quiet::without_memory(alloc, stage)?,
-        _ => return Ok(None),
-    };
-    Ok(Some(told))
+        ),
+        "split_evals" => plane::split_evals(alloc, stage),
+        "eval_on_lde" => plane::eval_on_lde(alloc, stage),
+        "extract_lambda" => words::lambda(alloc, stage, 3),
+        "fold_y" => words::by_y(alloc, stage, 3),
+        "fold_x" => words::by_x(alloc, stage, 3),
+        "transcript" => transcript::transcript(alloc, stage),
+        "has_seed_of" => transcript::has_seed_of(alloc, stage),
+        "prover_run" => transcript::run(alloc, stage),
+        "from_json" => json::elements(alloc, stage),
+        "verify_multi_batch" => trees::verdict(alloc, stage),
+        "commit" => scheme::commit(alloc, stage),
+        "open" => scheme::open(alloc, stage),
+        "verify" => scheme::verify(alloc, stage),
+        "round_trip" => scheme::round_trip(alloc, stage),
+        "without_memory" => quiet::without_memory(alloc, stage),
+        _ => return None,
+    })
 }

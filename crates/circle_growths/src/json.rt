@@ -1,6 +1,6 @@
 //! A call on JSON.
 use crate::plane::cubic;
-use crate::told::{Stage, Told, before, digest, told};
+use crate::told::{Stage, Told, before, told_elements};
 use anyhow::Result;
 use circle_commit::JsonForm;
 use circle_field::Cubic;
@@ -13,6 +13,5 @@ pub fn elements(alloc: Global, stage: Stage) -> Result<Told> {
     if stage == Stage::Before {
         return Ok(before());
     }
-    let read = Vec::<Cubic>::from_json(alloc, &value);
-    Ok(told(read.map(|elements| digest(&elements))))
+    Ok(told_elements(Vec::<Cubic>::from_json(alloc, &value)))
 }

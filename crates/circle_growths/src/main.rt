@@ -37,10 +37,10 @@ fn stage(word: &str) -> Option<Stage> {
 
 // Prints the line of a call, and says whether there is such a call.
 fn report(rt: &HostRuntime, stage: Stage, name: &str) -> Result<bool> {
-    let Some(told) = told_of(rt.alloc(), stage, name)? else {
+    let Some(told) = told_of(rt.alloc(), stage, name) else {
         return Ok(false);
     };
-    println!(rt; "{name}: {}", told.as_str())?;
+    println!(rt; "{name}: {}", told?.as_str())?;
     Ok(true)
 }
 
@@ -56,15 +56,20 @@ fn report_all(rt: &HostRuntime, are_made: bool) -> Result<()> {
     Ok(())
 }
 
+// Prints what the arguments ask for.
+fn report_asked(rt: &HostRuntime, word: &str, name: Option<&str>) -> Result<()> {
+    if let (Some(stage), Some(name)) = (stage(word), name) {
+        if report(rt, stage, name)? {
+            return Ok(());
+        }
+    }
+    report_all(rt, word == "all" && name.is_none())
+}
+
 fn main(rt: HostRuntime) -> Result<()> {
     let mut args = env::args(&rt)?.skip(1);
     let (Some(word), name) = (args.next(), args.next()) else {
         return report_all(&rt, false);
     };
-    if let (Some(stage), Some(name)) = (stage(word.as_str()), &name) {
-        if report(&rt, stage, name.as_str())? {
-            return Ok(());
-        }
-    }
-    report_all(&rt, word.as_str() == "all" && name.is_none())
+    report_asked(&rt, word.as_str(), name.as_deref())
 }

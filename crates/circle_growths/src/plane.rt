@@ -1,15 +1,16 @@
 //! Calls on elements, on domains and on values there.
-ghost use Rattle.std.specs.Prelude.{◌≤◌, IsTrue, All};
+ghost use Rattle.std.specs.Prelude.{◌≡◌, ◌≤◌, ◌^◌, IsTrue, IfOk, All};
 ghost use Rattle.circle_domain.specs.Clear.{IsClearOf};
-ghost use Rattle.circle_domain.specs.Domain.{log_size, points_of};
+ghost use Rattle.circle_domain.specs.Domain.{IsGenuineDomain, log_size, points_of};
 
-use crate::told::{Stage, Told, before, digest, told, with_number};
+use crate::told::{Stage, Told, before, digest, told, told_elements, with_number};
 use anyhow::{Result, bail};
 use circle_commit::{
     Matrix, PeriodicEvaluator, PeriodicLdeTable, PolynomialSpace, RowMajorMatrix, is_power_of_two,
 };
 use circle_field::{
-    ComplexExtendable, Cubic, ExtensionField, Field, Mersenne31, batch_multiplicative_inverse,
+    ComplexExtendable, Cubic, ExtensionField, Field, Mersenne31, Operations,
+    batch_multiplicative_inverse,
 };
 use p3_circle::{CircleDomain, CircleEvaluations, CirclePeriodicEvaluator, Point, circle_basis};
 use std::alloc::{AllocError, Global};
@@ -41,7 +42,7 @@ pub fn powers(alloc: Global, stage: Stage) -> Result<Told> {
         return Ok(before());
     }
     let base = Mersenne31::from_u64(3);
-    Ok(told(Mersenne31::powers(alloc, base, 8).map(|powers| digest(&powers))))
+    Ok(told_elements(Mersenne31::powers(alloc, base, 8)))
 }
 
 /// `batch_multiplicative_inverse`.
@@ -53,8 +54,7 @@ pub fn inverses(alloc: Global, stage: Stage) -> Result<Told> {
     if stage == Stage::Before {
         return Ok(before());
     }
-    let inverses = batch_multiplicative_inverse(alloc, &[one, two, five]);
-    Ok(told(inverses.map(|inverses| digest(&inverses))))
+    Ok(told_elements(batch_multiplicative_inverse(alloc, &[one, two, five])))
 }
 
 /// `circle_basis`.
@@ -63,23 +63,49 @@ pub fn basis(alloc: Global, stage: Stage) -> Result<Told> {
     if stage == Stage::Before {
         return Ok(before());
     }
-    Ok(told(circle_basis(alloc, point, 3).map(|basis| digest(&basis))))
+    Ok(told_elements(circle_basis(alloc, point, 3)))
 }
 
-/// `CircleEvaluations::interpolate` of a column on this domain.
-pub fn interpolate(alloc: Global, stage: Stage, domain: Domain) -> Result<Told> {
-    let rows = column(alloc, 8)?;
-    if domain.log_n() == 0 || domain.log_n() > 31 || !domain.is_genuine() {
+// Whether a domain is genuine, and in the group.
+fn is_genuine<F: ComplexExtendable>(domain: CircleDomain<F>) -> bool
+    ensures positive { IsTrue result → 1 ≤ log_size domain }
+    ensures in_group { IsTrue result → log_size domain ≤ F.CIRCLE_TWO_ADICITY }
+    ensures genuine { IsTrue result → IsGenuineDomain F.ops domain }
+{
+    domain.log_n() != 0 && domain.log_n() <= F::CIRCLE_TWO_ADICITY && domain.is_genuine()
+}
+
+// The column of this height, with a row for each point of a domain that is genuine.
+fn column_on(alloc: Global, domain: Domain, height: u64) -> Result<Rows>
+    ensures height { IfOk result (λ rows.
+        ⟦<Rows as Matrix<Mersenne31>>⟧.height rows ≡ 2 ^ log_size domain) }
+    ensures positive { IfOk result (λ _. 1 ≤ log_size domain) }
+    ensures in_group { IfOk result (λ _. log_size domain ≤ 31) }
+    ensures genuine { IfOk result (λ _. IsGenuineDomain ⟦<Mersenne31 as Operations>⟧.ops domain) }
+{
+    let rows = column(alloc, height)?;
+    if !is_genuine(domain) {
         bail!("the domain is not genuine");
     }
     if rows.height() != domain.size() {
         bail!("there is not one row for each point");
     }
+    Ok(rows)
+}
+
+/// `CircleEvaluations::interpolate` of a column on this domain.
+pub fn interpolate(alloc: Global, stage: Stage, domain: Domain) -> Result<Told> {
+    let rows = column_on(alloc, domain, 8)?;
     if stage == Stage::Before {
         return Ok(before());
     }
     let coefficients = CircleEvaluations::from_natural_order(domain, rows).interpolate(alloc);
     Ok(told(coefficients.map(|rows| digest(rows.values()))))
+}
+
+// What is told of values on a domain.
+fn told_values(values: Result<CircleEvaluations<Mersenne31, Rows>, AllocError>) -> Told {
+    told(values.map(|values| digest(values.to_cfft_order().values())))
 }
 
 /// `CircleEvaluations::evaluate` on this domain.
@@ -95,27 +121,20 @@ pub fn evaluate(alloc: Global, stage: Stage, domain: Domain) -> Result<Told> {
     if stage == Stage::Before {
         return Ok(before());
     }
-    let values = CircleEvaluations::evaluate(alloc, domain, coefficients);
-    Ok(told(values.map(|values| digest(values.to_cfft_order().values()))))
+    Ok(told_values(CircleEvaluations::evaluate(alloc, domain, coefficients)))
 }
 
 /// `CircleEvaluations::extrapolate` of a column on this domain to another.
 pub fn extrapolate(alloc: Global, stage: Stage, domain: Domain, target: Domain) -> Result<Told> {
-    let rows = column(alloc, 4)?;
-    if domain.log_n() == 0 || domain.log_n() > 31 || !domain.is_genuine() {
-        bail!("the domain is not genuine");
-    }
-    if rows.height() != domain.size() {
-        bail!("there is not one row for each point");
-    }
+    let rows = column_on(alloc, domain, 4)?;
     if domain.log_n() > target.log_n() || target.log_n() > 31 {
         bail!("the target is smaller, or past the group");
     }
     if stage == Stage::Before {
         return Ok(before());
     }
-    let values = CircleEvaluations::from_natural_order(domain, rows).extrapolate(alloc, target);
-    Ok(told(values.map(|values| digest(values.to_cfft_order().values()))))
+    let values = CircleEvaluations::from_natural_order(domain, rows);
+    Ok(told_values(values.extrapolate(alloc, target)))
 }
 
 /// `CircleEvaluations::evaluate_at_point`.
@@ -133,18 +152,15 @@ fn value_at<EF: ExtensionField<Mersenne31>>(
     domain: Domain,
     at: Point<EF>,
 ) -> Result<Told> {
-    let rows = column(alloc, 8)?;
-    if domain.log_n() == 0 || domain.log_n() > 31 || !domain.is_genuine() {
-        bail!("the domain is not genuine");
-    }
-    if !domain.is_clear_of(at) || rows.height() != domain.size() {
-        bail!("the domain is not clear of the point, or there is not one row for each point");
+    let rows = column_on(alloc, domain, 8)?;
+    if !domain.is_clear_of(at) {
+        bail!("the domain is not clear of the point");
     }
     if stage == Stage::Before {
         return Ok(before());
     }
-    let values = CircleEvaluations::from_natural_order(domain, rows).evaluate_at_point(alloc, at);
-    Ok(told(values.map(|values| digest(&values))))
+    let values = CircleEvaluations::from_natural_order(domain, rows);
+    Ok(told_elements(values.evaluate_at_point(alloc, at)))
 }
 
 // Whether each point of a coset is clear of a domain.
@@ -166,7 +182,7 @@ fn is_clear_of_each<F: ComplexExtendable>(domain: CircleDomain<F>, coset: Circle
 
 /// `PolynomialSpace::selectors_on_coset` of these domains.
 pub fn selectors(alloc: Global, stage: Stage, domain: Domain, coset: Domain) -> Result<Told> {
-    if domain.log_n() == 0 || domain.log_n() > 31 || !domain.is_genuine() {
+    if !is_genuine(domain) {
         bail!("the domain is not genuine");
     }
     if coset.log_n() == 0 || coset.log_n() > 31 || !is_clear_of_each(domain, coset) {

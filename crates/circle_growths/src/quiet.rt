@@ -1,5 +1,5 @@
 //! Calls that take no memory.
-use crate::plane::{Domain, column, cubic};
+use crate::plane::{Domain, Rows, column, cubic};
 use crate::scheme::committed;
 use crate::told::{Stage, Told, before, digest};
 use anyhow::{Result, bail};
@@ -22,7 +22,9 @@ fn of_points() -> [usize; 3] {
 }
 
 // Elements that calls on words come to, the inverse of an element first.
-fn of_words(one: Cubic, zeta: Point<Cubic>) -> Option<[Cubic; 4]> {
+fn of_words() -> Option<[Cubic; 4]> {
+    let one = cubic([2, 7, 1]);
+    let zeta = Point::from_projective_line(cubic([0, 1, 0]))?;
     let row = [Mersenne31::ONE; 2];
     let values = [one; 2];
     let point = Point::<Mersenne31>::generator(4);
@@ -34,29 +36,30 @@ fn of_words(one: Cubic, zeta: Point<Cubic>) -> Option<[Cubic; 4]> {
     ])
 }
 
+// The heights of the parts that a column is split into.
+fn of_parts(rows: &Rows) -> Result<[usize; 2]> {
+    if rows.height() < 2 {
+        bail!("there are too few rows");
+    }
+    let (first, others) = rows.split_rows(2);
+    Ok([first.height(), others.height()])
+}
+
 /// The calls that take no memory, where all their answers are values.
 pub fn without_memory(alloc: Global, stage: Stage) -> Result<Told> {
     let (_, data) = committed(alloc)?;
     let rows = column(alloc, 4)?;
-    let Some(zeta) = Point::from_projective_line(cubic([0, 1, 0])) else {
-        bail!("the point is at infinity");
-    };
-    if rows.height() < 2 {
-        bail!("there are too few rows");
-    }
     if stage == Stage::Before {
         return Ok(before());
     }
-    let Some(of_words) = of_words(cubic([2, 7, 1]), zeta) else {
+    let Some(words) = of_words() else {
         bail!("a value is none");
     };
-    let (first, others) = rows.split_rows(2);
+    let [first, others] = of_parts(&rows)?;
     let matrices = ShaMmcs::<Mersenne31>::new().get_matrices(&data).len();
     Ok(Told::of(format_args!(
-        "Ok {:?} {} {} {} {matrices}",
+        "Ok {:?} {} {first} {others} {matrices}",
         of_points(),
-        digest(&of_words),
-        first.height(),
-        others.height()
+        digest(&words)
     )))
 }

@@ -29,6 +29,18 @@ pub fn told<T: Display + Drop, E: Display + Drop>(answer: Result<T, E>) -> Told 
     }
 }
 
+/// What is told of an answer of elements.
+pub fn told_elements<F: ExtensionField<Mersenne31>, E: Display + Drop>(
+    answer: Result<Vec<F>, E>,
+) -> Told {
+    told(answer.map(|elements| digest(&elements)))
+}
+
+/// What is told of a verdict.
+pub fn told_verdict<E: Display + Drop>(verdict: Result<(), E>) -> Told {
+    told(verdict.map(|()| "accepted"))
+}
+
 /// A number that the coefficients of elements come to, in order.
 pub fn digest<F: ExtensionField<Mersenne31>>(elements: &[F]) -> u32 {
     let mut sum = 0;

@@ -1,5 +1,5 @@
 //! Calls on a transcript and its shape.
-ghost use Rattle.std.specs.Prelude.{◌≡◌, [], ◌∷◌, IfOk};
+ghost use Rattle.std.specs.Prelude.{◌≡◌, ◌≤◌, [], ◌∷◌, IfOk};
 ghost use Rattle.circle_transcript.specs.Shape.{claimed_widths};
 ghost use Rattle.circle_transcript.specs.ShapeOf.{shape_of};
 
@@ -45,27 +45,32 @@ fn drawn(challenger: &mut Sha256Challenger) -> u32 {
     drawn.value()
 }
 
+// Begins a transcript of this shape, and aborts it.
+fn begin(
+    alloc: Global,
+    challenger: &mut Sha256Challenger,
+    shape: CirclePcsShape,
+) -> Result<&'static str, AllocError>
+    requires final_poly { shape.log_final_poly_len ≤ 63 }
+{
+    let begun = CircleProverTranscript::<Sha256Challenger, Mersenne31, Cubic>::new(
+        alloc, challenger, shape,
+    )?;
+    begun.abort();
+    Ok("begun")
+}
+
 /// `CircleTranscript::new`, with what its challenger draws afterwards.
 pub fn transcript(alloc: Global, stage: Stage) -> Result<Told> {
     let shape = shape(alloc)?;
     let mut challenger = Sha256Challenger::new();
-    if stage == Stage::Before {
-        return Ok(Told::of(format_args!("before, draws {}", drawn(&mut challenger))));
-    }
-    let begun = CircleProverTranscript::<Sha256Challenger, Mersenne31, Cubic>::new(
-        alloc,
-        &mut challenger,
-        shape,
-    );
-    let answer = match begun {
-        Ok(transcript) => {
-            transcript.abort();
-            Ok("begun")
-        }
-        Err(refused) => Err(refused),
+    let answer = if stage == Stage::Before {
+        before()
+    } else {
+        told(begin(alloc, &mut challenger, shape))
     };
     let next = drawn(&mut challenger);
-    Ok(Told::of(format_args!("{}, draws {next}", told(answer).as_str())))
+    Ok(Told::of(format_args!("{}, draws {next}", answer.as_str())))
 }
 
 /// `CirclePcsShape::has_seed_of`.

@@ -1,6 +1,8 @@
 //! Calls on words.
+ghost use Rattle.std.specs.Prelude.{◌≡◌, ◌≤◌, ◌^◌, IfOk};
+
 use crate::plane::cubic;
-use crate::told::{Stage, Told, before, digest, told};
+use crate::told::{Stage, Told, before, digest, told, told_elements};
 use anyhow::{Result, bail};
 use circle_commit::{Matrix, RowMajorMatrix};
 use circle_field::{Cubic, Mersenne31};
@@ -18,50 +20,54 @@ pub fn lambda(alloc: Global, stage: Stage, log_size: usize) -> Result<Told> {
     if log_size < 2 || log_size > 8 || word.len() != 1 << log_size {
         bail!("the length is none for the blowup");
     }
-    if stage == Stage::Before {
-        return Ok(Told::of(format_args!("before, left {}", digest(&word))));
-    }
-    let lambda = extract_lambda::<Mersenne31, Cubic>(alloc, &mut word, 1);
-    let answer = told(lambda.map(|lambda| digest(&[lambda])));
+    let answer = if stage == Stage::Before {
+        before()
+    } else {
+        let lambda = extract_lambda::<Mersenne31, Cubic>(alloc, &mut word, 1);
+        told(lambda.map(|lambda| digest(&[lambda])))
+    };
     Ok(Told::of(format_args!("{}, left {}", answer.as_str(), digest(&word))))
 }
 
-// So many rows of two.
-fn pairs(alloc: Global, count: u64) -> Result<RowMajorMatrix<Cubic>> {
-    if count > 8 {
-        bail!("there are too many rows");
-    }
-    let entries = word(alloc, 2 * count)?;
+// Words of two entries a row.
+type Pairs = RowMajorMatrix<Cubic>;
+
+// Rows of two, as many as this power of two.
+fn pairs(alloc: Global, log_height: usize) -> Result<Pairs>
+    ensures small { IfOk result (λ _. log_height ≤ 8) }
+    ensures width { IfOk result (λ rows. ⟦<Pairs as Matrix<Cubic>>⟧.width rows ≡ 2) }
+    ensures height { IfOk result (λ rows.
+        ⟦<Pairs as Matrix<Cubic>>⟧.height rows ≡ 2 ^ log_height) }
+{
+    let entries = word(alloc, 16)?;
     if entries.len() % 2 != 0 {
         bail!("the rows are no pairs");
     }
-    Ok(RowMajorMatrix::new(entries, 2))
+    let rows = RowMajorMatrix::new(entries, 2);
+    if log_height > 8 || rows.width() != 2 || rows.height() != 1 << log_height {
+        bail!("the rows are no pairs, or their number another power of two");
+    }
+    Ok(rows)
 }
 
 /// `fold_y`.
 pub fn by_y(alloc: Global, stage: Stage, log_height: usize) -> Result<Told> {
-    let rows = pairs(alloc, 8)?;
-    if log_height > 8 || rows.width() != 2 || rows.height() != 1 << log_height {
-        bail!("the rows are no pairs, or their number no power of two");
-    }
+    let rows = pairs(alloc, log_height)?;
     let beta = cubic([3, 1, 4]);
     if stage == Stage::Before {
         return Ok(before());
     }
-    let folded = fold_y::<Mersenne31, Cubic, RowMajorMatrix<Cubic>>(alloc, beta, &rows);
-    Ok(told(folded.map(|folded| digest(&folded))))
+    let folded = fold_y::<Mersenne31, Cubic, Pairs>(alloc, beta, &rows);
+    Ok(told_elements(folded))
 }
 
 /// `fold_x`.
 pub fn by_x(alloc: Global, stage: Stage, log_height: usize) -> Result<Told> {
-    let rows = pairs(alloc, 8)?;
-    if log_height > 8 || rows.width() != 2 || rows.height() != 1 << log_height {
-        bail!("the rows are no pairs, or their number no power of two");
-    }
+    let rows = pairs(alloc, log_height)?;
     let beta = cubic([3, 1, 4]);
     if stage == Stage::Before {
         return Ok(before());
     }
-    let folded = fold_x::<Mersenne31, Cubic, RowMajorMatrix<Cubic>>(alloc, beta, 1, &rows);
-    Ok(told(folded.map(|folded| digest(&folded))))
+    let folded = fold_x::<Mersenne31, Cubic, Pairs>(alloc, beta, 1, &rows);
+    Ok(told_elements(folded))
 }
