@@ -1,17 +1,26 @@
 //! Calls that take no memory.
+ghost use Rattle.std.specs.Prelude.{◌≤◌, ◌<◌, ◌^◌};
+ghost use Rattle.circle_domain.specs.Domain.{log_size};
+
 use crate::plane::{Domain, Rows, column, cubic};
 use crate::scheme::committed;
 use crate::told::{Stage, Told, before, digest};
 use anyhow::{Result, bail};
 use circle_commit::{Matrix, Mmcs};
-use circle_field::{Cubic, Field, Mersenne31};
+use circle_field::{ComplexExtendable, Cubic, Field, Mersenne31};
 use circle_merkle::ShaMmcs;
-use p3_circle::{Point, cfft_permute_index, deep_quotient_reduce_row, fold_x_row, x_value};
+use circle_presets::ProverData;
+use p3_circle::{
+    CircleDomain, Point, cfft_permute_index, deep_quotient_reduce_row, fold_x_row, x_value,
+};
 use std::alloc::Global;
 
-// Numbers that calls on points and domains come to.
-fn of_points() -> [usize; 3] {
-    let domain = Domain::standard(4);
+// Numbers that calls on points of a domain come to.
+fn of_points<F: ComplexExtendable>(domain: CircleDomain<F>) -> [usize; 3]
+    requires positive { 1 ≤ log_size domain }
+    requires in_group { log_size domain ≤ F.CIRCLE_TWO_ADICITY }
+    requires has_point { 3 < 2 ^ log_size domain }
+{
     let point = domain.nth_point(3);
     let sum = point + point - -point;
     [
@@ -45,6 +54,20 @@ fn of_parts(rows: &Rows) -> Result<[usize; 2]> {
     Ok([first.height(), others.height()])
 }
 
+// What is told of the calls' values.
+fn told_of_all(data: &ProverData, rows: &Rows) -> Result<Told> {
+    let Some(words) = of_words() else {
+        bail!("a value is none");
+    };
+    let [first, others] = of_parts(rows)?;
+    let matrices = ShaMmcs::<Mersenne31>::new().get_matrices(data).len();
+    Ok(Told::of(format_args!(
+        "Ok {:?} {} {first} {others} {matrices}",
+        of_points(Domain::standard(4)),
+        digest(&words)
+    )))
+}
+
 /// The calls that take no memory, where all their answers are values.
 pub fn without_memory(alloc: Global, stage: Stage) -> Result<Told> {
     let (_, data) = committed(alloc)?;
@@ -52,14 +75,5 @@ pub fn without_memory(alloc: Global, stage: Stage) -> Result<Told> {
     if stage == Stage::Before {
         return Ok(before());
     }
-    let Some(words) = of_words() else {
-        bail!("a value is none");
-    };
-    let [first, others] = of_parts(&rows)?;
-    let matrices = ShaMmcs::<Mersenne31>::new().get_matrices(&data).len();
-    Ok(Told::of(format_args!(
-        "Ok {:?} {} {first} {others} {matrices}",
-        of_points(),
-        digest(&words)
-    )))
+    told_of_all(&data, &rows)
 }

@@ -5,7 +5,7 @@ use anyhow::{Result, bail};
 use circle_commit::{Dimensions, Matrix, Mmcs, OpenedRows, are_below, heights_are_powers_of_two};
 use circle_field::Mersenne31;
 use circle_merkle::ShaMmcs;
-use circle_presets::Commitment;
+use circle_presets::{Commitment, ProverData};
 use std::alloc::Global;
 
 // The proof of opened rows.
@@ -14,16 +14,21 @@ type MultiProof = <ShaMmcs<Mersenne31> as Mmcs<Mersenne31>>::MultiProof;
 /// The rows of the column that are opened.
 const INDICES: [usize; 3] = [7, 2, 7];
 
+// The commitment to a column, and what its committer keeps.
+fn committed(alloc: Global, trees: &ShaMmcs<Mersenne31>) -> Result<(Commitment, ProverData)> {
+    let matrices = vec![in alloc; column(alloc, 8)?]?;
+    if matrices.is_empty() || !heights_are_powers_of_two(&matrices) {
+        bail!("a height is no power of two");
+    }
+    Ok(trees.commit(alloc, matrices)?)
+}
+
 // The commitment to a column, and its rows at the indices with their proof.
 fn opened(
     alloc: Global,
     trees: &ShaMmcs<Mersenne31>,
 ) -> Result<(Commitment, (OpenedRows<Mersenne31>, MultiProof))> {
-    let matrices = vec![in alloc; column(alloc, 8)?]?;
-    if matrices.is_empty() || !heights_are_powers_of_two(&matrices) {
-        bail!("a height is no power of two");
-    }
-    let (commitment, data) = trees.commit(alloc, matrices)?;
+    let (commitment, data) = committed(alloc, trees)?;
     if !are_below(&INDICES, trees.get_max_height(&data)) {
         bail!("there is no such row");
     }
