@@ -1,20 +1,14 @@
 //! Calls of the scheme, on one batch of a column of 4 rows and one of 16, each opened at two
 //! points.
-ghost use Rattle.std.specs.Prelude.{◌≡◌, IfOk, vec_len};
-ghost use Rattle.p3_circle.specs.Committing.{HaveRowsForPoints};
-ghost use Rattle.p3_circle.specs.Scheme.{HaveCommittedHeights};
-
 use crate::plane::{Domain, Rows, column, cubic};
-use crate::told::{Stage, Told, before, told, told_verdict};
+use crate::told::{Stage, Told, before, told};
 use anyhow::{Result, bail};
 use circle_challenger::{CanObserve, CanSample, Sha256Challenger};
-use circle_commit::{FriParameters, JsonForm, Mmcs, OpenedValues, OpeningRequest};
+use circle_commit::{FriParameters, JsonForm, OpenedValues, OpeningRequest};
 use circle_field::{Cubic, Mersenne31};
-use circle_presets::{Claim, Commitment, Known, Proof, ProverData, Request, Scheme, ValMmcs};
+use circle_presets::{Claim, Commitment, Known, Proof, ProverData, Scheme};
 use p3_circle::{BatchAtPoints, ProverError, claims_of, heights_match_domains};
 use std::alloc::{AllocError, Global};
-
-type Evaluations = Vec<(Domain, Rows)>;
 
 type Opened = (OpenedValues<Cubic>, Proof);
 
@@ -49,30 +43,10 @@ fn domains() -> [Domain; 2] {
     [Domain::standard(2), Domain::standard(4)]
 }
 
-// The points that each of two matrices is opened at.
-fn points_of_each(alloc: Global) -> Result<Vec<Vec<Cubic>>, AllocError> {
-    let points = points();
-    Ok(vec![in alloc;
-        Vec::from_slice(alloc, &points)?,
-        Vec::from_slice(alloc, &points)?,
-    ]?)
-}
-
 // The matrices with their domains.
-fn batch(alloc: Global) -> Result<Evaluations, AllocError> {
+fn batch(alloc: Global) -> Result<Vec<(Domain, Rows)>, AllocError> {
     let [low, tall] = domains();
     Ok(vec![in alloc; (low, column(alloc, 4)?), (tall, column(alloc, 16)?)]?)
-}
-
-// These matrices, where each has one row for each point of its domain.
-fn matching(evaluations: Evaluations) -> Result<Evaluations>
-    ensures same { IfOk result (λ matching. matching ≡ evaluations) }
-    ensures rows { IfOk result (λ matching. HaveRowsForPoints matching.items) }
-{
-    if !heights_match_domains(&evaluations) {
-        bail!("there is not one row for each point");
-    }
-    Ok(evaluations)
 }
 
 // What committing to the matrices answers; none before the call.
@@ -80,7 +54,10 @@ fn committing(
     alloc: Global,
     stage: Stage,
 ) -> Result<Option<Result<(Commitment, ProverData), ProverError>>> {
-    let evaluations = matching(batch(alloc)?)?;
+    let evaluations = batch(alloc)?;
+    if !heights_match_domains(&evaluations) {
+        bail!("there is not one row for each point");
+    }
     if stage == Stage::Before {
         return Ok(None);
     }
@@ -108,22 +85,6 @@ pub fn commit(alloc: Global, stage: Stage) -> Result<Told> {
     })
 }
 
-// What is asked for of the matrices.
-fn requests<'a>(alloc: Global, pcs: &Scheme, data: &'a ProverData) -> Result<Vec<Request<'a>>>
-    ensures { IfOk result (λ requests.
-        HaveCommittedHeights ⟦<ValMmcs as Mmcs<Mersenne31>>⟧.matrices requests.items) }
-{
-    let request = OpeningRequest {
-        prover_data: data,
-        points: points_of_each(alloc)?,
-    };
-    let requests = vec![in alloc; request]?;
-    if !pcs.have_heights_of_powers(&requests) {
-        bail!("a height is no power of two");
-    }
-    Ok(requests)
-}
-
 // What opening the matrices answers; none before the call.
 fn opening(
     alloc: Global,
@@ -132,7 +93,18 @@ fn opening(
     data: &ProverData,
 ) -> Result<Option<Result<Opened, ProverError>>> {
     let pcs = scheme();
-    let requests = requests(alloc, &pcs, data)?;
+    let points = points();
+    let request = OpeningRequest {
+        prover_data: data,
+        points: vec![in alloc;
+            Vec::from_slice(alloc, &points)?,
+            Vec::from_slice(alloc, &points)?,
+        ]?,
+    };
+    let requests = vec![in alloc; request]?;
+    if !pcs.have_heights_of_powers(&requests) {
+        bail!("a height is no power of two");
+    }
     let mut challenger = after_commitment(commitment);
     if stage == Stage::Before {
         return Ok(None);
@@ -148,51 +120,27 @@ fn opened(alloc: Global, commitment: &Commitment, data: &ProverData) -> Result<O
     }
 }
 
-// Has a challenger take in a value as JSON.
-fn observe_json<T: JsonForm>(
-    alloc: Global,
-    challenger: &mut Sha256Challenger,
-    value: &T,
-) -> Result<()> {
-    challenger.observe_bytes(value.to_json(alloc)?.to_string(alloc)?.as_bytes());
-    Ok(())
-}
-
 // The number that a challenger draws which takes in the values and the proof as JSON.
 fn number_of_opened(alloc: Global, opened: &Opened) -> Result<u32> {
     let (values, proof) = opened;
     let mut challenger = Sha256Challenger::new();
-    observe_json(alloc, &mut challenger, values)?;
-    observe_json(alloc, &mut challenger, proof)?;
+    challenger.observe_bytes(values.to_json(alloc)?.to_string(alloc)?.as_bytes());
+    challenger.observe_bytes(proof.to_json(alloc)?.to_string(alloc)?.as_bytes());
     let drawn: Mersenne31 = challenger.sample();
     Ok(drawn.value())
-}
-
-// What is told of an answer, and of what is opened of the same matrices again.
-fn told_twice(
-    alloc: Global,
-    answer: Result<Opened, ProverError>,
-    commitment: &Commitment,
-    data: &ProverData,
-) -> Result<Told> {
-    let answer = told(match answer {
-        Ok(opened) => Ok(number_of_opened(alloc, &opened)?),
-        Err(refusal) => Err(refusal),
-    });
-    let again = number_of_opened(alloc, &opened(alloc, commitment, data)?)?;
-    Ok(Told::of(format_args!("{}, again {again}", answer.as_str())))
 }
 
 /// `CirclePcs::open`, with what is opened of the same matrices afterwards.
 pub fn open(alloc: Global, stage: Stage) -> Result<Told> {
     let (commitment, data) = committed(alloc)?;
-    let Some(answer) = opening(alloc, stage, &commitment, &data)? else {
-        return Ok(before());
+    let answer = match opening(alloc, stage, &commitment, &data)? {
+        None => return Ok(before()),
+        Some(_) if stage == Stage::After => return Ok(Told::of("after")),
+        Some(Ok(opened)) => told::<u32, ProverError>(Ok(number_of_opened(alloc, &opened)?)),
+        Some(Err(refusal)) => told::<u32, ProverError>(Err(refusal)),
     };
-    if stage == Stage::After {
-        return Ok(Told::of("after"));
-    }
-    told_twice(alloc, answer, &commitment, &data)
+    let again = number_of_opened(alloc, &opened(alloc, &commitment, &data)?)?;
+    Ok(Told::of(format_args!("{}, again {again}", answer.as_str())))
 }
 
 // The claims that the matrices have these values.
@@ -201,46 +149,37 @@ fn claims(
     commitment: Commitment,
     values: OpenedValues<Cubic>,
 ) -> Result<Vec<Claim>> {
+    let points = points();
     let known = Known {
         commitment,
         domains: Vec::from_slice(alloc, &domains())?,
-        points: points_of_each(alloc)?,
+        points: vec![in alloc;
+            Vec::from_slice(alloc, &points)?,
+            Vec::from_slice(alloc, &points)?,
+        ]?,
     };
     Ok(claims_of(alloc, vec![in alloc; known]?, values)?)
 }
 
-// The commitment to the matrices, what is claimed of them, and the proof of it.
-fn statement(alloc: Global) -> Result<(Commitment, Vec<Claim>, Proof)> {
-    let (commitment, data) = committed(alloc)?;
-    let (values, proof) = opened(alloc, &commitment, &data)?;
-    Ok((commitment, claims(alloc, commitment, values)?, proof))
-}
-
 /// `CirclePcs::verify`.
 pub fn verify(alloc: Global, stage: Stage) -> Result<Told> {
-    let (commitment, claims, proof) = statement(alloc)?;
+    let (commitment, data) = committed(alloc)?;
+    let (values, proof) = opened(alloc, &commitment, &data)?;
+    let claims = claims(alloc, commitment, values)?;
     let mut challenger = after_commitment(&commitment);
     if stage == Stage::Before {
         return Ok(before());
     }
-    Ok(told_verdict(scheme().verify(alloc, claims, &proof, &mut challenger)))
-}
-
-// One matrix with its domain.
-fn single(alloc: Global) -> Result<Evaluations>
-    ensures one { IfOk result (λ evaluations. vec_len evaluations ≡ 1) }
-    ensures rows { IfOk result (λ evaluations. HaveRowsForPoints evaluations.items) }
-{
-    let evaluations = vec![in alloc; (Domain::standard(2), column(alloc, 4)?)]?;
-    if evaluations.len() != 1 {
-        bail!("there is not one matrix");
-    }
-    matching(evaluations)
+    let answer = scheme().verify(alloc, claims, &proof, &mut challenger);
+    Ok(told(answer.map(|()| "accepted")))
 }
 
 /// `CirclePcs::round_trip` of one column at one point.
 pub fn round_trip(alloc: Global, stage: Stage) -> Result<Told> {
-    let evaluations = single(alloc)?;
+    let evaluations = vec![in alloc; (Domain::standard(2), column(alloc, 4)?)]?;
+    if evaluations.len() != 1 || !heights_match_domains(&evaluations) {
+        bail!("there is not one row for each point");
+    }
     let [point, _] = points();
     let batch = BatchAtPoints {
         evaluations,

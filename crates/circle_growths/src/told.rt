@@ -36,11 +36,6 @@ pub fn told_elements<F: ExtensionField<Mersenne31>, E: Display + Drop>(
     told(answer.map(|elements| digest(&elements)))
 }
 
-/// What is told of a verdict.
-pub fn told_verdict<E: Display + Drop>(verdict: Result<(), E>) -> Told {
-    told(verdict.map(|()| "accepted"))
-}
-
 /// A number that the coefficients of elements come to, in order.
 pub fn digest<F: ExtensionField<Mersenne31>>(elements: &[F]) -> u32 {
     let mut sum = 0;
