@@ -24,8 +24,7 @@ pub fn are_named(call: &str) -> bool {
 
 /// The answer of a case's command where it isn't what is due.
 pub fn difference(rt: &HostRuntime, case: &Case) -> Result<Option<String>> {
-    let input = input(rt, case.given)?;
-    let answer = run_commands(rt.alloc(), case.call, &input)?;
+    let answer = run_commands(rt.alloc(), case.call, &input(rt, case.given)?)?;
     if is_due(rt, &answer, case.due)? {
         return Ok(None);
     }
@@ -64,12 +63,18 @@ fn run_commands(alloc: Global, commands: &str, input: &str) -> Result<Answer> {
 
 // What one command answers, without the line's end.
 fn run_command(alloc: Global, command: &str, input: &str) -> Result<Answer, AllocError> {
-    let args = vec![in alloc; String::from_str(alloc, command)?]?;
-    let mut written = Vec::new(alloc);
-    let status = run(alloc, &args, &mut input.as_bytes(), &mut written);
+    let (written, status) = written_by(alloc, command, input)?;
     let text = std::str::from_utf8(&written).unwrap_or("not UTF-8");
     let line = String::from_str(alloc, text.strip_suffix("\n").unwrap_or("no line"))?;
     Ok(Answer { line, status })
+}
+
+// What one command writes, and its status.
+fn written_by(alloc: Global, command: &str, input: &str) -> Result<(Vec<u8>, u8), AllocError> {
+    let args = vec![in alloc; String::from_str(alloc, command)?]?;
+    let mut written = Vec::new(alloc);
+    let status = run(alloc, &args, &mut input.as_bytes(), &mut written);
+    Ok((written, status))
 }
 
 // Whether the answer has the status and the line that are due.
@@ -83,20 +88,31 @@ fn is_due(rt: &HostRuntime, answer: &Answer, due: &Value) -> Result<bool> {
 // Whether the answer's line is what is due of it: a value, one of some refusals, some members, or
 // what a file has.
 fn is_line_due(rt: &HostRuntime, answer: &Answer, due: &Value) -> Result<bool> {
-    if let Some(line) = due.get("line") {
-        return Ok(line.to_string(rt.alloc())?.as_str() == answer.line.as_str());
+    let line = answer.line.as_str();
+    if let Some(value) = due.get("line") {
+        return Ok(is_text_of(rt.alloc(), line, value)?);
     }
     if let Some(names) = due.get("one_of") {
-        return is_one_of(rt.alloc(), &answer.line, names);
+        return is_one_of(rt.alloc(), line, names);
     }
     if let Some(members) = due.get("members") {
-        return has_members(rt.alloc(), &answer.line, members);
+        return has_members(rt.alloc(), line, members);
     }
-    if due.get("file").is_some() {
-        let line = bytes_of_file(rt, text(due, "file")?)?;
-        return Ok(line.as_slice().trim_ascii_end() == answer.line.as_bytes());
+    match due.get("file") {
+        Some(_) => is_in_file(rt, line, text(due, "file")?),
+        None => Ok(true),
     }
-    Ok(true)
+}
+
+// Whether a line is the text of a value.
+fn is_text_of(alloc: Global, line: &str, value: &Value) -> Result<bool, AllocError> {
+    Ok(value.to_string(alloc)?.as_str() == line)
+}
+
+// Whether a line is what a file has.
+fn is_in_file(rt: &HostRuntime, line: &str, name: &str) -> Result<bool> {
+    let bytes = bytes_of_file(rt, name)?;
+    Ok(bytes.as_slice().trim_ascii_end() == line.as_bytes())
 }
 
 // Whether the answer is a refusal with one of these names.

@@ -1,12 +1,16 @@
 //! Cases of domains.
-use crate::given::{Domain, Rows, coordinates, domain, matrix, maybe, point_off, rows_of};
+use crate::given::{
+    Domain, Rows, check_size, coordinates, domain, maybe, maybe_coordinates, object_of_two,
+    point_off, rows_of, rows_on,
+};
 use anyhow::{Result, bail};
-use circle_commit::{JsonForm, Matrix, PolynomialSpace, is_power_of_two};
+use circle_commit::{JsonForm, PolynomialSpace, is_power_of_two};
 use circle_field::{Cubic, Mersenne31};
 use circle_json::member;
+use circle_matrix::LagrangeSelectors;
 use circle_plane::Point;
-use serde_json::{Value, json};
-use std::alloc::Global;
+use serde_json::{Map, Value, put};
+use std::alloc::{AllocError, Global};
 
 /// What a call of this kind answers, or none where the call is of another kind.
 pub fn answer(alloc: Global, call: &str, given: &Value) -> Result<Option<Value>> {
@@ -15,44 +19,38 @@ pub fn answer(alloc: Global, call: &str, given: &Value) -> Result<Option<Value>>
     };
     let domain = domain(alloc, given, "domain")?;
     let answer = match call {
-        "is_genuine" => Value::Bool(domain.is_genuine()),
-        "is_standard" => is_standard(domain)?,
-        "is_clear_of" => is_clear_of(alloc, domain, given)?,
-        "points" => points(alloc, domain)?,
-        "try_nth_point" => nth_point(alloc, domain, given)?,
-        "next_point" => next_point(alloc, domain, given)?,
-        "try_create_disjoint_domain" => disjoint(alloc, domain, given)?,
-        "split_domains" => split_domains(alloc, domain, given)?,
-        "split_evals" => split_evals(alloc, domain, given)?,
-        "vanishing_poly_at_point" => vanishing(alloc, domain, given)?,
-        "selectors_at_point" => selectors(alloc, domain, given)?,
-        "evaluate_polynomial_at" => value_at(alloc, domain, given)?,
-        "evaluate_periodic_column_at" => short_column_at(alloc, domain, given)?,
+        "is_genuine" => Ok(Value::Bool(domain.is_genuine())),
+        "is_standard" => is_standard(domain),
+        "is_clear_of" => is_clear_of(alloc, domain, given),
+        "points" => points(alloc, domain),
+        "try_nth_point" => nth_point(alloc, domain, given),
+        "next_point" => next_point(alloc, domain, given),
+        "try_create_disjoint_domain" => disjoint(alloc, domain, given),
+        "split_domains" => split_domains(alloc, domain, given),
+        "split_evals" => split_evals(alloc, domain, given),
+        "vanishing_poly_at_point" => vanishing(alloc, domain, given),
+        "selectors_at_point" => selectors(alloc, domain, given),
+        "evaluate_polynomial_at" => value_at(alloc, domain, given),
+        "evaluate_periodic_column_at" => short_column_at(alloc, domain, given),
         _ => bail!("a domain has no call {call}"),
     };
-    Ok(Some(answer))
+    Ok(Some(answer?))
 }
 
 fn is_standard(domain: Domain) -> Result<Value> {
-    if domain.log_n() == 0 || domain.log_n() > 31 {
-        bail!("the domain has not 2 to 2^31 points");
-    }
+    check_size(domain)?;
     Ok(Value::Bool(domain.is_standard()))
 }
 
 fn is_clear_of(alloc: Global, domain: Domain, given: &Value) -> Result<Value> {
     let at = point_off(alloc, given)?;
-    if domain.log_n() == 0 || domain.log_n() > 31 {
-        bail!("the domain has not 2 to 2^31 points");
-    }
+    check_size(domain)?;
     Ok(Value::Bool(domain.is_clear_of(at)))
 }
 
 // The coordinates of the points in natural order.
 fn points(alloc: Global, domain: Domain) -> Result<Value> {
-    if domain.log_n() == 0 || domain.log_n() > 31 {
-        bail!("the domain has not 2 to 2^31 points");
-    }
+    check_size(domain)?;
     let mut points = Vec::new(alloc);
     for point in domain.points() {
         points.push(coordinates(alloc, point)?)?;
@@ -63,26 +61,19 @@ fn points(alloc: Global, domain: Domain) -> Result<Value> {
 // The coordinates of the point at a place, or null where there is none.
 fn nth_point(alloc: Global, domain: Domain, given: &Value) -> Result<Value> {
     let index: usize = member(alloc, given, "index")?;
-    match domain.try_nth_point(index) {
-        Some(point) => Ok(coordinates(alloc, point)?),
-        None => Ok(Value::Null),
-    }
+    Ok(maybe_coordinates(alloc, domain.try_nth_point(index))?)
 }
 
 fn next_point(alloc: Global, domain: Domain, given: &Value) -> Result<Value> {
     let t: Mersenne31 = member(alloc, given, "t")?;
-    if domain.log_n() == 0 || domain.log_n() > 31 {
-        bail!("the domain has not 2 to 2^31 points");
-    }
+    check_size(domain)?;
     Ok(maybe(alloc, domain.next_point(t))?)
 }
 
 // The binary logarithm of the other domain's size.
 fn disjoint(alloc: Global, domain: Domain, given: &Value) -> Result<Value> {
     let min_size: usize = member(alloc, given, "min_size")?;
-    if domain.log_n() == 0 || domain.log_n() > 31 {
-        bail!("the domain has not 2 to 2^31 points");
-    }
+    check_size(domain)?;
     match domain.try_create_disjoint_domain(min_size) {
         Some(other) => Ok(other.log_n().to_json(alloc)?),
         None => Ok(Value::Null),
@@ -92,17 +83,25 @@ fn disjoint(alloc: Global, domain: Domain, given: &Value) -> Result<Value> {
 // The sizes' logarithms and the first points of the parts.
 fn split_domains(alloc: Global, domain: Domain, given: &Value) -> Result<Value> {
     let count: usize = member(alloc, given, "count")?;
-    let parts = parts(alloc, domain, count)?;
     let mut told = Vec::new(alloc);
-    for part in &parts {
-        let shift = coordinates(alloc, part.shift())?;
-        told.push(json!(in alloc; {"log_n": part.log_n(), "shift": shift})?)?;
+    for part in &parts(alloc, domain, count)? {
+        told.push(part_of(alloc, *part)?)?;
     }
     Ok(Value::from(told))
 }
 
+fn part_of(alloc: Global, part: Domain) -> Result<Value, AllocError> {
+    let shift = coordinates(alloc, part.shift())?;
+    object_of_two(
+        alloc,
+        ("log_n", Value::from(part.log_n())),
+        ("shift", shift),
+    )
+}
+
 fn parts(alloc: Global, domain: Domain, count: usize) -> Result<Vec<Domain>> {
-    if domain.log_n() == 0 || domain.log_n() > 31 || !domain.is_standard() {
+    check_size(domain)?;
+    if !domain.is_standard() {
         bail!("the domain is not standard");
     }
     if !is_power_of_two(count) || count > domain.size() / 2 {
@@ -114,22 +113,19 @@ fn parts(alloc: Global, domain: Domain, count: usize) -> Result<Vec<Domain>> {
 // The rows of the parts.
 fn split_evals(alloc: Global, domain: Domain, given: &Value) -> Result<Value> {
     let count: usize = member(alloc, given, "count")?;
-    let rows = matrix(alloc, given, "rows")?;
+    if domain.log_n() > 31 || !is_power_of_two(count) || count > domain.size() / 2 {
+        bail!("there are no such parts");
+    }
+    let rows = rows_on(alloc, domain, given)?;
+    Ok(rows_of_each(alloc, &domain.split_evals(alloc, count, rows)?)?)
+}
+
+fn rows_of_each(alloc: Global, parts: &[Rows]) -> Result<Value, AllocError> {
     let mut told = Vec::new(alloc);
-    for part in &parts_of_rows(alloc, domain, count, rows)? {
+    for part in parts {
         told.push(rows_of(alloc, part)?)?;
     }
     Ok(Value::from(told))
-}
-
-fn parts_of_rows(alloc: Global, domain: Domain, count: usize, rows: Rows) -> Result<Vec<Rows>> {
-    if domain.log_n() > 31 || rows.height() != domain.size() {
-        bail!("there is not one row for each point");
-    }
-    if !is_power_of_two(count) || count > domain.size() / 2 {
-        bail!("there are no such parts");
-    }
-    Ok(domain.split_evals(alloc, count, rows)?)
 }
 
 fn vanishing(alloc: Global, domain: Domain, given: &Value) -> Result<Value> {
@@ -152,20 +148,33 @@ fn selectors(alloc: Global, domain: Domain, given: &Value) -> Result<Value> {
     if !domain.is_clear_of(at) {
         bail!("the domain is not clear of the point");
     }
-    let row = domain.selectors_at_point(t);
-    Ok(json!(in alloc; {
-        "is_first_row": row.is_first_row.to_json(alloc)?,
-        "is_last_row": row.is_last_row.to_json(alloc)?,
-        "is_transition": row.is_transition.to_json(alloc)?,
-        "inv_vanishing": row.inv_vanishing.to_json(alloc)?
-    })?)
+    Ok(selectors_of(alloc, &domain.selectors_at_point(t))?)
+}
+
+fn selectors_of(alloc: Global, row: &LagrangeSelectors<Mersenne31>) -> Result<Value, AllocError> {
+    let named = [
+        ("is_first_row", row.is_first_row),
+        ("is_last_row", row.is_last_row),
+        ("is_transition", row.is_transition),
+        ("inv_vanishing", row.inv_vanishing),
+    ];
+    let mut told = Map::new(alloc);
+    for (key, selector) in &named {
+        put(&mut told, alloc, *key, selector.to_json(alloc)?)?;
+    }
+    Ok(Value::Object(told))
 }
 
 // The value of the only polynomial with these values on a standard domain.
 fn value_at(alloc: Global, domain: Domain, given: &Value) -> Result<Value> {
-    let evals: Vec<Mersenne31> = member(alloc, given, "evals")?;
     let t: Cubic = member(alloc, given, "t")?;
-    if domain.log_n() == 0 || domain.log_n() > 31 || !domain.is_standard() {
+    let evals: Vec<Mersenne31> = member(alloc, given, "evals")?;
+    Ok(value_of(alloc, domain, &evals, t)?.to_json(alloc)?)
+}
+
+fn value_of(alloc: Global, domain: Domain, evals: &[Mersenne31], t: Cubic) -> Result<Cubic> {
+    check_size(domain)?;
+    if !domain.is_standard() {
         bail!("the domain is not standard");
     }
     let Some(at) = Point::from_projective_line(t) else {
@@ -174,17 +183,13 @@ fn value_at(alloc: Global, domain: Domain, given: &Value) -> Result<Value> {
     if !domain.is_clear_of(at) || evals.len() != domain.size() {
         bail!("the domain is not clear of the point, or there is not one value for each point");
     }
-    Ok(
-        domain
-            .evaluate_polynomial_at(alloc, &evals, t)?
-            .to_json(alloc)?,
-    )
+    Ok(domain.evaluate_polynomial_at(alloc, evals, t)?)
 }
 
 // The value of a periodic column of at most one entry.
 fn short_column_at(alloc: Global, domain: Domain, given: &Value) -> Result<Value> {
-    let column: Vec<Mersenne31> = member(alloc, given, "column")?;
     let t: Cubic = member(alloc, given, "t")?;
+    let column: Vec<Mersenne31> = member(alloc, given, "column")?;
     if column.len() > 1 {
         bail!("the column has more than one entry");
     }

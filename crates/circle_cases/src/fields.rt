@@ -11,80 +11,87 @@ use std::alloc::Global;
 
 /// What a call of this kind answers, or none where the call is of another kind.
 pub fn answer(alloc: Global, call: &str, given: &Value) -> Result<Option<Value>> {
-    match call.split_once(' ') {
+    let answer = match call.split_once(' ') {
         Some(("Mersenne31", operation)) => of_field::<Mersenne31>(alloc, operation, given),
         Some(("Cubic", operation)) => of_field::<Cubic>(alloc, operation, given),
-        _ => Ok(None),
-    }
+        _ => return Ok(None),
+    };
+    Ok(Some(answer?))
 }
 
 // What an operation answers.
-fn of_field<F: Field + JsonForm>(
+fn of_field<F: Field + JsonForm>(alloc: Global, operation: &str, given: &Value) -> Result<Value> {
+    match operation {
+        "powers" => powers::<F>(alloc, given),
+        "batch_multiplicative_inverse" => inverses::<F>(alloc, given),
+        _ => Ok(maybe(alloc, element::<F>(alloc, operation, given)?)?),
+    }
+}
+
+// The element that an operation answers, or none where there is none.
+fn element<F: Field + JsonForm>(
     alloc: Global,
     operation: &str,
     given: &Value,
-) -> Result<Option<Value>> {
-    let answer = match operation {
-        "+" | "-" | "*" => of_two::<F>(alloc, operation, given)?.to_json(alloc)?,
+) -> Result<Option<F>> {
+    let a: F = member(alloc, given, "a")?;
+    match operation {
+        "+" | "-" | "*" => Ok(Some(of_two(operation, a, member(alloc, given, "b")?))),
         "exp_u64" | "mul_2exp_u64" | "div_2exp_u64" => {
-            with_number::<F>(alloc, operation, given)?.to_json(alloc)?
+            Ok(Some(with_number(operation, a, member(alloc, given, "n")?)))
         }
-        "powers" => powers::<F>(alloc, given)?.to_json(alloc)?,
-        "batch_multiplicative_inverse" => inverses::<F>(alloc, given)?.to_json(alloc)?,
-        _ => maybe(alloc, of_one::<F>(alloc, operation, given)?)?,
-    };
-    Ok(Some(answer))
+        _ => of_one(operation, a),
+    }
 }
 
 // What an operation of one element answers.
-fn of_one<F: Field + JsonForm>(alloc: Global, operation: &str, given: &Value) -> Result<Option<F>> {
-    let a: F = member(alloc, given, "a")?;
-    Ok(match operation {
-        "negated" => Some(-a),
-        "double" => Some(a.double()),
-        "square" => Some(a.square()),
-        "halve" => Some(a.halve()),
-        "try_inverse" => a.try_inverse(),
+fn of_one<F: Field>(operation: &str, a: F) -> Result<Option<F>> {
+    match operation {
+        "negated" => Ok(Some(-a)),
+        "double" => Ok(Some(a.double())),
+        "square" => Ok(Some(a.square())),
+        "halve" => Ok(Some(a.halve())),
+        "try_inverse" => Ok(a.try_inverse()),
         _ => bail!("a field has no operation {operation}"),
-    })
+    }
 }
 
 // What an operation of two elements answers.
-fn of_two<F: Field + JsonForm>(alloc: Global, operation: &str, given: &Value) -> Result<F> {
-    let a: F = member(alloc, given, "a")?;
-    let b: F = member(alloc, given, "b")?;
-    Ok(match operation {
+fn of_two<F: Field>(operation: &str, a: F, b: F) -> F {
+    match operation {
         "+" => a + b,
         "-" => a - b,
         _ => a * b,
-    })
+    }
 }
 
 // What an operation of an element and a number answers.
-fn with_number<F: Field + JsonForm>(alloc: Global, operation: &str, given: &Value) -> Result<F> {
-    let a: F = member(alloc, given, "a")?;
-    let n: u64 = member(alloc, given, "n")?;
-    Ok(match operation {
+fn with_number<F: Field>(operation: &str, a: F, n: u64) -> F {
+    match operation {
         "exp_u64" => a.exp_u64(n),
         "mul_2exp_u64" => a.mul_2exp_u64(n),
         _ => a.div_2exp_u64(n),
-    })
+    }
 }
 
 // The first powers of an element.
-fn powers<F: Field + JsonForm>(alloc: Global, given: &Value) -> Result<Vec<F>> {
+fn powers<F: Field + JsonForm>(alloc: Global, given: &Value) -> Result<Value> {
     let a: F = member(alloc, given, "a")?;
     let count: usize = member(alloc, given, "n")?;
-    Ok(F::powers(alloc, a, count)?)
+    Ok(F::powers(alloc, a, count)?.to_json(alloc)?)
 }
 
 // The inverses of elements.
-fn inverses<F: Field + JsonForm>(alloc: Global, given: &Value) -> Result<Vec<F>> {
+fn inverses<F: Field + JsonForm>(alloc: Global, given: &Value) -> Result<Value> {
     let elements: Vec<F> = member(alloc, given, "elements")?;
-    if !have_inverses(&elements) {
+    Ok(inverses_of(alloc, &elements)?.to_json(alloc)?)
+}
+
+fn inverses_of<F: Field>(alloc: Global, elements: &[F]) -> Result<Vec<F>> {
+    if !have_inverses(elements) {
         bail!("an element is 0");
     }
-    Ok(batch_multiplicative_inverse(alloc, &elements)?)
+    Ok(batch_multiplicative_inverse(alloc, elements)?)
 }
 
 // Whether no element is 0.

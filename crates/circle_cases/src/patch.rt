@@ -2,8 +2,8 @@
 //! JSON pointer. A further one, `repeat`, has the items of the list there come `times` times.
 use crate::case::{part, text};
 use anyhow::{Result, bail};
-use serde_json::Value;
-use std::alloc::Global;
+use serde_json::{Value, put};
+use std::alloc::{AllocError, AllocFailed, Global};
 
 /// Makes all changes of a list, one after another.
 pub fn apply(alloc: Global, value: &mut Value, patch: &Value) -> Result<()> {
@@ -20,20 +20,25 @@ pub fn apply(alloc: Global, value: &mut Value, patch: &Value) -> Result<()> {
 fn apply_one(alloc: Global, value: &mut Value, change: &Value) -> Result<()> {
     let path = text(change, "path")?;
     match text(change, "op")? {
-        "replace" => replace(value, path, part(change, "value")?.clone()?),
-        "add" => add(alloc, value, path, part(change, "value")?.clone()?),
+        "replace" => replace(value, path, change),
+        "add" => add(alloc, value, path, change),
         "remove" => remove(value, path),
-        "repeat" => repeat(value, path, part(change, "times")?.as_u64().unwrap_or(0)),
+        "repeat" => repeat(value, path, change),
         other => bail!("a patch has the operation {other}"),
     }
 }
 
+// The value that a change puts.
+fn new_value(change: &Value) -> Result<Value> {
+    Ok(part(change, "value")?.clone()?)
+}
+
 // Puts another value at the pointer.
-fn replace(value: &mut Value, path: &str, new: Value) -> Result<()> {
-    let Some(place) = value.pointer_mut(path) else {
-        bail!("there is no {path}");
-    };
-    *place = new;
+fn replace(value: &mut Value, path: &str, change: &Value) -> Result<()> {
+    match value.pointer_mut(path) {
+        Some(place) => *place = new_value(change)?,
+        None => bail!("there is no {path}"),
+    }
     Ok(())
 }
 
@@ -47,47 +52,42 @@ fn split(path: &str) -> Result<(&str, &str)> {
 
 // Adds a member to an object, or an item to an array: before one, or with the last part `-` behind
 // all.
-fn add(alloc: Global, value: &mut Value, path: &str, new: Value) -> Result<()> {
+fn add(alloc: Global, value: &mut Value, path: &str, change: &Value) -> Result<()> {
     let (holder, last) = split(path)?;
     match value.pointer_mut(holder) {
-        Some(Value::Object(members)) => {
-            let _ = members.insert(String::from_str(alloc, last)?, new)?;
-        }
-        Some(Value::Array(items)) => insert(items, last, new)?,
-        _ => bail!("nothing holds {path}"),
+        Some(holder) => add_to(alloc, holder, last, new_value(change)?),
+        None => bail!("nothing holds {path}"),
+    }
+}
+
+fn add_to(alloc: Global, holder: &mut Value, last: &str, new: Value) -> Result<()> {
+    match holder {
+        Value::Object(members) => put(members, alloc, last, new)?,
+        Value::Array(items) => insert(items, last, new)?,
+        _ => bail!("a value that holds nothing has no {last}"),
     }
     Ok(())
 }
 
 // Puts an item before the one at a place, or behind all.
-fn insert(items: &mut Vec<Value>, place: &str, new: Value) -> Result<()> {
-    match place.parse::<usize>() {
-        Ok(place) if place < items.len() => items.insert(place, new)?,
-        _ => items.push(new)?,
-    }
-    Ok(())
+fn insert(items: &mut Vec<Value>, place: &str, new: Value) -> Result<(), AllocFailed<Value>> {
+    let place = place.parse().unwrap_or(usize::MAX);
+    items.insert(place.min(items.len()), new)
 }
 
 // Has the items of a list come so many times, all of them and then all again.
-fn repeat(value: &mut Value, path: &str, times: u64) -> Result<()> {
-    let Some(Value::Array(items)) = value.pointer_mut(path) else {
-        bail!("there is no list {path}");
-    };
-    let count = items.len();
-    for _ in 1..times {
-        push_first(items, count)?;
+fn repeat(value: &mut Value, path: &str, change: &Value) -> Result<()> {
+    let times = part(change, "times")?.as_u64().unwrap_or(0);
+    match value.pointer_mut(path) {
+        Some(Value::Array(items)) => Ok(repeat_items(items, times)?),
+        _ => bail!("there is no list {path}"),
     }
-    Ok(())
 }
 
-// Appends a copy of each of the first items of a list.
-fn push_first(items: &mut Vec<Value>, count: usize) -> Result<()> {
-    for i in 0..count {
-        let Some(item) = items.get(i) else {
-            bail!("a list has too few items");
-        };
-        let copy = item.clone()?;
-        items.push(copy)?;
+fn repeat_items(items: &mut Vec<Value>, times: u64) -> Result<(), AllocError> {
+    let once = items.clone()?;
+    for _ in 1..times {
+        items.extend_with_clones(&once)?;
     }
     Ok(())
 }

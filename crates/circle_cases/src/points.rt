@@ -1,11 +1,11 @@
 //! Cases of points and of the transform's order.
-use crate::given::{coordinates, maybe, point, point_off};
+use crate::given::{coordinates, list_of, maybe, maybe_coordinates, point, point_off};
 use anyhow::{Result, bail};
 use circle_commit::JsonForm;
-use circle_field::{Cubic, Mersenne31};
+use circle_field::{Cubic, Field, Mersenne31};
 use circle_json::member;
 use circle_plane::{Neutral, Point, cfft_permute_index};
-use serde_json::{Value, json};
+use serde_json::Value;
 use std::alloc::Global;
 
 type Circle = Point<Mersenne31>;
@@ -14,23 +14,24 @@ type Circle = Point<Mersenne31>;
 pub fn answer(alloc: Global, call: &str, given: &Value) -> Result<Option<Value>> {
     let answer = match call {
         "Point +" | "Point -" | "Point *" | "Point double" | "Point negated" => {
-            coordinates(alloc, sum(alloc, call, given)?)?
+            operator(alloc, call, given)
         }
-        "Point::repeated_double" => repeated_double(alloc, given)?,
-        "Point::generator" => generator(alloc, given)?,
-        "Point::is_on_circle" => is_on_circle(alloc, given)?,
-        "Point::from_projective_line" => from_line(alloc, given)?,
-        "Point::to_projective_line" => {
-            maybe(alloc, point(alloc, given, "p")?.to_projective_line())?
-        }
-        "Point::v_n" | "Point::v_n_prod" | "Point::s_p_at_p" => {
-            vanishing(alloc, call, given)?.to_json(alloc)?
-        }
-        "Point::v_p" => vanishing_parts(alloc, given)?,
-        "cfft_permute_index" => permuted(alloc, given)?,
+        "Point::repeated_double" => repeated_double(alloc, given),
+        "Point::generator" => generator(alloc, given),
+        "Point::is_on_circle" => is_on_circle(alloc, given),
+        "Point::from_projective_line" => from_line(alloc, given),
+        "Point::to_projective_line" => to_line(alloc, given),
+        "Point::v_n" | "Point::v_n_prod" | "Point::s_p_at_p" => vanishing(alloc, call, given),
+        "Point::v_p" => vanishing_parts(alloc, given),
+        "cfft_permute_index" => permuted(alloc, given),
         _ => return Ok(None),
     };
-    Ok(Some(answer))
+    Ok(Some(answer?))
+}
+
+// The coordinates of what an operator answers.
+fn operator(alloc: Global, call: &str, given: &Value) -> Result<Value> {
+    Ok(coordinates(alloc, sum(alloc, call, given)?)?)
 }
 
 // What an operator answers.
@@ -67,31 +68,33 @@ fn is_on_circle(alloc: Global, given: &Value) -> Result<Value> {
 // The point of a coordinate in the field or in its cubic extension.
 fn from_line(alloc: Global, given: &Value) -> Result<Value> {
     if given.get("t").is_some_and(Value::is_array) {
-        let t: Cubic = member(alloc, given, "t")?;
-        return match Point::from_projective_line(t) {
-            Some(point) => Ok(coordinates(alloc, point)?),
-            None => Ok(Value::Null),
-        };
+        return of_coordinate::<Cubic>(alloc, given);
     }
-    let t: Mersenne31 = member(alloc, given, "t")?;
-    match Point::from_projective_line(t) {
-        Some(point) => Ok(coordinates(alloc, point)?),
-        None => Ok(Value::Null),
-    }
+    of_coordinate::<Mersenne31>(alloc, given)
+}
+
+fn of_coordinate<F: Field + JsonForm>(alloc: Global, given: &Value) -> Result<Value> {
+    let t: F = member(alloc, given, "t")?;
+    Ok(maybe_coordinates(alloc, Point::from_projective_line(t))?)
+}
+
+fn to_line(alloc: Global, given: &Value) -> Result<Value> {
+    Ok(maybe(alloc, point(alloc, given, "p")?.to_projective_line())?)
 }
 
 // The value at a point of what vanishes on subgroups of so many points.
-fn vanishing(alloc: Global, call: &str, given: &Value) -> Result<Mersenne31> {
+fn vanishing(alloc: Global, call: &str, given: &Value) -> Result<Value> {
     let p = point(alloc, given, "p")?;
     let n: usize = member(alloc, given, "n")?;
     if n == 0 || n > 31 {
         bail!("n is not among 1 to 31");
     }
-    Ok(match call {
+    let value = match call {
         "Point::v_n" => p.v_n(n),
         "Point::v_n_prod" => p.v_n_prod(n),
         _ => p.s_p_at_p(n),
-    })
+    };
+    Ok(value.to_json(alloc)?)
 }
 
 // The parts of the vanishing function of a point, at a point over the extension or at one of the
@@ -100,10 +103,10 @@ fn vanishing_parts(alloc: Global, given: &Value) -> Result<Value> {
     let p = point(alloc, given, "p")?;
     if given.get("at").is_some() {
         let (re, im) = p.v_p(point(alloc, given, "at")?);
-        return Ok(json!(in alloc; [re.to_json(alloc)?, im.to_json(alloc)?])?);
+        return Ok(list_of(alloc, &[re, im])?);
     }
     let (re, im) = p.v_p(point_off(alloc, given)?);
-    Ok(json!(in alloc; [re.to_json(alloc)?, im.to_json(alloc)?])?)
+    Ok(list_of(alloc, &[re, im])?)
 }
 
 fn permuted(alloc: Global, given: &Value) -> Result<Value> {
