@@ -1,6 +1,7 @@
 //! What is refused of requests to open before the challenger is seeded.
-ghost use Rattle.std.specs.Prelude.{◌≡◌, ◌==◌, All, flat_map, length};
+ghost use Rattle.std.specs.Prelude.{◌≡◌, ◌==◌, ◌≤◌, All, flat_map, length};
 ghost use Rattle.circle_matrix.specs.Mmcs.{HaveHeightsOfPowers};
+ghost use Rattle.circle_matrix.specs.RowMajorMatrix.{height_of};
 ghost use Rattle.circle_domain.specs.Selectors.{IsFinite};
 ghost use Rattle.p3_circle.specs.Committing.{matrix_tests};
 ghost use Rattle.circle_verifier.specs.Refusals.{answer, is_at_infinity};
@@ -172,7 +173,11 @@ pub(crate) fn validate_requests<F: ComplexExtendable, EF: ExtensionField<F>, M: 
     params: &FriParameters<W>,
     requests: &[OpeningRequest<M::ProverData, EF>],
 ) -> Result<(), ProverError>
-    requires { All (λ r. HaveHeightsOfPowers (M.matrices r.prover_data.now)) requests.now }
+    // A power of two is at least 1. It is asked by itself, since the place of a call that asks by one
+    // clause alone takes the prover long to state.
+    requires rows { All (λ r. All (λ m. 1 ≤ height_of m) (M.matrices r.prover_data.now))
+        requests.now }
+    requires powers { All (λ r. HaveHeightsOfPowers (M.matrices r.prover_data.now)) requests.now }
     ensures { result ≡ answer (opening_tests M.matrices requests.now F.CIRCLE_TWO_ADICITY
         params.now ⟦<EF as OverCircle<F>>⟧.fields EF.eq) tt }
 {

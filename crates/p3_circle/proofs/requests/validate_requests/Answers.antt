@@ -50,7 +50,7 @@ pub meet_domains-requires-clause-domains : goal.meet_domains-requires-clause-dom
 meet_domains-requires-clause-domains g c =
     let tall = sym c.validate_request_heights.ensures ∙ c.in_ok-validate_request_heights.was in
     λ i d lt j e lt'.
-    (heights-known g.F.ComplexExtendable.CIRCLE_TWO_ADICITY c.args.params.now g.M.Mmcs.matrices c.args.requests.now c.requires tall i d lt j e lt').domain
+    (heights-known g.F.ComplexExtendable.CIRCLE_TWO_ADICITY c.args.params.now g.M.Mmcs.matrices c.args.requests.now c.requires.powers tall i d lt j e lt').domain
 
 pub meet_domains-requires-clause-finite : goal.meet_domains-requires-clause-finite
 meet_domains-requires-clause-finite g c =

@@ -1,4 +1,5 @@
-use Rattle.std.proofs.Common.{◌∙◌, All, sym, subst}
+use Rattle.std.proofs.Common.{◌∙◌, All, sym, subst, arith}
+use Rattle.std.proofs.lemmas.Nat.{pow_pos}
 use Rattle.circle_challenger.specs.Moves.{RunMoves, run_moves}
 use Rattle.circle_field.specs.Field.{of_nat}
 use Rattle.circle_matrix.specs.Mmcs.{HaveHeightsOfPowers}
@@ -23,8 +24,17 @@ fields g = record { field = g.Val.Operations.ops; gen = g.Val.ComplexExtendable.
 abbrev challenger : (g : Over) → RunMoves g.row.C.Denot g.row.C-State.Denot g.row.Val.Denot g.row.EF.Denot g.row.FriMmcs-Commitment.Denot
 challenger g = run_moves g.C.ChallengerState.state g.C.CanObserve-1.after_observe g.C.CanObserve-2.after_observe g.C.CanSample.sampled g.C.CanSample.after_sample g.C.CanSampleBits.sampled_bits g.C.CanSampleBits.after_bits g.C.GrindingChallenger.found_witness g.EF.ExtensionField.DEGREE g.EF.ExtensionField.coefficients (of_nat g.Val.Operations.ops) g.Val.Operations.ops.zero
 
-pub validate_requests-requires : goal.validate_requests-requires
-validate_requests-requires g c =
+pub validate_requests-requires-clause-rows : goal.validate_requests-requires-clause-rows
+validate_requests-requires-clause-rows g c =
+    let powers = subst (All (λ (r : OpeningRequest g.row.InputMmcs-ProverData.Denot g.row.EF.Denot). HaveHeightsOfPowers (g.InputMmcs.Mmcs.matrices r.prover_data.now))) (sym c.deref.ensures.value) c.requires in
+    λ i d lt j e lt'.
+    let power = powers i d lt j e lt' in
+    let is = power.1 in
+    let positive = pow_pos power.0 in
+    omega (arith, is, positive)
+
+pub validate_requests-requires-clause-powers : goal.validate_requests-requires-clause-powers
+validate_requests-requires-clause-powers g c =
     subst (All (λ (r : OpeningRequest g.row.InputMmcs-ProverData.Denot g.row.EF.Denot). HaveHeightsOfPowers (g.InputMmcs.Mmcs.matrices r.prover_data.now))) (sym c.deref.ensures.value) c.requires
 
 pub open_requests-requires-clause-parameters : goal.open_requests-requires-clause-parameters
