@@ -4,15 +4,8 @@
 
 mod case;
 mod commands;
-mod direct;
-mod domains;
-mod fields;
-mod folds;
-mod given;
 mod patch;
-mod points;
 mod report;
-mod transforms;
 
 use anyhow::Result;
 use report::{Tally, report_file};

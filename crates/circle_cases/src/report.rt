@@ -1,6 +1,6 @@
 //! The lines of a file's cases.
 use crate::case::{Case, part};
-use crate::{commands, direct, patch};
+use crate::{commands, patch};
 use anyhow::{Result, bail};
 use serde_json::Value;
 use std::fs;
@@ -57,7 +57,7 @@ fn difference(rt: &HostRuntime, case: &Case) -> Result<Option<String>> {
     if commands::are_named(case.call) {
         return commands::difference(rt, case);
     }
-    let answer = direct::answer(rt.alloc(), case.call, case.given)?;
+    let answer = circle_calls::answer(rt.alloc(), case.call, case.given)?;
     if answer == *case.due {
         return Ok(None);
     }
