@@ -1,4 +1,5 @@
 """How the kit's prover is asked to check one crate, over libraries that are left."""
+import os
 import pathlib
 import re
 import subprocess
@@ -6,6 +7,15 @@ import sys
 
 TOP = pathlib.Path(__file__).resolve().parent.parent
 CRATES = TOP / "crates"
+# The memory to plan on for a check, in bytes.
+MEMORY = 3_500_000_000
+
+
+def most_at_once():
+    """Returns how many crates to check at a time."""
+    with open("/proc/meminfo", encoding="utf-8") as file:
+        free = 1024 * int(re.search(r"MemAvailable:\s+(\d+)", file.read())[1])
+    return max(1, min(len(os.sched_getaffinity(0)), free // MEMORY))
 
 
 def kit():

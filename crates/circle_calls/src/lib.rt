@@ -1,6 +1,6 @@
-//! What calls of the libraries answer, by their names, over `Mersenne31` and its cubic extension: what
-//! they are given and what they answer is JSON. A call whose conditions what is given doesn't meet
-//! isn't made.
+//! What calls of the libraries answer, by their names, over `Mersenne31` and its cubic extension:
+//! what they are given and what they answer is JSON. A call whose conditions what is given doesn't
+//! meet isn't made.
 #![tactic(auto)]
 
 mod domains;
