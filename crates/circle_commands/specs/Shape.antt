@@ -1,6 +1,6 @@
 -- What the command `shape` is given, and the shape that it is.
 use Rattle.std.specs.Prelude.{◌<◌, ◌+◌, ◌-◌, codes}
-use Rattle.circle_matrix.specs.Json.{parameters_form}
+use Rattle.circle_json.specs.Claims.{parameters_form}
 use Rattle.circle_json.specs.Form.{count_form, list_form}
 use Rattle.circle_json.specs.Objects.{Fields, field, none_left}
 use Rattle.circle_transcript.specs.declared.shape.CirclePcsShape.{CirclePcsShape}

@@ -4,3 +4,5 @@ pub mod Form
 pub mod Objects
 pub mod ObjectForm
 pub mod Coefficients
+pub mod Claims
+pub mod Proof

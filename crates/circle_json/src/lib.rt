@@ -4,25 +4,33 @@
 //! count, an element or a digest is Ok exactly on their forms and fails by one stated error
 //! elsewhere, one of a list fails only as one of its items does or for want of memory, and what
 //! `to_json` wrote stands for the value that it was written of and for no other. `specs/Form` has
-//! what a form is and its laws, `specs/Values` the forms of this crate, `specs/ObjectForm` that of
-//! an object with exactly the members of a list of fields, for records of the crates above, and
+//! what a form is and its laws, `specs/Values` the forms of numbers, elements, digests and lists,
+//! `specs/ObjectForm` that of an object with exactly the members of a list of fields, and
 //! `specs/Coefficients` that of a list of which one item stands for itself, told from a list by
 //! `FlatForm`.
+//!
+//! So are the records of `circle_matrix` and `circle_relation` read and written: a batch's opening,
+//! claims and the parameters of FRI, of which `specs/Claims` has the keys of each object, and that
+//! the final polynomial's length may be missing; a proof and its parts, of which `specs/Proof` has
+//! the keys.
 //!
 //! Its files:
 //!
 //! - In `src/`, `form.rt`: the trait. `object.rt`: keys and members of an object, read and written.
+//!   `claims.rt`, `proof.rt`: records.
 //! - In `specs/`, `Form`, `FormFacts`: what a form is, with its laws. `Values`: numbers, elements,
 //!   digests and lists. `Objects`, `ObjectForm`: objects of a list of fields. `Coefficients`: a
-//!   list of which one item stands for itself.
+//!   list of which one item stands for itself. `Claims`, `Proof`: the keys of records.
 //! - In `proofs/`: arrays item by item, objects and their keys, values written as objects of their
-//!   parts.
+//!   parts, parameters.
 #![tactic(auto)]
 
+pub mod claims;
 pub mod coefficients;
 pub mod error;
 pub mod form;
 pub mod object;
+pub mod proof;
 
 pub use coefficients::{FlatForm, coefficients_from_json, coefficients_to_json};
 pub use error::JsonError;

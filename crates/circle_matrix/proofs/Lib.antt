@@ -1,4 +1,3 @@
 pub mod Written
 pub mod ColumnSums
 pub mod Powers
-mod Parameters

@@ -10,5 +10,4 @@ pub mod PeriodicLdeTable
 pub mod Pcs
 pub mod Parameters
 pub mod Selectors
-pub mod Json
 pub mod Named

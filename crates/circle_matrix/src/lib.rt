@@ -1,6 +1,6 @@
 //! What commitment schemes stand on: matrices by rows, views of them, domains that polynomials are
 //! given on, what is opened and claimed of them, the parameters of FRI, how it folds and why it
-//! refuses, and the forms of values in JSON.
+//! refuses.
 //!
 //! What is proved:
 //!
@@ -13,9 +13,6 @@
 //!   what a domain is asked and gives; `Pcs` and `FriFoldingStrategy` leave that to their
 //!   instances.
 //! - A `PeriodicLdeTable` answers the entry of its row i modulo its height (`get`).
-//! - `JsonForm` of `circle_json`, shown here too, reads a batch's opening, claims and the
-//!   parameters of FRI from JSON and writes them: `specs/Json` has the keys of each object, and
-//!   that the final polynomial's length may be missing.
 //!
 //! Its files:
 //!
@@ -24,13 +21,12 @@
 //! - In `specs/`, `Matrix`, `RowMajorMatrix`, `RowMajorMatrixView`, `PeriodicLdeTable`: what each
 //!   type is to contracts. `Mmcs`, `MmcsFacts`, `Pcs`, `Parameters`, `Selectors`: words of schemes,
 //!   parameters and selectors. `DotProduct`: sums by weights. `RowFacts`, `FlatRows`: lemmas on
-//!   rows stored one after another, for the crates above too. `Json`: the keys of objects.
-//! - In `proofs/`: column sums, parameters in JSON, powers of two, lists written from the front.
+//!   rows stored one after another, for the crates above too.
+//! - In `proofs/`: column sums, powers of two, lists written from the front.
 #![tactic(auto)]
 
 pub mod error;
 pub mod folding;
-pub mod json;
 pub mod matrix;
 pub mod mmcs;
 pub mod params;
@@ -39,7 +35,6 @@ pub mod periodic;
 pub mod space;
 pub mod view;
 
-pub use circle_json::{JsonError, JsonForm};
 pub use error::{FriError, Named};
 pub use folding::FriFoldingStrategy;
 pub use matrix::{

@@ -6,5 +6,4 @@ pub mod Accepts
 pub mod Reasons
 pub mod RunOf
 pub mod Rows
-pub mod Json
 pub mod Named

@@ -6,8 +6,7 @@
 //! (`proofs/Contradictions`). `specs/Statement`, `StatementOf` and `RunOf` say what claims and the
 //! records of this crate are to them, and `specs/Rows` evaluates them at a worked opening.
 //!
-//! A proof and its parts are read from JSON and written as JSON by `JsonForm`; `specs/Json` has the
-//! keys of each object. There is nothing else to call here.
+//! There is nothing to call here.
 //!
 //! Its files:
 //!
@@ -17,14 +16,13 @@
 //!   relation, part by part. `Sums`, `Taken`: sums of quotients, and what a transcript takes in.
 //!   `Reasons`: why a run is refused. `RunOf`: what is known of a run before it is opened
 //!   (`IsDrawn`) and once its lengths are tested (`IsOpened`), and the lists that calls hand on.
-//!   `Json`: keys. `Rows`: an opening.
+//!   `Rows`: an opening.
 //! - In `proofs/`, `Contradictions`: where the relation holds no refusal has a reason but want of
 //!   memory. `AtQueries`, `ReducedSums`, `Ends`: lists over queries. `Pairs`: loops over pairs.
 //!   `Kept`, `Shown`, `Results`.
 #![tactic(auto)]
 
 pub mod error;
-pub mod json;
 pub mod proof;
 pub mod run;
 
