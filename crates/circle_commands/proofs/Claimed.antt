@@ -6,9 +6,9 @@ use Rattle.circle_matrix.specs.Pcs.{Openings}
 use Rattle.circle_matrix.specs.declared.pcs.CommitmentOpening.{CommitmentOpening}
 use Rattle.circle_matrix.specs.declared.pcs.MatrixOpening.{MatrixOpening}
 use Rattle.circle_matrix.specs.declared.pcs.PointOpening.{PointOpening}
-use Rattle.circle_pcs.specs.Claims.{Told, batch_told as all_told, matrix_told as sized, point_told}
-use Rattle.circle_pcs.specs.Claims.{matrix_claimed as sized_claim, batch_claimed as sized_claims}
-use Rattle.circle_pcs.specs.declared.claims.CommittedBatch.{CommittedBatch}
+use Rattle.circle_commit.specs.Claims.{Told, batch_told as all_told, matrix_told as sized, point_told}
+use Rattle.circle_commit.specs.Claims.{matrix_claimed as sized_claim, batch_claimed as sized_claims}
+use Rattle.circle_commit.specs.declared.claims.CommittedBatch.{CommittedBatch}
 use Rattle.circle_opening.specs.Requests.{log_of}
 use Rattle.circle_relation.specs.Statement.{BatchClaim, MatrixClaim, PointClaim}
 use Rattle.circle_relation.specs.StatementOf.{point_claim}

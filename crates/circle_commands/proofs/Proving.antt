@@ -15,7 +15,7 @@ use Rattle.circle_domain.specs.Domain.{log_size, shift_of}
 use Rattle.circle_domain.specs.declared.domain.CircleDomain.{CircleDomain}
 use Rattle.circle_field.specs.Mersenne31.{operations, generators}
 use Rattle.circle_field.specs.declared.mersenne31.Mersenne31.{Mersenne31}
-use Rattle.p3_circle.specs.Committing.{AreExtensions, HaveRowsForPoints, IsExtension, IsExtensionOf}
+use Rattle.circle_scheme.specs.Committing.{AreExtensions, HaveRowsForPoints, IsExtension, IsExtensionOf}
 use Rattle.circle_commands.specs.Proved.{ArePlaced, IsCommitted, IsExtended, IsRequested, commitments_taken}
 use Rattle.circle_commands.specs.Rows.{lists}
 use Rattle.circle_commands.specs.Traces.{HasFittingRows}

@@ -23,11 +23,11 @@ use Rattle.circle_merkle.specs.declared.mmcs.ShaMmcs.{ShaMmcs}
 use Rattle.circle_opening.specs.Opening.{IsOpening}
 use Rattle.circle_opening.specs.Schemes.{Schemes}
 use Rattle.circle_opening.specs.Requests.{AreAnswers, lists_of, log_of}
-use Rattle.circle_pcs.specs.declared.claims.CommittedBatch.{CommittedBatch}
+use Rattle.circle_commit.specs.declared.claims.CommittedBatch.{CommittedBatch}
 use Rattle.circle_relation.specs.RunOf.{proof_of}
 use Rattle.circle_relation.specs.Statement.{BatchClaim, MatrixClaim}
 use Rattle.circle_words.specs.Words.{claim_of}
-use Rattle.p3_circle.specs.Committing.{IsExtensionOf}
+use Rattle.circle_scheme.specs.Committing.{IsExtensionOf}
 use Rattle.circle_commands.specs.Rows.{lists}
 use Rattle.circle_commands.specs.Traces.{HasFittingRows}
 use Rattle.circle_commands.specs.Verified.{batches_told}

@@ -1,7 +1,7 @@
 //! Openings on domains that are not standard are accepted, and whole runs over any scheme.
 ghost use Rattle.std.specs.Prelude.{◌≡◌, ◌≤◌, length, All, IsTrue};
-ghost use Rattle.circle_pcs.specs.RoundTrip.{HasPoints};
-ghost use Rattle.p3_circle.specs.Committing.{HaveRowsForPoints};
+ghost use Rattle.circle_commit.specs.RoundTrip.{HasPoints};
+ghost use Rattle.circle_scheme.specs.Committing.{HaveRowsForPoints};
 
 use circle_challenger::Sha256Challenger;
 use circle_commit::{OpenedValues, RoundTripError};

@@ -4,7 +4,7 @@ use Rattle.std.proofs.lemmas.List.{get_or-map}
 use Rattle.circle_matrix.specs.Matrix.{IsPowerOfTwo}
 use Rattle.circle_matrix.specs.RowMajorMatrix.{height_of}
 use Rattle.circle_matrix.specs.declared.matrix.RowMajorMatrix.{RowMajorMatrix}
-use Rattle.p3_circle.specs.Committing.{height_at}
+use Rattle.circle_scheme.specs.Committing.{height_at}
 
 pub power-at : {T : Type 0} (matrices : List (RowMajorMatrix T)) (i : ℕ) (m : RowMajorMatrix T) → i < length matrices → m ≡ get_or matrices i m
     → IsPowerOfTwo (height_of m) → IsPowerOfTwo (height_at matrices i)

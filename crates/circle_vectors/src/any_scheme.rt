@@ -2,9 +2,8 @@
 ghost use Rattle.std.specs.Prelude.{IfOk, IsTrue};
 
 use circle_challenger::ChallengerState;
-use circle_commit::{CommitmentOpening, PolynomialSpace};
+use circle_commit::{CommitmentOpening, Pcs, PolynomialSpace};
 use circle_field::ExtensionField;
-use circle_pcs::Pcs;
 use std::alloc::{AllocError, Global};
 
 /// Whether a scheme accepts claims and a proof from the challenger's state: true exactly where its

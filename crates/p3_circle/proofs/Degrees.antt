@@ -18,10 +18,10 @@ use Rattle.circle_opening.specs.declared.error.ProverError.TheVariants.{LastWord
 use Rattle.circle_relation.specs.Accepts.{Fields}
 use Rattle.circle_verifier.specs.Refusals.{Test, answer}
 use Rattle.p3_circle.specs.Calls.{IsOfHighDegreeIf}
-use Rattle.p3_circle.specs.Committing.{height_tests, matrix_tests}
-use Rattle.p3_circle.specs.Requesting.{opening_tests}
+use Rattle.circle_scheme.specs.Committing.{height_tests, matrix_tests}
+use Rattle.circle_scheme.specs.Requesting.{opening_tests}
 use Rattle.p3_circle.specs.Scheme.{IsFirstFrom}
-use Rattle.p3_circle.specs.SchemeLaws.Unrefused.{are-fit, are-requests}
+use Rattle.circle_scheme.proofs.Unrefused.{are-fit, are-requests}
 
 -- tests that refuse for other reasons
 abbrev Others : List (Test ProverError) → Type 0

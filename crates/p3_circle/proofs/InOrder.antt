@@ -1,8 +1,8 @@
 -- What is answered where tests refuse in order.
 use Rattle.std.proofs.Common.{◌≡◌, List, ◌∷◌, refl, sym, ap, subst}
 use Rattle.std.specs.Prelude.{Result, Ok, Err, MatchResult, IfErr, IsErrAnd, true}
-use Rattle.p3_circle.specs.Committing.{RefusesInOrder}
-use Rattle.p3_circle.specs.Requesting.{RefusesBefore}
+use Rattle.circle_scheme.specs.Committing.{RefusesInOrder}
+use Rattle.circle_scheme.specs.Requesting.{RefusesBefore}
 use Rattle.p3_circle.specs.Scheme.{IsFirstFrom}
 use Rattle.p3_circle.proofs.Verdicts.{first-by}
 use Rattle.circle_verifier.specs.Refusals.{Test, answer}

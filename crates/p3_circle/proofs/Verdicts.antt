@@ -22,7 +22,8 @@ use Rattle.circle_relation.proofs.Contradictions.{only_memory}
 use Rattle.circle_verifier.specs.Refusals.{Test, answer, seeding_tests, is_at_infinity}
 use Rattle.circle_verifier.specs.Tested.{rounds_due, IsTested}
 use Rattle.circle_relation.specs.Taken.{drawn_by}
-use Rattle.p3_circle.specs.Verdict.{IsAccepted, IsMissedIn, IsDrawnFrom, draw_from}
+use Rattle.circle_scheme.specs.Replay.{IsMissedIn}
+use Rattle.p3_circle.specs.Verdict.{IsAccepted, IsDrawnFrom, draw_from}
 use Rattle.circle_relation.specs.RunOf.{run_with}
 use Rattle.p3_circle.proofs.Known.{PartsPass, known, all_pass}
 use Rattle.circle_verifier.proofs.Passed.{AllPass, passed, passes, pass-front, pass-back, pass-both}

@@ -9,7 +9,7 @@ use Rattle.circle_matrix.specs.declared.pcs.OpeningRequest.{OpeningRequest}
 use Rattle.circle_opening.specs.declared.error.ProverError.{ProverError}
 use Rattle.circle_opening.specs.declared.error.ProverError.TheVariants.{LastWordNotConstant}
 use Rattle.circle_verifier.specs.Refusals.{Test}
-use Rattle.p3_circle.specs.Requesting.{request_tests}
+use Rattle.circle_scheme.specs.Requesting.{request_tests}
 use Rattle.circle_relation.specs.Accepts.{Fields}
 use Rattle.p3_circle.specs.declared.pcs.CirclePcs.{CirclePcs}
 

@@ -19,7 +19,7 @@ use Rattle.circle_opening.specs.declared.error.ProverError.{ProverError}
 use Rattle.circle_point.specs.Projective.{from_line}
 use Rattle.circle_relation.specs.Accepts.{Fields}
 use Rattle.circle_words.specs.Ratios.{points_of_height}
-use Rattle.p3_circle.specs.Committing.{HaveNaturalValues}
+use Rattle.circle_scheme.specs.Committing.{HaveNaturalValues}
 
 module _ {F E M : Type 0} {g : _} (k : Fields F E) (two_adicity : ℕ) (p : FriParameters M) where
   -- rows on a domain that leaves something to fold, whose halves are disjoint, and of which the

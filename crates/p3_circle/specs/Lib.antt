@@ -1,9 +1,6 @@
 pub mod Calls
-pub mod Committing
 pub mod Constant
 pub mod Honest
-pub mod Replay
-pub mod Requesting
 pub mod Scheme
 pub mod SchemeFacts
 pub mod SchemeLaws

@@ -23,7 +23,7 @@ use Rattle.circle_opening.specs.declared.error.ProverError.TheVariants.{Memory}
 use Rattle.circle_relation.specs.Accepts.{Authenticates, Fields}
 use Rattle.circle_relation.specs.RunOf.{proof_of}
 use Rattle.circle_relation.specs.declared.proof.CirclePcsProof.{CirclePcsProof}
-use Rattle.p3_circle.specs.Committing.{AreExtensions, height_at}
+use Rattle.circle_scheme.specs.Committing.{AreExtensions, height_at}
 use Rattle.circle_verifier.specs.Refusals.{Test, answer}
 
 -- whether a verifier says that memory was refused

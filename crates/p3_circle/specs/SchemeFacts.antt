@@ -15,11 +15,11 @@ use Rattle.circle_domain.specs.declared.domain.CircleDomain.{CircleDomain}
 use Rattle.circle_field.specs.Circle.{Coordinates}
 use Rattle.circle_field.specs.Field.{FieldOps}
 use Rattle.circle_field.specs.declared.field.Operations.{Ghosts}
-use Rattle.circle_pcs.specs.Kept.{AreKept}
+use Rattle.circle_commit.specs.Kept.{AreKept}
 use Rattle.circle_relation.specs.Taken.{drawn_by}
 use Rattle.circle_relation.specs.Accepts.{Authenticates, Fields}
 use Rattle.circle_relation.specs.declared.proof.CirclePcsProof.{CirclePcsProof}
-use Rattle.p3_circle.specs.Committing.{AreExtensions}
+use Rattle.circle_scheme.specs.Committing.{AreExtensions}
 use Rattle.p3_circle.specs.Scheme.{AreCommittedTo, IsCommitted}
 use Rattle.p3_circle.specs.Verdict.{IsAccepted}
 

@@ -22,14 +22,14 @@ use Rattle.circle_opening.specs.Opening.{IsFailure}
 use Rattle.circle_opening.specs.Requests.{AreAnswers, AreValuesOf, IsFit, IsOpenable}
 use Rattle.circle_opening.specs.declared.error.ProverError.{ProverError}
 use Rattle.circle_opening.specs.declared.error.ProverError.TheVariants.{Memory}
-use Rattle.circle_pcs.specs.Honest.{AreAnsweredBy, AreHonest, HaveValues, requested_points}
+use Rattle.circle_commit.specs.Honest.{AreAnsweredBy, AreHonest, HaveValues, requested_points}
 use Rattle.circle_relation.specs.Accepts.{Authenticates, Fields}
 use Rattle.circle_relation.specs.RunOf.{proof_of}
 use Rattle.circle_relation.specs.StatementOf.{batch_claims}
 use Rattle.circle_relation.specs.declared.proof.CirclePcsProof.{CirclePcsProof}
-use Rattle.p3_circle.specs.Committing.{commit_tests}
+use Rattle.circle_scheme.specs.Committing.{commit_tests}
 use Rattle.p3_circle.specs.Honest.{AreValuesOfBatch, FindsWitnesses, IsHonestBatch}
-use Rattle.p3_circle.specs.Requesting.{opening_tests}
+use Rattle.circle_scheme.specs.Requesting.{opening_tests}
 use Rattle.p3_circle.specs.Scheme.{IsCommitted, IsFirstFrom, IsFirstOf, IsGiven}
 use Rattle.p3_circle.specs.Scheme.{says_prover_memory}
 use Rattle.p3_circle.specs.SchemeFacts.{extended-powers}
@@ -38,10 +38,7 @@ use Rattle.p3_circle.specs.SchemeLaws.HonestOpenings.{all-valued, answered-kept,
 use Rattle.p3_circle.specs.SchemeLaws.HonestOpenings.{commits, kept-low, points_in}
 use Rattle.p3_circle.specs.SchemeLaws.HonestTests.{batch-passes, requests-pass, unrefused}
 use Rattle.p3_circle.specs.SchemeLaws.HonestTests.{unrefused-from}
-use Rattle.p3_circle.specs.SchemeLaws.Unrefused.{are-fit, are-requests}
-pub mod CommitTests
-pub mod OnDomain
-pub mod Unrefused
+use Rattle.circle_scheme.proofs.Unrefused.{are-fit, are-requests}
 pub mod HonestTests
 pub mod HonestOpenings
 

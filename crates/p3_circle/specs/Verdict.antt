@@ -1,46 +1,23 @@
 -- What a verifier decides: which claims and proofs it accepts from a state of the challenger, and
 -- why it refuses others once the challenger is seeded.
-use Rattle.std.specs.Prelude.{◌≡◌, Bool, List, Result, Ok, Err, ◌⊎◌}
-use Rattle.circle_field.specs.Field.{FieldOps}
+use Rattle.std.specs.Prelude.{◌≡◌, Bool, List, Result, Ok, ◌⊎◌}
 use Rattle.circle_challenger.specs.Moves.{RunMoves}
 use Rattle.circle_matrix.specs.declared.error.FriError.{FriError}
-use Rattle.circle_matrix.specs.declared.error.FriError.TheVariants.{InvalidPowWitness, Memory}
+use Rattle.circle_matrix.specs.declared.error.FriError.TheVariants.{Memory}
 use Rattle.circle_matrix.specs.declared.params.FriParameters.{FriParameters}
 use Rattle.circle_matrix.specs.declared.params.PowPhase.{PowPhase}
 use Rattle.circle_matrix.specs.declared.pcs.CommitmentOpening.{CommitmentOpening}
 use Rattle.circle_domain.specs.declared.domain.CircleDomain.{CircleDomain}
 use Rattle.circle_relation.specs.declared.error.InputError.{InputError}
 use Rattle.circle_relation.specs.declared.proof.CirclePcsProof.{CirclePcsProof}
-use Rattle.circle_relation.specs.Statement.{BatchClaim, OpeningProof, Challenges}
+use Rattle.circle_relation.specs.Statement.{Challenges}
 use Rattle.circle_relation.specs.StatementOf.{batch_claims}
 use Rattle.circle_relation.specs.Accepts.{AcceptsFrom, Authenticates, Fields}
 use Rattle.circle_relation.specs.Reasons.{IsReason}
 use Rattle.circle_relation.specs.RunOf.{proof_of, run_with}
-use Rattle.circle_transcript.specs.declared.failure.CircleTranscriptFailure.{CircleTranscriptFailure}
-use Rattle.circle_transcript.specs.declared.failure.CircleTranscriptFailure.TheVariants.{PowWitness}
-use Rattle.circle_transcript.specs.declared.failure.CircleTranscriptFailure.TheVariants.{NoWitness}
-use Rattle.circle_transcript.specs.declared.failure.CircleTranscriptFailure.TheVariants.{Memory as OutOfMemory}
-use Rattle.circle_transcript.specs.Draw.{Drawn, draw}
-use Rattle.circle_relation.specs.Taken.{drawn_by, shape_by, taken_by}
-
--- what is drawn from a state of a challenger, of claims and a proof
-abbrev pub drawing : {C S F E M Com InputCom InputProof WordProof : Type 0} → RunMoves C S F E Com
-    → FriParameters M → FieldOps E → List (BatchClaim InputCom E)
-    → OpeningProof F E Com InputProof WordProof → S → Result (Drawn S F) PowPhase
-drawing r p l batches proof s = draw r (shape_by p batches) (taken_by l batches proof) s
-
--- the refusal by which a transcript's failure is answered
-abbrev pub refusal_of : {WE I : Type 0} → CircleTranscriptFailure → FriError WE I
-refusal_of (PowWitness phase bits) = InvalidPowWitness phase
-refusal_of (NoWitness phase bits) = InvalidPowWitness phase
-refusal_of OutOfMemory = Memory
-
--- a witness of this phase is the first that doesn't pass
-pub record IsMissedIn {S F WE I : Type 0} (drawn : Result (Drawn S F) PowPhase)
-    (e : FriError WE I) : Type 0 where
-  pub phase : PowPhase
-  pub named : e ≡ InvalidPowWitness phase
-  pub missed : drawn ≡ Err phase
+use Rattle.circle_transcript.specs.Draw.{Drawn}
+use Rattle.circle_relation.specs.Taken.{drawn_by}
+use Rattle.circle_scheme.specs.Replay.{drawing, IsMissedIn}
 
 -- I and W are the schemes of the batches and of the words, each with its commitments, data, proofs
 -- and errors; r is what the challenger is to the transcript

@@ -2,11 +2,11 @@
 ghost use Rattle.circle_matrix.specs.Mmcs.{HaveHeightsOfPowers};
 ghost use Rattle.circle_opening.specs.Opening.{IsFailure};
 ghost use Rattle.circle_plane.specs.PeriodicColumns.{IsRefusedOn, IsTableOn, columns_of};
-ghost use Rattle.p3_circle.specs.Committing.{AreExtensions, AreValuesOfMatrix};
-ghost use Rattle.p3_circle.specs.Committing.{HaveRowsForPoints, commit_tests, evaluation_tests};
-ghost use Rattle.p3_circle.specs.Committing.{lde_tests, target_tests_at};
+ghost use Rattle.circle_scheme.specs.Committing.{AreExtensions, AreValuesOfMatrix};
+ghost use Rattle.circle_scheme.specs.Committing.{HaveRowsForPoints, commit_tests, evaluation_tests};
+ghost use Rattle.circle_scheme.specs.Committing.{lde_tests, target_tests_at};
 ghost use Rattle.p3_circle.specs.Honest.{AreValuesOfBatch, FindsWitnesses, IsHonestBatch};
-ghost use Rattle.p3_circle.specs.Requesting.{opening_tests};
+ghost use Rattle.circle_scheme.specs.Requesting.{opening_tests};
 ghost use Rattle.p3_circle.specs.Scheme.{AreCommittedTo, AreExtended, CanBeDegree};
 ghost use Rattle.p3_circle.specs.Scheme.{CanBeEvaluated};
 ghost use Rattle.p3_circle.specs.Scheme.{HaveCommittedHeights, IsCommitted, IsFirstFrom, IsFirstOf};
@@ -21,13 +21,12 @@ ghost use Rattle.std.specs.Prelude.{◌≡◌, ◌+◌, ◌-◌, ◌^◌, min, I
 use crate::pcs::CirclePcs;
 use circle_challenger::{CanObserve, CanSample, GrindingChallenger, RunChallenger};
 use circle_commit::{
-    CommitmentOpening, FriError, Mmcs, OpenedValues, OpeningRequest, PeriodicLdeTable,
-    RowMajorMatrix,
+    CommitmentOpening, FriError, Mmcs, OpenedValues, OpeningRequest, Pcs, PeriodicLdeTable,
+    RowMajorMatrix, UnivariateStarkPcs,
 };
 use circle_domain::CircleDomain;
 use circle_field::{ComplexExtendable, ExtensionField};
 use circle_opening::ProverError;
-use circle_pcs::{Pcs, UnivariateStarkPcs};
 use circle_plane::PeriodicError;
 use circle_relation::{CirclePcsProof, InputError, OverCircle};
 use std::alloc::Global;

@@ -40,28 +40,23 @@
 //!   in one state (`states`), and tells the refusal of the call that refused, with its reason
 //!   (`reason`).
 //!
-//! `CirclePcs` is an instance of the traits `Pcs` and `UnivariateStarkPcs` of `circle_pcs`, whose
+//! `CirclePcs` is an instance of the traits `Pcs` and `UnivariateStarkPcs` of `circle_commit`, whose
 //! laws it meets: what `open` answers of an honest statement, `verify` accepts. The clauses of its
 //! calls cite the members of that instance, which say what each call gives and refuses.
 //!
 //! Its files:
 //!
-//! - In `specs/`, `Verdict`: what is accepted and refused. `Committing`, `Requesting`: tests in
-//!   order, and what is committed to. `Honest`: an honest statement. `Scheme`: calls as relations
-//!   of lists and states; `SchemeFacts`, `SchemeLaws` and the folder `SchemeLaws`: the proofs of
-//!   the traits' laws. `Calls`, `Replay`: words of clauses. `Constant`: folding to a constant.
-//!   `Searches`: an example of searches.
-//! - In `proofs/`, `Known`, `InOrder`, `Scheme`: tests. `Items`, `RequestLists`, `Replayed`: the
-//!   transcript. `Verdicts`: the answer. `Extensions`, `Continued`: committed rows. `Degrees`: a
-//!   last word of too high degree. `Constants`, `ConstantSeeds`.
+//! - In `specs/`, `Verdict`: what is accepted and refused. `Honest`: an honest statement. `Scheme`:
+//!   calls as relations of lists and states; `SchemeFacts`, `SchemeLaws` and the folder
+//!   `SchemeLaws`: the proofs of the traits' laws. `Calls`: words of clauses. `Constant`: folding to
+//!   a constant. `Searches`: an example of searches.
+//! - In `proofs/`, `Known`, `InOrder`, `Scheme`: tests. `Verdicts`: the answer. `Degrees`: a last
+//!   word of too high degree. `Constants`, `ConstantSeeds`.
 #![tactic(auto)]
 
-mod commit;
 mod instance;
 pub mod laws;
 pub mod pcs;
-mod replay;
-mod requests;
 pub mod round_trip;
 pub mod transcript;
 mod verdict;
@@ -87,7 +82,7 @@ pub use circle_plane::{
 pub use circle_relation::{
     CircleCommitPhaseMultiStep, CircleFriProof, CircleInputProof, CirclePcsProof, InputError,
 };
-pub use commit::{first_rows, heights_match_domains};
+pub use circle_scheme::{first_rows, heights_match_domains};
 pub use pcs::CirclePcs;
 pub use transcript::{
     CircleDraws, CirclePcsShape, CircleProverTranscript, CircleTranscript, CircleTranscriptFailure,

@@ -7,32 +7,32 @@ ghost use Rattle.circle_matrix.specs.Pcs.{openings};
 ghost use Rattle.circle_matrix.specs.declared.error.FriError.TheVariants.{Memory};
 ghost use Rattle.circle_domain.specs.Domain.{log_size, IsStandardDomain};
 ghost use Rattle.circle_plane.specs.PeriodicColumns.{columns_of, IsTableOn, IsRefusedOn};
-ghost use Rattle.p3_circle.specs.Committing.{RefusesInOrder, commit_tests, evaluation_tests};
-ghost use Rattle.p3_circle.specs.Committing.{lde_tests, height_at, target_tests_at};
-ghost use Rattle.p3_circle.specs.Committing.{HaveRowsForPoints, AreExtensions};
-ghost use Rattle.p3_circle.specs.Committing.{AreValuesOfMatrix};
+ghost use Rattle.circle_scheme.specs.Committing.{RefusesInOrder, commit_tests, evaluation_tests};
+ghost use Rattle.circle_scheme.specs.Committing.{lde_tests, height_at, target_tests_at};
+ghost use Rattle.circle_scheme.specs.Committing.{HaveRowsForPoints, AreExtensions};
+ghost use Rattle.circle_scheme.specs.Committing.{AreValuesOfMatrix};
 ghost use Rattle.circle_opening.specs.Requests.{AreAnswered};
 ghost use Rattle.circle_opening.specs.declared.error.ProverError.TheVariants.{Memory as OutOfMemory};
 ghost use Rattle.p3_circle.specs.Scheme.{CanBeDegree, HaveCommittedHeights, IsStandardOfSize};
-ghost use Rattle.p3_circle.specs.Requesting.{RefusesBefore};
+ghost use Rattle.circle_scheme.specs.Requesting.{RefusesBefore};
 ghost use Rattle.circle_verifier.specs.Tests.{IsFirstRefusal};
 ghost use Rattle.p3_circle.specs.Calls.{IsAnswer, IsOfHighDegreeIf, scheme_tests};
 
-use crate::commit::{
-    evaluations_on, extensions, log_min_trace_height, validate_evaluations, validate_heights,
-};
-use crate::requests::validate_requests;
 use circle_challenger::{CanObserve, CanSample, GrindingChallenger};
 use circle_commit::{
-    CommitmentOpening, FriError, FriParameters, Mmcs, OpenedValues, OpeningRequest,
-    PeriodicLdeTable, RowMajorMatrix, heights_are_powers_of_two, is_power_of_two, log2_strict,
+    CommitmentOpening, FriError, FriParameters, Mmcs, OpenedValues, OpeningRequest, Pcs,
+    PeriodicLdeTable, RowMajorMatrix, Statements, heights_are_powers_of_two, is_power_of_two,
+    log2_strict,
 };
 use circle_domain::CircleDomain;
 use circle_field::{ComplexExtendable, ExtensionField, Field};
 use circle_opening::{ProverError, open_requests};
-use circle_pcs::{Pcs, Statements};
 use circle_plane::{PeriodicError, build_periodic_lde_table_circle};
 use circle_relation::{CirclePcsProof, InputError, OverCircle};
+use circle_scheme::{
+    evaluations_on, extensions, log_min_trace_height, validate_evaluations, validate_heights,
+    validate_requests,
+};
 use std::alloc::Global;
 use std::marker::PhantomData;
 

@@ -1,18 +1,18 @@
 //! A whole run over the scheme.
 ghost use Rattle.std.specs.Prelude.{◌≡◌, All, IfErr, IfOk, OnOk};
 ghost use Rattle.circle_matrix.specs.Pcs.{openings};
-ghost use Rattle.circle_pcs.specs.RoundTrip.{HasPoints};
-ghost use Rattle.p3_circle.specs.Committing.{HaveRowsForPoints};
+ghost use Rattle.circle_commit.specs.RoundTrip.{HasPoints};
+ghost use Rattle.circle_scheme.specs.Committing.{HaveRowsForPoints};
 
 use crate::pcs::CirclePcs;
 use circle_challenger::{CanObserve, CanSample, GrindingChallenger};
 use circle_commit::{
-    BatchAtPoints, FriError, Mmcs, OpenedValues, RoundTripError, RowMajorMatrix, round_trip,
+    BatchAtPoints, FriError, Mmcs, OpenedValues, RoundTripError, RowMajorMatrix, Statements,
+    round_trip,
 };
 use circle_domain::CircleDomain;
 use circle_field::{ComplexExtendable, ExtensionField};
 use circle_opening::ProverError;
-use circle_pcs::Statements;
 use circle_relation::InputError;
 use std::alloc::Global;
 

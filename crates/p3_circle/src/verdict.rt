@@ -4,13 +4,12 @@ ghost use Rattle.circle_matrix.specs.declared.error.FriError.TheVariants.{Memory
 ghost use Rattle.circle_verifier.specs.Tests.{IsFirstRefusal};
 
 use crate::pcs::CirclePcs;
-use crate::replay::replay_transcript;
 use circle_challenger::{CanObserve, CanSample, GrindingChallenger};
-use circle_commit::{CommitmentOpening, FriError, Mmcs};
+use circle_commit::{CommitmentOpening, FriError, Mmcs, Pcs};
 use circle_domain::CircleDomain;
 use circle_field::{ComplexExtendable, ExtensionField};
-use circle_pcs::Pcs;
 use circle_relation::{CirclePcsProof, InputError, OverCircle};
+use circle_scheme::replay_transcript;
 use circle_verifier::verifier::validate_run;
 use circle_verifier::verify_drawn;
 use std::alloc::Global;

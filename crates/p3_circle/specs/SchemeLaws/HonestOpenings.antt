@@ -25,14 +25,14 @@ use Rattle.circle_field.specs.Circle.{AreGenerators}
 use Rattle.circle_field.specs.Field.{FieldLaws, IsEmbedding}
 use Rattle.circle_opening.specs.Requests.{AreAnswers, AreRequests, AreValuesOf, IsFit, IsOpenable, batch_committed, claimed, committed, log_of, points_of}
 use Rattle.circle_completeness.specs.Claimed.{AreClaimed}
-use Rattle.circle_pcs.specs.Honest.{AreAnsweredBy, AreClaimedOf, IsClaimedOf, requested_points}
+use Rattle.circle_commit.specs.Honest.{AreAnsweredBy, AreClaimedOf, IsClaimedOf, requested_points}
 use Rattle.circle_point.specs.Projective.{from_line}
 use Rattle.circle_relation.specs.Accepts.{Fields}
 use Rattle.circle_relation.specs.Statement.{MatrixClaim, PointClaim, all_matrices}
 use Rattle.circle_relation.specs.StatementOf.{batch_claims, matrix_claim, point_claim}
 use Rattle.circle_words.specs.Ratios.{points_of_height}
 use Rattle.circle_words.specs.Words.{claim_of}
-use Rattle.p3_circle.specs.Committing.{AreExtensions, IsExtension}
+use Rattle.circle_scheme.specs.Committing.{AreExtensions, IsExtension}
 use Rattle.p3_circle.specs.Honest.{AreValuesOfBatch, AreValuesOfRows}
 use Rattle.p3_circle.specs.Scheme.{IsCommitted}
 

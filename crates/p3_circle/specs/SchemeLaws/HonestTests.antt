@@ -19,19 +19,19 @@ use Rattle.circle_field.specs.CircleGroup.{same_coordinates}
 use Rattle.circle_opening.specs.Requests.{AreFit, log_of}
 use Rattle.circle_opening.specs.declared.error.ProverError.{ProverError}
 use Rattle.circle_opening.proofs.Logs.{log_of-power}
-use Rattle.circle_pcs.specs.Honest.{IsHonest, requested_points}
+use Rattle.circle_commit.specs.Honest.{IsHonest, requested_points}
 use Rattle.circle_relation.specs.Accepts.{Fields}
 use Rattle.circle_words.specs.Ratios.{points_of_height}
-use Rattle.p3_circle.specs.Committing.{AreExtensions, IsExtension, commit_tests, domain_tests, evaluation_tests, height_tests, is_degenerate, matrix_tests}
+use Rattle.circle_scheme.specs.Committing.{AreExtensions, IsExtension, commit_tests, domain_tests, evaluation_tests, height_tests, is_degenerate, matrix_tests}
 use Rattle.p3_circle.specs.Honest.{CanBeOpenedAt, IsHonestBatch}
 use Rattle.circle_verifier.specs.Refusals.{Test, answer, is_at_infinity}
-use Rattle.p3_circle.specs.Requesting.{is_at, is_infinite, is_unfit, meets_domain, opening_tests, some_on_domain}
+use Rattle.circle_scheme.specs.Requesting.{is_at, is_infinite, is_unfit, meets_domain, opening_tests, some_on_domain}
 use Rattle.p3_circle.specs.Scheme.{IsCommitted, IsFirst, IsFirstFrom}
 use Rattle.circle_verifier.proofs.Answering.{answer-append}
-use Rattle.p3_circle.specs.SchemeLaws.CommitTests.{height_fits}
+use Rattle.circle_scheme.proofs.CommitTests.{height_fits}
 use Rattle.circle_verifier.proofs.HeightTests.{answer-none, skipped}
-use Rattle.p3_circle.specs.SchemeLaws.OnDomain.{and-each, never, told}
-use Rattle.p3_circle.specs.SchemeLaws.Unrefused.{none-refused}
+use Rattle.circle_scheme.proofs.OnDomain.{and-each, never, told}
+use Rattle.circle_scheme.proofs.Unrefused.{none-refused}
 
 -- none of two
 neither : (a b : Bool) → a ≡ false → b ≡ false → (a || b) ≡ false

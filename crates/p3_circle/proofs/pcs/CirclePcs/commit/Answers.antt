@@ -1,10 +1,10 @@
 use Rattle.std.proofs.Common.{rules, ◌≡◌, ◌==◌, ◌≤◌, length, true, false, Ok, sym, subst, ◌∙◌, arith}
 use Rattle.std.proofs.lemmas.Slice.Zip.{AllZip-long}
 use Rattle.circle_matrix.specs.Mmcs.{HaveHeightsOfPowers}
-use Rattle.p3_circle.specs.Committing.{commit_tests, evaluation_tests, IsExtension}
+use Rattle.circle_scheme.specs.Committing.{commit_tests, evaluation_tests, IsExtension}
 use Rattle.circle_opening.specs.declared.error.ProverError.TheVariants.{NoCommittedMatrices}
-use Rattle.p3_circle.proofs.Extensions.{extensions-heights}
-use Rattle.p3_circle.specs.SchemeLaws.CommitTests.{eqb_positive}
+use Rattle.circle_scheme.proofs.Extensions.{extensions-heights}
+use Rattle.circle_scheme.proofs.CommitTests.{eqb_positive}
 use Rattle.circle_verifier.proofs.HeightTests.{skipped}
 use Rattle.p3_circle.proofs.InOrder.{refuses-first, err-refuses, passes, ok-passes, alike, only-memory}
 use Rattle.p3_circle.proofs.pcs.CirclePcs.commit.Goals as goal

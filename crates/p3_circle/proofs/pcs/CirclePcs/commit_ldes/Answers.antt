@@ -1,6 +1,6 @@
 use Rattle.std.proofs.Common.{rules, ◌≡◌, ◌==◌, length, true, false, sym, subst, ap, ◌∙◌, Ok}
 use Rattle.circle_matrix.specs.Mmcs.{HaveHeightsOfPowers}
-use Rattle.p3_circle.specs.Committing.{lde_tests, matrix_tests}
+use Rattle.circle_scheme.specs.Committing.{lde_tests, matrix_tests}
 use Rattle.circle_opening.specs.declared.error.ProverError.TheVariants.{NoCommittedMatrices}
 use Rattle.circle_verifier.specs.Refusals.{answer}
 use Rattle.circle_verifier.proofs.HeightTests.{skipped}
