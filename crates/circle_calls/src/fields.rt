@@ -3,9 +3,8 @@ ghost use Rattle.std.specs.Prelude.{◌≢◌, All, IsTrue};
 
 use crate::given::maybe;
 use anyhow::{Result, bail};
-use circle_commit::JsonForm;
 use circle_field::{Cubic, Field, Mersenne31, batch_multiplicative_inverse};
-use circle_json::member;
+use circle_json::{JsonForm, member};
 use serde_json::Value;
 use std::alloc::Global;
 

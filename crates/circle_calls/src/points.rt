@@ -1,9 +1,8 @@
 //! Cases of points and of the transform's order.
 use crate::given::{coordinates, list_of, maybe, maybe_coordinates, point, point_off};
 use anyhow::{Result, bail};
-use circle_commit::JsonForm;
 use circle_field::{Cubic, Field, Mersenne31};
-use circle_json::member;
+use circle_json::{JsonForm, member};
 use circle_plane::{Neutral, Point, cfft_permute_index};
 use serde_json::Value;
 use std::alloc::Global;

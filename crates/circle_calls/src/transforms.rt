@@ -8,9 +8,9 @@ use crate::given::{
     rows_on,
 };
 use anyhow::{Result, bail};
-use circle_commit::{JsonForm, Matrix, PeriodicLdeTable, PolynomialSpace, is_power_of_two};
 use circle_field::{ExtensionField, Mersenne31};
-use circle_json::member;
+use circle_json::{JsonForm, member};
+use circle_matrix::{Matrix, PeriodicLdeTable, PolynomialSpace, is_power_of_two};
 use circle_plane::{
     Butterflies, CircleDomain, CircleEvaluations, PeriodicError, Point,
     build_periodic_lde_table_circle, circle_basis,

@@ -7,7 +7,7 @@ ghost use Rattle.circle_matrix.specs.Mmcs.{rows_at_each, opened_rows};
 ghost use Rattle.circle_fixtures.specs.SameRows.{HaveSameRows};
 
 use circle_challenger::{CanObserve, Sha256Challenger};
-use circle_commit::{Dimensions, Matrix, OpenedRows, RowMajorMatrix};
+use circle_matrix::{Dimensions, Matrix, OpenedRows, RowMajorMatrix};
 use std::alloc::{AllocError, Global};
 use std::fmt;
 

@@ -6,8 +6,8 @@ ghost use Rattle.circle_matrix.specs.Mmcs.{HaveHeightsOfPowers, max_height, rows
 ghost use Rattle.circle_matrix.specs.Mmcs.{opened_rows};
 
 use crate::matrix_list::{MatrixList, shapes};
-use circle_commit::{Dimensions, Mmcs, OpenedRows, RowMajorMatrix, are_below};
 use circle_field::Field;
+use circle_matrix::{Dimensions, Mmcs, OpenedRows, RowMajorMatrix, are_below};
 use std::alloc::{AllocError, Global};
 use thiserror::Error;
 

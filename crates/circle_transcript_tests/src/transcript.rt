@@ -6,8 +6,8 @@ ghost use Rattle.circle_transcript.specs.ShapeOf.{shape_of, batches_of};
 
 use crate::stubborn::Stubborn;
 use circle_challenger::{CanObserve, CanSample, GrindingChallenger, Sha256Challenger};
-use circle_commit::{FriParameters, PowPhase};
 use circle_field::{Cubic, ExtensionField, Field, Mersenne31};
+use circle_matrix::{FriParameters, PowPhase};
 use circle_point::{Neutral, Point};
 use circle_runs::{
     CircleDraws, CircleMessages, CircleWitnesses, both_runs, prover_run, verifier_run,
