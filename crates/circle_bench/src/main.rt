@@ -3,23 +3,16 @@
 //! to, or with the argument `time` how long they take.
 #![tactic(auto)]
 
-mod chains;
-mod commitments;
-mod compressions;
-mod evaluations;
-mod hashing;
 mod openings;
 mod proofs;
-mod tables;
-mod timing;
-mod transforms;
 
-use chains::Operation;
 use circle_field::{Cubic, ExtensionField, Field, Mersenne31};
+use circle_passes::chains::Operation;
+use circle_passes::timing::{self, Case, Mode};
+use circle_passes::transforms::{Size, Transform};
+use circle_passes::{commitments, evaluations, hashing, tables};
 use std::process::ExitCode;
 use std::{env, io};
-use timing::{Case, Mode};
-use transforms::{Size, Transform};
 
 /// The chains over [`Mersenne31`].
 const MERSENNE31: [Case; 6] = [

@@ -1,6 +1,6 @@
 pub mod CommitTests
 pub mod Continued
-pub mod Extensions
+pub mod Extended
 mod Items
 pub mod OnDomain
 mod Replayed

@@ -18,7 +18,7 @@
 //!   the verifier's side of the transcript.
 //! - In `specs/`, `Committing`, `Requesting`: tests in order, and what is committed to. `Replay`: what
 //!   is drawn.
-//! - In `proofs/`, `CommitTests`, `Unrefused`: tests. `OnDomain`: points of a domain. `Extensions`,
+//! - In `proofs/`, `CommitTests`, `Unrefused`: tests. `OnDomain`: points of a domain. `Extended`,
 //!   `Continued`: committed rows. `Items`, `RequestLists`, `Replayed`: the transcript.
 #![tactic(auto)]
 

@@ -2,7 +2,7 @@ use Rattle.std.proofs.Common.{◌+◌, ◌^◌, ◌∙◌, ap, sym, subst}
 use Rattle.circle_matrix.specs.RowMajorMatrix.{width_of}
 use Rattle.circle_domain.specs.Domain.{log_size}
 use Rattle.circle_scheme.specs.Committing.{IsExtension}
-use Rattle.circle_scheme.proofs.Extensions.{extended}
+use Rattle.circle_scheme.proofs.Extended.{extended}
 use Rattle.circle_scheme.proofs.commit.extension.Goals as goal
 
 pub returns : goal.returns

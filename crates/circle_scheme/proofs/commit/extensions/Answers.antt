@@ -7,7 +7,7 @@ use Rattle.circle_matrix.specs.declared.matrix.RowMajorMatrix.{RowMajorMatrix}
 use Rattle.circle_domain.specs.Domain.{log_size}
 use Rattle.circle_domain.specs.declared.domain.CircleDomain.{CircleDomain}
 use Rattle.circle_scheme.specs.Committing.{AreExtensions, IsExtendable, IsExtension}
-use Rattle.circle_scheme.proofs.Extensions.{AllZip-more}
+use Rattle.circle_scheme.proofs.Extended.{AllZip-more}
 use Rattle.circle_scheme.proofs.CommitTests.{at-item}
 use Rattle.circle_scheme.proofs.commit.extensions.Goals as goal
 

@@ -2,8 +2,8 @@
 ghost use Rattle.std.specs.Prelude.{◌≡◌, ◌≤◌, ◌^◌, IfOk};
 ghost use Rattle.circle_matrix.specs.RowMajorMatrix.{height_of};
 
-use circle_commit::RowMajorMatrix;
 use circle_field::{Field, Mersenne31};
+use circle_matrix::RowMajorMatrix;
 use circle_plane::{CircleDomain, CircleEvaluations};
 use std::alloc::{AllocError, Global};
 
