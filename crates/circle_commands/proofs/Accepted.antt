@@ -31,9 +31,9 @@ use Rattle.circle_matrix.specs.declared.pcs.OpeningRequest.{OpeningRequest}
 use Rattle.circle_merkle.specs.ProverData.{matrices_of}
 use Rattle.circle_merkle.specs.declared.mmcs.ShaMmcs.{ShaMmcs}
 use Rattle.circle_opening.specs.Opening.{IsOpening}
-use Rattle.circle_opening.specs.Requests.{AreAnswers, AreFit, AreRequests, AreValuesOf, IsFit, IsOpenable, batch_committed, claimed, committed as committed_at, lists_of, log_of}
+use Rattle.circle_words.specs.Requests.{AreAnswers, AreFit, AreRequests, AreValuesOf, IsFit, IsOpenable, batch_committed, claimed, committed as committed_at, lists_of, log_of}
 use Rattle.circle_opening.specs.Schemes.{Schemes}
-use Rattle.circle_opening.proofs.Logs.{log_of-power}
+use Rattle.circle_words.proofs.Logs.{log_of-power}
 use Rattle.circle_relation.specs.Accepts.{AcceptsFrom, Fields}
 use Rattle.circle_relation.specs.RunOf.{proof_of}
 use Rattle.circle_relation.specs.Statement.{BatchClaim, MatrixClaim, all_matrices}

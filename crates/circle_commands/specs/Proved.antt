@@ -22,7 +22,7 @@ use Rattle.circle_merkle.specs.ProverData.{matrices_of}
 use Rattle.circle_merkle.specs.declared.mmcs.ShaMmcs.{ShaMmcs}
 use Rattle.circle_opening.specs.Opening.{IsOpening}
 use Rattle.circle_opening.specs.Schemes.{Schemes}
-use Rattle.circle_opening.specs.Requests.{AreAnswers, lists_of, log_of}
+use Rattle.circle_words.specs.Requests.{AreAnswers, lists_of, log_of}
 use Rattle.circle_commit.specs.declared.claims.CommittedBatch.{CommittedBatch}
 use Rattle.circle_relation.specs.RunOf.{proof_of}
 use Rattle.circle_relation.specs.Statement.{BatchClaim, MatrixClaim}

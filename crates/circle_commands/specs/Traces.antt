@@ -3,9 +3,9 @@ use Rattle.std.specs.Prelude.{ℕ, ◌+◌, ◌<◌, ◌≤◌, ◌^◌, ◌⊎�
 use Rattle.std.specs.declared.alloc.Global.{Global}
 use Rattle.circle_matrix.specs.Matrix.{IsPowerOfTwo}
 use Rattle.circle_field.specs.declared.mersenne31.Mersenne31.{Mersenne31}
-use Rattle.circle_opening.specs.declared.error.ProverError.{ProverError}
-use Rattle.circle_opening.specs.declared.error.ProverError.TheVariants.{HeightTooLarge}
-use Rattle.circle_opening.specs.declared.error.ProverError.TheVariants.{HeightTooSmall}
+use Rattle.circle_relation.specs.declared.error.ProverError.{ProverError}
+use Rattle.circle_relation.specs.declared.error.ProverError.TheVariants.{HeightTooLarge}
+use Rattle.circle_relation.specs.declared.error.ProverError.TheVariants.{HeightTooSmall}
 use Rattle.circle_commands.specs.Rows.{lists, IsRectangular}
 use Rattle.circle_commands.specs.declared.prove.Refusal.{Refusal}
 use Rattle.circle_commands.specs.declared.prove.Refusal.TheVariants.{RaggedRows}

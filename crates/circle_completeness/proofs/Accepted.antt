@@ -14,7 +14,7 @@ use Rattle.circle_matrix.specs.declared.pcs.OpeningRequest.{OpeningRequest}
 use Rattle.circle_field.specs.Circle.{AreGenerators}
 use Rattle.circle_field.specs.Field.{FieldLaws, IsEmbedding}
 use Rattle.circle_opening.specs.Opening.{answered_claims, answered_matrices}
-use Rattle.circle_opening.specs.Requests.{AreFit, AreRequests, batch_committed, claimed, log_of, points_of}
+use Rattle.circle_words.specs.Requests.{AreFit, AreRequests, batch_committed, claimed, log_of, points_of}
 use Rattle.circle_relation.specs.Taken.{drawn_by, shape_by, taken_by}
 use Rattle.circle_opening.specs.Words.{top_of}
 use Rattle.circle_opening.proofs.Answered.{all-some, fit-known, heights-known}

@@ -29,7 +29,7 @@ use Rattle.circle_relation.proofs.AtQueries.{itself-placed, same-placed, zip-pla
 use Rattle.circle_words.specs.Ratios.{points_of_height}
 use Rattle.circle_words.specs.Words.{Committed, claims_at, corrected_word, lambda}
 use Rattle.circle_opening.specs.Opening.{HoldsWords}
-use Rattle.circle_opening.specs.Openings.{places_of, sibling_in, siblings_at}
+use Rattle.circle_words.specs.Openings.{places_of, sibling_in, siblings_at}
 use Rattle.circle_opening.specs.Words.{heights_of, layer_of, top_of}
 use Rattle.circle_opening.proofs.Growing.{length-pairs_of}
 use Rattle.circle_opening.proofs.Held.{first-greatest}

@@ -28,8 +28,8 @@ use Rattle.circle_relation.proofs.Shown.{moved, same-bits}
 use Rattle.circle_words.specs.Words.{Committed, claims_on}
 use Rattle.circle_words.proofs.Prefix.{off-apart}
 use Rattle.circle_opening.specs.Opening.{answered_matrices}
-use Rattle.circle_opening.specs.Openings.{places_of}
-use Rattle.circle_opening.specs.Requests.{AreAnswers, AreRequests, HasBatchRows, IsFit, all_committed, batch_committed, claimed, log_of, points_of}
+use Rattle.circle_words.specs.Openings.{places_of}
+use Rattle.circle_words.specs.Requests.{AreAnswers, AreRequests, HasBatchRows, IsFit, all_committed, batch_committed, claimed, log_of, points_of}
 use Rattle.circle_opening.specs.Words.{top_of}
 use Rattle.circle_opening.proofs.Answered.{all-some, fit-known, heights-back, heights-known}
 use Rattle.circle_opening.proofs.OpenedPairs.{places-left}

@@ -19,7 +19,7 @@ use Rattle.circle_relation.specs.Accepts.{Fields}
 use Rattle.circle_words.specs.Lifts.{extended_row, extended_rows, lift_width, read_rows}
 use Rattle.circle_words.specs.Ratios.{points_of_height}
 use Rattle.circle_words.proofs.Lifts.{extended-values}
-use Rattle.circle_opening.specs.Requests.{IsFit, log_of}
+use Rattle.circle_words.specs.Requests.{IsFit, log_of}
 use Rattle.circle_opening.proofs.Answered.{fit-known}
 use Rattle.circle_completeness.proofs.Cut.{cut, cut-told, cut-values}
 use Rattle.circle_completeness.specs.Honest.{AreOfLowDegree, AreReadAsIs, IsOfLowDegree, IsReadAsIs}

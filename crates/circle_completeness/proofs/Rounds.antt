@@ -29,7 +29,7 @@ use Rattle.circle_relation.proofs.AtQueries.{itself-placed, same-placed, zip-pla
 use Rattle.circle_relation.proofs.Ends.{all-end}
 use Rattle.circle_words.specs.Words.{Committed, pairs_of}
 use Rattle.circle_opening.specs.Opening.{AreOpenedWords, HoldsWords, drawn_word}
-use Rattle.circle_opening.specs.Openings.{places_of, sibling_in, siblings_at}
+use Rattle.circle_words.specs.Openings.{places_of, sibling_in, siblings_at}
 use Rattle.circle_opening.specs.Words.{first_fold, heights_of, top_of}
 use Rattle.circle_opening.proofs.Growing.{length-pairs_of}
 use Rattle.circle_opening.proofs.Tops.{height-known, top-known}

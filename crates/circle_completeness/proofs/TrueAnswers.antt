@@ -28,7 +28,7 @@ use Rattle.circle_words.specs.Values.{OpensTo}
 use Rattle.circle_words.specs.Words.{claim_of}
 use Rattle.circle_words.proofs.Prefix.{first-genuine, off-apart}
 use Rattle.circle_opening.specs.Opening.{answered_matrices}
-use Rattle.circle_opening.specs.Requests.{AreAnswers, AreFit, AreRequests, AreValuesOf, IsFit, IsOpenable, all_committed, batch_committed, committed, log_of, points_of}
+use Rattle.circle_words.specs.Requests.{AreAnswers, AreFit, AreRequests, AreValuesOf, IsFit, IsOpenable, all_committed, batch_committed, committed, log_of, points_of}
 use Rattle.circle_opening.specs.Words.{top_of}
 use Rattle.circle_opening.proofs.Answered.{all-some, fit-known, heights-known}
 use Rattle.circle_opening.proofs.Tops.{top-known}

@@ -7,7 +7,7 @@ use Rattle.circle_matrix.specs.declared.matrix.RowMajorMatrix.{RowMajorMatrix}
 use Rattle.circle_matrix.specs.declared.params.FriParameters.{FriParameters}
 use Rattle.circle_matrix.specs.declared.pcs.OpeningRequest.{OpeningRequest}
 use Rattle.circle_opening.specs.Opening.{IsOpening}
-use Rattle.circle_opening.specs.Requests.{AreAnswers}
+use Rattle.circle_words.specs.Requests.{AreAnswers}
 use Rattle.circle_opening.specs.Schemes.{Schemes}
 use Rattle.circle_relation.specs.Accepts.{AcceptsFrom, Authenticates, Fields}
 use Rattle.circle_relation.specs.Statement.{BatchClaim, OpeningProof, all_matrices}

@@ -11,11 +11,11 @@ use Rattle.circle_matrix.specs.declared.pcs.OpeningRequest.{OpeningRequest}
 use Rattle.circle_domain.specs.Spans.{XSpan}
 use Rattle.circle_domain.specs.Values.{values_at}
 use Rattle.circle_opening.specs.Opening.{IsFailure, answered_matrices}
-use Rattle.circle_opening.specs.Requests.{AreAnswers, log_of}
+use Rattle.circle_words.specs.Requests.{AreAnswers, log_of}
 use Rattle.circle_opening.specs.Schemes.{Schemes}
 use Rattle.circle_opening.specs.Words.{last_word}
-use Rattle.circle_opening.specs.declared.error.ProverError.{ProverError}
-use Rattle.circle_opening.specs.declared.error.ProverError.TheVariants.{LastWordNotConstant}
+use Rattle.circle_relation.specs.declared.error.ProverError.{ProverError}
+use Rattle.circle_relation.specs.declared.error.ProverError.TheVariants.{LastWordNotConstant}
 use Rattle.circle_relation.specs.Accepts.{Fields}
 use Rattle.circle_words.specs.Lifts.{lift_width}
 use Rattle.circle_words.specs.Ratios.{points_of_height}

@@ -4,7 +4,7 @@ use Rattle.std.specs.Prelude.{◌≡◌, ℕ, ◌+◌, ◌-◌, ◌/◌, ◌^◌
 use Rattle.std.specs.Prelude.{Some, slice_get, slice_index_or, true}
 use Rattle.std.specs.List.{list_any}
 use Rattle.circle_matrix.specs.declared.params.FriParameters.{FriParameters}
-use Rattle.circle_opening.specs.Requests.{claimed}
+use Rattle.circle_words.specs.Requests.{claimed}
 use Rattle.circle_opening.specs.Words.{first_fold, top_of}
 use Rattle.circle_relation.specs.Accepts.{Fields, Run, claims_of, folded}
 use Rattle.circle_relation.specs.Statement.{all_matrices}

@@ -2,7 +2,7 @@
 //! its contract says.
 ghost use Rattle.std.specs.Prelude.{◌≡◌};
 ghost use Rattle.circle_completeness.specs.Accepted.{AcceptsOpeningsBy};
-ghost use Rattle.circle_opening.specs.Requests.{AreFit, AreRequests};
+ghost use Rattle.circle_words.specs.Requests.{AreFit, AreRequests};
 
 use circle_challenger::{CanObserve, CanSample, GrindingChallenger};
 use circle_field::{ComplexExtendable, ExtensionField};

@@ -6,7 +6,7 @@ ghost use Rattle.circle_completeness.specs.LowWords.{ReducedWordsSplit, Correcte
 ghost use Rattle.circle_completeness.specs.LowWords.{FirstFoldsAreLow, RoundWordsAreLow};
 ghost use Rattle.circle_completeness.specs.LowWords.{LastWordIsLow};
 ghost use Rattle.circle_completeness.specs.Honest.{EndsLow, IsNeverTooHighBy};
-ghost use Rattle.circle_opening.specs.Requests.{AreFit, AreRequests};
+ghost use Rattle.circle_words.specs.Requests.{AreFit, AreRequests};
 
 use circle_challenger::{CanObserve, CanSample, GrindingChallenger};
 use circle_field::{ComplexExtendable, ExtensionField};

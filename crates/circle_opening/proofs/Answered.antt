@@ -11,7 +11,7 @@ use Rattle.circle_matrix.specs.declared.matrix.RowMajorMatrix.{RowMajorMatrix}
 use Rattle.circle_matrix.specs.declared.pcs.OpeningRequest.{OpeningRequest}
 use Rattle.circle_relation.specs.Accepts.{Fields}
 use Rattle.circle_words.specs.Words.{Committed}
-use Rattle.circle_opening.specs.Requests.{AreAnswers, AreHeights, AreValuesOf, IsFit, IsOpenable, all_committed, batch_committed, log_of, points_of}
+use Rattle.circle_words.specs.Requests.{AreAnswers, AreHeights, AreValuesOf, IsFit, IsOpenable, all_committed, batch_committed, log_of, points_of}
 use Rattle.circle_opening.proofs.Held.{heights-listed}
 use Rattle.circle_opening.proofs.Tops.{greatest-there}
 

@@ -13,7 +13,7 @@ use Rattle.circle_field.specs.Field.{FieldOps}
 use Rattle.circle_relation.specs.Accepts.{Fields}
 use Rattle.circle_relation.specs.Statement.{all_matrices, log_height, log_max_height}
 use Rattle.circle_words.specs.Words.{Committed, claim_of}
-use Rattle.circle_opening.specs.Requests.{AreAnswers, AreValuesOf, all_committed, batch_committed, claimed, claimed_batch, points_of}
+use Rattle.circle_words.specs.Requests.{AreAnswers, AreValuesOf, all_committed, batch_committed, claimed, claimed_batch, points_of}
 use Rattle.circle_relation.specs.Taken.{claims_taken, point_taken, widths_by}
 use Rattle.circle_opening.specs.Words.{top_of}
 

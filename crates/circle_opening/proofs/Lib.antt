@@ -1,12 +1,10 @@
 pub mod Answered
 pub mod Asked
 pub mod Counts
-pub mod Described
 pub mod FoldedLengths
 pub mod Growing
 pub mod Held
 pub mod Lengths
-pub mod Logs
 pub mod OpenedPairs
 pub mod Requested
 pub mod Seen

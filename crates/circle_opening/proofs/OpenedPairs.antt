@@ -13,7 +13,7 @@ use Rattle.circle_matrix.specs.declared.matrix.RowMajorMatrix.{RowMajorMatrix}
 use Rattle.circle_matrix.specs.DotProduct.{pairwise}
 use Rattle.circle_domain.proofs.Powers.{pow_order}
 use Rattle.circle_words.specs.Words.{HaveHeights}
-use Rattle.circle_opening.specs.Openings.{places_of}
+use Rattle.circle_words.specs.Openings.{places_of}
 use Rattle.circle_opening.proofs.Sided.{places-below}
 
 -- what holds of all that elements are taken to

@@ -20,7 +20,7 @@ use Rattle.circle_words.specs.Lifts.{read_rows}
 use Rattle.circle_words.specs.Values.{AreOff, AreOpened}
 use Rattle.circle_words.specs.Words.{Committed, claim_of, committed_of}
 use Rattle.circle_words.specs.declared.reduced.OpenedMatrix.{OpenedMatrix}
-use Rattle.circle_opening.specs.Requests.{IsOpenable, IsReady, AreValuesOf, batch_committed, committed, lists_of, log_of}
+use Rattle.circle_words.specs.Requests.{IsOpenable, IsReady, AreValuesOf, batch_committed, committed, lists_of, log_of}
 
 module _ {A B : Type 0} where
   -- what an item becomes stands at its place

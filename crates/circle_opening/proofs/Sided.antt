@@ -9,7 +9,7 @@ use Rattle.std.proofs.lemmas.Option.{get_or_from_slice_get, slice_get_read, slic
 use Rattle.std.proofs.lemmas.List.Elements.{All-map}
 use Rattle.circle_matrix.proofs.Written.{length-pairwise, pairwise-read}
 use Rattle.circle_matrix.specs.DotProduct.{pairwise}
-use Rattle.circle_opening.specs.Openings.{places_of}
+use Rattle.circle_words.specs.Openings.{places_of}
 
 module _ {A B C W : Type 0} (f : A → B → C) (view : W → B) (xs : List A) (ws : List W) (same : length ws ≡ length xs) where
   -- as many as of each

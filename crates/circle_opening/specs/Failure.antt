@@ -12,19 +12,15 @@ use Rattle.circle_domain.specs.Spans.{HasXValues}
 use Rattle.circle_relation.specs.Taken.{claims_taken, shape_by}
 use Rattle.circle_opening.specs.Words.{EndsHigh, IsCommitmentOf, heights_of, layer_of, round_word}
 use Rattle.circle_opening.specs.Words.{top_of, word_at}
-use Rattle.circle_opening.specs.declared.error.ProverError.{ProverError}
-use Rattle.circle_opening.specs.declared.error.ProverError.TheVariants.{Memory, LastWordNotConstant}
-use Rattle.circle_opening.specs.declared.error.ProverError.TheVariants.{NoGrindingWitness}
+use Rattle.circle_relation.specs.declared.error.ProverError.{ProverError}
+use Rattle.circle_relation.specs.declared.error.ProverError.TheVariants.{Memory, LastWordNotConstant}
+use Rattle.circle_relation.specs.declared.error.ProverError.TheVariants.{NoGrindingWitness}
 use Rattle.circle_transcript.specs.Draw.{Claim, Taken, AreFound, after_claims, batched, claimed}
 use Rattle.circle_transcript.specs.Draw.{layered, closed, after_rounds, fold_challenges, seeded}
 use Rattle.circle_relation.specs.Accepts.{Fields}
 use Rattle.circle_relation.specs.Statement.{BatchClaim}
 use Rattle.circle_transcript.specs.Numbers.{numbers_of}
 use Rattle.circle_runs.specs.Runs.{NonePasses}
-use Rattle.circle_transcript.specs.declared.failure.CircleTranscriptFailure.{CircleTranscriptFailure}
-use Rattle.circle_transcript.specs.declared.failure.CircleTranscriptFailure.TheVariants.{PowWitness}
-use Rattle.circle_transcript.specs.declared.failure.CircleTranscriptFailure.TheVariants.{NoWitness}
-use Rattle.circle_transcript.specs.declared.failure.CircleTranscriptFailure.TheVariants.{Memory as OutOfMemory}
 use Rattle.circle_transcript.specs.declared.transcript.Numbers.{Numbers}
 use Rattle.circle_point.specs.declared.point.Point.{Point}
 use Rattle.circle_transcript.specs.Claims.{claims_of}
@@ -34,12 +30,6 @@ use Rattle.circle_transcript.specs.declared.shape.CirclePcsShape.{CirclePcsShape
 use Rattle.circle_transcript.specs.declared.transcript.CircleTranscript.{CircleTranscript}
 use Rattle.circle_words.specs.Words.{Committed, committed_of, pairs_of}
 use Rattle.circle_words.specs.declared.reduced.OpenedMatrix.{OpenedMatrix}
-
--- the refusal by which a transcript's failure is answered
-abbrev pub prover_error : CircleTranscriptFailure → ProverError
-prover_error (PowWitness phase bits) = NoGrindingWitness phase
-prover_error (NoWitness phase bits) = NoGrindingWitness phase
-prover_error OutOfMemory = Memory
 
 -- the last word of these matrices is of too high degree
 abbrev pub IsTooHigh : {F E : Type 0} → Fields F E → ℕ → ℕ → List (Committed F E) → ProverError

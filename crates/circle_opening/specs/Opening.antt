@@ -14,14 +14,14 @@ use Rattle.circle_relation.specs.RunOf.{proof_of}
 use Rattle.circle_relation.specs.Statement.{BatchClaim, Challenges, Opened, OpeningProof}
 use Rattle.circle_relation.specs.declared.proof.CirclePcsProof.{CirclePcsProof}
 use Rattle.circle_opening.specs.Failure.{IsStuckFrom, IsTooHigh}
-use Rattle.circle_opening.specs.declared.error.ProverError.{ProverError}
-use Rattle.circle_opening.specs.declared.error.ProverError.TheVariants.{Memory}
+use Rattle.circle_relation.specs.declared.error.ProverError.{ProverError}
+use Rattle.circle_relation.specs.declared.error.ProverError.TheVariants.{Memory}
 use Rattle.circle_transcript.specs.Draw.{draw}
 use Rattle.circle_runs.specs.declared.run.CircleWitnesses.{CircleWitnesses}
 use Rattle.circle_words.specs.Words.{Committed, lambda, pairs_of}
-use Rattle.circle_opening.specs.Openings.{OpensSiblings}
-use Rattle.circle_opening.specs.Requests.{AreAnswers, HasBatchRows, OpensBatches, all_committed}
-use Rattle.circle_opening.specs.Requests.{claimed_batch}
+use Rattle.circle_words.specs.Openings.{OpensSiblings}
+use Rattle.circle_words.specs.Requests.{AreAnswers, HasBatchRows, OpensBatches, all_committed}
+use Rattle.circle_words.specs.Requests.{claimed_batch}
 use Rattle.circle_relation.specs.Taken.{challenges_of, drawn_by, shape_by, taken_by}
 use Rattle.circle_opening.specs.Words.{AreCommitted, AreMade, heights_of, layer_of, round_word}
 use Rattle.circle_opening.specs.Words.{top_of}

@@ -16,8 +16,8 @@ use Rattle.circle_opening.specs.Opening.{IsFailure, IsOpening, IsStuckOn, answer
 use Rattle.circle_opening.specs.Opening.{answered_matrices}
 use Rattle.circle_relation.specs.Taken.{claims_taken, shape_by}
 use Rattle.circle_opening.specs.Words.{AreMade, taken_in}
-use Rattle.circle_opening.specs.declared.error.ProverError.{ProverError}
-use Rattle.circle_opening.specs.declared.error.ProverError.TheVariants.{Memory}
+use Rattle.circle_relation.specs.declared.error.ProverError.{ProverError}
+use Rattle.circle_relation.specs.declared.error.ProverError.TheVariants.{Memory}
 use Rattle.circle_opening.specs.declared.run.CommittedWords.{CommittedWords}
 
 -- I and W are the schemes of the batches and of the words, each with its commitments, data and

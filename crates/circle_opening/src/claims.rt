@@ -12,10 +12,10 @@ ghost use Rattle.circle_transcript.specs.Claims.{claims_of};
 ghost use Rattle.circle_transcript.specs.ShapeOf.{batches_of, matrices_of};
 ghost use Rattle.circle_relation.specs.Accepts.{Fields};
 ghost use Rattle.circle_words.specs.Words.{claim_of, committed_of};
-ghost use Rattle.circle_opening.specs.Requests.{AreAnswers, IsFit, IsOpenable};
-ghost use Rattle.circle_opening.specs.Requests.{IsReady};
-ghost use Rattle.circle_opening.specs.Requests.{AddsBatch, AreAllRequested, AreBatchValues};
-ghost use Rattle.circle_opening.specs.Requests.{lists_of};
+ghost use Rattle.circle_words.specs.Requests.{AreAnswers, IsFit, IsOpenable};
+ghost use Rattle.circle_words.specs.Requests.{IsReady};
+ghost use Rattle.circle_words.specs.Requests.{AddsBatch, AreAllRequested, AreBatchValues};
+ghost use Rattle.circle_words.specs.Requests.{lists_of};
 ghost use Rattle.circle_relation.specs.Taken.{point_taken};
 
 use circle_field::{ComplexExtendable, ExtensionField, Field};

@@ -6,14 +6,13 @@ ghost use Rattle.circle_domain.specs.Spans.{HasXValues, XSpan};
 ghost use Rattle.circle_words.specs.Words.{CanBeOpened, HaveHeights, IsHeight};
 ghost use Rattle.circle_words.specs.Words.{opened_lambda};
 ghost use Rattle.circle_opening.specs.Words.{AreLayers, folded_layers};
-ghost use Rattle.circle_opening.specs.declared.error.ProverError.TheVariants.{LastWordNotConstant};
-ghost use Rattle.circle_opening.specs.declared.error.ProverError.TheVariants.{Memory};
+ghost use Rattle.circle_relation.specs.declared.error.ProverError.TheVariants.{LastWordNotConstant};
+ghost use Rattle.circle_relation.specs.declared.error.ProverError.TheVariants.{Memory};
 
-use crate::error::ProverError;
 use circle_field::{ComplexExtendable, ExtensionField, Field};
 use circle_folding::x_interpolate;
 use circle_matrix::Mmcs;
-use circle_relation::OverCircle;
+use circle_relation::{OverCircle, ProverError};
 use circle_words::{OpenedMatrix, first_layer, fold_corrected};
 use std::alloc::{AllocError, Global};
 

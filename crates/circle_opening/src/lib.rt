@@ -26,19 +26,17 @@
 //!
 //! - In `src/`, `prove` has the whole: `values` for the values, `claims` and `heights` for what is
 //!   requested, `run` for the run of the transcript, with `first_layer` and `rounds` in it, and
-//!   `openings` for the rows and siblings at the queries. `error` says why there is no opening or
-//!   no commitment, and `schemes` what contracts see of the fields, the challenger and the schemes.
+//!   `openings` for the rows and siblings at the queries. `schemes` is what contracts see of the
+//!   fields, the challenger and the schemes.
 //! - In `specs/`, `Opening` says what is answered, by `Words`, the words under the challenges and
-//!   what is committed to, and `Openings`, what is opened at the queries; `Requests` what is asked
-//!   and answered, `Failure` why a run comes to no end, `Schemes` the whole by the schemes.
+//!   what is committed to; `Failure` why a run comes to no end, `Schemes` the whole by the schemes.
 //! - In `proofs/`, `Growing`, `Lengths` and `FoldedLengths` are of words, `Tops` and `Seen` of
-//!   heights, `Described`, `Counts` and `Stuck` of the transcript, `Asked`, `Answered` and
+//!   heights, `Counts` and `Stuck` of the transcript, `Asked`, `Answered` and
 //!   `Requested` of requested matrices as claims, `Held` and `OpenedPairs` of what a proof holds
 //!   and opens. The folders have what is proved of the functions of the file of that name.
 #![tactic(auto)]
 
 mod claims;
-pub mod error;
 mod first_layer;
 mod heights;
 mod openings;
@@ -48,7 +46,7 @@ pub mod run;
 mod schemes;
 mod values;
 
-pub use error::ProverError;
+pub use circle_relation::ProverError;
 pub use prove::open_requests;
 pub use run::CommittedWords;
 pub use schemes::OpeningOver;

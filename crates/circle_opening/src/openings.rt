@@ -5,8 +5,8 @@ ghost use Rattle.std.specs.Prelude.{IfOk, slice_get};
 ghost use Rattle.circle_matrix.specs.Mmcs.{HaveHeightsOfPowers, max_height, opened_rows};
 ghost use Rattle.circle_matrix.specs.DotProduct.{pairwise};
 ghost use Rattle.circle_words.specs.Words.{HaveHeights};
-ghost use Rattle.circle_opening.specs.Openings.{AreOpenedRounds, AreOpenedSiblings, OpensRows};
-ghost use Rattle.circle_opening.specs.Openings.{places_of, siblings_at};
+ghost use Rattle.circle_words.specs.Openings.{AreOpenedRounds, AreOpenedSiblings, OpensRows};
+ghost use Rattle.circle_words.specs.Openings.{places_of, siblings_at};
 
 use circle_field::Field;
 use circle_folding::without_bits;

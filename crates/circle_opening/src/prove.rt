@@ -5,15 +5,14 @@ ghost use Rattle.circle_matrix.specs.Pcs.{openings};
 ghost use Rattle.circle_relation.specs.Statement.{BatchClaim};
 ghost use Rattle.circle_relation.specs.RunOf.{proof_of};
 ghost use Rattle.circle_opening.specs.Opening.{AreEasy, HoldsBatches, HoldsMade};
-ghost use Rattle.circle_opening.specs.Requests.{AreAnswered, AreFit, AreHeights, AreRequests};
-ghost use Rattle.circle_opening.specs.Requests.{OpensBatches};
+ghost use Rattle.circle_words.specs.Requests.{AreAnswered, AreFit, AreHeights, AreRequests};
+ghost use Rattle.circle_words.specs.Requests.{OpensBatches};
 ghost use Rattle.circle_opening.specs.Schemes.{AreWordsFor, IsFailureFrom, IsNotPlayed};
 ghost use Rattle.circle_opening.specs.Schemes.{IsOpeningBy, IsPlayed};
 ghost use Rattle.circle_relation.specs.Taken.{claims_taken, taken_by};
 ghost use Rattle.circle_opening.specs.Words.{AreSomeWords, taken_in};
 
 use crate::claims::{above_widths, opened_claims, opened_matrices, opened_widths};
-use crate::error::ProverError;
 use crate::heights::greatest_height;
 use crate::openings::{open_rounds, open_rows, open_siblings};
 use crate::run::{CommittedWords, open_words};
@@ -26,7 +25,7 @@ use circle_matrix::{
     BatchMultiOpening, FriFoldingStrategy, FriParameters, Mmcs, OpenedValues, OpenedValuesForRound,
     OpeningRequest, log2_strict,
 };
-use circle_relation::{CircleFriProof, CircleInputProof, CirclePcsProof, OverCircle};
+use circle_relation::{CircleFriProof, CircleInputProof, CirclePcsProof, OverCircle, ProverError};
 use circle_transcript::CirclePcsShape;
 use std::alloc::{AllocError, Global};
 

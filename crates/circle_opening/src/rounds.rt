@@ -13,11 +13,10 @@ ghost use Rattle.circle_opening.specs.Failure.{IsRoundFailure, IsRoundsFailure};
 ghost use Rattle.circle_opening.specs.Words.{AreCommitted, ArePlayed, AreRoundsFrom};
 ghost use Rattle.circle_opening.specs.Words.{EndsIn, Follows};
 
-use crate::error::ProverError;
 use circle_challenger::{CanObserve, CanSample, GrindingChallenger, RunChallenger};
 use circle_field::{ComplexExtendable, ExtensionField, Field};
 use circle_matrix::{Mmcs, RowMajorMatrix};
-use circle_relation::OverCircle;
+use circle_relation::{OverCircle, ProverError};
 use circle_transcript::CircleProverTranscript;
 use circle_words::fold_round;
 use std::alloc::{AllocError, Global};

@@ -12,14 +12,13 @@ ghost use Rattle.circle_words.specs.Words.{committed_of, CanBeOpened};
 ghost use Rattle.circle_opening.specs.Failure.{IsRunFailure, IsShapeFailure};
 ghost use Rattle.circle_opening.specs.Words.{AreMade, AreTall, rounds_for, taken_in};
 
-use crate::error::ProverError;
 use crate::first_layer::{commit_first_layer, final_coefficients, fold_first_layer};
 use crate::heights::{committed_heights, greatest_height};
 use crate::rounds::play_rounds;
 use circle_challenger::{CanObserve, CanSample, GrindingChallenger, RunChallenger};
 use circle_field::{ComplexExtendable, ExtensionField, Field};
 use circle_matrix::{FriParameters, Mmcs};
-use circle_relation::OverCircle;
+use circle_relation::{OverCircle, ProverError};
 use circle_runs::{CircleDraws, CircleWitnesses};
 use circle_transcript::{CirclePcsShape, CircleProverTranscript, OpeningClaim};
 use circle_words::OpenedMatrix;

@@ -4,8 +4,8 @@ ghost use Rattle.std.specs.List.{AllZip};
 ghost use Rattle.circle_matrix.specs.Mmcs.{opened_rows};
 ghost use Rattle.circle_matrix.specs.Pcs.{openings};
 ghost use Rattle.circle_words.specs.Values.{AreWeightsOf};
-ghost use Rattle.circle_opening.specs.Requests.{IsOpenable, IsFit, AreAnswers};
-ghost use Rattle.circle_opening.specs.Requests.{AreBatchValues, lists_of};
+ghost use Rattle.circle_words.specs.Requests.{IsOpenable, IsFit, AreAnswers};
+ghost use Rattle.circle_words.specs.Requests.{AreBatchValues, lists_of};
 
 use circle_field::{ComplexExtendable, ExtensionField};
 use circle_matrix::{

@@ -1,5 +1,6 @@
 pub mod AtQueries
 pub mod Contradictions
+pub mod Described
 pub mod Ends
 pub mod Kept
 pub mod Pairs

@@ -7,3 +7,4 @@ pub mod Reasons
 pub mod RunOf
 pub mod Rows
 pub mod Named
+pub mod Failures

@@ -14,18 +14,18 @@
 //!   a field, its circle and an extension in one word.
 //! - In `specs/`, `Statement`, `StatementOf`: claims, a proof and challenges. `Accepts`: the
 //!   relation, part by part. `Sums`, `Taken`: sums of quotients, and what a transcript takes in.
-//!   `Reasons`: why a run is refused. `RunOf`: what is known of a run before it is opened
+//!   `Reasons`, `Failures`: why a run is refused. `RunOf`: what is known of a run before it is opened
 //!   (`IsDrawn`) and once its lengths are tested (`IsOpened`), and the lists that calls hand on.
 //!   `Rows`: an opening.
 //! - In `proofs/`, `Contradictions`: where the relation holds no refusal has a reason but want of
 //!   memory. `AtQueries`, `ReducedSums`, `Ends`: lists over queries. `Pairs`: loops over pairs.
-//!   `Kept`, `Shown`, `Results`.
+//!   `Described`: what describes a transcript. `Kept`, `Shown`, `Results`.
 #![tactic(auto)]
 
 pub mod error;
 pub mod proof;
 pub mod run;
 
-pub use error::InputError;
+pub use error::{InputError, ProverError};
 pub use proof::{CircleCommitPhaseMultiStep, CircleFriProof, CircleInputProof, CirclePcsProof};
 pub use run::{OpenedRun, OverCircle, QueriedWord, QueryValues};

@@ -18,8 +18,8 @@ use Rattle.circle_field.specs.Field.{FieldOps}
 use Rattle.std.specs.Prelude.{◌↔◌}
 use Rattle.circle_scheme.specs.Committing.{HaveRowsForPoints, IsExtendable, height_tests, target_tests, domain_tests, evaluation_tests}
 use Rattle.circle_verifier.specs.Refusals.{Test, answer}
-use Rattle.circle_opening.specs.declared.error.ProverError.{ProverError}
-use Rattle.circle_opening.specs.declared.error.ProverError.TheVariants.{HeightTooSmall, HeightTooLarge, DomainSmallerThanTrace}
+use Rattle.circle_relation.specs.declared.error.ProverError.{ProverError}
+use Rattle.circle_relation.specs.declared.error.ProverError.TheVariants.{HeightTooSmall, HeightTooLarge, DomainSmallerThanTrace}
 use Rattle.circle_verifier.proofs.Answering.{answer-append}
 use Rattle.circle_verifier.proofs.HeightTests.{answer-none, refusing, skipped}
 

@@ -29,7 +29,7 @@ use Rattle.std.proofs.lemmas.Option.{slice_get-get_or}
 use Rattle.circle_folding.specs.Queries.{IsApart}
 use Rattle.circle_matrix.specs.RowMajorMatrix.{height_of}
 use Rattle.circle_matrix.specs.declared.matrix.RowMajorMatrix.{RowMajorMatrix}
-use Rattle.circle_opening.specs.Requests.{log_of}
+use Rattle.circle_words.specs.Requests.{log_of}
 use Rattle.circle_relation.specs.Accepts.{Fields}
 use Rattle.circle_words.specs.Ratios.{points_of_height}
 use Rattle.circle_words.specs.Values.{AreOff, IsOffDomain}

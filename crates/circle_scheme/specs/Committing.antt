@@ -18,11 +18,11 @@ use Rattle.circle_domain.specs.Values.{HasValues, values_at}
 use Rattle.circle_domain.specs.declared.domain.CircleDomain.{CircleDomain}
 use Rattle.circle_plane.specs.Coefficients.{natural_values_on}
 use Rattle.circle_verifier.specs.Refusals.{Test, answer}
-use Rattle.circle_opening.specs.declared.error.ProverError.{ProverError}
-use Rattle.circle_opening.specs.declared.error.ProverError.TheVariants.{Memory, HeightTooLarge}
-use Rattle.circle_opening.specs.declared.error.ProverError.TheVariants.{HeightTooSmall, NotGenuine}
-use Rattle.circle_opening.specs.declared.error.ProverError.TheVariants.{NoCommittedMatrices}
-use Rattle.circle_opening.specs.declared.error.ProverError.TheVariants.{DomainSmallerThanTrace}
+use Rattle.circle_relation.specs.declared.error.ProverError.{ProverError}
+use Rattle.circle_relation.specs.declared.error.ProverError.TheVariants.{Memory, HeightTooLarge}
+use Rattle.circle_relation.specs.declared.error.ProverError.TheVariants.{HeightTooSmall, NotGenuine}
+use Rattle.circle_relation.specs.declared.error.ProverError.TheVariants.{NoCommittedMatrices}
+use Rattle.circle_relation.specs.declared.error.ProverError.TheVariants.{DomainSmallerThanTrace}
 
 -- the first refusal that there is reason for is the answer; where there is reason for none, only
 -- memory is refused

@@ -18,8 +18,8 @@ ghost use Rattle.circle_verifier.specs.Refusals.{answer};
 
 use circle_field::ComplexExtendable;
 use circle_matrix::{FriParameters, Matrix, RowMajorMatrix, RowMajorMatrixView, log2_strict};
-use circle_opening::ProverError;
 use circle_plane::{CfftPermutable, CircleDomain, CircleEvaluations, Point};
+use circle_relation::ProverError;
 use std::alloc::{AllocError, Global};
 
 /// Whether each matrix has a row for each point of its domain, as a commitment asks.

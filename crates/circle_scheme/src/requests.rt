@@ -14,8 +14,7 @@ ghost use Rattle.std.specs.List.{list_any};
 use crate::commit::validate_heights;
 use circle_field::{ComplexExtendable, ExtensionField, Field};
 use circle_matrix::{FriParameters, Matrix, Mmcs, OpeningRequest, RowMajorMatrix, log2_strict};
-use circle_opening::ProverError;
-use circle_relation::OverCircle;
+use circle_relation::{OverCircle, ProverError};
 use circle_verifier::verifier::is_at_infinity as at_infinity;
 use circle_words::are_off_domain;
 

@@ -4,6 +4,7 @@ pub mod DomainPoints
 pub mod Joining
 pub mod Known
 pub mod Lifts
+pub mod Logs
 pub mod Opened
 pub mod Pairs
 pub mod Prefix

@@ -29,11 +29,12 @@
 //!
 //! - In `src/`, `combined.rt`: combinations of columns; `corrected.rt`: words without their lambda,
 //!   as rows of two, and their folds by y.
-//! - In `specs/`, `Values`, `Ratios`, `Lifts`, `Words`: the definitions.
+//! - In `specs/`, `Values`, `Ratios`, `Lifts`, `Words`: the definitions. `Requests`, `Openings`: what
+//!   is asked of an opening and answered, and what is opened at the queries. `Rows`: logarithms.
 //! - In `proofs/`, `Prefix`: the first rows of a committed matrix are those of a smaller domain;
 //!   `Lifts`: what they extend to; `Combinations`: to combine extended rows is to extend what is
 //!   combined; `Opened`, `Known`: values by weights; `DomainPoints`, `Quotients`, `Claims`: sums of
-//!   quotients by ratios; `Pairs`, `Joining`, `Zips`.
+//!   quotients by ratios; `Logs`: logarithms of heights; `Pairs`, `Joining`, `Zips`.
 #![tactic(auto)]
 
 pub mod combined;

@@ -6,8 +6,8 @@ use Rattle.circle_scheme.specs.Requesting.{RefusesBefore}
 use Rattle.p3_circle.specs.Scheme.{IsFirstFrom}
 use Rattle.p3_circle.proofs.Verdicts.{first-by}
 use Rattle.circle_verifier.specs.Refusals.{Test, answer}
-use Rattle.circle_opening.specs.declared.error.ProverError.{ProverError}
-use Rattle.circle_opening.specs.declared.error.ProverError.TheVariants.{Memory}
+use Rattle.circle_relation.specs.declared.error.ProverError.{ProverError}
+use Rattle.circle_relation.specs.declared.error.ProverError.TheVariants.{Memory}
 use Rattle.circle_verifier.proofs.Answering.{refused-is}
 use Rattle.circle_verifier.proofs.HeightTests.{refusing}
 

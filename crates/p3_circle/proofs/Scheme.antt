@@ -3,8 +3,8 @@ use Rattle.std.specs.Prelude.{◌≡◌, Result, Ok, Err, IfErr, IfOk, IsTrue, M
 use Rattle.std.proofs.Common.{sym, subst, refl}
 use Rattle.circle_matrix.specs.declared.error.FriError.{FriError}
 use Rattle.circle_matrix.specs.declared.error.FriError.TheVariants.{Memory}
-use Rattle.circle_opening.specs.declared.error.ProverError.{ProverError}
-use Rattle.circle_opening.specs.declared.error.ProverError.TheVariants.{Memory as OutOfMemory, NoGrindingWitness, UnfitParameters, HeightTooLarge, HeightTooSmall, NotGenuine, MatrixCountMismatch, NoCommittedMatrices, PointAtInfinity, PointOnDomain, LastWordNotConstant, DomainSmallerThanTrace}
+use Rattle.circle_relation.specs.declared.error.ProverError.{ProverError}
+use Rattle.circle_relation.specs.declared.error.ProverError.TheVariants.{Memory as OutOfMemory, NoGrindingWitness, UnfitParameters, HeightTooLarge, HeightTooSmall, NotGenuine, MatrixCountMismatch, NoCommittedMatrices, PointAtInfinity, PointOnDomain, LastWordNotConstant, DomainSmallerThanTrace}
 use Rattle.p3_circle.specs.Scheme.{says_memory, says_prover_memory}
 
 -- a refusal that is the first, or else of memory

@@ -6,8 +6,8 @@ use Rattle.circle_completeness.specs.Honest.{AreOfLowDegree}
 use Rattle.circle_matrix.specs.declared.matrix.RowMajorMatrix.{RowMajorMatrix}
 use Rattle.circle_matrix.specs.declared.params.FriParameters.{FriParameters}
 use Rattle.circle_matrix.specs.declared.pcs.OpeningRequest.{OpeningRequest}
-use Rattle.circle_opening.specs.declared.error.ProverError.{ProverError}
-use Rattle.circle_opening.specs.declared.error.ProverError.TheVariants.{LastWordNotConstant}
+use Rattle.circle_relation.specs.declared.error.ProverError.{ProverError}
+use Rattle.circle_relation.specs.declared.error.ProverError.TheVariants.{LastWordNotConstant}
 use Rattle.circle_verifier.specs.Refusals.{Test}
 use Rattle.circle_scheme.specs.Requesting.{request_tests}
 use Rattle.circle_relation.specs.Accepts.{Fields}

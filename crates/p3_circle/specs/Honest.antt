@@ -14,8 +14,8 @@ use Rattle.circle_domain.specs.Values.{lifted_values_at}
 use Rattle.circle_domain.specs.declared.domain.CircleDomain.{CircleDomain}
 use Rattle.circle_folding.specs.Queries.{IsApart}
 use Rattle.circle_opening.specs.Opening.{IsStuckOn}
-use Rattle.circle_opening.specs.Requests.{AreAnswers, AreFit}
-use Rattle.circle_opening.specs.declared.error.ProverError.{ProverError}
+use Rattle.circle_words.specs.Requests.{AreAnswers, AreFit}
+use Rattle.circle_relation.specs.declared.error.ProverError.{ProverError}
 use Rattle.circle_point.specs.Projective.{from_line}
 use Rattle.circle_relation.specs.Accepts.{Fields}
 use Rattle.circle_words.specs.Ratios.{points_of_height}

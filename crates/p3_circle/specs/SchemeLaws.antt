@@ -19,9 +19,9 @@ use Rattle.circle_field.specs.Circle.{AreGenerators}
 use Rattle.circle_field.specs.Field.{FieldLaws, IsEmbedding}
 use Rattle.circle_field.specs.declared.field.Operations.{Ghosts}
 use Rattle.circle_opening.specs.Opening.{IsFailure}
-use Rattle.circle_opening.specs.Requests.{AreAnswers, AreValuesOf, IsFit, IsOpenable}
-use Rattle.circle_opening.specs.declared.error.ProverError.{ProverError}
-use Rattle.circle_opening.specs.declared.error.ProverError.TheVariants.{Memory}
+use Rattle.circle_words.specs.Requests.{AreAnswers, AreValuesOf, IsFit, IsOpenable}
+use Rattle.circle_relation.specs.declared.error.ProverError.{ProverError}
+use Rattle.circle_relation.specs.declared.error.ProverError.TheVariants.{Memory}
 use Rattle.circle_commit.specs.Honest.{AreAnsweredBy, AreHonest, HaveValues, requested_points}
 use Rattle.circle_relation.specs.Accepts.{Authenticates, Fields}
 use Rattle.circle_relation.specs.RunOf.{proof_of}

@@ -11,8 +11,8 @@ ghost use Rattle.circle_scheme.specs.Committing.{RefusesInOrder, commit_tests, e
 ghost use Rattle.circle_scheme.specs.Committing.{lde_tests, height_at, target_tests_at};
 ghost use Rattle.circle_scheme.specs.Committing.{HaveRowsForPoints, AreExtensions};
 ghost use Rattle.circle_scheme.specs.Committing.{AreValuesOfMatrix};
-ghost use Rattle.circle_opening.specs.Requests.{AreAnswered};
-ghost use Rattle.circle_opening.specs.declared.error.ProverError.TheVariants.{Memory as OutOfMemory};
+ghost use Rattle.circle_words.specs.Requests.{AreAnswered};
+ghost use Rattle.circle_relation.specs.declared.error.ProverError.TheVariants.{Memory as OutOfMemory};
 ghost use Rattle.p3_circle.specs.Scheme.{CanBeDegree, HaveCommittedHeights, IsStandardOfSize};
 ghost use Rattle.circle_scheme.specs.Requesting.{RefusesBefore};
 ghost use Rattle.circle_verifier.specs.Tests.{IsFirstRefusal};

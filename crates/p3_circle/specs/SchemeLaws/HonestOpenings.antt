@@ -23,7 +23,7 @@ use Rattle.circle_domain.proofs.Powers.{pow_injective}
 use Rattle.circle_field.specs.declared.field.Operations.{Ghosts}
 use Rattle.circle_field.specs.Circle.{AreGenerators}
 use Rattle.circle_field.specs.Field.{FieldLaws, IsEmbedding}
-use Rattle.circle_opening.specs.Requests.{AreAnswers, AreRequests, AreValuesOf, IsFit, IsOpenable, batch_committed, claimed, committed, log_of, points_of}
+use Rattle.circle_words.specs.Requests.{AreAnswers, AreRequests, AreValuesOf, IsFit, IsOpenable, batch_committed, claimed, committed, log_of, points_of}
 use Rattle.circle_completeness.specs.Claimed.{AreClaimed}
 use Rattle.circle_commit.specs.Honest.{AreAnsweredBy, AreClaimedOf, IsClaimedOf, requested_points}
 use Rattle.circle_point.specs.Projective.{from_line}

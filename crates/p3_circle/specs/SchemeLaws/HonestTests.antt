@@ -16,9 +16,9 @@ use Rattle.circle_domain.specs.declared.domain.CircleDomain.{CircleDomain}
 use Rattle.circle_field.specs.declared.field.Operations.{Ghosts}
 use Rattle.circle_field.specs.Circle.{times}
 use Rattle.circle_field.specs.CircleGroup.{same_coordinates}
-use Rattle.circle_opening.specs.Requests.{AreFit, log_of}
-use Rattle.circle_opening.specs.declared.error.ProverError.{ProverError}
-use Rattle.circle_opening.proofs.Logs.{log_of-power}
+use Rattle.circle_words.specs.Requests.{AreFit, log_of}
+use Rattle.circle_relation.specs.declared.error.ProverError.{ProverError}
+use Rattle.circle_words.proofs.Logs.{log_of-power}
 use Rattle.circle_commit.specs.Honest.{IsHonest, requested_points}
 use Rattle.circle_relation.specs.Accepts.{Fields}
 use Rattle.circle_words.specs.Ratios.{points_of_height}

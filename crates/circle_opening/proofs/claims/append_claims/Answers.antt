@@ -8,7 +8,7 @@ use Rattle.circle_point.specs.Projective.{from_line}
 use Rattle.circle_transcript.specs.Claims.{claims_of, claim_of as taken_of}
 use Rattle.circle_transcript.specs.Draw.{claim}
 use Rattle.circle_words.specs.Words.{claim_of}
-use Rattle.circle_opening.specs.Requests.{lists_of}
+use Rattle.circle_words.specs.Requests.{lists_of}
 use Rattle.circle_relation.specs.Taken.{point_taken}
 use Rattle.circle_opening.proofs.Requested.{map-at, pairwise-more, pairwise-end, more-after}
 use Rattle.circle_relation.proofs.Pairs.{pair-sources}

@@ -2,7 +2,7 @@ use Rattle.std.proofs.Common.{◌≡◌, ◌++◌, length, map, take}
 use Rattle.circle_matrix.specs.DotProduct.{pairwise}
 use Rattle.circle_transcript.specs.Claims.{claims_of}
 use Rattle.circle_words.specs.Words.{claim_of}
-use Rattle.circle_opening.specs.Requests.{lists_of}
+use Rattle.circle_words.specs.Requests.{lists_of}
 use Rattle.circle_relation.specs.Taken.{point_taken}
 use Rattle.circle_opening.proofs.claims.append_claims.Given as goal
 

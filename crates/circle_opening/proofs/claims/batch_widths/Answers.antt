@@ -1,5 +1,5 @@
 use Rattle.std.proofs.Common.{length, map, ap, ◌∙◌}
-use Rattle.circle_opening.specs.Requests.{lists_of}
+use Rattle.circle_words.specs.Requests.{lists_of}
 use Rattle.circle_opening.proofs.Requested.{parts-more}
 use Rattle.circle_opening.proofs.claims.batch_widths.Goals as goal
 

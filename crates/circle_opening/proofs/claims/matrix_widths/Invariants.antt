@@ -1,5 +1,5 @@
 use Rattle.std.proofs.Common.{◌≡◌, length, map, take}
-use Rattle.circle_opening.specs.Requests.{lists_of}
+use Rattle.circle_words.specs.Requests.{lists_of}
 use Rattle.circle_opening.proofs.claims.matrix_widths.Given as goal
 
 -- the widths so far are there

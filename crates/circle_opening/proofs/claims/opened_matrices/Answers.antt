@@ -9,7 +9,7 @@ use Rattle.circle_matrix.specs.declared.matrix.RowMajorMatrix.{RowMajorMatrix}
 use Rattle.circle_matrix.specs.declared.pcs.OpeningRequest.{OpeningRequest}
 use Rattle.circle_relation.specs.Accepts.{Fields}
 use Rattle.circle_words.specs.Words.{committed_of}
-use Rattle.circle_opening.specs.Requests.{AreAnswers, AreValuesOf, IsFit, IsOpenable, batch_committed, lists_of, points_of}
+use Rattle.circle_words.specs.Requests.{AreAnswers, AreValuesOf, IsFit, IsOpenable, batch_committed, lists_of, points_of}
 use Rattle.circle_opening.proofs.Requested.{at-place, map-at, pairwise-end, requests-more}
 use Rattle.circle_relation.proofs.Pairs.{pair-sources}
 use Rattle.circle_opening.proofs.claims.opened_matrices.Goals as goal

@@ -2,7 +2,7 @@ use Rattle.std.proofs.Common.{◌≡◌, length, map, take, flat_map, All}
 use Rattle.circle_matrix.specs.Pcs.{openings}
 use Rattle.circle_relation.specs.Accepts.{Fields}
 use Rattle.circle_words.specs.Words.{committed_of}
-use Rattle.circle_opening.specs.Requests.{IsReady, all_committed}
+use Rattle.circle_words.specs.Requests.{IsReady, all_committed}
 use Rattle.circle_opening.proofs.claims.opened_matrices.Given as goal
 
 -- the matrices of the requests so far are there, and each is ready

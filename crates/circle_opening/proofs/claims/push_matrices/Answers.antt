@@ -6,7 +6,7 @@ use Rattle.circle_matrix.specs.Mmcs.{opened_rows}
 use Rattle.circle_relation.specs.Accepts.{Fields}
 use Rattle.circle_words.specs.Words.{committed_of}
 use Rattle.circle_words.specs.declared.reduced.OpenedMatrix.{OpenedMatrix}
-use Rattle.circle_opening.specs.Requests.{IsReady, lists_of, log_of}
+use Rattle.circle_words.specs.Requests.{IsReady, lists_of, log_of}
 use Rattle.circle_opening.proofs.Requested.{committed-all, committed-is, committed-more, openable-at, ready-is, valued-at}
 use Rattle.circle_opening.proofs.Threes.{three-sources, three_turn, three_end}
 use Rattle.circle_opening.proofs.claims.push_matrices.Goals as goal

@@ -2,7 +2,7 @@ use Rattle.std.proofs.Common.{◌≡◌, ◌++◌, length, map, take, All}
 use Rattle.circle_matrix.specs.Mmcs.{opened_rows}
 use Rattle.circle_relation.specs.Accepts.{Fields}
 use Rattle.circle_words.specs.Words.{committed_of}
-use Rattle.circle_opening.specs.Requests.{IsReady, batch_committed, lists_of}
+use Rattle.circle_words.specs.Requests.{IsReady, batch_committed, lists_of}
 use Rattle.circle_opening.proofs.claims.push_matrices.Given as goal
 
 -- the matrices so far are there, and each is ready

@@ -1,7 +1,7 @@
 use Rattle.std.proofs.Common.{◌∙◌, ℕ, List, Vec, Global, [], ◌∷◌, ap, length, map}
 use Rattle.std.proofs.lemmas.List.{length_push, map-append}
 use Rattle.std.proofs.lemmas.Slice.Zip.{zip_turn, zip_end}
-use Rattle.circle_opening.specs.Openings.{siblings_at}
+use Rattle.circle_words.specs.Openings.{siblings_at}
 use Rattle.circle_opening.proofs.Sided.{pair-pushed, pair-all}
 use Rattle.circle_relation.proofs.Pairs.{pair-sources}
 use Rattle.circle_opening.proofs.openings.all_siblings.Goals as goal

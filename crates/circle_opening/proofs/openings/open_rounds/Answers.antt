@@ -2,7 +2,7 @@ use Rattle.std.proofs.Common.{◌≡◌, ◌-◌, ◌+◌, ◌^◌, ◌∷◌, [
 use Rattle.std.proofs.lemmas.List.{length-append}
 use Rattle.std.proofs.lemmas.Option.{slice_get_read}
 use Rattle.circle_relation.specs.declared.proof.CircleCommitPhaseMultiStep.{CircleCommitPhaseMultiStep}
-use Rattle.circle_opening.specs.Openings.{OpensSiblings}
+use Rattle.circle_words.specs.Openings.{OpensSiblings}
 use Rattle.circle_opening.proofs.OpenedPairs.{one-highest}
 use Rattle.circle_opening.proofs.Sided.{step-more}
 use Rattle.circle_opening.proofs.openings.open_rounds.Goals as goal

@@ -1,5 +1,5 @@
 use Rattle.std.proofs.Common.{◌≡◌, ◌-◌, ◌+◌, ◌∷◌, [], ℕ, Some, length, map, slice_get}
-use Rattle.circle_opening.specs.Openings.{OpensSiblings}
+use Rattle.circle_words.specs.Openings.{OpensSiblings}
 use Rattle.circle_opening.proofs.openings.open_rounds.Given as goal
 
 -- the words so far are opened

@@ -1,7 +1,7 @@
 use Rattle.std.proofs.Common.{◌≡◌, ◌-◌, ◌/◌, ◌%◌, ◌^◌, ◌∙◌, ℕ, List, Vec, Global, sym, ap, arith, length, slice_index_or}
 use Rattle.std.proofs.lemmas.List.{get_or_default, length_push}
 use Rattle.std.proofs.lemmas.Slice.Zip.{zip_turn, zip_end}
-use Rattle.circle_opening.specs.Openings.{sibling_in}
+use Rattle.circle_words.specs.Openings.{sibling_in}
 use Rattle.circle_opening.proofs.Sided.{pair-pushed, pair-all}
 use Rattle.circle_relation.proofs.Pairs.{pair-sources}
 use Rattle.circle_opening.proofs.openings.siblings_of.Goals as goal

@@ -1,5 +1,5 @@
 use Rattle.std.proofs.Common.{◌≡◌, length, map, take}
-use Rattle.circle_opening.specs.Openings.{siblings_at}
+use Rattle.circle_words.specs.Openings.{siblings_at}
 use Rattle.circle_opening.proofs.openings.siblings_of.Given as goal
 
 -- the entries so far

@@ -6,8 +6,8 @@ use Rattle.circle_matrix.specs.Mmcs.{max_height}
 use Rattle.circle_matrix.specs.declared.pcs.BatchMultiOpening.{BatchMultiOpening}
 use Rattle.circle_matrix.specs.declared.pcs.OpeningRequest.{OpeningRequest}
 use Rattle.circle_relation.specs.RunOf.{opened_batch}
-use Rattle.circle_opening.specs.Openings.{OpensRows, places_of}
-use Rattle.circle_opening.specs.Requests.{AreHeights, HasBatchRows, log_of}
+use Rattle.circle_words.specs.Openings.{OpensRows, places_of}
+use Rattle.circle_words.specs.Requests.{AreHeights, HasBatchRows, log_of}
 use Rattle.circle_opening.proofs.Zipped.{AllZip-more}
 use Rattle.circle_opening.proofs.prove.open_inputs.Goals as goal
 

@@ -1,7 +1,7 @@
 use Rattle.std.proofs.Common.{map, take}
 use Rattle.std.specs.List.{AllZip}
 use Rattle.circle_relation.specs.RunOf.{opened_batch}
-use Rattle.circle_opening.specs.Requests.{HasBatchRows}
+use Rattle.circle_words.specs.Requests.{HasBatchRows}
 use Rattle.circle_opening.proofs.prove.open_inputs.Given as goal
 
 -- of the requests so far the rows

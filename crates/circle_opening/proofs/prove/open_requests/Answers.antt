@@ -12,7 +12,7 @@ use Rattle.circle_runs.specs.Runs.{drawn_of}
 use Rattle.circle_transcript.proofs.Playing.{handed_on}
 use Rattle.circle_opening.specs.Opening.{IsFailure, IsOpening, answered_claims, answered_matrices}
 use Rattle.circle_relation.specs.Taken.{challenges_of}
-use Rattle.circle_opening.specs.Requests.{AreAnswers, AreHeights, HasBatchRows, log_of}
+use Rattle.circle_words.specs.Requests.{AreAnswers, AreHeights, HasBatchRows, log_of}
 use Rattle.circle_relation.specs.Taken.{claims_taken, shape_by, taken_by}
 use Rattle.circle_opening.specs.Words.{taken_in, top_of}
 use Rattle.circle_opening.proofs.Answered.{all-some, batch-heights, fit-known, heights-back, heights-known}

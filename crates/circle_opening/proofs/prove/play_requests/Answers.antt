@@ -11,7 +11,7 @@ use Rattle.circle_matrix.specs.declared.pcs.OpeningRequest.{OpeningRequest}
 use Rattle.circle_domain.specs.Selectors.{IsFinite}
 use Rattle.circle_relation.specs.Statement.{all_matrices, log_max_height}
 use Rattle.circle_words.specs.Words.{CanBeOpened}
-use Rattle.circle_opening.specs.Requests.{AreAnswers, AreRequests}
+use Rattle.circle_words.specs.Requests.{AreAnswers, AreRequests}
 use Rattle.circle_relation.specs.Taken.{point_taken}
 use Rattle.circle_opening.specs.Words.{AreTall}
 use Rattle.std.proofs.lemmas.List.Elements.{All-map}
@@ -29,14 +29,14 @@ use Rattle.circle_words.specs.Words.{Committed, committed_of}
 use Rattle.circle_words.specs.declared.reduced.OpenedMatrix.{OpenedMatrix}
 use Rattle.circle_opening.specs.Failure.{IsStuck, IsTooHigh}
 use Rattle.circle_opening.specs.Opening.{answered_claims}
-use Rattle.circle_opening.specs.Requests.{all_committed}
+use Rattle.circle_words.specs.Requests.{all_committed}
 use Rattle.circle_relation.specs.Taken.{claims_taken, shape_by}
 use Rattle.circle_opening.specs.Words.{AreWordsOf, taken_in, top_of}
 use Rattle.circle_opening.proofs.Answered.{all-some, heights-known, if_ok2}
 use Rattle.circle_relation.proofs.Results.{if_err}
 use Rattle.circle_opening.proofs.Asked.{all-taken, all-widths, top-claimed}
 use Rattle.circle_opening.proofs.Counts.{queries-count}
-use Rattle.circle_opening.proofs.Described.{claims_widths, shape_is}
+use Rattle.circle_relation.proofs.Described.{claims_widths, shape_is}
 use Rattle.circle_opening.specs.declared.run.CommittedWords.{CommittedWords}
 use Rattle.circle_opening.proofs.Seen.{top-seen}
 use Rattle.circle_opening.proofs.Stuck.{draw-moved}

@@ -6,7 +6,7 @@ use Rattle.circle_relation.specs.Accepts.{Fields}
 use Rattle.circle_words.specs.Words.{HaveHeights}
 use Rattle.circle_relation.specs.RunOf.{opened_round}
 use Rattle.circle_relation.specs.Statement.{Opened}
-use Rattle.circle_opening.specs.Openings.{OpensSiblings}
+use Rattle.circle_words.specs.Openings.{OpensSiblings}
 use Rattle.circle_opening.specs.Words.{heights_of}
 use Rattle.circle_opening.proofs.Held.{first-greatest, read-map, round-shape, slice_get_at}
 use Rattle.circle_opening.proofs.Tops.{all-low, top-known}

@@ -8,7 +8,8 @@ use Rattle.circle_relation.specs.Accepts.{Fields}
 use Rattle.circle_words.specs.Words.{IsNextWord, pairs_of}
 use Rattle.circle_transcript.specs.Transcript.{after_commit, commit_challenge, commit_passes}
 use Rattle.circle_transcript.proofs.Playing.{handed_on, unwrap_none}
-use Rattle.circle_opening.specs.Failure.{IsRoundFailure, prover_error}
+use Rattle.circle_opening.specs.Failure.{IsRoundFailure}
+use Rattle.circle_relation.specs.Failures.{prover_error}
 use Rattle.circle_opening.proofs.Growing.{even_power, first_rows, length-pairs_of}
 use Rattle.circle_opening.proofs.rounds.play_round.Given.{Over}
 use Rattle.circle_opening.proofs.rounds.play_round.Goals as goal

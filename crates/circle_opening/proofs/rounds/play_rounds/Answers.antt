@@ -10,7 +10,7 @@ use Rattle.circle_transcript.specs.Transcript.{numbers}
 use Rattle.circle_transcript.proofs.Playing.{handed_on, zeros_pushed}
 use Rattle.circle_runs.proofs.Runs.{rounds_all, next_round, rounds_none}
 use Rattle.circle_opening.specs.Failure.{IsRoundsFailure}
-use Rattle.circle_opening.specs.declared.error.ProverError.TheVariants.{Memory}
+use Rattle.circle_relation.specs.declared.error.ProverError.TheVariants.{Memory}
 use Rattle.circle_opening.specs.Words.{word_at}
 use Rattle.circle_opening.proofs.Growing.{word_at-kept, word_at-next, rounds_begun, rounds_more, played_begun, played_more, stuck_after, words_committed}
 use Rattle.circle_opening.proofs.rounds.play_rounds.Given.{Over}

@@ -19,7 +19,8 @@ use Rattle.circle_transcript.proofs.Playing.{handed_on, unwrap_none}
 use Rattle.circle_runs.proofs.Runs.{indices_due}
 use Rattle.circle_domain.specs.Spans.{HasXValues, XSpan}
 use Rattle.circle_words.specs.Words.{Committed, HaveHeights, committed_of, lambda}
-use Rattle.circle_opening.specs.Failure.{Begins, IsRunFailure, prover_error}
+use Rattle.circle_opening.specs.Failure.{Begins, IsRunFailure}
+use Rattle.circle_relation.specs.Failures.{prover_error}
 use Rattle.circle_opening.specs.Words.{AreCommitted, first_fold, heights_of, layer_of, round_word, top_of}
 use Rattle.circle_opening.proofs.Growing.{words_committed}
 use Rattle.circle_opening.proofs.Tops.{folds-split, front-of, height-known, heights-end, lower, some-heights, split-last, rounds-alike, top-known, words-alike}

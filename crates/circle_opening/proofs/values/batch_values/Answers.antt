@@ -8,7 +8,7 @@ use Rattle.circle_matrix.specs.RowMajorMatrix.{height_of}
 use Rattle.circle_matrix.specs.declared.matrix.RowMajorMatrix.{RowMajorMatrix}
 use Rattle.circle_relation.specs.Accepts.{Fields}
 use Rattle.circle_words.specs.Values.{AreOff, AreOpened}
-use Rattle.circle_opening.specs.Requests.{AreValuesOf, IsOpenable, lists_of, log_of}
+use Rattle.circle_words.specs.Requests.{AreValuesOf, IsOpenable, lists_of, log_of}
 use Rattle.circle_opening.proofs.Requested.{openable-at, values-of, values-more, as-long}
 use Rattle.circle_relation.proofs.Pairs.{pair-sources}
 use Rattle.circle_opening.proofs.values.batch_values.Goals as goal

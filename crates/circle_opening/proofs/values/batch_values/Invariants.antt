@@ -4,7 +4,7 @@ use Rattle.std.specs.List.{AllZip}
 use Rattle.circle_matrix.specs.Mmcs.{opened_rows}
 use Rattle.circle_relation.specs.Accepts.{Fields}
 use Rattle.circle_words.specs.Values.{AreWeightsOf}
-use Rattle.circle_opening.specs.Requests.{AreValuesOf, lists_of}
+use Rattle.circle_words.specs.Requests.{AreValuesOf, lists_of}
 use Rattle.circle_opening.proofs.values.batch_values.Given as goal
 
 -- the values of the matrices so far are there

@@ -6,7 +6,7 @@ use Rattle.circle_matrix.specs.Mmcs.{opened_rows}
 use Rattle.circle_matrix.specs.Pcs.{openings}
 use Rattle.circle_matrix.specs.declared.matrix.RowMajorMatrix.{RowMajorMatrix}
 use Rattle.circle_relation.specs.Accepts.{Fields}
-use Rattle.circle_opening.specs.Requests.{AreAnswers, AreValuesOf, IsFit, IsOpenable, lists_of}
+use Rattle.circle_words.specs.Requests.{AreAnswers, AreValuesOf, IsFit, IsOpenable, lists_of}
 use Rattle.circle_opening.proofs.Requested.{pushed-more}
 use Rattle.circle_opening.proofs.values.requested_values.Goals as goal
 

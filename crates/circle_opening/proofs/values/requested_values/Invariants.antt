@@ -3,7 +3,7 @@ use Rattle.std.specs.List.{AllZip}
 use Rattle.circle_matrix.specs.Pcs.{openings}
 use Rattle.circle_relation.specs.Accepts.{Fields}
 use Rattle.circle_words.specs.Values.{AreWeightsOf}
-use Rattle.circle_opening.specs.Requests.{AreAnswers}
+use Rattle.circle_words.specs.Requests.{AreAnswers}
 use Rattle.circle_opening.proofs.values.requested_values.Given as goal
 
 -- the values of the requests so far are there

@@ -3,7 +3,7 @@ use Rattle.std.specs.Prelude.{Ok, Err}
 use Rattle.std.specs.Result.{result_and}
 use Rattle.circle_matrix.specs.declared.matrix.RowMajorMatrix.{RowMajorMatrix}
 use Rattle.circle_domain.specs.declared.domain.CircleDomain.{CircleDomain}
-use Rattle.circle_opening.specs.declared.error.ProverError.{ProverError}
+use Rattle.circle_relation.specs.declared.error.ProverError.{ProverError}
 use Rattle.circle_verifier.specs.Refusals.{Test, answer}
 use Rattle.circle_verifier.proofs.Answering.{refused-is}
 use Rattle.circle_scheme.specs.Committing.{domain_tests}

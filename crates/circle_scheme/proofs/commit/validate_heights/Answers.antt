@@ -2,7 +2,7 @@ use Rattle.std.proofs.Common.{◌≡◌, ◌+◌, ◌<◌, ◌∙◌, List, drop
 use Rattle.std.specs.Prelude.{Ok, Err}
 use Rattle.std.specs.Result.{result_and}
 use Rattle.circle_matrix.specs.declared.matrix.RowMajorMatrix.{RowMajorMatrix}
-use Rattle.circle_opening.specs.declared.error.ProverError.{ProverError}
+use Rattle.circle_relation.specs.declared.error.ProverError.{ProverError}
 use Rattle.circle_verifier.specs.Refusals.{Test, answer}
 use Rattle.circle_verifier.proofs.Answering.{refused-is}
 use Rattle.circle_scheme.specs.Committing.{height_tests}

@@ -5,7 +5,7 @@ use Rattle.circle_relation.specs.StatementOf.{batch_claims}
 use Rattle.circle_transcript.specs.Claims.{claims_of}
 use Rattle.circle_transcript.specs.Draw.{widths_of}
 use Rattle.circle_transcript.specs.ShapeOf.{batches_of, shape_of}
-use Rattle.circle_opening.proofs.Described.{claims_widths, shape_is}
+use Rattle.circle_relation.proofs.Described.{claims_widths, shape_is}
 use Rattle.circle_scheme.proofs.Replayed.{tested_high, taken_is, redrawn, refused_by}
 use Rattle.circle_verifier.proofs.Finite.{finite_from}
 use Rattle.circle_scheme.proofs.replay.replay_transcript.Goals as goal

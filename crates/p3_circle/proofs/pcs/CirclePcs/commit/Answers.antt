@@ -2,7 +2,7 @@ use Rattle.std.proofs.Common.{rules, ◌≡◌, ◌==◌, ◌≤◌, length, tru
 use Rattle.std.proofs.lemmas.Slice.Zip.{AllZip-long}
 use Rattle.circle_matrix.specs.Mmcs.{HaveHeightsOfPowers}
 use Rattle.circle_scheme.specs.Committing.{commit_tests, evaluation_tests, IsExtension}
-use Rattle.circle_opening.specs.declared.error.ProverError.TheVariants.{NoCommittedMatrices}
+use Rattle.circle_relation.specs.declared.error.ProverError.TheVariants.{NoCommittedMatrices}
 use Rattle.circle_scheme.proofs.Extended.{extensions-heights}
 use Rattle.circle_scheme.proofs.CommitTests.{eqb_positive}
 use Rattle.circle_verifier.proofs.HeightTests.{skipped}

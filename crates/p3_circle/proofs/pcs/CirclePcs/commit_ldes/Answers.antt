@@ -1,7 +1,7 @@
 use Rattle.std.proofs.Common.{rules, ◌≡◌, ◌==◌, length, true, false, sym, subst, ap, ◌∙◌, Ok}
 use Rattle.circle_matrix.specs.Mmcs.{HaveHeightsOfPowers}
 use Rattle.circle_scheme.specs.Committing.{lde_tests, matrix_tests}
-use Rattle.circle_opening.specs.declared.error.ProverError.TheVariants.{NoCommittedMatrices}
+use Rattle.circle_relation.specs.declared.error.ProverError.TheVariants.{NoCommittedMatrices}
 use Rattle.circle_verifier.specs.Refusals.{answer}
 use Rattle.circle_verifier.proofs.HeightTests.{skipped}
 use Rattle.p3_circle.proofs.InOrder.{refuses, refuses-first, passes, only-memory}

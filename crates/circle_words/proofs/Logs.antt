@@ -6,7 +6,7 @@ use Rattle.std.proofs.Math.Nat.{pow-suc}
 use Rattle.std.proofs.lemmas.Bool.{le-leb, lt-leb, cases_lt}
 use Rattle.std.proofs.lemmas.Nat.{pow_pos}
 use Rattle.circle_domain.proofs.Powers.{pow_within}
-use Rattle.circle_opening.specs.Requests.{log_of}
+use Rattle.circle_words.specs.Requests.{log_of}
 
 module _ (m : ℕ) where
   -- the exponents of n from a on whose next power of two is at most 2^m

@@ -18,7 +18,7 @@ use Rattle.circle_relation.specs.Statement.{BatchClaim, MatrixClaim, Opened}
 use Rattle.circle_words.specs.Lifts.{read_rows}
 use Rattle.circle_words.specs.Values.{AreOff, AreOpened}
 use Rattle.circle_words.specs.Words.{CanBeOpened, Committed, claim_of, committed_of}
-use Rattle.circle_opening.specs.Openings.{OpensRows, places_of}
+use Rattle.circle_words.specs.Openings.{OpensRows, places_of}
 use Rattle.circle_words.specs.declared.reduced.OpenedMatrix.{OpenedMatrix}
 
 -- the binary logarithm of a power of two below 2^64

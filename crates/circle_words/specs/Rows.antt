@@ -1,6 +1,6 @@
 -- The definitions at worked examples.
 use Rattle.std.specs.Prelude.{◌≡◌, refl}
-use Rattle.circle_opening.specs.Requests.{log_of}
+use Rattle.circle_words.specs.Requests.{log_of}
 
 -- the logarithms of the least powers of two, and of the greatest below 2^64
 log_of-one : log_of 1 ≡ 0
