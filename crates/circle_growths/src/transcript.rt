@@ -9,7 +9,7 @@ use anyhow::Result;
 use circle_challenger::{CanSample, Sha256Challenger};
 use circle_commit::FriParameters;
 use circle_field::{Cubic, Mersenne31};
-use circle_runs::CircleMessages;
+use circle_transcript::CircleMessages;
 use p3_circle::{CirclePcsShape, CircleProverTranscript, Neutral, Point, prover_run};
 use std::alloc::{AllocError, Global};
 

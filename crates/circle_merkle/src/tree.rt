@@ -10,9 +10,9 @@ ghost use Rattle.circle_merkle.specs.Messages.{pair_digest, row_digests};
 ghost use Rattle.circle_merkle.specs.Authentication.{IsNextLevel, tree_levels};
 
 use crate::hashing::{Hash, digest_of_pair, rows_digest};
+use crate::lanes::LANES;
 use crate::messages::{sixteen_pairs, sixteen_rows};
 use crate::rows::MatrixRows;
-use circle_challenger::lanes::LANES;
 use circle_field::ElementBytes;
 use circle_matrix::{Matrix, RowMajorMatrix, log2_strict};
 use std::alloc::{AllocError, Global};

@@ -13,8 +13,8 @@ use Rattle.circle_matrix.specs.RowMajorMatrix.{rows}
 use Rattle.circle_matrix.specs.declared.matrix.RowMajorMatrix.{RowMajorMatrix}
 use Rattle.circle_relation.specs.Accepts.{Fields}
 use Rattle.circle_transcript.specs.Draw.{AreFound, after_round, fold_challenge, after_rounds, fold_challenges, rounds_pass}
-use Rattle.circle_runs.specs.Runs.{NonePasses}
-use Rattle.circle_runs.proofs.Runs.{one_more, zip-append}
+use Rattle.circle_transcript.specs.Runs.{NonePasses}
+use Rattle.circle_transcript.proofs.Runs.{one_more, zip-append}
 use Rattle.circle_words.specs.Words.{next_word, pairs_of}
 use Rattle.circle_words.proofs.Pairs.{twice-half}
 use Rattle.circle_opening.specs.Failure.{IsStuckAfter}

@@ -9,11 +9,11 @@ use Rattle.circle_matrix.specs.declared.params.PowPhase.{PowPhase}
 use Rattle.circle_matrix.specs.declared.params.PowPhase.TheVariants.{Query}
 use Rattle.circle_relation.specs.Accepts.{Fields}
 use Rattle.circle_transcript.specs.Draw.{Claim, Taken, after_final_poly, after_rounds, closed, Drawn, draw, draw_seeded}
-use Rattle.circle_runs.specs.Runs.{NonePasses, drawn_of}
-use Rattle.circle_runs.specs.declared.run.CircleDraws.{CircleDraws}
+use Rattle.circle_transcript.specs.Runs.{NonePasses, drawn_of}
+use Rattle.circle_transcript.specs.declared.run.CircleDraws.{CircleDraws}
 use Rattle.circle_transcript.specs.Shape.{Shape}
 use Rattle.circle_transcript.specs.declared.transcript.Numbers.{Numbers}
-use Rattle.circle_runs.proofs.Drawn.{AtQuery}
+use Rattle.circle_transcript.proofs.Drawn.{AtQuery}
 use Rattle.circle_words.specs.Words.{Committed, pairs_of}
 use Rattle.circle_opening.specs.Failure.{AreRoundsOf, Begins, FindsNone, IsStuckAfter, before_rounds}
 use Rattle.circle_opening.specs.Words.{IsCommitmentOf, round_word, top_of}

@@ -20,7 +20,7 @@ use Rattle.circle_transcript.specs.Draw.{layered, closed, after_rounds, fold_cha
 use Rattle.circle_relation.specs.Accepts.{Fields}
 use Rattle.circle_relation.specs.Statement.{BatchClaim}
 use Rattle.circle_transcript.specs.Numbers.{numbers_of}
-use Rattle.circle_runs.specs.Runs.{NonePasses}
+use Rattle.circle_transcript.specs.Runs.{NonePasses}
 use Rattle.circle_transcript.specs.declared.transcript.Numbers.{Numbers}
 use Rattle.circle_point.specs.declared.point.Point.{Point}
 use Rattle.circle_transcript.specs.Claims.{claims_of}

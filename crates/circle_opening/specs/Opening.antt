@@ -17,7 +17,7 @@ use Rattle.circle_opening.specs.Failure.{IsStuckFrom, IsTooHigh}
 use Rattle.circle_relation.specs.declared.error.ProverError.{ProverError}
 use Rattle.circle_relation.specs.declared.error.ProverError.TheVariants.{Memory}
 use Rattle.circle_transcript.specs.Draw.{draw}
-use Rattle.circle_runs.specs.declared.run.CircleWitnesses.{CircleWitnesses}
+use Rattle.circle_transcript.specs.declared.run.CircleWitnesses.{CircleWitnesses}
 use Rattle.circle_words.specs.Words.{Committed, lambda, pairs_of}
 use Rattle.circle_words.specs.Openings.{OpensSiblings}
 use Rattle.circle_words.specs.Requests.{AreAnswers, HasBatchRows, OpensBatches, all_committed}

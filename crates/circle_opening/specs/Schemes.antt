@@ -10,7 +10,7 @@ use Rattle.circle_relation.specs.Accepts.{Authenticates, Fields}
 use Rattle.circle_relation.specs.RunOf.{proof_of}
 use Rattle.circle_relation.specs.declared.proof.CirclePcsProof.{CirclePcsProof}
 use Rattle.circle_transcript.specs.Draw.{draw}
-use Rattle.circle_runs.specs.Runs.{drawn_leaving}
+use Rattle.circle_transcript.specs.Runs.{drawn_leaving}
 use Rattle.circle_opening.specs.Failure.{IsTooHigh}
 use Rattle.circle_opening.specs.Opening.{IsFailure, IsOpening, IsStuckOn, answered_claims}
 use Rattle.circle_opening.specs.Opening.{answered_matrices}

@@ -4,7 +4,7 @@ ghost use Rattle.std.specs.Prelude.{IfOk, IfErr, OnOk};
 ghost use Rattle.circle_transcript.specs.Claims.{claims_of};
 ghost use Rattle.circle_transcript.specs.Draw.{widths_of};
 ghost use Rattle.circle_transcript.specs.Numbers.{numbers_of, run_steps};
-ghost use Rattle.circle_runs.specs.Runs.{ArePlayable, Draws, DrawsFrom};
+ghost use Rattle.circle_transcript.specs.Runs.{ArePlayable, Draws, DrawsFrom};
 ghost use Rattle.circle_transcript.specs.Shape.{claimed_widths};
 ghost use Rattle.circle_transcript.specs.ShapeOf.{shape_of};
 ghost use Rattle.circle_transcript.specs.Transcript.{due, numbers, IsSame};
@@ -19,8 +19,7 @@ use circle_challenger::{CanObserve, CanSample, GrindingChallenger, RunChallenger
 use circle_field::{ComplexExtendable, ExtensionField, Field};
 use circle_matrix::{FriParameters, Mmcs};
 use circle_relation::{OverCircle, ProverError};
-use circle_runs::{CircleDraws, CircleWitnesses};
-use circle_transcript::{CirclePcsShape, CircleProverTranscript, OpeningClaim};
+use circle_transcript::{CircleDraws, CirclePcsShape, CircleProverTranscript, CircleWitnesses, OpeningClaim};
 use circle_words::OpenedMatrix;
 use std::alloc::Global;
 

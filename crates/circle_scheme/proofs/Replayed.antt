@@ -11,7 +11,7 @@ use Rattle.circle_transcript.specs.declared.failure.CircleTranscriptFailure.{Cir
 use Rattle.circle_transcript.specs.declared.failure.CircleTranscriptFailure.TheVariants.{Memory as OutOfMemory}
 use Rattle.circle_transcript.specs.Failure.{phase_of}
 use Rattle.circle_transcript.specs.declared.transcript.Numbers.{Numbers}
-use Rattle.circle_runs.specs.Runs.{IsMiss}
+use Rattle.circle_transcript.specs.Runs.{IsMiss}
 use Rattle.circle_transcript.specs.Shape.{Shape}
 use Rattle.circle_transcript.specs.Draw.{Claim, Taken, taken, Drawn, draw}
 use Rattle.circle_scheme.specs.Replay.{refusal_of, IsMissedIn}

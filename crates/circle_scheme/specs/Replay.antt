@@ -18,8 +18,8 @@ use Rattle.circle_transcript.specs.declared.failure.CircleTranscriptFailure.TheV
 use Rattle.circle_transcript.specs.declared.failure.CircleTranscriptFailure.TheVariants.{NoWitness}
 use Rattle.circle_transcript.specs.declared.failure.CircleTranscriptFailure.TheVariants.{Memory as OutOfMemory}
 use Rattle.circle_transcript.specs.Draw.{Drawn, draw}
-use Rattle.circle_runs.specs.Runs.{drawn_leaving}
-use Rattle.circle_runs.specs.declared.run.CircleDraws.{CircleDraws}
+use Rattle.circle_transcript.specs.Runs.{drawn_leaving}
+use Rattle.circle_transcript.specs.declared.run.CircleDraws.{CircleDraws}
 
 -- what is drawn from a state of a challenger, of claims and a proof
 abbrev pub drawing : {C S F E M Com InputCom InputProof WordProof : Type 0} → RunMoves C S F E Com

@@ -24,8 +24,7 @@ use circle_matrix::{
 };
 use circle_point::Point;
 use circle_relation::{CirclePcsProof, InputError, OverCircle};
-use circle_runs::{CircleDraws, CircleMessages, CircleWitnesses, verifier_run};
-use circle_transcript::{CirclePcsShape, CircleTranscriptFailure, OpeningClaim};
+use circle_transcript::{CircleDraws, CircleMessages, CirclePcsShape, CircleTranscriptFailure, CircleWitnesses, OpeningClaim, verifier_run};
 use std::alloc::{AllocError, Global};
 
 // The number of values that are claimed of a matrix at each of its points.

@@ -9,10 +9,7 @@ use circle_challenger::{CanObserve, CanSample, GrindingChallenger, Sha256Challen
 use circle_field::{Cubic, ExtensionField, Field, Mersenne31};
 use circle_matrix::{FriParameters, PowPhase};
 use circle_point::{Neutral, Point};
-use circle_runs::{
-    CircleDraws, CircleMessages, CircleWitnesses, both_runs, prover_run, verifier_run,
-};
-use circle_transcript::{CirclePcsShape, CircleTranscriptFailure};
+use circle_transcript::{CircleDraws, CircleMessages, CirclePcsShape, CircleTranscriptFailure, CircleWitnesses, both_runs, prover_run, verifier_run};
 use std::alloc::{AllocError, Global};
 use std::fmt::InlineText;
 use std::process::Abort;

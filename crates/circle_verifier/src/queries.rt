@@ -21,7 +21,7 @@ use circle_domain::CircleDomain;
 use circle_field::{ComplexExtendable, ExtensionField};
 use circle_matrix::{CommitmentOpening, FriError, FriParameters, Mmcs};
 use circle_relation::{CirclePcsProof, InputError, OpenedRun, OverCircle};
-use circle_runs::CircleDraws;
+use circle_transcript::CircleDraws;
 use std::alloc::Global;
 
 /// Refuses a run by the first of these that fails: the lists of the proof have the lengths that are

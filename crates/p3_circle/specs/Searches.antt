@@ -12,7 +12,7 @@ use Rattle.circle_matrix.specs.declared.params.PowPhase.{PowPhase}
 use Rattle.circle_matrix.specs.declared.params.PowPhase.TheVariants.{Batch, CommitPhase, Query}
 use Rattle.circle_matrix.specs.declared.pcs.OpeningRequest.{OpeningRequest}
 use Rattle.circle_relation.specs.Accepts.{Fields}
-use Rattle.circle_runs.specs.Runs.{NonePasses}
+use Rattle.circle_transcript.specs.Runs.{NonePasses}
 use Rattle.circle_transcript.specs.Draw.{Claim, after_claims, after_round, after_rounds, closed}
 use Rattle.circle_transcript.specs.Draw.{layered, seeded, taken}
 use Rattle.circle_transcript.specs.Numbers.{numbers_of}

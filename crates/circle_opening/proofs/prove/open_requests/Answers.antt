@@ -8,7 +8,7 @@ use Rattle.circle_matrix.specs.declared.pcs.OpeningRequest.{OpeningRequest}
 use Rattle.circle_field.specs.Field.{of_nat}
 use Rattle.circle_relation.specs.Accepts.{Fields}
 use Rattle.circle_relation.specs.RunOf.{proof_of}
-use Rattle.circle_runs.specs.Runs.{drawn_of}
+use Rattle.circle_transcript.specs.Runs.{drawn_of}
 use Rattle.circle_transcript.proofs.Playing.{handed_on}
 use Rattle.circle_opening.specs.Opening.{IsFailure, IsOpening, answered_claims, answered_matrices}
 use Rattle.circle_relation.specs.Taken.{challenges_of}

@@ -23,7 +23,7 @@ use Rattle.circle_relation.specs.Accepts.{Fields}
 use Rattle.circle_transcript.specs.Claims.{claims_of}
 use Rattle.circle_transcript.specs.Draw.{draw, seeded, widths_of}
 use Rattle.circle_transcript.specs.Numbers.{numbers_of}
-use Rattle.circle_runs.specs.Runs.{drawn_of}
+use Rattle.circle_transcript.specs.Runs.{drawn_of}
 use Rattle.circle_transcript.specs.ShapeOf.{batches_of, shape_of}
 use Rattle.circle_words.specs.Words.{Committed, committed_of}
 use Rattle.circle_words.specs.declared.reduced.OpenedMatrix.{OpenedMatrix}

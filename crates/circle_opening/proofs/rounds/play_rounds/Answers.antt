@@ -8,7 +8,7 @@ use Rattle.circle_field.specs.Field.{of_nat}
 use Rattle.circle_relation.specs.Accepts.{Fields}
 use Rattle.circle_transcript.specs.Transcript.{numbers}
 use Rattle.circle_transcript.proofs.Playing.{handed_on, zeros_pushed}
-use Rattle.circle_runs.proofs.Runs.{rounds_all, next_round, rounds_none}
+use Rattle.circle_transcript.proofs.Runs.{rounds_all, next_round, rounds_none}
 use Rattle.circle_opening.specs.Failure.{IsRoundsFailure}
 use Rattle.circle_relation.specs.declared.error.ProverError.TheVariants.{Memory}
 use Rattle.circle_opening.specs.Words.{word_at}

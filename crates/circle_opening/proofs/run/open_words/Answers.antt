@@ -6,7 +6,7 @@ use Rattle.circle_transcript.specs.Claims.{claims_of}
 use Rattle.circle_transcript.specs.Draw.{widths_of}
 use Rattle.circle_transcript.specs.Numbers.{numbers_of, run_steps}
 use Rattle.circle_transcript.specs.ShapeOf.{shape_of}
-use Rattle.circle_runs.specs.Runs.{ArePlayable}
+use Rattle.circle_transcript.specs.Runs.{ArePlayable}
 use Rattle.circle_transcript.proofs.Playing.{or_moved}
 use Rattle.circle_words.specs.Words.{committed_of}
 use Rattle.circle_opening.specs.Failure.{IsStuck}

@@ -11,12 +11,12 @@ use Rattle.circle_transcript.specs.Claims.{claims_of}
 use Rattle.circle_transcript.specs.Draw.{after_final_poly, after_indices, draw_seeded, drawn_indices, taken}
 use Rattle.circle_transcript.specs.Numbers.{indices_steps}
 use Rattle.circle_transcript.specs.Shape.{rounds_steps}
-use Rattle.circle_runs.specs.Runs.{NonePasses}
+use Rattle.circle_transcript.specs.Runs.{NonePasses}
 use Rattle.circle_transcript.specs.Transcript.{numbers}
 use Rattle.circle_transcript.specs.declared.transcript.Numbers.{Numbers}
-use Rattle.circle_runs.proofs.Drawn.{AtRounds, at_layer, at_query, all_drawn, drawn_parts}
+use Rattle.circle_transcript.proofs.Drawn.{AtRounds, at_layer, at_query, all_drawn, drawn_parts}
 use Rattle.circle_transcript.proofs.Playing.{handed_on, unwrap_none}
-use Rattle.circle_runs.proofs.Runs.{indices_due}
+use Rattle.circle_transcript.proofs.Runs.{indices_due}
 use Rattle.circle_domain.specs.Spans.{HasXValues, XSpan}
 use Rattle.circle_words.specs.Words.{Committed, HaveHeights, committed_of, lambda}
 use Rattle.circle_opening.specs.Failure.{Begins, IsRunFailure}
