@@ -1,7 +1,7 @@
 //! Matrices and views at concrete types.
 ghost use Rattle.std.specs.Prelude.{◌-◌};
 
-use circle_matrix::{
+use circle_commit::{
     Matrix, PeriodicLdeTable, RowIndexMap, RowIndexMappedView, RowMajorMatrix, RowMajorMatrixView,
 };
 use std::alloc::{AllocError, Global};

@@ -1,8 +1,8 @@
 //! Roots, proofs and refusals, with expected values from outside.
-use circle_field::{Field, Mersenne31};
-use circle_matrix::{
+use circle_commit::{
     Dimensions, Mmcs, OpenedRows, RowMajorMatrix, are_below, heights_are_powers_of_two,
 };
+use circle_field::{Field, Mersenne31};
 use circle_merkle::{MerkleTreeError, ShaMmcs, ShaProverData};
 use sha2::{Digest, Sha256};
 use std::alloc::{AllocError, Global};

@@ -39,7 +39,7 @@ mod verdict;
 use circle_commands::prove::Input as Statement;
 use circle_commands::verify::Input as Claims;
 use circle_commands::{Failure, shape, values};
-use circle_commit::JsonForm;
+use circle_json::JsonForm;
 use circle_opening::OpeningOver;
 use circle_presets::{Challenge, ChallengeMmcs, Challenger, Val, ValMmcs};
 pub use params::CircleParams;

@@ -8,7 +8,7 @@ use crate::text;
 use circle_commands::Failure;
 use circle_commands::prove::{self, Input as Statement};
 use circle_commands::verify::Input as Claims;
-use circle_commit::JsonForm;
+use circle_json::JsonForm;
 use circle_opening::OpeningOver;
 use circle_presets::{Challenge, ChallengeMmcs, Challenger, Val, ValMmcs};
 use std::alloc::{AllocError, Global};

@@ -4,9 +4,9 @@ use crate::given::{
     point_off, rows_of, rows_on,
 };
 use anyhow::{Result, bail};
+use circle_commit::{LagrangeSelectors, PolynomialSpace, is_power_of_two};
 use circle_field::{Cubic, Mersenne31};
 use circle_json::{JsonForm, member};
-use circle_matrix::{LagrangeSelectors, PolynomialSpace, is_power_of_two};
 use circle_plane::Point;
 use serde_json::{Map, Value, put};
 use std::alloc::{AllocError, Global};

@@ -3,12 +3,12 @@ ghost use Rattle.std.specs.Prelude.{◌≡◌, ◌≤◌, ◌^◌, IfOk};
 
 use crate::given::{matrix, maybe, object_of_two, pair, point, point_off};
 use anyhow::{Result, bail};
+use circle_commit::{Matrix, RowMajorMatrix, is_power_of_two};
 use circle_field::{Cubic, Field, Mersenne31};
 use circle_folding::{
     deep_quotient_reduce_row, extract_lambda, fold_x, fold_x_row, fold_y, x_interpolate, x_value,
 };
 use circle_json::{JsonForm, member};
-use circle_matrix::{Matrix, RowMajorMatrix, is_power_of_two};
 use circle_plane::Point;
 use serde_json::Value;
 use std::alloc::Global;

@@ -1,11 +1,11 @@
 //! What direct calls are given and answer, as JSON.
 ghost use Rattle.std.specs.Prelude.{◌≡◌, IfOk};
-ghost use Rattle.circle_matrix.specs.RowMajorMatrix.{height_of};
+ghost use Rattle.circle_commit.specs.RowMajorMatrix.{height_of};
 
 use anyhow::{Result, bail};
+use circle_commit::{Matrix, PolynomialSpace, RowMajorMatrix};
 use circle_field::{Cubic, Field, Mersenne31};
 use circle_json::{JsonForm, member};
-use circle_matrix::{Matrix, PolynomialSpace, RowMajorMatrix};
 use circle_plane::{CircleDomain, Point};
 use serde_json::{Map, Value, put};
 use std::alloc::{AllocError, Global};

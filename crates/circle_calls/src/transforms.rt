@@ -1,16 +1,16 @@
 //! Cases of the basis, the transform, values off a domain and periodic columns.
 ghost use Rattle.std.specs.Prelude.{◌≤◌, IfOk};
-ghost use Rattle.circle_matrix.specs.Matrix.{IsPowerOfTwo};
-ghost use Rattle.circle_matrix.specs.RowMajorMatrix.{height_of};
+ghost use Rattle.circle_commit.specs.Matrix.{IsPowerOfTwo};
+ghost use Rattle.circle_commit.specs.RowMajorMatrix.{height_of};
 
 use crate::given::{
     Domain, Rows, check_size, domain, list_of, matrix, object_of_two, point, point_off, rows_of,
     rows_on,
 };
 use anyhow::{Result, bail};
+use circle_commit::{Matrix, PeriodicLdeTable, PolynomialSpace, is_power_of_two};
 use circle_field::{ExtensionField, Mersenne31};
 use circle_json::{JsonForm, member};
-use circle_matrix::{Matrix, PeriodicLdeTable, PolynomialSpace, is_power_of_two};
 use circle_plane::{
     Butterflies, CircleDomain, CircleEvaluations, PeriodicError, Point,
     build_periodic_lde_table_circle, circle_basis,

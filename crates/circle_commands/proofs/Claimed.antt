@@ -1,11 +1,11 @@
 -- Claims that are made of what a verifier knows of batches, and of answered values.
 use Rattle.std.proofs.Common.{◌≡◌, ℕ, List, [], ◌∷◌, length, map, zip, ap, refl, ◌∙◌, arith}
 use Rattle.circle_field.specs.declared.cubic.Cubic.{Cubic}
-use Rattle.circle_matrix.specs.DotProduct.{pairwise}
-use Rattle.circle_matrix.specs.Pcs.{Openings}
-use Rattle.circle_matrix.specs.declared.pcs.CommitmentOpening.{CommitmentOpening}
-use Rattle.circle_matrix.specs.declared.pcs.MatrixOpening.{MatrixOpening}
-use Rattle.circle_matrix.specs.declared.pcs.PointOpening.{PointOpening}
+use Rattle.circle_commit.specs.DotProduct.{pairwise}
+use Rattle.circle_commit.specs.Pcs.{Openings}
+use Rattle.circle_commit.specs.declared.pcs.CommitmentOpening.{CommitmentOpening}
+use Rattle.circle_commit.specs.declared.pcs.MatrixOpening.{MatrixOpening}
+use Rattle.circle_commit.specs.declared.pcs.PointOpening.{PointOpening}
 use Rattle.circle_commit.specs.Claims.{Told, batch_told as all_told, matrix_told as sized, point_told}
 use Rattle.circle_commit.specs.Claims.{matrix_claimed as sized_claim, batch_claimed as sized_claims}
 use Rattle.circle_commit.specs.declared.claims.CommittedBatch.{CommittedBatch}

@@ -12,11 +12,11 @@ use Rattle.std.proofs.lemmas.Option.{get_or_from_slice_get, slice_get-get_or, sl
 use Rattle.circle_field.specs.Field.{sub}
 use Rattle.circle_field.specs.Circle.{Coordinates, origin}
 use Rattle.circle_point.specs.Basis.{vanishing}
-use Rattle.circle_matrix.specs.Mmcs.{dimensions_of, max_height, rows_at, rows_at_each}
-use Rattle.circle_matrix.specs.declared.matrix.RowMajorMatrix.{RowMajorMatrix}
-use Rattle.circle_matrix.specs.declared.params.FriParameters.{FriParameters}
-use Rattle.circle_matrix.proofs.ColumnSums.{map-agree}
-use Rattle.circle_matrix.proofs.Written.{pairwise-read}
+use Rattle.circle_commit.specs.Mmcs.{dimensions_of, max_height, rows_at, rows_at_each}
+use Rattle.circle_commit.specs.declared.matrix.RowMajorMatrix.{RowMajorMatrix}
+use Rattle.circle_commit.specs.declared.params.FriParameters.{FriParameters}
+use Rattle.circle_commit.proofs.ColumnSums.{map-agree}
+use Rattle.circle_commit.proofs.Written.{pairwise-read}
 use Rattle.circle_domain.proofs.Twiddles.{map-map}
 use Rattle.circle_folding.specs.Chain.{first_layer_twiddle, pair_of}
 use Rattle.circle_folding.specs.Fold.{fold_pair, fold_y_twiddles}

@@ -9,12 +9,12 @@ use Rattle.std.proofs.lemmas.List.Folds.{flat_map-map}
 use Rattle.std.proofs.lemmas.Option.{get_or_from_slice_get, slice_get_within}
 use Rattle.circle_field.specs.Field.{FieldLaws, IsEmbedding}
 use Rattle.circle_field.specs.Circle.{AreGenerators, lifted, origin}
-use Rattle.circle_matrix.specs.Mmcs.{dimensions_of, max_height, rows_at}
-use Rattle.circle_matrix.specs.Pcs.{Openings}
-use Rattle.circle_matrix.specs.RowMajorMatrix.{height_of}
-use Rattle.circle_matrix.specs.declared.matrix.RowMajorMatrix.{RowMajorMatrix}
-use Rattle.circle_matrix.specs.declared.params.FriParameters.{FriParameters}
-use Rattle.circle_matrix.specs.declared.pcs.OpeningRequest.{OpeningRequest}
+use Rattle.circle_commit.specs.Mmcs.{dimensions_of, max_height, rows_at}
+use Rattle.circle_commit.specs.Pcs.{Openings}
+use Rattle.circle_commit.specs.RowMajorMatrix.{height_of}
+use Rattle.circle_commit.specs.declared.matrix.RowMajorMatrix.{RowMajorMatrix}
+use Rattle.circle_commit.specs.declared.params.FriParameters.{FriParameters}
+use Rattle.circle_commit.specs.declared.pcs.OpeningRequest.{OpeningRequest}
 use Rattle.circle_domain.specs.Selectors.{IsFinite}
 use Rattle.circle_domain.proofs.CosetOrder.{length-cfft_order}
 use Rattle.circle_folding.specs.Queries.{query_point}

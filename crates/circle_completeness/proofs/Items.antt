@@ -5,11 +5,11 @@ use Rattle.std.proofs.Common.{refl, sym, ◌∙◌, ap, arith}
 use Rattle.std.proofs.lemmas.Bool.{eqb-true}
 use Rattle.std.proofs.lemmas.List.{length-map}
 use Rattle.std.proofs.lemmas.List.Elements.{All-from_recursion, All-map, recursion_from_All}
-use Rattle.circle_matrix.specs.DotProduct.{pairwise}
-use Rattle.circle_matrix.specs.Mmcs.{dimensions_of, greatest, max_height, row_at, rows_at}
-use Rattle.circle_matrix.specs.RowMajorMatrix.{height_of, length-rows, rows, rows-width, width_of}
-use Rattle.circle_matrix.specs.declared.matrix.Dimensions.{Dimensions}
-use Rattle.circle_matrix.specs.declared.matrix.RowMajorMatrix.{RowMajorMatrix}
+use Rattle.circle_commit.specs.DotProduct.{pairwise}
+use Rattle.circle_commit.specs.Mmcs.{dimensions_of, greatest, max_height, row_at, rows_at}
+use Rattle.circle_commit.specs.RowMajorMatrix.{height_of, length-rows, rows, rows-width, width_of}
+use Rattle.circle_commit.specs.declared.matrix.Dimensions.{Dimensions}
+use Rattle.circle_commit.specs.declared.matrix.RowMajorMatrix.{RowMajorMatrix}
 use Rattle.circle_domain.proofs.Powers.{pow_injective}
 use Rattle.circle_domain.proofs.Twiddles.{map-map}
 use Rattle.circle_domain.specs.Selectors.{IsFinite}

@@ -7,11 +7,11 @@ use Rattle.std.proofs.lemmas.List.{take-map}
 use Rattle.std.proofs.lemmas.List.Elements.{recursion_from_All}
 use Rattle.circle_field.specs.Field.{FieldLaws}
 use Rattle.circle_field.specs.Circle.{AreGenerators}
-use Rattle.circle_matrix.specs.RowMajorMatrix.{rows, width_of, height_of}
-use Rattle.circle_matrix.specs.declared.matrix.RowMajorMatrix.{RowMajorMatrix}
-use Rattle.circle_matrix.specs.declared.params.FriParameters.{FriParameters}
-use Rattle.circle_matrix.specs.declared.pcs.OpeningRequest.{OpeningRequest}
-use Rattle.circle_matrix.proofs.ColumnSums.{map-agree}
+use Rattle.circle_commit.specs.RowMajorMatrix.{rows, width_of, height_of}
+use Rattle.circle_commit.specs.declared.matrix.RowMajorMatrix.{RowMajorMatrix}
+use Rattle.circle_commit.specs.declared.params.FriParameters.{FriParameters}
+use Rattle.circle_commit.specs.declared.pcs.OpeningRequest.{OpeningRequest}
+use Rattle.circle_commit.proofs.ColumnSums.{map-agree}
 use Rattle.circle_domain.specs.Order.{cfft_order}
 use Rattle.circle_domain.specs.Values.{HasValues, values_at}
 use Rattle.circle_domain.proofs.Blocks.{cfft_order-prefix}

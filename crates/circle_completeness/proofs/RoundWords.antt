@@ -5,8 +5,8 @@ use Rattle.std.proofs.Common.{sym, ◌∙◌, ap, arith}
 use Rattle.std.proofs.lemmas.List.{length-map, get_or-map}
 use Rattle.circle_field.specs.Field.{RingLaws}
 use Rattle.circle_field.specs.RingFacts.{add_zero}
-use Rattle.circle_matrix.specs.DotProduct.{pairwise}
-use Rattle.circle_matrix.proofs.Written.{length-pairwise, pairwise-read}
+use Rattle.circle_commit.specs.DotProduct.{pairwise}
+use Rattle.circle_commit.proofs.Written.{length-pairwise, pairwise-read}
 use Rattle.circle_folding.specs.Fold.{fold_pair, fold_x_twiddles, x_folds}
 use Rattle.circle_folding.proofs.Twiddles.{length-fold_x_twiddles}
 use Rattle.circle_relation.specs.Accepts.{Fields}

@@ -12,11 +12,11 @@ use Rattle.std.proofs.lemmas.Nat.{shr-shr}
 use Rattle.std.proofs.lemmas.Option.{get_or_from_slice_get, slice_get-get_or, slice_get_within}
 use Rattle.circle_field.specs.Field.{RingLaws}
 use Rattle.circle_field.specs.Circle.{Coordinates, origin}
-use Rattle.circle_matrix.specs.Mmcs.{dimensions_of, rows_at, rows_at_each}
-use Rattle.circle_matrix.specs.RowMajorMatrix.{height_of, length-rows, rows, width_of}
-use Rattle.circle_matrix.specs.declared.matrix.Dimensions.{Dimensions}
-use Rattle.circle_matrix.specs.declared.matrix.RowMajorMatrix.{RowMajorMatrix}
-use Rattle.circle_matrix.specs.declared.params.FriParameters.{FriParameters}
+use Rattle.circle_commit.specs.Mmcs.{dimensions_of, rows_at, rows_at_each}
+use Rattle.circle_commit.specs.RowMajorMatrix.{height_of, length-rows, rows, width_of}
+use Rattle.circle_commit.specs.declared.matrix.Dimensions.{Dimensions}
+use Rattle.circle_commit.specs.declared.matrix.RowMajorMatrix.{RowMajorMatrix}
+use Rattle.circle_commit.specs.declared.params.FriParameters.{FriParameters}
 use Rattle.circle_domain.specs.Order.{coset}
 use Rattle.circle_domain.proofs.Twiddles.{length-coset, map-map}
 use Rattle.circle_point.specs.Basis.{x_value}

@@ -9,15 +9,15 @@ use Rattle.circle_field.specs.Circle.{Coordinates, AreGenerators}
 use Rattle.circle_point.specs.Basis.{value}
 use Rattle.circle_point.specs.Projective.{from_line}
 use Rattle.circle_point.proofs.Bases.{shifted}
-use Rattle.circle_matrix.specs.DotProduct.{pairwise}
-use Rattle.circle_matrix.specs.Matrix.{column}
+use Rattle.circle_commit.specs.DotProduct.{pairwise}
+use Rattle.circle_commit.specs.Matrix.{column}
 use Rattle.circle_challenger.specs.Moves.{RunMoves}
-use Rattle.circle_matrix.specs.Pcs.{Openings}
-use Rattle.circle_matrix.specs.RowMajorMatrix.{width_of, height_of}
-use Rattle.circle_matrix.specs.declared.matrix.RowMajorMatrix.{RowMajorMatrix}
-use Rattle.circle_matrix.specs.declared.params.FriParameters.{FriParameters}
-use Rattle.circle_matrix.specs.declared.pcs.OpeningRequest.{OpeningRequest}
-use Rattle.circle_matrix.proofs.Written.{length-pairwise, pairwise-read}
+use Rattle.circle_commit.specs.Pcs.{Openings}
+use Rattle.circle_commit.specs.RowMajorMatrix.{width_of, height_of}
+use Rattle.circle_commit.specs.declared.matrix.RowMajorMatrix.{RowMajorMatrix}
+use Rattle.circle_commit.specs.declared.params.FriParameters.{FriParameters}
+use Rattle.circle_commit.specs.declared.pcs.OpeningRequest.{OpeningRequest}
+use Rattle.circle_commit.proofs.Written.{length-pairwise, pairwise-read}
 use Rattle.circle_domain.specs.Order.{cfft_order}
 use Rattle.circle_domain.specs.Values.{values_at, lifted_values_at}
 use Rattle.circle_domain.proofs.Blocks.{all-append}

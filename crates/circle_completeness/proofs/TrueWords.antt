@@ -11,7 +11,7 @@ use Rattle.circle_field.specs.CircleGroup.{lifted-on_circle}
 use Rattle.circle_point.specs.Basis.{value, vanishing}
 use Rattle.circle_point.specs.Projective.{from_line}
 use Rattle.circle_point.proofs.Projections.{line_norm-zero, from_line-on_circle}
-use Rattle.circle_matrix.specs.DotProduct.{pairwise}
+use Rattle.circle_commit.specs.DotProduct.{pairwise}
 use Rattle.circle_domain.specs.Layers.{factor}
 use Rattle.circle_domain.specs.Values.{values_at, lifted_values_at}
 use Rattle.circle_domain.proofs.CosetOrder.{length-cfft_order}

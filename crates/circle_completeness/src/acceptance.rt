@@ -5,8 +5,8 @@ ghost use Rattle.circle_completeness.specs.Accepted.{AcceptsOpeningsBy};
 ghost use Rattle.circle_words.specs.Requests.{AreFit, AreRequests};
 
 use circle_challenger::{CanObserve, CanSample, GrindingChallenger};
+use circle_commit::{FriParameters, Mmcs, OpeningRequest};
 use circle_field::{ComplexExtendable, ExtensionField};
-use circle_matrix::{FriParameters, Mmcs, OpeningRequest};
 use circle_opening::OpeningOver;
 use circle_relation::OverCircle;
 

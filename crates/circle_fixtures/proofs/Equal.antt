@@ -1,10 +1,10 @@
 -- Tests of lists of lists, entry by entry.
 use Rattle.std.proofs.Common.{◌≡◌, ◌↔◌, ◌∙◌, sym, ap, arith, List, map, Bool, true, nat_eq, ◌&&◌, Vec, Global}
 use Rattle.std.proofs.lemmas.Bool.Decides.{nat_tests}
-use Rattle.circle_matrix.specs.declared.matrix.Dimensions.{Dimensions}
+use Rattle.circle_commit.specs.declared.matrix.Dimensions.{Dimensions}
 use Rattle.std.specs.Cmp.Lexicographic.{pointwise}
 use Rattle.std.specs.Cmp.Derive.Mapped.{pointwise-map}
-use Rattle.circle_matrix.specs.Mmcs.{opened_rows}
+use Rattle.circle_commit.specs.Mmcs.{opened_rows}
 use lib.Pointwise.{pointwise_decides}
 
 module _ {T : Type 0} (equal : T → T → Bool) (decides : (a b : T) → (equal a b ≡ true) ↔ (a ≡ b)) where

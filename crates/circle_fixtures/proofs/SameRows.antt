@@ -1,10 +1,10 @@
 -- Matrices with the same rows.
 use Rattle.std.proofs.Common.{◌≡◌, ℕ, List, [], ◌∷◌, ◌++◌, map, refl, ap, sym, ◌∙◌, get_or, All, subst, ◌<◌, ◌≤◌, ◌+◌, length, take}
 use Rattle.std.proofs.lemmas.List.{map-append, take_more}
-use Rattle.circle_matrix.specs.declared.matrix.Dimensions.{Dimensions}
-use Rattle.circle_matrix.specs.declared.matrix.RowMajorMatrix.{RowMajorMatrix}
-use Rattle.circle_matrix.specs.RowMajorMatrix.{rows, width_of, height_of}
-use Rattle.circle_matrix.specs.Mmcs.{dimensions_of, max_height, greatest, heights, row_at, rows_at, rows_at_each}
+use Rattle.circle_commit.specs.declared.matrix.Dimensions.{Dimensions}
+use Rattle.circle_commit.specs.declared.matrix.RowMajorMatrix.{RowMajorMatrix}
+use Rattle.circle_commit.specs.RowMajorMatrix.{rows, width_of, height_of}
+use Rattle.circle_commit.specs.Mmcs.{dimensions_of, max_height, greatest, heights, row_at, rows_at, rows_at_each}
 use Rattle.circle_fixtures.specs.SameRows.{HaveSameRows}
 use Rattle.circle_fixtures.specs.Schemes.{Shows}
 

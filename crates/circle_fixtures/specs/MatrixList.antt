@@ -1,6 +1,6 @@
 -- What a list of matrices is to contracts.
 use Rattle.std.specs.Prelude.{List}
-use Rattle.circle_matrix.specs.declared.matrix.RowMajorMatrix.{RowMajorMatrix}
+use Rattle.circle_commit.specs.declared.matrix.RowMajorMatrix.{RowMajorMatrix}
 use Rattle.circle_fixtures.specs.declared.matrix_list.MatrixList.{MatrixList}
 
 module _ {T : Type 0} where

@@ -1,8 +1,8 @@
 -- Matrices with the same rows.
 use Rattle.std.specs.Prelude.{◌≡◌, List, map}
-use Rattle.circle_matrix.specs.declared.matrix.RowMajorMatrix.{RowMajorMatrix}
-use Rattle.circle_matrix.specs.RowMajorMatrix.{rows}
-use Rattle.circle_matrix.specs.Mmcs.{dimensions_of}
+use Rattle.circle_commit.specs.declared.matrix.RowMajorMatrix.{RowMajorMatrix}
+use Rattle.circle_commit.specs.RowMajorMatrix.{rows}
+use Rattle.circle_commit.specs.Mmcs.{dimensions_of}
 
 module _ {T : Type 0} where
   -- the matrices have the same shapes and rows

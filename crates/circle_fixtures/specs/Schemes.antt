@@ -1,8 +1,8 @@
 -- What a published list of matrices shows.
 use Rattle.std.specs.Prelude.{◌≡◌, ℕ, ◌<◌, ◌≤◌, Bool, true, false, List, length, All}
-use Rattle.circle_matrix.specs.declared.matrix.Dimensions.{Dimensions}
-use Rattle.circle_matrix.specs.declared.matrix.RowMajorMatrix.{RowMajorMatrix}
-use Rattle.circle_matrix.specs.Mmcs.{dimensions_of, max_height, rows_at_each}
+use Rattle.circle_commit.specs.declared.matrix.Dimensions.{Dimensions}
+use Rattle.circle_commit.specs.declared.matrix.RowMajorMatrix.{RowMajorMatrix}
+use Rattle.circle_commit.specs.Mmcs.{dimensions_of, max_height, rows_at_each}
 use Rattle.circle_fixtures.specs.MatrixList.{matrices_of}
 use Rattle.circle_fixtures.specs.SameRows.{HaveSameRows}
 use Rattle.circle_fixtures.specs.declared.matrix_list.MatrixList.{MatrixList}

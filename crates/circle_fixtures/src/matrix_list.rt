@@ -1,13 +1,13 @@
 //! Matrices of any heights, as a list.
 ghost use Rattle.std.specs.Prelude.{◌≡◌, ◌<◌, ◌≤◌, All, IfOk, [], length, map, slice_index_or};
 ghost use Rattle.std.specs.Int.{w64, to_be_bytes};
-ghost use Rattle.circle_matrix.specs.RowMajorMatrix.{height_of, rows};
-ghost use Rattle.circle_matrix.specs.Mmcs.{dimensions_of, max_height, row_at, rows_at};
-ghost use Rattle.circle_matrix.specs.Mmcs.{rows_at_each, opened_rows};
+ghost use Rattle.circle_commit.specs.RowMajorMatrix.{height_of, rows};
+ghost use Rattle.circle_commit.specs.Mmcs.{dimensions_of, max_height, row_at, rows_at};
+ghost use Rattle.circle_commit.specs.Mmcs.{rows_at_each, opened_rows};
 ghost use Rattle.circle_fixtures.specs.SameRows.{HaveSameRows};
 
 use circle_challenger::{CanObserve, Sha256Challenger};
-use circle_matrix::{Dimensions, Matrix, OpenedRows, RowMajorMatrix};
+use circle_commit::{Dimensions, Matrix, OpenedRows, RowMajorMatrix};
 use std::alloc::{AllocError, Global};
 use std::fmt;
 

@@ -2,12 +2,12 @@
 ghost use Rattle.std.specs.Prelude.{◌≡◌, ◌<◌, ◌≤◌, ◌↔◌, true, All, IfOk, IfErr, OnOk, IsOk, IsTrue};
 ghost use Rattle.std.specs.Prelude.{length, vec_len};
 ghost use Rattle.circle_fixtures.specs.declared.matrix_list.MatrixList.{MatrixList};
-ghost use Rattle.circle_matrix.specs.Mmcs.{HaveHeightsOfPowers, max_height, rows_at_each};
-ghost use Rattle.circle_matrix.specs.Mmcs.{opened_rows};
+ghost use Rattle.circle_commit.specs.Mmcs.{HaveHeightsOfPowers, max_height, rows_at_each};
+ghost use Rattle.circle_commit.specs.Mmcs.{opened_rows};
 
 use crate::matrix_list::{MatrixList, shapes};
+use circle_commit::{Dimensions, Mmcs, OpenedRows, RowMajorMatrix, are_below};
 use circle_field::Field;
-use circle_matrix::{Dimensions, Mmcs, OpenedRows, RowMajorMatrix, are_below};
 use std::alloc::{AllocError, Global};
 use thiserror::Error;
 

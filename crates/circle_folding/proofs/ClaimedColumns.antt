@@ -11,9 +11,9 @@ use Rattle.circle_field.specs.RingSound.{ring}
 use Rattle.circle_field.specs.RingCombine.{given, combine}
 use Rattle.circle_field.specs.Circle.{Coordinates, IsOnCircle, AreGenerators, origin}
 use Rattle.circle_point.specs.Basis.{vanishing}
-use Rattle.circle_matrix.specs.DotProduct.{dot}
-use Rattle.circle_matrix.specs.Matrix.{column}
-use Rattle.circle_matrix.proofs.Written.{length-pairwise, pairwise-read}
+use Rattle.circle_commit.specs.DotProduct.{dot}
+use Rattle.circle_commit.specs.Matrix.{column}
+use Rattle.circle_commit.proofs.Written.{length-pairwise, pairwise-read}
 use Rattle.circle_domain.specs.Layers.{factor}
 use Rattle.circle_domain.specs.Order.{cfft_order}
 use Rattle.circle_domain.proofs.LagrangeShares.{all-split}

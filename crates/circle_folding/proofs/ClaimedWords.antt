@@ -11,8 +11,8 @@ use Rattle.circle_field.specs.RingFacts.{neg_zero_cancel}
 use Rattle.circle_field.specs.Circle.{Coordinates, IsOnCircle, AreGenerators, times, origin, lifted}
 use Rattle.circle_field.specs.CircleGroup.{lifted-on_circle}
 use Rattle.circle_point.specs.Basis.{value}
-use Rattle.circle_matrix.specs.DotProduct.{pairwise}
-use Rattle.circle_matrix.proofs.Written.{pairwise-read}
+use Rattle.circle_commit.specs.DotProduct.{pairwise}
+use Rattle.circle_commit.proofs.Written.{pairwise-read}
 use Rattle.circle_domain.specs.Layers.{factor}
 use Rattle.circle_domain.specs.Order.{cfft_order, natural_order}
 use Rattle.circle_domain.specs.Spans.{HasValues, Span}

@@ -9,7 +9,7 @@ use Rattle.circle_field.specs.Ring.{Expr, var, con, unit, plus as sum, times as 
 use Rattle.circle_field.specs.RingSound.{ring}
 use Rattle.circle_field.specs.RingCombine.{given, combine}
 use Rattle.circle_field.specs.RingFacts.{neg_zero_cancel}
-use Rattle.circle_matrix.specs.DotProduct.{dot}
+use Rattle.circle_commit.specs.DotProduct.{dot}
 use Rattle.circle_folding.specs.Claims.{AreDistinct}
 
 module _ {E : Type 0} (l : FieldOps E) where

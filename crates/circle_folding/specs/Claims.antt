@@ -5,7 +5,7 @@ use Rattle.std.specs.Prelude.{slice_index_or}
 use Rattle.circle_field.specs.Field.{FieldOps}
 use Rattle.circle_field.specs.Circle.{Coordinates}
 use Rattle.circle_point.specs.Basis.{value}
-use Rattle.circle_matrix.specs.Matrix.{column}
+use Rattle.circle_commit.specs.Matrix.{column}
 use Rattle.circle_domain.specs.Order.{natural_order}
 use Rattle.circle_domain.specs.Spans.{HasValues, Span}
 use Rattle.circle_folding.specs.Queries.{claim_quotients, IsApart}

@@ -2,11 +2,11 @@
 //! their contracts say.
 ghost use Rattle.std.specs.Prelude.{◌≡◌, ◌≢◌, ℕ, ◌+◌, ◌*◌, ◌^◌, ◌≤◌, length};
 ghost use Rattle.circle_point.specs.Point.{coordinates};
-ghost use Rattle.circle_matrix.specs.RowMajorMatrix.{rows, width_of, height_of};
+ghost use Rattle.circle_commit.specs.RowMajorMatrix.{rows, width_of, height_of};
 ghost use Rattle.circle_folding.specs.Claims.{AreDistinct, IsOffStandard, BindsValue, BindsValues};
 
+use circle_commit::RowMajorMatrix;
 use circle_field::{ComplexExtendable, ExtensionField};
-use circle_matrix::RowMajorMatrix;
 use circle_point::Point;
 
 /// Where a word of `2^h` entries is the values of a polynomial with `2^n` coefficients on the

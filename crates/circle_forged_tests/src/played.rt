@@ -8,8 +8,11 @@ ghost use Rattle.circle_transcript.specs.ShapeOf.{shape_of, matrices_of};
 use circle_challenger::{CanObserve, CanSample, GrindingChallenger};
 use circle_commit::{CommitmentOpening, FriParameters, MatrixOpening, Mmcs, PointOpening};
 use circle_field::{Cubic, Mersenne31};
-use circle_transcript::{CircleDraws, CircleMessages, CirclePcsShape, CircleTranscriptFailure, CircleWitnesses, OpeningClaim, verifier_run};
 use circle_statements::batches::Domain;
+use circle_transcript::{
+    CircleDraws, CircleMessages, CirclePcsShape, CircleTranscriptFailure, CircleWitnesses,
+    OpeningClaim, verifier_run,
+};
 use p3_circle::{CirclePcsProof, Point};
 use std::alloc::{AllocError, Global};
 use std::test::Fail;

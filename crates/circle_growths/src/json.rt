@@ -2,8 +2,8 @@
 use crate::plane::cubic;
 use crate::told::{Stage, Told, before, told_elements};
 use anyhow::Result;
-use circle_commit::JsonForm;
 use circle_field::Cubic;
+use circle_json::JsonForm;
 use std::alloc::Global;
 
 /// `JsonForm::from_json` of a list of elements.

@@ -4,11 +4,11 @@ use Rattle.std.specs.List.{AllByRecursion, AllZip}
 use Rattle.std.proofs.Common.{sym, ◌∙◌, ap, subst, arith}
 use Rattle.std.proofs.lemmas.List.{get_or-map, length-append, length-map}
 use Rattle.std.proofs.lemmas.List.Elements.{All-from_recursion, recursion_from_All}
-use Rattle.circle_matrix.specs.Mmcs.{greatest, max_height}
-use Rattle.circle_matrix.specs.Pcs.{Openings}
-use Rattle.circle_matrix.specs.RowMajorMatrix.{height_of}
-use Rattle.circle_matrix.specs.declared.matrix.RowMajorMatrix.{RowMajorMatrix}
-use Rattle.circle_matrix.specs.declared.pcs.OpeningRequest.{OpeningRequest}
+use Rattle.circle_commit.specs.Mmcs.{greatest, max_height}
+use Rattle.circle_commit.specs.Pcs.{Openings}
+use Rattle.circle_commit.specs.RowMajorMatrix.{height_of}
+use Rattle.circle_commit.specs.declared.matrix.RowMajorMatrix.{RowMajorMatrix}
+use Rattle.circle_commit.specs.declared.pcs.OpeningRequest.{OpeningRequest}
 use Rattle.circle_relation.specs.Accepts.{Fields}
 use Rattle.circle_words.specs.Words.{Committed}
 use Rattle.circle_words.specs.Requests.{AreAnswers, AreHeights, AreValuesOf, IsFit, IsOpenable, all_committed, batch_committed, log_of, points_of}

@@ -3,7 +3,7 @@ use Rattle.std.specs.Prelude.{◌≡◌, ℕ, Bool, true, false, if◌then◌els
 use Rattle.std.proofs.Common.{suc, refl, ap, ◌∙◌}
 use Rattle.circle_challenger.specs.Moves.{RunMoves, after_element, is_passed}
 use Rattle.circle_challenger.proofs.Draws.{length-samples}
-use Rattle.circle_matrix.specs.declared.params.PowPhase.TheVariants.{Batch, CommitPhase, Query}
+use Rattle.circle_commit.specs.declared.params.PowPhase.TheVariants.{Batch, CommitPhase, Query}
 use Rattle.circle_transcript.specs.Draw.{Drawn, Taken, after_round, claimed, closed, draw_seeded, drawn, fold_challenges, layered, rounds_pass}
 use Rattle.circle_transcript.specs.declared.transcript.Numbers.{Numbers}
 

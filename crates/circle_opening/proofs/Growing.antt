@@ -8,9 +8,9 @@ use Rattle.std.proofs.lemmas.Nat.{pow_pos}
 use Rattle.std.proofs.lemmas.Option.{slice_get_within, same_Some}
 use Rattle.std.proofs.Math.Seq.{get_or-append_seam}
 use Rattle.circle_challenger.specs.Moves.{RunMoves, found_at, is_passed}
-use Rattle.circle_matrix.specs.RowFacts.{length-rows_from}
-use Rattle.circle_matrix.specs.RowMajorMatrix.{rows}
-use Rattle.circle_matrix.specs.declared.matrix.RowMajorMatrix.{RowMajorMatrix}
+use Rattle.circle_commit.specs.RowFacts.{length-rows_from}
+use Rattle.circle_commit.specs.RowMajorMatrix.{rows}
+use Rattle.circle_commit.specs.declared.matrix.RowMajorMatrix.{RowMajorMatrix}
 use Rattle.circle_relation.specs.Accepts.{Fields}
 use Rattle.circle_transcript.specs.Draw.{AreFound, after_round, fold_challenge, after_rounds, fold_challenges, rounds_pass}
 use Rattle.circle_transcript.specs.Runs.{NonePasses}

@@ -5,9 +5,9 @@ use Rattle.std.proofs.lemmas.List.{get_or_append_left, length-append, length-map
 use Rattle.std.proofs.Math.Seq.{get_or-append_seam}
 use Rattle.std.proofs.lemmas.List.Elements.{All-map}
 use Rattle.std.proofs.lemmas.Option.{same_Some, slice_get_within}
-use Rattle.circle_matrix.specs.Mmcs.{dimensions_of, greatest, heights, max_height}
-use Rattle.circle_matrix.specs.RowMajorMatrix.{height_of, length-rows, rows}
-use Rattle.circle_matrix.specs.declared.matrix.RowMajorMatrix.{RowMajorMatrix}
+use Rattle.circle_commit.specs.Mmcs.{dimensions_of, greatest, heights, max_height}
+use Rattle.circle_commit.specs.RowMajorMatrix.{height_of, length-rows, rows}
+use Rattle.circle_commit.specs.declared.matrix.RowMajorMatrix.{RowMajorMatrix}
 use Rattle.circle_domain.proofs.Powers.{pow_within}
 use Rattle.circle_relation.specs.Accepts.{Fields}
 use Rattle.circle_words.specs.Words.{Committed, HaveHeights}

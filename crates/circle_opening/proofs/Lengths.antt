@@ -6,10 +6,10 @@ use Rattle.std.proofs.lemmas.Bool.{eqb-true}
 use Rattle.std.proofs.lemmas.List.{length-map}
 use Rattle.std.proofs.lemmas.List.Elements.{All-from_recursion}
 use Rattle.std.proofs.lemmas.List.Folds.{Any-from_list_any}
-use Rattle.circle_matrix.specs.RowMajorMatrix.{height_of, length-rows, rows}
-use Rattle.circle_matrix.specs.declared.matrix.RowMajorMatrix.{RowMajorMatrix}
-use Rattle.circle_matrix.proofs.Written.{length-pairwise}
-use Rattle.circle_matrix.specs.DotProduct.{pairwise}
+use Rattle.circle_commit.specs.RowMajorMatrix.{height_of, length-rows, rows}
+use Rattle.circle_commit.specs.declared.matrix.RowMajorMatrix.{RowMajorMatrix}
+use Rattle.circle_commit.proofs.Written.{length-pairwise}
+use Rattle.circle_commit.specs.DotProduct.{pairwise}
 use Rattle.circle_folding.specs.Fold.{fold_pair, fold_x_twiddles, fold_y_twiddles, x_folds, y_folds}
 use Rattle.circle_folding.proofs.Twiddles.{length-fold_x_twiddles, length-fold_y_twiddles}
 use Rattle.circle_relation.specs.Accepts.{Fields}

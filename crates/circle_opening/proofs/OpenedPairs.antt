@@ -6,11 +6,11 @@ use Rattle.std.proofs.Math.Nat.{le-max_left, le-max_right, max-zero}
 use Rattle.std.proofs.lemmas.List.{length-map, get_or-map}
 use Rattle.std.proofs.lemmas.List.Elements.{All-map}
 use Rattle.std.proofs.lemmas.Nat.{shr_below, pow-add}
-use Rattle.circle_matrix.specs.Mmcs.{row_at, max_height, rows_at, rows_at_each, opened_rows, HaveHeightsOfPowers}
-use Rattle.circle_matrix.specs.MmcsFacts.{row_at-powers}
-use Rattle.circle_matrix.specs.RowMajorMatrix.{rows, height_of, rows-width, length-rows}
-use Rattle.circle_matrix.specs.declared.matrix.RowMajorMatrix.{RowMajorMatrix}
-use Rattle.circle_matrix.specs.DotProduct.{pairwise}
+use Rattle.circle_commit.specs.Mmcs.{row_at, max_height, rows_at, rows_at_each, opened_rows, HaveHeightsOfPowers}
+use Rattle.circle_commit.specs.MmcsFacts.{row_at-powers}
+use Rattle.circle_commit.specs.RowMajorMatrix.{rows, height_of, rows-width, length-rows}
+use Rattle.circle_commit.specs.declared.matrix.RowMajorMatrix.{RowMajorMatrix}
+use Rattle.circle_commit.specs.DotProduct.{pairwise}
 use Rattle.circle_domain.proofs.Powers.{pow_order}
 use Rattle.circle_words.specs.Words.{HaveHeights}
 use Rattle.circle_words.specs.Openings.{places_of}

@@ -7,8 +7,8 @@ use Rattle.std.proofs.lemmas.List.{take_all, take_more, length-map, length-appen
 use Rattle.std.proofs.lemmas.Bool.{cases_eq}
 use Rattle.std.proofs.lemmas.Option.{get_or_from_slice_get, slice_get_read, slice_get_within}
 use Rattle.std.proofs.lemmas.List.Elements.{All-map}
-use Rattle.circle_matrix.proofs.Written.{length-pairwise, pairwise-read}
-use Rattle.circle_matrix.specs.DotProduct.{pairwise}
+use Rattle.circle_commit.proofs.Written.{length-pairwise, pairwise-read}
+use Rattle.circle_commit.specs.DotProduct.{pairwise}
 use Rattle.circle_words.specs.Openings.{places_of}
 
 module _ {A B C W : Type 0} (f : A → B → C) (view : W → B) (xs : List A) (ws : List W) (same : length ws ≡ length xs) where

@@ -8,13 +8,13 @@ use Rattle.std.proofs.lemmas.List.{length-append, length-map, get_or-map, map-ap
 use Rattle.std.proofs.lemmas.List.Elements.{All-from_recursion}
 use Rattle.std.proofs.lemmas.List.Folds.{list_any-append, list_any_at, Any-from_list_any}
 use Rattle.std.proofs.lemmas.List.FromFn.{filter_of_map_range_with_len_more}
-use Rattle.circle_matrix.specs.Mmcs.{greatest}
-use Rattle.circle_matrix.specs.DotProduct.{pairwise}
+use Rattle.circle_commit.specs.Mmcs.{greatest}
+use Rattle.circle_commit.specs.DotProduct.{pairwise}
 use Rattle.circle_relation.specs.Accepts.{Fields}
 use Rattle.circle_folding.specs.Fold.{x_folds}
 use Rattle.circle_words.specs.Words.{Committed, next_word, pairs_of, y_folded}
-use Rattle.circle_matrix.specs.declared.matrix.RowMajorMatrix.{RowMajorMatrix}
-use Rattle.circle_matrix.specs.RowMajorMatrix.{rows}
+use Rattle.circle_commit.specs.declared.matrix.RowMajorMatrix.{RowMajorMatrix}
+use Rattle.circle_commit.specs.RowMajorMatrix.{rows}
 use Rattle.circle_opening.specs.Words.{AreCommitted, AreRounds, first_fold, folded_layers, heights_of, layer_of, round_word, top_of, word_at}
 
 -- the greatest of numbers is one of them

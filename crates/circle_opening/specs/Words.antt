@@ -6,13 +6,13 @@ use Rattle.std.specs.List.{filter, list_any, range_with_len}
 use Rattle.std.specs.declared.alloc.Global.{Global}
 use Rattle.std.proofs.Common.{zero, suc}
 use Rattle.circle_challenger.specs.Moves.{RunMoves}
-use Rattle.circle_matrix.specs.DotProduct.{pairwise}
-use Rattle.circle_matrix.specs.Mmcs.{greatest}
-use Rattle.circle_matrix.specs.RowMajorMatrix.{rows, width_of}
-use Rattle.circle_matrix.specs.declared.matrix.RowMajorMatrix.{RowMajorMatrix}
+use Rattle.circle_commit.specs.DotProduct.{pairwise}
+use Rattle.circle_commit.specs.Mmcs.{greatest}
+use Rattle.circle_commit.specs.RowMajorMatrix.{rows, width_of}
+use Rattle.circle_commit.specs.declared.matrix.RowMajorMatrix.{RowMajorMatrix}
 use Rattle.circle_folding.specs.Fold.{y_folds}
 use Rattle.circle_relation.specs.Accepts.{Fields}
-use Rattle.circle_matrix.specs.declared.params.FriParameters.{FriParameters}
+use Rattle.circle_commit.specs.declared.params.FriParameters.{FriParameters}
 use Rattle.circle_transcript.specs.Draw.{Claim, Taken, taken, after_rounds, fold_challenges}
 use Rattle.circle_transcript.specs.Draw.{rounds_pass, AreFound}
 use Rattle.circle_domain.specs.Spans.{HasXValues, XSpan}

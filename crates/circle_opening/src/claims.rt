@@ -3,10 +3,10 @@
 ghost use Rattle.std.specs.Prelude.{ℕ, ◌≡◌, ◌<◌, ◌≤◌, ◌++◌, All, IfOk, OnOk};
 ghost use Rattle.std.specs.Prelude.{length, map, flat_map};
 ghost use Rattle.std.specs.List.{AllZip};
-ghost use Rattle.circle_matrix.specs.Mmcs.{opened_rows};
-ghost use Rattle.circle_matrix.specs.Pcs.{openings};
-ghost use Rattle.circle_matrix.specs.RowMajorMatrix.{height_of, width_of};
-ghost use Rattle.circle_matrix.specs.DotProduct.{pairwise};
+ghost use Rattle.circle_commit.specs.Mmcs.{opened_rows};
+ghost use Rattle.circle_commit.specs.Pcs.{openings};
+ghost use Rattle.circle_commit.specs.RowMajorMatrix.{height_of, width_of};
+ghost use Rattle.circle_commit.specs.DotProduct.{pairwise};
 ghost use Rattle.circle_domain.specs.Selectors.{IsFinite};
 ghost use Rattle.circle_transcript.specs.Claims.{claims_of};
 ghost use Rattle.circle_transcript.specs.ShapeOf.{batches_of, matrices_of};
@@ -18,11 +18,11 @@ ghost use Rattle.circle_words.specs.Requests.{AddsBatch, AreAllRequested, AreBat
 ghost use Rattle.circle_words.specs.Requests.{lists_of};
 ghost use Rattle.circle_relation.specs.Taken.{point_taken};
 
-use circle_field::{ComplexExtendable, ExtensionField, Field};
-use circle_matrix::{
+use circle_commit::{
     Matrix, Mmcs, OpenedValuesForMatrix, OpenedValuesForRound, OpeningRequest, RowMajorMatrix,
     log2_strict,
 };
+use circle_field::{ComplexExtendable, ExtensionField, Field};
 use circle_point::Point;
 use circle_relation::OverCircle;
 use circle_transcript::OpeningClaim;

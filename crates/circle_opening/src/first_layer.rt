@@ -9,9 +9,9 @@ ghost use Rattle.circle_opening.specs.Words.{AreLayers, folded_layers};
 ghost use Rattle.circle_relation.specs.declared.error.ProverError.TheVariants.{LastWordNotConstant};
 ghost use Rattle.circle_relation.specs.declared.error.ProverError.TheVariants.{Memory};
 
+use circle_commit::Mmcs;
 use circle_field::{ComplexExtendable, ExtensionField, Field};
 use circle_folding::x_interpolate;
-use circle_matrix::Mmcs;
 use circle_relation::{OverCircle, ProverError};
 use circle_words::{OpenedMatrix, first_layer, fold_corrected};
 use std::alloc::{AllocError, Global};

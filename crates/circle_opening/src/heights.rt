@@ -1,7 +1,7 @@
 //! The heights of committed matrices.
 ghost use Rattle.std.specs.Prelude.{ℕ, ◌≡◌, ◌==◌, map, IfOk};
 ghost use Rattle.std.specs.List.{list_any};
-ghost use Rattle.circle_matrix.specs.Mmcs.{greatest};
+ghost use Rattle.circle_commit.specs.Mmcs.{greatest};
 ghost use Rattle.circle_relation.specs.Accepts.{Fields};
 ghost use Rattle.circle_opening.specs.Words.{heights_of};
 ghost use Rattle.circle_words.specs.Words.{committed_of};

@@ -2,15 +2,15 @@
 ghost use Rattle.std.specs.Prelude.{◌≡◌, ℕ, ◌≤◌, ◌<◌, ◌-◌, ◌+◌, ◌*◌, ◌^◌, [], ◌∷◌, length, map};
 ghost use Rattle.std.specs.Prelude.{All, Some};
 ghost use Rattle.std.specs.Prelude.{IfOk, slice_get};
-ghost use Rattle.circle_matrix.specs.Mmcs.{HaveHeightsOfPowers, max_height, opened_rows};
-ghost use Rattle.circle_matrix.specs.DotProduct.{pairwise};
+ghost use Rattle.circle_commit.specs.Mmcs.{HaveHeightsOfPowers, max_height, opened_rows};
+ghost use Rattle.circle_commit.specs.DotProduct.{pairwise};
 ghost use Rattle.circle_words.specs.Words.{HaveHeights};
 ghost use Rattle.circle_words.specs.Openings.{AreOpenedRounds, AreOpenedSiblings, OpensRows};
 ghost use Rattle.circle_words.specs.Openings.{places_of, siblings_at};
 
+use circle_commit::{Mmcs, OpenedRows};
 use circle_field::Field;
 use circle_folding::without_bits;
-use circle_matrix::{Mmcs, OpenedRows};
 use circle_relation::CircleCommitPhaseMultiStep;
 use std::alloc::{AllocError, Global};
 

@@ -1,7 +1,7 @@
 //! The opening of requested matrices: their values, and the proof.
 ghost use Rattle.std.specs.Prelude.{◌≡◌, List, ◌≤◌, ◌<◌, ◌-◌, ◌+◌, ◌^◌, length, All, IfOk, IfErr};
 ghost use Rattle.std.specs.Prelude.{Ok};
-ghost use Rattle.circle_matrix.specs.Pcs.{openings};
+ghost use Rattle.circle_commit.specs.Pcs.{openings};
 ghost use Rattle.circle_relation.specs.Statement.{BatchClaim};
 ghost use Rattle.circle_relation.specs.RunOf.{proof_of};
 ghost use Rattle.circle_opening.specs.Opening.{AreEasy, HoldsBatches, HoldsMade};
@@ -19,12 +19,12 @@ use crate::run::{CommittedWords, open_words};
 use crate::schemes::OpeningOver;
 use crate::values::requested_values;
 use circle_challenger::{CanObserve, CanSample, GrindingChallenger};
-use circle_field::{ComplexExtendable, ExtensionField, Field};
-use circle_folding::CircleFriFolding;
-use circle_matrix::{
+use circle_commit::{
     BatchMultiOpening, FriFoldingStrategy, FriParameters, Mmcs, OpenedValues, OpenedValuesForRound,
     OpeningRequest, log2_strict,
 };
+use circle_field::{ComplexExtendable, ExtensionField, Field};
+use circle_folding::CircleFriFolding;
 use circle_relation::{CircleFriProof, CircleInputProof, CirclePcsProof, OverCircle, ProverError};
 use circle_transcript::CirclePcsShape;
 use std::alloc::{AllocError, Global};

@@ -3,7 +3,7 @@
 ghost use Rattle.std.specs.Prelude.{◌≡◌, ℕ, ◌≤◌, ◌-◌, ◌+◌, ◌^◌, ◌++◌, [], ◌∷◌, length, map, All};
 ghost use Rattle.std.specs.Prelude.{IsTrue, IfOk, IfErr, OnOk, Some};
 ghost use Rattle.circle_challenger.specs.Due.{AreNext, HasPlayed};
-ghost use Rattle.circle_matrix.specs.Matrix.{IsPowerOfTwo};
+ghost use Rattle.circle_commit.specs.Matrix.{IsPowerOfTwo};
 ghost use Rattle.circle_transcript.specs.Shape.{round_steps, rounds_steps};
 ghost use Rattle.circle_transcript.specs.Transcript.{current, due, numbers, IsSame};
 ghost use Rattle.circle_transcript.specs.Transcript.{commit_passes, commit_found, commit_challenge};
@@ -14,8 +14,8 @@ ghost use Rattle.circle_opening.specs.Words.{AreCommitted, ArePlayed, AreRoundsF
 ghost use Rattle.circle_opening.specs.Words.{EndsIn, Follows};
 
 use circle_challenger::{CanObserve, CanSample, GrindingChallenger, RunChallenger};
+use circle_commit::{Mmcs, RowMajorMatrix};
 use circle_field::{ComplexExtendable, ExtensionField, Field};
-use circle_matrix::{Mmcs, RowMajorMatrix};
 use circle_relation::{OverCircle, ProverError};
 use circle_transcript::CircleProverTranscript;
 use circle_words::fold_round;

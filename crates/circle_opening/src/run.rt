@@ -16,10 +16,12 @@ use crate::first_layer::{commit_first_layer, final_coefficients, fold_first_laye
 use crate::heights::{committed_heights, greatest_height};
 use crate::rounds::play_rounds;
 use circle_challenger::{CanObserve, CanSample, GrindingChallenger, RunChallenger};
+use circle_commit::{FriParameters, Mmcs};
 use circle_field::{ComplexExtendable, ExtensionField, Field};
-use circle_matrix::{FriParameters, Mmcs};
 use circle_relation::{OverCircle, ProverError};
-use circle_transcript::{CircleDraws, CirclePcsShape, CircleProverTranscript, CircleWitnesses, OpeningClaim};
+use circle_transcript::{
+    CircleDraws, CirclePcsShape, CircleProverTranscript, CircleWitnesses, OpeningClaim,
+};
 use circle_words::OpenedMatrix;
 use std::alloc::Global;
 

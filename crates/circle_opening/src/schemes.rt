@@ -4,8 +4,8 @@ ghost use Rattle.circle_opening.specs.Schemes.{Schemes};
 use circle_challenger::{
     CanObserve, CanSample, ChallengerState, GrindingChallenger, RunChallenger,
 };
+use circle_commit::Mmcs;
 use circle_field::{ComplexExtendable, ExtensionField};
-use circle_matrix::Mmcs;
 use circle_relation::OverCircle;
 
 /// The fields, the challenger, the scheme of the batches and that of the words, for contracts

@@ -1,16 +1,16 @@
 //! The values of committed matrices at the points that they are to be opened at.
 ghost use Rattle.std.specs.Prelude.{◌≡◌, All, IfOk, OnOk, length, zip};
 ghost use Rattle.std.specs.List.{AllZip};
-ghost use Rattle.circle_matrix.specs.Mmcs.{opened_rows};
-ghost use Rattle.circle_matrix.specs.Pcs.{openings};
+ghost use Rattle.circle_commit.specs.Mmcs.{opened_rows};
+ghost use Rattle.circle_commit.specs.Pcs.{openings};
 ghost use Rattle.circle_words.specs.Values.{AreWeightsOf};
 ghost use Rattle.circle_words.specs.Requests.{IsOpenable, IsFit, AreAnswers};
 ghost use Rattle.circle_words.specs.Requests.{AreBatchValues, lists_of};
 
-use circle_field::{ComplexExtendable, ExtensionField};
-use circle_matrix::{
+use circle_commit::{
     Matrix, Mmcs, OpenedValues, OpenedValuesForRound, OpeningRequest, RowMajorMatrix, log2_strict,
 };
+use circle_field::{ComplexExtendable, ExtensionField};
 use circle_relation::OverCircle;
 use circle_words::{PointWeights, opened_values};
 use std::alloc::{AllocError, Global};

@@ -1,10 +1,10 @@
 //! Lines about commitments to matrices over SHA-256: what they come to, and how long they take.
 use crate::timing::{self, Mode};
 use crate::transforms::Size;
-use circle_field::Mersenne31;
-use circle_matrix::{
+use circle_commit::{
     Dimensions, Mmcs, OpenedRows, RowMajorMatrix, are_below, heights_are_powers_of_two,
 };
+use circle_field::Mersenne31;
 use circle_merkle::{ShaMmcs, ShaProverData};
 use std::alloc::{AllocError, Global};
 use std::io::{self, ErrorKind};

@@ -3,8 +3,8 @@ ghost use Rattle.std.specs.Prelude.{◌≤◌};
 
 use crate::timing::{self, Mode};
 use crate::transforms::{self, Size};
+use circle_commit::{Matrix, PeriodicLdeTable};
 use circle_field::Mersenne31;
-use circle_matrix::{Matrix, PeriodicLdeTable};
 use circle_plane::{CircleDomain, PeriodicError, build_periodic_lde_table_circle};
 use std::alloc::{AllocError, Global};
 use std::io::{self, ErrorKind};

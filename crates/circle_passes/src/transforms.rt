@@ -1,9 +1,9 @@
 //! The passes of the circle transform over matrices.
 ghost use Rattle.std.specs.Prelude.{◌≡◌, ◌≤◌, ◌^◌, IfOk};
-ghost use Rattle.circle_matrix.specs.RowMajorMatrix.{height_of};
+ghost use Rattle.circle_commit.specs.RowMajorMatrix.{height_of};
 
+use circle_commit::RowMajorMatrix;
 use circle_field::{Field, Mersenne31};
-use circle_matrix::RowMajorMatrix;
 use circle_plane::{CircleDomain, CircleEvaluations};
 use std::alloc::{AllocError, Global};
 

@@ -7,8 +7,8 @@ use Rattle.std.proofs.lemmas.List.{length-map, length-take-le, take-map, get_or-
 use Rattle.std.proofs.lemmas.List.FromFn.{get_or-map-range_with_len}
 use Rattle.circle_field.specs.Field.{FieldOps, FieldLaws, two, nth_power}
 use Rattle.circle_field.specs.Circle.{Coordinates, IsOnCircle, AreGenerators, times, origin}
-use Rattle.circle_matrix.specs.DotProduct.{pairwise}
-use Rattle.circle_matrix.proofs.Written.{length-pairwise}
+use Rattle.circle_commit.specs.DotProduct.{pairwise}
+use Rattle.circle_commit.proofs.Written.{length-pairwise}
 use Rattle.std.proofs.Math.Nat.{pow-suc}
 use Rattle.std.proofs.lemmas.Nat.{pow-add}
 use Rattle.circle_domain.specs.Layers.{layer, layer_factors, copies}

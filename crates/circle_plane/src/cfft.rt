@@ -1,9 +1,9 @@
 //! Polynomials on the circle: the transform between their coefficients and values on a domain.
 ghost use Rattle.std.specs.Prelude.{◌≡◌, ℕ, ◌≤◌, ◌-◌, ◌*◌, ◌^◌, ◌++◌};
 ghost use Rattle.std.specs.Prelude.{length, map, All, IfOk, OnOk};
-ghost use Rattle.circle_matrix.specs.DotProduct.{pairwise, scaled};
-ghost use Rattle.circle_matrix.specs.Matrix.{IsPowerOfTwo};
-ghost use Rattle.circle_matrix.specs.RowMajorMatrix.{rows, width_of, height_of};
+ghost use Rattle.circle_commit.specs.DotProduct.{pairwise, scaled};
+ghost use Rattle.circle_commit.specs.Matrix.{IsPowerOfTwo};
+ghost use Rattle.circle_commit.specs.RowMajorMatrix.{rows, width_of, height_of};
 ghost use Rattle.circle_point.specs.Basis.{basis_values};
 ghost use Rattle.circle_point.specs.Point.{coordinates};
 ghost use Rattle.circle_domain.specs.Clear.{IsClearOf};
@@ -13,9 +13,9 @@ ghost use Rattle.circle_domain.specs.Order.{IsGenuine};
 ghost use Rattle.circle_domain.specs.Ordering.{other_order};
 ghost use Rattle.circle_transform.specs.Butterflies.{count_of};
 
+use circle_commit::{FieldMatrix, Matrix, MatrixShape, RowMajorMatrix, log2_strict};
 use circle_domain::{CfftPermutable, CfftView, CircleDomain, LagrangeWeights, lagrange_weights};
 use circle_field::{ComplexExtendable, ExtensionField, Field, Operations};
-use circle_matrix::{FieldMatrix, Matrix, MatrixShape, RowMajorMatrix, log2_strict};
 use circle_point::Point;
 use circle_transform::{
     Butterflies, backward_groups, backward_passes, backward_twiddles, forward_groups,

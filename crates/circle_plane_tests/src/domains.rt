@@ -1,7 +1,7 @@
 //! A point at infinity, over the quadratic extension, has no next one.
+use circle_commit::PolynomialSpace;
 use circle_field::{ExtensionField, Field, Mersenne31};
 use circle_fixtures::quadratic::Quadratic;
-use circle_matrix::PolynomialSpace;
 use circle_plane::CircleDomain;
 use std::process::Abort;
 

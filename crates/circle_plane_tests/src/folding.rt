@@ -1,7 +1,7 @@
 //! The fold of a pair, folds at queries, and the folds by x as a strategy.
+use circle_commit::RowMajorMatrix;
 use circle_field::{Cubic, ExtensionField, Field, Mersenne31};
 use circle_folding::fold_row_with_inv_twiddle;
-use circle_matrix::RowMajorMatrix;
 use std::process::Abort;
 use std::test::Fail;
 

@@ -2,9 +2,9 @@
 //! over all entries after another.
 use crate::smaller::{coefficients, extended};
 use crate::transform::{Domain, Evaluations, Rows, assert_same, evaluate, rows_of, scattered};
+use circle_commit::Matrix;
 use circle_domain::layer_twiddles;
 use circle_field::{Field, Mersenne31};
-use circle_matrix::Matrix;
 use circle_plane::CircleEvaluations;
 use std::alloc::{AllocError, Global};
 use std::process::Abort;

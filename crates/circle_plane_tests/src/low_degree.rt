@@ -3,9 +3,9 @@
 use crate::off_domain::{cubic, on_line};
 use crate::smaller::{coefficients, extended, point_at, prefix, values_at};
 use crate::transform::{Domain, Rows, assert_same, evaluate, rows_of, scattered};
+use circle_commit::Matrix;
 use circle_field::{Cubic, ExtensionField, Field, Mersenne31};
 use circle_folding::{deep_quotient_reduce_row, extract_lambda};
-use circle_matrix::Matrix;
 use circle_plane::{CircleDomain, Point};
 use std::alloc::{AllocError, Global};
 use std::process::Abort;

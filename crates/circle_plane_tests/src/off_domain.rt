@@ -1,9 +1,9 @@
 //! The weights of values off a domain over Mersenne31 and its cubic extension, beside quotients.
 use crate::smaller::point_at;
 use crate::transform::Rows;
+use circle_commit::Matrix;
 use circle_domain::{LagrangeWeights, lagrange_weights};
 use circle_field::{Cubic, ExtensionField, Field, Mersenne31};
-use circle_matrix::Matrix;
 use circle_plane::{CircleDomain, CircleEvaluations, Point};
 use std::alloc::{AllocError, Global};
 use std::process::Abort;

@@ -3,8 +3,8 @@ ghost use Rattle.std.specs.Prelude.{◌≡◌, All, IsTrue, length};
 
 use crate::off_domain::{element, evaluate_at_point, on_line};
 use crate::transform::column;
+use circle_commit::PeriodicEvaluator;
 use circle_field::{ComplexExtendable, Cubic, ExtensionField, Field, Mersenne31};
-use circle_matrix::PeriodicEvaluator;
 use circle_plane::{CircleDomain, CirclePeriodicEvaluator, Point};
 use std::alloc::{AllocError, Global};
 use std::process::Abort;

@@ -1,8 +1,8 @@
 //! The vanishing polynomial and the selectors of a domain's rows over Mersenne31:
 //! those on a coset beside those at its points, and as polynomials.
 use crate::transform::{Domain, Rows, evaluate, interpolate};
+use circle_commit::{LagrangeSelectors, Matrix, PolynomialSpace, RowMajorMatrix};
 use circle_field::{ComplexExtendable, Field, Mersenne31};
-use circle_matrix::{LagrangeSelectors, Matrix, PolynomialSpace, RowMajorMatrix};
 use circle_plane::{CircleDomain, Point};
 use std::alloc::{AllocError, Global};
 use std::process::Abort;

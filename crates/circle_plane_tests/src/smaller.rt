@@ -1,8 +1,8 @@
 //! A polynomial's values on domains of several sizes tell the same at a point.
 use crate::off_domain::{cubic, on_line};
 use crate::transform::{Domain, Rows, plain_entry, scattered};
+use circle_commit::{Matrix, RowMajorMatrix};
 use circle_field::{Cubic, Mersenne31};
-use circle_matrix::{Matrix, RowMajorMatrix};
 use circle_plane::{CircleDomain, CircleEvaluations, Point, cfft_permute_index, circle_basis};
 use std::alloc::{AllocError, Global};
 use std::process::Abort;

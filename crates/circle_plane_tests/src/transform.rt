@@ -1,6 +1,6 @@
 //! Matrices over Mersenne31 and calls of the circle transform, which the other tests share.
+use circle_commit::{Matrix, RowMajorMatrix};
 use circle_field::{ExtensionField, Field, Mersenne31};
-use circle_matrix::{Matrix, RowMajorMatrix};
 use circle_plane::{CircleDomain, CircleEvaluations};
 use std::alloc::{AllocError, Global};
 use std::process::Abort;

@@ -1,8 +1,8 @@
 //! What a committed column is opened to, over Mersenne31 and its cubic extension.
 use crate::off_domain::{cubic, on_line};
 use crate::transform::{Rows, column};
+use circle_commit::Matrix;
 use circle_field::{Cubic, Field, Mersenne31};
-use circle_matrix::Matrix;
 use circle_plane::Point;
 use circle_words::{are_off_domain, opened_values};
 use std::alloc::{AllocError, Global};

@@ -27,8 +27,8 @@ use Rattle.circle_domain.proofs.PartLists.{length-natural_order}
 use Rattle.circle_domain.proofs.Walking.{standard-at, standard-on_circle, standard-point}
 use Rattle.std.proofs.lemmas.Option.{slice_get-get_or}
 use Rattle.circle_folding.specs.Queries.{IsApart}
-use Rattle.circle_matrix.specs.RowMajorMatrix.{height_of}
-use Rattle.circle_matrix.specs.declared.matrix.RowMajorMatrix.{RowMajorMatrix}
+use Rattle.circle_commit.specs.RowMajorMatrix.{height_of}
+use Rattle.circle_commit.specs.declared.matrix.RowMajorMatrix.{RowMajorMatrix}
 use Rattle.circle_words.specs.Requests.{log_of}
 use Rattle.circle_relation.specs.Accepts.{Fields}
 use Rattle.circle_words.specs.Ratios.{points_of_height}

@@ -2,11 +2,11 @@
 use Rattle.std.specs.Prelude.{◌≡◌, List, Ok, Err, Result, ◌⊎◌}
 use Rattle.circle_field.specs.Field.{FieldOps}
 use Rattle.circle_challenger.specs.Moves.{RunMoves}
-use Rattle.circle_matrix.specs.declared.error.FriError.{FriError}
-use Rattle.circle_matrix.specs.declared.error.FriError.TheVariants.{InvalidPowWitness, Memory}
-use Rattle.circle_matrix.specs.declared.params.FriParameters.{FriParameters}
-use Rattle.circle_matrix.specs.declared.params.PowPhase.{PowPhase}
-use Rattle.circle_matrix.specs.declared.pcs.CommitmentOpening.{CommitmentOpening}
+use Rattle.circle_commit.specs.declared.error.FriError.{FriError}
+use Rattle.circle_commit.specs.declared.error.FriError.TheVariants.{InvalidPowWitness, Memory}
+use Rattle.circle_commit.specs.declared.params.FriParameters.{FriParameters}
+use Rattle.circle_commit.specs.declared.params.PowPhase.{PowPhase}
+use Rattle.circle_commit.specs.declared.pcs.CommitmentOpening.{CommitmentOpening}
 use Rattle.circle_domain.specs.declared.domain.CircleDomain.{CircleDomain}
 use Rattle.circle_relation.specs.RunOf.{proof_of}
 use Rattle.circle_relation.specs.StatementOf.{batch_claims}

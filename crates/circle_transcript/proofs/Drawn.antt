@@ -1,8 +1,8 @@
 -- What a run draws, from what its calls give.
 use Rattle.std.specs.Prelude.{true, false, IsTrue, if◌then◌else◌, Bool, Result, Ok, Err, length}
 use Rattle.std.proofs.Common.{◌≡◌, ℕ, List, [], refl, sym, ap, subst, ◌∙◌}
-use Rattle.circle_matrix.specs.declared.params.PowPhase.{PowPhase}
-use Rattle.circle_matrix.specs.declared.params.PowPhase.TheVariants.{Batch, CommitPhase, Query}
+use Rattle.circle_commit.specs.declared.params.PowPhase.{PowPhase}
+use Rattle.circle_commit.specs.declared.params.PowPhase.TheVariants.{Batch, CommitPhase, Query}
 use Rattle.circle_challenger.specs.Moves.{RunMoves, is_passed, after_pow, drawn_element, after_element}
 use Rattle.circle_transcript.specs.declared.failure.CircleTranscriptFailure.{CircleTranscriptFailure}
 use Rattle.circle_transcript.specs.declared.failure.CircleTranscriptFailure.TheVariants.{PowWitness, NoWitness}

@@ -3,8 +3,8 @@ use Rattle.std.specs.Prelude.{◌≡◌, ℕ, ◌≤◌, List, [], map, length, 
 use Rattle.std.specs.Prelude.{true, false, Result, Ok, Err}
 use Rattle.std.specs.Borrow.{Bor}
 use Rattle.circle_challenger.specs.Moves.{Moves, RunMoves, is_passed, after_element}
-use Rattle.circle_matrix.specs.declared.params.PowPhase.{PowPhase}
-use Rattle.circle_matrix.specs.declared.params.PowPhase.TheVariants.{Batch, CommitPhase, Query}
+use Rattle.circle_commit.specs.declared.params.PowPhase.{PowPhase}
+use Rattle.circle_commit.specs.declared.params.PowPhase.TheVariants.{Batch, CommitPhase, Query}
 use Rattle.circle_point.specs.declared.point.Point.{Point}
 use Rattle.circle_transcript.specs.declared.failure.CircleTranscriptFailure.{CircleTranscriptFailure}
 use Rattle.circle_transcript.specs.declared.failure.CircleTranscriptFailure.TheVariants.{PowWitness}

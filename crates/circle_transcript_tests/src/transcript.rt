@@ -6,10 +6,13 @@ ghost use Rattle.circle_transcript.specs.ShapeOf.{shape_of, batches_of};
 
 use crate::stubborn::Stubborn;
 use circle_challenger::{CanObserve, CanSample, GrindingChallenger, Sha256Challenger};
+use circle_commit::{FriParameters, PowPhase};
 use circle_field::{Cubic, ExtensionField, Field, Mersenne31};
-use circle_matrix::{FriParameters, PowPhase};
 use circle_point::{Neutral, Point};
-use circle_transcript::{CircleDraws, CircleMessages, CirclePcsShape, CircleTranscriptFailure, CircleWitnesses, both_runs, prover_run, verifier_run};
+use circle_transcript::{
+    CircleDraws, CircleMessages, CirclePcsShape, CircleTranscriptFailure, CircleWitnesses,
+    both_runs, prover_run, verifier_run,
+};
 use std::alloc::{AllocError, Global};
 use std::fmt::InlineText;
 use std::process::Abort;

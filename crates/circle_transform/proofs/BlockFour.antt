@@ -1,8 +1,8 @@
 -- Four lists that are combined place by place, in pairs and then in pairs again.
 use Rattle.std.specs.Prelude.{◌≡◌, ℕ, ◌+◌, ◌<◌, List, length, slice_index_or, slice_set}
 use Rattle.std.proofs.Common.{sym, ◌∙◌, ap, arith}
-use Rattle.circle_matrix.specs.DotProduct.{pairwise}
-use Rattle.circle_matrix.proofs.Written.{written, written-read, written-more, length-pairwise, pairwise-read}
+use Rattle.circle_commit.specs.DotProduct.{pairwise}
+use Rattle.circle_commit.proofs.Written.{written, written-read, written-more, length-pairwise, pairwise-read}
 
 -- what is not yet written is as it was
 pub unwritten : {F : Type 0} (new old now : List F) (i : ℕ) (x : F) → length new ≡ length old → now ≡ written i new old → x ≡ slice_index_or now i x → x ≡ slice_index_or old i x

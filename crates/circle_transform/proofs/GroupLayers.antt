@@ -4,7 +4,7 @@ use Rattle.std.proofs.Common.{zero, suc, sym, ◌∙◌, ap, refl, arith, length
 use Rattle.std.proofs.Math.Nat.{mul_assoc, pow-suc}
 use Rattle.std.proofs.lemmas.Nat.{pow-add}
 use Rattle.std.proofs.lemmas.List.{length-take-le, take_all, drop_all}
-use Rattle.circle_matrix.specs.DotProduct.{pairwise}
+use Rattle.circle_commit.specs.DotProduct.{pairwise}
 use Rattle.circle_domain.specs.Layers.{layer}
 use Rattle.circle_domain.proofs.Columns.{stored_column-layer}
 use Rattle.circle_transform.proofs.PairLayers.{length-layer, layer-append}

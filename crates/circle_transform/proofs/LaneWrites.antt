@@ -5,8 +5,8 @@ use Rattle.std.proofs.Math.Nat.{mul-le-mul_right, mul_assoc}
 use Rattle.std.proofs.lemmas.List.{get_or-map as read-map}
 use Rattle.std.proofs.lemmas.List.{take_at, drop_at, take_all, length-map, length-take-le, take-append-drop}
 use borrow.Rule.Slice.PartMut.{put_mid, mid_of}
-use Rattle.circle_matrix.specs.DotProduct.{pairwise}
-use Rattle.circle_matrix.proofs.Written.{written, written-read, written-more, written-all, length-pairwise, pairwise-read}
+use Rattle.circle_commit.specs.DotProduct.{pairwise}
+use Rattle.circle_commit.proofs.Written.{written, written-read, written-more, written-all, length-pairwise, pairwise-read}
 use Rattle.circle_domain.specs.Layers.{layer}
 use Rattle.circle_domain.proofs.Columns.{length-stored_column, stored_column-append}
 use Rattle.circle_domain.proofs.Layered.{layer-more, block-end, block}

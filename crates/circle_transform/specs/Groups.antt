@@ -4,7 +4,7 @@ use Rattle.std.specs.Prelude.{◌≡◌, ◌⊎◌, ℕ, ◌+◌, ◌-◌, ◌*�
 use Rattle.std.specs.Prelude.{List, length, map, take, drop, Option, Some, None, Vec}
 use Rattle.std.specs.declared.alloc.Global.{Global}
 use Rattle.std.proofs.Common.{zero, suc}
-use Rattle.circle_matrix.specs.Matrix.{rows_from, column}
+use Rattle.circle_commit.specs.Matrix.{rows_from, column}
 use Rattle.circle_field.specs.Field.{FieldOps}
 use Rattle.circle_domain.specs.Layers.{layer}
 use Rattle.circle_transform.specs.declared.groups.Group.{Group}

@@ -1,6 +1,6 @@
 //! Butterflies, and their count.
 ghost use Rattle.std.specs.Prelude.{◌≡◌, ◌+◌, ◌-◌, ◌<◌, ◌^◌, length};
-ghost use Rattle.circle_matrix.specs.DotProduct.{pairwise};
+ghost use Rattle.circle_commit.specs.DotProduct.{pairwise};
 ghost use Rattle.circle_transform.specs.Butterflies.{plus_multiple, minus_multiple};
 ghost use Rattle.circle_transform.specs.Butterflies.{total, scaled_difference, count_of};
 

@@ -3,7 +3,7 @@
 //! A layer splits the entries into blocks, one for each factor, and combines the two halves of each
 //! block (Circle STARKs, IACR ePrint 2024/278, section 4.2).
 ghost use Rattle.std.specs.Prelude.{◌≡◌, ◌+◌, ◌*◌, [], ◌∷◌, ◌++◌, length, map, take, drop};
-ghost use Rattle.circle_matrix.specs.DotProduct.{pairwise};
+ghost use Rattle.circle_commit.specs.DotProduct.{pairwise};
 ghost use Rattle.circle_domain.specs.Layers.{layer};
 
 use crate::butterflies::{Butterfly, combine};

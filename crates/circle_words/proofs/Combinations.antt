@@ -10,9 +10,9 @@ use Rattle.circle_field.specs.Field.{FieldOps, RingLaws, IsEmbedding}
 use Rattle.circle_field.specs.Extension.{AreCoefficients, sums}
 use Rattle.circle_field.specs.Ring.{var, con, plus as sum, times as prod}
 use Rattle.circle_field.specs.RingSound.{ring}
-use Rattle.circle_matrix.specs.Matrix.{column}
-use Rattle.circle_matrix.specs.DotProduct.{dot, column_sums}
-use Rattle.circle_matrix.proofs.ColumnSums.{map-agree}
+use Rattle.circle_commit.specs.Matrix.{column}
+use Rattle.circle_commit.specs.DotProduct.{dot, column_sums}
+use Rattle.circle_commit.proofs.ColumnSums.{map-agree}
 
 -- the sum at a place
 sums-read : {F : Type 0} (k : FieldOps F) (xs ys : List F) (i : ℕ) (d : F) → i < length xs → i < length ys →

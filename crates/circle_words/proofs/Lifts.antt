@@ -8,9 +8,9 @@ use Rattle.std.proofs.lemmas.List.FromFn.{fill_by_all, get_or-map-range_with_len
 use Rattle.circle_field.specs.Field.{FieldLaws, IsEmbedding}
 use Rattle.circle_field.specs.Extension.{AreCoefficients}
 use Rattle.circle_field.specs.Circle.{Coordinates, AreGenerators, origin}
-use Rattle.circle_matrix.specs.Matrix.{column}
-use Rattle.circle_matrix.specs.DotProduct.{dot}
-use Rattle.circle_matrix.proofs.ColumnSums.{map-agree}
+use Rattle.circle_commit.specs.Matrix.{column}
+use Rattle.circle_commit.specs.DotProduct.{dot}
+use Rattle.circle_commit.proofs.ColumnSums.{map-agree}
 use Rattle.circle_point.specs.Basis.{value}
 use Rattle.circle_domain.specs.Lagrange.{lagrange_at}
 use Rattle.circle_domain.specs.Order.{cfft_order}

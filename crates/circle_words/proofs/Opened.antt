@@ -2,8 +2,8 @@
 use Rattle.std.specs.Prelude.{◌≡◌, ℕ, ◌+◌, ◌-◌, ◌*◌, ◌^◌, ◌%◌, ◌≤◌, List, take, Result, IfOk}
 use Rattle.std.proofs.Common.{◌∙◌, ap, subst, arith, Ok, Err}
 use Rattle.circle_field.specs.Circle.{Coordinates}
-use Rattle.circle_matrix.specs.RowMajorMatrix.{rows, width_of}
-use Rattle.circle_matrix.specs.declared.matrix.RowMajorMatrix.{RowMajorMatrix}
+use Rattle.circle_commit.specs.RowMajorMatrix.{rows, width_of}
+use Rattle.circle_commit.specs.declared.matrix.RowMajorMatrix.{RowMajorMatrix}
 use Rattle.circle_domain.specs.Values.{HasValues, lifted_values_at}
 use Rattle.circle_domain.proofs.Powers.{pow_within}
 use Rattle.circle_point.specs.Projective.{from_line}

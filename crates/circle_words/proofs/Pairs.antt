@@ -2,7 +2,7 @@
 use Rattle.std.specs.Prelude.{◌≡◌, ℕ, ◌-◌, ◌*◌, ◌/◌, ◌^◌, ◌≤◌, List, length}
 use Rattle.std.proofs.Common.{zero, suc, sym, ◌∙◌, ap, arith}
 use Rattle.std.proofs.Math.Nat.{pow-suc}
-use Rattle.circle_matrix.specs.Matrix.{rows_from}
+use Rattle.circle_commit.specs.Matrix.{rows_from}
 use Rattle.circle_words.specs.Words.{pairs_of}
 
 -- a power of two that isn't 1 is even

@@ -8,7 +8,7 @@ use Rattle.circle_field.specs.Ring.{Expr, var, con, unit, plus as sum, times as 
 use Rattle.circle_field.specs.RingSound.{ring}
 use Rattle.circle_field.specs.RingCombine.{given, combine}
 use Rattle.circle_field.specs.RingFacts.{add_neg, add_zero}
-use Rattle.circle_matrix.specs.DotProduct.{dot, pairwise}
+use Rattle.circle_commit.specs.DotProduct.{dot, pairwise}
 use Rattle.circle_folding.specs.Quotient.{differences, real_part, imaginary_part, claim_quotient, ArePowers}
 use Rattle.circle_folding.specs.Queries.{claim_quotients, with_multiples, IsApart}
 use Rattle.circle_folding.proofs.Vanishing.{real_part-zero}

@@ -2,7 +2,7 @@
 -- STARKs (ePrint 2024/278), section 4.3.
 use Rattle.std.specs.Prelude.{ℕ, ◌+◌, ◌-◌, ◌^◌, List, map, take, nat_le, if◌then◌else◌}
 use Rattle.circle_field.specs.Circle.{Coordinates}
-use Rattle.circle_matrix.specs.DotProduct.{dot, column_sums}
+use Rattle.circle_commit.specs.DotProduct.{dot, column_sums}
 use Rattle.circle_domain.specs.Lagrange.{lagrange_at}
 use Rattle.circle_domain.specs.Order.{cfft_order}
 use Rattle.circle_relation.specs.Accepts.{Fields}

@@ -2,10 +2,10 @@
 use Rattle.std.specs.Prelude.{◌≡◌, ℕ, ◌+◌, ◌-◌, ◌/◌, ◌%◌, ◌^◌, List, [], ◌∷◌, map, Some, slice_get}
 use Rattle.std.specs.Prelude.{slice_index_or, Vec}
 use Rattle.std.specs.declared.alloc.Global.{Global}
-use Rattle.circle_matrix.specs.Mmcs.{IsShownOf, rows_at, rows_at_each}
-use Rattle.circle_matrix.specs.declared.matrix.Dimensions.{Dimensions}
-use Rattle.circle_matrix.specs.declared.matrix.RowMajorMatrix.{RowMajorMatrix}
-use Rattle.circle_matrix.specs.DotProduct.{pairwise}
+use Rattle.circle_commit.specs.Mmcs.{IsShownOf, rows_at, rows_at_each}
+use Rattle.circle_commit.specs.declared.matrix.Dimensions.{Dimensions}
+use Rattle.circle_commit.specs.declared.matrix.RowMajorMatrix.{RowMajorMatrix}
+use Rattle.circle_commit.specs.DotProduct.{pairwise}
 use Rattle.circle_relation.specs.declared.proof.CircleCommitPhaseMultiStep.{CircleCommitPhaseMultiStep}
 
 -- the queries without so many of their lowest bits

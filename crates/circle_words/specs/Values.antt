@@ -2,8 +2,8 @@
 -- rows fix.
 use Rattle.std.specs.Prelude.{◌≡◌, ℕ, ◌+◌, ◌-◌, ◌^◌, ◌<◌, List, [], length, take, All}
 use Rattle.std.specs.Prelude.{slice_index_or}
-use Rattle.circle_matrix.specs.RowMajorMatrix.{rows, width_of}
-use Rattle.circle_matrix.specs.declared.matrix.RowMajorMatrix.{RowMajorMatrix}
+use Rattle.circle_commit.specs.RowMajorMatrix.{rows, width_of}
+use Rattle.circle_commit.specs.declared.matrix.RowMajorMatrix.{RowMajorMatrix}
 use Rattle.circle_domain.specs.Clear.{IsClearOf}
 use Rattle.circle_domain.specs.Lagrange.{AreLagrangeWeights}
 use Rattle.circle_domain.specs.Order.{cfft_order, natural_order}

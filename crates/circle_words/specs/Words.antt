@@ -5,16 +5,16 @@ use Rattle.std.specs.Prelude.{length, map, flat_map, All, slice_index_or, Vec}
 use Rattle.std.specs.declared.alloc.Global.{Global}
 use Rattle.std.specs.List.{list_any, range_with_len}
 use Rattle.circle_field.specs.Circle.{origin}
-use Rattle.circle_matrix.specs.Matrix.{rows_from}
-use Rattle.circle_matrix.specs.RowMajorMatrix.{rows, width_of, height_of}
-use Rattle.circle_matrix.specs.DotProduct.{pairwise}
+use Rattle.circle_commit.specs.Matrix.{rows_from}
+use Rattle.circle_commit.specs.RowMajorMatrix.{rows, width_of, height_of}
+use Rattle.circle_commit.specs.DotProduct.{pairwise}
 use Rattle.circle_folding.specs.Fold.{y_folds, x_folds}
 use Rattle.circle_folding.specs.Lambda.{lambda_of, remainder_of}
 use Rattle.circle_folding.specs.Quotient.{ArePowers}
 use Rattle.circle_relation.specs.Sums.{Adds, reduced}
 use Rattle.circle_relation.specs.Accepts.{Fields}
 use Rattle.circle_relation.specs.Statement.{PointClaim}
-use Rattle.circle_matrix.specs.declared.matrix.RowMajorMatrix.{RowMajorMatrix}
+use Rattle.circle_commit.specs.declared.matrix.RowMajorMatrix.{RowMajorMatrix}
 use Rattle.circle_words.specs.Lifts.{read_rows}
 use Rattle.circle_words.specs.Ratios.{points_of_height}
 use Rattle.circle_words.specs.Values.{AreOff}

@@ -6,14 +6,14 @@
 //! others. A combined row takes a product for each column and each coefficient of the extension,
 //! and by the transform about half a product for each layer and each coefficient.
 ghost use Rattle.std.specs.Prelude.{◌≡◌, ◌-◌, ◌^◌, ◌<◌, ◌≤◌, ◌++◌, length, map, IfOk, OnOk};
-ghost use Rattle.circle_matrix.specs.DotProduct.{dot};
-ghost use Rattle.circle_matrix.specs.RowMajorMatrix.{rows, width_of, height_of};
+ghost use Rattle.circle_commit.specs.DotProduct.{dot};
+ghost use Rattle.circle_commit.specs.RowMajorMatrix.{rows, width_of, height_of};
 ghost use Rattle.circle_words.specs.Lifts.{combined, extended_word, read_rows};
 
 use crate::values::first_domain;
+use circle_commit::{Matrix, RowMajorMatrix};
 use circle_domain::CircleDomain;
 use circle_field::{ComplexExtendable, ExtensionField, Field};
-use circle_matrix::{Matrix, RowMajorMatrix};
 use circle_plane::CircleEvaluations;
 use circle_relation::OverCircle;
 use std::alloc::{AllocError, Global};

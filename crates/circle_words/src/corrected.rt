@@ -2,15 +2,15 @@
 //! vanishing polynomial, as rows of two, and what these fold into by y (Circle STARKs, sections 4.2
 //! and 4.3).
 ghost use Rattle.std.specs.Prelude.{◌≡◌, ◌-◌, ◌^◌, ◌<◌, ◌≤◌, length, map, All, IfOk};
-ghost use Rattle.circle_matrix.specs.RowMajorMatrix.{rows, width_of, height_of};
-ghost use Rattle.circle_matrix.specs.DotProduct.{pairwise};
+ghost use Rattle.circle_commit.specs.RowMajorMatrix.{rows, width_of, height_of};
+ghost use Rattle.circle_commit.specs.DotProduct.{pairwise};
 ghost use Rattle.circle_words.specs.Words.{CanBeOpened, HaveHeights, IsHeight, OfPowers};
 ghost use Rattle.circle_words.specs.Words.{layers_of, opened_lambda, opened_rows, y_folded};
 
 use crate::reduced::{OpenedMatrix, reduced_word};
+use circle_commit::RowMajorMatrix;
 use circle_field::{ComplexExtendable, ExtensionField};
 use circle_folding::{extract_lambda, fold_y};
-use circle_matrix::RowMajorMatrix;
 use circle_relation::OverCircle;
 use std::alloc::{AllocError, Global};
 

@@ -6,7 +6,7 @@
 ghost use Rattle.std.specs.Prelude.{◌≡◌, ◌<◌, ◌≤◌, map, All, IfOk};
 ghost use Rattle.std.specs.Prelude.{length, [], ◌∷◌, ◌++◌, OnOk};
 ghost use Rattle.circle_point.specs.Point.{coordinates};
-ghost use Rattle.circle_matrix.specs.DotProduct.{pairwise};
+ghost use Rattle.circle_commit.specs.DotProduct.{pairwise};
 ghost use Rattle.circle_domain.specs.Order.{with_opposites};
 ghost use Rattle.circle_folding.specs.Quotient.{real_part, imaginary_part};
 ghost use Rattle.circle_folding.specs.Queries.{IsApart};

@@ -3,8 +3,8 @@
 ghost use Rattle.std.specs.Prelude.{◌≡◌, ◌≢◌, ◌^◌, ◌<◌, ◌≤◌, length, map, All};
 ghost use Rattle.std.specs.Prelude.{IsTrue, IsNone, IfSome, IfOk, OnOk};
 ghost use Rattle.std.specs.List.{Any};
-ghost use Rattle.circle_matrix.specs.RowMajorMatrix.{width_of};
-ghost use Rattle.circle_matrix.specs.DotProduct.{dot};
+ghost use Rattle.circle_commit.specs.RowMajorMatrix.{width_of};
+ghost use Rattle.circle_commit.specs.DotProduct.{dot};
 ghost use Rattle.circle_domain.specs.Selectors.{IsFinite};
 ghost use Rattle.circle_folding.specs.Queries.{IsApart};
 ghost use Rattle.circle_point.specs.Point.{coordinates};
@@ -16,8 +16,8 @@ ghost use Rattle.circle_words.specs.Words.{AddsClaims, CanBeOpened, OfPowers, op
 use crate::combined::combined_rows;
 use crate::ratios::{PointRatios, standard_points, vanishing_ratios};
 use crate::values::are_off_domain;
+use circle_commit::{Matrix, RowMajorMatrix};
 use circle_field::{ComplexExtendable, ExtensionField, Field};
-use circle_matrix::{Matrix, RowMajorMatrix};
 use circle_point::Point;
 use circle_relation::OverCircle;
 use std::alloc::{AllocError, Global};

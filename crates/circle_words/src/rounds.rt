@@ -3,12 +3,12 @@
 ghost use Rattle.std.specs.Prelude.{◌≡◌, ◌+◌, ◌-◌, ◌==◌, ◌^◌, ◌<◌, ◌≤◌, length, map, IfOk};
 ghost use Rattle.std.specs.Prelude.{false, IfNone, IfSome, slice_index_or};
 ghost use Rattle.std.specs.List.{list_any};
-ghost use Rattle.circle_matrix.specs.RowMajorMatrix.{rows, width_of, height_of};
+ghost use Rattle.circle_commit.specs.RowMajorMatrix.{rows, width_of, height_of};
 ghost use Rattle.circle_words.specs.Words.{IsNextWord};
 
+use circle_commit::RowMajorMatrix;
 use circle_field::{ComplexExtendable, ExtensionField};
 use circle_folding::{add_each, fold_x};
-use circle_matrix::RowMajorMatrix;
 use circle_relation::OverCircle;
 use std::alloc::{AllocError, Global};
 

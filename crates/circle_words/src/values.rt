@@ -8,7 +8,7 @@
 ghost use Rattle.std.specs.Prelude.{◌≡◌, ◌≢◌, ◌+◌, ◌-◌, ◌^◌, ◌<◌, ◌≤◌, ◌↔◌, length, map, All};
 ghost use Rattle.std.specs.Prelude.{IsTrue, IsNone, IfSome, IfOk, OnOk};
 ghost use Rattle.std.specs.List.{AllZip, Any};
-ghost use Rattle.circle_matrix.specs.RowMajorMatrix.{height_of};
+ghost use Rattle.circle_commit.specs.RowMajorMatrix.{height_of};
 ghost use Rattle.circle_domain.specs.Domain.{log_size, shift_of};
 ghost use Rattle.circle_domain.specs.Selectors.{IsFinite};
 ghost use Rattle.circle_folding.specs.Queries.{IsApart};
@@ -17,9 +17,9 @@ ghost use Rattle.circle_words.specs.Ratios.{points_of_height};
 ghost use Rattle.circle_words.specs.Values.{IsOffDomain, AreWeightsOf, OpensBy};
 ghost use Rattle.circle_words.specs.Values.{AreOff, AreOpened};
 
+use circle_commit::RowMajorMatrix;
 use circle_domain::{CircleDomain, LagrangeWeights, lagrange_weights};
 use circle_field::{ComplexExtendable, ExtensionField, Field};
-use circle_matrix::RowMajorMatrix;
 use circle_plane::CircleEvaluations;
 use circle_point::Point;
 use circle_relation::OverCircle;

@@ -6,11 +6,11 @@ use Rattle.std.proofs.Common.{zero, suc, refl, sym, ◌∙◌, subst}
 use Rattle.circle_challenger.specs.Moves.{RunMoves, run_moves, is_passed, after_element}
 use Rattle.circle_challenger.specs.Observing.{after_all}
 use Rattle.circle_challenger.specs.Sampling.{after_samples}
-use Rattle.circle_matrix.specs.declared.matrix.RowMajorMatrix.{RowMajorMatrix}
-use Rattle.circle_matrix.specs.declared.params.FriParameters.{FriParameters}
-use Rattle.circle_matrix.specs.declared.params.PowPhase.{PowPhase}
-use Rattle.circle_matrix.specs.declared.params.PowPhase.TheVariants.{Batch, CommitPhase, Query}
-use Rattle.circle_matrix.specs.declared.pcs.OpeningRequest.{OpeningRequest}
+use Rattle.circle_commit.specs.declared.matrix.RowMajorMatrix.{RowMajorMatrix}
+use Rattle.circle_commit.specs.declared.params.FriParameters.{FriParameters}
+use Rattle.circle_commit.specs.declared.params.PowPhase.{PowPhase}
+use Rattle.circle_commit.specs.declared.params.PowPhase.TheVariants.{Batch, CommitPhase, Query}
+use Rattle.circle_commit.specs.declared.pcs.OpeningRequest.{OpeningRequest}
 use Rattle.circle_relation.specs.Accepts.{Fields}
 use Rattle.circle_transcript.specs.Runs.{NonePasses}
 use Rattle.circle_transcript.specs.Draw.{Claim, after_claims, after_round, after_rounds, closed}

@@ -1,5 +1,5 @@
 //! The scheme as an instance of the traits of schemes.
-ghost use Rattle.circle_matrix.specs.Mmcs.{HaveHeightsOfPowers};
+ghost use Rattle.circle_commit.specs.Mmcs.{HaveHeightsOfPowers};
 ghost use Rattle.circle_opening.specs.Opening.{IsFailure};
 ghost use Rattle.circle_plane.specs.PeriodicColumns.{IsRefusedOn, IsTableOn, columns_of};
 ghost use Rattle.circle_scheme.specs.Committing.{AreExtensions, AreValuesOfMatrix};

@@ -1,10 +1,10 @@
 //! The scheme.
 ghost use Rattle.std.specs.Prelude.{◌≡◌, ◌↔◌, ◌+◌, ◌-◌, ◌^◌, ◌<◌, ◌≤◌, length, min};
 ghost use Rattle.std.specs.Prelude.{OnOk, IfOk, IfErr, IfSome, IsSome, IsTrue};
-ghost use Rattle.circle_matrix.specs.Matrix.{IsPowerOfTwo};
-ghost use Rattle.circle_matrix.specs.Mmcs.{HaveHeightsOfPowers};
-ghost use Rattle.circle_matrix.specs.Pcs.{openings};
-ghost use Rattle.circle_matrix.specs.declared.error.FriError.TheVariants.{Memory};
+ghost use Rattle.circle_commit.specs.Matrix.{IsPowerOfTwo};
+ghost use Rattle.circle_commit.specs.Mmcs.{HaveHeightsOfPowers};
+ghost use Rattle.circle_commit.specs.Pcs.{openings};
+ghost use Rattle.circle_commit.specs.declared.error.FriError.TheVariants.{Memory};
 ghost use Rattle.circle_domain.specs.Domain.{log_size, IsStandardDomain};
 ghost use Rattle.circle_plane.specs.PeriodicColumns.{columns_of, IsTableOn, IsRefusedOn};
 ghost use Rattle.circle_scheme.specs.Committing.{RefusesInOrder, commit_tests, evaluation_tests};

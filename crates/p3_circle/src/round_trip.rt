@@ -1,6 +1,6 @@
 //! A whole run over the scheme.
 ghost use Rattle.std.specs.Prelude.{◌≡◌, All, IfErr, IfOk, OnOk};
-ghost use Rattle.circle_matrix.specs.Pcs.{openings};
+ghost use Rattle.circle_commit.specs.Pcs.{openings};
 ghost use Rattle.circle_commit.specs.RoundTrip.{HasPoints};
 ghost use Rattle.circle_scheme.specs.Committing.{HaveRowsForPoints};
 

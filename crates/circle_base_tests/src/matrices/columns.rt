@@ -1,6 +1,6 @@
 //! Sums of a matrix's columns by weights of its rows.
+use circle_commit::{FieldMatrix, Matrix, RowMajorMatrix};
 use circle_field::{Cubic, ExtensionField, Field, Mersenne31};
-use circle_matrix::{FieldMatrix, Matrix, RowMajorMatrix};
 use std::alloc::{AllocError, Global};
 use std::process::Abort;
 use std::test::Fail;

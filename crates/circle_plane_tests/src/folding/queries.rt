@@ -3,12 +3,12 @@ ghost use Rattle.std.specs.Prelude.{◌≡◌, ◌+◌, ◌≤◌, ◌<◌, ◌^
 ghost use Rattle.circle_folding.specs.Chain.{round_twiddle};
 
 use super::{cubic, rows_of_two};
+use circle_commit::{Matrix, RowMajorMatrix};
 use circle_field::{ComplexExtendable, Cubic, ExtensionField, Field, Mersenne31};
 use circle_folding::{
     first_layer_twiddles, first_x_twiddles, fold_query_values, fold_x, fold_y, next_x_twiddles,
     query_pairs, query_points,
 };
-use circle_matrix::{Matrix, RowMajorMatrix};
 use std::alloc::{AllocError, Global};
 use std::process::Abort;
 use std::test::Fail;

@@ -1,7 +1,7 @@
 //! The folds by x as a strategy.
+use circle_commit::{FriFoldingStrategy, Matrix, RowMajorMatrix};
 use circle_field::{Cubic, ExtensionField, Field, Mersenne31};
 use circle_folding::CircleFriFolding;
-use circle_matrix::{FriFoldingStrategy, Matrix, RowMajorMatrix};
 use circle_point::Point;
 use std::alloc::{AllocError, Global};
 use std::process::Abort;

@@ -4,7 +4,9 @@ use crate::transcript::{NONE, cubic, element, params, shape};
 use circle_challenger::{CanSample, Sha256Challenger};
 use circle_field::{Cubic, Mersenne31};
 use circle_point::Point;
-use circle_transcript::{CircleMessages, CirclePcsShape, CircleTranscriptFailure, CircleVerifierTranscript, prover_run};
+use circle_transcript::{
+    CircleMessages, CirclePcsShape, CircleTranscriptFailure, CircleVerifierTranscript, prover_run,
+};
 use std::alloc::Global;
 use std::test::Fail;
 

@@ -10,8 +10,8 @@ use circle_commit::{
     RowMajorMatrix, are_below, heights_are_powers_of_two,
 };
 use circle_field::{Cubic, ExtensionField, Field, Mersenne31};
-use circle_transcript::{CircleMessages, CirclePcsShape, prover_run};
 use circle_statements::batches::one;
+use circle_transcript::{CircleMessages, CirclePcsShape, prover_run};
 use p3_circle::{
     CircleCommitPhaseMultiStep, CircleDomain, CircleFriProof, CircleInputProof, CirclePcs,
     CirclePcsProof, Neutral, Point,

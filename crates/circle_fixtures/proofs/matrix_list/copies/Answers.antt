@@ -1,5 +1,5 @@
 use Rattle.std.proofs.Common.{◌≡◌, ap, sym, ◌∙◌, length}
-use Rattle.circle_matrix.specs.RowMajorMatrix.{height_of, length-rows}
+use Rattle.circle_commit.specs.RowMajorMatrix.{height_of, length-rows}
 use Rattle.circle_fixtures.proofs.SameRows.{same-more}
 use Rattle.circle_fixtures.proofs.matrix_list.copies.Goals as goal
 

@@ -1,8 +1,8 @@
 use Rattle.std.proofs.Common.{◌≡◌, ◌∙◌, [], ap, sym, arith, get_or}
 use Rattle.std.proofs.lemmas.List.{get_or_past}
 use Rattle.std.proofs.lemmas.Option.{get_or_from_slice_get}
-use Rattle.circle_matrix.specs.RowMajorMatrix.{rows, height_of, length-rows}
-use Rattle.circle_matrix.specs.Mmcs.{row_at}
+use Rattle.circle_commit.specs.RowMajorMatrix.{rows, height_of, length-rows}
+use Rattle.circle_commit.specs.Mmcs.{row_at}
 use Rattle.circle_fixtures.proofs.matrix_list.row_of.Goals as goal
 
 pub returns-then-r-height : goal.returns-then-r-height

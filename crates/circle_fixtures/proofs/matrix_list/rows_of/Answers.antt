@@ -1,7 +1,7 @@
 use Rattle.std.proofs.Common.{◌≡◌, ◌++◌, ◌∷◌, ◌∙◌, [], ap, sym, map, take, arith, get_or}
 use Rattle.std.proofs.lemmas.List.{map-append, take_more}
-use Rattle.circle_matrix.specs.RowMajorMatrix.{rows, height_of}
-use Rattle.circle_matrix.specs.Mmcs.{max_height, row_at}
+use Rattle.circle_commit.specs.RowMajorMatrix.{rows, height_of}
+use Rattle.circle_commit.specs.Mmcs.{max_height, row_at}
 use Rattle.circle_merkle.proofs.Heights.{bounded-at}
 use Rattle.circle_fixtures.proofs.matrix_list.rows_of.Goals as goal
 

@@ -1,5 +1,5 @@
 use Rattle.std.proofs.Common.{◌≡◌, take}
-use Rattle.circle_matrix.specs.Mmcs.{dimensions_of}
+use Rattle.circle_commit.specs.Mmcs.{dimensions_of}
 use Rattle.circle_fixtures.proofs.matrix_list.shapes.Given as goal
 
 abbrev pub invariant-loop-matrix : goal.invariant-loop-matrix

@@ -1,7 +1,7 @@
 use Rattle.std.proofs.Common.{◌+◌, ◌≡◌, ◌∙◌, ◌-◌, suc, sym, subst, arith}
 use Rattle.std.specs.Prelude.{All}
 use Rattle.circle_point.specs.Point.{coordinates}
-use Rattle.circle_matrix.specs.RowMajorMatrix.{rows, width_of, length-rows, rows-width}
+use Rattle.circle_commit.specs.RowMajorMatrix.{rows, width_of, length-rows, rows-width}
 use Rattle.circle_domain.proofs.Powers.{pow_injective}
 use Rattle.circle_folding.specs.Claims.{row_quotients, AreWideValuesOfOnly}
 use Rattle.circle_folding.specs.WideSpans.{WideSpan}

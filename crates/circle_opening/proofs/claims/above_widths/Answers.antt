@@ -1,7 +1,7 @@
 use Rattle.std.proofs.Common.{◌≤◌, All, take, sym, subst, arith, ⊎_elim}
 use Rattle.std.proofs.lemmas.List.{take_all}
 use Rattle.std.proofs.lemmas.List.Elements.{All-more, All-weaker}
-use Rattle.circle_matrix.specs.RowMajorMatrix.{height_of, width_of}
+use Rattle.circle_commit.specs.RowMajorMatrix.{height_of, width_of}
 use Rattle.circle_words.specs.declared.reduced.OpenedMatrix.{OpenedMatrix}
 use Rattle.circle_opening.proofs.Requested.{width-fits, max-of}
 use Rattle.circle_opening.proofs.claims.above_widths.Goals as goal

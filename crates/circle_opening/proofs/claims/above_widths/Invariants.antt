@@ -1,5 +1,5 @@
 use Rattle.std.proofs.Common.{◌≤◌, ◌<◌, ◌^◌, All, take}
-use Rattle.circle_matrix.specs.RowMajorMatrix.{width_of}
+use Rattle.circle_commit.specs.RowMajorMatrix.{width_of}
 use Rattle.circle_opening.proofs.claims.above_widths.Given as goal
 
 -- no width so far is greater

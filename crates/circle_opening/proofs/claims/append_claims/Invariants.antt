@@ -1,5 +1,5 @@
 use Rattle.std.proofs.Common.{◌≡◌, ◌++◌, length, map, take}
-use Rattle.circle_matrix.specs.DotProduct.{pairwise}
+use Rattle.circle_commit.specs.DotProduct.{pairwise}
 use Rattle.circle_transcript.specs.Claims.{claims_of}
 use Rattle.circle_words.specs.Words.{claim_of}
 use Rattle.circle_words.specs.Requests.{lists_of}

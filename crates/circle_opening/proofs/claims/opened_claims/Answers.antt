@@ -1,7 +1,7 @@
 use Rattle.std.proofs.Common.{◌++◌, ◌∙◌, map, take, flat_map, All, sym, ap, subst}
 use Rattle.std.proofs.lemmas.List.{take_all}
 use Rattle.std.proofs.lemmas.List.Folds.{flat_map-map}
-use Rattle.circle_matrix.specs.DotProduct.{pairwise}
+use Rattle.circle_commit.specs.DotProduct.{pairwise}
 use Rattle.circle_words.specs.Requests.{lists_of}
 use Rattle.circle_domain.specs.Selectors.{IsFinite}
 use Rattle.circle_words.specs.Words.{Committed, claim_of, committed_of}

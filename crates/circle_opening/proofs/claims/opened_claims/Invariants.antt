@@ -1,5 +1,5 @@
 use Rattle.std.proofs.Common.{◌≡◌, map, take, flat_map}
-use Rattle.circle_matrix.specs.DotProduct.{pairwise}
+use Rattle.circle_commit.specs.DotProduct.{pairwise}
 use Rattle.circle_transcript.specs.Claims.{claims_of}
 use Rattle.circle_words.specs.Words.{claim_of}
 use Rattle.circle_relation.specs.Taken.{point_taken}

@@ -1,5 +1,5 @@
 use Rattle.std.proofs.Common.{◌≡◌, length, map, take, flat_map, All}
-use Rattle.circle_matrix.specs.Pcs.{openings}
+use Rattle.circle_commit.specs.Pcs.{openings}
 use Rattle.circle_relation.specs.Accepts.{Fields}
 use Rattle.circle_words.specs.Words.{committed_of}
 use Rattle.circle_words.specs.Requests.{IsReady, all_committed}

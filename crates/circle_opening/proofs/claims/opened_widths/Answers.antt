@@ -1,5 +1,5 @@
 use Rattle.std.proofs.Common.{length, map, ap, ◌∙◌}
-use Rattle.circle_matrix.specs.Mmcs.{opened_rows}
+use Rattle.circle_commit.specs.Mmcs.{opened_rows}
 use Rattle.circle_transcript.specs.ShapeOf.{matrices_of}
 use Rattle.circle_opening.proofs.Requested.{parts-more}
 use Rattle.circle_opening.proofs.claims.opened_widths.Goals as goal

@@ -1,5 +1,5 @@
 use Rattle.std.proofs.Common.{◌≡◌, length, map, take}
-use Rattle.circle_matrix.specs.Pcs.{openings}
+use Rattle.circle_commit.specs.Pcs.{openings}
 use Rattle.circle_transcript.specs.ShapeOf.{batches_of}
 use Rattle.circle_opening.proofs.claims.opened_widths.Given as goal
 

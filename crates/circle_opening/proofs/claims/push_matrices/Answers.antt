@@ -1,8 +1,8 @@
 use Rattle.std.proofs.Common.{◌≡◌, ◌++◌, [], ◌∷◌, ◌∙◌, length, map, refl, ap, arith}
 use Rattle.std.proofs.lemmas.List.{length_push, length-map}
 use Rattle.std.proofs.lemmas.List.Elements.{All-push, All-same}
-use Rattle.circle_matrix.specs.RowMajorMatrix.{height_of}
-use Rattle.circle_matrix.specs.Mmcs.{opened_rows}
+use Rattle.circle_commit.specs.RowMajorMatrix.{height_of}
+use Rattle.circle_commit.specs.Mmcs.{opened_rows}
 use Rattle.circle_relation.specs.Accepts.{Fields}
 use Rattle.circle_words.specs.Words.{committed_of}
 use Rattle.circle_words.specs.declared.reduced.OpenedMatrix.{OpenedMatrix}

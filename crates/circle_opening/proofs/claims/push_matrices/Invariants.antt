@@ -1,5 +1,5 @@
 use Rattle.std.proofs.Common.{◌≡◌, ◌++◌, length, map, take, All}
-use Rattle.circle_matrix.specs.Mmcs.{opened_rows}
+use Rattle.circle_commit.specs.Mmcs.{opened_rows}
 use Rattle.circle_relation.specs.Accepts.{Fields}
 use Rattle.circle_words.specs.Words.{committed_of}
 use Rattle.circle_words.specs.Requests.{IsReady, batch_committed, lists_of}

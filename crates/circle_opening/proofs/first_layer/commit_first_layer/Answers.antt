@@ -1,6 +1,6 @@
 use Rattle.std.proofs.Common.{◌≡◌, ◌∙◌, List, sym, ap, subst, length, map, All}
-use Rattle.circle_matrix.specs.RowMajorMatrix.{rows, width_of}
-use Rattle.circle_matrix.specs.declared.matrix.RowMajorMatrix.{RowMajorMatrix}
+use Rattle.circle_commit.specs.RowMajorMatrix.{rows, width_of}
+use Rattle.circle_commit.specs.declared.matrix.RowMajorMatrix.{RowMajorMatrix}
 use Rattle.circle_folding.specs.Quotient.{ArePowers}
 use Rattle.circle_folding.proofs.PowerLists.{length-powers, are-powers}
 use Rattle.circle_relation.specs.Accepts.{Fields}

@@ -2,8 +2,8 @@ use Rattle.std.proofs.Common.{◌≡◌, ◌-◌, ◌++◌, ◌∷◌, [], ◌�
 use Rattle.std.proofs.lemmas.List.{length-map, map-append}
 use Rattle.std.proofs.lemmas.Simd.{map-map}
 use Rattle.std.specs.Option.{option_to_list}
-use Rattle.circle_matrix.specs.RowMajorMatrix.{rows, height_of}
-use Rattle.circle_matrix.proofs.Written.{length-pairwise}
+use Rattle.circle_commit.specs.RowMajorMatrix.{rows, height_of}
+use Rattle.circle_commit.proofs.Written.{length-pairwise}
 use Rattle.circle_folding.specs.Fold.{y_folds}
 use Rattle.circle_opening.proofs.FoldedLengths.{folded-lengths}
 use Rattle.circle_opening.proofs.first_layer.fold_first_layer.Goals as goal

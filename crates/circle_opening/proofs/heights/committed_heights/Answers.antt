@@ -1,6 +1,6 @@
 use Rattle.std.proofs.Common.{suc, ◌≡◌, ◌==◌, ◌∙◌, ◌+◌, ℕ, Bool, sym, ap, arith, map}
 use Rattle.std.specs.List.{list_any, filter, range_with_len}
-use Rattle.circle_matrix.specs.Mmcs.{greatest}
+use Rattle.circle_commit.specs.Mmcs.{greatest}
 use Rattle.circle_relation.proofs.Kept.{more-kept, more-left}
 use Rattle.circle_opening.proofs.Seen.{heights-seen}
 use Rattle.circle_opening.proofs.heights.committed_heights.Goals as goal

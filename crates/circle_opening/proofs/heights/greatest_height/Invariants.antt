@@ -1,6 +1,6 @@
 use Rattle.std.proofs.Common.{◌≡◌, drop, map}
 use Rattle.std.specs.Prelude.{max}
-use Rattle.circle_matrix.specs.Mmcs.{greatest}
+use Rattle.circle_commit.specs.Mmcs.{greatest}
 use Rattle.circle_opening.proofs.heights.greatest_height.Given as goal
 
 -- the greatest of those so far, beside that of the others, is the greatest of all

@@ -1,6 +1,6 @@
 use Rattle.std.proofs.Common.{◌≡◌, length, map, take}
-use Rattle.circle_matrix.specs.Mmcs.{opened_rows}
-use Rattle.circle_matrix.specs.DotProduct.{pairwise}
+use Rattle.circle_commit.specs.Mmcs.{opened_rows}
+use Rattle.circle_commit.specs.DotProduct.{pairwise}
 use Rattle.circle_words.specs.Openings.{siblings_at}
 use Rattle.circle_opening.proofs.openings.all_siblings.Given as goal
 

@@ -1,5 +1,5 @@
 use Rattle.std.proofs.Common.{◌<◌, ◌∙◌, sym, subst, All}
-use Rattle.circle_matrix.specs.Mmcs.{max_height}
+use Rattle.circle_commit.specs.Mmcs.{max_height}
 use Rattle.circle_opening.proofs.Sided.{places-below}
 use Rattle.circle_opening.proofs.openings.open_rows.Goals as goal
 

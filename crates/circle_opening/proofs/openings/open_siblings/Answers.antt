@@ -1,6 +1,6 @@
 use Rattle.std.proofs.Common.{◌-◌, ◌∙◌, ℕ, List, ap, subst}
-use Rattle.circle_matrix.specs.Mmcs.{max_height, rows_at, opened_rows, IsShownOf}
-use Rattle.circle_matrix.specs.DotProduct.{pairwise}
+use Rattle.circle_commit.specs.Mmcs.{max_height, rows_at, opened_rows, IsShownOf}
+use Rattle.circle_commit.specs.DotProduct.{pairwise}
 use Rattle.circle_words.specs.Openings.{places_of, siblings_at}
 use Rattle.circle_opening.proofs.OpenedPairs.{queries-below, places-left, powers-of, opened-counts, opened-pairs, pairwise-made}
 use Rattle.circle_opening.proofs.openings.open_siblings.Goals as goal

@@ -2,9 +2,9 @@ use Rattle.std.specs.List.{AllZip}
 use Rattle.std.proofs.Common.{◌≡◌, ◌<◌, ◌*◌, ◌-◌, ◌+◌, ◌^◌, ◌++◌, ◌∷◌, [], ◌∙◌, All, map, take, sym, ap, subst, arith}
 use Rattle.std.proofs.lemmas.Nat.{pow-add}
 use Rattle.std.proofs.lemmas.List.{map-append, take_all, take_more}
-use Rattle.circle_matrix.specs.Mmcs.{max_height}
-use Rattle.circle_matrix.specs.declared.pcs.BatchMultiOpening.{BatchMultiOpening}
-use Rattle.circle_matrix.specs.declared.pcs.OpeningRequest.{OpeningRequest}
+use Rattle.circle_commit.specs.Mmcs.{max_height}
+use Rattle.circle_commit.specs.declared.pcs.BatchMultiOpening.{BatchMultiOpening}
+use Rattle.circle_commit.specs.declared.pcs.OpeningRequest.{OpeningRequest}
 use Rattle.circle_relation.specs.RunOf.{opened_batch}
 use Rattle.circle_words.specs.Openings.{OpensRows, places_of}
 use Rattle.circle_words.specs.Requests.{AreHeights, HasBatchRows, log_of}

@@ -2,9 +2,9 @@ use Rattle.std.proofs.Common.{◌≡◌, ◌+◌, ◌<◌, ◌≤◌, ◌^◌, A
 use Rattle.std.specs.List.{AllZip}
 use Rattle.std.specs.Prelude.{Ok, slice_index_or}
 use Rattle.circle_challenger.specs.Moves.{RunMoves, run_moves}
-use Rattle.circle_matrix.specs.Pcs.{openings}
-use Rattle.circle_matrix.specs.RowMajorMatrix.{height_of}
-use Rattle.circle_matrix.specs.declared.pcs.OpeningRequest.{OpeningRequest}
+use Rattle.circle_commit.specs.Pcs.{openings}
+use Rattle.circle_commit.specs.RowMajorMatrix.{height_of}
+use Rattle.circle_commit.specs.declared.pcs.OpeningRequest.{OpeningRequest}
 use Rattle.circle_field.specs.Field.{of_nat}
 use Rattle.circle_relation.specs.Accepts.{Fields}
 use Rattle.circle_relation.specs.RunOf.{proof_of}

@@ -3,11 +3,11 @@ use Rattle.std.specs.Prelude.{Ok}
 use Rattle.std.specs.List.{AllZip}
 use Rattle.std.specs.Prelude.{IfOk, slice_index_or}
 use Rattle.std.proofs.lemmas.Nat.{pow_pos}
-use Rattle.circle_matrix.specs.Mmcs.{greatest}
-use Rattle.circle_matrix.specs.Pcs.{Openings}
-use Rattle.circle_matrix.specs.RowMajorMatrix.{height_of}
-use Rattle.circle_matrix.specs.declared.params.FriParameters.{FriParameters}
-use Rattle.circle_matrix.specs.declared.pcs.OpeningRequest.{OpeningRequest}
+use Rattle.circle_commit.specs.Mmcs.{greatest}
+use Rattle.circle_commit.specs.Pcs.{Openings}
+use Rattle.circle_commit.specs.RowMajorMatrix.{height_of}
+use Rattle.circle_commit.specs.declared.params.FriParameters.{FriParameters}
+use Rattle.circle_commit.specs.declared.pcs.OpeningRequest.{OpeningRequest}
 use Rattle.circle_domain.specs.Selectors.{IsFinite}
 use Rattle.circle_relation.specs.Statement.{all_matrices, log_max_height}
 use Rattle.circle_words.specs.Words.{CanBeOpened}
@@ -16,8 +16,8 @@ use Rattle.circle_relation.specs.Taken.{point_taken}
 use Rattle.circle_opening.specs.Words.{AreTall}
 use Rattle.std.proofs.lemmas.List.Elements.{All-map}
 use Rattle.circle_challenger.specs.Moves.{RunMoves, run_moves}
-use Rattle.circle_matrix.specs.Pcs.{openings}
-use Rattle.circle_matrix.specs.RowMajorMatrix.{width_of}
+use Rattle.circle_commit.specs.Pcs.{openings}
+use Rattle.circle_commit.specs.RowMajorMatrix.{width_of}
 use Rattle.circle_field.specs.Field.{of_nat}
 use Rattle.circle_relation.specs.Accepts.{Fields}
 use Rattle.circle_transcript.specs.Claims.{claims_of}

@@ -1,7 +1,7 @@
 use Rattle.std.proofs.Common.{◌≡◌, ◌-◌, ◌/◌, ◌^◌, ◌++◌, ◌∷◌, [], ◌∙◌, sym, ap, arith, length}
-use Rattle.circle_matrix.specs.Matrix.{IsPowerOfTwo}
-use Rattle.circle_matrix.specs.RowFacts.{length-rows_from}
-use Rattle.circle_matrix.specs.RowMajorMatrix.{height_of, length-rows}
+use Rattle.circle_commit.specs.Matrix.{IsPowerOfTwo}
+use Rattle.circle_commit.specs.RowFacts.{length-rows_from}
+use Rattle.circle_commit.specs.RowMajorMatrix.{height_of, length-rows}
 use Rattle.circle_opening.proofs.Growing.{all_of_one, half_power, positive_power, whole_pairs}
 use Rattle.circle_opening.proofs.rounds.commit_word.Goals as goal
 

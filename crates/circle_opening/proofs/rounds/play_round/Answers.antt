@@ -3,7 +3,7 @@ use Rattle.std.proofs.lemmas.List.{length-map}
 use Rattle.std.proofs.Common.{◌≡◌, ◌<◌, All, ◌∙◌, sym, ap, subst, arith, length, map, inr}
 use Rattle.circle_challenger.specs.Moves.{RunMoves, run_moves}
 use Rattle.circle_field.specs.Field.{of_nat}
-use Rattle.circle_matrix.specs.RowMajorMatrix.{length-rows, rows, width_of}
+use Rattle.circle_commit.specs.RowMajorMatrix.{length-rows, rows, width_of}
 use Rattle.circle_relation.specs.Accepts.{Fields}
 use Rattle.circle_words.specs.Words.{IsNextWord, pairs_of}
 use Rattle.circle_transcript.specs.Transcript.{after_commit, commit_challenge, commit_passes}

@@ -3,9 +3,9 @@ use Rattle.std.specs.Prelude.{zip}
 use Rattle.std.specs.List.{AllZip}
 use Rattle.std.proofs.lemmas.List.{length_push, length-map, take_all}
 use Rattle.std.proofs.lemmas.Slice.Zip.{zip_turn, zip_end}
-use Rattle.circle_matrix.specs.Mmcs.{opened_rows}
-use Rattle.circle_matrix.specs.RowMajorMatrix.{height_of}
-use Rattle.circle_matrix.specs.declared.matrix.RowMajorMatrix.{RowMajorMatrix}
+use Rattle.circle_commit.specs.Mmcs.{opened_rows}
+use Rattle.circle_commit.specs.RowMajorMatrix.{height_of}
+use Rattle.circle_commit.specs.declared.matrix.RowMajorMatrix.{RowMajorMatrix}
 use Rattle.circle_relation.specs.Accepts.{Fields}
 use Rattle.circle_words.specs.Values.{AreOff, AreOpened}
 use Rattle.circle_words.specs.Requests.{AreValuesOf, IsOpenable, lists_of, log_of}

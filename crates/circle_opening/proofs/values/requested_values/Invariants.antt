@@ -1,6 +1,6 @@
 use Rattle.std.proofs.Common.{take, All}
 use Rattle.std.specs.List.{AllZip}
-use Rattle.circle_matrix.specs.Pcs.{openings}
+use Rattle.circle_commit.specs.Pcs.{openings}
 use Rattle.circle_relation.specs.Accepts.{Fields}
 use Rattle.circle_words.specs.Values.{AreWeightsOf}
 use Rattle.circle_words.specs.Requests.{AreAnswers}

@@ -1,5 +1,5 @@
 use Rattle.std.proofs.Common.{◌∙◌, ap, sym, length}
-use Rattle.circle_matrix.specs.RowMajorMatrix.{length-rows}
+use Rattle.circle_commit.specs.RowMajorMatrix.{length-rows}
 use Rattle.circle_passes.proofs.timing.fastest_transform.Goals as goal
 
 -- a copy has the rows of the matrix

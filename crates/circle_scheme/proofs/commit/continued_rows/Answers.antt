@@ -1,7 +1,7 @@
 use Rattle.std.proofs.Common.{◌≡◌, ◌+◌, ◌*◌, ◌%◌, ◌^◌, ◌≤◌, length, take, ◌∙◌, sym, ap, subst, arith}
 use Rattle.std.proofs.lemmas.Result.{IfOk-weaker}
-use Rattle.circle_matrix.specs.RowMajorMatrix.{rows, width_of, height_of, length-rows}
-use Rattle.circle_matrix.specs.RowMajorMatrixView.{rows as view_rows, width_of as view_width}
+use Rattle.circle_commit.specs.RowMajorMatrix.{rows, width_of, height_of, length-rows}
+use Rattle.circle_commit.specs.RowMajorMatrixView.{rows as view_rows, width_of as view_width}
 use Rattle.circle_domain.specs.Domain.{log_size, shift_of}
 use Rattle.circle_domain.specs.Order.{IsGenuine}
 use Rattle.circle_domain.specs.Ordering.{other_order}

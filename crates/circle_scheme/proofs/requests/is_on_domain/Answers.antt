@@ -1,5 +1,5 @@
 use Rattle.std.proofs.Common.{sym, ◌∙◌, subst, arith}
-use Rattle.circle_matrix.specs.RowMajorMatrix.{height_of}
+use Rattle.circle_commit.specs.RowMajorMatrix.{height_of}
 use Rattle.circle_words.specs.Requests.{log_of}
 use Rattle.circle_relation.specs.Accepts.{Fields}
 use Rattle.circle_words.specs.Values.{AreOff}

@@ -3,7 +3,7 @@ use Rattle.std.proofs.Common.{◌≡◌, ℕ, List, ◌+◌, ◌<◌, ◌≤◌,
 use Rattle.std.proofs.lemmas.List.{map-append, take_all}
 use Rattle.circle_transcript.specs.Draw.{after_rounds, fold_challenges, rounds_pass}
 use Rattle.circle_transcript.specs.Transcript.{numbers}
-use Rattle.circle_matrix.specs.declared.params.PowPhase.TheVariants.{CommitPhase}
+use Rattle.circle_commit.specs.declared.params.PowPhase.TheVariants.{CommitPhase}
 use Rattle.circle_transcript.specs.declared.failure.CircleTranscriptFailure.TheVariants.{PowWitness, Memory}
 use Rattle.circle_transcript.proofs.Playing.{handed_on}
 use Rattle.circle_transcript.proofs.Runs.{one_more, misses_more, misses_all, zip_more, zip_split, rounds_all, next_round, rounds_none}

@@ -1,6 +1,6 @@
 use Rattle.std.specs.Prelude.{◌⊎◌, Ok, Err, All, IfErr}
 use Rattle.std.proofs.Common.{◌≡◌, ◌<◌, ◌≤◌, ◌^◌, ◌++◌, List, [], length, refl, sym, ap, ◌∙◌, subst, inl, inr}
-use Rattle.circle_matrix.specs.declared.params.PowPhase.TheVariants.{Batch, CommitPhase, Query}
+use Rattle.circle_commit.specs.declared.params.PowPhase.TheVariants.{Batch, CommitPhase, Query}
 use Rattle.std.specs.Borrow.{Bor}
 use Rattle.circle_point.specs.declared.point.Point.{Point}
 use Rattle.circle_transcript.specs.declared.run.CircleMessages.{CircleMessages}

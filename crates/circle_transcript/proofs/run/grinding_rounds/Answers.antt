@@ -5,7 +5,7 @@ use Rattle.std.proofs.lemmas.List.Elements.{All-from_recursion}
 use Rattle.circle_transcript.specs.Draw.{after_rounds, fold_challenges, rounds_pass}
 use Rattle.circle_transcript.specs.Runs.{HasStuckRound}
 use Rattle.circle_transcript.specs.Transcript.{numbers}
-use Rattle.circle_matrix.specs.declared.params.PowPhase.TheVariants.{CommitPhase}
+use Rattle.circle_commit.specs.declared.params.PowPhase.TheVariants.{CommitPhase}
 use Rattle.circle_transcript.specs.declared.failure.CircleTranscriptFailure.TheVariants.{NoWitness, Memory}
 use Rattle.circle_transcript.proofs.Playing.{handed_on, zeros_pushed, unwrap_none}
 use Rattle.circle_transcript.proofs.Runs.{one_more, stuck_here, zip_pushed, rounds_all, next_round, rounds_none}

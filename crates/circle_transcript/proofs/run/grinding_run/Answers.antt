@@ -1,6 +1,6 @@
 use Rattle.std.specs.Prelude.{◌⊎◌, Ok, Err, All, unwrap_or}
 use Rattle.std.proofs.Common.{◌≡◌, ◌<◌, ◌≤◌, ◌^◌, ◌++◌, [], length, map, refl, sym, ap, ◌∙◌, subst, inl, inr}
-use Rattle.circle_matrix.specs.declared.params.PowPhase.TheVariants.{Batch, CommitPhase, Query}
+use Rattle.circle_commit.specs.declared.params.PowPhase.TheVariants.{Batch, CommitPhase, Query}
 use Rattle.circle_field.specs.Field.{of_nat}
 use Rattle.circle_challenger.specs.Moves.{RunMoves, run_moves, after_element}
 use Rattle.circle_transcript.specs.declared.failure.CircleTranscriptFailure.TheVariants.{Memory}

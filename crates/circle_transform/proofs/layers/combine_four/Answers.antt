@@ -1,5 +1,5 @@
 use Rattle.std.proofs.Common.{◌≡◌, ◌<◌, sym, ◌∙◌, ap, refl, arith, length, slice_index_or}
-use Rattle.circle_matrix.proofs.Written.{written-all}
+use Rattle.circle_commit.proofs.Written.{written-all}
 use Rattle.circle_transform.proofs.BlockFour.{unwritten, combined, length-combined, combined-more}
 use Rattle.circle_transform.proofs.layers.combine_four.Goals as goal
 

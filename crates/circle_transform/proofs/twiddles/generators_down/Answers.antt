@@ -3,7 +3,7 @@ use Rattle.std.specs.List.{range_with_len}
 use Rattle.std.proofs.lemmas.List.{map-append}
 use Rattle.circle_field.specs.Circle.{plus}
 use Rattle.circle_point.specs.Point.{coordinates}
-use Rattle.circle_matrix.proofs.Written.{range-more}
+use Rattle.circle_commit.proofs.Written.{range-more}
 use Rattle.circle_transform.proofs.twiddles.generators_down.Goals as goal
 
 pub loop-init : goal.loop-init

@@ -2,7 +2,7 @@ use Rattle.std.proofs.Common.{◌≡◌, ◌≢◌, ℕ, ◌+◌, ◌++◌, [], 
 use Rattle.std.specs.List.{range_with_len}
 use Rattle.std.proofs.lemmas.List.{map-append}
 use Rattle.std.proofs.lemmas.List.Elements.{All-from_recursion}
-use Rattle.circle_matrix.proofs.Written.{range-more}
+use Rattle.circle_commit.proofs.Written.{range-more}
 use Rattle.circle_domain.specs.Domain.{log_size, shift_of}
 use Rattle.circle_domain.specs.Layers.{layer_factors}
 use Rattle.circle_domain.proofs.LayerFactors.{layer_factors-nonzero}

@@ -3,8 +3,8 @@ use Rattle.std.specs.List.{range_with_len, flat_map}
 use Rattle.std.specs.Prelude.{slice_index_or, vec_len}
 use Rattle.std.proofs.lemmas.List.{get_or-map, length-map}
 use Rattle.std.proofs.lemmas.List.FromFn.{fill_by_all}
-use Rattle.circle_matrix.specs.Matrix.{rows_from}
-use Rattle.circle_matrix.specs.FlatRows.{flat-more, whole_rows, stored_rows}
+use Rattle.circle_commit.specs.Matrix.{rows_from}
+use Rattle.circle_commit.specs.FlatRows.{flat-more, whole_rows, stored_rows}
 use Rattle.circle_words.proofs.combined.coefficient_rows.Goals as goal
 
 pub loop-entry-preserved : goal.loop-entry-preserved

@@ -1,5 +1,5 @@
 use Rattle.std.proofs.Common.{◌≡◌, map, take}
-use Rattle.circle_matrix.specs.DotProduct.{dot}
+use Rattle.circle_commit.specs.DotProduct.{dot}
 use Rattle.circle_words.proofs.combined.combined_each.Given as goal
 
 abbrev pub invariant-loop-r : goal.invariant-loop-r

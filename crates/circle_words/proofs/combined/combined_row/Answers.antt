@@ -1,6 +1,6 @@
 use Rattle.std.proofs.Common.{◌≡◌, ◌<◌, ◌∙◌, sym, ap, length, map, slice_index_or, arith}
 use Rattle.std.proofs.lemmas.List.{length-map, get_or-map}
-use Rattle.circle_matrix.proofs.ColumnSums.{dot-more}
+use Rattle.circle_commit.proofs.ColumnSums.{dot-more}
 use Rattle.circle_folding.proofs.Weighted.{dot-take}
 use Rattle.circle_words.proofs.combined.combined_row.Goals as goal
 

@@ -1,8 +1,8 @@
 use Rattle.std.proofs.Common.{◌≡◌, ◌≤◌, ◌-◌, ◌*◌, ◌%◌, ◌^◌, ◌∙◌, sym, ap, arith, length, take}
 use Rattle.std.proofs.lemmas.List.{length-map, length-take-le}
 use Rattle.std.proofs.lemmas.List.Elements.{All-take}
-use Rattle.circle_matrix.specs.RowMajorMatrix.{rows, width_of, length-rows, rows-width}
-use Rattle.circle_matrix.specs.RowMajorMatrixView.{rows as view_rows}
+use Rattle.circle_commit.specs.RowMajorMatrix.{rows, width_of, length-rows, rows-width}
+use Rattle.circle_commit.specs.RowMajorMatrixView.{rows as view_rows}
 use Rattle.circle_domain.proofs.Powers.{pow_within}
 use Rattle.circle_relation.specs.Accepts.{Fields}
 use Rattle.circle_words.specs.Lifts.{lift_width, combined, extended_word}

@@ -1,6 +1,6 @@
 use Rattle.std.proofs.Common.{◌≡◌, ◌-◌, ◌+◌, ◌^◌, ◌∙◌, sym, ap, subst, arith, length, map}
 use Rattle.std.proofs.lemmas.List.{length-map}
-use Rattle.circle_matrix.specs.RowMajorMatrix.{rows, width_of, length-rows}
+use Rattle.circle_commit.specs.RowMajorMatrix.{rows, width_of, length-rows}
 use Rattle.circle_domain.specs.Domain.{log_size, shift_of}
 use Rattle.circle_domain.specs.Order.{IsGenuine, cfft_order}
 use Rattle.circle_domain.specs.Values.{HasValues, values_at}

@@ -1,7 +1,7 @@
 use Rattle.std.proofs.Common.{◌≡◌, ◌<◌, ◌++◌, ◌∙◌, [], ◌∷◌, sym, ap, arith, length, map, take, slice_index_or}
 use Rattle.std.proofs.lemmas.List.{take_all, take_more, map-append}
 use Rattle.std.proofs.lemmas.Option.{get_or_from_slice_get}
-use Rattle.circle_matrix.specs.RowMajorMatrix.{rows, length-rows, rows-width}
+use Rattle.circle_commit.specs.RowMajorMatrix.{rows, length-rows, rows-width}
 use Rattle.circle_words.proofs.combined.word_of_rows.Goals as goal
 
 pub from_coefficients-requires : goal.from_coefficients-requires

@@ -1,5 +1,5 @@
 use Rattle.std.proofs.Common.{◌≡◌, map, take}
-use Rattle.circle_matrix.specs.RowMajorMatrix.{rows}
+use Rattle.circle_commit.specs.RowMajorMatrix.{rows}
 use Rattle.circle_words.proofs.combined.word_of_rows.Given as goal
 
 abbrev pub invariant-loop-r : goal.invariant-loop-r

@@ -1,8 +1,8 @@
 use Rattle.std.proofs.Common.{◌≡◌, [], ◌∷◌, ◌-◌, ◌^◌, ◌∙◌, ap, subst, arith, length, map, take, slice_index_or}
 use Rattle.std.proofs.lemmas.List.{take_all, map-append, take_more, length-append, get_or_default}
 use Rattle.std.proofs.lemmas.List.Elements.{All-same, All-push}
-use Rattle.circle_matrix.specs.RowMajorMatrix.{rows, width_of, height_of}
-use Rattle.circle_matrix.specs.declared.matrix.RowMajorMatrix.{RowMajorMatrix}
+use Rattle.circle_commit.specs.RowMajorMatrix.{rows, width_of, height_of}
+use Rattle.circle_commit.specs.declared.matrix.RowMajorMatrix.{RowMajorMatrix}
 use Rattle.circle_domain.proofs.Pointwise.{map_pushed}
 use Rattle.circle_relation.specs.Accepts.{Fields}
 use Rattle.circle_words.specs.Words.{committed_of, lambda, pairs_of, corrected_word, HaveHeights}

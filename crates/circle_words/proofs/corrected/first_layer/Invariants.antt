@@ -1,5 +1,5 @@
 use Rattle.std.proofs.Common.{◌≡◌, map, take}
-use Rattle.circle_matrix.specs.RowMajorMatrix.{rows}
+use Rattle.circle_commit.specs.RowMajorMatrix.{rows}
 use Rattle.circle_folding.specs.Quotient.{ArePowers}
 use Rattle.circle_relation.specs.Accepts.{Fields}
 use Rattle.circle_words.specs.Words.{committed_of, lambda, pairs_of, corrected_word, HaveHeights}

@@ -1,9 +1,9 @@
 use Rattle.std.proofs.Common.{◌≡◌, ◌<◌, ◌++◌, [], ◌∷◌, ◌-◌, ◌^◌, ◌∙◌, List, ℕ, sym, ap, subst, arith, length, map, take, slice_index_or}
 use Rattle.std.proofs.lemmas.List.{take_all, map-append, take_more, length-map, get_or-map}
-use Rattle.circle_matrix.specs.RowMajorMatrix.{rows, width_of, height_of}
-use Rattle.circle_matrix.specs.declared.matrix.RowMajorMatrix.{RowMajorMatrix}
-use Rattle.circle_matrix.proofs.Written.{length-pairwise, pairwise-read}
-use Rattle.circle_matrix.specs.DotProduct.{pairwise}
+use Rattle.circle_commit.specs.RowMajorMatrix.{rows, width_of, height_of}
+use Rattle.circle_commit.specs.declared.matrix.RowMajorMatrix.{RowMajorMatrix}
+use Rattle.circle_commit.proofs.Written.{length-pairwise, pairwise-read}
+use Rattle.circle_commit.specs.DotProduct.{pairwise}
 use Rattle.circle_folding.specs.Fold.{y_folds}
 use Rattle.circle_words.proofs.corrected.fold_corrected.Goals as goal
 

@@ -1,6 +1,6 @@
 use Rattle.std.proofs.Common.{◌≡◌, ◌-◌, map, take}
-use Rattle.circle_matrix.specs.RowMajorMatrix.{rows}
-use Rattle.circle_matrix.specs.DotProduct.{pairwise}
+use Rattle.circle_commit.specs.RowMajorMatrix.{rows}
+use Rattle.circle_commit.specs.DotProduct.{pairwise}
 use Rattle.circle_folding.specs.Fold.{y_folds}
 use Rattle.circle_words.proofs.corrected.fold_corrected.Given as goal
 

@@ -1,7 +1,7 @@
 use Rattle.std.proofs.Common.{◌≡◌, ◌/◌, ◌∙◌, sym, ap, arith, length, map}
 use Rattle.circle_field.proofs.Inverses.{take-whole}
-use Rattle.circle_matrix.specs.RowFacts.{length-rows_from}
-use Rattle.circle_matrix.specs.RowMajorMatrix.{length-rows}
+use Rattle.circle_commit.specs.RowFacts.{length-rows_from}
+use Rattle.circle_commit.specs.RowMajorMatrix.{length-rows}
 use Rattle.circle_folding.specs.Lambda.{lambda_of, remainder_of}
 use Rattle.circle_words.specs.Words.{committed_of, lambda, corrected_word}
 use Rattle.circle_relation.specs.Accepts.{Fields}

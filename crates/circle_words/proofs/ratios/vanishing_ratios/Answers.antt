@@ -2,7 +2,7 @@ use Rattle.std.proofs.Common.{◌≡◌, ◌≢◌, ◌∙◌, sym, ap, subst, l
 use Rattle.std.proofs.lemmas.List.{length-map}
 use Rattle.circle_field.proofs.Inverses.{take-whole}
 use Rattle.circle_point.specs.Point.{coordinates}
-use Rattle.circle_matrix.specs.DotProduct.{pairwise}
+use Rattle.circle_commit.specs.DotProduct.{pairwise}
 use Rattle.circle_words.proofs.DomainPoints.{points-on}
 use Rattle.circle_words.proofs.Quotients.{reals-nonzero, ratios-made}
 use Rattle.circle_words.proofs.ratios.vanishing_ratios.Goals as goal

@@ -7,12 +7,12 @@ use Rattle.std.proofs.lemmas.List.FromFn.{get_or-map-range_with_len}
 use Rattle.circle_field.specs.Field.{nth_power}
 use Rattle.circle_field.specs.Circle.{origin, lifted, IsOnCircle}
 use Rattle.circle_field.proofs.Inverses.{some_unless}
-use Rattle.circle_matrix.specs.RowMajorMatrix.{rows, width_of, length-rows, rows-width}
+use Rattle.circle_commit.specs.RowMajorMatrix.{rows, width_of, length-rows, rows-width}
 use Rattle.circle_domain.specs.Clear.{IsClearOf}
-use Rattle.circle_matrix.specs.DotProduct.{dot}
+use Rattle.circle_commit.specs.DotProduct.{dot}
 use Rattle.circle_domain.specs.Order.{natural_order}
 use Rattle.circle_domain.proofs.CosetOrder.{length-cfft_order}
-use Rattle.circle_matrix.proofs.Written.{length-pairwise, pairwise-read}
+use Rattle.circle_commit.proofs.Written.{length-pairwise, pairwise-read}
 use Rattle.circle_folding.specs.Queries.{IsApart, with_multiples, claim_quotients}
 use Rattle.circle_relation.specs.Accepts.{Fields}
 use Rattle.circle_relation.specs.Sums.{Adds}

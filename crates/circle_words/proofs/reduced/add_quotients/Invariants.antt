@@ -1,5 +1,5 @@
 use Rattle.std.proofs.Common.{◌≡◌}
-use Rattle.circle_matrix.proofs.Written.{written}
+use Rattle.circle_commit.proofs.Written.{written}
 use Rattle.circle_words.specs.Ratios.{with_quotients}
 use Rattle.circle_words.proofs.reduced.add_quotients.Given as goal
 

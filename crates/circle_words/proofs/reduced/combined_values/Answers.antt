@@ -1,5 +1,5 @@
 use Rattle.std.proofs.Common.{◌≡◌, ◌<◌, ◌∙◌, sym, ap, length, arith}
-use Rattle.circle_matrix.proofs.ColumnSums.{dot-more}
+use Rattle.circle_commit.proofs.ColumnSums.{dot-more}
 use Rattle.circle_folding.proofs.Weighted.{dot-take}
 use Rattle.circle_words.proofs.reduced.combined_values.Goals as goal
 

@@ -1,5 +1,5 @@
 use Rattle.std.proofs.Common.{◌≡◌, take}
-use Rattle.circle_matrix.specs.DotProduct.{dot}
+use Rattle.circle_commit.specs.DotProduct.{dot}
 use Rattle.circle_words.proofs.reduced.combined_values.Given as goal
 
 abbrev pub invariant-loop-j : goal.invariant-loop-j

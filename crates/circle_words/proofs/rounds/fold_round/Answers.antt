@@ -4,9 +4,9 @@ use Rattle.std.proofs.lemmas.Bool.{eq-eqb}
 use Rattle.std.proofs.lemmas.List.{length-map, get_or-map, get_or_default}
 use Rattle.std.proofs.lemmas.List.Folds.{list_any-from_Any}
 use Rattle.circle_field.proofs.Inverses.{take-whole}
-use Rattle.circle_matrix.specs.RowMajorMatrix.{rows, length-rows}
-use Rattle.circle_matrix.proofs.Written.{length-pairwise}
-use Rattle.circle_matrix.specs.DotProduct.{pairwise}
+use Rattle.circle_commit.specs.RowMajorMatrix.{rows, length-rows}
+use Rattle.circle_commit.proofs.Written.{length-pairwise}
+use Rattle.circle_commit.specs.DotProduct.{pairwise}
 use Rattle.circle_folding.specs.Fold.{fold_x_twiddles, fold_pair, x_folds}
 use Rattle.circle_folding.proofs.Twiddles.{length-fold_x_twiddles}
 use Rattle.circle_words.proofs.rounds.fold_round.Goals as goal

@@ -2,8 +2,8 @@ use Rattle.std.proofs.Common.{◌≡◌, ◌≤◌, ◌-◌, ◌+◌, ◌*◌, �
 use Rattle.std.specs.Borrow.{Bor}
 use Rattle.std.proofs.lemmas.List.{length-take-le}
 use Rattle.circle_field.specs.Circle.{Coordinates}
-use Rattle.circle_matrix.specs.RowMajorMatrix.{rows, length-rows}
-use Rattle.circle_matrix.specs.RowMajorMatrixView.{rows as view_rows, length-rows as length-view_rows}
+use Rattle.circle_commit.specs.RowMajorMatrix.{rows, length-rows}
+use Rattle.circle_commit.specs.RowMajorMatrixView.{rows as view_rows, length-rows as length-view_rows}
 use Rattle.circle_domain.specs.Domain.{log_size, shift_of}
 use Rattle.circle_domain.specs.Lagrange.{AreLagrangeWeights}
 use Rattle.circle_domain.specs.Order.{IsGenuine, cfft_order}

@@ -1,5 +1,5 @@
 use Rattle.std.proofs.Common.{◌≡◌, take}
-use Rattle.circle_matrix.specs.Mmcs.{rows_at_each, opened_rows}
+use Rattle.circle_commit.specs.Mmcs.{rows_at_each, opened_rows}
 use Rattle.circle_fixtures.specs.MatrixList.{matrices_of}
 use Rattle.circle_fixtures.proofs.matrix_list.MatrixList.rows_at_each.Given as goal
 

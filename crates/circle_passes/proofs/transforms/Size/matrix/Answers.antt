@@ -1,7 +1,7 @@
 use Rattle.std.proofs.Common.{◌≡◌, ◌*◌, ◌%◌, ◌/◌, ◌^◌, length, vec_len, ◌∙◌, ap, sym, arith}
 use Rattle.std.proofs.Math.Nat.{mul-mod_left, mul-div_cancel}
-use Rattle.circle_matrix.specs.RowFacts.{length-rows_from}
-use Rattle.circle_matrix.specs.RowMajorMatrix.{length-rows}
+use Rattle.circle_commit.specs.RowFacts.{length-rows_from}
+use Rattle.circle_commit.specs.RowMajorMatrix.{length-rows}
 use Rattle.circle_passes.proofs.transforms.Size.matrix.Goals as goal
 
 pub new-requires-clause-whole : goal.new-requires-clause-whole
