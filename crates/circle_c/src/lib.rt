@@ -40,8 +40,8 @@ use circle_commands::prove::Input as Statement;
 use circle_commands::verify::Input as Claims;
 use circle_commands::{Failure, shape, values};
 use circle_json::JsonForm;
-use circle_opening::OpeningOver;
 use circle_presets::{Challenge, ChallengeMmcs, Challenger, Val, ValMmcs};
+use circle_prover::OpeningOver;
 pub use params::CircleParams;
 use std::alloc::Global;
 

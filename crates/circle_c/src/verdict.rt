@@ -13,8 +13,8 @@ use circle_commands::Failure;
 use circle_commands::verify::{self, Input as Claims, Refusal};
 use circle_commit::FriError;
 use circle_json::JsonForm;
-use circle_opening::OpeningOver;
 use circle_presets::{Challenge, ChallengeMmcs, Challenger, Val, ValMmcs};
+use circle_prover::OpeningOver;
 use std::alloc::Global;
 
 /// Verifies the proof of the claims that a text has.

@@ -30,15 +30,15 @@ use Rattle.circle_commit.specs.declared.pcs.CommitmentOpening.{CommitmentOpening
 use Rattle.circle_commit.specs.declared.pcs.OpeningRequest.{OpeningRequest}
 use Rattle.circle_merkle.specs.ProverData.{matrices_of}
 use Rattle.circle_merkle.specs.declared.mmcs.ShaMmcs.{ShaMmcs}
-use Rattle.circle_opening.specs.Opening.{IsOpening}
-use Rattle.circle_words.specs.Requests.{AreAnswers, AreFit, AreRequests, AreValuesOf, IsFit, IsOpenable, batch_committed, claimed, committed as committed_at, lists_of, log_of}
-use Rattle.circle_opening.specs.Schemes.{Schemes}
-use Rattle.circle_words.proofs.Logs.{log_of-power}
+use Rattle.circle_prover.specs.Opening.{IsOpening}
+use Rattle.circle_codewords.specs.Requests.{AreAnswers, AreFit, AreRequests, AreValuesOf, IsFit, IsOpenable, batch_committed, claimed, committed as committed_at, lists_of, log_of}
+use Rattle.circle_prover.specs.Schemes.{Schemes}
+use Rattle.circle_codewords.proofs.Logs.{log_of-power}
 use Rattle.circle_relation.specs.Accepts.{AcceptsFrom, Fields}
 use Rattle.circle_relation.specs.RunOf.{proof_of}
 use Rattle.circle_relation.specs.Statement.{BatchClaim, MatrixClaim, all_matrices}
-use Rattle.circle_words.specs.Ratios.{points_of_height}
-use Rattle.circle_words.specs.Words.{claim_of}
+use Rattle.circle_codewords.specs.Ratios.{points_of_height}
+use Rattle.circle_codewords.specs.Words.{claim_of}
 use Rattle.circle_commands.specs.Proved.{AreCommitted, HavePoints, IsCommitted, IsExtended, IsRequested, batch_claimed, commitments_taken, matrix_claimed, points_of}
 use Rattle.circle_commands.specs.Rows.{lists}
 use Rattle.circle_commands.specs.Traces.{HasFittingRows}

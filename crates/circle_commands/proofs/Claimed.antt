@@ -9,10 +9,10 @@ use Rattle.circle_commit.specs.declared.pcs.PointOpening.{PointOpening}
 use Rattle.circle_commit.specs.Claims.{Told, batch_told as all_told, matrix_told as sized, point_told}
 use Rattle.circle_commit.specs.Claims.{matrix_claimed as sized_claim, batch_claimed as sized_claims}
 use Rattle.circle_commit.specs.declared.claims.CommittedBatch.{CommittedBatch}
-use Rattle.circle_words.specs.Requests.{log_of}
+use Rattle.circle_codewords.specs.Requests.{log_of}
 use Rattle.circle_relation.specs.Statement.{BatchClaim, MatrixClaim, PointClaim}
 use Rattle.circle_relation.specs.StatementOf.{point_claim}
-use Rattle.circle_words.specs.Words.{claim_of}
+use Rattle.circle_codewords.specs.Words.{claim_of}
 use Rattle.circle_commands.specs.Proved.{batch_claimed, matrix_claimed, known_of, known_told, logs_of, points_of}
 use Rattle.circle_commands.specs.Verified.{batch_told, batches_told, matrices_told}
 use Rattle.circle_commands.specs.declared.prove.Committed.{Committed}

@@ -11,9 +11,9 @@ use Rattle.circle_commit.specs.declared.pcs.OpeningRequest.{OpeningRequest}
 use Rattle.circle_field.specs.declared.cubic.Cubic.{Cubic}
 use Rattle.circle_field.specs.declared.mersenne31.Mersenne31.{Mersenne31}
 use Rattle.circle_merkle.specs.declared.mmcs.ShaMmcs.{ShaMmcs}
-use Rattle.circle_opening.specs.Opening.{IsOpening}
-use Rattle.circle_words.specs.Requests.{AreAnswers}
-use Rattle.circle_opening.specs.Schemes.{Schemes}
+use Rattle.circle_prover.specs.Opening.{IsOpening}
+use Rattle.circle_codewords.specs.Requests.{AreAnswers}
+use Rattle.circle_prover.specs.Schemes.{Schemes}
 use Rattle.circle_relation.specs.RunOf.{proof_of}
 use Rattle.circle_commands.specs.Proved.{IsCommitted, IsProved, IsRequested, batch_claimed, commitments_taken}
 use Rattle.circle_commands.specs.Verified.{batches_told}

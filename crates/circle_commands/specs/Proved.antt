@@ -20,13 +20,13 @@ use Rattle.circle_field.specs.declared.cubic.Cubic.{Cubic}
 use Rattle.circle_field.specs.declared.mersenne31.Mersenne31.{Mersenne31}
 use Rattle.circle_merkle.specs.ProverData.{matrices_of}
 use Rattle.circle_merkle.specs.declared.mmcs.ShaMmcs.{ShaMmcs}
-use Rattle.circle_opening.specs.Opening.{IsOpening}
-use Rattle.circle_opening.specs.Schemes.{Schemes}
-use Rattle.circle_words.specs.Requests.{AreAnswers, lists_of, log_of}
+use Rattle.circle_prover.specs.Opening.{IsOpening}
+use Rattle.circle_prover.specs.Schemes.{Schemes}
+use Rattle.circle_codewords.specs.Requests.{AreAnswers, lists_of, log_of}
 use Rattle.circle_commit.specs.declared.claims.CommittedBatch.{CommittedBatch}
 use Rattle.circle_relation.specs.RunOf.{proof_of}
 use Rattle.circle_relation.specs.Statement.{BatchClaim, MatrixClaim}
-use Rattle.circle_words.specs.Words.{claim_of}
+use Rattle.circle_codewords.specs.Words.{claim_of}
 use Rattle.circle_scheme.specs.Committing.{IsExtensionOf}
 use Rattle.circle_commands.specs.Rows.{lists}
 use Rattle.circle_commands.specs.Traces.{HasFittingRows}

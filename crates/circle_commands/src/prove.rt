@@ -8,7 +8,7 @@ ghost use Rattle.circle_commit.specs.DotProduct.{pairwise};
 ghost use Rattle.circle_commit.specs.Matrix.{IsPowerOfTwo};
 ghost use Rattle.circle_commit.specs.Pcs.{openings};
 ghost use Rattle.circle_json.specs.ObjectForm.{object_form};
-ghost use Rattle.circle_words.specs.Requests.{lists_of};
+ghost use Rattle.circle_codewords.specs.Requests.{lists_of};
 ghost use Rattle.circle_relation.specs.declared.error.ProverError.TheVariants.{Memory};
 ghost use Rattle.circle_commands.specs.Prove.{input_fields, trace_fields};
 ghost use Rattle.circle_commands.specs.Proved.{AreCommitted, ArePlaced, HavePoints, IsCommitted};
@@ -31,10 +31,10 @@ use circle_commit::{
 };
 use circle_field::{Cubic, Mersenne31};
 use circle_json::{JsonError, JsonForm, has_keys, member};
-use circle_opening::OpeningOver;
 use circle_presets::{
     Challenge, ChallengeMmcs, Challenger, ClaimOn, ProverData, Request, Scheme, Val, ValMmcs,
 };
+use circle_prover::OpeningOver;
 use p3_circle::{CircleDomain, CommittedBatch, ProverError, claims_of};
 use serde_json::{Value, json};
 use std::alloc::{AllocError, Global};

@@ -14,10 +14,10 @@ use crate::json;
 use circle_challenger::CanObserve;
 use circle_commit::{CommitmentOpening, FriParameters, MatrixOpening};
 use circle_json::{JsonError, JsonForm, has_keys, member};
-use circle_opening::OpeningOver;
 use circle_presets::{
     Challenge, ChallengeMmcs, Challenger, Claim, ClaimOn, Proof, Scheme, Val, ValMmcs,
 };
+use circle_prover::OpeningOver;
 use p3_circle::{CircleDomain, Neutral, Pcs, Point};
 use serde_json::{Value, json};
 use std::alloc::{AllocError, Global};

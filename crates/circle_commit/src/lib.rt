@@ -15,9 +15,9 @@
 //! - A `PeriodicLdeTable` returns the entry of its row i modulo its height (`get`).
 //! - `Pcs` commits to polynomials and opens them, `UnivariateStarkPcs` has what a STARK needs
 //!   besides. What they promise speaks of lists and of the challenger's states alone, so that a
-//!   caller over any scheme can rely on it: Ok of a verifier is one relation of the claims, the proof
-//!   and the states before and after, and a refusal that isn't of memory denies it for every state
-//!   after.
+//!   caller over any scheme can rely on it: Ok of a verifier is one relation of the claims, the
+//!   proof and the states before and after, and a refusal that isn't of memory denies it for every
+//!   state after.
 //! - `claims_of` makes the claims of `verify` of what `open` returned. `round_trip` commits to
 //!   batches, opens them at points and verifies, over any scheme: an honest run is accepted, and
 //!   any other returns the refusal of the call that refused.

@@ -13,17 +13,17 @@ use Rattle.circle_commit.specs.declared.params.FriParameters.{FriParameters}
 use Rattle.circle_commit.specs.declared.pcs.OpeningRequest.{OpeningRequest}
 use Rattle.circle_field.specs.Circle.{AreGenerators}
 use Rattle.circle_field.specs.Field.{FieldLaws, IsEmbedding}
-use Rattle.circle_opening.specs.Opening.{answered_claims, answered_matrices}
-use Rattle.circle_words.specs.Requests.{AreFit, AreRequests, batch_committed, claimed, log_of, points_of}
+use Rattle.circle_prover.specs.Opening.{answered_claims, answered_matrices}
+use Rattle.circle_codewords.specs.Requests.{AreFit, AreRequests, batch_committed, claimed, log_of, points_of}
 use Rattle.circle_relation.specs.Taken.{drawn_by, shape_by, taken_by}
-use Rattle.circle_opening.specs.Words.{top_of}
-use Rattle.circle_opening.proofs.Answered.{all-some, fit-known, heights-known}
-use Rattle.circle_opening.proofs.Tops.{top-known}
+use Rattle.circle_prover.specs.Words.{top_of}
+use Rattle.circle_prover.proofs.Answered.{all-some, fit-known, heights-known}
+use Rattle.circle_prover.proofs.Tops.{top-known}
 use Rattle.circle_relation.specs.Accepts.{Authenticates, Fields, Run}
 use Rattle.circle_relation.specs.Statement.{BatchClaim, MatrixClaim, all_matrices, log_max_height}
 use Rattle.circle_transcript.specs.Draw.{draw, queried, seeded}
 use Rattle.circle_transcript.specs.Numbers.{numbers_of}
-use Rattle.circle_words.specs.Words.{Committed}
+use Rattle.circle_codewords.specs.Words.{Committed}
 use Rattle.circle_completeness.specs.Accepted.{AcceptsOpenings}
 use Rattle.circle_completeness.specs.Claimed.{AreClaimed}
 use Rattle.circle_completeness.proofs.Drawn.{drawn-is, numbers-below, parts, same-matrices, same-shape, same-taken}

@@ -26,14 +26,14 @@ use Rattle.circle_relation.specs.Sums.{reduced}
 use Rattle.circle_relation.proofs.Shown.{moved}
 use Rattle.circle_relation.specs.Accepts.{Authenticates, Fields, FirstLayerAuthenticates, HasSiblings, Run, at_queries, claimed_heights, claims_of, first_pair, first_value, pairs, place_of, point_among, top}
 use Rattle.circle_relation.proofs.AtQueries.{itself-placed, same-placed, zip-placed}
-use Rattle.circle_words.specs.Ratios.{points_of_height}
-use Rattle.circle_words.specs.Words.{Committed, claims_at, corrected_word, lambda}
-use Rattle.circle_opening.specs.Opening.{HoldsWords}
-use Rattle.circle_words.specs.Openings.{places_of, sibling_in, siblings_at}
-use Rattle.circle_opening.specs.Words.{heights_of, layer_of, top_of}
-use Rattle.circle_opening.proofs.Growing.{length-pairs_of}
-use Rattle.circle_opening.proofs.Held.{first-greatest}
-use Rattle.circle_opening.proofs.Tops.{has_height, height-known, matrices-low, pairwise-map}
+use Rattle.circle_codewords.specs.Ratios.{points_of_height}
+use Rattle.circle_codewords.specs.Words.{Committed, claims_at, corrected_word, lambda}
+use Rattle.circle_prover.specs.Opening.{HoldsWords}
+use Rattle.circle_codewords.specs.Openings.{places_of, sibling_in, siblings_at}
+use Rattle.circle_prover.specs.Words.{heights_of, layer_of, top_of}
+use Rattle.circle_prover.proofs.Growing.{length-pairs_of}
+use Rattle.circle_prover.proofs.Held.{first-greatest}
+use Rattle.circle_prover.proofs.Tops.{has_height, height-known, matrices-low, pairwise-map}
 use Rattle.circle_completeness.specs.Over.{FoldsFirst, IsRunOver, ReadsRows}
 use Rattle.circle_completeness.proofs.FirstPlaces.{place-there}
 use Rattle.circle_completeness.proofs.FirstWords.{corrected-read, have-heights, length-corrected, rows-are, shapes-are}

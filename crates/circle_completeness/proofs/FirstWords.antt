@@ -18,8 +18,8 @@ use Rattle.circle_domain.proofs.Twiddles.{length-coset, map-map}
 use Rattle.circle_folding.specs.Lambda.{vanishing_values}
 use Rattle.circle_relation.specs.Sums.{reduced}
 use Rattle.circle_relation.specs.Accepts.{Fields}
-use Rattle.circle_words.specs.Ratios.{points_of_height}
-use Rattle.circle_words.specs.Words.{Committed, HaveHeights, claims_at, corrected_word, lambda, reduced_word}
+use Rattle.circle_codewords.specs.Ratios.{points_of_height}
+use Rattle.circle_codewords.specs.Words.{Committed, HaveHeights, claims_at, corrected_word, lambda, reduced_word}
 use Rattle.circle_completeness.proofs.FirstPlaces.{half-place}
 
 -- twice as many points with their opposites

@@ -26,9 +26,9 @@ use Rattle.circle_folding.proofs.Remainders.{only-split}
 use Rattle.circle_folding.proofs.Sides.{combination, x_value-combination}
 use Rattle.circle_relation.specs.Sums.{reduced}
 use Rattle.circle_relation.specs.Accepts.{Fields}
-use Rattle.circle_words.specs.Ratios.{points_of_height}
-use Rattle.circle_words.specs.Words.{Committed, claims_at, corrected_word, lambda, next_word, pairs_of, reduced_word}
-use Rattle.circle_opening.specs.Words.{word_at}
+use Rattle.circle_codewords.specs.Ratios.{points_of_height}
+use Rattle.circle_codewords.specs.Words.{Committed, claims_at, corrected_word, lambda, next_word, pairs_of, reduced_word}
+use Rattle.circle_prover.specs.Words.{word_at}
 use Rattle.circle_completeness.proofs.TrueWords.{pairwise-map}
 
 -- rows of so many entries, one after another

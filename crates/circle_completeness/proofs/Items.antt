@@ -15,11 +15,11 @@ use Rattle.circle_domain.proofs.Twiddles.{map-map}
 use Rattle.circle_domain.specs.Selectors.{IsFinite}
 use Rattle.circle_relation.specs.Accepts.{Fields}
 use Rattle.circle_relation.specs.Statement.{MatrixClaim, PointClaim, log_height, log_max_height}
-use Rattle.circle_words.specs.Values.{IsOffDomain}
-use Rattle.circle_words.specs.Words.{Committed, claim_of, claims_on}
-use Rattle.circle_words.specs.Requests.{AreHeights, AreValuesOf, IsOpenable, batch_committed, claimed, committed, log_of}
-use Rattle.circle_opening.proofs.Answered.{batch-heights}
-use Rattle.circle_opening.proofs.Held.{heights-listed}
+use Rattle.circle_codewords.specs.Values.{IsOffDomain}
+use Rattle.circle_codewords.specs.Words.{Committed, claim_of, claims_on}
+use Rattle.circle_codewords.specs.Requests.{AreHeights, AreValuesOf, IsOpenable, batch_committed, claimed, committed, log_of}
+use Rattle.circle_prover.proofs.Answered.{batch-heights}
+use Rattle.circle_prover.proofs.Held.{heights-listed}
 use Rattle.circle_completeness.proofs.ReadRows.{HasReadRows}
 use Rattle.circle_completeness.proofs.Lists.{greatest-power, if-same, row-below, row-place, zip-maps}
 

@@ -5,8 +5,8 @@ use Rattle.std.proofs.Math.Nat.{pow-suc}
 use Rattle.std.proofs.lemmas.List.{get_or-drop, get_or-take, length-drop, length-take-le}
 use Rattle.std.proofs.lemmas.Option.{get_or_from_slice_get}
 use Rattle.circle_folding.specs.Chain.{pair_of}
-use Rattle.circle_words.specs.Words.{pairs_of}
-use Rattle.circle_words.specs.Openings.{sibling_in}
+use Rattle.circle_codewords.specs.Words.{pairs_of}
+use Rattle.circle_codewords.specs.Openings.{sibling_in}
 use Rattle.circle_commit.specs.RowFacts.{rows_from-row}
 
 -- the row of a place, and its length

@@ -27,12 +27,12 @@ use Rattle.circle_relation.specs.Statement.{Opened}
 use Rattle.circle_relation.specs.Accepts.{Authenticates, Fields, Run, AreCanonical, ChainsEnd, HasRounds, HasSiblings, RoundAuthenticates, RoundsAuthenticate, at_queries, folded, is_claimed, joining, pairs, round_pair, round_value, rounds, sibling_in as sibling_of, top}
 use Rattle.circle_relation.proofs.AtQueries.{itself-placed, same-placed, zip-placed}
 use Rattle.circle_relation.proofs.Ends.{all-end}
-use Rattle.circle_words.specs.Words.{Committed, pairs_of}
-use Rattle.circle_opening.specs.Opening.{AreOpenedWords, HoldsWords, drawn_word}
-use Rattle.circle_words.specs.Openings.{places_of, sibling_in, siblings_at}
-use Rattle.circle_opening.specs.Words.{first_fold, heights_of, top_of}
-use Rattle.circle_opening.proofs.Growing.{length-pairs_of}
-use Rattle.circle_opening.proofs.Tops.{height-known, top-known}
+use Rattle.circle_codewords.specs.Words.{Committed, pairs_of}
+use Rattle.circle_prover.specs.Opening.{AreOpenedWords, HoldsWords, drawn_word}
+use Rattle.circle_codewords.specs.Openings.{places_of, sibling_in, siblings_at}
+use Rattle.circle_prover.specs.Words.{first_fold, heights_of, top_of}
+use Rattle.circle_prover.proofs.Growing.{length-pairs_of}
+use Rattle.circle_prover.proofs.Tops.{height-known, top-known}
 use Rattle.circle_completeness.specs.Over.{FoldsFirst, IsRunOver}
 use Rattle.circle_completeness.proofs.Pairs.{pair-back_power}
 use Rattle.circle_completeness.proofs.RoundLists.{among-kept, entry, in-first, in-second, numbered-read, one-row, only, same-where}

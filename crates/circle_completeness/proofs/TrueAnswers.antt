@@ -24,14 +24,14 @@ use Rattle.circle_domain.proofs.Blocks.{all-append}
 use Rattle.circle_domain.proofs.Stored.{column-values}
 use Rattle.circle_domain.proofs.Told.{values-tell}
 use Rattle.circle_relation.specs.Accepts.{Fields}
-use Rattle.circle_words.specs.Values.{OpensTo}
-use Rattle.circle_words.specs.Words.{claim_of}
-use Rattle.circle_words.proofs.Prefix.{first-genuine, off-apart}
-use Rattle.circle_opening.specs.Opening.{answered_matrices}
-use Rattle.circle_words.specs.Requests.{AreAnswers, AreFit, AreRequests, AreValuesOf, IsFit, IsOpenable, all_committed, batch_committed, committed, log_of, points_of}
-use Rattle.circle_opening.specs.Words.{top_of}
-use Rattle.circle_opening.proofs.Answered.{all-some, fit-known, heights-known}
-use Rattle.circle_opening.proofs.Tops.{top-known}
+use Rattle.circle_codewords.specs.Values.{OpensTo}
+use Rattle.circle_codewords.specs.Words.{claim_of}
+use Rattle.circle_codewords.proofs.Prefix.{first-genuine, off-apart}
+use Rattle.circle_prover.specs.Opening.{answered_matrices}
+use Rattle.circle_codewords.specs.Requests.{AreAnswers, AreFit, AreRequests, AreValuesOf, IsFit, IsOpenable, all_committed, batch_committed, committed, log_of, points_of}
+use Rattle.circle_prover.specs.Words.{top_of}
+use Rattle.circle_prover.proofs.Answered.{all-some, fit-known, heights-known}
+use Rattle.circle_prover.proofs.Tops.{top-known}
 use Rattle.circle_completeness.specs.Honest.{IsOfLowDegree, EndsLow, IsNeverTooHigh}
 use Rattle.circle_completeness.specs.LowDegree.{IsTrueClaim, IsTrue}
 use Rattle.circle_completeness.proofs.LastWords.{last-low}

@@ -21,10 +21,10 @@ use Rattle.circle_folding.specs.Spans.{Splits}
 use Rattle.circle_relation.specs.Sums.{reduced}
 use Rattle.circle_relation.specs.Accepts.{Fields}
 use Rattle.circle_relation.specs.Statement.{PointClaim}
-use Rattle.circle_words.specs.Ratios.{points_of_height}
-use Rattle.circle_words.specs.Words.{Committed, claims_on, claims_at, reduced_word}
-use Rattle.circle_words.proofs.DomainPoints.{order-on}
-use Rattle.circle_words.proofs.Quotients.{real-nonzero, double-nonzero}
+use Rattle.circle_codewords.specs.Ratios.{points_of_height}
+use Rattle.circle_codewords.specs.Words.{Committed, claims_on, claims_at, reduced_word}
+use Rattle.circle_codewords.proofs.DomainPoints.{order-on}
+use Rattle.circle_codewords.proofs.Quotients.{real-nonzero, double-nonzero}
 use Rattle.circle_completeness.specs.LowDegree.{AreColumns, IsTrueClaim, IsTrue}
 use Rattle.circle_completeness.proofs.NearLow.{IsNearLow, near-same, near-constant, near-sum, near-scaled}
 use Rattle.circle_completeness.proofs.TrueQuotients.{near-claim}

@@ -30,7 +30,7 @@
 //! - In `src/`, `reduced.rt`: queries' points and the quotients of their rows; `query.rt`: their
 //!   twiddles, pairs and values; `evaluation.rt`, `interpolation.rt`: polynomials in x.
 //! - In `specs/`, `Quotient`, `Lambda`, `Fold`, `Spans`, `Queries`, `Chain`: the definitions.
-//!   `Blocks`, `Interpolation`: words of private contracts. `WideSpans`: values of a polynomial with
+//!   `Blocks`, `Interpolation`: words of private contracts. `WideSpans`: values of a polynomial of
 //!   few coefficients plus a multiple of the vanishing polynomial; `Claims`: quotients on them, and
 //!   what binds claimed values. `Rows`, `PolynomialRows`, `ClaimRows`: examples.
 //! - In `proofs/`, of lambda: `Vanished`, the vanishing polynomial has one value in each block of

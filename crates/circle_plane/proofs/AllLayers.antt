@@ -17,9 +17,9 @@ use Rattle.circle_domain.proofs.Layering.{length-copies}
 use Rattle.circle_domain.proofs.Powers.{pow_within}
 use Rattle.circle_domain.proofs.Twiddles.{length-layer_factors}
 use Rattle.circle_domain.proofs.Undoing.{forward, backward}
-use Rattle.circle_transform.specs.Butterflies.{plus_multiple, minus_multiple, total, scaled_difference}
-use Rattle.circle_transform.specs.Passes.{factors_at, descending, ascending}
-use Rattle.circle_transform.proofs.PairLayers.{length-layer}
+use Rattle.circle_cfft.specs.Butterflies.{plus_multiple, minus_multiple, total, scaled_difference}
+use Rattle.circle_cfft.specs.Passes.{factors_at, descending, ascending}
+use Rattle.circle_cfft.proofs.PairLayers.{length-layer}
 use Rattle.circle_plane.proofs.Passes.{remaining, blocks-entries, forward-pass, backward-pass}
 
 -- a layer's factors, of a list of all layers' that was made

@@ -20,8 +20,8 @@ use Rattle.circle_domain.proofs.Columns.{stored_column, length-stored_column, ro
 use Rattle.circle_domain.proofs.CosetOrder.{other_order-points}
 use Rattle.circle_domain.proofs.Stored.{rows-values, stored-wide, column-values}
 use Rattle.circle_domain.proofs.Told.{values-tell}
-use Rattle.circle_transform.specs.Butterflies.{plus_multiple, minus_multiple, total, scaled_difference}
-use Rattle.circle_transform.specs.Passes.{descending, ascending}
+use Rattle.circle_cfft.specs.Butterflies.{plus_multiple, minus_multiple, total, scaled_difference}
+use Rattle.circle_cfft.specs.Passes.{descending, ascending}
 use Rattle.circle_plane.specs.Coefficients.{Interpolates, Evaluates}
 use Rattle.circle_plane.proofs.AllLayers.{forward-all, backward-all}
 use Rattle.circle_plane.proofs.Passes.{remaining, remaining-none, copies-values, before-passes, after-passes}

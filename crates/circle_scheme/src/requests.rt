@@ -12,11 +12,11 @@ ghost use Rattle.circle_scheme.specs.Requesting.{HasDomain, IsAtPoints};
 ghost use Rattle.std.specs.List.{list_any};
 
 use crate::commit::validate_heights;
+use circle_codewords::are_off_domain;
 use circle_commit::{FriParameters, Matrix, Mmcs, OpeningRequest, RowMajorMatrix, log2_strict};
 use circle_field::{ComplexExtendable, ExtensionField, Field};
 use circle_relation::{OverCircle, ProverError};
 use circle_verifier::verifier::is_at_infinity as at_infinity;
-use circle_words::are_off_domain;
 
 /// The greatest difficulty, in bits, of a proof of work that is supported.
 const MAX_PROOF_OF_WORK_BITS: usize = 30;

@@ -52,7 +52,8 @@
 //! Its files:
 //!
 //! - In `src/`, `shape.rt`: what describes a run, its steps and its seed; `transcript.rt`: both
-//!   sides, whose calls `play.rt` makes of the drivers of `circle_challenger`; `run.rt`: whole runs.
+//!   sides, whose calls `play.rt` makes of the drivers of `circle_challenger`; `run.rt`: whole
+//!   runs.
 //! - In `specs/`, `Shape`, `Draw`: the definitions. `ShapeOf`, `Numbers`, `Claims`, `Transcript`,
 //!   `Failure`: what the types are; `Play`: steps of both sides; `Runs`: what is drawn, missed or
 //!   found nowhere over a run; `Rows`: examples.

@@ -28,7 +28,7 @@ use Rattle.circle_relation.specs.RunOf.{run_with}
 use Rattle.p3_circle.proofs.Known.{PartsPass, known, all_pass}
 use Rattle.circle_verifier.proofs.Passed.{AllPass, passed, passes, pass-front, pass-back, pass-both}
 use Rattle.circle_verifier.proofs.Seeding.{claims_part, parameters_part, shape_part, final_part, points_part, parts-are}
-use Rattle.circle_opening.proofs.Counts.{betas-count, queries-count}
+use Rattle.circle_prover.proofs.Counts.{betas-count, queries-count}
 use Rattle.circle_verifier.proofs.Verified.{tested, not_true, false_not, challenges-told}
 
 pub at_err : {T E : Type 0} (P : E → Type 0) (x : Result T E) (e : E) → x ≡ Err e → P e → IfErr x P

@@ -13,12 +13,12 @@ use Rattle.circle_domain.specs.Selectors.{IsFinite}
 use Rattle.circle_domain.specs.Values.{lifted_values_at}
 use Rattle.circle_domain.specs.declared.domain.CircleDomain.{CircleDomain}
 use Rattle.circle_folding.specs.Queries.{IsApart}
-use Rattle.circle_opening.specs.Opening.{IsStuckOn}
-use Rattle.circle_words.specs.Requests.{AreAnswers, AreFit}
+use Rattle.circle_prover.specs.Opening.{IsStuckOn}
+use Rattle.circle_codewords.specs.Requests.{AreAnswers, AreFit}
 use Rattle.circle_relation.specs.declared.error.ProverError.{ProverError}
 use Rattle.circle_point.specs.Projective.{from_line}
 use Rattle.circle_relation.specs.Accepts.{Fields}
-use Rattle.circle_words.specs.Ratios.{points_of_height}
+use Rattle.circle_codewords.specs.Ratios.{points_of_height}
 use Rattle.circle_scheme.specs.Committing.{HaveNaturalValues}
 
 module _ {F E M : Type 0} {g : _} (k : Fields F E) (two_adicity : ℕ) (p : FriParameters M) where

@@ -16,8 +16,8 @@ use Rattle.circle_domain.specs.Domain.{log_size, IsStandardDomain}
 use Rattle.circle_domain.specs.declared.domain.CircleDomain.{CircleDomain}
 use Rattle.circle_field.specs.Circle.{Coordinates}
 use Rattle.circle_field.specs.Field.{FieldOps}
-use Rattle.circle_opening.specs.Opening.{IsOpening}
-use Rattle.circle_words.specs.Requests.{AreAnswers, AreFit, AreRequests}
+use Rattle.circle_prover.specs.Opening.{IsOpening}
+use Rattle.circle_codewords.specs.Requests.{AreAnswers, AreFit, AreRequests}
 use Rattle.circle_relation.specs.declared.error.ProverError.{ProverError}
 use Rattle.circle_relation.specs.declared.error.ProverError.TheVariants.{Memory}
 use Rattle.circle_relation.specs.Accepts.{Authenticates, Fields}

@@ -18,8 +18,8 @@ use Rattle.circle_domain.specs.declared.domain.CircleDomain.{CircleDomain}
 use Rattle.circle_field.specs.Circle.{AreGenerators}
 use Rattle.circle_field.specs.Field.{FieldLaws, IsEmbedding}
 use Rattle.circle_field.specs.declared.field.Operations.{Ghosts}
-use Rattle.circle_opening.specs.Opening.{IsFailure}
-use Rattle.circle_words.specs.Requests.{AreAnswers, AreValuesOf, IsFit, IsOpenable}
+use Rattle.circle_prover.specs.Opening.{IsFailure}
+use Rattle.circle_codewords.specs.Requests.{AreAnswers, AreValuesOf, IsFit, IsOpenable}
 use Rattle.circle_relation.specs.declared.error.ProverError.{ProverError}
 use Rattle.circle_relation.specs.declared.error.ProverError.TheVariants.{Memory}
 use Rattle.circle_commit.specs.Honest.{AreAnsweredBy, AreHonest, HaveValues, requested_points}

@@ -17,9 +17,9 @@ use Rattle.circle_transcript.specs.Draw.{Claim, after_claims, after_round, after
 use Rattle.circle_transcript.specs.Draw.{layered, seeded, taken}
 use Rattle.circle_transcript.specs.Numbers.{numbers_of}
 use Rattle.circle_transcript.specs.declared.transcript.Numbers.{Numbers}
-use Rattle.circle_words.specs.Words.{Committed}
-use Rattle.circle_opening.specs.Failure.{FindsNone}
-use Rattle.circle_opening.specs.Opening.{answered_claims, answered_matrices}
+use Rattle.circle_codewords.specs.Words.{Committed}
+use Rattle.circle_prover.specs.Failure.{FindsNone}
+use Rattle.circle_prover.specs.Opening.{answered_claims, answered_matrices}
 use Rattle.circle_relation.specs.Taken.{claims_taken, shape_by}
 use Rattle.p3_circle.specs.Honest.{FindsWitnesses}
 

@@ -12,7 +12,7 @@ use circle_commit::{
 };
 use circle_domain::CircleDomain;
 use circle_field::{ComplexExtendable, ExtensionField};
-use circle_opening::ProverError;
+use circle_prover::ProverError;
 use circle_relation::InputError;
 use std::alloc::Global;
 

@@ -23,15 +23,15 @@ use Rattle.circle_domain.proofs.Powers.{pow_injective}
 use Rattle.circle_field.specs.declared.field.Operations.{Ghosts}
 use Rattle.circle_field.specs.Circle.{AreGenerators}
 use Rattle.circle_field.specs.Field.{FieldLaws, IsEmbedding}
-use Rattle.circle_words.specs.Requests.{AreAnswers, AreRequests, AreValuesOf, IsFit, IsOpenable, batch_committed, claimed, committed, log_of, points_of}
+use Rattle.circle_codewords.specs.Requests.{AreAnswers, AreRequests, AreValuesOf, IsFit, IsOpenable, batch_committed, claimed, committed, log_of, points_of}
 use Rattle.circle_completeness.specs.Claimed.{AreClaimed}
 use Rattle.circle_commit.specs.Honest.{AreAnsweredBy, AreClaimedOf, IsClaimedOf, requested_points}
 use Rattle.circle_point.specs.Projective.{from_line}
 use Rattle.circle_relation.specs.Accepts.{Fields}
 use Rattle.circle_relation.specs.Statement.{MatrixClaim, PointClaim, all_matrices}
 use Rattle.circle_relation.specs.StatementOf.{batch_claims, matrix_claim, point_claim}
-use Rattle.circle_words.specs.Ratios.{points_of_height}
-use Rattle.circle_words.specs.Words.{claim_of}
+use Rattle.circle_codewords.specs.Ratios.{points_of_height}
+use Rattle.circle_codewords.specs.Words.{claim_of}
 use Rattle.circle_scheme.specs.Committing.{AreExtensions, IsExtension}
 use Rattle.p3_circle.specs.Honest.{AreValuesOfBatch, AreValuesOfRows}
 use Rattle.p3_circle.specs.Scheme.{IsCommitted}

@@ -16,12 +16,12 @@ use Rattle.circle_domain.specs.declared.domain.CircleDomain.{CircleDomain}
 use Rattle.circle_field.specs.declared.field.Operations.{Ghosts}
 use Rattle.circle_field.specs.Circle.{times}
 use Rattle.circle_field.specs.CircleGroup.{same_coordinates}
-use Rattle.circle_words.specs.Requests.{AreFit, log_of}
+use Rattle.circle_codewords.specs.Requests.{AreFit, log_of}
 use Rattle.circle_relation.specs.declared.error.ProverError.{ProverError}
-use Rattle.circle_words.proofs.Logs.{log_of-power}
+use Rattle.circle_codewords.proofs.Logs.{log_of-power}
 use Rattle.circle_commit.specs.Honest.{IsHonest, requested_points}
 use Rattle.circle_relation.specs.Accepts.{Fields}
-use Rattle.circle_words.specs.Ratios.{points_of_height}
+use Rattle.circle_codewords.specs.Ratios.{points_of_height}
 use Rattle.circle_scheme.specs.Committing.{AreExtensions, IsExtension, commit_tests, domain_tests, evaluation_tests, height_tests, is_degenerate, matrix_tests}
 use Rattle.p3_circle.specs.Honest.{CanBeOpenedAt, IsHonestBatch}
 use Rattle.circle_verifier.specs.Refusals.{Test, answer, is_at_infinity}

@@ -7,8 +7,8 @@ use Rattle.circle_domain.specs.Order.{IsGenuine}
 use Rattle.circle_domain.specs.Ordering.{other_order}
 use Rattle.circle_domain.proofs.Powers.{pow_within}
 use Rattle.circle_plane.specs.CircleEvaluations.{cfft_values}
-use Rattle.circle_words.proofs.Opened.{counted}
-use Rattle.circle_words.proofs.Prefix.{first-genuine}
+use Rattle.circle_codewords.proofs.Opened.{counted}
+use Rattle.circle_codewords.proofs.Prefix.{first-genuine}
 use Rattle.circle_scheme.proofs.Continued.{first-height, continued}
 use Rattle.circle_scheme.proofs.commit.continued_rows.Goals as goal
 

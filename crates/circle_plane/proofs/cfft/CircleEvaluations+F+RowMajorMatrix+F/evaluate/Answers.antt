@@ -18,8 +18,8 @@ use Rattle.circle_domain.proofs.CosetOrder.{other_order-points}
 use Rattle.circle_domain.proofs.Powers.{pow_order}
 use Rattle.circle_domain.proofs.Stored.{whole, height, rows-values, stored-wide}
 use Rattle.circle_domain.proofs.Twiddles.{length-layer_factors, made-count}
-use Rattle.circle_transform.specs.Butterflies.{plus_multiple, minus_multiple}
-use Rattle.circle_transform.specs.Passes.{factors_at, descending, to_values}
+use Rattle.circle_cfft.specs.Butterflies.{plus_multiple, minus_multiple}
+use Rattle.circle_cfft.specs.Passes.{factors_at, descending, to_values}
 use Rattle.circle_plane.specs.CircleEvaluations.{cfft_values}
 use Rattle.circle_plane.specs.Coefficients.{Evaluates}
 use Rattle.circle_plane.proofs.Transformed.{evaluated}

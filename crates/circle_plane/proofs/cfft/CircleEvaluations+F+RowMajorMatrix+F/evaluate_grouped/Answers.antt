@@ -18,12 +18,12 @@ use Rattle.circle_domain.proofs.CosetOrder.{other_order-points}
 use Rattle.circle_domain.proofs.Powers.{pow_order, pow_injective}
 use Rattle.circle_domain.proofs.Stored.{whole, height, rows-values, stored-wide}
 use Rattle.circle_domain.proofs.Twiddles.{length-layer_factors, made-count}
-use Rattle.circle_transform.specs.Butterflies.{plus_multiple, minus_multiple}
-use Rattle.circle_transform.specs.Passes.{factors_at, descending, to_values}
+use Rattle.circle_cfft.specs.Butterflies.{plus_multiple, minus_multiple}
+use Rattle.circle_cfft.specs.Passes.{factors_at, descending, to_values}
 use Rattle.circle_plane.specs.CircleEvaluations.{cfft_values}
 use Rattle.circle_plane.specs.Coefficients.{Evaluates}
 use Rattle.circle_plane.proofs.Transformed.{evaluated}
-use Rattle.circle_transform.specs.Butterflies.{count_of}
+use Rattle.circle_cfft.specs.Butterflies.{count_of}
 use Rattle.circle_plane.proofs.AllLayers.{halved, length-take-at-most, layer-entries, factors-taken, shifted, copied-long}
 use Rattle.circle_plane.proofs.cfft.CircleEvaluations+F+RowMajorMatrix+F.evaluate_grouped.Goals as goal
 

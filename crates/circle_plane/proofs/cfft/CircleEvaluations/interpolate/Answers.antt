@@ -19,8 +19,8 @@ use Rattle.circle_domain.proofs.Told.{values-tell}
 use Rattle.circle_domain.proofs.CosetOrder.{other_order-points}
 use Rattle.circle_domain.proofs.Stored.{whole, height, rows-values, column-values}
 use Rattle.circle_domain.proofs.Twiddles.{length-layer_factors, made-count}
-use Rattle.circle_transform.specs.Butterflies.{total, scaled_difference}
-use Rattle.circle_transform.specs.Passes.{factors_at, ascending, to_coefficients}
+use Rattle.circle_cfft.specs.Butterflies.{total, scaled_difference}
+use Rattle.circle_cfft.specs.Passes.{factors_at, ascending, to_coefficients}
 use Rattle.circle_plane.proofs.AllLayers.{factors-made, layer-entries}
 use Rattle.circle_plane.proofs.Transformed.{holds-rows, interpolated}
 use Rattle.circle_plane.proofs.cfft.CircleEvaluations.interpolate.Goals as goal

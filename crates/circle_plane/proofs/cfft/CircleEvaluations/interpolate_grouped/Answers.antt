@@ -18,10 +18,10 @@ use Rattle.circle_domain.proofs.Told.{values-tell}
 use Rattle.circle_domain.proofs.CosetOrder.{other_order-points}
 use Rattle.circle_domain.proofs.Stored.{whole, height, rows-values, column-values}
 use Rattle.circle_domain.proofs.Twiddles.{length-layer_factors, made-count}
-use Rattle.circle_transform.specs.Butterflies.{total, scaled_difference}
-use Rattle.circle_transform.specs.Passes.{factors_at, ascending, to_coefficients}
+use Rattle.circle_cfft.specs.Butterflies.{total, scaled_difference}
+use Rattle.circle_cfft.specs.Passes.{factors_at, ascending, to_coefficients}
 use Rattle.std.proofs.Math.Nat.{mul-le-mul_right}
-use Rattle.circle_transform.specs.Butterflies.{count_of}
+use Rattle.circle_cfft.specs.Butterflies.{count_of}
 use Rattle.circle_plane.proofs.AllLayers.{halved, factors-made, layer-entries}
 use Rattle.circle_plane.proofs.Transformed.{holds-rows, interpolated}
 use Rattle.circle_plane.proofs.cfft.CircleEvaluations.interpolate_grouped.Goals as goal
