@@ -59,6 +59,7 @@ pub use error::{FriError, Named};
 pub use folding::FriFoldingStrategy;
 pub use matrix::{
     Dimensions, FieldMatrix, Matrix, MatrixShape, RowIndexMap, RowIndexMappedView, RowMajorMatrix,
+    entry_count,
 };
 pub use mmcs::{
     Mmcs, OpenedRows, are_below, heights_are_powers_of_two, is_power_of_two, log2_strict,

@@ -1,7 +1,7 @@
 //! Matrices by rows, and views of them under another order of the rows.
-ghost use Rattle.std.specs.Prelude.{◌≡◌, ℕ, ◌+◌, ◌<◌, ◌≤◌, ◌%◌, ◌/◌, List, [], ◌∷◌, length, map};
+ghost use Rattle.std.specs.Prelude.{◌≡◌, ℕ, ◌+◌, ◌*◌, ◌^◌, ◌<◌, ◌≤◌, ◌%◌, ◌/◌, List, [], ◌∷◌, length, map};
 ghost use Rattle.std.specs.Prelude.{Some, IfOk, All, slice_get, slice_index_or, take, drop};
-ghost use Rattle.std.specs.Prelude.{vec_len, ◌↔◌, IsSome, IfSome};
+ghost use Rattle.std.specs.Prelude.{vec_len, ◌↔◌, IsSome, IfSome, MatchResult};
 ghost use Rattle.std.specs.List.{range_with_len};
 ghost use Rattle.circle_commit.specs.DotProduct.{column_sums, pairwise, with_multiple};
 ghost use Rattle.circle_commit.specs.Matrix.{mapped_rows, rows_from};
@@ -148,6 +148,15 @@ fn add_multiple<F: Field, EF: ExtensionField<F>>(sums: &mut [EF], row: &[F], wei
     }
 }
 
+/// The number of entries of `height` rows of `width`. Fails exactly where it passes `usize`: no
+/// memory holds so many.
+pub fn entry_count(height: usize, width: usize) -> Result<usize, AllocError>
+    ensures { MatchResult result (λ count. count ≡ height * width)
+        (λ _. 2 ^ 64 ≤ height * width) }
+{
+    height.checked_mul(width).ok_or(AllocError)
+}
+
 /// The shape of a matrix.
 #[derive(Clone, Copy, PartialEq, Eq, Debug)]
 pub struct Dimensions {
@@ -213,8 +222,7 @@ impl<T: Copy> RowMajorMatrix<T> {
     {
         let width = matrix.width();
         let height = matrix.height();
-        let len = height.checked_mul(width).ok_or(AllocError)?;
-        let mut values = Vec::with_capacity(alloc, len)?;
+        let mut values = Vec::with_capacity(alloc, entry_count(height, width)?)?;
         for r in 0..height {
             values.extend_from_slice(matrix.row(r))?;
         }

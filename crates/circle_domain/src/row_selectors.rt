@@ -25,7 +25,11 @@ pub(crate) fn natural_points<F: ComplexExtendable>(
     ensures { IfOk result (λ points. map coordinates points.items
         ≡ points_of F.ops F.generators domain) }
 {
-    domain.points().collect(alloc)
+    let mut points = Vec::with_capacity(alloc, domain.size())?;
+    for point in domain.points() {
+        points.push(point)?;
+    }
+    Ok(points)
 }
 
 /// The vanishing polynomial of a domain at each point.

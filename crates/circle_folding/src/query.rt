@@ -245,5 +245,9 @@ pub fn without_bits(alloc: Global, indices: &[usize], bits: usize) -> Result<Vec
     requires { bits < 64 }
     ensures { IfOk result (λ rest. rest.items ≡ map (λ q. q / 2 ^ bits) indices.now) }
 {
-    indices.iter().map(|index| *index >> bits).collect(alloc)
+    let mut rest = Vec::with_capacity(alloc, indices.len())?;
+    for index in indices {
+        rest.push(*index >> bits)?;
+    }
+    Ok(rest)
 }

@@ -1,5 +1,5 @@
 //! Whether opened rows are those of a commitment.
-ghost use Rattle.std.specs.Prelude.{◌≡◌, ℕ, ◌↔◌, List, IsTrue, IfOk, IfErr, OnOk};
+ghost use Rattle.std.specs.Prelude.{◌≡◌, ℕ, ◌↔◌, List, map, IsTrue, IfOk, IfErr, OnOk};
 ghost use Rattle.sha2.specs.Sha256.{sha256};
 ghost use Rattle.circle_commit.specs.Mmcs.{opened_rows};
 ghost use Rattle.circle_merkle.specs.Order.{first_places};
@@ -29,7 +29,7 @@ fn has_count(
     ensures { (indices : List ℕ) → firsts.now ≡ first_places indices levels
         → IfOk result (λ b. IsTrue b ↔ (count ≡ taken_below indices levels levels)) }
 {
-    let mut known: Vec<usize> = firsts.iter().map(|first| first.0).collect(alloc)?;
+    let mut known = distinct_indices(alloc, firsts)?;
     let mut parents = Vec::with_capacity(alloc, known.len())?;
     let mut left = count;
     for _level in 0..levels {
@@ -41,6 +41,17 @@ fn has_count(
         mem::swap(&mut known, &mut parents);
     }
     Ok(left == 0)
+}
+
+// The distinct indices, without their places.
+fn distinct_indices(alloc: Global, firsts: &[(usize, usize)]) -> Result<Vec<usize>, AllocError>
+    ensures { IfOk result (λ indices. indices.items ≡ map (λ first. first.0) firsts.now) }
+{
+    let mut indices = Vec::with_capacity(alloc, firsts.len())?;
+    for first in firsts {
+        indices.push(first.0)?;
+    }
+    Ok(indices)
 }
 
 // Whether two digests are the same.
