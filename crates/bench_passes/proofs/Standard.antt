@@ -28,7 +28,7 @@ module _ {F : Type 0} {k : FieldOps F} (ring : RingLaws k) {two_adicity : ℕ}
 not_origin : generators 1 ≢ origin operations
 not_origin e =
     let turned : at (operations.neg operations.one) operations.zero ≡ origin operations =
-        sym are_generators.half_turn ∙ e in
+    sym are_generators.half_turn ∙ e in
     let same : 2147483646 ≡ 1 = ap (λ p. residue p.x) turned in
     omega (arith, same)
 

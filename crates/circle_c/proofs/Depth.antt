@@ -82,19 +82,25 @@ module _ {E C : Type 0} (element : Form E) (commitment : Form C) (flat : IsWithi
     (text : IsWithin commitment 0) where
   point : IsWithin (object_form (point_fields element)) 3
   point =
-      object (point_fields element) 2 (more element 1 flat 2 (omega arith),
-      (list element 1 flat, tt))
+      object (point_fields element) 2 (
+        more element 1 flat 2 (omega arith),
+        (list element 1 flat, tt),
+      )
 
   matrix : IsWithin (object_form (matrix_fields element)) 5
   matrix =
-      object (matrix_fields element) 4 (more count_form 0 count 4 (omega arith),
-      (list (object_form (point_fields element)) 3 point, tt))
+      object (matrix_fields element) 4 (
+        more count_form 0 count 4 (omega arith),
+        (list (object_form (point_fields element)) 3 point, tt),
+      )
 
   batches : IsWithin (list_form (object_form (batch_fields element commitment))) 8
   batches =
       list (object_form (batch_fields element commitment)) 7
-      (object (batch_fields element commitment) 6 (more commitment 0 text 6 (omega arith),
-          (list (object_form (matrix_fields element)) 5 matrix, tt)))
+      (object (batch_fields element commitment) 6 (
+        more commitment 0 text 6 (omega arith),
+        (list (object_form (matrix_fields element)) 5 matrix, tt),
+      ))
 
 module _ {E : Type 0} (element : Form E) (flat : IsWithin element 1) where
   siblings : IsWithin (list_form (list_form element)) 3
@@ -105,17 +111,20 @@ module _ {F I IC ID IP IE : Type 0} (base : Form F) (batch_proof : Form IP) (num
   opening : IsWithin
       {T = BatchMultiOpening F I IC ID IP IE} (object_form (opening_fields base batch_proof)) 4
   opening =
-      object (opening_fields base batch_proof) 3
-      (list (list_form (list_form base)) 2 (list (list_form base) 1 (list base 0 number)),
-          (more batch_proof 1 path 3 (omega arith), tt))
+      object (opening_fields base batch_proof) 3 (
+        list (list_form (list_form base)) 2 (list (list_form base) 1 (list base 0 number)),
+        (more batch_proof 1 path 3 (omega arith), tt),
+      )
 
 module _ {E W WC WD WP WE : Type 0} (element : Form E) (word_proof : Form WP) (flat : IsWithin
     element 1) (word_path : IsWithin word_proof 1) where
   step : IsWithin
       {T = CircleCommitPhaseMultiStep E W WC WD WP WE}
       (object_form (step_fields element word_proof)) 4
-  step = object (step_fields element word_proof) 3 (more word_proof 1 word_path 3 (omega arith),
-      (siblings element flat, tt))
+  step = object (step_fields element word_proof) 3 (
+    more word_proof 1 word_path 3 (omega arith),
+    (siblings element flat, tt),
+  )
 
 module _ {F E I W IC ID IP IE WC WD WP WE : Type 0} (base : Form F) (element : Form E)
     (batch_proof : Form IP) (word_proof : Form WP) (number : IsWithin base 0) (flat : IsWithin
@@ -130,40 +139,45 @@ module _ {F E I W IC ID IP IE WC WD WP WE : Type 0} (base : Form F) (element : F
           more word_proof 1 word_path 5 (omega arith),
           (
             more (list_form (list_form element)) 3 (siblings element flat) 5 (omega arith),
-            (list (object_form (opening_fields base batch_proof)) 4
-                (opening base batch_proof number path), tt),
+            (
+              list (object_form (opening_fields base batch_proof)) 4
+                  (opening base batch_proof number path),
+              tt,
+            ),
           ),
         )
 
 module _ {F E I W Witness IC ID IP IE WC WD WP WE : Type 0} (base : Form F) (element : Form E)
     (witness : Form Witness) (batch_proof : Form IP) (commitment : Form WC) (word_proof : Form WP)
     (number : IsWithin base 0) (flat : IsWithin element 1) (one : IsWithin witness 0)
-        (path : IsWithin batch_proof 1) (text : IsWithin commitment 0) (word_path : IsWithin
-        word_proof 1)
+    (path : IsWithin batch_proof 1) (text : IsWithin commitment 0) (word_path : IsWithin
+    word_proof 1)
   where
     fri : IsWithin
         {T = CircleFriProof E W Witness (CircleInputProof F E I W IC ID IP IE WC WD WP WE) WC WD WP
         WE}
         (object_form
-            (fri_fields element witness
-            (object_form (inputs_fields base element batch_proof word_proof)) commitment
-            word_proof)) 7
+        (fri_fields element witness
+        (object_form (inputs_fields base element batch_proof word_proof)) commitment
+        word_proof)) 7
     fri =
         object
-            (fri_fields element witness
-            (object_form (inputs_fields base element batch_proof word_proof)) commitment word_proof)
-            6 (
+        (fri_fields element witness
+        (object_form (inputs_fields base element batch_proof word_proof)) commitment word_proof)
+        6 (
           more (list_form commitment) 1 (list commitment 0 text) 6 (omega arith),
           (
             more (list_form (object_form (step_fields element word_proof))) 5
                 (list (object_form (step_fields element word_proof)) 4
-                    (step element word_proof flat word_path)) 6 (omega arith),
+                (step element word_proof flat word_path)) 6 (omega arith),
             (
               more (list_form witness) 1 (list witness 0 one) 6 (omega arith),
               (
                 more (coefficients_form element) 2 (coefficients element 1 flat) 6 (omega arith),
-                (inputs base element batch_proof word_proof number flat path word_path,
-                    (more witness 0 one 6 (omega arith), tt)),
+                (
+                  inputs base element batch_proof word_proof number flat path word_path,
+                  (more witness 0 one 6 (omega arith), tt),
+                ),
               ),
             ),
           ),
@@ -173,10 +187,13 @@ module _ {F E I W Witness IC ID IP IE WC WD WP WE : Type 0} (base : Form F) (ele
         {T = CirclePcsProof F E I W Witness IC ID IP IE WC WD WP WE}
         (object_form (proof_fields base element witness batch_proof commitment word_proof)) 8
     proof =
-        object (proof_fields base element witness batch_proof commitment word_proof) 7
-        (more witness 0 one 7 (omega arith),
-            (more commitment 0 text 7 (omega arith),
-            (fri, (more (list_form element) 2 (list element 1 flat) 7 (omega arith), tt))))
+        object (proof_fields base element witness batch_proof commitment word_proof) 7 (
+          more witness 0 one 7 (omega arith),
+          (
+            more commitment 0 text 7 (omega arith),
+            (fri, (more (list_form element) 2 (list element 1 flat) 7 (omega arith), tt)),
+          ),
+        )
 
 abbrev base_form : Form Mersenne31
 base_form = told_form residue_of residue count_written same_residue
@@ -194,10 +211,10 @@ digests_form = list_form digest_form
 abbrev pub claims_form : Form Claims
 claims_form =
     object_form
-        (input_fields (λ i. i.proof)
-        (list_form (object_form (batch_fields element_form digest_form))) parameters_form
+    (input_fields (λ i. i.proof)
+    (list_form (object_form (batch_fields element_form digest_form))) parameters_form
     (object_form
-        (proof_fields base_form element_form base_form digests_form digest_form digests_form)))
+    (proof_fields base_form element_form base_form digests_form digest_form digests_form)))
 
 base : IsWithin base_form 0
 base x = omega arith
@@ -212,14 +229,17 @@ digest x = omega arith
 pub claims : IsWithin claims_form 9
 claims =
     object
-        (input_fields (λ i. i.proof)
-        (list_form (object_form (batch_fields element_form digest_form))) parameters_form
+    (input_fields (λ i. i.proof)
+    (list_form (object_form (batch_fields element_form digest_form))) parameters_form
     (object_form
-        (proof_fields base_form element_form base_form digests_form digest_form digests_form))) 8 (
+    (proof_fields base_form element_form base_form digests_form digest_form digests_form))) 8 (
       batches element_form digest_form element digest,
       (
         more parameters_form 1 parameters 8 (omega arith),
-        (proof base_form element_form base_form digests_form digest_form digests_form base element
-            base (list digest_form 0 digest) digest (list digest_form 0 digest), tt),
+        (
+          proof base_form element_form base_form digests_form digest_form digests_form base element
+              base (list digest_form 0 digest) digest (list digest_form 0 digest),
+          tt,
+        ),
       ),
     )

@@ -47,7 +47,7 @@ pub of_text : (text : List ℕ) (error : Error) (failure : Failure) → IsFailur
     → (failure ≡ Memory) ⊎ ((status_of failure ≡ 2) × IsNoJson text)
 of_text text error failure told none =
     ⊎_elim (λ m. inl (told.memory m)) (λ n. inr (ap status_of (told.text n), no_json text (none n)))
-        (is_memory error.code)
+    (is_memory error.code)
 
 -- a text is of one value
 one_value : (text : List ℕ) (value other : Data) → IsJsonOf text value → IsJsonOf text other →
@@ -68,16 +68,16 @@ module _ {Given : Type 0} (form : Form Given) (text : List ℕ) where
       form.refuses value error → ¬ (error ≡ NoMemory) → StandsForNone form text
   none_of_value value error of refused other input t =
       other
-          (form.refuses_others value input error
-          (subst (λ (d : Data). form.reads d input) (one_value text t.value value t.json of)
-          t.reads) refused)
+      (form.refuses_others value input error
+      (subst (λ (d : Data). form.reads d input) (one_value text t.value value t.json of)
+      t.reads) refused)
 
   pub of_value : (value : Data) (error : JsonError) (failure : Failure) → IsJsonOf text value →
       IsFailureOfJson error failure → form.refuses value error → IsUnread failure
   of_value value error failure of told refused =
       ⊎_elim (λ m. inl (told.memory m))
-          (λ n. inr (ap status_of (told.unfit n), none_of_value value error of refused n))
-          (is_json_memory error)
+      (λ n. inr (ap status_of (told.unfit n), none_of_value value error of refused n))
+      (is_json_memory error)
 
 -- status 2 tells of no input, where a verdict's failure does
 pub unreadable : {T B : Type 0} (V A : Type 0) (W : Failure → Type 0) (verdict : Result T Failure)
@@ -85,14 +85,14 @@ pub unreadable : {T B : Type 0} (V A : Type 0) (W : Failure → Type 0) (verdict
     MatchResult verdict (λ _. (status ≡ 0) × V) (λ failure. (status ≡ status_of failure)
     × W failure)
     →
-        IfErr verdict
-        (λ failure. (failure ≡ Memory)
-        ⊎ (((status_of failure ≡ 1) × A) ⊎ ((status_of failure ≡ 2) × B))) → status ≡ 2 → B
+    IfErr verdict
+    (λ failure. (failure ≡ Memory)
+    ⊎ (((status_of failure ≡ 1) × A) ⊎ ((status_of failure ≡ 2) × B))) → status ≡ 2 → B
 unreadable V A W (Ok _) status told h e = let a = told.0 in absurd (omega arith)
 unreadable V A W (Err failure) status told h e =
     ⊎_elim (λ m. let a = told.0 in let b = ap status_of m in absurd (omega arith))
     (λ r. ⊎_elim (λ one. let a = told.0 in let b = one.0 in absurd (omega arith)) (λ two. two.1) r)
-        h
+    h
 
 -- and where a line's failure does
 pub unreadable_line : {T B : Type 0} (V : T → Type 0) (answer : Result T Failure) (status : ℕ) →
@@ -135,7 +135,7 @@ written_line P V (Err failure) status told h e = let b = fails failure in absurd
 pub of_input : {Given V T : Type 0} (form : Form Given) (text : List ℕ) (Is : Given → Type 0)
     (given : Given) (verdict : Result T Failure) → IsTextOf form text given → (Is given → V)
     → IfErr verdict (λ failure. (failure ≡ Memory) ⊎ ((status_of failure ≡ 1) × (¬ V))) →
-        IfErr verdict (Refuses form Is text)
+    IfErr verdict (Refuses form Is text)
 of_input form text Is given (Ok _) reads then h = tt
 of_input form text Is given (Err failure) reads then h =
     ⊎_elim (λ m. inl m) (λ n. inr (inl (n.0, (given, (reads, λ it. n.1 (then it)))))) h

@@ -20,7 +20,7 @@ module _ {F : Type 0} (f g h : F → F → F) (ps qs rs ss : List F) (eb : lengt
   length-combined =
       let left : length (pairwise g ps rs) ≡ length ps = length-pairwise g ps rs (sym ec) in
       let right : length (pairwise h qs ss) ≡ length ps = length-pairwise h qs ss (eb ∙ sym ed)
-          ∙ eb in
+      ∙ eb in
       length-pairwise f (pairwise g ps rs) (pairwise h qs ss) (left ∙ sym right) ∙ left
 
   combined-read : (i : ℕ) (x y z w v : F) → i < length ps → x ≡ slice_index_or ps i x →
@@ -29,25 +29,25 @@ module _ {F : Type 0} (f g h : F → F → F) (ps qs rs ss : List F) (eb : lengt
   combined-read i x y z w v here ex ey ez ew =
       let left : length (pairwise g ps rs) ≡ length ps = length-pairwise g ps rs (sym ec) in
       let right : length (pairwise h qs ss) ≡ length ps = length-pairwise h qs ss (eb ∙ sym ed)
-          ∙ eb in
+      ∙ eb in
       let first : slice_index_or (pairwise g ps rs) i v ≡ g x z =
       pairwise-read g ps rs i x z v here (omega (arith, here, ec))
-          ∙ ap (λ a. g a (slice_index_or rs i z)) (sym ex) ∙ ap (g x) (sym ez) in
+      ∙ ap (λ a. g a (slice_index_or rs i z)) (sym ex) ∙ ap (g x) (sym ez) in
       let second : slice_index_or (pairwise h qs ss) i v ≡ h y w =
       pairwise-read h qs ss i y w v (omega (arith, here, eb)) (omega (arith, here, ed))
-          ∙ ap (λ b. h b (slice_index_or ss i w)) (sym ey) ∙ ap (h y) (sym ew) in
+      ∙ ap (λ b. h b (slice_index_or ss i w)) (sym ey) ∙ ap (h y) (sym ew) in
       pairwise-read f (pairwise g ps rs) (pairwise h qs ss) i v v v (omega (arith, here, left))
-          (omega (arith, here, right))
+      (omega (arith, here, right))
       ∙ ap (λ a. f a (slice_index_or (pairwise h qs ss) i v)) first ∙ ap (f (g x z)) second
 
   -- one place more is written
   pub combined-more : (old now : List F) (i : ℕ) (x y z w v : F) → length old ≡ length ps →
       i < length ps → now ≡ written i combined old →
       x ≡ slice_index_or ps i x → y ≡ slice_index_or qs i y → z ≡ slice_index_or rs i z →
-          w ≡ slice_index_or ss i w →
+      w ≡ slice_index_or ss i w →
       v ≡ f (g x z) (h y w) → slice_set now i v ≡ written (i + 1) combined old
   combined-more old now i x y z w v long here so_far ex ey ez ew made =
       ap (λ xs. slice_set xs i v) so_far
       ∙ ap (slice_set (written i combined old) i)
-          (made ∙ sym (combined-read i x y z w v here ex ey ez ew))
+      (made ∙ sym (combined-read i x y z w v here ex ey ez ew))
       ∙ written-more i combined old v (length-combined ∙ sym long) (omega (arith, here, long))

@@ -21,14 +21,18 @@ positive_factor (suc a) m n e h = omega arith
 pub part-fits : {F : Type 0} (part n : ℕ) (factors : List F) → 0 < n →
     length (part_of part n factors) ≡ n → part * n + n ≤ length factors
 part-fits part n factors h long =
-    omega (arith, h, sym (length-take n (drop (part * n) factors)) ∙ long,
-        length-drop (part * n) factors)
+    omega (
+      arith,
+      h,
+      sym (length-take n (drop (part * n) factors)) ∙ long,
+      length-drop (part * n) factors,
+    )
 
 pub half-more : (l width : ℕ) → 2 ^ (l + 1) * width ≡ 2 ^ l * width + 2 ^ l * width
 half-more l width =
     let one : l + 1 ≡ suc l = omega arith in
     ap (λ n. 2 ^ n * width) one ∙ ap (λ n. n * width) (pow-suc 2 l)
-        ∙ (let e : 2 ^ l * 2 * width ≡ 2 ^ l * width + 2 ^ l * width = omega arith in e)
+    ∙ (let e : 2 ^ l * 2 * width ≡ 2 ^ l * width + 2 ^ l * width = omega arith in e)
 
 pub half-positive : (l width : ℕ) → 1 ≤ width → 0 < 2 ^ l * width
 half-positive l width wide =
@@ -68,7 +72,7 @@ module _ {F : Type 0} (width count part : ℕ) (twiddles : List (Vec F Global)) 
   blocks-count =
       let block = 2 ^ l * width + 2 ^ l * width in
       sym (mul-div_cancel (length (factors_of_part width count part twiddles l)) {n = block}
-          block-positive) ∙ ap (λ n. n / block) (layers l here)
+      block-positive) ∙ ap (λ n. n / block) (layers l here)
 
   pub blocks-positive : 0 < length (factors_of_part width count part twiddles l)
   blocks-positive = positive_factor _ (2 ^ l * width + 2 ^ l * width) count (layers l here) some
@@ -82,9 +86,9 @@ module _ {F : Type 0} (width count part : ℕ) (twiddles : List (Vec F Global)) 
   block-fits =
       let block = 2 ^ l * width + 2 ^ l * width in
       let least : 1 ≤ length (factors_of_part width count part twiddles l) =
-          omega (arith, blocks-positive) in
+      omega (arith, blocks-positive) in
       let whole : 1 * block ≤ length (factors_of_part width count part twiddles l) * block =
-          mul-le-mul_right block least in
+      mul-le-mul_right block least in
       omega (arith, whole, layers l here)
 
 module _ {F : Type 0} (width count part : ℕ) (twiddles : List (Vec F Global)) (wide : 1 ≤ width)
@@ -104,6 +108,6 @@ module _ {F : Type 0} (width count part : ℕ) (twiddles : List (Vec F Global)) 
       let half = 2 ^ l * width + 2 ^ l * width in
       let n = length (factors_of_part width count part twiddles (l + 1)) in
       cancel (length (factors_of_part width count part twiddles l)) (n + n) half
-          (omega (arith, half-positive l width wide))
+      (omega (arith, half-positive l width wide))
       (layers l (omega (arith, here)) ∙ upper-blocks
-          ∙ (let e : n * (half + half) ≡ (n + n) * half = omega arith in e))
+      ∙ (let e : n * (half + half) ≡ (n + n) * half = omega arith in e))

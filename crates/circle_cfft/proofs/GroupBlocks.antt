@@ -50,29 +50,29 @@ module _ {F : Type 0} (d : F) (stride height : ℕ) (f : List F → List F) (old
 pub columns-more : {F : Type 0} (d : F) (stride height height' row width : ℕ) (f f' : List F →
     List F) (old now mid new : List F) → height' ≡ height → row * width + width ≤ stride →
     DoneColumns d stride height (λ c. f' (f c)) old (row * width) now →
-        ChangesRows d (row * width) width stride height f now mid →
-        ChangesRows d (row * width) width stride height' f' mid new →
+    ChangesRows d (row * width) width stride height f now mid →
+    ChangesRows d (row * width) width stride height' f' mid new →
     DoneColumns d stride height (λ c. f' (f c)) old ((row + 1) * width) new
 columns-more {F = F} d stride height height' row width f f' old now mid new same within
     so_far change change' =
     let next : (row + 1) * width ≡ row * width + width = omega arith in
     let turn : (j : ℕ) (xs : List F) →
-        lane_column d stride height j xs ≡ lane_column d stride height' j xs =
-        λ j xs. ap (λ m. lane_column d stride m j xs) (sym same) in
+    lane_column d stride height j xs ≡ lane_column d stride height' j xs =
+    λ j xs. ap (λ m. lane_column d stride m j xs) (sym same) in
     let beside : (j : ℕ) → j < stride → (j < row * width) ⊎ (row * width + width ≤ j) →
-        lane_column d stride height j new ≡ lane_column d stride height j now =
+    lane_column d stride height j new ≡ lane_column d stride height j now =
     λ j inside apart. turn j new ∙ change'.beside j inside apart ∙ sym (turn j mid)
-        ∙ change.beside j inside apart in
+    ∙ change.beside j inside apart in
     record {
       done = λ j below.
           ⊎_elim
           (λ (lt : j < row * width). beside j (omega (arith, lt, within)) (inl lt)
-              ∙ so_far.done j lt)
+          ∙ so_far.done j lt)
           (λ (le : row * width ≤ j).
           let to : j < row * width + width = omega (arith, below, next) in
           let inside : j < stride = omega (arith, to, within) in
           turn j new ∙ change'.inside j le to
-              ∙ ap f' (sym (turn j mid) ∙ change.inside j le to ∙ ap f (so_far.left j le inside)))
+          ∙ ap f' (sym (turn j mid) ∙ change.inside j le to ∙ ap f (so_far.left j le inside)))
           (cases_lt j (row * width));
       left = λ j above inside. beside j inside (inr (omega (arith, above, next)))
           ∙ so_far.left j (omega (arith, above, next)) inside;
@@ -82,7 +82,7 @@ columns-more {F = F} d stride height height' row width f f' old now mid new same
 module _ {F : Type 0} (k : FieldOps F) (laws : RingLaws k) (low high : F → F → F → F)
     (order : ℕ → ℕ) (n stride index : ℕ) (fs : ℕ → List F) (scale : Option F) (old : List F)
     (orders : (s : ℕ) → s < n → order s < n) (has : HasFactors n index fs)
-        (long : length old ≡ 2 ^ n * stride) where
+    (long : length old ≡ 2 ^ n * stride) where
   abbrev bf : ℕ → List F
   bf = block_factors n index fs
 
@@ -99,15 +99,15 @@ module _ {F : Type 0} (k : FieldOps F) (laws : RingLaws k) (low high : F → F �
   pub columns-all : (count : ℕ) (now : List F) → 1 ≤ stride → count ≡ stride →
       length now ≡ length old →
       DoneColumns k.zero stride (2 ^ n) (λ c. scaled k scale (in_order low high order 1 bf n c)) old
-          count now → now ≡ scaled k scale (in_order low high order stride bf n old)
+      count now → now ≡ scaled k scale (in_order low high order stride bf n old)
   columns-all count now wide all kept so_far =
       let made = in_order low high order stride bf n old in
       let tall : length (scaled k scale made) ≡ 2 ^ n * stride = length-scaled k scale made
-          ∙ length-in_order low high order stride bf n old block-fit ∙ long in
+      ∙ length-in_order low high order stride bf n old block-fit ∙ long in
       same-columns k.zero stride (2 ^ n) now (scaled k scale made) wide (kept ∙ long) tall
-          (λ j inside.
+      (λ j inside.
       so_far.done j (omega (arith, inside, all))
       ∙ ap (scaled k scale)
-          (sym
-          (in_order-column low high order k.zero stride (2 ^ n) j bf n old inside long part-lanes))
+      (sym
+      (in_order-column low high order k.zero stride (2 ^ n) j bf n old inside long part-lanes))
       ∙ sym (scaled-column k laws stride (2 ^ n) j scale made))

@@ -28,9 +28,9 @@ module _ {F : Type 0} (low high : F → F → F → F) (width : ℕ) (fs : ℕ �
   descending-from n (suc k) m xs e =
       let here : n - 1 - k ≡ m = omega (arith, e) in
       ap
-          (λ a. descending low high width fs m
-          (layer low high (2 ^ a * width) (fs a)
-          (in_order low high (λ s. n - 1 - s) width fs k xs))) here
+      (λ a. descending low high width fs m
+      (layer low high (2 ^ a * width) (fs a)
+      (in_order low high (λ s. n - 1 - s) width fs k xs))) here
       ∙ descending-from n k (suc m) xs (omega (arith, e))
 
   pub in_order-descending : (n : ℕ) (xs : List F) → in_order low high (λ s. n - 1 - s) width fs n xs
@@ -54,7 +54,7 @@ module _ {F : Type 0} (low high : F → F → F → F) (width : ℕ) (fs : ℕ �
       let e : suc (m + k) ≡ m + suc k = omega arith in
       descending-more m k (layer low high (2 ^ k * (2 ^ m * width)) (fs (m + k)) xs)
       ∙ ap (λ h. descending low high width fs (m + k) (layer low high h (fs (m + k)) xs))
-          (sym (lanes-of-rows m k width))
+      (sym (lanes-of-rows m k width))
       ∙ ap (λ a. descending low high width fs a xs) e
 
   -- the layers below m, and then the k from there on
@@ -67,7 +67,7 @@ module _ {F : Type 0} (low high : F → F → F → F) (width : ℕ) (fs : ℕ �
       let e : suc (m + k) ≡ m + suc k = omega arith in
       ap (layer low high (2 ^ k * (2 ^ m * width)) (fs (m + k))) (ascending-more m k xs)
       ∙ ap (λ h. layer low high h (fs (m + k)) (ascending low high width fs (m + k) xs))
-          (sym (lanes-of-rows m k width))
+      (sym (lanes-of-rows m k width))
       ∙ ap (λ a. ascending low high width fs a xs) e
 
 -- k of the elements of a list from m on
@@ -81,7 +81,7 @@ pub factors-part : {F : Type 0} (twiddles : List (Vec F Global)) (m k l : ℕ) �
 factors-part twiddles m k l below =
     let all = map (λ v. v.items) twiddles in
     ap (λ xs. slice_index_or xs l []) (sym (take-map (λ v. v.items) k (drop m twiddles))
-        ∙ ap (take k) (sym (drop-map (λ v. v.items) m twiddles)))
+    ∙ ap (take k) (sym (drop-map (λ v. v.items) m twiddles)))
     ∙ get_or-take k (drop m all) l [] below ∙ get_or-drop m all l []
 
 -- what 1 << m is
@@ -142,58 +142,58 @@ module _ {F : Type 0} {twiddles : List (Vec F Global)} {width count : ℕ}
     layers-part l inside =
         let below : l < k = omega (arith, inside, length-part twiddles m k within) in
         let half : 2 ^ l * (rows m * width) ≡ 2 ^ (m + l) * width =
-            ap (λ a. 2 ^ l * (a * width)) rows-is ∙ sym (lanes-of-rows m l width) in
+        ap (λ a. 2 ^ l * (a * width)) rows-is ∙ sym (lanes-of-rows m l width) in
         ap (λ a. length (factors_at (take k (drop m twiddles)) l) * (a + a)) half
         ∙ ap (λ ts. length ts * (2 ^ (m + l) * width + 2 ^ (m + l) * width))
-            (factors-part twiddles m k l below) ∙ all.are (m + l) (omega (arith, within, below))
+        (factors-part twiddles m k l below) ∙ all.are (m + l) (omega (arith, within, below))
 
     -- their pass
     pass-part : (low high : F → F → F → F) (order : ℕ → ℕ → ℕ) (xs : List F) →
         ((s : ℕ) → s < k → order k s < k) →
         in_order low high (order (length (take k (drop m twiddles)))) (rows m * width)
-            (factors_at (take k (drop m twiddles))) (length (take k (drop m twiddles))) xs
+        (factors_at (take k (drop m twiddles))) (length (take k (drop m twiddles))) xs
         ≡ in_order low high (order k) (2 ^ m * width) (λ i. factors_at twiddles (m + i)) k xs
     pass-part low high order xs orders =
         ap
-            (λ n. in_order low high (order n) (rows m * width)
-            (factors_at (take k (drop m twiddles))) n xs) (length-part twiddles m k within)
+        (λ n. in_order low high (order n) (rows m * width)
+        (factors_at (take k (drop m twiddles))) n xs) (length-part twiddles m k within)
         ∙ ap (λ a. in_order low high (order k) (a * width) (factors_at (take k (drop m twiddles))) k
-            xs) rows-is
+        xs) rows-is
         ∙ in_order-same low high (order k) (2 ^ m * width) (factors_at (take k (drop m twiddles)))
-            (λ i. factors_at twiddles (m + i)) k xs
-            (λ s h. factors-part twiddles m k (order k s) (orders s h))
+        (λ i. factors_at twiddles (m + i)) k xs
+        (λ s h. factors-part twiddles m k (order k s) (orders s h))
 
     -- before the layers below them
     pub pass-descending : (low high : F → F → F → F) (xs : List F) →
         descending low high width (factors_at twiddles) m
         (in_order low high (λ s. length (take k (drop m twiddles)) - 1 - s) (rows m * width)
-            (factors_at (take k (drop m twiddles))) (length (take k (drop m twiddles))) xs)
+        (factors_at (take k (drop m twiddles))) (length (take k (drop m twiddles))) xs)
         ≡ descending low high width (factors_at twiddles) (m + k) xs
     pass-descending low high xs =
         ap (descending low high width (factors_at twiddles) m)
         (pass-part low high (λ n s. n - 1 - s) xs (λ s h. omega (arith, h))
-            ∙ in_order-descending low high (2 ^ m * width) (λ i. factors_at twiddles (m + i)) k xs)
+        ∙ in_order-descending low high (2 ^ m * width) (λ i. factors_at twiddles (m + i)) k xs)
         ∙ descending-more low high width (factors_at twiddles) m k xs
 
     -- after the layers below them
     pub pass-ascending : (low high : F → F → F → F) (xs : List F) →
         in_order low high (λ s. s) (rows m * width) (factors_at (take k (drop m twiddles)))
-            (length (take k (drop m twiddles)))
-            (ascending low high width (factors_at twiddles) m xs)
+        (length (take k (drop m twiddles)))
+        (ascending low high width (factors_at twiddles) m xs)
         ≡ ascending low high width (factors_at twiddles) (m + k) xs
     pass-ascending low high xs =
         pass-part low high (λ n s. s) (ascending low high width (factors_at twiddles) m xs)
-            (λ s h. h)
+        (λ s h. h)
         ∙ in_order-ascending low high (2 ^ m * width) (λ i. factors_at twiddles (m + i)) k
-            (ascending low high width (factors_at twiddles) m xs)
+        (ascending low high width (factors_at twiddles) m xs)
         ∙ ascending-more low high width (factors_at twiddles) m k xs
 
     -- room for their butterflies, where h of each layer that is done are counted
     pub pass-room : (before now top done count' : ℕ) → count' ≡ count → length twiddles ≡ top
         + done → k ≤ top → before + length twiddles * count < 2 ^ 128 →
         now + top * length (factors_at twiddles 0) ≡ before
-            + length twiddles * length (factors_at twiddles 0) →
-            now + length (take k (drop m twiddles)) * count' < 2 ^ 128
+        + length twiddles * length (factors_at twiddles 0) →
+        now + length (take k (drop m twiddles)) * count' < 2 ^ 128
     pass-room before now top done count' same layers few room counted =
         let h = length (factors_at twiddles 0) in
         let first : 1 ≤ length twiddles = omega (arith, within, some_layer) in
@@ -202,9 +202,19 @@ module _ {F : Type 0} {twiddles : List (Vec F Global)} {width count : ℕ}
         let both : (top + done) * h ≡ top * h + done * h = omega arith in
         let whole : (top + done) * count ≡ top * count + done * count = omega arith in
         let taken : length (take k (drop m twiddles)) * count' ≡ k * count =
-            ap (λ n. n * count') (length-part twiddles m k within) ∙ ap (λ n. k * n) same in
-        omega (arith, counted, so_far, next, both, whole, taken, room, ap (λ n. n * h) layers,
-            ap (λ n. n * count) layers)
+        ap (λ n. n * count') (length-part twiddles m k within) ∙ ap (λ n. k * n) same in
+        omega (
+          arith,
+          counted,
+          so_far,
+          next,
+          both,
+          whole,
+          taken,
+          room,
+          ap (λ n. n * h) layers,
+          ap (λ n. n * count) layers,
+        )
 
     -- their butterflies, and those of the layers below
     pub pass-count : (half : ℕ) → (m + k) * half ≡ m * half

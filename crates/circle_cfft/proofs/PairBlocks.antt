@@ -27,34 +27,34 @@ module _ {F : Type 0} (low high : F → F → F → F) (quarter : ℕ) where
       length xs ≡ length us * ((quarter + quarter) + (quarter + quarter)) → length ls ≡ length us
       + length us →
       layer low high quarter (ls ++ ls')
-          (layer low high (quarter + quarter) (us ++ us') (xs ++ xs'))
+      (layer low high (quarter + quarter) (us ++ us') (xs ++ xs'))
       ≡ layer low high quarter ls (layer low high (quarter + quarter) us xs)
-          ++ layer low high quarter ls' (layer low high (quarter + quarter) us' xs')
+      ++ layer low high quarter ls' (layer low high (quarter + quarter) us' xs')
   descend-append us us' ls ls' xs xs' long two =
       let half = quarter + quarter in
       let kept : length (layer low high half us xs) ≡ length ls * half =
-          length-layer low high half us xs long ∙ long
-          ∙ (let e : length us * (half + half) ≡ (length us + length us) * half = omega arith in e)
-          ∙ ap (λ n. n * half) (sym two) in
+      length-layer low high half us xs long ∙ long
+      ∙ (let e : length us * (half + half) ≡ (length us + length us) * half = omega arith in e)
+      ∙ ap (λ n. n * half) (sym two) in
       ap (layer low high quarter (ls ++ ls')) (layer-append low high half us us' xs xs' long)
       ∙ layer-append low high quarter ls ls' (layer low high half us xs)
-          (layer low high half us' xs') kept
+      (layer low high half us' xs') kept
 
   ascend-append : (us us' ls ls' xs xs' : List F) →
       length xs ≡ length us * ((quarter + quarter) + (quarter + quarter)) → length ls ≡ length us
       + length us →
       layer low high (quarter + quarter) (us ++ us')
-          (layer low high quarter (ls ++ ls') (xs ++ xs'))
+      (layer low high quarter (ls ++ ls') (xs ++ xs'))
       ≡ layer low high (quarter + quarter) us (layer low high quarter ls xs)
-          ++ layer low high (quarter + quarter) us' (layer low high quarter ls' xs')
+      ++ layer low high (quarter + quarter) us' (layer low high quarter ls' xs')
   ascend-append us us' ls ls' xs xs' long two =
       let half = quarter + quarter in
       let lower : length xs ≡ length ls * half =
-          long ∙ (let e : length us * (half + half) ≡ (length us + length us) * half =
-          omega arith in e) ∙ ap (λ n. n * half) (sym two) in
+      long ∙ (let e : length us * (half + half) ≡ (length us + length us) * half =
+      omega arith in e) ∙ ap (λ n. n * half) (sym two) in
       ap (layer low high half (us ++ us')) (layer-append low high quarter ls ls' xs xs' lower)
       ∙ layer-append low high half us us' (layer low high quarter ls xs)
-          (layer low high quarter ls' xs') (length-layer low high quarter ls xs lower ∙ long)
+      (layer low high quarter ls' xs') (length-layer low high quarter ls xs lower ∙ long)
 
   module _ (uppers lowers : List F) where
     -- both layers of what is left from block i on, the upper first
@@ -72,7 +72,7 @@ module _ {F : Type 0} (low high : F → F → F → F) (quarter : ℕ) where
     module _ (i : ℕ) (t u v : F) (zs : List F) (len : ℕ) (two : length lowers ≡ length uppers
         + length uppers) (here : i < length uppers)
         (is_t : t ≡ slice_index_or uppers i t) (is_u : u ≡ slice_index_or lowers (2 * i) u)
-            (is_v : v ≡ slice_index_or lowers (2 * i + 1) v)
+        (is_v : v ≡ slice_index_or lowers (2 * i + 1) v)
         (size : len ≡ (quarter + quarter) + (quarter + quarter)) (enough : len ≤ length zs) where
       upper : drop i uppers ≡ t ∷ drop (i + 1) uppers
       upper = drop-one uppers i t here is_t
@@ -89,48 +89,48 @@ module _ {F : Type 0} (low high : F → F → F → F) (quarter : ℕ) where
           ++ descend_rest (i + 1) (drop len zs)
       descend_rest-more =
           ap
-              (λ ts. layer low high quarter (drop (i + i) lowers)
-              (layer low high (quarter + quarter) ts zs)) upper
+          (λ ts. layer low high quarter (drop (i + i) lowers)
+          (layer low high (quarter + quarter) ts zs)) upper
           ∙ ap
-              (λ ls. layer low high quarter ls
-              (layer low high (quarter + quarter) (t ∷ drop (i + 1) uppers) zs)) lower
+          (λ ls. layer low high quarter ls
+          (layer low high (quarter + quarter) (t ∷ drop (i + 1) uppers) zs)) lower
           ∙ ap
-              (λ xs. layer low high quarter (u ∷ v ∷ drop ((i + 1) + (i + 1)) lowers)
-              (layer low high (quarter + quarter) (t ∷ drop (i + 1) uppers) xs))
-              (sym (take-append-drop len zs))
+          (λ xs. layer low high quarter (u ∷ v ∷ drop ((i + 1) + (i + 1)) lowers)
+          (layer low high (quarter + quarter) (t ∷ drop (i + 1) uppers) xs))
+          (sym (take-append-drop len zs))
           ∙ descend-append (t ∷ []) (drop (i + 1) uppers) (u ∷ v ∷ [])
-              (drop ((i + 1) + (i + 1)) lowers) (take len zs) (drop len zs) one_block refl
+          (drop ((i + 1) + (i + 1)) lowers) (take len zs) (drop len zs) one_block refl
 
       pub ascend_rest-more : ascend_rest i zs
           ≡ layer low high (quarter + quarter) (t ∷ [])
           (layer low high quarter (u ∷ v ∷ []) (take len zs)) ++ ascend_rest (i + 1) (drop len zs)
       ascend_rest-more =
           ap
-              (λ ts. layer low high (quarter + quarter) ts
-              (layer low high quarter (drop (i + i) lowers) zs)) upper
+          (λ ts. layer low high (quarter + quarter) ts
+          (layer low high quarter (drop (i + i) lowers) zs)) upper
           ∙ ap
-              (λ ls. layer low high (quarter + quarter) (t ∷ drop (i + 1) uppers)
-              (layer low high quarter ls zs)) lower
+          (λ ls. layer low high (quarter + quarter) (t ∷ drop (i + 1) uppers)
+          (layer low high quarter ls zs)) lower
           ∙ ap
-              (λ xs. layer low high (quarter + quarter) (t ∷ drop (i + 1) uppers)
-              (layer low high quarter (u ∷ v ∷ drop ((i + 1) + (i + 1)) lowers) xs))
-              (sym (take-append-drop len zs))
+          (λ xs. layer low high (quarter + quarter) (t ∷ drop (i + 1) uppers)
+          (layer low high quarter (u ∷ v ∷ drop ((i + 1) + (i + 1)) lowers) xs))
+          (sym (take-append-drop len zs))
           ∙ ascend-append (t ∷ []) (drop (i + 1) uppers) (u ∷ v ∷ [])
-              (drop ((i + 1) + (i + 1)) lowers) (take len zs) (drop len zs) one_block refl
+          (drop ((i + 1) + (i + 1)) lowers) (take len zs) (drop len zs) one_block refl
 
     pub descend_rest-none : (i : ℕ) → length lowers ≡ length uppers + length uppers →
         i ≡ length uppers → descend_rest i [] ≡ []
     descend_rest-none i two end =
         ap
-            (λ ts. layer low high quarter (drop (i + i) lowers)
-            (layer low high (quarter + quarter) ts [])) (drop_all i uppers (omega (arith, end)))
+        (λ ts. layer low high quarter (drop (i + i) lowers)
+        (layer low high (quarter + quarter) ts [])) (drop_all i uppers (omega (arith, end)))
         ∙ ap (λ ls. layer low high quarter ls [])
-            (drop_all (i + i) lowers (omega (arith, end, two)))
+        (drop_all (i + i) lowers (omega (arith, end, two)))
 
     pub ascend_rest-none : (i : ℕ) → length lowers ≡ length uppers + length uppers →
         i ≡ length uppers → ascend_rest i [] ≡ []
     ascend_rest-none i two end =
         ap
-            (λ ts. layer low high (quarter + quarter) ts
-            (layer low high quarter (drop (i + i) lowers) []))
-            (drop_all i uppers (omega (arith, end)))
+        (λ ts. layer low high (quarter + quarter) ts
+        (layer low high quarter (drop (i + i) lowers) []))
+        (drop_all i uppers (omega (arith, end)))

@@ -29,16 +29,22 @@ module _ {F : Type 0} (low high : F → F → F → F) (half : ℕ) where
       let rest = drop (half + half) xs in
       let la : length a ≡ half = length-take-le half xs (omega (arith, total)) in
       let lb : length b ≡ half =
-          length-take-le half (drop half xs) (omega (arith, total, length-drop half xs)) in
+      length-take-le half (drop half xs) (omega (arith, total, length-drop half xs)) in
       let ll : length (pairwise (low t) a b) ≡ half = length-pairwise (low t) a b (la ∙ sym lb)
-          ∙ la in
+      ∙ la in
       let lu : length (pairwise (high t) a b) ≡ half = length-pairwise (high t) a b (la ∙ sym lb)
-          ∙ la in
+      ∙ la in
       let more : length rest ≡ n = length-drop (half + half) xs ∙ omega (arith, total) in
       let lz : length (layer low high half ts rest) ≡ n = length-layer ts rest more ∙ more in
       length-append (pairwise (low t) a b ++ pairwise (high t) a b) (layer low high half ts rest)
-      ∙ omega (arith, length-append (pairwise (low t) a b) (pairwise (high t) a b), ll, lu, lz,
-          total)
+      ∙ omega (
+        arith,
+        length-append (pairwise (low t) a b) (pairwise (high t) a b),
+        ll,
+        lu,
+        lz,
+        total,
+      )
 
   -- the blocks of a list and then those of another
   pub layer-append : (ts ts' xs xs' : List F) → length xs ≡ length ts * (half + half) →
@@ -55,20 +61,20 @@ module _ {F : Type 0} (low high : F → F → F → F) (half : ℕ) where
       let first : take half (xs ++ xs') ≡ a = take-append-le half xs xs' (omega (arith, total)) in
       let second : take half (drop half (xs ++ xs')) ≡ b =
       ap (take half) (drop-append-le half xs xs' (omega (arith, total)))
-          ∙ take-append-le half (drop half xs) xs' (omega (arith, total, length-drop half xs)) in
+      ∙ take-append-le half (drop half xs) xs' (omega (arith, total, length-drop half xs)) in
       let after : drop (half + half) (xs ++ xs') ≡ rest ++ xs' =
-          drop-append-le (half + half) xs xs' (omega (arith, total)) in
+      drop-append-le (half + half) xs xs' (omega (arith, total)) in
       let more : length rest ≡ n = length-drop (half + half) xs ∙ omega (arith, total) in
       let z = layer low high half (ts ++ ts') (drop (half + half) (xs ++ xs')) in
       ap
-          (λ x. (pairwise (low t) x (take half (drop half (xs ++ xs')))
-          ++ pairwise (high t) x (take half (drop half (xs ++ xs')))) ++ z) first
+      (λ x. (pairwise (low t) x (take half (drop half (xs ++ xs')))
+      ++ pairwise (high t) x (take half (drop half (xs ++ xs')))) ++ z) first
       ∙ ap (λ y. (pairwise (low t) a y ++ pairwise (high t) a y) ++ z) second
       ∙ ap (λ r. (pairwise (low t) a b ++ pairwise (high t) a b) ++ r)
-          (ap (layer low high half (ts ++ ts')) after ∙ layer-append ts ts' rest xs' more)
+      (ap (layer low high half (ts ++ ts')) after ∙ layer-append ts ts' rest xs' more)
       ∙ sym
-          (append_assoc (pairwise (low t) a b ++ pairwise (high t) a b)
-          (layer low high half ts rest) (layer low high half ts' xs'))
+      (append_assoc (pairwise (low t) a b ++ pairwise (high t) a b)
+      (layer low high half ts rest) (layer low high half ts' xs'))
 
   -- a block alone, of two halves
   pub layer-one : (t : F) (xs ys : List F) → length xs ≡ half → length ys ≡ half →
@@ -76,10 +82,10 @@ module _ {F : Type 0} (low high : F → F → F → F) (half : ℕ) where
   layer-one t xs ys ex ey =
       let first : take half (xs ++ ys) ≡ xs = take_at xs ys half ex in
       let second : take half (drop half (xs ++ ys)) ≡ ys = ap (take half) (drop_at xs ys half ex)
-          ∙ take_all half ys (omega (arith, ey)) in
+      ∙ take_all half ys (omega (arith, ey)) in
       ap
-          (λ x. (pairwise (low t) x (take half (drop half (xs ++ ys)))
-          ++ pairwise (high t) x (take half (drop half (xs ++ ys)))) ++ []) first
+      (λ x. (pairwise (low t) x (take half (drop half (xs ++ ys)))
+      ++ pairwise (high t) x (take half (drop half (xs ++ ys)))) ++ []) first
       ∙ ap (λ y. (pairwise (low t) xs y ++ pairwise (high t) xs y) ++ []) second
       ∙ append-nil (pairwise (low t) xs ys ++ pairwise (high t) xs ys)
 
@@ -87,49 +93,49 @@ module _ {F : Type 0} (low high : F → F → F → F) (half : ℕ) where
   pub layer-two : (u v : F) (xs ys zs ws : List F) → length xs ≡ half → length ys ≡ half →
       length zs ≡ half → length ws ≡ half →
       layer low high half (u ∷ v ∷ []) ((xs ++ ys) ++ (zs ++ ws))
-          ≡ (pairwise (low u) xs ys ++ pairwise (high u) xs ys)
-          ++ (pairwise (low v) zs ws ++ pairwise (high v) zs ws)
+      ≡ (pairwise (low u) xs ys ++ pairwise (high u) xs ys)
+      ++ (pairwise (low v) zs ws ++ pairwise (high v) zs ws)
   layer-two u v xs ys zs ws ex ey ez ew =
       layer-append (u ∷ []) (v ∷ []) (xs ++ ys) (zs ++ ws)
-          (length-append xs ys ∙ omega (arith, ex, ey))
+      (length-append xs ys ∙ omega (arith, ex, ey))
       ∙ ap (λ x. x ++ layer low high half (v ∷ []) (zs ++ ws)) (layer-one u xs ys ex ey)
       ∙ ap (λ x. (pairwise (low u) xs ys ++ pairwise (high u) xs ys) ++ x) (layer-one v zs ws ez ew)
 
 module _ {F : Type 0} (low high : F → F → F → F) (quarter : ℕ) (t u v : F) (a b c d : List F)
     (ea : length a ≡ quarter) (eb : length b ≡ quarter) (ec : length c ≡ quarter)
-        (ed : length d ≡ quarter) where
+    (ed : length d ≡ quarter) where
   -- a block by its quarters, the upper layer first
   pub descend-quarters : layer low high quarter (u ∷ v ∷ [])
       (layer low high (quarter + quarter) (t ∷ []) ((a ++ b) ++ (c ++ d)))
       ≡ (pairwise (low u) (pairwise (low t) a c) (pairwise (low t) b d)
-          ++ pairwise (high u) (pairwise (low t) a c) (pairwise (low t) b d))
+      ++ pairwise (high u) (pairwise (low t) a c) (pairwise (low t) b d))
       ++ (pairwise (low v) (pairwise (high t) a c) (pairwise (high t) b d)
-          ++ pairwise (high v) (pairwise (high t) a c) (pairwise (high t) b d))
+      ++ pairwise (high v) (pairwise (high t) a c) (pairwise (high t) b d))
   descend-quarters =
       let whole : layer low high (quarter + quarter) (t ∷ []) ((a ++ b) ++ (c ++ d)) ≡
-          (pairwise (low t) a c ++ pairwise (low t) b d) ++
-          (pairwise (high t) a c ++ pairwise (high t) b d) =
+      (pairwise (low t) a c ++ pairwise (low t) b d) ++
+      (pairwise (high t) a c ++ pairwise (high t) b d) =
       layer-one low high (quarter + quarter) t (a ++ b) (c ++ d)
-          (length-append a b ∙ omega (arith, ea, eb)) (length-append c d ∙ omega (arith, ec, ed))
+      (length-append a b ∙ omega (arith, ea, eb)) (length-append c d ∙ omega (arith, ec, ed))
       ∙ ap (λ x. x ++ pairwise (high t) (a ++ b) (c ++ d))
-          (pairwise-append (low t) a c b d (ea ∙ sym ec))
+      (pairwise-append (low t) a c b d (ea ∙ sym ec))
       ∙ ap (λ x. (pairwise (low t) a c ++ pairwise (low t) b d) ++ x)
-          (pairwise-append (high t) a c b d (ea ∙ sym ec)) in
+      (pairwise-append (high t) a c b d (ea ∙ sym ec)) in
       ap (layer low high quarter (u ∷ v ∷ [])) whole
       ∙ layer-two low high quarter u v (pairwise (low t) a c) (pairwise (low t) b d)
-          (pairwise (high t) a c) (pairwise (high t) b d)
+      (pairwise (high t) a c) (pairwise (high t) b d)
       (length-pairwise (low t) a c (ea ∙ sym ec) ∙ ea) (length-pairwise (low t) b d (eb ∙ sym ed)
-          ∙ eb)
+      ∙ eb)
       (length-pairwise (high t) a c (ea ∙ sym ec) ∙ ea) (length-pairwise (high t) b d (eb ∙ sym ed)
-          ∙ eb)
+      ∙ eb)
 
   -- and the lower layer first
   pub ascend-quarters : layer low high (quarter + quarter) (t ∷ [])
       (layer low high quarter (u ∷ v ∷ []) ((a ++ b) ++ (c ++ d)))
       ≡ (pairwise (low t) (pairwise (low u) a b) (pairwise (low v) c d)
-          ++ pairwise (low t) (pairwise (high u) a b) (pairwise (high v) c d))
+      ++ pairwise (low t) (pairwise (high u) a b) (pairwise (high v) c d))
       ++ (pairwise (high t) (pairwise (low u) a b) (pairwise (low v) c d)
-          ++ pairwise (high t) (pairwise (high u) a b) (pairwise (high v) c d))
+      ++ pairwise (high t) (pairwise (high u) a b) (pairwise (high v) c d))
   ascend-quarters =
       let x = pairwise (low u) a b in
       let y = pairwise (high u) a b in
@@ -140,13 +146,13 @@ module _ {F : Type 0} (low high : F → F → F → F) (quarter : ℕ) (t u v : 
       let ez : length z ≡ quarter = length-pairwise (low v) c d (ec ∙ sym ed) ∙ ec in
       let ew : length w ≡ quarter = length-pairwise (high v) c d (ec ∙ sym ed) ∙ ec in
       ap (layer low high (quarter + quarter) (t ∷ []))
-          (layer-two low high quarter u v a b c d ea eb ec ed)
+      (layer-two low high quarter u v a b c d ea eb ec ed)
       ∙ layer-one low high (quarter + quarter) t (x ++ y) (z ++ w)
-          (length-append x y ∙ omega (arith, ex, ey)) (length-append z w ∙ omega (arith, ez, ew))
+      (length-append x y ∙ omega (arith, ex, ey)) (length-append z w ∙ omega (arith, ez, ew))
       ∙ ap (λ p. p ++ pairwise (high t) (x ++ y) (z ++ w))
-          (pairwise-append (low t) x z y w (ex ∙ sym ez))
+      (pairwise-append (low t) x z y w (ex ∙ sym ez))
       ∙ ap (λ p. (pairwise (low t) x z ++ pairwise (low t) y w) ++ p)
-          (pairwise-append (high t) x z y w (ex ∙ sym ez))
+      (pairwise-append (high t) x z y w (ex ∙ sym ez))
 
 map-pairwise : {F : Type 0} (h : F → F) (f : F → F → F) (xs ys : List F) → map h (pairwise f xs ys)
     ≡ pairwise (λ x y. h (f x y)) xs ys
@@ -158,19 +164,19 @@ map-four : {F : Type 0} (h : F → F) (a b c d : List F) → map h ((a ++ b) ++ 
     ≡ (map h a ++ map h b) ++ (map h c ++ map h d)
 map-four h a b c d =
     map-append h (a ++ b) (c ++ d) ∙ ap (λ x. x ++ map h (c ++ d)) (map-append h a b)
-        ∙ ap (λ x. (map h a ++ map h b) ++ x) (map-append h c d)
+    ∙ ap (λ x. (map h a ++ map h b) ++ x) (map-append h c d)
 
 -- four parts that are each known
 four-same : {F : Type 0} (a' b' c' d' a b c d : List F) → a' ≡ a → b' ≡ b → c' ≡ c → d' ≡ d →
     (a' ++ b') ++ (c' ++ d') ≡ (a ++ b) ++ (c ++ d)
 four-same a' b' c' d' a b c d ea eb ec ed =
     ap (λ x. (x ++ b') ++ (c' ++ d')) ea ∙ ap (λ x. (a ++ x) ++ (c' ++ d')) eb
-        ∙ ap (λ x. (a ++ b) ++ (x ++ d')) ec ∙ ap (λ x. (a ++ b) ++ (c ++ x)) ed
+    ∙ ap (λ x. (a ++ b) ++ (x ++ d')) ec ∙ ap (λ x. (a ++ b) ++ (c ++ x)) ed
 
 module _ {F : Type 0} (low high : F → F → F → F) (quarter : ℕ) (t u v : F)
     (block front back a b c d a' b' c' d' : List F)
     (ea : length a ≡ quarter) (eb : length b ≡ quarter) (ec : length c ≡ quarter)
-        (ed : length d ≡ quarter)
+    (ed : length d ≡ quarter)
     (halves : block ≡ front ++ back) (front_is : front ≡ a ++ b) (back_is : back ≡ c ++ d) where
   whole : block ≡ (a ++ b) ++ (c ++ d)
   whole = halves ∙ ap (λ x. x ++ back) front_is ∙ ap (λ x. (a ++ b) ++ x) back_is
@@ -179,15 +185,15 @@ module _ {F : Type 0} (low high : F → F → F → F) (quarter : ℕ) (t u v : 
   pub descend-block : a' ≡ pairwise (low u) (pairwise (low t) a c) (pairwise (low t) b d) →
       b' ≡ pairwise (high u) (pairwise (low t) a c) (pairwise (low t) b d) →
       c' ≡ pairwise (low v) (pairwise (high t) a c) (pairwise (high t) b d) →
-          d' ≡ pairwise (high v) (pairwise (high t) a c) (pairwise (high t) b d) →
+      d' ≡ pairwise (high v) (pairwise (high t) a c) (pairwise (high t) b d) →
       (a' ++ b') ++ (c' ++ d')
-          ≡ layer low high quarter (u ∷ v ∷ []) (layer low high (quarter + quarter) (t ∷ []) block)
+      ≡ layer low high quarter (u ∷ v ∷ []) (layer low high (quarter + quarter) (t ∷ []) block)
   descend-block ea' eb' ec' ed' =
       four-same a' b' c' d' _ _ _ _ ea' eb' ec' ed'
       ∙ sym (descend-quarters low high quarter t u v a b c d ea eb ec ed)
       ∙ ap
-          (λ xs. layer low high quarter (u ∷ v ∷ [])
-          (layer low high (quarter + quarter) (t ∷ []) xs)) (sym whole)
+      (λ xs. layer low high quarter (u ∷ v ∷ [])
+      (layer low high (quarter + quarter) (t ∷ []) xs)) (sym whole)
 
   -- and the lower layer first, where each entry is finished
   pub ascend-block : (finish : F → F) →
@@ -196,21 +202,21 @@ module _ {F : Type 0} (low high : F → F → F → F) (quarter : ℕ) (t u v : 
       c' ≡ pairwise (λ x y. finish (high t x y)) (pairwise (low u) a b) (pairwise (low v) c d) →
       d' ≡ pairwise (λ x y. finish (high t x y)) (pairwise (high u) a b) (pairwise (high v) c d) →
       (a' ++ b') ++ (c' ++ d')
-          ≡ map finish
-          (layer low high (quarter + quarter) (t ∷ []) (layer low high quarter (u ∷ v ∷ []) block))
+      ≡ map finish
+      (layer low high (quarter + quarter) (t ∷ []) (layer low high quarter (u ∷ v ∷ []) block))
   ascend-block finish ea' eb' ec' ed' =
       let x = pairwise (low u) a b in
       let y = pairwise (high u) a b in
       let z = pairwise (low v) c d in
       let w = pairwise (high v) c d in
       four-same a' b' c' d' (map finish (pairwise (low t) x z)) (map finish (pairwise (low t) y w))
-          (map finish (pairwise (high t) x z)) (map finish (pairwise (high t) y w))
+      (map finish (pairwise (high t) x z)) (map finish (pairwise (high t) y w))
       (ea' ∙ sym (map-pairwise finish (low t) x z)) (eb' ∙ sym (map-pairwise finish (low t) y w))
-          (ec' ∙ sym (map-pairwise finish (high t) x z))
-          (ed' ∙ sym (map-pairwise finish (high t) y w))
+      (ec' ∙ sym (map-pairwise finish (high t) x z))
+      (ed' ∙ sym (map-pairwise finish (high t) y w))
       ∙ sym (map-four finish (pairwise (low t) x z) (pairwise (low t) y w) (pairwise (high t) x z)
-          (pairwise (high t) y w))
+      (pairwise (high t) y w))
       ∙ ap (map finish) (sym (ascend-quarters low high quarter t u v a b c d ea eb ec ed)
-          ∙ ap
-          (λ xs. layer low high (quarter + quarter) (t ∷ [])
-          (layer low high quarter (u ∷ v ∷ []) xs)) (sym whole))
+      ∙ ap
+      (λ xs. layer low high (quarter + quarter) (t ∷ [])
+      (layer low high quarter (u ∷ v ∷ []) xs)) (sym whole))

@@ -21,9 +21,9 @@ use Rattle.circle_cfft.proofs.QuarterTurns.{with_turns, second_layer-is, quarter
 abbrev pub Quads : {F : Type 0} → FieldOps F → List F → List F → Type 0
 Quads {F = F} k xs ys = (j : ℕ) (d : F) → 4 * j + 3 < length xs →
     (twice k (slice_index_or xs (4 * j) d) (slice_index_or xs (4 * j + 1) d)
-        ≡ slice_index_or ys (2 * j + 1) d)
+    ≡ slice_index_or ys (2 * j + 1) d)
     × (twice k (slice_index_or xs (4 * j + 2) d) (slice_index_or xs (4 * j + 3) d)
-        ≡ k.neg (slice_index_or ys (2 * j) d))
+    ≡ k.neg (slice_index_or ys (2 * j) d))
 
 module _ {F : Type 0} {k : FieldOps F} (laws : RingLaws k) where
   -- the double of a sum
@@ -32,7 +32,7 @@ module _ {F : Type 0} {k : FieldOps F} (laws : RingLaws k) where
   double-sum p q =
       plus_assoc laws p q (plus k p q)
       ∙ ap (plus k p) (sym (plus_assoc laws q p q) ∙ ap (λ r. plus k r q) (plus_comm laws q p)
-          ∙ plus_assoc laws p q q)
+      ∙ plus_assoc laws p q q)
       ∙ sym (plus_assoc laws p p (plus k q q))
 
 module _ {F : Type 0} {k : FieldOps F} (laws : FieldLaws k) {gen : ℕ → Coordinates F} {bits : ℕ}
@@ -46,7 +46,7 @@ module _ {F : Type 0} {k : FieldOps F} (laws : FieldLaws k) {gen : ℕ → Coord
       all-append (IsOnCircle k) (block_starts k gen a m q) (block_starts k gen a m q')
       (starts-on_circle a m q (omega arith) on_circle)
       (starts-on_circle a m q' (omega arith)
-          (second_half-on_circle laws.ring gens (a + m) q (omega arith) on_circle))
+      (second_half-on_circle laws.ring gens (a + m) q (omega arith) on_circle))
 
   -- doubled, they are those of the doubled shift
   doubled-starts : (a m : ℕ) (q : Coordinates F) → a + suc m ≤ bits →
@@ -60,16 +60,16 @@ module _ {F : Type 0} {k : FieldOps F} (laws : FieldLaws k) {gen : ℕ → Coord
       let g = gen (suc (suc (a + m))) in
       let q' = plus k q g in
       ap
-          (λ n. map f (block_starts k gen a (suc (suc m)) q
-          ++ block_starts k gen a (suc (suc m)) (second_half k gen n q))) e
+      (λ n. map f (block_starts k gen a (suc (suc m)) q
+      ++ block_starts k gen a (suc (suc m)) (second_half k gen n q))) e
       ∙ map-append f (block_starts k gen a (suc (suc m)) q) (block_starts k gen a (suc (suc m)) q')
       ∙ ap (λ xs. xs ++ map f (block_starts k gen a (suc (suc m)) q'))
-          (doubled-starts a m q (omega arith))
+      (doubled-starts a m q (omega arith))
       ∙ ap (λ ys. block_starts k gen a (suc m) (f q) ++ ys) (doubled-starts a m q' (omega arith))
       ∙ ap (λ r. block_starts k gen a (suc m) (f q) ++ block_starts k gen a (suc m) r)
-          (double-sum laws.ring q g ∙ ap (plus k (f q)) (gens.doubled (suc (a + m)) (omega arith)))
+      (double-sum laws.ring q g ∙ ap (plus k (f q)) (gens.doubled (suc (a + m)) (omega arith)))
       ∙ ap (λ n. block_starts k gen a (suc m) (f q)
-          ++ block_starts k gen a (suc m) (second_half k gen n (f q))) (sym i)
+      ++ block_starts k gen a (suc m) (second_half k gen n (f q))) (sym i)
 
   -- a factor at a point is that of the layer before at the double
   doubled-factors : (i : ℕ) (ps : List (Coordinates F)) → AllByRecursion (IsOnCircle k) ps →
@@ -77,7 +77,7 @@ module _ {F : Type 0} {k : FieldOps F} (laws : FieldLaws k) {gen : ℕ → Coord
   doubled-factors i [] all = refl
   doubled-factors i (p ∷ ps) all =
       ap (λ x. iterated_x k i x ∷ map (factor k (suc (suc i))) ps)
-          (ap (λ q. q.x) (doubling laws.ring p all.0))
+      (ap (λ q. q.x) (doubling laws.ring p all.0))
       ∙ ap (λ rest. iterated_x k i (plus k p p).x ∷ rest) (doubled-factors i ps all.1)
 
   -- the layers above the second are those of the domain of half the size from the doubled shift on
@@ -90,7 +90,7 @@ module _ {F : Type 0} {k : FieldOps F} (laws : FieldLaws k) {gen : ℕ → Coord
       let b : a ≡ n - 1 - (suc i + 1) = omega arith in
       ap (λ j. map (factor k (suc (suc i))) (block_starts k gen a j s)) m
       ∙ doubled-factors i (block_starts k gen a (suc (suc (suc i))) s)
-          (starts-on_circle a (suc (suc (suc i))) s (omega arith) on_circle)
+      (starts-on_circle a (suc (suc (suc i))) s (omega arith) on_circle)
       ∙ ap (map (factor k (suc i))) (doubled-starts a (suc i) s (omega arith))
       ∙ ap (λ j. map (factor k (suc i)) (block_starts k gen a j (plus k s s))) r
       ∙ ap (λ j. map (factor k (suc i)) (block_starts k gen j (suc i + 1) (plus k s s))) b
@@ -125,19 +125,20 @@ module _ {F : Type 0} {k : FieldOps F} (laws : FieldLaws k) {gen : ℕ → Coord
       let moved : Expr = sum (prod x p) (minus (prod y q)) in
       let turned : Expr = minus (prod e y) in
       combine laws.ring (c.x ∷ c.y ∷ g.x ∷ g.y ∷ (gen 2).y ∷ [])
-          (sum (prod x turned) (prod x turned)) (double_x moved)
+      (sum (prod x turned) (prod x turned)) (double_x moved)
       (given (sum (prod y y) (minus (prod x x))) (sum (prod p p) (minus (prod q q))) (con 0)
       ∷ given (minus (sum (prod x x) (prod y y))) (sum (prod p p) (prod q q)) unit
       ∷ given (minus unit) (sum (prod x x) (prod y y)) unit
       ∷ given (sum (prod x y) (prod x y)) (sum (prod p q) (prod q p)) e
-      ∷ []) refl
-      (ap (λ r. r.x) (gens.doubled 2 fits) ∙ quarter-x laws gens (omega arith),
-          (gens.on_circle 3 fits, (on_circle, (ap (λ r. r.y) (gens.doubled 2 fits), tt))))
+      ∷ []) refl (
+        ap (λ r. r.x) (gens.doubled 2 fits) ∙ quarter-x laws gens (omega arith),
+        (gens.on_circle 3 fits, (on_circle, (ap (λ r. r.y) (gens.doubled 2 fits), tt))),
+      )
 
   -- and for the point moved so, by its own x coordinate
   second-product : 3 ≤ bits → (c : Coordinates F) → IsOnCircle k c →
       let r = plus k c (gen 3) in twice k r.x (k.neg (k.mul (gen 2).y r.y))
-          ≡ k.neg (doubled_x k c.x)
+      ≡ k.neg (doubled_x k c.x)
   second-product fits c on_circle =
       let g = gen 3 in
       let moved_x : Expr = sum (prod x p) (minus (prod y q)) in
@@ -145,16 +146,19 @@ module _ {F : Type 0} {k : FieldOps F} (laws : FieldLaws k) {gen : ℕ → Coord
       let turned : Expr = minus (prod e moved_y) in
       let less : Expr = sum (prod y y) (minus (prod x x)) in
       combine laws.ring (c.x ∷ c.y ∷ g.x ∷ g.y ∷ (gen 2).y ∷ [])
-          (sum (prod moved_x turned) (prod moved_x turned)) (minus (double_x x))
+      (sum (prod moved_x turned) (prod moved_x turned)) (minus (double_x x))
       (given (minus (sum (prod e (prod x y)) (prod e (prod x y))))
-          (sum (prod p p) (minus (prod q q))) (con 0)
+      (sum (prod p p) (minus (prod q q))) (con 0)
       ∷ given less (prod e e) unit
       ∷ given unit (sum (prod x x) (prod y y)) unit
       ∷ given (prod e less) (sum (prod p q) (prod q p)) e
-      ∷ []) refl
-      (ap (λ r. r.x) (gens.doubled 2 fits) ∙ quarter-x laws gens (omega arith),
-          (quarter-y laws gens (omega arith),
-          (on_circle, (ap (λ r. r.y) (gens.doubled 2 fits), tt))))
+      ∷ []) refl (
+        ap (λ r. r.x) (gens.doubled 2 fits) ∙ quarter-x laws gens (omega arith),
+        (
+          quarter-y laws gens (omega arith),
+          (on_circle, (ap (λ r. r.y) (gens.doubled 2 fits), tt)),
+        ),
+      )
 
   -- the factors of the second layer and of the third, by points of every sixteen
   second-quads : 3 ≤ bits → (cs : List (Coordinates F)) → AllByRecursion (IsOnCircle k) cs →
@@ -189,15 +193,15 @@ module _ {F : Type 0} {k : FieldOps F} (laws : FieldLaws k) {gen : ℕ → Coord
       let a : n - 3 ≡ suc (n - 4) = omega arith in
       let b : n - (2 + 1) ≡ suc (n - 4) = omega arith in
       let starts : block_starts k gen (n - 3) 3 s ≡ halves k gen 3 r =
-          ap (λ j. block_starts k gen j 3 s) a ∙ block_starts-halves k gen (n - 4) 3 s in
+      ap (λ j. block_starts k gen j 3 s) a ∙ block_starts-halves k gen (n - 4) 3 s in
       let second : layer_factors k gen n s 1 ≡ with_turns k (gen 2).y (halves k gen 3 r) =
       second_layer-is laws gens (omega arith) n s (omega arith)
-          ∙ ap (with_turns k (gen 2).y) starts in
+      ∙ ap (with_turns k (gen 2).y) starts in
       let third : layer_factors k gen n s 2 ≡ map (factor k 2) (halves k gen 3 r) =
       ap (λ j. map (factor k 2) (block_starts k gen j 3 s)) b
-          ∙ ap (map (factor k 2)) (block_starts-halves k gen (n - 4) 3 s) in
+      ∙ ap (map (factor k 2)) (block_starts-halves k gen (n - 4) 3 s) in
       subst (λ xs. Quads k xs (layer_factors k gen n s 2)) (sym second)
-          (subst (Quads k (with_turns k (gen 2).y (halves k gen 3 r))) (sym third)
+      (subst (Quads k (with_turns k (gen 2).y (halves k gen 3 r))) (sym third)
       (second-quads (omega arith) r (starts-on_circle (n - 4) 4 s (omega arith) on_circle)))
   layer-quads (suc i) n s some fits on_circle =
       let t = plus k s s in
@@ -205,10 +209,10 @@ module _ {F : Type 0} {k : FieldOps F} (laws : FieldLaws k) {gen : ℕ → Coord
       let g : suc (i + 1) ≡ suc i + 1 = omega arith in
       let low = doubled-layer i n s (omega arith) fits on_circle in
       let high : layer_factors k gen n s (suc (suc i) + 1) ≡ layer_factors k gen (n - 1) t
-          (suc i + 1) =
+      (suc i + 1) =
       ap (layer_factors k gen n s) f ∙ doubled-layer (i + 1) n s (omega arith) fits on_circle
-          ∙ ap (layer_factors k gen (n - 1) t) g in
+      ∙ ap (layer_factors k gen (n - 1) t) g in
       subst (λ xs. Quads k xs (layer_factors k gen n s (suc (suc i) + 1))) (sym low)
-          (subst (Quads k (layer_factors k gen (n - 1) t (suc i))) (sym high)
+      (subst (Quads k (layer_factors k gen (n - 1) t (suc i))) (sym high)
       (layer-quads i (n - 1) t (omega arith) (omega arith)
-          (plus-on_circle laws.ring s s on_circle on_circle)))
+      (plus-on_circle laws.ring s s on_circle on_circle)))

@@ -29,7 +29,7 @@ module _ {F : Type 0} {k : FieldOps F} (laws : RingLaws k) (gen : ℕ → Coordi
       ap (λ xs. xs ++ own (second_half k gen (a + suc m) (plus k s g))) (block_starts-moved a m s g)
       ∙ ap (λ i. moved (own s) ++ own (second_half k gen i (plus k s g))) e
       ∙ ap (λ p. moved (own s) ++ own p) (plus_assoc laws s g t ∙ ap (plus k s) (plus_comm laws g t)
-          ∙ sym (plus_assoc laws s t g))
+      ∙ sym (plus_assoc laws s t g))
       ∙ ap (λ ys. moved (own s) ++ ys) (block_starts-moved a m (plus k s t) g)
       ∙ sym (map-append (λ p. plus k p g) (own s) (own (plus k s t)))
       ∙ ap (λ i. moved (own s ++ own (second_half k gen i s))) (sym e)
@@ -37,7 +37,7 @@ module _ {F : Type 0} {k : FieldOps F} (laws : RingLaws k) (gen : ℕ → Coordi
   -- twice as many blocks
   pub block_starts-more : (a m : ℕ) (s : Coordinates F) →
       block_starts k gen (a + 1) (suc m) s ≡ block_starts k gen a (suc m) s
-          ++ map (λ p. plus k p (gen (a + suc m))) (block_starts k gen a (suc m) s)
+      ++ map (λ p. plus k p (gen (a + suc m))) (block_starts k gen a (suc m) s)
   block_starts-more a m s =
       let n : a + 1 ≡ suc a = omega arith in
       let e : a + suc m ≡ suc (a + m) = omega arith in
@@ -79,10 +79,13 @@ module _ {F : Type 0} {k : FieldOps F} (laws : FieldLaws k) {gen : ℕ → Coord
       ∷ given (sum (prod a h) (minus a)) (sum (prod a a) (prod b b)) unit
       ∷ given (prod h b) (sum (prod a b) (prod b a)) (con 0)
       ∷ given (minus (sum (prod a (prod a a)) (prod a (prod b b)))) (prod (sum unit unit) h) unit
-      ∷ []) refl
-      (ap (λ p. p.x) twice,
-          (gens.on_circle 2 fits,
-          (ap (λ p. p.y) twice, (laws.mul_inv (k.add k.one k.one) laws.two_nonzero, tt))))
+      ∷ []) refl (
+        ap (λ p. p.x) twice,
+        (
+          gens.on_circle 2 fits,
+          (ap (λ p. p.y) twice, (laws.mul_inv (k.add k.one k.one) laws.two_nonzero, tt)),
+        ),
+      )
 
   -- and a y coordinate whose square is 1
   pub quarter-y : k.mul (gen 2).y (gen 2).y ≡ k.one
@@ -100,7 +103,7 @@ module _ {F : Type 0} {k : FieldOps F} (laws : FieldLaws k) {gen : ℕ → Coord
       let some : d ≢ k.zero = λ z. ne (neg_zero_cancel laws.ring e k.one z) in
       combine laws.ring (e ∷ k.inv d ∷ []) a (minus unit)
       (given b (prod a a) unit ∷ given (minus (sum a unit)) (prod (sum a (minus unit)) b) unit ∷ [])
-          refl
+      refl
       (quarter-y, (laws.mul_inv d some, tt))
 
   -- where it is not 1, the product with it is the opposite
@@ -140,7 +143,7 @@ module _ {F : Type 0} {k : FieldOps F} (laws : FieldLaws k) {gen : ℕ → Coord
   with_turns-halves [] = refl
   with_turns-halves (q ∷ qs) =
       ap (λ z. q.x ∷ z ∷ map (λ p. p.x) (halves k gen 2 qs)) (turned-x q)
-          ∙ ap (λ rest. q.x ∷ k.neg (k.mul (gen 2).y q.y) ∷ rest) (with_turns-halves qs)
+      ∙ ap (λ rest. q.x ∷ k.neg (k.mul (gen 2).y q.y) ∷ rest) (with_turns-halves qs)
 
   -- the first points of the pairs of opposite points have the y coordinates that the second layer
   -- tells
@@ -150,8 +153,8 @@ module _ {F : Type 0} {k : FieldOps F} (laws : FieldLaws k) {gen : ℕ → Coord
   four-y (q ∷ qs) =
       let r = plus k q (gen 2) in
       same_four (sym (ap k.neg (own-y q.y) ∙ neg_neg laws.ring q.y))
-          (opposite-y q ∙ sym (own-y q.y)) (turned-y q) (opposite-y r ∙ ap k.neg (turned-y q))
-          (four-y qs)
+      (opposite-y q ∙ sym (own-y q.y)) (turned-y q) (opposite-y r ∙ ap k.neg (turned-y q))
+      (four-y qs)
 
   -- the second layer, of every fourth first point
   pub second_layer-is : (n : ℕ) (s : Coordinates F) → 3 ≤ n → layer_factors k gen n s 1
@@ -169,7 +172,7 @@ module _ {F : Type 0} {k : FieldOps F} (laws : FieldLaws k) {gen : ℕ → Coord
       let e : n - (0 + 1) ≡ suc (suc (n - 3)) = omega arith in
       ap (λ i. map (factor k 0) (block_starts k gen i 1 s)) e
       ∙ ap (map (factor k 0)) (block_starts-halves k gen (suc (n - 3)) 1 s
-          ∙ ap (halves k gen 1) (block_starts-halves k gen (n - 3) 2 s))
+      ∙ ap (halves k gen 1) (block_starts-halves k gen (n - 3) 2 s))
       ∙ four-y (block_starts k gen (n - 3) 3 s)
       ∙ ap (first_of_second k (gen 2).y) (sym (second_layer-is n s some))
 
@@ -182,7 +185,7 @@ module _ {F : Type 0} {k : FieldOps F} (laws : FieldLaws k) {gen : ℕ → Coord
       inverse_is (k.mul (gen 2).y z) (k.mul (gen 2).y (k.inv z))
       (combine laws.ring (z ∷ (gen 2).y ∷ k.inv z ∷ []) (prod (prod b h) (prod b a)) unit
       (given (prod a h) (prod b b) unit ∷ given unit (prod a h) unit ∷ []) refl
-          (quarter-y, (laws.mul_inv z some, tt)))
+      (quarter-y, (laws.mul_inv z some, tt)))
 
   -- and of its opposite
   opposite-inverse : (z : F) → z ≢ k.zero → k.neg (k.mul (gen 2).y (k.inv z))
@@ -190,9 +193,9 @@ module _ {F : Type 0} {k : FieldOps F} (laws : FieldLaws k) {gen : ℕ → Coord
   opposite-inverse z some =
       inverse_is (k.neg (k.mul (gen 2).y z)) (k.neg (k.mul (gen 2).y (k.inv z)))
       (combine laws.ring (z ∷ (gen 2).y ∷ k.inv z ∷ []) (prod (minus (prod b h)) (minus (prod b a)))
-          unit
+      unit
       (given (prod a h) (prod b b) unit ∷ given unit (prod a h) unit ∷ []) refl
-          (quarter-y, (laws.mul_inv z some, tt)))
+      (quarter-y, (laws.mul_inv z some, tt)))
 
   -- the inverses of the first layer, of those of the second
   pub first_layer-inverses : (xs : List F) → AllByRecursion (λ t. t ≢ k.zero) xs →
@@ -201,4 +204,4 @@ module _ {F : Type 0} {k : FieldOps F} (laws : FieldLaws k) {gen : ℕ → Coord
   first_layer-inverses (x ∷ []) some = refl
   first_layer-inverses (x ∷ z ∷ rest) some =
       same_four (opposite-inverse z some.1.0) (turned-inverse z some.1.0) (turned-inverse x some.0)
-          (opposite-inverse x some.0) (first_layer-inverses rest some.1.1)
+      (opposite-inverse x some.0) (first_layer-inverses rest some.1.1)

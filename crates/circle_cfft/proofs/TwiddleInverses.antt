@@ -14,7 +14,7 @@ use Rattle.circle_cfft.specs.Twiddles.{twice}
 set_four : {T : Type 0} (front : List T) (i : ℕ) (a b c d p q r s : T) (rest : List T) →
     length front ≡ i →
     slice_set (slice_set (slice_set (slice_set (front ++ (a ∷ b ∷ c ∷ d ∷ rest)) i p) (suc i) q)
-        (suc (suc i)) r) (suc (suc (suc i))) s ≡ front ++ (p ∷ q ∷ r ∷ s ∷ rest)
+    (suc (suc i)) r) (suc (suc (suc i))) s ≡ front ++ (p ∷ q ∷ r ∷ s ∷ rest)
 set_four [] zero a b c d p q r s rest e = refl
 set_four [] (suc i) a b c d p q r s rest e = absurd (omega arith)
 set_four (x ∷ front) zero a b c d p q r s rest e = absurd (omega arith)
@@ -37,12 +37,12 @@ module _ {T : Type 0} (xs : List T) (i : ℕ) (d : T) (h : i + 3 < length xs) wh
       let b = slice_index_or xs (i + 1) d in
       let c = slice_index_or xs (i + 2) d in
       drop_more xs i d (omega (arith, h))
-          ∙ ap (λ ys. a ∷ ys) (drop_more xs (i + 1) d (omega (arith, h))
-          ∙ ap (λ n. b ∷ drop n xs) one)
+      ∙ ap (λ ys. a ∷ ys) (drop_more xs (i + 1) d (omega (arith, h))
+      ∙ ap (λ n. b ∷ drop n xs) one)
       ∙ ap (λ ys. a ∷ b ∷ ys) (drop_more xs (i + 2) d (omega (arith, h))
-          ∙ ap (λ n. c ∷ drop n xs) two)
+      ∙ ap (λ n. c ∷ drop n xs) two)
       ∙ ap (λ ys. a ∷ b ∷ c ∷ ys)
-          (drop_more xs (i + 3) d h ∙ ap (λ n. slice_index_or xs (i + 3) d ∷ drop n xs) three)
+      (drop_more xs (i + 3) d h ∙ ap (λ n. slice_index_or xs (i + 3) d ∷ drop n xs) three)
 
   -- and its first i + 4 entries end with them
   take_four : take (i + 4) xs ≡ take i xs ++ four []
@@ -57,9 +57,9 @@ module _ {T : Type 0} (xs : List T) (i : ℕ) (d : T) (h : i + 3 < length xs) wh
       let e = slice_index_or xs (i + 3) d in
       ap (λ n. take n xs) three ∙ take_more xs (i + 3) d h
       ∙ ap (λ ys. ys ++ e ∷ [])
-          (ap (λ n. take n xs) two ∙ take_more xs (i + 2) d (omega (arith, h)))
+      (ap (λ n. take n xs) two ∙ take_more xs (i + 2) d (omega (arith, h)))
       ∙ ap (λ ys. (ys ++ c ∷ []) ++ e ∷ [])
-          (ap (λ n. take n xs) one ∙ take_more xs (i + 1) d (omega (arith, h)))
+      (ap (λ n. take n xs) one ∙ take_more xs (i + 1) d (omega (arith, h)))
       ∙ ap (λ ys. ((ys ++ b ∷ []) ++ c ∷ []) ++ e ∷ []) (take_more xs i d (omega (arith, h)))
       ∙ ap (λ ys. (ys ++ c ∷ []) ++ e ∷ []) (append_assoc front (a ∷ []) (b ∷ []))
       ∙ ap (λ ys. ys ++ e ∷ []) (append_assoc front (a ∷ b ∷ []) (c ∷ []))
@@ -74,9 +74,9 @@ same_four_values front rest e f g h = cc
 pub mapped_four : {T : Type 0} (f : T → T) (xs old : List T) (i j : ℕ) (d p q r s : T) →
     i + 3 < length xs → j ≡ i + 4 → old ≡ take j xs ++ map f (drop j xs) →
     p ≡ f (slice_index_or xs i d) → q ≡ f (slice_index_or xs (i + 1) d) →
-        r ≡ f (slice_index_or xs (i + 2) d) → s ≡ f (slice_index_or xs (i + 3) d) →
+    r ≡ f (slice_index_or xs (i + 2) d) → s ≡ f (slice_index_or xs (i + 3) d) →
     slice_set (slice_set (slice_set (slice_set old i p) (i + 1) q) (i + 2) r) (i + 3) s ≡ take i xs
-        ++ map f (drop i xs)
+    ++ map f (drop i xs)
 mapped_four f xs old i j d p q r s h next so_far pp qq rr ss =
     let one : i + 1 ≡ suc i = omega arith in
     let two : i + 2 ≡ suc (suc i) = omega arith in
@@ -89,22 +89,22 @@ mapped_four f xs old i j d p q r s h next so_far pp qq rr ss =
     let e = slice_index_or xs (i + 3) d in
     let split : old ≡ front ++ (a ∷ b ∷ c ∷ e ∷ rest) =
     so_far ∙ ap (λ n. take n xs ++ map f (drop n xs)) next
-        ∙ ap (λ ys. ys ++ rest) (take_four xs i d h)
-        ∙ append_assoc front (a ∷ b ∷ c ∷ e ∷ []) rest in
+    ∙ ap (λ ys. ys ++ rest) (take_four xs i d h)
+    ∙ append_assoc front (a ∷ b ∷ c ∷ e ∷ []) rest in
     ap (λ ys. slice_set (slice_set (slice_set (slice_set ys i p) (i + 1) q) (i + 2) r) (i + 3) s)
-        split
+    split
     ∙ ap
-        (λ n. slice_set
-        (slice_set (slice_set (slice_set (front ++ (a ∷ b ∷ c ∷ e ∷ rest)) i p) n q) (i + 2) r)
-        (i + 3) s) one
+    (λ n. slice_set
+    (slice_set (slice_set (slice_set (front ++ (a ∷ b ∷ c ∷ e ∷ rest)) i p) n q) (i + 2) r)
+    (i + 3) s) one
     ∙ ap
-        (λ n. slice_set
-        (slice_set (slice_set (slice_set (front ++ (a ∷ b ∷ c ∷ e ∷ rest)) i p) (suc i) q) n r)
-        (i + 3) s) two
+    (λ n. slice_set
+    (slice_set (slice_set (slice_set (front ++ (a ∷ b ∷ c ∷ e ∷ rest)) i p) (suc i) q) n r)
+    (i + 3) s) two
     ∙ ap
-        (λ n. slice_set
-        (slice_set (slice_set (slice_set (front ++ (a ∷ b ∷ c ∷ e ∷ rest)) i p) (suc i) q)
-        (suc (suc i)) r) n s) three
+    (λ n. slice_set
+    (slice_set (slice_set (slice_set (front ++ (a ∷ b ∷ c ∷ e ∷ rest)) i p) (suc i) q)
+    (suc (suc i)) r) n s) three
     ∙ set_four front i a b c e p q r s rest (length-take-le i xs (omega (arith, h)))
     ∙ same_four_values front rest pp qq rr ss
     ∙ ap (λ ys. front ++ map f ys) (sym (drop_four xs i d h))
@@ -152,9 +152,9 @@ module _ {F : Type 0} {k : FieldOps F} (laws : FieldLaws k) where
       let one : k.mul (k.mul t (k.add (k.inv u) (k.inv u))) s ≡ k.one =
       combine laws.ring (s ∷ t ∷ u ∷ k.inv u ∷ []) (prod (prod b (sum w w)) a) unit
       (given w (sum (prod a b) (prod a b)) v ∷ given unit (prod v w) unit ∷ []) refl
-          (e, (laws.mul_inv u some, tt)) in
+      (e, (laws.mul_inv u some, tt)) in
       inverse_unique laws s (k.mul t (k.add (k.inv u) (k.inv u)))
-          (nonzero_factor laws s (k.mul t (k.add (k.inv u) (k.inv u))) one) one
+      (nonzero_factor laws s (k.mul t (k.add (k.inv u) (k.inv u))) one) one
 
   -- from 2ab = -v and the inverse of v
   pub second-inverse : (s t u : F) → u ≢ k.zero → twice k s t ≡ k.neg u →
@@ -163,9 +163,9 @@ module _ {F : Type 0} {k : FieldOps F} (laws : FieldLaws k) where
       let one : k.mul (k.mul t (k.neg (k.add (k.inv u) (k.inv u)))) s ≡ k.one =
       combine laws.ring (s ∷ t ∷ u ∷ k.inv u ∷ []) (prod (prod b (minus (sum w w))) a) unit
       (given (minus w) (sum (prod a b) (prod a b)) (minus v) ∷ given unit (prod v w) unit ∷ []) refl
-          (e, (laws.mul_inv u some, tt)) in
+      (e, (laws.mul_inv u some, tt)) in
       inverse_unique laws s (k.mul t (k.neg (k.add (k.inv u) (k.inv u))))
-          (nonzero_factor laws s (k.mul t (k.neg (k.add (k.inv u) (k.inv u)))) one) one
+      (nonzero_factor laws s (k.mul t (k.neg (k.add (k.inv u) (k.inv u)))) one) one
 
   -- the order of the factors does not matter
   pub twice-comm : (s t : F) → twice k s t ≡ twice k t s

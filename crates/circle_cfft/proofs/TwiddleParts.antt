@@ -35,11 +35,11 @@ pub halving_parts-map : {A B : Type 0} (f : A → B) (count : ℕ) (xs : List A)
 halving_parts-map f zero xs = refl
 halving_parts-map f (suc count) xs =
     ap (λ part. part ∷ halving_parts count (drop (2 ^ count) (map f xs)))
-        (take-map f (2 ^ count) xs)
+    (take-map f (2 ^ count) xs)
     ∙ ap (λ rest. map f (take (2 ^ count) xs) ∷ halving_parts count rest)
-        (drop-map f (2 ^ count) xs)
+    (drop-map f (2 ^ count) xs)
     ∙ ap (λ rest. map f (take (2 ^ count) xs) ∷ rest)
-        (halving_parts-map f count (drop (2 ^ count) xs))
+    (halving_parts-map f count (drop (2 ^ count) xs))
 
 module _ {F : Type 0} (k : FieldOps F) where
   -- the layer after one
@@ -61,7 +61,7 @@ module _ {F : Type 0} (k : FieldOps F) where
   next-entry (x ∷ y ∷ xs) (suc i) d h =
       let e : 2 * suc i ≡ suc (suc (2 * i)) = omega arith in
       next-entry xs i d (omega arith) ∙ ap (λ j. doubled_x k (slice_index_or (x ∷ y ∷ xs) j d))
-          (sym e)
+      (sym e)
 
   -- each layer has half as many factors as the one before
   pub length-layers : (m : ℕ) (xs : List F) → length xs ≡ 2 ^ m → length (layers_from k (suc m) xs)
@@ -70,13 +70,13 @@ module _ {F : Type 0} (k : FieldOps F) where
   length-layers (suc m) xs long =
       let rest = layers_from k (suc m) (next xs) in
       let more : length rest + 1 ≡ 2 ^ m + 2 ^ m =
-          length-layers m (next xs) (length-next m xs long) in
+      length-layers m (next xs) (length-next m xs long) in
       ap (λ n. n + 1) (length-append xs rest) ∙ omega (arith, more, long, pow-suc 2 m)
 
   -- the entries after the lowest layer are made of those at twice their place
   doubled-entry : (m : ℕ) (xs : List F) (i : ℕ) (d : F) → length xs ≡ 2 ^ m → i + 1 < 2 ^ m →
       slice_index_or (layers_from k (suc m) xs) (2 ^ m + i) d
-          ≡ doubled_x k (slice_index_or (layers_from k (suc m) xs) (2 * i) d)
+      ≡ doubled_x k (slice_index_or (layers_from k (suc m) xs) (2 * i) d)
   doubled-entry zero xs i d long h = absurd (omega arith)
   doubled-entry (suc m) xs i d long h =
       let rest = layers_from k (suc m) (next xs) in
@@ -88,10 +88,10 @@ module _ {F : Type 0} (k : FieldOps F) where
       past ∙ ⊎_elim
       (λ low. let below : i < 2 ^ m = low in
       get_or_append_left (next xs) (layers_from k m (next (next xs))) d i
-          (omega (arith, half, below))
+      (omega (arith, half, below))
       ∙ next-entry xs i d (omega (arith, below, twice, long))
       ∙ ap (doubled_x k)
-          (sym (get_or_append_left xs rest d (2 * i) (omega (arith, below, twice, long)))))
+      (sym (get_or_append_left xs rest d (2 * i) (omega (arith, below, twice, long)))))
       (λ high. let above : 2 ^ m ≤ i = high in
       let j = i - 2 ^ m in
       let from : i ≡ 2 ^ m + j = omega (arith, above) in
@@ -99,24 +99,24 @@ module _ {F : Type 0} (k : FieldOps F) where
       ap (λ n. slice_index_or rest n d) from
       ∙ doubled-entry m (next xs) j d half (omega (arith, h, twice, above))
       ∙ ap (doubled_x k) (sym (get_or-append-add xs rest (2 * j) d)
-          ∙ ap (λ n. slice_index_or whole n d) double))
+      ∙ ap (λ n. slice_index_or whole n d) double))
       (cases_lt i (2 ^ m))
 
   -- one entry more
   pub layers-more : (m : ℕ) (xs made : List F) (i : ℕ) (d : F) → length xs ≡ 2 ^ m → i + 1 < 2 ^ m →
       made ≡ take (2 ^ m + i) (layers_from k (suc m) xs) →
       made ++ doubled_x k (slice_index_or made (2 * i) d) ∷ []
-          ≡ take (2 ^ m + (i + 1)) (layers_from k (suc m) xs)
+      ≡ take (2 ^ m + (i + 1)) (layers_from k (suc m) xs)
   layers-more m xs made i d long h so_far =
       let whole = layers_from k (suc m) xs in
       let more : 2 ^ m + i + 1 ≡ 2 ^ m + (i + 1) = omega arith in
       let within : 2 ^ m + i < length whole = omega (arith, h, length-layers m xs long) in
       let read : slice_index_or made (2 * i) d ≡ slice_index_or whole (2 * i) d =
       ap (λ ys. slice_index_or ys (2 * i) d) so_far
-          ∙ get_or-take (2 ^ m + i) whole (2 * i) d (omega (arith, h)) in
+      ∙ get_or-take (2 ^ m + i) whole (2 * i) d (omega (arith, h)) in
       ap (λ ys. ys ++ doubled_x k (slice_index_or made (2 * i) d) ∷ []) so_far
       ∙ ap (λ y. take (2 ^ m + i) whole ++ y ∷ [])
-          (ap (doubled_x k) read ∙ sym (doubled-entry m xs i d long h))
+      (ap (doubled_x k) read ∙ sym (doubled-entry m xs i d long h))
       ∙ sym (take_more whole (2 ^ m + i) d within)
       ∙ ap (λ n. take n whole) more
 
@@ -141,20 +141,20 @@ module _ {F : Type 0} (k : FieldOps F) where
       (λ low. let below : i < 2 ^ c = low in
       let q = quads i d (omega (arith, below, four, long)) in
       let read = λ (m : ℕ) (lt : m < 2 ^ suc (suc c)). get_or_append_left xs rest d m
-          (omega (arith, lt, long)) in (
+      (omega (arith, lt, long)) in (
         same_twice (read (4 * i) (omega (arith, below, four)))
             (read (4 * i + 1) (omega (arith, below, four)))
             ∙ q.0
-                ∙ sym
-                (above-read xs rest (2 ^ suc (suc c) + (2 * i + 1)) (2 * i + 1) d
-                (omega (arith, long))
-                ∙ get_or_append_left ys zs d (2 * i + 1) (omega (arith, below, two, half))),
+            ∙ sym
+            (above-read xs rest (2 ^ suc (suc c) + (2 * i + 1)) (2 * i + 1) d
+            (omega (arith, long))
+            ∙ get_or_append_left ys zs d (2 * i + 1) (omega (arith, below, two, half))),
         same_twice (read (4 * i + 2) (omega (arith, below, four)))
             (read (4 * i + 3) (omega (arith, below, four)))
             ∙ q.1
-                ∙ ap k.neg
-                (sym (above-read xs rest (2 ^ suc (suc c) + 2 * i) (2 * i) d (omega (arith, long))
-                ∙ get_or_append_left ys zs d (2 * i) (omega (arith, below, two, half)))),
+            ∙ ap k.neg
+            (sym (above-read xs rest (2 ^ suc (suc c) + 2 * i) (2 * i) d (omega (arith, long))
+            ∙ get_or_append_left ys zs d (2 * i) (omega (arith, below, two, half)))),
       ))
       (λ high. let above : 2 ^ c ≤ i = high in
       let j = i - 2 ^ c in
@@ -162,16 +162,16 @@ module _ {F : Type 0} (k : FieldOps F) where
         same_twice (above-read xs rest (4 * i) (4 * j) d (omega (arith, above, four, long)))
             (above-read xs rest (4 * i + 1) (4 * j + 1) d (omega (arith, above, four, long)))
             ∙ q.0
-                ∙ sym
-                (above-read xs rest (2 ^ suc (suc c) + (2 * i + 1)) (2 ^ suc c + (2 * j + 1)) d
-                (omega (arith, above, four, two, long))),
+            ∙ sym
+            (above-read xs rest (2 ^ suc (suc c) + (2 * i + 1)) (2 ^ suc c + (2 * j + 1)) d
+            (omega (arith, above, four, two, long))),
         same_twice (above-read xs rest (4 * i + 2) (4 * j + 2) d (omega (arith, above, four, long)))
             (above-read xs rest (4 * i + 3) (4 * j + 3) d (omega (arith, above, four, long)))
             ∙ q.1
-                ∙ ap k.neg
-                (sym
-                (above-read xs rest (2 ^ suc (suc c) + 2 * i) (2 ^ suc c + 2 * j) d
-                (omega (arith, above, four, two, long)))),
+            ∙ ap k.neg
+            (sym
+            (above-read xs rest (2 ^ suc (suc c) + 2 * i) (2 ^ suc c + 2 * j) d
+            (omega (arith, above, four, two, long)))),
       ))
       (cases_lt i (2 ^ c))
 
@@ -194,16 +194,16 @@ module _ {F : Type 0} (k : FieldOps F) (gen : ℕ → Coordinates F) where
   -- the parts are the layers
   parts-are : (count n j : ℕ) (s : Coordinates F) → 1 ≤ j → j + count ≡ n →
       halving_parts count (layers_from k count (layer_factors k gen n s j))
-          ≡ map (layer_factors k gen n s) (range_with_len j count)
+      ≡ map (layer_factors k gen n s) (range_with_len j count)
   parts-are zero n j s some e = refl
   parts-are (suc count) n j s some e =
       let f = layer_factors k gen n s in
       let rest = layers_from k count (next k (f j)) in
       let long = length-from count n j s e in
       ap (λ part. part ∷ halving_parts count (drop (2 ^ count) (f j ++ rest)))
-          (take_at (f j) rest (2 ^ count) long)
+      (take_at (f j) rest (2 ^ count) long)
       ∙ ap (λ others. f j ∷ halving_parts count others) (drop_at (f j) rest (2 ^ count) long
-          ∙ following count n j s some e)
+      ∙ following count n j s some e)
       ∙ ap (λ others. f j ∷ others) (parts-are count n (j + 1) s (omega arith) (omega (arith, e)))
 
   -- how many factors there are from the second layer on
@@ -218,122 +218,123 @@ module _ {F : Type 0} (k : FieldOps F) (gen : ℕ → Coordinates F) where
 
 module _ {F : Type 0} {k : FieldOps F} (laws : FieldLaws k) {gen : ℕ → Coordinates F} {bits : ℕ}
     (gens : AreGenerators k bits gen) (fits : 2 ≤ bits) (n : ℕ) (s : Coordinates F) (some : 3 ≤ n)
-    where
-  -- the layers of one domain
-  abbrev f : ℕ → List F
-  f = layer_factors k gen n s
+  where
+    -- the layers of one domain
+    abbrev f : ℕ → List F
+    f = layer_factors k gen n s
 
-  -- the first part is the second layer
-  second-part : (higher : List F) → higher ≡ layers_from k (n - 1) (f 1) → take (2 ^ (n - 2)) higher
-      ≡ f 1
-  second-part higher are =
-      let e : n - 1 ≡ suc (n - 2) = omega arith in
-      ap (take (2 ^ (n - 2))) (are ∙ ap (λ i. layers_from k i (f 1)) e)
-      ∙ take_at (f 1) (layers_from k (n - 2) (next k (f 1))) (2 ^ (n - 2))
-          (length-from k gen (n - 2) n 1 s (omega arith))
+    -- the first part is the second layer
+    second-part : (higher : List F) → higher ≡ layers_from k (n - 1) (f 1) →
+        take (2 ^ (n - 2)) higher
+        ≡ f 1
+    second-part higher are =
+        let e : n - 1 ≡ suc (n - 2) = omega arith in
+        ap (take (2 ^ (n - 2))) (are ∙ ap (λ i. layers_from k i (f 1)) e)
+        ∙ take_at (f 1) (layers_from k (n - 2) (next k (f 1))) (2 ^ (n - 2))
+        (length-from k gen (n - 2) n 1 s (omega arith))
 
-  -- the first layer before the others
-  first-range : {T : Type 0} (h : ℕ → T) → h 0 ∷ map h (range_with_len 1 (n - 1))
-      ≡ map h (range_with_len 0 n)
-  first-range h = let e : suc (n - 1) ≡ n = omega arith in ap (λ i. map h (range_with_len 0 i)) e
+    -- the first layer before the others
+    first-range : {T : Type 0} (h : ℕ → T) → h 0 ∷ map h (range_with_len 1 (n - 1))
+        ≡ map h (range_with_len 0 n)
+    first-range h = let e : suc (n - 1) ≡ n = omega arith in ap (λ i. map h (range_with_len 0 i)) e
 
-  -- all layers, from the list of all but the first
-  pub all_layers : (higher : List F) → higher ≡ layers_from k (n - 1) (f 1) →
-      first_of_second k (gen 2).y (take (2 ^ (n - 2)) higher) ∷ halving_parts (n - 1) higher
-          ≡ map f (range_with_len 0 n)
-  all_layers higher are =
-      ap (λ first. first ∷ halving_parts (n - 1) higher)
-          (ap (first_of_second k (gen 2).y) (second-part higher are)
-          ∙ sym (first_layer-is laws gens fits n s some))
-      ∙ ap (λ rest. f 0 ∷ rest) (ap (halving_parts (n - 1)) are
-          ∙ parts-are k gen (n - 1) n 1 s (omega arith) (omega arith))
-      ∙ first-range f
+    -- all layers, from the list of all but the first
+    pub all_layers : (higher : List F) → higher ≡ layers_from k (n - 1) (f 1) →
+        first_of_second k (gen 2).y (take (2 ^ (n - 2)) higher) ∷ halving_parts (n - 1) higher
+        ≡ map f (range_with_len 0 n)
+    all_layers higher are =
+        ap (λ first. first ∷ halving_parts (n - 1) higher)
+        (ap (first_of_second k (gen 2).y) (second-part higher are)
+        ∙ sym (first_layer-is laws gens fits n s some))
+        ∙ ap (λ rest. f 0 ∷ rest) (ap (halving_parts (n - 1)) are
+        ∙ parts-are k gen (n - 1) n 1 s (omega arith) (omega arith))
+        ∙ first-range f
 
-  -- no factor of a genuine domain is 0
-  higher-nonzero : (count j : ℕ) → 1 ≤ j → j + count ≡ n → n ≤ bits → IsOnCircle k s →
-      times k (2 ^ n) s ≢ origin k →
-      AllByRecursion (λ t. t ≢ k.zero) (layers_from k count (f j))
-  higher-nonzero zero j low e small on_circle genuine = tt
-  higher-nonzero (suc count) j low e small on_circle genuine =
-      all-append (λ t. t ≢ k.zero) (f j) (layers_from k count (next k (f j)))
-      (layer_factors-nonzero laws gens n s small on_circle genuine j (omega (arith, e)))
-      (subst (AllByRecursion (λ t. t ≢ k.zero)) (sym (following k gen count n j s low e))
-          (higher-nonzero count (j + 1) (omega arith) (omega (arith, e)) small on_circle genuine))
+    -- no factor of a genuine domain is 0
+    higher-nonzero : (count j : ℕ) → 1 ≤ j → j + count ≡ n → n ≤ bits → IsOnCircle k s →
+        times k (2 ^ n) s ≢ origin k →
+        AllByRecursion (λ t. t ≢ k.zero) (layers_from k count (f j))
+    higher-nonzero zero j low e small on_circle genuine = tt
+    higher-nonzero (suc count) j low e small on_circle genuine =
+        all-append (λ t. t ≢ k.zero) (f j) (layers_from k count (next k (f j)))
+        (layer_factors-nonzero laws gens n s small on_circle genuine j (omega (arith, e)))
+        (subst (AllByRecursion (λ t. t ≢ k.zero)) (sym (following k gen count n j s low e))
+        (higher-nonzero count (j + 1) (omega arith) (omega (arith, e)) small on_circle genuine))
 
-  -- nor one of the list of all but the first layer
-  pub all-nonzero : (higher : List F) → higher ≡ layers_from k (n - 1) (f 1) → n ≤ bits →
-      IsOnCircle k s → times k (2 ^ n) s ≢ origin k →
-      AllByRecursion (λ t. t ≢ k.zero) higher
-  all-nonzero higher are small on_circle genuine =
-      subst (AllByRecursion (λ t. t ≢ k.zero)) (sym are)
-          (higher-nonzero (n - 1) 1 (omega arith) (omega arith) small on_circle genuine)
+    -- nor one of the list of all but the first layer
+    pub all-nonzero : (higher : List F) → higher ≡ layers_from k (n - 1) (f 1) → n ≤ bits →
+        IsOnCircle k s → times k (2 ^ n) s ≢ origin k →
+        AllByRecursion (λ t. t ≢ k.zero) higher
+    all-nonzero higher are small on_circle genuine =
+        subst (AllByRecursion (λ t. t ≢ k.zero)) (sym are)
+        (higher-nonzero (n - 1) 1 (omega arith) (omega arith) small on_circle genuine)
 
-  -- the inverses of all layers, from those of the list of all but the first
-  pub all_inverses : (higher inverses : List F) → higher ≡ layers_from k (n - 1) (f 1) →
-      inverses ≡ map k.inv higher → n ≤ bits → IsOnCircle k s → times k (2 ^ n) s ≢ origin k →
-      first_of_second k (gen 2).y (take (2 ^ (n - 2)) inverses) ∷ halving_parts (n - 1) inverses
-          ≡ map (λ m. map k.inv (f m)) (range_with_len 0 n)
-  all_inverses higher inverses are inverted small on_circle genuine =
-      let nonzero = layer_factors-nonzero laws gens n s small on_circle genuine 1 (omega arith) in
-      let second : take (2 ^ (n - 2)) inverses ≡ map k.inv (f 1) =
-      ap (take (2 ^ (n - 2))) inverted ∙ take-map k.inv (2 ^ (n - 2)) higher
-          ∙ ap (map k.inv) (second-part higher are) in
-      let first : first_of_second k (gen 2).y (take (2 ^ (n - 2)) inverses) ≡ map k.inv (f 0) =
-      ap (first_of_second k (gen 2).y) second ∙ first_layer-inverses laws gens fits (f 1) nonzero
-          ∙ ap (map k.inv) (sym (first_layer-is laws gens fits n s some)) in
-      let others : halving_parts (n - 1) inverses ≡ map (λ m. map k.inv (f m))
-          (range_with_len 1 (n - 1)) =
-      ap (halving_parts (n - 1)) inverted ∙ halving_parts-map k.inv (n - 1) higher
-      ∙ ap (map (map k.inv)) (ap (halving_parts (n - 1)) are
-          ∙ parts-are k gen (n - 1) n 1 s (omega arith) (omega arith))
-      ∙ map-map (map k.inv) f (range_with_len 1 (n - 1)) in
-      ap (λ part. part ∷ halving_parts (n - 1) inverses) first
-          ∙ ap (λ rest. map k.inv (f 0) ∷ rest) others ∙ first-range (λ m. map k.inv (f m))
+    -- the inverses of all layers, from those of the list of all but the first
+    pub all_inverses : (higher inverses : List F) → higher ≡ layers_from k (n - 1) (f 1) →
+        inverses ≡ map k.inv higher → n ≤ bits → IsOnCircle k s → times k (2 ^ n) s ≢ origin k →
+        first_of_second k (gen 2).y (take (2 ^ (n - 2)) inverses) ∷ halving_parts (n - 1) inverses
+        ≡ map (λ m. map k.inv (f m)) (range_with_len 0 n)
+    all_inverses higher inverses are inverted small on_circle genuine =
+        let nonzero = layer_factors-nonzero laws gens n s small on_circle genuine 1 (omega arith) in
+        let second : take (2 ^ (n - 2)) inverses ≡ map k.inv (f 1) =
+        ap (take (2 ^ (n - 2))) inverted ∙ take-map k.inv (2 ^ (n - 2)) higher
+        ∙ ap (map k.inv) (second-part higher are) in
+        let first : first_of_second k (gen 2).y (take (2 ^ (n - 2)) inverses) ≡ map k.inv (f 0) =
+        ap (first_of_second k (gen 2).y) second ∙ first_layer-inverses laws gens fits (f 1) nonzero
+        ∙ ap (map k.inv) (sym (first_layer-is laws gens fits n s some)) in
+        let others : halving_parts (n - 1) inverses ≡ map (λ m. map k.inv (f m))
+        (range_with_len 1 (n - 1)) =
+        ap (halving_parts (n - 1)) inverted ∙ halving_parts-map k.inv (n - 1) higher
+        ∙ ap (map (map k.inv)) (ap (halving_parts (n - 1)) are
+        ∙ parts-are k gen (n - 1) n 1 s (omega arith) (omega arith))
+        ∙ map-map (map k.inv) f (range_with_len 1 (n - 1)) in
+        ap (λ part. part ∷ halving_parts (n - 1) inverses) first
+        ∙ ap (λ rest. map k.inv (f 0) ∷ rest) others ∙ first-range (λ m. map k.inv (f m))
 
-  -- entries of the factors of all layers but the first, and those of the next layers
-  linked-from : (count j : ℕ) → suc j + suc count ≡ n → n ≤ bits → IsOnCircle k s →
-      AreLinked k (2 ^ count) (layers_from k (suc count) (f (suc j)))
-  linked-from zero j e small on_circle i d h =
-      absurd (omega (arith, h, length-layers k 0 (f (suc j)) (length-from k gen 0 n (suc j) s e)))
-  linked-from (suc zero) j e small on_circle i d h =
-      absurd (omega (arith, h, length-layers k 1 (f (suc j)) (length-from k gen 1 n (suc j) s e)))
-  linked-from (suc (suc c)) j e small on_circle i d h =
-      let xs = f (suc j) in
-      let rest = layers_from k (suc (suc c)) (f (suc j + 1)) in
-      let long : length xs ≡ 2 ^ suc (suc c) = length-from k gen (suc (suc c)) n (suc j) s e in
-      let above : length (f (suc j + 1)) ≡ 2 ^ suc c =
-          length-from k gen (suc c) n (suc j + 1) s (omega (arith, e)) in
-      let one : suc j + 1 ≡ suc (suc j) = omega arith in
-      let quads = layer-quads laws gens j n s (omega (arith, e)) small on_circle in
-      let later : AreLinked k (2 ^ suc c) rest =
-      subst (λ m. AreLinked k (2 ^ suc c) (layers_from k (suc (suc c)) (f m))) (sym one)
-          (linked-from (suc c) (suc j) (omega (arith, e)) small on_circle) in
-      subst (λ ys. AreLinked k (2 ^ suc (suc c)) (xs ++ ys))
-          (sym (following k gen (suc (suc c)) n (suc j) s (omega arith) e))
-      (linked-append k c xs (f (suc j + 1)) (layers_from k (suc c) (next k (f (suc j + 1)))) long
-          above quads later) i d h
+    -- entries of the factors of all layers but the first, and those of the next layers
+    linked-from : (count j : ℕ) → suc j + suc count ≡ n → n ≤ bits → IsOnCircle k s →
+        AreLinked k (2 ^ count) (layers_from k (suc count) (f (suc j)))
+    linked-from zero j e small on_circle i d h =
+        absurd (omega (arith, h, length-layers k 0 (f (suc j)) (length-from k gen 0 n (suc j) s e)))
+    linked-from (suc zero) j e small on_circle i d h =
+        absurd (omega (arith, h, length-layers k 1 (f (suc j)) (length-from k gen 1 n (suc j) s e)))
+    linked-from (suc (suc c)) j e small on_circle i d h =
+        let xs = f (suc j) in
+        let rest = layers_from k (suc (suc c)) (f (suc j + 1)) in
+        let long : length xs ≡ 2 ^ suc (suc c) = length-from k gen (suc (suc c)) n (suc j) s e in
+        let above : length (f (suc j + 1)) ≡ 2 ^ suc c =
+        length-from k gen (suc c) n (suc j + 1) s (omega (arith, e)) in
+        let one : suc j + 1 ≡ suc (suc j) = omega arith in
+        let quads = layer-quads laws gens j n s (omega (arith, e)) small on_circle in
+        let later : AreLinked k (2 ^ suc c) rest =
+        subst (λ m. AreLinked k (2 ^ suc c) (layers_from k (suc (suc c)) (f m))) (sym one)
+        (linked-from (suc c) (suc j) (omega (arith, e)) small on_circle) in
+        subst (λ ys. AreLinked k (2 ^ suc (suc c)) (xs ++ ys))
+        (sym (following k gen (suc (suc c)) n (suc j) s (omega arith) e))
+        (linked-append k c xs (f (suc j + 1)) (layers_from k (suc c) (next k (f (suc j + 1)))) long
+        above quads later) i d h
 
-  -- the same for the list of all but the first layer
-  pub all-linked : (higher : List F) → higher ≡ layers_from k (n - 1) (f 1) → n ≤ bits →
-      IsOnCircle k s → AreLinked k (2 ^ (n - 2)) higher
-  all-linked higher are small on_circle =
-      let e : n - 1 ≡ suc (n - 2) = omega arith in
-      subst (AreLinked k (2 ^ (n - 2))) (sym (are ∙ ap (λ i. layers_from k i (f 1)) e))
-          (linked-from (n - 2) 0 (omega arith) small on_circle)
+    -- the same for the list of all but the first layer
+    pub all-linked : (higher : List F) → higher ≡ layers_from k (n - 1) (f 1) → n ≤ bits →
+        IsOnCircle k s → AreLinked k (2 ^ (n - 2)) higher
+    all-linked higher are small on_circle =
+        let e : n - 1 ≡ suc (n - 2) = omega arith in
+        subst (AreLinked k (2 ^ (n - 2))) (sym (are ∙ ap (λ i. layers_from k i (f 1)) e))
+        (linked-from (n - 2) 0 (omega arith) small on_circle)
 
-  -- how many factors there are in all layers but the first
-  pub count-higher : (higher : List F) → higher ≡ layers_from k (n - 1) (f 1) → length higher + 1
-      ≡ 4 * 2 ^ (n - 3)
-  count-higher higher are =
-      let e : n - 1 ≡ suc (suc (n - 3)) = omega arith in
-      ap (λ xs. length xs + 1) are ∙ length-higher k gen n s some ∙ ap (λ i. 2 ^ i) e
-          ∙ omega (arith, pow-suc 2 (suc (n - 3)), pow-suc 2 (n - 3))
+    -- how many factors there are in all layers but the first
+    pub count-higher : (higher : List F) → higher ≡ layers_from k (n - 1) (f 1) → length higher + 1
+        ≡ 4 * 2 ^ (n - 3)
+    count-higher higher are =
+        let e : n - 1 ≡ suc (suc (n - 3)) = omega arith in
+        ap (λ xs. length xs + 1) are ∙ length-higher k gen n s some ∙ ap (λ i. 2 ^ i) e
+        ∙ omega (arith, pow-suc 2 (suc (n - 3)), pow-suc 2 (n - 3))
 
-  -- with the half of its length and one for the number of the second layer
-  pub linked-higher : (higher : List F) → higher ≡ layers_from k (n - 1) (f 1) → n ≤ bits →
-      IsOnCircle k s → AreLinked k ((length higher + 1) / 2) higher
-  linked-higher higher are small on_circle =
-      let e : n - 2 ≡ suc (n - 3) = omega arith in
-      let half : 2 ^ (n - 2) ≡ (length higher + 1) / 2 = ap (λ i. 2 ^ i) e
-          ∙ omega (arith, count-higher higher are, pow-suc 2 (n - 3)) in
-      subst (λ h. AreLinked k h higher) half (all-linked higher are small on_circle)
+    -- with the half of its length and one for the number of the second layer
+    pub linked-higher : (higher : List F) → higher ≡ layers_from k (n - 1) (f 1) → n ≤ bits →
+        IsOnCircle k s → AreLinked k ((length higher + 1) / 2) higher
+    linked-higher higher are small on_circle =
+        let e : n - 2 ≡ suc (n - 3) = omega arith in
+        let half : 2 ^ (n - 2) ≡ (length higher + 1) / 2 = ap (λ i. 2 ^ i) e
+        ∙ omega (arith, count-higher higher are, pow-suc 2 (n - 3)) in
+        subst (λ h. AreLinked k h higher) half (all-linked higher are small on_circle)

@@ -11,7 +11,7 @@ pub take_read : {A : Type 0} (xs : List A) (i : ℕ) (x : A) → slice_get xs i 
     take (i + 1) xs ≡ take i xs ++ x ∷ []
 take_read xs i x h =
     take_more xs i x (slice_get_within xs i x h)
-        ∙ ap (λ y. take i xs ++ y ∷ []) (get_or_from_slice_get xs i x x h)
+    ∙ ap (λ y. take i xs ++ y ∷ []) (get_or_from_slice_get xs i x x h)
 
 -- values taken in after others
 pub after_all-append : {S A : Type 0} (f : S → A → S) (s : S) (xs ys : List A) →
@@ -24,7 +24,7 @@ pub after_all-pair : {S A : Type 0} (f : S → A → S) (s t u : S) (xs ys : Lis
     t ≡ after_all f s xs → u ≡ after_all f t ys → u ≡ after_all f s (xs ++ (ys ++ []))
 after_all-pair f s t u xs ys first second =
     second ∙ ap (λ v. after_all f v ys) first ∙ sym (after_all-append f s xs ys)
-        ∙ ap (λ zs. after_all f s (xs ++ zs)) (sym (append-nil ys))
+    ∙ ap (λ zs. after_all f s (xs ++ zs)) (sym (append-nil ys))
 
 -- one more value of a list taken in, as it is read there
 pub after_all-read : {S A : Type 0} (f : S → A → S) (s t u : S) (xs : List A) (i : ℕ) (x : A) →
@@ -32,7 +32,7 @@ pub after_all-read : {S A : Type 0} (f : S → A → S) (s t u : S) (xs : List A
     u ≡ after_all f s (take (i + 1) xs)
 after_all-read f s t u xs i x before read more =
     more ∙ ap (λ v. f v x) before ∙ sym (after_all-append f s (take i xs) (x ∷ []))
-        ∙ ap (after_all f s) (sym (take_read xs i x read))
+    ∙ ap (after_all f s) (sym (take_read xs i x read))
 
 module _ {S A : Type 0} (sampled : S → A) (after_sample : S → S) where
   samples-suc : (n : ℕ) (s : S) → samples sampled after_sample (suc n) s
@@ -81,7 +81,7 @@ module _ {S A : Type 0} (sampled : S → A) (after_sample : S → S) (s t : S) (
       x ≡ sampled t → ys ≡ xs ++ x ∷ [] → ys ≡ samples sampled after_sample (n + 1) s
   samples-more xs ys x so_far drawn more =
       more ∙ ap (λ zs. zs ++ x ∷ []) so_far ∙ ap (λ y. samples sampled after_sample n s ++ y ∷ [])
-          (drawn ∙ ap sampled before)
+      (drawn ∙ ap sampled before)
       ∙ sym (samples-push sampled after_sample n s)
 
   -- the state after one more

@@ -36,7 +36,7 @@ pub same_number : (m n : ℕ) → m < 2 ^ 64 → n < 2 ^ 64 → be64 m ≡ be64 
 unfolding be64
 same_number m n p q same =
     sym (from_be_bytes-to_be_bytes_8 m p) ∙ ap (from_be_bytes w64) same
-        ∙ from_be_bytes-to_be_bytes_8 n q
+    ∙ from_be_bytes-to_be_bytes_8 n q
 
 length-be64 : (n : ℕ) → length (be64 n) ≡ 8
 unfolding be64
@@ -53,7 +53,7 @@ counted_front : (a b x y : List ℕ) → length a < 2 ^ 64 → length b < 2 ^ 64
     counted a ++ x ≡ counted b ++ y → (a ≡ b) × (x ≡ y)
 counted_front a b x y p q same =
     let regrouped = sym (append_assoc (be64 (length a)) a x) ∙ same
-        ∙ append_assoc (be64 (length b)) b y in
+    ∙ append_assoc (be64 (length b)) b y in
     let parts = number_front (length a) (length b) (a ++ x) (b ++ y) p q regrouped in
     same_front a b x y parts.0 parts.1
 
@@ -103,33 +103,33 @@ step_front : (a b : Step) (x y : List ℕ) → IsWritableStep a → IsWritableSt
 unfolding step_text
 step_front a b x y p q same =
     let head : Step → List ℕ = λ s. hierarchy_byte s.hierarchy ∷ kind_byte s.kind
-        ∷ type_byte s.value_type ∷ be64 (parameter_of s.value_type) in
+    ∷ type_byte s.value_type ∷ be64 (parameter_of s.value_type) in
     let last : Step → List ℕ = λ s. form_byte s.size ∷ be64 (value_count s.size) in
     let grouped : (s : Step) (z : List ℕ) →
-        (head s ++ (counted s.label ++ last s)) ++ z ≡ head s ++
-        (counted s.label ++ (last s ++ z)) =
+    (head s ++ (counted s.label ++ last s)) ++ z ≡ head s ++
+    (counted s.label ++ (last s ++ z)) =
     λ s z. append_assoc (head s) (counted s.label ++ last s) z
-        ∙ ap (λ w. head s ++ w) (append_assoc (counted s.label) (last s) z) in
+    ∙ ap (λ w. head s ++ w) (append_assoc (counted s.label) (last s) z) in
     let regrouped = sym (grouped a x) ∙ same ∙ grouped b y in
     let first =
-        same_front (head a) (head b) _ _
-        (ap (λ n. suc (suc (suc n))) (length-be64 (parameter_of a.value_type)
-        ∙ sym (length-be64 (parameter_of b.value_type)))) regrouped in
+    same_front (head a) (head b) _ _
+    (ap (λ n. suc (suc (suc n))) (length-be64 (parameter_of a.value_type)
+    ∙ sym (length-be64 (parameter_of b.value_type)))) regrouped in
     let bytes = three_and_rest _ _ _ _ _ _ _ _ first.0 in
     let second = counted_front a.label b.label (last a ++ x) (last b ++ y) p.label q.label
-        first.1 in
+    first.1 in
     let third =
-        same_front (last a) (last b) x y
-        (ap suc (length-be64 (value_count a.size) ∙ sym (length-be64 (value_count b.size))))
-        second.1 in
+    same_front (last a) (last b) x y
+    (ap suc (length-be64 (value_count a.size) ∙ sym (length-be64 (value_count b.size))))
+    second.1 in
     let form = one_and_rest _ _ _ _ third.0 in
     let value_type =
-        same_type a.value_type b.value_type bytes.2
-        (same_number _ _ p.parameter q.parameter bytes.3) in
+    same_type a.value_type b.value_type bytes.2
+    (same_number _ _ p.parameter q.parameter bytes.3) in
     let size = same_size a.size b.size form.0 (same_number _ _ p.count q.count form.1) in (
       ap (λ v. step v a.kind a.value_type a.label a.size) (same_hierarchy a.hierarchy b.hierarchy)
           ∙ ap (λ v. step b.hierarchy v a.value_type a.label a.size)
-              (same_kind a.kind b.kind bytes.1)
+          (same_kind a.kind b.kind bytes.1)
           ∙ ap (λ v. step b.hierarchy b.kind v a.label a.size) value_type
           ∙ ap (λ v. step b.hierarchy b.kind b.value_type v a.size) second.0
           ∙ ap (λ v. step b.hierarchy b.kind b.value_type b.label v) size,
@@ -147,7 +147,7 @@ module _ {A : Type 0} (text : A → List ℕ) (Fits : A → Type 0) (front : (a 
   each_front (a ∷ ms) [] x y p q count same = absurd (omega arith)
   each_front (a ∷ ms) (b ∷ ns) x y p q count same =
       let regrouped = sym (append_assoc (text a) (flat_map text ms) x) ∙ same
-          ∙ append_assoc (text b) (flat_map text ns) y in
+      ∙ append_assoc (text b) (flat_map text ns) y in
       let first = front a b (flat_map text ms ++ x) (flat_map text ns ++ y) p.0 q.0 regrouped in
       let rest = each_front ms ns x y p.1 q.1 (omega arith) first.1 in
       (ap (λ v. v ∷ ms) first.0 ∙ ap (λ v. b ∷ v) rest.0, rest.1)
@@ -160,30 +160,30 @@ module _ (a b : Separator) (p : IsWritable a) (q : IsWritable b) where
   unfolding steps_text
   steps_front x y same =
       let grouped : (s : Separator) (z : List ℕ) →
-          ((s.version ∷ counted s.name) ++ (be64 (length s.steps) ++ flat_map step_text s.steps)) ++
-          z ≡ s.version ∷
-          (counted s.name ++ (be64 (length s.steps) ++ (flat_map step_text s.steps ++ z))) =
+      ((s.version ∷ counted s.name) ++ (be64 (length s.steps) ++ flat_map step_text s.steps)) ++
+      z ≡ s.version ∷
+      (counted s.name ++ (be64 (length s.steps) ++ (flat_map step_text s.steps ++ z))) =
       λ s z. append_assoc (s.version ∷ counted s.name)
-          (be64 (length s.steps) ++ flat_map step_text s.steps) z
+      (be64 (length s.steps) ++ flat_map step_text s.steps) z
       ∙ ap (λ w. s.version ∷ (counted s.name ++ w))
-          (append_assoc (be64 (length s.steps)) (flat_map step_text s.steps) z) in
+      (append_assoc (be64 (length s.steps)) (flat_map step_text s.steps) z) in
       let regrouped = one_and_rest _ _ _ _ (sym (grouped a x) ∙ same ∙ grouped b y) in
       let names = counted_front a.name b.name _ _ p.name q.name regrouped.1 in
       let counts = number_front (length a.steps) (length b.steps) _ _ p.step_count q.step_count
-          names.1 in
+      names.1 in
       let steps = each_front step_text IsWritableStep step_front a.steps b.steps x y
-          (recursion_from_All _ a.steps p.each_step) (recursion_from_All _ b.steps q.each_step)
-          counts.0 counts.1 in
+      (recursion_from_All _ a.steps p.each_step) (recursion_from_All _ b.steps q.each_step)
+      counts.0 counts.1 in
       (regrouped.0, names.0, steps.0, steps.1)
 
   same_labels : labels_text a.labels ≡ labels_text b.labels → a.labels ≡ b.labels
   unfolding labels_text
   same_labels same =
       let counts = number_front (length a.labels) (length b.labels) _ _ p.label_count q.label_count
-          same in
+      same in
       let labels = each_front counted (λ l. length l < 2 ^ 64) (λ l m x y. counted_front l m x y)
-          a.labels b.labels [] [] (recursion_from_All _ a.labels p.each_label)
-          (recursion_from_All _ b.labels q.each_label) counts.0 (ap (λ w. w ++ []) counts.1) in
+      a.labels b.labels [] [] (recursion_from_All _ a.labels p.each_label)
+      (recursion_from_All _ b.labels q.each_label) counts.0 (ap (λ w. w ++ []) counts.1) in
       labels.0
 
   -- separators of one seed text are one

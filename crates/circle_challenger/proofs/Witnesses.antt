@@ -23,11 +23,11 @@ module _ (s : List ℕ) (bits : ℕ) where
   pub easy_witness : (z : Mersenne31) → bits ≡ 0 → z ≡ element 0 → Some z ≡ least_witness s bits
   easy_witness z none zero =
       ap Some zero
-          ∙ sym
-          (ap (option_map element)
-          (least-some (number_passes s bits) order 0 (lit< tt)
-          (subst (λ b. number_passes s b 0 ≡ true) (sym none) refl)
-          (λ k below. absurd (omega arith))))
+      ∙ sym
+      (ap (option_map element)
+      (least-some (number_passes s bits) order 0 (lit< tt)
+      (subst (λ b. number_passes s b 0 ≡ true) (sym none) refl)
+      (λ k below. absurd (omega arith))))
 
   -- the first element that passes is found
   pub first_witness : (n : ℕ) (w : Mersenne31) → n < order → w ≡ of_nat operations n →
@@ -36,11 +36,11 @@ module _ (s : List ℕ) (bits : ℕ) where
   first_witness n w below is passing others =
       let same = is ∙ of_nat-element n in
       let passes_here : number_passes s bits n ≡ true =
-          subst (λ x. passes absorbed_element sampled_number s bits x ≡ true) same passing in
+      subst (λ x. passes absorbed_element sampled_number s bits x ≡ true) same passing in
       ap Some same
-          ∙ sym
-          (ap (option_map element)
-          (least-some (number_passes s bits) order n below passes_here others))
+      ∙ sym
+      (ap (option_map element)
+      (least-some (number_passes s bits) order n below passes_here others))
 
   -- none is found where none passes
   pub no_witness : ((k : ℕ) → k < order → number_passes s bits k ≡ false) →
@@ -57,8 +57,8 @@ module _ (s : List ℕ) (bits : ℕ) where
   pub missed_more : (n : ℕ) (w : Mersenne31) → w ≡ of_nat operations n →
       passes absorbed_element sampled_number s bits w ≡ false
       → ((k : ℕ) → k < n → number_passes s bits k ≡ false) → (k : ℕ) → k < n + 1 →
-          number_passes s bits k ≡ false
+      number_passes s bits k ≡ false
   missed_more n w is misses others =
       below_more (λ k. number_passes s bits k ≡ false) n others
       (subst (λ x. passes absorbed_element sampled_number s bits x ≡ false) (is ∙ of_nat-element n)
-          misses)
+      misses)

@@ -39,7 +39,7 @@ module _ {F : Type 0} {k : FieldOps F} (laws : RingLaws k) where
   -- of sums, each of a multiple by one factor and another element
   dot-multiples : {X : Type 0} (w : F) (f h : X → F) (ps : List F) (xs : List X) →
       dot k ps (map (λ x. k.add (k.mul w (f x)) (h x)) xs)
-          ≡ k.add (k.mul (dot k ps (map f xs)) w) (dot k ps (map h xs))
+      ≡ k.add (k.mul (dot k ps (map f xs)) w) (dot k ps (map h xs))
   dot-multiples w f h [] xs = ring laws (w ∷ []) (con 0) (sum (prod (con 0) (var 0)) (con 0)) refl
   dot-multiples w f h (p ∷ ps) [] = ring laws (w ∷ []) (con 0) (sum (prod (con 0) (var 0)) (con 0))
       refl
@@ -48,53 +48,53 @@ module _ {F : Type 0} {k : FieldOps F} (laws : RingLaws k) where
       ∙ ring laws (p ∷ w ∷ f x ∷ h x ∷ dot k ps (map f xs) ∷ dot k ps (map h xs) ∷ [])
       (sum (prod (var 0) (sum (prod (var 1) (var 2)) (var 3))) (sum (prod (var 4) (var 1)) (var 5)))
       (sum (prod (sum (prod (var 0) (var 2)) (var 4)) (var 1)) (sum (prod (var 0) (var 3)) (var 5)))
-          refl
+      refl
 
 module _ {F E : Type 0} {k : FieldOps F} {l : FieldOps E} {m : F → E} (laws : RingLaws l)
     (e : IsEmbedding k l m) (powers : List E) where
   combined-sums : (width : ℕ) (rows : List (List F)) (ws : List F) →
       All (λ row. length row ≡ width) rows →
       dot l powers
-          (map (λ j. m (dot k ws (map (λ a. a) (column k.zero rows j)))) (range_with_len 0 width))
+      (map (λ j. m (dot k ws (map (λ a. a) (column k.zero rows j)))) (range_with_len 0 width))
       ≡ dot l (map (λ row. dot l powers (map m row)) rows) (map m ws)
   combined-sums width [] ws wide =
       let js = range_with_len 0 width in
       ap (dot l powers)
-          (map-agree (λ j. m (dot k ws [])) (λ _. l.zero) js
-          (λ i j _. ap m (dot-none k ws) ∙ e.zero)) ∙ dot-zeros laws powers js
+      (map-agree (λ j. m (dot k ws [])) (λ _. l.zero) js
+      (λ i j _. ap m (dot-none k ws) ∙ e.zero)) ∙ dot-zeros laws powers js
   combined-sums width (row ∷ rows) [] wide =
       let js = range_with_len 0 width in
       ap (dot l powers) (map-agree (λ j. m k.zero) (λ _. l.zero) js (λ i j _. e.zero))
-          ∙ dot-zeros laws powers js
+      ∙ dot-zeros laws powers js
   combined-sums width (row ∷ rows) (w ∷ ws) wide =
       let js = range_with_len 0 width in
       let read = λ (j : ℕ). slice_index_or row j k.zero in
       let rest = λ (j : ℕ). dot k ws (map (λ a. a) (column k.zero rows j)) in
       let own : map (λ j. m (read j)) js ≡ map m row =
       sym
-          (ap (map m)
-          (fill_by_all read row width k.zero (All-head (λ r. length r ≡ width) row rows wide)
-          (λ j lt. refl)) ∙ map-map m read js) in
+      (ap (map m)
+      (fill_by_all read row width k.zero (All-head (λ r. length r ≡ width) row rows wide)
+      (λ j lt. refl)) ∙ map-map m read js) in
       ap (dot l powers)
-          (map-agree (λ j. m (k.add (k.mul w (read j)) (rest j)))
-          (λ j. l.add (l.mul (m w) (m (read j))) (m (rest j))) js
+      (map-agree (λ j. m (k.add (k.mul w (read j)) (rest j)))
+      (λ j. l.add (l.mul (m w) (m (read j))) (m (rest j))) js
       (λ i d _. let j = slice_index_or js i d in e.add (k.mul w (read j)) (rest j)
-          ∙ ap (λ v. l.add v (m (rest j))) (e.mul w (read j))))
+      ∙ ap (λ v. l.add v (m (rest j))) (e.mul w (read j))))
       ∙ dot-multiples laws (m w) (λ j. m (read j)) (λ j. m (rest j)) powers js
       ∙ ap (λ vs. l.add (l.mul (dot l powers vs) (m w)) (dot l powers (map (λ j. m (rest j)) js)))
-          own
+      own
       ∙ ap (l.add (l.mul (dot l powers (map m row)) (m w)))
-          (combined-sums width rows ws (All-tail (λ r. length r ≡ width) row rows wide))
+      (combined-sums width rows ws (All-tail (λ r. length r ≡ width) row rows wide))
 
   -- the combination of the sums of rows' columns is the sum of the rows' combinations
   pub combined-columns : (width : ℕ) (rows : List (List F)) (ws : List F) →
       All (λ row. length row ≡ width) rows →
       dot l powers (map m (column_sums k k.zero (λ a. a) rows width ws))
-          ≡ dot l (map (λ row. dot l powers (map m row)) rows) (map m ws)
+      ≡ dot l (map (λ row. dot l powers (map m row)) rows) (map m ws)
   combined-columns width rows ws wide =
       ap (dot l powers)
-          (map-map m (λ j. dot k ws (map (λ a. a) (column k.zero rows j))) (range_with_len 0 width))
-          ∙ combined-sums width rows ws wide
+      (map-map m (λ j. dot k ws (map (λ a. a) (column k.zero rows j))) (range_with_len 0 width))
+      ∙ combined-sums width rows ws wide
 
 module _ {F E : Type 0} {k : FieldOps F} {l : FieldOps E} {m : F → E} (base : RingLaws k)
     (laws : RingLaws l)
@@ -102,7 +102,7 @@ module _ {F E : Type 0} {k : FieldOps F} {l : FieldOps E} {m : F → E} (base : 
   -- a coefficient of a multiple by an element of the base field
   coefficient-multiple : (x : E) (w : F) (i : ℕ) → i < degree →
       slice_index_or (coefficients (l.mul x (m w))) i k.zero
-          ≡ k.mul w (slice_index_or (coefficients x) i k.zero)
+      ≡ k.mul w (slice_index_or (coefficients x) i k.zero)
   coefficient-multiple x w i lt =
       ap (λ v. slice_index_or (coefficients v) i k.zero) (laws.mul_comm x (m w))
       ∙ ap (λ cs. slice_index_or cs i k.zero) (are.of_multiple w x)
@@ -111,32 +111,32 @@ module _ {F E : Type 0} {k : FieldOps F} {l : FieldOps E} {m : F → E} (base : 
   coefficient-zero : (i : ℕ) → i < degree → slice_index_or (coefficients l.zero) i k.zero ≡ k.zero
   coefficient-zero i lt =
       ap (λ v. slice_index_or (coefficients v) i k.zero)
-          (ring laws (m k.zero ∷ []) (con 0) (prod (con 0) (var 0)) refl)
+      (ring laws (m k.zero ∷ []) (con 0) (prod (con 0) (var 0)) refl)
       ∙ coefficient-multiple l.zero k.zero i lt
       ∙ ring base (slice_index_or (coefficients l.zero) i k.zero ∷ []) (prod (con 0) (var 0))
-          (con 0) refl
+      (con 0) refl
 
   coefficient-sum : (entries : List E) (ws : List F) (i : ℕ) → i < degree →
       slice_index_or (coefficients (dot l entries (map m ws))) i k.zero
-          ≡ dot k ws (map (λ a. a) (column k.zero (map coefficients entries) i))
+      ≡ dot k ws (map (λ a. a) (column k.zero (map coefficients entries) i))
   coefficient-sum [] ws i lt = coefficient-zero i lt ∙ sym (dot-none k ws)
   coefficient-sum (x ∷ entries) [] i lt = coefficient-zero i lt
   coefficient-sum (x ∷ entries) (w ∷ ws) i lt =
       let rest = dot l entries (map m ws) in
       ap (λ cs. slice_index_or cs i k.zero) (are.of_sum (l.mul x (m w)) rest)
       ∙ sums-read k (coefficients (l.mul x (m w))) (coefficients rest) i k.zero
-          (omega (arith, lt, are.count (l.mul x (m w)))) (omega (arith, lt, are.count rest))
+      (omega (arith, lt, are.count (l.mul x (m w)))) (omega (arith, lt, are.count rest))
       ∙ ap (λ v. k.add v (slice_index_or (coefficients rest) i k.zero))
-          (coefficient-multiple x w i lt)
+      (coefficient-multiple x w i lt)
       ∙ ap (k.add (k.mul w (slice_index_or (coefficients x) i k.zero)))
-          (coefficient-sum entries ws i lt)
+      (coefficient-sum entries ws i lt)
 
   -- the coefficients of a sum of multiples are the sums of the columns of coefficients
   pub coefficients-sum : (entries : List E) (ws : List F) →
       coefficients (dot l entries (map m ws))
-          ≡ column_sums k k.zero (λ a. a) (map coefficients entries) degree ws
+      ≡ column_sums k k.zero (λ a. a) (map coefficients entries) degree ws
   coefficients-sum entries ws =
       let sum = dot l entries (map m ws) in
       fill_by_all (λ i. dot k ws (map (λ a. a) (column k.zero (map coefficients entries) i)))
-          (coefficients sum) degree k.zero (are.count sum)
+      (coefficients sum) degree k.zero (are.count sum)
       (λ i lt. coefficient-sum entries ws i lt)

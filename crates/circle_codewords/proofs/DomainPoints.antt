@@ -22,13 +22,13 @@ module _ {F : Type 0} (k : FieldOps F) where
   pub opposites-more : {T : Type 0} (f : T → Coordinates F) (xs : List T) (i : ℕ) (x : T)
       (old new : List (Coordinates F)) (p o : Coordinates F) →
       i < length xs → x ≡ slice_index_or xs i x → new ≡ (old ++ p ∷ []) ++ o ∷ [] →
-          old ≡ with_opposites k (map f (take i xs)) → p ≡ f x → o ≡ opposite k (f x) →
+      old ≡ with_opposites k (map f (take i xs)) → p ≡ f x → o ≡ opposite k (f x) →
       new ≡ with_opposites k (map f (take (i + 1) xs))
   opposites-more f xs i x old new p o lt is pushed before first second =
       pushed ∙ ap (λ ys. (ys ++ p ∷ []) ++ o ∷ []) before
-          ∙ ap (λ y. (with_opposites k (map f (take i xs)) ++ y ∷ []) ++ o ∷ []) (first ∙ ap f is)
+      ∙ ap (λ y. (with_opposites k (map f (take i xs)) ++ y ∷ []) ++ o ∷ []) (first ∙ ap f is)
       ∙ ap (λ y. (with_opposites k (map f (take i xs)) ++ f (slice_index_or xs i x) ∷ []) ++ y ∷ [])
-          (second ∙ ap (λ y. opposite k (f y)) is)
+      (second ∙ ap (λ y. opposite k (f y)) is)
       ∙ sym (opposites-append (map f (take i xs)) (f (slice_index_or xs i x)))
       ∙ ap (with_opposites k) (sym (map_more f xs i x lt))
 
@@ -39,9 +39,9 @@ module _ {F : Type 0} (k : FieldOps F) where
     coset-on zero q le on = All-cons (IsOnCircle k) q [] on (All-nil (IsOnCircle k))
     coset-on (suc m) q le on =
         All-append (IsOnCircle k) (coset k gen m q) (coset k gen m (plus k q (gen (suc m))))
-            (coset-on m q (omega (arith, le)) on)
+        (coset-on m q (omega (arith, le)) on)
         (coset-on m (plus k q (gen (suc m))) (omega (arith, le))
-            (plus-on_circle laws q (gen (suc m)) on (gens.on_circle (suc m) le)))
+        (plus-on_circle laws q (gen (suc m)) on (gens.on_circle (suc m) le)))
 
     opposites-on : (xs : List (Coordinates F)) → All (IsOnCircle k) xs →
         All (IsOnCircle k) (with_opposites k xs)
@@ -49,8 +49,8 @@ module _ {F : Type 0} (k : FieldOps F) where
     opposites-on (x ∷ xs) on =
         All-cons (IsOnCircle k) x (opposite k x ∷ with_opposites k xs) (on 0 x (omega arith))
         (All-cons (IsOnCircle k) (opposite k x) (with_opposites k xs)
-            (opposite-on_circle laws x (on 0 x (omega arith)))
-            (opposites-on xs (λ i d lt. on (suc i) d (omega (arith, lt)))))
+        (opposite-on_circle laws x (on 0 x (omega arith)))
+        (opposites-on xs (λ i d lt. on (suc i) d (omega (arith, lt)))))
 
     pub order-on : (n : ℕ) (s : Coordinates F) → n ≤ suc bits → 1 ≤ n → IsOnCircle k s →
         All (IsOnCircle k) (cfft_order k gen n s)

@@ -33,7 +33,7 @@ module _ {E : Type 0} where
   pub known-of : (o : Option (Bor (List E))) (xs : List (PointRatios E)) (p : E) →
       is_some o ≡ true →
       IfSome o (λ found. Any (λ r. (r.point ≡ p) × (r.ratios.items ≡ found.now)) xs) →
-          Any (λ r. r.point ≡ p) xs
+      Any (λ r. r.point ≡ p) xs
   known-of (Some found) xs p some h = (h.0, h.1, h.2, h.3, h.4.0)
   known-of None xs p some h = absurd (false≢true some)
 
@@ -41,8 +41,8 @@ module _ {E : Type 0} where
   pub right-of : {F : Type 0} (l : FieldOps E) (embed : F → E) (points : List (Coordinates F))
       (all : List (PointRatios E)) (p : E) (ratios : List E) →
       All (AreRatiosOf l embed points) all →
-          Any (λ r. (r.point ≡ p) × (r.ratios.items ≡ ratios)) all →
-          ratios ≡ map (vanishing_ratio l embed (from_line l p)) points
+      Any (λ r. (r.point ≡ p) × (r.ratios.items ≡ ratios)) all →
+      ratios ≡ map (vanishing_ratio l embed (from_line l p)) points
   right-of l embed points all p ratios right found =
       sym found.4.1 ∙ subst (AreRatiosOf l embed points) found.3 (right found.0 found.1 found.2)
       ∙ ap (λ t. map (vanishing_ratio l embed (from_line l t)) points) found.4.0
@@ -51,7 +51,7 @@ module _ {E : Type 0} where
   pub weights-of : (o : Option (Bor (LagrangeWeights E))) (xs : List (PointWeights E)) (h : ℕ)
       (p : E) → is_some o ≡ true →
       IfSome o (λ found. Any (λ w. (w.log_height ≡ h) × (w.point ≡ p) × (w.weights ≡ found.now))
-          xs) → Any (λ w. (w.log_height ≡ h) × (w.point ≡ p)) xs
+      xs) → Any (λ w. (w.log_height ≡ h) × (w.point ≡ p)) xs
   weights-of (Some found) xs h p some has = (has.0, has.1, has.2, has.3, (has.4.0, has.4.1))
   weights-of None xs h p some has = absurd (false≢true some)
 
@@ -59,20 +59,20 @@ module _ {E : Type 0} where
   pub found-of : (xs : List (PointWeights E)) (h : ℕ) (p : E) (found : LagrangeWeights E)
       (P : PointWeights E → Type 0) → All P xs →
       Any (λ w. (w.log_height ≡ h) × (w.point ≡ p) × (w.weights ≡ found)) xs →
-          P (weights_for h p found)
+      P (weights_for h p found)
   found-of xs h p found P all has =
       subst (λ x. P (weights_for h p x)) has.4.2
-          (subst (λ t. P (weights_for h t has.1.weights)) has.4.1
-          (subst (λ n. P (weights_for n has.1.point has.1.weights)) has.4.0
+      (subst (λ t. P (weights_for h t has.1.weights)) has.4.1
+      (subst (λ n. P (weights_for n has.1.point has.1.weights)) has.4.0
       (subst P has.3 (all has.0 has.1 has.2))))
 
 -- what holds of those below a place, and of the one there, holds of those below the next
 pub below-more : {A : Type 0} (P : A → Type 0) (xs : List A) (i : ℕ) (x : A) → i < length xs →
     x ≡ slice_index_or xs i x →
     ((j : ℕ) (d : A) → j < i → P (slice_index_or xs j d)) → P x → (j : ℕ) (d : A) → j < i + 1 →
-        P (slice_index_or xs j d)
+    P (slice_index_or xs j d)
 below-more P xs i x within is before here j d below =
     ⊎_elim (before j d)
     (λ past. let same : j ≡ i = omega (arith, below, past) in
     subst (λ k. P (slice_index_or xs k d)) (sym same)
-        (subst P (is ∙ get_or_default xs i x d within) here)) (cases_lt j i)
+    (subst P (is ∙ get_or_default xs i x d within) here)) (cases_lt j i)

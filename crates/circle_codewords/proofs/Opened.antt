@@ -24,9 +24,9 @@ counted t small = let bound : 2 ^ t ≤ 2 ^ 62 = pow_within t 62 small in omega 
 pub opens : {F E : Type 0} (k : Fields F E) (blowup h : ℕ) (m : RowMajorMatrix F) (t : E)
     (values : List E) (n : ℕ) (s : Coordinates F) (width : ℕ) (first coeffs : List (List F)) →
     n ≡ h - blowup → s ≡ k.gen (h + 1) → width ≡ width_of m →
-        first ≡ take (2 ^ (h - blowup)) (rows m) → HasValues k.field k.gen n s width coeffs first →
+    first ≡ take (2 ^ (h - blowup)) (rows m) → HasValues k.field k.gen n s width coeffs first →
     values ≡ lifted_values_at k.field.zero k.extension k.embed coeffs width
-        (from_line k.extension t) → OpensTo k blowup h m t values
+    (from_line k.extension t) → OpensTo k blowup h m t values
 opens k blowup h m t values n s width first coeffs size shift wide seen told are = record {
   coeffs = coeffs;
   told =

@@ -25,10 +25,10 @@ module _ {F : Type 0} {k : FieldOps F} (laws : FieldLaws k) {bits : ℕ} {gen : 
   generator-moves j within bad =
       let e : suc j ≡ j + 1 = omega arith in
       let half : gen 1 ≡ origin k = sym (times-generator laws.ring gens j 1 (omega (arith, within)))
-          ∙ ap (λ n. times k (2 ^ j) (gen n)) (sym e) ∙ ap (times k (2 ^ j)) bad ∙ times-origin
-          laws.ring (2 ^ j) in
+      ∙ ap (λ n. times k (2 ^ j) (gen n)) (sym e) ∙ ap (times k (2 ^ j)) bad ∙ times-origin
+      laws.ring (2 ^ j) in
       let minus : k.neg k.one ≡ k.one =
-          ap (λ (p : Coordinates F). p.x) (sym gens.half_turn ∙ half) in
+      ap (λ (p : Coordinates F). p.x) (sym gens.half_turn ∙ half) in
       laws.two_nonzero (ap (λ v. k.add v k.one) (sym minus) ∙ laws.ring.neg_add k.one)
 
   -- the domain of the first points is genuine
@@ -39,7 +39,7 @@ module _ {F : Type 0} {k : FieldOps F} (laws : FieldLaws k) {bits : ℕ} {gen : 
         λ bad.
             generator-moves (h - t) (omega (arith, below, positive, within))
             (sym (times-generator laws.ring gens t (suc (h - t)) (omega (arith, below, within)))
-                ∙ ap (λ n. times k (2 ^ t) (gen n)) (sym e) ∙ bad),
+            ∙ ap (λ n. times k (2 ^ t) (gen n)) (sym e) ∙ bad),
       )
 
 -- what doubles alike goes on alike
@@ -50,8 +50,8 @@ same-later l m zero x y same = let e : m + 0 ≡ m = omega arith in ap (λ n. it
 same-later l m (suc d) x y same =
     let e : m + suc d ≡ suc (m + d) = omega arith in
     ap (λ n. iterated_x l n x) e ∙ iterated_x-suc l (m + d) x
-        ∙ ap (doubled_x l) (same-later l m d x y same) ∙ sym (iterated_x-suc l (m + d) y)
-        ∙ ap (λ n. iterated_x l n y) (sym e)
+    ∙ ap (doubled_x l) (same-later l m d x y same) ∙ sym (iterated_x-suc l (m + d) y)
+    ∙ ap (λ n. iterated_x l n y) (sym e)
 
 module _ {F E : Type 0} {k : FieldOps F} {l : FieldOps E} {m : F → E} (laws : FieldLaws k)
     (laws' : FieldLaws l) (embedding : IsEmbedding k l m)
@@ -62,9 +62,9 @@ module _ {F E : Type 0} {k : FieldOps F} {l : FieldOps E} {m : F → E} (laws : 
       IsClearOf l m (natural_order k gen h s) q → IsClearOf l m (natural_order k gen t s) q
   first-clear t h s q positive within fits hs hq clear =
       let at_h = clear-of laws laws' embedding gens h (omega (arith, positive, within)) fits s hs q
-          hq in
+      hq in
       let at_t = clear-of laws laws' embedding gens t positive (omega (arith, within, fits)) s hs q
-          hq in
+      hq in
       let a = max t 2 - 1 in
       let d = max h 2 - max t 2 in
       let e : a + d ≡ max h 2 - 1 = omega (arith, within) in
@@ -85,12 +85,12 @@ module _ {F E : Type 0} {k : FieldOps F} {l : FieldOps E} {m : F → E} (laws : 
       All-from_recursion P (cfft_order k gen n s)
       (subst (AllByRecursion P) (points-cfft_order k gen n s positive) (listed.0 clear)) in
       λ i d lt same. all i d lt (ap (λ p. (plus l q (opposite l p)).y) same
-          ∙ ap (λ (p : Coordinates E). p.y) (plus-opposite laws'.ring q hq))
+      ∙ ap (λ (p : Coordinates E). p.y) (plus-opposite laws'.ring q hq))
 
   -- so of points that are off it
   pub off-apart : (h : ℕ) (t : E) → 1 ≤ h → h ≤ suc bits → l.mul t t ≢ l.neg l.one →
       IsClearOf l m (natural_order k gen h (gen (h + 1))) (from_line l t) →
-          IsApart m (cfft_order k gen h (gen (h + 1))) (from_line l t)
+      IsApart m (cfft_order k gen h (gen (h + 1))) (from_line l t)
   off-apart h t positive fits finite clear =
       clear-apart h (gen (h + 1)) (from_line l t) positive fits
-          (from_line-on_circle laws' t (λ none. finite (line_norm-zero laws' t none))) clear
+      (from_line-on_circle laws' t (λ none. finite (line_norm-zero laws' t none))) clear

@@ -40,7 +40,7 @@ matrices-same : (matrices : List (MatrixOpening Cubic ℕ)) → matrices_told ma
 matrices-same [] = refl
 matrices-same (m ∷ ms) =
     let with_claims : List (PointClaim Cubic) → MatrixClaim Cubic =
-        λ cs. record { log_n = m.domain; claims = cs } in
+    λ cs. record { log_n = m.domain; claims = cs } in
     ap (λ cs. with_claims cs ∷ matrices_told ms) (points-same m.points.items)
     ∙ ap (λ cs. matrix_as (sized m) ∷ cs) (matrices-same ms)
 
@@ -49,7 +49,7 @@ batches-same : (batches : List (CommitmentOpening Cubic (List ℕ) ℕ)) → bat
 batches-same [] = refl
 batches-same (b ∷ bs) =
     let with_matrices : List (MatrixClaim Cubic) → BatchClaim (List ℕ) Cubic =
-        λ ms. record { commitment = b.commitment; matrices = ms } in
+    λ ms. record { commitment = b.commitment; matrices = ms } in
     ap (λ ms. with_matrices ms ∷ batches_told bs) (matrices-same b.matrices.items)
     ∙ ap (λ cs. batch_as (all_told b) ∷ cs) (batches-same bs)
 
@@ -62,16 +62,16 @@ values-claimed (p ∷ ps) (v ∷ vs) = ap (λ cs. claim_of p v ∷ cs) (values-c
 
 matrices-claimed : (traces : List Trace) (values : List (List (List Cubic))) →
     map matrix_as (pairwise sized_claim (zip (logs_of traces) (points_of traces)) values)
-        ≡ pairwise matrix_claimed traces values
+    ≡ pairwise matrix_claimed traces values
 matrices-claimed [] vs = refl
 matrices-claimed (t ∷ ts) [] = refl
 matrices-claimed (t ∷ ts) (v ∷ vs) =
     let with_claims : List (PointClaim Cubic) → MatrixClaim Cubic =
-        λ cs. record { log_n = log_of (length t.rows.items); claims = cs } in
+    λ cs. record { log_n = log_of (length t.rows.items); claims = cs } in
     ap
-        (λ cs. with_claims cs
-        ∷ map matrix_as (pairwise sized_claim (zip (logs_of ts) (points_of ts)) vs))
-        (values-claimed t.points.items v)
+    (λ cs. with_claims cs
+    ∷ map matrix_as (pairwise sized_claim (zip (logs_of ts) (points_of ts)) vs))
+    (values-claimed t.points.items v)
     ∙ ap (λ cs. matrix_claimed t v ∷ cs) (matrices-claimed ts vs)
 
 -- by what is known of a batch
@@ -83,7 +83,7 @@ batch-claimed : (c : Committed) (values : List (List (List Cubic))) → claims_b
     ≡ batch_claimed c values
 batch-claimed c values =
     let with_matrices : List (MatrixClaim Cubic) → BatchClaim (List ℕ) Cubic =
-        λ ms. record { commitment = c.commitment; matrices = ms } in
+    λ ms. record { commitment = c.commitment; matrices = ms } in
     ap with_matrices (matrices-claimed c.traces.now values)
 
 each-claimed : (committed : List Committed) (known : List (CommittedBatch Cubic (List ℕ) ℕ))
@@ -104,7 +104,7 @@ each-claimed (c ∷ cs) (k ∷ ks) (v ∷ vs) same =
 pub batches-claimed : (committed : List Committed) (known : List (CommittedBatch Cubic (List ℕ) ℕ))
     (values : Openings Cubic)
     (claims : List (CommitmentOpening Cubic (List ℕ) ℕ)) → map known_told known
-        ≡ map known_of committed → map all_told claims ≡ pairwise sized_claims known values →
+    ≡ map known_of committed → map all_told claims ≡ pairwise sized_claims known values →
     batches_told claims ≡ pairwise batch_claimed committed values
 batches-claimed committed known values claims same made = batches-same claims
     ∙ ap (map batch_as) made ∙ each-claimed committed known values same

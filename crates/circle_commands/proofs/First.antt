@@ -12,9 +12,11 @@ pub first_at : {T : Type 0} (Fits IsRefused : T → Type 0) (xs : List T) (i : �
 first_at Fits IsRefused [] i x lt is fit here = absurd (omega (arith, lt))
 first_at Fits IsRefused (a ∷ xs) zero x lt is fit here = inl (subst IsRefused is here)
 first_at Fits IsRefused (a ∷ xs) (suc i) x lt is fit here =
-    inr (fit zero a (omega arith),
-        first_at Fits IsRefused xs i x (omega (arith, lt)) is
-        (λ k d h. fit (suc k) d (omega (arith, h))) here)
+    inr (
+      fit zero a (omega arith),
+      first_at Fits IsRefused xs i x (omega (arith, lt)) is
+          (λ k d h. fit (suc k) d (omega (arith, h))) here,
+    )
 
 -- a result that is this error
 pub refused_by : {A E : Type 0} (P : Type 0) (Q : E → Type 0) (r : Result A E) (e : E) →

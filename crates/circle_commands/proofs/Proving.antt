@@ -45,7 +45,7 @@ module _ {g : _} where
   pub is_extended : (blowup : ℕ) (given : List (Vec Mersenne31 Global)) (e : CircleDomain
       Mersenne31 g × RowMajorMatrix Mersenne31) (made : RowMajorMatrix Mersenne31)
       → ArePlaced given e → IsExtension operations generators blowup e.0 e.1 made →
-          IsExtended blowup (lists given) made
+      IsExtended blowup (lists given) made
   is_extended blowup given e made placed x =
       let n = log_size e.0 in
       record {
@@ -56,15 +56,15 @@ module _ {g : _} where
             subst (λ s. IsExtensionOf operations generators blowup n s (width_of e.1) (lists given)
             made) placed.standard
             (subst (λ rs. IsExtensionOf operations generators blowup n (shift_of e.0) (width_of e.1)
-                rs made) placed.content x);
+            rs made) placed.content x);
       }
 
   pub are_extended : (blowup : ℕ) (ts : List Trace)
       (es : List (CircleDomain Mersenne31 g × RowMajorMatrix Mersenne31))
       (ms : List (RowMajorMatrix Mersenne31))
       → AllZip (λ t e. ArePlaced t.rows.items e) ts es →
-          AreExtensions operations generators blowup es ms →
-          AllZip (λ t made. IsExtended blowup (lists t.rows.items) made) ts ms
+      AreExtensions operations generators blowup es ms →
+      AllZip (λ t made. IsExtended blowup (lists t.rows.items) made) ts ms
   are_extended blowup [] [] [] p x = tt
   are_extended blowup [] [] (m ∷ ms) p x = absurd x
   are_extended blowup [] (e ∷ es) ms p x = absurd p
@@ -101,8 +101,8 @@ module _ (Commits : List (RowMajorMatrix Mersenne31) → List ℕ → Type 0) (b
   pub requested_powers : {D : Type 0} (kept : D → List (RowMajorMatrix Mersenne31))
       (bs : List (Vec Trace Global)) (cs : List Committed) (rs : List (OpeningRequest D Cubic))
       → AllZip (λ b c. IsCommitted Commits blowup b.items c) bs cs →
-          AllZip (IsRequested kept) cs rs →
-          All (λ r. HaveHeightsOfPowers (kept r.prover_data.now)) rs
+      AllZip (IsRequested kept) cs rs →
+      All (λ r. HaveHeightsOfPowers (kept r.prover_data.now)) rs
   requested_powers kept [] [] [] p q = All-nil (λ r. HaveHeightsOfPowers (kept r.prover_data.now))
   requested_powers kept [] [] (r ∷ rs) p q = absurd q
   requested_powers kept [] (c ∷ cs) rs p q = absurd p
@@ -110,8 +110,8 @@ module _ (Commits : List (RowMajorMatrix Mersenne31) → List ℕ → Type 0) (b
   requested_powers kept (b ∷ bs) (c ∷ cs) [] p q = absurd q
   requested_powers kept (b ∷ bs) (c ∷ cs) (r ∷ rs) p q =
       All-cons (λ r. HaveHeightsOfPowers (kept r.prover_data.now)) r rs
-          (subst HaveHeightsOfPowers (sym q.0.matrices) p.0.powers)
-          (requested_powers kept bs cs rs p.1 q.1)
+      (subst HaveHeightsOfPowers (sym q.0.matrices) p.0.powers)
+      (requested_powers kept bs cs rs p.1 q.1)
 
 -- one more commitment was taken in
 pub commitment_more : (s t : List ℕ) (cs : List Committed) (i : ℕ) (c : Committed) → i < length cs →

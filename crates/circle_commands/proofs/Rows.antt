@@ -36,7 +36,7 @@ module _ {T : Type 0} where
   length-joined width (row ∷ rows) each =
       let e : length (joined rows) ≡ length rows * width = length-joined width rows each.1 in
       let f : length (row ++ joined rows) ≡ length row + length (joined rows) =
-          length-append row (joined rows) in
+      length-append row (joined rows) in
       let h : length row ≡ width = each.0 in
       let g : suc (length rows) * width ≡ width + length rows * width = omega arith in
       f ∙ ap (λ n. n + length (joined rows)) h ∙ ap (λ n. width + n) e ∙ sym g
@@ -47,13 +47,13 @@ module _ {T : Type 0} where
   rows_from-joined width (row ∷ rows) each =
       let h : length row ≡ width = each.0 in
       let t : take width (row ++ joined rows) ≡ row =
-          subst (λ (n : ℕ). take n (row ++ joined rows) ≡ row) h
-          (take-append_seam row (joined rows)) in
+      subst (λ (n : ℕ). take n (row ++ joined rows) ≡ row) h
+      (take-append_seam row (joined rows)) in
       let d : drop width (row ++ joined rows) ≡ joined rows =
-          subst (λ (n : ℕ). drop n (row ++ joined rows) ≡ joined rows) h
-          (drop-append_seam row (joined rows)) in
+      subst (λ (n : ℕ). drop n (row ++ joined rows) ≡ joined rows) h
+      (drop-append_seam row (joined rows)) in
       let e : rows_from width (length rows) (joined rows) ≡ rows =
-          rows_from-joined width rows each.1 in
+      rows_from-joined width rows each.1 in
       rw (t, d, e) refl
 
   -- what is said of each vector holds of the list in it
@@ -73,7 +73,7 @@ module _ {T : Type 0} where
   -- rows of one length have that of the first
   pub width_is : (width : ℕ) (rows : List (Vec T Global)) (first : Vec T Global) →
       0 < length rows → first ≡ get_or rows 0 first → EachHasLength width (lists rows) →
-          width ≡ vec_len first
+      width ≡ vec_len first
   width_is width [] first some head each = absurd (omega arith)
   width_is width (row ∷ rows) first some head each = sym each.0 ∙ sym row.ok.0
       ∙ sym (ap vec_len head)
@@ -89,10 +89,10 @@ module _ {T : Type 0} where
 
   -- what the vectors hold, end to end
   pub record IsJoined (entries : Vec T Global) (rows : List (Vec T Global)) (width : ℕ) : Type 0
-      where
-    pub positive : 1 ≤ width
-    pub len : vec_len entries ≡ length rows * width
-    pub cut : rows_from width (length rows) entries.items ≡ lists rows
+    where
+      pub positive : 1 ≤ width
+      pub len : vec_len entries ≡ length rows * width
+      pub cut : rows_from width (length rows) entries.items ≡ lists rows
 
   cut_of : (entries : Vec T Global) (rows : List (Vec T Global)) (width : ℕ) → 1 ≤ width →
       EachHasLength width (lists rows) →
@@ -105,20 +105,20 @@ module _ {T : Type 0} where
             ∙ ap (λ n. n * width) count;
         cut = subst (λ (n : ℕ). rows_from width n entries.items ≡ lists rows) count
             (ap (λ xs. rows_from width (length (lists rows)) xs) all
-                ∙ rows_from-joined width (lists rows) each);
+            ∙ rows_from-joined width (lists rows) each);
       }
 
   pub is_joined : (entries : Vec T Global) (rows : List (Vec T Global)) (first : Vec T Global)
       (width n : ℕ) →
       0 < length rows → IsRectangular (lists rows) → first ≡ get_or rows 0 first →
-          width ≡ vec_len first →
+      width ≡ vec_len first →
       length rows ≤ n → entries.items ≡ flat_map (λ row. row.items) (take n rows) →
-          IsJoined entries rows width
+      IsJoined entries rows width
   is_joined entries rows first width n some rectangular head w long content =
       let each : EachHasLength rectangular.0 (lists rows) = each_has_length _ _ rectangular.1.1 in
       let same : rectangular.0 ≡ width = width_is rectangular.0 rows first some head each ∙ sym w in
       let all : entries.items ≡ joined (lists rows) =
       content ∙ ap (λ xs. flat_map (λ row. row.items) xs) (take_all n rows long)
-          ∙ joined_lists rows in
+      ∙ joined_lists rows in
       cut_of entries rows width (subst (λ (n : ℕ). 1 ≤ n) same rectangular.1.0)
       (subst (λ (n : ℕ). EachHasLength n (lists rows)) same each) all

@@ -42,7 +42,7 @@ module _ {E : Type 0} where
       let rest : map point_told claims ≡ zip points values = cc in
       let first : c.point ≡ p = ap (λ t. t.0) one in
       ap (λ q. q ∷ map (λ p. p.point) claims) first
-          ∙ ap (λ qs. p ∷ qs) (points-told claims points values (omega (arith, long)) rest)
+      ∙ ap (λ qs. p ∷ qs) (points-told claims points values (omega (arith, long)) rest)
 
   -- and the values
   values-told : (claims : List (PointOpening E)) (points : List E) (values : List (List E)) →
@@ -59,7 +59,7 @@ module _ {E : Type 0} where
       let rest : map point_told claims ≡ zip points values = cc in
       let first : c.values.items ≡ v = ap (λ t. t.1) one in
       ap (λ q. q ∷ map (λ p. p.values.items) claims) first
-          ∙ ap (λ qs. v ∷ qs) (values-told claims points values (omega (arith, long)) rest)
+      ∙ ap (λ qs. v ∷ qs) (values-told claims points values (omega (arith, long)) rest)
 
 module _ {E Dom M : Type 0} (size : Dom → ℕ) where
   -- the claims of a batch, told by their domains, points and values
@@ -67,8 +67,8 @@ module _ {E Dom M : Type 0} (size : Dom → ℕ) where
       (claims : List (MatrixOpening E Dom)) → length asked ≡ length batch →
       AllZip (λ ps vs. length vs ≡ length ps) asked answers →
       All (λ ts. 1 ≤ length ts) asked → map matrix_told claims
-          ≡ pairwise matrix_claimed (zip (map (λ m. m.0) batch) asked) answers →
-          AreClaimedOf size batch asked answers claims
+      ≡ pairwise matrix_claimed (zip (map (λ m. m.0) batch) asked) answers →
+      AreClaimedOf size batch asked answers claims
   are-claimed [] [] [] [] long all some told = tt
   are-claimed [] [] [] (c ∷ claims) long all some told = absurd (cc)
   are-claimed [] [] (v ∷ answers) claims long all some told = absurd all
@@ -79,7 +79,7 @@ module _ {E Dom M : Type 0} (size : Dom → ℕ) where
   are-claimed (m ∷ batch) (p ∷ asked) (v ∷ answers) (c ∷ claims) long all some told =
       let one : matrix_told c ≡ matrix_claimed (m.0, p) v = cc in
       let rest : map matrix_told claims ≡ pairwise matrix_claimed (zip (map (λ m. m.0) batch) asked)
-          answers = cc in
+      answers = cc in
       let domain : c.domain ≡ m.0 = ap (λ t. t.0) one in
       let at : map point_told c.points.items ≡ zip p v = ap (λ t. t.1) one in (
         record {
@@ -127,7 +127,7 @@ module _ {E Com Data Dom : Type 0} where
       (requests : List (OpeningRequest Data E)) → seen ≡ committed →
       map (λ r. r.prover_data.now) requests ≡ map (λ c. c.prover_data) seen →
       map requested_points requests ≡ map (λ c. lists c.known.points) seen →
-          AskFor committed requests
+      AskFor committed requests
   asks-for seen committed requests same kept points =
       subst (λ cs. AskFor cs requests) same (record { kept = kept; points = points })
 
@@ -136,7 +136,7 @@ module _ {E Com Data Dom M : Type 0} (commits : List (Dom × M) → Com → Data
   pub are-requests : (batches : List (BatchAtPoints E Dom M))
       (committed : List (Committed E Com Data Dom)) (requests : List (OpeningRequest Data E)) →
       AreCommitted commits batches committed → AskFor committed requests →
-          AreRequestsOf commits batches requests
+      AreRequestsOf commits batches requests
   are-requests [] [] [] all asked = tt
   are-requests [] [] (r ∷ rs) all asked = absurd (ask-some r rs asked)
   are-requests [] (c ∷ cs) rs all asked = absurd all
@@ -163,7 +163,7 @@ module _ {E Com Data Dom M : Type 0} (commits : List (Dom × M) → Com → Data
   are-kept (b ∷ bs) (r ∷ rs) all =
       let is : IsRequestOf commits b r = all.0 in
       let Kept : OpeningRequest Data E → Type 0 = λ r. (b : List (Dom × M)) × (c : Com)
-          × commits b c r.prover_data.now in
+      × commits b c r.prover_data.now in
       All-cons Kept r rs (b.evaluations.items, is.commitment, is.committed) (are-kept bs rs all.1)
 
   -- they are honest where the batches may be opened at their points
@@ -171,7 +171,7 @@ module _ {E Com Data Dom M : Type 0} (commits : List (Dom × M) → Com → Data
       (batches : List (BatchAtPoints E Dom M)) (requests : List (OpeningRequest Data E)) →
       AreRequestsOf commits batches requests →
       All (λ b. OpensAt b.evaluations.items (lists b.points)) batches →
-          All (IsHonest commits OpensAt) requests
+      All (IsHonest commits OpensAt) requests
   are-honest OpensAt [] [] all can = All-nil _
   are-honest OpensAt [] (r ∷ rs) all can = absurd all
   are-honest OpensAt (b ∷ bs) [] all can = absurd all
@@ -186,14 +186,14 @@ module _ {E Com Data Dom M : Type 0} (commits : List (Dom × M) → Com → Data
             (All-head (λ b. OpensAt b.evaluations.items (lists b.points)) b bs can);
       } in
       All-cons (IsHonest commits OpensAt) r rs this
-          (are-honest OpensAt bs rs all.1
-          (All-tail (λ b. OpensAt b.evaluations.items (lists b.points)) b bs can))
+      (are-honest OpensAt bs rs all.1
+      (All-tail (λ b. OpensAt b.evaluations.items (lists b.points)) b bs can))
 
   pub honest-requests : {S : Type 0} (OpensAt : List (Dom × M) → List (List E) → Type 0)
       (Finds : List (OpeningRequest Data E) → S → Type 0) (batches : List (BatchAtPoints E Dom M))
       (requests : List (OpeningRequest Data E)) (state : S) →
       AreRequestsOf commits batches requests →
-          AreHonestBatches commits OpensAt Finds batches state → AreHonest commits OpensAt requests
+      AreHonestBatches commits OpensAt Finds batches state → AreHonest commits OpensAt requests
   honest-requests OpensAt Finds batches requests state all honest =
       let long = AllZip-long (IsRequestOf commits) batches requests all in
       let some = honest.some in
@@ -204,7 +204,7 @@ module _ {E Com Data Dom M : Type 0} (commits : List (Dom × M) → Com → Data
       (batches : List (BatchAtPoints E Dom M)) (requests : List (OpeningRequest Data E))
       (values : Openings E) →
       AreRequestsOf commits batches requests → AreTrueValues commits ValuesOf requests values →
-          AreValuesOf ValuesOf batches values
+      AreValuesOf ValuesOf batches values
   are-values ValuesOf [] [] [] all true = tt
   are-values ValuesOf [] [] (v ∷ vs) all true = absurd true
   are-values ValuesOf [] (r ∷ rs) vs all true = absurd all
@@ -222,7 +222,7 @@ module _ {E Com Data Dom M : Type 0} (commits : List (Dom × M) → Com → Data
       (committed : List (Committed E Com Data Dom)) (requests : List (OpeningRequest Data E))
       (values : Openings E) → All HasPoints batches →
       AreCommitted commits batches committed → AskFor committed requests →
-          HaveValues requests values → HaveAnswers committed values
+      HaveValues requests values → HaveAnswers committed values
   have-answers [] [] [] [] points all asked have = tt
   have-answers [] [] [] (v ∷ vs) points all asked have = absurd have
   have-answers [] [] (r ∷ rs) vs points all asked have = absurd (ask-some r rs asked)
@@ -235,21 +235,23 @@ module _ {E Com Data Dom M : Type 0} (commits : List (Dom × M) → Com → Data
       let first : HasPoints b = All-head HasPoints b bs points in
       let at = ask-points c cs r rs asked in
       let long : length c.known.domains.items ≡ length b.evaluations.items = ap length is.domains
-          ∙ length-map b.evaluations.items (λ m. m.0) in
+      ∙ length-map b.evaluations.items (λ m. m.0) in
       let this : HasAnswers c v = record {
         each = ap (λ ps. length ps.items) is.points ∙ first.each ∙ sym long;
         answers = subst (λ ps. AllZip (λ points vs. length vs ≡ length points) ps v) at have.0;
-      } in
-      (this, have-answers bs cs rs vs (All-tail HasPoints b bs points) all.1
-          (ask-rest c cs r rs asked) have.1)
+      } in (
+        this,
+        have-answers bs cs rs vs (All-tail HasPoints b bs points) all.1
+            (ask-rest c cs r rs asked) have.1,
+      )
 
   -- the claims on what is known of the batches are of what is answered
   pub are-answered : (size : Dom → ℕ) (batches : List (BatchAtPoints E Dom M))
       (committed : List (Committed E Com Data Dom)) (requests : List (OpeningRequest Data E))
       (values : Openings E) (claims : List (CommitmentOpening E Com Dom)) →
       All HasPoints batches → AreCommitted commits batches committed → AskFor committed requests →
-          HaveAnswers committed values → map batch_told claims
-          ≡ pairwise batch_claimed (map (λ c. c.known) committed) values →
+      HaveAnswers committed values → map batch_told claims
+      ≡ pairwise batch_claimed (map (λ c. c.known) committed) values →
       AreAnsweredBy size commits requests values claims
   are-answered size [] [] [] [] [] points all asked have told = tt
   are-answered size [] [] [] [] (q ∷ qs) points all asked have told = absurd (cc)
@@ -271,12 +273,12 @@ module _ {E Com Data Dom M : Type 0} (commits : List (Dom × M) → Com → Data
       let more : map batch_told qs ≡ pairwise batch_claimed (map (λ c. c.known) cs) vs = cc in
       let same : q.commitment ≡ c.known.commitment = ap (λ t. t.0) one in
       let matrices : map matrix_told q.matrices.items ≡ pairwise matrix_claimed
-          (zip c.known.domains.items (lists c.known.points)) v = ap (λ t. t.1) one in
+      (zip c.known.domains.items (lists c.known.points)) v = ap (λ t. t.1) one in
       let some : All (λ ts. 1 ≤ length ts) (requested_points r) =
-          subst (All (λ ts. 1 ≤ length ts)) (sym (at ∙ ap lists is.points)) first.some in
+      subst (All (λ ts. 1 ≤ length ts)) (sym (at ∙ ap lists is.points)) first.some in
       let long : length (requested_points r) ≡ length b.evaluations.items =
       ap length at ∙ length-map c.known.points.items (λ p. p.items) ∙ has.each
-          ∙ ap length is.domains ∙ length-map b.evaluations.items (λ m. m.0) in
+      ∙ ap length is.domains ∙ length-map b.evaluations.items (λ m. m.0) in
       let this : IsAnsweredBy size commits r v q = record {
         batch = b.evaluations.items;
         committed = subst (λ d. commits b.evaluations.items q.commitment d) (sym kept)
@@ -284,15 +286,17 @@ module _ {E Com Data Dom M : Type 0} (commits : List (Dom × M) → Com → Data
             is.committed);
         claims =
             are-claimed size b.evaluations.items (requested_points r) v q.matrices.items long
-                (subst (λ ps. AllZip (λ points vs. length vs ≡ length points) ps v) (sym at)
-                has.answers) some
+            (subst (λ ps. AllZip (λ points vs. length vs ≡ length points) ps v) (sym at)
+            has.answers) some
             (subst (λ ps. map matrix_told q.matrices.items
-                ≡ pairwise matrix_claimed (zip (map (λ m. m.0) b.evaluations.items) ps) v) (sym at)
+            ≡ pairwise matrix_claimed (zip (map (λ m. m.0) b.evaluations.items) ps) v) (sym at)
             (subst (λ ds. map matrix_told q.matrices.items
-                ≡ pairwise matrix_claimed (zip ds (lists c.known.points)) v) is.domains matrices));
-      } in
-      (this, are-answered size bs cs rs vs qs (All-tail HasPoints b bs points) all.1
-          (ask-rest c cs r rs asked) have.1 more)
+            ≡ pairwise matrix_claimed (zip ds (lists c.known.points)) v) is.domains matrices));
+      } in (
+        this,
+        are-answered size bs cs rs vs qs (All-tail HasPoints b bs points) all.1
+            (ask-rest c cs r rs asked) have.1 more,
+      )
 
 -- what a call refuses for is handed on
 pub handed : {A E : Type 0} (P : E → Type 0) (r : Result A E) (e : E) → IsErrAnd r (λ x. x ≡ e) →
@@ -315,7 +319,7 @@ pub one-more-committed : {E Com Data Dom M : Type 0} (commits : List (Dom × M) 
     Type 0) (batches : List (BatchAtPoints E Dom M)) (committed : List (Committed E Com Data Dom))
     (b : BatchAtPoints E Dom M) (c : Committed E Com Data Dom) →
     AreCommitted commits batches committed → IsCommitted commits b c →
-        AreCommitted commits (batches ++ b ∷ []) (committed ++ c ∷ [])
+    AreCommitted commits (batches ++ b ∷ []) (committed ++ c ∷ [])
 one-more-committed commits [] [] b c all is = (is, tt)
 one-more-committed commits [] (d ∷ committed) b c all is = absurd all
 one-more-committed commits (a ∷ batches) [] b c all is = absurd all
@@ -325,7 +329,7 @@ one-more-committed commits (a ∷ batches) (d ∷ committed) b c all is =
 module _ {E Dom M PE VE : Type 0} (of_prover : PE → Bool) (of_verifier : VE → Bool)
     (OpensAt : List (Dom × M) → List (List E) → Type 0) (Refuses : List (Dom × M) → PE → Type 0)
     (honest : (batch : List (Dom × M)) (points : List (List E)) (e : PE) → OpensAt batch points →
-        Refuses batch e → IsTrue (of_prover e)) where
+    Refuses batch e → IsTrue (of_prover e)) where
   -- batches that may be opened are committed to, where memory suffices
   pub of-memory : (batches : List (BatchAtPoints E Dom M)) →
       All (λ b. OpensAt b.evaluations.items (lists b.points)) batches → (e : RoundTripError PE VE) →
@@ -341,8 +345,8 @@ module _ {E Dom M PE VE : Type 0} (of_prover : PE → Bool) (of_verifier : VE �
 module _ {E Com Data Dom M S PE VE Proof : Type 0} (size : Dom → ℕ) (commits : List (Dom × M) →
     Com → Data → Type 0) (commit_refuses : List (Dom × M) → PE → Type 0)
     (open_gives : List (OpeningRequest Data E) → S → Openings E → Proof → S → Type 0)
-        (open_refuses : List (OpeningRequest Data E) → S → S → PE → Type 0)
-        (verify_refuses : List (CommitmentOpening E Com Dom) → Proof → S → S → VE → Type 0)
+    (open_refuses : List (OpeningRequest Data E) → S → S → PE → Type 0)
+    (verify_refuses : List (CommitmentOpening E Com Dom) → Proof → S → S → VE → Type 0)
     (batches : List (BatchAtPoints E Dom M)) where
   -- what isn't committed to is the reason
   pub why-uncommitted : (s t : S) → t ≡ s → (e : RoundTripError PE VE) →

@@ -9,20 +9,20 @@ use Rattle.circle_commit.specs.DotProduct.{pairwise}
 pub mapped-more : {A B D : Type 0} (g : A → D) (h : B → D) (xs : List A) (i n : ℕ) (x : A)
     (old new : List B) (w : B) → n ≡ i + 1 →
     i < length xs → x ≡ slice_index_or xs i x → new ≡ old ++ w ∷ [] → h w ≡ g x →
-        map h old ≡ map g (take i xs) → map h new ≡ map g (take n xs)
+    map h old ≡ map g (take i xs) → map h new ≡ map g (take n xs)
 mapped-more g h xs i n x old new w next lt is pushed made so_far =
     ap (map h) pushed ∙ map-append h old (w ∷ []) ∙ ap (λ l. l ++ h w ∷ []) so_far
-        ∙ ap (λ v. map g (take i xs) ++ v ∷ []) (made ∙ ap g is)
+    ∙ ap (λ v. map g (take i xs) ++ v ∷ []) (made ∙ ap g is)
     ∙ sym (map_more g xs i x lt) ∙ ap (λ m. map g (take m xs)) (sym next)
 
 -- so where they are the items themselves
 pub taken-more : {A B : Type 0} (h : B → A) (xs : List A) (i n : ℕ) (x : A) (old new : List B)
     (w : B) → n ≡ i + 1 →
     i < length xs → x ≡ slice_index_or xs i x → new ≡ old ++ w ∷ [] → h w ≡ x →
-        map h old ≡ take i xs → map h new ≡ take n xs
+    map h old ≡ take i xs → map h new ≡ take n xs
 taken-more h xs i n x old new w next lt is pushed made so_far =
     mapped-more (λ a. a) h xs i n x old new w next lt is pushed made
-        (so_far ∙ sym (map-id (take i xs))) ∙ map-id (take n xs)
+    (so_far ∙ sym (map-id (take i xs))) ∙ map-id (take n xs)
 
 -- what two lists are put side by side, once one of them is read
 pub zip-mapped : {A B C : Type 0} (h : B → C) (xs : List A) (ys : List B) →
@@ -42,7 +42,7 @@ pairwise-mapped f h (x ∷ xs) (y ∷ ys) = ap (λ l. f x (h y) ∷ l) (pairwise
 pub pairwise-of-zip : {A B C D G : Type 0} (f : A × C → G → D) (h : B → C) {X : Type 0} (k : X → G)
     (xs : List A) (ys : List B) (zs : List X) →
     map (λ p. f (p.0.0, h p.0.1) (k p.1)) (zip (zip xs ys) zs)
-        ≡ pairwise f (zip xs (map h ys)) (map k zs)
+    ≡ pairwise f (zip xs (map h ys)) (map k zs)
 pairwise-of-zip f h k [] ys zs = refl
 pairwise-of-zip f h k (x ∷ xs) [] zs = refl
 pairwise-of-zip f h k (x ∷ xs) (y ∷ ys) [] = refl

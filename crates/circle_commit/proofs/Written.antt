@@ -30,7 +30,7 @@ written-more (suc i) (x ∷ new) [] d e h = absurd (omega arith)
 written-more (suc i) (x ∷ new) (y ∷ old) d e h =
     let s : suc (i + 1) ≡ suc i + 1 = omega arith in
     ap (λ rest. x ∷ rest) (written-more i new old d (omega arith) (omega arith))
-        ∙ ap (λ n. written n (x ∷ new) (y ∷ old)) s
+    ∙ ap (λ n. written n (x ∷ new) (y ∷ old)) s
 
 -- one entry more of a list that is mapped in place
 pub mapped-more : {T : Type 0} (f : T → T) (i : ℕ) (old now : List T) (a v : T) → i < length old →
@@ -39,11 +39,11 @@ pub mapped-more : {T : Type 0} (f : T → T) (i : ℕ) (old now : List T) (a v :
 mapped-more f i old now a v here so_far read made =
     let long = length-map old f in
     let own : a ≡ slice_index_or old i a = read ∙ ap (λ xs. slice_index_or xs i a) so_far
-        ∙ written-read i (map f old) old a long in
+    ∙ written-read i (map f old) old a long in
     let entry : v ≡ slice_index_or (map f old) i (f a) = made ∙ ap f own
-        ∙ sym (get_or-map f old i a) in
+    ∙ sym (get_or-map f old i a) in
     ap (λ xs. slice_set xs i v) so_far ∙ ap (slice_set (written i (map f old) old) i) entry
-        ∙ written-more i (map f old) old (f a) long here
+    ∙ written-more i (map f old) old (f a) long here
 
 pub written-all : {T : Type 0} (i : ℕ) (new old : List T) → length new ≡ length old →
     length old ≤ i → written i new old ≡ new
@@ -91,9 +91,9 @@ module _ {V X B : Type 0} (m : V → X) (f : X → B → X) (i : ℕ) (old now :
   partnered-read =
       let long = length-pairwise f (map m old) partners (length-map old m ∙ paired) in
       sym (read-map m now i d (m d) (omega (arith, here, kept)))
-          ∙ ap (λ xs. slice_index_or xs i (m d)) so_far
+      ∙ ap (λ xs. slice_index_or xs i (m d)) so_far
       ∙ written-read i (pairwise f (map m old) partners) (map m old) (m d) long
-          ∙ read-map m old i d (m d) here
+      ∙ read-map m old i d (m d) here
 
   -- and so one more is changed
   pub partnered-more : (b : B) (v : V) → b ≡ slice_index_or partners i b →
@@ -103,14 +103,14 @@ module _ {V X B : Type 0} (m : V → X) (f : X → B → X) (i : ℕ) (old now :
       let all = pairwise f (map m old) partners in
       let listed : length (map m old) ≡ length old = length-map old m in
       let long : length all ≡ length (map m old) =
-          length-pairwise f (map m old) partners (listed ∙ paired) in
+      length-pairwise f (map m old) partners (listed ∙ paired) in
       let is : m v ≡ slice_index_or all i (m v) =
       made ∙ ap (λ x. f x b) (partnered-read ∙ sym (read-map m old i d (m d) here))
-          ∙ ap (f (slice_index_or (map m old) i (m d))) own
+      ∙ ap (f (slice_index_or (map m old) i (m d))) own
       ∙ sym (pairwise-read f (map m old) partners i (m d) b (m v) (omega (arith, here, listed))
-          (omega (arith, here, paired))) in
+      (omega (arith, here, paired))) in
       map-set m now i v ∙ ap (λ xs. slice_set xs i (m v)) so_far
-          ∙ ap (slice_set (written i all (map m old)) i) is
+      ∙ ap (slice_set (written i all (map m old)) i) is
       ∙ written-more i all (map m old) (m v) long (omega (arith, here, listed))
 
 -- one more entry of a list by index
@@ -121,5 +121,5 @@ range-more f a (suc n) =
     let e : suc n + 1 ≡ suc (n + 1) = omega arith in
     let z : a + 1 + n ≡ a + suc n = omega arith in
     ap (λ m. map f (range_with_len a m)) e
-        ∙ ap (λ rest. f a ∷ rest)
-        (range-more f (a + 1) n ∙ ap (λ m. map f (range_with_len (a + 1) n) ++ f m ∷ []) z)
+    ∙ ap (λ rest. f a ∷ rest)
+    (range-more f (a + 1) n ∙ ap (λ m. map f (range_with_len (a + 1) n) ++ f m ∷ []) z)

@@ -26,8 +26,8 @@ module _ {F : Type 0} (k : FieldOps F) (width : ℕ) where
   cut-column j lt [] = refl
   cut-column j lt (row ∷ coeffs) =
       ap (λ x. x ∷ column k.zero (cut coeffs) j)
-          (get_or-map-range_with_len (λ i. slice_index_or row i k.zero) 0 width j j k.zero lt
-          (omega arith))
+      (get_or-map-range_with_len (λ i. slice_index_or row i k.zero) 0 width j j k.zero lt
+      (omega arith))
       ∙ ap (λ xs. slice_index_or row j k.zero ∷ xs) (cut-column j lt coeffs)
 
   -- at any point
@@ -37,13 +37,13 @@ module _ {F : Type 0} (k : FieldOps F) (width : ℕ) where
       let at = λ (cs : List (List F)) (j : ℕ). value k (column k.zero cs j) p in
       shifted (at (cut coeffs)) (at coeffs) 0 0 width
       (λ j lt. let z : 0 + j ≡ j = omega arith in ap (at (cut coeffs)) z
-          ∙ ap (λ c. value k c p) (cut-column j lt coeffs) ∙ ap (at coeffs) (sym z))
+      ∙ ap (λ c. value k c p) (cut-column j lt coeffs) ∙ ap (at coeffs) (sym z))
 
 -- so they have the values that the coefficients have on a domain
 pub cut-told : {F : Type 0} (k : FieldOps F) (gen : ℕ → Coordinates F) (width n : ℕ)
     (s : Coordinates F) (coeffs rows : List (List F)) → length coeffs ≡ 2 ^ n →
     map (values_at k coeffs width) (cfft_order k gen n s) ≡ rows →
-        HasValues k gen n s width (cut k width coeffs) rows
+    HasValues k gen n s width (cut k width coeffs) rows
 cut-told {F} k gen width n s coeffs rows count told = record {
   height = length-map coeffs _ ∙ count;
   widths = All-map (λ (row : List F). length row ≡ width) (cut_row k width) coeffs

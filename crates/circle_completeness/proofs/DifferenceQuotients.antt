@@ -58,7 +58,7 @@ module _ {E : Type 0} {l : FieldOps E} (laws : FieldLaws l) where
         combine laws.ring env (prod (prod im i) (sum x (minus a))) (sum y b)
         (given (sum y b) (prod re i) unit
         ∷ given (prod i y) (sum (prod a a) (prod b b)) unit
-            ∷ given (prod i b) (sum (prod x x) (prod y y)) unit ∷ []) refl
+        ∷ given (prod i b) (sum (prod x x) (prod y y)) unit ∷ []) refl
         (inverse, (on_z, (on_p, tt)))
 
     pub ratio-y : l.mul (ratio_at z p) (sub l p.y z.y) ≡ l.neg (l.add p.x z.x)
@@ -66,7 +66,7 @@ module _ {E : Type 0} {l : FieldOps E} (laws : FieldLaws l) where
         combine laws.ring env (prod (prod im i) (sum y (minus b))) (minus (sum x a))
         (given (minus (sum x a)) (prod re i) unit
         ∷ given (minus (prod i x)) (sum (prod a a) (prod b b)) unit
-            ∷ given (minus (prod i a)) (sum (prod x x) (prod y y)) unit ∷ []) refl
+        ∷ given (minus (prod i a)) (sum (prod x x) (prod y y)) unit ∷ []) refl
         (inverse, (on_z, (on_p, tt)))
 
   module _ {T : Type 0} (place : T → Coordinates E) (z : Coordinates E) (on_z : IsOnCircle l z)
@@ -87,7 +87,7 @@ module _ {E : Type 0} {l : FieldOps E} (laws : FieldLaws l) where
           ratio-x z (place t) on_z (on t) (apart t)
           ∙ ring laws.ring (z.y ∷ (place t).y ∷ (place t).x ∷ []) (sum (var 1) (var 0))
           (sum (sum (prod (var 0) (prod unit unit)) (sum (prod unit (prod unit (var 1))) (con 0)))
-              (prod (con 0) (var 2))) refl;
+          (prod (con 0) (var 2))) refl;
     }
     near-vanishing (suc m) =
         let n = suc m in
@@ -97,27 +97,27 @@ module _ {E : Type 0} {l : FieldOps E} (laws : FieldLaws l) where
         let g = λ (t : T). l.mul (r t) (sub l (v t) w) in
         let near = near-vanishing m in
         near-same laws place
-            (λ t. l.add (l.mul (l.add w w) (g t)) (l.mul (l.mul (l.add l.one l.one) (g t)) (v t)))
+        (λ t. l.add (l.mul (l.add w w) (g t)) (l.mul (l.mul (l.add l.one l.one) (g t)) (v t)))
         (λ t. l.mul (r t) (sub l (factor l (suc n) (place t)) (factor l (suc n) z)))
         (λ t.
         ap (λ s. l.mul (r t) (sub l s (factor l (suc n) z))) (iterated_x-suc l m (place t).x)
         ∙ ap (λ s. l.mul (r t) (sub l (doubled_x l (v t)) s)) (iterated_x-suc l m z.x)
         ∙ ring laws.ring (r t ∷ v t ∷ w ∷ [])
         (prod (var 0)
-            (sum (sum (sum (prod (var 1) (var 1)) (prod (var 1) (var 1))) (minus unit))
-            (minus (sum (sum (prod (var 2) (var 2)) (prod (var 2) (var 2))) (minus unit)))))
+        (sum (sum (sum (prod (var 1) (var 1)) (prod (var 1) (var 1))) (minus unit))
+        (minus (sum (sum (prod (var 2) (var 2)) (prod (var 2) (var 2))) (minus unit)))))
         (sum (prod (sum (var 2) (var 2)) (prod (var 0) (sum (var 1) (minus (var 2)))))
-            (prod (prod (sum unit unit) (prod (var 0) (sum (var 1) (minus (var 2))))) (var 1)))
-            refl)
+        (prod (prod (sum unit unit) (prod (var 0) (sum (var 1) (minus (var 2))))) (var 1)))
+        refl)
         (near-raised laws place m (λ t. l.mul (l.add w w) (g t))
-            (λ t. l.mul (l.add l.one l.one) (g t))
+        (λ t. l.mul (l.add l.one l.one) (g t))
         (near-scaled laws place n (l.add w w) g near)
-            (near-scaled laws place n (l.add l.one l.one) g near))
+        (near-scaled laws place n (l.add l.one l.one) g near))
 
     -- of the values of a polynomial
     pub near-difference : (m : ℕ) (c : List E) → length c ≡ 2 ^ suc m →
         IsNearLow laws place (suc m)
-            (λ t. l.mul (ratio t) (sub l (value l c (place t)) (value l c z)))
+        (λ t. l.mul (ratio t) (sub l (value l c (place t)) (value l c z)))
     near-difference zero [] long = absurd (omega (arith, long))
     near-difference zero (c ∷ []) long = absurd (omega (arith, long))
     near-difference zero (c ∷ d ∷ e ∷ rest) long = absurd (omega (arith, long))
@@ -129,16 +129,16 @@ module _ {E : Type 0} {l : FieldOps E} (laws : FieldLaws l) where
           let p = place t in
           combine laws.ring (c ∷ d ∷ p.x ∷ p.y ∷ z.x ∷ z.y ∷ ratio t ∷ [])
           (prod (var 6)
-              (sum
-              (sum (prod (var 0) (prod unit unit)) (sum (prod (var 1) (prod unit (var 3))) (con 0)))
-          (minus
-              (sum (prod (var 0) (prod unit unit))
-              (sum (prod (var 1) (prod unit (var 5))) (con 0))))))
           (sum
-              (sum (prod (minus (prod (var 1) (var 4))) (prod unit unit))
-              (sum (prod (con 0) (prod unit (var 3))) (con 0))) (prod (minus (var 1)) (var 2)))
+          (sum (prod (var 0) (prod unit unit)) (sum (prod (var 1) (prod unit (var 3))) (con 0)))
+          (minus
+          (sum (prod (var 0) (prod unit unit))
+          (sum (prod (var 1) (prod unit (var 5))) (con 0))))))
+          (sum
+          (sum (prod (minus (prod (var 1) (var 4))) (prod unit unit))
+          (sum (prod (con 0) (prod unit (var 3))) (con 0))) (prod (minus (var 1)) (var 2)))
           (given (var 1) (prod (var 6) (sum (var 3) (minus (var 5)))) (minus (sum (var 2) (var 4)))
-              ∷ []) refl
+          ∷ []) refl
           (ratio-y z p on_z (on t) (apart t), tt);
     }
     near-difference (suc m) c long =
@@ -157,25 +157,25 @@ module _ {E : Type 0} {l : FieldOps E} (laws : FieldLaws l) where
         let h = λ (t : T). l.mul (r t) (sub l (value l hi (place t)) hz) in
         let u = λ (t : T). l.mul (r t) (sub l (v t) w) in
         let joined : (p : Coordinates E) →
-            value l c p ≡ l.add (value l lo p) (l.mul (value l hi p) (factor l n p)) =
+        value l c p ≡ l.add (value l lo p) (l.mul (value l hi p) (factor l n p)) =
         λ p. ap (λ s. value l s p) (sym (take-append-drop half c))
-            ∙ value-halves laws.ring n lo hi p long_lo (omega (arith, long_hi)) in
+        ∙ value-halves laws.ring n lo hi p long_lo (omega (arith, long_hi)) in
         near-same laws place (λ t. l.add (l.add (g t) (l.mul (u t) hz)) (l.mul (h t) (v t)))
-            (λ t. l.mul (r t) (sub l (value l c (place t)) (value l c z)))
+        (λ t. l.mul (r t) (sub l (value l c (place t)) (value l c z)))
         (λ t.
         ap (λ s. l.mul (r t) (sub l s (value l c z))) (joined (place t))
         ∙ ap
-            (λ s. l.mul (r t)
-            (sub l (l.add (value l lo (place t)) (l.mul (value l hi (place t)) (v t))) s))
-            (joined z)
+        (λ s. l.mul (r t)
+        (sub l (l.add (value l lo (place t)) (l.mul (value l hi (place t)) (v t))) s))
+        (joined z)
         ∙ ring laws.ring (r t ∷ v t ∷ w ∷ value l lo (place t) ∷ value l lo z ∷ value l hi (place t)
-            ∷ hz ∷ [])
+        ∷ hz ∷ [])
         (prod (var 0)
-            (sum (sum (var 3) (prod (var 5) (var 1))) (minus (sum (var 4) (prod (var 6) (var 2))))))
+        (sum (sum (var 3) (prod (var 5) (var 1))) (minus (sum (var 4) (prod (var 6) (var 2))))))
         (sum
-            (sum (prod (var 0) (sum (var 3) (minus (var 4))))
-            (prod (prod (var 0) (sum (var 1) (minus (var 2)))) (var 6)))
-            (prod (prod (var 0) (sum (var 5) (minus (var 6)))) (var 1))) refl)
+        (sum (prod (var 0) (sum (var 3) (minus (var 4))))
+        (prod (prod (var 0) (sum (var 1) (minus (var 2)))) (var 6)))
+        (prod (prod (var 0) (sum (var 5) (minus (var 6)))) (var 1))) refl)
         (near-raised laws place m (λ t. l.add (g t) (l.mul (u t) hz)) h
         (near-plus laws place n hz g u (near-difference m lo long_lo) (near-vanishing m))
-            (near-difference m hi long_hi))
+        (near-difference m hi long_hi))

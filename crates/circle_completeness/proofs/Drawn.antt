@@ -27,11 +27,11 @@ all-below width next bits_of small (suc count) s =
 pub numbers-below : {C S F E : Type 0} (m : Moves C S F E) →
     ((s : S) (bits : ℕ) → bits ≤ 63 → m.sampled_bits s bits < 2 ^ bits) →
     (width count : ℕ) (s : S) → width ≤ 63 →
-        All (λ q. q < 2 ^ width) (drawn_numbers m width count s)
+    All (λ q. q < 2 ^ width) (drawn_numbers m width count s)
 numbers-below m law width count s fits =
     All-from_recursion (λ q. q < 2 ^ width) (drawn_numbers m width count s)
     (all-below width (λ t. m.after_bits t width) (λ t. m.sampled_bits t width)
-        (λ t. law t width fits) count s)
+    (λ t. law t width fits) count s)
 
 -- three choices with errors that give a value
 chosen : {A X : Type 0} (a b c : Bool) (v w : A) (x y z : X) →

@@ -56,8 +56,8 @@ module _ {F E M IC IP WC WP : Type 0} {k : Fields F E} {p : FriParameters M}
     {ms : List (Committed F E)} {r : Run F E WC IC IP WP} {bits : ℕ}
     (over : IsRunOver k p ms r bits)
     {WordCommits : List (RowMajorMatrix E) → WC → Type 0}
-        {word_authenticates : Authenticates WC E WP}
-        (words : HoldsWords k ms r.drawn r.proof p WordCommits word_authenticates)
+    {word_authenticates : Authenticates WC E WP}
+    (words : HoldsWords k ms r.drawn r.proof p WordCommits word_authenticates)
     (top-same : top k p r ≡ top_of ms) (heights-same : claimed_heights k p r ≡ heights_of ms) where
   abbrev hs : List ℕ
   hs = heights_of ms
@@ -87,7 +87,7 @@ module _ {F E M IC IP WC WP : Type 0} {k : Fields F E} {p : FriParameters M}
       let found = Any-from_list_any (λ (m : Committed F E). m.log_height == h) ms is in
       let same : found.1.log_height ≡ h = eqb-true found.1.log_height h found.4 in
       let here : (slice_index_or ms found.0 found.1).log_height ≡ found.1.log_height =
-          ap (λ (m : Committed F E). m.log_height) found.3 in
+      ap (λ (m : Committed F E). m.log_height) found.3 in
       let tall = over.tall found.0 found.1 found.2 in
       let low = matrices-low ms found.0 found.1 found.2 in
       (omega (arith, tall, same, here), omega (arith, low, same, here))
@@ -95,7 +95,7 @@ module _ {F E M IC IP WC WP : Type 0} {k : Fields F E} {p : FriParameters M}
   all-bounds : All (λ h. (1 ≤ h) × (h ≤ high)) hs
   all-bounds =
       height-known ms (λ h. (1 ≤ h) × (h ≤ high)) (λ i m lt. let tall = over.tall i m lt in
-          let low = matrices-low ms i m lt in (omega (arith, tall), omega (arith, low)))
+      let low = matrices-low ms i m lt in (omega (arith, tall), omega (arith, low)))
 
   -- it stands at its place among the heights
   at-place : (h : ℕ) → has_height ms h ≡ true → slice_get hs (place_of k p r h) ≡ Some h
@@ -110,7 +110,7 @@ module _ {F E M IC IP WC WP : Type 0} {k : Fields F E} {p : FriParameters M}
       let h = slice_index_or hs i d in
       let positive = (all-bounds i d lt).0 in
       length-pairs_of (word h) h positive
-          (length-corrected k r.drawn.alpha ms p.log_blowup h positive)
+      (length-corrected k r.drawn.alpha ms p.log_blowup h positive)
 
   highest : max_height kept ≡ 2 ^ (high - 1)
   highest =
@@ -139,13 +139,13 @@ module _ {F E M IC IP WC WP : Type 0} {k : Fields F E} {p : FriParameters M}
   siblings-are q =
       ap (siblings_at k.extension.zero high hs q) (rows-there q)
       ∙ pairwise-map (λ h row. sibling_in k.extension.zero (place h q) row)
-          (λ h. slice_index_or (layer h) (place h q / 2) []) hs
+      (λ h. slice_index_or (layer h) (place h q / 2) []) hs
 
   pub first-siblings : HasSiblings k p r (length (claimed_heights k p r)) r.proof.first_layer_opened
   first-siblings =
       let opened = words.first_layer.opened in
       let Counted : List E → Type 0 = λ siblings. length siblings
-          ≡ length (claimed_heights k p r) in (
+      ≡ length (claimed_heights k p r) in (
         ap length opened.entries ∙ length-map queries siblings_for,
         subst (All Counted) (sym opened.entries)
             (All-map Counted siblings_for queries
@@ -153,23 +153,23 @@ module _ {F E M IC IP WC WP : Type 0} {k : Fields F E} {p : FriParameters M}
             let q = slice_index_or queries i d in
             ap length (siblings-are q)
             ∙ length-map hs (λ h. sibling_in
-                k.extension.zero (place h q) (slice_index_or (layer h) (place h q / 2) []))
+            k.extension.zero (place h q) (slice_index_or (layer h) (place h q / 2) []))
             ∙ sym (ap length heights-same))),
       )
 
   -- at a query, the entries beside its places
   sibling-read : (j q h : ℕ) → slice_get queries j ≡ Some q → has_height ms h ≡ true →
       slice_index_or (slice_index_or r.proof.first_layer_opened.entries j []) (place_of k p r h)
-          k.extension.zero
+      k.extension.zero
       ≡ sibling_in k.extension.zero (place h q) (slice_index_or (layer h) (place h q / 2) [])
   sibling-read j q h at is =
       let zero = k.extension.zero in
       let n = place_of k p r h in
       ap (λ es. slice_index_or (slice_index_or es j []) n zero) words.first_layer.opened.entries
       ∙ ap (λ es. slice_index_or es n zero) (image-read siblings_for queries j q [] at
-          ∙ siblings-are q)
+      ∙ siblings-are q)
       ∙ image-read (λ h. sibling_in zero (place h q) (slice_index_or (layer h) (place h q / 2) []))
-          hs n h zero (at-place h is)
+      hs n h zero (at-place h is)
 
   module _ (reads : ReadsRows k p ms r) where
     -- the first value at a query is the entry of the height's word at its place
@@ -184,27 +184,27 @@ module _ {F E M IC IP WC WP : Type 0} {k : Fields F E} {p : FriParameters M}
         let x = slice_index_or points (place h q) (origin k.field) in
         let multiple = slice_index_or r.proof.lambdas (place_of k p r h) l.zero in
         let less =
-            λ (m : E) (y : Coordinates F) (v : E). sub l v
-            (l.mul m (k.embed (vanishing k.field (h - p.log_blowup) y))) in
+        λ (m : E) (y : Coordinates F) (v : E). sub l v
+        (l.mul m (k.embed (vanishing k.field (h - p.log_blowup) y))) in
         let there : point_among k p r j q h ≡ x =
-            ap (λ t. slice_index_or points (q / 2 ^ (t - h)) (origin k.field)) top-same in
+        ap (λ t. slice_index_or points (q / 2 ^ (t - h)) (origin k.field)) top-same in
         let known : multiple ≡ lambda k r.drawn.alpha ms p.log_blowup h =
         ap (λ es. slice_index_or es (place_of k p r h) l.zero) words.lambdas
         ∙ image-read (lambda k r.drawn.alpha ms p.log_blowup) hs (place_of k p r h) h l.zero
-            (at-place h is) in
+        (at-place h is) in
         ap (λ y. less multiple y (reduced l k.embed r.drawn.alpha 0 y claims)) there
         ∙ ap (λ cs. less multiple x (reduced l k.embed r.drawn.alpha 0 x cs))
-            (reads j q h at fits.1)
+        (reads j q h at fits.1)
         ∙ ap (λ m. less m x (reduced l k.embed r.drawn.alpha 0 x (claims_at h ms (place h q))))
-            known
+        known
         ∙ sym (corrected-read k r.drawn.alpha ms p.log_blowup h fits.0 (place h q) low)
 
     query-place : (j q h : ℕ) → slice_get queries j ≡ Some q → has_height ms h ≡ true →
         place h q < 2 ^ h
     query-place j q h at is =
         let below : q < 2 ^ high =
-            subst (λ n. n < 2 ^ high) (get_or_from_slice_get queries j q q at)
-            (over.below j q (slice_get_within queries j q at)) in
+        subst (λ n. n < 2 ^ high) (get_or_from_slice_get queries j q q at)
+        (over.below j q (slice_get_within queries j q at)) in
         place-below q h high (bounds h is).1 below
 
     -- its pair in the first layer is the row that the place falls into
@@ -215,13 +215,13 @@ module _ {F E M IC IP WC WP : Type 0} {k : Fields F E} {p : FriParameters M}
         let low = query-place j q h at is in
         let fits = bounds h is in
         let sibling = slice_index_or (slice_index_or r.proof.first_layer_opened.entries j [])
-            (place_of k p r h) zero in
+        (place_of k p r h) zero in
         ap (λ t. pair_of (q / 2 ^ (t - h)) (first_value k p r j q h) sibling) top-same
         ∙ ap (λ v. pair_of (place h q) v sibling) (value-read j q h at is low)
         ∙ ap (pair_of (place h q) (slice_index_or (word h) (place h q) zero))
-            (sibling-read j q h at is)
+        (sibling-read j q h at is)
         ∙ pair-back_power zero (word h) h (place h q) fits.0
-            (length-corrected k r.drawn.alpha ms p.log_blowup h fits.0) low
+        (length-corrected k r.drawn.alpha ms p.log_blowup h fits.0) low
 
     -- so the pairs authenticate
     pub first-authenticates : FirstLayerAuthenticates k p r word_authenticates
@@ -233,29 +233,29 @@ module _ {F E M IC IP WC WP : Type 0} {k : Fields F E} {p : FriParameters M}
         let at_half = λ (q : ℕ). rows_at kept (q / 2) in
         let first = λ (j q : ℕ). map (first_pair k p r j q) claimed in
         let agree : (i d : ℕ) → i < length queries →
-            at_half (slice_index_or queries i d) ≡ first (0 + i) (slice_index_or queries i d) =
+        at_half (slice_index_or queries i d) ≡ first (0 + i) (slice_index_or queries i d) =
         λ i d lt.
         let q = slice_index_or queries i d in
         let here : 0 + i ≡ i = omega arith in
         rows-there q
         ∙ sym (map-agree (first_pair k p r i q) (λ h. slice_index_or (layer h) (place h q / 2) [])
-            hs
+        hs
         (All-weaker (λ h. has_height ms h ≡ true)
-            (λ h. first_pair k p r i q h ≡ slice_index_or (layer h) (place h q / 2) [])
+        (λ h. first_pair k p r i q h ≡ slice_index_or (layer h) (place h q / 2) [])
         (λ h is. pair-read i q h (slice_get-get_or queries i d lt) is) hs
-            (filter_passes (has_height ms) (range_with_len 0 (suc high)))))
+        (filter_passes (has_height ms) (range_with_len 0 (suc high)))))
         ∙ ap (map (first_pair k p r i q)) (sym heights-same)
         ∙ ap (λ n. first n q) (sym here) in
         moved word_authenticates r.proof.first_layer r.proof.first_layer_opened.proof
-            (dimensions_of kept) (map shape claimed) (places_of 1 queries)
-            (map (λ q. q / 2) queries)
+        (dimensions_of kept) (map shape claimed) (places_of 1 queries)
+        (map (λ q. q / 2) queries)
         (rows_at_each kept (places_of 1 queries)) (at_queries k p r first)
         (shapes-are kept hs layer committed.rows committed.width long
-            ∙ ap (map shape) (sym heights-same))
+        ∙ ap (map shape) (sym heights-same))
         refl
         (map-map (rows_at kept) (λ q. q / 2) queries ∙ itself-placed at_half 0 queries
-            ∙ same-placed (λ j q. at_half q) first 0 queries agree
-            ∙ sym (zip-placed first 0 queries))
+        ∙ same-placed (λ j q. at_half q) first 0 queries agree
+        ∙ sym (zip-placed first 0 queries))
         (opened.shown r.proof.first_layer committed.commits)
 
     -- and fold to the entries of the words' folds
@@ -270,15 +270,15 @@ module _ {F E M IC IP WC WP : Type 0} {k : Fields F E} {p : FriParameters M}
         let next : h ≡ suc (h - 1) = omega (arith, fits.0) in
         let half : n < 2 ^ (h - 1) = omega (arith, low, ap (λ i. 2 ^ i) next, pow-suc 2 (h - 1)) in
         let count : n < length twiddles =
-            omega (arith, half, length-fold_y_twiddles k.field k.gen (h - 1)) in
+        omega (arith, half, length-fold_y_twiddles k.field k.gen (h - 1)) in
         let rows_long : length (layer h) ≡ 2 ^ (h - 1) =
-            length-pairs_of (word h) h fits.0
-            (length-corrected k r.drawn.alpha ms p.log_blowup h fits.0) in
+        length-pairs_of (word h) h fits.0
+        (length-corrected k r.drawn.alpha ms p.log_blowup h fits.0) in
         ap (λ t. step (k.embed (first_layer_twiddle k.field k.gen h t q)) (first_pair k p r j q h))
-            top-same
+        top-same
         ∙ ap (step (k.embed (slice_index_or twiddles n k.field.zero))) (pair-read j q h at is)
         ∙ ap (λ t. step t (slice_index_or (layer h) n []))
-            (sym (get_or-map k.embed twiddles n k.field.zero (k.embed k.field.zero) count))
+        (sym (get_or-map k.embed twiddles n k.field.zero (k.embed k.field.zero) count))
         ∙ sym (pairwise-read step (map k.embed twiddles) (layer h) n (k.embed k.field.zero) []
-            l.zero (omega (arith, count, length-map twiddles k.embed))
-            (omega (arith, half, rows_long)))
+        l.zero (omega (arith, count, length-map twiddles k.embed))
+        (omega (arith, half, rows_long)))

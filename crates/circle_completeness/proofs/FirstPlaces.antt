@@ -17,9 +17,9 @@ module _ (p : ℕ → Bool) where
       let rest = filter p (range_with_len (a + 1) n) in
       let none : length (below h rest) ≡ 0 = none-below (a + 1) n h (omega arith) in
       let here : length (below h (a ∷ rest)) ≡ 0 =
-          ap (λ b. length (cond b (a ∷ below h rest) (below h rest))) (le-ltb a h le) ∙ none in
+      ap (λ b. length (cond b (a ∷ below h rest) (below h rest))) (le-ltb a h le) ∙ none in
       elim (p a) as (λ b. length (below h (cond b (a ∷ rest) rest)) ≡ 0)
-          [ true ↦ here | false ↦ none ]
+      [ true ↦ here | false ↦ none ]
 
   -- a number that the test keeps stands at the place that those below it leave
   pub place-there : (a n h : ℕ) → p h ≡ true → a ≤ h → h < a + n →
@@ -33,7 +33,7 @@ module _ (p : ℕ → Bool) where
       (λ same.
       subst (λ b. At (cond b (a ∷ rest) rest)) (sym (ap p same ∙ is))
       (ap (λ b. slice_get (a ∷ rest) (length (cond b (a ∷ below h rest) (below h rest))))
-          (le-ltb a h (omega (arith, same)))
+      (le-ltb a h (omega (arith, same)))
       ∙ ap (slice_get (a ∷ rest)) (none-below (a + 1) n h (omega (arith, same))) ∙ ap Some same))
       (λ other.
       let less : a < h = omega (arith, low, other) in

@@ -39,9 +39,12 @@ module _ {F E : Type 0} (k : Fields F E) (alpha : E) (ms : List (Committed F E))
   length-points =
       let half = coset k.field k.gen (h - 1) (k.gen (h + 1)) in
       length-opposites k.field half
-          ∙ (let e : length half + length half ≡ 2 ^ h =
-          omega (arith, length-coset k.field k.gen (h - 1) (k.gen (h + 1)),
-          two_halves h positive) in e)
+      ∙ (let e : length half + length half ≡ 2 ^ h =
+      omega (
+        arith,
+        length-coset k.field k.gen (h - 1) (k.gen (h + 1)),
+        two_halves h positive,
+      ) in e)
 
   abbrev at : ℕ → E
   at i = reduced k.extension k.embed alpha 0 (slice_index_or points i (origin k.field))
@@ -70,16 +73,16 @@ module _ {F E : Type 0} (k : Fields F E) (alpha : E) (ms : List (Committed F E))
 
   pub corrected-read : (i : ℕ) → i < 2 ^ h →
       slice_index_or (corrected_word k alpha ms blowup h) i k.extension.zero
-          ≡ less (at i) (vanishing_at (slice_index_or points i (origin k.field)))
+      ≡ less (at i) (vanishing_at (slice_index_or points i (origin k.field)))
   corrected-read i lt =
       let zero = k.extension.zero in
       let first : slice_index_or (reduced_word k alpha ms h) i zero ≡ at i =
-          get_or-map-range_with_len at 0 (2 ^ h) i i zero lt (omega arith) in
+      get_or-map-range_with_len at 0 (2 ^ h) i i zero lt (omega arith) in
       let second : slice_index_or values i zero ≡ vanishing_at
-          (slice_index_or points i (origin k.field)) =
+      (slice_index_or points i (origin k.field)) =
       get_or-map vanishing_at points i (origin k.field) zero (omega (arith, lt, length-points)) in
       pairwise-read less (reduced_word k alpha ms h) values i zero zero zero
-          (omega (arith, lt, length-reduced)) (omega (arith, lt, length-values))
+      (omega (arith, lt, length-reduced)) (omega (arith, lt, length-values))
       ∙ ap (λ a. less a (slice_index_or values i zero)) first ∙ ap (less (at i)) second
 
 -- the heights of matrices
@@ -101,7 +104,7 @@ module _ {T : Type 0} (kept : List (RowMajorMatrix T)) (hs : List ℕ) (layer : 
     heights-are : map height_of kept ≡ map size hs
     heights-are =
         sym (rows-listed kept) ∙ ap (map (λ rs. length rs)) are ∙ map-map (λ rs. length rs) layer hs
-            ∙ map-agree (λ h. length (layer h)) size hs long
+        ∙ map-agree (λ h. length (layer h)) size hs long
 
     pub have-heights : HaveHeights hs kept
     have-heights = record {
@@ -114,9 +117,9 @@ module _ {T : Type 0} (kept : List (RowMajorMatrix T)) (hs : List ℕ) (layer : 
     pub shapes-are : dimensions_of kept ≡ map (λ h. record { width = 2; height = 2 ^ (h - 1) }) hs
     shapes-are =
         map-agree (λ m. record { width = width_of m; height = height_of m })
-            (λ m. record { width = 2; height = height_of m }) kept
+        (λ m. record { width = 2; height = height_of m }) kept
         (λ i d lt. ap (λ w. record { width = w; height = height_of (slice_index_or kept i d) })
-            (wide i d lt))
+        (wide i d lt))
         ∙ sym (map-map (λ n. record { width = 2; height = n }) height_of kept)
         ∙ ap (map (λ n. record { width = 2; height = n })) heights-are
         ∙ map-map (λ n. record { width = 2; height = n }) size hs
@@ -131,14 +134,14 @@ module _ {T : Type 0} (kept : List (RowMajorMatrix T)) (hs : List ℕ) (layer : 
           let most = max_height kept in
           let here = λ (rs : List (List T)). slice_index_or rs (row_at most (length rs) i) [] in
           map-agree (λ m. slice_index_or (rows m) (row_at most (height_of m) i) [])
-              (λ m. here (rows m)) kept
+          (λ m. here (rows m)) kept
           (λ j d lt. let m = slice_index_or kept j d in
-              ap (λ n. slice_index_or (rows m) (row_at most n i) []) (sym (length-rows m)))
+          ap (λ n. slice_index_or (rows m) (row_at most n i) []) (sym (length-rows m)))
           ∙ sym (map-map here rows kept)
           ∙ ap (map here) are
           ∙ map-map here layer hs
           ∙ map-agree (λ h. here (layer h))
-              (λ h. slice_index_or (layer h) (q / 2 ^ (top - h) / 2) []) hs
+          (λ h. slice_index_or (layer h) (q / 2 ^ (top - h) / 2) []) hs
           (λ j d lt.
           let h = slice_index_or hs j d in
           let fits = within j d lt in

@@ -45,8 +45,8 @@ module _ {F E IC IP : Type 0} (k : Fields F E) (bits blowup top : ℕ)
     pub claims : batch.matrices ≡ map (claimed_of k bits blowup top) items
     pub opens :
         OpensRows Commits authenticates (matrices_of k bits blowup top items)
-            (places_of (top - log_of (max_height (matrices_of k bits blowup top items))) queries)
-            opened.entries opened.proof
+        (places_of (top - log_of (max_height (matrices_of k bits blowup top items))) queries)
+        opened.entries opened.proof
 
   -- committed matrices, the claims on them and what is opened of them are those of parts
   pub record AreGathered (ms : List (Committed F E)) (batches : List (BatchClaim IC E))
@@ -64,27 +64,31 @@ module _ {D F E M IC IP : Type 0} (k : Fields F E) (bits top : ℕ) (p : FriPara
       (o : Opened (List (List F)) IP) → IsFit kept k p.log_blowup bits r →
       1 ≤ length (kept r.prover_data.now) →
       All (λ m. log_of (height_of m) ≤ top) (kept r.prover_data.now) →
-          All (HasReadRows k p.log_blowup) (kept r.prover_data.now) →
-          AllByRecursion (λ c. 1 ≤ length c.claims)
-          (batch_committed k p.log_blowup (kept r.prover_data.now) (points_of kept r) v) →
+      All (HasReadRows k p.log_blowup) (kept r.prover_data.now) →
+      AllByRecursion (λ c. 1 ≤ length c.claims)
+      (batch_committed k p.log_blowup (kept r.prover_data.now) (points_of kept r) v) →
       AreAnswers kept k p.log_blowup r v → IsClaimed k p kept Commits r v b →
-          HasBatchRows kept Commits authenticates top queries r o →
+      HasBatchRows kept Commits authenticates top queries r o →
       (part : Part k bits p.log_blowup top Commits authenticates queries)
-          × (batch_committed k p.log_blowup (kept r.prover_data.now) (points_of kept r) v
-          ≡ map (committed_of k bits p.log_blowup top) part.items)
+      × (batch_committed k p.log_blowup (kept r.prover_data.now) (points_of kept r) v
+      ≡ map (committed_of k bits p.log_blowup top) part.items)
       × (b ≡ part.batch) × (o ≡ part.opened)
   part_of r v b o fit some low read opened answers claims rows =
       let ms = kept r.prover_data.now in
       let items = items-of k bits p.log_blowup top ms (points_of kept r) v fit answers.0 opened
-          (recursion_from_All (λ m. log_of (height_of m) ≤ top) ms low)
+      (recursion_from_All (λ m. log_of (height_of m) ≤ top) ms low)
       (recursion_from_All (HasReadRows k p.log_blowup) ms read) in
       let part : Part k bits p.log_blowup top Commits authenticates queries = record {
         items = items.0;
         batch = b;
         opened = o;
         some =
-            omega (arith, some, ap length items.1,
-            length-map items.0 (λ (i : Item k bits p.log_blowup top). i.matrix));
+            omega (
+              arith,
+              some,
+              ap length items.1,
+              length-map items.0 (λ (i : Item k bits p.log_blowup top). i.matrix),
+            );
         commits = subst (λ l. Commits l b.commitment) items.1 claims.committed;
         claims = claims.matrices ∙ ap (map (claimed p.log_blowup)) items.2
             ∙ map-map (claimed p.log_blowup) (committed_of k bits p.log_blowup top) items.0;
@@ -99,17 +103,17 @@ module _ {D F E M IC IP : Type 0} (k : Fields F E) (bits top : ℕ) (p : FriPara
   pub gathered : (requests : List (OpeningRequest D E)) (values : Openings E)
       (batches : List (BatchClaim IC E)) (inputs : List (Opened (List (List F)) IP)) →
       AllByRecursion (IsFit kept k p.log_blowup bits) requests →
-          AllByRecursion (λ r. 1 ≤ length (kept r.prover_data.now)) requests →
+      AllByRecursion (λ r. 1 ≤ length (kept r.prover_data.now)) requests →
       AllByRecursion (λ r. All (λ m. log_of (height_of m) ≤ top) (kept r.prover_data.now))
-          requests → AllByRecursion (λ r. All (HasReadRows k p.log_blowup) (kept r.prover_data.now))
-          requests →
+      requests → AllByRecursion (λ r. All (HasReadRows k p.log_blowup) (kept r.prover_data.now))
+      requests →
       AllByRecursion (λ c. 1 ≤ length c.claims)
-          (flat_map (λ b. b) (all_committed kept k p.log_blowup requests values)) →
+      (flat_map (λ b. b) (all_committed kept k p.log_blowup requests values)) →
       AllZip (AreAnswers kept k p.log_blowup) requests values →
-          AreClaimed k p kept Commits requests values batches →
-          AllZip (HasBatchRows kept Commits authenticates top queries) requests inputs →
+      AreClaimed k p kept Commits requests values batches →
+      AllZip (HasBatchRows kept Commits authenticates top queries) requests inputs →
       AreGathered k bits p.log_blowup top Commits authenticates queries
-          (flat_map (λ b. b) (all_committed kept k p.log_blowup requests values)) batches inputs
+      (flat_map (λ b. b) (all_committed kept k p.log_blowup requests values)) batches inputs
   gathered [] (v ∷ values) batches inputs fit some low read opened answers claims rows =
       absurd answers
   gathered (r ∷ requests) [] batches inputs fit some low read opened answers claims rows =
@@ -128,9 +132,9 @@ module _ {D F E M IC IP : Type 0} (k : Fields F E) (bits top : ℕ) (p : FriPara
       let others = flat_map (λ b. b) (all_committed kept k p.log_blowup requests values) in
       let IsOpened : Committed F E → Type 0 = λ c. 1 ≤ length c.claims in
       let one = part_of r v b o fit.0 some.0 low.0 read.0 (first-known IsOpened here others opened)
-          answers.0 claims.0 rows.0 in
+      answers.0 claims.0 rows.0 in
       let rest = gathered requests values batches inputs fit.1 some.1 low.1 read.1
-          (second-known IsOpened here others opened) answers.1 claims.1 rows.1 in
+      (second-known IsOpened here others opened) answers.1 claims.1 rows.1 in
       record {
         parts = one.0 ∷ rest.parts;
         matrices = ap (λ l. l ++ others) one.1

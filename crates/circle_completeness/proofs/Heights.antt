@@ -21,20 +21,20 @@ module _ {F E : Type 0} (blowup final : ℕ) where
   heights-claimed (m ∷ ms) tall =
       let here : m.log_height - blowup + blowup ≡ m.log_height = omega (arith, tall.0) in
       ap (λ n. n ∷ map (log_height blowup) (map (claimed blowup) ms)) here
-          ∙ ap (λ ns. m.log_height ∷ ns) (heights-claimed ms tall.1)
+      ∙ ap (λ ns. m.log_height ∷ ns) (heights-claimed ms tall.1)
 
   -- so one of a height is claimed where there is one
   pub any-claimed : (h : ℕ) (ms : List (Committed F E)) →
       AllByRecursion (λ m. blowup + final + 2 ≤ m.log_height) ms →
       list_any (λ m. log_height blowup m == h) (map (claimed blowup) ms)
-          ≡ list_any (λ m. m.log_height == h) ms
+      ≡ list_any (λ m. m.log_height == h) ms
   any-claimed h [] tall = refl
   any-claimed h (m ∷ ms) tall =
       let here : m.log_height - blowup + blowup ≡ m.log_height = omega (arith, tall.0) in
       ap
-          (λ n. (n == h) || list_any (λ (c : MatrixClaim E). log_height blowup c == h)
-          (map (claimed blowup) ms)) here
-          ∙ ap (λ b. (m.log_height == h) || b) (any-claimed h ms tall.1)
+      (λ n. (n == h) || list_any (λ (c : MatrixClaim E). log_height blowup c == h)
+      (map (claimed blowup) ms)) here
+      ∙ ap (λ b. (m.log_height == h) || b) (any-claimed h ms tall.1)
 
 module _ {F E M IC IP WC WP : Type 0} (k : Fields F E) (p : FriParameters M)
     (ms : List (Committed F E)) (r : Run F E WC IC IP WP) {bits : ℕ}
@@ -60,5 +60,5 @@ module _ {F E M IC IP WC WP : Type 0} (k : Fields F E) (p : FriParameters M)
   heights-same =
       ap (λ n. filter (is_claimed k p r) (range_with_len 0 (suc n))) top-same
       ∙ filter_agree (is_claimed k p r)
-          (λ h. list_any (λ (m : Committed F E). m.log_height == h) ms) claimed-same
-          (range_with_len 0 (suc (top_of ms)))
+      (λ h. list_any (λ (m : Committed F E). m.log_height == h) ms) claimed-same
+      (range_with_len 0 (suc (top_of ms)))

@@ -80,18 +80,26 @@ module _ {F E : Type 0} (k : Fields F E) (bits blowup top : ℕ) where
   pub items-of : (ms : List (RowMajorMatrix F)) (points : List (List E))
       (values : List (List (List E))) → AllZip (IsOpenable k bits blowup) ms points →
       AllZip (λ m rest. AreValuesOf k blowup m rest.0 rest.1) ms (zip points values) →
-          AllByRecursion (λ c. 1 ≤ length c.claims) (batch_committed k blowup ms points values) →
-          AllByRecursion (λ m. log_of (height_of m) ≤ top) ms →
+      AllByRecursion (λ c. 1 ≤ length c.claims) (batch_committed k blowup ms points values) →
+      AllByRecursion (λ m. log_of (height_of m) ≤ top) ms →
       AllByRecursion (HasReadRows k blowup) ms →
       (items : List Item) × (ms ≡ matrices_of items)
-          × (batch_committed k blowup ms points values ≡ map committed_of items)
+      × (batch_committed k blowup ms points values ≡ map committed_of items)
   items-of [] points values openable are opened low read = ([], refl, refl)
   items-of (m ∷ ms) [] values openable are opened low read = absurd openable
   items-of (m ∷ ms) (t ∷ points) [] openable are opened low read = absurd are
   items-of (m ∷ ms) (t ∷ points) (v ∷ values) openable are opened low read =
       let one : Item =
-          record { matrix = m; points = t; values = v; openable = openable.0; widths = are.0.widths;
-          opened = opened.0; low = low.0; read = read.0 } in
+      record {
+        matrix = m;
+        points = t;
+        values = v;
+        openable = openable.0;
+        widths = are.0.widths;
+        opened = opened.0;
+        low = low.0;
+        read = read.0;
+      } in
       let rest = items-of ms points values openable.1 are.1 opened.1 low.1 read.1 in
       (one ∷ rest.0, ap (λ l. m ∷ l) rest.1, ap (λ l. committed k blowup m t v ∷ l) rest.2)
 
@@ -133,7 +141,7 @@ module _ {F E : Type 0} (k : Fields F E) (bits blowup top : ℕ) where
   shape-is : (i : Item) → shape (claimed_of i) ≡ sized (width_of i.matrix) (height_of i.matrix)
   shape-is i =
       ap (λ w. sized w (2 ^ log_height blowup (claimed_of i)))
-          (first-width i.points i.values (width_of i.matrix) i.opened i.widths)
+      (first-width i.points i.values (width_of i.matrix) i.opened i.widths)
       ∙ ap (sized (width_of i.matrix)) (ap (λ n. 2 ^ n) (claimed-height i) ∙ sym i.openable.power)
 
   -- those of all are the matrices' shapes
@@ -155,19 +163,19 @@ module _ {F E : Type 0} (k : Fields F E) (bits blowup top : ℕ) where
     pub heights-fit : AreHeights top (matrices_of items)
     heights-fit =
         batch-heights top (matrices_of items)
-            (omega (arith, some, length-map items (λ (i : Item). i.matrix)))
+        (omega (arith, some, length-map items (λ (i : Item). i.matrix)))
         (All-map (λ m. height_of m ≡ 2 ^ log_of (height_of m)) (λ (i : Item). i.matrix) items
-            (λ n d lt. (slice_index_or items n d).openable.power))
+        (λ n d lt. (slice_index_or items n d).openable.power))
         (All-map (λ m. log_of (height_of m) ≤ top) (λ (i : Item). i.matrix) items
-            (λ n d lt. (slice_index_or items n d).low))
+        (λ n d lt. (slice_index_or items n d).low))
 
     highest-is : highest ≡ greatest (map order items)
     highest-is =
         let long : 1 ≤ length (map order items) = omega (arith, some, length-map items order) in
         pow_injective highest (greatest (map order items))
         (sym heights-fit.power
-            ∙ ap greatest (heights-listed (matrices_of items) ∙ powers-listed items)
-            ∙ greatest-power (map order items) long)
+        ∙ ap greatest (heights-listed (matrices_of items) ∙ powers-listed items)
+        ∙ greatest-power (map order items) long)
 
     -- is that of the claims
     pub highest-claimed : log_max_height blowup (map claimed_of items) ≡ highest
@@ -182,9 +190,9 @@ module _ {F E : Type 0} (k : Fields F E) (bits blowup top : ℕ) where
       ≡ map (row_in (max_height (matrices_of items)) place) items
   rows-are items place =
       map-map
-          (λ m. slice_index_or (rows m)
-          (row_at (max_height (matrices_of items)) (height_of m) place) []) (λ (i : Item). i.matrix)
-          items
+      (λ m. slice_index_or (rows m)
+      (row_at (max_height (matrices_of items)) (height_of m) place) []) (λ (i : Item). i.matrix)
+      items
 
   -- beside the claims
   pub rows-beside : (items : List Item) (place : ℕ) →
@@ -200,23 +208,23 @@ module _ {F E : Type 0} (k : Fields F E) (bits blowup top : ℕ) where
     row-long place lt =
         let row = row_in most place i in
         let below = row-below high (order i) most (height_of i.matrix) is_most i.openable.power le
-            place lt in
+        place lt in
         let long : length row ≡ width_of i.matrix =
-            rows-width i.matrix (row_at most (height_of i.matrix) place) []
-            (omega (arith, below, length-rows i.matrix)) in
+        rows-width i.matrix (row_at most (height_of i.matrix) place) []
+        (omega (arith, below, length-rows i.matrix)) in
         All-from_recursion (λ (c : PointClaim E). length row ≡ length c.values)
-            (pairwise claim_of i.points i.values)
+        (pairwise claim_of i.points i.values)
         (claims-long (length row) i.points i.values
-            (recursion_from_All (λ (v : List E). length row ≡ length v) i.values
-            (λ n d inside. long ∙ sym (i.widths n d inside))))
+        (recursion_from_All (λ (v : List E). length row ≡ length v) i.values
+        (λ n d inside. long ∙ sym (i.widths n d inside))))
 
     -- the claims of a height with the row of a query are those with the matrix's row there
     pub claims-read : (h q : ℕ) → high ≤ top →
         (if log_height blowup (claimed_of i) ==
-            h then map (λ c. (c, row_in most (q / 2 ^ (top - high)) i)) (claimed_of i).claims else
-            [])
+        h then map (λ c. (c, row_in most (q / 2 ^ (top - high)) i)) (claimed_of i).claims else
+        [])
         ≡ (if (committed_of i).log_height ==
-            h then claims_on (committed_of i) (q / 2 ^ (top - h)) else [])
+        h then claims_on (committed_of i) (q / 2 ^ (top - h)) else [])
     claims-read h q within =
         let claims = (claimed_of i).claims in
         let row = row_in most (q / 2 ^ (top - high)) i in
@@ -226,7 +234,7 @@ module _ {F E : Type 0} (k : Fields F E) (bits blowup top : ℕ) where
         (λ yes.
         ap (λ n. with_row (slice_index_or (rows i.matrix) n []))
         (row-place high (order i) most (height_of i.matrix) is_most i.openable.power le q top within
-            ∙ ap (λ n. q / 2 ^ (top - n)) (eqb-true (order i) h yes))
+        ∙ ap (λ n. q / 2 ^ (top - n)) (eqb-true (order i) h yes))
         ∙ ap (λ rs. with_row (slice_index_or rs (q / 2 ^ (top - h)) [])) (sym i.read))
 
   -- the domain of a matrix's height is clear of the points that it is opened at
@@ -244,12 +252,12 @@ module _ {F E : Type 0} (k : Fields F E) (bits blowup top : ℕ) where
     low = i.low;
     finite =
         All-from_recursion (λ (x : PointClaim E). IsFinite k.extension x.point)
-            (pairwise claim_of i.points i.values)
+        (pairwise claim_of i.points i.values)
         (claims-there (IsFinite k.extension) i.points i.values
-            (recursion_from_All (IsFinite k.extension) i.points i.openable.off.0));
+        (recursion_from_All (IsFinite k.extension) i.points i.openable.off.0));
     off =
         All-from_recursion (λ (x : PointClaim E). IsOffDomain k (order i) x.point)
-            (pairwise claim_of i.points i.values)
+        (pairwise claim_of i.points i.values)
         (claims-there (IsOffDomain k (order i)) i.points i.values
-            (recursion_from_All (IsOffDomain k (order i)) i.points i.openable.off.1));
+        (recursion_from_All (IsOffDomain k (order i)) i.points i.openable.off.1));
   }

@@ -84,4 +84,4 @@ module _ (high low most height : ℕ) (is_most : most ≡ 2 ^ high) (is_height :
   row-place q top within =
       row-powers (q / 2 ^ (top - high)) ∙ shr-shr q (top - high) (high - low)
       ∙ ap (λ n. q / 2 ^ n) (let e : top - high + (high - low) ≡ top - low =
-          omega (arith, le, within) in e)
+      omega (arith, le, within) in e)

@@ -20,7 +20,7 @@ pub length-row : {E : Type 0} (w : List E) (i : ℕ) → i / 2 < length w / 2 �
     length (slice_index_or (pairs_of w) (i / 2) []) ≡ 2
 length-row w i lt =
     ap length (row-of w i lt)
-        ∙ length-take-le 2 (drop (i / 2 * 2) w) (omega (arith, lt, length-drop (i / 2 * 2) w))
+    ∙ length-take-le 2 (drop (i / 2 * 2) w) (omega (arith, lt, length-drop (i / 2 * 2) w))
 
 -- what stands at a place of a word stands in its row
 pub row-read : {E : Type 0} (z : E) (w : List E) (i : ℕ) → i / 2 < length w / 2 →
@@ -35,7 +35,7 @@ row-read z w i lt =
 -- the two entries of a row, either of them as the value
 put-back : {E : Type 0} (z : E) (row : List E) (p : ℕ) → p < 2 → length row ≡ 2 →
     (if nat_eq p 0 then slice_index_or row p z ∷ slice_index_or row (1 - p) z
-        ∷ [] else slice_index_or row (1 - p) z ∷ slice_index_or row p z ∷ []) ≡ row
+    ∷ [] else slice_index_or row (1 - p) z ∷ slice_index_or row p z ∷ []) ≡ row
 put-back z [] p low two = absurd (omega arith)
 put-back z (a ∷ []) p low two = absurd (omega arith)
 put-back z (a ∷ b ∷ c ∷ rest) p low two = absurd (omega arith)
@@ -46,24 +46,24 @@ put-back z (a ∷ b ∷ []) (suc (suc p)) low two = absurd (omega arith)
 -- the value at a place and its sibling are the row that the place falls into
 pub pair-back : {E : Type 0} (z : E) (w : List E) (i : ℕ) → i / 2 < length w / 2 →
     pair_of i (slice_index_or w i z) (sibling_in z i (slice_index_or (pairs_of w) (i / 2) []))
-        ≡ slice_index_or (pairs_of w) (i / 2) []
+    ≡ slice_index_or (pairs_of w) (i / 2) []
 pair-back z w i lt =
     let row = slice_index_or (pairs_of w) (i / 2) [] in
     ap (λ v. pair_of i v (sibling_in z i row)) (sym (row-read z w i lt))
-        ∙ put-back z row (i % 2) (omega arith) (length-row w i lt)
+    ∙ put-back z row (i % 2) (omega arith) (length-row w i lt)
 
 -- so in a word of an even number of entries
 pub pair-back_even : {E : Type 0} (z : E) (w : List E) (n i : ℕ) → length w ≡ 2 * n → i < length w →
     pair_of i (slice_index_or w i z) (sibling_in z i (slice_index_or (pairs_of w) (i / 2) []))
-        ≡ slice_index_or (pairs_of w) (i / 2) []
+    ≡ slice_index_or (pairs_of w) (i / 2) []
 pair-back_even z w n i even lt = pair-back z w i (omega arith)
 
 -- and in a word of a power of two
 pub pair-back_power : {E : Type 0} (z : E) (w : List E) (h i : ℕ) → 1 ≤ h → length w ≡ 2 ^ h →
     i < 2 ^ h →
     pair_of i (slice_index_or w i z) (sibling_in z i (slice_index_or (pairs_of w) (i / 2) []))
-        ≡ slice_index_or (pairs_of w) (i / 2) []
+    ≡ slice_index_or (pairs_of w) (i / 2) []
 pair-back_power z w h i positive long lt =
     let next : h ≡ suc (h - 1) = omega (arith, positive) in
     pair-back_even z w (2 ^ (h - 1)) i
-        (omega (arith, long, ap (λ n. 2 ^ n) next, pow-suc 2 (h - 1))) (omega (arith, long, lt))
+    (omega (arith, long, ap (λ n. 2 ^ n) next, pow-suc 2 (h - 1))) (omega (arith, long, lt))

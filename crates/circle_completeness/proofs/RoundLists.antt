@@ -78,7 +78,7 @@ one-row m a i tall =
     let own : i / 1 ≡ i = omega arith in
     let index : row_at (max_height (m ∷ [])) (height_of m) i ≡ i =
     ap (λ t. row_at t (height_of m) i) highest ∙ ap (λ n. row_at (2 ^ a) n i) tall
-        ∙ row_at-powers a a i (omega arith) ∙ ap (λ b. i / 2 ^ b) level ∙ own in
+    ∙ row_at-powers a a i (omega arith) ∙ ap (λ b. i / 2 ^ b) level ∙ own in
     ap (λ j. slice_index_or (rows m) j [] ∷ []) index
 
 -- two lists side by side, each pair with its place
@@ -100,9 +100,9 @@ module _ {A B : Type 0} (xs : List A) (ys : List B) (i : ℕ)
       let count = length (zip xs ys) in
       let own : 0 + i ≡ i = omega arith in
       get_or-zip (range_with_len 0 count) (zip xs ys) i d
-          (omega (arith, in-both, length-range_with_len 0 count)) in-both
+      (omega (arith, in-both, length-range_with_len 0 count)) in-both
       ∙ ap (λ n. (n, slice_index_or (zip xs ys) i d.1)) (get_or-range_with_len 0 count i d.0 in-both
-          ∙ own)
+      ∙ own)
       ∙ ap (λ pair. (i, pair))
       (get_or-zip xs ys i d.1 in-first in-second
       ∙ ap (λ a. (a, slice_index_or ys i d.1.1)) (get_or_from_slice_get xs i x d.1.0 is_x)

@@ -27,21 +27,21 @@ module _ {F E : Type 0} {k : FieldOps F} {l : FieldOps E} {m : F → E} (base : 
   -- one point and its opposite
   x_apart : (p : Coordinates F) (q : Coordinates E) → IsOnCircle k p → IsOnCircle l q →
       (plus l q (opposite l (lifted m p))).y ≢ l.zero →
-          (plus l q (opposite l (lifted m (opposite k p)))).y ≢ l.zero → sub l (m p.x) q.x ≢ l.zero
+      (plus l q (opposite l (lifted m (opposite k p)))).y ≢ l.zero → sub l (m p.x) q.x ≢ l.zero
   x_apart p q cp cq first second = λ bad.
       let a : Expr = var 0 in let b : Expr = var 1 in let c : Expr = var 2 in let d : Expr =
-          var 3 in
+      var 3 in
       let first_y : Expr = sum (prod c (minus b)) (prod d a) in
       let second_y : Expr = sum (prod c (minus (minus b))) (prod d a) in
       nonzero_product laws (plus l q (opposite l (lifted m p))).y
-          (plus l q (opposite l (lifted m (opposite k p)))).y first second
+      (plus l q (opposite l (lifted m (opposite k p)))).y first second
       (ap
-          (λ y. l.mul (plus l q (opposite l (lifted m p))).y
-          (l.add (l.mul q.x (l.neg y)) (l.mul q.y (m p.x)))) (e.neg p.y)
+      (λ y. l.mul (plus l q (opposite l (lifted m p))).y
+      (l.add (l.mul q.x (l.neg y)) (l.mul q.y (m p.x)))) (e.neg p.y)
       ∙ combine laws.ring (m p.x ∷ m p.y ∷ q.x ∷ q.y ∷ []) (prod first_y second_y) (con 0)
       (given (minus (prod c c)) (sum (prod a a) (prod b b)) unit
-          ∷ given (prod a a) (sum (prod c c) (prod d d)) unit
-          ∷ given (sum a c) (sum a (minus c)) (con 0) ∷ []) refl
+      ∷ given (prod a a) (sum (prod c c) (prod d d)) unit
+      ∷ given (sum a c) (sum a (minus c)) (con 0) ∷ []) refl
       (lifted-on_circle e p cp, (cq, (bad, tt))))
 
   module _ {gen : ℕ → Coordinates F} {bits : ℕ} (gens : AreGenerators k bits gen) where
@@ -52,8 +52,8 @@ module _ {F E : Type 0} {k : FieldOps F} {l : FieldOps E} {m : F → E} (base : 
         let p' = plus k p (gen (suc i)) in
         all-append (IsOnCircle k) (coset k gen i p) (coset k gen i p')
         (coset-on_circle i p (omega arith) c)
-            (coset-on_circle i p' (omega arith)
-            (plus-on_circle base p (gen (suc i)) c (gens.on_circle (suc i) h)))
+        (coset-on_circle i p' (omega arith)
+        (plus-on_circle base p (gen (suc i)) c (gens.on_circle (suc i) h)))
 
     module _ (i : ℕ) (s : Coordinates F) (q : Coordinates E) (fits : i ≤ bits) (cs : IsOnCircle k s)
         (cq : IsOnCircle l q)
@@ -68,20 +68,20 @@ module _ {F E : Type 0} {k : FieldOps F} {l : FieldOps E} {m : F → E} (base : 
           let long : length ps ≡ 2 ^ i = length-coset k gen i s in
           let there : h < length ps = omega (arith, lt, long) in
           let Clear : Coordinates F → Type 0 =
-              λ r. (plus l q (opposite l (lifted m r))).y ≢ l.zero in
+          λ r. (plus l q (opposite l (lifted m r))).y ≢ l.zero in
           let natural = natural_from k (2 ^ i) (gen i) s 0 in
           let size : length natural ≡ 2 ^ suc i = length-natural_from k (2 ^ i) (gen i) s 0
-              ∙ omega (arith, pow) in
+          ∙ omega (arith, pow) in
           let at : (j : ℕ) → j < 2 ^ suc i → Clear (slice_index_or (with_opposites k ps) j o) =
           λ j below. subst Clear (sym (cfft-place base gens i j s o below fits))
           (clear (cfft_index (suc i) j) o (let b = cfft_index-below (suc i) j in
-              omega (arith, b, size))) in
+          omega (arith, b, size))) in
           x_apart p q (All-from_recursion (IsOnCircle k) ps (coset-on_circle i s fits cs) h o there)
-              cq
+          cq
           (subst Clear (with_opposites-even k ps h (h + h) o refl there)
-              (at (h + h) (omega (arith, lt, pow))))
+          (at (h + h) (omega (arith, lt, pow))))
           (subst Clear (with_opposites-odd k ps h (suc (h + h)) o refl there)
-              (at (suc (h + h)) (omega (arith, lt, pow))))
+          (at (suc (h + h)) (omega (arith, lt, pow))))
 
       -- in the form that an inversion asks
       pub differences-nonzero : All (λ d. d ≢ l.zero)
@@ -102,4 +102,4 @@ module _ {F E : Type 0} {k : FieldOps F} {l : FieldOps E} {m : F → E} (base : 
           let there : h < length ps = omega (arith, lt, length-map ps (lifted m)) in
           let read = get_or-map (lifted m) ps h (origin k) d there in
           λ bad. at_place h (omega (arith, there, length-coset k gen i s))
-              (sym (ap (λ (r : Coordinates E). sub l r.x q.x) read) ∙ bad))
+          (sym (ap (λ (r : Coordinates E). sub l r.x q.x) read) ∙ bad))

@@ -38,7 +38,7 @@ module _ {F : Type 0} (k : FieldOps F) (gen : ℕ → Coordinates F) where
   points-coset (suc m) q =
       ap (λ xs. xs ++ points (suc m) (second_half k gen (suc m) q)) (points-coset m q)
       ∙ ap (λ ys. with_opposites k (coset k gen m q) ++ ys)
-          (points-coset m (plus k q (gen (suc m))))
+      (points-coset m (plus k q (gen (suc m))))
       ∙ sym (with_opposites-append (coset k gen m q) (coset k gen m (plus k q (gen (suc m)))))
 
   -- they are those of the domain
@@ -59,7 +59,7 @@ module _ {F : Type 0} {k : FieldOps F} (laws : RingLaws k) where
       ap (plus k (plus k p q)) (times-plus n p q)
       ∙ plus_assoc laws p q (plus k a b)
       ∙ ap (plus k p) (sym (plus_assoc laws q a b) ∙ ap (λ r. plus k r b) (plus_comm laws q a)
-          ∙ plus_assoc laws a q b)
+      ∙ plus_assoc laws a q b)
       ∙ sym (plus_assoc laws p a (plus k q b))
 
   pub times-pow-suc : (n : ℕ) (p : Coordinates F) → times k (2 ^ suc n) p
@@ -93,7 +93,7 @@ module _ {F : Type 0} {k : FieldOps F} (laws : RingLaws k) {gen : ℕ → Coordi
       laws (2 ^ suc a)
   times-generator-past (suc a) (suc m) h g =
       times-pow-suc laws a (gen (suc m)) ∙ ap (times k (2 ^ a)) (gens.doubled m (omega arith))
-          ∙ times-generator-past a m (omega arith) (omega arith)
+      ∙ times-generator-past a m (omega arith) (omega arith)
 
   pub second_half-on_circle : (m : ℕ) (q : Coordinates F) → m ≤ bits → IsOnCircle k q →
       IsOnCircle k (second_half k gen m q)
@@ -110,8 +110,8 @@ module _ {F : Type 0} {k : FieldOps F} (laws : RingLaws k) {gen : ℕ → Coordi
       let p = plus k q (gen (suc m)) in
       iterated_x-times laws i p (second_half-on_circle (suc m) q g c)
       ∙ ap (λ (r : Coordinates F). r.x) (times-plus laws (2 ^ i) q (gen (suc m))
-          ∙ ap (plus k (times k (2 ^ i) q)) (times-generator-past i (suc m) (omega arith) g)
-          ∙ plus-origin laws (times k (2 ^ i) q))
+      ∙ ap (plus k (times k (2 ^ i) q)) (times-generator-past i (suc m) (omega arith) g)
+      ∙ plus-origin laws (times k (2 ^ i) q))
       ∙ sym (iterated_x-times laws i q c)
 
   -- the factor is one for all points of the block
@@ -122,7 +122,7 @@ module _ {F : Type 0} {k : FieldOps F} (laws : RingLaws k) {gen : ℕ → Coordi
       all-append (λ p. factor k i p ≡ t) (points k gen m q) (points k gen m (second_half k gen m q))
       (factor-points i m q t (omega arith) (omega arith) c e)
       (factor-points i m (second_half k gen m q) t (omega arith) (omega arith)
-          (second_half-on_circle m q (omega arith) c)
+      (second_half-on_circle m q (omega arith) c)
       (factor-second_half i m q (omega arith) (omega arith) c ∙ e))
 
   -- and its opposite in the second half
@@ -134,13 +134,13 @@ module _ {F : Type 0} {k : FieldOps F} (laws : RingLaws k) {gen : ℕ → Coordi
       let r = times k (2 ^ m) q in
       let e : m + 1 ≡ suc m = omega arith in
       let turn : times k (2 ^ m) (gen (suc m)) ≡ at (k.neg k.one) k.zero =
-          ap (λ n. times k (2 ^ m) (gen n)) (sym e) ∙ times-generator m 1 (omega arith)
-          ∙ gens.half_turn in
+      ap (λ n. times k (2 ^ m) (gen n)) (sym e) ∙ times-generator m 1 (omega arith)
+      ∙ gens.half_turn in
       iterated_x-times laws m p (second_half-on_circle (suc m) q h c)
       ∙ ap (λ (r : Coordinates F). r.x) (times-plus laws (2 ^ m) q (gen (suc m))
-          ∙ ap (plus k r) turn)
+      ∙ ap (plus k r) turn)
       ∙ ring laws (r.x ∷ r.y ∷ []) (sum (prod (var 0) (minus unit)) (minus (prod (var 1) (con 0))))
-          (minus (var 0)) refl
+      (minus (var 0)) refl
       ∙ ap k.neg (sym (iterated_x-times laws m q c))
 
 module _ {F : Type 0} (k : FieldOps F) (gen : ℕ → Coordinates F) where
@@ -155,15 +155,15 @@ module _ {F : Type 0} (k : FieldOps F) (gen : ℕ → Coordinates F) where
   points-prefix m zero q =
       let e : m + 0 ≡ m = omega arith in
       ap (λ n. take (2 ^ m) (points k gen n q)) e
-          ∙ take_all (2 ^ m) (points k gen m q) (omega (arith, length-points m q))
+      ∙ take_all (2 ^ m) (points k gen m q) (omega (arith, length-points m q))
   points-prefix m (suc more) q =
       let e : m + suc more ≡ suc (m + more) = omega arith in
       let le : 2 ^ m ≤ 2 ^ (m + more) = let b : m ≤ m + more = omega arith in pow_within
-          m (m + more) b in
+      m (m + more) b in
       ap (λ n. take (2 ^ m) (points k gen n q)) e
       ∙ take-append-le (2 ^ m) (points k gen (m + more) q)
-          (points k gen (m + more) (second_half k gen (m + more) q))
-          (omega (arith, le, length-points (m + more) q))
+      (points k gen (m + more) (second_half k gen (m + more) q))
+      (omega (arith, le, length-points (m + more) q))
       ∙ points-prefix m more q
 
   -- the first points in the transform's order are those of a smaller domain
@@ -172,5 +172,5 @@ module _ {F : Type 0} (k : FieldOps F) (gen : ℕ → Coordinates F) where
   cfft_order-prefix m n q h le =
       let e : m + (n - m) ≡ n = omega (arith, le) in
       ap (take (2 ^ m)) (sym (points-cfft_order k gen n q (omega (arith, h, le)))
-          ∙ ap (λ i. points k gen i q) (sym e))
+      ∙ ap (λ i. points k gen i q) (sym e))
       ∙ points-prefix m (n - m) q ∙ points-cfft_order k gen m q h

@@ -36,15 +36,15 @@ module _ {F : Type 0} {k : FieldOps F} (laws : FieldLaws k) where
   -- (q - p).y (q + p).y = x(p)^2 - x(q)^2
   both_sides : (p q : Coordinates F) → IsOnCircle k p → IsOnCircle k q →
       k.mul (plus k q (opposite k p)).y (plus k q (opposite k (opposite k p))).y
-          ≡ k.add (k.mul p.x p.x) (k.neg (k.mul q.x q.x))
+      ≡ k.add (k.mul p.x p.x) (k.neg (k.mul q.x q.x))
   both_sides p q hp hq =
       let a : Expr = var 0 in let b : Expr = var 1 in let x : Expr = var 2 in let y : Expr =
-          var 3 in
+      var 3 in
       combine laws.ring (p.x ∷ p.y ∷ q.x ∷ q.y ∷ [])
       (prod (sum (prod x (minus b)) (prod y a)) (sum (prod x (minus (minus b))) (prod y a)))
       (sum (prod a a) (minus (prod x x)))
       (given (minus (prod x x)) (sum (prod a a) (prod b b)) unit
-          ∷ given (prod a a) (sum (prod x x) (prod y y)) unit ∷ []) refl (hp, (hq, tt))
+      ∷ given (prod a a) (sum (prod x x) (prod y y)) unit ∷ []) refl (hp, (hq, tt))
 
   -- the doubled x tells squares apart
   doubled_same : (a b : F) → k.mul a a ≡ k.mul b b → doubled_x k a ≡ doubled_x k b
@@ -54,11 +54,11 @@ module _ {F : Type 0} {k : FieldOps F} (laws : FieldLaws k) where
   doubled_injective a b e h =
       let x : Expr = var 0 in let y : Expr = var 1 in
       nonzero_product laws (k.add k.one k.one) (k.add (k.mul a a) (k.neg (k.mul b b)))
-          laws.two_nonzero (λ z. h (neg_zero_cancel laws.ring (k.mul a a) (k.mul b b) z))
+      laws.two_nonzero (λ z. h (neg_zero_cancel laws.ring (k.mul a a) (k.mul b b) z))
       (combine laws.ring (a ∷ b ∷ []) (prod (sum unit unit) (sum (prod x x) (minus (prod y y))))
-          (con 0)
+      (con 0)
       (given unit (sum (sum (prod x x) (prod x x)) (minus unit))
-          (sum (sum (prod y y) (prod y y)) (minus unit)) ∷ []) refl (e, tt))
+      (sum (sum (prod y y) (prod y y)) (minus unit)) ∷ []) refl (e, tt))
 
   square_same : (a b : F) → a ≡ b → k.mul a a ≡ k.mul b b
   square_same a b e = ap (λ v. k.mul v v) e
@@ -72,10 +72,10 @@ module _ {F : Type 0} {k : FieldOps F} (laws : FieldLaws k) where
   other_square a b h g = λ e.
       let x : Expr = var 0 in let y : Expr = var 1 in
       nonzero_product laws (k.add a (k.neg b)) (k.add a (k.neg (k.neg b)))
-          (λ z. h (neg_zero_cancel laws.ring a b z))
-          (λ z. g (neg_zero_cancel laws.ring a (k.neg b) z))
+      (λ z. h (neg_zero_cancel laws.ring a b z))
+      (λ z. g (neg_zero_cancel laws.ring a (k.neg b) z))
       (combine laws.ring (a ∷ b ∷ []) (prod (sum x (minus y)) (sum x (minus (minus y)))) (con 0)
-          (given unit (prod x x) (prod y y) ∷ []) refl (e, tt))
+      (given unit (prod x x) (prod y y) ∷ []) refl (e, tt))
 
   module _ {gen : ℕ → Coordinates F} {bits : ℕ} (gens : AreGenerators k bits gen)
       (q : Coordinates F) (on_circle : IsOnCircle k q) where
@@ -89,19 +89,19 @@ module _ {F : Type 0} {k : FieldOps F} (laws : FieldLaws k) where
         k.mul p.x p.x ≢ k.mul q.x q.x
     clear_pair p c h g = λ e.
         nonzero_product laws _ _ h g
-            (both_sides p q c on_circle ∙ ap (λ v. k.add v (k.neg (k.mul q.x q.x))) e
-            ∙ add_neg laws.ring (k.mul q.x q.x))
+        (both_sides p q c on_circle ∙ ap (λ v. k.add v (k.neg (k.mul q.x q.x))) e
+        ∙ add_neg laws.ring (k.mul q.x q.x))
 
     pair_clear : (p : Coordinates F) → IsOnCircle k p → k.mul p.x p.x ≢ k.mul q.x q.x →
         IsClear p × IsClear (opposite k p)
     pair_clear p c h = (
       λ z. h (neg_zero_cancel laws.ring (k.mul p.x p.x) (k.mul q.x q.x)
           (sym (both_sides p q c on_circle)
-              ∙ ap (λ v. k.mul v (plus k q (opposite k (opposite k p))).y) z
-              ∙ zero_mul laws.ring _)),
+          ∙ ap (λ v. k.mul v (plus k q (opposite k (opposite k p))).y) z
+          ∙ zero_mul laws.ring _)),
       λ z. h (neg_zero_cancel laws.ring (k.mul p.x p.x) (k.mul q.x q.x)
           (sym (both_sides p q c on_circle) ∙ ap (λ v. k.mul (plus k q (opposite k p)).y v) z
-              ∙ mul_zero laws.ring _)),
+          ∙ mul_zero laws.ring _)),
     )
 
     -- one pair of opposite points
@@ -120,7 +120,7 @@ module _ {F : Type 0} {k : FieldOps F} (laws : FieldLaws k) where
         let a = iterated_x k m q.x in
         let b = iterated_x k m p.x in
         doubled_injective a b (sym (iterated_x-suc k m q.x) ∙ e ∙ iterated_x-suc k m p.x)
-            (other_square a b h (λ z. g (z ∙ sym turned)))
+        (other_square a b h (λ z. g (z ∙ sym turned)))
 
     next-tells : (m : ℕ) (p p' : Coordinates F) → factor k (suc m) p' ≡ k.neg (factor k (suc m) p) →
         Tells (suc (suc m)) p → Tells (suc m) p × Tells (suc m) p'
@@ -128,8 +128,8 @@ module _ {F : Type 0} {k : FieldOps F} (laws : FieldLaws k) where
         let a = iterated_x k m q.x in
         let b = iterated_x k m p.x in
         let up =
-            λ (s : k.mul a a ≡ k.mul b b). h (iterated_x-suc k m q.x ∙ doubled_same a b s
-            ∙ sym (iterated_x-suc k m p.x)) in
+        λ (s : k.mul a a ≡ k.mul b b). h (iterated_x-suc k m q.x ∙ doubled_same a b s
+        ∙ sym (iterated_x-suc k m p.x)) in
         (λ e. up (square_same a b e), λ e. up (square_opposite a b (e ∙ turned)))
 
     same_two : (p p' : Coordinates F) → factor k 1 p' ≡ k.neg (factor k 1 p) →
@@ -157,7 +157,7 @@ module _ {F : Type 0} {k : FieldOps F} (laws : FieldLaws k) where
         all-append IsClear (points k gen 1 p) (points k gen 1 p')
         (tells-clear-one p c h)
         (tells-clear-one p' (second_half-on_circle laws.ring gens 1 p fits c)
-            (λ e. h (e ∙ same_two p p' (factor-opposite laws.ring gens 1 p fits c))))
+        (λ e. h (e ∙ same_two p p' (factor-opposite laws.ring gens 1 p fits c))))
     tells-clear (suc m) p fits c h =
         let n = suc (suc m) in
         let p' = second_half k gen n p in
@@ -189,7 +189,7 @@ module _ {F : Type 0} {k : FieldOps F} (laws : RingLaws k) {gen : ℕ → Coordi
   place n i s d h fits lt =
       let e : suc (n - 1) ≡ n = omega arith in
       cfft-place laws gens (n - 1) i s d (let l : i < 2 ^ suc (n - 1) =
-          omega (arith, lt, ap (λ m. 2 ^ m) e) in l) (omega (arith, fits))
+      omega (arith, lt, ap (λ m. 2 ^ m) e) in l) (omega (arith, fits))
       ∙ ap (λ m. slice_index_or (natural_order k gen n s) (cfft_index m i) d) e
 
   -- what holds of all points holds of them in either order
@@ -204,16 +204,16 @@ module _ {F : Type 0} {k : FieldOps F} (laws : RingLaws k) {gen : ℕ → Coordi
         λ all. subst (AllByRecursion P) (sym same) (recursion_from_All P there (λ i d lt.
             let within : i < 2 ^ n = omega (arith, lt, long') in
             subst P (sym (place n i s d h fits within))
-                (all (cfft_index n i) d (omega (arith, cfft_index-below n i, long))))),
+            (all (cfft_index n i) d (omega (arith, cfft_index-below n i, long))))),
         λ rec i d lt.
             let within : i < 2 ^ n = omega (arith, lt, long) in
             let all = All-from_recursion P there (subst (AllByRecursion P) same rec) in
             let j = cfft_index n i in
             let below = cfft_index-below n i in
             subst P
-                (place n j s d h fits below
-                ∙ ap (λ m. slice_index_or natural m d) (cfft_index-own_inverse n i within))
-                (all j d (omega (arith, below, long'))),
+            (place n j s d h fits below
+            ∙ ap (λ m. slice_index_or natural m d) (cfft_index-own_inverse n i within))
+            (all j d (omega (arith, below, long'))),
       )
 
 recursion-map : {A B : Type 0} (f : A → B) (P : B → Type 0) (xs : List A) →
@@ -229,9 +229,9 @@ recursion-unmap f P (x ∷ xs) h = (h.0, recursion-unmap f P xs h.1)
 module _ {F E : Type 0} {k : FieldOps F} {l : FieldOps E} {m : F → E} (laws : FieldLaws k)
     (laws' : FieldLaws l) (embedding : IsEmbedding k l m)
     {gen : ℕ → Coordinates F} {bits : ℕ} (gens : AreGenerators k bits gen) (n : ℕ)
-        (positive : 1 ≤ n) (fits : n ≤ bits)
+    (positive : 1 ≤ n) (fits : n ≤ bits)
     (s : Coordinates F) (shift-on_circle : IsOnCircle k s) (q : Coordinates E)
-        (on_circle : IsOnCircle l q) where
+    (on_circle : IsOnCircle l q) where
   abbrev lifted_gen : ℕ → Coordinates E
   lifted_gen i = lifted m (gen i)
 
@@ -247,7 +247,7 @@ module _ {F E : Type 0} {k : FieldOps F} {l : FieldOps E} {m : F → E} (laws : 
       (points l lifted_gen n (lifted m s))
   in_block =
       let orders = natural-all laws.ring gens (λ p. Clear (lifted m p)) n s positive
-          (omega (arith, fits)) in
+      (omega (arith, fits)) in
       let same = lifted-points embedding gen n s in (
         λ clear. subst (AllByRecursion Clear) same
             (recursion-map (lifted m) Clear (points k gen n s) (orders.0 clear)),

@@ -35,7 +35,7 @@ module _ {F : Type 0} {k : FieldOps F} (laws : FieldLaws k) where
 
   recovered : (t : F) (xs ys : List F) → t ≢ k.zero → length xs ≡ length ys →
       (lower k t (pairwise half_sum xs ys) (pairwise (half_difference t) xs ys) ≡ xs)
-          × (upper k t (pairwise half_sum xs ys) (pairwise (half_difference t) xs ys) ≡ ys)
+      × (upper k t (pairwise half_sum xs ys) (pairwise (half_difference t) xs ys) ≡ ys)
   recovered t [] [] h e = (refl, refl)
   recovered t [] (y ∷ ys) h e = absurd (omega (arith, e))
   recovered t (x ∷ xs) [] h e = absurd (omega (arith, e))
@@ -45,26 +45,26 @@ module _ {F : Type 0} {k : FieldOps F} (laws : FieldLaws k) where
       let j = k.inv (k.add t t) in
       let env : List F = x ∷ y ∷ t ∷ i ∷ j ∷ [] in
       let ex : Expr = var 0 in let ey : Expr = var 1 in let et : Expr = var 2 in let ei : Expr =
-          var 3 in let ej : Expr = var 4 in
+      var 3 in let ej : Expr = var 4 in
       let s : Expr = prod (sum ex ey) ei in
       let d : Expr = prod (prod (sum ex (minus ey)) ej) et in
       let two_inverse : k.mul (k.add k.one k.one) i ≡ k.one =
-          laws.mul_inv (k.add k.one k.one) laws.two_nonzero in
+      laws.mul_inv (k.add k.one k.one) laws.two_nonzero in
       let inverse : k.mul (k.add t t) j ≡ k.one =
-          laws.mul_inv (k.add t t) (twice-nonzero laws t h) in
+      laws.mul_inv (k.add t t) (twice-nonzero laws t h) in
       -- (x - y) t / (2 t) is (x - y) / 2
       let half : k.mul t j ≡ i =
       combine laws.ring env (prod et ej) ei
       (given (minus (prod et ej)) (prod (sum unit unit) ei) unit
-          ∷ given ei (prod (sum et et) ej) unit ∷ []) refl (two_inverse, (inverse, tt)) in
+      ∷ given ei (prod (sum et et) ej) unit ∷ []) refl (two_inverse, (inverse, tt)) in
       let low : k.add (k.mul (k.add x y) i) (k.mul (k.mul (sub k x y) j) t) ≡ x =
       combine laws.ring env (sum s d) ex
       (given (sum ex (minus ey)) (prod et ej) ei ∷ given ex (prod (sum unit unit) ei) unit ∷ [])
-          refl (half, (two_inverse, tt)) in
+      refl (half, (two_inverse, tt)) in
       let high : sub k (k.mul (k.add x y) i) (k.mul (k.mul (sub k x y) j) t) ≡ y =
       combine laws.ring env (sum s (minus d)) ey
       (given (minus (sum ex (minus ey))) (prod et ej) ei ∷ given ey (prod (sum unit unit) ei) unit
-          ∷ []) refl (half, (two_inverse, tt)) in (
+      ∷ []) refl (half, (two_inverse, tt)) in (
         ap (λ v. v ∷ lower k t (pairwise half_sum xs ys) (pairwise (half_difference t) xs ys)) low
             ∙ ap (λ vs. x ∷ vs) rest.0,
         ap (λ v. v ∷ upper k t (pairwise half_sum xs ys) (pairwise (half_difference t) xs ys)) high
@@ -83,11 +83,11 @@ module _ {F : Type 0} {k : FieldOps F} (laws : FieldLaws k) where
         let q' = second_half k gen m q in
         let halves = halves_of k m t ws e in
         let first =
-            told m q (take half ws) halves.low (omega arith) on_circle
-            (first-genuine laws m q genuine) in
+        told m q (take half ws) halves.low (omega arith) on_circle
+        (first-genuine laws m q genuine) in
         let second = told m q' (take half (drop half ws)) halves.high (omega arith)
         (second_half-on_circle laws.ring gens m q (omega arith) on_circle)
-            (second-genuine laws gens m q (omega arith) on_circle genuine) in
+        (second-genuine laws gens m q (omega arith) on_circle genuine) in
         let a = first.0 in
         let b = second.0 in
         let same : length a ≡ length b = first.1 ∙ sym second.1 in
@@ -98,17 +98,17 @@ module _ {F : Type 0} {k : FieldOps F} (laws : FieldLaws k) where
         let back = recovered t a b (factor-nonzero laws m q on_circle genuine) same in
         let take_lo : take half (lo ++ hi) ≡ lo = take_at lo hi half llo in
         let take_hi : take half (drop half (lo ++ hi)) ≡ hi =
-            ap (take half) (drop_at lo hi half llo) ∙ take_all half hi (omega (arith, lhi)) in (
+        ap (take half) (drop_at lo hi half llo) ∙ take_all half hi (omega (arith, lhi)) in (
           lo ++ hi,
           length-append lo hi ∙ omega (arith, llo, lhi, pow-suc 2 m),
           ap (λ xs. finish k gen m q (lower k t xs (take half (drop half (lo ++ hi))))
               ++ finish k gen m q' (upper k t xs (take half (drop half (lo ++ hi))))) take_lo
               ∙ ap (λ xs. finish k gen m q (lower k t lo xs) ++ finish k gen m q' (upper k t lo xs))
-                  take_hi
+              take_hi
               ∙ ap (λ xs. finish k gen m q xs ++ finish k gen m q' (upper k t lo hi)) back.0
               ∙ ap (λ xs. finish k gen m q a ++ finish k gen m q' xs) back.1
               ∙ ap (λ xs. xs ++ finish k gen m q' b) first.2
-                  ∙ ap (λ xs. take half ws ++ xs) second.2
+              ∙ ap (λ xs. take half ws ++ xs) second.2
               ∙ halves.joined,
         )
 
@@ -118,9 +118,12 @@ module _ {F : Type 0} {k : FieldOps F} (laws : FieldLaws k) where
       pub column-told : (ws : List F) → length ws ≡ 2 ^ n → (c : List F) × (length c ≡ 2 ^ n)
           × (map (value k c) (cfft_order k gen n s) ≡ ws)
       column-told ws e =
-          let c = told n s ws e fits on_circle genuine.1 in
-          (c.0, c.1, ap (map (value k c.0)) (sym (points-cfft_order k gen n s genuine.0))
-              ∙ sym (finish-value laws.ring gens n s c.0 c.1 fits on_circle) ∙ c.2)
+          let c = told n s ws e fits on_circle genuine.1 in (
+            c.0,
+            c.1,
+            ap (map (value k c.0)) (sym (points-cfft_order k gen n s genuine.0))
+                ∙ sym (finish-value laws.ring gens n s c.0 c.1 fits on_circle) ∙ c.2,
+          )
 
       -- rows
       pub rows-told : (width : ℕ) (rows : List (List F)) → 1 ≤ width → length rows ≡ 2 ^ n →
@@ -129,11 +132,10 @@ module _ {F : Type 0} {k : FieldOps F} (laws : FieldLaws k) where
       rows-told width rows positive tall wide =
           let read : ℕ → List F → F = λ j row. slice_index_or row j k.zero in
           let col =
-              λ (j : ℕ). column-told (column k.zero rows j) (length-map rows (read j) ∙ tall) in
+          λ (j : ℕ). column-told (column k.zero rows j) (length-map rows (read j) ∙ tall) in
           let entry : ℕ → ℕ → F = λ j i. slice_index_or (col j).0 i k.zero in
           let made =
-              map (λ i. map (λ j. entry j i) (range_with_len 0 width)) (range_with_len 0 (2 ^ n)) in
-              (
+          map (λ i. map (λ j. entry j i) (range_with_len 0 width)) (range_with_len 0 (2 ^ n)) in (
             made,
             record {
               height =
@@ -141,14 +143,16 @@ module _ {F : Type 0} {k : FieldOps F} (laws : FieldLaws k) where
                   (2 ^ n);
               widths = λ i d lt.
                   let below : i < 2 ^ n =
-                      omega
-                      (arith, lt,
-                      length-map-range_with_len (λ i. map (λ j. entry j i) (range_with_len 0 width))
-                      0 (2 ^ n)) in
+                  omega (
+                    arith,
+                    lt,
+                    length-map-range_with_len (λ i. map (λ j. entry j i) (range_with_len 0 width))
+                        0 (2 ^ n),
+                  ) in
                   ap length
-                      (get_or-map-range_with_len
-                      (λ i. map (λ j. entry j i) (range_with_len 0 width)) 0 (2 ^ n) i i d below
-                      (omega arith))
+                  (get_or-map-range_with_len
+                  (λ i. map (λ j. entry j i) (range_with_len 0 width)) 0 (2 ^ n) i i d below
+                  (omega arith))
                   ∙ length-map-range_with_len (λ j. entry j i) 0 width;
               values =
                   sym (rows-values k width (2 ^ n) positive rows made (cfft_order k gen n s) wide
@@ -156,7 +160,7 @@ module _ {F : Type 0} {k : FieldOps F} (laws : FieldLaws k) where
                   sym (ap (λ c. map (value k c) (cfft_order k gen n s))
                   (column-made k.zero width j entry (range_with_len 0 (2 ^ n)) lt
                   ∙ sym
-                      (fill_by_all (entry j) (col j).0 (2 ^ n) k.zero (col j).1 (λ i below. refl)))
+                  (fill_by_all (entry j) (col j).0 (2 ^ n) k.zero (col j).1 (λ i below. refl)))
                   ∙ (col j).2)));
             },
           )

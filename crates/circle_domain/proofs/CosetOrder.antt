@@ -44,7 +44,7 @@ module _ {F : Type 0} (k : FieldOps F) where
   with_opposites-even (q ∷ qs) (suc h) i d e lt =
       let two : suc h + suc h ≡ suc (suc (h + h)) = omega arith in
       ap (λ j. slice_index_or (with_opposites k (q ∷ qs)) j d) (e ∙ two)
-          ∙ with_opposites-even qs h (h + h) d refl (omega arith)
+      ∙ with_opposites-even qs h (h + h) d refl (omega arith)
 
   pub with_opposites-odd : (qs : List (Coordinates F)) (h i : ℕ) (d : Coordinates F) →
       i ≡ suc (h + h) → h < length qs → slice_index_or (with_opposites k qs) i d
@@ -55,7 +55,7 @@ module _ {F : Type 0} (k : FieldOps F) where
   with_opposites-odd (q ∷ qs) (suc h) i d e lt =
       let two : suc (suc h + suc h) ≡ suc (suc (suc (h + h))) = omega arith in
       ap (λ j. slice_index_or (with_opposites k (q ∷ qs)) j d) (e ∙ two)
-          ∙ with_opposites-odd qs h (suc (h + h)) d refl (omega arith)
+      ∙ with_opposites-odd qs h (suc (h + h)) d refl (omega arith)
 
 module _ {F : Type 0} {k : FieldOps F} (laws : RingLaws k) where
   -- what is opposite to a point
@@ -65,19 +65,19 @@ module _ {F : Type 0} {k : FieldOps F} (laws : RingLaws k) where
       let o = opposite k p in
       sym (plus-origin laws o) ∙ ap (plus k o) (sym e) ∙ sym (plus_assoc laws o p q)
       ∙ ap (λ r. plus k r q) (plus_comm laws o p ∙ plus-opposite laws p c)
-          ∙ plus_comm laws (origin k) q ∙ plus-origin laws q
+      ∙ plus_comm laws (origin k) q ∙ plus-origin laws q
 
   pub opposite-plus : (p q : Coordinates F) → opposite k (plus k p q)
       ≡ plus k (opposite k p) (opposite k q)
   opposite-plus p q =
       let a : Expr = var 0 in let b : Expr = var 1 in let c : Expr = var 2 in let d : Expr =
-          var 3 in
+      var 3 in
       let env : List F = p.x ∷ p.y ∷ q.x ∷ q.y ∷ [] in
       same_coordinates
       (ring laws env (sum (prod a c) (minus (prod b d)))
-          (sum (prod a c) (minus (prod (minus b) (minus d)))) refl)
+      (sum (prod a c) (minus (prod (minus b) (minus d)))) refl)
       (ring laws env (minus (sum (prod a d) (prod b c))) (sum (prod a (minus d)) (prod (minus b) c))
-          refl)
+      refl)
 
   module _ {gen : ℕ → Coordinates F} {bits : ℕ} (gens : AreGenerators k bits gen) where
     -- the point at a place of a coset
@@ -92,7 +92,7 @@ module _ {F : Type 0} {k : FieldOps F} (laws : RingLaws k) where
         let long : length first ≡ 2 ^ m = length-coset k gen m s in
         let last = reversed-last m h in
         let halved : (r : ℕ) → times k r (gen m) ≡ times k (r + r) g' =
-            λ r. ap (times k r) (sym (gens.doubled m (omega arith))) ∙ times-double laws r g' in
+        λ r. ap (times k r) (sym (gens.doubled m (omega arith))) ∙ times-double laws r g' in
         ⊎_elim
         (λ low.
         let none : h / 2 ^ m ≡ 0 = div-eq_of_lt low in
@@ -106,20 +106,20 @@ module _ {F : Type 0} {k : FieldOps F} (laws : RingLaws k) where
         let split : h ≡ 2 ^ m * 1 + h' = omega (arith, high) in
         let same : reversed m h ≡ reversed m h' = ap (reversed m) split ∙ reversed-high m 1 h' in
         let one : h / 2 ^ m ≡ 1 =
-            ap (λ n. n / 2 ^ m) (let e : h ≡ 1 * 2 ^ m + h' = omega (arith, high) in e)
-            ∙ shr_high 1 m h' below in
+        ap (λ n. n / 2 ^ m) (let e : h ≡ 1 * 2 ^ m + h' = omega (arith, high) in e)
+        ∙ shr_high 1 m h' below in
         let r = reversed m h' in
         let e : suc (r + r) ≡ reversed (suc m) h = omega (arith, last, one, same) in
         get_or-append_right first second (2 ^ m) h d long high
         ∙ coset-place m h' (plus k s g') d below (omega arith)
         ∙ ap (plus k (plus k s g')) (halved r) ∙ plus_assoc laws s g' (times k (r + r) g')
-            ∙ ap (λ n. plus k s (times k n g')) e)
+        ∙ ap (λ n. plus k s (times k n g')) e)
         (cases_lt h (2 ^ m))
 
     -- the point at a place of the transform's order
     pub cfft-place : (m i : ℕ) (s d : Coordinates F) → i < 2 ^ suc m → m ≤ bits →
         slice_index_or (with_opposites k (coset k gen m s)) i d
-            ≡ slice_index_or (natural_from k (2 ^ m) (gen m) s 0) (cfft_index (suc m) i) d
+        ≡ slice_index_or (natural_from k (2 ^ m) (gen m) s 0) (cfft_index (suc m) i) d
     cfft-place m i s d lt fits =
         let h = i / 2 in
         let g = gen m in
@@ -132,14 +132,14 @@ module _ {F : Type 0} {k : FieldOps F} (laws : RingLaws k) where
         ⊎_elim
         (λ even.
         let place : cfft_index (suc m) i ≡ r + r = cfft_index-even (suc m) i even
-            ∙ reversed-low m h low ∙ omega arith in
+        ∙ reversed-low m h low ∙ omega arith in
         let z : 0 + r ≡ r = omega arith in
         with_opposites-even k (coset k gen m s) h i d (omega (arith, even))
-            (omega (arith, long, low))
+        (omega (arith, long, low))
         ∙ coset-place m h s d low fits
         ∙ sym (ap (λ j. slice_index_or natural j d) place
         ∙ get_or_from_slice_get natural (r + r) (plus k s (times k (0 + r) g)) d
-            (natural_from-even k (2 ^ m) r g s 0 (r + r) r_low refl)
+        (natural_from-even k (2 ^ m) r g s 0 (r + r) r_low refl)
         ∙ ap (λ n. plus k s (times k n g)) z))
         (λ not_even.
         let odd : i % 2 ≡ 1 = omega (arith, not_even) in
@@ -148,21 +148,21 @@ module _ {F : Type 0} {k : FieldOps F} (laws : RingLaws k) where
         let split : 2 ^ suc m - 1 - h ≡ 2 ^ m + c = omega (arith, low, pow) in
         let place : cfft_index (suc m) i ≡ suc (j + j) =
         cfft_index-odd (suc m) i odd ∙ ap (reversed (suc m)) split
-            ∙ reversed-top m c (omega (arith, low))
-            ∙ ap (λ n. n * 2 + 1) (reversed-complement m h low) ∙ omega arith in
+        ∙ reversed-top m c (omega (arith, low))
+        ∙ ap (λ n. n * 2 + 1) (reversed-complement m h low) ∙ omega arith in
         let p = times k r g in
         let q = times k (suc (0 + j)) g in
         let whole : r + suc (0 + j) ≡ 2 ^ m = omega (arith, r_low) in
         let turned : opposite k p ≡ q =
         opposite-unique p q (times-on_circle laws r g (gens.on_circle m fits))
         (sym (times-+ laws r (suc (0 + j)) g) ∙ ap (λ n. times k n g) whole
-            ∙ times-generator-past laws gens m m (omega arith) fits) in
+        ∙ times-generator-past laws gens m m (omega arith) fits) in
         with_opposites-odd k (coset k gen m s) h i d (omega (arith, odd)) (omega (arith, long, low))
         ∙ ap (opposite k) (coset-place m h s d low fits)
         ∙ opposite-plus s p ∙ ap (plus k (opposite k s)) turned
         ∙ sym (ap (λ n. slice_index_or natural n d) place
         ∙ get_or_from_slice_get natural (suc (j + j)) (plus k (opposite k s) q) d
-            (natural_from-odd k (2 ^ m) j g s 0 (suc (j + j)) (omega (arith, r_low)) refl)))
+        (natural_from-odd k (2 ^ m) j g s 0 (suc (j + j)) (omega (arith, r_low)) refl)))
         (cases_eq (i % 2) 0)
 
     pub length-cfft_order : (n : ℕ) (s : Coordinates F) → 1 ≤ n → length (cfft_order k gen n s)
@@ -182,16 +182,16 @@ module _ {F : Type 0} {k : FieldOps F} (laws : RingLaws k) where
         let there = cfft_order k gen n s in
         let row = λ (i : ℕ). f (slice_index_or points (cfft_index n i) o) in
         let long : length (map f points) ≡ 2 ^ n = length-map points f
-            ∙ length-natural_from k (2 ^ (n - 1)) (gen (n - 1)) s 0 ∙ two_halves n h in
+        ∙ length-natural_from k (2 ^ (n - 1)) (gen (n - 1)) s 0 ∙ two_halves n h in
         let indexed : map f there ≡ map row (range_with_len 0 (2 ^ n)) =
         fill_by_all row (map f there) (2 ^ n) (f o) (length-map there f ∙ length-cfft_order n s h)
         (λ i lt. get_or-map f there i o
         ∙ ap f
-            (cfft-place (n - 1) i s o (let l : i < 2 ^ suc (n - 1) =
-            omega (arith, lt, ap (λ m. 2 ^ m) e) in l) (omega (arith, fits))
+        (cfft-place (n - 1) i s o (let l : i < 2 ^ suc (n - 1) =
+        omega (arith, lt, ap (λ m. 2 ^ m) e) in l) (omega (arith, fits))
         ∙ ap (λ m. slice_index_or points (cfft_index m i) o) e)) in
         ap (other_order n) indexed
         ∙ other_order-indexed n row
         ∙ sym (fill_by_all (λ i. row (cfft_index n i)) (map f points) (2 ^ n) (f o) long
         (λ i lt. get_or-map f points i o
-            ∙ ap (λ j. f (slice_index_or points j o)) (sym (cfft_index-own_inverse n i lt))))
+        ∙ ap (λ j. f (slice_index_or points j o)) (sym (cfft_index-own_inverse n i lt))))

@@ -24,7 +24,7 @@ module _ {F : Type 0} {k : FieldOps F} (laws : FieldLaws k) where
   once (suc a) zero p h c ea eb = absurd (omega arith)
   once (suc a) (suc b) p h c ea eb =
       once a b (plus k p p) (omega arith) (plus-on_circle laws.ring p p c c)
-          (sym (times-pow-suc laws.ring a p) ∙ ea) (sym (times-pow-suc laws.ring b p) ∙ eb)
+      (sym (times-pow-suc laws.ring a p) ∙ ea) (sym (times-pow-suc laws.ring b p) ∙ eb)
 
   pub standards-disjoint : {gen : ℕ → Coordinates F} {bits : ℕ} (gens : AreGenerators k bits gen)
       (a b : ℕ) → a ≢ b → 1 ≤ a → a < bits → 1 ≤ b → b < bits →
@@ -35,10 +35,10 @@ module _ {F : Type 0} {k : FieldOps F} (laws : FieldLaws k) where
       let p = slice_index_or first i d in
       let there = slice_get-get_or first i d hi in
       let here : times k (2 ^ a) p ≡ half_turn k =
-          standard-half_turn laws.ring gens a pa fa i p there in
+      standard-half_turn laws.ring gens a pa fa i p there in
       let also : times k (2 ^ b) p ≡ half_turn k = ap (times k (2 ^ b)) e
-          ∙ standard-half_turn laws.ring gens b pb fb j (slice_index_or second j d')
-          (slice_get-get_or second j d' hj) in
+      ∙ standard-half_turn laws.ring gens b pb fb j (slice_index_or second j d')
+      (slice_get-get_or second j d' hj) in
       let c = standard-on_circle laws.ring gens a pa fa i p there in
       ⊎_elim (λ lt. once a b p lt c here also)
       (λ le. once b a p (let lt : b < a = omega (arith, le, different) in lt) c also here)

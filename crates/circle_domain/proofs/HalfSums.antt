@@ -28,8 +28,8 @@ module _ {F : Type 0} {k : FieldOps F} (laws : RingLaws k) where
       ap (k.add (k.mul x (f j))) (weighted_sum-append f (suc j) xs ys)
       ∙ sym (laws.add_assoc _ _ _)
       ∙ ap
-          (λ n. k.add (k.add (k.mul x (f j)) (weighted_sum k f (suc j) xs)) (weighted_sum k f n ys))
-          e
+      (λ n. k.add (k.add (k.mul x (f j)) (weighted_sum k f (suc j) xs)) (weighted_sum k f n ys))
+      e
 
   weighted_sum-scaled : (f h : ℕ → F) (t : F) (i j : ℕ) (ys : List F) →
       ((n : ℕ) → n < length ys → f (i + n) ≡ k.mul (h (j + n)) t) →
@@ -39,10 +39,10 @@ module _ {F : Type 0} {k : FieldOps F} (laws : RingLaws k) where
       let z : i ≡ i + 0 = omega arith in
       let w : j + 0 ≡ j = omega arith in
       ap (λ v. k.add (k.mul y v) (weighted_sum k f (suc i) ys))
-          (ap f z ∙ e 0 (omega arith) ∙ ap (λ n. k.mul (h n) t) w)
+      (ap f z ∙ e 0 (omega arith) ∙ ap (λ n. k.mul (h n) t) w)
       ∙ ap (k.add (k.mul y (k.mul (h j) t))) (weighted_sum-scaled f h t (suc i) (suc j) ys (λ n lt.
       ap f (let s : suc i + n ≡ i + suc n = omega arith in s) ∙ e (suc n) (omega arith)
-          ∙ ap (λ r. k.mul (h r) t) (let s : j + suc n ≡ suc j + n = omega arith in s)))
+      ∙ ap (λ r. k.mul (h r) t) (let s : j + suc n ≡ suc j + n = omega arith in s)))
       ∙ ap (λ v. k.add v (k.mul (weighted_sum k h (suc j) ys) t)) (sym (laws.mul_assoc y (h j) t))
       ∙ sym (add_mul laws (k.mul y (h j)) (weighted_sum k h (suc j) ys) t)
 
@@ -54,36 +54,36 @@ module _ {F : Type 0} {k : FieldOps F} (laws : RingLaws k) where
       let f = λ (j : ℕ). circle_basis k j p in
       weighted_sum-append f 0 lo hi
       ∙ ap (k.add (value k lo p))
-          (weighted_sum-scaled f f (factor k m p) (0 + length lo) 0 hi (λ n lt.
+      (weighted_sum-scaled f f (factor k m p) (0 + length lo) 0 hi (λ n lt.
       ap f (let s : 0 + length lo + n ≡ 2 ^ m + n = omega (arith, e) in s)
-          ∙ basis-upper m n p (omega arith)
+      ∙ basis-upper m n p (omega arith)
       ∙ ap (λ r. k.mul (f r) (factor k m p)) (let s : n ≡ 0 + n = omega arith in s)))
 
   -- sums of multiples, and multiples of sums
   weighted_sum-low : (f : ℕ → F) (t : F) (j : ℕ) (xs ys : List F) → length xs ≡ length ys →
       weighted_sum k f j (pairwise (λ a b. k.add a (k.mul b t)) xs ys)
-          ≡ k.add (weighted_sum k f j xs) (k.mul (weighted_sum k f j ys) t)
+      ≡ k.add (weighted_sum k f j xs) (k.mul (weighted_sum k f j ys) t)
   weighted_sum-low f t j [] [] e = sym (ap (k.add k.zero) (zero_mul laws t) ∙ laws.zero_add k.zero)
   weighted_sum-low f t j [] (y ∷ ys) e = absurd (omega arith)
   weighted_sum-low f t j (x ∷ xs) [] e = absurd (omega arith)
   weighted_sum-low f t j (x ∷ xs) (y ∷ ys) e =
       let tail : length xs ≡ length ys = omega arith in
       let swap : k.mul (k.mul y t) (f j) ≡ k.mul (k.mul y (f j)) t = laws.mul_assoc y t (f j)
-          ∙ ap (k.mul y) (laws.mul_comm t (f j)) ∙ sym (laws.mul_assoc y (f j) t) in
+      ∙ ap (k.mul y) (laws.mul_comm t (f j)) ∙ sym (laws.mul_assoc y (f j) t) in
       ap (k.add (k.mul (k.add x (k.mul y t)) (f j))) (weighted_sum-low f t (suc j) xs ys tail)
       ∙ ap
-          (λ v. k.add v
-          (k.add (weighted_sum k f (suc j) xs) (k.mul (weighted_sum k f (suc j) ys) t)))
-          (add_mul laws x (k.mul y t) (f j) ∙ ap (k.add (k.mul x (f j))) swap)
+      (λ v. k.add v
+      (k.add (weighted_sum k f (suc j) xs) (k.mul (weighted_sum k f (suc j) ys) t)))
+      (add_mul laws x (k.mul y t) (f j) ∙ ap (k.add (k.mul x (f j))) swap)
       ∙ add_swap laws (k.mul x (f j)) (k.mul (k.mul y (f j)) t) (weighted_sum k f (suc j) xs)
-          (k.mul (weighted_sum k f (suc j) ys) t)
+      (k.mul (weighted_sum k f (suc j) ys) t)
       ∙ ap (k.add (k.add (k.mul x (f j)) (weighted_sum k f (suc j) xs)))
-          (sym (add_mul laws (k.mul y (f j)) (weighted_sum k f (suc j) ys) t))
+      (sym (add_mul laws (k.mul y (f j)) (weighted_sum k f (suc j) ys) t))
 
   -- a - b t is a + b (-t)
   pub high-low : (t : F) (xs ys : List F) →
       pairwise (λ a b. sub k a (k.mul b t)) xs ys ≡ pairwise (λ a b. k.add a (k.mul b (k.neg t))) xs
-          ys
+      ys
   high-low t [] ys = refl
   high-low t (x ∷ xs) [] = refl
   high-low t (x ∷ xs) (y ∷ ys) =
@@ -92,5 +92,5 @@ module _ {F : Type 0} {k : FieldOps F} (laws : RingLaws k) where
 
   pub value-low : (t : F) (lo hi : List F) (p : Coordinates F) → length lo ≡ length hi →
       value k (pairwise (λ a b. k.add a (k.mul b t)) lo hi) p
-          ≡ k.add (value k lo p) (k.mul (value k hi p) t)
+      ≡ k.add (value k lo p) (k.mul (value k hi p) t)
   value-low t lo hi p e = weighted_sum-low (λ j. circle_basis k j p) t 0 lo hi e

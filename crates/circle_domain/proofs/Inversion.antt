@@ -26,8 +26,8 @@ module _ {F : Type 0} {k : FieldOps F} (laws : RingLaws k) (a : F) where
   lower-scaled t (x ∷ xs) (y ∷ ys) =
       ap (λ v. v ∷ lower k t (map (k.mul a) xs) (map (k.mul a) ys))
       (ring laws (a ∷ x ∷ y ∷ t ∷ [])
-          (sum (prod (var 0) (var 1)) (prod (prod (var 0) (var 2)) (var 3)))
-          (prod (var 0) (sum (var 1) (prod (var 2) (var 3)))) refl)
+      (sum (prod (var 0) (var 1)) (prod (prod (var 0) (var 2)) (var 3)))
+      (prod (var 0) (sum (var 1) (prod (var 2) (var 3)))) refl)
       ∙ ap (λ rest. k.mul a (k.add x (k.mul y t)) ∷ rest) (lower-scaled t xs ys)
 
   upper-scaled : (t : F) (xs ys : List F) → upper k t (map (k.mul a) xs) (map (k.mul a) ys)
@@ -37,8 +37,8 @@ module _ {F : Type 0} {k : FieldOps F} (laws : RingLaws k) (a : F) where
   upper-scaled t (x ∷ xs) (y ∷ ys) =
       ap (λ v. v ∷ upper k t (map (k.mul a) xs) (map (k.mul a) ys))
       (ring laws (a ∷ x ∷ y ∷ t ∷ [])
-          (sum (prod (var 0) (var 1)) (minus (prod (prod (var 0) (var 2)) (var 3))))
-          (prod (var 0) (sum (var 1) (minus (prod (var 2) (var 3))))) refl)
+      (sum (prod (var 0) (var 1)) (minus (prod (prod (var 0) (var 2)) (var 3))))
+      (prod (var 0) (sum (var 1) (minus (prod (var 2) (var 3))))) refl)
       ∙ ap (λ rest. k.mul a (sub k x (k.mul y t)) ∷ rest) (upper-scaled t xs ys)
 
   -- the layers of a multiple
@@ -53,31 +53,31 @@ module _ {F : Type 0} {k : FieldOps F} (laws : RingLaws k) (a : F) where
       let hi = take h (drop h xs) in
       let first : take h (map (k.mul a) xs) ≡ map (k.mul a) lo = take-map (k.mul a) h xs in
       let second : take h (drop h (map (k.mul a) xs)) ≡ map (k.mul a) hi =
-          ap (take h) (drop-map (k.mul a) h xs) ∙ take-map (k.mul a) h (drop h xs) in
+      ap (take h) (drop-map (k.mul a) h xs) ∙ take-map (k.mul a) h (drop h xs) in
       ap (λ l. finish k gen m q (lower k t l (take h (drop h (map (k.mul a) xs))))
-          ++ finish k gen m q' (upper k t l (take h (drop h (map (k.mul a) xs))))) first
+      ++ finish k gen m q' (upper k t l (take h (drop h (map (k.mul a) xs))))) first
       ∙ ap (λ u. finish k gen m q (lower k t (map (k.mul a) lo) u)
-          ++ finish k gen m q' (upper k t (map (k.mul a) lo) u)) second
+      ++ finish k gen m q' (upper k t (map (k.mul a) lo) u)) second
       ∙ ap
-          (λ l. finish k gen m q l
-          ++ finish k gen m q' (upper k t (map (k.mul a) lo) (map (k.mul a) hi)))
-          (lower-scaled t lo hi)
+      (λ l. finish k gen m q l
+      ++ finish k gen m q' (upper k t (map (k.mul a) lo) (map (k.mul a) hi)))
+      (lower-scaled t lo hi)
       ∙ ap (λ u. finish k gen m q (map (k.mul a) (lower k t lo hi)) ++ finish k gen m q' u)
-          (upper-scaled t lo hi)
+      (upper-scaled t lo hi)
       ∙ ap (λ l. l ++ finish k gen m q' (map (k.mul a) (upper k t lo hi)))
-          (finish-scaled gen m q (lower k t lo hi))
+      (finish-scaled gen m q (lower k t lo hi))
       ∙ ap (λ u. map (k.mul a) (finish k gen m q (lower k t lo hi)) ++ u)
-          (finish-scaled gen m q' (upper k t lo hi))
+      (finish-scaled gen m q' (upper k t lo hi))
       ∙ sym
-          (map-append (k.mul a) (finish k gen m q (lower k t lo hi))
-          (finish k gen m q' (upper k t lo hi)))
+      (map-append (k.mul a) (finish k gen m q (lower k t lo hi))
+      (finish k gen m q' (upper k t lo hi)))
 
 module _ {F : Type 0} {k : FieldOps F} (laws : FieldLaws k) where
   -- a factor that is not 0 cancels
   cancel : (a b c : F) → c ≢ k.zero → k.mul a c ≡ k.mul b c → a ≡ b
   cancel a b c h e =
       sym (mul_one laws.ring a) ∙ ap (k.mul a) (sym (laws.mul_inv c h))
-          ∙ sym (laws.ring.mul_assoc a c (k.inv c))
+      ∙ sym (laws.ring.mul_assoc a c (k.inv c))
       ∙ ap (λ v. k.mul v (k.inv c)) e
       ∙ laws.ring.mul_assoc b c (k.inv c) ∙ ap (k.mul b) (laws.mul_inv c h) ∙ mul_one laws.ring b
 
@@ -94,7 +94,7 @@ module _ {F : Type 0} {k : FieldOps F} (laws : FieldLaws k) where
   halves_told t (x ∷ xs) (y ∷ ys) (u0 ∷ us) [] h d e f l u = absurd (omega (arith, e))
   halves_told t (x ∷ xs) (y ∷ ys) (u0 ∷ us) (v ∷ vs) h d e f l u =
       let rest = halves_told t xs ys us vs h (omega (arith, d)) (omega (arith, e))
-          (omega (arith, f)) (cc) (cc) in
+      (omega (arith, f)) (cc) (cc) in
       let a : k.add x (k.mul y t) ≡ k.add u0 (k.mul v t) = cc in
       let b : sub k x (k.mul y t) ≡ sub k u0 (k.mul v t) = cc in
       let env : List F = x ∷ y ∷ u0 ∷ v ∷ t ∷ [] in
@@ -103,18 +103,20 @@ module _ {F : Type 0} {k : FieldOps F} (laws : FieldLaws k) where
       let two_x : k.mul x (k.add k.one k.one) ≡ k.mul u0 (k.add k.one k.one) =
       combine laws.ring env (prod (var 0) (sum unit unit)) (prod (var 2) (sum unit unit))
       (given unit (pl (var 0) (var 1)) (pl (var 2) (var 3))
-          ∷ given unit (mi (var 0) (var 1)) (mi (var 2) (var 3)) ∷ []) refl (a, (b, tt)) in
+      ∷ given unit (mi (var 0) (var 1)) (mi (var 2) (var 3)) ∷ []) refl (a, (b, tt)) in
       let two_y : k.mul (k.mul y t) (k.add k.one k.one) ≡ k.mul (k.mul v t) (k.add k.one k.one) =
       combine laws.ring env (prod (prod (var 1) (var 4)) (sum unit unit))
-          (prod (prod (var 3) (var 4)) (sum unit unit))
+      (prod (prod (var 3) (var 4)) (sum unit unit))
       (given unit (pl (var 0) (var 1)) (pl (var 2) (var 3))
-          ∷ given (minus unit) (mi (var 0) (var 1)) (mi (var 2) (var 3)) ∷ []) refl (a, (b, tt)) in
+      ∷ given (minus unit) (mi (var 0) (var 1)) (mi (var 2) (var 3)) ∷ []) refl (a, (b, tt)) in
       let same_x : x ≡ u0 = cancel x u0 (k.add k.one k.one) laws.two_nonzero two_x in
       let same_y : y ≡ v =
-          cancel y v t h
-          (cancel (k.mul y t) (k.mul v t) (k.add k.one k.one) laws.two_nonzero two_y) in
-      (ap (λ w. w ∷ xs) same_x ∙ ap (λ ws. u0 ∷ ws) rest.0, ap (λ w. w ∷ ys) same_y
-          ∙ ap (λ ws. v ∷ ws) rest.1)
+      cancel y v t h
+      (cancel (k.mul y t) (k.mul v t) (k.add k.one k.one) laws.two_nonzero two_y) in (
+        ap (λ w. w ∷ xs) same_x ∙ ap (λ ws. u0 ∷ ws) rest.0,
+        ap (λ w. w ∷ ys) same_y
+            ∙ ap (λ ws. v ∷ ws) rest.1,
+      )
 
   -- a point with y = 0 is half of the neutral one, and one with x = 0 a quarter
   pub flat-point : (p : Coordinates F) → IsOnCircle k p → p.y ≡ k.zero → plus k p p ≡ origin k
@@ -124,9 +126,9 @@ module _ {F : Type 0} {k : FieldOps F} (laws : FieldLaws k) where
       same_coordinates
       (combine laws.ring env (sum (prod x x) (minus (prod y y))) unit
       (given unit (sum (prod x x) (prod y y)) unit ∷ given (minus (sum y y)) y (con 0) ∷ []) refl
-          (c, (e, tt)))
+      (c, (e, tt)))
       (combine laws.ring env (sum (prod x y) (prod y x)) (con 0) (given (sum x x) y (con 0) ∷ [])
-          refl (e, tt))
+      refl (e, tt))
 
   steep-point : (p : Coordinates F) → IsOnCircle k p → p.x ≡ k.zero →
       plus k (plus k p p) (plus k p p) ≡ origin k
@@ -134,8 +136,8 @@ module _ {F : Type 0} {k : FieldOps F} (laws : FieldLaws k) where
       let d = plus k p p in
       let x : Expr = var 0 in let y : Expr = var 1 in
       let flat : d.y ≡ k.zero =
-          combine laws.ring (p.x ∷ p.y ∷ []) (sum (prod x y) (prod y x)) (con 0)
-          (given (sum y y) x (con 0) ∷ []) refl (e, tt) in
+      combine laws.ring (p.x ∷ p.y ∷ []) (sum (prod x y) (prod y x)) (con 0)
+      (given (sum y y) x (con 0) ∷ []) refl (e, tt) in
       flat-point d (plus-on_circle laws.ring p p c c) flat
 
   -- one more doubling of the multiple
@@ -151,7 +153,7 @@ module _ {F : Type 0} {k : FieldOps F} (laws : FieldLaws k) where
       let r = times k (2 ^ m) q in
       h (twice (suc m) q ∙ ap (λ p. plus k p p) (twice m q)
       ∙ steep-point r (times-on_circle laws.ring (2 ^ m) q c)
-          (sym (iterated_x-times laws.ring m q c) ∙ e))
+      (sym (iterated_x-times laws.ring m q c) ∙ e))
 
   pub first-genuine : (m : ℕ) (q : Coordinates F) → times k (2 ^ suc m) q ≢ origin k →
       times k (2 ^ m) q ≢ origin k
@@ -164,12 +166,12 @@ module _ {F : Type 0} {k : FieldOps F} (laws : FieldLaws k) where
     second-genuine zero q g c h = λ e.
         let o : opposite k q ≡ origin k = sym (times-one laws.ring (opposite k q)) ∙ e in
         first-genuine 0 q h (times-one laws.ring q ∙ sym (plus-origin laws.ring q)
-            ∙ ap (plus k q) (sym o) ∙ plus-opposite laws.ring q c)
+        ∙ ap (plus k q) (sym o) ∙ plus-opposite laws.ring q c)
     second-genuine (suc m) q g c h = λ e.
         first-genuine (suc m) q h
         (sym (plus-origin laws.ring (times k (2 ^ suc m) q))
-            ∙ ap (plus k (times k (2 ^ suc m) q))
-            (sym (times-generator-past laws.ring gens (suc m) (suc m) (omega arith) g))
+        ∙ ap (plus k (times k (2 ^ suc m) q))
+        (sym (times-generator-past laws.ring gens (suc m) (suc m) (omega arith) g))
         ∙ sym (times-plus laws.ring (2 ^ suc m) q (gen (suc m))) ∙ e)
 
     -- the layers of a genuine block tell its coefficients
@@ -194,14 +196,14 @@ module _ {F : Type 0} {k : FieldOps F} (laws : FieldLaws k) where
         let lf : length f ≡ half = length-finish k gen m q (lower k t a b) of_xs.lower in
         let li : length i ≡ half = length-finish k gen m q (lower k t u v) of_ys.lower in
         let first : f ≡ i = sym (take_at f f' half lf) ∙ ap (take half) same
-            ∙ take_at i i' half li in
+        ∙ take_at i i' half li in
         let second : f' ≡ i' = sym (drop_at f f' half lf) ∙ ap (drop half) same
-            ∙ drop_at i i' half li in
+        ∙ drop_at i i' half li in
         let told = halves_told t a b u v (factor-nonzero m q c h) (of_xs.low ∙ sym of_xs.high)
-            (of_ys.low ∙ sym of_ys.high) (of_xs.low ∙ sym of_ys.low)
+        (of_ys.low ∙ sym of_ys.high) (of_xs.low ∙ sym of_ys.low)
         (finish-injective m q (lower k t a b) (lower k t u v) of_xs.lower of_ys.lower (omega arith)
-            c (first-genuine m q h) first)
+        c (first-genuine m q h) first)
         (finish-injective m q' (upper k t a b) (upper k t u v) of_xs.upper of_ys.upper (omega arith)
         (second_half-on_circle laws.ring gens m q (omega arith) c)
-            (second-genuine m q (omega arith) c h) second) in
+        (second-genuine m q (omega arith) c h) second) in
         sym of_xs.joined ∙ ap (λ l. l ++ b) told.0 ∙ ap (λ r. u ++ r) told.1 ∙ of_ys.joined

@@ -35,12 +35,12 @@ all-split P (x ∷ xs) ys h = let rest = all-split P xs ys h.1 in ((h.0, rest.0)
 pub shares-more : {F : Type 0} (k : FieldOps F) (q : Coordinates F) (ps : List (Coordinates F))
     (p : Coordinates F) →
     shares k q (ps ++ p ∷ [])
-        ≡ (shares k q ps ++ k.mul (k.add p.y q.y) (k.inv (sub k p.x q.x)) ∷ [])
-        ++ k.mul (sub k p.y q.y) (k.inv (sub k p.x q.x)) ∷ []
+    ≡ (shares k q ps ++ k.mul (k.add p.y q.y) (k.inv (sub k p.x q.x)) ∷ [])
+    ++ k.mul (sub k p.y q.y) (k.inv (sub k p.x q.x)) ∷ []
 shares-more k q [] p = refl
 shares-more k q (r ∷ ps) p =
     ap (λ rest. k.mul (k.add r.y q.y) (k.inv (sub k r.x q.x))
-        ∷ k.mul (sub k r.y q.y) (k.inv (sub k r.x q.x)) ∷ rest) (shares-more k q ps p)
+    ∷ k.mul (sub k r.y q.y) (k.inv (sub k r.x q.x)) ∷ rest) (shares-more k q ps p)
 
 pub length-shares : {F : Type 0} (k : FieldOps F) (q : Coordinates F) (ps : List (Coordinates F)) →
     length (shares k q ps) ≡ length ps + length ps
@@ -55,8 +55,8 @@ module _ {F : Type 0} {k : FieldOps F} (laws : FieldLaws k) where
   dot-multiple u (x ∷ xs) (y ∷ ys) =
       ap (k.add (k.mul (k.mul x u) y)) (dot-multiple u xs ys)
       ∙ ring laws.ring (x ∷ u ∷ y ∷ dot k xs ys ∷ [])
-          (sum (prod (prod (var 0) (var 1)) (var 2)) (prod (var 3) (var 1)))
-          (prod (sum (prod (var 0) (var 2)) (var 3)) (var 1)) refl
+      (sum (prod (prod (var 0) (var 1)) (var 2)) (prod (var 3) (var 1)))
+      (prod (sum (prod (var 0) (var 2)) (var 3)) (var 1)) refl
 
   pub power-nonzero : (n : ℕ) → nth_power k (two k) n ≢ k.zero
   power-nonzero zero = one_nonzero laws
@@ -67,7 +67,7 @@ module _ {F : Type 0} {k : FieldOps F} (laws : FieldLaws k) where
   inverse-neg a h =
       sym (inverse_unique laws (k.neg a) (k.neg (k.inv a)) (neg-nonzero laws a h)
       (combine laws.ring (a ∷ k.inv a ∷ []) (prod (minus (var 1)) (minus (var 0))) unit
-          (given unit (prod (var 0) (var 1)) unit ∷ []) refl (laws.mul_inv a h, tt)))
+      (given unit (prod (var 0) (var 1)) unit ∷ []) refl (laws.mul_inv a h, tt)))
 
   doubled-opposite : (m : ℕ) (p : Coordinates F) → doubled k (suc m) (opposite k p)
       ≡ k.neg (doubled k (suc m) p)
@@ -90,7 +90,7 @@ module _ {F : Type 0} {k : FieldOps F} (laws : FieldLaws k) where
   genuine-below m (suc j) p h =
       let e : suc j + m ≡ suc (j + m) = omega arith in
       genuine-below m j p
-          (first-genuine laws (j + m) p (λ bad. h (ap (λ i. times k (2 ^ i) p) e ∙ bad)))
+      (first-genuine laws (j + m) p (λ bad. h (ap (λ i. times k (2 ^ i) p) e ∙ bad)))
 
   module _ (m : ℕ) (s q : Coordinates F) (on_circle : IsOnCircle k s)
       (genuine : times k (2 ^ suc m) s ≢ origin k) where
@@ -110,29 +110,29 @@ module _ {F : Type 0} {k : FieldOps F} (laws : FieldLaws k) where
     s_p-nonzero =
         neg-nonzero laws (k.mul (nth_power k (two k) (suc m)) (times k (2 ^ m) s).y)
         (nonzero_product laws (nth_power k (two k) (suc m)) (times k (2 ^ m) s).y
-            (power-nonzero (suc m))
+        (power-nonzero (suc m))
         (λ flat. genuine
-            (twice laws m s
-            ∙ flat-point laws (times k (2 ^ m) s) (times-on_circle laws.ring (2 ^ m) s on_circle)
-            flat)))
+        (twice laws m s
+        ∙ flat-point laws (times k (2 ^ m) s) (times-on_circle laws.ring (2 ^ m) s on_circle)
+        flat)))
 
     point-weight : (p : Coordinates F) → InFirstHalf p → weight k (suc m) q p
         ≡ k.mul (share k q p) scale
     point-weight p h =
         let there : times k (2 ^ suc m) p ≢ origin k =
-            λ bad. genuine (twice laws m s ∙ ap (λ r. plus k r r) (sym h.1) ∙ sym (twice laws m p)
-            ∙ bad) in
+        λ bad. genuine (twice laws m s ∙ ap (λ r. plus k r r) (sym h.1) ∙ sym (twice laws m p)
+        ∙ bad) in
         let nonzero : (i : ℕ) → i < suc m → factor k i p ≢ k.zero =
         λ i lt. let e : (m - i) + suc i ≡ suc m = omega (arith, lt) in
         factor-nonzero laws i p h.0
-            (genuine-below (suc i) (m - i) p
-            (λ bad. there (ap (λ n. times k (2 ^ n) p) (sym e) ∙ bad))) in
+        (genuine-below (suc i) (m - i) p
+        (λ bad. there (ap (λ n. times k (2 ^ n) p) (sym e) ∙ bad))) in
         let same_x : factor k (suc m) p ≡ factor k (suc m) s =
         iterated_x-times laws.ring m p h.0 ∙ ap (λ (r : Coordinates F). r.x) h.1
-            ∙ sym (iterated_x-times laws.ring m s on_circle) in
+        ∙ sym (iterated_x-times laws.ring m s on_circle) in
         weight-share laws m q p s_p nonzero h.2 s_p-nonzero
         (normalised laws m p (times k (2 ^ m) p).y (y_multiple laws m p h.0)
-            ∙ ap (λ (r : Coordinates F). k.neg (k.mul (nth_power k (two k) (suc m)) r.y)) h.1)
+        ∙ ap (λ (r : Coordinates F). k.neg (k.mul (nth_power k (two k) (suc m)) r.y)) h.1)
         ∙ ap (λ x. k.mul (share k q p) (k.mul (sub k (factor k (suc m) q) x) (k.inv s_p))) same_x
 
     opposite-weight : (p : Coordinates F) → InFirstHalf p → weight k (suc m) q (opposite k p)
@@ -140,26 +140,26 @@ module _ {F : Type 0} {k : FieldOps F} (laws : FieldLaws k) where
     opposite-weight p h =
         let o = opposite k p in
         let there : times k (2 ^ suc m) p ≢ origin k =
-            λ bad. genuine (twice laws m s ∙ ap (λ r. plus k r r) (sym h.1) ∙ sym (twice laws m p)
-            ∙ bad) in
+        λ bad. genuine (twice laws m s ∙ ap (λ r. plus k r r) (sym h.1) ∙ sym (twice laws m p)
+        ∙ bad) in
         let nonzero : (i : ℕ) → i < suc m → factor k i o ≢ k.zero =
         λ i lt. let e : (m - i) + suc i ≡ suc m = omega (arith, lt) in
         factor-opposite-nonzero i p
-            (factor-nonzero laws i p h.0
-            (genuine-below (suc i) (m - i) p
-            (λ bad. there (ap (λ n. times k (2 ^ n) p) (sym e) ∙ bad)))) in
+        (factor-nonzero laws i p h.0
+        (genuine-below (suc i) (m - i) p
+        (λ bad. there (ap (λ n. times k (2 ^ n) p) (sym e) ∙ bad)))) in
         let same_x : factor k (suc m) o ≡ factor k (suc m) s =
         iterated_x-times laws.ring m p h.0 ∙ ap (λ (r : Coordinates F). r.x) h.1
-            ∙ sym (iterated_x-times laws.ring m s on_circle) in
+        ∙ sym (iterated_x-times laws.ring m s on_circle) in
         let normal : k.neg (k.mul (nth_power k (two k) m) (doubled k (suc m) o)) ≡ k.neg s_p =
         ap (λ d. k.neg (k.mul (nth_power k (two k) m) d)) (doubled-opposite m p)
         ∙ ap k.neg (mul_neg laws.ring (nth_power k (two k) m) (doubled k (suc m) p))
         ∙ ap k.neg (normalised laws m p (times k (2 ^ m) p).y (y_multiple laws m p h.0)
-            ∙ ap (λ (r : Coordinates F). k.neg (k.mul (nth_power k (two k) (suc m)) r.y)) h.1) in
+        ∙ ap (λ (r : Coordinates F). k.neg (k.mul (nth_power k (two k) (suc m)) r.y)) h.1) in
         let v = sub k (factor k (suc m) q) (factor k (suc m) s) in
         weight-share laws m q o (k.neg s_p) nonzero h.2 (neg-nonzero laws s_p s_p-nonzero) normal
         ∙ ap (λ x. k.mul (share k q o) (k.mul (sub k (factor k (suc m) q) x) (k.inv (k.neg s_p))))
-            same_x
+        same_x
         ∙ ap (λ i. k.mul (share k q o) (k.mul v i)) (inverse-neg s_p s_p-nonzero)
         ∙ ring laws.ring (p.y ∷ q.y ∷ k.inv (sub k p.x q.x) ∷ v ∷ k.inv s_p ∷ [])
         (prod (prod (sum (minus (var 0)) (var 1)) (var 2)) (prod (var 3) (minus (var 4))))
@@ -170,30 +170,30 @@ module _ {F : Type 0} {k : FieldOps F} (laws : FieldLaws k) where
     shares-weights [] all = refl
     shares-weights (p ∷ ps) all =
         ap (λ w. w ∷ weight k (suc m) q (opposite k p)
-            ∷ map (weight k (suc m) q) (with_opposites k ps)) (point-weight p all.0)
+        ∷ map (weight k (suc m) q) (with_opposites k ps)) (point-weight p all.0)
         ∙ ap (λ w. k.mul (share k q p) scale ∷ w ∷ map (weight k (suc m) q) (with_opposites k ps))
-            (opposite-weight p all.0)
+        (opposite-weight p all.0)
         ∙ ap (λ ws. k.mul (share k q p) scale
-            ∷ k.mul (k.mul (sub k p.y q.y) (k.inv (sub k p.x q.x))) scale ∷ ws)
-            (shares-weights ps all.1)
+        ∷ k.mul (k.mul (sub k p.y q.y) (k.inv (sub k p.x q.x))) scale ∷ ws)
+        (shares-weights ps all.1)
 
     module _ {gen : ℕ → Coordinates F} {bits : ℕ} (gens : AreGenerators k bits gen) where
       first_half : (i : ℕ) (p : Coordinates F) → i ≤ m → i ≤ bits → IsOnCircle k p →
           times k (2 ^ m) p ≡ times k (2 ^ m) s →
           AllByRecursion (λ r. sub k r.x q.x ≢ k.zero) (coset k gen i p) →
-              AllByRecursion InFirstHalf (coset k gen i p)
+          AllByRecursion InFirstHalf (coset k gen i p)
       first_half zero p h g c e apart = ((c, e, apart.0), tt)
       first_half (suc i) p h g c e apart =
           let p' = plus k p (gen (suc i)) in
           let split = all-split (λ r. sub k r.x q.x ≢ k.zero) (coset k gen i p) (coset k gen i p')
-              apart in
+          apart in
           all-append InFirstHalf (coset k gen i p) (coset k gen i p')
           (first_half i p (omega (arith, h)) (omega (arith, g)) c e split.0)
           (first_half i p' (omega (arith, h)) (omega (arith, g))
-              (plus-on_circle laws.ring p (gen (suc i)) c (gens.on_circle (suc i) g))
+          (plus-on_circle laws.ring p (gen (suc i)) c (gens.on_circle (suc i) g))
           (times-plus laws.ring (2 ^ m) p (gen (suc i))
-              ∙ ap (plus k (times k (2 ^ m) p)) (times-generator-past laws.ring gens m (suc i) h g)
-              ∙ plus-origin laws.ring (times k (2 ^ m) p) ∙ e)
+          ∙ ap (plus k (times k (2 ^ m) p)) (times-generator-past laws.ring gens m (suc i) h g)
+          ∙ plus-origin laws.ring (times k (2 ^ m) p) ∙ e)
           split.1)
 
       -- the values at the points of a genuine domain, each times its share, add up to the value but
@@ -201,8 +201,8 @@ module _ {F : Type 0} {k : FieldOps F} (laws : FieldLaws k) where
       pub shares-sum : (c : List F) → length c ≡ 2 ^ suc m → suc m ≤ suc bits →
           AllByRecursion (λ r. sub k r.x q.x ≢ k.zero) (coset k gen m s) →
           k.mul
-              (dot k (shares k q (coset k gen m s))
-              (map (value k c) (with_opposites k (coset k gen m s)))) scale ≡ value k c q
+          (dot k (shares k q (coset k gen m s))
+          (map (value k c) (with_opposites k (coset k gen m s)))) scale ≡ value k c q
       shares-sum c long fits apart =
           let ps = coset k gen m s in
           let all = first_half m s (omega arith) (omega (arith, fits)) on_circle refl apart in
@@ -212,5 +212,5 @@ module _ {F : Type 0} {k : FieldOps F} (laws : FieldLaws k) where
           sym (dot-multiple scale (shares k q ps) values)
           ∙ ap (λ ws. dot k ws values) (sym (shares-weights ps all))
           ∙ ap (λ rs. dot k (map (weight k (suc m) q) rs) (map (value k c) rs))
-              (ap (λ i. with_opposites k (coset k gen i s)) (sym e) ∙ sym order)
+          (ap (λ i. with_opposites k (coset k gen i s)) (sym e) ∙ sym order)
           ∙ lagrange laws gens (suc m) s q c long fits on_circle genuine

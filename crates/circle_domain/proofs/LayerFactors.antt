@@ -15,4 +15,4 @@ module _ {F : Type 0} {k : FieldOps F} (laws : FieldLaws k) {gen : ℕ → Coord
   layer_factors-nonzero m lt =
       let e : suc (n - (m + 1) + m) ≡ n = omega arith in
       factors-nonzero laws gens (n - (m + 1)) m s (omega (arith, fits)) on_circle
-          (subst (λ i. times k (2 ^ i) s ≢ origin k) (sym e) genuine)
+      (subst (λ i. times k (2 ^ i) s ≢ origin k) (sym e) genuine)

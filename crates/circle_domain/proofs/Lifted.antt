@@ -38,7 +38,7 @@ module _ {F E : Type 0} {k : FieldOps F} {l : FieldOps E} {m : F → E} (e : IsE
   pub lifted-injective : (p q : Coordinates F) → lifted m p ≡ lifted m q → p ≡ q
   lifted-injective p q h =
       same_coordinates (e.injective p.x q.x (ap (λ (r : Coordinates E). r.x) h))
-          (e.injective p.y q.y (ap (λ (r : Coordinates E). r.y) h))
+      (e.injective p.y q.y (ap (λ (r : Coordinates E). r.y) h))
 
   -- generators stay generators
   pub lifted-generators : {bits : ℕ} {gen : ℕ → Coordinates F} → AreGenerators k bits gen →
@@ -64,15 +64,15 @@ module _ {F E : Type 0} {k : FieldOps F} {l : FieldOps E} {m : F → E} (e : IsE
       let lgen : ℕ → Coordinates E = λ i. lifted m (gen i) in
       map-append (lifted m) (points k gen n q) (points k gen n (second_half k gen n q))
       ∙ ap (λ xs. xs ++ map (lifted m) (points k gen n (second_half k gen n q)))
-          (lifted-points gen n q)
+      (lifted-points gen n q)
       ∙ ap (λ ys. points l lgen n (lifted m q) ++ ys) (lifted-points gen n (second_half k gen n q)
-          ∙ ap (points l lgen n) (lifted-second_half gen n q))
+      ∙ ap (points l lgen n) (lifted-second_half gen n q))
 
   pub lifted-doubled_x : (x : F) → m (doubled_x k x) ≡ doubled_x l (m x)
   lifted-doubled_x x =
       e.add (k.add (k.mul x x) (k.mul x x)) (k.neg k.one)
       ∙ ap (λ v. l.add v (m (k.neg k.one)))
-          (e.add (k.mul x x) (k.mul x x) ∙ ap (λ v. l.add v v) (e.mul x x))
+      (e.add (k.mul x x) (k.mul x x) ∙ ap (λ v. l.add v v) (e.mul x x))
       ∙ ap (l.add (l.add (l.mul (m x) (m x)) (l.mul (m x) (m x)))) (e.neg k.one ∙ ap l.neg e.one)
 
   pub lifted-iterated_x : (n : ℕ) (x : F) → m (iterated_x k n x) ≡ iterated_x l n (m x)

@@ -20,10 +20,10 @@ module _ {F E : Type 0} {k : FieldOps F} {l : FieldOps E} {m : F → E} (e : IsE
   lifted-low_bits (suc bits) j x =
       e.mul (low_bits_product k bits j x) (bit_factor k (j / 2 ^ bits % 2) (iterated_x k bits x))
       ∙ ap (λ v. l.mul v (m (bit_factor k (j / 2 ^ bits % 2) (iterated_x k bits x))))
-          (lifted-low_bits bits j x)
+      (lifted-low_bits bits j x)
       ∙ ap (l.mul (low_bits_product l bits j (m x)))
       (lifted-bit_factor (j / 2 ^ bits % 2) (iterated_x k bits x)
-          ∙ ap (bit_factor l (j / 2 ^ bits % 2)) (lifted-iterated_x e bits x))
+      ∙ ap (bit_factor l (j / 2 ^ bits % 2)) (lifted-iterated_x e bits x))
 
   lifted-circle_basis : (j : ℕ) (p : Coordinates F) → m (circle_basis k j p)
       ≡ circle_basis l j (lifted m p)
@@ -38,7 +38,7 @@ module _ {F E : Type 0} {k : FieldOps F} {l : FieldOps E} {m : F → E} (e : IsE
   lifted-weighted_sum f h same j (c ∷ cs) =
       e.add (k.mul c (f j)) (weighted_sum k f (suc j) cs)
       ∙ ap (λ v. l.add v (m (weighted_sum k f (suc j) cs)))
-          (e.mul c (f j) ∙ ap (l.mul (m c)) (same j))
+      (e.mul c (f j) ∙ ap (l.mul (m c)) (same j))
       ∙ ap (l.add (l.mul (m c) (h j))) (lifted-weighted_sum f h same (suc j) cs)
 
   pub lifted-value : (c : List F) (p : Coordinates F) → m (value k c p)
@@ -60,9 +60,9 @@ module _ {F E : Type 0} {k : FieldOps F} {l : FieldOps E} {m : F → E} (e : IsE
       let up : ℕ → Coordinates E = λ i. lifted m (gen i) in
       map-append (lifted m) (coset k gen n s) (coset k gen n (plus k s (gen (suc n))))
       ∙ ap (λ xs. xs ++ map (lifted m) (coset k gen n (plus k s (gen (suc n)))))
-          (lifted-coset gen n s)
+      (lifted-coset gen n s)
       ∙ ap (λ ys. coset l up n (lifted m s) ++ ys) (lifted-coset gen n (plus k s (gen (suc n)))
-          ∙ ap (coset l up n) (lifted-plus e s (gen (suc n))))
+      ∙ ap (coset l up n) (lifted-plus e s (gen (suc n))))
 
   pub lifted-with_opposites : (ps : List (Coordinates F)) → map (lifted m) (with_opposites k ps)
       ≡ with_opposites l (map (lifted m) ps)

@@ -21,7 +21,7 @@ reordered-twice d n xs long =
     (λ i lt.
     ap (λ j. slice_index_or xs j d) (sym (cfft_index-own_inverse n i lt))
     ∙ sym (get_or-map-range_with_len (λ i. slice_index_or xs (cfft_index n i) d) 0 (2 ^ n)
-        (cfft_index n i) (cfft_index n i) d (cfft_index-below n i) (omega arith))))
+    (cfft_index n i) (cfft_index n i) d (cfft_index-below n i) (omega arith))))
 
 module _ {F : Type 0} {k : FieldOps F} (laws : RingLaws k) {gen : ℕ → Coordinates F} {bits : ℕ}
     (gens : AreGenerators k bits gen) where
@@ -40,20 +40,20 @@ module _ {F : Type 0} {k : FieldOps F} (laws : RingLaws k) {gen : ℕ → Coordi
       let there = cfft_order k gen n s in
       let long = length-natural n s h in
       sym (fill_by_all (λ i. slice_index_or (map f natural) (cfft_index n i) d) (map f there)
-          (2 ^ n) d (length-map there f ∙ length-cfft_order laws gens n s h)
+      (2 ^ n) d (length-map there f ∙ length-cfft_order laws gens n s h)
       (λ i lt.
       let below = cfft_index-below n i in
       get_or-map f there i o d (omega (arith, lt, length-cfft_order laws gens n s h))
       ∙ ap f
-          (cfft-place laws gens (n - 1) i s o (let l : i < 2 ^ suc (n - 1) =
-          omega (arith, lt, ap (λ m. 2 ^ m) e) in l) (omega (arith, fits))
-          ∙ ap (λ m. slice_index_or natural (cfft_index m i) o) e)
+      (cfft-place laws gens (n - 1) i s o (let l : i < 2 ^ suc (n - 1) =
+      omega (arith, lt, ap (λ m. 2 ^ m) e) in l) (omega (arith, fits))
+      ∙ ap (λ m. slice_index_or natural (cfft_index m i) o) e)
       ∙ sym (get_or-map f natural (cfft_index n i) o d (omega (arith, below, long)))))
 
 module _ {F : Type 0} {k : FieldOps F} (laws : FieldLaws k) {gen : ℕ → Coordinates F} {bits : ℕ}
     (gens : AreGenerators k bits gen)
     (n : ℕ) (s : Coordinates F) (fits : n ≤ suc bits) (on_circle : IsOnCircle k s)
-        (genuine : IsGenuine k n s) where
+    (genuine : IsGenuine k n s) where
   -- values in natural order have coefficients
   pub natural-told : (ws : List F) → length ws ≡ 2 ^ n → (c : List F) × (length c ≡ 2 ^ n)
       × (map (value k c) (natural_order k gen n s) ≡ ws)
@@ -61,15 +61,15 @@ module _ {F : Type 0} {k : FieldOps F} (laws : FieldLaws k) {gen : ℕ → Coord
       let h = genuine.0 in
       let there = reordered k.zero n ws in
       let told =
-          column-told laws gens n s fits on_circle genuine there
-          (length-map-range_with_len (λ i. slice_index_or ws (cfft_index n i) k.zero) 0 (2 ^ n)) in
+      column-told laws gens n s fits on_circle genuine there
+      (length-map-range_with_len (λ i. slice_index_or ws (cfft_index n i) k.zero) 0 (2 ^ n)) in
       let values = map (value k told.0) (natural_order k gen n s) in
       let long : length values ≡ 2 ^ n = length-map (natural_order k gen n s) (value k told.0)
-          ∙ length-natural laws.ring gens n s h in (
+      ∙ length-natural laws.ring gens n s h in (
         told.0,
         told.1,
         sym (reordered-twice k.zero n values long)
             ∙ ap (reordered k.zero n)
-                (reordered-points laws.ring gens k.zero (value k told.0) n s h fits ∙ told.2)
+            (reordered-points laws.ring gens k.zero (value k told.0) n s h fits ∙ told.2)
             ∙ reordered-twice k.zero n ws e,
       )

@@ -20,9 +20,9 @@ some_of (Some t) v h e = ap Some e
 module _ {F E : Type 0} {k : FieldOps F} {l : FieldOps E} {m : F → E} (laws : FieldLaws k)
     (laws' : FieldLaws l) (embedding : IsEmbedding k l m)
     {gen : ℕ → Coordinates F} {bits : ℕ} (gens : AreGenerators k bits gen) (n : ℕ)
-        (positive : 1 ≤ n) (s : Coordinates F) (standard : IsStandard bits gen n s)
+    (positive : 1 ≤ n) (s : Coordinates F) (standard : IsStandard bits gen n s)
     (i : ℕ) (p : Coordinates F) (here : slice_get (natural_order k gen n s) i ≡ Some p) (t : E)
-        (coordinate : t ≡ to_line l (lifted m p)) where
+    (coordinate : t ≡ to_line l (lifted m p)) where
   first : slice_get (natural_order k gen n (gen (n + 1))) i ≡ Some p
   first = ap (λ r. slice_get (natural_order k gen n r) i) (sym standard.1) ∙ here
 
@@ -33,10 +33,10 @@ module _ {F E : Type 0} {k : FieldOps F} {l : FieldOps E} {m : F → E} (laws : 
   pub walk-finite : IsFinite l t
   walk-finite =
       let c =
-          lifted-on_circle embedding p
-          (standard-on_circle laws.ring gens n positive standard.0 i p first) in
+      lifted-on_circle embedding p
+      (standard-on_circle laws.ring gens n positive standard.0 i p first) in
       λ z. coordinate-finite laws' (lifted m p) c lifted_finite
-          (sym (ap (λ v. l.mul v v) coordinate) ∙ z)
+      (sym (ap (λ v. l.mul v v) coordinate) ∙ z)
 
   module _ (q : Coordinates F) (next : slice_get (natural_order k gen n s) ((i + 1) % 2 ^ n)
       ≡ Some q) where
@@ -46,8 +46,8 @@ module _ {F E : Type 0} {k : FieldOps F} {l : FieldOps E} {m : F → E} (laws : 
     pub walk-next : next_from l m gen n t ≡ lifted m q
     walk-next =
         let c =
-            lifted-on_circle embedding p
-            (standard-on_circle laws.ring gens n positive standard.0 i p first) in
+        lifted-on_circle embedding p
+        (standard-on_circle laws.ring gens n positive standard.0 i p first) in
         ap (λ v. plus l (from_line l v) (lifted m (gen n))) coordinate
         ∙ ap (λ r. plus l r (lifted m (gen n))) (back laws' (lifted m p) c lifted_finite)
         ∙ sym (lifted-plus embedding p (gen n))

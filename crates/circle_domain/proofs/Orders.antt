@@ -53,11 +53,11 @@ module _ {F : Type 0} {k : FieldOps F} (laws : RingLaws k) where
       ap (λ n. alternating k n p q g) e
       ∙ ap (λ u. u ∷ q ∷ alternating k (count + count) (plus k p g) (plus k q g) g) hp
       ∙ ap (λ u. plus k s (times k a g) ∷ u
-          ∷ alternating k (count + count) (plus k p g) (plus k q g) g) hq
+      ∷ alternating k (count + count) (plus k p g) (plus k q g) g) hq
       ∙ ap (λ rest. plus k s (times k a g) ∷ plus k (opposite k s) (times k (suc a) g) ∷ rest)
       (alternating-natural count (plus k p g) (plus k q g) s g (suc a)
       (ap (λ u. plus k u g) hp ∙ next_step s g a)
-          (ap (λ u. plus k u g) hq ∙ next_step (opposite k s) g (suc a)))
+      (ap (λ u. plus k u g) hq ∙ next_step (opposite k s) g (suc a)))
 
 module _ {F : Type 0} (k : FieldOps F) where
   pub length-natural_from : (count : ℕ) (g s : Coordinates F) (a : ℕ) →
@@ -65,7 +65,7 @@ module _ {F : Type 0} (k : FieldOps F) where
   length-natural_from zero g s a = refl
   length-natural_from (suc count) g s a =
       let e : length (natural_from k count g s (suc a)) ≡ count + count =
-          length-natural_from count g s (suc a) in
+      length-natural_from count g s (suc a) in
       ap (λ n. suc (suc n)) e ∙ omega arith
 
   -- the points at places 2 j and 2 j + 1
@@ -75,23 +75,23 @@ module _ {F : Type 0} (k : FieldOps F) where
   natural_from-even (suc count) zero g s a i h e =
       let z : a + 0 ≡ a = omega arith in
       ap (slice_get (natural_from k (suc count) g s a)) e
-          ∙ ap (λ b. Some (plus k s (times k b g))) (sym z)
+      ∙ ap (λ b. Some (plus k s (times k b g))) (sym z)
   natural_from-even (suc count) (suc j) g s a i h e =
       let e2 : suc j + suc j ≡ suc (suc (j + j)) = omega arith in
       let z : suc a + j ≡ a + suc j = omega arith in
       ap (slice_get (natural_from k (suc count) g s a)) (e ∙ e2)
       ∙ natural_from-even count j g s (suc a) (j + j) (omega arith) refl
-          ∙ ap (λ b. Some (plus k s (times k b g))) z
+      ∙ ap (λ b. Some (plus k s (times k b g))) z
 
   pub natural_from-odd : (count j : ℕ) (g s : Coordinates F) (a i : ℕ) → j < count →
       i ≡ suc (j + j) →
       slice_get (natural_from k count g s a) i
-          ≡ Some (plus k (opposite k s) (times k (suc (a + j)) g))
+      ≡ Some (plus k (opposite k s) (times k (suc (a + j)) g))
   natural_from-odd zero j g s a i h e = absurd (omega arith)
   natural_from-odd (suc count) zero g s a i h e =
       let z : a + 0 ≡ a = omega arith in
       ap (slice_get (natural_from k (suc count) g s a)) e
-          ∙ ap (λ b. Some (plus k (opposite k s) (times k (suc b) g))) (sym z)
+      ∙ ap (λ b. Some (plus k (opposite k s) (times k (suc b) g))) (sym z)
   natural_from-odd (suc count) (suc j) g s a i h e =
       let e2 : suc (suc j + suc j) ≡ suc (suc (suc (j + j))) = omega arith in
       let z : suc a + j ≡ a + suc j = omega arith in

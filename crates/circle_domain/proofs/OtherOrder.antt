@@ -20,9 +20,9 @@ other_order-indexed n f =
     let rows = map f (range_with_len 0 (2 ^ n)) in
     let there = λ (i : ℕ). slice_index_or rows (cfft_index n i) [] in
     fill_by_all (λ i. f (cfft_index n i)) (other_order n rows) (2 ^ n) []
-        (length-map-range_with_len there 0 (2 ^ n))
+    (length-map-range_with_len there 0 (2 ^ n))
     (λ i h. get_or-indexed there (2 ^ n) i [] h
-        ∙ get_or-indexed f (2 ^ n) (cfft_index n i) [] (cfft_index-below n i))
+    ∙ get_or-indexed f (2 ^ n) (cfft_index n i) [] (cfft_index-below n i))
 
 pub other_order-twice : {T : Type 0} (n : ℕ) (rows : List (List T)) → length rows ≡ 2 ^ n →
     other_order n (other_order n rows) ≡ rows
@@ -30,5 +30,5 @@ other_order-twice n rows long =
     let there = λ (i : ℕ). slice_index_or rows (cfft_index n i) [] in
     other_order-indexed n there
     ∙ sym
-        (fill_by_all (λ i. there (cfft_index n i)) rows (2 ^ n) [] long
-        (λ i h. ap (λ j. slice_index_or rows j []) (sym (cfft_index-own_inverse n i h))))
+    (fill_by_all (λ i. there (cfft_index n i)) rows (2 ^ n) [] long
+    (λ i h. ap (λ j. slice_index_or rows j []) (sym (cfft_index-own_inverse n i h))))

@@ -65,10 +65,10 @@ place_of-place_in c i h =
     (λ ge.
     let part : part_of c i ≡ 2 * c - 1 - u = choose_ge u (2 * c - 1 - u) u c ge in
     let place : place_in c i ≡ q + q + 1 = ap (λ m. q * 2 + m) (choose_ge 0 1 u c ge)
-        ∙ omega arith in
+    ∙ omega arith in
     place_of-odd c (part_of c i) q (place_in c i) place
-        ∙ ap (λ m. q * (2 * c) + m) (let e : 2 * c - 1 - part_of c i ≡ u =
-        omega (arith, part, b, ge) in e) ∙ whole)
+    ∙ ap (λ m. q * (2 * c) + m) (let e : 2 * c - 1 - part_of c i ≡ u =
+    omega (arith, part, b, ge) in e) ∙ whole)
     (cases_lt u c)
 
 -- a place of a part is in the whole, and tells the part and the place
@@ -79,12 +79,12 @@ place_of-below c j r m h lt =
     (λ even.
     let e = place_of-even c j q r (omega (arith, even)) in
     let fits : q * (2 * c) + 2 * c ≤ m * (2 * c) =
-        row_fits q (2 * c) m (2 * c) (omega arith) (omega arith) in
+    row_fits q (2 * c) m (2 * c) (omega arith) (omega arith) in
     omega (arith, e, fits, h))
     (λ odd.
     let e = place_of-odd c j q r (omega (arith, odd)) in
     let fits : q * (2 * c) + 2 * c ≤ m * (2 * c) =
-        row_fits q (2 * c) m (2 * c) (omega arith) (omega arith) in
+    row_fits q (2 * c) m (2 * c) (omega arith) (omega arith) in
     omega (arith, e, fits, h))
     (cases_eq (r % 2) 0)
 
@@ -95,14 +95,14 @@ part_of-place_of c j r h =
     ⊎_elim
     (λ even.
     let u : i % (2 * c) ≡ j = ap (λ m. m % (2 * c)) (place_of-even c j q r (omega (arith, even)))
-        ∙ mod-mul-add q (2 * c) j (omega (arith, h)) in
+    ∙ mod-mul-add q (2 * c) j (omega (arith, h)) in
     choose_lt (i % (2 * c)) (2 * c - 1 - i % (2 * c)) (i % (2 * c)) c (omega (arith, u, h)) ∙ u)
     (λ odd.
     let u : i % (2 * c) ≡ 2 * c - 1 - j =
-        ap (λ m. m % (2 * c)) (place_of-odd c j q r (omega (arith, odd)))
-        ∙ mod-mul-add q (2 * c) (2 * c - 1 - j) (omega (arith, h)) in
+    ap (λ m. m % (2 * c)) (place_of-odd c j q r (omega (arith, odd)))
+    ∙ mod-mul-add q (2 * c) (2 * c - 1 - j) (omega (arith, h)) in
     choose_ge (i % (2 * c)) (2 * c - 1 - i % (2 * c)) (i % (2 * c)) c (omega (arith, u, h))
-        ∙ omega (arith, u, h))
+    ∙ omega (arith, u, h))
     (cases_eq (r % 2) 0)
 
 pub place_in-place_of : (c j r : ℕ) → j < c → place_in c (place_of c j r) ≡ r
@@ -113,19 +113,19 @@ place_in-place_of c j r h =
     (λ even.
     let e = place_of-even c j q r (omega (arith, even)) in
     let u : i % (2 * c) ≡ j = ap (λ m. m % (2 * c)) e
-        ∙ mod-mul-add q (2 * c) j (omega (arith, h)) in
+    ∙ mod-mul-add q (2 * c) j (omega (arith, h)) in
     let d : i / (2 * c) ≡ q = ap (λ m. m / (2 * c)) e
-        ∙ div-mul-add q (2 * c) j (omega (arith, h)) in
+    ∙ div-mul-add q (2 * c) j (omega (arith, h)) in
     ap (λ m. i / (2 * c) * 2 + m) (choose_lt 0 1 (i % (2 * c)) c (omega (arith, u, h)))
-        ∙ omega (arith, d, even))
+    ∙ omega (arith, d, even))
     (λ odd.
     let e = place_of-odd c j q r (omega (arith, odd)) in
     let u : i % (2 * c) ≡ 2 * c - 1 - j = ap (λ m. m % (2 * c)) e
-        ∙ mod-mul-add q (2 * c) (2 * c - 1 - j) (omega (arith, h)) in
+    ∙ mod-mul-add q (2 * c) (2 * c - 1 - j) (omega (arith, h)) in
     let d : i / (2 * c) ≡ q = ap (λ m. m / (2 * c)) e
-        ∙ div-mul-add q (2 * c) (2 * c - 1 - j) (omega (arith, h)) in
+    ∙ div-mul-add q (2 * c) (2 * c - 1 - j) (omega (arith, h)) in
     ap (λ m. i / (2 * c) * 2 + m) (choose_ge 0 1 (i % (2 * c)) c (omega (arith, u, h)))
-        ∙ omega (arith, d, odd))
+    ∙ omega (arith, d, odd))
     (cases_eq (r % 2) 0)
 
 -- the height of a part, and its places as rows of the whole
@@ -137,5 +137,5 @@ part_height c m height h e =
 pub turn_fits : (c m r : ℕ) → r < m * 2 → (r / 2 + 1) * (2 * c) ≤ m * (2 * c)
 turn_fits c m r h =
     let fits : r / 2 * (2 * c) + 2 * c ≤ m * (2 * c) =
-        row_fits (r / 2) (2 * c) m (2 * c) (omega arith) (omega arith) in
+    row_fits (r / 2) (2 * c) m (2 * c) (omega arith) (omega arith) in
     omega (arith, fits)

@@ -14,10 +14,10 @@ pub log_of_power : (h m : ℕ) → 2 ^ h ≤ 2 ^ m → 2 ^ m < 2 * 2 ^ h → h �
 log_of_power h m low high =
     ⊎_elim
     (λ lt. absurd (let next : 2 ^ suc h ≤ 2 ^ m = pow_within (suc h) m lt in
-        omega (arith, next, pow-suc 2 h)))
+    omega (arith, next, pow-suc 2 h)))
     (λ le. ⊎_elim
     (λ lt. absurd (let next : 2 ^ suc m ≤ 2 ^ h = pow_within (suc m) h lt in
-        omega (arith, next, pow-suc 2 m, pow_pos m)))
+    omega (arith, next, pow-suc 2 m, pow_pos m)))
     (λ ge. omega (arith, le, ge))
     (cases_lt m h))
     (cases_lt h m)
@@ -29,7 +29,7 @@ pub pow_order : (h m : ℕ) → 2 ^ h ≤ 2 ^ m → h ≤ m
 pow_order h m le =
     ⊎_elim
     (λ lt. absurd (let next : 2 ^ suc m ≤ 2 ^ h = pow_within (suc m) h lt in
-        omega (arith, next, pow-suc 2 m, pow_pos m)))
+    omega (arith, next, pow-suc 2 m, pow_pos m)))
     (λ ge. ge)
     (cases_lt m h)
 

@@ -16,7 +16,7 @@ reversed-below zero i = omega arith
 reversed-below (suc n) i =
     let low : reversed n (i / 2) < 2 ^ n = reversed-below n (i / 2) in
     let high : i % 2 * 2 ^ n + 2 ^ n ≤ 2 * 2 ^ n =
-        row_fits (i % 2) (2 ^ n) 2 (2 ^ n) (omega arith) (omega arith) in
+    row_fits (i % 2) (2 ^ n) 2 (2 ^ n) (omega arith) (omega arith) in
     omega (arith, pow-suc 2 n)
 
 -- the first bits in the other order, before the others in theirs
@@ -24,15 +24,15 @@ pub reversed-add : (m n i : ℕ) → reversed (m + n) i ≡ reversed m i * 2 ^ n
 reversed-add zero n i =
     let whole : i ≡ i / 2 ^ zero = omega arith in
     ap (λ k. reversed k i) (let e : zero + n ≡ n = omega arith in e) ∙ ap (reversed n) whole
-        ∙ omega arith
+    ∙ omega arith
 reversed-add (suc m) n i =
     let top : i % 2 * 2 ^ (m + n) ≡ i % 2 * 2 ^ m * 2 ^ n = ap (λ k. i % 2 * k) (pow-add 2 m n)
-        ∙ sym (mul_assoc (i % 2) (2 ^ m) (2 ^ n)) in
+    ∙ sym (mul_assoc (i % 2) (2 ^ m) (2 ^ n)) in
     let rest : i / 2 / 2 ^ m ≡ i / 2 ^ suc m =
-        shr-shr i 1 m ∙ ap (λ k. i / 2 ^ k) (let e : 1 + m ≡ suc m = omega arith in e) in
+    shr-shr i 1 m ∙ ap (λ k. i / 2 ^ k) (let e : 1 + m ≡ suc m = omega arith in e) in
     ap (λ k. reversed k i) (let e : suc m + n ≡ suc (m + n) = omega arith in e)
     ∙ ap (λ k. i % 2 * 2 ^ (m + n) + k)
-        (reversed-add m n (i / 2) ∙ ap (λ k. reversed m (i / 2) * 2 ^ n + reversed n k) rest)
+    (reversed-add m n (i / 2) ∙ ap (λ k. reversed m (i / 2) * 2 ^ n + reversed n k) rest)
     ∙ omega (arith, top, add-mul (i % 2 * 2 ^ m) (reversed m (i / 2)) (2 ^ n))
 
 -- the first bit is the last one read
@@ -52,7 +52,7 @@ reversed-high (suc n) b j =
     let rest : (2 ^ suc n * b + j) / 2 ≡ 2 ^ n * b + j / 2 = omega (arith, double) in
     ap (λ m. m * 2 ^ n + reversed n ((2 ^ suc n * b + j) / 2)) bit
     ∙ ap (λ m. j % 2 * 2 ^ n + reversed n m) rest
-        ∙ ap (λ m. j % 2 * 2 ^ n + m) (reversed-high n b (j / 2))
+    ∙ ap (λ m. j % 2 * 2 ^ n + m) (reversed-high n b (j / 2))
 
 pub reversed-low : (n i : ℕ) → i < 2 ^ n → reversed (suc n) i ≡ reversed n i * 2
 reversed-low n i h =
@@ -62,13 +62,13 @@ reversed-low n i h =
 pub reversed-top : (n j : ℕ) → j < 2 ^ n → reversed (suc n) (2 ^ n + j) ≡ reversed n j * 2 + 1
 reversed-top n j h =
     let one : (2 ^ n + j) / 2 ^ n ≡ 1 =
-        ap (λ m. (m + j) / 2 ^ n) (let e : 2 ^ n ≡ 1 * 2 ^ n = omega arith in e)
-        ∙ shr_high 1 n j h in
+    ap (λ m. (m + j) / 2 ^ n) (let e : 2 ^ n ≡ 1 * 2 ^ n = omega arith in e)
+    ∙ shr_high 1 n j h in
     let low : reversed n (2 ^ n + j) ≡ reversed n j =
     ap (λ m. reversed n (m + j)) (let e : 2 ^ n ≡ 2 ^ n * 1 = omega arith in e)
-        ∙ reversed-high n 1 j in
+    ∙ reversed-high n 1 j in
     reversed-last n (2 ^ n + j) ∙ ap (λ m. reversed n (2 ^ n + j) * 2 + m % 2) one
-        ∙ ap (λ m. m * 2 + 1) low
+    ∙ ap (λ m. m * 2 + 1) low
 
 pub reversed-reversed : (n i : ℕ) → i < 2 ^ n → reversed n (reversed n i) ≡ i
 reversed-reversed zero i h = omega arith
@@ -78,9 +78,9 @@ reversed-reversed (suc n) i h =
     let turned : i % 2 * 2 ^ n ≡ 2 ^ n * (i % 2) = omega arith in
     let high : reversed n (i % 2 * 2 ^ n + reversed n (i / 2)) ≡ i / 2 =
     ap (λ m. reversed n (m + reversed n (i / 2))) turned
-        ∙ reversed-high n (i % 2) (reversed n (i / 2)) ∙ reversed-reversed n (i / 2) half in
+    ∙ reversed-high n (i % 2) (reversed n (i / 2)) ∙ reversed-reversed n (i / 2) half in
     let bit : (i % 2 * 2 ^ n + reversed n (i / 2)) / 2 ^ n ≡ i % 2 =
-        shr_high (i % 2) n (reversed n (i / 2)) low in
+    shr_high (i % 2) n (reversed n (i / 2)) low in
     reversed-last n (i % 2 * 2 ^ n + reversed n (i / 2))
     ∙ ap (λ m. m * 2 + (i % 2 * 2 ^ n + reversed n (i / 2)) / 2 ^ n % 2) high
     ∙ ap (λ m. i / 2 * 2 + m % 2) bit ∙ omega arith
@@ -96,7 +96,7 @@ reversed-complement (suc n) i h =
     let low : reversed n (i / 2) < 2 ^ n = reversed-below n (i / 2) in
     let split : (1 - i % 2) * 2 ^ n + i % 2 * 2 ^ n ≡ 2 ^ n =
     ⊎_elim (λ e. ap (λ m. (1 - m) * 2 ^ n + m * 2 ^ n) e ∙ omega arith)
-        (λ e. ap (λ m. (1 - m) * 2 ^ n + m * 2 ^ n) e ∙ omega arith) (last_bit i) in
+    (λ e. ap (λ m. (1 - m) * 2 ^ n + m * 2 ^ n) e ∙ omega arith) (last_bit i) in
     ap (λ m. m * 2 ^ n + reversed n ((2 ^ suc n - 1 - i) / 2)) bit
     ∙ ap (λ m. (1 - i % 2) * 2 ^ n + reversed n m) rest
     ∙ ap (λ m. (1 - i % 2) * 2 ^ n + m) (reversed-complement n (i / 2) half)
@@ -122,7 +122,7 @@ own_inverse_even : (n i : ℕ) → i < 2 ^ suc n → i % 2 ≡ 0 → cfft_index 
 own_inverse_even n i h e =
     let half : i / 2 < 2 ^ n = omega (arith, pow-suc 2 n) in
     let there : cfft_index (suc n) i ≡ reversed n (i / 2) * 2 = cfft_index-even (suc n) i e
-        ∙ reversed-low n (i / 2) half in
+    ∙ reversed-low n (i / 2) half in
     let middle : reversed n (i / 2) * 2 / 2 ≡ reversed n (i / 2) = omega arith in
     ap (cfft_index (suc n)) there
     ∙ cfft_index-even (suc n) (reversed n (i / 2) * 2) (omega arith)
@@ -141,10 +141,10 @@ own_inverse_odd n i h e =
     let source : 2 ^ suc n - 1 - i / 2 ≡ 2 ^ n + (2 ^ n - 1 - i / 2) = omega (arith, pow) in
     let there : cfft_index (suc n) i ≡ r * 2 + 1 =
     cfft_index-odd (suc n) i e ∙ ap (reversed (suc n)) source
-        ∙ reversed-top n (2 ^ n - 1 - i / 2) (omega arith)
+    ∙ reversed-top n (2 ^ n - 1 - i / 2) (omega arith)
     ∙ ap (λ m. m * 2 + 1) (reversed-complement n (i / 2) half) in
     let back : 2 ^ suc n - 1 - (r * 2 + 1) / 2 ≡ 2 ^ n + reversed n (i / 2) =
-        omega (arith, pow, low) in
+    omega (arith, pow, low) in
     ap (cfft_index (suc n)) there
     ∙ cfft_index-odd (suc n) (r * 2 + 1) (omega arith)
     ∙ ap (reversed (suc n)) back

@@ -14,8 +14,8 @@ module _ {F : Type 0} {k : FieldOps F} (laws : FieldLaws k) {bits : ℕ} {gen : 
     positive,
     λ bad.
         let minus : k.neg k.one ≡ k.one =
-            ap (λ (p : Coordinates F). p.x)
-            (sym gens.half_turn ∙ sym (times-generator laws.ring gens n 1 (omega (arith, below)))
-            ∙ bad) in
+        ap (λ (p : Coordinates F). p.x)
+        (sym gens.half_turn ∙ sym (times-generator laws.ring gens n 1 (omega (arith, below)))
+        ∙ bad) in
         laws.two_nonzero (ap (λ v. k.add v k.one) (sym minus) ∙ laws.ring.neg_add k.one),
   )

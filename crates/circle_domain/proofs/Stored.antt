@@ -25,7 +25,7 @@ module _ {F : Type 0} (k : FieldOps F) (width count : ℕ) (positive : 1 ≤ wid
   pub rows-values : (rows coeffs : List (List F)) (points : List (Coordinates F)) →
       All (λ row. length row ≡ width) rows →
       ((j : ℕ) → j < width → column k.zero rows j ≡ map (value k (column k.zero coeffs j)) points) →
-          rows ≡ map (values_at k coeffs width) points
+      rows ≡ map (values_at k coeffs width) points
   rows-values rows coeffs points wide e =
       rows-by_columns k.zero width (λ j p. value k (column k.zero coeffs j) p) rows points positive
       wide e
@@ -33,7 +33,7 @@ module _ {F : Type 0} (k : FieldOps F) (width count : ℕ) (positive : 1 ≤ wid
   -- the columns of values
   pub column-values : (coeffs : List (List F)) (points : List (Coordinates F)) (j : ℕ) → j < width →
       column k.zero (map (values_at k coeffs width) points) j
-          ≡ map (value k (column k.zero coeffs j)) points
+      ≡ map (value k (column k.zero coeffs j)) points
   column-values coeffs points j h =
       column-made k.zero width j (λ j p. value k (column k.zero coeffs j) p) points h
 

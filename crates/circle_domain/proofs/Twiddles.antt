@@ -22,17 +22,17 @@ copies-last zero xs = sym (append-nil xs)
 copies-last (suc n) xs =
     let e : suc (n + 1) ≡ suc n + 1 = omega arith in
     append_assoc xs (copies n xs) xs ∙ ap (λ rest. xs ++ rest) (copies-last n xs)
-        ∙ ap (λ m. copies m xs) e
+    ∙ ap (λ m. copies m xs) e
 
 pub every_second-more : {T : Type 0} (xs : List T) (i : ℕ) (d : T) → length xs % 2 ≡ 0 →
     i < length xs / 2 →
     every_second (drop (2 * i) xs) ≡ slice_index_or xs (2 * i) d
-        ∷ every_second (drop (2 * (i + 1)) xs)
+    ∷ every_second (drop (2 * (i + 1)) xs)
 every_second-more xs i d even h =
     let e : 2 * (i + 1) ≡ 2 * i + 1 + 1 = omega arith in
     ap every_second (drop_more xs (2 * i) d (omega (arith, even, h))
-        ∙ ap (λ rest. slice_index_or xs (2 * i) d ∷ rest)
-        (drop_more xs (2 * i + 1) d (omega (arith, even, h))))
+    ∙ ap (λ rest. slice_index_or xs (2 * i) d ∷ rest)
+    (drop_more xs (2 * i + 1) d (omega (arith, even, h))))
     ∙ ap (λ n. slice_index_or xs (2 * i) d ∷ every_second (drop n xs)) (sym e)
 
 pub map-map : {A B C : Type 0} (f : B → C) (h : A → B) (xs : List A) → map f (map h xs)
@@ -49,7 +49,7 @@ module _ {F : Type 0} {k : FieldOps F} (laws : RingLaws k) (gen : ℕ → Coordi
       let h = gen (suc m) in
       ap (λ xs. xs ++ coset k gen m (plus k (plus k s g) h)) (coset-moved m s g)
       ∙ ap (λ p. map (λ p. plus k p g) (coset k gen m s) ++ coset k gen m p)
-          (plus_assoc laws s g h ∙ ap (plus k s) (plus_comm laws g h) ∙ sym (plus_assoc laws s h g))
+      (plus_assoc laws s g h ∙ ap (plus k s) (plus_comm laws g h) ∙ sym (plus_assoc laws s h g))
       ∙ ap (λ ys. map (λ p. plus k p g) (coset k gen m s) ++ ys) (coset-moved m (plus k s h) g)
       ∙ sym (map-append (λ p. plus k p g) (coset k gen m s) (coset k gen m (plus k s h)))
 
@@ -86,7 +86,7 @@ module _ {F : Type 0} (k : FieldOps F) (gen : ℕ → Coordinates F) where
       let e : n - (0 + 1) ≡ n - 1 = omega arith in
       let one : 0 + 1 ≡ 1 = omega arith in
       ap (λ a. map (factor k 0) (block_starts k gen a (0 + 1) s)) e
-          ∙ ap (λ m. map (factor k 0) (block_starts k gen (n - 1) m s)) one
+      ∙ ap (λ m. map (factor k 0) (block_starts k gen (n - 1) m s)) one
       ∙ ap (map (factor k 0)) (block_starts-coset (n - 1) s)
 
   -- the second has every second x coordinate
@@ -98,7 +98,7 @@ module _ {F : Type 0} (k : FieldOps F) (gen : ℕ → Coordinates F) where
       ap (λ m. map (factor k 1) (block_starts k gen m (1 + 1) s)) b
       ∙ ap (map (factor k 1)) (sym (every_second-halves 1 (block_starts k gen (n - 2) (1 + 1) s)))
       ∙ ap (λ qs. map (factor k 1) (every_second qs)) (sym (block_starts-halves k gen (n - 2) 1 s)
-          ∙ ap (λ m. block_starts k gen m 1 s) a ∙ block_starts-coset (n - 1) s)
+      ∙ ap (λ m. block_starts k gen m 1 s) a ∙ block_starts-coset (n - 1) s)
 
   -- and each further one the x coordinates of the doubles of every second
   pub next_factors : (n m : ℕ) (s : Coordinates F) → 1 ≤ m → m + 1 < n →
@@ -111,13 +111,13 @@ module _ {F : Type 0} (k : FieldOps F) (gen : ℕ → Coordinates F) where
       let e : n - (m + 1) ≡ suc a = omega arith in
       let one : m + 1 ≡ suc (suc i) = omega arith in
       sym
-          (ap
-          (λ b. map (doubled_x k)
-          (every_second (map (factor k m) (block_starts k gen b (m + 1) s)))) e
+      (ap
+      (λ b. map (doubled_x k)
+      (every_second (map (factor k m) (block_starts k gen b (m + 1) s)))) e
       ∙ ap (λ ps. map (doubled_x k) (every_second (map (factor k m) ps)))
-          (block_starts-halves k gen a (m + 1) s)
+      (block_starts-halves k gen a (m + 1) s)
       ∙ ap (map (doubled_x k)) (every_second-map (factor k m) (halves k gen (m + 1) qs)
-          ∙ ap (map (factor k m)) (every_second-halves (m + 1) qs))
+      ∙ ap (map (factor k m)) (every_second-halves (m + 1) qs))
       ∙ map-map (doubled_x k) (factor k m) qs
       ∙ same qs
       ∙ ap (λ r. map (factor k r) qs) (sym one))
@@ -150,5 +150,5 @@ module _ {V F : Type 0} (items_of : V → List F) (f : ℕ → List F) (all : Li
   pub made-read : (i : ℕ) (v : V) → v ≡ slice_index_or all i v → i < n → items_of v ≡ f i
   made-read i v read below =
       ap items_of read ∙ sym (get_or-map items_of all i v)
-          ∙ ap (λ xs. slice_index_or xs i (items_of v)) made
+      ∙ ap (λ xs. slice_index_or xs i (items_of v)) made
       ∙ get_or-map-range_with_len f 0 n i i (items_of v) below (omega arith)

@@ -48,7 +48,7 @@ module _ {F : Type 0} {k : FieldOps F} (laws : FieldLaws k) where
       let square : k.mul p.y p.y ≡ k.zero =
       combine laws.ring (p.x ∷ p.y ∷ []) (prod y y) (con 0)
       (given unit (sum (prod x x) (prod y y)) unit
-          ∷ given (minus (sum x (minus unit))) x (minus unit) ∷ []) refl (c, (e, tt)) in
+      ∷ given (minus (sum x (minus unit))) x (minus unit) ∷ []) refl (c, (e, tt)) in
       let z : p.y ≡ k.zero = zero_square laws eq law p.y square in
       ap (λ v. at v p.y) e ∙ ap (at (k.neg k.one)) z
 
@@ -79,7 +79,7 @@ module _ {F : Type 0} {k : FieldOps F} (laws : FieldLaws k) where
       ap (λ v. k.mul v v) ex ∙ ring laws.ring [] (prod (minus unit) (minus unit)) unit refl in
       one-not_opposite
       (sym (iterated_x-one n (doubled_x k p.x) (doubled_x-one p.x square))
-          ∙ iterated_x-times laws.ring (suc n) p c ∙ ap (λ (r : Coordinates F). r.x) e)
+      ∙ iterated_x-times laws.ring (suc n) p c ∙ ap (λ (r : Coordinates F). r.x) e)
 
 module _ {F : Type 0} {k : FieldOps F} (laws : RingLaws k) where
   -- multiples of multiples in either order
@@ -96,8 +96,8 @@ module _ {F : Type 0} {k : FieldOps F} (laws : RingLaws k) where
       let o = opposite k s in
       sym (plus_assoc laws o (plus k s s) r)
       ∙ ap (λ q. plus k q r)
-          (sym (plus_assoc laws o s s)
-          ∙ ap (λ q. plus k q s) (plus_comm laws o s ∙ plus-opposite laws s c) ∙ origin-plus laws s)
+      (sym (plus_assoc laws o s s)
+      ∙ ap (λ q. plus k q s) (plus_comm laws o s ∙ plus-opposite laws s c) ∙ origin-plus laws s)
 
   module _ {gen : ℕ → Coordinates F} {bits : ℕ} (gens : AreGenerators k bits gen) (n : ℕ)
       (positive : 1 ≤ n) (fits : n < bits) where
@@ -128,15 +128,15 @@ module _ {F : Type 0} {k : FieldOps F} (laws : RingLaws k) where
         natural_from-even k count j g s 0 i below e
         ∙ ap (λ q. Some (plus k s q))
         (ap (λ m. times k m g) (let z : 0 + j ≡ j = omega arith in z)
-            ∙ ap (times k j) (sym step_twice) ∙ times-double laws j (gen n)
-            ∙ ap (λ m. times k m (gen n)) (sym e)))
+        ∙ ap (times k j) (sym step_twice) ∙ times-double laws j (gen n)
+        ∙ ap (λ m. times k m (gen n)) (sym e)))
         (λ not_even.
         let e : i ≡ suc (j + j) = omega (arith, not_even) in
         let twice : suc (0 + j) + suc (0 + j) ≡ suc i = omega (arith, e) in
         natural_from-odd k count j g s 0 i below e
         ∙ ap (λ q. Some (plus k (opposite k s) q))
         (ap (times k (suc (0 + j))) (sym step_twice) ∙ times-double laws (suc (0 + j)) (gen n)
-            ∙ ap (λ m. times k m (gen n)) twice
+        ∙ ap (λ m. times k m (gen n)) twice
         ∙ ap (λ q. plus k q (times k i (gen n))) (sym shift_twice))
         ∙ ap Some (past_opposite s (times k i (gen n)) shift-on_circle))
         (cases_eq (i % 2) 0)
@@ -151,9 +151,9 @@ module _ {F : Type 0} {k : FieldOps F} (laws : RingLaws k) where
     standard-doublings i =
         times-plus laws (2 ^ n) (gen (n + 1)) (times k i (gen n))
         ∙ ap (λ q. plus k q (times k (2 ^ n) (times k i (gen n))))
-            (times-generator laws gens n 1 (omega arith) ∙ gens.half_turn)
+        (times-generator laws gens n 1 (omega arith) ∙ gens.half_turn)
         ∙ ap (plus k (half_turn k)) (times-times (2 ^ n) i (gen n) ∙ ap (times k i) whole_turn
-            ∙ times-origin laws i)
+        ∙ times-origin laws i)
         ∙ plus-origin laws (half_turn k)
 
     standard-point-on_circle : (i : ℕ) → IsOnCircle k (plus k (gen (n + 1)) (times k i (gen n)))
@@ -167,9 +167,12 @@ module _ {F : Type 0} {k : FieldOps F} (laws : RingLaws k) where
     within : (i : ℕ) (p : Coordinates F) → slice_get (natural_order k gen n (gen (n + 1))) i
         ≡ Some p → i < 2 ^ n
     within i p e =
-        omega (arith, slice_get_within (natural_order k gen n (gen (n + 1))) i p e,
-            length-natural_from k (2 ^ (n - 1)) (gen (n - 1)) (gen (n + 1)) 0,
-            two_halves n positive)
+        omega (
+          arith,
+          slice_get_within (natural_order k gen n (gen (n + 1))) i p e,
+          length-natural_from k (2 ^ (n - 1)) (gen (n - 1)) (gen (n + 1)) 0,
+          two_halves n positive,
+        )
 
     pub standard-at : (i : ℕ) (p : Coordinates F) →
         slice_get (natural_order k gen n (gen (n + 1))) i ≡ Some p →
@@ -180,28 +183,28 @@ module _ {F : Type 0} {k : FieldOps F} (laws : RingLaws k) where
     pub standard-next : (i : ℕ) (p q : Coordinates F) →
         slice_get (natural_order k gen n (gen (n + 1))) i ≡ Some p →
         slice_get (natural_order k gen n (gen (n + 1))) ((i + 1) % 2 ^ n) ≡ Some q →
-            plus k p (gen n) ≡ q
+        plus k p (gen n) ≡ q
     standard-next i p q ep eq =
         let s = gen (n + 1) in
         let g = gen n in
         let lt = within i p ep in
         let step : plus k (plus k s (times k i g)) g ≡ plus k s (times k (suc i) g) =
-            plus_assoc laws s (times k i g) g ∙ ap (plus k s) (plus-times laws i g) in
+        plus_assoc laws s (times k i g) g ∙ ap (plus k s) (plus-times laws i g) in
         let here = standard-at i p ep in
         let there = standard-at ((i + 1) % 2 ^ n) q eq in
         ap (λ r. plus k r g) here ∙ step
         ∙ ⊎_elim
         (λ small.
         let e : (i + 1) % 2 ^ n ≡ suc i = mod-eq_of_lt small
-            ∙ (let o : i + 1 ≡ suc i = omega arith in o) in
+        ∙ (let o : i + 1 ≡ suc i = omega arith in o) in
         ap (λ m. plus k s (times k m g)) (sym e))
         (λ large.
         let last : suc i ≡ 2 ^ n = omega (arith, lt, large) in
         let e : (i + 1) % 2 ^ n ≡ 0 =
-            ap (λ m. m % 2 ^ n) (let o : i + 1 ≡ 2 ^ n = omega (arith, last) in o)
-            ∙ mod_self (2 ^ n) in
+        ap (λ m. m % 2 ^ n) (let o : i + 1 ≡ 2 ^ n = omega (arith, last) in o)
+        ∙ mod_self (2 ^ n) in
         ap (λ m. plus k s (times k m g)) last ∙ ap (plus k s) whole_turn
-            ∙ ap (λ m. plus k s (times k m g)) (sym e))
+        ∙ ap (λ m. plus k s (times k m g)) (sym e))
         (cases_lt (i + 1) (2 ^ n))
         ∙ sym there
 
@@ -218,10 +221,10 @@ module _ {F : Type 0} {k : FieldOps F} (laws : RingLaws k) where
 pub standard-finite : {F : Type 0} {k : FieldOps F} (laws : FieldLaws k) {gen : ℕ → Coordinates F}
     {bits : ℕ} (gens : AreGenerators k bits gen) (n : ℕ) → 1 ≤ n → n < bits →
     (i : ℕ) (p : Coordinates F) → slice_get (natural_order k gen n (gen (n + 1))) i ≡ Some p →
-        p.x ≢ k.neg k.one
+    p.x ≢ k.neg k.one
 standard-finite laws gens n h fits i p e =
     finite_by_doublings laws n p h (standard-on_circle laws.ring gens n h fits i p e)
-        (standard-half_turn laws.ring gens n h fits i p e)
+    (standard-half_turn laws.ring gens n h fits i p e)
 
 module _ {F E : Type 0} {k : FieldOps F} {l : FieldOps E} {m : F → E} (e : IsEmbedding k l m) where
   pub lifted-finite : (p : Coordinates F) → p.x ≢ k.neg k.one → (lifted m p).x ≢ l.neg l.one

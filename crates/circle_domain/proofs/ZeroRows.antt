@@ -31,7 +31,7 @@ module _ {F : Type 0} {k : FieldOps F} (laws : RingLaws k) where
   column-zeros width zero j h = refl
   column-zeros width (suc count) j h =
       ap (λ x. x ∷ column k.zero (replicate count (replicate width k.zero)) j)
-          (get_or-replicate width j k.zero k.zero h)
+      (get_or-replicate width j k.zero k.zero h)
       ∙ ap (λ rest. k.zero ∷ rest) (column-zeros width count j h)
 
   pub values_at-zeros : (width count : ℕ) (coeffs : List (List F)) (p : Coordinates F) →
@@ -39,11 +39,11 @@ module _ {F : Type 0} {k : FieldOps F} (laws : RingLaws k) where
   values_at-zeros width count coeffs p =
       let read = λ (i : ℕ) (row : List F). slice_index_or row i k.zero in
       shifted (λ j. value k (column k.zero (with_zero_rows k.zero width count coeffs) j) p)
-          (λ j. value k (column k.zero coeffs j) p) 0 0 width (λ j h.
+      (λ j. value k (column k.zero coeffs j) p) 0 0 width (λ j h.
       ap (λ c. value k c p)
-          (map-append (read (0 + j)) coeffs (replicate count (replicate width k.zero))
-          ∙ ap (λ c. column k.zero coeffs (0 + j) ++ c)
-          (column-zeros width count (0 + j) (omega arith)))
+      (map-append (read (0 + j)) coeffs (replicate count (replicate width k.zero))
+      ∙ ap (λ c. column k.zero coeffs (0 + j) ++ c)
+      (column-zeros width count (0 + j) (omega arith)))
       ∙ more-zeros (λ i. circle_basis k i p) 0 count (column k.zero coeffs (0 + j)))
 
   map-zeros : (width count : ℕ) (coeffs : List (List F)) (points : List (Coordinates F)) →
@@ -52,7 +52,7 @@ module _ {F : Type 0} {k : FieldOps F} (laws : RingLaws k) where
   map-zeros width count coeffs [] = refl
   map-zeros width count coeffs (p ∷ points) =
       ap (λ x. x ∷ map (values_at k (with_zero_rows k.zero width count coeffs) width) points)
-          (values_at-zeros width count coeffs p)
+      (values_at-zeros width count coeffs p)
       ∙ ap (λ rest. values_at k coeffs width p ∷ rest) (map-zeros width count coeffs points)
 
   zeros-wide : (width count : ℕ) →
@@ -64,7 +64,7 @@ module _ {F : Type 0} {k : FieldOps F} (laws : RingLaws k) where
   pub zeros-values : (gen : ℕ → Coordinates F) (n m : ℕ) (s t : Coordinates F) (width : ℕ)
       (coeffs rows others : List (List F)) → 2 ^ n ≤ 2 ^ m → HasValues k gen n s width coeffs rows →
       others ≡ map (values_at k coeffs width) (cfft_order k gen m t) →
-          HasValues k gen m t width (with_zero_rows k.zero width (2 ^ m - 2 ^ n) coeffs) others
+      HasValues k gen m t width (with_zero_rows k.zero width (2 ^ m - 2 ^ n) coeffs) others
   zeros-values gen n m s t width coeffs rows others le has e =
       let Wide : List F → Type 0 = λ row. length row ≡ width in
       let count = 2 ^ m - 2 ^ n in
@@ -73,6 +73,6 @@ module _ {F : Type 0} {k : FieldOps F} (laws : RingLaws k) where
             ∙ omega (arith, has.height, length-replicate count (replicate width k.zero), le);
         widths = All-from_recursion Wide (with_zero_rows k.zero width count coeffs)
             (all-append Wide coeffs (replicate count (replicate width k.zero))
-                (recursion_from_All Wide coeffs has.widths) (zeros-wide width count));
+            (recursion_from_All Wide coeffs has.widths) (zeros-wide width count));
         values = map-zeros width count coeffs (cfft_order k gen m t) ∙ sym e;
       }

@@ -20,7 +20,7 @@ pub ones-sum : (m n : ℕ) (a b : Mersenne31) → of_nat operations m ≡ a → 
     of_nat operations (m + n) ≡ operations.add a b
 ones-sum m n a b p q =
     ones-+ laws.ring m n ∙ ap (λ x. operations.add x (of_nat operations n)) p
-        ∙ ap (operations.add a) q
+    ∙ ap (operations.add a) q
 
 -- as many ones as five times a number that was folded
 pub ones-five : (n f : ℕ) (a : Mersenne31) → f ≡ n % 2 ^ 31 + n / 2 ^ 31 → of_nat operations n ≡ a →
@@ -29,4 +29,4 @@ ones-five n f a folded known =
     same_residue _ _
     (residue_of_nat (5 * f) ∙ sym (mul-mod_second 5 f order)
     ∙ ap (λ x. (5 * x) % order) (ap (λ m. m % order) folded ∙ folded_bits n ∙ sym (residue_of_nat n)
-        ∙ ap residue known))
+    ∙ ap residue known))

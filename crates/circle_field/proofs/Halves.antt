@@ -26,5 +26,5 @@ module _ {F : Type 0} {k : FieldOps F} (laws : FieldLaws k) where
   doubled_half a x e =
       sym (times_two x) ∙ ap (λ y. k.mul y (two k)) e ∙ mul_assoc a (k.inv (two k)) (two k)
       ∙ ap (k.mul a) (laws.ring.mul_comm (k.inv (two k)) (two k)
-          ∙ laws.mul_inv (two k) laws.two_nonzero)
+      ∙ laws.mul_inv (two k) laws.two_nonzero)
       ∙ mul_one laws.ring a

@@ -15,7 +15,7 @@ module _ {F : Type 0} {k : FieldOps F} (laws : FieldLaws k) where
   pub inverse_unique : (a b : F) → a ≢ k.zero → k.mul b a ≡ k.one → b ≡ k.inv a
   inverse_unique a b h e =
       sym (mul_one laws.ring b) ∙ ap (k.mul b) (sym (laws.mul_inv a h))
-          ∙ sym (mul_assoc b a (k.inv a))
+      ∙ sym (mul_assoc b a (k.inv a))
       ∙ ap (λ x. k.mul x (k.inv a)) e ∙ one_mul (k.inv a)
 
   -- a field has no divisors of 0
@@ -52,7 +52,7 @@ module _ {F : Type 0} {k : FieldOps F} (laws : FieldLaws k) where
   pub last_inverse : (p x u : F) → k.mul u (k.mul p x) ≡ k.one → k.mul p u ≡ k.inv x
   last_inverse p x u e =
       let whole : k.mul (k.mul p u) x ≡ k.one = ap (λ v. k.mul v x) (mul_comm p u) ∙ mul_assoc u p x
-          ∙ e in
+      ∙ e in
       inverse_unique x (k.mul p u) (nonzero_factor x (k.mul p u) whole) whole
 
   pub next_inverse : (p x u : F) → k.mul u (k.mul p x) ≡ k.one → k.mul (k.mul u x) p ≡ k.one

@@ -36,7 +36,7 @@ module _ {F : Type 0} {k : FieldOps F} (laws : RingLaws k) where
       let e : suc (n / 2 + n / 2) ≡ n = omega arith in
       mul_assoc r b (nth_power k (mul b b) (n / 2))
       ∙ ap (λ x. mul r (mul b x)) (nth_power-square b (n / 2)) ∙ ap (λ m. mul r (nth_power k b m)) e
-          ∙ h
+      ∙ h
 
   pub no_more : (r b t : F) (n : ℕ) → mul r (nth_power k b n) ≡ t → n ≡ 0 → r ≡ t
   no_more r b t n h e = sym (mul_one laws r) ∙ ap (λ m. mul r (nth_power k b m)) (sym e) ∙ h

@@ -22,7 +22,7 @@ module _ {F : Type 0} {k : FieldOps F} (laws : FieldLaws k) where
   product-zero : (a b : F) → a ≢ k.zero → k.mul a b ≡ k.zero → b ≡ k.zero
   product-zero a b nonzero e =
       sym (laws.ring.one_mul b)
-          ∙ ap (λ u. k.mul u b) (sym (laws.ring.mul_comm (k.inv a) a ∙ laws.mul_inv a nonzero))
+      ∙ ap (λ u. k.mul u b) (sym (laws.ring.mul_comm (k.inv a) a ∙ laws.mul_inv a nonzero))
       ∙ laws.ring.mul_assoc (k.inv a) a b ∙ ap (k.mul (k.inv a)) e ∙ mul_zero laws.ring (k.inv a)
 
   -- powers of what isn't 0

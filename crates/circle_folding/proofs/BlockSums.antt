@@ -32,7 +32,7 @@ take-blocks n i xs =
 pub block-fits : (n i m count : ℕ) → i < m → count ≡ m * n → i * n + n ≤ count
 block-fits n i m count lt long =
     let below : (i + 1) * n ≤ m * n = let le : i + 1 ≤ m = omega (arith, lt) in
-        mul-le-mul_right n le in
+    mul-le-mul_right n le in
     let next : (i + 1) * n ≡ i * n + n = ap (λ j. j * n) (add-one i) ∙ suc-mul i n in
     omega (arith, below, next, long)
 
@@ -60,27 +60,27 @@ module _ {F : Type 0} {k : FieldOps F} (laws : RingLaws k) where
   pub dot-block : (word vs : List F) (n i : ℕ) (v : F) → i < length vs → v ≡ get_or vs i v →
       length word ≡ length vs * n →
       dot k (take ((i + 1) * n) word) (spread n (take (i + 1) vs))
-          ≡ k.add (dot k (take (i * n) word) (spread n (take i vs)))
-          (k.mul (sum_of k (take n (drop (i * n) word))) v)
+      ≡ k.add (dot k (take (i * n) word) (spread n (take i vs)))
+      (k.mul (sum_of k (take n (drop (i * n) word))) v)
   dot-block word vs n i v lt e long =
       let d = i * n in
       let before = take d word in
       let block = take n (drop d word) in
       let ds = spread n (take i vs) in
       let fits : (i + 1) * n ≤ length vs * n = let le : i + 1 ≤ length vs = omega (arith, lt) in
-          mul-le-mul_right n le in
+      mul-le-mul_right n le in
       let next : (i + 1) * n ≡ d + n = ap (λ m. m * n) (add-one i) ∙ suc-mul i n in
       let whole : d + n ≤ length word = omega (arith, fits, next, long) in
       let low : length before ≡ d = length-take-le d word (omega (arith, whole)) in
       let size : length block ≡ n =
-          length-take-le n (drop d word) (omega (arith, whole, length-drop d word)) in
+      length-take-le n (drop d word) (omega (arith, whole, length-drop d word)) in
       let counted : length ds ≡ d = length-spread n (take i vs)
-          ∙ ap (λ m. m * n) (length-take-le i vs (omega (arith, lt))) in
+      ∙ ap (λ m. m * n) (length-take-le i vs (omega (arith, lt))) in
       ap (λ xs. dot k xs (spread n (take (i + 1) vs))) (take-blocks n i word)
       ∙ ap (dot k (before ++ block)) (ap (spread n) (take_more vs i v lt)
-          ∙ spread-append n (take i vs) (get_or vs i v ∷ [])
-          ∙ ap (λ u. ds ++ (replicate n u ++ [])) (sym e)
-          ∙ ap (λ ys. ds ++ ys) (append-nil (replicate n v)))
+      ∙ spread-append n (take i vs) (get_or vs i v ∷ [])
+      ∙ ap (λ u. ds ++ (replicate n u ++ [])) (sym e)
+      ∙ ap (λ ys. ds ++ ys) (append-nil (replicate n v)))
       ∙ dot-append laws before block ds (replicate n v) (low ∙ sym counted)
       ∙ ap (k.add (dot k before ds)) (dot-replicate block n v size)
 
@@ -107,8 +107,8 @@ module _ {A B C : Type 0} (f : A → B → C) where
   made-spread xs ys n len v vs e fits made =
       let size : length (take len xs) ≡ n = length-take-le len xs fits ∙ e in
       ap (λ b. b ++ pairwise f (drop len xs) (spread n vs))
-          (made ∙ sym (pairwise-replicate (take len xs) n v size))
+      (made ∙ sym (pairwise-replicate (take len xs) n v size))
       ∙ sym
-          (pairwise-append (take len xs) (drop len xs) (replicate n v) (spread n vs)
-          (size ∙ sym (length-replicate n v)))
+      (pairwise-append (take len xs) (drop len xs) (replicate n v) (spread n vs)
+      (size ∙ sym (length-replicate n v)))
       ∙ ap (λ r. pairwise f r (replicate n v ++ spread n vs)) (take-append-drop len xs)

@@ -40,12 +40,12 @@ all-map P Q (x ∷ xs) all f = (f x all.0, all-map P Q xs all.1 f)
 module _ {F E : Type 0} {k : FieldOps F} {l : FieldOps E} {embed : F → E} (laws : FieldLaws l)
     (eq : E → E → Bool) (eq_law : (a b : E) → (eq a b ≡ true) ↔ (a ≡ b))
     (e : IsEmbedding k l embed) {gen : ℕ → Coordinates F} {bits : ℕ}
-        (gens : AreGenerators k bits gen) (h : ℕ) (positive : 1 ≤ h) (fits : h + 1 ≤ bits)
+    (gens : AreGenerators k bits gen) (h : ℕ) (positive : 1 ≤ h) (fits : h + 1 ≤ bits)
     (z : Coordinates E) (on_z : IsOnCircle l z)
-        (apart : IsApart embed (cfft_order k gen h (gen (h + 1))) z) (order : ℕ)
-        (room : suc (suc (suc order)) ≤ h)
+    (apart : IsApart embed (cfft_order k gen h (gen (h + 1))) z) (order : ℕ)
+    (room : suc (suc (suc order)) ≤ h)
     (rows : List (List E)) (width : ℕ) (values : List E) (tall : length rows ≡ 2 ^ h)
-        (wide : All (λ row. length row ≡ width) rows) (claims : length values ≡ width) where
+    (wide : All (λ row. length row ≡ width) rows) (claims : length values ≡ width) where
   abbrev n : ℕ
   n = suc (suc order)
 
@@ -99,9 +99,9 @@ module _ {F E : Type 0} {k : FieldOps F} {l : FieldOps E} {embed : F → E} (law
       let f = λ (r v : E). sub l r v in
       let same_length : length (row_at i) ≡ length values = row-width i lt ∙ sym claims in
       fill_by_all (λ j. entry j i) (differences l (λ r. r) (row_at i) values) width l.zero
-          (length-pairwise f (row_at i) values same_length ∙ row-width i lt)
+      (length-pairwise f (row_at i) values same_length ∙ row-width i lt)
       (λ j within. pairwise-read f (row_at i) values j l.zero l.zero l.zero
-          (omega (arith, within, row-width i lt)) (omega (arith, within, claims)))
+      (omega (arith, within, row-width i lt)) (omega (arith, within, claims)))
 
   quotient-sum : (alpha : E) (i : ℕ) → i < length qs →
       claim_quotient l (λ r. r) alpha (at i) z (row_at i) values
@@ -115,47 +115,47 @@ module _ {F E : Type 0} {k : FieldOps F} {l : FieldOps E} {embed : F → E} (law
       ap (λ w. l.mul (scale w) (dot l (map power (range_with_len 0 w)) ds)) (row-width i lt)
       ∙ ap (λ xs. l.mul (scale width) (dot l (map power js) xs)) (differences-are i lt)
       ∙ ap (l.mul (scale width))
-          (dot-powers laws alpha 0 width (map (λ j. entry j i) js)
-          (length-map-range_with_len (λ j. entry j i) 0 width))
+      (dot-powers laws alpha 0 width (map (λ j. entry j i) js)
+      (length-map-range_with_len (λ j. entry j i) 0 width))
       ∙ ring laws.ring (re i ∷ im i ∷ inverse i ∷ power width ∷ whole ∷ [])
       (prod (prod (sum (var 0) (minus (prod (var 3) (var 1)))) (var 2)) (prod unit (var 4)))
       (sum (prod (prod (var 0) (var 2)) (var 4))
-          (prod (var 3) (prod (minus (prod (var 1) (var 2))) (var 4)))) refl
+      (prod (var 3) (prod (minus (prod (var 1) (var 2))) (var 4)))) refl
       ∙ sym (word_sum-append laws lows highs alpha i
       ∙ ap (λ w. l.add (word_sum l lows alpha i) (l.mul (power w) (word_sum l highs alpha i)))
-          (length-map-range_with_len low 0 width)
+      (length-map-range_with_len low 0 width)
       ∙ ap (λ v. l.add v (l.mul (power width) (word_sum l highs alpha i)))
-          (word_sum-scaled laws (λ i. l.mul (re i) (inverse i)) entry js alpha i)
+      (word_sum-scaled laws (λ i. l.mul (re i) (inverse i)) entry js alpha i)
       ∙ ap (λ v. l.add (l.mul (l.mul (re i) (inverse i)) whole) (l.mul (power width) v))
-          (word_sum-scaled laws (λ i. l.neg (l.mul (im i) (inverse i))) entry js alpha i))
+      (word_sum-scaled laws (λ i. l.neg (l.mul (im i) (inverse i))) entry js alpha i))
 
   -- each coefficient is the values of a polynomial plus a multiple of v_n
   module _ (alphas : List E) (challenges : length alphas ≡ 2 * width)
       (distinct : AreDistinct alphas)
       (all : All
-          (λ alpha. WideSpan k gen l embed n h (row_quotients k gen l embed h alpha z rows values))
-          alphas) where
+      (λ alpha. WideSpan k gen l embed n h (row_quotients k gen l embed h alpha z rows values))
+      alphas) where
     coefficients : AllByRecursion (AreWide l n qs) (lows ++ highs)
     coefficients =
         let counted : length (lows ++ highs) ≡ width + width =
         length-append lows highs
-            ∙ ap (λ w. w + length highs) (length-map-range_with_len low 0 width)
-            ∙ ap (λ w. width + w) (length-map-range_with_len high 0 width) in
+        ∙ ap (λ w. w + length highs) (length-map-range_with_len low 0 width)
+        ∙ ap (λ w. width + w) (length-map-range_with_len high 0 width) in
         let Wide : E → Type 0 =
-            λ alpha. WideSpan k gen l embed n h
-            (row_quotients k gen l embed h alpha z rows values) in
+        λ alpha. WideSpan k gen l embed n h
+        (row_quotients k gen l embed h alpha z rows values) in
         coefficients-are laws (length qs) (AreWide l n qs) (are-combined laws n qs) alphas
-            (lows ++ highs) (omega (arith, challenges, counted)) distinct
+        (lows ++ highs) (omega (arith, challenges, counted)) distinct
         (all-map Wide (λ alpha. AreWide l n qs (word_sum l (lows ++ highs) alpha)) alphas
-            (recursion_from_All Wide alphas all) (λ alpha is. (
+        (recursion_from_All Wide alphas all) (λ alpha is. (
           wide_value l n is.0 is.1,
           wide-is laws n is.0 is.1 (omega arith) is.2.count,
           λ i lt.
               sym
-                  (wide-read laws eq eq_law e gens h positive fits n
-                  (row_quotients k gen l embed h alpha z rows values) is.0 is.1 is.2 i lt)
+              (wide-read laws eq eq_law e gens h positive fits n
+              (row_quotients k gen l embed h alpha z rows values) is.0 is.1 is.2 i lt)
               ∙ quotient-read laws eq eq_law e gens h positive fits z on_z apart alpha rows values i
-                  lt (in_rows i lt) ∙ quotient-sum alpha i lt,
+              lt (in_rows i lt) ∙ quotient-sum alpha i lt,
         )))
 
     low-is : (j : ℕ) → j < width → AreWide l n qs (low j)
@@ -163,14 +163,14 @@ module _ {F E : Type 0} {k : FieldOps F} {l : FieldOps E} {embed : F → E} (law
         let none = λ (i : ℕ). l.zero in
         subst (AreWide l n qs) (get_or-map-range_with_len low 0 width j j none lt (omega arith))
         (all-read (AreWide l n qs) lows none (all-split (AreWide l n qs) lows highs coefficients).0
-            j (omega (arith, lt, length-map-range_with_len low 0 width)))
+        j (omega (arith, lt, length-map-range_with_len low 0 width)))
 
     high-is : (j : ℕ) → j < width → AreWide l n qs (high j)
     high-is j lt =
         let none = λ (i : ℕ). l.zero in
         subst (AreWide l n qs) (get_or-map-range_with_len high 0 width j j none lt (omega arith))
         (all-read (AreWide l n qs) highs none (all-split (AreWide l n qs) lows highs coefficients).1
-            j (omega (arith, lt, length-map-range_with_len high 0 width)))
+        j (omega (arith, lt, length-map-range_with_len high 0 width)))
 
     -- so a column is, and its claimed value is that at z
     pub column-bound : (j : ℕ) → j < width →
@@ -181,43 +181,45 @@ module _ {F E : Type 0} {k : FieldOps F} {l : FieldOps E} {embed : F → E} (law
         let word = column l.zero rows j in
         let less : AreWide l n qs (entry j) =
         are-combined laws n qs l.one l.one (low j) (low j) (entry j) (low-is j lt) (low-is j lt)
-            (λ i within.
+        (λ i within.
         let r : Expr = var 0 in let t : Expr = var 1 in let d : Expr = var 2 in
         combine laws.ring (re i ∷ inverse i ∷ entry j i ∷ []) d
-            (sum (prod unit (prod (prod r t) d)) (prod unit (prod (prod r t) d)))
-        (given (minus d) (prod (sum r r) t) unit ∷ []) refl
-        (laws.mul_inv (l.add (re i) (re i))
-            (off laws eq eq_law e gens h positive fits z on_z apart i within), tt)) in
+        (sum (prod unit (prod (prod r t) d)) (prod unit (prod (prod r t) d)))
+        (given (minus d) (prod (sum r r) t) unit ∷ []) refl (
+          laws.mul_inv (l.add (re i) (re i))
+              (off laws eq eq_law e gens h positive fits z on_z apart i within),
+          tt,
+        )) in
         let f = less.0 in
         let is = less.1 in
         let over : AreWide l n qs (λ i. l.mul (ratio laws z (at i)) (f (at i))) =
         are-combined laws n qs (l.neg l.one) l.zero (high j) (high j)
-            (λ i. l.mul (ratio laws z (at i)) (f (at i))) (high-is j lt) (high-is j lt) (λ i within.
+        (λ i. l.mul (ratio laws z (at i)) (f (at i))) (high-is j lt) (high-is j lt) (λ i within.
         ap (l.mul (ratio laws z (at i))) (less.2 i within)
         ∙ ring laws.ring (im i ∷ inverse i ∷ entry j i ∷ []) (prod (prod (var 0) (var 1)) (var 2))
         (sum (prod (minus unit) (prod (minus (prod (var 0) (var 1))) (var 2)))
-            (prod (con 0) (prod (minus (prod (var 0) (var 1))) (var 2)))) refl) in
+        (prod (con 0) (prod (minus (prod (var 0) (var 1))) (var 2)))) refl) in
         let none : f z ≡ l.zero =
         vanishes laws (lgens laws eq eq_law e gens h positive fits) h
-            (first laws eq eq_law e gens h positive fits)
-            (below laws eq eq_law e gens h positive fits)
+        (first laws eq eq_law e gens h positive fits)
+        (below laws eq eq_law e gens h positive fits)
         (first-on_circle laws eq eq_law e gens h positive fits)
-            (first-genuine laws eq eq_law e gens h positive fits) order room z on_z
+        (first-genuine laws eq eq_law e gens h positive fits) order room z on_z
         (off laws eq eq_law e gens h positive fits z on_z apart) f is over in
         let g = λ (p : Coordinates E). l.add (is.0 p) v in
         let is_g : IsPolynomial l n g =
         same laws n (λ p. l.add (l.mul l.one (is.0 p)) (l.mul l.one v)) g
-            (combined laws n l.one l.one is.0 (λ p. v) is.2 (constant laws n v))
+        (combined laws n l.one l.one is.0 (λ p. v) is.2 (constant laws n v))
         (λ p on. ring laws.ring (is.0 p ∷ v ∷ []) (sum (var 0) (var 1))
-            (sum (prod unit (var 0)) (prod unit (var 1))) refl) in
+        (sum (prod unit (var 0)) (prod unit (var 1))) refl) in
         let c = to_coefficients laws n g is_g in
         let sum_is : (p : Coordinates E) → IsOnCircle l p →
-            wide_value l n c.0 is.1 p ≡ l.add (f p) v = λ p on.
+        wide_value l n c.0 is.1 p ≡ l.add (f p) v = λ p on.
         ap (λ a. l.add a (l.mul is.1 (vanishing l n p))) (c.2 p on)
-            ∙ ap (λ b. l.add (g p) (l.mul is.1 b)) (vanishing-factor laws n p (omega arith))
+        ∙ ap (λ b. l.add (g p) (l.mul is.1 b)) (vanishing-factor laws n p (omega arith))
         ∙ ring laws.ring (is.0 p ∷ v ∷ is.1 ∷ factor l n p ∷ [])
-            (sum (sum (var 0) (var 1)) (prod (var 2) (var 3)))
-            (sum (sum (var 0) (prod (var 2) (var 3))) (var 1)) refl
+        (sum (sum (var 0) (var 1)) (prod (var 2) (var 3)))
+        (sum (sum (var 0) (prod (var 2) (var 3))) (var 1)) refl
         ∙ ap (λ b. l.add b v) (sym (is.3 p on)) in
         let read = λ (row : List E). slice_index_or row j l.zero in
         let sums = wide_value l n c.0 is.1 in
@@ -225,13 +227,13 @@ module _ {F E : Type 0} {k : FieldOps F} {l : FieldOps E} {embed : F → E} (law
           count = c.1;
           values = ap (map sums) (points-are laws eq eq_law e gens h positive fits)
               ∙ ext_get_or l.zero (map sums qs) word
-                  (length-map qs sums ∙ long ∙ sym (length-map rows read ∙ tall)) (λ i below.
+              (length-map qs sums ∙ long ∙ sym (length-map rows read ∙ tall)) (λ i below.
               let within : i < length qs = omega (arith, below, length-map qs sums) in
               get_or-map sums qs i (origin l) l.zero within
               ∙ sum_is (at i) (each-on_circle laws eq eq_law e gens h positive fits i within)
               ∙ ap (λ b. l.add b v) (less.2 i within)
               ∙ ring laws.ring (read (row_at i) ∷ v ∷ [])
-                  (sum (sum (var 0) (minus (var 1))) (var 1)) (var 0) refl
+              (sum (sum (var 0) (minus (var 1))) (var 1)) (var 0) refl
               ∙ sym (get_or-map read rows i [] l.zero (in_rows i within)));
         } in (
           c.0,
@@ -240,13 +242,13 @@ module _ {F E : Type 0} {k : FieldOps F} {l : FieldOps E} {embed : F → E} (law
           sym (sum_is z on_z ∙ ap (λ b. l.add b v) none ∙ laws.ring.zero_add v),
           λ d b has_d.
               wide-only laws (lgens laws eq eq_law e gens h positive fits) h
-                  (first laws eq eq_law e gens h positive fits)
-                  (below laws eq eq_law e gens h positive fits)
+              (first laws eq eq_law e gens h positive fits)
+              (below laws eq eq_law e gens h positive fits)
               (first-on_circle laws eq eq_law e gens h positive fits)
-                  (first-genuine laws eq eq_law e gens h positive fits) n d c.0 b is.1 (omega arith)
-                  room has_d.count c.1
+              (first-genuine laws eq eq_law e gens h positive fits) n d c.0 b is.1 (omega arith)
+              room has_d.count c.1
               (ap (map (wide_value l n d b))
-                  (sym (points-are laws eq eq_law e gens h positive fits)) ∙ has_d.values
-                  ∙ sym has.values
+              (sym (points-are laws eq eq_law e gens h positive fits)) ∙ has_d.values
+              ∙ sym has.values
               ∙ ap (map sums) (points-are laws eq eq_law e gens h positive fits)),
         )

@@ -37,12 +37,12 @@ use Rattle.circle_folding.proofs.Polynomials.{IsPolynomial, IsWide, same, consta
 pub apart-in_order : {F E : Type 0} {k : FieldOps F} (embed : F → E) (laws : RingLaws k)
     {gen : ℕ → Coordinates F} {bits : ℕ} (gens : AreGenerators k bits gen)
     (n : ℕ) (s : Coordinates F) (z : Coordinates E) → 1 ≤ n → n ≤ suc bits →
-        IsApart embed (natural_order k gen n s) z → IsApart embed (cfft_order k gen n s) z
+    IsApart embed (natural_order k gen n s) z → IsApart embed (cfft_order k gen n s) z
 apart-in_order {k = k} embed laws {gen} gens n s z positive fits apart =
     let P = λ (p : Coordinates _). lifted embed p ≢ z in
     All-from_recursion P (cfft_order k gen n s)
-        (subst (AllByRecursion P) (points-cfft_order k gen n s positive)
-        ((natural-all laws gens P n s positive fits).0 apart))
+    (subst (AllByRecursion P) (points-cfft_order k gen n s positive)
+    ((natural-all laws gens P n s positive fits).0 apart))
 
 module _ {E : Type 0} {l : FieldOps E} (laws : FieldLaws l) where
   -- a polynomial and a multiple of v_n
@@ -63,9 +63,9 @@ module _ {E : Type 0} {l : FieldOps E} (laws : FieldLaws l) where
       let is : IsPolynomial l n f =
       same laws n (λ p. l.add (l.mul l.one (value l c p)) (l.mul (l.neg l.one) v)) f
       (combined laws n l.one (l.neg l.one) (value l c) (λ p. v) (of_coefficients laws n c long)
-          (constant laws n v))
+      (constant laws n v))
       (λ p on. ring laws.ring (value l c p ∷ v ∷ []) (sum (var 0) (minus (var 1)))
-          (sum (prod unit (var 0)) (prod (minus unit) (var 1))) refl) in (
+      (sum (prod unit (var 0)) (prod (minus unit) (var 1))) refl) in (
         f,
         l.zero,
         is,
@@ -76,7 +76,7 @@ module _ {E : Type 0} {l : FieldOps E} (laws : FieldLaws l) where
 module _ {F E : Type 0} {k : FieldOps F} {l : FieldOps E} {embed : F → E} (laws : FieldLaws l)
     (eq : E → E → Bool) (eq_law : (a b : E) → (eq a b ≡ true) ↔ (a ≡ b))
     (e : IsEmbedding k l embed) {gen : ℕ → Coordinates F} {bits : ℕ}
-        (gens : AreGenerators k bits gen) (h : ℕ) (positive : 1 ≤ h) (fits : h + 1 ≤ bits) where
+    (gens : AreGenerators k bits gen) (h : ℕ) (positive : 1 ≤ h) (fits : h + 1 ≤ bits) where
   abbrev pub lgen : ℕ → Coordinates E
   lgen i = lifted embed (gen i)
 
@@ -129,8 +129,8 @@ module _ {F E : Type 0} {k : FieldOps F} {l : FieldOps E} {embed : F → E} (law
       slice_index_or word i l.zero ≡ wide_value l n c a (slice_index_or ps i (origin l))
   wide-read n word c a has i lt =
       ap (λ w. slice_index_or w i l.zero)
-          (sym has.values ∙ ap (map (wide_value l n c a)) points-are)
-          ∙ get_or-map (wide_value l n c a) ps i (origin l) l.zero lt
+      (sym has.values ∙ ap (map (wide_value l n c a)) points-are)
+      ∙ get_or-map (wide_value l n c a) ps i (origin l) l.zero lt
 
   module _ (z : Coordinates E) (on_z : IsOnCircle l z)
       (apart : IsApart embed (cfft_order k gen h (gen (h + 1))) z) where
@@ -141,20 +141,20 @@ module _ {F E : Type 0} {k : FieldOps F} {l : FieldOps E} {embed : F → E} (law
         let p = slice_index_or ps i (origin l) in
         let is_z : p ≡ z = real_part-zero laws eq eq_law p z (each-on_circle i lt) on_z twice in
         let within : i < length order =
-            omega (arith, lt, ap length (sym points-are), length-map order (lifted embed)) in
+        omega (arith, lt, ap length (sym points-are), length-map order (lifted embed)) in
         apart i (gen 0) within
         (sym (get_or-map (lifted embed) order i (gen 0) (origin l) within)
-            ∙ ap (λ (qs : List (Coordinates E)). slice_index_or qs i (origin l)) points-are ∙ is_z)
+        ∙ ap (λ (qs : List (Coordinates E)). slice_index_or qs i (origin l)) points-are ∙ is_z)
 
     -- the quotient of a row
     pub quotient-read : (alpha : E) (rows : List (List E)) (values : List E) (i : ℕ) →
         i < length ps → i < length rows →
         slice_index_or (row_quotients k gen l embed h alpha z rows values) i l.zero
-            ≡ claim_quotient l (λ r. r) alpha (slice_index_or ps i (origin l)) z
-            (slice_index_or rows i []) values
+        ≡ claim_quotient l (λ r. r) alpha (slice_index_or ps i (origin l)) z
+        (slice_index_or rows i []) values
     quotient-read alpha rows values i lt within =
         let f = λ (p : Coordinates E) (row : List E). claim_quotient l (λ r. r) alpha p z row
-            values in
+        values in
         ap (λ qs. slice_index_or (pairwise f qs rows) i l.zero) points-are
         ∙ pairwise-read f ps rows i (origin l) [] l.zero lt within
 
@@ -165,7 +165,7 @@ module _ {F E : Type 0} {k : FieldOps F} {l : FieldOps E} {embed : F → E} (law
       pub word-bound : (alpha v : E) (word : List E) → alpha ≢ l.zero →
           Span k gen l embed n h (gen (h + 1)) word →
           WideSpan k gen l embed n h (word_quotients k gen l embed h alpha z word v) →
-              IsValueOfOnly k gen l embed n h word z v
+          IsValueOfOnly k gen l embed n h word z v
       word-bound alpha v word nonzero span wide =
           let c = span.0 in
           let has = span.1 in
@@ -176,40 +176,44 @@ module _ {F E : Type 0} {k : FieldOps F} {l : FieldOps E} {embed : F → E} (law
           let im = λ (p : Coordinates E). imaginary_part l (λ r. r) p z in
           let positive_n : 1 ≤ n = omega arith in
           let quotients : AreWide l n ps
-              (λ i. l.mul
-              (l.mul (sub l (re (at i)) (l.mul alpha (im (at i))))
-              (l.inv (l.add (re (at i)) (re (at i))))) (f (at i))) = (
+          (λ i. l.mul
+          (l.mul (sub l (re (at i)) (l.mul alpha (im (at i))))
+          (l.inv (l.add (re (at i)) (re (at i))))) (f (at i))) = (
             wide_value l n wide.0 wide.1,
             wide-is laws n wide.0 wide.1 positive_n wide.2.count,
             λ i lt.
                 let in_word : i < length word =
-                    omega (arith, lt, ap length (values-are n word c has),
-                    length-map ps (value l c)) in
+                omega (
+                  arith,
+                  lt,
+                  ap length (values-are n word c has),
+                  length-map ps (value l c),
+                ) in
                 let in_rows : i < length rows =
-                    omega (arith, in_word, length-map word (λ w. w ∷ [])) in
+                omega (arith, in_word, length-map word (λ w. w ∷ [])) in
                 sym
-                    (wide-read n (word_quotients k gen l embed h alpha z word v) wide.0 wide.1
-                    wide.2 i lt)
+                (wide-read n (word_quotients k gen l embed h alpha z word v) wide.0 wide.1
+                wide.2 i lt)
                 ∙ quotient-read alpha rows (v ∷ []) i lt in_rows
                 ∙ ap (λ row. claim_quotient l (λ r. r) alpha (at i) z row (v ∷ []))
-                    (get_or-map (λ w. w ∷ []) word i l.zero [] in_word
-                    ∙ ap (λ w. w ∷ []) (values-read n word c has i lt))
+                (get_or-map (λ w. w ∷ []) word i l.zero [] in_word
+                ∙ ap (λ w. w ∷ []) (values-read n word c has i lt))
                 ∙ ring laws.ring
-                    (re (at i) ∷ im (at i) ∷ alpha ∷ l.inv (l.add (re (at i)) (re (at i)))
-                    ∷ value l c (at i) ∷ v ∷ [])
+                (re (at i) ∷ im (at i) ∷ alpha ∷ l.inv (l.add (re (at i)) (re (at i)))
+                ∷ value l c (at i) ∷ v ∷ [])
                 (prod (prod (sum (var 0) (minus (prod (prod (var 2) unit) (var 1)))) (var 3))
-                    (sum (prod unit (sum (var 4) (minus (var 5)))) (con 0)))
+                (sum (prod unit (sum (var 4) (minus (var 5)))) (con 0)))
                 (prod (prod (sum (var 0) (minus (prod (var 2) (var 1)))) (var 3))
-                    (sum (var 4) (minus (var 5)))) refl,
+                (sum (var 4) (minus (var 5)))) refl,
           ) in
           let none : f z ≡ l.zero =
           vanishes-by laws lgens h first below first-on_circle first-genuine j room z on_z off alpha
-              f nonzero (less-is laws n c v has.count) quotients in (
+          f nonzero (less-is laws n c v has.count) quotients in (
             c,
             has,
             sym (neg_zero_cancel laws.ring (value l c z) v none),
             λ d has_d.
                 values-only laws lgens h first below first-on_circle first-genuine d c n
-                    (omega (arith, room)) has_d.count has.count
+                (omega (arith, room)) has_d.count has.count
                 (values-are n word d has_d ∙ sym (values-are n word c has)),
           )

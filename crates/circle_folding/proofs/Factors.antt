@@ -28,8 +28,13 @@ module _ {F : Type 0} (k : FieldOps F) (gen : ℕ → Coordinates F) where
   length-point_factors zero q = refl
   length-point_factors (suc m) q =
       let q' = plus k q (gen (suc m)) in
-      omega (arith, length-append (point_factors m q) (point_factors m q'),
-          length-point_factors m q, length-point_factors m q', pow-suc 2 m)
+      omega (
+        arith,
+        length-append (point_factors m q) (point_factors m q'),
+        length-point_factors m q,
+        length-point_factors m q',
+        pow-suc 2 m,
+      )
 
   coset-first : (m : ℕ) (q d : Coordinates F) → slice_index_or (coset k gen m q) 0 d ≡ q
   coset-first zero q d = refl
@@ -56,24 +61,24 @@ module _ {F : Type 0} (k : FieldOps F) (gen : ℕ → Coordinates F) where
       let a = map x (coset k gen m q) in
       let b = map x (coset k gen m q') in
       let both : map x (coset k gen (suc m) q) ≡ a ++ b =
-          map-append x (coset k gen m q) (coset k gen m q') in
+      map-append x (coset k gen m q) (coset k gen m q') in
       let long : length a ≡ 2 ^ m = length-map (coset k gen m q) x ∙ length-coset k gen m q in
       let head : slice_index_or (map x (coset k gen (suc m) q)) 0 k.zero ≡ q.x =
-          first-x (coset k gen (suc m) q) q k.zero (coset-first (suc m) q q)
-          (length-coset k gen (suc m) q) (pow_pos (suc m)) in
+      first-x (coset k gen (suc m) q) q k.zero (coset-first (suc m) q q)
+      (length-coset k gen (suc m) q) (pow_pos (suc m)) in
       ap
-          (λ v. iterated_x k m v
-          ∷ (block_factors k m (take (2 ^ m) (map x (coset k gen (suc m) q)))
-          ++ block_factors k m (drop (2 ^ m) (map x (coset k gen (suc m) q))))) head
+      (λ v. iterated_x k m v
+      ∷ (block_factors k m (take (2 ^ m) (map x (coset k gen (suc m) q)))
+      ++ block_factors k m (drop (2 ^ m) (map x (coset k gen (suc m) q))))) head
       ∙ ap
-          (λ xs. iterated_x k m q.x
-          ∷ (block_factors k m (take (2 ^ m) xs) ++ block_factors k m (drop (2 ^ m) xs))) both
+      (λ xs. iterated_x k m q.x
+      ∷ (block_factors k m (take (2 ^ m) xs) ++ block_factors k m (drop (2 ^ m) xs))) both
       ∙ ap
-          (λ xs. iterated_x k m q.x
-          ∷ (block_factors k m xs ++ block_factors k m (drop (2 ^ m) (a ++ b))))
-          (take_at a b (2 ^ m) long)
+      (λ xs. iterated_x k m q.x
+      ∷ (block_factors k m xs ++ block_factors k m (drop (2 ^ m) (a ++ b))))
+      (take_at a b (2 ^ m) long)
       ∙ ap (λ xs. iterated_x k m q.x ∷ (block_factors k m a ++ block_factors k m xs))
-          (drop_at a b (2 ^ m) long)
+      (drop_at a b (2 ^ m) long)
       ∙ ap (λ xs. iterated_x k m q.x ∷ (xs ++ block_factors k m b)) (block_factors-coset m q)
       ∙ ap (λ xs. iterated_x k m q.x ∷ (point_factors m q ++ xs)) (block_factors-coset m q')
 
@@ -83,7 +88,7 @@ module _ {F : Type 0} (k : FieldOps F) (gen : ℕ → Coordinates F) where
   points-opposites m q =
       let e : suc m - 1 ≡ m = omega arith in
       points-cfft_order k gen (suc m) q (omega arith)
-          ∙ ap (λ n. with_opposites k (coset k gen n q)) e
+      ∙ ap (λ n. with_opposites k (coset k gen n q)) e
 
   from-opposites : (P : Coordinates F → Type 0) (ps : List (Coordinates F)) →
       AllByRecursion P (with_opposites k ps) → AllByRecursion P ps
@@ -115,6 +120,6 @@ module _ {F : Type 0} {k : FieldOps F} (laws : FieldLaws k) {gen : ℕ → Coord
         all-append (λ t. t ≢ k.zero) (point_factors k gen m q) (point_factors k gen m q')
             (point_factors-nonzero m q (omega arith) c (first-genuine laws (suc m) q h))
             (point_factors-nonzero m q' (omega arith)
-                (second_half-on_circle laws.ring gens (suc m) q fits c)
-                (second-genuine laws gens (suc m) q fits c h)),
+            (second_half-on_circle laws.ring gens (suc m) q fits c)
+            (second-genuine laws gens (suc m) q fits c h)),
       )

@@ -42,18 +42,18 @@ module _ {F E : Type 0} {k : FieldOps F} {l : FieldOps E} {embed : F → E} (bas
       let a = x_value l es (embed p.x) in
       let b = x_value l os (embed p.x) in
       ap (λ w. w ∷ v (opposite k p) ∷ map v (with_opposites k ps))
-          (value-in_turn laws.ring es os (lifted embed p) same)
+      (value-in_turn laws.ring es os (lifted embed p) same)
       ∙ ap (λ w. l.add a (l.mul b (embed p.y)) ∷ w ∷ map v (with_opposites k ps))
       (value-in_turn laws.ring es os (lifted embed (opposite k p)) same
-          ∙ ap (λ y. l.add a (l.mul b y)) (e.neg p.y))
+      ∙ ap (λ y. l.add a (l.mul b y)) (e.neg p.y))
       ∙ ap (λ ws. l.add a (l.mul b (embed p.y)) ∷ l.add a (l.mul b (l.neg (embed p.y))) ∷ ws)
-          (opposite-sides es os ps same)
+      (opposite-sides es os ps same)
 
   -- and at points and those half a turn on
   turned-sides : (es os : List E) (ps : List (Coordinates F)) → length es ≡ length os →
       map (λ p. x_value l (in_turn es os) (embed p.x)) (halves k gen 1 ps)
       ≡ sides l (λ p. x_value l es (doubled_x l (embed p.x)))
-          (λ p. x_value l os (doubled_x l (embed p.x))) (λ p. embed p.x) ps
+      (λ p. x_value l os (doubled_x l (embed p.x))) (λ p. embed p.x) ps
   turned-sides es os [] same = refl
   turned-sides es os (p ∷ ps) same =
       let v = λ (x : E). x_value l (in_turn es os) x in
@@ -64,22 +64,22 @@ module _ {F E : Type 0} {k : FieldOps F} {l : FieldOps E} {embed : F → E} (bas
       let turned : embed q.x ≡ l.neg x =
       ap (λ (g : Coordinates F). embed (plus k p g).x) gens.half_turn
       ∙ ap embed
-          (ring base.ring (p.x ∷ p.y ∷ [])
-          (sum (prod (var 0) (minus unit)) (minus (prod (var 1) (con 0)))) (minus (var 0)) refl)
-          ∙ e.neg p.x in
+      (ring base.ring (p.x ∷ p.y ∷ [])
+      (sum (prod (var 0) (minus unit)) (minus (prod (var 1) (con 0)))) (minus (var 0)) refl)
+      ∙ e.neg p.x in
       let same_double : doubled_x l (l.neg x) ≡ doubled_x l x =
       ring laws.ring (x ∷ [])
-          (sum (sum (prod (minus (var 0)) (minus (var 0))) (prod (minus (var 0)) (minus (var 0))))
-          (minus unit)) (sum (sum (prod (var 0) (var 0)) (prod (var 0) (var 0))) (minus unit))
-          refl in
+      (sum (sum (prod (minus (var 0)) (minus (var 0))) (prod (minus (var 0)) (minus (var 0))))
+      (minus unit)) (sum (sum (prod (var 0) (var 0)) (prod (var 0) (var 0))) (minus unit))
+      refl in
       let others = map (λ (p : Coordinates F). v (embed p.x)) (halves k gen 1 ps) in
       ap (λ w. w ∷ v (embed q.x) ∷ others) (x_value-in_turn laws.ring es os x same)
       ∙ ap (λ y. l.add (a x) (l.mul (b x) x) ∷ v y ∷ others) turned
       ∙ ap (λ w. l.add (a x) (l.mul (b x) x) ∷ w ∷ others)
       (x_value-in_turn laws.ring es os (l.neg x) same
-          ∙ ap (λ y. l.add (x_value l es y) (l.mul (x_value l os y) (l.neg x))) same_double)
+      ∙ ap (λ y. l.add (x_value l es y) (l.mul (x_value l os y) (l.neg x))) same_double)
       ∙ ap (λ ws. l.add (a x) (l.mul (b x) x) ∷ l.add (a x) (l.mul (b x) (l.neg x)) ∷ ws)
-          (turned-sides es os ps same)
+      (turned-sides es os ps same)
 
   nonzero-lifted : {X : Type 0} (f : X → F) (xs : List X) → All (λ t. t ≢ k.zero) (map f xs) →
       AllByRecursion (λ x. embed (f x) ≢ l.zero) xs
@@ -124,7 +124,7 @@ module _ {F E : Type 0} {k : FieldOps F} {l : FieldOps E} {embed : F → E} (bas
           let same : length es ≡ length os = turns.even_long ∙ sym turns.odd_long in
           let are = sym has.values ∙ ap (map (λ p. value l c (lifted embed p))) y-order
           ∙ ap (λ c. map (λ p. value l c (lifted embed p)) (with_opposites k ps)) (sym turns.whole)
-              ∙ opposite-sides es os ps same in
+          ∙ opposite-sides es os ps same in
           let d = combination l l.one beta es os in (
             d,
             record {
@@ -132,7 +132,7 @@ module _ {F E : Type 0} {k : FieldOps F} {l : FieldOps E} {embed : F → E} (bas
                   ∙ turns.even_long;
               values = sym (is_folded ∙ ap (λ ts. folds l beta ts rows) y_twiddles
                   ∙ polynomial-folds laws (λ p. embed p.x) (λ p. embed p.y) ps rows y-nonzero wide
-                      y-tall beta es os same are);
+                  y-tall beta es os same are);
             },
           )
 
@@ -147,12 +147,12 @@ module _ {F E : Type 0} {k : FieldOps F} {l : FieldOps E} {embed : F → E} (bas
           let es = even_told laws at t ps rows y-nonzero wide y-tall beta gamma ds gs other same in
           let os = odd_told laws at t ps rows y-nonzero wide y-tall beta gamma ds gs other same in
           let even_long : length es ≡ length ds =
-              length-even_told laws at t ps rows y-nonzero wide y-tall beta gamma ds gs other
-              same in
+          length-even_told laws at t ps rows y-nonzero wide y-tall beta gamma ds gs other
+          same in
           let odd_long : length os ≡ length ds =
-              length-odd_told laws at t ps rows y-nonzero wide y-tall beta gamma ds gs other same in
+          length-odd_told laws at t ps rows y-nonzero wide y-tall beta gamma ds gs other same in
           let told = polynomial-told laws at t ps rows y-nonzero wide y-tall beta gamma ds gs other
-              same
+          same
           (ap (λ ts. folds l beta ts rows) (sym y_twiddles) ∙ sym is_folded ∙ sym first.1.values)
           (ap (λ ts. folds l gamma ts rows) (sym y_twiddles) ∙ sym second.1.values) in (
             in_turn es os,
@@ -173,7 +173,7 @@ module _ {F E : Type 0} {k : FieldOps F} {l : FieldOps E} {embed : F → E} (bas
       x-starts =
           let less : m + 2 - (1 + 1) ≡ m = omega arith in
           sym (x_factors k gen m) ∙ ap (λ i. map (λ p. p.x) (block_starts k gen i 2 (gen (m + 3))))
-              less
+          less
 
       x_twiddles : map embed (fold_x_twiddles k gen m) ≡ map (λ p. embed p.x) starts
       x_twiddles = ap (map embed) x-starts ∙ map-map embed (λ p. p.x) starts
@@ -191,9 +191,9 @@ module _ {F E : Type 0} {k : FieldOps F} {l : FieldOps E} {embed : F → E} (bas
           let next : m + 1 ≡ suc m = omega arith in
           let order : m + 1 + 2 ≡ m + 3 = omega arith in
           ap (λ i. coset k gen i (gen (m + 1 + 2))) next
-              ∙ ap (λ i. coset k gen (suc m) (gen i)) order
+          ∙ ap (λ i. coset k gen (suc m) (gen i)) order
           ∙ sym (block_starts-coset k gen (suc m) (gen (m + 3)))
-              ∙ block_starts-halves k gen m 1 (gen (m + 3))
+          ∙ block_starts-halves k gen m 1 (gen (m + 3))
 
       -- the doubles of the first points of pairs
       x-doubles : (g : E → E) → map (λ p. g (doubled_x l (embed p.x))) starts
@@ -202,15 +202,15 @@ module _ {F E : Type 0} {k : FieldOps F} {l : FieldOps E} {embed : F → E} (bas
           let s = gen (m + 3) in
           let next : m + 3 ≡ suc (m + 2) = omega arith in
           let double : plus k s s ≡ gen (m + 2) = ap (λ i. plus k (gen i) (gen i)) next
-              ∙ gens.doubled (m + 2) (omega (arith, fits)) in
+          ∙ gens.doubled (m + 2) (omega (arith, fits)) in
           map-same (λ p. g (doubled_x l (embed p.x))) (λ p. g (embed (plus k p p).x)) (IsOnCircle k)
-              starts
+          starts
           (starts-on_circle base.ring gens m 2 s (omega (arith, fits))
-              (gens.on_circle (m + 3) fits))
+          (gens.on_circle (m + 3) fits))
           (λ p c. ap g (sym (lifted-doubled_x e p.x) ∙ ap embed (doubled_x-plus base.ring p c)))
           ∙ sym (map-map (λ p. g (embed p.x)) (λ p. plus k p p) starts)
           ∙ ap (map (λ p. g (embed p.x))) (starts-doubled base.ring gens m 0 s (omega (arith, fits))
-              ∙ block_starts-coset k gen m (plus k s s) ∙ ap (coset k gen m) double)
+          ∙ block_starts-coset k gen m (plus k s s) ∙ ap (coset k gen m) double)
 
       pub x-halves : (folded : List E) → folded ≡ x_folds k gen l embed m beta rows →
           HalvesXSpan k gen l embed m rows folded
@@ -223,7 +223,7 @@ module _ {F E : Type 0} {k : FieldOps F} {l : FieldOps E} {embed : F → E} (bas
           let same : length es ≡ length os = turns.even_long ∙ sym turns.odd_long in
           let are = sym has.values ∙ ap (map (λ p. x_value l c (embed p.x))) x-order
           ∙ ap (λ c. map (λ p. x_value l c (embed p.x)) (halves k gen 1 starts)) (sym turns.whole)
-              ∙ turned-sides es os starts same in
+          ∙ turned-sides es os starts same in
           let d = combination l l.one beta es os in (
             d,
             record {
@@ -231,7 +231,7 @@ module _ {F E : Type 0} {k : FieldOps F} {l : FieldOps E} {embed : F → E} (bas
                   ∙ turns.even_long;
               values = sym (is_folded ∙ ap (λ ts. folds l beta ts rows) x_twiddles
                   ∙ polynomial-folds laws (λ p. doubled_x l (embed p.x)) (λ p. embed p.x) starts
-                      rows x-nonzero wide x-tall beta es os same are ∙ x-doubles (x_value l d));
+                  rows x-nonzero wide x-tall beta es os same are ∙ x-doubles (x_value l d));
             },
           )
 
@@ -244,21 +244,21 @@ module _ {F E : Type 0} {k : FieldOps F} {l : FieldOps E} {embed : F → E} (bas
           let at = λ (p : Coordinates F). doubled_x l (embed p.x) in
           let t = λ (p : Coordinates F). embed p.x in
           let es = even_told laws at t starts rows x-nonzero wide x-tall beta gamma ds gs other
-              same in
+          same in
           let os = odd_told laws at t starts rows x-nonzero wide x-tall beta gamma ds gs other
-              same in
+          same in
           let even_long : length es ≡ length ds =
-              length-even_told laws at t starts rows x-nonzero wide x-tall beta gamma ds gs other
-              same in
+          length-even_told laws at t starts rows x-nonzero wide x-tall beta gamma ds gs other
+          same in
           let odd_long : length os ≡ length ds =
-              length-odd_told laws at t starts rows x-nonzero wide x-tall beta gamma ds gs other
-              same in
+          length-odd_told laws at t starts rows x-nonzero wide x-tall beta gamma ds gs other
+          same in
           let told = polynomial-told laws at t starts rows x-nonzero wide x-tall beta gamma ds gs
-              other same
+          other same
           (ap (λ ts. folds l beta ts rows) (sym x_twiddles) ∙ sym is_folded ∙ sym first.1.values
-              ∙ sym (x-doubles (x_value l ds)))
+          ∙ sym (x-doubles (x_value l ds)))
           (ap (λ ts. folds l gamma ts rows) (sym x_twiddles) ∙ sym second.1.values
-              ∙ sym (x-doubles (x_value l gs))) in (
+          ∙ sym (x-doubles (x_value l gs))) in (
             in_turn es os,
             record {
               count = length-in_turn es os (even_long ∙ sym odd_long)

@@ -20,25 +20,25 @@ module _ {E : Type 0} {l : FieldOps E} (laws : FieldLaws l) where
   twice_inverse t i e =
       let half = l.inv (two l) in
       inverse_unique laws (l.add t t) (l.mul half i)
-          (twice-nonzero laws t (nonzero_factor laws t i e))
+      (twice-nonzero laws t (nonzero_factor laws t i e))
       (ring laws.ring (half ∷ i ∷ t ∷ []) (prod (prod (var 0) (var 1)) (sum (var 2) (var 2)))
-          (prod (sum (var 0) (var 0)) (prod (var 1) (var 2))) refl
+      (prod (sum (var 0) (var 0)) (prod (var 1) (var 2))) refl
       ∙ ap (l.mul (l.add half half)) e ∙ mul_one laws.ring (l.add half half)
-          ∙ doubled_half laws l.one half (sym (laws.ring.one_mul half)))
+      ∙ doubled_half laws l.one half (sym (laws.ring.one_mul half)))
 
   -- (a + b + beta * (i * (a - b))) / 2 is the fold by t, where i times t is 1
   pub fold-halved : (a b beta t i : E) → l.mul i t ≡ l.one →
       l.mul (l.add (l.add a b) (l.mul beta (l.mul i (sub l a b)))) (l.inv (two l))
-          ≡ fold l a b t beta
+      ≡ fold l a b t beta
   fold-halved a b beta t i e =
       let half = l.inv (two l) in
       ring laws.ring (a ∷ b ∷ beta ∷ i ∷ half ∷ [])
       (prod (sum (sum (var 0) (var 1)) (prod (var 2) (prod (var 3) (sum (var 0) (minus (var 1))))))
-          (var 4))
+      (var 4))
       (sum (prod (sum (var 0) (var 1)) (var 4))
-          (prod (prod (var 2) (sum (var 0) (minus (var 1)))) (prod (var 4) (var 3)))) refl
+      (prod (prod (var 2) (sum (var 0) (minus (var 1)))) (prod (var 4) (var 3)))) refl
       ∙ ap (λ r. l.add (l.mul (l.add a b) half) (l.mul (l.mul beta (sub l a b)) r))
-          (twice_inverse t i e)
+      (twice_inverse t i e)
 
 -- a row of two entries
 pub by-entries : {E : Type 0} (l : FieldOps E) (beta t : E) (row : List E) (a b : E) →
@@ -59,10 +59,10 @@ two-entries l beta t row a b two ea eb = by-entries l beta t row a b two
 pub folds-of : {F E X : Type 0} (l : FieldOps E) (beta : E) (m : F → E) (rows : List (List E))
     (twiddles : ℕ → List F) (ts : List F) (r height : ℕ) (result : Result (Vec E Global) X) →
     ts ≡ twiddles r → ((n : ℕ) → height ≡ 2 ^ n → r ≡ n) →
-        IfOk result (λ made. made.items ≡ folds l beta (map m ts) rows) →
+    IfOk result (λ made. made.items ≡ folds l beta (map m ts) rows) →
     IfOk result (λ made. (n : ℕ) → height ≡ 2 ^ n →
-        made.items ≡ folds l beta (map m (twiddles n)) rows)
+    made.items ≡ folds l beta (map m (twiddles n)) rows)
 folds-of l beta m rows twiddles ts r height result are only =
     IfOk-weaker result _ _
-        (λ made e n tall. e
-        ∙ ap (λ us. folds l beta (map m us) rows) (are ∙ ap twiddles (only n tall)))
+    (λ made e n tall. e
+    ∙ ap (λ us. folds l beta (map m us) rows) (are ∙ ap twiddles (only n tall)))

@@ -36,22 +36,22 @@ module _ {F : Type 0} {k : FieldOps F} (laws : RingLaws k) where
 
   sum-with_zeros : (i j : ℕ) (p : Coordinates F) (cs : List F) → i ≡ 2 * j →
       weighted_sum k (λ n. circle_basis k n p) i (with_zeros k cs)
-          ≡ weighted_sum k (λ n. x_basis k n p.x) j cs
+      ≡ weighted_sum k (λ n. x_basis k n p.x) j cs
   sum-with_zeros i j p [] e = refl
   sum-with_zeros i j p (c ∷ cs) e =
       let next : suc (suc i) ≡ 2 * suc j = omega (arith, e) in
       ap
-          (λ v. k.add (k.mul c v)
-          (k.add (k.mul k.zero (circle_basis k (suc i) p))
-          (weighted_sum k (λ n. circle_basis k n p) (suc (suc i)) (with_zeros k cs))))
-          (even-basis i j p e)
+      (λ v. k.add (k.mul c v)
+      (k.add (k.mul k.zero (circle_basis k (suc i) p))
+      (weighted_sum k (λ n. circle_basis k n p) (suc (suc i)) (with_zeros k cs))))
+      (even-basis i j p e)
       ∙ ap
-          (λ v. k.add (k.mul c (x_basis k j p.x))
-          (k.add v (weighted_sum k (λ n. circle_basis k n p) (suc (suc i)) (with_zeros k cs))))
-          (zero_mul laws (circle_basis k (suc i) p))
+      (λ v. k.add (k.mul c (x_basis k j p.x))
+      (k.add v (weighted_sum k (λ n. circle_basis k n p) (suc (suc i)) (with_zeros k cs))))
+      (zero_mul laws (circle_basis k (suc i) p))
       ∙ ap (k.add (k.mul c (x_basis k j p.x)))
-          (laws.zero_add (weighted_sum k (λ n. circle_basis k n p) (suc (suc i)) (with_zeros k cs))
-          ∙ sum-with_zeros (suc (suc i)) (suc j) p cs next)
+      (laws.zero_add (weighted_sum k (λ n. circle_basis k n p) (suc (suc i)) (with_zeros k cs))
+      ∙ sum-with_zeros (suc (suc i)) (suc j) p cs next)
 
   -- a polynomial in x on the circle
   pub value-with_zeros : (cs : List F) (p : Coordinates F) → value k (with_zeros k cs) p
@@ -64,13 +64,13 @@ module _ {F : Type 0} {k : FieldOps F} (laws : RingLaws k) where
   x_value-halves m lo hi x e h =
       let p = at x k.zero in
       let long : length (with_zeros k lo) ≡ 2 ^ suc m =
-          omega (arith, length-with_zeros k lo, e, pow-suc 2 m) in
+      omega (arith, length-with_zeros k lo, e, pow-suc 2 m) in
       let short : length (with_zeros k hi) ≤ 2 ^ suc m =
-          omega (arith, length-with_zeros k hi, h, pow-suc 2 m) in
+      omega (arith, length-with_zeros k hi, h, pow-suc 2 m) in
       sym (value-with_zeros (lo ++ hi) p) ∙ ap (λ c. value k c p) (with_zeros-append k lo hi)
       ∙ value-halves laws (suc m) (with_zeros k lo) (with_zeros k hi) p long short
       ∙ ap (λ v. k.add v (k.mul (value k (with_zeros k hi) p) (iterated_x k m x)))
-          (value-with_zeros lo p)
+      (value-with_zeros lo p)
       ∙ ap (λ v. k.add (x_value k lo x) (k.mul v (iterated_x k m x))) (value-with_zeros hi p)
 
   -- of one coefficient

@@ -19,10 +19,15 @@ module _ {F E : Type 0} (l : FieldOps E) (embed : F → E) where
       let a = multiples l embed m (take (h - 1) is) (take h ws) in
       let b = multiples l embed m (drop (h - 1) is) (drop h ws) in
       let la : length a ≡ h =
-          length-multiples m (take (h - 1) is) (take h ws) (first-long h (2 ^ suc m) ws e d) in
+      length-multiples m (take (h - 1) is) (take h ws) (first-long h (2 ^ suc m) ws e d) in
       let lb : length b ≡ h =
-          length-multiples m (drop (h - 1) is) (drop h ws)
-          (omega (arith, length-drop h ws, e, d)) in
+      length-multiples m (drop (h - 1) is) (drop h ws)
+      (omega (arith, length-drop h ws, e, d)) in
       length-append (pairwise l.add a b) (pairwise (λ x y. l.mul (embed i) (sub l x y)) a b)
-      ∙ omega (arith, length-pairwise l.add a b (la ∙ sym lb),
-          length-pairwise (λ x y. l.mul (embed i) (sub l x y)) a b (la ∙ sym lb), la, d)
+      ∙ omega (
+        arith,
+        length-pairwise l.add a b (la ∙ sym lb),
+        length-pairwise (λ x y. l.mul (embed i) (sub l x y)) a b (la ∙ sym lb),
+        la,
+        d,
+      )

@@ -95,10 +95,10 @@ module _ {E : Type 0} {l : FieldOps E} (laws : FieldLaws l) where
   value-wide n c a p positive e =
       let f = λ (j : ℕ). circle_basis l j p in
       let long : length (a ∷ replicate (2 ^ n - 1) l.zero) ≤ 2 ^ n =
-          omega (arith, length-replicate (2 ^ n - 1) l.zero, pow_pos n) in
+      omega (arith, length-replicate (2 ^ n - 1) l.zero, pow_pos n) in
       value-halves laws.ring n c (a ∷ replicate (2 ^ n - 1) l.zero) p e long
       ∙ ap (λ v. l.add (value l c p) (l.mul (l.add (l.mul a (f 0)) v) (factor l n p)))
-          (zeros-sum f 1 (2 ^ n - 1))
+      (zeros-sum f 1 (2 ^ n - 1))
       ∙ ap (λ v. l.add (value l c p) (l.mul v (factor l n p))) (one-value a p)
       ∙ ap (λ v. l.add (value l c p) (l.mul a v)) (sym (vanishing-factor n p positive))
 
@@ -110,7 +110,7 @@ module _ {E : Type 0} {l : FieldOps E} (laws : FieldLaws l) where
         all-append (IsOnCircle l) (points l gen m q) (points l gen m (second_half l gen m q))
         (points-on_circle m q (omega arith) on)
         (points-on_circle m (second_half l gen m q) (omega arith)
-            (second_half-on_circle laws.ring gens m q (omega arith) on))
+        (second_half-on_circle laws.ring gens m q (omega arith) on))
 
     module _ (m : ℕ) (q : Coordinates E) (fits : m ≤ suc bits) (on : IsOnCircle l q)
         (genuine : times l (2 ^ m) q ≢ origin l) where
@@ -122,7 +122,7 @@ module _ {E : Type 0} {l : FieldOps E} (laws : FieldLaws l) where
       coefficients-only c d long_c long_d e =
           finish-injective laws gens m q c d long_c long_d fits on genuine
           (finish-value laws.ring gens m q c long_c fits on ∙ e
-              ∙ sym (finish-value laws.ring gens m q d long_d fits on))
+          ∙ sym (finish-value laws.ring gens m q d long_d fits on))
 
       -- two polynomials with the same values there have the same values everywhere
       pub polynomials-only : (f g : Coordinates E → E) → IsPolynomial l m f → IsPolynomial l m g →
@@ -134,7 +134,7 @@ module _ {E : Type 0} {l : FieldOps E} (laws : FieldLaws l) where
           let equal : c.0 ≡ d.0 =
           coefficients-only c.0 d.0 c.1 d.1
           (map-same (value l c.0) f (IsOnCircle l) ps all (λ p on. c.2 p on) ∙ e
-              ∙ sym (map-same (value l d.0) g (IsOnCircle l) ps all (λ p on. d.2 p on))) in
+          ∙ sym (map-same (value l d.0) g (IsOnCircle l) ps all (λ p on. d.2 p on))) in
           sym (c.2 z on_z) ∙ ap (λ c. value l c z) equal ∙ d.2 z on_z
 
       -- and fewer coefficients are the same
@@ -145,15 +145,15 @@ module _ {E : Type 0} {l : FieldOps E} (laws : FieldLaws l) where
           let within : 2 ^ n ≤ 2 ^ m = pow_within n m le in
           let long : (c : List E) → length c ≡ 2 ^ n → length (c ++ zeros) ≡ 2 ^ m =
           λ c is. length-append c zeros
-              ∙ omega (arith, is, length-replicate (2 ^ m - 2 ^ n) l.zero, within) in
+          ∙ omega (arith, is, length-replicate (2 ^ m - 2 ^ n) l.zero, within) in
           let padded : (c : List E) → map (value l (c ++ zeros)) ps ≡ map (value l c) ps =
           λ c. map-same (value l (c ++ zeros)) (value l c) (IsOnCircle l) ps
-              (points-on_circle m q fits on)
-              (λ p on. more-zeros (λ j. circle_basis l j p) 0 (2 ^ m - 2 ^ n) c) in
+          (points-on_circle m q fits on)
+          (λ p on. more-zeros (λ j. circle_basis l j p) 0 (2 ^ m - 2 ^ n) c) in
           sym (take_at c zeros (2 ^ n) long_c)
           ∙ ap (take (2 ^ n))
-              (coefficients-only (c ++ zeros) (d ++ zeros) (long c long_c) (long d long_d)
-              (padded c ∙ e ∙ sym (padded d)))
+          (coefficients-only (c ++ zeros) (d ++ zeros) (long c long_c) (long d long_d)
+          (padded c ∙ e ∙ sym (padded d)))
           ∙ take_at d zeros (2 ^ n) long_d
 
       pub wide-only : (n : ℕ) (c d : List E) (a b : E) → 1 ≤ n → suc n ≤ m → length c ≡ 2 ^ n →
@@ -162,16 +162,16 @@ module _ {E : Type 0} {l : FieldOps E} (laws : FieldLaws l) where
       wide-only n c d a b positive le long_c long_d e =
           let rest = replicate (2 ^ n - 1) l.zero in
           let listed : (c : List E) (a : E) → length c ≡ 2 ^ n →
-              map (value l (wide_list n c a)) ps ≡ map (wide_value l n c a) ps =
+          map (value l (wide_list n c a)) ps ≡ map (wide_value l n c a) ps =
           λ c a is. map-same (value l (wide_list n c a)) (wide_value l n c a) (IsOnCircle l) ps
-              (points-on_circle m q fits on) (λ p on. value-wide n c a p positive is) in
+          (points-on_circle m q fits on) (λ p on. value-wide n c a p positive is) in
           let equal : wide_list n c a ≡ wide_list n d b =
           values-only (wide_list n c a) (wide_list n d b) (suc n) le (length-wide n c a long_c)
-              (length-wide n d b long_d)
+          (length-wide n d b long_d)
           (listed c a long_c ∙ e ∙ sym (listed d b long_d)) in
           let high : a ∷ rest ≡ b ∷ rest =
           sym (drop_at c (a ∷ rest) (2 ^ n) long_c) ∙ ap (drop (2 ^ n)) equal
-              ∙ drop_at d (b ∷ rest) (2 ^ n) long_d in (
+          ∙ drop_at d (b ∷ rest) (2 ^ n) long_d in (
             sym (take_at c (a ∷ rest) (2 ^ n) long_c) ∙ ap (take (2 ^ n)) equal
                 ∙ take_at d (b ∷ rest) (2 ^ n) long_d,
             ap (λ xs. slice_index_or xs 0 l.zero) high,

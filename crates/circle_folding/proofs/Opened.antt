@@ -11,7 +11,7 @@ module _ {T : Type 0} (values : List (Vec (Vec T Global) Global)) (i matrix : �
   opened : slice_index_or (opened_rows values) i [] ≡ map (λ row. row.items) rows.items
   opened =
       let entries : Vec (Vec T Global) Global → List (List T) =
-          λ rows. map (λ row. row.items) rows.items in
+      λ rows. map (λ row. row.items) rows.items in
       get_or-map entries values i rows [] within ∙ ap entries (sym at)
 
   pub opened-count : length (slice_index_or (opened_rows values) i []) ≡ length rows.items
@@ -23,4 +23,4 @@ module _ {T : Type 0} (values : List (Vec (Vec T Global) Global)) (i matrix : �
   opened-row row lt here =
       let items : Vec T Global → List T = λ row. row.items in
       ap items here ∙ sym (get_or-map items rows.items matrix row [] lt)
-          ∙ ap (λ all. slice_index_or all matrix []) (sym opened)
+      ∙ ap (λ all. slice_index_or all matrix []) (sym opened)

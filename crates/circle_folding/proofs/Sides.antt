@@ -72,7 +72,7 @@ module _ {F : Type 0} {k : FieldOps F} (laws : RingLaws k) where
       ((n : ℕ) → f (suc (2 * n)) ≡ k.mul (h n) t) →
       (i j : ℕ) (es os : List F) → i ≡ 2 * j → length es ≡ length os →
       weighted_sum k f i (in_turn es os)
-          ≡ k.add (weighted_sum k h j es) (k.mul (weighted_sum k h j os) t)
+      ≡ k.add (weighted_sum k h j es) (k.mul (weighted_sum k h j os) t)
   weighted-in_turn f h t even odd i j [] [] e s =
       ring laws (t ∷ []) (con 0) (sum (con 0) (prod (con 0) (var 0))) refl
   weighted-in_turn f h t even odd i j [] (b ∷ os) e s = absurd (omega (arith, s))
@@ -86,12 +86,12 @@ module _ {F : Type 0} {k : FieldOps F} (laws : RingLaws k) where
       ∙ ap (λ y. k.add (k.mul a y) (k.add (k.mul b (f (suc (2 * j)))) rest)) (even j)
       ∙ ap (λ y. k.add (k.mul a (h j)) (k.add (k.mul b y) rest)) (odd j)
       ∙ ap (λ w. k.add (k.mul a (h j)) (k.add (k.mul b (k.mul (h j) t)) w))
-          (weighted-in_turn f h t even odd (suc (suc i)) (suc j) es os next (omega (arith, s)))
+      (weighted-in_turn f h t even odd (suc (suc i)) (suc j) es os next (omega (arith, s)))
       ∙ ring laws (a ∷ b ∷ h j ∷ t ∷ u ∷ v ∷ [])
       (sum (prod (var 0) (var 2))
-          (sum (prod (var 1) (prod (var 2) (var 3))) (sum (var 4) (prod (var 5) (var 3)))))
+      (sum (prod (var 1) (prod (var 2) (var 3))) (sum (var 4) (prod (var 5) (var 3)))))
       (sum (sum (prod (var 0) (var 2)) (var 4)) (prod (sum (prod (var 1) (var 2)) (var 5)) (var 3)))
-          refl
+      refl
 
   -- on the circle the coefficients at odd places count y times
   pub value-in_turn : (es os : List F) (p : Coordinates F) → length es ≡ length os →
@@ -101,51 +101,51 @@ module _ {F : Type 0} {k : FieldOps F} (laws : RingLaws k) where
       let half : 2 * n / 2 ≡ n = omega arith in
       let bit : 2 * n % 2 ≡ 0 = omega arith in
       ap (λ i. k.mul (x_basis k i p.x) (bit_factor k (2 * n % 2) p.y)) half
-          ∙ ap (λ i. k.mul (x_basis k n p.x) (bit_factor k i p.y)) bit
-          ∙ mul_one laws (x_basis k n p.x) in
+      ∙ ap (λ i. k.mul (x_basis k n p.x) (bit_factor k i p.y)) bit
+      ∙ mul_one laws (x_basis k n p.x) in
       let odd : (n : ℕ) → circle_basis k (suc (2 * n)) p ≡ k.mul (x_basis k n p.x) p.y = λ n.
       let half : suc (2 * n) / 2 ≡ n = omega arith in
       let bit : suc (2 * n) % 2 ≡ 1 = omega arith in
       ap (λ i. k.mul (x_basis k i p.x) (bit_factor k (suc (2 * n) % 2) p.y)) half
-          ∙ ap (λ i. k.mul (x_basis k n p.x) (bit_factor k i p.y)) bit in
+      ∙ ap (λ i. k.mul (x_basis k n p.x) (bit_factor k i p.y)) bit in
       weighted-in_turn (λ j. circle_basis k j p) (λ j. x_basis k j p.x) p.y even odd 0 0 es os refl
-          same
+      same
 
   -- and for a polynomial in x they count x times, at the double's x coordinate
   pub x_value-in_turn : (es os : List F) (x : F) → length es ≡ length os →
       x_value k (in_turn es os) x
-          ≡ k.add (x_value k es (doubled_x k x)) (k.mul (x_value k os (doubled_x k x)) x)
+      ≡ k.add (x_value k es (doubled_x k x)) (k.mul (x_value k os (doubled_x k x)) x)
   x_value-in_turn es os x same =
       let even : (n : ℕ) → x_basis k (2 * n) x ≡ x_basis k n (doubled_x k x) = λ n.
       let e : 2 * n ≡ 2 * n + 0 = omega arith in
       ap (λ i. x_basis k i x) e ∙ x_basis-doubled laws n 0 x (omega arith)
-          ∙ mul_one laws (x_basis k n (doubled_x k x)) in
+      ∙ mul_one laws (x_basis k n (doubled_x k x)) in
       let odd : (n : ℕ) → x_basis k (suc (2 * n)) x ≡ k.mul (x_basis k n (doubled_x k x)) x = λ n.
       let e : suc (2 * n) ≡ 2 * n + 1 = omega arith in
       ap (λ i. x_basis k i x) e ∙ x_basis-doubled laws n 1 x (omega arith) in
       weighted-in_turn (λ j. x_basis k j x) (λ j. x_basis k j (doubled_x k x)) x even odd 0 0 es os
-          refl same
+      refl same
 
   weighted-combination : (f : ℕ → F) (r s : F) (j : ℕ) (xs ys : List F) → length xs ≡ length ys →
       weighted_sum k f j (combination k r s xs ys)
-          ≡ k.add (k.mul r (weighted_sum k f j xs)) (k.mul s (weighted_sum k f j ys))
+      ≡ k.add (k.mul r (weighted_sum k f j xs)) (k.mul s (weighted_sum k f j ys))
   weighted-combination f r s j [] [] e =
       ring laws (r ∷ s ∷ []) (con 0) (sum (prod (var 0) (con 0)) (prod (var 1) (con 0))) refl
   weighted-combination f r s j [] (y ∷ ys) e = absurd (omega (arith, e))
   weighted-combination f r s j (x ∷ xs) [] e = absurd (omega (arith, e))
   weighted-combination f r s j (x ∷ xs) (y ∷ ys) e =
       ap (k.add (k.mul (k.add (k.mul r x) (k.mul s y)) (f j)))
-          (weighted-combination f r s (suc j) xs ys (omega (arith, e)))
+      (weighted-combination f r s (suc j) xs ys (omega (arith, e)))
       ∙ ring laws (r ∷ s ∷ x ∷ y ∷ f j ∷ weighted_sum k f (suc j) xs ∷ weighted_sum k f (suc j) ys
-          ∷ [])
+      ∷ [])
       (sum (prod (sum (prod (var 0) (var 2)) (prod (var 1) (var 3))) (var 4))
-          (sum (prod (var 0) (var 5)) (prod (var 1) (var 6))))
+      (sum (prod (var 0) (var 5)) (prod (var 1) (var 6))))
       (sum (prod (var 0) (sum (prod (var 2) (var 4)) (var 5)))
-          (prod (var 1) (sum (prod (var 3) (var 4)) (var 6)))) refl
+      (prod (var 1) (sum (prod (var 3) (var 4)) (var 6)))) refl
 
   pub x_value-combination : (r s : F) (xs ys : List F) (x : F) → length xs ≡ length ys →
       x_value k (combination k r s xs ys) x
-          ≡ k.add (k.mul r (x_value k xs x)) (k.mul s (x_value k ys x))
+      ≡ k.add (k.mul r (x_value k xs x)) (k.mul s (x_value k ys x))
   x_value-combination r s xs ys x e = weighted-combination (λ j. x_basis k j x) r s 0 xs ys e
 
 module _ {E : Type 0} {l : FieldOps E} (laws : FieldLaws l) where
@@ -154,17 +154,18 @@ module _ {E : Type 0} {l : FieldOps E} (laws : FieldLaws l) where
       fold l (l.add a (l.mul b t)) (l.add a (l.mul b (l.neg t))) t beta ≡ l.add a (l.mul b beta)
   fold-sides a b t beta nonzero =
       let a' : Expr = var 0 in let b' : Expr = var 1 in let t' : Expr = var 2 in let beta' : Expr =
-          var 3 in
+      var 3 in
       let half : Expr = var 4 in let inverse : Expr = var 5 in
       let high : Expr = sum a' (prod b' t') in
       let low : Expr = sum a' (prod b' (minus t')) in
       combine laws.ring (a ∷ b ∷ t ∷ beta ∷ l.inv (two l) ∷ l.inv (l.add t t) ∷ [])
       (sum (prod (sum high low) half) (prod (prod beta' (sum high (minus low))) inverse))
-          (sum a' (prod b' beta'))
+      (sum a' (prod b' beta'))
       (given a' (prod (sum unit unit) half) unit ∷ given (prod b' beta') (prod (sum t' t') inverse)
-          unit ∷ []) refl
-      (laws.mul_inv (two l) laws.two_nonzero,
-          (laws.mul_inv (l.add t t) (twice-nonzero laws t nonzero), tt))
+      unit ∷ []) refl (
+        laws.mul_inv (two l) laws.two_nonzero,
+        (laws.mul_inv (l.add t t) (twice-nonzero laws t nonzero), tt),
+      )
 
   -- and nothing else folds so by two challenges
   sides-told : (a b u v t beta gamma : E) → t ≢ l.zero → gamma ≢ beta →
@@ -176,14 +177,14 @@ module _ {E : Type 0} {l : FieldOps E} (laws : FieldLaws l) where
       let d = l.inv (sub l beta gamma) in
       let halves : l.mul (two l) i ≡ l.one = laws.mul_inv (two l) laws.two_nonzero in
       let twice : l.mul (l.add t t) j ≡ l.one =
-          laws.mul_inv (l.add t t) (twice-nonzero laws t nonzero) in
+      laws.mul_inv (l.add t t) (twice-nonzero laws t nonzero) in
       let apart : l.mul (sub l beta gamma) d ≡ l.one =
-          laws.mul_inv (sub l beta gamma)
-          (λ none. other (sym (neg_zero_cancel laws.ring beta gamma none))) in
+      laws.mul_inv (sub l beta gamma)
+      (λ none. other (sym (neg_zero_cancel laws.ring beta gamma none))) in
       let a' : Expr = var 0 in let b' : Expr = var 1 in let u' : Expr = var 2 in let v' : Expr =
-          var 3 in let t' : Expr = var 4 in
+      var 3 in let t' : Expr = var 4 in
       let beta' : Expr = var 5 in let gamma' : Expr = var 6 in let i' : Expr = var 7 in
-          let j' : Expr = var 8 in let d' : Expr = var 9 in
+      let j' : Expr = var 8 in let d' : Expr = var 9 in
       let env : List E = a ∷ b ∷ u ∷ v ∷ t ∷ beta ∷ gamma ∷ i ∷ j ∷ d ∷ [] in
       let mean : Expr = prod (sum u' v') i' in
       let slope : Expr = prod (sum u' (minus v')) j' in
@@ -191,23 +192,23 @@ module _ {E : Type 0} {l : FieldOps E} (laws : FieldLaws l) where
       let is_b : l.mul (sub l u v) j ≡ b =
       combine laws.ring env slope b'
       (given d' (folded beta') (sum a' (prod b' beta'))
-          ∷ given (minus d') (folded gamma') (sum a' (prod b' gamma'))
+      ∷ given (minus d') (folded gamma') (sum a' (prod b' gamma'))
       ∷ given (minus (sum slope (minus b'))) (prod (sum beta' (minus gamma')) d') unit ∷ []) refl
-          (first, (second, (apart, tt))) in
+      (first, (second, (apart, tt))) in
       let is_a : l.mul (l.add u v) i ≡ a =
       combine laws.ring env mean a' (given unit (folded beta') (sum a' (prod b' beta'))
-          ∷ given (minus beta') slope b' ∷ []) refl (first, (is_b, tt)) in
+      ∷ given (minus beta') slope b' ∷ []) refl (first, (is_b, tt)) in
       let spread : Expr = prod (sum u' (minus v')) (prod j' t') in (
         combine laws.ring env u' (sum a' (prod b' t'))
             (given unit mean a' ∷ given t' slope b'
-                ∷ given (sum (minus u') spread) (prod (sum unit unit) i') unit
+            ∷ given (sum (minus u') spread) (prod (sum unit unit) i') unit
             ∷ given (minus (prod (sum u' (minus v')) i')) (prod (sum t' t') j') unit ∷ []) refl
-                (is_a, (is_b, (halves, (twice, tt)))),
+            (is_a, (is_b, (halves, (twice, tt)))),
         combine laws.ring env v' (sum a' (prod b' (minus t')))
             (given unit mean a' ∷ given (minus t') slope b'
-                ∷ given (sum (minus v') (minus spread)) (prod (sum unit unit) i') unit
+            ∷ given (sum (minus v') (minus spread)) (prod (sum unit unit) i') unit
             ∷ given (prod (sum u' (minus v')) i') (prod (sum t' t') j') unit ∷ []) refl
-                (is_a, (is_b, (halves, (twice, tt)))),
+            (is_a, (is_b, (halves, (twice, tt)))),
       )
 
   module _ {X : Type 0} (a b t : X → E) where
@@ -215,7 +216,7 @@ module _ {E : Type 0} {l : FieldOps E} (laws : FieldLaws l) where
         AllByRecursion (λ x. t x ≢ l.zero) xs → All (λ row. length row ≡ 2) rows →
         length rows ≡ length xs →
         flat_map (λ row. row) rows ≡ sides l a b t xs → folds l beta (map t xs) rows
-            ≡ map (λ x. l.add (a x) (l.mul (b x) beta)) xs
+        ≡ map (λ x. l.add (a x) (l.mul (b x) beta)) xs
     folds-sides beta [] rows nonzero wide same e = refl
     folds-sides beta (x ∷ xs) [] nonzero wide same e = absurd (omega (arith, same))
     folds-sides beta (x ∷ xs) ([] ∷ rows) nonzero wide same e =
@@ -229,12 +230,12 @@ module _ {E : Type 0} {l : FieldOps E} (laws : FieldLaws l) where
         let low : v ≡ l.add (a x) (l.mul (b x) (l.neg (t x))) = cc in
         let others : flat_map (λ row. row) rows ≡ sides l a b t xs = cc in
         let rest =
-            folds-sides beta xs rows nonzero.1
-            (All-tail (λ row. length row ≡ 2) (u ∷ v ∷ []) rows wide) (omega (arith, same))
-            others in
+        folds-sides beta xs rows nonzero.1
+        (All-tail (λ row. length row ≡ 2) (u ∷ v ∷ []) rows wide) (omega (arith, same))
+        others in
         ap (λ p. fold l p v (t x) beta ∷ folds l beta (map t xs) rows) high
         ∙ ap (λ p. fold l (l.add (a x) (l.mul (b x) (t x))) p (t x) beta
-            ∷ folds l beta (map t xs) rows) low
+        ∷ folds l beta (map t xs) rows) low
         ∙ ap (λ p. p ∷ folds l beta (map t xs) rows) (fold-sides (a x) (b x) (t x) beta nonzero.0)
         ∙ ap (λ ps. l.add (a x) (l.mul (b x) beta) ∷ ps) rest
 
@@ -242,7 +243,7 @@ module _ {E : Type 0} {l : FieldOps E} (laws : FieldLaws l) where
         AllByRecursion (λ x. t x ≢ l.zero) xs → All (λ row. length row ≡ 2) rows →
         length rows ≡ length xs →
         folds l beta (map t xs) rows ≡ map (λ x. l.add (a x) (l.mul (b x) beta)) xs →
-            folds l gamma (map t xs) rows ≡ map (λ x. l.add (a x) (l.mul (b x) gamma)) xs →
+        folds l gamma (map t xs) rows ≡ map (λ x. l.add (a x) (l.mul (b x) gamma)) xs →
         flat_map (λ row. row) rows ≡ sides l a b t xs
     rows-told beta gamma [] [] other nonzero wide same first second = refl
     rows-told beta gamma [] (row ∷ rows) other nonzero wide same first second =
@@ -259,16 +260,16 @@ module _ {E : Type 0} {l : FieldOps E} (laws : FieldLaws l) where
         let by_beta : fold l u v (t x) beta ≡ l.add (a x) (l.mul (b x) beta) = cc in
         let by_gamma : fold l u v (t x) gamma ≡ l.add (a x) (l.mul (b x) gamma) = cc in
         let rest_beta : folds l beta (map t xs) rows ≡ map (λ x. l.add (a x) (l.mul (b x) beta))
-            xs = cc in
+        xs = cc in
         let rest_gamma : folds l gamma (map t xs) rows ≡ map (λ x. l.add (a x) (l.mul (b x) gamma))
-            xs = cc in
+        xs = cc in
         let told = sides-told (a x) (b x) u v (t x) beta gamma nonzero.0 other by_beta by_gamma in
         ap (λ p. p ∷ v ∷ flat_map (λ row. row) rows) told.0
         ∙ ap (λ p. l.add (a x) (l.mul (b x) (t x)) ∷ p ∷ flat_map (λ row. row) rows) told.1
         ∙ ap (λ ps. l.add (a x) (l.mul (b x) (t x)) ∷ l.add (a x) (l.mul (b x) (l.neg (t x))) ∷ ps)
         (rows-told beta gamma xs rows other nonzero.1
-            (All-tail (λ row. length row ≡ 2) (u ∷ v ∷ []) rows wide) (omega (arith, same))
-            rest_beta rest_gamma)
+        (All-tail (λ row. length row ≡ 2) (u ∷ v ∷ []) rows wide) (omega (arith, same))
+        rest_beta rest_gamma)
 
   -- rows of two entries as the two sides of polynomials in x
   module _ {X : Type 0} (at t : X → E) (xs : List X) (rows : List (List E))
@@ -281,67 +282,69 @@ module _ {E : Type 0} {l : FieldOps E} (laws : FieldLaws l) where
 
     pub polynomial-folds : (beta : E) (es os : List E) → length es ≡ length os → AreSides es os →
         folds l beta (map t xs) rows ≡ map (λ x. x_value l (combination l l.one beta es os) (at x))
-            xs
+        xs
     polynomial-folds beta es os same are =
         folds-sides (λ x. x_value l es (at x)) (λ x. x_value l os (at x)) t beta xs rows nonzero
-            wide tall are
+        wide tall are
         ∙ ap (λ f. map f xs)
-            (fun_ext (λ x. sym (x_value-combination laws.ring l.one beta es os (at x) same
+        (fun_ext (λ x. sym (x_value-combination laws.ring l.one beta es os (at x) same
         ∙ ring laws.ring (x_value l es (at x) ∷ x_value l os (at x) ∷ beta ∷ [])
-            (sum (prod unit (var 0)) (prod (var 2) (var 1))) (sum (var 0) (prod (var 1) (var 2)))
-            refl)))
+        (sum (prod unit (var 0)) (prod (var 2) (var 1))) (sum (var 0) (prod (var 1) (var 2)))
+        refl)))
 
     module _ (beta gamma : E) (ds gs : List E) (other : gamma ≢ beta) (same : length ds ≡ length gs)
-        where
-      -- (d - g) / (beta - gamma), and d - beta times that
-      abbrev pub odd_told : List E
-      odd_told = combination l (l.inv (sub l beta gamma)) (l.neg (l.inv (sub l beta gamma))) ds gs
+      where
+        -- (d - g) / (beta - gamma), and d - beta times that
+        abbrev pub odd_told : List E
+        odd_told = combination l (l.inv (sub l beta gamma)) (l.neg (l.inv (sub l beta gamma))) ds gs
 
-      abbrev pub even_told : List E
-      even_told = combination l l.one (l.neg beta) ds odd_told
+        abbrev pub even_told : List E
+        even_told = combination l l.one (l.neg beta) ds odd_told
 
-      pub length-odd_told : length odd_told ≡ length ds
-      length-odd_told =
-          length-pairwise
-          (λ a b. l.add (l.mul (l.inv (sub l beta gamma)) a)
-          (l.mul (l.neg (l.inv (sub l beta gamma))) b)) ds gs same
+        pub length-odd_told : length odd_told ≡ length ds
+        length-odd_told =
+            length-pairwise
+            (λ a b. l.add (l.mul (l.inv (sub l beta gamma)) a)
+            (l.mul (l.neg (l.inv (sub l beta gamma))) b)) ds gs same
 
-      pub length-even_told : length even_told ≡ length ds
-      length-even_told = length-pairwise (λ a b. l.add (l.mul l.one a) (l.mul (l.neg beta) b)) ds
-          odd_told (sym length-odd_told)
+        pub length-even_told : length even_told ≡ length ds
+        length-even_told = length-pairwise (λ a b. l.add (l.mul l.one a) (l.mul (l.neg beta) b)) ds
+            odd_told (sym length-odd_told)
 
-      pub polynomial-told : folds l beta (map t xs) rows ≡ map (λ x. x_value l ds (at x)) xs →
-          folds l gamma (map t xs) rows ≡ map (λ x. x_value l gs (at x)) xs →
-          AreSides even_told odd_told
-      polynomial-told first second =
-          let i = l.inv (sub l beta gamma) in
-          let apart : l.mul (sub l beta gamma) i ≡ l.one =
-              laws.mul_inv (sub l beta gamma)
-              (λ none. other (sym (neg_zero_cancel laws.ring beta gamma none))) in
-          let a = λ (x : X). x_value l even_told (at x) in
-          let b = λ (x : X). x_value l odd_told (at x) in
-          let of_even : (x : X) →
-              a x ≡ l.add (l.mul l.one (x_value l ds (at x))) (l.mul (l.neg beta) (b x)) =
-          λ x. x_value-combination laws.ring l.one (l.neg beta) ds odd_told (at x)
-              (sym length-odd_told) in
-          let of_odd : (x : X) →
-              b x ≡ l.add (l.mul i (x_value l ds (at x))) (l.mul (l.neg i) (x_value l gs (at x))) =
-          λ x. x_value-combination laws.ring i (l.neg i) ds gs (at x) same in
-          let by_beta : (x : X) → x_value l ds (at x) ≡ l.add (a x) (l.mul (b x) beta) = λ x.
-          combine laws.ring (x_value l ds (at x) ∷ a x ∷ b x ∷ beta ∷ []) (var 0)
-              (sum (var 1) (prod (var 2) (var 3)))
-          (given (minus unit) (var 1) (sum (prod unit (var 0)) (prod (minus (var 3)) (var 2))) ∷ [])
-              refl (of_even x, tt) in
-          let by_gamma : (x : X) → x_value l gs (at x) ≡ l.add (a x) (l.mul (b x) gamma) = λ x.
-          let d' : Expr = var 0 in let g' : Expr = var 1 in let a' : Expr = var 2 in let b' : Expr =
-              var 3 in
-          let beta' : Expr = var 4 in let gamma' : Expr = var 5 in let i' : Expr = var 6 in
-          combine laws.ring (x_value l ds (at x) ∷ x_value l gs (at x) ∷ a x ∷ b x ∷ beta ∷ gamma
-              ∷ i ∷ []) g' (sum a' (prod b' gamma'))
-          (given (minus unit) a' (sum (prod unit d') (prod (minus beta') b'))
-              ∷ given (sum beta' (minus gamma')) b' (sum (prod i' d') (prod (minus i') g'))
-          ∷ given (sum d' (minus g')) (prod (sum beta' (minus gamma')) i') unit ∷ []) refl
-              (of_even x, (of_odd x, (apart, tt))) in
-          rows-told a b t beta gamma xs rows other nonzero wide tall
-              (first ∙ ap (λ f. map f xs) (fun_ext by_beta))
-              (second ∙ ap (λ f. map f xs) (fun_ext by_gamma))
+        pub polynomial-told : folds l beta (map t xs) rows ≡ map (λ x. x_value l ds (at x)) xs →
+            folds l gamma (map t xs) rows ≡ map (λ x. x_value l gs (at x)) xs →
+            AreSides even_told odd_told
+        polynomial-told first second =
+            let i = l.inv (sub l beta gamma) in
+            let apart : l.mul (sub l beta gamma) i ≡ l.one =
+            laws.mul_inv (sub l beta gamma)
+            (λ none. other (sym (neg_zero_cancel laws.ring beta gamma none))) in
+            let a = λ (x : X). x_value l even_told (at x) in
+            let b = λ (x : X). x_value l odd_told (at x) in
+            let of_even : (x : X) →
+            a x ≡ l.add (l.mul l.one (x_value l ds (at x))) (l.mul (l.neg beta) (b x)) =
+            λ x. x_value-combination laws.ring l.one (l.neg beta) ds odd_told (at x)
+            (sym length-odd_told) in
+            let of_odd : (x : X) →
+            b x ≡ l.add (l.mul i (x_value l ds (at x))) (l.mul (l.neg i) (x_value l gs (at x))) =
+            λ x. x_value-combination laws.ring i (l.neg i) ds gs (at x) same in
+            let by_beta : (x : X) → x_value l ds (at x) ≡ l.add (a x) (l.mul (b x) beta) = λ x.
+            combine laws.ring (x_value l ds (at x) ∷ a x ∷ b x ∷ beta ∷ []) (var 0)
+            (sum (var 1) (prod (var 2) (var 3)))
+            (given (minus unit) (var 1) (sum (prod unit (var 0)) (prod (minus (var 3)) (var 2)))
+            ∷ [])
+            refl (of_even x, tt) in
+            let by_gamma : (x : X) → x_value l gs (at x) ≡ l.add (a x) (l.mul (b x) gamma) = λ x.
+            let d' : Expr = var 0 in let g' : Expr = var 1 in let a' : Expr = var 2 in
+            let b' : Expr =
+            var 3 in
+            let beta' : Expr = var 4 in let gamma' : Expr = var 5 in let i' : Expr = var 6 in
+            combine laws.ring (x_value l ds (at x) ∷ x_value l gs (at x) ∷ a x ∷ b x ∷ beta ∷ gamma
+            ∷ i ∷ []) g' (sum a' (prod b' gamma'))
+            (given (minus unit) a' (sum (prod unit d') (prod (minus beta') b'))
+            ∷ given (sum beta' (minus gamma')) b' (sum (prod i' d') (prod (minus i') g'))
+            ∷ given (sum d' (minus g')) (prod (sum beta' (minus gamma')) i') unit ∷ []) refl
+            (of_even x, (of_odd x, (apart, tt))) in
+            rows-told a b t beta gamma xs rows other nonzero wide tall
+            (first ∙ ap (λ f. map f xs) (fun_ext by_beta))
+            (second ∙ ap (λ f. map f xs) (fun_ext by_gamma))

@@ -30,7 +30,7 @@ module _ {F : Type 0} {k : FieldOps F} (laws : RingLaws k) where
   power-inverse a b zero h = laws.one_mul k.one
   power-inverse a b (suc n) h =
       mul_swap laws a (nth_power k a n) b (nth_power k b n)
-          ∙ ap (λ v. k.mul v (k.mul (nth_power k a n) (nth_power k b n))) h
+      ∙ ap (λ v. k.mul v (k.mul (nth_power k a n) (nth_power k b n))) h
       ∙ laws.one_mul (k.mul (nth_power k a n) (nth_power k b n)) ∙ power-inverse a b n h
 
   -- multiples by inverse numbers
@@ -39,7 +39,7 @@ module _ {F : Type 0} {k : FieldOps F} (laws : RingLaws k) where
   multiples-cancel a b [] h = refl
   multiples-cancel a b (x ∷ xs) h =
       ap (λ v. v ∷ map (k.mul a) (map (k.mul b) xs))
-          (sym (laws.mul_assoc a b x) ∙ ap (λ v. k.mul v x) h ∙ laws.one_mul x)
+      (sym (laws.mul_assoc a b x) ∙ ap (λ v. k.mul v x) h ∙ laws.one_mul x)
       ∙ ap (λ rest. x ∷ rest) (multiples-cancel a b xs h)
 
   zeros : (s : F) (n : ℕ) → AllByRecursion (λ z. z ≡ k.zero) (map (k.mul s) (replicate n k.zero))
@@ -60,14 +60,14 @@ module _ {F : Type 0} {k : FieldOps F} (base : FieldLaws k) {gen : ℕ → Coord
   genuine =
       let order : suc m + 1 ≡ m + 2 = omega arith in
       subst (λ i. times k (2 ^ suc m) (gen i) ≢ origin k) order
-          (standard-genuine base gens (suc m) (omega arith) (omega (arith, fits))).1
+      (standard-genuine base gens (suc m) (omega arith) (omega (arith, fits))).1
 
   -- no factor of half of a standard domain is 0
   pub standard-nonzero : All (λ t. t ≢ k.zero) (point_factors k gen m (gen (m + 2)))
   standard-nonzero =
       All-from_recursion (λ t. t ≢ k.zero) (point_factors k gen m (gen (m + 2)))
       (point_factors-nonzero base gens m (gen (m + 2)) (omega (arith, fits))
-          (gens.on_circle (m + 2) fits) genuine)
+      (gens.on_circle (m + 2) fits) genuine)
 
 module _ {F E : Type 0} {k : FieldOps F} {l : FieldOps E} {embed : F → E} (base : FieldLaws k)
     (laws : FieldLaws l) (e : IsEmbedding k l embed)
@@ -78,9 +78,9 @@ module _ {F E : Type 0} {k : FieldOps F} {l : FieldOps E} {embed : F → E} (bas
   half-power-inverse m s is_power =
       let unit : l.mul (embed (k.inv (two k))) (two l) ≡ l.one =
       ap (l.mul (embed (k.inv (two k)))) (sym (lifted-two e))
-          ∙ lifted-inverse e base (two k) base.two_nonzero in
+      ∙ lifted-inverse e base (two k) base.two_nonzero in
       ap (λ v. l.mul (embed v) (nth_power l (two l) m))
-          (is_power ∙ base.ring.one_mul (nth_power k (k.inv (two k)) m))
+      (is_power ∙ base.ring.one_mul (nth_power k (k.inv (two k)) m))
       ∙ ap (λ v. l.mul v (nth_power l (two l) m)) (lifted-nth_power e m (k.inv (two k)))
       ∙ power-inverse laws.ring (embed (k.inv (two k))) (two l) m unit
 
@@ -103,7 +103,7 @@ module _ {F E : Type 0} {k : FieldOps F} {l : FieldOps E} {embed : F → E} (bas
       made-values =
           ap (λ c. map (λ p. x_value l c (embed p.x)) (coset k gen m (gen (m + 2)))) is_made
           ∙ multiples-values base laws e gens m (gen (m + 2)) word (omega (arith, fits))
-              (gens.on_circle (m + 2) fits) (genuine base gens m fits) long
+          (gens.on_circle (m + 2) fits) (genuine base gens m fits) long
 
       -- values of a multiple, and of further zeros
       scaled-values : (s : E) (c : List E) →
@@ -111,16 +111,16 @@ module _ {F E : Type 0} {k : FieldOps F} {l : FieldOps E} {embed : F → E} (bas
           ≡ map (l.mul s) (map (λ p. x_value l c (embed p.x)) (coset k gen m (gen (m + 2))))
       scaled-values s c =
           map-alike (λ p. x_value l (map (l.mul s) c) (embed p.x))
-              (λ p. l.mul s (x_value l c (embed p.x))) (coset k gen m (gen (m + 2)))
-              (λ p. x_value-multiple laws.ring s c (embed p.x))
+          (λ p. l.mul s (x_value l c (embed p.x))) (coset k gen m (gen (m + 2)))
+          (λ p. x_value-multiple laws.ring s c (embed p.x))
           ∙ sym (map-map (l.mul s) (λ p. x_value l c (embed p.x)) (coset k gen m (gen (m + 2))))
 
       padded-values : (c zs : List E) → AllByRecursion (λ z. z ≡ l.zero) zs →
           map (λ p. x_value l (c ++ zs) (embed p.x)) (coset k gen m (gen (m + 2)))
-              ≡ map (λ p. x_value l c (embed p.x)) (coset k gen m (gen (m + 2)))
+          ≡ map (λ p. x_value l c (embed p.x)) (coset k gen m (gen (m + 2)))
       padded-values c zs h =
           map-alike (λ p. x_value l (c ++ zs) (embed p.x)) (λ p. x_value l c (embed p.x))
-              (coset k gen m (gen (m + 2))) (λ p. x_value-more laws.ring c zs (embed p.x) h)
+          (coset k gen m (gen (m + 2))) (λ p. x_value-more laws.ring c zs (embed p.x) h)
 
       module _ (b : ℕ) (few : b ≤ m) where
         within : 2 ^ b ≤ 2 ^ m
@@ -135,10 +135,10 @@ module _ {F E : Type 0} {k : FieldOps F} {l : FieldOps E} {embed : F → E} (bas
               ∙ length-take-le (2 ^ b) made (omega (arith, within, made-long));
           values =
               ap (λ d. map (λ p. x_value l d (embed p.x)) (coset k gen m (gen (m + 2)))) is_c
-                  ∙ scaled-values s (take (2 ^ b) made)
+              ∙ scaled-values s (take (2 ^ b) made)
               ∙ ap (map (l.mul s)) (sym (padded-values (take (2 ^ b) made) (drop (2 ^ b) made) none)
               ∙ ap (λ d. map (λ p. x_value l d (embed p.x)) (coset k gen m (gen (m + 2))))
-                  (take-append-drop (2 ^ b) made) ∙ made-values)
+              (take-append-drop (2 ^ b) made) ∙ made-values)
               ∙ multiples-cancel laws.ring s (nth_power l (two l) m) word unit;
         }
 
@@ -150,14 +150,14 @@ module _ {F E : Type 0} {k : FieldOps F} {l : FieldOps E} {embed : F → E} (bas
               let power = nth_power l (two l) m in
               let more = replicate (2 ^ m - 2 ^ b) l.zero in
               let all : length (d ++ more) ≡ 2 ^ m = length-append d more
-                  ∙ omega (arith, has.count, length-zeros l.zero (2 ^ m - 2 ^ b), within) in
+              ∙ omega (arith, has.count, length-zeros l.zero (2 ^ m - 2 ^ b), within) in
               x_values-injective laws e gens m (gen (m + 2)) made (map (l.mul power) (d ++ more))
-                  made-long (length-map (d ++ more) (l.mul power) ∙ all)
+              made-long (length-map (d ++ more) (l.mul power) ∙ all)
               (omega (arith, fits)) (gens.on_circle (m + 2) fits) (genuine base gens m fits)
               (made-values
-                  ∙ sym (scaled-values power (d ++ more)
-                  ∙ ap (map (l.mul power))
-                  (padded-values d more (plain-zeros laws.ring (2 ^ m - 2 ^ b)) ∙ has.values)))
+              ∙ sym (scaled-values power (d ++ more)
+              ∙ ap (map (l.mul power))
+              (padded-values d more (plain-zeros laws.ring (2 ^ m - 2 ^ b)) ∙ has.values)))
 
           split : made ≡ map (l.mul (nth_power l (two l) m)) d
               ++ map (l.mul (nth_power l (two l) m)) (replicate (2 ^ m - 2 ^ b) l.zero)
@@ -173,9 +173,9 @@ module _ {F E : Type 0} {k : FieldOps F} {l : FieldOps E} {embed : F → E} (bas
               let power = l.mul (nth_power l (two l) m) in
               subst (AllByRecursion (λ z. z ≡ l.zero))
               (sym
-                  (ap (drop (2 ^ b)) split
-                  ∙ drop_at (map power d) (map power (replicate (2 ^ m - 2 ^ b) l.zero)) (2 ^ b)
-                  first-long))
+              (ap (drop (2 ^ b)) split
+              ∙ drop_at (map power d) (map power (replicate (2 ^ m - 2 ^ b) l.zero)) (2 ^ b)
+              first-long))
               (zeros laws.ring (nth_power l (two l) m) (2 ^ m - 2 ^ b))
 
           pub only-ones : (s : E) → l.mul s (nth_power l (two l) m) ≡ l.one →
@@ -184,15 +184,15 @@ module _ {F E : Type 0} {k : FieldOps F} {l : FieldOps E} {embed : F → E} (bas
               let power = l.mul (nth_power l (two l) m) in
               sym (ap (λ ws. map (l.mul s) (take (2 ^ b) ws)) split
               ∙ ap (map (l.mul s))
-                  (take_at (map power d) (map power (replicate (2 ^ m - 2 ^ b) l.zero)) (2 ^ b)
-                  first-long)
+              (take_at (map power d) (map power (replicate (2 ^ m - 2 ^ b) l.zero)) (2 ^ b)
+              first-long)
               ∙ multiples-cancel laws.ring s (nth_power l (two l) m) d unit)
 
 -- the x coordinates of points that are a coset
 pub coset-abscissas : {F P : Type 0} (k : FieldOps F) (gen : ℕ → Coordinates F)
     (f : P → Coordinates F) (ps : List P) (xs : List F) (n m : ℕ) (s q : Coordinates F) →
     xs ≡ map (λ p. (f p).x) ps → map f ps ≡ coset k gen n s → n ≡ m → s ≡ q →
-        xs ≡ map (λ p. p.x) (coset k gen m q)
+    xs ≡ map (λ p. p.x) (coset k gen m q)
 coset-abscissas k gen f ps xs n m s q read points size shift =
     read ∙ sym (map-map (λ p. p.x) f ps)
     ∙ ap (map (λ p. p.x)) (points ∙ ap (λ i. coset k gen i s) size ∙ ap (coset k gen m) shift)

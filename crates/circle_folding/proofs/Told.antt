@@ -44,35 +44,35 @@ module _ {F E : Type 0} {k : FieldOps F} {l : FieldOps E} {embed : F → E} (law
   doubled-values : (m : ℕ) (q : Coordinates F) (c : List E) → length c ≡ 2 ^ m → m ≤ bits →
       IsOnCircle k q →
       finish l (λ n. lifted embed (gen n)) (suc m) (lifted embed q) (with_zeros l c)
-          ≡ twice (map (λ p. x_value l c (embed p.x)) (coset k gen m q))
+      ≡ twice (map (λ p. x_value l c (embed p.x)) (coset k gen m q))
   doubled-values m q c long fits on_circle =
       let lgen : ℕ → Coordinates E = λ n. lifted embed (gen n) in
       let doubled : length (with_zeros l c) ≡ 2 ^ suc m =
-          omega (arith, length-with_zeros l c, long, pow-suc 2 m) in
+      omega (arith, length-with_zeros l c, long, pow-suc 2 m) in
       finish-value laws.ring (lifted-generators e gens) (suc m) (lifted embed q) (with_zeros l c)
-          doubled (omega (arith, fits)) (lifted-on_circle e q on_circle)
+      doubled (omega (arith, fits)) (lifted-on_circle e q on_circle)
       ∙ ap (map (value l (with_zeros l c))) (sym (lifted-points e gen (suc m) q))
       ∙ map-map (value l (with_zeros l c)) (lifted embed) (points k gen (suc m) q)
       ∙ map-alike (λ p. value l (with_zeros l c) (lifted embed p)) (λ p. x_value l c (embed p.x))
-          (points k gen (suc m) q) (λ p. value-with_zeros laws.ring c (lifted embed p))
+      (points k gen (suc m) q) (λ p. value-with_zeros laws.ring c (lifted embed p))
       ∙ ap (map (λ p. x_value l c (embed p.x))) (points-opposites k gen m q)
       ∙ map-opposites k (λ x. x_value l c (embed x)) (coset k gen m q)
 
   pub x_values-injective : (m : ℕ) (q : Coordinates F) (c d : List E) → length c ≡ 2 ^ m →
       length d ≡ 2 ^ m → m ≤ bits → IsOnCircle k q →
       times k (2 ^ suc m) q ≢ origin k → map (λ p. x_value l c (embed p.x)) (coset k gen m q)
-          ≡ map (λ p. x_value l d (embed p.x)) (coset k gen m q) → c ≡ d
+      ≡ map (λ p. x_value l d (embed p.x)) (coset k gen m q) → c ≡ d
   x_values-injective m q c d lc ld fits on_circle h same =
       let doubled : (b : List E) → length b ≡ 2 ^ m → length (with_zeros l b) ≡ 2 ^ suc m =
-          λ b long. omega (arith, length-with_zeros l b, long, pow-suc 2 m) in
+      λ b long. omega (arith, length-with_zeros l b, long, pow-suc 2 m) in
       let genuine : times l (2 ^ suc m) (lifted embed q) ≢ origin l =
       λ bad. h
-          (lifted-injective e (times k (2 ^ suc m) q) (origin k) (lifted-times e (2 ^ suc m) q ∙ bad
-          ∙ sym (lifted-origin e))) in
+      (lifted-injective e (times k (2 ^ suc m) q) (origin k) (lifted-times e (2 ^ suc m) q ∙ bad
+      ∙ sym (lifted-origin e))) in
       let zeros : with_zeros l c ≡ with_zeros l d =
       finish-injective laws (lifted-generators e gens) (suc m) (lifted embed q) (with_zeros l c)
-          (with_zeros l d) (doubled c lc) (doubled d ld) (omega (arith, fits))
+      (with_zeros l d) (doubled c lc) (doubled d ld) (omega (arith, fits))
       (lifted-on_circle e q on_circle) genuine
       (doubled-values m q c lc fits on_circle ∙ ap twice same
-          ∙ sym (doubled-values m q d ld fits on_circle)) in
+      ∙ sym (doubled-values m q d ld fits on_circle)) in
       sym (every_second-with_zeros l c) ∙ ap every_second zeros ∙ every_second-with_zeros l d

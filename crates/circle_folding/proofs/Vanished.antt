@@ -57,19 +57,19 @@ module _ {F : Type 0} {k : FieldOps F} (laws : RingLaws k) {gen : ℕ → Coordi
   length-points (suc m) q =
       let q' = second_half k gen m q in
       length-append (points k gen m q) (points k gen m q')
-          ∙ omega (arith, length-points m q, length-points m q', pow-suc 2 m)
+      ∙ omega (arith, length-points m q, length-points m q', pow-suc 2 m)
 
   -- the factor is one for each block
   pub factors-spread : (a n : ℕ) (q : Coordinates F) → a + n ≤ suc bits → IsOnCircle k q →
       map (factor k n) (points k gen (a + n) q)
-          ≡ spread (2 ^ n) (map (factor k n) (block_starts k gen a n q))
+      ≡ spread (2 ^ n) (map (factor k n) (block_starts k gen a n q))
   factors-spread zero n q fits c =
       let e : 0 + n ≡ n = omega arith in
       ap (λ m. map (factor k n) (points k gen m q)) e
       ∙ map-constant (factor k n) (factor k n q) (points k gen n q)
-          (factor-points laws gens n n q (factor k n q) (omega arith) (omega (arith, fits)) c refl)
+      (factor-points laws gens n n q (factor k n q) (omega arith) (omega (arith, fits)) c refl)
       ∙ ap (λ m. replicate m (factor k n q)) (length-points n q)
-          ∙ sym (append-nil (replicate (2 ^ n) (factor k n q)))
+      ∙ sym (append-nil (replicate (2 ^ n) (factor k n q)))
   factors-spread (suc a) n q fits c =
       let e : suc a + n ≡ suc (a + n) = omega arith in
       let f = factor k n in
@@ -77,15 +77,15 @@ module _ {F : Type 0} {k : FieldOps F} (laws : RingLaws k) {gen : ℕ → Coordi
       ap (λ m. map f (points k gen m q)) e
       ∙ map-append f (points k gen (a + n) q) (points k gen (a + n) q')
       ∙ ap (λ xs. xs ++ map f (points k gen (a + n) q'))
-          (factors-spread a n q (omega (arith, fits)) c)
+      (factors-spread a n q (omega (arith, fits)) c)
       ∙ ap (λ xs. spread (2 ^ n) (map f (block_starts k gen a n q)) ++ xs)
-          (factors-spread a n q' (omega (arith, fits))
-          (second_half-on_circle laws gens (a + n) q (omega (arith, fits)) c))
+      (factors-spread a n q' (omega (arith, fits))
+      (second_half-on_circle laws gens (a + n) q (omega (arith, fits)) c))
       ∙ sym
-          (spread-append (2 ^ n) (map f (block_starts k gen a n q))
-          (map f (block_starts k gen a n q')))
+      (spread-append (2 ^ n) (map f (block_starts k gen a n q))
+      (map f (block_starts k gen a n q')))
       ∙ ap (spread (2 ^ n))
-          (sym (map-append f (block_starts k gen a n q) (block_starts k gen a n q')))
+      (sym (map-append f (block_starts k gen a n q) (block_starts k gen a n q')))
 
   pub starts-on_circle : (a m : ℕ) (q : Coordinates F) → a + m ≤ suc bits → IsOnCircle k q →
       AllByRecursion (IsOnCircle k) (block_starts k gen a m q)
@@ -93,14 +93,14 @@ module _ {F : Type 0} {k : FieldOps F} (laws : RingLaws k) {gen : ℕ → Coordi
   starts-on_circle (suc a) m q fits c =
       let q' = second_half k gen (a + m) q in
       all-append (IsOnCircle k) (block_starts k gen a m q) (block_starts k gen a m q')
-          (starts-on_circle a m q (omega (arith, fits)) c)
+      (starts-on_circle a m q (omega (arith, fits)) c)
       (starts-on_circle a m q' (omega (arith, fits))
-          (second_half-on_circle laws gens (a + m) q (omega (arith, fits)) c))
+      (second_half-on_circle laws gens (a + m) q (omega (arith, fits)) c))
 
   -- the doubles of the first points of blocks are those of blocks of half as many points
   pub starts-doubled : (a j : ℕ) (q : Coordinates F) → a + suc (suc j) ≤ suc bits →
       map (λ p. plus k p p) (block_starts k gen a (suc (suc j)) q)
-          ≡ block_starts k gen a (suc j) (plus k q q)
+      ≡ block_starts k gen a (suc j) (plus k q q)
   starts-doubled zero j q fits = refl
   starts-doubled (suc a) j q fits =
       let double = λ (p : Coordinates F). plus k p p in
@@ -112,22 +112,22 @@ module _ {F : Type 0} {k : FieldOps F} (laws : RingLaws k) {gen : ℕ → Coordi
       let is : q' ≡ plus k q g = ap (λ n. second_half k gen n q) e in
       let swapped : plus k (plus k q g) (plus k q g) ≡ plus k (plus k q q) (plus k g g) =
       plus_assoc laws q g (plus k q g)
-          ∙ ap (plus k q) (sym (plus_assoc laws g q g) ∙ ap (λ r. plus k r g) (plus_comm laws g q)
-          ∙ plus_assoc laws q g g) ∙ sym (plus_assoc laws q q (plus k g g)) in
+      ∙ ap (plus k q) (sym (plus_assoc laws g q g) ∙ ap (λ r. plus k r g) (plus_comm laws g q)
+      ∙ plus_assoc laws q g g) ∙ sym (plus_assoc laws q q (plus k g g)) in
       let there : double q' ≡ second_half k gen (a + suc j) (double q) =
       ap double is ∙ swapped
-          ∙ ap (plus k (double q)) (gens.doubled (suc (a + j)) (omega (arith, fits)))
-          ∙ ap (λ n. second_half k gen n (double q)) (sym e') in
+      ∙ ap (plus k (double q)) (gens.doubled (suc (a + j)) (omega (arith, fits)))
+      ∙ ap (λ n. second_half k gen n (double q)) (sym e') in
       map-append double (block_starts k gen a m q) (block_starts k gen a m q')
       ∙ ap (λ xs. xs ++ map double (block_starts k gen a m q'))
-          (starts-doubled a j q (omega (arith, fits)))
+      (starts-doubled a j q (omega (arith, fits)))
       ∙ ap (λ xs. block_starts k gen a (suc j) (double q) ++ xs)
-          (starts-doubled a j q' (omega (arith, fits)) ∙ ap (block_starts k gen a (suc j)) there)
+      (starts-doubled a j q' (omega (arith, fits)) ∙ ap (block_starts k gen a (suc j)) there)
 
   -- their factors are the x coordinates of a coset
   starts-x : (j a : ℕ) (q : Coordinates F) → a + suc j ≤ suc bits → IsOnCircle k q →
       map (factor k (suc j)) (block_starts k gen a (suc j) q)
-          ≡ map (λ p. p.x) (coset k gen a (times k (2 ^ j) q))
+      ≡ map (λ p. p.x) (coset k gen a (times k (2 ^ j) q))
   starts-x zero a q fits c =
       ap (map (λ p. p.x))
       (block_starts-coset k gen a q ∙ ap (coset k gen a) (sym (times-one laws q)))
@@ -135,8 +135,8 @@ module _ {F : Type 0} {k : FieldOps F} (laws : RingLaws k) {gen : ℕ → Coordi
       let double = λ (p : Coordinates F). plus k p p in
       let starts = block_starts k gen a (suc (suc j)) q in
       map-same (factor k (suc (suc j))) (λ p. factor k (suc j) (double p)) (IsOnCircle k) starts
-          (starts-on_circle a (suc (suc j)) q fits c)
-          (λ p h. ap (iterated_x k j) (doubled_x-plus laws p h))
+      (starts-on_circle a (suc (suc j)) q fits c)
+      (λ p h. ap (iterated_x k j) (doubled_x-plus laws p h))
       ∙ sym (map-map (factor k (suc j)) double starts)
       ∙ ap (map (factor k (suc j))) (starts-doubled a j q fits)
       ∙ starts-x j a (double q) (omega (arith, fits)) (plus-on_circle laws q q c c)
@@ -145,7 +145,7 @@ module _ {F : Type 0} {k : FieldOps F} (laws : RingLaws k) {gen : ℕ → Coordi
   -- v_n on the standard domain of 2^(b + n) points
   pub vanishing-spread : (b n : ℕ) → 1 ≤ n → b + n + 1 ≤ bits →
       map (vanishing k n) (cfft_order k gen (b + n) (gen (b + n + 1)))
-          ≡ spread (2 ^ n) (map (λ p. p.x) (coset k gen b (gen (b + 2))))
+      ≡ spread (2 ^ n) (map (λ p. p.x) (coset k gen b (gen (b + 2))))
   vanishing-spread b zero positive fits = absurd (omega arith)
   vanishing-spread b (suc j) positive fits =
       let s = gen (b + suc j + 1) in
@@ -157,7 +157,7 @@ module _ {F : Type 0} {k : FieldOps F} (laws : RingLaws k) {gen : ℕ → Coordi
       ∙ factors-spread b (suc j) s (omega (arith, fits)) c
       ∙ ap (spread (2 ^ suc j)) (starts-x j b s (omega (arith, fits)) c
       ∙ ap (λ q. map (λ p. p.x) (coset k gen b q)) (ap (λ i. times k (2 ^ j) (gen i)) order
-          ∙ times-generator laws gens j (b + 2) (omega (arith, fits))))
+      ∙ times-generator laws gens j (b + 2) (omega (arith, fits))))
 
 -- 1 shifted by a number of bits
 pub block-size : (r m b bits : ℕ) → r ≡ m → m + 1 ≤ bits → bits ≤ 62 → 1 * 2 ^ (r - b) % 2 ^ 64
@@ -182,7 +182,7 @@ module _ {F E : Type 0} {k : FieldOps F} (l : FieldOps E) (embed : F → E) (law
       let points = cfft_order k gen m (gen (m + 1)) in
       let spread_is : map v points ≡ spread (2 ^ n) (map x (coset k gen b (gen (b + 2)))) =
       ap (λ i. map v (cfft_order k gen i (gen (i + 1)))) (sym e)
-          ∙ vanishing-spread laws gens b n (omega (arith, below)) (omega (arith, e, fits)) in
+      ∙ vanishing-spread laws gens b n (omega (arith, below)) (omega (arith, e, fits)) in
       ap (spread (2 ^ n)) (sym (map-map embed x ps) ∙ ap (λ qs. map embed (map x qs)) are)
       ∙ sym (spread-map embed (2 ^ n) (map x (coset k gen b (gen (b + 2)))))
       ∙ ap (map embed) (sym spread_is)
@@ -199,10 +199,10 @@ module _ {F E : Type 0} {k : FieldOps F} (l : FieldOps E) (embed : F → E) (law
   pub word-blocks : (r m b n : ℕ) (s : Coordinates F) (ps : List (Coordinates F)) → r ≡ m → b < m →
       m + 1 ≤ bits → bits ≤ 62 → n ≡ b + 1 → s ≡ gen (b + 1 + 1) → ps ≡ coset k gen (n - 1) s →
       spread (1 * 2 ^ (r - b) % 2 ^ 64) (map (λ p. embed p.x) ps)
-          ≡ vanishing_values k gen l embed b m
+      ≡ vanishing_values k gen l embed b m
   word-blocks r m b n s ps same below fits small size shift are =
       ap (λ i. spread i (map (λ p. embed p.x) ps)) (block-size r m b bits same fits small)
-          ∙ blocks-vanishing m b ps below fits (coset-of b n s ps size shift are)
+      ∙ blocks-vanishing m b ps below fits (coset-of b n s ps size shift are)
 
   pub word-length : (r m b n : ℕ) (s : Coordinates F) (ps : List (Coordinates F)) → r ≡ m → b < m →
       m + 1 ≤ bits → bits ≤ 62 → n ≡ b + 1 → s ≡ gen (b + 1 + 1) → ps ≡ coset k gen (n - 1) s →
@@ -211,7 +211,7 @@ module _ {F E : Type 0} {k : FieldOps F} (l : FieldOps E) (embed : F → E) (law
       let sum : b + (m - b) ≡ m = omega (arith, below) in
       ap (λ i. 2 ^ i) (sym sum) ∙ pow-add 2 b (m - b)
       ∙ ap (λ i. i * 2 ^ (m - b))
-          (sym (ap length (coset-of b n s ps size shift are) ∙ length-coset k gen b (gen (b + 2))))
+      (sym (ap length (coset-of b n s ps size shift are) ∙ length-coset k gen b (gen (b + 2))))
       ∙ ap (λ i. length ps * i) (sym (block-size r m b bits same fits small))
 
 -- the inverse of a power of 2

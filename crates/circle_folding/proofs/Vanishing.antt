@@ -21,7 +21,7 @@ module _ {F : Type 0} {k : FieldOps F} (laws : FieldLaws k) (eq : F → F → Bo
       let square : k.mul d.y d.y ≡ k.zero =
       combine laws.ring (d.x ∷ d.y ∷ []) (prod y y) (con 0)
       (given unit (sum (prod x x) (prod y y)) unit ∷ given (minus (sum x unit)) x unit ∷ []) refl
-          (on_circle, (e, tt)) in
+      (on_circle, (e, tt)) in
       same_coordinates e (zero_square laws eq eq_law d.y square)
 
   -- twice the real part is 0 at the point itself alone
@@ -30,18 +30,18 @@ module _ {F : Type 0} {k : FieldOps F} (laws : FieldLaws k) (eq : F → F → Bo
   real_part-zero p z hp hz twice =
       let d = plus k (opposite k z) p in
       let re : sub k k.one d.x ≡ k.zero = half_unique laws k.zero (sub k k.one d.x) twice
-          ∙ zero_mul laws.ring _ in
+      ∙ zero_mul laws.ring _ in
       let on_circle = plus-on_circle laws.ring (opposite k z) p (opposite-on_circle laws.ring z hz)
-          hp in
+      hp in
       let none : d ≡ origin k = only_origin
-          d on_circle (sym (neg_zero_cancel laws.ring k.one d.x re)) in
+      d on_circle (sym (neg_zero_cancel laws.ring k.one d.x re)) in
       sym (origin-plus laws.ring p) ∙ ap (λ o. plus k o p) (sym (plus-opposite laws.ring z hz))
-          ∙ plus_assoc laws.ring z (opposite k z) p ∙ ap (plus k z) none ∙ plus-origin laws.ring z
+      ∙ plus_assoc laws.ring z (opposite k z) p ∙ ap (plus k z) none ∙ plus-origin laws.ring z
 
   pub zero-real_part : (p z : Coordinates F) → IsOnCircle k z → p ≡ z → let re =
       sub k k.one (plus k (opposite k z) p).x in k.add re re ≡ k.zero
   zero-real_part p z hz same =
       let none : plus k (opposite k z) p ≡ origin k = ap (plus k (opposite k z)) same
-          ∙ plus_comm laws.ring (opposite k z) z ∙ plus-opposite laws.ring z hz in
+      ∙ plus_comm laws.ring (opposite k z) z ∙ plus-opposite laws.ring z hz in
       ap (λ (d : Coordinates F). let re = sub k k.one d.x in k.add re re) none
-          ∙ ap (λ r. k.add r r) (add_neg laws.ring k.one) ∙ add_zero laws.ring k.zero
+      ∙ ap (λ r. k.add r r) (add_neg laws.ring k.one) ∙ add_zero laws.ring k.zero

@@ -26,8 +26,8 @@ module _ {E : Type 0} (l : FieldOps E) where
 pub claimed_quotient : {F E : Type 0} (l : FieldOps E) (m : F → E) (alpha top : E)
     (weights : List E) (x : Coordinates F) (z : Coordinates E) (row : List F) (values : List E) →
     length row ≡ length values → length row ≤ length weights →
-        top ≡ nth_power l alpha (length row) →
-        weights ≡ map (nth_power l alpha) (range_with_len 0 (length weights)) →
+    top ≡ nth_power l alpha (length row) →
+    weights ≡ map (nth_power l alpha) (range_with_len 0 (length weights)) →
     weighted_quotient l m top weights x z row values ≡ claim_quotient l m alpha x z row values
 claimed_quotient l m alpha top weights x z row values widths enough is_top are =
     let n = length row in
@@ -38,31 +38,31 @@ claimed_quotient l m alpha top weights x z row values widths enough is_top are =
     let size : length ds ≤ n = omega (arith, length-pairwise differ row values widths) in
     let prefix : take n weights ≡ take n powers =
     ap (take n) are ∙ take-map-range_with_len f 0 (length weights) n enough
-        ∙ sym (take-map-range_with_len f 0 n n (omega arith)) in
+    ∙ sym (take-map-range_with_len f 0 n n (omega arith)) in
     let sums : dot l weights ds ≡ dot l powers ds = sym (dot-take l n weights ds size)
-        ∙ ap (λ ws. dot l ws (take n ds)) prefix ∙ dot-take l n powers ds size in
+    ∙ ap (λ ws. dot l ws (take n ds)) prefix ∙ dot-take l n powers ds size in
     ap (λ t. weighted_quotient l m t weights x z row values) is_top
-        ∙ ap
-        (l.mul
-        (l.mul (sub l (real_part l m x z) (l.mul (f n) (imaginary_part l m x z)))
-        (l.inv (l.add (real_part l m x z) (real_part l m x z))))) sums
+    ∙ ap
+    (l.mul
+    (l.mul (sub l (real_part l m x z) (l.mul (f n) (imaginary_part l m x z)))
+    (l.inv (l.add (real_part l m x z) (real_part l m x z))))) sums
 
 -- the same of several rows
 pub claimed_quotients : {F E : Type 0} (l : FieldOps E) (m : F → E) (alpha top : E)
     (weights : List E) (xs : List (Coordinates F)) (z : Coordinates E) (rows : List (List F))
     (values : List E) →
     ((i : ℕ) → i < length rows → length (slice_index_or rows i []) ≡ length values) →
-        length values ≤ length weights → top ≡ nth_power l alpha (length values) →
+    length values ≤ length weights → top ≡ nth_power l alpha (length values) →
     weights ≡ map (nth_power l alpha) (range_with_len 0 (length weights)) →
     pairwise (λ x row. weighted_quotient l m top weights x z row values) xs rows
-        ≡ claim_quotients l m alpha xs z rows values
+    ≡ claim_quotients l m alpha xs z rows values
 claimed_quotients l m alpha top weights [] z rows values widths enough is_top are = refl
 claimed_quotients l m alpha top weights (x ∷ xs) z [] values widths enough is_top are = refl
 claimed_quotients l m alpha top weights (x ∷ xs) z (row ∷ rows) values widths enough is_top are =
     let wide : length row ≡ length values = widths 0 (omega arith) in
     ap (λ q. q ∷ pairwise (λ x row. weighted_quotient l m top weights x z row values) xs rows)
     (claimed_quotient l m alpha top weights x z row values wide (omega (arith, wide, enough))
-        (is_top ∙ ap (nth_power l alpha) (sym wide)) are)
+    (is_top ∙ ap (nth_power l alpha) (sym wide)) are)
     ∙ ap (λ rest. claim_quotient l m alpha x z row values ∷ rest)
-        (claimed_quotients l m alpha top weights xs z rows values
-        (λ i lt. widths (suc i) (omega arith)) enough is_top are)
+    (claimed_quotients l m alpha top weights xs z rows values
+    (λ i lt. widths (suc i) (omega arith)) enough is_top are)

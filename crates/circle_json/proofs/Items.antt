@@ -38,19 +38,19 @@ module _ {T : Type 0} (written : T → Data) (Reads : Data → T → Type 0) whe
   pub written_more : (items more : List Value) (xs : List T) (k : ℕ) (v : Value) (x : T) →
       k < length xs → x ≡ get_or xs k x →
       more ≡ items ++ v ∷ [] → view v ≡ written x → Reads (view v) x →
-          map view items ≡ map written (take k xs) →
-          ReadsItems Reads (items_view items) (take k xs) →
+      map view items ≡ map written (take k xs) →
+      ReadsItems Reads (items_view items) (take k xs) →
       (map view more ≡ map written (take (k + 1) xs))
-          × ReadsItems Reads (items_view more) (take (k + 1) xs)
+      × ReadsItems Reads (items_view more) (take (k + 1) xs)
   written_more items more xs k v x h at grown shown reads before each =
       let next : take (k + 1) xs ≡ take k xs ++ x ∷ [] = take_more xs k x h
-          ∙ ap (λ y. take k xs ++ y ∷ []) (sym at) in (
+      ∙ ap (λ y. take k xs ++ y ∷ []) (sym at) in (
         ap (map view) grown ∙ map-append view items (v ∷ []) ∙ ap (λ ds. ds ++ view v ∷ []) before
             ∙ ap (λ d. map written (take k xs) ++ d ∷ []) shown
             ∙ sym (map-append written (take k xs) (x ∷ [])) ∙ sym (ap (map written) next),
         subst (λ (ys : List T). ReadsItems Reads (items_view more) ys) (sym next)
             (subst (λ (vs : List Value). ReadsItems Reads (items_view vs) (take k xs ++ x ∷ []))
-                (sym grown) (reads_more Reads items (take k xs) v x each reads)),
+            (sym grown) (reads_more Reads items (take k xs) v x each reads)),
       )
 
   -- all values are written
@@ -65,7 +65,7 @@ module _ {T : Type 0} (written : T → Data) (Reads : Data → T → Type 0) whe
       ReadsItems Reads (items_view items) (take k xs) → ReadsArray Reads value xs
   reads_whole value items xs k shown h each =
       subst (λ (d : Data). ReadsArray Reads d xs) (sym shown)
-          (subst (λ (ys : List T). ReadsItems Reads (items_view items) ys) (take_all k xs h) each)
+      (subst (λ (ys : List T). ReadsItems Reads (items_view items) ys) (take_all k xs h) each)
 
   -- one more value is read
   pub read_more : (items : List Value) (xs more : List T) (k : ℕ) (v : Value) (x : T) →
@@ -74,10 +74,10 @@ module _ {T : Type 0} (written : T → Data) (Reads : Data → T → Type 0) whe
       ReadsItems Reads (items_view (take (k + 1) items)) more
   read_more items xs more k v x h at grown reads each =
       let next : take (k + 1) items ≡ take k items ++ v ∷ [] = take_more items k v h
-          ∙ ap (λ y. take k items ++ y ∷ []) (sym at) in
+      ∙ ap (λ y. take k items ++ y ∷ []) (sym at) in
       subst (λ (ys : List T). ReadsItems Reads (items_view (take (k + 1) items)) ys) (sym grown)
       (subst (λ (vs : List Value). ReadsItems Reads (items_view vs) (xs ++ x ∷ [])) (sym next)
-          (reads_more Reads (take k items) xs v x each reads))
+      (reads_more Reads (take k items) xs v x each reads))
 
 module _ (Refuses : Data → JsonError → Type 0) where
   pub refuses_at : (vs : List Value) (k : ℕ) (d : Value) (error : JsonError) → k < length vs →

@@ -31,9 +31,10 @@ is_some (Some x) d e = refl
 pub has_each : (value : Data) (keys : List (Bor (List ℕ))) → FindsAll value keys →
     HasEach (texts keys) value
 has_each value [] all = tt
-has_each value (key ∷ keys) all =
-    (found (get key.now value) (all 0 key (omega arith)),
-    has_each value keys (λ k d h. all (suc k) d (omega arith)))
+has_each value (key ∷ keys) all = (
+  found (get key.now value) (all 0 key (omega arith)),
+  has_each value keys (λ k d h. all (suc k) d (omega arith)),
+)
 
 some_and_all : (value : Data) (key : Bor (List ℕ)) (keys : List (Bor (List ℕ))) →
     IsSome (get key.now value) → FindsAll value keys → FindsAll value (key ∷ keys)
@@ -43,7 +44,7 @@ some_and_all value key keys some all (suc k) d h = all k d (omega arith)
 lacks_here : (value : Data) (key : Bor (List ℕ)) (keys : List (Bor (List ℕ))) (o : Option Data) →
     get key.now value ≡ o
     → (¬ FindsAll value (key ∷ keys)) → ((¬ FindsAll value keys) → Lacks (texts keys) value) →
-        Lacks (texts (key ∷ keys)) value
+    Lacks (texts (key ∷ keys)) value
 lacks_here value key keys None e not others = inl e
 lacks_here value key keys (Some d) e not others =
     inr (others (λ all. not (some_and_all value key keys (is_some (get key.now value) d e) all)))
@@ -85,8 +86,11 @@ has_keys (string s) inside keys e each few = absurd (cc)
 has_keys (array ds) inside keys e each few = absurd (cc)
 has_keys (object ms) inside keys e each few =
     let same : ms ≡ inside = cc in
-    record { each = each; no_more = subst (λ (x : Members). members_len x ≤ length keys) (sym same)
-        few }
+    record {
+      each = each;
+      no_more = subst (λ (x : Members). members_len x ≤ length keys) (sym same)
+          few;
+    }
 
 no_object : (value : Data) → as_object value ≡ None → (keys : List (List ℕ)) →
     RefusesKeys keys value WrongKind

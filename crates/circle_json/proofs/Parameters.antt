@@ -33,17 +33,32 @@ short_written (Err error) p none is = tt
 
 two_cases_read : (n : ℕ) (p : FriParameters ⊤) → p.log_final_poly_len ≡ n →
     ReadsParameters (length_member (parameters_written n p)) (parameters_written n p) p
-two_cases_read zero p is =
-    ((omega arith,
-        ((_, refl, refl),
-        ((_, refl, refl),
-        ((_, refl, refl), ((_, refl, refl), ((_, refl, refl), ((_, refl, refl), tt))))))), is)
-two_cases_read (suc n) p is =
-    (omega arith,
-        ((_, refl, refl),
-        ((_, refl, refl),
-        ((_, refl, refl),
-        ((_, refl, refl), ((_, refl, refl), ((_, refl, refl), ((_, refl, refl), tt))))))))
+two_cases_read zero p is = (
+  (
+    omega arith,
+    (
+      (_, refl, refl),
+      (
+        (_, refl, refl),
+        ((_, refl, refl), ((_, refl, refl), ((_, refl, refl), ((_, refl, refl), tt)))),
+      ),
+    ),
+  ),
+  is,
+)
+two_cases_read (suc n) p is = (
+  omega arith,
+  (
+    (_, refl, refl),
+    (
+      (_, refl, refl),
+      (
+        (_, refl, refl),
+        ((_, refl, refl), ((_, refl, refl), ((_, refl, refl), ((_, refl, refl), tt)))),
+      ),
+    ),
+  ),
+)
 
 -- what is written is read
 pub written_reads : (r : Result Value AllocError) (p : FriParameters ⊤) →
@@ -58,8 +73,8 @@ whole_refuses : (value : Data) (error : JsonError) → RefusesFields short_field
     RefusesFields whole_fields value error
 whole_refuses value error refused =
     ⊎_elim (λ a. inl a)
-        (λ r. ⊎_elim (λ b. inr (inl b))
-        (λ s. ⊎_elim (λ c. inr (inr (inl c))) (λ t. inr (inr (inr (inr t)))) s) r) refused
+    (λ r. ⊎_elim (λ b. inr (inl b))
+    (λ s. ⊎_elim (λ c. inr (inr (inl c))) (λ t. inr (inr (inr (inr t)))) s) r) refused
 
 case_refuses : (at : Option Data) (value : Data) (error : JsonError) →
     RefusesFields short_fields value error → RefusesParameters at value error

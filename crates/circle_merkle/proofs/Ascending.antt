@@ -29,7 +29,7 @@ not-below : (low high y : ℕ) (xs : List ℕ) → Within low high xs → y < lo
 not-below low high y [] w h = refl
 not-below low high y (x ∷ xs) w h =
     ap (λ b. b || has y xs) (ne_eqb x y (λ e. absurd (let le : low ≤ x = w.0 in omega arith)))
-        ∙ not-below (suc x) high y xs w.2 (let le : low ≤ x = w.0 in omega arith)
+    ∙ not-below (suc x) high y xs w.2 (let le : low ≤ x = w.0 in omega arith)
 
 module _ (p : ℕ → Bool) where
   -- ascending numbers of a range are those that pass where each passes if and only if it is one
@@ -41,8 +41,8 @@ module _ (p : ℕ → Bool) where
   ascending-unique a (suc n) [] w same =
       ascending-unique (a + 1) n [] tt (λ y l h. same y (omega arith) (omega arith))
       ∙ ap
-          (λ b. if b then a ∷ filter p (range_with_len (a + 1) n) else filter p
-          (range_with_len (a + 1) n)) (same a (omega arith) (omega arith))
+      (λ b. if b then a ∷ filter p (range_with_len (a + 1) n) else filter p
+      (range_with_len (a + 1) n)) (same a (omega arith) (omega arith))
   ascending-unique a (suc n) (x ∷ xs) w same =
       let low : a ≤ x = w.0 in
       let high : x < a + suc n = w.1 in
@@ -50,28 +50,28 @@ module _ (p : ℕ → Bool) where
       ⊎_elim
       (λ e.
       let later : Within (a + 1) (a + 1 + n) xs =
-          subst (λ h. Within (a + 1) h xs) end
-          (subst (λ b. Within b (a + suc n) xs) (let s : suc x ≡ a + 1 = omega arith in s) w.2) in
+      subst (λ h. Within (a + 1) h xs) end
+      (subst (λ b. Within b (a + suc n) xs) (let s : suc x ≡ a + 1 = omega arith in s) w.2) in
       let here : p a ≡ true = sym (same a (omega arith) (omega arith))
-          ∙ ap (λ b. b || has a xs) (eq-eqb x a e) in
+      ∙ ap (λ b. b || has a xs) (eq-eqb x a e) in
       let others =
-          λ (y : ℕ) (l : a + 1 ≤ y) (h : y < a + 1 + n). sym
-          (ap (λ b. b || has y xs) (ne_eqb x y (λ s. absurd (omega arith))))
-          ∙ same y (omega arith) (omega arith) in
+      λ (y : ℕ) (l : a + 1 ≤ y) (h : y < a + 1 + n). sym
+      (ap (λ b. b || has y xs) (ne_eqb x y (λ s. absurd (omega arith))))
+      ∙ same y (omega arith) (omega arith) in
       ap (λ z. z ∷ xs) e ∙ ap (λ zs. a ∷ zs) (ascending-unique (a + 1) n xs later others)
       ∙ ap
-          (λ b. if b then a ∷ filter p (range_with_len (a + 1) n) else filter p
-          (range_with_len (a + 1) n)) (sym here))
+      (λ b. if b then a ∷ filter p (range_with_len (a + 1) n) else filter p
+      (range_with_len (a + 1) n)) (sym here))
       (λ ne.
       let above : a + 1 ≤ x = omega (arith, ne) in
       let later : Within (a + 1) (a + 1 + n) (x ∷ xs) =
-          subst (λ h. Within (a + 1) h (x ∷ xs)) end (above, high, w.2) in
+      subst (λ h. Within (a + 1) h (x ∷ xs)) end (above, high, w.2) in
       let here : p a ≡ false = sym (same a (omega arith) (omega arith))
-          ∙ not-below (a + 1) (a + 1 + n) a (x ∷ xs) later (omega arith) in
+      ∙ not-below (a + 1) (a + 1 + n) a (x ∷ xs) later (omega arith) in
       ascending-unique (a + 1) n (x ∷ xs) later (λ y l h. same y (omega arith) (omega arith))
       ∙ ap
-          (λ b. if b then a ∷ filter p (range_with_len (a + 1) n) else filter p
-          (range_with_len (a + 1) n)) (sym here))
+      (λ b. if b then a ∷ filter p (range_with_len (a + 1) n) else filter p
+      (range_with_len (a + 1) n)) (sym here))
       (cases_eq x a)
 
 increasing-tail : (x : ℕ) (xs : List ℕ) → IsStrictlyIncreasing (x ∷ xs) → IsStrictlyIncreasing xs
@@ -86,10 +86,12 @@ increasing-second x (y ∷ xs) inc = let lt : x < y = inc 0 (omega arith) in lt
 within-increasing : (low high : ℕ) (xs : List ℕ) → IsStrictlyIncreasing xs → Starts low xs →
     All (λ x. x < high) xs → Within low high xs
 within-increasing low high [] inc starts below = tt
-within-increasing low high (x ∷ xs) inc starts below =
-    (starts, All-head (λ x. x < high) x xs below,
-        within-increasing (suc x) high xs (increasing-tail x xs inc) (increasing-second x xs inc)
-        (All-tail (λ x. x < high) x xs below))
+within-increasing low high (x ∷ xs) inc starts below = (
+  starts,
+  All-head (λ x. x < high) x xs below,
+  within-increasing (suc x) high xs (increasing-tail x xs inc) (increasing-second x xs inc)
+      (All-tail (λ x. x < high) x xs below),
+)
 
 starts-zero : (xs : List ℕ) → Starts 0 xs
 starts-zero [] = tt
@@ -117,7 +119,7 @@ known-lowest [] y = refl
 known-lowest (index ∷ indices) y =
     let e : index / 2 ^ 0 ≡ index = omega arith in
     ap (λ i. (i == y) || is_known indices 0 y) e
-        ∙ ap (λ b. (index == y) || b) (known-lowest indices y)
+    ∙ ap (λ b. (index == y) || b) (known-lowest indices y)
 
 -- sorted and without repetitions, the indices are the known positions of the lowest level
 pub known-sorted : (indices sorted : List ℕ) (levels : ℕ) → IsPermutation indices sorted →
@@ -125,15 +127,15 @@ pub known-sorted : (indices sorted : List ℕ) (levels : ℕ) → IsPermutation 
     dedup eqb sorted ≡ known indices levels 0
 known-sorted indices sorted levels permuted ordered below =
     let within =
-        within-increasing 0 (2 ^ levels) (dedup eqb sorted)
-        (IsStrictlyIncreasing-dedup sorted ordered) (starts-zero (dedup eqb sorted))
+    within-increasing 0 (2 ^ levels) (dedup eqb sorted)
+    (IsStrictlyIncreasing-dedup sorted ordered) (starts-zero (dedup eqb sorted))
     (All-dedup eqb (λ i. i < 2 ^ levels) sorted
-        (All-permutation (λ i. i < 2 ^ levels) indices sorted permuted below)) in
+    (All-permutation (λ i. i < 2 ^ levels) indices sorted permuted below)) in
     ascending-unique (is_known indices 0) 0 (2 ^ levels) (dedup eqb sorted)
-        (subst (λ h. Within 0 h (dedup eqb sorted)) (let e : 2 ^ levels ≡ 0 + 2 ^ levels =
-        omega arith in e) within)
+    (subst (λ h. Within 0 h (dedup eqb sorted)) (let e : 2 ^ levels ≡ 0 + 2 ^ levels =
+    omega arith in e) within)
     (λ y l h. has-dedup y sorted
-        ∙ sym (list_any-IsPermutation (λ x. x == y) indices sorted permuted)
-        ∙ sym (known-lowest indices y))
+    ∙ sym (list_any-IsPermutation (λ x. x == y) indices sorted permuted)
+    ∙ sym (known-lowest indices y))
     ∙ ap (λ k. filter (is_known indices 0) (range_with_len 0 (2 ^ k)))
-        (let e : levels ≡ levels - 0 = omega arith in e)
+    (let e : levels ≡ levels - 0 = omega arith in e)

@@ -23,40 +23,52 @@ module _ (up : ℕ → List ℕ → List ℕ → List ℕ) (known given : ℕ �
   climbed-lone p low [] d ds h lt = refl
   climbed-lone p low (q ∷ rest) d ds h lt =
       ap (λ b. if b then joined up (node p) (node q) ∷ climbed up (map node rest) (d ∷ ds) else lone
-          up (node p) d ∷ climbed up (node q ∷ map node rest) ds)
+      up (node p) d ∷ climbed up (node q ∷ map node rest) ds)
       (apart q (sibling p) low h lt)
 
   module _ (a : ℕ) where
     joined-is : min (place (2 * a)) (place (2 * a + 1)) ≡ over a →
         joined up (node (2 * a)) (node (2 * a + 1))
-        ≡ record { position = a; place = over a; digest =
-        up (over a) (known (2 * a)) (known (2 * a + 1)) }
+        ≡ record {
+          position = a;
+          place = over a;
+          digest =
+              up (over a) (known (2 * a)) (known (2 * a + 1));
+        }
     joined-is least =
         let left = known (2 * a) in let right = known (2 * a + 1) in
         let above = λ (h k : ℕ). let n : Node =
-            record { position = h; place = k; digest = up k left right } in n in
+        record { position = h; place = k; digest = up k left right } in n in
         ap (λ h. above h (min (place (2 * a)) (place (2 * a + 1)))) (half-even a)
-            ∙ ap (above a) least
+        ∙ ap (above a) least
 
     lone-even : place (2 * a) ≡ over a → (d : List ℕ) → lone up (node (2 * a)) d
         ≡ record { position = a; place = over a; digest = up (over a) (known (2 * a)) d }
     lone-even same d =
         let even : 2 * a % 2 ≡ 0 = omega arith in
         let above = λ (r h k : ℕ). let n : Node =
-            record { position = h; place = k; digest = if r ==
-            0 then up k (known (2 * a)) d else up k d (known (2 * a)) } in n in
+        record {
+          position = h;
+          place = k;
+          digest = if r ==
+              0 then up k (known (2 * a)) d else up k d (known (2 * a));
+        } in n in
         ap (λ r. above r (2 * a / 2) (place (2 * a))) even
-            ∙ ap (λ h. above 0 h (place (2 * a))) (half-even a) ∙ ap (above 0 a) same
+        ∙ ap (λ h. above 0 h (place (2 * a))) (half-even a) ∙ ap (above 0 a) same
 
     lone-odd : place (2 * a + 1) ≡ over a → (d : List ℕ) → lone up (node (2 * a + 1)) d
         ≡ record { position = a; place = over a; digest = up (over a) d (known (2 * a + 1)) }
     lone-odd same d =
         let odd : (2 * a + 1) % 2 ≡ 1 = omega arith in
         let above = λ (r h k : ℕ). let n : Node =
-            record { position = h; place = k; digest = if r ==
-            0 then up k (known (2 * a + 1)) d else up k d (known (2 * a + 1)) } in n in
+        record {
+          position = h;
+          place = k;
+          digest = if r ==
+              0 then up k (known (2 * a + 1)) d else up k d (known (2 * a + 1));
+        } in n in
         ap (λ r. above r ((2 * a + 1) / 2) (place (2 * a + 1))) odd
-            ∙ ap (λ h. above 1 h (place (2 * a + 1))) (half-odd a) ∙ ap (above 1 a) same
+        ∙ ap (λ h. above 1 h (place (2 * a + 1))) (half-odd a) ∙ ap (above 1 a) same
 
     -- the node over this pair, where the tests say which digests are known
     parent : Bool → Bool → Node
@@ -79,32 +91,32 @@ module _ (up : ℕ → List ℕ → List ℕ → List ℕ) (known given : ℕ �
         (xs ys : List ℕ) (later : List (List ℕ)) (above : List Node) → Starts (2 * (a + 1)) xs →
         climbed up (map node xs) (map given ys ++ later) ≡ above →
         climbed up
-            (map node
-            (if t then 2 * a
-            ∷ (if u then (2 * a + 1) ∷ xs else xs) else (if u then (2 * a + 1) ∷ xs else xs)))
+        (map node
+        (if t then 2 * a
+        ∷ (if u then (2 * a + 1) ∷ xs else xs) else (if u then (2 * a + 1) ∷ xs else xs)))
         (map given
-            (if u && not t then 2 * a ∷ (if t && not u then (2 * a + 1) ∷ ys else ys) else
-            (if t && not u then (2 * a + 1) ∷ ys else ys)) ++ later)
+        (if u && not t then 2 * a ∷ (if t && not u then (2 * a + 1) ∷ ys else ys) else
+        (if t && not u then (2 * a + 1) ∷ ys else ys)) ++ later)
         ≡ (if t || u then parent t u ∷ above else above)
     unfolding parent
     climbed-step true true at xs ys later above h e =
         ap (λ b. if b then joined up (node (2 * a)) (node (2 * a + 1))
-            ∷ climbed up (map node xs) (map given ys ++ later)
+        ∷ climbed up (map node xs) (map given ys ++ later)
         else lone up (node (2 * a)) (slice_index_or (map given ys ++ later) 0 [])
-            ∷ climbed up (node (2 * a + 1) ∷ map node xs) (drop 1 (map given ys ++ later)))
+        ∷ climbed up (node (2 * a + 1) ∷ map node xs) (drop 1 (map given ys ++ later)))
         (eq-eqb (2 * a + 1) (sibling (2 * a)) (sym (sibling-even a)))
         ∙ ap (λ n. n ∷ climbed up (map node xs) (map given ys ++ later)) (joined-is at)
-            ∙ ap (λ ns. parent true true ∷ ns) e
+        ∙ ap (λ ns. parent true true ∷ ns) e
     climbed-step true false at xs ys later above h e =
         climbed-lone (2 * a) (2 * (a + 1)) xs (given (2 * a + 1)) (map given ys ++ later) h
-            (low-even a)
+        (low-even a)
         ∙ ap (λ n. n ∷ climbed up (map node xs) (map given ys ++ later))
-            (lone-even at (given (2 * a + 1))) ∙ ap (λ ns. parent true false ∷ ns) e
+        (lone-even at (given (2 * a + 1))) ∙ ap (λ ns. parent true false ∷ ns) e
     climbed-step false true at xs ys later above h e =
         climbed-lone (2 * a + 1) (2 * (a + 1)) xs (given (2 * a)) (map given ys ++ later) h
-            (low-odd a)
+        (low-odd a)
         ∙ ap (λ n. n ∷ climbed up (map node xs) (map given ys ++ later))
-            (lone-odd at (given (2 * a))) ∙ ap (λ ns. parent false true ∷ ns) e
+        (lone-odd at (given (2 * a))) ∙ ap (λ ns. parent false true ∷ ns) e
     climbed-step false false at xs ys later above h e = e
 
   module _ (k : ℕ → Bool) where
@@ -115,14 +127,18 @@ module _ (up : ℕ → List ℕ → List ℕ → List ℕ) (known given : ℕ �
 
     abbrev pub parent_node : ℕ → Node
     parent_node p =
-        record { position = p; place = over p; digest =
-        up (over p) (if k (2 * p) then known (2 * p) else given (2 * p))
-        (if k (2 * p + 1) then known (2 * p + 1) else given (2 * p + 1)) }
+        record {
+          position = p;
+          place = over p;
+          digest =
+              up (over p) (if k (2 * p) then known (2 * p) else given (2 * p))
+              (if k (2 * p + 1) then known (2 * p + 1) else given (2 * p + 1));
+        }
 
     pub climbed-pairs : ((a : ℕ) → PlaceIs a (k (2 * a)) (k (2 * a + 1))) →
         (a n : ℕ) (later : List (List ℕ)) →
         climbed up (map node (filter k (range_with_len (2 * a) (2 * n))))
-            (map given (filter (missing k) (range_with_len (2 * a) (2 * n))) ++ later)
+        (map given (filter (missing k) (range_with_len (2 * a) (2 * n))) ++ later)
         ≡ map parent_node (filter (above k) (range_with_len a n))
     unfolding parent
     climbed-pairs at a zero later = refl
@@ -131,19 +147,19 @@ module _ (up : ℕ → List ℕ → List ℕ → List ℕ) (known given : ℕ �
         let xs = filter k rest in
         let ys = filter (missing k) rest in
         let nodes =
-            map node
-            (if k (2 * a) then 2 * a ∷ (if k (2 * a + 1) then (2 * a + 1) ∷ xs else xs) else
-            (if k (2 * a + 1) then (2 * a + 1) ∷ xs else xs)) in
+        map node
+        (if k (2 * a) then 2 * a ∷ (if k (2 * a + 1) then (2 * a + 1) ∷ xs else xs) else
+        (if k (2 * a + 1) then (2 * a + 1) ∷ xs else xs)) in
         let places = λ (t u : Bool). if t then 2 * a
-            ∷ (if u then (2 * a + 1) ∷ ys else ys) else (if u then (2 * a + 1) ∷ ys else ys) in
+        ∷ (if u then (2 * a + 1) ∷ ys else ys) else (if u then (2 * a + 1) ∷ ys else ys) in
         let over = filter (above k) (range_with_len (a + 1) n) in
         ap (λ r. climbed up (map node (filter k r)) (map given (filter (missing k) r) ++ later))
-            (range-pair a n)
+        (range-pair a n)
         ∙ ap (λ b. climbed up nodes (map given (places b (missing k (2 * a + 1))) ++ later))
-            (missing-even k a)
+        (missing-even k a)
         ∙ ap
-            (λ b. climbed up nodes (map given (places (k (2 * a + 1) && not (k (2 * a))) b)
-            ++ later)) (missing-odd k a)
+        (λ b. climbed up nodes (map given (places (k (2 * a + 1) && not (k (2 * a))) b)
+        ++ later)) (missing-odd k a)
         ∙ climbed-step a (k (2 * a)) (k (2 * a + 1)) (at a) xs ys later (map parent_node over)
-            (starts-filter k (2 * (a + 1)) (2 * n)) (climbed-pairs at (a + 1) n later)
+        (starts-filter k (2 * (a + 1)) (2 * n)) (climbed-pairs at (a + 1) n later)
         ∙ map-if (above k a) a over parent_node

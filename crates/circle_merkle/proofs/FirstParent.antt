@@ -18,16 +18,16 @@ module _ (up : ℕ → List ℕ → List ℕ → List ℕ) (node : Node) where
         ≡ joined up node next ∷ climbed up after given
     climbed-joined given =
         ap (λ b. if b then joined up node next
-            ∷ climbed up after given else lone up node (slice_index_or given 0 [])
-            ∷ climbed up (next ∷ after) (drop 1 given))
-            (eq-eqb next.position (sibling node.position) e)
+        ∷ climbed up after given else lone up node (slice_index_or given 0 [])
+        ∷ climbed up (next ∷ after) (drop 1 given))
+        (eq-eqb next.position (sibling node.position) e)
 
     pub siblings-joined : siblings_of (positions_of (node ∷ next ∷ after))
         ≡ siblings_of (positions_of after)
     siblings-joined =
         ap (λ b. if b then siblings_of (positions_of after) else sibling node.position
-            ∷ siblings_of (positions_of (next ∷ after)))
-            (eq-eqb next.position (sibling node.position) e)
+        ∷ siblings_of (positions_of (next ∷ after)))
+        (eq-eqb next.position (sibling node.position) e)
 
   pub climbed-apart : (others : List Node) (digest : List ℕ) (left : List (List ℕ)) →
       BeginsApart node.position others →
@@ -35,7 +35,7 @@ module _ (up : ℕ → List ℕ → List ℕ → List ℕ) (node : Node) where
   climbed-apart [] digest left h = refl
   climbed-apart (next ∷ rest) digest left h =
       ap (λ b. if b then joined up node next ∷ climbed up rest (digest ∷ left) else lone up node
-          digest ∷ climbed up (next ∷ rest) left) (ne_eqb next.position (sibling node.position) h)
+      digest ∷ climbed up (next ∷ rest) left) (ne_eqb next.position (sibling node.position) h)
 
   pub siblings-apart : (others : List Node) → BeginsApart node.position others →
       siblings_of (positions_of (node ∷ others)) ≡ sibling node.position
@@ -43,8 +43,8 @@ module _ (up : ℕ → List ℕ → List ℕ → List ℕ) (node : Node) where
   siblings-apart [] h = refl
   siblings-apart (next ∷ rest) h =
       ap (λ b. if b then siblings_of (positions_of rest) else sibling node.position
-          ∷ siblings_of (positions_of (next ∷ rest)))
-          (ne_eqb next.position (sibling node.position) h)
+      ∷ siblings_of (positions_of (next ∷ rest)))
+      (ne_eqb next.position (sibling node.position) h)
 
 pub apart-cons : (p : ℕ) (others after : List Node) (next : Node) → others ≡ next ∷ after →
     next.position ≢ sibling p → BeginsApart p others

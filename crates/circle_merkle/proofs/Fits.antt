@@ -31,7 +31,7 @@ module _ {T : Type 0} where
       get_or (map length (map (λ row. row.items) rows)) j 0 ≡ length v.items
   length-at rows j v lt e =
       get_or-map length (map (λ row. row.items) rows) j [] 0
-          (omega (arith, length-map rows (λ row. row.items)))
+      (omega (arith, length-map rows (λ row. row.items)))
       ∙ ap length (get_or-map (λ row. row.items) rows j v [] lt) ∙ ap (λ v. length v.items) (sym e)
 
   pub rows-at : (opened : List (Vec (Vec T Global) Global)) (k : ℕ)
@@ -57,7 +57,7 @@ quotient-positive x n pos le =
     ⊎_elim
     (λ lt. lt)
     (λ ge. absurd (let e : x / n ≡ 0 = omega arith in let below : x < x / n * n + n =
-        lt-div-mul-add pos in let small : x / n * n ≡ 0 * n = ap (λ k. k * n) e in omega arith))
+    lt-div-mul-add pos in let small : x / n * n ≡ 0 * n = ap (λ k. k * n) e in omega arith))
     (cases_lt 0 (x / n))
 
 pub height-at : (dims : List Dimensions) (j : ℕ) (d : Dimensions) → j < length dims →
@@ -70,13 +70,13 @@ pub whole-rows : {T : Type 0} (dims : List Dimensions) (opened : List (Vec (Vec 
 whole-rows dims opened shape = λ k d lt.
     let rows = get_or opened k d in
     let widths =
-        shape.widths k []
-        (omega (arith, lt, length-map opened (λ rows. map (λ row. row.items) rows.items))) in
+    shape.widths k []
+    (omega (arith, lt, length-map opened (λ rows. map (λ row. row.items) rows.items))) in
     let at = get_or-map (λ rows. map (λ row. row.items) rows.items) opened k d [] lt in
     let long : length rows.items ≡ length dims =
     sym (length-map rows.items (λ row. row.items)) ∙ sym (ap length at)
-        ∙ sym (length-map (get_or (opened_rows opened) k []) length) ∙ ap length widths
-        ∙ length-map dims (λ dim. dim.width) in
+    ∙ sym (length-map (get_or (opened_rows opened) k []) length) ∙ ap length widths
+    ∙ length-map dims (λ dim. dim.width) in
     omega (arith, long, rows.ok.0)
 
 -- the greatest of powers of two is one
@@ -89,8 +89,8 @@ greatest-power (dim ∷ []) some powers =
 greatest-power (dim ∷ next ∷ dims) some powers =
     let power = All-head (λ dim. IsPowerOfTwo dim.height) dim (next ∷ dims) powers in
     let others =
-        greatest-power (next ∷ dims) (omega arith)
-        (All-tail (λ dim. IsPowerOfTwo dim.height) dim (next ∷ dims) powers) in
+    greatest-power (next ∷ dims) (omega arith)
+    (All-tail (λ dim. IsPowerOfTwo dim.height) dim (next ∷ dims) powers) in
     let rest = greatest (heights (next ∷ dims)) in
     ⊎_elim
     (λ lt. let e : max dim.height rest ≡ rest = omega arith in (others.0, e ∙ others.1))

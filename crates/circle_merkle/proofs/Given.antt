@@ -33,8 +33,8 @@ all-from low [] h = All-nil (λ x. low ≤ x)
 all-from low (x ∷ xs) h =
     let first : low ≤ x = h.0 in
     All-cons (λ y. low ≤ y) x xs first
-        (All-weaker (λ y. suc x ≤ y) (λ y. low ≤ y) (λ y le. omega arith) xs
-        (all-from (suc x) xs h.1))
+    (All-weaker (λ y. suc x ≤ y) (λ y. low ≤ y) (λ y le. omega arith) xs
+    (all-from (suc x) xs h.1))
 
 -- a list is what stands in it at the places of numbers in ascending order
 at-places : (low : ℕ) (places : List ℕ) (digests : List (List ℕ)) → From low places →
@@ -45,19 +45,19 @@ at-places low (p ∷ places) [] h le = absurd (omega arith)
 at-places low (p ∷ places) (d ∷ digests) h le =
     let later = at-places (suc p) places digests h.1 (omega arith) in
     let same =
-        map-same (λ q. at_place_of q places digests) (λ q. at_place_of q (p ∷ places) (d ∷ digests))
-        places
+    map-same (λ q. at_place_of q places digests) (λ q. at_place_of q (p ∷ places) (d ∷ digests))
+    places
     (All-weaker (λ q. suc p ≤ q) (λ q. at_place_of q places digests
-        ≡ at_place_of q (p ∷ places) (d ∷ digests))
+    ≡ at_place_of q (p ∷ places) (d ∷ digests))
     (λ q gt. sym
-        (ap (λ b. if b then d else at_place_of q places digests)
-        (ne_eqb p q (λ e. absurd (omega arith))))) places (all-from (suc p) places h.1)) in
+    (ap (λ b. if b then d else at_place_of q places digests)
+    (ne_eqb p q (λ e. absurd (omega arith))))) places (all-from (suc p) places h.1)) in
     ap (λ ds. d ∷ ds) later
     ∙ ap (λ ds. d ∷ (ds ++ drop (length places) digests)) same
     ∙ ap
-        (λ e. e
-        ∷ (map (λ q. at_place_of q (p ∷ places) (d ∷ digests)) places
-        ++ drop (length places) digests))
+    (λ e. e
+    ∷ (map (λ q. at_place_of q (p ∷ places) (d ∷ digests)) places
+    ++ drop (length places) digests))
     (sym (ap (λ b. if b then d else at_place_of p places digests) (eq-eqb p p refl)))
 
 module _ (indices : List ℕ) (levels : ℕ) where
@@ -69,7 +69,7 @@ module _ (indices : List ℕ) (levels : ℕ) where
   taken_below-more a (suc n) =
       let e : suc n + a ≡ suc (n + a) = omega arith in
       subst (λ m. taken_below indices levels a ≤ taken_below indices levels m) (sym e)
-          (omega (arith, taken_below-more a n))
+      (omega (arith, taken_below-more a n))
 
   module _ (proof : List (List ℕ)) (level : ℕ) (h : level < levels)
       (count : length proof ≡ taken_below indices levels levels) where
@@ -79,8 +79,8 @@ module _ (indices : List ℕ) (levels : ℕ) where
         let more = taken_below-more (suc level) (levels - suc level) in
         let e : levels - suc level + suc level ≡ levels = omega arith in
         let le : taken_below indices levels (suc level) ≤ taken_below indices levels levels =
-            subst (λ m. taken_below indices levels (suc level) ≤ taken_below indices levels m) e
-            more in
+        subst (λ m. taken_below indices levels (suc level) ≤ taken_below indices levels m) e
+        more in
         omega (arith, le, count)
 
     pub given-fits : length (taken indices levels level) ≤ length
@@ -94,6 +94,6 @@ module _ (indices : List ℕ) (levels : ℕ) where
         let places = taken indices levels level in
         let digests = drop (taken_below indices levels level) proof in
         at-places 0 places digests (from-filter (is_taken indices level) 0 (2 ^ (levels - level)))
-            given-fits
+        given-fits
         ∙ ap (λ ds. map (given indices levels proof level) places ++ ds)
-            (drop-drop (length places) (taken_below indices levels level) proof)
+        (drop-drop (length places) (taken_below indices levels level) proof)

@@ -22,10 +22,10 @@ module _ {T : Type 0} (matrices : List (RowMajorMatrix T)) where
   max-more i m lt e =
       ap max_height (take_more matrices i m lt ∙ ap (λ x. take i matrices ++ x ∷ []) (sym e))
       ∙ ap (λ ds. greatest (heights ds))
-          (map-append (λ m. record { width = width_of m; height = height_of m }) (take i matrices)
-          (m ∷ []))
+      (map-append (λ m. record { width = width_of m; height = height_of m }) (take i matrices)
+      (m ∷ []))
       ∙ ap greatest (map-append (λ (dim : Dimensions). dim.height) (dimensions_of (take i matrices))
-          (record { width = width_of m; height = height_of m } ∷ []))
+      (record { width = width_of m; height = height_of m } ∷ []))
       ∙ greatest-append (heights (dimensions_of (take i matrices))) (height_of m)
 
   -- the greatest height is a power of two
@@ -33,10 +33,10 @@ module _ {T : Type 0} (matrices : List (RowMajorMatrix T)) where
       IsPowerOfTwo (max_height matrices)
   max-power some powers =
       let count : length (dimensions_of matrices) ≡ length matrices =
-          length-map matrices (λ m. record { width = width_of m; height = height_of m }) in
+      length-map matrices (λ m. record { width = width_of m; height = height_of m }) in
       greatest-power (dimensions_of matrices) (omega arith)
-          (All-map (λ (dim : Dimensions). IsPowerOfTwo dim.height)
-          (λ m. record { width = width_of m; height = height_of m }) matrices powers)
+      (All-map (λ (dim : Dimensions). IsPowerOfTwo dim.height)
+      (λ m. record { width = width_of m; height = height_of m }) matrices powers)
 
   pub bounded-at : (k : ℕ) (m : RowMajorMatrix T) → k < length matrices → m ≡ get_or matrices k m →
       height_of m ≤ max_height matrices
@@ -58,13 +58,16 @@ module _ {T : Type 0} (matrices : List (RowMajorMatrix T)) where
         let power = power-at in
         let top = max-power (omega arith) powers in
         let le : power.0 ≤ top.0 = exponent_within
-            power.0 top.0 (omega (arith, bounded-at k m lt e, power.1, top.1)) in
+        power.0 top.0 (omega (arith, bounded-at k m lt e, power.1, top.1)) in
         let same : row_at (max_height matrices) (height_of m) index ≡ index / 2 ^
-            (top.0 - power.0) =
+        (top.0 - power.0) =
         ap (λ t. row_at t (height_of m) index) top.1 ∙ ap (λ n. row_at (2 ^ top.0) n index) power.1
-            ∙ row_at-powers top.0 power.0 index le in
+        ∙ row_at-powers top.0 power.0 index le in
         let whole : 2 ^ top.0 ≡ 2 ^ (power.0 + (top.0 - power.0)) =
-            (let s : top.0 ≡ power.0 + (top.0 - power.0) = omega arith in ap (λ k. 2 ^ k) s) in
-        omega
-            (arith, same,
-            shr_below index power.0 (top.0 - power.0) (omega (arith, below, top.1, whole)), power.1)
+        (let s : top.0 ≡ power.0 + (top.0 - power.0) = omega arith in ap (λ k. 2 ^ k) s) in
+        omega (
+          arith,
+          same,
+          shr_below index power.0 (top.0 - power.0) (omega (arith, below, top.1, whole)),
+          power.1,
+        )

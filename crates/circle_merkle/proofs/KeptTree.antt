@@ -31,9 +31,9 @@ module _ (hash : List ℕ → List ℕ) {T : Type 0} (bytes : T → List ℕ)
         ∷ []
     whole-root v e =
         let one : 2 ^ (count - count) ≡ 1 =
-            (let z : count - count ≡ 0 = omega arith in ap (λ k. 2 ^ k) z) in
+        (let z : count - count ≡ 0 = omega arith in ap (λ k. 2 ^ k) z) in
         items-at due (count + 1) count levels v tree (omega arith) e
-            ∙ ap (λ n. map (at count) (range_with_len 0 n)) one
+        ∙ ap (λ n. map (at count) (range_with_len 0 n)) one
 
   rest : List (List (List ℕ)) → List (List (List ℕ))
   rest [] = []
@@ -53,14 +53,17 @@ module _ (hash : List ℕ → List ℕ) {T : Type 0} (bytes : T → List ℕ)
   pub kept-digest : (levels : List (Vec (List ℕ) Global)) → map (λ level. level.items) levels
       ≡ upper_levels hash bytes matrices count →
       (above : ℕ) → above < count → (v : Vec (List ℕ) Global) → v ≡ get_or levels above v →
-          v.items ≡ due (suc above)
+      v.items ≡ due (suc above)
   kept-digest levels tree above h v e =
       let long : above < length levels =
-          omega (arith, sym (length-map levels (λ v. v.items)) ∙ ap length tree
-          ∙ length-map-range_with_len due 1 count) in
+      omega (
+        arith,
+        sym (length-map levels (λ v. v.items)) ∙ ap length tree
+            ∙ length-map-range_with_len due 1 count,
+      ) in
       ap (λ v. v.items) e ∙ sym (get_or-map (λ v. v.items) levels above v [] long)
-          ∙ ap (λ xs. get_or xs above []) tree
-          ∙ get_or-map-range_with_len due 1 count above (suc above) [] h (omega arith)
+      ∙ ap (λ xs. get_or xs above []) tree
+      ∙ get_or-map-range_with_len due 1 count above (suc above) [] h (omega arith)
 
   module _ (indices : List ℕ) (level : ℕ) where
     pub taken-within : All (λ i. i < 2 ^ (count - level)) (taken indices count level)

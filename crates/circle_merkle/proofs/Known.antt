@@ -25,12 +25,12 @@ pub half-is : (x p : ℕ) → (x / 2 == p) ≡ ((x == 2 * p) || (x == 2 * p + 1)
 half-is x p =
     ⊎_elim
     (λ e. eq-eqb (x / 2) p (omega arith)
-        ∙ sym (ap (λ b. b || (x == 2 * p + 1)) (eq-eqb x (2 * p) e)))
+    ∙ sym (ap (λ b. b || (x == 2 * p + 1)) (eq-eqb x (2 * p) e)))
     (λ n. ⊎_elim
     (λ e. eq-eqb (x / 2) p (omega arith)
-        ∙ sym (ap (λ b. b || (x == 2 * p + 1)) (ne_eqb x (2 * p) n) ∙ eq-eqb x (2 * p + 1) e))
+    ∙ sym (ap (λ b. b || (x == 2 * p + 1)) (ne_eqb x (2 * p) n) ∙ eq-eqb x (2 * p + 1) e))
     (λ m. ne_eqb (x / 2) p (λ e. absurd (omega arith))
-        ∙ sym (ap (λ b. b || (x == 2 * p + 1)) (ne_eqb x (2 * p) n) ∙ ne_eqb x (2 * p + 1) m))
+    ∙ sym (ap (λ b. b || (x == 2 * p + 1)) (ne_eqb x (2 * p) n) ∙ ne_eqb x (2 * p + 1) m))
     (cases_eq x (2 * p + 1)))
     (cases_eq x (2 * p))
 
@@ -47,7 +47,7 @@ is_known-above (index ∷ indices) level p =
     ∙ ap (λ b. b || is_known indices (suc level) p) (half-is x p)
     ∙ ap (λ b. ((x == 2 * p) || (x == 2 * p + 1)) || b) (is_known-above indices level p)
     ∙ or-swap (x == 2 * p) (x == 2 * p + 1) (is_known indices level (2 * p))
-        (is_known indices level (2 * p + 1))
+    (is_known indices level (2 * p + 1))
 
 module _ (indices : List ℕ) (levels level : ℕ) (h : level < levels) where
   pub parents-known : parents_of (known indices levels level) ≡ known indices levels (suc level)
@@ -55,18 +55,18 @@ module _ (indices : List ℕ) (levels level : ℕ) (h : level < levels) where
       let n = 2 ^ (levels - suc level) in
       let next : level + 1 ≡ suc level = omega arith in
       let size : 2 ^ (levels - level) ≡ 2 * n = halves levels level h
-          ∙ ap (λ k. 2 * 2 ^ (levels - k)) next in
+      ∙ ap (λ k. 2 * 2 ^ (levels - k)) next in
       ap (λ m. parents_of (filter (is_known indices level) (range_with_len 0 m))) size
       ∙ parents-pairs (is_known indices level) 0 n
       ∙ filter_agree (above (is_known indices level)) (is_known indices (suc level))
-          (λ p. sym (is_known-above indices level p)) (range_with_len 0 n)
+      (λ p. sym (is_known-above indices level p)) (range_with_len 0 n)
 
   pub siblings-known : siblings_of (known indices levels level) ≡ taken indices levels level
   siblings-known =
       let n = 2 ^ (levels - suc level) in
       let next : level + 1 ≡ suc level = omega arith in
       let size : 2 ^ (levels - level) ≡ 2 * n = halves levels level h
-          ∙ ap (λ k. 2 * 2 ^ (levels - k)) next in
+      ∙ ap (λ k. 2 * 2 ^ (levels - k)) next in
       ap (λ m. siblings_of (filter (is_known indices level) (range_with_len 0 m))) size
       ∙ siblings-pairs (is_known indices level) 0 n
       ∙ ap (λ m. filter (is_taken indices level) (range_with_len 0 m)) (sym size)
@@ -77,7 +77,10 @@ pub known-root : (indices : List ℕ) (levels : ℕ) → 1 ≤ length indices �
 known-root indices levels some below =
     let first = slice_index_or indices 0 0 in
     let lt : first < 2 ^ (0 + levels) =
-        omega (arith, below 0 0 some,
-        (let e : 0 + levels ≡ levels = omega arith in ap (λ k. 2 ^ k) e)) in
+    omega (
+      arith,
+      below 0 0 some,
+      (let e : 0 + levels ≡ levels = omega arith in ap (λ k. 2 ^ k) e),
+    ) in
     list_any_at (λ index. index / 2 ^ levels == 0) indices 0 0 (omega arith)
-        (eq-eqb (first / 2 ^ levels) 0 (omega (arith, shr_below first 0 levels lt)))
+    (eq-eqb (first / 2 ^ levels) 0 (omega (arith, shr_below first 0 levels lt)))

@@ -23,10 +23,13 @@ pub items-at : {X A : Type 0} (f : ℕ → List X) (n k : ℕ) (vs : List (Vec X
     v ≡ get_or vs k v → v.items ≡ f k
 items-at f n k vs v e lt at =
     let long : k < length vs =
-        omega (arith, sym (length-map vs (λ v. v.items)) ∙ ap length e
-        ∙ length-map-range_with_len f 0 n) in
+    omega (
+      arith,
+      sym (length-map vs (λ v. v.items)) ∙ ap length e
+          ∙ length-map-range_with_len f 0 n,
+    ) in
     ap (λ v. v.items) at ∙ sym (get_or-map (λ v. v.items) vs k v [] long)
-        ∙ ap (λ xs. get_or xs k []) e ∙ get_or-map-range_with_len f 0 n k k [] lt (omega arith)
+    ∙ ap (λ xs. get_or xs k []) e ∙ get_or-map-range_with_len f 0 n k k [] lt (omega arith)
 
 -- how many vectors there are
 pub items-count : {X A : Type 0} (f : ℕ → List X) (n : ℕ) (vs : List (Vec X A)) →
@@ -40,8 +43,8 @@ pub items-more : {X A : Type 0} (f : ℕ → List X) (n : ℕ) (vs : List (Vec X
     map (λ v. v.items) (vs ++ v ∷ []) ≡ map f (range_with_len 0 (n + 1))
 items-more f n vs v e here =
     map-append (λ v. v.items) vs (v ∷ []) ∙ ap (λ xs. xs ++ v.items ∷ []) e
-        ∙ ap (λ x. map f (range_with_len 0 n) ++ x ∷ []) here
-        ∙ sym (map-range_with_len_more f 0 n n (omega arith))
+    ∙ ap (λ x. map f (range_with_len 0 n) ++ x ∷ []) here
+    ∙ sym (map-range_with_len_more f 0 n n (omega arith))
 
 -- maps that agree on a list's elements
 pub map-same : {X Y : Type 0} (f h : X → Y) (xs : List X) → All (λ x. f x ≡ h x) xs →

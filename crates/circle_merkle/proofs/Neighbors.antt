@@ -21,7 +21,7 @@ module _ {X : Type 0} (f : ℕ → ℕ) (r : ℕ → X) (n : ℕ) (ascending : (
       let last : f (i + d + 1) ≡ f (i + suc d) = ap f s in
       let low : f i ≤ f (i + d) = ascending i (i + d) (omega arith) (omega arith) in
       let high : f (i + d) ≤ f (i + d + 1) =
-          ascending (i + d) (i + d + 1) (omega arith) (omega arith) in
+      ascending (i + d) (i + d + 1) (omega arith) (omega arith) in
       chain i d (omega arith) (omega arith) ∙ neighbors (i + d) (omega arith) (omega arith) ∙ ap r s
 
   pub chained : (i k : ℕ) → i ≤ k → k < n → f i ≡ f k → r i ≡ r k
@@ -35,8 +35,11 @@ module _ {T : Type 0} (indices : List ℕ) (order : List (ℕ × ℕ)) (ordered 
       (nth order opened i).0 / divisor ≤ (nth order opened k).0 / divisor
   ascending pos i k le h =
       (le-div_iff_mul-le pos).1
-      (omega (arith, div-mul-le_self (nth order opened i).0 divisor,
-      order-rises indices order ordered i k (0, 0) le h))
+      (omega (
+        arith,
+        div-mul-le_self (nth order opened i).0 divisor,
+        order-rises indices order ordered i k (0, 0) le h,
+      ))
 
   -- where the k-th of the indices stands in the order
   placed-at : (k : ℕ) → k < length indices → (a : ℕ) × (a < length order)
@@ -49,14 +52,14 @@ module _ {T : Type 0} (indices : List ℕ) (order : List (ℕ × ℕ)) (ordered 
   pub agree-all : 1 ≤ divisor →
       ((k : ℕ) → k + 1 < length order → NeighborsAgree order opened divisor j k) →
       (k l : ℕ) → k < length indices → l < length indices → slice_index indices k / divisor
-          ≡ slice_index indices l / divisor →
+      ≡ slice_index indices l / divisor →
       slice_index_or (slice_index_or opened k []) j []
-          ≡ slice_index_or (slice_index_or opened l []) j []
+      ≡ slice_index_or (slice_index_or opened l []) j []
   agree-all pos neighbors k l hk hl e =
       let a = placed-at k hk in
       let b = placed-at l hl in
       let first : (nth order opened a.0).0 / divisor ≡ (nth order opened b.0).0 / divisor =
-          ap (λ x. x.0 / divisor) a.2 ∙ e ∙ ap (λ x. x.0 / divisor) (sym b.2) in
+      ap (λ x. x.0 / divisor) a.2 ∙ e ∙ ap (λ x. x.0 / divisor) (sym b.2) in
       let f = λ (k : ℕ). (nth order opened k).0 / divisor in
       let r = row_of order opened j in
       let rows : r a.0 ≡ r b.0 =
@@ -65,13 +68,13 @@ module _ {T : Type 0} (indices : List ℕ) (order : List (ℕ × ℕ)) (ordered 
       (λ ge. sym (chained f r (length order) (ascending pos) neighbors b.0 a.0 ge a.1 (sym first)))
       (cases_lt a.0 b.0) in
       ap (λ x. slice_index_or (slice_index_or opened x.1 []) j []) (sym a.2) ∙ rows
-          ∙ ap (λ x. slice_index_or (slice_index_or opened x.1 []) j []) b.2
+      ∙ ap (λ x. slice_index_or (slice_index_or opened x.1 []) j []) b.2
 
   -- and the other way round
   pub agree-neighbors : ((k l : ℕ) → k < length indices → l < length indices →
       slice_index indices k / divisor ≡ slice_index indices l / divisor →
       slice_index_or (slice_index_or opened k []) j []
-          ≡ slice_index_or (slice_index_or opened l []) j []) →
+      ≡ slice_index_or (slice_index_or opened l []) j []) →
       (k : ℕ) → k + 1 < length order → NeighborsAgree order opened divisor j k
   agree-neighbors agree k h e =
       let here = order-placed indices order ordered k (0, 0) (omega arith) in

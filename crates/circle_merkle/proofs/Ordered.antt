@@ -26,21 +26,24 @@ Le x y = (x.0 ≤ y.0) × (x.0 ≡ y.0 → x.1 ≤ y.1)
 le-compared : (x y : ℕ × ℕ) → is_lt (compared y x) ≡ false → Le x y
 le-compared x y h =
     by_ranked (y.0 < x.0) (y.0 ≡ x.0) (x.0 < y.0) (nat_cmp y.0 x.0)
-        (ranked y.0 x.0 (nat_cmp y.0 x.0) refl)
+    (ranked y.0 x.0 (nat_cmp y.0 x.0) refl)
     (λ e lt. absurd (let no : true ≡ false =
-        sym (ap (λ o. is_lt (ordering_then o (nat_cmp y.1 x.1))) e) ∙ h in cc))
-    (λ e same.
-        (omega arith,
-        λ _. ge_from_not_lt y.1 x.1 (sym (ap (λ o. is_lt (ordering_then o (nat_cmp y.1 x.1))) e)
-        ∙ h)))
+    sym (ap (λ o. is_lt (ordering_then o (nat_cmp y.1 x.1))) e) ∙ h in cc))
+    (λ e same. (
+      omega arith,
+      λ _. ge_from_not_lt y.1 x.1 (sym (ap (λ o. is_lt (ordering_then o (nat_cmp y.1 x.1))) e)
+          ∙ h),
+    ))
     (λ e gt. (omega arith, λ s. absurd (omega arith)))
 
 le-trans : (x y z : ℕ × ℕ) → Le x y → Le y z → Le x z
 le-trans x y z a b =
     let low : x.0 ≤ y.0 = a.0 in
-    let high : y.0 ≤ z.0 = b.0 in
-    (omega arith, λ e. let first : x.1 ≤ y.1 = a.1 (omega arith) in let second : y.1 ≤ z.1 =
-        b.1 (omega arith) in omega arith)
+    let high : y.0 ≤ z.0 = b.0 in (
+      omega arith,
+      λ e. let first : x.1 ≤ y.1 = a.1 (omega arith) in let second : y.1 ≤ z.1 =
+          b.1 (omega arith) in omega arith,
+    )
 
 -- each entry stands no later than the next
 abbrev Rises : ℕ × ℕ → List (ℕ × ℕ) → Type 0
@@ -51,13 +54,14 @@ sorted-tail : (x : ℕ × ℕ) (xs : List (ℕ × ℕ)) → IsSorted compared (x
 sorted-tail x xs sorted = λ k d low h.
     let e : suc k + 1 ≡ suc (k + 1) = omega arith in
     subst (λ j. is_lt (compared (get_or (x ∷ xs) j d) (get_or xs k d)) ≡ false) e
-        (sorted (suc k) d (omega arith) (omega arith))
+    (sorted (suc k) d (omega arith) (omega arith))
 
 rises : (k : ℕ × ℕ) (xs : List (ℕ × ℕ)) → IsSorted compared (k ∷ xs) → Rises k xs
 rises k [] sorted = tt
-rises k (x ∷ xs) sorted =
-    (le-compared k x (sorted 0 k (omega arith) (omega arith)),
-    rises x xs (sorted-tail k (x ∷ xs) sorted))
+rises k (x ∷ xs) sorted = (
+  le-compared k x (sorted 0 k (omega arith) (omega arith)),
+  rises x xs (sorted-tail k (x ∷ xs) sorted),
+)
 
 rises-skip : (k x : ℕ × ℕ) (xs : List (ℕ × ℕ)) → Le k x → Rises x xs → Rises k xs
 rises-skip k x [] le h = tt
@@ -79,9 +83,9 @@ IsLeast xs e = All (λ x. x.0 ≡ e.0 → e.1 ≤ x.1) xs
 
 least-cond : (b : Bool) (k x : ℕ × ℕ) (xs : List (ℕ × ℕ)) → (x.0 == k.0) ≡ b → Le k x → Rises x xs →
     All (IsLeast (k ∷ xs)) (dedup_from same_index k xs) →
-        All (IsLeast (x ∷ xs)) (dedup_from same_index x xs) →
+    All (IsLeast (x ∷ xs)) (dedup_from same_index x xs) →
     All (IsLeast (k ∷ x ∷ xs))
-        (cond b (dedup_from same_index k xs) (k ∷ dedup_from same_index x xs))
+    (cond b (dedup_from same_index k xs) (k ∷ dedup_from same_index x xs))
 least-cond true k x xs test le h ih jh =
     let same : x.0 ≡ k.0 = eqb-true x.0 k.0 test in
     All-weaker (IsLeast (k ∷ xs)) (IsLeast (k ∷ x ∷ xs))
@@ -90,7 +94,7 @@ least-cond true k x xs test le h ih jh =
     All-cons (λ y. y.0 ≡ e.0 → e.1 ≤ y.1) k (x ∷ xs) first
     (All-cons (λ y. y.0 ≡ e.0 → e.1 ≤ y.1) x xs
     (λ s. let one : e.1 ≤ k.1 = first (omega arith) in let two : k.1 ≤ x.1 = le.1 (omega arith) in
-        omega arith)
+    omega arith)
     (All-tail (λ y. y.0 ≡ e.0 → e.1 ≤ y.1) k xs least)))
     (dedup_from same_index k xs) ih
 least-cond false k x xs test le h ih jh =
@@ -101,8 +105,8 @@ least-cond false k x xs test le h ih jh =
     let first : IsLeast (k ∷ x ∷ xs) k =
     All-cons (λ y. y.0 ≡ k.0 → k.1 ≤ y.1) k (x ∷ xs) (λ _. omega arith)
     (All-weaker (λ y. Le x y) (λ y. y.0 ≡ k.0 → k.1 ≤ y.1)
-        (λ y above s. absurd (let high : x.0 ≤ y.0 = above.0 in omega (arith, ne))) (x ∷ xs)
-        later) in
+    (λ y above s. absurd (let high : x.0 ≤ y.0 = above.0 in omega (arith, ne))) (x ∷ xs)
+    later) in
     All-cons (IsLeast (k ∷ x ∷ xs)) k (dedup_from same_index x xs) first
     (λ i d lt.
     let e = slice_index_or (dedup_from same_index x xs) i d in
@@ -138,9 +142,9 @@ indices-from k [] = refl
 indices-from k (x ∷ xs) =
     cond-indices (x.0 == k.0) (dedup_from same_index k xs) (k ∷ dedup_from same_index x xs)
     ∙ ap (λ ys. cond (x.0 == k.0) ys (k.0 ∷ indices_of (dedup_from same_index x xs)))
-        (indices-from k xs)
+    (indices-from k xs)
     ∙ ap (λ ys. cond (x.0 == k.0) (dedup_from eqb k.0 (indices_of xs)) (k.0 ∷ ys))
-        (indices-from x xs)
+    (indices-from x xs)
 
 indices-dedup : (xs : List (ℕ × ℕ)) → indices_of (dedup same_index xs) ≡ dedup eqb (indices_of xs)
 indices-dedup [] = refl
@@ -164,7 +168,7 @@ place-first level i (index ∷ indices) zero lt e others =
     ap (λ b. if b then 0 else suc (place_of indices level i)) (eq-eqb (index / 2 ^ level) i e)
 place-first level i (index ∷ indices) (suc k) lt e others =
     ap (λ b. if b then 0 else suc (place_of indices level i))
-        (ne_eqb (index / 2 ^ level) i (others 0 (omega arith)))
+    (ne_eqb (index / 2 ^ level) i (others 0 (omega arith)))
     ∙ ap suc (place-first level i indices k (omega arith) e (λ j h. others (suc j) (omega arith)))
 
 -- an entry has the index that stands at its place
@@ -189,7 +193,7 @@ module _ (indices : List ℕ) (order : List (ℕ × ℕ)) (ordered : IsOrdered i
       let n = length indices in
       let e : ℕ × ℕ = (slice_index indices k, k) in
       let long : k < length (placed indices) =
-          omega (arith, lt, length-map-range_with_len (entry_at indices) 0 n) in
+      omega (arith, lt, length-map-range_with_len (entry_at indices) 0 n) in
       Contains-permutation (placed indices) order e ordered.permuted
       (k, long, get_or-map-range_with_len (entry_at indices) 0 n k k e lt (omega arith))
 
@@ -198,9 +202,9 @@ module _ (indices : List ℕ) (order : List (ℕ × ℕ)) (ordered : IsOrdered i
       (get_or order i d).0 ≤ (get_or order k d).0
   order-rises i k d le h =
       IsNonDecreasingBy-from_all_adjacent (λ e. e.0) order
-          (λ k d h.
-          (le-compared (get_or order k d) (get_or order (k + 1) d)
-          (ordered.ascending k d (omega arith) h)).0) i k d le h
+      (λ k d h.
+      (le-compared (get_or order k d) (get_or order (k + 1) d)
+      (ordered.ascending k d (omega arith) h)).0) i k d le h
 
   indices-sorted : IsSorted nat_cmp (indices_of order)
   indices-sorted = λ k d low h.
@@ -209,16 +213,16 @@ module _ (indices : List ℕ) (order : List (ℕ × ℕ)) (ordered : IsOrdered i
       let here = get_or-map (λ e. e.0) order k none d (omega (arith, h, count)) in
       let next = get_or-map (λ e. e.0) order (k + 1) none d (omega (arith, h, count)) in
       let le : (get_or order k none).0 ≤ (get_or order (k + 1) none).0 =
-          (le-compared (get_or order k none) (get_or order (k + 1) none)
-          (ordered.ascending k none low (omega (arith, h, count)))).0 in
+      (le-compared (get_or order k none) (get_or order (k + 1) none)
+      (ordered.ascending k none low (omega (arith, h, count)))).0 in
       ap (λ x. is_lt (nat_cmp x (get_or (indices_of order) k d))) next
-          ∙ ap (λ y. is_lt (nat_cmp (get_or order (k + 1) none).0 y)) here
+      ∙ ap (λ y. is_lt (nat_cmp (get_or order (k + 1) none).0 y)) here
       ∙ by_ranked ((get_or order (k + 1) none).0 < (get_or order k none).0)
-          ((get_or order (k + 1) none).0 ≡ (get_or order k none).0)
-          ((get_or order k none).0 < (get_or order (k + 1) none).0)
+      ((get_or order (k + 1) none).0 ≡ (get_or order k none).0)
+      ((get_or order k none).0 < (get_or order (k + 1) none).0)
       (nat_cmp (get_or order (k + 1) none).0 (get_or order k none).0)
-          (ranked (get_or order (k + 1) none).0 (get_or order k none).0
-          (nat_cmp (get_or order (k + 1) none).0 (get_or order k none).0) refl)
+      (ranked (get_or order (k + 1) none).0 (get_or order k none).0
+      (nat_cmp (get_or order (k + 1) none).0 (get_or order k none).0) refl)
       (λ e lt. absurd (omega arith)) (λ e same. ap is_lt e) (λ e gt. ap is_lt e)
 
   left-placed : All (λ e. place_of indices 0 e.0 ≡ e.1) (dedup same_index order)
@@ -242,15 +246,15 @@ module _ (indices : List ℕ) (order : List (ℕ × ℕ)) (ordered : IsOrdered i
   as-map (x ∷ xs) all =
       ap (λ k. (x.0, k) ∷ xs) (sym (All-head (λ e. place_of indices 0 e.0 ≡ e.1) x xs all))
       ∙ ap (λ ys. (x.0, place_of indices 0 x.0) ∷ ys)
-          (as-map xs (All-tail (λ e. place_of indices 0 e.0 ≡ e.1) x xs all))
+      (as-map xs (All-tail (λ e. place_of indices 0 e.0 ≡ e.1) x xs all))
 
   -- what is left are the distinct indices with the places of the first
   pub ordered-firsts : (levels : ℕ) → All (λ i. i < 2 ^ levels) indices → dedup same_index order
       ≡ first_places indices levels
   ordered-firsts levels below =
       let permuted = subst (λ xs. IsPermutation xs (indices_of order)) (indices-placed indices)
-          (IsPermutation-map (λ e. e.0) (placed indices) order ordered.permuted) in
+      (IsPermutation-map (λ e. e.0) (placed indices) order ordered.permuted) in
       as-map (dedup same_index order) left-placed
       ∙ ap (map (λ p. (p, place_of indices 0 p)))
-          (indices-dedup order ∙ known-sorted indices (indices_of order) levels permuted
-          indices-sorted below)
+      (indices-dedup order ∙ known-sorted indices (indices_of order) levels permuted
+      indices-sorted below)

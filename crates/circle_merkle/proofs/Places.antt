@@ -22,8 +22,8 @@ place-above (index ∷ indices) level p =
     ap (λ y. if y == p then 0 else suc (place_of indices (suc level) p)) (shift-more index level)
     ∙ ap (λ b. if b then 0 else suc (place_of indices (suc level) p)) (half-is x p)
     ∙ least-or (x == 2 * p) (x == 2 * p + 1) (place_of indices level (2 * p))
-        (place_of indices level (2 * p + 1)) (place_of indices (suc level) p)
-        (place-above indices level p)
+    (place_of indices level (2 * p + 1)) (place_of indices (suc level) p)
+    (place-above indices level p)
 
 place-cond : (b : Bool) (k n : ℕ) → k ≤ n → (if b then 0 else suc k) ≤ suc n
 place-cond true k n h = omega arith
@@ -47,7 +47,7 @@ place-none : (indices : List ℕ) (level p : ℕ) → is_known indices level p �
 place-none [] level p h = refl
 place-none (index ∷ indices) level p h =
     place-none-cond (index / 2 ^ level == p) (is_known indices level p) (place_of indices level p)
-        (length indices) h (place-none indices level p)
+    (length indices) h (place-none indices level p)
 
 module _ (up : ℕ → List ℕ → List ℕ → List ℕ) (known given : ℕ → List ℕ) (indices : List ℕ)
     (level : ℕ) where
@@ -56,11 +56,19 @@ module _ (up : ℕ → List ℕ → List ℕ → List ℕ) (known given : ℕ �
       PlaceIs up known given (place_of indices level) (place_of indices (suc level)) a t u
   pairs-cond a true true e f = sym (place-above indices level a)
   pairs-cond a true false e f =
-      omega (arith, place-above indices level a, place-within indices level (2 * a),
-      place-none indices level (2 * a + 1) f)
+      omega (
+        arith,
+        place-above indices level a,
+        place-within indices level (2 * a),
+        place-none indices level (2 * a + 1) f,
+      )
   pairs-cond a false true e f =
-      omega (arith, place-above indices level a, place-within indices level (2 * a + 1),
-      place-none indices level (2 * a) e)
+      omega (
+        arith,
+        place-above indices level a,
+        place-within indices level (2 * a + 1),
+        place-none indices level (2 * a) e,
+      )
   pairs-cond a false false e f = tt
 
   pub place-pairs : (a : ℕ) →

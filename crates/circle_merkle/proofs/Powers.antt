@@ -25,7 +25,7 @@ pub exponent_within : (h l : ℕ) → 2 ^ h ≤ 2 ^ l → h ≤ l
 exponent_within h l le =
     ⊎_elim
     (λ lt. absurd (let next : 2 ^ suc l ≤ 2 ^ h = pow_within (suc l) h lt in
-        omega (arith, next, pow-suc 2 l, pow_pos l)))
+    omega (arith, next, pow-suc 2 l, pow_pos l)))
     (λ ge. ge)
     (cases_lt l h)
 

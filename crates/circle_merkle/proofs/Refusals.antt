@@ -26,6 +26,6 @@ module _ {T : Type 0} (hash : List ℕ → List ℕ) (bytes : T → List ℕ) (c
   pub refused-first : {A : Type 0} (r : Result A MerkleTreeError) →
       IfErr r (IsFirstRefusal hash bytes commitment dims indices opened proof) →
       IfErr r (λ e. Authenticates hash bytes commitment dims indices opened proof →
-          IsTrue (says_memory e))
+      IsTrue (says_memory e))
   refused-first (Ok x) h = tt
   refused-first (Err e) h = refusal-excludes e h

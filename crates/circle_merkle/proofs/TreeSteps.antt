@@ -39,33 +39,34 @@ module _ (hash : List ℕ → List ℕ) {T : Type 0} (bytes : T → List ℕ)
   module _ (level height i : ℕ) (left right : List ℕ)
       (e : size_of (dimensions_of matrices) (suc level) ≡ height)
       (l : digest hash rows level (2 * i) ≡ left) (r : digest hash rows level (2 * i + 1) ≡ right)
-          where
-    node : node_digest hash (digest hash rows level (2 * i)) (digest hash rows level (2 * i + 1))
-        ≡ node_digest hash left right
-    node = ap (λ x. node_digest hash x (digest hash rows level (2 * i + 1))) l
-        ∙ ap (λ y. node_digest hash left y) r
+    where
+      node : node_digest hash (digest hash rows level (2 * i)) (digest hash rows level (2 * i + 1))
+          ≡ node_digest hash left right
+      node = ap (λ x. node_digest hash x (digest hash rows level (2 * i + 1))) l
+          ∙ ap (λ y. node_digest hash left y) r
 
-    pub digest-joined : list_any (λ m. height_of m == height) matrices ≡ true →
-        hash ((2 ∷ node_digest hash left right)
-        ++ rows_digest hash (matrix_bytes bytes height i matrices)) ≡ digest hash rows (suc level) i
-    digest-joined some =
-        let here = digest hash rows level in
-        sym
-            (ap
-            (λ b. if b then hash ((2 ∷ node_digest hash (here (2 * i)) (here (2 * i + 1)))
-            ++ rows_digest hash (rows.bytes (suc level) i)) else node_digest hash (here (2 * i))
-            (here (2 * i + 1))) (stand-at (suc level) height e ∙ some)
-        ∙ ap (λ n. hash ((2 ∷ n) ++ rows_digest hash (rows.bytes (suc level) i))) node
-        ∙ ap (λ b. hash ((2 ∷ node_digest hash left right) ++ rows_digest hash b))
-            (bytes-at (suc level) height i e))
+      pub digest-joined : list_any (λ m. height_of m == height) matrices ≡ true →
+          hash ((2 ∷ node_digest hash left right)
+          ++ rows_digest hash (matrix_bytes bytes height i matrices))
+          ≡ digest hash rows (suc level) i
+      digest-joined some =
+          let here = digest hash rows level in
+          sym
+          (ap
+          (λ b. if b then hash ((2 ∷ node_digest hash (here (2 * i)) (here (2 * i + 1)))
+          ++ rows_digest hash (rows.bytes (suc level) i)) else node_digest hash (here (2 * i))
+          (here (2 * i + 1))) (stand-at (suc level) height e ∙ some)
+          ∙ ap (λ n. hash ((2 ∷ n) ++ rows_digest hash (rows.bytes (suc level) i))) node
+          ∙ ap (λ b. hash ((2 ∷ node_digest hash left right) ++ rows_digest hash b))
+          (bytes-at (suc level) height i e))
 
-    pub digest-plain : list_any (λ m. height_of m == height) matrices ≡ false →
-        node_digest hash left right ≡ digest hash rows (suc level) i
-    digest-plain none =
-        let here = digest hash rows level in
-        sym
-            (ap
-            (λ b. if b then hash ((2 ∷ node_digest hash (here (2 * i)) (here (2 * i + 1)))
-            ++ rows_digest hash (rows.bytes (suc level) i)) else node_digest hash (here (2 * i))
-            (here (2 * i + 1))) (stand-at (suc level) height e ∙ none)
-        ∙ node)
+      pub digest-plain : list_any (λ m. height_of m == height) matrices ≡ false →
+          node_digest hash left right ≡ digest hash rows (suc level) i
+      digest-plain none =
+          let here = digest hash rows level in
+          sym
+          (ap
+          (λ b. if b then hash ((2 ∷ node_digest hash (here (2 * i)) (here (2 * i + 1)))
+          ++ rows_digest hash (rows.bytes (suc level) i)) else node_digest hash (here (2 * i))
+          (here (2 * i + 1))) (stand-at (suc level) height e ∙ none)
+          ∙ node)

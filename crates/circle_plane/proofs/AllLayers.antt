@@ -36,7 +36,7 @@ pub factors-taken : {F : Type 0} (f : ℕ → List F) (twiddles : List (Vec F Gl
 factors-taken f twiddles n h l made le below =
     ap (λ all. slice_index_or all l []) (sym (take-map (λ v. v.items) h twiddles))
     ∙ get_or-take h (map (λ v. v.items) twiddles) l [] below
-        ∙ factors-made f twiddles n l made (omega (arith, le, below))
+    ∙ factors-made f twiddles n l made (omega (arith, le, below))
 
 module _ {F : Type 0} (k : FieldOps F) (gen : ℕ → Coordinates F) (n : ℕ) (s : Coordinates F) where
   -- the blocks of a layer make up the entries
@@ -50,9 +50,9 @@ module _ {F : Type 0} (k : FieldOps F) (gen : ℕ → Coordinates F) (n : ℕ) (
       m ≤ n → ((l : ℕ) → l < m → fs l ≡ layer_factors k gen n s l) →
       length entries ≡ 2 ^ n * width →
       remaining k gen n s 0
-          (stored_column k.zero width j (2 ^ n)
-          (descending (plus_multiple k) (minus_multiple k) width fs m entries))
-          ≡ remaining k gen n s m (stored_column k.zero width j (2 ^ n) entries)
+      (stored_column k.zero width j (2 ^ n)
+      (descending (plus_multiple k) (minus_multiple k) width fs m entries))
+      ≡ remaining k gen n s m (stored_column k.zero width j (2 ^ n) entries)
   forward-all width j h fs zero entries le same long = refl
   forward-all width j h fs (suc m) entries le same long =
       let lt : m < n = omega (arith, le) in
@@ -60,17 +60,17 @@ module _ {F : Type 0} (k : FieldOps F) (gen : ℕ → Coordinates F) (n : ℕ) (
       let ts = fs m in
       let own : ts ≡ layer_factors k gen n s m = same m (omega arith) in
       let count : length ts ≡ 2 ^ (n - (m + 1)) =
-          ap length own ∙ length-layer_factors k gen n m s in
+      ap length own ∙ length-layer_factors k gen n m s in
       let made = forward k half ts entries in
       let kept : length made ≡ 2 ^ n * width =
-          length-layer (plus_multiple k) (minus_multiple k) half ts entries
-          (long ∙ sym (layer-entries width m ts lt count)) ∙ long in
+      length-layer (plus_multiple k) (minus_multiple k) half ts entries
+      (long ∙ sym (layer-entries width m ts lt count)) ∙ long in
       let one : m + 1 ≡ suc m = omega arith in
       forward-all width j h fs m made (omega (arith, le)) (λ l below. same l (omega (arith, below)))
-          kept
+      kept
       ∙ ap
-          (λ us. remaining k gen n s m
-          (stored_column k.zero width j (2 ^ n) (forward k half us entries))) own
+      (λ us. remaining k gen n s m
+      (stored_column k.zero width j (2 ^ n) (forward k half us entries))) own
       ∙ forward-pass k gen n s width j h m entries lt long
       ∙ ap (λ i. remaining k gen n s i (stored_column k.zero width j (2 ^ n) entries)) one
 
@@ -86,12 +86,12 @@ module _ {F : Type 0} {k : FieldOps F} (laws : FieldLaws k) {gen : ℕ → Coord
   length-ascending width fs (suc m) entries le same long =
       let made = ascending (total k) (scaled_difference k) width fs m entries in
       let before : length made ≡ 2 ^ n * width =
-          length-ascending width fs m entries (omega (arith, le))
-          (λ l below. same l (omega (arith, below))) long in
+      length-ascending width fs m entries (omega (arith, le))
+      (λ l below. same l (omega (arith, below))) long in
       let count : length (fs m) ≡ 2 ^ (n - (m + 1)) = ap length (same m (omega arith))
-          ∙ length-map (layer_factors k gen n s m) k.inv ∙ length-layer_factors k gen n m s in
+      ∙ length-map (layer_factors k gen n s m) k.inv ∙ length-layer_factors k gen n m s in
       length-layer (total k) (scaled_difference k) (2 ^ m * width) (fs m) made
-          (before ∙ sym (layer-entries k gen n s width m (fs m) (omega (arith, le)) count)) ∙ before
+      (before ∙ sym (layer-entries k gen n s width m (fs m) (omega (arith, le)) count)) ∙ before
 
   -- from values to multiples of the coefficients
   pub backward-all : (width j : ℕ) → j < width →
@@ -99,11 +99,11 @@ module _ {F : Type 0} {k : FieldOps F} (laws : FieldLaws k) {gen : ℕ → Coord
       ((l : ℕ) → l < m → fs l ≡ map k.inv (layer_factors k gen n s l)) →
       length entries ≡ 2 ^ n * width →
       remaining k gen n s 0 (stored_column k.zero width j (2 ^ n) entries)
-          ≡ map (k.mul (nth_power k (two k) 0)) given →
+      ≡ map (k.mul (nth_power k (two k) 0)) given →
       remaining k gen n s m
-          (stored_column k.zero width j (2 ^ n)
-          (ascending (total k) (scaled_difference k) width fs m entries))
-          ≡ map (k.mul (nth_power k (two k) m)) given
+      (stored_column k.zero width j (2 ^ n)
+      (ascending (total k) (scaled_difference k) width fs m entries))
+      ≡ map (k.mul (nth_power k (two k) m)) given
   backward-all width j h fs zero entries given le same long e = e
   backward-all width j h fs (suc m) entries given le same long e =
       let made = ascending (total k) (scaled_difference k) width fs m entries in
@@ -112,15 +112,15 @@ module _ {F : Type 0} {k : FieldOps F} (laws : FieldLaws k) {gen : ℕ → Coord
       let long' = length-ascending width fs m entries (omega (arith, le)) fewer long in
       let one : suc m ≡ m + 1 = omega arith in
       ap
-          (λ us. remaining k gen n s (suc m)
-          (stored_column k.zero width j (2 ^ n) (backward k (2 ^ m * width) us made)))
-          (same m (omega arith))
+      (λ us. remaining k gen n s (suc m)
+      (stored_column k.zero width j (2 ^ n) (backward k (2 ^ m * width) us made)))
+      (same m (omega arith))
       ∙ ap
-          (λ i. remaining k gen n s i
-          (stored_column k.zero width j (2 ^ n)
-          (backward k (2 ^ m * width) (map k.inv (layer_factors k gen n s m)) made))) one
+      (λ i. remaining k gen n s i
+      (stored_column k.zero width j (2 ^ n)
+      (backward k (2 ^ m * width) (map k.inv (layer_factors k gen n s m)) made))) one
       ∙ backward-pass laws gens n s fits on_circle genuine width j h m made given
-          (omega (arith, le)) long' before
+      (omega (arith, le)) long' before
       ∙ ap (λ i. map (k.mul (nth_power k (two k) i)) given) (sym one)
 
 -- the number of copies, as a word's shift makes it
@@ -137,7 +137,7 @@ copied-long n h width stored le long =
     let size : 2 ^ (n - h) * 2 ^ h ≡ 2 ^ n = sym (pow-add 2 (n - h) h) ∙ ap (λ i. 2 ^ i) sum in
     length-copies (2 ^ (n - h)) stored ∙ ap (λ l. 2 ^ (n - h) * l) long
     ∙ (let e : 2 ^ (n - h) * (2 ^ h * width) ≡ 2 ^ (n - h) * 2 ^ h * width = omega arith in e)
-        ∙ ap (λ t. t * width) size
+    ∙ ap (λ t. t * width) size
 
 -- half of a domain's points
 pub halved : (n : ℕ) → 1 ≤ n → 2 ^ n ≡ 2 ^ (n - 1) + 2 ^ (n - 1)

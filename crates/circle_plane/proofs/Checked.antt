@@ -9,29 +9,30 @@ use Rattle.circle_plane.specs.declared.periodic.PeriodicError.TheVariants.{Memor
 use Rattle.circle_plane.proofs.Periods.{greatest-positive, entries-counted}
 
 pub record AreChecked {F : Type 0} (n m period height : ℕ) (table : List (Vec F Global)) : Type 0
-    where
-  pub listed : length (columns_of table) ≡ length table
-  pub some : 1 ≤ length (columns_of table)
-  pub positive : 1 ≤ period
-  pub fit : All (IsPeriod (2 ^ n)) (map length (columns_of table))
-  pub tall : height ≡ table_height (map length (columns_of table)) (m - n)
-  pub counted : table_height (map length (columns_of table)) (m - n) * length (columns_of table) < 2
-      ^ 64
-  pub memory : IsRefusal (2 ^ n) (map length (columns_of table)) (m - n) Memory
+  where
+    pub listed : length (columns_of table) ≡ length table
+    pub some : 1 ≤ length (columns_of table)
+    pub positive : 1 ≤ period
+    pub fit : All (IsPeriod (2 ^ n)) (map length (columns_of table))
+    pub tall : height ≡ table_height (map length (columns_of table)) (m - n)
+    pub counted : table_height (map length (columns_of table)) (m - n) * length (columns_of table) <
+        2
+        ^ 64
+    pub memory : IsRefusal (2 ^ n) (map length (columns_of table)) (m - n) Memory
 
 pub checked : {F : Type 0} (table : List (Vec F Global)) (n m a b size period height : ℕ) →
     length table ≢ 0 → size ≡ 2 ^ n → a ≡ m → b ≡ n →
     All (IsPeriod size) (map length (columns_of table)) →
-        period ≡ greatest (map length (columns_of table)) →
+    period ≡ greatest (map length (columns_of table)) →
     height ≡ period * 2 ^ (a - b) → period * 2 ^ (a - b) * length table < 2 ^ 64 →
-        AreChecked n m period height table
+    AreChecked n m period height table
 checked table n m a b size period height nonempty e_s e_a e_b fits longest tall counted =
     let columns = columns_of table in
     let periods = map length columns in
     let listed : length columns ≡ length table = length-map table (λ column. column.items) in
     let same : length periods ≡ length columns = length-map columns length in
     let total = entries-counted periods period a b m n (length table) longest e_a e_b
-        (sym (same ∙ listed)) in
+    (sym (same ∙ listed)) in
     let fit : All (IsPeriod (2 ^ n)) periods = subst (λ i. All (IsPeriod i) periods) e_s fits in
     let least = greatest-positive (2 ^ n) periods (omega (arith, nonempty, listed, same)) fit in
     record {

@@ -43,42 +43,48 @@ pub columns-powers : {F : Type 0} (size : ℕ) (columns : List (List F)) →
     All (IsPeriod size) (map length columns) → All (λ column. IsPowerOfTwo (length column)) columns
 columns-powers size columns fit c d lt =
     subst IsPowerOfTwo (get_or-map length columns c d (length d) lt)
-        (fit c (length d) (omega (arith, lt, length-map columns length))).0
+    (fit c (length d) (omega (arith, lt, length-map columns length))).0
 
 -- columns of one entry are their own extensions
 pub constant-extended : {F : Type 0} (k : FieldOps F) (gen : ℕ → Coordinates F) (bits n m : ℕ)
     (s : Coordinates F) (columns rows : List (List F)) (size height : ℕ) →
     All (IsPeriod size) (map length columns) → greatest (map length columns) ≡ 1 → 1 ≤ height →
-        rows ≡ map (table_row k.zero columns) (range_with_len 0 height) →
+    rows ≡ map (table_row k.zero columns) (range_with_len 0 height) →
     AreExtended k gen bits n m s columns rows
 constant-extended k gen bits n m s columns rows size height fit longest positive is =
     record {
       values = λ fits i c p here lt.
           let list = slice_index_or columns c [] in
           let within : c < length (map length columns) =
-              omega (arith, lt, length-map columns length) in
+          omega (arith, lt, length-map columns length) in
           let at : slice_index_or (map length columns) c 0 ≡ length list =
-              get_or-map length columns c [] 0 lt in
+          get_or-map length columns c [] 0 lt in
           let power = (fit c 0 within).0 in
           let one : length list ≡ 1 =
-              omega (arith, below-greatest (map length columns) c 0 within, longest, at, power.1,
-              pow_pos power.0) in
+          omega (
+            arith,
+            below-greatest (map length columns) c 0 within,
+            longest,
+            at,
+            power.1,
+            pow_pos power.0,
+          ) in
           let tall : length rows ≡ height =
-              ap length is ∙ length-map-range_with_len (table_row k.zero columns) 0 height in
+          ap length is ∙ length-map-range_with_len (table_row k.zero columns) 0 height in
           let r = i % length rows in
           let below : r < height =
-              (let low : r < length rows = mod-lt i (omega (arith, tall, positive)) in
-              omega (arith, low, tall)) in
+          (let low : r < length rows = mod-lt i (omega (arith, tall, positive)) in
+          omega (arith, low, tall)) in
           let entry : slice_index_or (slice_index_or rows r []) c k.zero ≡ slice_index_or list 0
-              k.zero =
+          k.zero =
           ap (λ rs. slice_index_or (slice_index_or rs r []) c k.zero) is
           ∙ ap (λ row. slice_index_or row c k.zero)
-              (get_or-map-range_with_len (table_row k.zero columns) 0 height r r [] below
-              (omega arith))
+          (get_or-map-range_with_len (table_row k.zero columns) 0 height r r [] below
+          (omega arith))
           ∙ get_or-map (λ xs. slice_index_or xs (r % length xs) k.zero) columns c [] k.zero lt
           ∙ ap (λ j. slice_index_or list (r % j) k.zero) one
-              ∙ ap (λ j. slice_index_or list j k.zero) (let first : r % 1 ≡ 0 = omega arith in
-              first) in
+          ∙ ap (λ j. slice_index_or list j k.zero) (let first : r % 1 ≡ 0 = omega arith in
+          first) in
           record {
             empty = λ none. absurd (omega (arith, one, ap length none));
             constant = λ x same. entry ∙ ap (λ xs. slice_index_or xs 0 k.zero) same;
@@ -96,22 +102,22 @@ pub extended-table : {F : Type 0} (k : FieldOps F) (gen : ℕ → Coordinates F)
     (s : Coordinates F) (columns : List (List F)) (table : PeriodicLdeTable F)
     (matrix : RowMajorMatrix F) →
     table_width table ≡ width_of matrix → table_height_of table ≡ height_of matrix →
-        table_rows table ≡ rows_of matrix →
+    table_rows table ≡ rows_of matrix →
     1 ≤ length columns → All (IsPeriod (2 ^ n)) (map length columns) →
-        table_height (map length columns) (m - n) * length columns < 2 ^ 64 →
+    table_height (map length columns) (m - n) * length columns < 2 ^ 64 →
     width_of matrix ≡ length columns → height_of matrix
-        ≡ table_height (map length columns) (m - n) →
-        AreExtended k gen bits n m s columns (rows_of matrix) →
+    ≡ table_height (map length columns) (m - n) →
+    AreExtended k gen bits n m s columns (rows_of matrix) →
     IsPeriodicTable k gen bits n m s columns table
 extended-table k gen bits n m s columns table matrix e_w e_h e_r some fit counted wide tall
     extended =
     let longest =
-        (greatest-period (2 ^ n) (map length columns)
-        (omega (arith, some, length-map columns length)) fit).0 in
+    (greatest-period (2 ^ n) (map length columns)
+    (omega (arith, some, length-map columns length)) fit).0 in
     let positive : 1 ≤ height_of matrix =
-        (let e : table_height (map length columns) (m - n) ≡ 2 ^ (longest.0 + (m - n)) =
-        ap (λ l. l * 2 ^ (m - n)) longest.1 ∙ sym (pow-add 2 longest.0 (m - n)) in
-        omega (arith, tall, e, pow_pos (longest.0 + (m - n)))) in
+    (let e : table_height (map length columns) (m - n) ≡ 2 ^ (longest.0 + (m - n)) =
+    ap (λ l. l * 2 ^ (m - n)) longest.1 ∙ sym (pow-add 2 longest.0 (m - n)) in
+    omega (arith, tall, e, pow_pos (longest.0 + (m - n)))) in
     let all = rows_of matrix in
     let size : length all ≡ height_of matrix = length-rows matrix in
     record {
@@ -135,7 +141,7 @@ extended-table k gen bits n m s columns table matrix e_w e_h e_r some fit counte
 module _ {F : Type 0} {k : FieldOps F} (laws : FieldLaws k) {gen : ℕ → Coordinates F} {bits : ℕ}
     (gens : AreGenerators k bits gen) (l : ℕ) (positive : 1 ≤ l) (small : l < bits)
     (columns : List (List F)) (size : ℕ) (fit : All (IsPeriod size) (map length columns))
-        (longest : greatest (map length columns) ≡ 2 ^ l)
+    (longest : greatest (map length columns) ≡ 2 ^ l)
     (coeffs : List (List F)) (count : length coeffs ≡ 2 ^ l) where
   abbrev points : List (Coordinates F)
   points = natural_order k gen l (gen (l + 1))
@@ -149,7 +155,7 @@ module _ {F : Type 0} {k : FieldOps F} (laws : FieldLaws k) {gen : ℕ → Coord
   period c lt =
       let within : c < length (map length columns) = omega (arith, lt, length-map columns length) in
       let at : slice_index_or (map length columns) c 0 ≡ length (slice_index_or columns c []) =
-          get_or-map length columns c [] 0 lt in
+      get_or-map length columns c [] 0 lt in
       let power = (fit c 0 within).0 in
       let low = below-greatest (map length columns) c 0 within in
       (power.0, pow_order power.0 l (omega (arith, low, longest, power.1)), sym at ∙ power.1)
@@ -165,36 +171,36 @@ module _ {F : Type 0} {k : FieldOps F} (laws : FieldLaws k) {gen : ℕ → Coord
       let cs = column k.zero coeffs c in
       let row = values_at k coeffs (length columns) in
       let same : map (value k told.0) points ≡ map (value k cs) points =
-          map-same (value k told.0) (value k cs) points (λ i p here.
+      map-same (value k told.0) (value k cs) points (λ i p here.
       let lt_i : i < length points = slice_get_within points i p here in
       told.1.entries i p here
       ∙ sym (get_or-map (λ xs. slice_index_or xs (i % length xs) k.zero) columns c [] k.zero lt)
       ∙ ap (λ r. slice_index_or r c k.zero)
-          (sym
-          (get_or-map-range_with_len (table_row k.zero columns) 0 (2 ^ l) i i []
-          (omega (arith, lt_i, long)) (omega arith)))
+      (sym
+      (get_or-map-range_with_len (table_row k.zero columns) 0 (2 ^ l) i i []
+      (omega (arith, lt_i, long)) (omega arith)))
       ∙ ap (λ rs. slice_index_or (slice_index_or rs i []) c k.zero) (sym values)
       ∙ ap (λ r. slice_index_or r c k.zero) (get_or-map row points i (origin k) [] lt_i
-          ∙ ap row (get_or_from_slice_get points i p (origin k) here))
+      ∙ ap row (get_or_from_slice_get points i p (origin k) here))
       ∙ get_or-map-range_with_len (λ j. value k (column k.zero coeffs j) p) 0 (length columns) c c
-          k.zero lt (omega arith)) in
+      k.zero lt (omega arith)) in
       let counted : length cs ≡ 2 ^ l = length-map coeffs (λ r. slice_index_or r c k.zero)
-          ∙ count in
+      ∙ count in
       subst (IsRepeated laws gens l positive small list)
       (one-only laws gens l (gen (l + 1)) positive (omega (arith, small))
-          (gens.on_circle (l + 1) (omega (arith, small)))
-          (standard-genuine laws gens l positive small).1
+      (gens.on_circle (l + 1) (omega (arith, small)))
+      (standard-genuine laws gens l positive small).1
       told.0 cs (map (value k cs) points) (record { count = told.1.count; values = same })
-          (record { count = counted; values = refl })) told.1
+      (record { count = counted; values = refl })) told.1
 
   -- the values on a larger domain are those of the columns on an extension
   pub extended-values : map (values_at k coeffs (length columns)) points
       ≡ map (table_row k.zero columns) (range_with_len 0 (2 ^ l)) →
       (n m : ℕ) (s : Coordinates F) (rows : List (List F)) → l ≤ n → n ≤ m → IsOnCircle k s →
       rows
-          ≡ map (values_at k coeffs (length columns))
-          (natural_order k gen (l + (m - n)) (times k (2 ^ (n - l)) s)) →
-          AreExtended k gen bits n m s columns rows
+      ≡ map (values_at k coeffs (length columns))
+      (natural_order k gen (l + (m - n)) (times k (2 ^ (n - l)) s)) →
+      AreExtended k gen bits n m s columns rows
   extended-values values n m s rows within larger on is =
       record {
         values = λ fits i c p here lt.
@@ -204,31 +210,31 @@ module _ {F : Type 0} {k : FieldOps F} (laws : FieldLaws k) {gen : ℕ → Coord
             let row = values_at k coeffs (length columns) in
             let r = i % 2 ^ e in
             let place : slice_get there r ≡ Some q =
-                doubled-point laws.ring gens e (n - l) m s (omega (arith, positive))
-                (omega (arith, within, larger)) (omega (arith, fits)) i p here in
+            doubled-point laws.ring gens e (n - l) m s (omega (arith, positive))
+            (omega (arith, within, larger)) (omega (arith, fits)) i p here in
             let size : length rows ≡ 2 ^ e = ap length is ∙ length-map there row
-                ∙ length-natural_order k gen e (times k (2 ^ (n - l)) s)
-                (omega (arith, positive)) in
+            ∙ length-natural_order k gen e (times k (2 ^ (n - l)) s)
+            (omega (arith, positive)) in
             let entry : slice_index_or (slice_index_or rows (i % length rows) []) c k.zero ≡ value k
-                (column k.zero coeffs c) q =
+            (column k.zero coeffs c) q =
             ap (λ h. slice_index_or (slice_index_or rows (i % h) []) c k.zero) size
             ∙ ap (λ rs. slice_index_or (slice_index_or rs r []) c k.zero) is
             ∙ ap (λ xs. slice_index_or xs c k.zero)
-                (get_or-map row there r (origin k) [] (slice_get_within there r q place)
-                ∙ ap row (get_or_from_slice_get there r q (origin k) place))
+            (get_or-map row there r (origin k) [] (slice_get_within there r q place)
+            ∙ ap row (get_or_from_slice_get there r q (origin k) place))
             ∙ get_or-map-range_with_len (λ j. value k (column k.zero coeffs j) q) 0 (length columns)
-                c c k.zero lt (omega arith) in
+            c c k.zero lt (omega arith) in
             subst (IsPeriodicValue k gen k (λ x. x) n (slice_index_or columns c []) p) (sym entry)
             ((column-coefficients values c lt).values n p within
-                (natural-on_circle laws.ring gens m s (omega (arith, positive, within, larger))
-                (omega (arith, fits)) on i p here));
+            (natural-on_circle laws.ring gens m s (omega (arith, positive, within, larger))
+            (omega (arith, fits)) on i p here));
       }
 
 -- the table of no columns
 pub empty-table : {F : Type 0} (k : FieldOps F) (gen : ℕ → Coordinates F) (bits n m : ℕ)
     (s : Coordinates F) (columns : List (List F)) (table : PeriodicLdeTable F) →
     columns ≡ [] → table_width table ≡ 0 → table_height_of table ≡ 0 →
-        IsPeriodicTable k gen bits n m s columns table
+    IsPeriodicTable k gen bits n m s columns table
 empty-table k gen bits n m s columns table none wide tall =
     let nothing = zero-mul (2 ^ (m - n)) in
     let made : IsPeriodicTable k gen bits n m s [] table = record {

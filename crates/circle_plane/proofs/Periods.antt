@@ -40,8 +40,8 @@ greatest-period size (n ∷ next ∷ ns) some periods =
     ⊎_elim
     (λ lt. let e : rest ≡ max n rest = omega arith in
     subst (IsPeriod size) e
-        (greatest-period size (next ∷ ns) (omega arith)
-        (All-tail (IsPeriod size) n (next ∷ ns) periods)))
+    (greatest-period size (next ∷ ns) (omega arith)
+    (All-tail (IsPeriod size) n (next ∷ ns) periods)))
     (λ ge. let e : n ≡ max n rest = omega arith in
     subst (IsPeriod size) e (All-head (IsPeriod size) n (next ∷ ns) periods))
     (cases_lt n rest)
@@ -74,8 +74,8 @@ pub log_period : {F : Type 0} (n period r : ℕ) (columns : List (List F)) → 1
     period ≡ greatest (map length columns) → 2 ^ r ≡ period → (period ≡ 2 ^ r) × (r ≤ n)
 log_period n period r columns some periods longest power =
     let h =
-        greatest-period (2 ^ n) (map length columns)
-        (omega (arith, some, length-map columns length)) periods in
+    greatest-period (2 ^ n) (map length columns)
+    (omega (arith, some, length-map columns length)) periods in
     (sym power, pow_order r n (omega (arith, power, longest, h.1)))
 
 -- the longest period is a power of two
@@ -84,8 +84,8 @@ pub longest-power : {F : Type 0} (size period : ℕ) (columns : List (List F)) �
     period ≡ greatest (map length columns) → IsPowerOfTwo period
 longest-power size period columns some periods longest =
     subst IsPowerOfTwo (sym longest)
-        (greatest-period size (map length columns) (omega (arith, some, length-map columns length))
-        periods).0
+    (greatest-period size (map length columns) (omega (arith, some, length-map columns length))
+    periods).0
 
 pub log_positive : (period r : ℕ) → period ≡ 2 ^ r → 2 ≤ period → 1 ≤ r
 log_positive period zero is two = absurd (omega (arith, is, two))

@@ -18,7 +18,7 @@ pub all-across : {X Y Z : Type 0} (P : Z → Type 0) (f : X → Z) (h : Y → Z)
 all-across P f h xs ys same each = λ k d lt.
     let inside : k < length (map h ys) = omega (arith, lt, ap length same, length-map xs f) in
     subst P (ap (λ zs. slice_index_or zs k (f d)) (sym same) ∙ get_or-map f xs k d (f d) lt)
-        (All-map P h ys each k (f d) inside)
+    (All-map P h ys each k (f d) inside)
 
 -- what is made of what is shown alike
 pub map-across : {X Y Z U : Type 0} (F : Z → U) (f : X → Z) (h : Y → Z) (xs : List X)

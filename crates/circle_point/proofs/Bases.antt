@@ -26,13 +26,13 @@ module _ {F : Type 0} {k : FieldOps F} (laws : RingLaws k) where
   zero_bits bits (suc more) j x h =
       let e : bits + suc more ≡ suc (bits + more) = omega arith in
       let bound : 2 ^ bits ≤ 2 ^ (bits + more) = let le : bits ≤ bits + more = omega arith in
-          pow-le-pow_right (lit< tt) le in
+      pow-le-pow_right (lit< tt) le in
       let none : j / 2 ^ (bits + more) ≡ 0 = let lt : j < 2 ^ (bits + more) =
-          omega (arith, bound) in div-eq_of_lt lt in
+      omega (arith, bound) in div-eq_of_lt lt in
       ap (λ n. low_bits_product k n j x) e
       ∙ ap
-          (λ q. k.mul (low_bits_product k (bits + more) j x)
-          (bit_factor k (q % 2) (iterated_x k (bits + more) x))) none
+      (λ q. k.mul (low_bits_product k (bits + more) j x)
+      (bit_factor k (q % 2) (iterated_x k (bits + more) x))) none
       ∙ mul_one laws _ ∙ zero_bits bits more j x h
 
   -- the product over any number of bits that covers the index
@@ -40,22 +40,22 @@ module _ {F : Type 0} {k : FieldOps F} (laws : RingLaws k) where
   x_basis-bits bits j x h =
       ⊎_elim
       (λ lt. let e : bits + (j - bits) ≡ j = omega (arith, lt) in
-          ap (λ n. low_bits_product k n j x) (sym e) ∙ zero_bits bits (j - bits) j x h)
+      ap (λ n. low_bits_product k n j x) (sym e) ∙ zero_bits bits (j - bits) j x h)
       (λ le. let e : j + (bits - j) ≡ bits = omega (arith, le) in
-          sym (zero_bits j (bits - j) j x (below_pow j)) ∙ ap (λ n. low_bits_product k n j x) e)
+      sym (zero_bits j (bits - j) j x (below_pow j)) ∙ ap (λ n. low_bits_product k n j x) e)
       (cases_lt bits j)
 
   -- with r for a lowest bit more: its factor, and the other bits' at the double's x coordinate
   doubled-bits : (bits i j r : ℕ) (x : F) → i ≡ 2 * j + r → r < 2 →
       low_bits_product k (suc bits) i x ≡ k.mul (low_bits_product k bits j (doubled_x k x))
-          (bit_factor k r x)
+      (bit_factor k r x)
   doubled-bits zero i j r x e h = let bit : i / 2 ^ 0 % 2 ≡ r = omega (arith, e, h) in
       ap (λ b. k.mul k.one (bit_factor k b x)) bit
   doubled-bits (suc bits) i j r x e h =
       let half : i / 2 ≡ j = omega (arith, e, h) in
       let power : 2 ^ suc bits ≡ 2 * 2 ^ bits = omega (arith, pow-suc 2 bits) in
       let shift : i / 2 ^ suc bits ≡ j / 2 ^ bits = ap (λ d. i / d) power
-          ∙ sym (div-div-eq-div-mul i 2 (2 ^ bits)) ∙ ap (λ n. n / 2 ^ bits) half in
+      ∙ sym (div-div-eq-div-mul i 2 (2 ^ bits)) ∙ ap (λ n. n / 2 ^ bits) half in
       let u = iterated_x k bits (doubled_x k x) in
       let b = bit_factor k (j / 2 ^ bits % 2) u in
       let low = low_bits_product k bits j (doubled_x k x) in
@@ -63,7 +63,7 @@ module _ {F : Type 0} {k : FieldOps F} (laws : RingLaws k) where
       ap (λ p. k.mul p (bit_factor k (i / 2 ^ suc bits % 2) u)) (doubled-bits bits i j r x e h)
       ∙ ap (λ n. k.mul (k.mul low last) (bit_factor k (n % 2) u)) shift
       ∙ laws.mul_assoc low last b ∙ ap (k.mul low) (laws.mul_comm last b)
-          ∙ sym (laws.mul_assoc low b last)
+      ∙ sym (laws.mul_assoc low b last)
 
   pub x_basis-doubled : (j r : ℕ) (x : F) → r < 2 → x_basis k (2 * j + r) x
       ≡ k.mul (x_basis k j (doubled_x k x)) (bit_factor k r x)
@@ -79,19 +79,19 @@ module _ {F : Type 0} {k : FieldOps F} (laws : RingLaws k) where
       let e : b + suc (m - suc b) ≡ m = omega arith in
       let split : 2 ^ m ≡ 2 ^ b * (2 * c) =
       ap (λ n. 2 ^ n) (sym e) ∙ pow-add 2 b (suc (m - suc b))
-          ∙ ap (λ n. 2 ^ b * n)
-          (pow-suc 2 (m - suc b) ∙ (let s : c * 2 ≡ 2 * c = omega arith in s)) in
+      ∙ ap (λ n. 2 ^ b * n)
+      (pow-suc 2 (m - suc b) ∙ (let s : c * 2 ≡ 2 * c = omega arith in s)) in
       ap (λ n. (n + i) / 2 ^ b % 2) split ∙ ap (λ n. n % 2) (mul-add-div (pow_pos b) (2 * c) i)
-          ∙ omega arith
+      ∙ omega arith
 
   under : (m bits i : ℕ) (x : F) → bits ≤ m → low_bits_product k bits (2 ^ m + i) x
       ≡ low_bits_product k bits i x
   under m zero i x h = refl
   under m (suc bits) i x h =
       ap (λ q. k.mul q (bit_factor k ((2 ^ m + i) / 2 ^ bits % 2) (iterated_x k bits x)))
-          (under m bits i x (omega arith))
+      (under m bits i x (omega arith))
       ∙ ap (λ q. k.mul (low_bits_product k bits i x) (bit_factor k q (iterated_x k bits x)))
-          (bit-under m bits i (omega arith))
+      (bit-under m bits i (omega arith))
 
   -- one more bit of the index
   x_basis-next : (m i : ℕ) (x : F) → i < 2 ^ m → x_basis k (2 ^ m + i) x
@@ -99,14 +99,14 @@ module _ {F : Type 0} {k : FieldOps F} (laws : RingLaws k) where
   x_basis-next m i x h =
       let below : 2 ^ m + i < 2 ^ suc m = omega (arith, pow-suc 2 m) in
       let one : (2 ^ m + i) / 2 ^ m ≡ 1 =
-          ap (λ n. (n + i) / 2 ^ m) (let e : 2 ^ m ≡ 1 * 2 ^ m = omega arith in e)
-          ∙ shr_high 1 m i h in
+      ap (λ n. (n + i) / 2 ^ m) (let e : 2 ^ m ≡ 1 * 2 ^ m = omega arith in e)
+      ∙ shr_high 1 m i h in
       x_basis-bits (suc m) (2 ^ m + i) x below
       ∙ ap
-          (λ q. k.mul (low_bits_product k m (2 ^ m + i) x)
-          (bit_factor k (q % 2) (iterated_x k m x))) one
+      (λ q. k.mul (low_bits_product k m (2 ^ m + i) x)
+      (bit_factor k (q % 2) (iterated_x k m x))) one
       ∙ ap (λ q. k.mul q (iterated_x k m x))
-          (under m m i x (omega arith) ∙ sym (x_basis-bits m i x h))
+      (under m m i x (omega arith) ∙ sym (x_basis-bits m i x h))
 
   pub circle_basis-next : (m j : ℕ) (p : Coordinates F) → j < 2 ^ suc m →
       circle_basis k (2 ^ suc m + j) p ≡ k.mul (circle_basis k j p) (iterated_x k m p.x)
@@ -133,7 +133,7 @@ shifted f h a b (suc n) e =
     ap (λ x. x ∷ map f (range_with_len (a + 1) n)) (ap f (sym za) ∙ e 0 (omega arith) ∙ ap h zb)
     ∙ ap (λ rest. h b ∷ rest) (shifted f h (a + 1) (b + 1) n (λ j lt.
     ap f (let s : a + 1 + j ≡ a + suc j = omega arith in s) ∙ e (suc j) (omega arith)
-        ∙ ap h (let s : b + suc j ≡ b + 1 + j = omega arith in s)))
+    ∙ ap h (let s : b + suc j ≡ b + 1 + j = omega arith in s)))
 
 range-append : {X : Type 0} (f : ℕ → X) (a m n : ℕ) → map f (range_with_len a (m + n))
     ≡ map f (range_with_len a m) ++ map f (range_with_len (a + m) n)
@@ -146,8 +146,8 @@ range-append f a (suc m) n =
     let z : a + 1 + m ≡ a + suc m = omega arith in
     ap (λ c. map f (range_with_len a c)) e
     ∙ ap (λ rest. f a ∷ rest)
-        (range-append f (a + 1) m n
-        ∙ ap (λ b. map f (range_with_len (a + 1) m) ++ map f (range_with_len b n)) z)
+    (range-append f (a + 1) m n
+    ∙ ap (λ b. map f (range_with_len (a + 1) m) ++ map f (range_with_len b n)) z)
 
 map-scaled : {X Y : Type 0} (f : ℕ → X) (h : X → Y) (a n : ℕ) → map h (map f (range_with_len a n))
     ≡ map (λ j. h (f j)) (range_with_len a n)
@@ -158,7 +158,7 @@ map-scaled f h a (suc n) = ap (λ rest. h (f a) ∷ rest) (map-scaled f h (a + 1
 pub basis_values-next : {F : Type 0} {k : FieldOps F} (laws : RingLaws k) (m : ℕ)
     (p : Coordinates F) →
     basis_values k (suc (suc m)) p ≡ basis_values k (suc m) p
-        ++ map (λ b. k.mul b (iterated_x k m p.x)) (basis_values k (suc m) p)
+    ++ map (λ b. k.mul b (iterated_x k m p.x)) (basis_values k (suc m) p)
 basis_values-next {k = k} laws m p =
     let f = λ (j : ℕ). circle_basis k j p in
     let half = 2 ^ suc m in
@@ -168,5 +168,5 @@ basis_values-next {k = k} laws m p =
     (shifted f (λ j. k.mul (circle_basis k j p) (iterated_x k m p.x)) (0 + half) 0 half (λ j h.
     ap f (let s : 0 + half + j ≡ half + j = omega arith in s) ∙ circle_basis-next laws m j p h
     ∙ ap (λ i. k.mul (circle_basis k i p) (iterated_x k m p.x)) (let s : j ≡ 0 + j = omega arith in
-        s))
+    s))
     ∙ sym (map-scaled f (λ b. k.mul b (iterated_x k m p.x)) 0 half))

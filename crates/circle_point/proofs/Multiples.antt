@@ -56,7 +56,7 @@ module _ {F : Type 0} {k : FieldOps F} (laws : RingLaws k) where
       let e : suc (n / 2 + n / 2) ≡ n = omega arith in
       plus_assoc laws r q (times k (n / 2) (plus k q q))
       ∙ ap (λ x. plus k r (plus k q x)) (times-double (n / 2) q)
-          ∙ ap (λ m. plus k r (times k m q)) e ∙ h
+      ∙ ap (λ m. plus k r (times k m q)) e ∙ h
 
   pub no_more : (r q t : Coordinates F) (n : ℕ) → plus k r (times k n q) ≡ t → n ≡ 0 → r ≡ t
   no_more r q t n h e = sym (plus-origin laws r) ∙ ap (λ m. plus k r (times k m q)) (sym e) ∙ h

@@ -15,7 +15,7 @@ module _ {F : Type 0} {k : FieldOps F} (laws : FieldLaws k) where
   pub quotient : (x d n : F) → d ≢ k.zero → k.mul x d ≡ n → x ≡ k.mul n (k.inv d)
   quotient x d n h e =
       sym (mul_one laws.ring x) ∙ ap (k.mul x) (sym (laws.mul_inv d h))
-          ∙ sym (laws.ring.mul_assoc x d (k.inv d)) ∙ ap (λ v. k.mul v (k.inv d)) e
+      ∙ sym (laws.ring.mul_assoc x d (k.inv d)) ∙ ap (λ v. k.mul v (k.inv d)) e
 
   -- 1 + t^2 is 0 where t^2 is -1
   pub line_norm-zero : (t : F) → line_norm k t ≡ k.zero → k.mul t t ≡ k.neg k.one
@@ -38,7 +38,7 @@ module _ {F : Type 0} {k : FieldOps F} (laws : FieldLaws k) where
       laws.two_nonzero
       (combine laws.ring (s ∷ i ∷ []) (sum unit unit) (con 0)
       (given (minus (sum unit unit)) (prod (var 0) (var 1)) unit
-          ∷ given (var 0) (sum (var 1) (var 1)) (con 0) ∷ []) refl (e, (z, tt)))
+      ∷ given (var 0) (sum (var 1) (var 1)) (con 0) ∷ []) refl (e, (z, tt)))
 
   -- x + 1 at the point of t is 2 / (1 + t^2)
   from_line-next : (t : F) → line_norm k t ≢ k.zero → k.add (from_line k t).x k.one
@@ -47,7 +47,7 @@ module _ {F : Type 0} {k : FieldOps F} (laws : FieldLaws k) where
       let t_ : Expr = var 0 in let i : Expr = var 1 in
       let s : Expr = sum unit (prod t_ t_) in
       combine laws.ring (t ∷ k.inv (line_norm k t) ∷ [])
-          (sum (prod (sum unit (minus (prod t_ t_))) i) unit) (sum i i)
+      (sum (prod (sum unit (minus (prod t_ t_))) i) unit) (sum i i)
       (given (minus unit) (prod s i) unit ∷ []) refl (laws.mul_inv (line_norm k t) h, tt)
 
   pub from_line-nonzero : (t : F) → line_norm k t ≢ k.zero → k.add (from_line k t).x k.one ≢ k.zero
@@ -59,8 +59,8 @@ module _ {F : Type 0} {k : FieldOps F} (laws : FieldLaws k) where
       let i = k.inv (line_norm k t) in
       sym (quotient t (k.add (from_line k t).x k.one) (from_line k t).y (from_line-nonzero t h)
       (ap (k.mul t) (from_line-next t h)
-          ∙ ring laws.ring (t ∷ i ∷ []) (prod (var 0) (sum (var 1) (var 1)))
-          (prod (sum (var 0) (var 0)) (var 1)) refl))
+      ∙ ring laws.ring (t ∷ i ∷ []) (prod (var 0) (sum (var 1) (var 1)))
+      (prod (sum (var 0) (var 0)) (var 1)) refl))
 
   -- with j the inverse of x + 1: 1 + t^2 = 2 j
   module _ (p : Coordinates F) (on_circle : IsOnCircle k p) (h : k.add p.x k.one ≢ k.zero) where
@@ -89,7 +89,7 @@ module _ {F : Type 0} {k : FieldOps F} (laws : FieldLaws k) where
         ∙ combine laws.ring env (prod x (sum j j)) (sum unit (minus (prod (prod y j) (prod y j))))
         (given (prod j j) (sum (prod x x) (prod y y)) unit
         ∷ given (sum unit (sum j (minus (prod x j)))) (prod (sum x unit) j) unit ∷ []) refl
-            (on_circle, (given_inverse, tt)))))
+        (on_circle, (given_inverse, tt)))))
         (sym (quotient p.y (line_norm k (to_line k p)) _ to_line-nonzero
         (ap (k.mul p.y) to_line-norm
-            ∙ ring laws.ring env (prod y (sum j j)) (sum (prod y j) (prod y j)) refl)))
+        ∙ ring laws.ring env (prod y (sum j j)) (sum (prod y j) (prod y j)) refl)))

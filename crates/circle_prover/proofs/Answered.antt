@@ -42,17 +42,17 @@ module _ {F E : Type 0} (k : Fields F E) (blowup : ℕ) (P : ℕ → Type 0) whe
       (requests : List (OpeningRequest D E)) (values : Openings E) →
       AllByRecursion (λ r. All (λ m. P (log_of (height_of m))) (kept r.prover_data.now)) requests
       →
-          AllByRecursion (λ c. P c.log_height)
-          (flat_map (λ b. b) (all_committed kept k blowup requests values))
+      AllByRecursion (λ c. P c.log_height)
+      (flat_map (λ b. b) (all_committed kept k blowup requests values))
   all-known kept [] values known = tt
   all-known kept (r ∷ requests) [] known = tt
   all-known kept (r ∷ requests) (v ∷ values) known =
       both-known (λ (c : Committed F E). P c.log_height)
-          (batch_committed k blowup (kept r.prover_data.now) (points_of kept r) v)
-          (flat_map (λ b. b) (all_committed kept k blowup requests values))
+      (batch_committed k blowup (kept r.prover_data.now) (points_of kept r) v)
+      (flat_map (λ b. b) (all_committed kept k blowup requests values))
       (batch-known (kept r.prover_data.now) (points_of kept r) v
-          (recursion_from_All (λ m. P (log_of (height_of m))) (kept r.prover_data.now) known.0))
-          (all-known kept requests values known.1)
+      (recursion_from_All (λ m. P (log_of (height_of m))) (kept r.prover_data.now) known.0))
+      (all-known kept requests values known.1)
 
   -- what is known of the heights of all requested matrices
   pub heights-known : {D : Type 0} (kept : D → List (RowMajorMatrix F))
@@ -61,11 +61,11 @@ module _ {F E : Type 0} (k : Fields F E) (blowup : ℕ) (P : ℕ → Type 0) whe
       → All (λ c. P c.log_height) (flat_map (λ b. b) (all_committed kept k blowup requests values))
   heights-known kept requests values known =
       All-from_recursion (λ (c : Committed F E). P c.log_height)
-          (flat_map (λ b. b) (all_committed kept k blowup requests values))
+      (flat_map (λ b. b) (all_committed kept k blowup requests values))
       (all-known kept requests values
-          (recursion_from_All
-          (λ (r : OpeningRequest _ E). All (λ m. P (log_of (height_of m))) (kept r.prover_data.now))
-          requests known))
+      (recursion_from_All
+      (λ (r : OpeningRequest _ E). All (λ m. P (log_of (height_of m))) (kept r.prover_data.now))
+      requests known))
 
 module _ {F E : Type 0} (k : Fields F E) (blowup : ℕ) where
   batch-some : (ms : List (RowMajorMatrix F)) (points : List (List E))
@@ -82,16 +82,18 @@ module _ {F E : Type 0} (k : Fields F E) (blowup : ℕ) where
       (requests : List (OpeningRequest D E)) (values : Openings E) →
       AllZip (AreAnswers kept k blowup) requests values → 1 ≤ length requests
       → All (λ r. 1 ≤ length (kept r.prover_data.now)) requests →
-          1 ≤ length (flat_map (λ b. b) (all_committed kept k blowup requests values))
+      1 ≤ length (flat_map (λ b. b) (all_committed kept k blowup requests values))
   all-some kept [] values are some known = absurd (omega (arith, some))
   all-some kept (r ∷ requests) [] are some known = absurd are
   all-some kept (r ∷ requests) (v ∷ values) are some known =
       let here = batch-some (kept r.prover_data.now) (points_of kept r) v are.0.0
-          (known 0 r (omega arith)) in
-      omega
-          (arith, here,
-          length-append (batch_committed k blowup (kept r.prover_data.now) (points_of kept r) v)
-          (flat_map (λ b. b) (all_committed kept k blowup requests values)))
+      (known 0 r (omega arith)) in
+      omega (
+        arith,
+        here,
+        length-append (batch_committed k blowup (kept r.prover_data.now) (points_of kept r) v)
+            (flat_map (λ b. b) (all_committed kept k blowup requests values)),
+      )
 
 -- what a relation of two lists says of the first
 left-known : {A B : Type 0} (R : A → B → Type 0) (P : A → Type 0) →
@@ -106,12 +108,12 @@ pub fit-known : {D F E : Type 0} (kept : D → List (RowMajorMatrix F)) (k : Fie
     (blowup two_adicity : ℕ) (P : RowMajorMatrix F → Type 0) →
     ((m : RowMajorMatrix F) (points : List E) → IsOpenable k two_adicity blowup m points → P m) →
     (requests : List (OpeningRequest D E)) → All (IsFit kept k blowup two_adicity) requests →
-        All (λ r. All P (kept r.prover_data.now)) requests
+    All (λ r. All P (kept r.prover_data.now)) requests
 fit-known kept k blowup two_adicity P f requests fit = λ i r lt.
     let q = slice_index_or requests i r in
     All-from_recursion P (kept q.prover_data.now)
-        (left-known (IsOpenable k two_adicity blowup) P f (kept q.prover_data.now)
-        (points_of kept q) (fit i r lt))
+    (left-known (IsOpenable k two_adicity blowup) P f (kept q.prover_data.now)
+    (points_of kept q) (fit i r lt))
 
 first-known : {A : Type 0} (P : A → Type 0) (xs ys : List A) → AllByRecursion P (xs ++ ys) →
     AllByRecursion P xs
@@ -161,11 +163,11 @@ module _ {F E : Type 0} (k : Fields F E) (blowup : ℕ) (P : ℕ → Type 0) whe
       → All (λ r. All (λ m. P (log_of (height_of m))) (kept r.prover_data.now)) requests
   heights-back kept requests values are known =
       All-from_recursion
-          (λ (r : OpeningRequest _ E). All (λ m. P (log_of (height_of m))) (kept r.prover_data.now))
-          requests
+      (λ (r : OpeningRequest _ E). All (λ m. P (log_of (height_of m))) (kept r.prover_data.now))
+      requests
       (all-back kept requests values are
-          (recursion_from_All (λ (c : Committed F E). P c.log_height)
-          (flat_map (λ b. b) (all_committed kept k blowup requests values)) known))
+      (recursion_from_All (λ (c : Committed F E). P c.log_height)
+      (flat_map (λ b. b) (all_committed kept k blowup requests values)) known))
 
 -- the heights of a batch
 pub batch-heights : {F : Type 0} (top : ℕ) (ms : List (RowMajorMatrix F)) → 1 ≤ length ms →
@@ -178,7 +180,7 @@ batch-heights top (m ∷ rest) some powers low =
     let within : there.0 < length ms = omega (arith, there.1, length-map ms height_of) in
     let one = slice_index_or ms there.0 m in
     let same : height_of one ≡ max_height ms = sym (get_or-map height_of ms there.0 m 0 within)
-        ∙ there.2 ∙ ap greatest (sym (heights-listed ms)) in
+    ∙ there.2 ∙ ap greatest (sym (heights-listed ms)) in
     record {
       powers = λ i d lt. (log_of (height_of (slice_index_or ms i d)), powers i d lt);
       power = subst (λ n. n ≡ 2 ^ log_of n) same (powers there.0 m within);

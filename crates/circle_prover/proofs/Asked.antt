@@ -56,7 +56,7 @@ module _ {F E : Type 0} (blowup : ℕ) where
   heights-claimed (m ∷ ms) high =
       let here : m.log_height - blowup + blowup ≡ m.log_height = omega (arith, high.0) in
       ap (λ n. n ∷ map (log_height blowup) (map (claimed blowup) ms)) here
-          ∙ ap (λ ns. m.log_height ∷ ns) (heights-claimed ms high.1)
+      ∙ ap (λ ns. m.log_height ∷ ns) (heights-claimed ms high.1)
 
   -- their greatest height
   pub top-claimed : (batches : List (List (Committed F E))) →
@@ -66,18 +66,18 @@ module _ {F E : Type 0} (blowup : ℕ) where
   top-claimed batches high =
       ap (λ ms. greatest (map (log_height blowup) ms)) (all-claimed batches)
       ∙ ap greatest
-          (heights-claimed (flat_map (λ b. b) batches)
-          (recursion_from_All (λ (m : Committed F E). blowup ≤ m.log_height)
-          (flat_map (λ b. b) batches) high))
+      (heights-claimed (flat_map (λ b. b) batches)
+      (recursion_from_All (λ (m : Committed F E). blowup ≤ m.log_height)
+      (flat_map (λ b. b) batches) high))
 
   batch-widths : (k : Fields F E) (ms : List (RowMajorMatrix F)) (points : List (List E))
       (values : List (List (List E))) →
       AllZip (λ m rest. AreValuesOf k blowup m rest.0 rest.1) ms (zip points values) →
       length values ≡ length points
       →
-          map (λ m. map (λ c. length c.values) m.claims)
-          (map (claimed blowup) (batch_committed k blowup ms points values))
-          ≡ map (λ m. map (λ w. length w) m) values
+      map (λ m. map (λ c. length c.values) m.claims)
+      (map (claimed blowup) (batch_committed k blowup ms points values))
+      ≡ map (λ m. map (λ w. length w) m) values
   batch-widths k [] [] [] are same = refl
   batch-widths k [] [] (v ∷ values) are same = absurd (omega (arith, same))
   batch-widths k [] (t ∷ points) [] are same = absurd (omega (arith, same))
@@ -87,24 +87,24 @@ module _ {F E : Type 0} (blowup : ℕ) where
   batch-widths k (m ∷ ms) (t ∷ points) [] are same = absurd are
   batch-widths k (m ∷ ms) (t ∷ points) (v ∷ values) are same =
       ap
-          (λ ws. ws ∷ map (λ m. map (λ c. length c.values) m.claims)
-          (map (claimed blowup) (batch_committed k blowup ms points values)))
-          (claim-widths t v are.0.count)
+      (λ ws. ws ∷ map (λ m. map (λ c. length c.values) m.claims)
+      (map (claimed blowup) (batch_committed k blowup ms points values)))
+      (claim-widths t v are.0.count)
       ∙ ap (λ ws. map (λ w. length w) v ∷ ws)
-          (batch-widths k ms points values are.1 (omega (arith, same)))
+      (batch-widths k ms points values are.1 (omega (arith, same)))
 
   -- the numbers of their columns, claim after claim
   pub all-widths : {D : Type 0} (kept : D → List (RowMajorMatrix F)) (k : Fields F E)
       (requests : List (OpeningRequest D E)) (values : Openings E) →
       AllZip (AreAnswers kept k blowup) requests values
       → widths_by (map (claimed_batch blowup) (all_committed kept k blowup requests values))
-          ≡ map (λ b. map (λ m. map (λ w. length w) m) b) values
+      ≡ map (λ b. map (λ m. map (λ w. length w) m) b) values
   all-widths kept k [] [] are = refl
   all-widths kept k [] (v ∷ values) are = absurd are
   all-widths kept k (r ∷ requests) [] are = absurd are
   all-widths kept k (r ∷ requests) (v ∷ values) are =
       ap
-          (λ ws. ws
-          ∷ widths_by (map (claimed_batch blowup) (all_committed kept k blowup requests values)))
-          (batch-widths k (kept r.prover_data.now) (points_of kept r) v are.0.0 are.0.1)
+      (λ ws. ws
+      ∷ widths_by (map (claimed_batch blowup) (all_committed kept k blowup requests values)))
+      (batch-widths k (kept r.prover_data.now) (points_of kept r) v are.0.0 are.0.1)
       ∙ ap (λ ws. map (λ m. map (λ w. length w) m) v ∷ ws) (all-widths kept k requests values are.1)

@@ -12,7 +12,7 @@ use Rattle.circle_transcript.specs.declared.transcript.Numbers.{Numbers}
 -- what is drawn
 pick : {S F : Type 0} (a b c : Bool) (d x : Drawn S F) →
     (if a then (if b then (if c then Ok d else Err Query) else Err CommitPhase) else Err Batch)
-        ≡ Ok x → x ≡ d
+    ≡ Ok x → x ≡ d
 pick true true true d x is = cc
 pick true true false d x is = cc
 pick true false c d x is = cc

@@ -69,11 +69,11 @@ module _ {F E : Type 0} (k : Fields F E) (heights : List ℕ) (folded : ℕ → 
   word_at-kept betas b zero within = refl
   word_at-kept betas b (suc n) within =
       ap
-          (λ x. next_word k heights folded (h - n) x
-          (word_at k heights folded h first (betas ++ b ∷ []) n))
-          (get_or_append_left betas (b ∷ []) k.extension.zero n (omega (arith, within)))
+      (λ x. next_word k heights folded (h - n) x
+      (word_at k heights folded h first (betas ++ b ∷ []) n))
+      (get_or_append_left betas (b ∷ []) k.extension.zero n (omega (arith, within)))
       ∙ ap (next_word k heights folded (h - n) (slice_index_or betas n k.extension.zero))
-          (word_at-kept betas b n (omega (arith, within)))
+      (word_at-kept betas b n (omega (arith, within)))
 
   -- it gives the next word
   pub word_at-next : (betas pushed : List E) (b : E) (n : ℕ) (word : List E) → pushed ≡ betas ++ b
@@ -82,13 +82,13 @@ module _ {F E : Type 0} (k : Fields F E) (heights : List ℕ) (folded : ℕ → 
   word_at-next betas pushed b n word more count is =
       let after : n + 1 ≡ suc n = omega arith in
       let here : slice_index_or (betas ++ b ∷ []) n k.extension.zero ≡ b =
-          ap (λ i. slice_index_or (betas ++ b ∷ []) i k.extension.zero) (sym count)
-          ∙ get_or-append_seam betas b [] k.extension.zero in
+      ap (λ i. slice_index_or (betas ++ b ∷ []) i k.extension.zero) (sym count)
+      ∙ get_or-append_seam betas b [] k.extension.zero in
       ap (next_word k heights folded (h - n) b)
-          (is ∙ sym (word_at-kept betas b n (omega (arith, count))))
+      (is ∙ sym (word_at-kept betas b n (omega (arith, count))))
       ∙ ap
-          (λ x. next_word k heights folded (h - n) x
-          (word_at k heights folded h first (betas ++ b ∷ []) n)) (sym here)
+      (λ x. next_word k heights folded (h - n) x
+      (word_at k heights folded h first (betas ++ b ∷ []) n)) (sym here)
       ∙ ap (λ bs. word_at k heights folded h first bs (suc n)) (sym more)
       ∙ ap (word_at k heights folded h first pushed) (sym after)
 
@@ -111,7 +111,7 @@ module _ {A : Type 0} where
   last_is xs x y n is got =
       let last = slice_get-last xs x in
       let moved : slice_get (xs ++ x ∷ []) n ≡ slice_get (xs ++ x ∷ []) (length xs) =
-          ap (slice_get (xs ++ x ∷ [])) is in
+      ap (slice_get (xs ++ x ∷ [])) is in
       same_Some x y (sym last ∙ sym moved ∙ got)
 
 module _ {E D Com : Type 0} (Commits : List (RowMajorMatrix E) → Com → Type 0) (matrices : D →
@@ -131,13 +131,13 @@ module _ {E D Com : Type 0} (Commits : List (RowMajorMatrix E) → Com → Type 
       → kept' ≡ kept ++ d ∷ [] → commitments' ≡ commitments ++ commitment ∷ []
       → ((n : ℕ) → n ≤ length commitments → next n ≡ word n) → here ≡ word (length commitments)
       → AreRounds Commits matrices word kept commitments →
-          AreCommitted Commits (pairs_of here ∷ []) (matrices d) commitment
+      AreCommitted Commits (pairs_of here ∷ []) (matrices d) commitment
       → AreRounds Commits matrices next kept' commitments'
   rounds_more word next here kept kept' commitments commitments' d commitment is_kept is_commitments
       same is_here before last =
       let count : length kept' ≡ length commitments' =
       ap length is_kept ∙ length_push kept d ∙ ap (λ n. n + 1) before.count
-          ∙ sym (ap length is_commitments ∙ length_push commitments commitment) in
+      ∙ sym (ap length is_commitments ∙ length_push commitments commitment) in
       record {
         count = count;
         each = λ n e c is_e is_c.
@@ -147,21 +147,21 @@ module _ {E D Com : Type 0} (Commits : List (RowMajorMatrix E) → Com → Type 
               | inl low ↦
                   let low_too : n < length kept = omega (arith, low, before.count) in
                   subst (λ w. AreCommitted Commits (pairs_of w ∷ []) (matrices e) c)
-                      (sym (same n (omega (arith, low))))
+                  (sym (same n (omega (arith, low))))
                   (before.each n e c (sym (slice_get-kept kept d n low_too) ∙ at_e)
-                      (sym (slice_get-kept commitments commitment n low) ∙ at_c))
+                  (sym (slice_get-kept commitments commitment n low) ∙ at_c))
               | inr high ↦
                   let within = slice_get_within (commitments ++ commitment ∷ []) n c at_c in
                   let size = length_push commitments commitment in
                   let end : n ≡ length commitments = omega (arith, high, within, size) in
                   let end_too : n ≡ length kept = end ∙ sym before.count in
                   let is_word : here ≡ next n = is_here ∙ ap word (sym end)
-                      ∙ sym (same n (omega (arith, end))) in
+                  ∙ sym (same n (omega (arith, end))) in
                   subst (λ w. AreCommitted Commits (pairs_of w ∷ []) (matrices e) c) is_word
                   (subst (λ v. AreCommitted Commits (pairs_of here ∷ []) (matrices v) c)
-                      (last_is kept d e n end_too at_e)
+                  (last_is kept d e n end_too at_e)
                   (subst (λ v. AreCommitted Commits (pairs_of here ∷ []) (matrices d) v)
-                      (last_is commitments commitment c n end at_c) last))
+                  (last_is commitments commitment c n end at_c) last))
             ];
       }
 
@@ -186,8 +186,8 @@ pub words_committed : {E F D Com : Type 0} (Commits : List (RowMajorMatrix E) �
     (matrices : D → List (RowMajorMatrix E)) (word : ℕ → List E) (kept : List D)
     (commitments : List Com) (witnesses : List F)
     → AreRounds Commits matrices word kept commitments → (i : ℕ) (round : Com × F) →
-        slice_get (zip commitments witnesses) i ≡ Some round →
-        IsCommitmentOf Commits (pairs_of (word i) ∷ []) round.0
+    slice_get (zip commitments witnesses) i ≡ Some round →
+    IsCommitmentOf Commits (pairs_of (word i) ∷ []) round.0
 words_committed Commits matrices word kept commitments witnesses are i round got =
     let here = beside commitments witnesses i round got in
     let within = slice_get_within commitments i round.0 here in
@@ -220,32 +220,32 @@ module _ {C S F E Com : Type 0} (r : RunMoves C S F E Com) (bits : ℕ) (begun n
   pub played_more : (commitments commitments' : List Com) (witnesses witnesses' : List F)
       (commitment : Com) (witness : F) (ys zs : List (List F)) (y : List F) (after : S) (b : ℕ)
       → length commitments ≡ length witnesses → commitments' ≡ commitments ++ commitment ∷ [] →
-          witnesses' ≡ witnesses ++ witness ∷ [] → b ≡ bits
+      witnesses' ≡ witnesses ++ witness ∷ [] → b ≡ bits
       → HavePlayed r bits begun now (zip commitments witnesses) ys →
-          found_at r.base (r.after_commitment now commitment) b ≡ Some witness →
-          IsTrue (is_passed r.base (r.after_commitment now commitment) b witness)
+      found_at r.base (r.after_commitment now commitment) b ≡ Some witness →
+      IsTrue (is_passed r.base (r.after_commitment now commitment) b witness)
       → y ≡ fold_challenge r b now (commitment, witness) → zs ≡ ys ++ y ∷ [] →
-          after ≡ after_round r b now (commitment, witness)
+      after ≡ after_round r b now (commitment, witness)
       → HavePlayed r bits begun after (zip commitments' witnesses') zs
   played_more commitments commitments' witnesses witnesses' commitment witness ys zs y after b
       paired is_commitments is_witnesses same before found passes drawn pushed state =
       let more : zip commitments' witnesses' ≡ zip commitments witnesses ++ (commitment, witness) ∷
-          [] =
+      [] =
       ap (λ v. zip v witnesses') is_commitments
-          ∙ ap (zip (commitments ++ commitment ∷ [])) is_witnesses
+      ∙ ap (zip (commitments ++ commitment ∷ [])) is_witnesses
       ∙ zip-append commitments (commitment ∷ []) witnesses (witness ∷ []) paired in
       let next = one_more r bits begun now (zip commitments witnesses) (zip commitments' witnesses')
-          (commitment, witness) more before.state ys zs y after b same before.passes
-          before.challenges passes drawn pushed state in
+      (commitment, witness) more before.state ys zs y after b same before.passes
+      before.challenges passes drawn pushed state in
       let last : found_at r.base
-          (r.after_commitment (after_rounds r bits begun (zip commitments witnesses)) commitment)
-          bits ≡ Some witness =
+      (r.after_commitment (after_rounds r bits begun (zip commitments witnesses)) commitment)
+      bits ≡ Some witness =
       subst
-          (λ k. found_at r.base
-          (r.after_commitment (after_rounds r bits begun (zip commitments witnesses)) commitment) k
-          ≡ Some witness) same
+      (λ k. found_at r.base
+      (r.after_commitment (after_rounds r bits begun (zip commitments witnesses)) commitment) k
+      ≡ Some witness) same
       (subst (λ t. found_at r.base (r.after_commitment t commitment) b ≡ Some witness) before.state
-          found) in
+      found) in
       record {
         found =
             subst (AreFound r bits begun) (sym more)
@@ -261,12 +261,12 @@ module _ {C S F E Com : Type 0} (r : RunMoves C S F E Com) (bits : ℕ) (begun n
       (count : ℕ) (rounds : List (Com × F)) (betas : List E) (b : ℕ) where
     pub stuck_after : b ≡ bits → HavePlayed r bits begun now rounds (map r.base.coefficients betas)
         →
-            ((i : ℕ) (round : Com × F) → slice_get rounds i ≡ Some round →
-            IsCommitmentOf Commits (pairs_of (word betas i) ∷ []) round.0)
+        ((i : ℕ) (round : Com × F) → slice_get rounds i ≡ Some round →
+        IsCommitmentOf Commits (pairs_of (word betas i) ∷ []) round.0)
         → length rounds < count → (here : List E) → here ≡ word betas (length rounds)
         → (commitment : Com) → IsCommitmentOf Commits (pairs_of here ∷ []) commitment →
-            NonePasses r.base (r.after_commitment now commitment) b →
-            IsStuckAfter r Commits bits begun word count
+        NonePasses r.base (r.after_commitment now commitment) b →
+        IsStuckAfter r Commits bits begun word count
     stuck_after same before committed fewer here is commitment next none = record {
       rounds = rounds;
       betas = betas;

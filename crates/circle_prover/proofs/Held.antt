@@ -58,7 +58,7 @@ pub first-greatest : {F E : Type 0} (ms : List (Committed F E)) (kept : List (Ro
 first-greatest ms kept some shapes =
     let size : ℕ → ℕ = λ h. 2 ^ (h - 1) in
     let listed = heights-listed kept ∙ shapes.height ∙ ap (map size) (heights-end ms some)
-        ∙ map-append size (lower ms) (top_of ms ∷ []) in
+    ∙ map-append size (lower ms) (top_of ms ∷ []) in
     let low = subst (All (λ h. h ≤ top_of ms)) (heights-end ms some) (all-low ms) in
     ap greatest listed
     ∙ greatest-end (map size (lower ms)) (size (top_of ms))
@@ -72,8 +72,8 @@ module _ {F E Com D : Type 0} (k : Fields F E) (blowup final : ℕ)
     (Commits : List (RowMajorMatrix E) → Com → Type 0) (kept_of : D → List (RowMajorMatrix E))
     (ms : List (Committed F E))
     (w : CommittedWords F E Com D) (some : 1 ≤ length ms)
-        (tall : All (λ m. blowup + final + 2 ≤ m.log_height) ms)
-        (known : AreWordsOf k blowup final Commits kept_of ms w) where
+    (tall : All (λ m. blowup + final + 2 ≤ m.log_height) ms)
+    (known : AreWordsOf k blowup final Commits kept_of ms w) where
   abbrev fold : ℕ → List E
   fold = first_fold k blowup ms w.draws.alpha w.draws.bivariate
 
@@ -81,18 +81,18 @@ module _ {F E Com D : Type 0} (k : Fields F E) (blowup final : ℕ)
   folds-long i d lt =
       let h = slice_index_or (heights_of ms) i d in
       length-y_folds k (h - 1) w.draws.bivariate (layer_of k blowup ms w.draws.alpha h)
-          (layer-lengths (heights_of ms) (kept_of w.first_kept) (layer_of k blowup ms w.draws.alpha)
-          known.shapes known.first_layer.rows i d lt)
+      (layer-lengths (heights_of ms) (kept_of w.first_kept) (layer_of k blowup ms w.draws.alpha)
+      known.shapes known.first_layer.rows i d lt)
 
   first-long : length (fold (top_of ms)) ≡ 2 ^ (top_of ms - 1)
   first-long =
       let hs = heights_of ms in
       let ends = heights-end ms some in
       let inside : length (lower ms) < length hs =
-          omega (arith, ap length ends, length-append (lower ms) (top_of ms ∷ [])) in
+      omega (arith, ap length ends, length-append (lower ms) (top_of ms ∷ [])) in
       let last : slice_index_or hs (length (lower ms)) 0 ≡ top_of ms =
-          ap (λ xs. slice_index_or xs (length (lower ms)) 0) ends
-          ∙ get_or-append_seam (lower ms) (top_of ms) [] 0 in
+      ap (λ xs. slice_index_or xs (length (lower ms)) 0) ends
+      ∙ get_or-append_seam (lower ms) (top_of ms) [] 0 in
       subst (λ h. length (fold h) ≡ 2 ^ (h - 1)) last (folds-long (length (lower ms)) 0 inside)
 
   abbrev word : ℕ → List E

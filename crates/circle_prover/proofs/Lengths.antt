@@ -43,7 +43,7 @@ layer-lengths hs kept layer shapes are =
     All-from_recursion (λ h. length (layer h) ≡ 2 ^ (h - 1)) hs
     (heads-same (λ h. length (layer h)) (λ h. 2 ^ (h - 1)) hs
     (sym (map-twice (λ rs. length rs) layer hs) ∙ ap (map (λ rs. length rs)) (sym are)
-        ∙ rows-heights kept ∙ shapes.height))
+    ∙ rows-heights kept ∙ shapes.height))
 
 -- what holds of all of some numbers holds of one that is among them
 pub among : (P : ℕ → Type 0) (hs : List ℕ) (h : ℕ) → All P hs → list_any (λ n. n == h) hs ≡ true →
@@ -59,7 +59,7 @@ module _ {F E : Type 0} (k : Fields F E) where
   length-y_folds m beta rs long =
       let ts = map k.embed (fold_y_twiddles k.field k.gen m) in
       let of_ts : length ts ≡ 2 ^ m = length-map (fold_y_twiddles k.field k.gen m) k.embed
-          ∙ length-fold_y_twiddles k.field k.gen m in
+      ∙ length-fold_y_twiddles k.field k.gen m in
       length-pairwise (fold_pair k.extension beta) ts rs (of_ts ∙ sym long) ∙ of_ts
 
   length-x_folds : (m : ℕ) (beta : E) (rs : List (List E)) → length rs ≡ 2 ^ m →
@@ -67,7 +67,7 @@ module _ {F E : Type 0} (k : Fields F E) where
   length-x_folds m beta rs long =
       let ts = map k.embed (fold_x_twiddles k.field k.gen m) in
       let of_ts : length ts ≡ 2 ^ m = length-map (fold_x_twiddles k.field k.gen m) k.embed
-          ∙ length-fold_x_twiddles k.field k.gen m in
+      ∙ length-fold_x_twiddles k.field k.gen m in
       length-pairwise (fold_pair k.extension beta) ts rs (of_ts ∙ sym long) ∙ of_ts
 
   joined-length : (b : Bool) (n : ℕ) (word other : List E) → length word ≡ n →
@@ -82,9 +82,9 @@ module _ {F E : Type 0} (k : Fields F E) where
         length (next_word k hs f h beta word) ≡ 2 ^ (h - 1)
     next-length h beta word positive long =
         joined-length (list_any (λ n. n == h) hs) (2 ^ (h - 1))
-            (x_folds k.field k.gen k.extension k.embed (h - 1) beta (pairs_of word)) (f h)
+        (x_folds k.field k.gen k.extension k.embed (h - 1) beta (pairs_of word)) (f h)
         (length-x_folds (h - 1) beta (pairs_of word) (length-pairs_of word h positive long))
-            (among (λ h. length (f h) ≡ 2 ^ (h - 1)) hs h joins)
+        (among (λ h. length (f h) ≡ 2 ^ (h - 1)) hs h joins)
 
     -- a word of the rounds
     pub length-word_at : (h : ℕ) (first betas : List E) → length first ≡ 2 ^ h → (n : ℕ) → n ≤ h →
@@ -95,4 +95,4 @@ module _ {F E : Type 0} (k : Fields F E) where
         let before = length-word_at h first betas long n (omega (arith, within)) in
         let less : h - n - 1 ≡ h - suc n = omega arith in
         next-length (h - n) (slice_index_or betas n k.extension.zero)
-            (word_at k hs f h first betas n) (omega (arith, within)) before ∙ ap (λ m. 2 ^ m) less
+        (word_at k hs f h first betas n) (omega (arith, within)) before ∙ ap (λ m. 2 ^ m) less

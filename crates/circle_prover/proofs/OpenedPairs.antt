@@ -40,7 +40,7 @@ pub queries-below : (top bits height : ℕ) (queries : List ℕ) → bits ≤ to
 queries-below top bits height queries within is low =
     let split : top ≡ top - bits + bits = omega (arith, within) in
     let whole : 2 ^ top ≡ height * 2 ^ bits = ap (λ n. 2 ^ n) split ∙ pow-add 2 (top - bits) bits
-        ∙ ap (λ h. h * 2 ^ bits) (sym is) in
+    ∙ ap (λ h. h * 2 ^ bits) (sym is) in
     subst (λ n. All (λ q. q < n) queries) whole low
 
 -- and its place is below what is left
@@ -56,7 +56,7 @@ module _ {T : Type 0} (hs : List ℕ) (ms : List (RowMajorMatrix T)) (have : Hav
       ≡ 2 ^ (slice_index_or hs k 0 - 1)
   height-at k d lt =
       sym (get_or-map height_of ms k d 0 lt) ∙ ap (λ ns. slice_index_or ns k 0) have.height
-          ∙ get_or-map (λ h. 2 ^ (h - 1)) hs k 0 0 (omega (arith, lt, have.count))
+      ∙ get_or-map (λ h. 2 ^ (h - 1)) hs k 0 0 (omega (arith, lt, have.count))
 
   pub powers-of : HaveHeightsOfPowers ms
   powers-of = λ k d lt. (slice_index_or hs k 0 - 1, height-at k d lt)
@@ -65,7 +65,7 @@ module _ {T : Type 0} (hs : List ℕ) (ms : List (RowMajorMatrix T)) (have : Hav
     -- the row at a place is one of the matrix
     row-within : (i : ℕ) → i < 2 ^ top → (k : ℕ) (d : RowMajorMatrix T) → k < length ms →
         row_at (max_height ms) (height_of (slice_index_or ms k d)) i < height_of
-            (slice_index_or ms k d)
+        (slice_index_or ms k d)
     row-within i low k d lt =
         let m = slice_index_or ms k d in
         let h = slice_index_or hs k 0 - 1 in
@@ -74,14 +74,14 @@ module _ {T : Type 0} (hs : List ℕ) (ms : List (RowMajorMatrix T)) (have : Hav
         let split : top ≡ h + (top - h) = omega (arith, le) in
         let same : row_at (max_height ms) (height_of m) i ≡ i / 2 ^ (top - h) =
         ap (λ t. row_at t (height_of m) i) highest ∙ ap (λ n. row_at (2 ^ top) n i) tall
-            ∙ row_at-powers top h i le in
+        ∙ row_at-powers top h i le in
         omega (arith, same, tall, shr_below i h (top - h) (subst (λ n. i < 2 ^ n) split low))
 
     -- the rows at a place are pairs
     pairs-at : (i : ℕ) → i < 2 ^ top → All (λ r. length r ≡ 2) (rows_at ms i)
     pairs-at i low =
         All-map (λ (r : List T). length r ≡ 2)
-            (λ m. slice_index_or (rows m) (row_at (max_height ms) (height_of m) i) []) ms
+        (λ m. slice_index_or (rows m) (row_at (max_height ms) (height_of m) i) []) ms
         (λ k d lt.
         let m = slice_index_or ms k d in
         let j = row_at (max_height ms) (height_of m) i in
@@ -96,29 +96,29 @@ module _ {T : Type 0} (hs : List ℕ) (ms : List (RowMajorMatrix T)) (have : Hav
       opened-counts =
           let Counted : List (List T) → Type 0 = λ rs. length rs ≡ length hs in
           let seen =
-              all-back Counted (λ (r : Vec (Vec T Global) Global). map (λ row. row.items) r.items)
-              values
+          all-back Counted (λ (r : Vec (Vec T Global) Global). map (λ row. row.items) r.items)
+          values
           (subst (All Counted) (sym are)
-              (All-map Counted (rows_at ms) places
-              (λ k d lt. length-map ms
-              (λ m. slice_index_or (rows m)
-              (row_at (max_height ms) (height_of m) (slice_index_or places k d)) [])
-              ∙ have.count))) in
+          (All-map Counted (rows_at ms) places
+          (λ k d lt. length-map ms
+          (λ m. slice_index_or (rows m)
+          (row_at (max_height ms) (height_of m) (slice_index_or places k d)) [])
+          ∙ have.count))) in
           λ k d lt. sym (length-map (slice_index_or values k d).items (λ row. row.items))
-              ∙ seen k d lt
+          ∙ seen k d lt
 
       -- and each a pair
       pub opened-pairs : All (λ r. All (λ row. length row.items ≡ 2) r.items) values
       opened-pairs =
           let Paired : List (List T) → Type 0 = λ rs. All (λ r. length r ≡ 2) rs in
           let seen =
-              all-back Paired (λ (r : Vec (Vec T Global) Global). map (λ row. row.items) r.items)
-              values
+          all-back Paired (λ (r : Vec (Vec T Global) Global). map (λ row. row.items) r.items)
+          values
           (subst (All Paired) (sym are)
-              (All-map Paired (rows_at ms) places
-              (λ k d lt. pairs-at (slice_index_or places k d) (low k d lt)))) in
+          (All-map Paired (rows_at ms) places
+          (λ k d lt. pairs-at (slice_index_or places k d) (low k d lt)))) in
           λ k d lt. all-back (λ (r : List T). length r ≡ 2) (λ (row : Vec T Global). row.items)
-              (slice_index_or values k d).items (seen k d lt)
+          (slice_index_or values k d).items (seen k d lt)
 
 -- what is made of queries and of what is made of their places
 pub pairwise-made : {B C : Type 0} (f : ℕ → B → C) (g : ℕ → B) (bits : ℕ) (queries : List ℕ) →

@@ -57,7 +57,7 @@ module _ {A B : Type 0} where
         AllZip R (take (i + 1) xs) (old ++ y ∷ [])
     pushed-more xs i x old y lt is so_far here =
         subst (λ n. AllZip R (take n xs) (old ++ y ∷ [])) (let next : suc i ≡ i + 1 = omega arith in
-            next) (by xs i old lt is so_far)
+        next) (by xs i old lt is so_far)
       where
         by : (xs : List A) (i : ℕ) (old : List B) → i < length xs → x ≡ slice_index_or xs i x →
             AllZip R (take i xs) old → AllZip R (take (suc i) xs) (old ++ y ∷ [])
@@ -80,15 +80,15 @@ module _ {A B C : Type 0} (f : A → B → C) where
   pub pairwise-more : (xs : List A) (ys : List B) (i : ℕ) (x : A) (y : B) → i < length xs →
       i < length ys → x ≡ slice_index_or xs i x → y ≡ slice_index_or ys i y →
       pairwise f (take (i + 1) xs) (take (i + 1) ys) ≡ pairwise f (take i xs) (take i ys) ++ f x y
-          ∷ []
+      ∷ []
   pairwise-more xs ys i x y lt lt' is is' =
       ap (λ n. pairwise f (take n xs) (take n ys)) (let next : i + 1 ≡ suc i = omega arith in next)
-          ∙ by xs ys i lt lt' is is'
+      ∙ by xs ys i lt lt' is is'
     where
       by : (xs : List A) (ys : List B) (i : ℕ) → i < length xs → i < length ys →
           x ≡ slice_index_or xs i x → y ≡ slice_index_or ys i y →
           pairwise f (take (suc i) xs) (take (suc i) ys) ≡ pairwise f (take i xs) (take i ys)
-              ++ f x y ∷ []
+          ++ f x y ∷ []
       by [] ys i lt lt' is is' = absurd (omega (arith, lt))
       by (a ∷ xs) [] i lt lt' is is' = absurd (omega (arith, lt'))
       by (a ∷ xs) (b ∷ ys) zero lt lt' is is' = ap (λ v. f v b ∷ []) (sym is)
@@ -113,7 +113,7 @@ pub zip-more : {B C : Type 0} (ps : List B) (vs : List C) (i : ℕ) (p : B) (v :
     zip (take (i + 1) ps) (vs ++ v ∷ []) ≡ zip (take i ps) vs ++ (p, v) ∷ []
 zip-more {B = B} {C = C} ps vs i p v lt long is =
     ap (λ n. zip (take n ps) (vs ++ v ∷ [])) (let next : i + 1 ≡ suc i = omega arith in next)
-        ∙ by ps vs i lt long is
+    ∙ by ps vs i lt long is
   where
     by : (ps : List B) (vs : List C) (i : ℕ) → i < length ps → length vs ≡ i →
         p ≡ slice_index_or ps i p → zip (take (suc i) ps) (vs ++ v ∷ []) ≡ zip (take i ps) vs
@@ -136,12 +136,12 @@ pairwise-map f h (x ∷ xs) (y ∷ ys) = ap (λ rest. f x (h y) ∷ rest) (pairw
 pub parts-more : {A B C D : Type 0} (f : C → D) (g : A → C) (h : B → D) (xs : List A) (i : ℕ)
     (x : A) (old new : List B) (w : B) →
     i < length xs → x ≡ slice_index_or xs i x → new ≡ old ++ w ∷ [] → h w ≡ f (g x) →
-        map h old ≡ map f (map g (take i xs)) → map h new ≡ map f (map g (take (i + 1) xs))
+    map h old ≡ map f (map g (take i xs)) → map h new ≡ map f (map g (take (i + 1) xs))
 parts-more f g h xs i x old new w lt is pushed made so_far =
     ap (map h) pushed ∙ map-append h old (w ∷ []) ∙ ap (λ l. l ++ h w ∷ []) so_far
-        ∙ ap (λ v. map f (map g (take i xs)) ++ v ∷ []) (made ∙ ap (λ v. f (g v)) is)
+    ∙ ap (λ v. map f (map g (take i xs)) ++ v ∷ []) (made ∙ ap (λ v. f (g v)) is)
     ∙ sym (ap (map f) (map_more g xs i x lt)
-        ∙ map-append f (map g (take i xs)) (g (slice_index_or xs i x) ∷ []))
+    ∙ map-append f (map g (take i xs)) (g (slice_index_or xs i x) ∷ []))
 
 -- a matrix of some row isn't wider than memory has room
 pub width-fits : {T : Type 0} (m : RowMajorMatrix T) → 1 ≤ height_of m →
@@ -169,7 +169,7 @@ pub flat-more : {A B C : Type 0} (f : B → List C) (g : A → B) (xs : List A) 
     flat_map f (map g (take (i + 1) xs)) ≡ flat_map f (map g (take i xs)) ++ f (g x)
 flat-more f g xs i x lt is =
     ap (flat_map f) (map_more g xs i x lt ∙ ap (λ v. map g (take i xs) ++ g v ∷ []) (sym is))
-        ∙ flat-push f (map g (take i xs)) (g x)
+    ∙ flat-push f (map g (take i xs)) (g x)
 
 -- the greater of two numbers
 max-is : (a b : ℕ) (s t : Bool) → cond (is_lt (cond s Less (cond t Equal Greater))) a b ≡ cond s a b
@@ -181,11 +181,11 @@ pub max-of : (a b m : ℕ) → m ≡ ord_max nat_cmp a b → (a ≤ m) × (b ≤
 max-of a b m e =
     ⊎_elim
     (λ less. let is : m ≡ a = e ∙ max-is a b (nat_lt b a) (b == a)
-        ∙ ap (λ s. cond s a b) (lt-ltb b a less) in
-        (omega (arith, is), omega (arith, is, less), inl is))
+    ∙ ap (λ s. cond s a b) (lt-ltb b a less) in
+    (omega (arith, is), omega (arith, is, less), inl is))
     (λ other. let is : m ≡ b = e ∙ max-is a b (nat_lt b a) (b == a)
-        ∙ ap (λ s. cond s a b) (le-ltb b a other) in
-        (omega (arith, is, other), omega (arith, is), inr is))
+    ∙ ap (λ s. cond s a b) (le-ltb b a other) in
+    (omega (arith, is, other), omega (arith, is), inr is))
     (cases_lt b a)
 
 module _ {F E : Type 0} (k : Fields F E) (blowup : ℕ) where
@@ -194,10 +194,10 @@ module _ {F E : Type 0} (k : Fields F E) (blowup : ℕ) where
       (m : RowMajorMatrix F) (p : Vec E Global) →
       AllZip (IsOpenable k two blowup) ms (lists_of points) →
       i < length ms → i < length points → m ≡ slice_index_or ms i m →
-          p ≡ slice_index_or points i p → IsOpenable k two blowup m p.items
+      p ≡ slice_index_or points i p → IsOpenable k two blowup m p.items
   openable-at two ms points i m p all lt lt' is is' =
       at-place (IsOpenable k two blowup) ms (lists_of points) i m p.items all lt is
-          (map-at (λ v. v.items) points i p lt' is')
+      (map-at (λ v. v.items) points i p lt' is')
 
   -- an item of a list that has one
   item-of : {X : Type 0} (xs : List X) (i : ℕ) → i < length xs → X
@@ -214,8 +214,8 @@ module _ {F E : Type 0} (k : Fields F E) (blowup : ℕ) where
     widths = λ i d lt.
         let inside : i < length points = omega (arith, lt, count) in
         ap length (get_or_default values i d [] lt
-            ∙ (opened i (item-of points i inside) inside).at_point)
-            ∙ length-map-range_with_len _ 0 (width_of m);
+        ∙ (opened i (item-of points i inside) inside).at_point)
+        ∙ length-map-range_with_len _ 0 (width_of m);
     opened = subst (λ n. AreOpened k blowup n m points values) is opened;
   }
 
@@ -224,28 +224,28 @@ module _ {F E : Type 0} (k : Fields F E) (blowup : ℕ) where
       (m : RowMajorMatrix F) (p : Vec E Global) (old new : List (Vec (Vec E Global) Global))
       (v : Vec (Vec E Global) Global) →
       n ≡ i + 1 → i < length ms → i < length points → m ≡ slice_index_or ms i m →
-          p ≡ slice_index_or points i p → length old ≡ i → new ≡ old ++ v ∷ [] →
-          AreValuesOf k blowup m p.items (lists_of v.items) →
+      p ≡ slice_index_or points i p → length old ≡ i → new ≡ old ++ v ∷ [] →
+      AreValuesOf k blowup m p.items (lists_of v.items) →
       AllZip (λ m rest. AreValuesOf k blowup m rest.0 rest.1) (take i ms)
-          (zip (take i (lists_of points)) (opened_rows old)) →
+      (zip (take i (lists_of points)) (opened_rows old)) →
       AllZip (λ m rest. AreValuesOf k blowup m rest.0 rest.1) (take n ms)
-          (zip (take n (lists_of points)) (opened_rows new))
+      (zip (take n (lists_of points)) (opened_rows new))
   values-more ms points i n m p old new v next lt lt' is is' long pushed here so_far =
       let R : RowMajorMatrix F → List E × List (List E) → Type 0 =
-          λ m rest. AreValuesOf k blowup m rest.0 rest.1 in
+      λ m rest. AreValuesOf k blowup m rest.0 rest.1 in
       let lists = lists_of points in
       let rows : Vec (Vec E Global) Global → List (List E) = λ v. lists_of v.items in
       let more : zip (take (i + 1) lists) (opened_rows old ++ rows v ∷ []) ≡ zip (take i lists)
-          (opened_rows old) ++ (p.items, rows v) ∷ [] =
+      (opened_rows old) ++ (p.items, rows v) ∷ [] =
       zip-more lists (opened_rows old) i p.items (rows v)
-          (omega (arith, lt', length-map points (λ v. v.items))) (length-map old rows ∙ long)
-          (map-at (λ v. v.items) points i p lt' is') in
+      (omega (arith, lt', length-map points (λ v. v.items))) (length-map old rows ∙ long)
+      (map-at (λ v. v.items) points i p lt' is') in
       subst (λ a. AllZip R (take a ms) (zip (take a lists) (opened_rows new))) (sym next)
       (subst (λ vs. AllZip R (take (i + 1) ms) (zip (take (i + 1) lists) vs))
-          (sym (ap opened_rows pushed ∙ map-append rows old (v ∷ [])))
+      (sym (ap opened_rows pushed ∙ map-append rows old (v ∷ [])))
       (subst (AllZip R (take (i + 1) ms)) (sym more)
       (pushed-more R ms i m (zip (take i lists) (opened_rows old)) (p.items, rows v) lt is so_far
-          here)))
+      here)))
 
 -- the first places of lists that stand side by side
 pub zip-take : {B C : Type 0} (n : ℕ) (ps : List B) (vs : List C) → zip (take n ps) (take n vs)
@@ -267,62 +267,62 @@ module _ {F E : Type 0} (k : Fields F E) (blowup : ℕ) where
       committed_of k blowup o ≡ committed k blowup m ps (lists_of vs)
   committed-is o m ps vs log same points values =
       let claims : List (PointClaim E) =
-          pairwise (λ t v. claim_of t v.items) o.points.now o.values.now in
+      pairwise (λ t v. claim_of t v.items) o.points.now o.values.now in
       ap (λ h. made-of h o.rows.now ps claims) log
-          ∙ ap (λ r. made-of (log_of (height_of m)) r ps claims) same
+      ∙ ap (λ r. made-of (log_of (height_of m)) r ps claims) same
       ∙ ap (made-of (log_of (height_of m)) m ps)
-          (ap (λ xs. pairwise (λ t v. claim_of t v.items) xs o.values.now) points
-          ∙ ap (pairwise (λ t v. claim_of t v.items) ps) values
-          ∙ pairwise-map claim_of (λ v. v.items) ps vs)
+      (ap (λ xs. pairwise (λ t v. claim_of t v.items) xs o.values.now) points
+      ∙ ap (pairwise (λ t v. claim_of t v.items) ps) values
+      ∙ pairwise-map claim_of (λ v. v.items) ps vs)
 
   -- one more matrix of a batch
   pub committed-more : (ms : List (RowMajorMatrix F)) (points : List (Vec E Global))
       (values : List (Vec (Vec E Global) Global)) (i n : ℕ) (o : OpenedMatrix F E)
       (m : RowMajorMatrix F) (p : Vec E Global) (v : Vec (Vec E Global) Global)
       (first : List (Committed F E)) (old new : List (OpenedMatrix F E)) → n ≡ i + 1 →
-          i < length ms → i < length points → i < length values → m ≡ slice_index_or ms i m →
-          p ≡ slice_index_or points i p → v ≡ slice_index_or values i v →
+      i < length ms → i < length points → i < length values → m ≡ slice_index_or ms i m →
+      p ≡ slice_index_or points i p → v ≡ slice_index_or values i v →
       new ≡ old ++ o ∷ [] → committed_of k blowup o
-          ≡ committed k blowup m p.items (lists_of v.items) → map (committed_of k blowup) old
-          ≡ first ++ batch_committed k blowup (take i ms) (take i (lists_of points))
-          (take i (opened_rows values)) →
+      ≡ committed k blowup m p.items (lists_of v.items) → map (committed_of k blowup) old
+      ≡ first ++ batch_committed k blowup (take i ms) (take i (lists_of points))
+      (take i (opened_rows values)) →
       map (committed_of k blowup) new ≡ first
-          ++ batch_committed k blowup (take n ms) (take n (lists_of points))
-          (take n (opened_rows values))
+      ++ batch_committed k blowup (take n ms) (take n (lists_of points))
+      (take n (opened_rows values))
   committed-more ms points values i n o m p v first old new next lt lt' lt'' is is' is'' pushed made
       so_far =
       let ps = lists_of points in
       let vs = opened_rows values in
       let rows : Vec (Vec E Global) Global → List (List E) = λ v. lists_of v.items in
       let f : RowMajorMatrix F → List E × List (List E) → Committed F E =
-          λ m rest. committed k blowup m rest.0 rest.1 in
+      λ m rest. committed k blowup m rest.0 rest.1 in
       let inner : i < length ps = omega (arith, lt', length-map points (λ v. v.items)) in
       let outer : i < length vs = omega (arith, lt'', length-map values rows) in
       let here =
-          side-by-side ps vs i p.items (rows v) inner outer
-          (map-at (λ v. v.items) points i p lt' is') (map-at rows values i v lt'' is'') in
+      side-by-side ps vs i p.items (rows v) inner outer
+      (map-at (λ v. v.items) points i p lt' is') (map-at rows values i v lt'' is'') in
       let inside : i < length (zip ps vs) = omega (arith, inner, outer, length-zip ps vs) in
       ap (map (committed_of k blowup)) pushed ∙ map-append (committed_of k blowup) old (o ∷ [])
-          ∙ ap (λ l. l ++ committed_of k blowup o ∷ []) so_far
-          ∙ append_assoc first (pairwise f (take i ms) (zip (take i ps) (take i vs)))
-          (committed_of k blowup o ∷ [])
+      ∙ ap (λ l. l ++ committed_of k blowup o ∷ []) so_far
+      ∙ append_assoc first (pairwise f (take i ms) (zip (take i ps) (take i vs)))
+      (committed_of k blowup o ∷ [])
       ∙ ap (λ l. first ++ l)
       (ap (λ d. pairwise f (take i ms) (zip (take i ps) (take i vs)) ++ d ∷ []) made
-          ∙ ap (λ z. pairwise f (take i ms) z ++ f m (p.items, rows v) ∷ []) (zip-take i ps vs)
+      ∙ ap (λ z. pairwise f (take i ms) z ++ f m (p.items, rows v) ∷ []) (zip-take i ps vs)
       ∙ sym (pairwise-more f ms (zip ps vs) i m (p.items, rows v) lt inside is here)
-          ∙ ap (pairwise f (take (i + 1) ms)) (sym (zip-take (i + 1) ps vs))
-          ∙ ap (λ a. pairwise f (take a ms) (zip (take a ps) (take a vs))) (sym next))
+      ∙ ap (pairwise f (take (i + 1) ms)) (sym (zip-take (i + 1) ps vs))
+      ∙ ap (λ a. pairwise f (take a ms) (zip (take a ps) (take a vs))) (sym next))
 
   -- all matrices of a batch
   pub committed-all : (ms : List (RowMajorMatrix F)) (ps : List (List E))
       (vs : List (List (List E))) (i : ℕ) → i ≡ min (length ms) (min (length ps) (length vs)) →
       batch_committed k blowup (take i ms) (take i ps) (take i vs)
-          ≡ batch_committed k blowup ms ps vs
+      ≡ batch_committed k blowup ms ps vs
   committed-all ms ps vs i end =
       let f : RowMajorMatrix F → List E × List (List E) → Committed F E =
-          λ m rest. committed k blowup m rest.0 rest.1 in
+      λ m rest. committed k blowup m rest.0 rest.1 in
       ap (pairwise f (take i ms)) (zip-take i ps vs)
-          ∙ pairwise-end f ms (zip ps vs) i (omega (arith, end, length-zip ps vs))
+      ∙ pairwise-end f ms (zip ps vs) i (omega (arith, end, length-zip ps vs))
 
 module _ {F E : Type 0} (k : Fields F E) (blowup : ℕ) where
   -- a matrix of a batch with its points and values
@@ -330,17 +330,17 @@ module _ {F E : Type 0} (k : Fields F E) (blowup : ℕ) where
       (values : List (Vec (Vec E Global) Global)) (i : ℕ) (m : RowMajorMatrix F) (p : Vec E Global)
       (v : Vec (Vec E Global) Global) →
       AllZip (λ m rest. AreValuesOf k blowup m rest.0 rest.1) ms
-          (zip (lists_of points) (opened_rows values)) → i < length ms → i < length points →
-          i < length values →
+      (zip (lists_of points) (opened_rows values)) → i < length ms → i < length points →
+      i < length values →
       m ≡ slice_index_or ms i m → p ≡ slice_index_or points i p → v ≡ slice_index_or values i v →
-          AreValuesOf k blowup m p.items (lists_of v.items)
+      AreValuesOf k blowup m p.items (lists_of v.items)
   valued-at ms points values i m p v all lt lt' lt'' is is' is'' =
       let rows : Vec (Vec E Global) Global → List (List E) = λ v. lists_of v.items in
       at-place (λ m (rest : List E × List (List E)). AreValuesOf k blowup m rest.0 rest.1) ms
-          (zip (lists_of points) (opened_rows values)) i m (p.items, rows v) all lt is
+      (zip (lists_of points) (opened_rows values)) i m (p.items, rows v) all lt is
       (side-by-side (lists_of points) (opened_rows values) i p.items (rows v)
-          (omega (arith, lt', length-map points (λ v. v.items)))
-          (omega (arith, lt'', length-map values rows))
+      (omega (arith, lt', length-map points (λ v. v.items)))
+      (omega (arith, lt'', length-map values rows))
       (map-at (λ v. v.items) points i p lt' is') (map-at rows values i v lt'' is''))
 
   -- is ready to be opened
@@ -369,12 +369,12 @@ pub requests-more : {A B C : Type 0} (f : A → B → List C) (xs : List A) (ys 
     (x : A) (y : B) (old new : List C) → n ≡ i + 1 → i < length xs → i < length ys →
     x ≡ slice_index_or xs i x → y ≡ slice_index_or ys i y →
     new ≡ old ++ f x y → old ≡ flat_map (λ b. b) (pairwise f (take i xs) (take i ys)) →
-        new ≡ flat_map (λ b. b) (pairwise f (take n xs) (take n ys))
+    new ≡ flat_map (λ b. b) (pairwise f (take n xs) (take n ys))
 requests-more f xs ys i n x y old new next lt lt' is is' made so_far =
     made ∙ ap (λ l. l ++ f x y) so_far
-        ∙ sym (flat-push (λ b. b) (pairwise f (take i xs) (take i ys)) (f x y))
+    ∙ sym (flat-push (λ b. b) (pairwise f (take i xs) (take i ys)) (f x y))
     ∙ ap (flat_map (λ b. b)) (sym (pairwise-more f xs ys i x y lt lt' is is')
-        ∙ ap (λ a. pairwise f (take a xs) (take a ys)) (sym next))
+    ∙ ap (λ a. pairwise f (take a xs) (take a ys)) (sym next))
 
 module _ {F E : Type 0} (k : Fields F E) (two : ℕ) (os : List (OpenedMatrix F E))
     (ready : All (IsReady k two) os) where

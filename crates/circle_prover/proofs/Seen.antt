@@ -29,8 +29,8 @@ module _ {F E : Type 0} (k : Fields F E) (blowup : ℕ) (ms : List (OpenedMatrix
   heights-seen =
       let seen = map (committed_of k blowup) ms in
       ap (λ n. filter (λ h. list_any (λ m. m.log_height == h) ms) (range_with_len 0 (suc n)))
-          top-seen
+      top-seen
       ∙ filter_agree (λ h. list_any (λ m. m.log_height == h) ms)
-          (λ h. list_any (λ (c : Committed F E). c.log_height == h) seen)
+      (λ h. list_any (λ (c : Committed F E). c.log_height == h) seen)
       (λ h. any-map (λ (c : Committed F E). c.log_height == h) (committed_of k blowup) ms)
-          (range_with_len 0 (suc (top_of seen)))
+      (range_with_len 0 (suc (top_of seen)))

@@ -23,19 +23,19 @@ module _ {A B C W : Type 0} (f : A → B → C) (view : W → B) (xs : List A) (
   pub pair-pushed : (n m : ℕ) (x : A) (w : W) (c : C) (old new : List C) → n < length xs →
       x ≡ slice_index_or xs n x → w ≡ slice_index_or ws n w →
       new ≡ old ++ c ∷ [] → old ≡ take n (pairwise f xs (map view ws)) → c ≡ f x (view w) →
-          m ≡ n + 1 → new ≡ take m (pairwise f xs (map view ws))
+      m ≡ n + 1 → new ≡ take m (pairwise f xs (map view ws))
   pair-pushed n m x w c old new below is_x is_w pushed before value next =
       let all = pairwise f xs (map view ws) in
       let inside : n < length ws = omega (arith, below, same) in
       let is : c ≡ slice_index_or all n c =
       value ∙ ap (λ a. f a (view w)) is_x ∙ ap (λ v. f (slice_index_or xs n x) (view v)) is_w
-          ∙ ap (f (slice_index_or xs n x)) (sym (get_or-map view ws n w (view w) inside))
+      ∙ ap (f (slice_index_or xs n x)) (sym (get_or-map view ws n w (view w) inside))
       ∙ sym
-          (pairwise-read f xs (map view ws) n x (view w) c below
-          (omega (arith, inside, length-map ws view))) in
+      (pairwise-read f xs (map view ws) n x (view w) c below
+      (omega (arith, inside, length-map ws view))) in
       pushed ∙ ap (λ ys. ys ++ c ∷ []) before ∙ ap (λ v. take n all ++ v ∷ []) is
       ∙ sym (take_more all n c (omega (arith, below, made-length)))
-          ∙ ap (λ i. take i all) (sym next)
+      ∙ ap (λ i. take i all) (sym next)
 
   -- all of them
   pub pair-all : (n : ℕ) → n ≡ min (length xs) (length ws) → take n (pairwise f xs (map view ws))
@@ -53,7 +53,7 @@ places-below top bits queries low =
 pub step-more : {D S : Type 0} (P : ℕ → D → S → Type 0) (kept : List D) (old new : List S) (i : ℕ)
     (d : D) (s : S) → length old ≡ i → d ≡ slice_index_or kept i d → new ≡ old ++ s ∷ [] →
     ((n : ℕ) (x : D) (y : S) → slice_get kept n ≡ Some x → slice_get old n ≡ Some y → P n x y) →
-        P i d s →
+    P i d s →
     (n : ℕ) (x : D) (y : S) → slice_get kept n ≡ Some x → slice_get new n ≡ Some y → P n x y
 step-more {D = D} {S = S} P kept old new i d s count is_d pushed before here = λ n x y at_x at_y.
     let read : slice_index_or new n y ≡ y = get_or_from_slice_get new n y y at_y in
@@ -62,16 +62,16 @@ step-more {D = D} {S = S} P kept old new i d s count is_d pushed before here = �
     ⊎_elim
     (λ same.
     let is_x : d ≡ x = is_d ∙ ap (λ m. slice_index_or kept m d) (sym same)
-        ∙ get_or_from_slice_get kept n x d at_x in
+    ∙ get_or_from_slice_get kept n x d at_x in
     let is_y : s ≡ y = sym (get_or_push old s y n (count ∙ sym same))
-        ∙ ap (λ ys. slice_index_or ys n y) (sym pushed) ∙ read in
+    ∙ ap (λ ys. slice_index_or ys n y) (sym pushed) ∙ read in
     subst (λ (b : S). P n x b) is_y
-        (subst (λ (a : D). P n a s) is_x (subst (λ m. P m d s) (sym same) here)))
+    (subst (λ (a : D). P n a s) is_x (subst (λ m. P m d s) (sym same) here)))
     (λ other.
     let low : n < length old = omega (arith, within, long, count, other) in
     let at : slice_get old n ≡ Some y =
-        slice_get_read old (length old) n y refl low
-        (sym read ∙ ap (λ ys. slice_index_or ys n y) pushed
-        ∙ get_or_append_left old (s ∷ []) y n low) in
+    slice_get_read old (length old) n y refl low
+    (sym read ∙ ap (λ ys. slice_index_or ys n y) pushed
+    ∙ get_or_append_left old (s ∷ []) y n low) in
     before n x y at_x at)
     (cases_eq n i)

@@ -26,7 +26,7 @@ module _ {C S F E Com : Type 0} (r : RunMoves C S F E Com) (Commits : List (RowM
       (rounds : List (Com × F)) (betas : List E) → m ≡ n → now ≡ then →
       ((i : ℕ) → word betas i ≡ next betas i)
       → AreRoundsOf r Commits m.commit_pow_bits now word rounds betas →
-          AreRoundsOf r Commits n.commit_pow_bits then next rounds betas
+      AreRoundsOf r Commits n.commit_pow_bits then next rounds betas
   rounds-moved n m now then word next rounds betas same state alike are =
       subst (λ (v : Numbers). AreRoundsOf r Commits v.commit_pow_bits then next rounds betas) same
       (subst (λ t. AreRoundsOf r Commits m.commit_pow_bits t next rounds betas) state (record {
@@ -41,7 +41,7 @@ module _ {C S F E Com : Type 0} (r : RunMoves C S F E Com) (Commits : List (RowM
       (count more : ℕ) → m ≡ n → now ≡ then → count ≡ more →
       ((betas : List E) (i : ℕ) → word betas i ≡ next betas i)
       → IsStuckAfter r Commits m.commit_pow_bits now word count →
-          IsStuckAfter r Commits n.commit_pow_bits then next more
+      IsStuckAfter r Commits n.commit_pow_bits then next more
   stuck-moved n m now then word next count more same state counted alike stuck = record {
     rounds = stuck.rounds;
     betas = stuck.betas;
@@ -57,9 +57,9 @@ module _ {C S F E Com : Type 0} (r : RunMoves C S F E Com) (Commits : List (RowM
         (r.after_commitment (after_rounds r v.commit_pow_bits then stuck.rounds) stuck.commitment)
         v.commit_pow_bits) same
         (subst
-            (λ t. NonePasses r.base
-            (r.after_commitment (after_rounds r m.commit_pow_bits t stuck.rounds) stuck.commitment)
-            m.commit_pow_bits) state stuck.none);
+        (λ t. NonePasses r.base
+        (r.after_commitment (after_rounds r m.commit_pow_bits t stuck.rounds) stuck.commitment)
+        m.commit_pow_bits) state stuck.none);
   }
 
   module _ {M : Type 0} (k : Fields F E) (p : FriParameters M) (ms : List (Committed F E))
@@ -68,14 +68,14 @@ module _ {C S F E Com : Type 0} (r : RunMoves C S F E Com) (Commits : List (RowM
     -- before the queries
     pub stuck-query : (betas : List E) (m : Numbers) (now : S) → AtQuery r n t s m now
         → AreRoundsOf r Commits n.commit_pow_bits (before_rounds r Commits k p ms n claims s t)
-            (round_word k p.log_blowup ms alpha bivariate) t.rounds betas
+        (round_word k p.log_blowup ms alpha bivariate) t.rounds betas
         → length t.rounds ≡ top_of ms - 1 - p.log_blowup - p.log_final_poly_len
         → HasXValues k.field k.gen k.extension k.embed p.log_final_poly_len
-            (p.log_blowup + p.log_final_poly_len)
-            (round_word k p.log_blowup ms alpha bivariate betas
-            (top_of ms - 1 - p.log_blowup - p.log_final_poly_len)) t.final_poly
+        (p.log_blowup + p.log_final_poly_len)
+        (round_word k p.log_blowup ms alpha bivariate betas
+        (top_of ms - 1 - p.log_blowup - p.log_final_poly_len)) t.final_poly
         → NonePasses r.base (after_final_poly r.base now t.final_poly) m.query_pow_bits →
-            FindsNone r Commits k p ms n claims s Query
+        FindsNone r Commits k p ms n claims s Query
     stuck-query betas m now at played all final none = record {
       taken = t;
       alpha = alpha;
@@ -87,7 +87,7 @@ module _ {C S F E Com : Type 0} (r : RunMoves C S F E Com) (Commits : List (RowM
       final_poly = final;
       none = subst (λ (v : Numbers). NonePasses r.base (closed r n t s) v.query_pow_bits) at.same
           (subst (λ a. NonePasses r.base a m.query_pow_bits)
-              (ap (λ a. after_final_poly r.base a t.final_poly) at.state) none);
+          (ap (λ a. after_final_poly r.base a t.final_poly) at.state) none);
     }
 
 -- a run that was drawn, told of its beginning and its end by other names
@@ -95,10 +95,10 @@ pub drawn-moved : {C S F E Com : Type 0} (r : RunMoves C S F E Com) (n m : Numbe
     (t : Taken F E Com) (s u : S) (coefficients : E → List F) (d : CircleDraws E) (state : C → S)
     (a b : C) →
     n ≡ m → s ≡ u → a ≡ b → draw_seeded r n t s ≡ Ok (drawn_of coefficients d (state b)) →
-        draw_seeded r m t u ≡ Ok (drawn_of coefficients d (state a))
+    draw_seeded r m t u ≡ Ok (drawn_of coefficients d (state a))
 drawn-moved r n m t s u coefficients d state a b numbers begun ended drawn =
     ap (λ v. draw_seeded r v t u) (sym numbers) ∙ ap (draw_seeded r n t) (sym begun) ∙ drawn
-        ∙ ap (λ c. Ok (drawn_of coefficients d (state c))) (sym ended)
+    ∙ ap (λ c. Ok (drawn_of coefficients d (state c))) (sym ended)
 
 -- a run of a shape that is told by another name, which takes in what is told so too
 pub draw-moved : {C S F E Com : Type 0} (r : RunMoves C S F E Com) (a b : Shape)

@@ -28,8 +28,11 @@ greatest-there (n ∷ []) some = (0, omega arith, omega arith)
 greatest-there (n ∷ m ∷ ns) some =
     let rest = greatest-there (m ∷ ns) (omega arith) in
     ⊎_elim
-    (λ lt. (suc rest.0, omega (arith, rest.1),
-        rest.2 ∙ (let e : greatest (m ∷ ns) ≡ max n (greatest (m ∷ ns)) = omega (arith, lt) in e)))
+    (λ lt. (
+      suc rest.0,
+      omega (arith, rest.1),
+      rest.2 ∙ (let e : greatest (m ∷ ns) ≡ max n (greatest (m ∷ ns)) = omega (arith, lt) in e),
+    ))
     (λ ge. (0, omega arith, (let e : n ≡ max n (greatest (m ∷ ns)) = omega (arith, ge) in e)))
     (cases_lt n (greatest (m ∷ ns)))
 
@@ -42,7 +45,7 @@ more-range : (p : ℕ → Bool) (n : ℕ) → filter p (range_with_len 0 (n + 1)
     ≡ filter p (range_with_len 0 n) ++ cond (p n) (n ∷ []) []
 more-range p n =
     ap (filter p) (sym (map-same (range_with_len 0 (n + 1))))
-        ∙ filter_of_map_range_with_len_more p (λ m. m) 0 n n (omega arith)
+    ∙ filter_of_map_range_with_len_more p (λ m. m) 0 n n (omega arith)
     ∙ ap (λ xs. filter p xs ++ cond (p n) (n ∷ []) []) (map-same (range_with_len 0 n))
 
 -- numbers are at most the greatest
@@ -50,9 +53,10 @@ below : (ns : List ℕ) (top : ℕ) → ((n : ℕ) → n ≤ greatest ns → n �
     AllByRecursion (λ n. n ≤ top) ns
 below [] top f = tt
 below (n ∷ ns) top f =
-    let here : n ≤ greatest (n ∷ ns) = omega arith in
-    (f n here,
-        below ns top (λ m le. f m (let more : m ≤ greatest (n ∷ ns) = omega (arith, le) in more)))
+    let here : n ≤ greatest (n ∷ ns) = omega arith in (
+      f n here,
+      below ns top (λ m le. f m (let more : m ≤ greatest (n ∷ ns) = omega (arith, le) in more)),
+    )
 
 -- what a test keeps of numbers passes it
 kept : (p : ℕ → Bool) (P : ℕ → Type 0) → ((h : ℕ) → p h ≡ true → P h) → (a n : ℕ) →
@@ -60,8 +64,8 @@ kept : (p : ℕ → Bool) (P : ℕ → Type 0) → ((h : ℕ) → p h ≡ true �
 kept p P f a zero = tt
 kept p P f a (suc n) =
     elim (p a) as (λ b. p a ≡ b →
-        AllByRecursion P
-        (cond b (a ∷ filter p (range_with_len (a + 1) n)) (filter p (range_with_len (a + 1) n)))) [
+    AllByRecursion P
+    (cond b (a ∷ filter p (range_with_len (a + 1) n)) (filter p (range_with_len (a + 1) n)))) [
       | true ↦ λ e. (f a e, kept p P f (a + 1) n)
       | false ↦ λ e. kept p P f (a + 1) n
     ] refl
@@ -71,14 +75,14 @@ pub same-front : {A : Type 0} (xs ys : List A) (x y : A) → length xs ≡ lengt
     ++ y ∷ [] → xs ≡ ys
 same-front xs ys x y count same =
     sym (take-append_seam xs (x ∷ [])) ∙ ap (take (length xs)) same
-        ∙ ap (λ n. take n (ys ++ y ∷ [])) count ∙ take-append_seam ys (y ∷ [])
+    ∙ ap (λ n. take n (ys ++ y ∷ [])) count ∙ take-append_seam ys (y ∷ [])
 
 pub same-last : {A : Type 0} (xs ys : List A) (x y : A) → length xs ≡ length ys → xs ++ x ∷ [] ≡ ys
     ++ y ∷ [] → x ≡ y
 same-last xs ys x y count same =
     let ends : x ∷ [] ≡ y ∷ [] =
-        append_cancel_left ys (x ∷ []) (y ∷ [])
-        (ap (λ zs. zs ++ x ∷ []) (sym (same-front xs ys x y count same)) ∙ same) in
+    append_cancel_left ys (x ∷ []) (y ∷ [])
+    (ap (λ zs. zs ++ x ∷ []) (sym (same-front xs ys x y count same)) ∙ same) in
     ap (λ zs. slice_index_or zs 0 x) ends
 
 -- a list without its last
@@ -111,14 +115,14 @@ module _ {F E : Type 0} (ms : List (Committed F E)) where
   top-there some =
       let heights = map (λ (m : Committed F E). m.log_height) ms in
       let there =
-          greatest-there heights
-          (omega (arith, some, length-map ms (λ (m : Committed F E). m.log_height))) in
+      greatest-there heights
+      (omega (arith, some, length-map ms (λ (m : Committed F E). m.log_height))) in
       let within : there.0 < length ms =
-          omega (arith, there.1, length-map ms (λ (m : Committed F E). m.log_height)) in
+      omega (arith, there.1, length-map ms (λ (m : Committed F E). m.log_height)) in
       let m = slice_index_or ms there.0 (record { log_height = 0; rows = []; claims = [] }) in
       list_any_at (λ (c : Committed F E). c.log_height == top_of ms) ms there.0 m within
       (eq-eqb (slice_index_or ms there.0 m).log_height (top_of ms)
-          (sym (get_or-map (λ (c : Committed F E). c.log_height) ms there.0 m 0 within) ∙ there.2))
+      (sym (get_or-map (λ (c : Committed F E). c.log_height) ms there.0 m 0 within) ∙ there.2))
 
   pub heights-end : 1 ≤ length ms → heights_of ms ≡ lower ++ top_of ms ∷ []
   heights-end some =
@@ -138,7 +142,7 @@ module _ {F E : Type 0} (ms : List (Committed F E)) where
       (λ h yes.
       let found = Any-from_list_any (λ (m : Committed F E). m.log_height == h) ms yes in
       subst P (eqb-true found.1.log_height h found.4)
-          (subst (λ (m : Committed F E). P m.log_height) found.3 (all found.0 found.1 found.2)))
+      (subst (λ (m : Committed F E). P m.log_height) found.3 (all found.0 found.1 found.2)))
       0 (suc (top_of ms)))
 
   heights-low : (ns : List ℕ) → All (λ n. n ≤ greatest ns) ns
@@ -150,10 +154,10 @@ module _ {F E : Type 0} (ms : List (Committed F E)) where
   matrices-low i m lt =
       let heights = map (λ (c : Committed F E). c.log_height) ms in
       let within : i < length heights =
-          omega (arith, lt, length-map ms (λ (c : Committed F E). c.log_height)) in
+      omega (arith, lt, length-map ms (λ (c : Committed F E). c.log_height)) in
       let low = heights-low heights i 0 within in
       let same : slice_index_or heights i 0 ≡ (slice_index_or ms i m).log_height =
-          get_or-map (λ (c : Committed F E). c.log_height) ms i m 0 lt in
+      get_or-map (λ (c : Committed F E). c.log_height) ms i m 0 lt in
       omega (arith, low, same)
 
   -- no height is above the greatest
@@ -164,13 +168,13 @@ module _ {F E : Type 0} (ms : List (Committed F E)) where
   top-known P some all =
       let heights = map (λ (m : Committed F E). m.log_height) ms in
       let there =
-          greatest-there heights
-          (omega (arith, some, length-map ms (λ (m : Committed F E). m.log_height))) in
+      greatest-there heights
+      (omega (arith, some, length-map ms (λ (m : Committed F E). m.log_height))) in
       let within : there.0 < length ms =
-          omega (arith, there.1, length-map ms (λ (m : Committed F E). m.log_height)) in
+      omega (arith, there.1, length-map ms (λ (m : Committed F E). m.log_height)) in
       let none : Committed F E = record { log_height = 0; rows = []; claims = [] } in
       subst P (sym (get_or-map (λ (c : Committed F E). c.log_height) ms there.0 none 0 within)
-          ∙ there.2) (all there.0 none within)
+      ∙ there.2) (all there.0 none within)
 
 or-nothing : (b : Bool) → (b || false) ≡ b
 or-nothing true = refl
@@ -182,8 +186,8 @@ joins-alike : (hs : List ℕ) (top n : ℕ) → n < top → list_any (λ m. m ==
 joins-alike hs top n lt =
     let other : (top == n) ≡ false = ne_eqb top n (λ e. omega (arith, e, lt)) in
     sym (list_any-append (λ m. m == n) hs (top ∷ [])
-        ∙ ap (λ b. list_any (λ m. m == n) hs || (b || false)) other
-        ∙ or-nothing (list_any (λ m. m == n) hs))
+    ∙ ap (λ b. list_any (λ m. m == n) hs || (b || false)) other
+    ∙ or-nothing (list_any (λ m. m == n) hs))
 
 -- the words of the rounds are the same without the greatest height, which they don't reach
 pub word-alike : {F E : Type 0} (k : Fields F E) (hs : List ℕ) (top : ℕ) (f : ℕ → List E) (h : ℕ)
@@ -195,12 +199,12 @@ word-alike k hs top f h first betas lt (suc n) =
     let low : h - n < top = omega (arith, lt) in
     ap (next_word k hs f (h - n) beta) (word-alike k hs top f h first betas lt n)
     ∙ ap
-        (λ b. cond b
-        (pairwise k.extension.add
-        (x_folds k.field k.gen k.extension k.embed (h - n - 1) beta
-        (pairs_of (word_at k (hs ++ top ∷ []) f h first betas n))) (f (h - n)))
+    (λ b. cond b
+    (pairwise k.extension.add
     (x_folds k.field k.gen k.extension k.embed (h - n - 1) beta
-        (pairs_of (word_at k (hs ++ top ∷ []) f h first betas n))))
+    (pairs_of (word_at k (hs ++ top ∷ []) f h first betas n))) (f (h - n)))
+    (x_folds k.field k.gen k.extension k.embed (h - n - 1) beta
+    (pairs_of (word_at k (hs ++ top ∷ []) f h first betas n))))
     (joins-alike hs top (h - n) low)
 
 -- what stands for each of some numbers, the last apart
@@ -210,7 +214,7 @@ split-last f xs x ns n same =
     let apart : xs ++ x ∷ [] ≡ map f ns ++ f n ∷ [] = same ∙ map-append f ns (n ∷ []) in
     let long = ap length apart in
     let count : length xs ≡ length (map f ns) =
-        omega (arith, long, length-append xs (x ∷ []), length-append (map f ns) (f n ∷ [])) in
+    omega (arith, long, length-append xs (x ∷ []), length-append (map f ns) (f n ∷ [])) in
     (same-front xs (map f ns) x (f n) count apart, same-last xs (map f ns) x (f n) count apart)
 
 -- rounds whose words are the same
@@ -218,21 +222,21 @@ pub rounds-alike : {E D Com : Type 0} (Commits : List (RowMajorMatrix E) → Com
     (kept_of : D → List (RowMajorMatrix E)) (v w : ℕ → List E) (kept : List D)
     (commitments : List Com) →
     ((n : ℕ) → v n ≡ w n) → AreRounds Commits kept_of v kept commitments →
-        AreRounds Commits kept_of w kept commitments
+    AreRounds Commits kept_of w kept commitments
 rounds-alike Commits kept_of v w kept commitments same rounds = record {
   count = rounds.count;
   each = λ n d commitment at_kept at_commitment.
       subst (λ word. AreCommitted Commits (pairs_of word ∷ []) (kept_of d) commitment) (same n)
-          (rounds.each n d commitment at_kept at_commitment);
+      (rounds.each n d commitment at_kept at_commitment);
 }
 
 -- the words of the rounds, by what is at hand of the heights and of the first word
 pub words-alike : {F E : Type 0} (k : Fields F E) (blowup : ℕ) (ms : List (Committed F E))
     (alpha bivariate : E) (hs : List ℕ) (high : ℕ) (first : List E) → 1 ≤ length ms → 1 ≤ top_of ms
     → hs ≡ lower ms → high ≡ top_of ms →
-        first ≡ first_fold k blowup ms alpha bivariate (top_of ms) → (betas : List E) (n : ℕ)
+    first ≡ first_fold k blowup ms alpha bivariate (top_of ms) → (betas : List E) (n : ℕ)
     → word_at k hs (first_fold k blowup ms alpha bivariate) (high - 1) first betas n
-        ≡ round_word k blowup ms alpha bivariate betas n
+    ≡ round_word k blowup ms alpha bivariate betas n
 words-alike k blowup ms alpha bivariate hs high first some positive fewer same is betas n =
     let top = top_of ms in
     let fold = first_fold k blowup ms alpha bivariate in
@@ -248,14 +252,14 @@ pub folds-split : {F E : Type 0} (k : Fields F E) (blowup : ℕ) (ms : List (Com
     (alpha bivariate : E) (hs : List ℕ) (layers : List (RowMajorMatrix E)) (joining : List (List E))
     (tallest : List E) → 1 ≤ length ms
     → hs ≡ heights_of ms → map rows layers ≡ map (layer_of k blowup ms alpha) (heights_of ms) →
-        joining ++ tallest ∷ [] ≡ folded_layers k bivariate hs layers
+    joining ++ tallest ∷ [] ≡ folded_layers k bivariate hs layers
     → (joining ≡ map (first_fold k blowup ms alpha bivariate) (lower ms))
-        × (tallest ≡ first_fold k blowup ms alpha bivariate (top_of ms))
+    × (tallest ≡ first_fold k blowup ms alpha bivariate (top_of ms))
 folds-split k blowup ms alpha bivariate hs layers joining tallest some same are folds =
     let layer = layer_of k blowup ms alpha in
     let fold = first_fold k blowup ms alpha bivariate in
     split-last fold joining tallest (lower ms) (top_of ms)
     (folds ∙ ap (λ v. folded_layers k bivariate v layers) same
-        ∙ ap (pairwise (y_folded k bivariate) (heights_of ms)) are
+    ∙ ap (pairwise (y_folded k bivariate) (heights_of ms)) are
     ∙ pairwise-map (y_folded k bivariate) layer (heights_of ms)
-        ∙ ap (map fold) (heights-end ms some))
+    ∙ ap (map fold) (heights-end ms some))

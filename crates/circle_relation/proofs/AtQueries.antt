@@ -49,19 +49,19 @@ itself-placed f n (q ∷ qs) = ap (λ rest. f q ∷ rest) (itself-placed f (n + 
 -- entries that are the same at each place
 pub same-placed : {T : Type 0} (f g : ℕ → ℕ → T) (n : ℕ) (qs : List ℕ) →
     ((i d : ℕ) → i < length qs → f (n + i) (slice_index_or qs i d)
-        ≡ g (n + i) (slice_index_or qs i d)) → placed f n qs ≡ placed g n qs
+    ≡ g (n + i) (slice_index_or qs i d)) → placed f n qs ≡ placed g n qs
 same-placed f g n [] same = refl
 same-placed f g n (q ∷ qs) same =
     let here : n + zero ≡ n = omega arith in
     let first : f n q ≡ g n q = ap (λ m. f m q) (sym here) ∙ same 0 0 (omega arith)
-        ∙ ap (λ m. g m q) here in
+    ∙ ap (λ m. g m q) here in
     let rest : (i d : ℕ) → i < length qs →
-        f (n + 1 + i) (slice_index_or qs i d) ≡ g (n + 1 + i) (slice_index_or qs i d) =
+    f (n + 1 + i) (slice_index_or qs i d) ≡ g (n + 1 + i) (slice_index_or qs i d) =
     λ i d lt. let m : n + suc i ≡ n + 1 + i = omega arith in
     ap (λ m. f m (slice_index_or qs i d)) (sym m) ∙ same (suc i) d (omega arith)
-        ∙ ap (λ m. g m (slice_index_or qs i d)) m in
+    ∙ ap (λ m. g m (slice_index_or qs i d)) m in
     ap (λ t. t ∷ placed f (n + 1) qs) first
-        ∙ ap (λ ts. g n q ∷ ts) (same-placed f g (n + 1) qs rest)
+    ∙ ap (λ ts. g n q ∷ ts) (same-placed f g (n + 1) qs rest)
 
 -- a list that has an entry for each query
 pub listed-placed : {T : Type 0} (xs : List T) (d : T) (qs : List ℕ) → length xs ≡ length qs →
@@ -80,7 +80,7 @@ listed-placed {T} xs d qs count =
         let here : n + zero ≡ n = omega arith in
         let rest : (i : ℕ) → slice_index_or ys i d ≡ slice_index_or all (n + 1 + i) d =
         λ i. let m : n + suc i ≡ n + 1 + i = omega arith in
-            same (suc i) ∙ ap (λ m. slice_index_or all m d) m in
+        same (suc i) ∙ ap (λ m. slice_index_or all m d) m in
         ap (λ t. t ∷ ys) (same 0 ∙ ap (λ m. slice_index_or all m d) here)
-            ∙ ap (λ ts. slice_index_or all n d ∷ ts)
-            (from ys rs (n + 1) all (omega (arith, e)) rest)
+        ∙ ap (λ ts. slice_index_or all n d ∷ ts)
+        (from ys rs (n + 1) all (omega (arith, e)) rest)

@@ -43,7 +43,7 @@ pub All-part : {S T : Type 0} (P : T → Type 0) (f : S → List T) (xs : List S
 All-part P f [] i x all at = absurd (omega (arith, slice_get_within [] i x at))
 All-part P f (y ∷ xs) zero x all at =
     subst (λ z. All P (f z)) (get_or_from_slice_get (y ∷ xs) zero x x at)
-        (All-front P (f y) (flat_map f xs) all)
+    (All-front P (f y) (flat_map f xs) all)
 All-part P f (y ∷ xs) (suc i) x all at =
     All-part P f xs i x (All-back P (f y) (flat_map f xs) all) at
 
@@ -61,7 +61,7 @@ module _ {F E M Com InputCom InputProof WordProof : Type 0} (fields : Fields F E
       All (λ m. 1 ≤ length m.claims) (matrices fields params r) → ⊥
   unclaimed-not batch matrix u claimed =
       let of_batch = All-part (λ m. 1 ≤ length m.claims) (λ b. b.matrices) r.batches batch u.of
-          claimed u.there in
+      claimed u.there in
       let here = All-at (λ m. 1 ≤ length m.claims) u.of.matrices matrix u.claim of_batch u.here in
       omega (arith, here, ap length u.none)
 
@@ -77,7 +77,7 @@ module _ {F E M Com InputCom InputProof WordProof : Type 0} (fields : Fields F E
       (e : FriError WE (InputError IE WE)) →
       IsReason fields params r inputs words input_memory word_memory e → HasInputs fields params r
       → All (λ m. 1 ≤ length m.claims) (matrices fields params r) →
-          All (λ m. params.log_final_poly_len + 2 ≤ m.log_n) (matrices fields params r)
+      All (λ m. params.log_final_poly_len + 2 ≤ m.log_n) (matrices fields params r)
       → HoldsWith fields params r inputs words → e ≡ Memory
   unfolding IsReason
   only_memory inputs words input_memory word_memory (OfInput InputShapeError) why shape claimed

@@ -25,13 +25,13 @@ module _ {E : Type 0} (l : FieldOps E) where
 
   matrices_widths : (ms : List (MatrixClaim E)) →
       widths_of (flat_map (λ m. map (point_taken l) m.claims) ms)
-          ≡ flat_map (λ m. m) (map (λ m. map (λ c. length c.values) m.claims) ms)
+      ≡ flat_map (λ m. m) (map (λ m. map (λ c. length c.values) m.claims) ms)
   matrices_widths [] = refl
   matrices_widths (m ∷ ms) =
       map-append (λ (c : Claim E). length c.values) (map (point_taken l) m.claims)
-          (flat_map (λ m. map (point_taken l) m.claims) ms)
+      (flat_map (λ m. map (point_taken l) m.claims) ms)
       ∙ ap (λ w. w ++ widths_of (flat_map (λ m. map (point_taken l) m.claims) ms))
-          (points_widths m.claims)
+      (points_widths m.claims)
       ∙ ap (λ w. map (λ c. length c.values) m.claims ++ w) (matrices_widths ms)
 
   -- the numbers of values of the claims, one after another
@@ -40,14 +40,14 @@ module _ {E : Type 0} (l : FieldOps E) where
   claims_widths [] = refl
   claims_widths (b ∷ bs) =
       ap (λ cs. widths_of cs)
-          (flat-append (λ m. map (point_taken l) m.claims) b.matrices (all_matrices bs))
+      (flat-append (λ m. map (point_taken l) m.claims) b.matrices (all_matrices bs))
       ∙ map-append (λ (c : Claim E). length c.values)
-          (flat_map (λ m. map (point_taken l) m.claims) b.matrices) (claims_taken l bs)
+      (flat_map (λ m. map (point_taken l) m.claims) b.matrices) (claims_taken l bs)
       ∙ ap (λ w. w ++ widths_of (claims_taken l bs)) (matrices_widths b.matrices)
       ∙ ap (λ w. flat_map (λ m. m) (map (λ m. map (λ c. length c.values) m.claims) b.matrices) ++ w)
-          (claims_widths bs)
+      (claims_widths bs)
       ∙ sym (flat-append (λ m. m) (map (λ m. map (λ c. length c.values) m.claims) b.matrices)
-          (flat_map (λ b. b) (widths_by bs)))
+      (flat_map (λ b. b) (widths_by bs)))
 
 module _ {M E Com : Type 0} (p : FriParameters M) (batches : List (BatchClaim Com E)) where
   abbrev shape_parts : List (List (List ℕ)) → ℕ → ℕ → Shape
@@ -68,6 +68,6 @@ module _ {M E Com : Type 0} (p : FriParameters M) (batches : List (BatchClaim Co
       top ≡ log_max_height p.log_blowup (all_matrices batches) → extra ≡ 1 → s ≡ shape_by p batches
   shape_is widths top extra s made wide high one =
       made ∙ ap (λ w. shape_parts w top extra) wide
-          ∙ ap (λ t. shape_parts (widths_by batches) t extra) high
-          ∙ ap
-          (shape_parts (widths_by batches) (log_max_height p.log_blowup (all_matrices batches))) one
+      ∙ ap (λ t. shape_parts (widths_by batches) t extra) high
+      ∙ ap
+      (shape_parts (widths_by batches) (log_max_height p.log_blowup (all_matrices batches))) one

@@ -32,15 +32,15 @@ module _ {F E M C IC IP WP : Type 0} (fields : Fields F E) (params : FriParamete
       let lt : j < length qs = omega (arith, within, length-placed_queries 0 qs) in
       let none : 0 + j ≡ j = omega arith in
       let ends = λ (p : ℕ × ℕ). round_value fields params r p.0 p.1 (rounds fields params r)
-          ≡ final_value fields params r p.0 p.1 in
+      ≡ final_value fields params r p.0 p.1 in
       subst ends (sym (zip-place 0 qs j 0 d lt ∙ ap (λ i. (i, slice_index_or qs j 0)) none))
-          (each j lt)
+      (each j lt)
 
   pub each-ends : ChainsEnd fields params r → (j : ℕ) → j < length r.drawn.queries → EndsAt j
   each-ends all j lt =
       let qs = r.drawn.queries in
       let none : 0 + j ≡ j = omega arith in
       let ends = λ (p : ℕ × ℕ). round_value fields params r p.0 p.1 (rounds fields params r)
-          ≡ final_value fields params r p.0 p.1 in
+      ≡ final_value fields params r p.0 p.1 in
       subst ends (zip-place 0 qs j 0 (0, 0) lt ∙ ap (λ i. (i, slice_index_or qs j 0)) none)
-          (all j (0, 0) (omega (arith, lt, length-placed_queries 0 qs)))
+      (all j (0, 0) (omega (arith, lt, length-placed_queries 0 qs)))

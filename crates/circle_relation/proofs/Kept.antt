@@ -16,19 +16,19 @@ module _ (p : ℕ → Bool) (n : ℕ) where
       ++ cond (p n) (n ∷ []) []
   more-range =
       ap (filter p) (sym (map-same (range_with_len 0 (n + 1))))
-          ∙ filter_of_map_range_with_len_more p (λ m. m) 0 n n (omega arith)
+      ∙ filter_of_map_range_with_len_more p (λ m. m) 0 n n (omega arith)
       ∙ ap (λ xs. filter p xs ++ cond (p n) (n ∷ []) []) (map-same (range_with_len 0 n))
 
   pub more-kept : (before after : List ℕ) → before ≡ filter p (range_with_len 0 n) →
       after ≡ before ++ n ∷ [] → p n ≡ true → after ≡ filter p (range_with_len 0 (n + 1))
   more-kept before after kept pushed passes =
       pushed ∙ ap (λ xs. xs ++ n ∷ []) kept
-          ∙ ap (λ b. filter p (range_with_len 0 n) ++ cond b (n ∷ []) []) (sym passes)
-          ∙ sym more-range
+      ∙ ap (λ b. filter p (range_with_len 0 n) ++ cond b (n ∷ []) []) (sym passes)
+      ∙ sym more-range
 
   pub more-left : (before : List ℕ) → before ≡ filter p (range_with_len 0 n) → p n ≡ false →
       before ≡ filter p (range_with_len 0 (n + 1))
   more-left before kept fails =
       kept ∙ sym (append-nil (filter p (range_with_len 0 n)))
-          ∙ ap (λ b. filter p (range_with_len 0 n) ++ cond b (n ∷ []) []) (sym fails)
-          ∙ sym more-range
+      ∙ ap (λ b. filter p (range_with_len 0 n) ++ cond b (n ∷ []) []) (sym fails)
+      ∙ sym more-range

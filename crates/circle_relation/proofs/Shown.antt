@@ -9,8 +9,8 @@ pub moved : {C T P : Type 0} (A : Authenticates C T P) (commitment : C) (proof :
     d ≡ e → i ≡ j → o ≡ q → A commitment d i o proof → A commitment e j q proof
 moved A commitment proof d e i j o q shapes places rows shown =
     subst (λ x. A commitment e j x proof) rows
-        (subst (λ x. A commitment e x o proof) places
-        (subst (λ x. A commitment x i o proof) shapes shown))
+    (subst (λ x. A commitment e x o proof) places
+    (subst (λ x. A commitment x i o proof) shapes shown))
 
 -- queries without as many bits
 pub same-bits : (queries : List ℕ) (a b m n : ℕ) → a ≡ b → m ≡ n →

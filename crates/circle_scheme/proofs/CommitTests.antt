@@ -44,11 +44,11 @@ module _ {X E : Type 0} (tests : X → List (Test E)) where
   -- an item and those after it
   pub answer-item : (xs : List X) (i : ℕ) (x : X) → i < length xs → x ≡ get_or xs i x →
       answer {A = Unit {0}} (flat_map tests (drop i xs)) (tt {0})
-          ≡ result_and (answer (tests x) (tt {0}))
-          (answer (flat_map tests (drop (i + 1) xs)) (tt {0}))
+      ≡ result_and (answer (tests x) (tt {0}))
+      (answer (flat_map tests (drop (i + 1) xs)) (tt {0}))
   answer-item xs i x within is =
       ap (λ ys. answer {A = Unit {0}} (flat_map tests ys) (tt {0})) (drop_more xs i x within
-          ∙ ap (λ v. v ∷ drop (i + 1) xs) (sym is))
+      ∙ ap (λ v. v ∷ drop (i + 1) xs) (sym is))
       ∙ answer-append (tests x) (flat_map tests (drop (i + 1) xs)) (tt {0})
 
   -- where no item is refused each passes
@@ -57,7 +57,7 @@ module _ {X E : Type 0} (tests : X → List (Test E)) where
   each-passes [] passed = All-nil (λ x. answer (tests x) (tt {0}) ≡ Ok (tt {0}))
   each-passes (x ∷ xs) passed =
       let both = both-pass (answer (tests x) (tt {0})) (answer (flat_map tests xs) (tt {0}))
-          (sym (answer-append (tests x) (flat_map tests xs) (tt {0})) ∙ passed) in
+      (sym (answer-append (tests x) (flat_map tests xs) (tt {0})) ∙ passed) in
       All-cons (λ y. answer (tests y) (tt {0}) ≡ Ok (tt {0})) x xs both.0 (each-passes xs both.1)
 
 pub pow_below : (h m : ℕ) → h < m → 2 ^ h < 2 ^ m
@@ -83,18 +83,18 @@ module _ {M : Type 0} (two : ℕ) (p : FriParameters M) (height h : ℕ) (tall :
       answer {A = Unit {0}} (height_tests two p height) (tt {0}) ≡ Err HeightTooLarge
   height_large enough high =
       skipped _ _ (tt {0})
-          (le-ltb _ _
-          (omega (arith, pow_within (p.log_blowup + 2 + p.log_final_poly_len) h enough, tall)))
+      (le-ltb _ _
+      (omega (arith, pow_within (p.log_blowup + 2 + p.log_final_poly_len) h enough, tall)))
       ∙ refusing _ _ (tt {0}) (le-leb _ _ (omega (arith, pow_within two h high, tall)))
 
   pub height_fits : p.log_blowup + 2 + p.log_final_poly_len ≤ h → h < two →
       answer {A = Unit {0}} (height_tests two p height) (tt {0}) ≡ Ok (tt {0})
   height_fits enough low =
       skipped _ _ (tt {0})
-          (le-ltb _ _
-          (omega (arith, pow_within (p.log_blowup + 2 + p.log_final_poly_len) h enough, tall)))
+      (le-ltb _ _
+      (omega (arith, pow_within (p.log_blowup + 2 + p.log_final_poly_len) h enough, tall)))
       ∙ skipped _ _ (tt {0}) (lt-leb _ _ (omega (arith, pow_below h two low, tall)))
-          ∙ answer-none (tt {0})
+      ∙ answer-none (tt {0})
 
   pub height-passed : answer (height_tests two p height) (tt {0}) ≡ Ok (tt {0}) →
       (p.log_blowup + 2 + p.log_final_poly_len ≤ h) × (h < two)
@@ -103,8 +103,11 @@ module _ {M : Type 0} (two : ℕ) (p : FriParameters M) (height h : ℕ) (tall :
       let second = passing _ _ first.1 in
       let enough : p.log_blowup + 2 + p.log_final_poly_len ≤ h =
       pow_order (p.log_blowup + 2 + p.log_final_poly_len) h
-          (omega (arith, ltb-false height (2 ^ (p.log_blowup + 2 + p.log_final_poly_len)) first.0,
-          tall)) in
+      (omega (
+        arith,
+        ltb-false height (2 ^ (p.log_blowup + 2 + p.log_final_poly_len)) first.0,
+        tall,
+      )) in
       (enough, power_below h two (omega (arith, leb-false (2 ^ two) height second.0, tall)))
 
 or-false : (a b : Bool) → (a || b) ≡ false → (a ≡ false) × (b ≡ false)
@@ -121,28 +124,28 @@ module _ {F M : Type 0} {g : _} (eq : F → F → Bool) (same : (a b : F) → (e
   pub domain-passed : (d : CircleDomain F g) → answer (domain_tests two p eq k d) (tt {0})
       ≡ Ok (tt {0}) →
       (2 + p.log_final_poly_len ≤ log_size d) × (log_size d + p.log_blowup < two) × IsGenuineDomain
-          k d
+      k d
   domain-passed d passed =
       let first = passing _ _ passed in
       let second = passing _ _ first.1 in
       let third = passing _ _ second.1 in
       let large : 2 + p.log_final_poly_len ≤ log_size d =
-          ltb-false (log_size d) (2 + p.log_final_poly_len) first.0 in
+      ltb-false (log_size d) (2 + p.log_final_poly_len) first.0 in
       let turned = times k (2 ^ log_size d) (shift_of d) in
       let meets = eq turned.x k.one && eq turned.y k.zero in
       let apart : meets ≡ false = (or-false (log_size d == 0) meets third.0).1 in
       let positive : 1 ≤ log_size d = omega (arith, large) in
       let below : log_size d + p.log_blowup < two =
-          leb-false two (log_size d + p.log_blowup) second.0 in (
+      leb-false two (log_size d + p.log_blowup) second.0 in (
         large,
         below,
         (
           positive,
           λ bad.
               let x : eq turned.x k.one ≡ true =
-                  (same turned.x k.one).1 (ap (λ (q : Coordinates F). q.x) bad) in
+              (same turned.x k.one).1 (ap (λ (q : Coordinates F). q.x) bad) in
               let y : eq turned.y k.zero ≡ true =
-                  (same turned.y k.zero).1 (ap (λ (q : Coordinates F). q.y) bad) in
+              (same turned.y k.zero).1 (ap (λ (q : Coordinates F). q.y) bad) in
               let met : meets ≡ true = and-both (eq turned.x k.one) (eq turned.y k.zero) x y in
               let no : true ≡ false = sym met ∙ apart in absurd (cc),
         ),
@@ -165,7 +168,7 @@ pub item-small : {F : Type 0} {g : _} (es : List (CircleDomain F g × RowMajorMa
     HaveRowsForPoints es → i < length es → e ≡ get_or es i e → log_size e.0 ≤ 63
 item-small es i e have within is =
     let tall : height_of e.1 ≡ 2 ^ log_size e.0 =
-        subst (λ x. height_of x.1 ≡ 2 ^ log_size x.0) (sym is) (have i e within) in
+    subst (λ x. height_of x.1 ≡ 2 ^ log_size x.0) (sym is) (have i e within) in
     log_small e.1 (log_size e.0) tall
 
 -- what holds of all items holds of one that is read
@@ -177,59 +180,59 @@ at-item P xs i x all within is = subst P (sym is) (all i x within)
 pub all-extendable : {F M : Type 0} {g : _} (eq : F → F → Bool) (same : (a b : F) →
     (eq a b ≡ true) ↔ (a ≡ b)) (k : FieldOps F) (two : ℕ) (p : FriParameters M)
     (es : List (CircleDomain F g × RowMajorMatrix F)) →
-        answer (evaluation_tests two p eq k es) (tt {0}) ≡ Ok (tt {0}) →
-        All (λ e. IsExtendable k two p.log_blowup e.0) es
+    answer (evaluation_tests two p eq k es) (tt {0}) ≡ Ok (tt {0}) →
+    All (λ e. IsExtendable k two p.log_blowup e.0) es
 all-extendable eq same k two p es passed =
     All-weaker (λ e. answer (domain_tests two p eq k e.0) (tt {0}) ≡ Ok (tt {0}))
-        (λ e. IsExtendable k two p.log_blowup e.0)
+    (λ e. IsExtendable k two p.log_blowup e.0)
     (λ e ok. let all = domain-passed eq same k two p e.0 ok in (all.1, all.2)) es
     (each-passes (λ e. domain_tests two p eq k e.0) es passed)
 
 module _ {M : Type 0} (two : ℕ) (p : FriParameters M) (height h : ℕ) (tall : 2 ^ h ≡ height) (n : ℕ)
-    where
-  -- a matrix whose height passes, on a domain
-  target-last : answer (height_tests two p height) (tt {0}) ≡ Ok (tt {0}) →
-      answer (target_tests two p height n) (tt {0})
-          ≡ answer ((nat_lt (2 ^ (n + p.log_blowup)) height, DomainSmallerThanTrace) ∷ []) (tt {0})
-  target-last passed =
-      let last : List (Test ProverError) =
-          (nat_lt (2 ^ (n + p.log_blowup)) height, DomainSmallerThanTrace) ∷ [] in
-      answer-append (height_tests two p height) last (tt {0})
-          ∙ ap (λ r. result_and r (answer last (tt {0}))) passed
+  where
+    -- a matrix whose height passes, on a domain
+    target-last : answer (height_tests two p height) (tt {0}) ≡ Ok (tt {0}) →
+        answer (target_tests two p height n) (tt {0})
+        ≡ answer ((nat_lt (2 ^ (n + p.log_blowup)) height, DomainSmallerThanTrace) ∷ []) (tt {0})
+    target-last passed =
+        let last : List (Test ProverError) =
+        (nat_lt (2 ^ (n + p.log_blowup)) height, DomainSmallerThanTrace) ∷ [] in
+        answer-append (height_tests two p height) last (tt {0})
+        ∙ ap (λ r. result_and r (answer last (tt {0}))) passed
 
-  pub target_small : answer (height_tests two p height) (tt {0}) ≡ Ok (tt {0}) →
-      n + p.log_blowup < h → answer (target_tests two p height n) (tt {0})
-      ≡ Err DomainSmallerThanTrace
-  target_small passed small = target-last passed
-      ∙ refusing _ _ (tt {0})
-      (lt-ltb _ _ (omega (arith, pow_below (n + p.log_blowup) h small, tall)))
+    pub target_small : answer (height_tests two p height) (tt {0}) ≡ Ok (tt {0}) →
+        n + p.log_blowup < h → answer (target_tests two p height n) (tt {0})
+        ≡ Err DomainSmallerThanTrace
+    target_small passed small = target-last passed
+        ∙ refusing _ _ (tt {0})
+        (lt-ltb _ _ (omega (arith, pow_below (n + p.log_blowup) h small, tall)))
 
-  pub target_fits : answer (height_tests two p height) (tt {0}) ≡ Ok (tt {0}) →
-      h ≤ n + p.log_blowup → answer (target_tests two p height n) (tt {0}) ≡ Ok (tt {0})
-  target_fits passed large = target-last passed
-      ∙ skipped _ _ (tt {0})
-      (le-ltb _ _ (omega (arith, pow_within h (n + p.log_blowup) large, tall)))
-      ∙ answer-none (tt {0})
+    pub target_fits : answer (height_tests two p height) (tt {0}) ≡ Ok (tt {0}) →
+        h ≤ n + p.log_blowup → answer (target_tests two p height n) (tt {0}) ≡ Ok (tt {0})
+    target_fits passed large = target-last passed
+        ∙ skipped _ _ (tt {0})
+        (le-ltb _ _ (omega (arith, pow_within h (n + p.log_blowup) large, tall)))
+        ∙ answer-none (tt {0})
 
-  pub target_refused : (e : ProverError) → answer (height_tests two p height) (tt {0}) ≡ Err e →
-      answer (target_tests two p height n) (tt {0}) ≡ Err e
-  target_refused e refused =
-      let last : List (Test ProverError) =
-          (nat_lt (2 ^ (n + p.log_blowup)) height, DomainSmallerThanTrace) ∷ [] in
-      answer-append (height_tests two p height) last (tt {0})
-          ∙ ap (λ r. result_and r (answer last (tt {0}))) refused
+    pub target_refused : (e : ProverError) → answer (height_tests two p height) (tt {0}) ≡ Err e →
+        answer (target_tests two p height n) (tt {0}) ≡ Err e
+    target_refused e refused =
+        let last : List (Test ProverError) =
+        (nat_lt (2 ^ (n + p.log_blowup)) height, DomainSmallerThanTrace) ∷ [] in
+        answer-append (height_tests two p height) last (tt {0})
+        ∙ ap (λ r. result_and r (answer last (tt {0}))) refused
 
-  pub target-passed : answer (target_tests two p height n) (tt {0}) ≡ Ok (tt {0}) →
-      (p.log_blowup + 2 + p.log_final_poly_len ≤ h) × (h < two) × (h ≤ n + p.log_blowup)
-  target-passed passed =
-      let last : List (Test ProverError) =
-          (nat_lt (2 ^ (n + p.log_blowup)) height, DomainSmallerThanTrace) ∷ [] in
-      let both = both-pass (answer (height_tests two p height) (tt {0})) (answer last (tt {0}))
-          (sym (answer-append (height_tests two p height) last (tt {0})) ∙ passed) in
-      let fits = height-passed two p height h tall both.0 in
-      let large : height ≤ 2 ^ (n + p.log_blowup) =
-          ltb-false (2 ^ (n + p.log_blowup)) height (passing _ _ both.1).0 in
-      (fits.0, fits.1, pow_order h (n + p.log_blowup) (omega (arith, large, tall)))
+    pub target-passed : answer (target_tests two p height n) (tt {0}) ≡ Ok (tt {0}) →
+        (p.log_blowup + 2 + p.log_final_poly_len ≤ h) × (h < two) × (h ≤ n + p.log_blowup)
+    target-passed passed =
+        let last : List (Test ProverError) =
+        (nat_lt (2 ^ (n + p.log_blowup)) height, DomainSmallerThanTrace) ∷ [] in
+        let both = both-pass (answer (height_tests two p height) (tt {0})) (answer last (tt {0}))
+        (sym (answer-append (height_tests two p height) last (tt {0})) ∙ passed) in
+        let fits = height-passed two p height h tall both.0 in
+        let large : height ≤ 2 ^ (n + p.log_blowup) =
+        ltb-false (2 ^ (n + p.log_blowup)) height (passing _ _ both.1).0 in
+        (fits.0, fits.1, pow_order h (n + p.log_blowup) (omega (arith, large, tall)))
 
 -- a number that isn't 0
 pub eqb_positive : (n : ℕ) → (n == 0) ≡ false → 1 ≤ n

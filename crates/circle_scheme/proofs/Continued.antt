@@ -21,7 +21,7 @@ first-height view rows n is within = sym (length-view_rows view) ∙ ap length i
 module _ {F : Type 0} (k : FieldOps F) (gen : ℕ → Coordinates F) {g : _} (t h : ℕ)
     (e domain : CircleDomain F g) (width wide : ℕ) (viewed first : List (List F))
     (size : log_size e ≡ t) (shift : shift_of e ≡ gen (h + 1)) (same_width : wide ≡ width)
-        (seen : viewed ≡ first) where
+    (seen : viewed ≡ first) where
   to : (cs : List (List F)) → HasValues k gen (log_size e) (shift_of e) wide cs viewed →
       HasValues k gen t (gen (h + 1)) width cs first
   to cs has =
@@ -42,9 +42,9 @@ module _ {F : Type 0} (k : FieldOps F) (gen : ℕ → Coordinates F) {g : _} (t 
   pub continued : (made coeffs : List (List F)) (w : ℕ) → w ≡ wide →
       HasValues k gen (log_size e) (shift_of e) wide coeffs viewed →
       ((others : List (List F)) → HasValues k gen (log_size e) (shift_of e) wide others viewed →
-          coeffs ≡ others) →
+      coeffs ≡ others) →
       made ≡ natural_values_on k gen domain w coeffs →
-          AreContinued k gen t (gen (h + 1)) width first domain made
+      AreContinued k gen t (gen (h + 1)) width first domain made
   continued made coeffs w w_is told only values = record {
     coeffs = coeffs;
     told = to coeffs told;

@@ -34,12 +34,12 @@ module _ {F : Type 0} {k : FieldOps F} (laws : FieldLaws k) {bits : ℕ} {gen : 
       let points = cfft_order k gen n s in
       rows-same_columns k.zero width xs ys positive there.widths here.widths (λ j lt.
       values-tell laws gens n s fits on_circle genuine.1 (column k.zero xs j) (column k.zero ys j)
-          genuine.0
+      genuine.0
       (length-map xs (λ row. slice_index_or row j k.zero) ∙ there.height)
-          (length-map ys (λ row. slice_index_or row j k.zero) ∙ here.height)
+      (length-map ys (λ row. slice_index_or row j k.zero) ∙ here.height)
       (sym (column-values k width (2 ^ n) positive xs points j lt)
-          ∙ ap (λ all. column k.zero all j) (there.values ∙ sym here.values)
-          ∙ column-values k width (2 ^ n) positive ys points j lt))
+      ∙ ap (λ all. column k.zero all j) (there.values ∙ sym here.values)
+      ∙ column-values k width (2 ^ n) positive ys points j lt))
 
   module _ {g : _} (d : CircleDomain F g) (positive : 1 ≤ log_size d) (fits : log_size d ≤ bits)
       (width : ℕ) (coeffs given : List (List F)) where
@@ -74,30 +74,30 @@ module _ {F : Type 0} {k : FieldOps F} (laws : FieldLaws k) {bits : ℕ} {gen : 
               (other_order-twice n (map f points)
               (length-map points f ∙ length-cfft_order laws.ring gens n s positive))
               ∙ ap (other_order n)
-                  (other_order-points laws.ring gens f n s positive (omega (arith, fits))
-                  ∙ there.values);
+              (other_order-points laws.ring gens f n s positive (omega (arith, fits))
+              ∙ there.values);
         }
 
   pub extended : {g : _} (d e target : CircleDomain F g) (blowup : ℕ)
       (given made : RowMajorMatrix F) (width : ℕ) (viewed : List (List F)) →
       IsGenuineDomain k d → IsOnCircle k (shift_of d) → log_size d + blowup < bits → height_of given
-          ≡ 2 ^ log_size d → e ≡ d → log_size target ≡ log_size d + blowup → shift_of target
-          ≡ gen (log_size target + 1) →
+      ≡ 2 ^ log_size d → e ≡ d → log_size target ≡ log_size d + blowup → shift_of target
+      ≡ gen (log_size target + 1) →
       width ≡ width_of given → viewed ≡ other_order (log_size d) (rows given) →
-          width_of made ≡ width → height_of made ≡ 2 ^ log_size target →
-          Extrapolates k gen e target width viewed (rows made) →
-          IsExtension k gen blowup d given made
+      width_of made ≡ width → height_of made ≡ 2 ^ log_size target →
+      Extrapolates k gen e target width viewed (rows made) →
+      IsExtension k gen blowup d given made
   extended {g = g} d e target blowup given made width viewed genuine on_circle within
       tall same size shift wide seen made_wide made_tall all =
       let n = log_size d in
       let fits : n ≤ bits = omega (arith, within) in
       let long : length (rows given) ≡ 2 ^ n = length-rows given ∙ tall in
       let told : HasValues k gen n (shift_of d) (width_of given) all.coeffs
-          (other_order n (rows given)) =
+      (other_order n (rows given)) =
       subst (λ v. HasValues k gen n (shift_of d) (width_of given) all.coeffs v) seen
       (subst (λ w. HasValues k gen n (shift_of d) w all.coeffs viewed) wide
       (subst (λ (x : CircleDomain F g). HasValues k gen (log_size x) (shift_of x) width all.coeffs
-          viewed) same all.told)) in
+      viewed) same all.told)) in
       record {
         coeffs = all.coeffs;
         told = natural-values d genuine.0 fits (width_of given) all.coeffs (rows given) long told;
@@ -112,11 +112,11 @@ module _ {F : Type 0} {k : FieldOps F} (laws : FieldLaws k) {bits : ℕ} {gen : 
             (λ w. map (values_at k all.coeffs w)
             (cfft_order k gen (log_size target) (shift_of target))) wide
             ∙ ap
-                (λ s. map (values_at k all.coeffs (width_of given))
-                (cfft_order k gen (log_size target) s)) shift
+            (λ s. map (values_at k all.coeffs (width_of given))
+            (cfft_order k gen (log_size target) s)) shift
             ∙ ap
-                (λ m. map (values_at k all.coeffs (width_of given))
-                (cfft_order k gen m (gen (m + 1)))) size;
+            (λ m. map (values_at k all.coeffs (width_of given))
+            (cfft_order k gen m (gen (m + 1)))) size;
       }
 
 -- one more item of both lists
@@ -134,6 +134,6 @@ pub extensions-heights : {F : Type 0} {g : _} (k : FieldOps F) (gen : ℕ → Co
 extensions-heights k gen blowup [] [] all = All-nil (λ m. IsPowerOfTwo (height_of m))
 extensions-heights k gen blowup (e ∷ es) (m ∷ ms) all =
     All-cons (λ m. IsPowerOfTwo (height_of m)) m ms (log_size e.0 + blowup, all.0.height)
-        (extensions-heights k gen blowup es ms all.1)
+    (extensions-heights k gen blowup es ms all.1)
 extensions-heights k gen blowup [] (m ∷ ms) all = absurd all
 extensions-heights k gen blowup (e ∷ es) [] all = absurd all

@@ -16,10 +16,10 @@ map-read f xs i x within is =
 pub pushed-more : {A B C D : Type 0} (f : C → D) (g : A → C) (h : B → D) (xs : List A) (i : ℕ)
     (x : A) (old new : List B) (w : B) →
     i < length xs → x ≡ get_or xs i x → new ≡ old ++ w ∷ [] → h w ≡ f (g x) →
-        map h old ≡ map f (map g (take i xs)) → map h new ≡ map f (map g (take (i + 1) xs))
+    map h old ≡ map f (map g (take i xs)) → map h new ≡ map f (map g (take (i + 1) xs))
 pushed-more f g h xs i x old new w within is pushed made so_far =
     ap (map h) pushed ∙ map-append h old (w ∷ []) ∙ ap (λ l. l ++ h w ∷ []) so_far
-        ∙ ap (λ v. map f (map g (take i xs)) ++ v ∷ []) made
+    ∙ ap (λ v. map f (map g (take i xs)) ++ v ∷ []) made
     ∙ sym (ap (map f) (map-read g xs i x within is) ∙ map-append f (map g (take i xs)) (g x ∷ []))
 
 -- what holds of what all items become holds of what one becomes
@@ -27,7 +27,7 @@ pub All-read : {A B : Type 0} (P : B → Type 0) (f : A → B) (xs : List A) (i 
     All P (map f xs) → i < length xs → x ≡ get_or xs i x → P (f x)
 All-read P f xs i x all within is =
     subst P (get_or-map f xs i x (f x) within ∙ ap f (sym is))
-        (all i (f x) (omega (arith, within, length-map xs f)))
+    (all i (f x) (omega (arith, within, length-map xs f)))
 
 -- and what holds of the entries of all lists those of one
 pub All-read-part : {A B C : Type 0} (P : C → Type 0) (h : B → List C) (f : A → B) (xs : List A)
@@ -36,4 +36,4 @@ pub All-read-part : {A B C : Type 0} (P : C → Type 0) (h : B → List C) (f : 
 All-read-part P h f xs i x all within is =
     All-part P h (map f xs) i (f x) all
     (slice_get_read (map f xs) (length (map f xs)) i (f x) refl
-        (omega (arith, within, length-map xs f)) (ap f is ∙ sym (get_or-map f xs i x (f x) within)))
+    (omega (arith, within, length-map xs f)) (ap f is ∙ sym (get_or-map f xs i x (f x) within)))

@@ -60,9 +60,9 @@ module _ {E : Type 0} {l : FieldOps E} (laws : FieldLaws l) (same : E → E → 
       let x : Expr = var 0 in let y : Expr = var 1 in
       let product : l.mul (l.add d.x (l.neg l.one)) (l.add d.x (l.neg (l.neg l.one))) ≡ l.zero =
       combine laws.ring (d.x ∷ d.y ∷ []) (prod (sum x (less unit)) (sum x (less (less unit))))
-          (con 0)
+      (con 0)
       (given unit (sum (prod x x) (prod y y)) unit ∷ given (less y) y (con 0) ∷ []) refl
-          (on, (flat, tt)) in
+      (on, (flat, tt)) in
       let is : (v : E) → d.x ≡ v → d ≡ at v l.zero = λ v e. ap (λ w. at w d.y) e ∙ ap (at v) flat in
       let second : (b : Bool) → same d.x (l.neg l.one) ≡ b → (d.x ≢ l.one) → P = elim [
         | true ↦ λ e no. half (is (l.neg l.one) ((law d.x (l.neg l.one)).0 e))
@@ -70,7 +70,7 @@ module _ {E : Type 0} {l : FieldOps E} (laws : FieldLaws l) (same : E → E → 
             (nonzero_product laws (l.add d.x (l.neg l.one)) (l.add d.x (l.neg (l.neg l.one)))
             (λ z. no (neg_zero_cancel laws.ring d.x l.one z))
             (λ z. false≢true
-                (sym e ∙ (law d.x (l.neg l.one)).1 (neg_zero_cancel laws.ring d.x (l.neg l.one) z)))
+            (sym e ∙ (law d.x (l.neg l.one)).1 (neg_zero_cancel laws.ring d.x (l.neg l.one) z)))
             product)
       ] in
       let first : (b : Bool) → same d.x l.one ≡ b → P = elim [
@@ -92,8 +92,8 @@ module _ {F : Type 0} {k : FieldOps F} (laws : FieldLaws k) {gen : ℕ → Coord
       let e : n - 1 + 1 ≡ n = omega (arith, positive) in
       let steps : times k (2 ^ (n - 1)) (gen n) ≡ half_turn k =
       ap (λ m. times k (2 ^ (n - 1)) (gen m)) (sym e)
-          ∙ times-generator laws.ring gens (n - 1) 1 (omega (arith, positive, fits))
-          ∙ gens.half_turn in
+      ∙ times-generator laws.ring gens (n - 1) 1 (omega (arith, positive, fits))
+      ∙ gens.half_turn in
       ap (plus k (point i)) (sym steps)
       ∙ plus_assoc laws.ring (gen (n + 1)) (times k i (gen n)) (times k (2 ^ (n - 1)) (gen n))
       ∙ ap (plus k (gen (n + 1))) (sym (times-+ laws.ring i (2 ^ (n - 1)) (gen n)))
@@ -103,8 +103,8 @@ module _ {F : Type 0} {k : FieldOps F} (laws : FieldLaws k) {gen : ℕ → Coord
   around i =
       ap (plus k (gen (n + 1)))
       (times-+ laws.ring i (2 ^ n) (gen n)
-          ∙ ap (plus k (times k i (gen n)))
-          (times-generator-past laws.ring gens n n (omega arith) (omega (arith, fits)))
+      ∙ ap (plus k (times k i (gen n)))
+      (times-generator-past laws.ring gens n n (omega arith) (omega (arith, fits)))
       ∙ plus-origin laws.ring (times k i (gen n)))
 
   -- what holds of all points of the domain holds of them half a turn on
@@ -119,7 +119,7 @@ module _ {F : Type 0} {k : FieldOps F} (laws : FieldLaws k) {gen : ℕ → Coord
       (λ high.
       let there : i + half ≡ i - half + 2 ^ n = omega (arith, high, two) in
       subst P (sym (turned i ∙ ap point there ∙ around (i - half)))
-          (all (i - half) (omega (arith, lt))))
+      (all (i - half) (omega (arith, lt))))
       (cases_lt i half)
 
   -- each point of the domain, by its place
@@ -128,8 +128,8 @@ module _ {F : Type 0} {k : FieldOps F} (laws : FieldLaws k) {gen : ℕ → Coord
   at-place P all i lt =
       let natural = natural_order k gen n (gen (n + 1)) in
       subst P
-          (get_or_from_slice_get natural i (point i) (point i)
-          (standard-point laws.ring gens n positive fits i lt))
+      (get_or_from_slice_get natural i (point i) (point i)
+      (standard-point laws.ring gens n positive fits i lt))
       (all i (point i) (omega (arith, lt, length-natural_order k gen n (gen (n + 1)) positive)))
 
   -- what holds of the points in the transform's order holds of them in natural order
@@ -139,7 +139,7 @@ module _ {F : Type 0} {k : FieldOps F} (laws : FieldLaws k) {gen : ℕ → Coord
       let s = gen (n + 1) in
       (natural-all laws.ring gens P n s positive (omega (arith, fits))).1
       (subst (AllByRecursion P) (sym (points-cfft_order k gen n s positive))
-          (recursion_from_All P (cfft_order k gen n s) all))
+      (recursion_from_All P (cfft_order k gen n s) all))
 
   module _ {E : Type 0} {l : FieldOps E} {m : F → E} (laws' : FieldLaws l)
       (embedding : IsEmbedding k l m)
@@ -155,27 +155,27 @@ module _ {F : Type 0} {k : FieldOps F} (laws : FieldLaws k) {gen : ℕ → Coord
         let p = slice_index_or natural i d in
         let there = slice_get-get_or natural i d lt in
         let within : i < 2 ^ n =
-            omega (arith, lt, length-natural_order k gen n (gen (n + 1)) positive) in
+        omega (arith, lt, length-natural_order k gen n (gen (n + 1)) positive) in
         let is : p ≡ point i = standard-at laws.ring gens n positive fits i p there in
         let on_p = standard-on_circle laws.ring gens n positive fits i p there in
         let on_l : IsOnCircle l (lifted m p) = lifted-on_circle embedding p on_p in
         let difference = minus l m q p in
         let back : plus l difference (lifted m p) ≡ q =
-            difference-plus laws'.ring q (lifted m p) on_l in
+        difference-plus laws'.ring q (lifted m p) on_l in
         λ flat.
         turns laws' same law ⊥ difference
-            (plus-on_circle laws'.ring q (opposite l (lifted m p)) on
-            (opposite-on_circle laws'.ring (lifted m p) on_l)) flat
+        (plus-on_circle laws'.ring q (opposite l (lifted m p)) on
+        (opposite-on_circle laws'.ring (lifted m p) on_l)) flat
         (λ neutral. all i within
-            (ap (lifted m) (sym is) ∙ sym (origin-plus laws'.ring (lifted m p))
-            ∙ ap (λ r. plus l r (lifted m p)) (sym neutral) ∙ back))
+        (ap (lifted m) (sym is) ∙ sym (origin-plus laws'.ring (lifted m p))
+        ∙ ap (λ r. plus l r (lifted m p)) (sym neutral) ∙ back))
         (λ half.
         half-on P all i within
         (ap (λ r. lifted m (plus k r (half_turn k))) (sym is)
-            ∙ lifted-plus embedding p (half_turn k)
-            ∙ ap (plus l (lifted m p)) (lifted-half_turn embedding)
+        ∙ lifted-plus embedding p (half_turn k)
+        ∙ ap (plus l (lifted m p)) (lifted-half_turn embedding)
         ∙ plus_comm laws'.ring (lifted m p) (half_turn l)
-            ∙ ap (λ r. plus l r (lifted m p)) (sym half) ∙ back))
+        ∙ ap (λ r. plus l r (lifted m p)) (sym half) ∙ back))
 
 and-both : (a b : Bool) → a ≡ true → b ≡ true → (a && b) ≡ true
 and-both true b x y = y
@@ -218,62 +218,64 @@ module _ {F E : Type 0} (k : Fields F E) (same : E → E → Bool) (law : (a b :
         λ is.
             and-both (same (k.embed x.x) z.x) (same (k.embed x.y) z.y)
             ((law (k.embed x.x) z.x).1 (ap (λ (p : Coordinates E). p.x) is))
-                ((law (k.embed x.y) z.y).1 (ap (λ (p : Coordinates E). p.y) is)),
+            ((law (k.embed x.y) z.y).1 (ap (λ (p : Coordinates E). p.y) is)),
       )
 
   module _ {two : ℕ} (laws : FieldLaws k.field) (laws' : FieldLaws k.extension)
       (embedding : IsEmbedding k.field k.extension k.embed)
       (gens : AreGenerators k.field two k.gen) (m : RowMajorMatrix F) (domain : HasDomain two m)
-          where
-    -- a point that is off the domain is none of its points, and the other way round
-    off-none : (t : E) → IsFinite k.extension t → IsOffDomain k (log_of (height_of m)) t →
-        list_any (is_at k same t) (points_of_height k.field k.gen (log_of (height_of m))) ≡ false
-    off-none t finite off =
-        let h = log_of (height_of m) in
-        let points = points_of_height k.field k.gen h in
-        let below = domain.in_group in
-        let apart = off-apart laws laws' embedding gens h t domain.positive (omega (arith, below))
-            finite off in
-        list_any_none (is_at k same t) points
-        (λ i d lt. let x = slice_index_or points i d in
-            never (is_at k same t x) (λ yes. apart i d lt ((told t x).0 yes)))
+    where
+      -- a point that is off the domain is none of its points, and the other way round
+      off-none : (t : E) → IsFinite k.extension t → IsOffDomain k (log_of (height_of m)) t →
+          list_any (is_at k same t) (points_of_height k.field k.gen (log_of (height_of m))) ≡ false
+      off-none t finite off =
+          let h = log_of (height_of m) in
+          let points = points_of_height k.field k.gen h in
+          let below = domain.in_group in
+          let apart = off-apart laws laws' embedding gens h t domain.positive (omega (arith, below))
+          finite off in
+          list_any_none (is_at k same t) points
+          (λ i d lt. let x = slice_index_or points i d in
+          never (is_at k same t x) (λ yes. apart i d lt ((told t x).0 yes)))
 
-    none-off : (t : E) → IsFinite k.extension t →
-        list_any (is_at k same t) (points_of_height k.field k.gen (log_of (height_of m))) ≡ false →
-        IsOffDomain k (log_of (height_of m)) t
-    none-off t finite none =
-        let h = log_of (height_of m) in
-        let points = points_of_height k.field k.gen h in
-        let z = from_line k.extension t in
-        apart-clear laws gens h domain.positive domain.in_group laws' embedding same law z
-            (from_line-on_circle laws' t (λ bad. finite (line_norm-zero laws' t bad)))
-        (λ i d lt is. false≢true (sym (none-passes (is_at k same t) points none i d lt)
-            ∙ (told t (slice_index_or points i d)).1 is))
+      none-off : (t : E) → IsFinite k.extension t →
+          list_any (is_at k same t) (points_of_height k.field k.gen (log_of (height_of m)))
+          ≡ false →
+          IsOffDomain k (log_of (height_of m)) t
+      none-off t finite none =
+          let h = log_of (height_of m) in
+          let points = points_of_height k.field k.gen h in
+          let z = from_line k.extension t in
+          apart-clear laws gens h domain.positive domain.in_group laws' embedding same law z
+          (from_line-on_circle laws' t (λ bad. finite (line_norm-zero laws' t bad)))
+          (λ i d lt is. false≢true (sym (none-passes (is_at k same t) points none i d lt)
+          ∙ (told t (slice_index_or points i d)).1 is))
 
-    -- so of several
-    pub all-off : (points : List E) → All (IsFinite k.extension) points → some_on_domain
-        k same m points ≡ false → AreOff k (log_of (height_of m)) points
-    all-off points finite none = (
-      finite,
-      λ i d lt.
-          none-off (slice_index_or points i d) (finite i d lt)
-          (none-passes
-              (λ t. list_any (is_at k same t)
-              (points_of_height k.field k.gen (log_of (height_of m)))) points none i d lt),
-    )
+      -- so of several
+      pub all-off : (points : List E) → All (IsFinite k.extension) points → some_on_domain
+          k same m points ≡ false → AreOff k (log_of (height_of m)) points
+      all-off points finite none = (
+        finite,
+        λ i d lt.
+            none-off (slice_index_or points i d) (finite i d lt)
+            (none-passes
+            (λ t. list_any (is_at k same t)
+            (points_of_height k.field k.gen (log_of (height_of m)))) points none i d lt),
+      )
 
-    off-all : (points : List E) → AreOff k (log_of (height_of m)) points → some_on_domain
-        k same m points ≡ false
-    off-all points off =
-        list_any_none
-            (λ t. list_any (is_at k same t) (points_of_height k.field k.gen (log_of (height_of m))))
-            points
-        (λ i d lt. off-none (slice_index_or points i d) (off.0 i d lt) (off.1 i d lt))
+      off-all : (points : List E) → AreOff k (log_of (height_of m)) points → some_on_domain
+          k same m points ≡ false
+      off-all points off =
+          list_any_none
+          (λ t. list_any (is_at k same t) (points_of_height k.field k.gen (log_of (height_of m))))
+          points
+          (λ i d lt. off-none (slice_index_or points i d) (off.0 i d lt) (off.1 i d lt))
 
-    -- where a test tells whether all are off, its contrary tells whether one is not
-    pub off-told : (points : List E) → All (IsFinite k.extension) points → (b : Bool) →
-        (b ≡ true → AreOff k (log_of (height_of m)) points) →
-        (AreOff k (log_of (height_of m)) points → b ≡ true) → not b ≡ some_on_domain k same m points
-    off-told points finite b first second =
-        contrary b (some_on_domain k same m points) (λ e. off-all points (first e))
-        (λ e. second (all-off points finite e))
+      -- where a test tells whether all are off, its contrary tells whether one is not
+      pub off-told : (points : List E) → All (IsFinite k.extension) points → (b : Bool) →
+          (b ≡ true → AreOff k (log_of (height_of m)) points) →
+          (AreOff k (log_of (height_of m)) points → b ≡ true) → not b ≡ some_on_domain
+          k same m points
+      off-told points finite b first second =
+          contrary b (some_on_domain k same m points) (λ e. off-all points (first e))
+          (λ e. second (all-off points finite e))

@@ -28,12 +28,12 @@ tested_high blowup final (m ∷ ms) some all = let here =
 pub taken_is : {F E Com : Type 0} (cs ds : List (Claim E)) (batch query : F) (layer : Com)
     (coms coms' : List Com) (ws ws' : List F) (fs fs' : List E) →
     cs ≡ ds → coms ≡ coms' → ws ≡ ws' → fs ≡ fs' → taken cs batch layer (zip coms ws) fs query
-        ≡ taken ds batch layer (zip coms' ws') fs' query
+    ≡ taken ds batch layer (zip coms' ws') fs' query
 taken_is cs ds batch query layer coms coms' ws ws' fs fs' a b c d =
     ap (λ x. taken x batch layer (zip coms ws) fs query) a
-        ∙ ap (λ x. taken ds batch layer (zip x ws) fs query) b
+    ∙ ap (λ x. taken ds batch layer (zip x ws) fs query) b
     ∙ ap (λ x. taken ds batch layer (zip coms' x) fs query) c
-        ∙ ap (λ x. taken ds batch layer (zip coms' ws') x query) d
+    ∙ ap (λ x. taken ds batch layer (zip coms' ws') x query) d
 
 -- the same run is drawn
 pub redrawn : {C S F E Com : Type 0} (m : RunMoves C S F E Com) (s s' : Shape)
@@ -49,5 +49,9 @@ pub refused_by : {S F WE I : Type 0} (n : Numbers) (d d' : Result (Drawn S F) Po
 refused_by n d d' x e same is (inl memory) = inl (is ∙ ap refusal_of memory)
 refused_by n d d' x e same is (inr miss) =
     inr
-    (record { phase = phase_of x; named = is ∙ ap refusal_of miss.named; missed =
-    same ∙ miss.failed })
+    (record {
+      phase = phase_of x;
+      named = is ∙ ap refusal_of miss.named;
+      missed =
+          same ∙ miss.failed;
+    })

@@ -17,7 +17,7 @@ module _ {X : Type 0} (test : X → Bool) (xs : List X) where
   any-more i n x lt is next before this =
       ap (λ j. list_any test (take j xs)) next ∙ list_any_more test xs i x lt
       ∙ neither (list_any test (take i xs)) (test (slice_index_or xs i x)) before
-          (ap test (sym is) ∙ this)
+      (ap test (sym is) ∙ this)
 
   -- an item that passes
   pub any-here : (i : ℕ) (x : X) → i < length xs → x ≡ slice_index_or xs i x → test x ≡ true →

@@ -54,14 +54,15 @@ not-other a b is =
 places : {A B C : Type 0} (f : B → C) (R : A → C → Type 0) (xs : List A) (ys : List B) →
     length ys ≡ length xs →
     ((i : ℕ) (x : A) (y : B) → i < length xs → i < length ys →
-        R (slice_index_or xs i x) (f (slice_index_or ys i y))) → AllZip R xs (map f ys)
+    R (slice_index_or xs i x) (f (slice_index_or ys i y))) → AllZip R xs (map f ys)
 places f R [] [] same each = tt
 places f R [] (y ∷ ys) same each = absurd (omega (arith, same))
 places f R (x ∷ xs) [] same each = absurd (omega (arith, same))
-places f R (x ∷ xs) (y ∷ ys) same each =
-    (each 0 x y (omega arith) (omega arith),
-        places f R xs ys (omega (arith, same))
-        (λ i a b lt lt'. each (suc i) a b (omega (arith, lt)) (omega (arith, lt'))))
+places f R (x ∷ xs) (y ∷ ys) same each = (
+  each 0 x y (omega arith) (omega arith),
+  places f R xs ys (omega (arith, same))
+      (λ i a b lt lt'. each (suc i) a b (omega (arith, lt)) (omega (arith, lt'))),
+)
 
 -- parameters that are not refused
 pub fit-parameters : {M : Type 0} (p : FriParameters M) → is_unfit p ≡ false → AreFit p
@@ -96,7 +97,7 @@ module _ {F M : Type 0} (two : ℕ) (p : FriParameters M) where
   has-height m power ok =
       let x = power.0 in
       let is : log_of (height_of m) ≡ x = ap log_of power.1
-          ∙ log_of-power x (let small = log_small m x power.1 in omega (arith, small)) in
+      ∙ log_of-power x (let small = log_small m x power.1 in omega (arith, small)) in
       let fits = height-passed two p (height_of m) x (sym power.1) ok in
       let enough = fits.0 in
       let below = fits.1 in record {
@@ -113,16 +114,16 @@ module _ {F M : Type 0} (two : ℕ) (p : FriParameters M) where
       (requests : List (OpeningRequest D E)) →
       All (λ r. HaveHeightsOfPowers (kept r.prover_data.now)) requests →
       answer (flat_map (λ r. matrix_tests two p (kept r.prover_data.now)) requests) (tt {0})
-          ≡ Ok (tt {0}) →
+      ≡ Ok (tt {0}) →
       All (λ r. All HasHeight (kept r.prover_data.now)) requests
   heights-known kept requests powers ok = λ i d lt.
       let r = slice_index_or requests i d in
       let ms = kept r.prover_data.now in
       let each = each-passes (λ r. matrix_tests two p (kept r.prover_data.now)) requests ok i d
-          lt in
+      lt in
       λ j e lt'.
       has-height (slice_index_or ms j e) (powers i d lt j e lt')
-          (each-passes (λ m. height_tests two p (height_of m)) ms each j e lt')
+      (each-passes (λ m. height_tests two p (height_of m)) ms each j e lt')
 
 module _ {E : Type 0} (same : E → E → Bool) (law : (a b : E) → (same a b ≡ true) ↔ (a ≡ b))
     (l : FieldOps E) where
@@ -136,11 +137,11 @@ module _ {E : Type 0} (same : E → E → Bool) (law : (a b : E) → (same a b �
       λ j e lt'.
       let v = slice_index_or vs j e in
       let all = none-passes (λ (v : Vec E Global). list_any (is_at_infinity same l) v.items) vs each
-          j e lt' in
+      j e lt' in
       λ n f lt''.
       let t = slice_index_or v.items n f in
       λ bad. false≢true (sym (none-passes (is_at_infinity same l) v.items all n f lt'')
-          ∙ (law (l.mul t t) (l.neg l.one)).1 bad)
+      ∙ (law (l.mul t t) (l.neg l.one)).1 bad)
 
 module _ {D F E M : Type 0} (kept : D → List (RowMajorMatrix F))
     (requests : List (OpeningRequest D E)) (two : ℕ) (p : FriParameters M) (k : Fields F E)
@@ -243,7 +244,7 @@ module _ {D F E M : Type 0} (kept : D → List (RowMajorMatrix F))
   module _ (law : (a b : E) → (same a b ≡ true) ↔ (a ≡ b)) (laws : FieldLaws k.field)
       (laws' : FieldLaws k.extension) (embedding : IsEmbedding k.field k.extension k.embed)
       (gens : AreGenerators k.field two k.gen)
-          (powers : All (λ r. HaveHeightsOfPowers (kept r.prover_data.now)) requests)
+      (powers : All (λ r. HaveHeightsOfPowers (kept r.prover_data.now)) requests)
       (ok : answer all_tests (tt {0}) ≡ Ok (tt {0})) where
     -- the matrices of one request can be opened at its points
     openable : (i : ℕ) (d : OpeningRequest D E) → i < length requests →
@@ -257,14 +258,14 @@ module _ {D F E M : Type 0} (kept : D → List (RowMajorMatrix F))
         let finite = points-known same law k.extension requests known.finite i d lt in
         let counted : vec_len r.points ≡ length ms =
         not-other (vec_len r.points) (length ms)
-            (none-passes
-            (λ (r : OpeningRequest D E). not (vec_len r.points == length (kept r.prover_data.now)))
-            requests known.counts i d lt) in
+        (none-passes
+        (λ (r : OpeningRequest D E). not (vec_len r.points == length (kept r.prover_data.now)))
+        requests known.counts i d lt) in
         let off =
-            none-passes (λ (r : OpeningRequest D E). meets_domain
-            k same (kept r.prover_data.now) r.points.items) requests known.off i d lt in
+        none-passes (λ (r : OpeningRequest D E). meets_domain
+        k same (kept r.prover_data.now) r.points.items) requests known.off i d lt in
         places (λ (v : Vec E Global). v.items) (IsOpenable k two p.log_blowup) ms vs
-            (sym r.points.ok.0 ∙ counted)
+        (sym r.points.ok.0 ∙ counted)
         (λ j x y lm lv.
         let m = slice_index_or ms j x in
         let v = slice_index_or vs j y in
@@ -272,12 +273,12 @@ module _ {D F E M : Type 0} (kept : D → List (RowMajorMatrix F))
         let domain = this.domain in
         let enough = this.tall in
         let both : j < length (zip ms vs) =
-            (let e = length-zip ms vs in omega (arith, e, lm, lv)) in
+        (let e = length-zip ms vs in omega (arith, e, lm, lv)) in
         let test : RowMajorMatrix F × Vec E Global → Bool = λ asked. some_on_domain
-            k same asked.0 asked.1.items in
+        k same asked.0 asked.1.items in
         let apart : some_on_domain k same m v.items ≡ false =
-            ap test (sym (get_or-zip ms vs j (x, y) lm lv))
-            ∙ none-passes test (zip ms vs) off j (x, y) both in record {
+        ap test (sym (get_or-zip ms vs j (x, y) lm lv))
+        ∙ none-passes test (zip ms vs) off j (x, y) both in record {
           power = domain.power;
           blowup = omega (arith, enough);
           in_group = domain.in_group;
@@ -289,14 +290,14 @@ module _ {D F E M : Type 0} (kept : D → List (RowMajorMatrix F))
     are-requests =
         let known = no-reason ok in
         let full =
-            or-neither (length requests == 0)
-            (list_any (λ r. length (kept r.prover_data.now) == 0) requests) known.full in record {
+        or-neither (length requests == 0)
+        (list_any (λ r. length (kept r.prover_data.now) == 0) requests) known.full in record {
           some = eqb_positive (length requests) full.0;
           matrices = λ i d lt.
               let r = slice_index_or requests i d in
               eqb_positive (length (kept r.prover_data.now))
-                  (none-passes (λ (r : OpeningRequest D E). length (kept r.prover_data.now) == 0)
-                  requests full.1 i d lt);
+              (none-passes (λ (r : OpeningRequest D E). length (kept r.prover_data.now) == 0)
+              requests full.1 i d lt);
           fit = openable;
           tall =
               λ i d lt j x lm.

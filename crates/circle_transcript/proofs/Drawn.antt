@@ -29,7 +29,7 @@ pub missed_in : {S F : Type 0} (n : Numbers) (d : Result (Drawn S F) PowPhase) (
     bits ≡ difficulty_of n phase → d ≡ Err phase → IsMiss n d e
 missed_in n d phase e bits is same missed =
     subst (IsMiss n d) (sym (is ∙ ap (PowWitness phase) same))
-        (record { named = refl; failed = missed })
+    (record { named = refl; failed = missed })
 
 module _ {C S F E Com : Type 0} (r : RunMoves C S F E Com) (n : Numbers) (taken : Taken F E Com)
     (s : S) where
@@ -65,22 +65,22 @@ module _ {C S F E Com : Type 0} (r : RunMoves C S F E Com) (n : Numbers) (taken 
         (subst (λ t. rounds_pass r m.commit_pow_bits t taken.rounds ≡ true) at.state passed);
     state = state ∙ ap (λ t. after_rounds r m.commit_pow_bits t taken.rounds) at.state
         ∙ ap
-            (λ (v : Numbers). after_rounds r v.commit_pow_bits
-            (after_element r.base (layered r n taken s)) taken.rounds) at.same;
+        (λ (v : Numbers). after_rounds r v.commit_pow_bits
+        (after_element r.base (layered r n taken s)) taken.rounds) at.same;
   }
 
   -- the draw after each test
   abbrev after_rounds_pow : Bool → Result (Drawn S F) PowPhase
   after_rounds_pow passed =
       if passed then
-          (if is_passed r.base (closed r n taken s) n.query_pow_bits taken.query_witness then Ok
-          (drawn r n taken s) else Err Query) else Err CommitPhase
+      (if is_passed r.base (closed r n taken s) n.query_pow_bits taken.query_witness then Ok
+      (drawn r n taken s) else Err Query) else Err CommitPhase
 
   abbrev after_batch_pow : Bool → Result (Drawn S F) PowPhase
   after_batch_pow passed =
       if passed then after_rounds_pow
-          (rounds_pass r n.commit_pow_bits (after_element r.base (layered r n taken s))
-          taken.rounds) else Err Batch
+      (rounds_pass r n.commit_pow_bits (after_element r.base (layered r n taken s))
+      taken.rounds) else Err Batch
 
   -- the witness of the batching challenge misses
   pub misses_batch : is_passed r.base (claimed r n taken s) n.batch_pow_bits taken.batch_witness
@@ -91,9 +91,9 @@ module _ {C S F E Com : Type 0} (r : RunMoves C S F E Com) (n : Numbers) (taken 
   after_the_batch : IsTrue
       (is_passed r.base (claimed r n taken s) n.batch_pow_bits taken.batch_witness)
       → draw_seeded r n taken s
-          ≡ after_rounds_pow
-          (rounds_pass r n.commit_pow_bits (after_element r.base (layered r n taken s))
-          taken.rounds)
+      ≡ after_rounds_pow
+      (rounds_pass r n.commit_pow_bits (after_element r.base (layered r n taken s))
+      taken.rounds)
   unfolding draw_seeded
   after_the_batch passed = ap after_batch_pow passed
 
@@ -104,9 +104,9 @@ module _ {C S F E Com : Type 0} (r : RunMoves C S F E Com) (n : Numbers) (taken 
   misses_rounds m s2 at missed =
       after_the_batch at.batch
       ∙ ap after_rounds_pow
-          (subst
-          (λ (v : Numbers). rounds_pass r v.commit_pow_bits
-          (after_element r.base (layered r n taken s)) taken.rounds ≡ false) at.same
+      (subst
+      (λ (v : Numbers). rounds_pass r v.commit_pow_bits
+      (after_element r.base (layered r n taken s)) taken.rounds ≡ false) at.same
       (subst (λ t. rounds_pass r m.commit_pow_bits t taken.rounds ≡ false) at.state missed))
 
   module _ (m : Numbers) (s3 : S) (at : AtQuery m s3) where
@@ -125,8 +125,8 @@ module _ {C S F E Com : Type 0} (r : RunMoves C S F E Com) (n : Numbers) (taken 
         → is_passed r.base (closed r n taken s) n.query_pow_bits taken.query_witness ≡ b
     in_query b h =
         subst
-            (λ (v : Numbers). is_passed r.base (closed r n taken s) v.query_pow_bits
-            taken.query_witness ≡ b) at.same
+        (λ (v : Numbers). is_passed r.base (closed r n taken s) v.query_pow_bits
+        taken.query_witness ≡ b) at.same
         (subst (λ t. is_passed r.base t m.query_pow_bits taken.query_witness ≡ b) at_close h)
 
     -- the witness of the query indices misses
@@ -134,51 +134,51 @@ module _ {C S F E Com : Type 0} (r : RunMoves C S F E Com) (n : Numbers) (taken 
         m.query_pow_bits taken.query_witness ≡ false → draw_seeded r n taken s ≡ Err Query
     misses_query missed =
         after_the_rounds ∙ ap (λ b. if b then Ok (drawn r n taken s) else Err Query)
-            (in_query false missed)
+        (in_query false missed)
 
     -- every witness passes
     pub all_drawn : (alpha bivariate : List F) (betas : List (List F)) (indices : List ℕ)
         (k : Numbers) (s1 s2 s4 : S)
         → s1 ≡ after_element r.base (batched r n taken s) → AtRounds k s2
         →
-            IsTrue (is_passed r.base (after_final_poly r.base s3 taken.final_poly) m.query_pow_bits
-            taken.query_witness)
+        IsTrue (is_passed r.base (after_final_poly r.base s3 taken.final_poly) m.query_pow_bits
+        taken.query_witness)
         → alpha ≡ drawn_element r.base (batched r n taken s)
         → bivariate ≡ drawn_element r.base (r.after_commitment s1 taken.first_layer)
         → betas ≡ fold_challenges r k.commit_pow_bits s2 taken.rounds
         →
-            indices
-            ≡ drawn_indices r.base m
-            (after_pow r.base (after_final_poly r.base s3 taken.final_poly) m.query_pow_bits
-            taken.query_witness)
+        indices
+        ≡ drawn_indices r.base m
+        (after_pow r.base (after_final_poly r.base s3 taken.final_poly) m.query_pow_bits
+        taken.query_witness)
         →
-            s4
-            ≡ after_indices r.base m
-            (after_pow r.base (after_final_poly r.base s3 taken.final_poly) m.query_pow_bits
-            taken.query_witness)
+        s4
+        ≡ after_indices r.base m
+        (after_pow r.base (after_final_poly r.base s3 taken.final_poly) m.query_pow_bits
+        taken.query_witness)
         → draw_seeded r n taken s ≡ Ok (drawn_parts alpha bivariate betas indices s4)
     all_drawn alpha bivariate betas indices k s1 s2 s4 first second passed is_alpha is_bivariate
         are_betas are_indices is_state =
         let d = drawn r n taken s in
         let queried =
-            λ (v : Numbers) (t : S). after_pow r.base t v.query_pow_bits taken.query_witness in
+        λ (v : Numbers) (t : S). after_pow r.base t v.query_pow_bits taken.query_witness in
         let same_betas : betas ≡ d.betas =
         are_betas ∙ ap (λ t. fold_challenges r k.commit_pow_bits t taken.rounds) second.state
         ∙ ap
-            (λ (v : Numbers). fold_challenges r v.commit_pow_bits
-            (after_element r.base (layered r n taken s)) taken.rounds) second.same in
+        (λ (v : Numbers). fold_challenges r v.commit_pow_bits
+        (after_element r.base (layered r n taken s)) taken.rounds) second.same in
         let same_indices : indices ≡ d.indices =
         are_indices ∙ ap (λ t. drawn_indices r.base m (queried m t)) at_close
-            ∙ ap (λ (v : Numbers). drawn_indices r.base v (queried v (closed r n taken s)))
-            at.same in
+        ∙ ap (λ (v : Numbers). drawn_indices r.base v (queried v (closed r n taken s)))
+        at.same in
         let same_state : s4 ≡ d.state =
         is_state ∙ ap (λ t. after_indices r.base m (queried m t)) at_close
-            ∙ ap (λ (v : Numbers). after_indices r.base v (queried v (closed r n taken s)))
-            at.same in
+        ∙ ap (λ (v : Numbers). after_indices r.base v (queried v (closed r n taken s)))
+        at.same in
         after_the_rounds ∙ ap (λ b. if b then Ok d else Err Query) (in_query true passed)
         ∙ sym (ap (λ x. Ok (drawn_parts x bivariate betas indices s4)) is_alpha
         ∙ ap (λ x. Ok (drawn_parts d.alpha x betas indices s4))
-            (is_bivariate ∙ ap (drawn_element r.base) (at_layer s1 first))
+        (is_bivariate ∙ ap (drawn_element r.base) (at_layer s1 first))
         ∙ ap (λ x. Ok (drawn_parts d.alpha d.bivariate x indices s4)) same_betas
         ∙ ap (λ x. Ok (drawn_parts d.alpha d.bivariate d.betas x s4)) same_indices
         ∙ ap (λ x. Ok (drawn_parts d.alpha d.bivariate d.betas d.indices x)) same_state)
@@ -191,12 +191,12 @@ module _ {C S F E Com : Type 0} (r : RunMoves C S F E Com) (n : Numbers) (claims
       IsStuckIn r n claims messages s phase → IsStuck r n claims messages s e
   stuck_in phase e bits is same stuck =
       subst (IsStuck r n claims messages s) (sym (is ∙ ap (NoWitness phase) same))
-          (record { named = refl; stuck = stuck })
+      (record { named = refl; stuck = stuck })
 
   pub stuck_rounds : (batch : F) (m : Numbers) (s2 : S) →
       AtRounds r n (taken_with claims messages batch [] r.base.zero) s m s2
       → HasStuckRound r m.commit_pow_bits s2 messages.commitments.now →
-          IsStuckInRounds r n claims messages s
+      IsStuckInRounds r n claims messages s
   stuck_rounds batch m s2 at stuck = record {
     batch = batch;
     passed = at.batch;
@@ -212,7 +212,7 @@ module _ {C S F E Com : Type 0} (r : RunMoves C S F E Com) (n : Numbers) (claims
       AtQuery r n (taken_with claims messages batch rounds r.base.zero) s m s3
       → length rounds ≡ length messages.commitments.now
       → NonePasses r.base (after_final_poly r.base s3 messages.final_poly.now) m.query_pow_bits →
-          IsStuckInQuery r n claims messages s
+      IsStuckInQuery r n claims messages s
   stuck_query batch rounds m s3 at count none = record {
     batch = batch;
     rounds = rounds;
@@ -225,6 +225,6 @@ module _ {C S F E Com : Type 0} (r : RunMoves C S F E Com) (n : Numbers) (claims
         (closed r n (taken_with claims messages batch rounds r.base.zero) s) v.query_pow_bits)
         at.same
         (subst
-            (λ t. NonePasses r.base (after_final_poly r.base t messages.final_poly.now)
-            m.query_pow_bits) at.state none);
+        (λ t. NonePasses r.base (after_final_poly r.base t messages.final_poly.now)
+        m.query_pow_bits) at.state none);
   }

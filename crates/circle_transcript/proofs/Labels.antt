@@ -30,9 +30,10 @@ module _ {R : Type 0} where
   batch_points : (batches : List (Vec (Vec ℕ R) R)) →
       AllByRecursion (λ batch. All (λ matrix. length matrix < 2 ^ 64) batch) (batches_of batches)
   batch_points [] = tt
-  batch_points (b ∷ bs) =
-      (All-from_recursion (λ matrix. length matrix < 2 ^ 64) (matrices_of b.items) (points b.items),
-      batch_points bs)
+  batch_points (b ∷ bs) = (
+    All-from_recursion (λ matrix. length matrix < 2 ^ 64) (matrices_of b.items) (points b.items),
+    batch_points bs,
+  )
 
 pub writable_labels : (s : CirclePcsShape) → s.log_blowup < 2 ^ 64 → s.log_final_poly_len ≤ 63 →
     HasWritableLabels (shape_of s)
@@ -57,7 +58,7 @@ with_two : (s t u : Separator) (a b : List ℕ) → t ≡ with_labels s (a ∷ [
     u ≡ with_labels t (b ∷ []) → u ≡ with_labels s (a ∷ b ∷ [])
 with_two s t u a b first second =
     second ∙ ap (λ x. with_labels x (b ∷ [])) first
-        ∙ ap (λ ls. record s { labels = ls }) (append_assoc s.labels (a ∷ []) (b ∷ []))
+    ∙ ap (λ ls. record s { labels = ls }) (append_assoc s.labels (a ∷ []) (b ∷ []))
 
 -- two labels, where there is no third one
 pub two_labels : (s t u : Separator) (a b x y : List ℕ) (n : ℕ) → t ≡ with_labels s (a ∷ []) →
@@ -65,7 +66,7 @@ pub two_labels : (s t u : Separator) (a b x y : List ℕ) (n : ℕ) → t ≡ wi
     u ≡ with_labels s (x ∷ y ∷ (if n == 0 then [] else be64 n ∷ []))
 two_labels s t u a b x y n first second same too none =
     with_two s t u a b first second ∙ ap (λ l. with_labels s (l ∷ b ∷ [])) same
-        ∙ ap (λ l. with_labels s (x ∷ l ∷ [])) too
+    ∙ ap (λ l. with_labels s (x ∷ l ∷ [])) too
     ∙ ap (λ k. with_labels s (x ∷ y ∷ (if k == 0 then [] else be64 n ∷ []))) (sym none)
 
 -- two labels and a third one
@@ -75,7 +76,7 @@ pub three_labels : (s t u : Separator) (a b c x y : List ℕ) (n : ℕ) → t �
 three_labels s t u a b c x y zero first second same too third some = absurd (omega (arith, some))
 three_labels s t u a b c x y (suc n) first second same too third some =
     ap (λ v. with_labels v (c ∷ [])) (with_two s t u a b first second)
-        ∙ ap (λ ls. record s { labels = ls }) (append_assoc s.labels (a ∷ b ∷ []) (c ∷ []))
+    ∙ ap (λ ls. record s { labels = ls }) (append_assoc s.labels (a ∷ b ∷ []) (c ∷ []))
     ∙ ap (λ l. with_labels s (l ∷ b ∷ c ∷ [])) same ∙ ap (λ l. with_labels s (x ∷ l ∷ c ∷ [])) too
-        ∙ ap (λ l. with_labels s (x ∷ y ∷ l ∷ [])) third
+    ∙ ap (λ l. with_labels s (x ∷ y ∷ l ∷ [])) third
     ∙ ap (λ z. with_labels s (x ∷ y ∷ (if z then [] else be64 (suc n) ∷ []))) (sym (eqb-suc-zero n))

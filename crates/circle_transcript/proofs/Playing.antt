@@ -24,26 +24,26 @@ module _ {S F E : Type 0} (f : S → F → S) (coefficients : E → List F) wher
   -- a claim is taken in: a point's coordinates, and values
   pub claim_taken : (s t u : S) (x y a b : E) (vs : List E) → a ≡ x → b ≡ y
       → t ≡ after_all f s (coefficients a ++ (coefficients b ++ [])) →
-          u ≡ after_all f t (flat_map coefficients vs)
+      u ≡ after_all f t (flat_map coefficients vs)
       → u ≡ after_all f s (coefficients x ++ (coefficients y ++ flat_map coefficients (vs ++ [])))
   claim_taken s t u x y a b vs same_x same_y first second =
       let joined : (coefficients a ++ (coefficients b ++ [])) ++ flat_map coefficients vs ≡
-          coefficients a ++ (coefficients b ++ flat_map coefficients (vs ++ [])) =
+      coefficients a ++ (coefficients b ++ flat_map coefficients (vs ++ [])) =
       ap (λ zs. (coefficients a ++ zs) ++ flat_map coefficients vs) (append-nil (coefficients b))
       ∙ append_assoc (coefficients a) (coefficients b) (flat_map coefficients vs)
       ∙ ap (λ zs. coefficients a ++ (coefficients b ++ flat_map coefficients zs))
-          (sym (append-nil vs)) in
+      (sym (append-nil vs)) in
       second ∙ ap (λ v. after_all f v (flat_map coefficients vs)) first
       ∙ sym
-          (after_all-append f s (coefficients a ++ (coefficients b ++ []))
-          (flat_map coefficients vs))
+      (after_all-append f s (coefficients a ++ (coefficients b ++ []))
+      (flat_map coefficients vs))
       ∙ ap (after_all f s) joined
       ∙ ap
-          (λ v. after_all f s
-          (coefficients v ++ (coefficients b ++ flat_map coefficients (vs ++ [])))) same_x
+      (λ v. after_all f s
+      (coefficients v ++ (coefficients b ++ flat_map coefficients (vs ++ [])))) same_x
       ∙ ap
-          (λ v. after_all f s
-          (coefficients x ++ (coefficients v ++ flat_map coefficients (vs ++ [])))) same_y
+      (λ v. after_all f s
+      (coefficients x ++ (coefficients v ++ flat_map coefficients (vs ++ [])))) same_y
 
   -- claims are taken in after others
   pub claims-append : (s : S) (cs ds : List (Claim E)) → after_claims_by f coefficients s (cs ++ ds)
@@ -52,9 +52,9 @@ module _ {S F E : Type 0} (f : S → F → S) (coefficients : E → List F) wher
   claims-append s cs ds =
       ap (λ v. after_all f s (flat_map coefficients v)) (flat_map-append claim_elements cs ds)
       ∙ ap (after_all f s)
-          (flat_map-append coefficients (flat_map claim_elements cs) (flat_map claim_elements ds))
+      (flat_map-append coefficients (flat_map claim_elements cs) (flat_map claim_elements ds))
       ∙ after_all-append f s (flat_map coefficients (flat_map claim_elements cs))
-          (flat_map coefficients (flat_map claim_elements ds))
+      (flat_map coefficients (flat_map claim_elements ds))
 
 -- the value at an index, and those after it
 pub drop_read : {A : Type 0} (xs : List A) (i : ℕ) (x : A) → i < length xs → x ≡ get_or xs i x →

@@ -62,18 +62,18 @@ module _ {C S F E Com : Type 0} (r : RunMoves C S F E Com) (bits : ℕ) where
   rounds_pass-append s [] vs = refl
   rounds_pass-append s (a ∷ us) vs =
       ap (λ v. is_passed r.base (r.after_commitment s a.0) bits a.1 && v)
-          (rounds_pass-append (after_round r bits s a) us vs)
+      (rounds_pass-append (after_round r bits s a) us vs)
       ∙ sym
-          (and_assoc (is_passed r.base (r.after_commitment s a.0) bits a.1)
-          (rounds_pass r bits (after_round r bits s a) us)
-          (rounds_pass r bits (after_rounds r bits (after_round r bits s a) us) vs))
+      (and_assoc (is_passed r.base (r.after_commitment s a.0) bits a.1)
+      (rounds_pass r bits (after_round r bits s a) us)
+      (rounds_pass r bits (after_rounds r bits (after_round r bits s a) us) vs))
 
   -- these rounds were played with witnesses that pass, and these are their challenges
   pub record ArePlayed (begun now : S) (rounds : List (Com × F)) (betas : List (List F)) : Type 0
-      where
-    pub passes : rounds_pass r bits begun rounds ≡ true
-    pub challenges : betas ≡ fold_challenges r bits begun rounds
-    pub state : now ≡ after_rounds r bits begun rounds
+    where
+      pub passes : rounds_pass r bits begun rounds ≡ true
+      pub challenges : betas ≡ fold_challenges r bits begun rounds
+      pub state : now ≡ after_rounds r bits begun rounds
 
   -- one more round
   module _ (begun now : S) (rounds next : List (Com × F)) (x : Com × F)
@@ -91,30 +91,30 @@ module _ {C S F E Com : Type 0} (r : RunMoves C S F E Com) (bits : ℕ) where
         ≡ false
     misses_more passed b same here =
         last_pass passed
-            ∙ ap (λ v. v && true)
-            (subst (λ k. is_passed r.base (r.after_commitment now x.0) k x.1 ≡ false) same here)
+        ∙ ap (λ v. v && true)
+        (subst (λ k. is_passed r.base (r.after_commitment now x.0) k x.1 ≡ false) same here)
 
     -- its witness passes at a difficulty that is the same, and its challenge is drawn
     pub one_more : (ys zs : List (List F)) (y : List F) (after : S) (b : ℕ) → b ≡ bits →
         rounds_pass r bits begun rounds ≡ true → ys ≡ fold_challenges r bits begun rounds
         → IsTrue (is_passed r.base (r.after_commitment now x.0) b x.1) →
-            y ≡ fold_challenge r b now x → zs ≡ ys ++ y ∷ [] → after ≡ after_round r b now x →
-            ArePlayed begun after next zs
+        y ≡ fold_challenge r b now x → zs ≡ ys ++ y ∷ [] → after ≡ after_round r b now x →
+        ArePlayed begun after next zs
     unfolding after_rounds fold_challenges
     one_more ys zs y after b same passed so_far passes drawn pushed state = record {
       passes =
           last_pass passed
           ∙ ap (λ v. v && true)
-              (true_of _
-              (subst (λ k. IsTrue (is_passed r.base (r.after_commitment now x.0) k x.1)) same
-              passes));
+          (true_of _
+          (subst (λ k. IsTrue (is_passed r.base (r.after_commitment now x.0) k x.1)) same
+          passes));
       challenges =
           pushed ∙ ap (λ v. v ++ y ∷ []) so_far
           ∙ ap (λ v. fold_challenges r bits begun rounds ++ v ∷ [])
-              (drawn ∙ ap (λ k. fold_challenge r k now x) same
-              ∙ ap (λ s. fold_challenge r bits s x) before)
+          (drawn ∙ ap (λ k. fold_challenge r k now x) same
+          ∙ ap (λ s. fold_challenge r bits s x) before)
           ∙ sym (ap (fold_challenges r bits begun) more
-              ∙ fold_challenges-append begun rounds (x ∷ []));
+          ∙ fold_challenges-append begun rounds (x ∷ []));
       state =
           state ∙ ap (λ k. after_round r k now x) same ∙ ap (λ s. after_round r bits s x) before
           ∙ sym (ap (after_rounds r bits begun) more ∙ after_rounds-append begun rounds (x ∷ []));
@@ -134,7 +134,7 @@ pub zip_more : {A B : Type 0} (us : List A) (vs : List B) (i : ℕ) (a : A) (b :
 zip_more us vs i a b within same is_a is_b =
     let within_b : i < length vs = omega arith in
     let counted : length (take i us) ≡ length (take i vs) = length-take i us ∙ omega arith
-        ∙ sym (length-take i vs) in
+    ∙ sym (length-take i vs) in
     ap (λ v. zip v (take (i + 1) vs)) (take_read us i a within is_a)
     ∙ ap (zip (take i us ++ a ∷ [])) (take_read vs i b within_b is_b)
     ∙ zip-append (take i us) (a ∷ []) (take i vs) (b ∷ []) counted
@@ -145,9 +145,9 @@ pub zip_split : {A B : Type 0} (us : List A) (vs : List B) (i : ℕ) → i ≤ l
     → zip us vs ≡ zip (take i us) (take i vs) ++ zip (drop i us) (drop i vs)
 zip_split us vs i within same =
     let counted : length (take i us) ≡ length (take i vs) = length-take i us ∙ omega arith
-        ∙ sym (length-take i vs) in
+    ∙ sym (length-take i vs) in
     ap (λ v. zip v vs) (sym (take-append-drop i us))
-        ∙ ap (zip (take i us ++ drop i us)) (sym (take-append-drop i vs))
+    ∙ ap (zip (take i us ++ drop i us)) (sym (take-append-drop i vs))
     ∙ zip-append (take i us) (drop i us) (take i vs) (drop i vs) counted
 
 -- the first of the rounds that are due
@@ -157,7 +157,7 @@ unfolding rounds_steps
 rounds_first degree bits n i rest within =
     let e : n - i ≡ suc (n - (i + 1)) = omega arith in
     ap (λ k. rounds_steps degree bits k ++ rest) e
-        ∙ append_assoc (round_steps degree bits) (rounds_steps degree bits (n - (i + 1))) rest
+    ∙ append_assoc (round_steps degree bits) (rounds_steps degree bits (n - (i + 1))) rest
 
 -- the same at a difficulty that is the same
 pub next_round : (degree bits b n i : ℕ) (rest left : List Step) → b ≡ bits → i < n →
@@ -196,17 +196,17 @@ zip_pushed us vs ws i a b within same is_a pushed =
 pub stuck_here : {C S F E Com : Type 0} (r : RunMoves C S F E Com) (bits : ℕ) (begun now : S)
     (commitments : List Com) (witnesses : List F) (commitment : Com) (i b : ℕ)
     → length witnesses ≡ i → i < length commitments → commitment ≡ get_or commitments i commitment →
-        b ≡ bits
+    b ≡ bits
     → rounds_pass r bits begun (zip (take i commitments) witnesses) ≡ true →
-        now ≡ after_rounds r bits begun (zip (take i commitments) witnesses)
+    now ≡ after_rounds r bits begun (zip (take i commitments) witnesses)
     → NonePasses r.base (r.after_commitment now commitment) b →
-        HasStuckRound r bits begun commitments
+    HasStuckRound r bits begun commitments
 stuck_here r bits begun now commitments witnesses commitment i b count within
     is same passed state none =
     let few : length witnesses ≤ length commitments = omega arith in
     let front : zip (take i commitments) witnesses ≡ zip commitments witnesses =
     ap (λ k. zip (take k commitments) witnesses) (sym count)
-        ∙ sym (zip_front commitments witnesses few) in
+    ∙ sym (zip_front commitments witnesses few) in
     record {
       witnesses = witnesses;
       commitment = commitment;
@@ -219,17 +219,17 @@ stuck_here r bits begun now commitments witnesses commitment i b count within
           (r.after_commitment (after_rounds r bits begun (zip commitments witnesses)) commitment) k)
           same
           (subst (λ t. NonePasses r.base (r.after_commitment t commitment) b)
-              (state ∙ ap (after_rounds r bits begun) front) none);
+          (state ∙ ap (after_rounds r bits begun) front) none);
     }
 
 -- after the rounds the steps of the indices are due
 pub indices_due : (degree rounds : ℕ) (n m k : Numbers) (due left : List Step) → m ≡ n → k ≡ m →
     due ≡ rounds_steps degree n.commit_pow_bits rounds ++ indices_steps degree n
     → HasPlayed (rounds_steps degree m.commit_pow_bits rounds) due left →
-        left ≡ indices_steps degree k ++ []
+    left ≡ indices_steps degree k ++ []
 indices_due degree rounds n m k due left same same_too is played =
     played (indices_steps degree n)
-        (is
-        ∙ ap (λ (v : Numbers). rounds_steps degree v.commit_pow_bits rounds
-        ++ indices_steps degree n) (sym same))
+    (is
+    ∙ ap (λ (v : Numbers). rounds_steps degree v.commit_pow_bits rounds
+    ++ indices_steps degree n) (sym same))
     ∙ ap (indices_steps degree) (sym (same_too ∙ same)) ∙ sym (append-nil (indices_steps degree k))

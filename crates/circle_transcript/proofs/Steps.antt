@@ -15,8 +15,8 @@ module _ (degree bits : ℕ) where
   rounds-suc (suc n) =
       ap (λ xs. round_steps degree bits ++ xs) (rounds-suc n)
       ∙ sym
-          (append_assoc (round_steps degree bits) (rounds_steps degree bits n)
-          (round_steps degree bits))
+      (append_assoc (round_steps degree bits) (rounds_steps degree bits n)
+      (round_steps degree bits))
 
   -- one round more
   pub rounds-push : (n : ℕ) → rounds_steps degree bits (n + 1) ≡ rounds_steps degree bits n

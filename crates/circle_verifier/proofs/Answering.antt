@@ -18,15 +18,15 @@ module _ {C I X : Type 0} (lengths : X → List ℕ) (queries : ℕ) where
   -- a round and those after it
   pub answer-round : (round : ℕ) (xs : List X) (i : ℕ) (x : X) → i < length xs → x ≡ get_or xs i x
       → answer {A = Unit {0}} (rounds_tests {C = C} {I = I} queries round (map lengths (drop i xs)))
-          (tt {0})
+      (tt {0})
       ≡ result_and (answer (round_tests queries round (lengths x)) (tt {0}))
-          (answer (rounds_tests queries (round + 1) (map lengths (drop (i + 1) xs))) (tt {0}))
+      (answer (rounds_tests queries (round + 1) (map lengths (drop (i + 1) xs))) (tt {0}))
   unfolding rounds_tests
   answer-round round xs i x within is =
       ap (λ ys. answer {A = Unit {0}} (rounds_tests {C = C} {I = I} queries round (map lengths ys))
-          (tt {0})) (drop_more xs i x within ∙ ap (λ v. v ∷ drop (i + 1) xs) (sym is))
+      (tt {0})) (drop_more xs i x within ∙ ap (λ v. v ∷ drop (i + 1) xs) (sym is))
       ∙ answer-append (round_tests queries round (lengths x))
-          (rounds_tests queries (round + 1) (map lengths (drop (i + 1) xs))) (tt {0})
+      (rounds_tests queries (round + 1) (map lengths (drop (i + 1) xs))) (tt {0})
 
 -- a test that has no reason, and a part that refuses nothing
 answer-without : {E : Type 0} (t : Test E) (ts : List (Test E)) → t.0 ≡ false →
@@ -51,7 +51,7 @@ not_different a b same = search rules
 pub answer-fifth : {E : Type 0} (t u w x y : Test E) (ts : List (Test E))
     (r : Result (Unit {0}) E) → t.0 ≡ false → u.0 ≡ false
     → answer (w ∷ []) (tt {0}) ≡ Ok (tt {0}) → answer (x ∷ []) (tt {0}) ≡ Ok (tt {0}) →
-        y.0 ≡ false → r ≡ answer ts (tt {0})
+    y.0 ≡ false → r ≡ answer ts (tt {0})
     → r ≡ answer (t ∷ u ∷ w ∷ x ∷ y ∷ ts) (tt {0})
 answer-fifth t u w x y ts r first second third fourth fifth others =
     others

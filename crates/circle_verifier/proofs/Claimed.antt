@@ -20,14 +20,14 @@ module _ {E F : Type 0} {g : _} (p : ℕ → Bool) where
 
   pub any-batches : {Com : Type 0} (bs : List (CommitmentOpening E Com (CircleDomain F g))) →
       list_any (λ b. list_any (λ m. p (log_size m.domain)) b.matrices.items) bs
-          ≡ list_any (λ m. p m.log_n) (all_matrices (batch_claims bs))
+      ≡ list_any (λ m. p m.log_n) (all_matrices (batch_claims bs))
   any-batches [] = refl
   any-batches (b ∷ bs) =
       ap (λ x. x || list_any (λ d. list_any (λ m. p (log_size m.domain)) d.matrices.items) bs)
-          (any-batch b.matrices.items)
+      (any-batch b.matrices.items)
       ∙ ap (λ x. list_any (λ m. p m.log_n) (matrix_claims b.matrices.items) || x) (any-batches bs)
       ∙ sym (list_any-append (λ (m : MatrixClaim E). p m.log_n) (matrix_claims b.matrices.items)
-          (all_matrices (batch_claims bs)))
+      (all_matrices (batch_claims bs)))
 
 -- a matrix has a height where its domain has the height without the blowup
 any-height : {E : Type 0} (blowup h n : ℕ) (ms : List (MatrixClaim E)) → n + blowup ≡ h →
@@ -36,7 +36,7 @@ any-height blowup h n [] same = refl
 any-height blowup h n (m ∷ ms) same =
     let here : (m.log_n == n) ≡ (m.log_n + blowup == h) = grind arith in
     ap (λ b. b || list_any (λ d. d.log_n == n) ms) here
-        ∙ ap (λ b. (m.log_n + blowup == h) || b) (any-height blowup h n ms same)
+    ∙ ap (λ b. (m.log_n + blowup == h) || b) (any-height blowup h n ms same)
 
 -- a height below the blowup no matrix has
 none-low : {E : Type 0} (blowup h : ℕ) (ms : List (MatrixClaim E)) → h < blowup →
@@ -54,7 +54,7 @@ module _ {E F Com : Type 0} {g : _} (blowup h : ℕ)
   has-height r high is =
       let same : h - blowup + blowup ≡ h = omega arith in
       is ∙ any-batches (λ n. n == h - blowup) bs
-          ∙ any-height blowup h (h - blowup) (all_matrices (batch_claims bs)) same
+      ∙ any-height blowup h (h - blowup) (all_matrices (batch_claims bs)) same
 
   pub has-none : h < blowup → nat_le blowup h
       ≡ list_any (λ m. log_height blowup m == h) (all_matrices (batch_claims bs))

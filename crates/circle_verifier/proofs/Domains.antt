@@ -47,17 +47,17 @@ module _ {C A B : Type 0} (final : ℕ) (xs ys : List ℕ) where
       ≡ answer (domain_tests final ys) (max (max g m) (greatest ys))
   more_domains g m is =
       let passed = passed-value (domain_tests {C = C} {A = A} {B = B} final xs) (greatest xs) m
-          is in
+      is in
       let value : max g (greatest (xs ++ ys)) ≡ max (max g m) (greatest ys) =
       ap (max g) (greatest-append xs ys ∙ ap (λ n. max n (greatest ys)) passed.1)
-          ∙ sym (max_assoc g m (greatest ys)) in
+      ∙ sym (max_assoc g m (greatest ys)) in
       ap (λ v. answer (domain_tests {C = C} {A = A} {B = B} final (xs ++ ys)) v) value
       ∙ ap (λ ts. answer ts (max (max g m) (greatest ys))) tests-append
       ∙ answer-append (domain_tests final xs) (domain_tests final ys) (max (max g m) (greatest ys))
       ∙ ap
-          (λ r. result_and r
-          (answer (domain_tests {C = C} {A = A} {B = B} final ys) (max (max g m) (greatest ys))))
-          passed.0
+      (λ r. result_and r
+      (answer (domain_tests {C = C} {A = A} {B = B} final ys) (max (max g m) (greatest ys))))
+      passed.0
 
   -- a refusal among them is the answer
   pub refused_domains : (v : ℕ) (e : _) →
@@ -67,7 +67,7 @@ module _ {C A B : Type 0} (final : ℕ) (xs ys : List ℕ) where
       ap (λ ts. answer ts v) tests-append
       ∙ answer-append (domain_tests final xs) (domain_tests final ys) v
       ∙ ap (λ r. result_and r (answer (domain_tests {C = C} {A = A} {B = B} final ys) v))
-          (refused-value (domain_tests {C = C} {A = A} {B = B} final xs) (greatest xs) e is)
+      (refused-value (domain_tests {C = C} {A = A} {B = B} final xs) (greatest xs) e is)
 
 -- the matrices of a batch, and of those after it
 pub next_batch : {E F Com : Type 0} {g : _}
@@ -76,9 +76,9 @@ pub next_batch : {E F Com : Type 0} {g : _}
     i < length claims → b ≡ get_or claims i b →
     log_sizes (all_matrices (batch_claims (drop i claims)))
     ≡ log_sizes (matrix_claims b.matrices.items)
-        ++ log_sizes (all_matrices (batch_claims (drop (i + 1) claims)))
+    ++ log_sizes (all_matrices (batch_claims (drop (i + 1) claims)))
 next_batch claims i b within is =
     ap (λ cs. log_sizes (all_matrices (batch_claims cs))) (drop_more claims i b within
-        ∙ ap (λ x. x ∷ drop (i + 1) claims) (sym is))
+    ∙ ap (λ x. x ∷ drop (i + 1) claims) (sym is))
     ∙ map-append _ (matrix_claims b.matrices.items)
-        (all_matrices (batch_claims (drop (i + 1) claims)))
+    (all_matrices (batch_claims (drop (i + 1) claims)))

@@ -23,7 +23,7 @@ flat_map-map f h (x ∷ xs) = ap (λ rest. f (h x) ++ rest) (flat_map-map f h xs
 
 module _ {F E I W IC ID IP IE WC WD WP WE : Type 0} {g : _} {k : Fields F E}
     {o : OpenedRun F E I W IC ID IP IE WC WD WP WE g} {f : _} {words : List (QueriedWord F E f)}
-        (a : AreReduced k o words) where
+    (a : AreReduced k o words) where
   module _ (i : ℕ) (d : QueriedWord F E f) (within : i < length words) where
     abbrev here : QueriedWord F E f
     here = slice_index_or words i d

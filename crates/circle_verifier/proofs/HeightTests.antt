@@ -52,7 +52,7 @@ module _ {C A B : Type 0} (two blowup final v : ℕ) where
       let tests = domain_tests {C = C} {A = A} {B = B} final (n ∷ ns) in
       let top = greatest (n ∷ ns) + blowup in
       let last : List (Test (FriError C (InputError A B))) =
-          (nat_le two top, GlobalMaxHeightTooLarge (min top (2 ^ 64 - 1)) two) ∷ [] in
+      (nat_le two top, GlobalMaxHeightTooLarge (min top (2 ^ 64 - 1)) two) ∷ [] in
       skipped (length (n ∷ ns) == 0, NoCommittedMatrices) (tests ++ last) v (search rules)
       ∙ answer-append tests last v
       ∙ ap (λ r. result_and r (answer last v)) (refused-value tests (greatest (n ∷ ns)) e is)
@@ -61,13 +61,13 @@ module _ {C A B : Type 0} (two blowup final v : ℕ) where
   pub none_claimed : (sizes : List ℕ) →
       answer (domain_tests {C = C} {A = A} {B = B} final sizes) (greatest sizes) ≡ Ok 0 →
       answer (claim_tests {C = C} {A = A} {B = B} two blowup final sizes) v
-          ≡ Err NoCommittedMatrices
+      ≡ Err NoCommittedMatrices
   none_claimed [] is = refusing (length {A = ℕ} [] == 0, NoCommittedMatrices) _ v (search rules)
   none_claimed (n ∷ ns) is =
       let large = leb-false n final (first_passes _ _ (greatest (n ∷ ns)) 0 is) in
       let small =
-          (passed-value (domain_tests {C = C} {A = A} {B = B} final (n ∷ ns)) (greatest (n ∷ ns)) 0
-          is).1 in
+      (passed-value (domain_tests {C = C} {A = A} {B = B} final (n ∷ ns)) (greatest (n ∷ ns)) 0
+      is).1 in
       absurd (omega arith)
 
   module _ (m : ℕ) (some : 1 ≤ m) where
@@ -76,45 +76,48 @@ module _ {C A B : Type 0} (two blowup final v : ℕ) where
         answer (domain_tests {C = C} {A = A} {B = B} final sizes) (greatest sizes) ≡ Ok m →
         answer (claim_tests {C = C} {A = A} {B = B} two blowup final sizes) v
         ≡ answer
-            ((nat_le two (m + blowup), GlobalMaxHeightTooLarge (min (m + blowup) (2 ^ 64 - 1)) two)
-            ∷ []) v
+        ((nat_le two (m + blowup), GlobalMaxHeightTooLarge (min (m + blowup) (2 ^ 64 - 1)) two)
+        ∷ []) v
     height_tested [] is = let none =
         (passed-value (domain_tests {C = C} {A = A} {B = B} final []) 0 m is).1 in
         absurd (omega arith)
     height_tested (n ∷ ns) is =
         let tests = domain_tests {C = C} {A = A} {B = B} final (n ∷ ns) in
         let last : ℕ → List (Test (FriError C (InputError A B))) =
-            λ g. (nat_le two (g + blowup),
-            GlobalMaxHeightTooLarge (min (g + blowup) (2 ^ 64 - 1)) two) ∷ [] in
+        λ g. (
+          nat_le two (g + blowup),
+          GlobalMaxHeightTooLarge (min (g + blowup) (2 ^ 64 - 1)) two,
+        ) ∷ [] in
         let passed = passed-value tests (greatest (n ∷ ns)) m is in
         skipped (length (n ∷ ns) == 0, NoCommittedMatrices) (tests ++ last (greatest (n ∷ ns))) v
-            (search rules)
+        (search rules)
         ∙ answer-append tests (last (greatest (n ∷ ns))) v
         ∙ ap (λ r. result_and r (answer (last (greatest (n ∷ ns))) v)) passed.0
         ∙ ap (λ g. answer (last g) v) passed.1
 
     module _ (sizes : List ℕ)
         (is : answer (domain_tests {C = C} {A = A} {B = B} final sizes) (greatest sizes) ≡ Ok m)
-        where
-      pub too_high : two ≤ m + blowup →
-          answer (claim_tests {C = C} {A = A} {B = B} two blowup final sizes) v
-              ≡ Err (GlobalMaxHeightTooLarge (min (m + blowup) (2 ^ 64 - 1)) two)
-      too_high high = height_tested sizes is
-          ∙ refusing (nat_le two (m + blowup), _) [] v (le-leb two (m + blowup) high)
+      where
+        pub too_high : two ≤ m + blowup →
+            answer (claim_tests {C = C} {A = A} {B = B} two blowup final sizes) v
+            ≡ Err (GlobalMaxHeightTooLarge (min (m + blowup) (2 ^ 64 - 1)) two)
+        too_high high = height_tested sizes is
+            ∙ refusing (nat_le two (m + blowup), _) [] v (le-leb two (m + blowup) high)
 
-      pub fits_group : m + blowup < two →
-          answer (claim_tests {C = C} {A = A} {B = B} two blowup final sizes) v ≡ Ok v
-      fits_group low = height_tested sizes is
-          ∙ skipped (nat_le two (m + blowup), _) [] v (lt-leb two (m + blowup) low) ∙ answer-none v
+        pub fits_group : m + blowup < two →
+            answer (claim_tests {C = C} {A = A} {B = B} two blowup final sizes) v ≡ Ok v
+        fits_group low = height_tested sizes is
+            ∙ skipped (nat_le two (m + blowup), _) [] v (lt-leb two (m + blowup) low)
+            ∙ answer-none v
 
 -- the greatest height, where some domain is claimed
 pub height_is : {C A B E : Type 0} (blowup final m : ℕ) (matrices : List (MatrixClaim E)) → 1 ≤ m →
     answer (domain_tests {C = C} {A = A} {B = B} final (log_sizes matrices))
-        (greatest (log_sizes matrices)) ≡ Ok m → log_max_height blowup matrices ≡ m + blowup
+    (greatest (log_sizes matrices)) ≡ Ok m → log_max_height blowup matrices ≡ m + blowup
 height_is {C = C} {A = A} {B = B} blowup final m [] some is = let none =
     (passed-value (domain_tests {C = C} {A = A} {B = B} final []) 0 m is).1 in absurd (omega arith)
 height_is {C = C} {A = A} {B = B} blowup final m (k ∷ ms) some is =
     raised blowup k ms
-        ∙ ap (λ n. n + blowup)
-        (passed-value (domain_tests {C = C} {A = A} {B = B} final (log_sizes (k ∷ ms)))
-        (greatest (log_sizes (k ∷ ms))) m is).1
+    ∙ ap (λ n. n + blowup)
+    (passed-value (domain_tests {C = C} {A = A} {B = B} final (log_sizes (k ∷ ms)))
+    (greatest (log_sizes (k ∷ ms))) m is).1

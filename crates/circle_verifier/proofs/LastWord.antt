@@ -35,8 +35,8 @@ module _ {F : Type 0} {k : FieldOps F} (laws : FieldLaws k) {bits : ℕ} {gen : 
   pub last-point : (m i n place : ℕ) (s p : Coordinates F) → i < 2 ^ m → m + 2 ≤ bits → n ≡ m + 1 →
       s ≡ gen (m + 1 + 1) → place ≡ cfft_index (m + 1) (2 * i) →
       slice_get (natural_order k gen n s) place ≡ Some p →
-          p.x ≡ slice_index_or (map (λ (q : Coordinates F). q.x) (coset k gen m (gen (m + 2)))) i
-          k.zero
+      p.x ≡ slice_index_or (map (λ (q : Coordinates F). q.x) (coset k gen m (gen (m + 2)))) i
+      k.zero
   last-point m i n place s p lt fits size shift is_place here =
       let t = gen (m + 2) in
       let points = coset k gen m t in
@@ -49,11 +49,11 @@ module _ {F : Type 0} {k : FieldOps F} (laws : FieldLaws k) {bits : ℕ} {gen : 
       ap x
       (sym (get_or_from_slice_get (natural_order k gen n s) place p p here)
       ∙ ap (λ j. slice_index_or (natural_order k gen n s) j p)
-          (is_place ∙ ap (λ a. cfft_index a (2 * i)) next)
+      (is_place ∙ ap (λ a. cfft_index a (2 * i)) next)
       ∙ ap (λ a. slice_index_or (natural_from k (2 ^ a) (gen a) s 0) (cfft_index (suc m) (2 * i)) p)
-          before
+      before
       ∙ ap (λ q. slice_index_or (natural_from k (2 ^ m) (gen m) q 0) (cfft_index (suc m) (2 * i)) p)
-          (shift ∙ ap gen order)
+      (shift ∙ ap gen order)
       ∙ sym (cfft-place laws.ring gens m (2 * i) t p within (omega (arith, fits)))
       ∙ with_opposites-even k points i (2 * i) p (omega arith) counted)
       ∙ sym (get_or-map x points i p k.zero counted)
@@ -73,7 +73,7 @@ module _ {F E M C IC IP WP : Type 0} (fields : Fields F E) (params : FriParamete
       let qs = r.drawn.queries in
       let none : 0 + j ≡ j = omega arith in
       here ∙ ap (λ xs. slice_index_or xs j v) (all ∙ zip-placed f 0 qs)
-          ∙ placed-read f 0 qs j v 0 lt ∙ ap (λ i. f i (slice_index_or qs j 0)) none
+      ∙ placed-read f 0 qs j v 0 lt ∙ ap (λ i. f i (slice_index_or qs j 0)) none
 
 module _ {F E I W IC ID IP IE WC WD WP WE : Type 0} {g : _} (k : Fields F E)
     (o : OpenedRun F E I W IC ID IP IE WC WD WP WE g) (drawn : IsDrawn k o) where
@@ -84,7 +84,7 @@ module _ {F E I W IC ID IP IE WC WD WP WE : Type 0} {g : _} (k : Fields F E)
   pub last-short : log_len < o.log_max_height
   last-short =
       let past = highest-past o.params.now.log_blowup (o.params.now.log_final_poly_len + 1)
-          (matrices k o.params.now (run_of o)) drawn.some_matrix drawn.large in
+      (matrices k o.params.now (run_of o)) drawn.some_matrix drawn.large in
       omega (arith, past, drawn.top)
 
   -- the place of a query in it
@@ -92,29 +92,29 @@ module _ {F E I W IC ID IP IE WC WD WP WE : Type 0} {g : _} (k : Fields F E)
       ≡ q / 2 ^ (o.log_max_height - log_len)
   last-place q =
       let e : rounds k o.params.now (run_of o) + 1 ≡ o.log_max_height - log_len =
-          omega (arith, last-short, drawn.top) in
+      omega (arith, last-short, drawn.top) in
       ap (λ n. q / 2 ^ n) e
 
   pub last-low : (j : ℕ) → j < length o.indices.now →
       slice_index_or o.indices.now j 0 / 2 ^ (o.log_max_height - log_len) < 2 ^ log_len
   last-low j lt =
       let whole : o.log_max_height ≡ log_len + (o.log_max_height - log_len) =
-          omega (arith, last-short) in
+      omega (arith, last-short) in
       shr_below (slice_index_or o.indices.now j 0) log_len (o.log_max_height - log_len)
-          (subst (λ h. slice_index_or o.indices.now j 0 < 2 ^ h) whole (drawn.below j 0 lt))
+      (subst (λ h. slice_index_or o.indices.now j 0 < 2 ^ h) whole (drawn.below j 0 lt))
 
   -- the final polynomial's value there
   pub final-at : (j : ℕ) (x : F) (v : E) → j < length o.indices.now →
       x
-          ≡ slice_index_or
-          (map (λ (p : Coordinates F). p.x) (coset k.field k.gen log_len (k.gen (log_len + 2))))
-          (slice_index_or o.indices.now j 0 / 2 ^ (o.log_max_height - log_len)) k.field.zero →
+      ≡ slice_index_or
+      (map (λ (p : Coordinates F). p.x) (coset k.field k.gen log_len (k.gen (log_len + 2))))
+      (slice_index_or o.indices.now j 0 / 2 ^ (o.log_max_height - log_len)) k.field.zero →
       v ≡ x_value k.extension o.proof.now.fri_proof.final_poly.items (k.embed x) →
-          v ≡ final_value k o.params.now (run_of o) j (slice_index_or o.indices.now j 0)
+      v ≡ final_value k o.params.now (run_of o) j (slice_index_or o.indices.now j 0)
   final-at j x v lt here value =
       let xs =
-          map (λ (p : Coordinates F). p.x) (coset k.field k.gen log_len (k.gen (log_len + 2))) in
+      map (λ (p : Coordinates F). p.x) (coset k.field k.gen log_len (k.gen (log_len + 2))) in
       value ∙ ap (λ t. x_value k.extension o.proof.now.fri_proof.final_poly.items (k.embed t))
       (here
-          ∙ ap (λ i. slice_index_or xs i k.field.zero)
-          (sym (last-place (slice_index_or o.indices.now j 0))))
+      ∙ ap (λ i. slice_index_or xs i k.field.zero)
+      (sym (last-place (slice_index_or o.indices.now j 0))))

@@ -37,7 +37,7 @@ all-fail p (x ∷ xs) late = by (p x) refl (all-fail p xs)
         absurd (omega arith)
     by false e rest =
         let now : suc (length xs) ≤ 1 + position_or_len p xs =
-            subst (λ b. length (x ∷ xs) ≤ cond (not b) (1 + position_or_len p xs) 0) e late in
+        subst (λ b. length (x ∷ xs) ≤ cond (not b) (1 + position_or_len p xs) 0) e late in
         All-cons (λ y. p y ≡ false) x xs e (rest (omega arith))
 
 none-pass : {X : Type 0} (p : X → Bool) (xs : List X) → position p xs ≡ None →
@@ -75,9 +75,11 @@ module _ {E F : Type 0} {g : _} where
       (m : MatrixOpening E (CircleDomain F g)) × (slice_get ms i ≡ Some m) × (m.points.items ≡ [])
   first-at [] i is = cc
   first-at (d ∷ ms) i is =
-      let found = position-Some unclaimed (d ∷ ms) i d is in
-      (get_or (d ∷ ms) i d, slice_get-get_or (d ∷ ms) i d found.0,
-          no-points (get_or (d ∷ ms) i d) found.1)
+      let found = position-Some unclaimed (d ∷ ms) i d is in (
+        get_or (d ∷ ms) i d,
+        slice_get-get_or (d ∷ ms) i d found.0,
+        no-points (get_or (d ∷ ms) i d) found.1,
+      )
 
   module _ {Com : Type 0} where
     -- a batch of which all matrices are claimed, after others
@@ -85,10 +87,10 @@ module _ {E F : Type 0} {g : _} where
         (b : CommitmentOpening E Com (CircleDomain F g)) →
         i < length bs → b ≡ get_or bs i b → position unclaimed b.matrices.items ≡ None
         → All (λ d. All Claimed d.matrices.items) (take i bs) →
-            All (λ d. All Claimed d.matrices.items) (take (i + 1) bs)
+        All (λ d. All Claimed d.matrices.items) (take (i + 1) bs)
     more-claimed bs i b within is none before =
         let Each : CommitmentOpening E Com (CircleDomain F g) → Type 0 =
-            λ d. All Claimed d.matrices.items in
+        λ d. All Claimed d.matrices.items in
         All-more Each bs i b within before (subst Each is (none-unclaimed b.matrices.items none))
 
     -- the first that is claimed at no point
@@ -96,8 +98,8 @@ module _ {E F : Type 0} {g : _} where
         (r : Run T E C Com P Q) (bs : List (CommitmentOpening E Com (CircleDomain F g)))
         (batch matrix : ℕ) (b : CommitmentOpening E Com (CircleDomain F g)) →
         r.batches ≡ batch_claims bs → batch < length bs → b ≡ get_or bs batch b →
-            position unclaimed b.matrices.items ≡ Some matrix →
-            IsUnclaimed fields params r batch matrix
+        position unclaimed b.matrices.items ≡ Some matrix →
+        IsUnclaimed fields params r batch matrix
     unclaimed-at fields params r bs batch matrix b same within is found =
         let first = first-at b.matrices.items matrix found in
         record {
@@ -117,10 +119,10 @@ module _ {E F : Type 0} {g : _} where
     all-claimed (b ∷ bs) all =
         let P : MatrixClaim E → Type 0 = λ m. 1 ≤ length m.claims in
         let Each : CommitmentOpening E Com (CircleDomain F g) → Type 0 =
-            λ d. All Claimed d.matrices.items in
+        λ d. All Claimed d.matrices.items in
         All-append P (matrix_claims b.matrices.items) (all_matrices (batch_claims bs))
         (All-map P matrix_claim b.matrices.items
-            (All-weaker Claimed (λ m. P (matrix_claim m))
-            (λ m some. subst (λ n. 1 ≤ n) (sym (length-map m.points.items point_claim)) some)
-            b.matrices.items (All-head Each b bs all)))
+        (All-weaker Claimed (λ m. P (matrix_claim m))
+        (λ m some. subst (λ n. 1 ≤ n) (sym (length-map m.points.items point_claim)) some)
+        b.matrices.items (All-head Each b bs all)))
         (all-claimed bs (All-tail Each b bs all))

@@ -28,7 +28,7 @@ All-under P f xs all =
 zip-more : {A B : Type 0} (xs : List A) (ys : List B) (i : ℕ) (d : A) (e : B) → i < length xs →
     i < length ys →
     zip (take (suc i) xs) ys ≡ zip (take i xs) ys ++ (slice_index_or xs i d, slice_index_or ys i e)
-        ∷ []
+    ∷ []
 zip-more [] ys i d e inside within = absurd (omega (arith, inside))
 zip-more (x ∷ xs) [] i d e inside within = absurd (omega (arith, within))
 zip-more (x ∷ xs) (y ∷ ys) zero d e inside within = refl
@@ -44,7 +44,7 @@ module _ {F E : Type 0} (blowup h : ℕ) (m : MatrixClaim E) (row : List F) wher
       of_height blowup h (pairs ++ (m, row) ∷ []) ≡ of_height blowup h pairs ++ on_row row m.claims
   of_height-same pairs same =
       flat_map-append (λ (p : MatrixClaim E × List F). if log_height blowup p.0 ==
-          h then on_row p.1 p.0.claims else []) pairs ((m, row) ∷ [])
+      h then on_row p.1 p.0.claims else []) pairs ((m, row) ∷ [])
       ∙ ap (λ b. of_height blowup h pairs ++ part b) (eq-eqb (log_height blowup m) h same)
       ∙ ap (λ cs. of_height blowup h pairs ++ cs) (append-nil (on_row row m.claims))
 
@@ -52,7 +52,7 @@ module _ {F E : Type 0} (blowup h : ℕ) (m : MatrixClaim E) (row : List F) wher
       of_height blowup h (pairs ++ (m, row) ∷ []) ≡ of_height blowup h pairs
   of_height-other pairs other =
       flat_map-append (λ (p : MatrixClaim E × List F). if log_height blowup p.0 ==
-          h then on_row p.1 p.0.claims else []) pairs ((m, row) ∷ [])
+      h then on_row p.1 p.0.claims else []) pairs ((m, row) ∷ [])
       ∙ ap (λ b. of_height blowup h pairs ++ part b) (ne_eqb (log_height blowup m) h other)
       ∙ append-nil (of_height blowup h pairs)
 
@@ -72,13 +72,13 @@ module _ {F E : Type 0} (blowup h : ℕ) (ms : List (MatrixClaim E)) (entries : 
       let has = all j d within in
       let there = row-there j d within in
       let both : i < length (zip ms rows) =
-          omega (arith, inside, there, has.0, length-zip ms rows) in
+      omega (arith, inside, there, has.0, length-zip ms rows) in
       let wide : All (λ c. length (slice_index_or rows i []) ≡ length c.values) m.claims =
       All-there (λ (p : MatrixClaim E × List F). All (λ c. length p.1 ≡ length c.values) p.0.claims)
-          (zip ms rows) i (m, slice_index_or rows i []) has.1 both
+      (zip ms rows) i (m, slice_index_or rows i []) has.1 both
       (get_or-zip ms rows i (m, slice_index_or rows i []) inside there
       ∙ ap (λ n. (n, slice_index_or rows i (slice_index_or rows i []))) is
-          ∙ ap (λ r. (m, r)) (get_or_default rows i (slice_index_or rows i []) [] there)) in
+      ∙ ap (λ r. (m, r)) (get_or_default rows i (slice_index_or rows i []) [] there)) in
       (there, wide k c lt)
 
   more : (j : ℕ) → j < length entries → zip (take (i + 1) ms) (slice_index_or entries j [])
@@ -90,23 +90,23 @@ module _ {F E : Type 0} (blowup h : ℕ) (ms : List (MatrixClaim E)) (entries : 
       ap (λ n. zip (take n ms) rows) next ∙ zip-more ms rows i m [] inside (row-there j [] lt)
       ∙ ap (λ n. zip (take i ms) rows ++ (n, slice_index_or rows i []) ∷ []) is
       ∙ ap (λ r. zip (take i ms) rows ++ (m, r) ∷ [])
-          (sym (get_or-map (λ (rows : List (List F)). slice_index_or rows i []) entries j [] [] lt))
+      (sym (get_or-map (λ (rows : List (List F)). slice_index_or rows i []) entries j [] [] lt))
 
   -- the claims on one more matrix
   pub claims-more : log_height blowup m ≡ h → (j : ℕ) → j < length entries →
       claims_at blowup h (take i ms) entries j ++ on_row (slice_index_or (rows_of i entries) j [])
-          m.claims ≡ claims_at blowup h (take (i + 1) ms) entries j
+      m.claims ≡ claims_at blowup h (take (i + 1) ms) entries j
   claims-more same j lt =
       sym (ap (of_height blowup h) (more j lt)
-          ∙ of_height-same blowup h m (slice_index_or (rows_of i entries) j [])
-          (zip (take i ms) (slice_index_or entries j [])) same)
+      ∙ of_height-same blowup h m (slice_index_or (rows_of i entries) j [])
+      (zip (take i ms) (slice_index_or entries j [])) same)
 
   pub claims-other : log_height blowup m ≢ h → (j : ℕ) → j < length entries →
       claims_at blowup h (take i ms) entries j ≡ claims_at blowup h (take (i + 1) ms) entries j
   claims-other other j lt =
       sym (ap (of_height blowup h) (more j lt)
-          ∙ of_height-other blowup h m (slice_index_or (rows_of i entries) j [])
-          (zip (take i ms) (slice_index_or entries j [])) other)
+      ∙ of_height-other blowup h m (slice_index_or (rows_of i entries) j [])
+      (zip (take i ms) (slice_index_or entries j [])) other)
 
 -- entries beside one another
 pub pair-read : {A B : Type 0} (xs : List A) (ys : List B) (i : ℕ) (a : A) (b : B) → i < length xs →
@@ -135,16 +135,16 @@ module _ {Com E : Type 0} (batches : List (BatchClaim Com E)) (i : ℕ) (b : Bat
       (inputs : List (Opened (List (List F)) Proof)) (o : Opened (List (List F)) Proof) →
       i < length inputs → slice_index_or inputs i o ≡ o → (j : ℕ) →
       all_claims_at blowup h (zip (take i batches) inputs) j
-          ++ claims_at blowup h b.matrices o.entries j
-          ≡ all_claims_at blowup h (zip (take (i + 1) batches) inputs) j
+      ++ claims_at blowup h b.matrices o.entries j
+      ≡ all_claims_at blowup h (zip (take (i + 1) batches) inputs) j
   all_claims-more {F} {Proof} blowup h inputs o within is_o j =
       let next : i + 1 ≡ suc i = omega arith in
       let one = λ (p : BatchClaim Com E × Opened (List (List F)) Proof). claims_at blowup h
-          p.0.matrices p.1.entries j in
+      p.0.matrices p.1.entries j in
       sym (ap (λ n. all_claims_at blowup h (zip (take n batches) inputs) j) next
       ∙ ap (λ ps. all_claims_at blowup h ps j) (zip-more batches inputs i b o inside within
       ∙ ap (λ c. zip (take i batches) inputs ++ (c, slice_index_or inputs i o) ∷ []) is
-          ∙ ap (λ p. zip (take i batches) inputs ++ (b, p) ∷ []) is_o)
+      ∙ ap (λ p. zip (take i batches) inputs ++ (b, p) ∷ []) is_o)
       ∙ flat_map-append one (zip (take i batches) inputs) ((b, o) ∷ [])
       ∙ ap (λ cs. all_claims_at blowup h (zip (take i batches) inputs) j ++ cs)
-          (append-nil (one (b, o))))
+      (append-nil (one (b, o))))

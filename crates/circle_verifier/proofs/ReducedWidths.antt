@@ -8,4 +8,4 @@ pub wider-more : {T : Type 0} (P : ℕ → T → Type 0) → ((a b : ℕ) (x : T
     → All (P w) (take i xs) → P a (slice_index_or xs i d) → All (P n) (take (i + 1) xs)
 wider-more P wider xs i d a w n more grown lt all here =
     All-more (P n) xs i d lt (All-weaker (P w) (P n) (λ x. wider w n x grown) (take i xs) all)
-        (wider a n (slice_index_or xs i d) more here)
+    (wider a n (slice_index_or xs i d) more here)

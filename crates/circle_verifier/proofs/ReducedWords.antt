@@ -41,8 +41,8 @@ pub below-top : {E : Type 0} (blowup : ℕ) (ms : List (MatrixClaim E)) →
     All (λ m. log_height blowup m ≤ log_max_height blowup ms) ms
 below-top blowup ms = λ i d lt.
     subst (λ n. n ≤ log_max_height blowup ms) (get_or-map (log_height blowup) ms i d 0 lt)
-        (below-greatest (map (log_height blowup) ms) i 0
-        (omega (arith, lt, length-map ms (log_height blowup))))
+    (below-greatest (map (log_height blowup) ms) i 0
+    (omega (arith, lt, length-map ms (log_height blowup))))
 
 -- what holds of all that pass a test
 rest-passes : {T : Type 0} (P : T → Type 0) (x : T) (ys : List T) (b : Bool) →
@@ -75,29 +75,29 @@ module _ {F E M Com InputCom InputProof WordProof : Type 0} (fields : Fields F E
       length sums ≡ length r.drawn.queries → points ≡ map point r.drawn.queries
       → ((j : ℕ) → j < length sums → slice_index_or sums j fields.extension.zero
       ≡ reduced fields.extension fields.embed r.drawn.alpha 0 (slice_index_or points j none)
-          (all_claims_at params.log_blowup h (zip r.batches r.proof.inputs) j))
+      (all_claims_at params.log_blowup h (zip r.batches r.proof.inputs) j))
       →
-          sums
-          ≡ at_queries fields params r
-          (λ j q. reduced_at fields params r (point_among fields params r j q h)
-          (claims_of fields params r h j))
+      sums
+      ≡ at_queries fields params r
+      (λ j q. reduced_at fields params r (point_among fields params r j q h)
+      (claims_of fields params r h j))
   sums-at sums points none count are is =
       let qs = r.drawn.queries in
       let f = λ (j q : ℕ). reduced_at fields params r (point_among fields params r j q h)
-          (claims_of fields params r h j) in
+      (claims_of fields params r h j) in
       ext_get_or fields.extension.zero sums (placed f 0 qs) (count ∙ sym (length-placed f 0 qs))
       (λ j lt.
       let within : j < length qs = omega (arith, lt, count) in
       let here : 0 + j ≡ j = omega arith in
       is j lt
-          ∙ ap
-          (λ ps. reduced fields.extension fields.embed r.drawn.alpha 0 (slice_index_or ps j none)
-          (claims_of fields params r h j)) are
       ∙ ap
-          (λ x. reduced fields.extension fields.embed r.drawn.alpha 0 x
-          (claims_of fields params r h j)) (get_or-map point qs j 0 none within)
+      (λ ps. reduced fields.extension fields.embed r.drawn.alpha 0 (slice_index_or ps j none)
+      (claims_of fields params r h j)) are
+      ∙ ap
+      (λ x. reduced fields.extension fields.embed r.drawn.alpha 0 x
+      (claims_of fields params r h j)) (get_or-map point qs j 0 none within)
       ∙ ap (λ n. f n (slice_index_or qs j 0)) (sym here)
-          ∙ sym (placed-read f 0 qs j fields.extension.zero 0 within))
+      ∙ sym (placed-read f 0 qs j fields.extension.zero 0 within))
       ∙ sym (zip-placed f 0 qs)
 
   -- claims that are apart from all queries are so at each height
@@ -108,8 +108,8 @@ module _ {F E M Com InputCom InputProof WordProof : Type 0} (fields : Fields F E
       let qs = r.drawn.queries in
       let inside : j < length qs = omega (arith, within, length-map qs point) in
       let high =
-          λ (n : ℕ). lifted fields.embed
-          (query_point fields.field fields.gen n (top fields params r) (slice_index_or qs j 0)) in
+      λ (n : ℕ). lifted fields.embed
+      (query_point fields.field fields.gen n (top fields params r) (slice_index_or qs j 0)) in
       apart j 0 inside i m lt k c claimed
       (ap high same ∙ ap (lifted fields.embed) (sym (get_or-map point qs j 0 x inside)) ∙ meets)
 
@@ -125,25 +125,25 @@ module _ {F E M Com InputCom InputProof WordProof : Type 0} (fields : Fields F E
       let matrix = slice_index_or (matrices fields params r) i m in
       let h = log_height params.log_blowup matrix in
       let low : h ≤ top fields params r =
-          below-top params.log_blowup (matrices fields params r) i m lt in
+      below-top params.log_blowup (matrices fields params r) i m lt in
       let range = range_with_len 0 (suc (top fields params r)) in
       let none : 0 + h ≡ h = omega arith in
       let place : slice_index_or range h 0 ≡ h =
-          get_or-range_with_len 0 (suc (top fields params r)) h 0 (omega (arith, low)) ∙ none in
+      get_or-range_with_len 0 (suc (top fields params r)) h 0 (omega (arith, low)) ∙ none in
       let test : is_claimed fields params r h ≡ true =
-          list_any-from_Any (λ n. log_height params.log_blowup n == h) (matrices fields params r)
+      list_any-from_Any (λ n. log_height params.log_blowup n == h) (matrices fields params r)
       (i, matrix, lt, get_or_default (matrices fields params r) i matrix m lt, eq-eqb h h refl) in
       let P = λ (h : ℕ). AreApartAt fields.extension fields.embed params.log_blowup h
-          (map (point fields params r h) qs) (matrices fields params r) in
+      (map (point fields params r h) qs) (matrices fields params r) in
       let here : P h =
-          subst P place
-          (filter-there (is_claimed fields params r) P range all h 0
-          (omega (arith, low, length-range_with_len 0 (suc (top fields params r))))
-          (ap (is_claimed fields params r) place ∙ test)) in
+      subst P place
+      (filter-there (is_claimed fields params r) P range all h 0
+      (omega (arith, low, length-range_with_len 0 (suc (top fields params r))))
+      (ap (is_claimed fields params r) place ∙ test)) in
       here i m lt refl k c claimed j (point fields params r h q)
-          (omega (arith, inside, length-map qs (point fields params r h)))
+      (omega (arith, inside, length-map qs (point fields params r h)))
       (ap (lifted fields.embed)
-          (get_or-map (point fields params r h) qs j q (point fields params r h q) inside) ∙ meets)
+      (get_or-map (point fields params r h) qs j q (point fields params r h q) inside) ∙ meets)
 
   -- the heights that are claimed are at least 1, and at most the greatest
   pub heights-fit : All (λ m. 1 ≤ m.log_n) (matrices fields params r) →
@@ -151,18 +151,18 @@ module _ {F E M Com InputCom InputProof WordProof : Type 0} (fields : Fields F E
   heights-fit large = λ i d lt.
       let range = range_with_len 0 (suc (top fields params r)) in
       let claimed =
-          Any-from_list_any (λ n. log_height params.log_blowup n ==
-          slice_index_or (claimed_heights fields params r) i d) (matrices fields params r)
-          (filter_passes (is_claimed fields params r) range i d lt) in
+      Any-from_list_any (λ n. log_height params.log_blowup n ==
+      slice_index_or (claimed_heights fields params r) i d) (matrices fields params r)
+      (filter_passes (is_claimed fields params r) range i d lt) in
       let same =
-          eqb-true (log_height params.log_blowup claimed.1)
-          (slice_index_or (claimed_heights fields params r) i d) claimed.4 in
+      eqb-true (log_height params.log_blowup claimed.1)
+      (slice_index_or (claimed_heights fields params r) i d) claimed.4 in
       let rows = large claimed.0 claimed.1 claimed.2 in
       let rows_same = ap (λ m. m.log_n) claimed.3 in
       let within : slice_index_or (claimed_heights fields params r) i d ≤ top fields params r =
       All-filter (is_claimed fields params r) (λ h. h ≤ top fields params r) range
       (λ k e inside. let at =
-          get_or-range_with_len 0 (suc (top fields params r)) k e
-          (omega (arith, inside, length-range_with_len 0 (suc (top fields params r)))) in
+      get_or-range_with_len 0 (suc (top fields params r)) k e
+      (omega (arith, inside, length-range_with_len 0 (suc (top fields params r)))) in
       omega (arith, at, inside, length-range_with_len 0 (suc (top fields params r)))) i d lt in
       (omega (arith, same, rows, rows_same), within)

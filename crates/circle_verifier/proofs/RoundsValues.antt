@@ -47,8 +47,11 @@ greatest-there (n ∷ []) some = (0, omega arith, omega arith)
 greatest-there (n ∷ m ∷ ns) some =
     let rest = greatest-there (m ∷ ns) (omega arith) in
     ⊎_elim
-    (λ lt. (suc rest.0, omega (arith, rest.1),
-        rest.2 ∙ (let e : greatest (m ∷ ns) ≡ max n (greatest (m ∷ ns)) = omega (arith, lt) in e)))
+    (λ lt. (
+      suc rest.0,
+      omega (arith, rest.1),
+      rest.2 ∙ (let e : greatest (m ∷ ns) ≡ max n (greatest (m ∷ ns)) = omega (arith, lt) in e),
+    ))
     (λ ge. (0, omega arith, (let e : n ≡ max n (greatest (m ∷ ns)) = omega (arith, ge) in e)))
     (cases_lt n (greatest (m ∷ ns)))
 
@@ -63,7 +66,7 @@ top-claimed blowup (m ∷ ms) some =
     let within : there.0 < length all = omega (arith, there.1, length-map all height) in
     list_any_at (λ c. height c == greatest (map height all)) all there.0 m within
     (eq-eqb (height (slice_index_or all there.0 m)) (greatest (map height all))
-        (sym (get_or-map height all there.0 m 0 within) ∙ there.2))
+    (sym (get_or-map height all there.0 m 0 within) ∙ there.2))
 
 module _ {F E I W IC ID IP IE WC WD WP WE : Type 0} {g : _} (k : Fields F E)
     (o : OpenedRun F E I W IC ID IP IE WC WD WP WE g) where
@@ -101,8 +104,8 @@ module _ {F E I W IC ID IP IE WC WD WP WE : Type 0} {g : _} (k : Fields F E)
   pub joined : (n b : ℕ) → top k o.params.now (run_of o) - 1 - n ≡ b →
       is_claimed k o.params.now (run_of o) b ≡ true →
       pairwise k.extension.add (folds_in k o n)
-          (at_queries k o.params.now (run_of o) (λ j q. folded k o.params.now (run_of o) j q b))
-          ≡ values_in k o (suc n)
+      (at_queries k o.params.now (run_of o) (λ j q. folded k o.params.now (run_of o) j q b))
+      ≡ values_in k o (suc n)
   joined n b height is =
       let r = run_of o in
       let add = k.extension.add in
@@ -111,9 +114,9 @@ module _ {F E I W IC ID IP IE WC WD WP WE : Type 0} {g : _} (k : Fields F E)
       ∙ ap (pairwise add (placed (fold n) 0 queries)) (zip-placed of 0 queries)
       ∙ pairwise-placed add (fold n) of 0 queries
       ∙ ap (λ c. placed (λ j q. add (fold n j q) (if c then of j q else k.extension.zero)) 0
-          queries) (sym is)
+      queries) (sym is)
       ∙ ap (λ h. placed (λ j q. add (fold n j q) (joining k o.params.now r j q h)) 0 queries)
-          (sym height)
+      (sym height)
       ∙ sym (zip-placed (value (suc n)) 0 queries)
 
   pub unjoined : RingLaws k.extension → (n b : ℕ) → top k o.params.now (run_of o) - 1 - n ≡ b →
@@ -124,11 +127,11 @@ module _ {F E I W IC ID IP IE WC WD WP WE : Type 0} {g : _} (k : Fields F E)
       let of = λ (j q : ℕ). folded k o.params.now r j q b in
       zip-placed (fold n) 0 queries
       ∙ same-placed (fold n) (λ j q. add (fold n j q) k.extension.zero) 0 queries
-          (λ i d lt. sym (add_zero laws (fold n (0 + i) (slice_index_or queries i d))))
+      (λ i d lt. sym (add_zero laws (fold n (0 + i) (slice_index_or queries i d))))
       ∙ ap (λ c. placed (λ j q. add (fold n j q) (if c then of j q else k.extension.zero)) 0
-          queries) (sym isnt)
+      queries) (sym isnt)
       ∙ ap (λ h. placed (λ j q. add (fold n j q) (joining k o.params.now r j q h)) 0 queries)
-          (sym height)
+      (sym height)
       ∙ sym (zip-placed (value (suc n)) 0 queries)
 
   -- the pairs that are asked for
@@ -138,39 +141,39 @@ module _ {F E I W IC ID IP IE WC WD WP WE : Type 0} {g : _} (k : Fields F E)
       let begin = λ (q : ℕ). pair_of {E = E} (q / 2 ^ (n + 1)) in
       ap (λ xs. asked_pairs (n + 1) queries xs siblings) (vs ∙ zip-placed (value n) 0 queries)
       ∙ ap (asked_pairs (n + 1) queries (placed (value n) 0 queries))
-          (ss ∙ zip-placed (sibling n) 0 queries)
+      (ss ∙ zip-placed (sibling n) 0 queries)
       ∙ ap (λ begun. pairwise (λ p x. p x) begun (placed (sibling n) 0 queries))
-          (pairwise-queries begin (value n) 0 queries)
+      (pairwise-queries begin (value n) 0 queries)
       ∙ pairwise-placed (λ p x. p x) (λ j q. begin q (value n j q)) (sibling n) 0 queries
 
   pub asked-rows : (n : ℕ) (values siblings : List E) → values ≡ values_in k o n →
       siblings ≡ siblings_in k o n →
       map (λ p. p ∷ []) (asked_pairs (n + 1) queries values siblings)
-          ≡ at_queries k o.params.now (run_of o) (λ j q. pair n j q ∷ [])
+      ≡ at_queries k o.params.now (run_of o) (λ j q. pair n j q ∷ [])
   asked-rows n values siblings vs ss =
       ap (map (λ p. p ∷ [])) (asked n values siblings vs ss)
-          ∙ map-placed (λ p. p ∷ []) (pair n) 0 queries
-          ∙ sym (zip-placed (λ j q. pair n j q ∷ []) 0 queries)
+      ∙ map-placed (λ p. p ∷ []) (pair n) 0 queries
+      ∙ sym (zip-placed (λ j q. pair n j q ∷ []) 0 queries)
 
   -- what they fold into
   pub folds-of : (n : ℕ) (beta : E) (twiddles : List F) (values siblings : List E) →
       o.log_max_height ≡ top k o.params.now (run_of o) →
       beta ≡ slice_index_or o.betas.now n k.extension.zero →
       twiddles ≡ map (round_twiddle k.field k.gen o.log_max_height n) queries → values ≡ values_in
-          k o n → siblings ≡ siblings_in k o n →
+      k o n → siblings ≡ siblings_in k o n →
       folds k.extension beta (map k.embed twiddles) (asked_pairs (n + 1) queries values siblings)
-          ≡ folds_in k o n
+      ≡ folds_in k o n
   folds-of n beta twiddles values siblings height is_beta ts vs ss =
       let l = k.extension in
       let b = slice_index_or o.betas.now n l.zero in
       let rows = asked_pairs (n + 1) queries values siblings in
       ap (λ x. folds l x (map k.embed twiddles) rows) is_beta
       ∙ ap (λ xs. folds l b (map k.embed xs) rows)
-          (ts ∙ ap (λ h. map (round_twiddle k.field k.gen h n) queries) height
-          ∙ itself-placed (twiddle n) 0 queries)
+      (ts ∙ ap (λ h. map (round_twiddle k.field k.gen h n) queries) height
+      ∙ itself-placed (twiddle n) 0 queries)
       ∙ ap (λ xs. folds l b xs rows) (map-placed k.embed (λ j q. twiddle n q) 0 queries)
       ∙ ap (folds l b (placed (λ j q. k.embed (twiddle n q)) 0 queries))
-          (asked n values siblings vs ss)
+      (asked n values siblings vs ss)
       ∙ pairwise-placed (fold_pair l b) (λ j q. k.embed (twiddle n q)) (pair n) 0 queries
       ∙ sym (zip-placed (fold n) 0 queries)
 
@@ -193,7 +196,7 @@ module _ {F E I W IC ID IP IE WC WD WP WE : Type 0} {g : _} (k : Fields F E)
     first-left front w e =
         let same : highest ≡ o.log_max_height - 0 = omega (arith, height) in
         (last-same front (words_below k o highest) w (highest, word_of highest)
-            (e ∙ highest-last)).0 ∙ ap (words_below k o) same
+        (e ∙ highest-last)).0 ∙ ap (words_below k o) same
 
     pub first-values : (front : List (ℕ × List E)) (w : ℕ × List E) → front ++ w ∷ []
         ≡ words_below k o (suc highest) → w.1 ≡ values_in k o 0
@@ -205,8 +208,12 @@ module _ {F E I W IC ID IP IE WC WD WP WE : Type 0} {g : _} (k : Fields F E)
     pub first-there : (ws : List (ℕ × List E)) → length ws ≡ 0 →
         ws ≡ words_below k o (suc highest) → ⊥
     first-there ws none e =
-        omega (arith, none, ap length (e ∙ highest-last),
-        length-append (words_below k o highest) ((highest, word_of highest) ∷ []))
+        omega (
+          arith,
+          none,
+          ap length (e ∙ highest-last),
+          length-append (words_below k o highest) ((highest, word_of highest) ∷ []),
+        )
 
   -- what is left, and what has joined, after the round before the height b
   module _ (height : o.log_max_height ≡ top k o.params.now (run_of o)) (n : ℕ)
@@ -236,7 +243,7 @@ module _ {F E I W IC ID IP IE WC WD WP WE : Type 0} {g : _} (k : Fields F E)
     length-due front w e is_due =
         let of = λ (j q : ℕ). folded k o.params.now (run_of o) j q due in
         let facts = last-due (is_claimed k o.params.now (run_of o)) word due front w
-            (e ∙ waiting-now) is_due in
+        (e ∙ waiting-now) is_due in
         ap length (facts.2 ∙ zip-placed of 0 queries) ∙ length-placed of 0 queries
 
     pub left-due : (front : List (ℕ × List E)) (w : ℕ × List E) → front ++ w ∷ []
@@ -251,9 +258,9 @@ module _ {F E I W IC ID IP IE WC WD WP WE : Type 0} {g : _} (k : Fields F E)
         pairwise k.extension.add (folds_in k o n) w.1 ≡ values_in k o (n + 1)
     values-due front w e is_due =
         let facts = last-due (is_claimed k o.params.now (run_of o)) word due front w
-            (e ∙ waiting-now) is_due in
+        (e ∙ waiting-now) is_due in
         ap (pairwise k.extension.add (folds_in k o n)) facts.2 ∙ joined n due at-due facts.0
-            ∙ values-then
+        ∙ values-then
 
     pub left-later : (front : List (ℕ × List E)) (w : ℕ × List E) → front ++ w ∷ []
         ≡ words_below k o (o.log_max_height - n) → w.0 ≢ due → front ++ w ∷ []
@@ -267,8 +274,8 @@ module _ {F E I W IC ID IP IE WC WD WP WE : Type 0} {g : _} (k : Fields F E)
         k o n ≡ values_in k o (n + 1)
     values-later laws front w e later =
         unjoined laws n due at-due
-            (last-later (is_claimed k o.params.now (run_of o)) word due front w (e ∙ waiting-now)
-            later).0 ∙ values-then
+        (last-later (is_claimed k o.params.now (run_of o)) word due front w (e ∙ waiting-now)
+        later).0 ∙ values-then
 
     pub left-none : (ws : List (ℕ × List E)) → length ws ≡ 0 →
         ws ≡ words_below k o (o.log_max_height - n) →

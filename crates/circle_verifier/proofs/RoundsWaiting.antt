@@ -36,7 +36,7 @@ module _ {T : Type 0} (p : ℕ → Bool) (word : ℕ → T) where
       let none : 0 + b ≡ b = omega arith in
       let pair : ℕ → ℕ × T = λ h. (h, word h) in
       ap (λ hs. map pair (filter p hs))
-          (range-more 0 b ∙ ap (λ m. range_with_len 0 b ++ m ∷ []) none)
+      (range-more 0 b ∙ ap (λ m. range_with_len 0 b ++ m ∷ []) none)
       ∙ ap (map pair) (filter-append p (range_with_len 0 b) (b ∷ []))
       ∙ map-append pair (filter p (range_with_len 0 b)) (filter p (b ∷ []))
 
@@ -54,15 +54,15 @@ module _ {T : Type 0} (p : ℕ → Bool) (word : ℕ → T) where
       All-map (λ w. w.0 < b) (λ h. (h, word h)) (filter p (range_with_len 0 b))
       (All-filter p (λ h. h < b) (range_with_len 0 b)
       (λ i d lt. let within : i < b = omega (arith, lt, length-range_with_len 0 b) in
-          omega (arith, within, get_or-range_with_len 0 b i d within)))
+      omega (arith, within, get_or-range_with_len 0 b i d within)))
 
   last-below : (b : ℕ) (front : List (ℕ × T)) (w : ℕ × T) → front ++ w ∷ [] ≡ below b → w.0 < b
   last-below b front w e =
       let all = subst (All (λ w. w.0 < b)) (sym e) (all-below b) in
       subst (λ v. v.0 < b)
-          (get_or-append_right front (w ∷ []) (length front) (length front) w refl (omega arith)
-          ∙ (let z : length front - length front ≡ 0 = omega arith in
-          ap (λ i. slice_index_or (w ∷ []) i w) z))
+      (get_or-append_right front (w ∷ []) (length front) (length front) w refl (omega arith)
+      ∙ (let z : length front - length front ≡ 0 = omega arith in
+      ap (λ i. slice_index_or (w ∷ []) i w) z))
       (all (length front) w (omega (arith, length-append front (w ∷ []))))
 
   -- the last word is that of the next height below, where there is one
@@ -71,9 +71,9 @@ module _ {T : Type 0} (p : ℕ → Bool) (word : ℕ → T) where
   last-due b front w e due =
       ⊎_elim
       (λ is. let same = last-same front (below b) w (b, word b) (e ∙ claimed-more b is) in
-          (is, same.0, ap (λ (v : ℕ × T). v.1) same.1))
+      (is, same.0, ap (λ (v : ℕ × T). v.1) same.1))
       (λ isnt. let lt = last-below b front w (e ∙ unclaimed-more b isnt) in
-          absurd (omega (arith, lt, due)))
+      absurd (omega (arith, lt, due)))
       (cases_Bool (p b))
 
   pub last-later : (b : ℕ) (front : List (ℕ × T)) (w : ℕ × T) → front ++ w ∷ [] ≡ below (suc b) →
@@ -81,7 +81,7 @@ module _ {T : Type 0} (p : ℕ → Bool) (word : ℕ → T) where
   last-later b front w e later =
       ⊎_elim
       (λ is. let same = last-same front (below b) w (b, word b) (e ∙ claimed-more b is) in
-          absurd (later (ap (λ (v : ℕ × T). v.0) same.1)))
+      absurd (later (ap (λ (v : ℕ × T). v.0) same.1)))
       (λ isnt. (isnt, e ∙ unclaimed-more b isnt))
       (cases_Bool (p b))
 
@@ -89,7 +89,10 @@ module _ {T : Type 0} (p : ℕ → Bool) (word : ℕ → T) where
   none-left b e =
       ⊎_elim
       (λ is. absurd
-          (omega (arith, ap length (e ∙ claimed-more b is),
-          length-append (below b) ((b, word b) ∷ []))))
+      (omega (
+        arith,
+        ap length (e ∙ claimed-more b is),
+        length-append (below b) ((b, word b) ∷ []),
+      )))
       (λ isnt. (isnt, e ∙ unclaimed-more b isnt))
       (cases_Bool (p b))

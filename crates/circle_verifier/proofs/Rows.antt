@@ -49,8 +49,8 @@ module _ {F E M Com InputCom InputProof WordProof : Type 0} (fields : Fields F E
       (words : Authenticates Com E WordProof) (input_memory : IE → Bool) (word_memory : WE → Bool)
       (Authenticated : Type 0) (e : FriError WE (InputError IE WE)) →
       (InputsAuthenticate fields params r inputs → Authenticated) →
-          RefusesRows input_memory Authenticated e →
-          IsReason fields params r inputs words input_memory word_memory e
+      RefusesRows input_memory Authenticated e →
+      IsReason fields params r inputs words input_memory word_memory e
   unfolding IsReason
   rows-reason inputs words input_memory word_memory Authenticated (OfInput (InputMmcsError d))
       of_all why = (why.0, λ all. why.1 (of_all all))
@@ -69,16 +69,16 @@ module _ {E : Type 0} (blowup : ℕ) where
     pub batch-within : (bs : List (CommitmentOpening E Com (CircleDomain F g))) (i : ℕ)
         (b : CommitmentOpening E Com (CircleDomain F g)) →
         log_max_height blowup (all_matrices (batch_claims bs)) ≤ top → i < length bs →
-            b ≡ get_or bs i b → All (λ m. log_size m.domain + blowup ≤ top) b.matrices.items
+        b ≡ get_or bs i b → All (λ m. log_size m.domain + blowup ≤ top) b.matrices.items
     batch-within bs i b most within is =
         let P : MatrixClaim E → Type 0 = λ m. log_height blowup m ≤ top in
         let there = slice_get-map batch_claim bs i
-            ∙ ap (option_map batch_claim) (slice_get_read bs (length bs) i b refl within is) in
+        ∙ ap (option_map batch_claim) (slice_get_read bs (length bs) i b refl within is) in
         let all : All P (matrix_claims b.matrices.items) =
-            All-part P (λ d. d.matrices) (batch_claims bs) i (batch_claim b)
-            (all-within (all_matrices (batch_claims bs)) top most) there in
+        All-part P (λ d. d.matrices) (batch_claims bs) i (batch_claim b)
+        (all-within (all_matrices (batch_claims bs)) top most) there in
         λ k d lt. subst P (get_or-map matrix_claim b.matrices.items k d (matrix_claim d) lt)
-            (all k (matrix_claim d) (omega (arith, lt, length-map b.matrices.items matrix_claim)))
+        (all k (matrix_claim d) (omega (arith, lt, length-map b.matrices.items matrix_claim)))
 
 -- a refusal that is handed on
 pub handed-on : {A E : Type 0} (P : E → Type 0) (result : Result A E) (e : E) →
@@ -96,7 +96,7 @@ module _ {X Y A B : Type 0} (f : X → A) (h : Y → B) (xs : List X) (ys : List
       y ≡ get_or ys i y → get_or (zip (map f xs) (map h ys)) i (f x, h y) ≡ (f x, h y)
   pair-at i x y first second is is' =
       get_or-zip (map f xs) (map h ys) i (f x, h y) (omega (arith, length-map xs f))
-          (omega (arith, length-map ys h))
+      (omega (arith, length-map ys h))
       ∙ ap (λ a. (a, get_or (map h ys) i (h y))) (get_or-map f xs i x (f x) first ∙ ap f (sym is))
       ∙ ap (λ b. (f x, b)) (get_or-map h ys i y (h y) second ∙ ap h (sym is'))
 
@@ -114,4 +114,4 @@ module _ {X Y A B : Type 0} (f : X → A) (h : Y → B) (xs : List X) (ys : List
         let pairs = zip (map f xs) (map h ys) in
         subst (λ m. All P (take m pairs)) (sym next)
         (All-more P pairs i (f x, h y) (omega (arith, pairs-length)) before
-            (subst P (sym (pair-at i x y first second is is')) here))
+        (subst P (sym (pair-at i x y first second is is')) here))

@@ -31,7 +31,7 @@ use Rattle.circle_verifier.proofs.HeightTests.{raised}
 module _ {F E M Com WordCom InputProof WordProof C A B : Type 0} (two : ℕ) (is_zero : F → Bool)
     (is_infinite : E → Bool)
     (p : FriParameters M) (batches : List (BatchClaim Com E))
-        (proof : OpeningProof F E WordCom InputProof WordProof) where
+    (proof : OpeningProof F E WordCom InputProof WordProof) where
   abbrev pub claims_part : List (Test (FriError C (InputError A B)))
   claims_part = claim_tests two p.log_blowup p.log_final_poly_len (log_sizes (all_matrices batches))
 
@@ -41,8 +41,8 @@ module _ {F E M Com WordCom InputProof WordProof C A B : Type 0} (two : ℕ) (is
   abbrev pub shape_part : List (Test (FriError C (InputError A B)))
   shape_part =
       shape_tests is_zero p
-          (log_max_height p.log_blowup (all_matrices batches) - 1 - p.log_blowup -
-          p.log_final_poly_len) (length proof.commitments) proof.witnesses proof.query_witness
+      (log_max_height p.log_blowup (all_matrices batches) - 1 - p.log_blowup -
+      p.log_final_poly_len) (length proof.commitments) proof.witnesses proof.query_witness
       (map (λ o. map (λ values. length values) o.entries) proof.rounds_opened)
 
   abbrev pub final_part : List (Test (FriError C (InputError A B)))
@@ -69,14 +69,14 @@ module _ {F E M Com WordCom InputProof WordProof C A B : Type 0} (two : ℕ) (is
         answer parameters_part (tt {0}) ≡ Err e → answer all_parts v ≡ Err e
     parameters_refuse u w first is =
         ap (λ ts. answer ts v) parts-are ∙ front_passes claims_part _ u w v first
-            ∙ front_refuses parameters_part _ (tt {0}) v e is
+        ∙ front_refuses parameters_part _ (tt {0}) v e is
 
     pub shape_refuses : {U : Type 0} (u w : U) → answer claims_part u ≡ Ok w →
         answer parameters_part (tt {0}) ≡ Ok (tt {0}) → answer shape_part (tt {0}) ≡ Err e →
         answer all_parts v ≡ Err e
     shape_refuses u w first second is =
         ap (λ ts. answer ts v) parts-are ∙ front_passes claims_part _ u w v first
-            ∙ front_passes parameters_part _ (tt {0}) (tt {0}) v second
+        ∙ front_passes parameters_part _ (tt {0}) (tt {0}) v second
         ∙ front_refuses shape_part _ (tt {0}) v e is
 
     pub final_refuses : {U : Type 0} (u w : U) → answer claims_part u ≡ Ok w →
@@ -84,30 +84,30 @@ module _ {F E M Com WordCom InputProof WordProof C A B : Type 0} (two : ℕ) (is
         → answer final_part (tt {0}) ≡ Err e → answer all_parts v ≡ Err e
     final_refuses u w first second third is =
         ap (λ ts. answer ts v) parts-are ∙ front_passes claims_part _ u w v first
-            ∙ front_passes parameters_part _ (tt {0}) (tt {0}) v second
+        ∙ front_passes parameters_part _ (tt {0}) (tt {0}) v second
         ∙ front_passes shape_part _ (tt {0}) (tt {0}) v third
-            ∙ front_refuses final_part _ (tt {0}) v e is
+        ∙ front_refuses final_part _ (tt {0}) v e is
 
     pub points_refuse : {U : Type 0} (u w : U) → answer claims_part u ≡ Ok w →
         answer parameters_part (tt {0}) ≡ Ok (tt {0}) → answer shape_part (tt {0}) ≡ Ok (tt {0})
         → answer final_part (tt {0}) ≡ Ok (tt {0}) → answer points_part (tt {0}) ≡ Err e →
-            answer all_parts v ≡ Err e
+        answer all_parts v ≡ Err e
     points_refuse u w first second third fourth is =
         ap (λ ts. answer ts v) parts-are ∙ front_passes claims_part _ u w v first
-            ∙ front_passes parameters_part _ (tt {0}) (tt {0}) v second
+        ∙ front_passes parameters_part _ (tt {0}) (tt {0}) v second
         ∙ front_passes shape_part _ (tt {0}) (tt {0}) v third
-            ∙ front_passes final_part _ (tt {0}) (tt {0}) v fourth
-            ∙ front_refuses points_part [] (tt {0}) v e is
+        ∙ front_passes final_part _ (tt {0}) (tt {0}) v fourth
+        ∙ front_refuses points_part [] (tt {0}) v e is
 
   pub none_refuses : {U V : Type 0} (v : V) (u w : U) → answer claims_part u ≡ Ok w →
       answer parameters_part (tt {0}) ≡ Ok (tt {0}) → answer shape_part (tt {0}) ≡ Ok (tt {0})
       → answer final_part (tt {0}) ≡ Ok (tt {0}) → answer points_part (tt {0}) ≡ Ok (tt {0}) →
-          answer all_parts v ≡ Ok v
+      answer all_parts v ≡ Ok v
   none_refuses v u w first second third fourth fifth =
       ap (λ ts. answer ts v) parts-are ∙ front_passes claims_part _ u w v first
-          ∙ front_passes parameters_part _ (tt {0}) (tt {0}) v second
+      ∙ front_passes parameters_part _ (tt {0}) (tt {0}) v second
       ∙ front_passes shape_part _ (tt {0}) (tt {0}) v third
-          ∙ front_passes final_part _ (tt {0}) (tt {0}) v fourth
+      ∙ front_passes final_part _ (tt {0}) (tt {0}) v fourth
       ∙ passes points_part v (passed points_part (tt {0}) (tt {0}) fifth)
 
 module _ (C A B : Type 0) (two blowup final : ℕ) where
@@ -138,7 +138,7 @@ height_of_claims blowup (m ∷ ms) some = raised blowup m ms
 pub claims_known : {E : Type 0} (C A B : Type 0) (two blowup final : ℕ) (ms : List (MatrixClaim E))
     (w : ℕ) →
     answer (claim_tests {C = C} {A = A} {B = B} two blowup final (log_sizes ms))
-        (log_max_height blowup ms) ≡ Ok w →
+    (log_max_height blowup ms) ≡ Ok w →
     (blowup + final + 1 ≤ w) × (w < two) × (log_max_height blowup ms ≡ w)
 claims_known C A B two blowup final ms w answered =
     let tests = claim_tests {C = C} {A = A} {B = B} two blowup final (log_sizes ms) in
@@ -153,13 +153,13 @@ claims_known C A B two blowup final ms w answered =
 round_lengths : {E W WC WD WP WE : Type 0}
     (os : List (CircleCommitPhaseMultiStep E W WC WD WP WE)) →
     map (λ o. map vec_len o.sibling_values.items) os
-        ≡ map (λ o. map (λ values. length values) o.entries) (map opened_round os)
+    ≡ map (λ o. map (λ values. length values) o.entries) (map opened_round os)
 round_lengths [] = refl
 round_lengths (o ∷ os) =
     ap (λ ns. ns ∷ map (λ o. map vec_len o.sibling_values.items) os) (each o.sibling_values.items)
     ∙ ap
-        (λ rest. map (λ values. length values)
-        (map (λ siblings. siblings.items) o.sibling_values.items) ∷ rest) (round_lengths os)
+    (λ rest. map (λ values. length values)
+    (map (λ siblings. siblings.items) o.sibling_values.items) ∷ rest) (round_lengths os)
   where
     each : {E : Type 0} (vs : List (Vec E Global)) →
         map vec_len vs ≡ map (λ values. length values) (map (λ siblings. siblings.items) vs)
@@ -170,7 +170,7 @@ round_lengths (o ∷ os) =
 pub siblings_counted : {E W WC WD WP WE : Type 0}
     (os : List (CircleCommitPhaseMultiStep E W WC WD WP WE)) →
     map (λ o. map vec_len o.sibling_values.items) os
-        ≡ map (λ o. map (λ values. length values) o.entries) (map opened_round os)
+    ≡ map (λ o. map (λ values. length values) o.entries) (map opened_round os)
 siblings_counted os = round_lengths os
 
 -- the tests of a proof's lengths, where the greatest height is known
@@ -178,42 +178,42 @@ pub shape_same : {F E M WC WD WP WE I Com C D V : Type 0} (is_zero : F → Bool)
     (fri : CircleFriProof E M F I WC WD WP WE) (batches : List (BatchClaim Com E)) (top : ℕ) →
     log_max_height p.log_blowup (all_matrices batches) ≡ top →
     answer {A = Unit {0}}
-        (shape_tests {C = C} {I = D} is_zero p
-        (log_max_height p.log_blowup (all_matrices batches) - 1 - p.log_blowup -
-        p.log_final_poly_len) (length fri.commit_phase_commits.items)
+    (shape_tests {C = C} {I = D} is_zero p
+    (log_max_height p.log_blowup (all_matrices batches) - 1 - p.log_blowup -
+    p.log_final_poly_len) (length fri.commit_phase_commits.items)
     fri.commit_pow_witnesses.items fri.pow_witness
-        (map (λ o. map (λ values. length values) o.entries)
-        (map opened_round fri.commit_phase_openings.items))) (tt {0})
+    (map (λ o. map (λ values. length values) o.entries)
+    (map opened_round fri.commit_phase_openings.items))) (tt {0})
     ≡ answer
-        (shape_tests is_zero p (top - 1 - p.log_blowup - p.log_final_poly_len)
-        (vec_len fri.commit_phase_commits) fri.commit_pow_witnesses.items fri.pow_witness
+    (shape_tests is_zero p (top - 1 - p.log_blowup - p.log_final_poly_len)
+    (vec_len fri.commit_phase_commits) fri.commit_pow_witnesses.items fri.pow_witness
     (map (λ o. map vec_len o.sibling_values.items) fri.commit_phase_openings.items)) (tt {0})
 shape_same {C = C} {D = D} is_zero p fri batches top is =
     ap
-        (λ n. answer {A = Unit {0}}
-        (shape_tests {C = C} {I = D} is_zero p (n - 1 - p.log_blowup - p.log_final_poly_len)
-        (length fri.commit_phase_commits.items)
+    (λ n. answer {A = Unit {0}}
+    (shape_tests {C = C} {I = D} is_zero p (n - 1 - p.log_blowup - p.log_final_poly_len)
+    (length fri.commit_phase_commits.items)
     fri.commit_pow_witnesses.items fri.pow_witness
-        (map (λ o. map (λ values. length values) o.entries)
-        (map opened_round fri.commit_phase_openings.items))) (tt {0})) is
+    (map (λ o. map (λ values. length values) o.entries)
+    (map opened_round fri.commit_phase_openings.items))) (tt {0})) is
     ∙ ap
-        (λ n. answer {A = Unit {0}}
-        (shape_tests {C = C} {I = D} is_zero p (top - 1 - p.log_blowup - p.log_final_poly_len) n
+    (λ n. answer {A = Unit {0}}
+    (shape_tests {C = C} {I = D} is_zero p (top - 1 - p.log_blowup - p.log_final_poly_len) n
     fri.commit_pow_witnesses.items fri.pow_witness
-        (map (λ o. map (λ values. length values) o.entries)
-        (map opened_round fri.commit_phase_openings.items))) (tt {0}))
-        (sym fri.commit_phase_commits.ok.0)
+    (map (λ o. map (λ values. length values) o.entries)
+    (map opened_round fri.commit_phase_openings.items))) (tt {0}))
+    (sym fri.commit_phase_commits.ok.0)
     ∙ ap
-        (λ ns. answer {A = Unit {0}}
-        (shape_tests {C = C} {I = D} is_zero p (top - 1 - p.log_blowup - p.log_final_poly_len)
-        (vec_len fri.commit_phase_commits)
+    (λ ns. answer {A = Unit {0}}
+    (shape_tests {C = C} {I = D} is_zero p (top - 1 - p.log_blowup - p.log_final_poly_len)
+    (vec_len fri.commit_phase_commits)
     fri.commit_pow_witnesses.items fri.pow_witness ns) (tt {0}))
-        (sym (siblings_counted fri.commit_phase_openings.items))
+    (sym (siblings_counted fri.commit_phase_openings.items))
 
 -- the test of the final polynomial, and those of points
 pub final_same : {E R C D : Type 0} (final : ℕ) (v : Vec E R) (got : ℕ) → got ≡ vec_len v →
     answer {A = Unit {0}} (final_test {C = C} {I = D} final (length v.items) ∷ []) (tt {0})
-        ≡ answer (final_test final got ∷ []) (tt {0})
+    ≡ answer (final_test final got ∷ []) (tt {0})
 final_same {C = C} {D = D} final v got is =
     ap (λ n. answer {A = Unit {0}} (final_test {C = C} {I = D} final n ∷ []) (tt {0}))
     (sym (is ∙ v.ok.0))
@@ -237,13 +237,13 @@ points_same test (p ∷ ps) = ap (λ b. test p.point || b) (points_same test ps)
 matrices_same : {E F : Type 0} {g : Ghosts F} (test : E → Bool)
     (ms : List (MatrixOpening E (CircleDomain F g))) →
     list_any (λ m. list_any (λ p. test p.point) m.points.items) ms
-        ≡ some_claim test (matrix_claims ms)
+    ≡ some_claim test (matrix_claims ms)
 matrices_same test [] = refl
 matrices_same test (m ∷ ms) =
     ap (λ b. b || list_any (λ m. list_any (λ p. test p.point) m.points.items) ms)
-        (points_same test m.points.items)
+    (points_same test m.points.items)
     ∙ ap (λ b. list_any (λ c. test c.point) (map point_claim m.points.items) || b)
-        (matrices_same test ms)
+    (matrices_same test ms)
 
 pub points_claimed : {E F Com : Type 0} {g : Ghosts F} (test : E → Bool)
     (bs : List (CommitmentOpening E Com (CircleDomain F g))) →
@@ -253,13 +253,13 @@ points_claimed test (b ∷ bs) =
     ap (λ t. t || some_point test bs) (matrices_same test b.matrices.items)
     ∙ ap (λ t. some_claim test (matrix_claims b.matrices.items) || t) (points_claimed test bs)
     ∙ sym (any-append (λ m. list_any (λ c. test c.point) m.claims) (matrix_claims b.matrices.items)
-        (all_matrices (batch_claims bs)))
+    (all_matrices (batch_claims bs)))
 
 pub points_same_tests : {E F Com M C D : Type 0} {g : Ghosts F} (p : FriParameters M)
     (is_zero : Bool) (test : E → Bool) (bs : List (CommitmentOpening E Com (CircleDomain F g))) →
     answer {A = Unit {0}}
-        (point_tests {C = C} {I = D} p is_zero (some_claim test (all_matrices (batch_claims bs))))
-        (tt {0}) ≡ answer (point_tests p is_zero (some_point test bs)) (tt {0})
+    (point_tests {C = C} {I = D} p is_zero (some_claim test (all_matrices (batch_claims bs))))
+    (tt {0}) ≡ answer (point_tests p is_zero (some_point test bs)) (tt {0})
 points_same_tests {C = C} {D = D} p is_zero test bs =
     ap (λ b. answer {A = Unit {0}} (point_tests {C = C} {I = D} p is_zero b) (tt {0}))
     (sym (points_claimed test bs))

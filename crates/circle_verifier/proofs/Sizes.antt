@@ -28,7 +28,7 @@ all-larger final ms none large = λ k d lt.
     let here : final + 1 ≤ n = large k d lt in
     ⊎_elim
     (λ same. absurd (let e : true ≡ false =
-        sym (list_any_at (λ m. m.log_n == final + 1) ms k d lt (eq-eqb n (final + 1) same))
-        ∙ none in cc))
+    sym (list_any_at (λ m. m.log_n == final + 1) ms k d lt (eq-eqb n (final + 1) same))
+    ∙ none in cc))
     (λ other. omega arith)
     (cases_eq n (final + 1))

@@ -26,8 +26,12 @@ module _ {S A B : Type 0} (v : A → B) (f : S → List A) (x : S) (xs : List S)
   counted = sym (length-map (f x) v ∙ long)
 
   pub part-within : n ≤ length joined
-  part-within = omega (arith, ap length cut, length-append (map v (f x)) (map v (flat_map f xs)),
-      counted)
+  part-within = omega (
+    arith,
+    ap length cut,
+    length-append (map v (f x)) (map v (flat_map f xs)),
+    counted,
+  )
 
   pub first-part : take n joined ≡ map v (f x)
   first-part = ap (take n) cut ∙ ap (λ m. take m (map v (f x) ++ map v (flat_map f xs))) counted
@@ -52,14 +56,14 @@ module _ {A : Type 0} (f : ℕ → List A) where
       let next : suc n ≡ n + 1 = omega arith in
       let longer = range-more 0 n ∙ ap (λ m. range_with_len 0 n ++ m ∷ []) none in
       flat_map_more f [] (range_with_len 0 n) n
-          ∙ ap (flat_map f) (sym longer ∙ ap (range_with_len 0) next)
+      ∙ ap (flat_map f) (sym longer ∙ ap (range_with_len 0) next)
 
 -- of the inverses of the rounds from one on, its own, and the others
 pub next-inverses : {F : Type 0} (k : FieldOps F) (gen : ℕ → Coordinates F) (h : ℕ)
     (queries : List ℕ) {later : List F} (n rounds : ℕ) → n < rounds →
     later ≡ inverses_from k gen h queries n (rounds - n) →
     (length queries ≤ length later)
-        × (take (length queries) later ≡ map k.inv (round_twiddles k gen h n queries))
+    × (take (length queries) later ≡ map k.inv (round_twiddles k gen h n queries))
     × (drop (length queries) later ≡ inverses_from k gen h queries (n + 1) (rounds - (n + 1)))
 next-inverses k gen h queries n rounds lt are =
     let twiddles = λ (r : ℕ). round_twiddles k gen h r queries in

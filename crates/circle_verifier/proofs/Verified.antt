@@ -21,7 +21,7 @@ use Rattle.circle_relation.specs.Taken.{drawn_by}
 module _ {F E M Com WordCom InputProof WordProof : Type 0} (k : Fields F E) (is_zero : F → Bool)
     (is_infinite : E → Bool) (p : FriParameters M)
     (batches : List (BatchClaim Com E)) (proof : OpeningProof F E WordCom InputProof WordProof)
-        (drawn : Challenges E) where
+    (drawn : Challenges E) where
   abbrev r : Run F E WordCom Com InputProof WordProof
   r = record { batches = batches; proof = proof; drawn = drawn }
 
@@ -41,11 +41,11 @@ module _ {F E M Com WordCom InputProof WordProof : Type 0} (k : Fields F E) (is_
     pub accepted : {inputs : Authenticates Com F InputProof}
         {words : Authenticates WordCom E WordProof} →
         ((w : F) → is_zero w ≡ true → w ≡ k.field.zero) →
-            ((t : E) → is_infinite t ≡ false → IsFinite k.extension t) →
+        ((t : E) → is_infinite t ≡ false → IsFinite k.extension t) →
         IsTested k.two_adicity is_zero is_infinite p batches proof → HasInputs k p r →
-            All (λ m. 1 ≤ length m.claims) (matrices k p r) →
+        All (λ m. 1 ≤ length m.claims) (matrices k p r) →
         All (λ m. p.log_final_poly_len + 2 ≤ m.log_n) (matrices k p r) →
-            HoldsWith k p r inputs words → Accepts k p r inputs words
+        HoldsWith k p r inputs words → Accepts k p r inputs words
     accepted null finite t shape claimed large holds = record {
       fit = record {
         some_matrix = t.some_matrix;
@@ -74,7 +74,7 @@ module _ {F E M Com WordCom InputProof WordProof : Type 0} (k : Fields F E) (is_
     pub tested : {inputs : Authenticates Com F InputProof}
         {words : Authenticates WordCom E WordProof} →
         ((w : F) → w ≡ k.field.zero → is_zero w ≡ true) →
-            ((t : E) → IsFinite k.extension t → is_infinite t ≡ false) →
+        ((t : E) → IsFinite k.extension t → is_infinite t ≡ false) →
         Accepts k p r inputs words → IsTested k.two_adicity is_zero is_infinite p batches proof
     tested null finite a =
         let f = a.fit in
@@ -141,66 +141,70 @@ challenges-told {S = S} {F = F} f told c d s t same =
     let betas = map-told f told c.betas d.betas (ap (λ (x : Drawn S F). x.betas) same) in
     let queries : c.queries ≡ d.queries = ap (λ (x : Drawn S F). x.indices) same in
     ap (λ x. record { alpha = x; bivariate = c.bivariate; betas = c.betas; queries = c.queries })
-        alpha
+    alpha
     ∙ ap (λ x. record { alpha = d.alpha; bivariate = x; betas = c.betas; queries = c.queries })
-        bivariate
+    bivariate
     ∙ ap (λ x. record { alpha = d.alpha; bivariate = d.bivariate; betas = x; queries = c.queries })
-        betas
+    betas
     ∙ ap (λ x. record { alpha = d.alpha; bivariate = d.bivariate; betas = d.betas; queries = x })
-        queries
+    queries
 
 module _ {F E I W IC ID IP IE WC WD WP WE : Type 0} {g : Ghosts F} (k : Fields F E)
     (o : OpenedRun F E I W IC ID IP IE WC WD WP WE g)
     (p : FriParameters W) (r : Run F E WC IC IP WP) (params : o.params.now ≡ p) (run : run_of o ≡ r)
-        where
-  -- a run of which all is known that is tested before its challenges are drawn
-  pub is_drawn : o.log_max_height ≡ top k p r → o.log_max_height < k.two_adicity →
-      1 ≤ p.log_blowup → 1 ≤ length (matrices k p r) →
-      All (λ m. p.log_final_poly_len + 1 ≤ m.log_n) (matrices k p r) →
-          All (λ m. All (λ c. IsFinite k.extension c.point) m.claims) (matrices k p r) →
-      HasRounds k p r → length r.drawn.betas ≡ rounds k p r →
-          All (λ q. q < 2 ^ o.log_max_height) r.drawn.queries → IsDrawn k o
-  is_drawn high low blowup some large finite shape betas below =
-      let at = λ (P : FriParameters W → Run F E WC IC IP WP → Type 0) (h : P p r). subst
-          (λ q. P q (run_of o)) (sym params) (subst (P p) (sym run) h) in
-      record {
-        top = at (λ q x. o.log_max_height ≡ top k q x) high;
-        in_group = low;
-        blowup = at (λ q x. 1 ≤ q.log_blowup) blowup;
-        some_matrix = at (λ q x. 1 ≤ length (matrices k q x)) some;
-        large = at (λ q x. All (λ m. q.log_final_poly_len + 1 ≤ m.log_n) (matrices k q x)) large;
-        finite =
-            at (λ q x. All (λ m. All (λ c. IsFinite k.extension c.point) m.claims) (matrices k q x))
-            finite;
-        shape = at (λ q x. HasRounds k q x) shape;
-        betas = at (λ q x. length x.drawn.betas ≡ rounds k q x) betas;
-        below = at (λ q x. All (λ i. i < 2 ^ o.log_max_height) x.drawn.queries) below;
-      }
+  where
+    -- a run of which all is known that is tested before its challenges are drawn
+    pub is_drawn : o.log_max_height ≡ top k p r → o.log_max_height < k.two_adicity →
+        1 ≤ p.log_blowup → 1 ≤ length (matrices k p r) →
+        All (λ m. p.log_final_poly_len + 1 ≤ m.log_n) (matrices k p r) →
+        All (λ m. All (λ c. IsFinite k.extension c.point) m.claims) (matrices k p r) →
+        HasRounds k p r → length r.drawn.betas ≡ rounds k p r →
+        All (λ q. q < 2 ^ o.log_max_height) r.drawn.queries → IsDrawn k o
+    is_drawn high low blowup some large finite shape betas below =
+        let at = λ (P : FriParameters W → Run F E WC IC IP WP → Type 0) (h : P p r). subst
+        (λ q. P q (run_of o)) (sym params) (subst (P p) (sym run) h) in
+        record {
+          top = at (λ q x. o.log_max_height ≡ top k q x) high;
+          in_group = low;
+          blowup = at (λ q x. 1 ≤ q.log_blowup) blowup;
+          some_matrix = at (λ q x. 1 ≤ length (matrices k q x)) some;
+          large = at (λ q x. All (λ m. q.log_final_poly_len + 1 ≤ m.log_n) (matrices k q x)) large;
+          finite =
+              at
+              (λ q x. All (λ m. All (λ c. IsFinite k.extension c.point) m.claims)
+              (matrices k q x))
+              finite;
+          shape = at (λ q x. HasRounds k q x) shape;
+          betas = at (λ q x. length x.drawn.betas ≡ rounds k q x) betas;
+          below = at (λ q x. All (λ i. i < 2 ^ o.log_max_height) x.drawn.queries) below;
+        }
 
-  module _ (mmcs : I) (same : o.mmcs.now ≡ mmcs) (inputs : I → Authenticates IC F IP)
-      (words : W → Authenticates WC E WP) where
-    -- what holds of the run, in terms of its parts
-    moved : (P : I → FriParameters W → Run F E WC IC IP WP → Type 0) →
-        P o.mmcs.now o.params.now (run_of o) → P mmcs p r
-    moved P h =
-        subst (λ x. P mmcs p x) run
-        (subst (λ q. P mmcs q (run_of o)) params (subst (λ x. P x o.params.now (run_of o)) same h))
+    module _ (mmcs : I) (same : o.mmcs.now ≡ mmcs) (inputs : I → Authenticates IC F IP)
+        (words : W → Authenticates WC E WP) where
+      -- what holds of the run, in terms of its parts
+      moved : (P : I → FriParameters W → Run F E WC IC IP WP → Type 0) →
+          P o.mmcs.now o.params.now (run_of o) → P mmcs p r
+      moved P h =
+          subst (λ x. P mmcs p x) run
+          (subst (λ q. P mmcs q (run_of o)) params
+          (subst (λ x. P x o.params.now (run_of o)) same h))
 
-    pub shape-of : IsOpened k o → HasInputs k p r
-    shape-of h = moved (λ x q y. HasInputs k q y) h.shape
+      pub shape-of : IsOpened k o → HasInputs k p r
+      shape-of h = moved (λ x q y. HasInputs k q y) h.shape
 
-    pub claimed-of : IsOpened k o → All (λ m. 1 ≤ length m.claims) (matrices k p r)
-    claimed-of h = moved (λ x q y. All (λ m. 1 ≤ length m.claims) (matrices k q y)) h.claimed
+      pub claimed-of : IsOpened k o → All (λ m. 1 ≤ length m.claims) (matrices k p r)
+      claimed-of h = moved (λ x q y. All (λ m. 1 ≤ length m.claims) (matrices k q y)) h.claimed
 
-    pub large-of : IsOpened k o → All (λ m. p.log_final_poly_len + 2 ≤ m.log_n) (matrices k p r)
-    large-of h = moved (λ x q y. All (λ m. q.log_final_poly_len + 2 ≤ m.log_n) (matrices k q y))
-        h.large
+      pub large-of : IsOpened k o → All (λ m. p.log_final_poly_len + 2 ≤ m.log_n) (matrices k p r)
+      large-of h = moved (λ x q y. All (λ m. q.log_final_poly_len + 2 ≤ m.log_n) (matrices k q y))
+          h.large
 
-    pub holds-of : Holds k o inputs words → HoldsWith k p r (inputs mmcs) (words p.mmcs)
-    holds-of h = moved (λ x q y. HoldsWith k q y (inputs x) (words q.mmcs)) h
+      pub holds-of : Holds k o inputs words → HoldsWith k p r (inputs mmcs) (words p.mmcs)
+      holds-of h = moved (λ x q y. HoldsWith k q y (inputs x) (words q.mmcs)) h
 
-    pub reason-of : (input_memory : IE → Bool) (word_memory : WE → Bool)
-        (e : FriError WE (InputError IE WE)) → Refuses k o inputs words input_memory word_memory e →
-        IsReason k p r (inputs mmcs) (words p.mmcs) input_memory word_memory e
-    reason-of input_memory word_memory e h =
-        moved (λ x q y. IsReason k q y (inputs x) (words q.mmcs) input_memory word_memory e) h
+      pub reason-of : (input_memory : IE → Bool) (word_memory : WE → Bool)
+          (e : FriError WE (InputError IE WE)) →
+          Refuses k o inputs words input_memory word_memory e →
+          IsReason k p r (inputs mmcs) (words p.mmcs) input_memory word_memory e
+      reason-of input_memory word_memory e h =
+          moved (λ x q y. IsReason k q y (inputs x) (words q.mmcs) input_memory word_memory e) h

@@ -35,8 +35,8 @@ constant-text degree shape is =
     separator (if f == 0 then 1 else 2) (codes "p3-circle-pcs")
     (batch_steps degree (claimed_widths s) s.batch_pow_bits
     ++
-        (first_layer_steps degree
-        ++ (rounds_steps degree s.commit_pow_bits s.num_commit_rounds
-        ++ query_steps degree f s.query_pow_bits s.index_bits s.num_queries)))
+    (first_layer_steps degree
+    ++ (rounds_steps degree s.commit_pow_bits s.num_commit_rounds
+    ++ query_steps degree f s.query_pow_bits s.index_bits s.num_queries)))
     (be64 s.log_blowup ∷ layout s.opened_widths ∷ (if f == 0 then [] else be64 f ∷ [])) in
     ap (λ f. seed_text (made f)) is

@@ -15,7 +15,7 @@ one_value l laws c x = laws.add_comm (l.mul c l.one) l.zero ∙ laws.zero_add (l
 module _ {F E M Com InputCom InputProof WordProof : Type 0} (fields : Fields F E)
     (params : FriParameters M) (r : Run F E Com InputCom InputProof WordProof)
     (inputs : Authenticates InputCom F InputProof) (words : Authenticates Com E WordProof)
-        (laws : RingLaws fields.extension) where
+    (laws : RingLaws fields.extension) where
   ends : (c : E) → r.proof.final_poly ≡ c ∷ [] → (j q : ℕ) → final_value fields params r j q ≡ c
   ends c is j q = ap (λ cs. x_value fields.extension cs (fields.embed (last_x fields params r j q)))
       is ∙ one_value fields.extension laws c (fields.embed (last_x fields params r j q))

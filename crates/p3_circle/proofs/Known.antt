@@ -117,13 +117,13 @@ module _ {T X : Type 0} (C I : Type 0) (entries : X → List (List T)) (queries 
   rounds-from round (o ∷ os) all =
       let lengths = map (λ v. length v) (entries o) in
       let first =
-          pass-front (round_tests {C = C} {I = I} queries round lengths)
-          (rounds_tests {C = C} {I = I} queries (round + 1)
-          (map (λ o. map (λ v. length v) (entries o)) os)) all in
+      pass-front (round_tests {C = C} {I = I} queries round lengths)
+      (rounds_tests {C = C} {I = I} queries (round + 1)
+      (map (λ o. map (λ v. length v) (entries o)) os)) all in
       let rest =
-          pass-back (round_tests {C = C} {I = I} queries round lengths)
-          (rounds_tests {C = C} {I = I} queries (round + 1)
-          (map (λ o. map (λ v. length v) (entries o)) os)) all in (
+      pass-back (round_tests {C = C} {I = I} queries round lengths)
+      (rounds_tests {C = C} {I = I} queries (round + 1)
+      (map (λ o. map (λ v. length v) (entries o)) os)) all in (
         (
           sym (length-map (entries o) (λ v. length v)) ∙ same-from (length lengths) queries first.0,
           All-from_recursion (λ v. length v ≡ 1) (entries o)
@@ -140,8 +140,8 @@ module _ {T X : Type 0} (C I : Type 0) (entries : X → List (List T)) (queries 
   rounds-to round (o ∷ os) all =
       let lengths = map (λ v. length v) (entries o) in
       pass-both (round_tests {C = C} {I = I} queries round lengths)
-          (rounds_tests {C = C} {I = I} queries (round + 1)
-          (map (λ o. map (λ v. length v) (entries o)) os)) (
+      (rounds_tests {C = C} {I = I} queries (round + 1)
+      (map (λ o. map (λ v. length v) (entries o)) os)) (
         same-to (length lengths) queries (length-map (entries o) (λ v. length v) ∙ all.0.0),
         siblings-to C I round (entries o)
             (recursion_from_All (λ v. length v ≡ 1) (entries o) all.0.1),
@@ -152,34 +152,38 @@ claims-from : {E : Type 0} (test : E → Bool) (ms : List (MatrixClaim E)) → s
     ≡ false → All (λ m. All (λ c. test c.point ≡ false) m.claims) ms
 claims-from test ms h =
     All-from_recursion (λ m. All (λ c. test c.point ≡ false) m.claims) ms
-        (each ms (none-from (λ m. list_any (λ c. test c.point) m.claims) ms h))
+    (each ms (none-from (λ m. list_any (λ c. test c.point) m.claims) ms h))
   where
     each : (ms : List (MatrixClaim _)) →
         AllByRecursion (λ m. list_any (λ c. test c.point) m.claims ≡ false) ms →
         AllByRecursion (λ m. All (λ c. test c.point ≡ false) m.claims) ms
     each [] all = tt
-    each (m ∷ ms) all =
-        (All-from_recursion (λ c. test c.point ≡ false) m.claims
-        (none-from (λ c. test c.point) m.claims all.0), each ms all.1)
+    each (m ∷ ms) all = (
+      All-from_recursion (λ c. test c.point ≡ false) m.claims
+          (none-from (λ c. test c.point) m.claims all.0),
+      each ms all.1,
+    )
 
 claims-to : {E : Type 0} (test : E → Bool) (ms : List (MatrixClaim E)) →
     All (λ m. All (λ c. test c.point ≡ false) m.claims) ms → some_claim test ms ≡ false
 claims-to test ms h =
     none-to (λ m. list_any (λ c. test c.point) m.claims) ms
-        (each ms (recursion_from_All (λ m. All (λ c. test c.point ≡ false) m.claims) ms h))
+    (each ms (recursion_from_All (λ m. All (λ c. test c.point ≡ false) m.claims) ms h))
   where
     each : (ms : List (MatrixClaim _)) →
         AllByRecursion (λ m. All (λ c. test c.point ≡ false) m.claims) ms →
         AllByRecursion (λ m. list_any (λ c. test c.point) m.claims ≡ false) ms
     each [] all = tt
-    each (m ∷ ms) all =
-        (none-to (λ c. test c.point) m.claims
-        (recursion_from_All (λ c. test c.point ≡ false) m.claims all.0), each ms all.1)
+    each (m ∷ ms) all = (
+      none-to (λ c. test c.point) m.claims
+          (recursion_from_All (λ c. test c.point ≡ false) m.claims all.0),
+      each ms all.1,
+    )
 
 module _ {F E M Com WordCom InputProof WordProof : Type 0} (two : ℕ) (is_zero : F → Bool)
     (is_infinite : E → Bool)
     (p : FriParameters M) (batches : List (BatchClaim Com E))
-        (proof : OpeningProof F E WordCom InputProof WordProof) where
+    (proof : OpeningProof F E WordCom InputProof WordProof) where
   abbrev ms : List (MatrixClaim E)
   ms = all_matrices batches
 
@@ -204,11 +208,11 @@ module _ {F E M Com WordCom InputProof WordProof : Type 0} (two : ℕ) (is_zero 
     unfolding AllPass
     known parts =
         let domains =
-            pass-front (domain_tests {C = C} {A = A} {B = B} p.log_final_poly_len (log_sizes ms)) _
-            parts.claims.1 in
+        pass-front (domain_tests {C = C} {A = A} {B = B} p.log_final_poly_len (log_sizes ms)) _
+        parts.claims.1 in
         let last =
-            pass-back (domain_tests {C = C} {A = A} {B = B} p.log_final_poly_len (log_sizes ms)) _
-            parts.claims.1 in
+        pass-back (domain_tests {C = C} {A = A} {B = B} p.log_final_poly_len (log_sizes ms)) _
+        parts.claims.1 in
         let counted : length (log_sizes ms) ≡ length ms = length-map ms (λ m. m.log_n) in
         let some : length (log_sizes ms) ≢ 0 = eqb-false (length (log_sizes ms)) 0 parts.claims.0 in
         let sizes = domains-from C A B p.log_final_poly_len ms domains in
@@ -236,7 +240,7 @@ module _ {F E M Com WordCom InputProof WordProof : Type 0} (two : ℕ) (is_zero 
               All-from_recursion (λ o. (length o.entries ≡ p.num_queries)
               × All (λ v. length v ≡ 1) o.entries) proof.rounds_opened
               (rounds-from C (InputError A B) (λ o. o.entries) p.num_queries 0 proof.rounds_opened
-                  shape.1.1.1.1.1);
+              shape.1.1.1.1.1);
           final_poly = same-from (length proof.final_poly) (2 ^ p.log_final_poly_len) parts.final.0;
           batch_zero = zero-from p.batch_proof_of_work_bits (is_zero proof.batch_witness)
               parts.points.0;
@@ -267,9 +271,11 @@ module _ {F E M Com WordCom InputProof WordProof : Type 0} (two : ℕ) (is_zero 
             ne_eqb (length (log_sizes ms)) 0
                 (λ none. absurd (let some = k.some_matrix in omega (arith, none, some, counted))),
             pass-both (domain_tests {C = C} {A = A} {B = B} p.log_final_poly_len (log_sizes ms)) _
-                (domains-to C A B p.log_final_poly_len ms sizes)
-                (lt-leb two (greatest (log_sizes ms) + p.log_blowup) (let low = k.in_group in
-                    omega (arith, low, top)), tt),
+                (domains-to C A B p.log_final_poly_len ms sizes) (
+                  lt-leb two (greatest (log_sizes ms) + p.log_blowup) (let low = k.in_group in
+                      omega (arith, low, top)),
+                  tt,
+                ),
           );
           parameters = (
             le-ltb 30 p.batch_proof_of_work_bits k.batch_work,
@@ -280,9 +286,11 @@ module _ {F E M Com WordCom InputProof WordProof : Type 0} (two : ℕ) (is_zero 
                 (
                   ne_eqb p.num_queries 0
                       (λ none. absurd (let some = k.queries in omega (arith, none, some))),
-                  (ne_eqb p.log_blowup 0
-                      (λ none. absurd (let some = k.blowup in omega (arith, none, some))),
-                      (same-to p.max_log_arity 1 k.arity, tt)),
+                  (
+                    ne_eqb p.log_blowup 0
+                        (λ none. absurd (let some = k.blowup in omega (arith, none, some))),
+                    (same-to p.max_log_arity 1 k.arity, tt),
+                  ),
                 ),
               ),
             ),
@@ -303,15 +311,17 @@ module _ {F E M Com WordCom InputProof WordProof : Type 0} (two : ℕ) (is_zero 
                     rounds-to C (InputError A B) (λ o. o.entries) p.num_queries 0
                         proof.rounds_opened
                         (recursion_from_All (λ o. (length o.entries ≡ p.num_queries)
-                            × All (λ v. length v ≡ 1) o.entries) proof.rounds_opened k.siblings),
+                        × All (λ v. length v ≡ 1) o.entries) proof.rounds_opened k.siblings),
                   ),
                 ),
               ),
             ),
           );
           final = (same-to (length proof.final_poly) (2 ^ p.log_final_poly_len) k.final_poly, tt);
-          points = (zero-to p.batch_proof_of_work_bits (is_zero proof.batch_witness) k.batch_zero,
-              (claims-to is_infinite ms k.finite, tt));
+          points = (
+            zero-to p.batch_proof_of_work_bits (is_zero proof.batch_witness) k.batch_zero,
+            (claims-to is_infinite ms k.finite, tt),
+          );
         }
       where
         top_known : (ns : List (MatrixClaim E)) →

@@ -21,7 +21,7 @@ use Rattle.p3_circle.specs.Scheme.{says_memory, says_prover_memory}
 pub first-of : {A : Type 0} (a : Result (Unit {0}) ProverError) (r : Result A ProverError)
     (Q : ProverError → Type 0) →
     MatchResult a (λ passed. IfErr r Q) (λ first. r ≡ Err first) →
-        IfErr r (λ e. MatchResult a (λ passed. Q e) (λ first. e ≡ first))
+    IfErr r (λ e. MatchResult a (λ passed. Q e) (λ first. e ≡ first))
 first-of (Ok u) (Ok x) Q h = tt
 first-of (Ok u) (Err e) Q h = h
 first-of (Err f) (Ok x) Q h = tt

@@ -51,7 +51,7 @@ of-three (inr b) = inr (inl b)
 pub first-by : {S E : Type 0} (ts : List (Test E)) (Later : Type 0) (e : E) (s : S) →
     answer {A = Unit {0}} ts (tt {0}) ≡ Err e
     → MatchResult (answer {A = Unit {0}} ts (tt {0})) (λ passed. Later)
-        (λ first. (e ≡ first) × (s ≡ s))
+    (λ first. (e ≡ first) × (s ≡ s))
 first-by {E = E} ts Later e s is =
     subst
     (λ (a : Result (Unit {0}) E). MatchResult a (λ passed. Later) (λ first. (e ≡ first) × (s ≡ s)))
@@ -60,7 +60,7 @@ first-by {E = E} ts Later e s is =
 pub later-by : {S E : Type 0} (ts : List (Test E)) (Later : Type 0) (e : E) (s t : S) →
     answer {A = Unit {0}} ts (tt {0}) ≡ Ok (tt {0}) → Later
     → MatchResult (answer {A = Unit {0}} ts (tt {0})) (λ passed. Later)
-        (λ first. (e ≡ first) × (t ≡ s))
+    (λ first. (e ≡ first) × (t ≡ s))
 later-by {E = E} ts Later e s t is later =
     subst
     (λ (a : Result (Unit {0}) E). MatchResult a (λ passed. Later) (λ first. (e ≡ first) × (t ≡ s)))
@@ -69,8 +69,8 @@ later-by {E = E} ts Later e s t is later =
 module _ {F E I W IC ID IP IE WC WD WP WE : Type 0} {g : Ghosts F} (k : Fields F E) (two : ℕ)
     (p : FriParameters W)
     (claims : List (CommitmentOpening E IC (CircleDomain F g)))
-        (proof : CirclePcsProof F E I W F IC ID IP IE WC WD WP WE) (eq : F → F → Bool) (null : F)
-        (same : E → E → Bool) where
+    (proof : CirclePcsProof F E I W F IC ID IP IE WC WD WP WE) (eq : F → F → Bool) (null : F)
+    (same : E → E → Bool) where
   abbrev pub tests : List (Test (FriError WE (InputError IE WE)))
   tests = seeding_tests two (λ w. eq w null) (is_at_infinity same k.extension) p
       (batch_claims claims) (proof_of proof)
@@ -90,18 +90,18 @@ module _ {F E I W IC ID IP IE WC WD WP WE : Type 0} {g : Ghosts F} (k : Fields F
       PartsPass two z i p (batch_claims claims) (proof_of proof) WE IE WE
   parts-of v w is =
       let cs = claims_part {C = WE} {A = IE} {B = WE} two z i p (batch_claims claims)
-          (proof_of proof) in
+      (proof_of proof) in
       let ps = parameters_part {C = WE} {A = IE} {B = WE} two z i p (batch_claims claims)
-          (proof_of proof) in
+      (proof_of proof) in
       let ss = shape_part {C = WE} {A = IE} {B = WE} two z i p (batch_claims claims)
-          (proof_of proof) in
+      (proof_of proof) in
       let fs = final_part {C = WE} {A = IE} {B = WE} two z i p (batch_claims claims)
-          (proof_of proof) in
+      (proof_of proof) in
       let qs = points_part {C = WE} {A = IE} {B = WE} two z i p (batch_claims claims)
-          (proof_of proof) in
+      (proof_of proof) in
       let all =
-          subst (AllPass {E = FriError WE (InputError IE WE)})
-          (parts-are two z i p (batch_claims claims) (proof_of proof)) (passed tests v w is) in
+      subst (AllPass {E = FriError WE (InputError IE WE)})
+      (parts-are two z i p (batch_claims claims) (proof_of proof)) (passed tests v w is) in
       let rest = pass-back cs _ all in
       let rest' = pass-back ps _ rest in
       let rest'' = pass-back ss _ rest' in
@@ -122,16 +122,16 @@ module _ {F E I W IC ID IP IE WC WD WP WE : Type 0} {g : Ghosts F} (k : Fields F
       let parts = all_pass two z i p (batch_claims claims) (proof_of proof) WE IE WE t in
       passes tests (tt {0})
       (subst (AllPass {E = FriError WE (InputError IE WE)})
-          (sym (parts-are two z i p (batch_claims claims) (proof_of proof)))
+      (sym (parts-are two z i p (batch_claims claims) (proof_of proof)))
       (pass-both _ _ parts.claims
-          (pass-both _ _ parts.parameters
-          (pass-both _ _ parts.shape (pass-both _ _ parts.final parts.points)))))
+      (pass-both _ _ parts.parameters
+      (pass-both _ _ parts.shape (pass-both _ _ parts.final parts.points)))))
 
 module _ {C S F E I W IC ID IP IE WC WD WP WE : Type 0} {g : Ghosts F} (k : Fields F E)
     (m : RunMoves C S F E WC) (p : FriParameters W)
     (claims : List (CommitmentOpening E IC (CircleDomain F g)))
-        (proof : CirclePcsProof F E I W F IC ID IP IE WC WD WP WE) (eq : F → F → Bool) (null : F)
-        (same : E → E → Bool) where
+    (proof : CirclePcsProof F E I W F IC ID IP IE WC WD WP WE) (eq : F → F → Bool) (null : F)
+    (same : E → E → Bool) where
   abbrev z' : F → Bool
   z' w = eq w null
 
@@ -167,41 +167,42 @@ module _ {C S F E I W IC ID IP IE WC WD WP WE : Type 0} {g : Ghosts F} (k : Fiel
     finite-from t h = not_true (i' t) (λ at. h ((same_law _ _).0 at))
 
     module _ (inputs : I → Authenticates IC F IP) (words : W → Authenticates WC E WP) (mmcs : I)
-        where
-      -- what is accepted passes the tests
-      pub accepted-passes : (old left : S) →
-          IsAccepted k m inputs words mmcs p claims proof old left →
-          answer (tests k k.two_adicity p claims proof eq null same) (tt {0}) ≡ Ok (tt {0})
-      accepted-passes old left a =
-          answer-of k k.two_adicity p claims proof eq null same
-              (tested k z' i' p (batch_claims claims) (proof_of proof) a.drawn
-              (queries-drawn old left a.drawn a.draws) zero-from finite-from a.accepts)
+      where
+        -- what is accepted passes the tests
+        pub accepted-passes : (old left : S) →
+            IsAccepted k m inputs words mmcs p claims proof old left →
+            answer (tests k k.two_adicity p claims proof eq null same) (tt {0}) ≡ Ok (tt {0})
+        accepted-passes old left a =
+            answer-of k k.two_adicity p claims proof eq null same
+            (tested k z' i' p (batch_claims claims) (proof_of proof) a.drawn
+            (queries-drawn old left a.drawn a.draws) zero-from finite-from a.accepts)
 
-      -- a phase that is missed is not accepted
-      pub missed-memory : (old left : S) (e : FriError WE (InputError IE WE)) →
-          (e ≡ Memory) ⊎ IsMissedIn (draw_from k m p claims proof old) e →
-          IsAccepted k m inputs words mmcs p claims proof old left → e ≡ Memory
-      missed-memory old left e (inl memory) a = memory
-      missed-memory old left e (inr miss) a =
-          absurd (not_both (draw_from k m p claims proof old) _ _ a.draws miss.missed)
+        -- a phase that is missed is not accepted
+        pub missed-memory : (old left : S) (e : FriError WE (InputError IE WE)) →
+            (e ≡ Memory) ⊎ IsMissedIn (draw_from k m p claims proof old) e →
+            IsAccepted k m inputs words mmcs p claims proof old left → e ≡ Memory
+        missed-memory old left e (inl memory) a = memory
+        missed-memory old left e (inr miss) a =
+            absurd (not_both (draw_from k m p claims proof old) _ _ a.draws miss.missed)
 
-      -- nor is what there is reason to refuse
-      pub reason-memory : ((a b : E) → m.base.coefficients a ≡ m.base.coefficients b → a ≡ b) →
-          (input_memory : IE → Bool) (word_memory : WE → Bool) (old new left : S) (c : Challenges E)
-          (e : FriError WE (InputError IE WE)) →
-          IsDrawnFrom k m p claims proof old c new →
-              IsReason k p (run_with claims proof c) (inputs mmcs) (words p.mmcs) input_memory
-              word_memory e →
-          IsAccepted k m inputs words mmcs p claims proof old left → e ≡ Memory
-      reason-memory told input_memory word_memory old new left c e is why a =
-          let both : Ok (drawn_by m.base.coefficients c new) ≡ Ok
-              (drawn_by m.base.coefficients a.drawn left) = sym is ∙ a.draws in
-          let drawn : drawn_by m.base.coefficients c new ≡ drawn_by m.base.coefficients a.drawn
-              left = cc in
-          let one = challenges-told m.base.coefficients told c a.drawn new left drawn in
-          let accepts =
-              subst (λ d. Accepts k p (run_with claims proof d) (inputs mmcs) (words p.mmcs))
-              (sym one) a.accepts in
-          only_memory k p (run_with claims proof c) (inputs mmcs) (words p.mmcs) input_memory
-              word_memory e why accepts.inputs_shape accepts.fit.claimed accepts.fit.large
-              accepts.holds
+        -- nor is what there is reason to refuse
+        pub reason-memory : ((a b : E) → m.base.coefficients a ≡ m.base.coefficients b → a ≡ b) →
+            (input_memory : IE → Bool) (word_memory : WE → Bool) (old new left : S)
+            (c : Challenges E)
+            (e : FriError WE (InputError IE WE)) →
+            IsDrawnFrom k m p claims proof old c new →
+            IsReason k p (run_with claims proof c) (inputs mmcs) (words p.mmcs) input_memory
+            word_memory e →
+            IsAccepted k m inputs words mmcs p claims proof old left → e ≡ Memory
+        reason-memory told input_memory word_memory old new left c e is why a =
+            let both : Ok (drawn_by m.base.coefficients c new) ≡ Ok
+            (drawn_by m.base.coefficients a.drawn left) = sym is ∙ a.draws in
+            let drawn : drawn_by m.base.coefficients c new ≡ drawn_by m.base.coefficients a.drawn
+            left = cc in
+            let one = challenges-told m.base.coefficients told c a.drawn new left drawn in
+            let accepts =
+            subst (λ d. Accepts k p (run_with claims proof d) (inputs mmcs) (words p.mmcs))
+            (sym one) a.accepts in
+            only_memory k p (run_with claims proof c) (inputs mmcs) (words p.mmcs) input_memory
+            word_memory e why accepts.inputs_shape accepts.fit.claimed accepts.fit.large
+            accepts.holds

@@ -23,11 +23,11 @@ module _ {T : Type 0} where
 
   rows_by-matrices : (top index : ℕ) (matrices : List (RowMajorMatrix T)) →
       map (λ m. get_or (rows m) (row_at top (height_of m) index) []) matrices
-          ≡ rows_by top index (dimensions_of matrices) (map rows matrices)
+      ≡ rows_by top index (dimensions_of matrices) (map rows matrices)
   rows_by-matrices top index [] = refl
   rows_by-matrices top index (m ∷ matrices) =
       ap (λ rest. get_or (rows m) (row_at top (height_of m) index) [] ∷ rest)
-          (rows_by-matrices top index matrices)
+      (rows_by-matrices top index matrices)
 
   module _ (matrices others : List (RowMajorMatrix T)) (same : HaveSameRows matrices others) where
     pub same-max_height : max_height matrices ≡ max_height others
@@ -50,13 +50,13 @@ module _ {T : Type 0} where
   pub same-more : (xs ys more : List (RowMajorMatrix T)) (k : ℕ) (m copy : RowMajorMatrix T) →
       k < length xs → m ≡ get_or xs k m →
       more ≡ ys ++ copy ∷ [] → width_of copy ≡ width_of m → rows copy ≡ rows m →
-          height_of copy ≡ height_of m →
+      height_of copy ≡ height_of m →
       HaveSameRows (take k xs) ys → HaveSameRows (take (k + 1) xs) more
   same-more xs ys more k m copy h at grown width content height same =
       let next : take (k + 1) xs ≡ take k xs ++ m ∷ [] = take_more xs k m h
-          ∙ ap (λ y. take k xs ++ y ∷ []) (sym at) in
+      ∙ ap (λ y. take k xs ++ y ∷ []) (sym at) in
       let shown : shape m ≡ shape copy =
-          λ i. record { width = sym width i; height = sym height i } in
+      λ i. record { width = sym width i; height = sym height i } in
       record {
         shapes = ap dimensions_of next ∙ map-append shape (take k xs) (m ∷ [])
             ∙ ap (λ ds. ds ++ shape m ∷ []) same.shapes ∙ ap (λ d. dimensions_of ys ++ d ∷ []) shown
@@ -70,7 +70,7 @@ module _ {T : Type 0} where
   pub shows-opened : (matrices others : List (RowMajorMatrix T)) (indices : List ℕ)
       (opened : List (List (List T))) → 1 ≤ length indices →
       All (λ i. i < max_height matrices) indices → opened ≡ rows_at_each matrices indices →
-          HaveSameRows matrices others → Shows others (dimensions_of matrices) indices opened
+      HaveSameRows matrices others → Shows others (dimensions_of matrices) indices opened
   shows-opened matrices others indices opened some in_range rows same = record {
     shapes = same.shapes;
     some = some;

@@ -9,5 +9,5 @@ returns-clause-unreadable c = unreadable_line _ c.line_of.result c.tell.result c
 pub returns-clause-proved : goal.returns-clause-proved
 returns-clause-proved c e =
     let w = written_line _ _ c.line_of.result c.tell.result c.tell.ensures.told
-        c.line_of.ensures.proved e in
+    c.line_of.ensures.proved e in
     (string_bytes w.0, w.1)

@@ -64,9 +64,10 @@ zip-places : {A B : Type 0} (R : A → B → Type 0) (xs : List A) (ys : List B)
 zip-places R [] [] d e same each = tt
 zip-places R [] (y ∷ ys) d e same each = absurd (omega (arith, same))
 zip-places R (x ∷ xs) [] d e same each = absurd (omega (arith, same))
-zip-places R (x ∷ xs) (y ∷ ys) d e same each =
-    (each 0 (omega arith),
-    zip-places R xs ys d e (omega (arith, same)) (λ i lt. each (suc i) (omega (arith, lt))))
+zip-places R (x ∷ xs) (y ∷ ys) d e same each = (
+  each 0 (omega arith),
+  zip-places R xs ys d e (omega (arith, same)) (λ i lt. each (suc i) (omega (arith, lt))),
+)
 
 module _ {F E M : Type 0} {g : Ghosts F} (k : Fields F E) (two : ℕ) (p : FriParameters M) where
   -- the height of what is committed to of rows on a domain
@@ -83,13 +84,13 @@ module _ {F E M : Type 0} {g : Ghosts F} (k : Fields F E) (two : ℕ) (p : FriPa
   extension-low x m extension height =
       let f = λ (w : ℕ). values_at k.field extension.coeffs w in
       let less : log_of (height_of m) - p.log_blowup ≡ log_size x.0 = omega (arith, height) in
-          record {
+      record {
         coeffs = extension.coeffs;
         count = extension.told.height ∙ ap (λ i. 2 ^ i) (sym less);
         values = ap (λ w. map (f w) (points_of_height k.field k.gen (log_of (height_of m))))
             extension.width
             ∙ ap (λ h. map (f (width_of x.1)) (points_of_height k.field k.gen h)) height
-                ∙ sym extension.values;
+            ∙ sym extension.values;
       }
 
   batch-low : (batch : Batch F g) (ms : List (RowMajorMatrix F)) (points : List (List E)) →
@@ -100,35 +101,36 @@ module _ {F E M : Type 0} {g : Ghosts F} (k : Fields F E) (two : ℕ) (p : FriPa
   batch-low [] (m ∷ ms) points made openable = absurd made
   batch-low (x ∷ batch) [] points made openable = absurd made
   batch-low (x ∷ batch) (m ∷ ms) [] made openable = absurd openable
-  batch-low (x ∷ batch) (m ∷ ms) (t ∷ points) made openable =
-      (extension-low x m made.0 (log-of x m openable.0.power made.0),
-          batch-low batch ms points made.1 openable.1)
+  batch-low (x ∷ batch) (m ∷ ms) (t ∷ points) made openable = (
+    extension-low x m made.0 (log-of x m openable.0.power made.0),
+    batch-low batch ms points made.1 openable.1,
+  )
 
   -- claims of what is answered of one matrix
   one-claimed : (x : CircleDomain F g × RowMajorMatrix F) (m : RowMajorMatrix F) (points : List E)
       (values : List (List E)) (c : MatrixOpening E (CircleDomain F g)) →
       IsExtension k.field k.gen p.log_blowup x.0 x.1 m →
       height_of m ≡ 2 ^ log_of (height_of m) → IsClaimedOf points_in x points values c →
-          matrix_claim c ≡ claimed p.log_blowup (committed k p.log_blowup m points values)
+      matrix_claim c ≡ claimed p.log_blowup (committed k p.log_blowup m points values)
   one-claimed x m points values c extension power is =
       let height = log-of x m power extension in
       let size = pow_injective (log_size c.domain) (log_size x.0) is.domain in
       let fewer : log_size c.domain ≡ log_of (height_of m) - p.log_blowup =
-          omega (arith, height, size) in
+      omega (arith, height, size) in
       let made : ℕ → List (PointClaim E) → MatrixClaim E =
-          λ n claims. record { log_n = n; claims = claims } in
+      λ n claims. record { log_n = n; claims = claims } in
       ap (λ n. made n (map point_claim c.points.items)) fewer
       ∙ ap (made (log_of (height_of m) - p.log_blowup))
       (points-claimed c.points.items
-          ∙ ap (λ ps. pairwise claim_of ps (map (λ p. p.values.items) c.points.items)) is.points
-          ∙ ap (pairwise claim_of points) is.values)
+      ∙ ap (λ ps. pairwise claim_of ps (map (λ p. p.values.items) c.points.items)) is.points
+      ∙ ap (pairwise claim_of points) is.values)
 
   batch-claimed : (batch : Batch F g) (ms : List (RowMajorMatrix F)) (points : List (List E))
       (values : List (List (List E))) (cs : List (MatrixOpening E (CircleDomain F g))) →
       AreExtensions k.field k.gen p.log_blowup batch ms →
-          AllZip (IsOpenable k two p.log_blowup) ms points → AreClaimedOf points_in
-          batch points values cs → map matrix_claim cs
-          ≡ map (claimed p.log_blowup) (batch_committed k p.log_blowup ms points values)
+      AllZip (IsOpenable k two p.log_blowup) ms points → AreClaimedOf points_in
+      batch points values cs → map matrix_claim cs
+      ≡ map (claimed p.log_blowup) (batch_committed k p.log_blowup ms points values)
   batch-claimed [] [] points values [] made openable are = refl
   batch-claimed [] [] [] [] (c ∷ cs) made openable are = absurd are
   batch-claimed [] [] (t ∷ points) values (c ∷ cs) made openable are = absurd openable
@@ -140,9 +142,9 @@ module _ {F E M : Type 0} {g : Ghosts F} (k : Fields F E) (two : ℕ) (p : FriPa
   batch-claimed (x ∷ batch) (m ∷ ms) (t ∷ points) (v ∷ values) [] made openable are = absurd are
   batch-claimed (x ∷ batch) (m ∷ ms) (t ∷ points) (v ∷ values) (c ∷ cs) made openable are =
       ap (λ first. first ∷ map matrix_claim cs)
-          (one-claimed x m t v c made.0 openable.0.power are.0)
+      (one-claimed x m t v c made.0 openable.0.power are.0)
       ∙ ap (λ rest. claimed p.log_blowup (committed k p.log_blowup m t v) ∷ rest)
-          (batch-claimed batch ms points values cs made.1 openable.1 are.1)
+      (batch-claimed batch ms points values cs made.1 openable.1 are.1)
 
   -- each matrix is claimed at a point
   one-pointed : (x : CircleDomain F g × RowMajorMatrix F) (points : List E) (values : List (List E))
@@ -179,7 +181,7 @@ module _ {F E M : Type 0} {g : Ghosts F} (k : Fields F E) (two : ℕ) (p : FriPa
         (claims : List (CommitmentOpening E Com (CircleDomain F g))) →
         AllByRecursion (IsFit kept k p.log_blowup two) requests →
         AreAnsweredBy points_in commits requests values claims →
-            AreClaimed k p kept Commits requests values (batch_claims claims)
+        AreClaimed k p kept Commits requests values (batch_claims claims)
     are-claimed [] [] [] fit are = tt
     are-claimed [] [] (c ∷ cs) fit are = absurd are
     are-claimed [] (v ∷ vs) [] fit are = absurd are
@@ -206,9 +208,9 @@ module _ {F E M : Type 0} {g : Ghosts F} (k : Fields F E) (two : ℕ) (p : FriPa
     all-pointed (r ∷ rs) [] (c ∷ cs) are = absurd are
     all-pointed (r ∷ rs) (v ∷ vs) (c ∷ cs) are =
         all-append (λ (m : MatrixClaim E). 1 ≤ length m.claims) (map matrix_claim c.matrices.items)
-            (all_matrices (batch_claims cs))
+        (all_matrices (batch_claims cs))
         (batch-pointed are.0.batch (requested_points r) v c.matrices.items are.0.claims)
-            (all-pointed rs vs cs are.1)
+        (all-pointed rs vs cs are.1)
 
     pub are-pointed : (requests : List (OpeningRequest D E)) (values : Openings E)
         (claims : List (CommitmentOpening E Com (CircleDomain F g))) → AreAnsweredBy points_in
@@ -223,7 +225,7 @@ module _ {F E M : Type 0} {g : Ghosts F} (k : Fields F E) (two : ℕ) (p : FriPa
         (claims : List (CommitmentOpening E Com (CircleDomain F g))) → AreAnsweredBy points_in
         commits requests values claims →
         AllByRecursion (λ r. (batch : Batch F g) × (commitment : Com)
-            × commits batch commitment r.prover_data.now) requests
+        × commits batch commitment r.prover_data.now) requests
     answered-by-recursion [] values claims are = tt
     answered-by-recursion (r ∷ rs) [] [] are = absurd are
     answered-by-recursion (r ∷ rs) [] (c ∷ cs) are = absurd are
@@ -235,11 +237,11 @@ module _ {F E M : Type 0} {g : Ghosts F} (k : Fields F E) (two : ℕ) (p : FriPa
         (claims : List (CommitmentOpening E Com (CircleDomain F g))) → AreAnsweredBy points_in
         commits requests values claims →
         All (λ r. (batch : Batch F g) × (commitment : Com)
-            × commits batch commitment r.prover_data.now) requests
+        × commits batch commitment r.prover_data.now) requests
     answered-kept requests values claims are =
         All-from_recursion (λ (r : OpeningRequest D E). (batch : Batch F g) × (commitment : Com)
-            × commits batch commitment r.prover_data.now) requests
-            (answered-by-recursion requests values claims are)
+        × commits batch commitment r.prover_data.now) requests
+        (answered-by-recursion requests values claims are)
 
     -- what was kept of batches is of low degree
     pub kept-low : (requests : List (OpeningRequest D E)) →
@@ -251,7 +253,7 @@ module _ {F E M : Type 0} {g : Ghosts F} (k : Fields F E) (two : ℕ) (p : FriPa
         let (batch, commitment, told) = known i d lt in
         All-from_recursion (IsOfLowDegree k p.log_blowup) (kept r.prover_data.now)
         (batch-low batch (kept r.prover_data.now) (points_of kept r) told.extended
-            (asked.fit i d lt))
+        (asked.fit i d lt))
 
   module _ (base : FieldLaws k.field) (laws : FieldLaws k.extension)
       (e : IsEmbedding k.field k.extension k.embed) (gens : AreGenerators k.field two k.gen) where
@@ -272,39 +274,40 @@ module _ {F E M : Type 0} {g : Ghosts F} (k : Fields F E) (two : ℕ) (p : FriPa
               (width_of x.1) (from_line k.extension t)) points values k.extension.zero [] are.count
               (λ i lt. let t = slice_index_or points i k.extension.zero in
               opens-true k base laws e gens p.log_blowup m low t (slice_index_or values i [])
-                  openable.blowup openable.in_group (are.opened i k.extension.zero lt)
+              openable.blowup openable.in_group (are.opened i k.extension.zero lt)
               ∙ ap
-                  (λ w. lifted_values_at k.field.zero k.extension k.embed extension.coeffs w
-                  (from_line k.extension t)) extension.width);
+              (λ w. lifted_values_at k.field.zero k.extension k.embed extension.coeffs w
+              (from_line k.extension t)) extension.width);
         }
 
     batch-valued : (batch : Batch F g) (ms : List (RowMajorMatrix F)) (points : List (List E))
         (values : List (List (List E))) → AreExtensions k.field k.gen p.log_blowup batch ms →
         AllZip (IsOpenable k two p.log_blowup) ms points →
         AllZip (λ m rest. AreValuesOf k p.log_blowup m rest.0 rest.1) ms (zip points values) →
-            AreValuesOfBatch k batch points values
+        AreValuesOfBatch k batch points values
     batch-valued [] [] [] values made openable are = tt
     batch-valued [] [] (t ∷ points) values made openable are = absurd openable
     batch-valued [] (m ∷ ms) points values made openable are = absurd made
     batch-valued (x ∷ batch) [] points values made openable are = absurd made
     batch-valued (x ∷ batch) (m ∷ ms) [] values made openable are = absurd openable
     batch-valued (x ∷ batch) (m ∷ ms) (t ∷ points) [] made openable are = absurd are
-    batch-valued (x ∷ batch) (m ∷ ms) (t ∷ points) (v ∷ values) made openable are =
-        (one-valued x m t v made.0 openable.0 are.0,
-            batch-valued batch ms points values made.1 openable.1 are.1)
+    batch-valued (x ∷ batch) (m ∷ ms) (t ∷ points) (v ∷ values) made openable are = (
+      one-valued x m t v made.0 openable.0 are.0,
+      batch-valued batch ms points values made.1 openable.1 are.1,
+    )
 
 -- of all requests
 pub all-valued : {F E M D Com : Type 0} (g : Ghosts F) (k : Fields F E) (two : ℕ)
     (p : FriParameters M) (base : FieldLaws k.field) (laws : FieldLaws k.extension)
     (e : IsEmbedding k.field k.extension k.embed)
     (gens : AreGenerators k.field two k.gen) (kept : D → List (RowMajorMatrix F))
-        (Commits : List (RowMajorMatrix F) → Com → Type 0) (requests : List (OpeningRequest D E))
-        (values : Openings E) →
+    (Commits : List (RowMajorMatrix F) → Com → Type 0) (requests : List (OpeningRequest D E))
+    (values : Openings E) →
     AllByRecursion (IsFit kept k p.log_blowup two) requests →
-        AllZip (AreAnswers kept k p.log_blowup) requests values →
+    AllZip (AreAnswers kept k p.log_blowup) requests values →
     AllZip (λ r v. (batch : Batch F g) (commitment : Com) →
-        commits k two p kept Commits batch commitment r.prover_data.now →
-        AreValuesOfBatch k batch (requested_points r) v) requests values
+    commits k two p kept Commits batch commitment r.prover_data.now →
+    AreValuesOfBatch k batch (requested_points r) v) requests values
 all-valued g k two p base laws e gens kept Commits [] [] fit are = tt
 all-valued g k two p base laws e gens kept Commits [] (v ∷ vs) fit are = absurd are
 all-valued g k two p base laws e gens kept Commits (r ∷ rs) [] fit are = absurd are

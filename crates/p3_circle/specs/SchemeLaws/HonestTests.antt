@@ -65,7 +65,7 @@ supported p fit arity =
     (neither _ _ (ap not (eq-eqb p.max_log_arity 1 arity))
     (neither _ _ (le-ltb 30 p.batch_proof_of_work_bits fit.batch_work)
     (neither _ _ (le-ltb 30 p.commit_proof_of_work_bits fit.commit_work)
-        (le-ltb 30 p.query_proof_of_work_bits fit.query_work)))))
+    (le-ltb 30 p.query_proof_of_work_bits fit.query_work)))))
 
 -- tests of items, of which each passes
 pass-more : {X E : Type 0} (tests : X → List (Test E)) (x : X) (xs : List X) →
@@ -73,19 +73,19 @@ pass-more : {X E : Type 0} (tests : X → List (Test E)) (x : X) (xs : List X) �
     answer {A = Unit {0}} (flat_map tests (x ∷ xs)) (tt {0}) ≡ Ok (tt {0})
 pass-more tests x xs here rest =
     answer-append (tests x) (flat_map tests xs) (tt {0})
-        ∙ ap (λ r. result_and r (answer (flat_map tests xs) (tt {0}))) here ∙ rest
+    ∙ ap (λ r. result_and r (answer (flat_map tests xs) (tt {0}))) here ∙ rest
 
 -- points that are not at infinity
 finite-none : {F E : Type 0} (k : Fields F E) (same : E → E → Bool) (law : (a b : E) →
     (same a b ≡ true) ↔ (a ≡ b)) (points : List E) →
     All (λ t. ¬ (k.extension.mul t t ≡ k.extension.neg k.extension.one)) points →
-        list_any (is_at_infinity same k.extension) points ≡ false
+    list_any (is_at_infinity same k.extension) points ≡ false
 finite-none k same law points finite =
     list_any_none (is_at_infinity same k.extension) points
     (λ i d lt. let t = slice_index_or points i d in
-        never (is_at_infinity same k.extension t)
-        (λ yes. finite i d lt
-        ((law (k.extension.mul t t) (k.extension.neg k.extension.one)).0 yes)))
+    never (is_at_infinity same k.extension t)
+    (λ yes. finite i d lt
+    ((law (k.extension.mul t t) (k.extension.neg k.extension.one)).0 yes)))
 
 -- a request whose data were kept of an honest batch
 abbrev pub IsKeptHonestly : {F E M D Com : Type 0} → Ghosts F → Fields F E → ℕ → FriParameters M →
@@ -93,8 +93,8 @@ abbrev pub IsKeptHonestly : {F E M D Com : Type 0} → Ghosts F → Fields F E �
     Type 0
 IsKeptHonestly {F = F} {D = D} g k two p kept Commits =
     IsHonest {Dom = CircleDomain F g} {M = RowMajorMatrix F}
-        (λ batch commitment (d : D). IsCommitted k.field k.gen p.log_blowup Commits batch commitment
-        (kept d)) (IsHonestBatch k two p)
+    (λ batch commitment (d : D). IsCommitted k.field k.gen p.log_blowup Commits batch commitment
+    (kept d)) (IsHonestBatch k two p)
 
 module _ {F E M : Type 0} {g : Ghosts F} (k : Fields F E) (eq : F → F → Bool) (eq_law : (a b : F) →
     (eq a b ≡ true) ↔ (a ≡ b)) (same : E → E → Bool) (law : (a b : E) → (same a b ≡ true) ↔ (a ≡ b))
@@ -112,11 +112,11 @@ module _ {F E M : Type 0} {g : Ghosts F} (k : Fields F E) (eq : F → F → Bool
       (never (eq turned.x k.field.one && eq turned.y k.field.zero)
       (λ yes. let both = and-each (eq turned.x k.field.one) (eq turned.y k.field.zero) yes in
       can.genuine.1
-          (same_coordinates ((eq_law turned.x k.field.one).0 both.0)
-          ((eq_law turned.y k.field.zero).0 both.1)))) in
+      (same_coordinates ((eq_law turned.x k.field.one).0 both.0)
+      ((eq_law turned.y k.field.zero).0 both.1)))) in
       skipped _ _ (tt {0}) (le-ltb (log_size d) (2 + p.log_final_poly_len) (omega (arith, large)))
       ∙ skipped _ _ (tt {0}) (lt-leb two (log_size d + p.log_blowup) can.in_group)
-          ∙ skipped _ _ (tt {0}) whole ∙ answer-none (tt {0})
+      ∙ skipped _ _ (tt {0}) whole ∙ answer-none (tt {0})
 
   rows-pass : (batch : List (CircleDomain F g × RowMajorMatrix F)) (points : List (List E)) →
       AllZip (CanBeOpenedAt k two p) batch points →
@@ -135,7 +135,7 @@ module _ {F E M : Type 0} {g : Ghosts F} (k : Fields F E) (eq : F → F → Bool
   batch-passes batch points honest =
       let some = honest.some in
       skipped _ _ (tt {0}) (ne_eqb (length batch) 0 (λ e. omega (arith, e, some)))
-          ∙ rows-pass batch points honest.rows
+      ∙ rows-pass batch points honest.rows
 
   -- the height of what is committed to
   pub log-extended : (x : CircleDomain F g × RowMajorMatrix F) (m : RowMajorMatrix F) →
@@ -151,7 +151,7 @@ module _ {F E M : Type 0} {g : Ghosts F} (k : Fields F E) (eq : F → F → Bool
   height-passes x m points can extension =
       let large = can.large in
       height_fits two p (height_of m) (log_size x.0 + p.log_blowup) (sym extension.height)
-          (omega (arith, large)) can.in_group
+      (omega (arith, large)) can.in_group
 
   heights-pass : (batch : List (CircleDomain F g × RowMajorMatrix F)) (ms : List (RowMajorMatrix F))
       (points : List (List E)) → AreExtensions k.field k.gen p.log_blowup batch ms →
@@ -163,7 +163,7 @@ module _ {F E M : Type 0} {g : Ghosts F} (k : Fields F E) (eq : F → F → Bool
   heights-pass (x ∷ batch) (m ∷ ms) [] made can = absurd can
   heights-pass (x ∷ batch) (m ∷ ms) (t ∷ points) made can =
       pass-more (λ (m : RowMajorMatrix F). height_tests two p (height_of m)) m ms
-          (height-passes x m t can.0 made.0) (heights-pass batch ms points made.1 can.1)
+      (height-passes x m t can.0 made.0) (heights-pass batch ms points made.1 can.1)
 
   -- its points are not on its domain
   apart-none : (x : CircleDomain F g × RowMajorMatrix F) (m : RowMajorMatrix F) (points : List E) →
@@ -172,13 +172,13 @@ module _ {F E M : Type 0} {g : Ghosts F} (k : Fields F E) (eq : F → F → Bool
   apart-none x m points can extension =
       let domain = λ (h : ℕ). points_of_height k.field k.gen h in
       ap (λ h. list_any (λ t. list_any (is_at k same t) (domain h)) points)
-          (log-extended x m can.in_group extension)
+      (log-extended x m can.in_group extension)
       ∙ (let ps = domain (log_size x.0 + p.log_blowup) in
       list_any_none (λ t. list_any (is_at k same t) ps) points
       (λ i d lt. let t = slice_index_or points i d in
       list_any_none (is_at k same t) ps
       (λ j e lt'. let q = slice_index_or ps j e in
-          never (is_at k same t q) (λ yes. can.off i d lt j e lt' ((told k same law t q).0 yes)))))
+      never (is_at k same t q) (λ yes. can.off i d lt j e lt' ((told k same law t q).0 yes)))))
 
   vectors-finite : (batch : List (CircleDomain F g × RowMajorMatrix F)) (vs : List (Vec E Global)) →
       AllZip (CanBeOpenedAt k two p) batch (map (λ v. v.items) vs) →
@@ -193,7 +193,7 @@ module _ {F E M : Type 0} {g : Ghosts F} (k : Fields F E) (eq : F → F → Bool
       (ms : List (RowMajorMatrix F)) (vs : List (Vec E Global)) →
       AreExtensions k.field k.gen p.log_blowup batch ms →
       AllZip (CanBeOpenedAt k two p) batch (map (λ v. v.items) vs) →
-          AllByRecursion (λ asked. some_on_domain k same asked.0 asked.1.items ≡ false) (zip ms vs)
+      AllByRecursion (λ asked. some_on_domain k same asked.0 asked.1.items ≡ false) (zip ms vs)
   vectors-apart [] [] [] made can = tt
   vectors-apart [] [] (v ∷ vs) made can = absurd can
   vectors-apart [] (m ∷ ms) vs made can = absurd made
@@ -231,42 +231,42 @@ module _ {F E M : Type 0} {g : Ghosts F} (k : Fields F E) (eq : F → F → Bool
         let requests = r ∷ rest in
         let first = honest 0 r (omega arith) in
         none-refused kept requests two p k same
-            (supported p first.opens.parameters first.opens.arity)
+        (supported p first.opens.parameters first.opens.arity)
         (neither _ _ (ne_eqb (length requests) 0 (λ e. omega (arith, e)))
         (list_any_none (λ (r : OpeningRequest D E). length (kept r.prover_data.now) == 0) requests
         (λ i d lt. let h = honest i d lt in
         let ms = kept (slice_index_or requests i d).prover_data.now in
         let long = as-many h.batch ms h.committed.extended in
         let positive = h.opens.some in
-            ne_eqb (length ms) 0 (λ e. omega (arith, e, long, positive)))))
+        ne_eqb (length ms) 0 (λ e. omega (arith, e, long, positive)))))
         (list_any_none
-            (λ (r : OpeningRequest D E). not (vec_len r.points == length (kept r.prover_data.now)))
-            requests
+        (λ (r : OpeningRequest D E). not (vec_len r.points == length (kept r.prover_data.now)))
+        requests
         (λ i d lt. let h = honest i d lt in
         let q = slice_index_or requests i d in
         ap not
-            (eq-eqb (vec_len q.points) (length (kept q.prover_data.now))
-            (sym (sym q.points.ok.0) ∙ counted h.batch (kept q.prover_data.now) q.points.items
-            h.committed.extended h.opens.rows))))
+        (eq-eqb (vec_len q.points) (length (kept q.prover_data.now))
+        (sym (sym q.points.ok.0) ∙ counted h.batch (kept q.prover_data.now) q.points.items
+        h.committed.extended h.opens.rows))))
         (all-heights requests honest)
         (list_any_none (is_infinite same k.extension) requests
         (λ i d lt. let h = honest i d lt in
         let vs = (slice_index_or requests i d).points.items in
         list_any_none (λ (v : Vec E Global). list_any (is_at_infinity same k.extension) v.items) vs
         (All-from_recursion
-            (λ (v : Vec E Global). list_any (is_at_infinity same k.extension) v.items ≡ false) vs
-            (vectors-finite h.batch vs h.opens.rows))))
+        (λ (v : Vec E Global). list_any (is_at_infinity same k.extension) v.items ≡ false) vs
+        (vectors-finite h.batch vs h.opens.rows))))
         (list_any_none (λ (r : OpeningRequest D E). meets_domain
-            k same (kept r.prover_data.now) r.points.items) requests
+        k same (kept r.prover_data.now) r.points.items) requests
         (λ i d lt. let h = honest i d lt in
         let q = slice_index_or requests i d in
         let ms = kept q.prover_data.now in
         let vs = q.points.items in
         list_any_none (λ (asked : RowMajorMatrix F × Vec E Global). some_on_domain
-            k same asked.0 asked.1.items) (zip ms vs)
+        k same asked.0 asked.1.items) (zip ms vs)
         (All-from_recursion (λ (asked : RowMajorMatrix F × Vec E Global). some_on_domain
-            k same asked.0 asked.1.items ≡ false) (zip ms vs)
-            (vectors-apart h.batch ms vs h.committed.extended h.opens.rows))))
+        k same asked.0 asked.1.items ≡ false) (zip ms vs)
+        (vectors-apart h.batch ms vs h.committed.extended h.opens.rows))))
       where
         all-heights : (qs : List (OpeningRequest D E)) →
             All (IsKeptHonestly g k two p kept Commits) qs →
@@ -277,5 +277,5 @@ module _ {F E M : Type 0} {g : Ghosts F} (k : Fields F E) (eq : F → F → Bool
             let h = known 0 q (omega arith) in
             pass-more (λ (r : OpeningRequest D E). matrix_tests two p (kept r.prover_data.now)) q qs
             (heights-pass h.batch (kept q.prover_data.now) (requested_points q) h.committed.extended
-                h.opens.rows)
+            h.opens.rows)
             (all-heights qs (λ i d lt. known (suc i) d (omega (arith, lt))))

@@ -16,8 +16,11 @@ returns c =
       stands = record {
         value = view c.in_ok-to_json.field-0;
         json =
-            record { utf8 = IsUtf8-string_bytes c.in_ok-line.line; is =
-            c.in_ok-line.ensures.reads_back (omega arith) };
+            record {
+              utf8 = IsUtf8-string_bytes c.in_ok-line.line;
+              is =
+                  c.in_ok-line.ensures.reads_back (omega arith);
+            };
         reads = c.in_ok-to_json.ensures.reads;
       };
     }

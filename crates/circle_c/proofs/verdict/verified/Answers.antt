@@ -11,4 +11,4 @@ returns-clause-accepted c =
 pub returns-clause-refused : goal.returns-clause-refused
 returns-clause-refused c =
     of_input _ c.args.text.now _ c.in_ok-claims.claims c.verified_claims.result
-        c.in_ok-claims.ensures.reads (λ v. v) c.verified_claims.ensures.refused
+    c.in_ok-claims.ensures.reads (λ v. v) c.verified_claims.ensures.refused

@@ -19,10 +19,10 @@ overflow_shl-low g c =
     let low = c.loop-low.low in
     let layers = low + c.args.group - low in
     let all : Layered tw c.args.width (length c.args.entries.now) =
-        record { wide = c.requires.wide; some = c.requires.some; are = c.requires.layers } in
+    record { wide = c.requires.wide; some = c.requires.some; are = c.requires.layers } in
     let some : 1 ≤ layers = omega (arith, c.loop-low.invariant.below, c.requires.group) in
     let within : low + layers ≤ length tw =
-        omega (arith, c.loop-low.invariant.below, c.loop-low-test.true) in
+    omega (arith, c.loop-low.invariant.below, c.loop-low-test.true) in
     let small : length c.args.entries.now < 2 ^ 64 = omega arith in
     few-layers all low c.loop-low.invariant.below small
 
@@ -32,10 +32,10 @@ apply_pass-requires-clause-layers g c = λ l inside.
     let low = c.loop-low.low in
     let layers = low + c.args.group - low in
     let all : Layered tw c.args.width (length c.args.entries.now) =
-        record { wide = c.requires.wide; some = c.requires.some; are = c.requires.layers } in
+    record { wide = c.requires.wide; some = c.requires.some; are = c.requires.layers } in
     let some : 1 ≤ layers = omega (arith, c.loop-low.invariant.below, c.requires.group) in
     let within : low + layers ≤ length tw =
-        omega (arith, c.loop-low.invariant.below, c.loop-low-test.true) in
+    omega (arith, c.loop-low.invariant.below, c.loop-low-test.true) in
     let small : length c.args.entries.now < 2 ^ 64 = omega arith in
     layers-part all low layers some within small l inside ∙ sym c.loop-low.auto.entries
 
@@ -45,21 +45,21 @@ apply_pass-requires-clause-room g c =
     let low = c.loop-low.low in
     let layers = low + c.args.group - low in
     let all : Layered tw c.args.width (length c.args.entries.now) =
-        record { wide = c.requires.wide; some = c.requires.some; are = c.requires.layers } in
+    record { wide = c.requires.wide; some = c.requires.some; are = c.requires.layers } in
     let some : 1 ≤ layers = omega (arith, c.loop-low.invariant.below, c.requires.group) in
     let within : low + layers ≤ length tw =
-        omega (arith, c.loop-low.invariant.below, c.loop-low-test.true) in
+    omega (arith, c.loop-low.invariant.below, c.loop-low-test.true) in
     let small : length c.args.entries.now < 2 ^ 64 = omega arith in
     let half = length (factors_at tw 0) in
     let halves = entries-halves all (omega (arith, some, within)) in
     let left : length tw ≡ (length tw - low) + low = omega (arith, c.loop-low.invariant.below) in
     let both : (length tw - low + low) * half ≡ (length tw - low) * half + low * half =
-        omega arith in
+    omega arith in
     pass-room all low layers some within
-        small (count_of c.args.butterflies.now) (count_of c.loop-low.butterflies) (length tw - low)
-        low (length c.loop-low.entries) c.loop-low.auto.entries
+    small (count_of c.args.butterflies.now) (count_of c.loop-low.butterflies) (length tw - low)
+    low (length c.loop-low.entries) c.loop-low.auto.entries
     left (omega (arith, within)) c.requires.room
-        (omega (arith, c.loop-low.invariant.count half halves, both, ap (λ n. n * half) left))
+    (omega (arith, c.loop-low.invariant.count half halves, both, ap (λ n. n * half) left))
 
 pub loop-low-smaller : goal.loop-low-smaller
 loop-low-smaller g c = omega (arith, c.loop-low-test.true, c.requires.group)
@@ -70,10 +70,10 @@ loop-low-preserved g c =
     let low = c.loop-low.low in
     let layers = low + c.args.group - low in
     let all : Layered tw c.args.width (length c.args.entries.now) =
-        record { wide = c.requires.wide; some = c.requires.some; are = c.requires.layers } in
+    record { wide = c.requires.wide; some = c.requires.some; are = c.requires.layers } in
     let some : 1 ≤ layers = omega (arith, c.loop-low.invariant.below, c.requires.group) in
     let within : low + layers ≤ length tw =
-        omega (arith, c.loop-low.invariant.below, c.loop-low-test.true) in
+    omega (arith, c.loop-low.invariant.below, c.loop-low-test.true) in
     let small : length c.args.entries.now < 2 ^ 64 = omega arith in
     let lower = total g.F.Operations.ops in
     let upper = scaled_difference g.F.Operations.ops in
@@ -82,23 +82,27 @@ loop-low-preserved g c =
     let old = c.args.entries.now in
     let made =
     ap (in_order lower upper (λ s. s) (1 * 2 ^ low % 18446744073709551616 * c.args.width)
-        (factors_at part) (length part)) c.loop-low.invariant.values
-        ∙ pass-ascending all low layers some within small lower upper old in
+    (factors_at part) (length part)) c.loop-low.invariant.values
+    ∙ pass-ascending all low layers some within small lower upper old in
     let whole : low + layers ≡ low + c.args.group = omega arith in
     record {
       below = omega (arith, c.loop-low.invariant.below, c.loop-low-test.true);
       values = c.apply_pass.ensures.values ∙ made
           ∙ ap (λ m. ascending lower upper c.args.width fs m old) whole;
       count = λ half e.
-          omega (arith, c.apply_pass.ensures.count half (c.loop-low.auto.entries ∙ e),
-              pass-count all low layers some within small half, ap (λ m. m * half) whole,
-              c.loop-low.invariant.count half e);
+          omega (
+            arith,
+            c.apply_pass.ensures.count half (c.loop-low.auto.entries ∙ e),
+            pass-count all low layers some within small half,
+            ap (λ m. m * half) whole,
+            c.loop-low.invariant.count half e,
+          );
     }
 
 pub offset_bounds-inverses-low-2 : goal.offset_bounds-inverses-low-2
 offset_bounds-inverses-low-2 g c =
     let inside : c.loop-low.low ≤ length c.args.inverses.now =
-        omega (arith, c.loop-low.invariant.below) in
+    omega (arith, c.loop-low.invariant.below) in
     search rules
 
 pub slice_bounds-layers-count-2 : goal.slice_bounds-layers-count-2
@@ -107,7 +111,7 @@ slice_bounds-layers-count-2 g c = omega (arith, c.loop-low.invariant.below)
 pub slice_bounds-layers-start-2 : goal.slice_bounds-layers-start-2
 slice_bounds-layers-start-2 g c =
     let inside : c.loop-low.low ≤ length c.args.inverses.now =
-        omega (arith, c.loop-low.invariant.below) in
+    omega (arith, c.loop-low.invariant.below) in
     search rules
 
 pub overflow_shl-low-2 : goal.overflow_shl-low-2
@@ -116,7 +120,7 @@ overflow_shl-low-2 g c =
     let low = c.loop-low.low in
     let layers = length tw - low in
     let all : Layered tw c.args.width (length c.args.entries.now) =
-        record { wide = c.requires.wide; some = c.requires.some; are = c.requires.layers } in
+    record { wide = c.requires.wide; some = c.requires.some; are = c.requires.layers } in
     let some : 1 ≤ layers = omega (arith, c.loop-low.invariant.below, c.requires.group) in
     let within : low + layers ≤ length tw = omega (arith, c.loop-low.invariant.below) in
     let small : length c.args.entries.now < 2 ^ 64 = omega arith in
@@ -128,7 +132,7 @@ apply_pass-requires-2-clause-some_layer g c =
     let low = c.loop-low.low in
     let layers = length tw - low in
     let all : Layered tw c.args.width (length c.args.entries.now) =
-        record { wide = c.requires.wide; some = c.requires.some; are = c.requires.layers } in
+    record { wide = c.requires.wide; some = c.requires.some; are = c.requires.layers } in
     let some : 1 ≤ layers = omega (arith, c.loop-low.invariant.below, c.requires.group) in
     let within : low + layers ≤ length tw = omega (arith, c.loop-low.invariant.below) in
     let small : length c.args.entries.now < 2 ^ 64 = omega arith in
@@ -140,7 +144,7 @@ apply_pass-requires-2-clause-layers g c = λ l inside.
     let low = c.loop-low.low in
     let layers = length tw - low in
     let all : Layered tw c.args.width (length c.args.entries.now) =
-        record { wide = c.requires.wide; some = c.requires.some; are = c.requires.layers } in
+    record { wide = c.requires.wide; some = c.requires.some; are = c.requires.layers } in
     let some : 1 ≤ layers = omega (arith, c.loop-low.invariant.below, c.requires.group) in
     let within : low + layers ≤ length tw = omega (arith, c.loop-low.invariant.below) in
     let small : length c.args.entries.now < 2 ^ 64 = omega arith in
@@ -152,7 +156,7 @@ apply_pass-requires-2-clause-room g c =
     let low = c.loop-low.low in
     let layers = length tw - low in
     let all : Layered tw c.args.width (length c.args.entries.now) =
-        record { wide = c.requires.wide; some = c.requires.some; are = c.requires.layers } in
+    record { wide = c.requires.wide; some = c.requires.some; are = c.requires.layers } in
     let some : 1 ≤ layers = omega (arith, c.loop-low.invariant.below, c.requires.group) in
     let within : low + layers ≤ length tw = omega (arith, c.loop-low.invariant.below) in
     let small : length c.args.entries.now < 2 ^ 64 = omega arith in
@@ -160,12 +164,12 @@ apply_pass-requires-2-clause-room g c =
     let halves = entries-halves all (omega (arith, some, within)) in
     let left : length tw ≡ (length tw - low) + low = omega (arith, c.loop-low.invariant.below) in
     let both : (length tw - low + low) * half ≡ (length tw - low) * half + low * half =
-        omega arith in
+    omega arith in
     pass-room all low layers some within
-        small (count_of c.args.butterflies.now) (count_of c.loop-low.butterflies) (length tw - low)
-        low (length c.loop-low.entries) c.loop-low.auto.entries
+    small (count_of c.args.butterflies.now) (count_of c.loop-low.butterflies) (length tw - low)
+    low (length c.loop-low.entries) c.loop-low.auto.entries
     left (omega (arith, within)) c.requires.room
-        (omega (arith, c.loop-low.invariant.count half halves, both, ap (λ n. n * half) left))
+    (omega (arith, c.loop-low.invariant.count half halves, both, ap (λ n. n * half) left))
 
 pub returns-clause-values : goal.returns-clause-values
 returns-clause-values g c =
@@ -173,7 +177,7 @@ returns-clause-values g c =
     let low = c.loop-low.low in
     let layers = length tw - low in
     let all : Layered tw c.args.width (length c.args.entries.now) =
-        record { wide = c.requires.wide; some = c.requires.some; are = c.requires.layers } in
+    record { wide = c.requires.wide; some = c.requires.some; are = c.requires.layers } in
     let some : 1 ≤ layers = omega (arith, c.loop-low.invariant.below, c.requires.group) in
     let within : low + layers ≤ length tw = omega (arith, c.loop-low.invariant.below) in
     let small : length c.args.entries.now < 2 ^ 64 = omega arith in
@@ -184,11 +188,11 @@ returns-clause-values g c =
     let old = c.args.entries.now in
     let made =
     ap (in_order lower upper (λ s. s) (1 * 2 ^ low % 18446744073709551616 * c.args.width)
-        (factors_at part) (length part)) c.loop-low.invariant.values
-        ∙ pass-ascending all low layers some within small lower upper old in
+    (factors_at part) (length part)) c.loop-low.invariant.values
+    ∙ pass-ascending all low layers some within small lower upper old in
     let whole : low + layers ≡ length tw = omega (arith, c.loop-low.invariant.below) in
     c.apply_pass-2.ensures.values ∙ ap (map (λ a. g.F.Operations.ops.mul a c.args.scale))
-        (made ∙ ap (λ m. ascending lower upper c.args.width fs m old) whole)
+    (made ∙ ap (λ m. ascending lower upper c.args.width fs m old) whole)
 
 pub returns-clause-count : goal.returns-clause-count
 returns-clause-count g c = λ half e.
@@ -196,11 +200,15 @@ returns-clause-count g c = λ half e.
     let low = c.loop-low.low in
     let layers = length tw - low in
     let all : Layered tw c.args.width (length c.args.entries.now) =
-        record { wide = c.requires.wide; some = c.requires.some; are = c.requires.layers } in
+    record { wide = c.requires.wide; some = c.requires.some; are = c.requires.layers } in
     let some : 1 ≤ layers = omega (arith, c.loop-low.invariant.below, c.requires.group) in
     let within : low + layers ≤ length tw = omega (arith, c.loop-low.invariant.below) in
     let small : length c.args.entries.now < 2 ^ 64 = omega arith in
     let whole : low + layers ≡ length tw = omega (arith, c.loop-low.invariant.below) in
-    omega (arith, c.apply_pass-2.ensures.count half (c.loop-low.auto.entries ∙ e),
-        pass-count all low layers some within small half, ap (λ m. m * half) whole,
-        c.loop-low.invariant.count half e)
+    omega (
+      arith,
+      c.apply_pass-2.ensures.count half (c.loop-low.auto.entries ∙ e),
+      pass-count all low layers some within small half,
+      ap (λ m. m * half) whole,
+      c.loop-low.invariant.count half e,
+    )

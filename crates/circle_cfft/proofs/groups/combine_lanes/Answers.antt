@@ -19,8 +19,8 @@ overflow_mul-start g c =
     let i = c.loop-lane.lane in
     let fits : i * r.stride + r.offset + r.width ≤ length c.loop-lane.lows =
     row-fits g.F.Operations.ops.zero r.offset r.width r.stride c.args.half i
-        (i * r.stride + r.offset) r.width refl refl c.requires.group.1 c.loop-lane-test.true
-        c.loop-lane.lows (c.loop-lane.auto.lows ∙ c.split_at_mut-lows.ensures.front_len) in
+    (i * r.stride + r.offset) r.width refl refl c.requires.group.1 c.loop-lane-test.true
+    c.loop-lane.lows (c.loop-lane.auto.lows ∙ c.split_at_mut-lows.ensures.front_len) in
     omega (arith, fits)
 
 pub overflow_add-start : goal.overflow_add-start
@@ -29,8 +29,8 @@ overflow_add-start g c =
     let i = c.loop-lane.lane in
     let fits : i * r.stride + r.offset + r.width ≤ length c.loop-lane.lows =
     row-fits g.F.Operations.ops.zero r.offset r.width r.stride c.args.half i
-        (i * r.stride + r.offset) r.width refl refl c.requires.group.1 c.loop-lane-test.true
-        c.loop-lane.lows (c.loop-lane.auto.lows ∙ c.split_at_mut-lows.ensures.front_len) in
+    (i * r.stride + r.offset) r.width refl refl c.requires.group.1 c.loop-lane-test.true
+    c.loop-lane.lows (c.loop-lane.auto.lows ∙ c.split_at_mut-lows.ensures.front_len) in
     omega (arith, fits)
 
 pub overflow_add-end : goal.overflow_add-end
@@ -39,8 +39,8 @@ overflow_add-end g c =
     let i = c.loop-lane.lane in
     let fits : i * r.stride + r.offset + r.width ≤ length c.loop-lane.lows =
     row-fits g.F.Operations.ops.zero r.offset r.width r.stride c.args.half i
-        (i * r.stride + r.offset) r.width refl refl c.requires.group.1 c.loop-lane-test.true
-        c.loop-lane.lows (c.loop-lane.auto.lows ∙ c.split_at_mut-lows.ensures.front_len) in
+    (i * r.stride + r.offset) r.width refl refl c.requires.group.1 c.loop-lane-test.true
+    c.loop-lane.lows (c.loop-lane.auto.lows ∙ c.split_at_mut-lows.ensures.front_len) in
     omega (arith, fits)
 
 pub slice_bounds-combine_rows-end : goal.slice_bounds-combine_rows-end
@@ -49,8 +49,8 @@ slice_bounds-combine_rows-end g c =
     let i = c.loop-lane.lane in
     let fits : i * r.stride + r.offset + r.width ≤ length c.loop-lane.lows =
     row-fits g.F.Operations.ops.zero r.offset r.width r.stride c.args.half i
-        (i * r.stride + r.offset) r.width refl refl c.requires.group.1 c.loop-lane-test.true
-        c.loop-lane.lows (c.loop-lane.auto.lows ∙ c.split_at_mut-lows.ensures.front_len) in
+    (i * r.stride + r.offset) r.width refl refl c.requires.group.1 c.loop-lane-test.true
+    c.loop-lane.lows (c.loop-lane.auto.lows ∙ c.split_at_mut-lows.ensures.front_len) in
     omega (arith, fits)
 
 pub slice_bounds-combine_rows-end-in-loop-lane : goal.slice_bounds-combine_rows-end-in-loop-lane
@@ -59,10 +59,14 @@ slice_bounds-combine_rows-end-in-loop-lane g c =
     let i = c.loop-lane.lane in
     let fits : i * r.stride + r.offset + r.width ≤ length c.loop-lane.highs =
     row-fits g.F.Operations.ops.zero r.offset r.width r.stride c.args.half i
-        (i * r.stride + r.offset) r.width refl refl c.requires.group.1 c.loop-lane-test.true
-        c.loop-lane.highs
-        (omega (arith, c.loop-lane.auto.highs, c.requires.length,
-        c.split_at_mut-lows.ensures.back_len)) in
+    (i * r.stride + r.offset) r.width refl refl c.requires.group.1 c.loop-lane-test.true
+    c.loop-lane.highs
+    (omega (
+      arith,
+      c.loop-lane.auto.highs,
+      c.requires.length,
+      c.split_at_mut-lows.ensures.back_len,
+    )) in
     omega (arith, fits)
 
 pub offset_bounds-lows-start : goal.offset_bounds-lows-start
@@ -71,8 +75,8 @@ offset_bounds-lows-start g c =
     let i = c.loop-lane.lane in
     let fits : i * r.stride + r.offset + r.width ≤ length c.loop-lane.lows =
     row-fits g.F.Operations.ops.zero r.offset r.width r.stride c.args.half i
-        (i * r.stride + r.offset) r.width refl refl c.requires.group.1 c.loop-lane-test.true
-        c.loop-lane.lows (c.loop-lane.auto.lows ∙ c.split_at_mut-lows.ensures.front_len) in
+    (i * r.stride + r.offset) r.width refl refl c.requires.group.1 c.loop-lane-test.true
+    c.loop-lane.lows (c.loop-lane.auto.lows ∙ c.split_at_mut-lows.ensures.front_len) in
     search rules
 
 pub offset_bounds-highs-start : goal.offset_bounds-highs-start
@@ -81,10 +85,14 @@ offset_bounds-highs-start g c =
     let i = c.loop-lane.lane in
     let fits : i * r.stride + r.offset + r.width ≤ length c.loop-lane.highs =
     row-fits g.F.Operations.ops.zero r.offset r.width r.stride c.args.half i
-        (i * r.stride + r.offset) r.width refl refl c.requires.group.1 c.loop-lane-test.true
-        c.loop-lane.highs
-        (omega (arith, c.loop-lane.auto.highs, c.requires.length,
-        c.split_at_mut-lows.ensures.back_len)) in
+    (i * r.stride + r.offset) r.width refl refl c.requires.group.1 c.loop-lane-test.true
+    c.loop-lane.highs
+    (omega (
+      arith,
+      c.loop-lane.auto.highs,
+      c.requires.length,
+      c.split_at_mut-lows.ensures.back_len,
+    )) in
     search rules
 
 pub combine_rows-requires-clause-room : goal.combine_rows-requires-clause-room
@@ -97,18 +105,18 @@ loop-lane-preserved g c =
     let i = c.loop-lane.lane in
     let start = i * r.stride + r.offset in
     let front : length c.split_at_mut-lows.result.0.now ≡ c.args.half * r.stride =
-        c.split_at_mut-lows.ensures.front_len in
+    c.split_at_mut-lows.ensures.front_len in
     let back : length c.split_at_mut-lows.result.1.now ≡ c.args.half * r.stride =
-        omega (arith, c.requires.length, c.split_at_mut-lows.ensures.back_len) in
+    omega (arith, c.requires.length, c.split_at_mut-lows.ensures.back_len) in
     record {
       rows = paired-more g.F.Operations.ops.zero g.B.Butterfly.lower g.B.Butterfly.upper
           c.args.factor r.offset r.width r.stride c.args.half c.split_at_mut-lows.result.0.now
           c.split_at_mut-lows.result.1.now
           i start (start + r.width - start) c.loop-lane.lows c.loop-lane.highs
-              c.loop-lane.invariant.rows refl (omega arith) c.requires.group.1 c.loop-lane-test.true
-              (c.loop-lane.auto.lows ∙ front) (c.loop-lane.auto.highs ∙ back)
+          c.loop-lane.invariant.rows refl (omega arith) c.requires.group.1 c.loop-lane-test.true
+          (c.loop-lane.auto.lows ∙ front) (c.loop-lane.auto.highs ∙ back)
           c.combine_rows.new.lows c.combine_rows.new.highs c.combine_rows.ensures.low
-              c.combine_rows.ensures.high;
+          c.combine_rows.ensures.high;
       count = c.combine_rows.ensures.count ∙ omega (arith, c.loop-lane.invariant.count);
     }
 
@@ -116,13 +124,13 @@ pub returns-clause-rows : goal.returns-clause-rows
 returns-clause-rows g c =
     let r = c.args.group in
     let front : length c.split_at_mut-lows.result.0.now ≡ c.args.half * r.stride =
-        c.split_at_mut-lows.ensures.front_len in
+    c.split_at_mut-lows.ensures.front_len in
     paired-all g.F.Operations.ops.zero g.B.Butterfly.lower g.B.Butterfly.upper c.args.factor
-        r.offset r.width r.stride c.args.half c.split_at_mut-lows.result.0.now
-        c.split_at_mut-lows.result.1.now
+    r.offset r.width r.stride c.args.half c.split_at_mut-lows.result.0.now
+    c.split_at_mut-lows.result.1.now
     c.loop-lane.lane c.loop-lane.lows c.loop-lane.highs c.args.part.now c.loop-lane.invariant.rows
-        c.loop-lane-test.false c.split_at_mut-lows.ensures.value front
-        (c.loop-lane.auto.lows ∙ front)
+    c.loop-lane-test.false c.split_at_mut-lows.ensures.value front
+    (c.loop-lane.auto.lows ∙ front)
 
 pub returns-clause-count : goal.returns-clause-count
 returns-clause-count g c =

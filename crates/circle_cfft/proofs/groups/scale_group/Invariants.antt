@@ -6,5 +6,5 @@ invariant-loop-lane g l =
     let k = g.F.Operations.ops in
     let r = l.group in
     WrittenRows k.zero r.offset r.width r.stride l.lanes l.lane
-        (mapped_column k.zero (λ a. k.mul a l.factor) r.offset r.width r.stride l.lanes l.fn.block)
-        l.fn.block l.block
+    (mapped_column k.zero (λ a. k.mul a l.factor) r.offset r.width r.stride l.lanes l.fn.block)
+    l.fn.block l.block

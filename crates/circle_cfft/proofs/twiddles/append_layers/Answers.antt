@@ -16,21 +16,21 @@ loop-i-preserved g c =
     let x = c.sub-doubled.result in
     let step : x ≡ doubled_x k d =
     g.met.F.Field.sub_law _ _ x c.sub-doubled.ensures
-        ∙ ap (λ a. k.add a (k.neg c.ONE.result))
-        (c.double.ensures ∙ ap (λ a. k.add a a) c.square.ensures)
+    ∙ ap (λ a. k.add a (k.neg c.ONE.result))
+    (c.double.ensures ∙ ap (λ a. k.add a a) c.square.ensures)
     ∙ ap (λ a. k.add (k.add (k.mul d d) (k.mul d d)) (k.neg a))
-        (c.ONE.ensures ∙ g.met.F.Field.one_law) in
+    (c.ONE.ensures ∙ g.met.F.Field.one_law) in
     record {
       long = ap length c.in_ok-push.ensures.items ∙ length_push made x
           ∙ omega (arith, c.loop-i.invariant.long);
       layers = λ m e.
           let s : m + 1 ≡ suc m = omega arith in
           let here : i + 1 < 2 ^ m =
-              omega (arith, c.loop-i-test.true, c.len-i-end.ensures, c.args.factors.now.ok.0, e) in
+          omega (arith, c.loop-i-test.true, c.len-i-end.ensures, c.args.factors.now.ok.0, e) in
           c.in_ok-push.ensures.items
-              ∙ ap (λ y. made ++ y ∷ []) (step ∙ ap (doubled_x k) c.index.ensures)
+          ∙ ap (λ y. made ++ y ∷ []) (step ∙ ap (doubled_x k) c.index.ensures)
           ∙ layers-more k m old made i d e here
-              (c.loop-i.invariant.layers m e ∙ ap (λ n. take (2 ^ m + i) (layers_from k n old)) s)
+          (c.loop-i.invariant.layers m e ∙ ap (λ n. take (2 ^ m + i) (layers_from k n old)) s)
           ∙ ap (λ n. take (2 ^ m + (i + 1)) (layers_from k n old)) (sym s);
     }
 
@@ -41,8 +41,15 @@ returns g c = λ m e.
     let i = c.loop-i.i in
     let s : m + 1 ≡ suc m = omega arith in
     let long : length (layers_from k (m + 1) old) + 1 ≡ 2 ^ m + 2 ^ m =
-        ap (λ n. length (layers_from k n old) + 1) s ∙ length-layers k m old e in
+    ap (λ n. length (layers_from k n old) + 1) s ∙ length-layers k m old e in
     let end : length (layers_from k (m + 1) old) ≤ 2 ^ m + i =
-        omega (arith, long, c.loop-i-test.false, c.len-i-end.ensures, c.args.factors.now.ok.0, e,
-        c.requires) in
+    omega (
+      arith,
+      long,
+      c.loop-i-test.false,
+      c.len-i-end.ensures,
+      c.args.factors.now.ok.0,
+      e,
+      c.requires,
+    ) in
     c.loop-i.invariant.layers m e ∙ take_all (2 ^ m + i) (layers_from k (m + 1) old) end

@@ -11,9 +11,14 @@ invert_four-requires-clause-length g c =
     let inv = g.F.Operations.ops.inv in
     let within : n ≤ length xs = omega (arith, c.loop-j.auto.j, c.requires.some) in
     ap length (c.deref_mut.ensures.value ∙ c.loop-j.invariant)
-        ∙ length-append (take n xs) (map inv (drop n xs))
-    ∙ omega (arith, within, length-take-le n xs within, length-map (drop n xs) inv,
-        length-drop n xs)
+    ∙ length-append (take n xs) (map inv (drop n xs))
+    ∙ omega (
+      arith,
+      within,
+      length-take-le n xs within,
+      length-map (drop n xs) inv,
+      length-drop n xs,
+    )
 
 pub invert_four-requires-clause-room : goal.invert_four-requires-clause-room
 invert_four-requires-clause-room g c =
@@ -33,13 +38,13 @@ invert_four-requires-clause-above g c =
     let xs = c.args.factors.now in
     let next : 4 * c.loop-j.j ≡ 4 * (c.loop-j.j - 1) + 4 = omega (arith, c.loop-j-test.true) in
     c.deref_mut.ensures.value ∙ c.loop-j.invariant
-        ∙ ap (λ n. take n xs ++ map g.F.Operations.ops.inv (drop n xs)) next
+    ∙ ap (λ n. take n xs ++ map g.F.Operations.ops.inv (drop n xs)) next
 
 pub loop-j-preserved : goal.loop-j-preserved
 loop-j-preserved g c =
     let old = c.loop-j.inverses in
     take-whole old.len c.invert_four.new.inverses old.items old.ok.0
-        (c.invert_four.auto.inverses ∙ ap length c.deref_mut.ensures.value) ∙ c.invert_four.ensures
+    (c.invert_four.auto.inverses ∙ ap length c.deref_mut.ensures.value) ∙ c.invert_four.ensures
 
 pub returns : goal.returns
 returns g c =

@@ -8,4 +8,4 @@ abbrev pub invariant-loop-byte : goal.invariant-loop-byte
 invariant-loop-byte g l =
     let state = g.C.ChallengerState.state in
     state l.challenger ≡ after_all g.C.CanObserve.after_observe (state l.initial.challenger)
-        (map (of_nat g.F.Operations.ops) (take l.byte-index l.bytes))
+    (map (of_nat g.F.Operations.ops) (take l.byte-index l.bytes))

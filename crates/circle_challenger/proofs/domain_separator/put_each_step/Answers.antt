@@ -22,4 +22,4 @@ returns-clause-writable c =
     let all = take_all c.loop-step.step-index c.args.steps.now c.loop-step-test.false in
     All-map IsWritableStep step_of c.args.steps.now
     (All-same (λ (x : Interaction). IsWritableStep (step_of x)) c.args.steps.now _ (sym all)
-        c.loop-step.invariant.writable)
+    c.loop-step.invariant.writable)

@@ -28,8 +28,8 @@ loop-i-preserved g c =
     let xs = c.loop-i.numbers.items in
     let x = c.sample_bits.result in
     let drawn : small x =
-        subst small (sym c.sample_bits.ensures.value)
-        (g.met.C.CanSampleBits.bits_below state c.args.width c.requires) in
+    subst small (sym c.sample_bits.ensures.value)
+    (g.met.C.CanSampleBits.bits_below state c.args.width c.requires) in
     record {
       numbers =
           samples-more (λ s. bits.sampled_bits s c.args.width) (λ s. bits.after_bits s c.args.width)

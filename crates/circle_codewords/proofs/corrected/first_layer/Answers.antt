@@ -20,10 +20,17 @@ layer-requires-clause-openable g c = c.requires.openable
 pub loop-log_height-preserved : goal.loop-log_height-preserved
 loop-log_height-preserved g c =
     let k : Fields g.row.F.Denot g.row.EF.Denot =
-        record { field = g.F.Operations.ops; gen = g.F.ComplexExtendable.generators; two_adicity =
-        g.F.ComplexExtendable.CIRCLE_TWO_ADICITY; is_zero = λ w. g.F.PartialEq.eq w g.F.Field.ZERO;
-        extension = g.EF.Operations.ops; embed = g.EF.ExtensionField.embed; same =
-        g.EF.PartialEq.eq } in
+    record {
+      field = g.F.Operations.ops;
+      gen = g.F.ComplexExtendable.generators;
+      two_adicity =
+          g.F.ComplexExtendable.CIRCLE_TWO_ADICITY;
+      is_zero = λ w. g.F.PartialEq.eq w g.F.Field.ZERO;
+      extension = g.EF.Operations.ops;
+      embed = g.EF.ExtensionField.embed;
+      same =
+          g.EF.PartialEq.eq;
+    } in
     let ms = map (committed_of k c.args.log_blowup) c.args.matrices.now in
     let heights = c.args.heights.now in
     let i = c.loop-log_height.log_height-index in
@@ -44,11 +51,15 @@ loop-log_height-preserved g c =
           heights i h (map rows old) (map rows c.push-in-loop-log_height.new.self.items) (rows made)
           lt is
           (ap (map rows) pushed ∙ map-append rows old (made ∷ [])) (inv.layers alpha are)
-              (c.in_ok-lambda.ensures.rows alpha are);
+          (c.in_ok-lambda.ensures.rows alpha are);
       shapes = record {
         count = ap length pushed ∙ length-append old (made ∷ [])
-            ∙ omega (arith, inv.shapes.count, ap length (take_more heights i h lt),
-            length-append (take i heights) (slice_index_or heights i h ∷ []));
+            ∙ omega (
+              arith,
+              inv.shapes.count,
+              ap length (take_more heights i h lt),
+              length-append (take i heights) (slice_index_or heights i h ∷ []),
+            );
         width = All-same (λ (m : RowMajorMatrix g.row.EF.Denot). width_of m ≡ 2) _ _ pushed
             (All-push (λ (m : RowMajorMatrix g.row.EF.Denot). width_of m ≡ 2) old made
             inv.shapes.width c.in_ok-lambda.ensures.width);
@@ -56,26 +67,26 @@ loop-log_height-preserved g c =
             map_pushed (λ n. 2 ^ (n - 1)) heights i h (map height_of old)
             (map height_of c.push-in-loop-log_height.new.self.items) (height_of made) lt is
             (ap (map height_of) pushed ∙ map-append height_of old (made ∷ [])) inv.shapes.height
-                c.in_ok-lambda.ensures.height;
+            c.in_ok-lambda.ensures.height;
       };
     }
 
 pub returns-clause-lambdas : goal.returns-clause-lambdas
 returns-clause-lambdas g c = λ alpha are.
     c.loop-log_height.invariant.lambdas alpha are
-        ∙ ap (map _)
-        (take_all c.loop-log_height.log_height-index c.args.heights.now
-        (omega (arith, c.loop-log_height-test.false)))
+    ∙ ap (map _)
+    (take_all c.loop-log_height.log_height-index c.args.heights.now
+    (omega (arith, c.loop-log_height-test.false)))
 
 pub returns-clause-layers : goal.returns-clause-layers
 returns-clause-layers g c = λ alpha are.
     c.loop-log_height.invariant.layers alpha are
-        ∙ ap (map _)
-        (take_all c.loop-log_height.log_height-index c.args.heights.now
-        (omega (arith, c.loop-log_height-test.false)))
+    ∙ ap (map _)
+    (take_all c.loop-log_height.log_height-index c.args.heights.now
+    (omega (arith, c.loop-log_height-test.false)))
 
 pub returns-clause-shapes : goal.returns-clause-shapes
 returns-clause-shapes g c =
     subst (λ hs. HaveHeights hs c.loop-log_height.layers.items)
-        (take_all c.loop-log_height.log_height-index c.args.heights.now
-        (omega (arith, c.loop-log_height-test.false))) c.loop-log_height.invariant.shapes
+    (take_all c.loop-log_height.log_height-index c.args.heights.now
+    (omega (arith, c.loop-log_height-test.false))) c.loop-log_height.invariant.shapes

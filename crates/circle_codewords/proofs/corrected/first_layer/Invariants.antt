@@ -9,10 +9,17 @@ use Rattle.circle_codewords.proofs.corrected.first_layer.Given as goal
 abbrev pub invariant-loop-log_height : goal.invariant-loop-log_height
 invariant-loop-log_height g l =
     let k : Fields g.row.F.Denot g.row.EF.Denot =
-        record { field = g.F.Operations.ops; gen = g.F.ComplexExtendable.generators; two_adicity =
-        g.F.ComplexExtendable.CIRCLE_TWO_ADICITY; is_zero = λ w. g.F.PartialEq.eq w g.F.Field.ZERO;
-        extension = g.EF.Operations.ops; embed = g.EF.ExtensionField.embed; same =
-        g.EF.PartialEq.eq } in
+    record {
+      field = g.F.Operations.ops;
+      gen = g.F.ComplexExtendable.generators;
+      two_adicity =
+          g.F.ComplexExtendable.CIRCLE_TWO_ADICITY;
+      is_zero = λ w. g.F.PartialEq.eq w g.F.Field.ZERO;
+      extension = g.EF.Operations.ops;
+      embed = g.EF.ExtensionField.embed;
+      same =
+          g.EF.PartialEq.eq;
+    } in
     let ms = map (committed_of k l.log_blowup) l.matrices in
     let done = take l.log_height-index l.heights in
     record {

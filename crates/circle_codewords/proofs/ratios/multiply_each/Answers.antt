@@ -17,14 +17,14 @@ loop-i-preserved g c =
     let in_xs : i < length xs = omega (arith, in_ys, c.requires) in
     let long = length-pairwise k.mul xs ys c.requires in
     let read_a : slice_index_or xs i a ≡ a =
-        sym (c.index-entries-i.is ∙ ap (λ zs. slice_index_or zs i a) c.loop-i.invariant
-        ∙ written-read i (pairwise k.mul xs ys) xs a long) in
+    sym (c.index-entries-i.is ∙ ap (λ zs. slice_index_or zs i a) c.loop-i.invariant
+    ∙ written-read i (pairwise k.mul xs ys) xs a long) in
     let is : u ≡ slice_index_or (pairwise k.mul xs ys) i u =
     g.met.F.Field.mul_law _ _ _ c.mul.ensures
     ∙ ap (λ x. k.mul x b) (sym read_a) ∙ ap (k.mul (slice_index_or xs i a)) c.index-factors-i.is
-        ∙ sym (pairwise-read k.mul xs ys i a b u in_xs in_ys) in
+    ∙ sym (pairwise-read k.mul xs ys i a b u in_xs in_ys) in
     ap (λ zs. slice_set zs i u) c.loop-i.invariant
-        ∙ ap (slice_set (written i (pairwise k.mul xs ys) xs) i) is
+    ∙ ap (slice_set (written i (pairwise k.mul xs ys) xs) i) is
     ∙ written-more i (pairwise k.mul xs ys) xs u long in_xs
 
 pub returns : goal.returns
@@ -33,4 +33,4 @@ returns g c =
     let xs = c.args.entries.now in
     let ys = c.args.factors.now in
     c.loop-i.invariant ∙ written-all c.loop-i.i (pairwise k.mul xs ys) xs
-        (length-pairwise k.mul xs ys c.requires) (omega (arith, c.loop-i-test.false, c.requires))
+    (length-pairwise k.mul xs ys c.requires) (omega (arith, c.loop-i-test.false, c.requires))

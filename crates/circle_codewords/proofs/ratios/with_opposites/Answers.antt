@@ -11,13 +11,13 @@ loop-point-preserved g c =
     let o = c.neg.result in
     let old = c.loop-point.points.items in
     opposites-more g.F.Operations.ops coordinates c.args.first.now c.loop-point.point-index p
-        (map coordinates old) (map coordinates c.push-in-loop-point.new.self.items) (coordinates p)
-        (coordinates o)
+    (map coordinates old) (map coordinates c.push-in-loop-point.new.self.items) (coordinates p)
+    (coordinates o)
     c.loop-point-test.true c.point-item.is
     (ap (map coordinates)
-        (c.in_ok-push-2.ensures.items ∙ ap (λ xs. xs ++ o ∷ []) c.in_ok-push.ensures.items)
+    (c.in_ok-push-2.ensures.items ∙ ap (λ xs. xs ++ o ∷ []) c.in_ok-push.ensures.items)
     ∙ map-append coordinates (old ++ p ∷ []) (o ∷ [])
-        ∙ ap (λ xs. xs ++ coordinates o ∷ []) (map-append coordinates old (p ∷ [])))
+    ∙ ap (λ xs. xs ++ coordinates o ∷ []) (map-append coordinates old (p ∷ [])))
     c.loop-point.invariant refl c.neg.ensures.opposite
 
 pub returns : goal.returns

@@ -6,7 +6,7 @@ use Rattle.circle_commands.proofs.prove.evaluation.Goals as goal
 pub standard-domain-requires : goal.standard-domain-requires
 standard-domain-requires c =
     let small = log_fits c.log2_strict.result (length c.args.rows.now) c.log2_strict.ensures.power
-        c.requires.at_most in
+    c.requires.at_most in
     omega (arith, small)
 
 pub returns : goal.returns

@@ -12,8 +12,8 @@ pub log2_strict-requires : goal.log2_strict-requires
 log2_strict-requires c =
     let t = c.trace-item.result in
     let fit : HasFittingRows t =
-        subst HasFittingRows (sym c.trace-item.is)
-        (c.requires c.loop-trace.trace-index _ c.loop-trace-test.true) in
+    subst HasFittingRows (sym c.trace-item.is)
+    (c.requires c.loop-trace.trace-index _ c.loop-trace-test.true) in
     let same : vec_len t.rows ≡ length t.rows.items = omega (arith, t.rows.ok.0) in
     (fit.power.0, c.len.ensures ∙ same ∙ fit.power.1)
 
@@ -25,11 +25,11 @@ loop-trace-preserved c =
     let same : vec_len t.rows ≡ length t.rows.items = omega (arith, t.rows.ok.0) in
     let log : c.log2_strict.result ≡ log_of (length t.rows.items) =
     sym (log_of-power c.log2_strict.result c.log2_strict.ensures.bound)
-        ∙ ap log_of (c.log2_strict.ensures.power ∙ c.len.ensures ∙ same) in
+    ∙ ap log_of (c.log2_strict.ensures.power ∙ c.len.ensures ∙ same) in
     c.in_ok-push.ensures.items
     ∙ ap (λ ls. ls ++ c.log2_strict.result ∷ []) c.loop-trace.invariant
     ∙ ap (λ l. logs_of (take i traces) ++ l ∷ [])
-        (log ∙ ap (λ (t : Trace). log_of (length t.rows.items)) c.trace-item.is)
+    (log ∙ ap (λ (t : Trace). log_of (length t.rows.items)) c.trace-item.is)
     ∙ sym (map_more (λ (t : Trace). log_of (length t.rows.items)) traces i t c.loop-trace-test.true)
 
 pub returns : goal.returns

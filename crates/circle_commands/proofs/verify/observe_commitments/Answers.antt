@@ -9,7 +9,7 @@ loop-batch-init c = refl
 pub loop-batch-preserved : goal.loop-batch-preserved
 loop-batch-preserved c =
     taken_more (state_of c.loop-batch.challenger) (state_of c.observe.new.self) c.args.batches.now
-        c.loop-batch.batch-index c.batch-item.result
+    c.loop-batch.batch-index c.batch-item.result
     c.loop-batch-test.true c.batch-item.is c.observe.ensures
     ∙ c.loop-batch.invariant
 

@@ -9,8 +9,8 @@ loop-given-preserved g c =
     let i = c.loop-given.given-index in
     let given = c.given-item.result in
     let read : take (i + 1) batch ≡ take i batch ++ given ∷ [] =
-        take_more batch i given c.loop-given-test.true
-        ∙ ap (λ m. take i batch ++ m ∷ []) (sym c.given-item.is) in
+    take_more batch i given c.loop-given-test.true
+    ∙ ap (λ m. take i batch ++ m ∷ []) (sym c.given-item.is) in
     c.in_ok-push.ensures.items ∙ ap (λ ds. ds ++ given.0 ∷ []) c.loop-given.invariant
     ∙ sym (ap (map first) read ∙ map-append first (take i batch) (given ∷ []))
 
@@ -18,4 +18,4 @@ pub returns : goal.returns
 returns g c =
     c.loop-given.invariant
     ∙ ap (map (λ (m : g.row.D.Denot × g.row.M.Denot). m.0))
-        (take_all c.loop-given.given-index c.args.batch.now c.loop-given-test.false)
+    (take_all c.loop-given.given-index c.args.batch.now c.loop-given-test.false)

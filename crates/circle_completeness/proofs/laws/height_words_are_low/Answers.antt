@@ -9,10 +9,10 @@ returns g c =
           g.met.EF.ExtensionField.embedding g.F.PartialEq.eq g.met.F.Field.eq_law g.EF.PartialEq.eq
           g.met.EF.Field.eq_law
           g.met.F.ComplexExtendable.generators_law c.args.log_blowup c.requires.blowup c.args.alpha
-              ms;
+          ms;
       corrected = λ ms. words-corrected _ g.F.Operations.laws g.EF.Operations.laws
           g.met.EF.ExtensionField.embedding g.F.PartialEq.eq g.met.F.Field.eq_law g.EF.PartialEq.eq
           g.met.EF.Field.eq_law
           g.met.F.ComplexExtendable.generators_law c.args.log_blowup c.requires.blowup c.args.alpha
-              ms;
+          ms;
     }

@@ -19,11 +19,11 @@ returns g c = record {
   ends = ends-low _ g.Val.Operations.laws g.EF.Operations.laws g.met.EF.ExtensionField.embedding
       g.Val.PartialEq.eq g.met.Val.Field.eq_law g.EF.PartialEq.eq g.met.EF.Field.eq_law
       g.met.Val.ComplexExtendable.generators_law g.InputMmcs.Mmcs.matrices c.args.params.now
-          c.args.requests.now c.requires.parameters c.requires.requests;
+      c.args.requests.now c.requires.parameters c.requires.requests;
   never =
       never-too-high _ g.Val.Operations.laws g.EF.Operations.laws g.met.EF.ExtensionField.embedding
       g.Val.PartialEq.eq g.met.Val.Field.eq_law g.EF.PartialEq.eq g.met.EF.Field.eq_law
       g.met.Val.ComplexExtendable.generators_law g.InputMmcs.Mmcs.matrices c.args.params.now
-          c.args.requests.now c.requires.parameters c.requires.requests (challenger g)
-          (g.FriMmcs.Mmcs.commits c.args.params.now.mmcs);
+      c.args.requests.now c.requires.parameters c.requires.requests (challenger g)
+      (g.FriMmcs.Mmcs.commits c.args.params.now.mmcs);
 }

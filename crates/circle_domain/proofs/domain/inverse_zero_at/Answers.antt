@@ -18,9 +18,9 @@ returns g c =
     let d = coordinates c.sub-difference.result in
     let same = c.sub-difference.ensures.difference in
     let flat : d.y ≢ k.zero =
-        λ z. c.requires (sym (ap (λ (r : Coordinates g.row.EF.Denot). r.y) same) ∙ z) in
+    λ z. c.requires (sym (ap (λ (r : Coordinates g.row.EF.Denot). r.y) same) ∙ z) in
     let next : c.add.result ≡ k.add d.x k.one =
-        grind (arith, common_steps, g.met.EF.Field.add_law, g.met.EF.Field.one_law) in
+    grind (arith, common_steps, g.met.EF.Field.add_law, g.met.EF.Field.one_law) in
     g.met.EF.Field.mul_law _ _ _ c.mul.ensures
     ∙ ap (λ v. k.mul v c.inverse.result) next
     ∙ ap (k.mul (k.add d.x k.one)) (c.inverse.ensures ∙ ap k.inv c.y.ensures)

@@ -11,7 +11,7 @@ returns-else-min_size-le2-clause-least c =
     let low : 2 ^ h ≤ m - 1 = omega (arith, c.ilog2.ensures.power_le) in
     let high : m - 1 < 2 * 2 ^ h = omega (arith, c.ilog2.ensures.next_power_gt) in
     let double : 2 ^ (h + 1) ≡ 2 ^ h * 2 =
-        (let e : h + 1 ≡ suc h = omega arith in ap (λ n. 2 ^ n) e) ∙ pow-suc 2 h in (
+    (let e : h + 1 ≡ suc h = omega arith in ap (λ n. 2 ^ n) e) ∙ pow-suc 2 h in (
       omega arith,
       omega (arith, high, double),
       λ j positive enough. ⊎_elim (λ lt. omega (arith, lt))

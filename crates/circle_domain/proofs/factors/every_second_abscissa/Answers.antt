@@ -11,8 +11,8 @@ use Rattle.circle_domain.proofs.factors.every_second_abscissa.Goals as goal
 pub loop-i-init : goal.loop-i-init
 loop-i-init g c =
     let rest =
-        map (λ (p : Coordinates g.row.F.Denot). p.x)
-        (every_second (map coordinates c.args.points.now)) in
+    map (λ (p : Coordinates g.row.F.Denot). p.x)
+    (every_second (map coordinates c.args.points.now)) in
     ap (λ ys. ys ++ rest) c.in_ok-abscissas.ensures.items
 
 pub loop-i-preserved : goal.loop-i-preserved
@@ -28,7 +28,7 @@ loop-i-preserved g c =
     let long : length xs ≡ length points = length-map points coordinates in
     let even : length xs % 2 ≡ 0 = ap (λ n. n % 2) long ∙ c.requires in
     let read : coordinates p ≡ slice_index_or xs (2 * i) (coordinates p) =
-        ap coordinates c.index-points-i.is ∙ sym (get_or-map coordinates points (2 * i) p) in
+    ap coordinates c.index-points-i.is ∙ sym (get_or-map coordinates points (2 * i) p) in
     let next = every_second-more xs i (coordinates p) even (omega (arith, long)) in
     ap (λ ys. ys ++ rest) c.in_ok-push.ensures.items
     ∙ append_assoc made (x ∷ []) rest
@@ -42,7 +42,7 @@ returns g c =
     let points = c.args.points.now in
     let made = c.loop-i.abscissas.items in
     let none =
-        at_drop_all (λ (ys : List (Coordinates g.row.F.Denot)). made ++ map f (every_second ys))
-        (map coordinates points) (2 * c.loop-i.i)
+    at_drop_all (λ (ys : List (Coordinates g.row.F.Denot)). made ++ map f (every_second ys))
+    (map coordinates points) (2 * c.loop-i.i)
     (omega (arith, c.loop-i-test.false, c.requires, length-map points coordinates)) in
     sym (append-nil made) ∙ sym none ∙ c.loop-i.invariant

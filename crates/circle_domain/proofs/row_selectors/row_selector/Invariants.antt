@@ -8,6 +8,6 @@ abbrev pub invariant-loop-i : goal.invariant-loop-i
 invariant-loop-i g l =
     let k = g.F.Operations.ops in
     l.values.items
-        ≡ take l.i
-        (pairwise (λ z p. k.mul z (k.inv (zero_at k (coordinates l.row) (coordinates p))))
-        l.vanishing l.points)
+    ≡ take l.i
+    (pairwise (λ z p. k.mul z (k.inv (zero_at k (coordinates l.row) (coordinates p))))
+    l.vanishing l.points)

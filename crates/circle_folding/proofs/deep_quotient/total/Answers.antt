@@ -10,7 +10,7 @@ loop-entry-preserved g c =
     let x = c.entry-item.result in
     g.met.F.Field.add_law _ _ _ c.add-sum.ensures ∙ ap (λ s. k.add s x) c.loop-entry.invariant
     ∙ sym (sum-more g.F.Operations.laws.ring c.args.entries.now c.loop-entry.entry-index x
-        c.loop-entry-test.true c.entry-item.is)
+    c.loop-entry-test.true c.entry-item.is)
 
 pub returns : goal.returns
 returns g c = c.loop-entry.invariant

@@ -35,9 +35,9 @@ fold_rows-requires g c =
     let r = c.log2_strict-log_height.result in
     let same = c.log2_strict-log_height.ensures.only power.0 (c.height.ensures ∙ power.1) in
     let are = c.deref.ensures.value
-        ∙ fold_x_twiddles-of k gen r c.args.log_arity (log_size c.standard-domain.result)
-        (shift_of c.standard-domain.result) c.in_ok-x_twiddles.field-0.items c.requires.arity
-        c.standard-domain.ensures.size c.standard-domain.ensures.shift c.in_ok-x_twiddles.ensures in
+    ∙ fold_x_twiddles-of k gen r c.args.log_arity (log_size c.standard-domain.result)
+    (shift_of c.standard-domain.result) c.in_ok-x_twiddles.field-0.items c.requires.arity
+    c.standard-domain.ensures.size c.standard-domain.ensures.shift c.in_ok-x_twiddles.ensures in
     record {
       width = c.requires.width;
       height = power.1 ∙ ap (λ n. 2 ^ n) (sym same)
@@ -57,28 +57,31 @@ returns g c =
     let height = g.M.MatrixShape.height c.args.evals.now in
     let result = c.fold_rows.result in
     let made = folds-of g.EF.Operations.ops c.args.beta g.EF.ExtensionField.embed
-        (g.M.Matrix.rows c.args.evals.now) (fold_x_twiddles k gen) c.deref.result.now r
-        (g.M.MatrixShape.height c.args.evals.now) c.fold_rows.result
+    (g.M.Matrix.rows c.args.evals.now) (fold_x_twiddles k gen) c.deref.result.now r
+    (g.M.MatrixShape.height c.args.evals.now) c.fold_rows.result
     (c.deref.ensures.value
-        ∙ fold_x_twiddles-of k gen r c.args.log_arity (log_size c.standard-domain.result)
-        (shift_of c.standard-domain.result) c.in_ok-x_twiddles.field-0.items c.requires.arity
-        c.standard-domain.ensures.size c.standard-domain.ensures.shift c.in_ok-x_twiddles.ensures)
+    ∙ fold_x_twiddles-of k gen r c.args.log_arity (log_size c.standard-domain.result)
+    (shift_of c.standard-domain.result) c.in_ok-x_twiddles.field-0.items c.requires.arity
+    c.standard-domain.ensures.size c.standard-domain.ensures.shift c.in_ok-x_twiddles.ensures)
     (λ n height. c.log2_strict-log_height.ensures.only n (c.height.ensures ∙ height))
-        c.fold_rows.ensures in
+    c.fold_rows.ensures in
     let wide : All (λ row. length row ≡ 2) rows =
-        subst (λ w. All (λ row. length row ≡ w) rows) c.requires.width
-        (g.met.M.Matrix.width_law c.args.evals.now) in
+    subst (λ w. All (λ row. length row ≡ w) rows) c.requires.width
+    (g.met.M.Matrix.width_law c.args.evals.now) in
     let base = g.F.Operations.laws in
     let laws = g.EF.Operations.laws in
     let e = g.met.EF.ExtensionField.embedding in
     let gens = g.met.F.ComplexExtendable.generators_law in
     let power = c.requires.height in
     let fits : (n : ℕ) → height ≡ 2 ^ n → n + 3 ≤ _ =
-        λ n h. omega (arith, power.2,
-        c.log2_strict-log_height.ensures.only n (c.height.ensures ∙ h),
-        c.log2_strict-log_height.ensures.only power.0 (c.height.ensures ∙ power.1)) in
+    λ n h. omega (
+      arith,
+      power.2,
+      c.log2_strict-log_height.ensures.only n (c.height.ensures ∙ h),
+      c.log2_strict-log_height.ensures.only power.0 (c.height.ensures ∙ power.1),
+    ) in
     let tall : (n : ℕ) → height ≡ 2 ^ n → length rows ≡ 2 ^ n =
-        λ n h. g.met.M.Matrix.height_law c.args.evals.now ∙ h in
+    λ n h. g.met.M.Matrix.height_law c.args.evals.now ∙ h in
     record {
       folds = made;
       halves =

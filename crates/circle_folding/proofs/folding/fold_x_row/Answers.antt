@@ -26,7 +26,7 @@ nth_point-requires-clause-in_group g c =
 pub nth_point-requires-clause-in_range : goal.nth_point-requires-clause-in_range
 nth_point-requires-clause-in_range g c =
     subst (λ n. c.cfft_permute_index.result < 2 ^ n) (sym c.standard-domain.ensures.size)
-        c.cfft_permute_index.ensures.below
+    c.cfft_permute_index.ensures.below
 
 pub unwrap-requires : goal.unwrap-requires
 unwrap-requires g c =
@@ -37,16 +37,16 @@ unwrap-requires g c =
     let r = c.args.log_folded_height in
     let t : c.x-twiddle.result ≡ get_or (fold_x_twiddles k gen r) c.args.index k.zero =
     c.x-twiddle.ensures
-        ∙ x_twiddle-of laws gens r c.args.log_arity (log_size c.standard-domain.result) c.args.index
-        c.cfft_permute_index.result (shift_of c.standard-domain.result)
-        (coordinates c.nth_point.result)
+    ∙ x_twiddle-of laws gens r c.args.log_arity (log_size c.standard-domain.result) c.args.index
+    c.cfft_permute_index.result (shift_of c.standard-domain.result)
+    (coordinates c.nth_point.result)
     c.requires.index c.requires.in_group g.met.F.ComplexExtendable.at_most_62 c.requires.arity
-        c.standard-domain.ensures.size c.standard-domain.ensures.shift
-        c.cfft_permute_index.ensures.value c.nth_point.ensures in
+    c.standard-domain.ensures.size c.standard-domain.ensures.shift
+    c.cfft_permute_index.ensures.value c.nth_point.ensures in
     some_unless c.try_inverse.result
-        (λ none. fold_x_twiddles-nonzero laws gens r c.requires.in_group c.args.index k.zero
-        (omega (arith, c.requires.index, length-fold_x_twiddles k gen r))
-        (sym t ∙ c.try_inverse.ensures.none.0 none))
+    (λ none. fold_x_twiddles-nonzero laws gens r c.requires.in_group c.args.index k.zero
+    (omega (arith, c.requires.index, length-fold_x_twiddles k gen r))
+    (sym t ∙ c.try_inverse.ensures.none.0 none))
 
 pub returns : goal.returns
 returns g c =
@@ -60,17 +60,17 @@ returns g c =
     let u = get_or (fold_x_twiddles k gen r) c.args.index k.zero in
     let t : c.x-twiddle.result ≡ u =
     c.x-twiddle.ensures
-        ∙ x_twiddle-of laws gens r c.args.log_arity (log_size c.standard-domain.result) c.args.index
-        c.cfft_permute_index.result (shift_of c.standard-domain.result)
-        (coordinates c.nth_point.result)
+    ∙ x_twiddle-of laws gens r c.args.log_arity (log_size c.standard-domain.result) c.args.index
+    c.cfft_permute_index.result (shift_of c.standard-domain.result)
+    (coordinates c.nth_point.result)
     c.requires.index c.requires.in_group g.met.F.ComplexExtendable.at_most_62 c.requires.arity
-        c.standard-domain.ensures.size c.standard-domain.ensures.shift
-        c.cfft_permute_index.ensures.value c.nth_point.ensures in
+    c.standard-domain.ensures.size c.standard-domain.ensures.shift
+    c.cfft_permute_index.ensures.value c.nth_point.ensures in
     let nonzero : u ≢ k.zero = fold_x_twiddles-nonzero laws gens r c.requires.in_group c.args.index
-        k.zero (omega (arith, c.requires.index, length-fold_x_twiddles k gen r)) in
+    k.zero (omega (arith, c.requires.index, length-fold_x_twiddles k gen r)) in
     let two : length c.args.evals ≡ 2 = c.well_formed.1.1.1.1.0.1.0.1 in
     c.fold_row_with_inv_twiddle.ensures u nonzero
-        (subst (λ o. IfSome o (λ i. i ≡ k.inv c.x-twiddle.result)) c.unwrap.ensures
-        c.try_inverse.ensures.inverse ∙ ap k.inv t)
+    (subst (λ o. IfSome o (λ i. i ≡ k.inv c.x-twiddle.result)) c.unwrap.ensures
+    c.try_inverse.ensures.inverse ∙ ap k.inv t)
     ∙ sym (by-entries l c.args.beta (m u) c.args.evals c.index-evals-0.result c.index-evals-1.result
-        two)
+    two)

@@ -34,8 +34,8 @@ fold_rows-requires g c =
     let r = c.log2_strict-log_height.result in
     let same = c.log2_strict-log_height.ensures.only power.0 (c.height.ensures ∙ power.1) in
     let are = c.deref.ensures.value ∙ fold_y_twiddles-of k gen r (log_size c.standard.result)
-        (shift_of c.standard.result) c.in_ok-twiddles.twiddles.items c.standard.ensures.size
-        c.standard.ensures.shift c.in_ok-twiddles.ensures in
+    (shift_of c.standard.result) c.in_ok-twiddles.twiddles.items c.standard.ensures.size
+    c.standard.ensures.shift c.in_ok-twiddles.ensures in
     record {
       width = c.requires.width;
       height = power.1 ∙ ap (λ n. 2 ^ n) (sym same)
@@ -55,27 +55,30 @@ returns g c =
     let height = g.M.MatrixShape.height c.args.evals.now in
     let result = c.fold_rows.result in
     let made = folds-of g.EF.Operations.ops c.args.beta g.EF.ExtensionField.embed
-        (g.M.Matrix.rows c.args.evals.now) (fold_y_twiddles k gen) c.deref.result.now r
-        (g.M.MatrixShape.height c.args.evals.now) c.fold_rows.result
+    (g.M.Matrix.rows c.args.evals.now) (fold_y_twiddles k gen) c.deref.result.now r
+    (g.M.MatrixShape.height c.args.evals.now) c.fold_rows.result
     (c.deref.ensures.value ∙ fold_y_twiddles-of k gen r (log_size c.standard.result)
-        (shift_of c.standard.result) c.in_ok-twiddles.twiddles.items c.standard.ensures.size
-        c.standard.ensures.shift c.in_ok-twiddles.ensures)
+    (shift_of c.standard.result) c.in_ok-twiddles.twiddles.items c.standard.ensures.size
+    c.standard.ensures.shift c.in_ok-twiddles.ensures)
     (λ n height. c.log2_strict-log_height.ensures.only n (c.height.ensures ∙ height))
-        c.fold_rows.ensures in
+    c.fold_rows.ensures in
     let wide : All (λ row. length row ≡ 2) rows =
-        subst (λ w. All (λ row. length row ≡ w) rows) c.requires.width
-        (g.met.M.Matrix.width_law c.args.evals.now) in
+    subst (λ w. All (λ row. length row ≡ w) rows) c.requires.width
+    (g.met.M.Matrix.width_law c.args.evals.now) in
     let base = g.F.Operations.laws in
     let laws = g.EF.Operations.laws in
     let e = g.met.EF.ExtensionField.embedding in
     let gens = g.met.F.ComplexExtendable.generators_law in
     let power = c.requires.height in
     let fits : (n : ℕ) → height ≡ 2 ^ n → n + 2 ≤ _ =
-        λ n h. omega (arith, power.2,
-        c.log2_strict-log_height.ensures.only n (c.height.ensures ∙ h),
-        c.log2_strict-log_height.ensures.only power.0 (c.height.ensures ∙ power.1)) in
+    λ n h. omega (
+      arith,
+      power.2,
+      c.log2_strict-log_height.ensures.only n (c.height.ensures ∙ h),
+      c.log2_strict-log_height.ensures.only power.0 (c.height.ensures ∙ power.1),
+    ) in
     let tall : (n : ℕ) → height ≡ 2 ^ n → length rows ≡ 2 ^ n =
-        λ n h. g.met.M.Matrix.height_law c.args.evals.now ∙ h in
+    λ n h. g.met.M.Matrix.height_law c.args.evals.now ∙ h in
     record {
       folds = made;
       halves =

@@ -29,7 +29,7 @@ nth_point-point-requires-clause-in_group g c =
 pub nth_point-point-requires-clause-in_range : goal.nth_point-point-requires-clause-in_range
 nth_point-point-requires-clause-in_range g c =
     subst (λ n. c.cfft_permute_index.result < 2 ^ n) (sym c.standard-domain.ensures.size)
-        c.cfft_permute_index.ensures.below
+    c.cfft_permute_index.ensures.below
 
 pub loop-index-init : goal.loop-index-init
 loop-index-init g c = c.in_ok-twiddles.ensures.items
@@ -46,16 +46,16 @@ loop-index-preserved g c =
     let all = map (round_twiddle k gen h 0) qs in
     let here : t ≡ round_twiddle k gen h 0 q =
     c.x.ensures ∙ first-twiddle g.F.Operations.laws g.met.F.ComplexExtendable.generators_law h
-        (log_size c.standard-domain.result) q c.cfft_permute_index.result
+    (log_size c.standard-domain.result) q c.cfft_permute_index.result
     (shift_of c.standard-domain.result) (coordinates c.nth_point-point.result)
     c.requires.height c.requires.in_group g.met.F.ComplexExtendable.at_most_62
-        (c.requires.in_range i 0 c.loop-index-test.true)
+    (c.requires.in_range i 0 c.loop-index-test.true)
     c.standard-domain.ensures.size c.standard-domain.ensures.shift
-        c.cfft_permute_index.ensures.value c.nth_point-point.ensures in
+    c.cfft_permute_index.ensures.value c.nth_point-point.ensures in
     c.in_ok-push.ensures.items
     ∙ ap (λ before. before ++ t ∷ []) c.loop-index.invariant
     ∙ ap (λ x. take i all ++ x ∷ [])
-        (here ∙ sym (get_or-map (round_twiddle k gen h 0) qs i 0 t c.loop-index-test.true))
+    (here ∙ sym (get_or-map (round_twiddle k gen h 0) qs i 0 t c.loop-index-test.true))
     ∙ sym
-        (take_more all i t
-        (omega (arith, c.loop-index-test.true, length-map qs (round_twiddle k gen h 0))))
+    (take_more all i t
+    (omega (arith, c.loop-index-test.true, length-map qs (round_twiddle k gen h 0))))

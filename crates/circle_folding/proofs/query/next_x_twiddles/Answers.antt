@@ -27,20 +27,20 @@ loop-i-preserved g c =
     let t = c.index-twiddles-i.result in
     let v = c.if-pair-eq0.twiddle in
     let step = λ (q : ℕ) (t : g.row.F.Denot). signed k (q / 2 ^ (c.args.round + 2))
-        (doubled_x k t) in
+    (doubled_x k t) in
     let new = pairwise step qs ts in
     let of_queries : i < length qs = omega (arith, c.loop-i-test.true, c.requires.count) in
     let long : length new ≡ length ts = length-pairwise step qs ts (sym c.requires.count)
-        ∙ sym c.requires.count in
+    ∙ sym c.requires.count in
     let read : slice_index_or ts i t ≡ t =
-        sym (c.index-twiddles-i.is ∙ ap (λ xs. slice_index_or xs i t) c.loop-i.invariant
-        ∙ written-read i new ts t long) in
+    sym (c.index-twiddles-i.is ∙ ap (λ xs. slice_index_or xs i t) c.loop-i.invariant
+    ∙ written-read i new ts t long) in
     let pair = slice_index_or qs i 0 / 2 ^ (c.args.round + 2) in
     let doubled : c.sub-doubled.result ≡ doubled_x k t =
     g.met.F.Field.sub_law _ _ _ c.sub-doubled.ensures
     ∙ ap (λ x. sub k x c.ONE.result)
-        (c.double.ensures
-        ∙ ap (λ x. k.add x x) (c.square.ensures ∙ ap (λ x. k.mul x x) (sym c.index-twiddles-i.is)))
+    (c.double.ensures
+    ∙ ap (λ x. k.add x x) (c.square.ensures ∙ ap (λ x. k.mul x x) (sym c.index-twiddles-i.is)))
     ∙ ap (sub k (k.add (k.mul t t) (k.mul t t))) (c.ONE.ensures ∙ g.met.F.Field.one_law) in
     let made : v ≡ signed k pair (doubled_x k t) =
     elim c.if-pair-eq0.branch [
@@ -51,7 +51,7 @@ loop-i-preserved g c =
     ] in
     ap (λ xs. slice_set xs i v) c.loop-i.invariant
     ∙ ap (slice_set (written i new ts) i) (made ∙ ap (λ x. signed k pair (doubled_x k x)) (sym read)
-        ∙ sym (pairwise-read step qs ts i 0 t v of_queries c.loop-i-test.true))
+    ∙ sym (pairwise-read step qs ts i 0 t v of_queries c.loop-i-test.true))
     ∙ written-more i new ts v long c.loop-i-test.true
 
 pub returns : goal.returns
@@ -61,11 +61,11 @@ returns g c = λ h enough fits below before.
     let qs = c.args.indices.now in
     let ts = c.args.twiddles.now in
     let step = λ (q : ℕ) (t : g.row.F.Denot). signed k (q / 2 ^ (c.args.round + 2))
-        (doubled_x k t) in
+    (doubled_x k t) in
     let new = pairwise step qs ts in
     let long : length new ≡ length ts = length-pairwise step qs ts (sym c.requires.count)
-        ∙ sym c.requires.count in
+    ∙ sym c.requires.count in
     c.loop-i.invariant ∙ written-all c.loop-i.i new ts long c.loop-i-test.false
     ∙ ap (pairwise step qs) before
-        ∙ next-twiddles g.F.Operations.laws.ring g.met.F.ComplexExtendable.generators_law h
-        c.args.round qs enough fits below
+    ∙ next-twiddles g.F.Operations.laws.ring g.met.F.ComplexExtendable.generators_law h
+    c.args.round qs enough fits below

@@ -49,9 +49,9 @@ loop-i-preserved g c =
     let entries : Vec (Vec T Global) Global → List (List T) = λ rows. map items rows.items in
     let held : length old ≡ length before = length-map before entries in
     let paired : length pairs ≡ length qs =
-        length-asked_pairs bits qs vs ss c.requires.values c.requires.siblings in
+    length-asked_pairs bits qs vs ss c.requires.values c.requires.siblings in
     let long : length new ≡ length old =
-        length-pairwise f old pairs (held ∙ c.requires.rows ∙ sym paired) in
+    length-pairwise f old pairs (held ∙ c.requires.rows ∙ sym paired) in
     let of_queries : i < length qs = omega (arith, c.loop-i-test.true, c.requires.rows) in
     let here : i < length old = omega (arith, c.loop-i-test.true, held) in
     let r = c.index-rows-i.result in
@@ -63,16 +63,16 @@ loop-i-preserved g c =
     c.in_ok-pair_row.ensures ∙ ap (λ x. pair_of place x s) c.index-values-i.is
     ∙ ap (pair_of place (slice_index_or vs i v)) c.index-siblings-i.is
     ∙ sym
-        (asked_pairs-read bits qs vs ss c.requires.values c.requires.siblings i v s []
-        of_queries) in
+    (asked_pairs-read bits qs vs ss c.requires.values c.requires.siblings i v s []
+    of_queries) in
     let were : entries (slice_index_or now i r) ≡ slice_index_or old i [] =
     sym (get_or-map entries now i r [] (omega (arith, c.loop-i-test.true, c.loop-i.auto.rows)))
     ∙ ap (λ xs. slice_index_or xs i []) c.loop-i.invariant ∙ written-read i new old [] long in
     let made : entries c.push.new.self ≡ slice_index_or new i [] =
     ap (map items) c.in_ok-push.ensures.items ∙ map-append items (slice_index_or now i r).items
-        (row ∷ [])
+    (row ∷ [])
     ∙ ap (λ x. entries (slice_index_or now i r) ++ x ∷ []) is_pair
-        ∙ ap (λ rs. f rs (slice_index_or pairs i [])) were
+    ∙ ap (λ rs. f rs (slice_index_or pairs i [])) were
     ∙ sym (pairwise-read f old pairs i [] [] [] here (omega (arith, of_queries, paired))) in
     map-set entries now i c.push.new.self
     ∙ ap (λ xs. slice_set xs i (entries c.push.new.self)) c.loop-i.invariant
@@ -91,11 +91,11 @@ returns g c =
     let pairs = asked_pairs bits qs vs ss in
     let f = λ (rs : List (List T)) (pair : List T). rs ++ pair ∷ [] in
     let entries : Vec (Vec T Global) Global → List (List T) =
-        λ rows. map (λ row. row.items) rows.items in
+    λ rows. map (λ row. row.items) rows.items in
     let held : length old ≡ length before = length-map before entries in
     let paired : length pairs ≡ length qs =
-        length-asked_pairs bits qs vs ss c.requires.values c.requires.siblings in
+    length-asked_pairs bits qs vs ss c.requires.values c.requires.siblings in
     let long : length (pairwise f old pairs) ≡ length old =
-        length-pairwise f old pairs (held ∙ c.requires.rows ∙ sym paired) in
+    length-pairwise f old pairs (held ∙ c.requires.rows ∙ sym paired) in
     c.loop-i.invariant ∙ written-all c.loop-i.i (pairwise f old pairs) old long
-        (omega (arith, c.loop-i-test.false, held))
+    (omega (arith, c.loop-i-test.false, held))

@@ -14,10 +14,10 @@ loop-entry-preserved g c m held =
     let row = c.args.row.now in
     let i = c.loop-entry.entry-index in
     let more =
-        entry-more bytes m row i c.entry-item.result (g.T.Bytes.AsSlice.items c.to_bytes.result)
-        c.loop-entry-test.true c.entry-item.is c.to_bytes.ensures in
+    entry-more bytes m row i c.entry-item.result (g.T.Bytes.AsSlice.items c.to_bytes.result)
+    c.loop-entry-test.true c.entry-item.is c.to_bytes.ensures in
     subst (Holds256 c.update.new.self) more
-        (c.update.ensures (m ++ flat_map bytes (take i row)) (c.loop-entry.invariant m held))
+    (c.update.ensures (m ++ flat_map bytes (take i row)) (c.loop-entry.invariant m held))
 
 pub returns : goal.returns
 returns g c m held =

@@ -18,7 +18,7 @@ loop-j-preserved c = (
   digest_more c.loop-j.digest (lane c.args.i c.args.state.now) _ c.loop-j.j _ c.loop-j.invariant.1
       (omega arith)
       (c.copy_from_slice.ensures.after ∙ c.to_be_bytes.ensures
-          ∙ ap (to_be_bytes w32) (sym (lane-at c.args.i c.loop-j.j c.args.state.now))),
+      ∙ ap (to_be_bytes w32) (sym (lane-at c.args.i c.loop-j.j c.args.state.now))),
 )
 
 pub returns : goal.returns

@@ -16,7 +16,7 @@ loop-n-preserved c messages sixteen all whole i lt =
     let p : List ℕ = padded_message (get_or messages i []) in
     let block : List ℕ = take 64 (drop (n * 64) p) in
     let is = block-at padded_message messages c.args.bytes.now (64 * c.args.blocks) n i whole all
-        (omega arith) (omega arith) in
+    (omega arith) (omega arith) in
     c.compress.ensures i block lt is
     ∙ ap (λ h. compress h block) (c.loop-n.invariant messages sixteen all whole i lt)
     ∙ sym (hash_after_next initial_hash_256 p n)
@@ -25,7 +25,7 @@ pub returns : goal.returns
 returns c messages sixteen all whole i lt =
     let p : List ℕ = padded_message (get_or messages i []) in
     let long : length p ≡ 64 * c.args.blocks =
-        All-get_or (λ m. length (padded_message m) ≡ 64 * c.args.blocks) messages i [] (omega arith)
-        all in
+    All-get_or (λ m. length (padded_message m) ≡ 64 * c.args.blocks) messages i [] (omega arith)
+    all in
     let end : c.loop-n.n ≡ length p / 64 = omega arith in
     c.loop-n.invariant messages sixteen all whole i lt ∙ ap (hash_after initial_hash_256 p) end

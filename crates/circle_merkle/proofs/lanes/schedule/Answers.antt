@@ -11,7 +11,7 @@ loop-t-init c = (
   search rules,
   λ t lt i block small is.
       sym (lane-at i t c.first_words-words.result) ∙ c.first_words-words.ensures i t small lt
-          ∙ is t lt
+      ∙ is t lt
       ∙ sym (slice_index-schedule_first block 48 t lt),
 )
 
@@ -20,7 +20,7 @@ loop-t-preserved c =
     let t = c.loop-t.t in
     let before = c.loop-t.invariant.1 in
     let holds : ℕ → List ℕ → Type 0 = λ t word. (i : ℕ) (block : List ℕ) → i < 16 →
-        IsBlock c.args.bytes.now (i * c.args.stride + c.args.at) block
+    IsBlock c.args.bytes.now (i * c.args.stride + c.args.at) block
     → slice_index word i ≡ slice_index (schedule block 48) t in (
       search rules,
       set-more holds c.loop-t.words t c.next_words.result [] (omega (arith, c.loop-t.invariant.0))
@@ -37,4 +37,4 @@ loop-t-preserved c =
 pub returns : goal.returns
 returns c i block small is =
     lane-schedule block c.loop-t.words i c.loop-t.invariant.0
-        (λ t lt. c.loop-t.invariant.1 t (omega arith) i block small is)
+    (λ t lt. c.loop-t.invariant.1 t (omega arith) i block small is)

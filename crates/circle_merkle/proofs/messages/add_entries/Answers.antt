@@ -29,12 +29,12 @@ loop-j-preserved g c =
           ∙ w.in_ok-add_row.ensures
           ∙ ap (λ xs. xs ++ flat_map bytes row) c.loop-j.invariant
           ∙ sym (opened-with bytes height dims rows j dim nothing row [] short long refl at before
-              (sym (c.height.ensures nothing) ∙ w.if-height.true))
+          (sym (c.height.ensures nothing) ∙ w.if-height.true))
       | else-height w ↦
           ap (λ v. v.items) w.messages-is
           ∙ c.loop-j.invariant
           ∙ sym (opened-without bytes height dims rows j dim nothing (get_or rows j []) [] short
-              long refl refl before (λ same. w.if-height.false (c.height.ensures nothing ∙ same)))
+          long refl refl before (λ same. w.if-height.false (c.height.ensures nothing ∙ same)))
     ]
 
 pub loop-j-init : goal.loop-j-init

@@ -11,11 +11,11 @@ returns c =
     let right = c.args.right.now in
     let new = c.add_padding.new.messages.items in
     let parts : c.extend_from_slice-2.new.self.items ≡ ((old ++ c.args.first ∷ []) ++ left) ++
-        right =
+    right =
     c.in_ok-extend_from_slice-2.ensures.items
-        ∙ ap (λ xs. xs ++ right) (c.in_ok-extend_from_slice.ensures.items
-        ∙ ap (λ xs. xs ++ left) c.in_ok-push.ensures.items) in
+    ∙ ap (λ xs. xs ++ right) (c.in_ok-extend_from_slice.ensures.items
+    ∙ ap (λ xs. xs ++ left) c.in_ok-push.ensures.items) in
     IfOk-weaker c.add_padding.result (λ _. new ≡ c.extend_from_slice-2.new.self.items ++ padding 65)
-        (λ _. new ≡ old ++ padded_message ((c.args.first ∷ left) ++ right))
+    (λ _. new ≡ old ++ padded_message ((c.args.first ∷ left) ++ right))
     (λ _ e. e ∙ ap (λ xs. xs ++ padding 65) parts
-        ∙ pair-added old left right c.args.first (omega arith) (omega arith)) c.add_padding.ensures
+    ∙ pair-added old left right c.args.first (omega arith) (omega arith)) c.add_padding.ensures

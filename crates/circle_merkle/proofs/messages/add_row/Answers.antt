@@ -14,8 +14,8 @@ loop-entry-preserved g c =
     c.in_ok-extend_from_slice.ensures.items
     ∙ ap (λ xs. xs ++ added) c.loop-entry.invariant
     ∙ entry-more bytes c.args.messages.now.items c.args.row.now c.loop-entry.entry-index
-        c.entry-item.result added c.loop-entry-test.true c.entry-item.is
-        (c.as_slice.ensures ∙ c.to_bytes.ensures)
+    c.entry-item.result added c.loop-entry-test.true c.entry-item.is
+    (c.as_slice.ensures ∙ c.to_bytes.ensures)
 
 pub returns : goal.returns
 returns g c = c.loop-entry.invariant

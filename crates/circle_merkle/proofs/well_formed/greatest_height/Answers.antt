@@ -8,5 +8,5 @@ pub loop-dim-preserved : goal.loop-dim-preserved
 loop-dim-preserved c =
     let nothing : Dimensions = record { width = 0; height = 0 } in
     c.max-top.ensures ∙ ap (max _) c.loop-dim.invariant
-        ∙ sym
-        (greatest-more c.args.dimensions.now c.loop-dim.dim-index nothing c.loop-dim-test.true)
+    ∙ sym
+    (greatest-more c.args.dimensions.now c.loop-dim.dim-index nothing c.loop-dim-test.true)

@@ -13,14 +13,17 @@ returns-then-not-fit g c =
       λ h. absurd (cc),
       λ shape.
           let e = sym (ap (map length) (rows-at opened i here c.loop-rows-test.true c.rows-item.is))
-              ∙ shape.widths i []
-              (omega (arith, c.loop-rows-test.true,
-              length-map opened (λ rows. map (λ row. row.items) rows.items))) in
+          ∙ shape.widths i []
+          (omega (
+            arith,
+            c.loop-rows-test.true,
+            length-map opened (λ rows. map (λ row. row.items) rows.items),
+          )) in
           absurd
-              (let yes =
-              c.if-not-fit.ensures.1
-              (ap (λ rows. map length (map (λ row. row.items) rows)) c.deref.ensures.value ∙ e) in
-              cc),
+          (let yes =
+          c.if-not-fit.ensures.1
+          (ap (λ rows. map length (map (λ row. row.items) rows)) c.deref.ensures.value ∙ e) in
+          cc),
     )
 
 pub loop-rows-preserved : goal.loop-rows-preserved
@@ -29,11 +32,11 @@ loop-rows-preserved g c =
     let i = c.loop-rows.rows-index in
     let here = c.rows-item.result in
     All-more (λ rows. map length (map (λ row. row.items) rows.items)
-        ≡ map (λ dim. dim.width) c.args.dimensions.now) opened i here c.loop-rows-test.true
-        c.loop-rows.invariant
+    ≡ map (λ dim. dim.width) c.args.dimensions.now) opened i here c.loop-rows-test.true
+    c.loop-rows.invariant
     (ap (λ rows. map length (map (λ row. row.items) rows.items)) (sym c.rows-item.is)
     ∙ sym (ap (λ rows. map length (map (λ row. row.items) rows)) c.deref.ensures.value)
-        ∙ c.if-not-fit.ensures.0 refl)
+    ∙ c.if-not-fit.ensures.0 refl)
 
 pub returns : goal.returns
 returns g c =
@@ -46,10 +49,10 @@ returns g c =
         widths = All-map (λ rows. map length rows ≡ map (λ dim. dim.width) c.args.dimensions.now)
             (λ rows. map (λ row. row.items) rows.items) opened
             (subst
-                (All (λ rows. map length (map (λ row. row.items) rows.items)
-                ≡ map (λ dim. dim.width) c.args.dimensions.now))
-                (take_all c.loop-rows.rows-index opened c.loop-rows-test.false)
-                c.loop-rows.invariant);
+            (All (λ rows. map length (map (λ row. row.items) rows.items)
+            ≡ map (λ dim. dim.width) c.args.dimensions.now))
+            (take_all c.loop-rows.rows-index opened c.loop-rows-test.false)
+            c.loop-rows.invariant);
       },
       λ _. refl,
     )

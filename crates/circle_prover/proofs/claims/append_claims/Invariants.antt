@@ -12,4 +12,4 @@ invariant-loop-point g l =
     let i = length l.yielded in
     claims_of l.claims.items ≡ claims_of l.initial.claims.items
     ++ map (point_taken g.EF.Operations.ops)
-        (pairwise claim_of (take i l.points) (take i (lists_of l.values)))
+    (pairwise claim_of (take i l.points) (take i (lists_of l.values)))

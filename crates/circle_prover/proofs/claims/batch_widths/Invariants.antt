@@ -7,4 +7,4 @@ use Rattle.circle_prover.proofs.claims.batch_widths.Given as goal
 abbrev pub invariant-loop-matrix : goal.invariant-loop-matrix
 invariant-loop-matrix g l =
     matrices_of l.widths.items
-        ≡ map (λ m. map (λ w. length w) m) (opened_rows (take l.matrix-index l.values))
+    ≡ map (λ m. map (λ w. length w) m) (opened_rows (take l.matrix-index l.values))

@@ -10,5 +10,5 @@ abbrev pub invariant-loop-matrix : goal.invariant-loop-matrix
 invariant-loop-matrix g l =
     claims_of l.claims.items
     ≡ flat_map (map (point_taken g.EF.Operations.ops))
-        (map (λ m. pairwise (λ t v. claim_of t v.items) m.points.now m.values.now)
-        (take l.matrix-index l.matrices))
+    (map (λ m. pairwise (λ t v. claim_of t v.items) m.points.now m.values.now)
+    (take l.matrix-index l.matrices))

@@ -9,10 +9,17 @@ use Rattle.circle_prover.proofs.claims.opened_matrices.Given as goal
 abbrev pub invariant-loop-request : goal.invariant-loop-request
 invariant-loop-request g l =
     let k : Fields g.row.F.Denot g.row.EF.Denot =
-        record { field = g.F.Operations.ops; gen = g.F.ComplexExtendable.generators; two_adicity =
-        g.F.ComplexExtendable.CIRCLE_TWO_ADICITY; is_zero = λ w. g.F.PartialEq.eq w g.F.Field.ZERO;
-        extension = g.EF.Operations.ops; embed = g.EF.ExtensionField.embed; same =
-        g.EF.PartialEq.eq } in
+    record {
+      field = g.F.Operations.ops;
+      gen = g.F.ComplexExtendable.generators;
+      two_adicity =
+          g.F.ComplexExtendable.CIRCLE_TWO_ADICITY;
+      is_zero = λ w. g.F.PartialEq.eq w g.F.Field.ZERO;
+      extension = g.EF.Operations.ops;
+      embed = g.EF.ExtensionField.embed;
+      same =
+          g.EF.PartialEq.eq;
+    } in
     let i = length l.yielded in
     record {
       matrices : map (committed_of k l.log_blowup) l.list.items

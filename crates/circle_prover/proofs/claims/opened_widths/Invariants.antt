@@ -7,4 +7,4 @@ use Rattle.circle_prover.proofs.claims.opened_widths.Given as goal
 abbrev pub invariant-loop-batch : goal.invariant-loop-batch
 invariant-loop-batch g l =
     batches_of l.widths.items ≡ map (λ b. map (λ m. map (λ w. length w) m) b)
-        (openings (take l.batch-index l.values))
+    (openings (take l.batch-index l.values))

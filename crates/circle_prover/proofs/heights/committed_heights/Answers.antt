@@ -32,9 +32,9 @@ returns g c = λ k blowup.
       | else-loop-log_height-test w ↦ absurd (omega arith)
       | then-loop-log_height-test+else-log_height-log_height-end w ↦
           let last : h + 1 ≡ suc (greatest (map (λ m. m.log_height) matrices)) =
-              omega (arith, c.greatest_height-log_height-end.ensures) in
+          omega (arith, c.greatest_height-log_height-end.ensures) in
           let all = ap (λ n. filter test (range_with_len 0 n)) last
-              ∙ heights-seen k blowup matrices in
+          ∙ heights-seen k blowup matrices in
           let is : test h ≡ w.has_height.result = sym w.has_height.ensures in
           ap (λ v. v.items) w.heights-is ∙ elim w.if-has_height.branch [
             | then-has_height+in_ok-push w' ↦ ap (λ v. v.items) w'.heights-is

@@ -7,4 +7,4 @@ use Rattle.circle_prover.proofs.heights.greatest_height.Given as goal
 abbrev pub invariant-loop-matrix : goal.invariant-loop-matrix
 invariant-loop-matrix g l =
     max l.greatest (greatest (map (λ m. m.log_height) (drop l.matrix-index l.matrices)))
-        ≡ greatest (map (λ m. m.log_height) l.matrices)
+    ≡ greatest (map (λ m. m.log_height) l.matrices)

@@ -13,7 +13,7 @@ open_rows-requires-clause-powers g c =
 pub open_rows-requires-clause-below : goal.open_rows-requires-clause-below
 open_rows-requires-clause-below g c =
     queries-below c.args.log_max_height c.args.bits (max_height (g.M.Mmcs.matrices c.args.kept.now))
-        c.args.indices.now c.requires.bits c.requires.greatest c.requires.below
+    c.args.indices.now c.requires.bits c.requires.greatest c.requires.below
 
 pub all_siblings-requires-clause-count : goal.all_siblings-requires-clause-count
 all_siblings-requires-clause-count g c =
@@ -23,7 +23,7 @@ all_siblings-requires-clause-count g c =
     let left = c.args.log_max_height - bits in
     let low = places-left c.args.log_max_height bits queries c.requires.bits c.requires.below in
     opened-counts c.args.heights.now ms c.requires.shapes left c.requires.greatest
-        (places_of bits queries) low c.deref.result.now
+    (places_of bits queries) low c.deref.result.now
     (ap opened_rows c.deref.ensures.value ∙ c.in_ok-rows.ensures.rows)
 
 pub all_siblings-requires-clause-pairs : goal.all_siblings-requires-clause-pairs
@@ -34,7 +34,7 @@ all_siblings-requires-clause-pairs g c =
     let left = c.args.log_max_height - bits in
     let low = places-left c.args.log_max_height bits queries c.requires.bits c.requires.below in
     opened-pairs c.args.heights.now ms c.requires.shapes left c.requires.greatest
-        (places_of bits queries) low c.deref.result.now
+    (places_of bits queries) low c.deref.result.now
     (ap opened_rows c.deref.ensures.value ∙ c.in_ok-rows.ensures.rows)
 
 pub returns : goal.returns
@@ -44,7 +44,7 @@ returns g c =
     let bits = c.args.bits in
     let places = places_of bits queries in
     let f : ℕ → List (List g.row.EF.Denot) → List g.row.EF.Denot =
-        siblings_at g.EF.Operations.ops.zero c.args.log_max_height c.args.heights.now in
+    siblings_at g.EF.Operations.ops.zero c.args.log_max_height c.args.heights.now in
     let opened = c.in_ok-rows.ensures in
     record {
       entries = c.in_ok-siblings.ensures

@@ -23,10 +23,17 @@ use Rattle.circle_prover.proofs.prove.open_requests.Given.{Over}
 use Rattle.circle_prover.proofs.prove.open_requests.Goals as goal
 
 abbrev fields : (g : Over) → Fields g.row.Val.Denot g.row.EF.Denot
-fields g = record { field = g.Val.Operations.ops; gen = g.Val.ComplexExtendable.generators;
-    two_adicity = g.Val.ComplexExtendable.CIRCLE_TWO_ADICITY; is_zero =
-    λ w. g.Val.PartialEq.eq w g.Val.Field.ZERO; extension = g.EF.Operations.ops; embed =
-    g.EF.ExtensionField.embed; same = g.EF.PartialEq.eq }
+fields g = record {
+  field = g.Val.Operations.ops;
+  gen = g.Val.ComplexExtendable.generators;
+  two_adicity = g.Val.ComplexExtendable.CIRCLE_TWO_ADICITY;
+  is_zero =
+      λ w. g.Val.PartialEq.eq w g.Val.Field.ZERO;
+  extension = g.EF.Operations.ops;
+  embed =
+      g.EF.ExtensionField.embed;
+  same = g.EF.PartialEq.eq;
+}
 
 -- what the challenger is to the run
 abbrev challenger : (g : Over) →
@@ -46,15 +53,15 @@ prove_words-requires-clause-top g c =
     let values = openings c.deref.result.now in
     let two = g.Val.ComplexExtendable.CIRCLE_TWO_ADICITY in
     let answers =
-        subst (λ vs. AllZip (AreAnswers kept (fields g) p.log_blowup) requests (openings vs))
-        (sym c.deref.ensures.value) c.in_ok-values.ensures in
+    subst (λ vs. AllZip (AreAnswers kept (fields g) p.log_blowup) requests (openings vs))
+    (sym c.deref.ensures.value) c.in_ok-values.ensures in
     let some =
-        all-some (fields g) p.log_blowup kept requests values answers c.requires.requests.some
-        c.requires.requests.matrices in
+    all-some (fields g) p.log_blowup kept requests values answers c.requires.requests.some
+    c.requires.requests.matrices in
     let low = top-known (answered_matrices (fields g) p kept requests values) (λ h. h < two) some
     (heights-known (fields g) p.log_blowup (λ h. h < two) kept requests values
-        (fit-known kept (fields g) p.log_blowup two (λ m. log_of (height_of m) < two)
-        (λ m points can. can.in_group) requests c.requires.requests.fit)) in
+    (fit-known kept (fields g) p.log_blowup two (λ m. log_of (height_of m) < two)
+    (λ m points can. can.in_group) requests c.requires.requests.fit)) in
     omega (arith, low, c.in_ok-words.ensures.words.top, g.met.Val.ComplexExtendable.at_most_62)
 
 pub prove_words-requires-clause-heights : goal.prove_words-requires-clause-heights
@@ -65,20 +72,20 @@ prove_words-requires-clause-heights g c =
     let values = openings c.deref.result.now in
     let two = g.Val.ComplexExtendable.CIRCLE_TWO_ADICITY in
     let answers =
-        subst (λ vs. AllZip (AreAnswers kept (fields g) p.log_blowup) requests (openings vs))
-        (sym c.deref.ensures.value) c.in_ok-values.ensures in
+    subst (λ vs. AllZip (AreAnswers kept (fields g) p.log_blowup) requests (openings vs))
+    (sym c.deref.ensures.value) c.in_ok-values.ensures in
     let flat = answered_matrices (fields g) p kept requests values in
     let powers =
-        fit-known kept (fields g) p.log_blowup two (λ m. height_of m ≡ 2 ^ log_of (height_of m))
-        (λ m points can. can.power) requests c.requires.requests.fit in
+    fit-known kept (fields g) p.log_blowup two (λ m. height_of m ≡ 2 ^ log_of (height_of m))
+    (λ m points can. can.power) requests c.requires.requests.fit in
     let low = heights-back (fields g) p.log_blowup (λ h. h ≤ top_of flat) kept requests values
-        answers (matrices-low flat) in
+    answers (matrices-low flat) in
     subst
-        (λ t. All
-        (λ (r : OpeningRequest g.row.InputMmcs-ProverData.Denot g.row.EF.Denot). AreHeights t
-        (kept r.prover_data.now)) requests) (sym c.in_ok-words.ensures.words.top)
+    (λ t. All
+    (λ (r : OpeningRequest g.row.InputMmcs-ProverData.Denot g.row.EF.Denot). AreHeights t
+    (kept r.prover_data.now)) requests) (sym c.in_ok-words.ensures.words.top)
     (λ i r lt. batch-heights (top_of flat) (kept (slice_index_or requests i r).prover_data.now)
-        (c.requires.requests.matrices i r lt) (powers i r lt) (low i r lt))
+    (c.requires.requests.matrices i r lt) (powers i r lt) (low i r lt))
 
 pub prove_words-requires-clause-words : goal.prove_words-requires-clause-words
 prove_words-requires-clause-words g c =
@@ -87,8 +94,8 @@ prove_words-requires-clause-words g c =
     let requests = c.args.requests.now in
     let values = openings c.deref.result.now in
     let answers =
-        subst (λ vs. AllZip (AreAnswers kept (fields g) p.log_blowup) requests (openings vs))
-        (sym c.deref.ensures.value) c.in_ok-values.ensures in (
+    subst (λ vs. AllZip (AreAnswers kept (fields g) p.log_blowup) requests (openings vs))
+    (sym c.deref.ensures.value) c.in_ok-values.ensures in (
       answered_matrices (fields g) p kept requests values,
       (
         all-some (fields g) p.log_blowup kept requests values answers c.requires.requests.some
@@ -115,8 +122,8 @@ returns-clause-proof g c =
     let l = g.EF.Operations.ops in
     let known = c.in_ok-words.ensures.words in
     let made : IsOpening p kept requests (openings c.deref.result.now) (fields g) r (proof_of proof)
-        (g.InputMmcs.Mmcs.commits c.args.mmcs.now) (g.InputMmcs.Mmcs.authenticates c.args.mmcs.now)
-        (g.FriMmcs.Mmcs.commits p.mmcs) (g.FriMmcs.Mmcs.authenticates p.mmcs) s end =
+    (g.InputMmcs.Mmcs.commits c.args.mmcs.now) (g.InputMmcs.Mmcs.authenticates c.args.mmcs.now)
+    (g.FriMmcs.Mmcs.commits p.mmcs) (g.FriMmcs.Mmcs.authenticates p.mmcs) s end =
     record {
       drawn = challenges_of w.draws;
       drawing =
@@ -127,16 +134,16 @@ returns-clause-proof g c =
       words = c.in_ok-proof.ensures.words flat known c.in_ok-words.ensures.easy;
       inputs =
           subst
-              (λ t. AllZip
-              (HasBatchRows kept (g.InputMmcs.Mmcs.commits c.args.mmcs.now)
-              (g.InputMmcs.Mmcs.authenticates c.args.mmcs.now) t w.draws.indices.items) requests
-              (proof_of proof).inputs) known.top
+          (λ t. AllZip
+          (HasBatchRows kept (g.InputMmcs.Mmcs.commits c.args.mmcs.now)
+          (g.InputMmcs.Mmcs.authenticates c.args.mmcs.now) t w.draws.indices.items) requests
+          (proof_of proof).inputs) known.top
           c.in_ok-proof.ensures.inputs;
     } in
     subst
-        (λ vs. IsOpening p kept requests (openings vs) (fields g) r (proof_of proof)
-        (g.InputMmcs.Mmcs.commits c.args.mmcs.now) (g.InputMmcs.Mmcs.authenticates c.args.mmcs.now)
-        (g.FriMmcs.Mmcs.commits p.mmcs) (g.FriMmcs.Mmcs.authenticates p.mmcs) s end) same made
+    (λ vs. IsOpening p kept requests (openings vs) (fields g) r (proof_of proof)
+    (g.InputMmcs.Mmcs.commits c.args.mmcs.now) (g.InputMmcs.Mmcs.authenticates c.args.mmcs.now)
+    (g.FriMmcs.Mmcs.commits p.mmcs) (g.FriMmcs.Mmcs.authenticates p.mmcs) s end) same made
 
 pub returns-in_err-words-clause-failure : goal.returns-in_err-words-clause-failure
 returns-in_err-words-clause-failure g c =
@@ -144,11 +151,11 @@ returns-in_err-words-clause-failure g c =
     let kept = g.InputMmcs.Mmcs.matrices in
     let requests = c.args.requests.now in
     let answers =
-        subst (λ vs. AllZip (AreAnswers kept (fields g) p.log_blowup) requests (openings vs))
-        (sym c.deref.ensures.value) c.in_ok-values.ensures in
+    subst (λ vs. AllZip (AreAnswers kept (fields g) p.log_blowup) requests (openings vs))
+    (sym c.deref.ensures.value) c.in_ok-values.ensures in
     handed_on c.from_residual-in_err-words.result c.in_err-words.field-0.0
-        (IsFailure (fields g) (challenger g) p (g.FriMmcs.Mmcs.commits p.mmcs) kept requests
-        (g.C.ChallengerState.state c.args.challenger.now)) c.from_residual-in_err-words.ensures.1
+    (IsFailure (fields g) (challenger g) p (g.FriMmcs.Mmcs.commits p.mmcs) kept requests
+    (g.C.ChallengerState.state c.args.challenger.now)) c.from_residual-in_err-words.ensures.1
     (elim c.in_err-words.ensures.failure [
       | inl refused ↦ inl refused
       | inr rest ↦

@@ -28,10 +28,10 @@ fold_round-requires-clause-rows g c =
     let word = c.args.word.items in
     let is_layer : rows layer ≡ pairs_of word =
     ap rows c.index-get_matrices-0.is
-        ∙ first_rows matrices (pairs_of word) layer (ap (map rows) c.get_matrices.ensures
-        ∙ c.in_ok-commitment.ensures.rows) in
+    ∙ first_rows matrices (pairs_of word) layer (ap (map rows) c.get_matrices.ensures
+    ∙ c.in_ok-commitment.ensures.rows) in
     sym (length-rows layer) ∙ ap length is_layer
-        ∙ length-pairs_of word c.args.log_height c.requires.positive c.requires.word
+    ∙ length-pairs_of word c.args.log_height c.requires.positive c.requires.word
 
 -- what the challenger is to the run
 abbrev challenger : (g : Over) →
@@ -45,11 +45,14 @@ challenger g = run_moves g.C.ChallengerState.state g.C.CanObserve-1.after_observ
 pub returns-in_err-beta-clause-failure : goal.returns-in_err-beta-clause-failure
 returns-in_err-beta-clause-failure g c =
     handed_on c.from_residual-in_err-beta.result (prover_error c.in_err-beta.field-0.0)
-        (IsRoundFailure (challenger g) (g.M.Mmcs.commits c.args.mmcs.now) c.args.transcript.now
-        c.args.word.items) c.from_residual-in_err-beta.ensures.1
-    (inr (ap prover_error c.in_err-beta.ensures.failure, c.in_ok-commitment.commitment,
-        (g.M.Mmcs.matrices c.in_ok-commitment.kept, c.in_ok-commitment.ensures),
-        c.in_err-beta.ensures.none))
+    (IsRoundFailure (challenger g) (g.M.Mmcs.commits c.args.mmcs.now) c.args.transcript.now
+    c.args.word.items) c.from_residual-in_err-beta.ensures.1
+    (inr (
+      ap prover_error c.in_err-beta.ensures.failure,
+      c.in_ok-commitment.commitment,
+      (g.M.Mmcs.matrices c.in_ok-commitment.kept, c.in_ok-commitment.ensures),
+      c.in_err-beta.ensures.none,
+    ))
 
 pub commit_round-requires-clause-next : goal.commit_round-requires-clause-next
 commit_round-requires-clause-next g c = c.requires.next
@@ -72,43 +75,43 @@ returns-clause-due g c = c.in_ok-beta.ensures.due
 pub returns-clause-easy : goal.returns-clause-easy
 returns-clause-easy g c = λ none.
     c.unwrap_or.ensures
-        ∙ ap (unwrap_or c.in_ok-beta.witness) (c.ZERO.ensures ∙ g.met.F.Field.zero_law)
+    ∙ ap (unwrap_or c.in_ok-beta.witness) (c.ZERO.ensures ∙ g.met.F.Field.zero_law)
     ∙ unwrap_none g.F.Operations.ops.zero c.in_ok-beta.witness (c.in_ok-beta.ensures.needed.1 none)
 
 pub returns-clause-found : goal.returns-clause-found
 returns-clause-found g c =
     let is_witness : c.unwrap_or.result ≡ unwrap_or c.in_ok-beta.witness g.F.Operations.ops.zero =
-        c.unwrap_or.ensures
-        ∙ ap (unwrap_or c.in_ok-beta.witness) (c.ZERO.ensures ∙ g.met.F.Field.zero_law) in
+    c.unwrap_or.ensures
+    ∙ ap (unwrap_or c.in_ok-beta.witness) (c.ZERO.ensures ∙ g.met.F.Field.zero_law) in
     c.in_ok-beta.ensures.found ∙ ap Some (sym is_witness)
 
 pub returns-clause-passes : goal.returns-clause-passes
 returns-clause-passes g c =
     let is_witness : c.unwrap_or.result ≡ unwrap_or c.in_ok-beta.witness g.F.Operations.ops.zero =
-        c.unwrap_or.ensures
-        ∙ ap (unwrap_or c.in_ok-beta.witness) (c.ZERO.ensures ∙ g.met.F.Field.zero_law) in
+    c.unwrap_or.ensures
+    ∙ ap (unwrap_or c.in_ok-beta.witness) (c.ZERO.ensures ∙ g.met.F.Field.zero_law) in
     subst
-        (λ w. IsTrue
-        (commit_passes (challenger g) c.args.transcript.now c.in_ok-commitment.commitment w))
-        (sym is_witness) c.in_ok-beta.ensures.passes
+    (λ w. IsTrue
+    (commit_passes (challenger g) c.args.transcript.now c.in_ok-commitment.commitment w))
+    (sym is_witness) c.in_ok-beta.ensures.passes
 
 pub returns-clause-challenge : goal.returns-clause-challenge
 returns-clause-challenge g c =
     let is_witness : c.unwrap_or.result ≡ unwrap_or c.in_ok-beta.witness g.F.Operations.ops.zero =
-        c.unwrap_or.ensures
-        ∙ ap (unwrap_or c.in_ok-beta.witness) (c.ZERO.ensures ∙ g.met.F.Field.zero_law) in
+    c.unwrap_or.ensures
+    ∙ ap (unwrap_or c.in_ok-beta.witness) (c.ZERO.ensures ∙ g.met.F.Field.zero_law) in
     c.in_ok-beta.ensures.challenge
-        ∙ ap (commit_challenge (challenger g) c.args.transcript.now c.in_ok-commitment.commitment)
-        (sym is_witness)
+    ∙ ap (commit_challenge (challenger g) c.args.transcript.now c.in_ok-commitment.commitment)
+    (sym is_witness)
 
 pub returns-clause-state : goal.returns-clause-state
 returns-clause-state g c =
     let is_witness : c.unwrap_or.result ≡ unwrap_or c.in_ok-beta.witness g.F.Operations.ops.zero =
-        c.unwrap_or.ensures
-        ∙ ap (unwrap_or c.in_ok-beta.witness) (c.ZERO.ensures ∙ g.met.F.Field.zero_law) in
+    c.unwrap_or.ensures
+    ∙ ap (unwrap_or c.in_ok-beta.witness) (c.ZERO.ensures ∙ g.met.F.Field.zero_law) in
     c.in_ok-beta.ensures.state
-        ∙ ap (after_commit (challenger g) c.args.transcript.now c.in_ok-commitment.commitment)
-        (sym is_witness)
+    ∙ ap (after_commit (challenger g) c.args.transcript.now c.in_ok-commitment.commitment)
+    (sym is_witness)
 
 pub returns-clause-committed : goal.returns-clause-committed
 returns-clause-committed g c = c.in_ok-commitment.ensures
@@ -126,8 +129,8 @@ fold_round-requires-clause-width g c =
     let one = ap length (ap (map rows) c.get_matrices.ensures ∙ c.in_ok-commitment.ensures.rows) in
     let within : 0 < length matrices = omega (arith, one, length-map matrices rows) in
     ap width_of c.index-get_matrices-0.is
-        ∙ subst (All (λ m. width_of m ≡ 2)) (sym c.get_matrices.ensures)
-        c.in_ok-commitment.ensures.width 0 layer within
+    ∙ subst (All (λ m. width_of m ≡ 2)) (sym c.get_matrices.ensures)
+    c.in_ok-commitment.ensures.width 0 layer within
 
 pub fold_round-requires-clause-positive : goal.fold_round-requires-clause-positive
 fold_round-requires-clause-positive g c = c.requires.positive
@@ -143,9 +146,16 @@ returns-clause-length g c = c.in_ok-next.ensures.length
 
 abbrev fields : (g : Over) → Fields g.row.F.Denot g.row.EF.Denot
 fields g =
-    record { field = g.F.Operations.ops; gen = g.F.ComplexExtendable.generators; two_adicity =
-    g.F.ComplexExtendable.CIRCLE_TWO_ADICITY; is_zero = λ w. g.F.PartialEq.eq w g.F.Field.ZERO;
-    extension = g.EF.Operations.ops; embed = g.EF.ExtensionField.embed; same = g.EF.PartialEq.eq }
+    record {
+      field = g.F.Operations.ops;
+      gen = g.F.ComplexExtendable.generators;
+      two_adicity =
+          g.F.ComplexExtendable.CIRCLE_TWO_ADICITY;
+      is_zero = λ w. g.F.PartialEq.eq w g.F.Field.ZERO;
+      extension = g.EF.Operations.ops;
+      embed = g.EF.ExtensionField.embed;
+      same = g.EF.PartialEq.eq;
+    }
 
 pub returns-clause-folds : goal.returns-clause-folds
 returns-clause-folds g c =
@@ -154,7 +164,7 @@ returns-clause-folds g c =
     let word = c.args.word.items in
     let is_layer : rows layer ≡ pairs_of word =
     ap rows c.index-get_matrices-0.is
-        ∙ first_rows matrices (pairs_of word) layer (ap (map rows) c.get_matrices.ensures
-        ∙ c.in_ok-commitment.ensures.rows) in
+    ∙ first_rows matrices (pairs_of word) layer (ap (map rows) c.get_matrices.ensures
+    ∙ c.in_ok-commitment.ensures.rows) in
     subst (λ rs. IsNextWord (fields g) c.args.heights.now c.args.folded.now c.args.log_height
-        c.in_ok-beta.beta rs c.in_ok-next.next.items) is_layer c.in_ok-next.ensures.folds
+    c.in_ok-beta.beta rs c.in_ok-next.next.items) is_layer c.in_ok-next.ensures.folds

@@ -30,9 +30,16 @@ challenger g = run_moves g.C.ChallengerState.state g.C.CanObserve-1.after_observ
 -- the fields of the run
 abbrev fields : (g : Over) → Fields g.row.F.Denot g.row.EF.Denot
 fields g =
-    record { field = g.F.Operations.ops; gen = g.F.ComplexExtendable.generators; two_adicity =
-    g.F.ComplexExtendable.CIRCLE_TWO_ADICITY; is_zero = λ w. g.F.PartialEq.eq w g.F.Field.ZERO;
-    extension = g.EF.Operations.ops; embed = g.EF.ExtensionField.embed; same = g.EF.PartialEq.eq }
+    record {
+      field = g.F.Operations.ops;
+      gen = g.F.ComplexExtendable.generators;
+      two_adicity =
+          g.F.ComplexExtendable.CIRCLE_TWO_ADICITY;
+      is_zero = λ w. g.F.PartialEq.eq w g.F.Field.ZERO;
+      extension = g.EF.Operations.ops;
+      embed = g.EF.ExtensionField.embed;
+      same = g.EF.PartialEq.eq;
+    }
 
 pub loop-i-init : goal.loop-i-init
 loop-i-init g c =
@@ -78,15 +85,15 @@ returns-in_err-round-clause-failure g c =
     let rounds = c.loop-i.rounds in
     let commits = g.M.Mmcs.commits c.args.mmcs.now in
     let word : (ℕ → List g.row.EF.Denot) → List g.row.EF.Denot → ℕ → List g.row.EF.Denot =
-        λ f. word_at (fields g) c.args.heights.now f c.args.log_height c.args.first.items in
+    λ f. word_at (fields g) c.args.heights.now f c.args.log_height c.args.first.items in
     let played = zip rounds.commitments.items rounds.witnesses.items in
     let long : length played ≡ c.loop-i.i =
-        (let e = length-zip rounds.commitments.items rounds.witnesses.items in
-        omega (arith, e, before.commitments, before.witnesses)) in
+    (let e = length-zip rounds.commitments.items rounds.witnesses.items in
+    omega (arith, e, before.commitments, before.witnesses)) in
     handed_on c.from_residual-in_err-round.result c.in_err-round.field-0.0
-        (IsRoundsFailure r commits c.args.transcript.now (fields g) c.args.heights.now
-        c.args.folded.now c.args.log_height c.args.first.items c.args.num_rounds)
-        c.from_residual-in_err-round.ensures.1
+    (IsRoundsFailure r commits c.args.transcript.now (fields g) c.args.heights.now
+    c.args.folded.now c.args.log_height c.args.first.items c.args.num_rounds)
+    c.from_residual-in_err-round.ensures.1
     (elim c.in_err-round.ensures.failure [
       | inl refused ↦ inl refused
       | inr stuck ↦
@@ -95,10 +102,10 @@ returns-in_err-round-clause-failure g c =
             λ f are. stuck_after r bits begun _ commits (word f) c.args.num_rounds played
                 rounds.betas.items _ same_bits before.played
                 (words_committed commits g.M.Mmcs.matrices (word f rounds.betas.items)
-                    rounds.kept.items rounds.commitments.items rounds.witnesses.items
-                    (before.committed f are))
+                rounds.kept.items rounds.commitments.items rounds.witnesses.items
+                (before.committed f are))
                 (omega (arith, long)) c.loop-i.word.items
-                    (before.word f are ∙ ap (word f rounds.betas.items) (sym long))
+                (before.word f are ∙ ap (word f rounds.betas.items) (sym long))
                 stuck.1 stuck.2 stuck.3,
           )
     ])
@@ -144,39 +151,39 @@ loop-i-preserved g c =
           (before.easy none) (played.easy (same_bits ∙ none)) added.witnesses;
       played =
           played_more r bits begun _ old.commitments.items new.commitments.items old.witnesses.items
-              new.witnesses.items round.commitment round.witness
+          new.witnesses.items round.commitment round.witness
           (map coefficients old.betas.items) (map coefficients new.betas.items)
-              (coefficients round.beta) _ _ (before.commitments ∙ sym before.witnesses)
-              added.commitments added.witnesses same_bits before.played
+          (coefficients round.beta) _ _ (before.commitments ∙ sym before.witnesses)
+          added.commitments added.witnesses same_bits before.played
           played.found played.passes played.challenge (ap (map coefficients) added.betas
-              ∙ map-append coefficients old.betas.items (round.beta ∷ [])) played.state;
+          ∙ map-append coefficients old.betas.items (round.beta ∷ [])) played.state;
       length = ap length is_word ∙ played.length ∙ ap (λ m. 2 ^ m) (omega arith);
       committed = λ f are.
           rounds_more (g.M.Mmcs.commits c.args.mmcs.now) g.M.Mmcs.matrices
           (word_at k heights f h first old.betas.items)
-              (word_at k heights f h first new.betas.items) c.loop-i.word.items
+          (word_at k heights f h first new.betas.items) c.loop-i.word.items
           old.kept.items new.kept.items old.commitments.items new.commitments.items round.kept
-              round.commitment added.kept added.commitments
+          round.commitment added.kept added.commitments
           (λ m low.
           let known = before.commitments in
           let counted = before.betas in
           ap (λ bs. word_at k heights f h first bs m) added.betas
           ∙ word_at-kept k heights f h first old.betas.items round.beta m
-              (omega (arith, low, known, counted)))
+          (omega (arith, low, known, counted)))
           (before.word f are ∙ ap (word_at k heights f h first old.betas.items)
-              (sym before.commitments))
+          (sym before.commitments))
           (before.committed f are) played.committed;
       word = λ f are.
           is_word ∙ played.folds f are
           ∙ word_at-next k heights f h first old.betas.items new.betas.items round.beta i
-              c.loop-i.word.items added.betas before.betas (before.word f are);
+          c.loop-i.word.items added.betas before.betas (before.word f are);
     }
 
 pub returns-clause-due : goal.returns-clause-due
 returns-clause-due g c = λ rest e.
     c.loop-i.invariant.due rest e
     ∙ rounds_none g.EF.ExtensionField.DEGREE (numbers c.args.transcript.now).commit_pow_bits
-        c.args.num_rounds c.loop-i.i rest (omega arith)
+    c.args.num_rounds c.loop-i.i rest (omega arith)
 
 pub play_round-requires-clause-small : goal.play_round-requires-clause-small
 play_round-requires-clause-small g c =
@@ -227,9 +234,9 @@ pub returns-clause-word : goal.returns-clause-word
 returns-clause-word g c = λ f are.
     let ended : c.loop-i.i ≡ c.args.num_rounds = omega arith in
     c.loop-i.invariant.word f are
-        ∙ ap
-        (word_at (fields g) c.args.heights.now f c.args.log_height c.args.first.items
-        c.loop-i.rounds.betas.items) ended
+    ∙ ap
+    (word_at (fields g) c.args.heights.now f c.args.log_height c.args.first.items
+    c.loop-i.rounds.betas.items) ended
 
 pub play_round-requires-clause-positive : goal.play_round-requires-clause-positive
 play_round-requires-clause-positive g c =
@@ -242,6 +249,6 @@ play_round-requires-clause-in_group g c = omega (arith, c.requires.in_group)
 pub returns-in_err-word-clause-failure : goal.returns-in_err-word-clause-failure
 returns-in_err-word-clause-failure g c =
     handed_on c.from_residual-in_err-word.result Memory
-        (IsRoundsFailure (challenger g) (g.M.Mmcs.commits c.args.mmcs.now) c.args.transcript.now
-        (fields g) c.args.heights.now c.args.folded.now c.args.log_height c.args.first.items
-        c.args.num_rounds) c.from_residual-in_err-word.ensures.1 (inl refl)
+    (IsRoundsFailure (challenger g) (g.M.Mmcs.commits c.args.mmcs.now) c.args.transcript.now
+    (fields g) c.args.heights.now c.args.folded.now c.args.log_height c.args.first.items
+    c.args.num_rounds) c.from_residual-in_err-word.ensures.1 (inl refl)

@@ -11,10 +11,17 @@ use Rattle.circle_prover.proofs.values.batch_values.Given as goal
 abbrev pub invariant-loop-matrix : goal.invariant-loop-matrix
 invariant-loop-matrix g l =
     let k : Fields g.row.F.Denot g.row.EF.Denot =
-        record { field = g.F.Operations.ops; gen = g.F.ComplexExtendable.generators; two_adicity =
-        g.F.ComplexExtendable.CIRCLE_TWO_ADICITY; is_zero = λ w. g.F.PartialEq.eq w g.F.Field.ZERO;
-        extension = g.EF.Operations.ops; embed = g.EF.ExtensionField.embed; same =
-        g.EF.PartialEq.eq } in
+    record {
+      field = g.F.Operations.ops;
+      gen = g.F.ComplexExtendable.generators;
+      two_adicity =
+          g.F.ComplexExtendable.CIRCLE_TWO_ADICITY;
+      is_zero = λ w. g.F.PartialEq.eq w g.F.Field.ZERO;
+      extension = g.EF.Operations.ops;
+      embed = g.EF.ExtensionField.embed;
+      same =
+          g.EF.PartialEq.eq;
+    } in
     let i = length l.yielded in
     record {
       right : All (AreWeightsOf k l.log_blowup) l.all.items;

@@ -5,4 +5,4 @@ use Rattle.circle_scheme.proofs.commit.extensions.Given as goal
 abbrev pub invariant-loop-domain : goal.invariant-loop-domain
 invariant-loop-domain g l =
     AreExtensions g.F.Operations.ops g.F.ComplexExtendable.generators l.log_blowup l.yielded
-        l.made.items
+    l.made.items

@@ -10,6 +10,6 @@ returns-else-log_n-le63 g c = (
       absurd (omega (arith, small, c.if-log_n-le63.false)),
   λ tall.
       let small : log_size c.args.domain.now ≤ 63 =
-          log_small c.args.matrix.now (log_size c.args.domain.now) tall in
+      log_small c.args.matrix.now (log_size c.args.domain.now) tall in
       le-leb c.log_n.result 63 (omega (arith, small, c.log_n.ensures)),
 )

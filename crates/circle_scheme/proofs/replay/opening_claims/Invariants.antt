@@ -8,4 +8,4 @@ use Rattle.circle_scheme.proofs.replay.opening_claims.Given as goal
 abbrev pub invariant-loop-batch : goal.invariant-loop-batch
 invariant-loop-batch g l =
     claims_of l.claims.items
-        ≡ claims_taken g.EF.Operations.ops (batch_claims (take l.batch-index l.batches))
+    ≡ claims_taken g.EF.Operations.ops (batch_claims (take l.batch-index l.batches))

@@ -8,5 +8,5 @@ use Rattle.circle_scheme.proofs.replay.push_batch.Given as goal
 abbrev pub invariant-loop-matrix : goal.invariant-loop-matrix
 invariant-loop-matrix g l =
     claims_of l.claims.items ≡ claims_of l.initial.claims.items
-        ++ flat_map (λ m. map (point_taken g.EF.Operations.ops) m.claims)
-        (matrix_claims (take l.matrix-index l.matrices))
+    ++ flat_map (λ m. map (point_taken g.EF.Operations.ops) m.claims)
+    (matrix_claims (take l.matrix-index l.matrices))

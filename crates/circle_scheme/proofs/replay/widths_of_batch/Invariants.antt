@@ -7,4 +7,4 @@ use Rattle.circle_scheme.proofs.replay.widths_of_batch.Given as goal
 abbrev pub invariant-loop-matrix : goal.invariant-loop-matrix
 invariant-loop-matrix g l =
     matrices_of l.widths.items ≡ map (λ m. map (λ c. length c.values) m.claims)
-        (matrix_claims (take l.matrix-index l.matrices))
+    (matrix_claims (take l.matrix-index l.matrices))

@@ -7,4 +7,4 @@ pub returns : goal.returns
 returns g c =
     c.loop-point.invariant
     ∙ ap (λ ps. map (λ c. length c.values) (map point_claim ps))
-        (take_all c.loop-point.point-index c.args.points.now c.loop-point-test.false)
+    (take_all c.loop-point.point-index c.args.points.now c.loop-point-test.false)

@@ -29,31 +29,31 @@ loop-point-preserved g c =
       due = λ rest e.
           c.observe_claim.ensures.due _
           (c.loop-point.invariant.due rest e
-              ∙ ap (λ xs. flat_map (claim_steps degree) (widths_of (claims_of xs)) ++ rest) rest_of
+          ∙ ap (λ xs. flat_map (claim_steps degree) (widths_of (claims_of xs)) ++ rest) rest_of
           ∙ append_assoc (claim_steps degree (length item.1.now))
-              (flat_map (claim_steps degree) (widths_of (claims_of (drop (i + 1) claims)))) rest);
+          (flat_map (claim_steps degree) (widths_of (claims_of (drop (i + 1) claims)))) rest);
       state =
           c.observe_claim.ensures.state
           ∙ ap (λ s. after_claims_by observe coefficients s (claim_of item ∷ []))
-              c.loop-point.invariant.state
+          c.loop-point.invariant.state
           ∙ sym
-              (claims-append observe coefficients begun (claims_of (take i claims))
-              (claim_of item ∷ []))
+          (claims-append observe coefficients begun (claims_of (take i claims))
+          (claim_of item ∷ []))
           ∙ ap (after_claims_by observe coefficients begun)
-              (sym (ap claims_of front_of ∙ map-append claim_of (take i claims) (item ∷ [])));
+          (sym (ap claims_of front_of ∙ map-append claim_of (take i claims) (item ∷ [])));
     }
 
 pub returns-clause-due : goal.returns-clause-due
 returns-clause-due g c = λ rest e.
     let degree = g.EF.ExtensionField.DEGREE in
     c.loop-point.invariant.due rest e
-        ∙ ap (λ xs. flat_map (claim_steps degree) (widths_of (claims_of xs)) ++ rest)
-        (drop_all c.loop-point.point-index c.args.claims.now c.loop-point-test.false)
+    ∙ ap (λ xs. flat_map (claim_steps degree) (widths_of (claims_of xs)) ++ rest)
+    (drop_all c.loop-point.point-index c.args.claims.now c.loop-point-test.false)
 
 pub returns-clause-state : goal.returns-clause-state
 returns-clause-state g c =
     let begun = g.C.ChallengerState.state c.args.transcript.now.challenger.now in
     c.loop-point.invariant.state
     ∙ ap (λ xs. after_claims_by g.C.CanObserve.after_observe g.EF.ExtensionField.coefficients begun
-        (claims_of xs))
-        (take_all c.loop-point.point-index c.args.claims.now c.loop-point-test.false)
+    (claims_of xs))
+    (take_all c.loop-point.point-index c.args.claims.now c.loop-point-test.false)

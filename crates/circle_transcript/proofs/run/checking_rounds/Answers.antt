@@ -60,14 +60,14 @@ loop-i-preserved g c =
     let within : i < length commitments = omega arith in
     let same_bits = ap (λ v. v.commit_pow_bits) c.loop-i.invariant.same.shape in
     let more = zip_more commitments witnesses i commitment witness within
-        c.requires.paired c.index-commitments-i.is c.index-witnesses-i.is in
+    c.requires.paired c.index-commitments-i.is c.index-witnesses-i.is in
     let played = one_more (challenger g) bits _ _ _ _ (commitment, witness) more
-        c.loop-i.invariant.state
+    c.loop-i.invariant.state
     (map coefficients c.loop-i.betas.items) (map coefficients c.push.new.self.items)
-        (coefficients beta) _ _ same_bits c.loop-i.invariant.passes c.loop-i.invariant.challenges
+    (coefficients beta) _ _ same_bits c.loop-i.invariant.passes c.loop-i.invariant.challenges
     c.in_ok-beta.ensures.passes c.in_ok-beta.ensures.challenge
-        (ap (map coefficients) c.in-Ok.ensures.items
-        ∙ map-append coefficients c.loop-i.betas.items (beta ∷ [])) c.in_ok-beta.ensures.state in
+    (ap (map coefficients) c.in-Ok.ensures.items
+    ∙ map-append coefficients c.loop-i.betas.items (beta ∷ [])) c.in_ok-beta.ensures.state in
     record {
       same = record {
         challenger = c.commit_round.ensures.same.challenger ∙ c.loop-i.invariant.same.challenger;
@@ -86,7 +86,7 @@ pub returns-clause-due : goal.returns-clause-due
 returns-clause-due g c = λ rest e.
     c.loop-i.invariant.due rest e
     ∙ rounds_none g.EF.ExtensionField.DEGREE (numbers c.args.transcript.now).commit_pow_bits
-        (length c.args.commitments.now) c.loop-i.i rest c.loop-i-test.false
+    (length c.args.commitments.now) c.loop-i.i rest c.loop-i-test.false
 
 pub returns-in_err-beta-clause-failure : goal.returns-in_err-beta-clause-failure
 returns-in_err-beta-clause-failure g c =
@@ -101,18 +101,18 @@ returns-in_err-beta-clause-failure g c =
     let within : i < length commitments = omega arith in
     let within_next : i + 1 ≤ length commitments = omega arith in
     let more = zip_more commitments witnesses i commitment witness within
-        c.requires.paired c.index-commitments-i.is c.index-witnesses-i.is in
+    c.requires.paired c.index-commitments-i.is c.index-witnesses-i.is in
     let same_bits = ap (λ v. v.commit_pow_bits) c.loop-i.invariant.same.shape in
     let missed = misses_more r bits _ _ _ _ (commitment, witness) more c.loop-i.invariant.state
-        c.loop-i.invariant.passes _ same_bits c.in_err-beta.ensures.missed in
+    c.loop-i.invariant.passes _ same_bits c.in_err-beta.ensures.missed in
     let whole =
-        misses_all r bits begun (zip commitments witnesses)
-        (zip (take (i + 1) commitments) (take (i + 1) witnesses)) _
-        (zip_split commitments witnesses (i + 1) within_next c.requires.paired) missed in
+    misses_all r bits begun (zip commitments witnesses)
+    (zip (take (i + 1) commitments) (take (i + 1) witnesses)) _
+    (zip_split commitments witnesses (i + 1) within_next c.requires.paired) missed in
     handed_on c.from_residual.result c.in_err-beta.field-0.0
-        (λ e. (e ≡ Memory)
-        ⊎ ((e ≡ PowWitness CommitPhase bits)
-        × (rounds_pass r bits begun (zip commitments witnesses) ≡ false))) c.from_residual.ensures.1
+    (λ e. (e ≡ Memory)
+    ⊎ ((e ≡ PowWitness CommitPhase bits)
+    × (rounds_pass r bits begun (zip commitments witnesses) ≡ false))) c.from_residual.ensures.1
     (inr (c.in_err-beta.ensures.failure ∙ ap (PowWitness CommitPhase) same_bits, whole))
 
 pub commit_round-requires-clause-small : goal.commit_round-requires-clause-small
@@ -143,23 +143,23 @@ all_rounds us vs i ended same = ap (λ v. zip v (take i vs)) (take_all i us ende
 pub returns-clause-passes : goal.returns-clause-passes
 returns-clause-passes g c =
     subst (λ v. rounds_pass (challenger g) (numbers c.args.transcript.now).commit_pow_bits
-        (g.C.ChallengerState.state c.args.transcript.now.challenger.now) v ≡ true)
+    (g.C.ChallengerState.state c.args.transcript.now.challenger.now) v ≡ true)
     (all_rounds c.args.commitments.now c.args.witnesses.now c.loop-i.i c.loop-i-test.false
-        c.requires.paired) c.loop-i.invariant.passes
+    c.requires.paired) c.loop-i.invariant.passes
 
 pub returns-clause-challenges : goal.returns-clause-challenges
 returns-clause-challenges g c =
     c.loop-i.invariant.challenges
     ∙ ap (fold_challenges (challenger g) (numbers c.args.transcript.now).commit_pow_bits
-        (g.C.ChallengerState.state c.args.transcript.now.challenger.now))
+    (g.C.ChallengerState.state c.args.transcript.now.challenger.now))
     (all_rounds c.args.commitments.now c.args.witnesses.now c.loop-i.i c.loop-i-test.false
-        c.requires.paired)
+    c.requires.paired)
 
 pub returns-clause-state : goal.returns-clause-state
 returns-clause-state g c =
     c.loop-i.invariant.state
     ∙ ap
-        (after_rounds (challenger g) (numbers c.args.transcript.now).commit_pow_bits
-        (g.C.ChallengerState.state c.args.transcript.now.challenger.now))
+    (after_rounds (challenger g) (numbers c.args.transcript.now).commit_pow_bits
+    (g.C.ChallengerState.state c.args.transcript.now.challenger.now))
     (all_rounds c.args.commitments.now c.args.witnesses.now c.loop-i.i c.loop-i-test.false
-        c.requires.paired)
+    c.requires.paired)

@@ -65,24 +65,24 @@ loop-commitment-preserved g c =
     let commitment = c.commitment-item.result in
     let witness = c.unwrap_or-witness.result in
     let is_witness : unwrap_or found zero ≡ witness =
-        sym
-        (c.unwrap_or-witness.ensures
-        ∙ ap (unwrap_or found) (c.ZERO.ensures ∙ g.met.F.Field.zero_law)) in
+    sym
+    (c.unwrap_or-witness.ensures
+    ∙ ap (unwrap_or found) (c.ZERO.ensures ∙ g.met.F.Field.zero_law)) in
     let beta = c.in_ok-beta.beta in
     let within : i < length commitments = omega arith in
     let more = zip_pushed commitments witnesses pushed i commitment (unwrap_or found zero) within
-        c.loop-commitment.invariant.count c.commitment-item.is
+    c.loop-commitment.invariant.count c.commitment-item.is
     (c.in-Ok-push.ensures.items ∙ ap (λ w. witnesses ++ w ∷ []) (sym is_witness)) in
     let same_bits = ap (λ v. v.commit_pow_bits) c.loop-commitment.invariant.same.shape in
     let played = one_more (challenger g) bits _ _ _ _ (commitment, unwrap_or found zero) more
-        c.loop-commitment.invariant.state
+    c.loop-commitment.invariant.state
     (map coefficients c.loop-commitment.betas.items) (map coefficients c.push.new.self.items)
-        (coefficients beta) _ _ same_bits c.loop-commitment.invariant.passes
-        c.loop-commitment.invariant.challenges
+    (coefficients beta) _ _ same_bits c.loop-commitment.invariant.passes
+    c.loop-commitment.invariant.challenges
     c.in_ok-beta.ensures.passes c.in_ok-beta.ensures.challenge
-        (ap (map coefficients) c.in-Ok.ensures.items
-        ∙ map-append coefficients c.loop-commitment.betas.items (beta ∷ []))
-        c.in_ok-beta.ensures.state in
+    (ap (map coefficients) c.in-Ok.ensures.items
+    ∙ map-append coefficients c.loop-commitment.betas.items (beta ∷ []))
+    c.in_ok-beta.ensures.state in
     record {
       same = record {
         challenger = c.commit_round.ensures.same.challenger
@@ -98,8 +98,8 @@ loop-commitment-preserved g c =
       easy = λ none.
           zeros_pushed zero witnesses pushed witness (c.loop-commitment.invariant.easy none)
           (sym is_witness
-              ∙ unwrap_none zero found (c.in_ok-beta.ensures.needed.1 (same_bits ∙ none)))
-              c.in-Ok-push.ensures.items;
+          ∙ unwrap_none zero found (c.in_ok-beta.ensures.needed.1 (same_bits ∙ none)))
+          c.in-Ok-push.ensures.items;
       passes = played.passes;
       challenges = played.challenges;
       state = played.state;
@@ -109,8 +109,8 @@ pub returns-clause-due : goal.returns-clause-due
 returns-clause-due g c = λ rest e.
     c.loop-commitment.invariant.due rest e
     ∙ rounds_none g.EF.ExtensionField.DEGREE (numbers c.args.transcript.now).commit_pow_bits
-        (length c.args.commitments.now) c.loop-commitment.commitment-index rest
-        c.loop-commitment-test.false
+    (length c.args.commitments.now) c.loop-commitment.commitment-index rest
+    c.loop-commitment-test.false
 
 pub returns-in_err-beta-clause-failure : goal.returns-in_err-beta-clause-failure
 returns-in_err-beta-clause-failure g c =
@@ -122,20 +122,20 @@ returns-in_err-beta-clause-failure g c =
     let within : i < length commitments = omega arith in
     let same_bits = ap (λ v. v.commit_pow_bits) c.loop-commitment.invariant.same.shape in
     let stuck = stuck_here r bits begun _ commitments c.loop-commitment.witnesses.items
-        c.commitment-item.result i _ c.loop-commitment.invariant.count within
-        c.commitment-item.is same_bits
+    c.commitment-item.result i _ c.loop-commitment.invariant.count within
+    c.commitment-item.is same_bits
     c.loop-commitment.invariant.passes c.loop-commitment.invariant.state
-        c.in_err-beta.ensures.none in
+    c.in_err-beta.ensures.none in
     handed_on c.from_residual.result c.in_err-beta.field-0.0
-        (λ e. (e ≡ Memory)
-        ⊎ ((e ≡ NoWitness CommitPhase bits) × HasStuckRound r bits begun commitments))
-        c.from_residual.ensures.1
+    (λ e. (e ≡ Memory)
+    ⊎ ((e ≡ NoWitness CommitPhase bits) × HasStuckRound r bits begun commitments))
+    c.from_residual.ensures.1
     (inr (c.in_err-beta.ensures.failure ∙ ap (NoWitness CommitPhase) same_bits, stuck))
 
 pub commit_round-requires-clause-small : goal.commit_round-requires-clause-small
 commit_round-requires-clause-small g c =
     subst (λ n. n.commit_pow_bits ≤ 63) (sym c.loop-commitment.invariant.same.shape)
-        c.requires.small
+    c.requires.small
 
 pub returns-in_err-beta-clause-same : goal.returns-in_err-beta-clause-same
 returns-in_err-beta-clause-same g c = record {
@@ -167,25 +167,25 @@ returns-clause-easy g c = c.loop-commitment.invariant.easy
 pub returns-clause-passes : goal.returns-clause-passes
 returns-clause-passes g c =
     subst (λ v. rounds_pass (challenger g) (numbers c.args.transcript.now).commit_pow_bits
-        (g.C.ChallengerState.state c.args.transcript.now.challenger.now)
-        (zip v c.loop-commitment.witnesses.items) ≡ true)
+    (g.C.ChallengerState.state c.args.transcript.now.challenger.now)
+    (zip v c.loop-commitment.witnesses.items) ≡ true)
     (take_all c.loop-commitment.commitment-index c.args.commitments.now
-        c.loop-commitment-test.false) c.loop-commitment.invariant.passes
+    c.loop-commitment-test.false) c.loop-commitment.invariant.passes
 
 pub returns-clause-challenges : goal.returns-clause-challenges
 returns-clause-challenges g c =
     c.loop-commitment.invariant.challenges
     ∙ ap (λ v. fold_challenges (challenger g) (numbers c.args.transcript.now).commit_pow_bits
-        (g.C.ChallengerState.state c.args.transcript.now.challenger.now)
-        (zip v c.loop-commitment.witnesses.items))
+    (g.C.ChallengerState.state c.args.transcript.now.challenger.now)
+    (zip v c.loop-commitment.witnesses.items))
     (take_all c.loop-commitment.commitment-index c.args.commitments.now
-        c.loop-commitment-test.false)
+    c.loop-commitment-test.false)
 
 pub returns-clause-state : goal.returns-clause-state
 returns-clause-state g c =
     c.loop-commitment.invariant.state
     ∙ ap (λ v. after_rounds (challenger g) (numbers c.args.transcript.now).commit_pow_bits
-        (g.C.ChallengerState.state c.args.transcript.now.challenger.now)
-        (zip v c.loop-commitment.witnesses.items))
+    (g.C.ChallengerState.state c.args.transcript.now.challenger.now)
+    (zip v c.loop-commitment.witnesses.items))
     (take_all c.loop-commitment.commitment-index c.args.commitments.now
-        c.loop-commitment-test.false)
+    c.loop-commitment-test.false)

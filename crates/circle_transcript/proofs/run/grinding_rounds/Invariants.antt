@@ -12,10 +12,10 @@ use Rattle.circle_transcript.proofs.run.grinding_rounds.Given as goal
 abbrev pub invariant-loop-commitment : goal.invariant-loop-commitment
 invariant-loop-commitment g l =
     let r = run_moves g.C.ChallengerState.state g.C.CanObserve-1.after_observe
-        g.C.CanObserve-2.after_observe g.C.CanSample.sampled g.C.CanSample.after_sample
-        g.C.CanSampleBits.sampled_bits g.C.CanSampleBits.after_bits
-        g.C.GrindingChallenger.found_witness g.EF.ExtensionField.DEGREE
-        g.EF.ExtensionField.coefficients (of_nat g.F.Operations.ops) g.F.Operations.ops.zero in
+    g.C.CanObserve-2.after_observe g.C.CanSample.sampled g.C.CanSample.after_sample
+    g.C.CanSampleBits.sampled_bits g.C.CanSampleBits.after_bits
+    g.C.GrindingChallenger.found_witness g.EF.ExtensionField.DEGREE
+    g.EF.ExtensionField.coefficients (of_nat g.F.Operations.ops) g.F.Operations.ops.zero in
     let degree = g.EF.ExtensionField.DEGREE in
     let bits = (numbers l.initial.transcript).commit_pow_bits in
     let begun = g.C.ChallengerState.state (current l.initial.transcript) in

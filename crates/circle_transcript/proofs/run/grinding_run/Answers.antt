@@ -37,11 +37,11 @@ returns-in_err-alpha-clause-failure g c =
     let claims = claims_of c.args.claims.now in
     let messages = c.args.messages.now in
     handed_on c.from_residual.result c.in_err-alpha.field-0.0
-        (λ e. (e ≡ Memory) ⊎ IsStuck r n claims messages s e) c.from_residual.ensures.1
+    (λ e. (e ≡ Memory) ⊎ IsStuck r n claims messages s e) c.from_residual.ensures.1
     (inr
-        (stuck_in
-        r n claims messages s Batch c.in_err-alpha.field-0.0 _ c.in_err-alpha.ensures.failure refl
-        c.in_err-alpha.ensures.none))
+    (stuck_in
+    r n claims messages s Batch c.in_err-alpha.field-0.0 _ c.in_err-alpha.ensures.failure refl
+    c.in_err-alpha.ensures.none))
 
 pub returns-in_err-betas-clause-failure : goal.returns-in_err-betas-clause-failure
 returns-in_err-betas-clause-failure g c =
@@ -54,20 +54,24 @@ returns-in_err-betas-clause-failure g c =
     let all = taken_with claims messages (unwrap_or c.in_ok-alpha.batch zero) [] zero in
     let same2 = c.first_layer-bivariate.ensures.same.shape ∙ c.batch_phase.ensures.same.shape in
     let second : AtRounds r n all s (numbers c.first_layer-bivariate.new.self)
-        (g.C.ChallengerState.state c.first_layer-bivariate.new.self.challenger.now) =
-    record { same = same2; batch = c.in_ok-alpha.ensures.passes; state =
-        c.first_layer-bivariate.ensures.state
-        ∙ ap (after_element r.base) (at_layer r n all s _ c.in_ok-alpha.ensures.state) } in
+    (g.C.ChallengerState.state c.first_layer-bivariate.new.self.challenger.now) =
+    record {
+      same = same2;
+      batch = c.in_ok-alpha.ensures.passes;
+      state =
+          c.first_layer-bivariate.ensures.state
+          ∙ ap (after_element r.base) (at_layer r n all s _ c.in_ok-alpha.ensures.state);
+    } in
     handed_on c.from_residual-in_err-betas.result c.in_err-betas.field-0.0
-        (λ e. (e ≡ Memory) ⊎ IsStuck r n claims messages s e) c.from_residual-in_err-betas.ensures.1
+    (λ e. (e ≡ Memory) ⊎ IsStuck r n claims messages s e) c.from_residual-in_err-betas.ensures.1
     (elim c.in_err-betas.ensures.failure [
       | inl refused ↦ inl refused
       | inr stuck ↦
           inr
-              (stuck_in r n claims messages s CommitPhase c.in_err-betas.field-0.0 _ stuck.0
-              (ap (λ v. v.commit_pow_bits) same2)
+          (stuck_in r n claims messages s CommitPhase c.in_err-betas.field-0.0 _ stuck.0
+          (ap (λ v. v.commit_pow_bits) same2)
           (stuck_rounds r n claims messages s (unwrap_or c.in_ok-alpha.batch zero) _ _ second
-              stuck.1))
+          stuck.1))
     ])
 
 -- the steps that are due before the indices
@@ -78,17 +82,17 @@ query_phase-requires-clause-next g c = (
       (numbers c.args.transcript.now) _ _ _ _ (c.first_layer-bivariate.ensures.same.shape
       ∙ c.batch_phase.ensures.same.shape) c.grinding_rounds.ensures.same.shape
       (c.first_layer-bivariate.ensures.due _ (c.in_ok-alpha.ensures.due _ c.requires.next))
-          c.in_ok-betas.ensures.due,
+      c.in_ok-betas.ensures.due,
 )
 
 pub returns-clause-due : goal.returns-clause-due
 returns-clause-due g c =
     c.in_ok-indices.ensures.due []
     (indices_due g.EF.ExtensionField.DEGREE (length c.args.messages.now.commitments.now)
-        (numbers c.args.transcript.now) _ _ _ _ (c.first_layer-bivariate.ensures.same.shape
-        ∙ c.batch_phase.ensures.same.shape) c.grinding_rounds.ensures.same.shape
+    (numbers c.args.transcript.now) _ _ _ _ (c.first_layer-bivariate.ensures.same.shape
+    ∙ c.batch_phase.ensures.same.shape) c.grinding_rounds.ensures.same.shape
     (c.first_layer-bivariate.ensures.due _ (c.in_ok-alpha.ensures.due _ c.requires.next))
-        c.in_ok-betas.ensures.due)
+    c.in_ok-betas.ensures.due)
 
 pub returns-in_err-indices-clause-failure : goal.returns-in_err-indices-clause-failure
 returns-in_err-indices-clause-failure g c =
@@ -99,28 +103,32 @@ returns-in_err-indices-clause-failure g c =
     let claims = claims_of c.args.claims.now in
     let messages = c.args.messages.now in
     let all = taken_with claims messages (unwrap_or c.in_ok-alpha.batch zero)
-        c.in_ok-betas.rounds.items zero in
+    c.in_ok-betas.rounds.items zero in
     let same2 = c.first_layer-bivariate.ensures.same.shape ∙ c.batch_phase.ensures.same.shape in
     let second : AtRounds r n all s (numbers c.first_layer-bivariate.new.self)
-        (g.C.ChallengerState.state c.first_layer-bivariate.new.self.challenger.now) =
-    record { same = same2; batch = c.in_ok-alpha.ensures.passes; state =
-        c.first_layer-bivariate.ensures.state
-        ∙ ap (after_element r.base) (at_layer r n all s _ c.in_ok-alpha.ensures.state) } in
+    (g.C.ChallengerState.state c.first_layer-bivariate.new.self.challenger.now) =
+    record {
+      same = same2;
+      batch = c.in_ok-alpha.ensures.passes;
+      state =
+          c.first_layer-bivariate.ensures.state
+          ∙ ap (after_element r.base) (at_layer r n all s _ c.in_ok-alpha.ensures.state);
+    } in
     let third = at_query r n all s (numbers c.grinding_rounds.new.transcript) _ _ _ second
-        c.grinding_rounds.ensures.same.shape c.in_ok-betas.ensures.passes
-        c.in_ok-betas.ensures.state in
+    c.grinding_rounds.ensures.same.shape c.in_ok-betas.ensures.passes
+    c.in_ok-betas.ensures.state in
     handed_on c.from_residual-in_err-indices.result c.in_err-indices.field-0.0
-        (λ e. (e ≡ Memory) ⊎ IsStuck r n claims messages s e)
-        c.from_residual-in_err-indices.ensures.1
+    (λ e. (e ≡ Memory) ⊎ IsStuck r n claims messages s e)
+    c.from_residual-in_err-indices.ensures.1
     (elim c.in_err-indices.ensures.failure [
       | inl refused ↦ inl refused
       | inr none ↦
           inr
-              (stuck_in
-              r n claims messages s Query c.in_err-indices.field-0.0 _ none
-              (ap (λ v. v.query_pow_bits) (c.grinding_rounds.ensures.same.shape ∙ same2))
+          (stuck_in
+          r n claims messages s Query c.in_err-indices.field-0.0 _ none
+          (ap (λ v. v.query_pow_bits) (c.grinding_rounds.ensures.same.shape ∙ same2))
           (stuck_query r n claims messages s (unwrap_or c.in_ok-alpha.batch zero)
-              c.in_ok-betas.rounds.items _ _ third c.in_ok-betas.ensures.count
+          c.in_ok-betas.rounds.items _ _ third c.in_ok-betas.ensures.count
           (c.query_phase.ensures.none (c.in_err-indices.was ∙ ap Err none))))
     ])
 
@@ -133,53 +141,57 @@ returns-clause-draws g c =
     let claims = claims_of c.args.claims.now in
     let messages = c.args.messages.now in
     let all = taken_with claims messages (unwrap_or c.in_ok-alpha.batch zero)
-        c.in_ok-betas.rounds.items (unwrap_or c.in_ok-indices.query zero) in
+    c.in_ok-betas.rounds.items (unwrap_or c.in_ok-indices.query zero) in
     let same2 = c.first_layer-bivariate.ensures.same.shape ∙ c.batch_phase.ensures.same.shape in
     let second : AtRounds r n all s (numbers c.first_layer-bivariate.new.self)
-        (g.C.ChallengerState.state c.first_layer-bivariate.new.self.challenger.now) =
-    record { same = same2; batch = c.in_ok-alpha.ensures.passes; state =
-        c.first_layer-bivariate.ensures.state
-        ∙ ap (after_element r.base) (at_layer r n all s _ c.in_ok-alpha.ensures.state) } in
+    (g.C.ChallengerState.state c.first_layer-bivariate.new.self.challenger.now) =
+    record {
+      same = same2;
+      batch = c.in_ok-alpha.ensures.passes;
+      state =
+          c.first_layer-bivariate.ensures.state
+          ∙ ap (after_element r.base) (at_layer r n all s _ c.in_ok-alpha.ensures.state);
+    } in
     let third = at_query r n all s (numbers c.grinding_rounds.new.transcript) _ _ _ second
-        c.grinding_rounds.ensures.same.shape c.in_ok-betas.ensures.passes
-        c.in_ok-betas.ensures.state in
+    c.grinding_rounds.ensures.same.shape c.in_ok-betas.ensures.passes
+    c.in_ok-betas.ensures.state in
     let coefficients = g.EF.ExtensionField.coefficients in
     let drawn =
-        drawn_parts (coefficients c.in_ok-alpha.alpha) (coefficients c.first_layer-bivariate.result)
-        (map coefficients c.in_ok-betas.betas.items) c.in_ok-indices.indices.items
+    drawn_parts (coefficients c.in_ok-alpha.alpha) (coefficients c.first_layer-bivariate.result)
+    (map coefficients c.in_ok-betas.betas.items) c.in_ok-indices.indices.items
     (g.C.ChallengerState.state c.query_phase.new.self.challenger.now) in
     let given : draw_seeded r n all s ≡ Ok drawn =
     all_drawn r n all s _ _ third drawn.alpha drawn.bivariate drawn.betas drawn.indices
     _ _ _ drawn.state c.in_ok-alpha.ensures.state second c.in_ok-indices.ensures.passes
     c.in_ok-alpha.ensures.challenge c.first_layer-bivariate.ensures.challenge
-        c.in_ok-betas.ensures.challenges c.in_ok-indices.ensures.indices
-        c.in_ok-indices.ensures.state in
+    c.in_ok-betas.ensures.challenges c.in_ok-indices.ensures.indices
+    c.in_ok-indices.ensures.state in
     subst
-        (λ w. draw_seeded r n
-        (taken_with claims messages w c.in_ok-betas.rounds.items c.or_zero-query_witness.result) s
-        ≡ Ok drawn) (sym c.or_zero-batch_witness.ensures)
+    (λ w. draw_seeded r n
+    (taken_with claims messages w c.in_ok-betas.rounds.items c.or_zero-query_witness.result) s
+    ≡ Ok drawn) (sym c.or_zero-batch_witness.ensures)
     (subst
-        (λ w. draw_seeded r n
-        (taken_with claims messages (unwrap_or c.in_ok-alpha.batch zero) c.in_ok-betas.rounds.items
-        w) s ≡ Ok drawn) (sym c.or_zero-query_witness.ensures) given)
+    (λ w. draw_seeded r n
+    (taken_with claims messages (unwrap_or c.in_ok-alpha.batch zero) c.in_ok-betas.rounds.items
+    w) s ≡ Ok drawn) (sym c.or_zero-query_witness.ensures) given)
 
 pub returns-clause-easy_batch : goal.returns-clause-easy_batch
 returns-clause-easy_batch g c = λ none.
     c.or_zero-batch_witness.ensures ∙ unwrap_none g.F.Operations.ops.zero c.in_ok-alpha.batch
-        (c.in_ok-alpha.ensures.needed.1 none)
+    (c.in_ok-alpha.ensures.needed.1 none)
 
 pub returns-clause-easy_rounds : goal.returns-clause-easy_rounds
 returns-clause-easy_rounds g c = λ none.
     c.in_ok-betas.ensures.easy
-        (ap (λ v. v.commit_pow_bits) (c.first_layer-bivariate.ensures.same.shape
-        ∙ c.batch_phase.ensures.same.shape) ∙ none)
+    (ap (λ v. v.commit_pow_bits) (c.first_layer-bivariate.ensures.same.shape
+    ∙ c.batch_phase.ensures.same.shape) ∙ none)
 
 pub returns-clause-easy_query : goal.returns-clause-easy_query
 returns-clause-easy_query g c = λ none.
     let same = c.grinding_rounds.ensures.same.shape ∙ c.first_layer-bivariate.ensures.same.shape
-        ∙ c.batch_phase.ensures.same.shape in
+    ∙ c.batch_phase.ensures.same.shape in
     c.or_zero-query_witness.ensures ∙ unwrap_none g.F.Operations.ops.zero c.in_ok-indices.query
-        (c.in_ok-indices.ensures.needed.1 (ap (λ v. v.query_pow_bits) same ∙ none))
+    (c.in_ok-indices.ensures.needed.1 (ap (λ v. v.query_pow_bits) same ∙ none))
 
 pub batch_phase-requires-clause-next : goal.batch_phase-requires-clause-next
 batch_phase-requires-clause-next g c = (_, c.requires.next)
@@ -197,36 +209,36 @@ grinding_rounds-requires-clause-next g c =
       _,
       c.first_layer-bivariate.ensures.due _ (c.in_ok-alpha.ensures.due _ c.requires.next)
           ∙ ap
-              (λ (v : Numbers). rounds_steps g.EF.ExtensionField.DEGREE v.commit_pow_bits
-              (length c.args.messages.now.commitments.now)
-              ++ indices_steps g.EF.ExtensionField.DEGREE n)
+          (λ (v : Numbers). rounds_steps g.EF.ExtensionField.DEGREE v.commit_pow_bits
+          (length c.args.messages.now.commitments.now)
+          ++ indices_steps g.EF.ExtensionField.DEGREE n)
           (sym (c.first_layer-bivariate.ensures.same.shape ∙ c.batch_phase.ensures.same.shape)),
     )
 
 pub grinding_rounds-requires-clause-small : goal.grinding_rounds-requires-clause-small
 grinding_rounds-requires-clause-small g c =
     subst (λ n. n.commit_pow_bits ≤ 63)
-        (sym (c.first_layer-bivariate.ensures.same.shape ∙ c.batch_phase.ensures.same.shape))
-        c.requires.small.commit
+    (sym (c.first_layer-bivariate.ensures.same.shape ∙ c.batch_phase.ensures.same.shape))
+    c.requires.small.commit
 
 pub query_phase-requires-clause-small : goal.query_phase-requires-clause-small
 query_phase-requires-clause-small g c =
     subst (λ n. n.query_pow_bits ≤ 63)
-        (sym (c.grinding_rounds.ensures.same.shape ∙ c.first_layer-bivariate.ensures.same.shape
-        ∙ c.batch_phase.ensures.same.shape)) c.requires.small.query
+    (sym (c.grinding_rounds.ensures.same.shape ∙ c.first_layer-bivariate.ensures.same.shape
+    ∙ c.batch_phase.ensures.same.shape)) c.requires.small.query
 
 pub query_phase-requires-clause-narrow : goal.query_phase-requires-clause-narrow
 query_phase-requires-clause-narrow g c =
     subst (λ n. n.index_bits ≤ 63)
-        (sym (c.grinding_rounds.ensures.same.shape ∙ c.first_layer-bivariate.ensures.same.shape
-        ∙ c.batch_phase.ensures.same.shape)) c.requires.small.index
+    (sym (c.grinding_rounds.ensures.same.shape ∙ c.first_layer-bivariate.ensures.same.shape
+    ∙ c.batch_phase.ensures.same.shape)) c.requires.small.index
 
 pub query_phase-requires-clause-count : goal.query_phase-requires-clause-count
 query_phase-requires-clause-count g c =
     c.requires.count
     ∙ ap (λ n. 2 ^ n.log_final_poly_len)
-        (sym (c.grinding_rounds.ensures.same.shape ∙ c.first_layer-bivariate.ensures.same.shape
-        ∙ c.batch_phase.ensures.same.shape))
+    (sym (c.grinding_rounds.ensures.same.shape ∙ c.first_layer-bivariate.ensures.same.shape
+    ∙ c.batch_phase.ensures.same.shape))
 
 pub returns-in_err-alpha-clause-same : goal.returns-in_err-alpha-clause-same
 returns-in_err-alpha-clause-same g c = c.batch_phase.ensures.same
@@ -259,7 +271,7 @@ pub returns-clause-below : goal.returns-clause-below
 returns-clause-below g c =
     subst (λ n. All (λ i. i < 2 ^ n.index_bits) c.in_ok-indices.indices.items)
     (c.grinding_rounds.ensures.same.shape ∙ c.first_layer-bivariate.ensures.same.shape
-        ∙ c.batch_phase.ensures.same.shape) c.in_ok-indices.ensures.below
+    ∙ c.batch_phase.ensures.same.shape) c.in_ok-indices.ensures.below
 
 pub returns-clause-count : goal.returns-clause-count
 returns-clause-count g c = c.in_ok-betas.ensures.count

@@ -17,7 +17,7 @@ loop-matrix-preserved c =
     ∙ ap (λ before. before ++ copy.items ∷ []) c.loop-matrix.invariant
     ∙ ap (λ last. matrices_of (take i matrices) ++ last ∷ []) same
     ∙ sym (ap matrices_of (take_read matrices i m within c.matrix-item.is)
-        ∙ map-append (λ m. m.items) (take i matrices) (m ∷ []))
+    ∙ map-append (λ m. m.items) (take i matrices) (m ∷ []))
 
 pub returns : goal.returns
 returns c = c.loop-matrix.invariant

@@ -6,4 +6,4 @@ pub returns : goal.returns
 unfolding first_layer_steps
 returns c =
     twice _ _ _ _ _ (pushed _ _ _ _ c.in_ok-push.ensures.items c.opaque.ensures)
-        (pushed _ _ _ _ c.in_ok-push-2.ensures.items c.algebra.ensures)
+    (pushed _ _ _ _ c.in_ok-push-2.ensures.items c.algebra.ensures)

@@ -6,5 +6,5 @@ pub returns : goal.returns
 unfolding query_steps
 returns c =
     guarded _ _ _ _ _ _ _ (pushed _ _ _ _ c.in_ok-push.ensures.items c.final_poly.ensures)
-        c.in_ok-push_pow.ensures
+    c.in_ok-push_pow.ensures
     (pushed _ _ _ _ c.in_ok-push-2.ensures.items c.bits.ensures)

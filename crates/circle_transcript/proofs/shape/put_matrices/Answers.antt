@@ -8,4 +8,4 @@ pub returns : goal.returns
 returns c =
     c.loop-matrix.invariant
     ∙ ap (λ ms. c.args.text.now.items ++ flat_map (λ m. be64 (length m)) (matrices_of ms))
-        (take_all c.loop-matrix.matrix-index c.args.matrices.now c.loop-matrix-test.false)
+    (take_all c.loop-matrix.matrix-index c.args.matrices.now c.loop-matrix-test.false)

@@ -12,5 +12,5 @@ get_evaluations_on_domain-requires-clause-power g c =
     let tested : c.is_power_of_two.result ≡ true = search rules in
     let power = c.is_power_of_two.ensures.0 tested in
     let is : m ≡ get_or matrices 0 m = c.index-matrices-0.is
-        ∙ ap (λ ms. get_or ms 0 m) c.get_matrices-matrices.ensures in
+    ∙ ap (λ ms. get_or ms 0 m) c.get_matrices-matrices.ensures in
     power-at matrices 0 m within is (power.0, sym c.height.ensures ∙ power.1)

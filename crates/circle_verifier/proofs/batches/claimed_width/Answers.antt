@@ -7,7 +7,7 @@ use Rattle.circle_verifier.proofs.batches.claimed_width.Goals as goal
 module _ {E : Type 0} where
   some-width : (ps : List (PointOpening E)) (p : PointOpening E) → Some p ≡ slice_get ps 0
       → length p.values.items
-          ≡ length (slice_index_or (map (λ c. c.values) (map point_claim ps)) 0 [])
+      ≡ length (slice_index_or (map (λ c. c.values) (map point_claim ps)) 0 [])
   some-width [] p is = cc
   some-width (q ∷ qs) p is = cc
 
@@ -21,12 +21,12 @@ returns-in-Some g c =
     let points = c.args.matrix.now.points.items in
     let point = c.in-Some.point.now in
     let long : c.len.result ≡ length point.values.items =
-        omega (arith, c.len.ensures, point.values.ok.0) in
+    omega (arith, c.len.ensures, point.values.ok.0) in
     long
-        ∙ some-width points point
-        (c.in-Some.ensures.value ∙ ap (λ ps. slice_get ps 0) c.deref.ensures.value)
+    ∙ some-width points point
+    (c.in-Some.ensures.value ∙ ap (λ ps. slice_get ps 0) c.deref.ensures.value)
 
 pub returns-in-None : goal.returns-in-None
 returns-in-None g c =
     no-width c.args.matrix.now.points.items
-        (c.in-None.ensures.value ∙ ap (λ ps. slice_get ps 0) c.deref.ensures.value)
+    (c.in-None.ensures.value ∙ ap (λ ps. slice_get ps 0) c.deref.ensures.value)

@@ -34,20 +34,24 @@ kept-greatest before here rest both now all is more whole = omega arith
 
 pub overflow_add-log_n : goal.overflow_add-log_n
 overflow_add-log_n g c =
-    omega (arith, small-there c.args.log_blowup c.args.matrices.now c.loop-matrix.matrix-index
-        c.matrix-item.result c.loop-matrix-test.true c.matrix-item.is c.requires, c.log_n.ensures)
+    omega (
+      arith,
+      small-there c.args.log_blowup c.args.matrices.now c.loop-matrix.matrix-index
+          c.matrix-item.result c.loop-matrix-test.true c.matrix-item.is c.requires,
+      c.log_n.ensures,
+    )
 
 pub loop-matrix-preserved : goal.loop-matrix-preserved
 loop-matrix-preserved g c =
     let blowup = c.args.log_blowup in
     kept-greatest _ _ _ _ _ _
-        (c.max-greatest.ensures ∙ greater c.loop-matrix.greatest (c.log_n.result + blowup)
-        ∙ ap (λ n. max c.loop-matrix.greatest (n + blowup)) c.log_n.ensures)
+    (c.max-greatest.ensures ∙ greater c.loop-matrix.greatest (c.log_n.result + blowup)
+    ∙ ap (λ n. max c.loop-matrix.greatest (n + blowup)) c.log_n.ensures)
     (next-height blowup c.args.matrices.now c.loop-matrix.matrix-index c.matrix-item.result
-        c.loop-matrix-test.true c.matrix-item.is) c.loop-matrix.invariant
+    c.loop-matrix-test.true c.matrix-item.is) c.loop-matrix.invariant
 
 pub returns : goal.returns
 returns g c =
     let none = at_drop_all (λ ms. log_max_height c.args.log_blowup (matrix_claims ms))
-        c.args.matrices.now c.loop-matrix.matrix-index c.loop-matrix-test.false in
+    c.args.matrices.now c.loop-matrix.matrix-index c.loop-matrix-test.false in
     omega (arith, none, c.loop-matrix.invariant)

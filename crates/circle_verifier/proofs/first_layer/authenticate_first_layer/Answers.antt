@@ -22,13 +22,20 @@ pub returns-in_err-dimensions-clause-refused : goal.returns-in_err-dimensions-cl
 unfolding IsReason
 returns-in_err-dimensions-clause-refused g c =
     let k : Fields g.row.Val.Denot g.row.EF.Denot =
-        record { field = g.Val.Operations.ops; gen = g.Val.ComplexExtendable.generators;
-        two_adicity = g.Val.ComplexExtendable.CIRCLE_TWO_ADICITY; is_zero =
-        λ w. g.Val.PartialEq.eq w g.Val.Field.ZERO; extension = g.EF.Operations.ops; embed =
-        g.EF.ExtensionField.embed; same = g.EF.PartialEq.eq } in
+    record {
+      field = g.Val.Operations.ops;
+      gen = g.Val.ComplexExtendable.generators;
+      two_adicity = g.Val.ComplexExtendable.CIRCLE_TWO_ADICITY;
+      is_zero =
+          λ w. g.Val.PartialEq.eq w g.Val.Field.ZERO;
+      extension = g.EF.Operations.ops;
+      embed =
+          g.EF.ExtensionField.embed;
+      same = g.EF.PartialEq.eq;
+    } in
     handed_on c.from_residual.result Memory
-        (Refuses k c.args.run.now g.InputMmcs.Mmcs.authenticates g.FriMmcs.Mmcs.authenticates
-        g.InputMmcs.Mmcs.is_memory g.FriMmcs.Mmcs.is_memory) c.from_residual.ensures.1 tt
+    (Refuses k c.args.run.now g.InputMmcs.Mmcs.authenticates g.FriMmcs.Mmcs.authenticates
+    g.InputMmcs.Mmcs.is_memory g.FriMmcs.Mmcs.is_memory) c.from_residual.ensures.1 tt
 
 pub returns-in_err-places-clause-shown : goal.returns-in_err-places-clause-shown
 returns-in_err-places-clause-shown g c =
@@ -38,20 +45,27 @@ pub returns-in_err-places-clause-refused : goal.returns-in_err-places-clause-ref
 unfolding IsReason
 returns-in_err-places-clause-refused g c =
     let k : Fields g.row.Val.Denot g.row.EF.Denot =
-        record { field = g.Val.Operations.ops; gen = g.Val.ComplexExtendable.generators;
-        two_adicity = g.Val.ComplexExtendable.CIRCLE_TWO_ADICITY; is_zero =
-        λ w. g.Val.PartialEq.eq w g.Val.Field.ZERO; extension = g.EF.Operations.ops; embed =
-        g.EF.ExtensionField.embed; same = g.EF.PartialEq.eq } in
+    record {
+      field = g.Val.Operations.ops;
+      gen = g.Val.ComplexExtendable.generators;
+      two_adicity = g.Val.ComplexExtendable.CIRCLE_TWO_ADICITY;
+      is_zero =
+          λ w. g.Val.PartialEq.eq w g.Val.Field.ZERO;
+      extension = g.EF.Operations.ops;
+      embed =
+          g.EF.ExtensionField.embed;
+      same = g.EF.PartialEq.eq;
+    } in
     handed_on c.from_residual-in_err-places.result Memory
-        (Refuses k c.args.run.now g.InputMmcs.Mmcs.authenticates g.FriMmcs.Mmcs.authenticates
-        g.InputMmcs.Mmcs.is_memory g.FriMmcs.Mmcs.is_memory) c.from_residual-in_err-places.ensures.1
-        tt
+    (Refuses k c.args.run.now g.InputMmcs.Mmcs.authenticates g.FriMmcs.Mmcs.authenticates
+    g.InputMmcs.Mmcs.is_memory g.FriMmcs.Mmcs.is_memory) c.from_residual-in_err-places.ensures.1
+    tt
 
 pub returns-in-Ok-clause-shown : goal.returns-in-Ok-clause-shown
 returns-in-Ok-clause-shown g c =
     let run = c.args.run.now in
     moved (g.FriMmcs.Mmcs.authenticates run.params.now.mmcs) run.proof.now.first_layer_commitment
-        run.proof.now.fri_proof.input_openings.first_layer_proof _ _ _ _ _ _
+    run.proof.now.fri_proof.input_openings.first_layer_proof _ _ _ _ _ _
     (c.deref.ensures.value ∙ c.in_ok-dimensions.ensures ∙ ap (map pair_shape) c.requires.heights)
     (c.deref-2.ensures.value ∙ c.in_ok-places.ensures) c.requires.pairs c.in-Ok.ensures.accepted
 
@@ -65,10 +79,10 @@ returns-clause-refused g c = (
   sym c.is_memory.ensures ∙ c.if-is_memory.false,
   λ held.
       let memory =
-          c.in-Err.ensures.refused
-          (layer-asked c.requires.drawn c.requires.opened
-          (g.FriMmcs.Mmcs.authenticates c.args.run.now.params.now.mmcs) c.deref.result.now
-          c.deref-2.result.now _
+      c.in-Err.ensures.refused
+      (layer-asked c.requires.drawn c.requires.opened
+      (g.FriMmcs.Mmcs.authenticates c.args.run.now.params.now.mmcs) c.deref.result.now
+      c.deref-2.result.now _
       (c.deref.ensures.value ∙ c.in_ok-dimensions.ensures ∙ ap (map pair_shape) c.requires.heights)
       (c.deref-2.ensures.value ∙ c.in_ok-places.ensures) c.requires.pairs held) in
       absurd (true≢false (sym (c.is_memory.ensures ∙ memory) ∙ c.if-is_memory.false)),

@@ -34,9 +34,9 @@ module _ {W A : Type 0} (f : W → List A) (words : List W) (i : ℕ) where
       before ++ added ≡ flat_map f (take (i + 1) words)
   one-more w before added within is are here =
       ap (λ xs. xs ++ added) are ∙ ap (λ xs. flat_map f (take i words) ++ xs) here
-          ∙ flat_map_more f [] (take i words) w
+      ∙ flat_map_more f [] (take i words) w
       ∙ ap (flat_map f)
-          (sym (take_more words i w within ∙ ap (λ x. take i words ++ x ∷ []) (sym is)))
+      (sym (take_more words i w within ∙ ap (λ x. take i words ++ x ∷ []) (sym is)))
 
   of-all : (before : List A) → length words ≤ i → before ≡ flat_map f (take i words) →
       before ≡ flat_map f words
@@ -69,10 +69,12 @@ pub
     first_layer_twiddles-requires-clause-in_group :
     goal.first_layer_twiddles-requires-clause-in_group
 first_layer_twiddles-requires-clause-in_group g c =
-    omega
-    (arith,
-    (bounded c.args.words.now c.loop-word.word-index c.word-item.result c.loop-word-test.true
-    c.word-item.is c.args.log_max_height c.requires.heights).1, c.requires.in_group)
+    omega (
+      arith,
+      (bounded c.args.words.now c.loop-word.word-index c.word-item.result c.loop-word-test.true
+          c.word-item.is c.args.log_max_height c.requires.heights).1,
+      c.requires.in_group,
+    )
 
 pub first_layer_twiddles-requires-clause-small : goal.first_layer_twiddles-requires-clause-small
 first_layer_twiddles-requires-clause-small g c =
@@ -102,14 +104,14 @@ pub loop-word-preserved : goal.loop-word-preserved
 loop-word-preserved g c =
     let nonzero = λ (t : g.row.Val.Denot). t ≢ g.Val.Operations.ops.zero in
     let bounds = bounded c.args.words.now c.loop-word.word-index c.word-item.result
-        c.loop-word-test.true c.word-item.is c.args.log_max_height c.requires.heights in
+    c.loop-word-test.true c.word-item.is c.args.log_max_height c.requires.heights in
     let added = c.deref-in-loop-word.result.now in
     let read = c.deref-in-loop-word.ensures.value ∙ c.in_ok-of_word.ensures in
     let longer = c.in_ok-extend_from_slice.ensures.items in
     let others =
     subst (All nonzero) (sym read)
     (first_layer_twiddles-nonzero g.Val.Operations.laws g.met.Val.ComplexExtendable.generators_law
-        c.word-item.result.log_height c.args.log_max_height c.args.indices.now
+    c.word-item.result.log_height c.args.log_max_height c.args.indices.now
     bounds.0 bounds.1 (omega (arith, bounds.1, c.requires.in_group)) c.requires.below) in
     record {
       twiddles = longer ∙ one-more _ c.args.words.now c.loop-word.word-index c.word-item.result
@@ -124,12 +126,12 @@ loop-word-preserved g c =
 pub batch_multiplicative_inverse-requires : goal.batch_multiplicative_inverse-requires
 batch_multiplicative_inverse-requires g c =
     subst (All (λ (t : g.row.Val.Denot). t ≢ g.Val.Operations.ops.zero))
-        (sym c.deref-2.ensures.value) c.loop-word.invariant.nonzero
+    (sym c.deref-2.ensures.value) c.loop-word.invariant.nonzero
 
 pub returns : goal.returns
 returns g c =
     let are = c.deref-2.ensures.value ∙ of-all _ c.args.words.now c.loop-word.word-index
-        c.loop-word.twiddles.items c.loop-word-test.false c.loop-word.invariant.twiddles in
+    c.loop-word.twiddles.items c.loop-word-test.false c.loop-word.invariant.twiddles in
     subst
-        (λ xs. IfOk c.batch_multiplicative_inverse.result
-        (λ r. r.items ≡ map g.Val.Operations.ops.inv xs)) are c.batch_multiplicative_inverse.ensures
+    (λ xs. IfOk c.batch_multiplicative_inverse.result
+    (λ r. r.items ≡ map g.Val.Operations.ops.inv xs)) are c.batch_multiplicative_inverse.ensures

@@ -9,13 +9,13 @@ use Rattle.circle_verifier.proofs.first_layer.pair_shapes.Goals as goal
 shapes-more : (heights : List ℕ) (i : ℕ) (shapes : List Dimensions) (height : ℕ) →
     i < length heights → shapes ≡ map pair_shape (take i heights)
     → height ≡ 2 ^ (slice_index_or heights i 0 - 1) →
-        shapes ++ (record { width = 2; height = height }) ∷ []
-        ≡ map pair_shape (take (i + 1) heights)
+    shapes ++ (record { width = 2; height = height }) ∷ []
+    ≡ map pair_shape (take (i + 1) heights)
 shapes-more heights i shapes height within before high =
     let shape : ℕ → Dimensions = λ n. record { width = 2; height = n } in
     ap (λ ss. ss ++ shape height ∷ []) before
-        ∙ ap (λ n. map pair_shape (take i heights) ++ shape n ∷ []) high
-        ∙ sym (map_more pair_shape heights i 0 within)
+    ∙ ap (λ n. map pair_shape (take i heights) ++ shape n ∷ []) high
+    ∙ sym (map_more pair_shape heights i 0 within)
 
 pub overflow_sub-log_height : goal.overflow_sub-log_height
 overflow_sub-log_height c =
@@ -33,11 +33,11 @@ loop-log_height-preserved c =
     let bounds = c.requires i 0 within in
     let small : slice_index_or heights i 0 - 1 < 64 = omega (arith, bounds.1) in
     c.in_ok-push.ensures.items ∙ shapes-more heights i c.loop-log_height.shapes.items _ within
-        c.loop-log_height.invariant (one_shl (slice_index_or heights i 0 - 1) 64 small)
+    c.loop-log_height.invariant (one_shl (slice_index_or heights i 0 - 1) 64 small)
 
 pub returns : goal.returns
 returns c =
     c.loop-log_height.invariant
-        ∙ ap (map pair_shape)
-        (take_all c.loop-log_height.log_height-index c.args.heights.now
-        c.loop-log_height-test.false)
+    ∙ ap (map pair_shape)
+    (take_all c.loop-log_height.log_height-index c.args.heights.now
+    c.loop-log_height-test.false)

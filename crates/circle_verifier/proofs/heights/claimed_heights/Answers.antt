@@ -13,7 +13,7 @@ pub loop-log_height-preserved : goal.loop-log_height-preserved
 loop-log_height-preserved g c =
     let run = c.args.run.now in
     let test : ℕ → Bool = λ h. list_any (λ m. log_height run.params.now.log_blowup m == h)
-        (all_matrices (batch_claims run.claims.now)) in
+    (all_matrices (batch_claims run.claims.now)) in
     elim c.if-is_claimed.branch [
       | then-is_claimed+in_ok-push w ↦ ap (λ v. v.items) w.heights-is
           ∙ more-kept test c.loop-log_height.log_height _ _ c.loop-log_height.invariant
@@ -34,7 +34,7 @@ returns g c =
       | else-loop-log_height-test w ↦ absurd (omega arith)
       | then-loop-log_height-test+else-log_height-log_height-end w ↦
           let last : h + 1 ≡ suc (log_max_height blowup matrices) =
-              omega (arith, c.requires.drawn.top) in
+          omega (arith, c.requires.drawn.top) in
           let all = ap (λ n. filter test (range_with_len 0 n)) last in
           ap (λ v. v.items) w.heights-is ∙ elim w.if-is_claimed.branch [
             | then-is_claimed+in_ok-push w' ↦ ap (λ v. v.items) w'.heights-is

@@ -17,19 +17,19 @@ module _ {X : Type 0} (p : X → Bool) (xs : List X) (i : ℕ) (x : X) (within :
 pub returns-then-batch_has_domain : goal.returns-then-batch_has_domain
 returns-then-batch_has_domain g c =
     some-here _ c.args.claims.now c.loop-batch.batch-index c.batch-item.result
-        c.loop-batch-test.true c.batch-item.is
+    c.loop-batch-test.true c.batch-item.is
     (ap (list_any _) (sym c.deref.ensures.value) ∙ sym c.batch_has_domain.ensures
-        ∙ c.if-batch_has_domain.true)
+    ∙ c.if-batch_has_domain.true)
 
 pub loop-batch-preserved : goal.loop-batch-preserved
 loop-batch-preserved g c =
     none-more _ c.args.claims.now c.loop-batch.batch-index c.batch-item.result
-        c.loop-batch-test.true c.batch-item.is c.loop-batch.invariant
+    c.loop-batch-test.true c.batch-item.is c.loop-batch.invariant
     (ap (list_any _) (sym c.deref.ensures.value) ∙ sym c.batch_has_domain.ensures
-        ∙ c.if-batch_has_domain.false)
+    ∙ c.if-batch_has_domain.false)
 
 pub returns : goal.returns
 returns g c =
     sym c.loop-batch.invariant
-        ∙ ap (list_any _)
-        (take_all c.loop-batch.batch-index c.args.claims.now c.loop-batch-test.false)
+    ∙ ap (list_any _)
+    (take_all c.loop-batch.batch-index c.args.claims.now c.loop-batch-test.false)

@@ -7,4 +7,4 @@ use Rattle.circle_verifier.proofs.heights.has_domain.Given as goal
 abbrev pub invariant-loop-batch : goal.invariant-loop-batch
 invariant-loop-batch g l =
     list_any (λ b. list_any (λ m. log_size m.domain == l.log_n) b.matrices.items)
-        (take l.batch-index l.claims) ≡ false
+    (take l.batch-index l.claims) ≡ false

@@ -10,10 +10,17 @@ use Rattle.circle_verifier.proofs.queries.verify_queries.Given as given
 use Rattle.circle_verifier.proofs.queries.verify_queries.Goals as goal
 
 abbrev fields : (g : given.Over) → Fields g.row.Val.Denot g.row.EF.Denot
-fields g = record { field = g.Val.Operations.ops; gen = g.Val.ComplexExtendable.generators;
-    two_adicity = g.Val.ComplexExtendable.CIRCLE_TWO_ADICITY; is_zero =
-    λ w. g.Val.PartialEq.eq w g.Val.Field.ZERO; extension = g.EF.Operations.ops; embed =
-    g.EF.ExtensionField.embed; same = g.EF.PartialEq.eq }
+fields g = record {
+  field = g.Val.Operations.ops;
+  gen = g.Val.ComplexExtendable.generators;
+  two_adicity = g.Val.ComplexExtendable.CIRCLE_TWO_ADICITY;
+  is_zero =
+      λ w. g.Val.PartialEq.eq w g.Val.Field.ZERO;
+  extension = g.EF.Operations.ops;
+  embed =
+      g.EF.ExtensionField.embed;
+  same = g.EF.PartialEq.eq;
+}
 
 pub returns-in_err-heights-clause-opened : goal.returns-in_err-heights-clause-opened
 returns-in_err-heights-clause-opened g c =
@@ -28,7 +35,7 @@ unfolding IsReason
 returns-in_err-heights-clause-refused g c =
     handed_on c.from_residual.result Memory
     (Refuses (fields g) c.args.run.now g.InputMmcs.Mmcs.authenticates g.FriMmcs.Mmcs.authenticates
-        g.InputMmcs.Mmcs.is_memory g.FriMmcs.Mmcs.is_memory)
+    g.InputMmcs.Mmcs.is_memory g.FriMmcs.Mmcs.is_memory)
     c.from_residual.ensures.1 tt
 
 pub validate_input_shape-requires-clause-drawn : goal.validate_input_shape-requires-clause-drawn
@@ -56,11 +63,11 @@ pub
     goal.returns-in_err-validate_input_shape-clause-refused
 returns-in_err-validate_input_shape-clause-refused g c =
     handed_on c.from_residual-in_err-validate_input_shape.result
-        c.in_err-validate_input_shape.field-0.0
+    c.in_err-validate_input_shape.field-0.0
     (Refuses (fields g) c.args.run.now g.InputMmcs.Mmcs.authenticates g.FriMmcs.Mmcs.authenticates
-        g.InputMmcs.Mmcs.is_memory g.FriMmcs.Mmcs.is_memory)
+    g.InputMmcs.Mmcs.is_memory g.FriMmcs.Mmcs.is_memory)
     c.from_residual-in_err-validate_input_shape.ensures.1
-        c.in_err-validate_input_shape.ensures.refused
+    c.in_err-validate_input_shape.ensures.refused
 
 pub authenticate_inputs-requires-clause-drawn : goal.authenticate_inputs-requires-clause-drawn
 authenticate_inputs-requires-clause-drawn g c = c.requires.drawn
@@ -87,11 +94,11 @@ pub
     goal.returns-in_err-authenticate_inputs-clause-refused
 returns-in_err-authenticate_inputs-clause-refused g c =
     handed_on c.from_residual-in_err-authenticate_inputs.result
-        c.in_err-authenticate_inputs.field-0.0
+    c.in_err-authenticate_inputs.field-0.0
     (Refuses (fields g) c.args.run.now g.InputMmcs.Mmcs.authenticates g.FriMmcs.Mmcs.authenticates
-        g.InputMmcs.Mmcs.is_memory g.FriMmcs.Mmcs.is_memory)
+    g.InputMmcs.Mmcs.is_memory g.FriMmcs.Mmcs.is_memory)
     c.from_residual-in_err-authenticate_inputs.ensures.1
-        c.in_err-authenticate_inputs.ensures.refused
+    c.in_err-authenticate_inputs.ensures.refused
 
 pub reduced_words-requires-clause-drawn : goal.reduced_words-requires-clause-drawn
 reduced_words-requires-clause-drawn g c = c.requires.drawn
@@ -114,7 +121,7 @@ pub returns-in_err-words-clause-refused : goal.returns-in_err-words-clause-refus
 returns-in_err-words-clause-refused g c =
     handed_on c.from_residual-in_err-words.result c.in_err-words.field-0.0
     (Refuses (fields g) c.args.run.now g.InputMmcs.Mmcs.authenticates g.FriMmcs.Mmcs.authenticates
-        g.InputMmcs.Mmcs.is_memory g.FriMmcs.Mmcs.is_memory)
+    g.InputMmcs.Mmcs.is_memory g.FriMmcs.Mmcs.is_memory)
     c.from_residual-in_err-words.ensures.1 c.in_err-words.ensures.refused
 
 pub fold_first_layer-requires-clause-drawn : goal.fold_first_layer-requires-clause-drawn
@@ -139,7 +146,7 @@ unfolding IsReason
 returns-in_err-pairs-clause-refused g c =
     handed_on c.from_residual-in_err-pairs.result Memory
     (Refuses (fields g) c.args.run.now g.InputMmcs.Mmcs.authenticates g.FriMmcs.Mmcs.authenticates
-        g.InputMmcs.Mmcs.is_memory g.FriMmcs.Mmcs.is_memory)
+    g.InputMmcs.Mmcs.is_memory g.FriMmcs.Mmcs.is_memory)
     c.from_residual-in_err-pairs.ensures.1 tt
 
 pub
@@ -183,11 +190,11 @@ pub
     goal.returns-in_err-authenticate_first_layer-clause-refused
 returns-in_err-authenticate_first_layer-clause-refused g c =
     handed_on c.from_residual-in_err-authenticate_first_layer.result
-        c.in_err-authenticate_first_layer.field-0.0
+    c.in_err-authenticate_first_layer.field-0.0
     (Refuses (fields g) c.args.run.now g.InputMmcs.Mmcs.authenticates g.FriMmcs.Mmcs.authenticates
-        g.InputMmcs.Mmcs.is_memory g.FriMmcs.Mmcs.is_memory)
+    g.InputMmcs.Mmcs.is_memory g.FriMmcs.Mmcs.is_memory)
     c.from_residual-in_err-authenticate_first_layer.ensures.1
-        c.in_err-authenticate_first_layer.ensures.refused
+    c.in_err-authenticate_first_layer.ensures.refused
 
 pub fold_rounds-requires-clause-drawn : goal.fold_rounds-requires-clause-drawn
 fold_rounds-requires-clause-drawn g c = c.requires.drawn
@@ -210,7 +217,7 @@ pub returns-in_err-values-clause-refused : goal.returns-in_err-values-clause-ref
 returns-in_err-values-clause-refused g c =
     handed_on c.from_residual-in_err-values.result c.in_err-values.field-0.0
     (Refuses (fields g) c.args.run.now g.InputMmcs.Mmcs.authenticates g.FriMmcs.Mmcs.authenticates
-        g.InputMmcs.Mmcs.is_memory g.FriMmcs.Mmcs.is_memory)
+    g.InputMmcs.Mmcs.is_memory g.FriMmcs.Mmcs.is_memory)
     c.from_residual-in_err-values.ensures.1 c.in_err-values.ensures.refused
 
 pub check_final-requires-clause-drawn : goal.check_final-requires-clause-drawn

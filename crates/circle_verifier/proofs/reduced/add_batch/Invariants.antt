@@ -19,5 +19,5 @@ invariant-loop-i g l =
       adds : (alpha : _) → ArePowers ops alpha l.word.powers.now
           → Adds ops g.EF.ExtensionField.embed alpha points (origin g.Val.Operations.ops)
           (claims_at l.word.log_blowup l.word.log_height done (opened_rows l.opened)) l.fn.offset
-              l.after l.fn.sums l.sums;
+          l.after l.fn.sums l.sums;
     }

@@ -20,5 +20,5 @@ invariant-loop-i g l =
       adds : (alpha : _) → ArePowers ops alpha l.word.powers.now
           → Adds ops g.EF.ExtensionField.embed alpha points (origin g.Val.Operations.ops)
           (all_claims_at l.word.log_blowup l.word.log_height (zip done (run_of l.run).proof.inputs))
-              ops.one l.offset l.fn.sums l.sums;
+          ops.one l.offset l.fn.sums l.sums;
     }

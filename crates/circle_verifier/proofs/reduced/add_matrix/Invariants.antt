@@ -17,5 +17,5 @@ invariant-loop-opening g l =
       apart : AreApartFrom ops g.EF.ExtensionField.embed points done;
       adds : (alpha : _) → ArePowers ops alpha l.word.powers.now
           → Adds ops g.EF.ExtensionField.embed alpha points (origin g.Val.Operations.ops)
-              (claims_on l.rows done) l.fn.offset l.after l.fn.sums l.sums;
+          (claims_on l.rows done) l.fn.offset l.after l.fn.sums l.sums;
     }

@@ -20,25 +20,38 @@ pub returns-in_default-clause-values : goal.returns-in_default-clause-values
 returns-in_default-clause-values g c =
     let words = map joining_of c.args.folded.items in
     absurd (first-there (fields g) c.args.run.now c.requires.drawn.top c.requires.drawn.some_matrix
-        words
-    (omega (arith, length-map c.args.folded.items joining_of, c.args.folded.ok.0,
-        c.in_default.ensures.cases.0)) c.requires.folded)
+    words
+    (omega (
+      arith,
+      length-map c.args.folded.items joining_of,
+      c.args.folded.ok.0,
+      c.in_default.ensures.cases.0,
+    )) c.requires.folded)
 
 pub returns-in_default-clause-shown : goal.returns-in_default-clause-shown
 returns-in_default-clause-shown g c =
     let words = map joining_of c.args.folded.items in
     absurd (first-there (fields g) c.args.run.now c.requires.drawn.top c.requires.drawn.some_matrix
-        words
-    (omega (arith, length-map c.args.folded.items joining_of, c.args.folded.ok.0,
-        c.in_default.ensures.cases.0)) c.requires.folded)
+    words
+    (omega (
+      arith,
+      length-map c.args.folded.items joining_of,
+      c.args.folded.ok.0,
+      c.in_default.ensures.cases.0,
+    )) c.requires.folded)
 
 pub
     inverse_round_twiddles-requires-clause-rounds :
     goal.inverse_round_twiddles-requires-clause-rounds
 inverse_round_twiddles-requires-clause-rounds g c =
     let o = c.args.run.now in
-    omega (arith, c.requires.drawn.betas, c.requires.drawn.top, c.requires.drawn.blowup,
-        last-short (fields g) o c.requires.drawn)
+    omega (
+      arith,
+      c.requires.drawn.betas,
+      c.requires.drawn.top,
+      c.requires.drawn.blowup,
+      last-short (fields g) o c.requires.drawn,
+    )
 
 pub
     inverse_round_twiddles-requires-clause-in_group :
@@ -72,7 +85,7 @@ loop-round-init g c =
     let first = c.in-Some.first in
     let rest = c.pop.new.self.items in
     let e = sym (map-append joining_of rest (first ∷ []))
-        ∙ ap (map joining_of) (sym c.in-Some.ensures.items) ∙ c.requires.folded in
+    ∙ ap (map joining_of) (sym c.in-Some.ensures.items) ∙ c.requires.folded in
     let all : length o.betas.now ≡ length o.betas.now - 0 = omega arith in
     record {
       values = first-values k o c.requires.drawn.top c.requires.drawn.some_matrix
@@ -89,11 +102,12 @@ pub split_at-requires : goal.split_at-requires
 split_at-requires g c =
     let o = c.args.run.now in
     let k = g.Val.Operations.ops in
-    omega
-        (arith,
-        (next-inverses k g.Val.ComplexExtendable.generators o.log_max_height o.indices.now
-        c.loop-round.round (length o.betas.now) c.loop-round-test.true
-        c.loop-round.invariant.later).0)
+    omega (
+      arith,
+      (next-inverses k g.Val.ComplexExtendable.generators o.log_max_height o.indices.now
+          c.loop-round.round (length o.betas.now) c.loop-round-test.true
+          c.loop-round.invariant.later).0,
+    )
 
 pub fold_round-requires-clause-drawn : goal.fold_round-requires-clause-drawn
 fold_round-requires-clause-drawn g c = c.requires.drawn
@@ -106,9 +120,9 @@ fold_round-requires-clause-inverses g c =
     let o = c.args.run.now in
     let k = g.Val.Operations.ops in
     c.split_at.ensures.front
-        ∙ (next-inverses k g.Val.ComplexExtendable.generators o.log_max_height o.indices.now
-        c.loop-round.round (length o.betas.now) c.loop-round-test.true
-        c.loop-round.invariant.later).1
+    ∙ (next-inverses k g.Val.ComplexExtendable.generators o.log_max_height o.indices.now
+    c.loop-round.round (length o.betas.now) c.loop-round-test.true
+    c.loop-round.invariant.later).1
 
 pub fold_round-requires-clause-values : goal.fold_round-requires-clause-values
 fold_round-requires-clause-values g c = c.deref_mut.ensures.value ∙ c.loop-round.invariant.values
@@ -127,7 +141,7 @@ pub returns-in_err-fold_round-clause-refused : goal.returns-in_err-fold_round-cl
 returns-in_err-fold_round-clause-refused g c =
     handed_on c.from_residual-in_err-fold_round.result c.in_err-fold_round.field-0.0
     (Refuses (fields g) c.args.run.now g.InputMmcs.Mmcs.authenticates g.FriMmcs.Mmcs.authenticates
-        g.InputMmcs.Mmcs.is_memory g.FriMmcs.Mmcs.is_memory)
+    g.InputMmcs.Mmcs.is_memory g.FriMmcs.Mmcs.is_memory)
     c.from_residual-in_err-fold_round.ensures.1 c.in_err-fold_round.ensures.refused
 
 pub join-left-requires-clause-drawn : goal.join-left-requires-clause-drawn
@@ -149,7 +163,7 @@ join-left-requires-clause-values g c =
     let long = ap length c.loop-round.invariant.values ∙ length-values_in k o n in
     c.deref_mut-in-loop-round.ensures.value
     ∙ take-whole values.len c.fold_round.new.values values.items values.ok.0
-        (ap length folded ∙ length-folds_in k o n ∙ sym long) ∙ folded
+    (ap length folded ∙ length-folds_in k o n ∙ sym long) ∙ folded
 
 pub loop-round-preserved : goal.loop-round-preserved
 loop-round-preserved g c =
@@ -176,11 +190,14 @@ pub returns-clause-values : goal.returns-clause-values
 returns-clause-values g c =
     let o = c.args.run.now in
     let last : c.loop-round.round ≡ length o.betas.now =
-        le_antisymm c.loop-round.auto.round-end c.loop-round-test.false in
+    le_antisymm c.loop-round.auto.round-end c.loop-round-test.false in
     c.loop-round.invariant.values ∙ ap (values_in (fields g) o) (last ∙ c.requires.drawn.betas)
 
 pub returns-clause-shown : goal.returns-clause-shown
 returns-clause-shown g c = λ n d lt.
     c.loop-round.invariant.shown n
-        (omega (arith, of-rounds (fields g) c.args.run.now c.requires.drawn n lt,
-        c.loop-round-test.false)) d lt
+    (omega (
+      arith,
+      of-rounds (fields g) c.args.run.now c.requires.drawn n lt,
+      c.loop-round-test.false,
+    )) d lt

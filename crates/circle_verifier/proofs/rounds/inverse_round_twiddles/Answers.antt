@@ -31,14 +31,19 @@ loop-round-init g c =
 pub next_x_twiddles-requires-clause-count : goal.next_x_twiddles-requires-clause-count
 next_x_twiddles-requires-clause-count g c =
     let twiddle = round_twiddle g.F.Operations.ops g.F.ComplexExtendable.generators
-        c.args.log_max_height c.loop-round.round in
+    c.args.log_max_height c.loop-round.round in
     ap length (c.deref_mut.ensures.value ∙ c.loop-round.invariant.of_round)
-        ∙ length-map c.args.indices.now twiddle
+    ∙ length-map c.args.indices.now twiddle
 
 pub next_x_twiddles-requires-clause-round : goal.next_x_twiddles-requires-clause-round
 next_x_twiddles-requires-clause-round g c =
-    omega (arith, c.loop-round-test.true, c.requires.rounds, c.requires.in_group,
-        g.met.F.ComplexExtendable.at_most_62)
+    omega (
+      arith,
+      c.loop-round-test.true,
+      c.requires.rounds,
+      c.requires.in_group,
+      g.met.F.ComplexExtendable.at_most_62,
+    )
 
 pub loop-round-preserved : goal.loop-round-preserved
 loop-round-preserved g c =
@@ -54,16 +59,16 @@ loop-round-preserved g c =
     let read = c.deref.ensures.value ∙ now.of_round in
     let longer = c.in_ok-extend_from_slice.ensures.items in
     let whole =
-        take-whole was.len next was.items was.ok.0 (c.next_x_twiddles.auto.twiddles
-        ∙ ap length c.deref_mut.ensures.value) in
+    take-whole was.len next was.items was.ok.0 (c.next_x_twiddles.auto.twiddles
+    ∙ ap length c.deref_mut.ensures.value) in
     let others =
     subst (All (λ t. t ≢ k.zero)) (sym read)
     (round_twiddles-nonzero g.F.Operations.laws g.met.F.ComplexExtendable.generators_law h n qs
-        (omega (arith, enough)) c.requires.in_group c.requires.in_range) in
+    (omega (arith, enough)) c.requires.in_group c.requires.in_range) in
     record {
       twiddles =
           longer ∙ ap (λ xs. xs ++ c.deref.result.now) now.twiddles
-              ∙ ap (λ xs. twiddles_from k gen h qs 0 n ++ xs) read
+          ∙ ap (λ xs. twiddles_from k gen h qs 0 n ++ xs) read
           ∙ rounds-more (λ r. round_twiddles k gen h r qs) n;
       of_round = whole ∙ c.next_x_twiddles.ensures h enough c.requires.in_group c.requires.in_range
           (c.deref_mut.ensures.value ∙ now.of_round);
@@ -76,16 +81,16 @@ loop-round-preserved g c =
 pub batch_multiplicative_inverse-requires : goal.batch_multiplicative_inverse-requires
 batch_multiplicative_inverse-requires g c =
     subst (All (λ (t : g.row.F.Denot). t ≢ g.F.Operations.ops.zero)) (sym c.deref-2.ensures.value)
-        c.loop-round.invariant.nonzero
+    c.loop-round.invariant.nonzero
 
 pub returns : goal.returns
 returns g c =
     let k = g.F.Operations.ops in
     let inverses = inverses_from k g.F.ComplexExtendable.generators c.args.log_max_height
-        c.args.indices.now 0 in
+    c.args.indices.now 0 in
     let last : c.loop-round.round ≡ c.args.rounds =
-        le_antisymm c.loop-round.auto.round-end c.loop-round-test.false in
+    le_antisymm c.loop-round.auto.round-end c.loop-round-test.false in
     subst (λ ts. IfOk c.batch_multiplicative_inverse.result (λ r. r.items ≡ ts))
-        (ap (map k.inv) (c.deref-2.ensures.value ∙ c.loop-round.invariant.twiddles)
-        ∙ ap inverses last)
+    (ap (map k.inv) (c.deref-2.ensures.value ∙ c.loop-round.invariant.twiddles)
+    ∙ ap inverses last)
     c.batch_multiplicative_inverse.ensures

@@ -11,14 +11,21 @@ returns-then-siblings_fit g c =
     let run = c.args.run.now in
     let n = c.args.num_heights in
     let k : Fields g.row.Val.Denot g.row.EF.Denot =
-        record { field = g.Val.Operations.ops; gen = g.Val.ComplexExtendable.generators;
-        two_adicity = g.Val.ComplexExtendable.CIRCLE_TWO_ADICITY; is_zero =
-        λ w. g.Val.PartialEq.eq w g.Val.Field.ZERO; extension = g.EF.Operations.ops; embed =
-        g.EF.ExtensionField.embed; same = g.EF.PartialEq.eq } in
+    record {
+      field = g.Val.Operations.ops;
+      gen = g.Val.ComplexExtendable.generators;
+      two_adicity = g.Val.ComplexExtendable.CIRCLE_TWO_ADICITY;
+      is_zero =
+          λ w. g.Val.PartialEq.eq w g.Val.Field.ZERO;
+      extension = g.EF.Operations.ops;
+      embed =
+          g.EF.ExtensionField.embed;
+      same = g.EF.PartialEq.eq;
+    } in
     let rows : rows_test k run n ≡ c.inputs_fit.result =
-        ap (inputs_fit _ run.claims.now) (sym c.deref.ensures.value) ∙ sym c.inputs_fit.ensures in
+    ap (inputs_fit _ run.claims.now) (sym c.deref.ensures.value) ∙ sym c.inputs_fit.ensures in
     let joined : (rows_test k run n && (siblings_test k run n && lambdas_test k run n)) ≡
-        lambdas_test k run n = elim c.if-inputs_fit.branch [
+    lambdas_test k run n = elim c.if-inputs_fit.branch [
       | then-inputs_fit w ↦ all-pass _ _ (lambdas_test k run n) (rows ∙ w.if-inputs_fit.true)
           (ap (siblings_fit _ n) (sym w.deref-then-inputs_fit.ensures.value)
           ∙ sym w.siblings_fit.ensures ∙ sym w.value-is ∙ c.if-siblings_fit.true)
@@ -32,14 +39,21 @@ returns-else-siblings_fit g c =
     let run = c.args.run.now in
     let n = c.args.num_heights in
     let k : Fields g.row.Val.Denot g.row.EF.Denot =
-        record { field = g.Val.Operations.ops; gen = g.Val.ComplexExtendable.generators;
-        two_adicity = g.Val.ComplexExtendable.CIRCLE_TWO_ADICITY; is_zero =
-        λ w. g.Val.PartialEq.eq w g.Val.Field.ZERO; extension = g.EF.Operations.ops; embed =
-        g.EF.ExtensionField.embed; same = g.EF.PartialEq.eq } in
+    record {
+      field = g.Val.Operations.ops;
+      gen = g.Val.ComplexExtendable.generators;
+      two_adicity = g.Val.ComplexExtendable.CIRCLE_TWO_ADICITY;
+      is_zero =
+          λ w. g.Val.PartialEq.eq w g.Val.Field.ZERO;
+      extension = g.EF.Operations.ops;
+      embed =
+          g.EF.ExtensionField.embed;
+      same = g.EF.PartialEq.eq;
+    } in
     let rows : rows_test k run n ≡ c.inputs_fit.result =
-        ap (inputs_fit _ run.claims.now) (sym c.deref.ensures.value) ∙ sym c.inputs_fit.ensures in
+    ap (inputs_fit _ run.claims.now) (sym c.deref.ensures.value) ∙ sym c.inputs_fit.ensures in
     let joined : (rows_test k run n && (siblings_test k run n && lambdas_test k run n)) ≡ false =
-        elim c.if-inputs_fit.branch [
+    elim c.if-inputs_fit.branch [
       | then-inputs_fit w ↦ second-fails _ _ (lambdas_test k run n) (rows ∙ w.if-inputs_fit.true)
           (ap (siblings_fit _ n) (sym w.deref-then-inputs_fit.ensures.value)
           ∙ sym w.siblings_fit.ensures ∙ sym w.value-is ∙ c.if-siblings_fit.false)

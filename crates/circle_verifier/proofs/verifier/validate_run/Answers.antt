@@ -13,20 +13,20 @@ returns-in_err-log_max_height g c =
     let batches = batch_claims c.args.claims.now in
     refused-is c.from_residual.result c.in_err-log_max_height.field-0.0 c.from_residual.ensures.1
     ∙ sym (claims_refuse g.Val.ComplexExtendable.CIRCLE_TWO_ADICITY _ _ c.args.params.now batches
-        (proof_of c.args.proof.now)
+    (proof_of c.args.proof.now)
     (log_max_height c.args.params.now.log_blowup (all_matrices batches))
-        c.in_err-log_max_height.field-0.0 _
+    c.in_err-log_max_height.field-0.0 _
     (sym c.validate_claims.ensures ∙ c.in_err-log_max_height.was))
 
 pub returns-in_err-validate_parameters : goal.returns-in_err-validate_parameters
 returns-in_err-validate_parameters g c =
     let batches = batch_claims c.args.claims.now in
     refused-is c.from_residual-in_err-validate_parameters.result
-        c.in_err-validate_parameters.field-0.0 c.from_residual-in_err-validate_parameters.ensures.1
+    c.in_err-validate_parameters.field-0.0 c.from_residual-in_err-validate_parameters.ensures.1
     ∙ sym (parameters_refuse g.Val.ComplexExtendable.CIRCLE_TWO_ADICITY _ _ c.args.params.now
-        batches (proof_of c.args.proof.now)
+    batches (proof_of c.args.proof.now)
     (log_max_height c.args.params.now.log_blowup (all_matrices batches))
-        c.in_err-validate_parameters.field-0.0 _ _
+    c.in_err-validate_parameters.field-0.0 _ _
     (sym c.validate_claims.ensures ∙ c.in_ok-log_max_height.was)
     (sym c.validate_parameters.ensures ∙ c.in_err-validate_parameters.was))
 
@@ -36,8 +36,8 @@ overflow_sub-num_commit_rounds g c = omega (
   (claims_known g.row.FriMmcs-Error.Denot g.row.InputMmcs-Error.Denot g.row.FriMmcs-Error.Denot
       g.Val.ComplexExtendable.CIRCLE_TWO_ADICITY
       c.args.params.now.log_blowup c.args.params.now.log_final_poly_len
-          (all_matrices (batch_claims c.args.claims.now)) _
-          (sym c.validate_claims.ensures ∙ c.in_ok-log_max_height.was)).0,
+      (all_matrices (batch_claims c.args.claims.now)) _
+      (sym c.validate_claims.ensures ∙ c.in_ok-log_max_height.was)).0,
 )
 
 pub overflow_sub-num_commit_rounds-2 : goal.overflow_sub-num_commit_rounds-2
@@ -46,8 +46,8 @@ overflow_sub-num_commit_rounds-2 g c = omega (
   (claims_known g.row.FriMmcs-Error.Denot g.row.InputMmcs-Error.Denot g.row.FriMmcs-Error.Denot
       g.Val.ComplexExtendable.CIRCLE_TWO_ADICITY
       c.args.params.now.log_blowup c.args.params.now.log_final_poly_len
-          (all_matrices (batch_claims c.args.claims.now)) _
-          (sym c.validate_claims.ensures ∙ c.in_ok-log_max_height.was)).0,
+      (all_matrices (batch_claims c.args.claims.now)) _
+      (sym c.validate_claims.ensures ∙ c.in_ok-log_max_height.was)).0,
 )
 
 pub overflow_sub-num_commit_rounds-3 : goal.overflow_sub-num_commit_rounds-3
@@ -56,8 +56,8 @@ overflow_sub-num_commit_rounds-3 g c = omega (
   (claims_known g.row.FriMmcs-Error.Denot g.row.InputMmcs-Error.Denot g.row.FriMmcs-Error.Denot
       g.Val.ComplexExtendable.CIRCLE_TWO_ADICITY
       c.args.params.now.log_blowup c.args.params.now.log_final_poly_len
-          (all_matrices (batch_claims c.args.claims.now)) _
-          (sym c.validate_claims.ensures ∙ c.in_ok-log_max_height.was)).0,
+      (all_matrices (batch_claims c.args.claims.now)) _
+      (sym c.validate_claims.ensures ∙ c.in_ok-log_max_height.was)).0,
 )
 
 pub returns-in_err-validate_proof_shape : goal.returns-in_err-validate_proof_shape
@@ -67,29 +67,29 @@ returns-in_err-validate_proof_shape g c =
     let batches = batch_claims c.args.claims.now in
     let first = sym c.validate_claims.ensures ∙ c.in_ok-log_max_height.was in
     let known = claims_known g.row.FriMmcs-Error.Denot g.row.InputMmcs-Error.Denot
-        g.row.FriMmcs-Error.Denot g.Val.ComplexExtendable.CIRCLE_TWO_ADICITY
+    g.row.FriMmcs-Error.Denot g.Val.ComplexExtendable.CIRCLE_TWO_ADICITY
     c.args.params.now.log_blowup c.args.params.now.log_final_poly_len
-        (all_matrices (batch_claims c.args.claims.now)) _
-        (sym c.validate_claims.ensures ∙ c.in_ok-log_max_height.was) in
+    (all_matrices (batch_claims c.args.claims.now)) _
+    (sym c.validate_claims.ensures ∙ c.in_ok-log_max_height.was) in
     refused-is c.from_residual-in_err-validate_proof_shape.result
-        c.in_err-validate_proof_shape.field-0.0
-        c.from_residual-in_err-validate_proof_shape.ensures.1
+    c.in_err-validate_proof_shape.field-0.0
+    c.from_residual-in_err-validate_proof_shape.ensures.1
     ∙ sym
-        (shape_refuses g.Val.ComplexExtendable.CIRCLE_TWO_ADICITY _ _ p batches
-        (proof_of c.args.proof.now)
+    (shape_refuses g.Val.ComplexExtendable.CIRCLE_TWO_ADICITY _ _ p batches
+    (proof_of c.args.proof.now)
     (log_max_height p.log_blowup (all_matrices batches)) c.in_err-validate_proof_shape.field-0.0 _ _
-        first
+    first
     (sym c.validate_parameters.ensures ∙ c.in_ok-validate_parameters.was)
     (shape_same _ p fri batches _ known.2 ∙ sym c.validate_proof_shape.ensures
-        ∙ c.in_err-validate_proof_shape.was))
+    ∙ c.in_err-validate_proof_shape.was))
 
 pub check_final_poly-requires : goal.check_final_poly-requires
 check_final_poly-requires g c =
     let known = claims_known g.row.FriMmcs-Error.Denot g.row.InputMmcs-Error.Denot
-        g.row.FriMmcs-Error.Denot g.Val.ComplexExtendable.CIRCLE_TWO_ADICITY
+    g.row.FriMmcs-Error.Denot g.Val.ComplexExtendable.CIRCLE_TWO_ADICITY
     c.args.params.now.log_blowup c.args.params.now.log_final_poly_len
-        (all_matrices (batch_claims c.args.claims.now)) _
-        (sym c.validate_claims.ensures ∙ c.in_ok-log_max_height.was) in
+    (all_matrices (batch_claims c.args.claims.now)) _
+    (sym c.validate_claims.ensures ∙ c.in_ok-log_max_height.was) in
     omega (arith, known.0, known.1, g.met.Val.ComplexExtendable.at_most_62)
 
 pub returns-in_err-check_final_poly : goal.returns-in_err-check_final_poly
@@ -99,22 +99,22 @@ returns-in_err-check_final_poly g c =
     let batches = batch_claims c.args.claims.now in
     let first = sym c.validate_claims.ensures ∙ c.in_ok-log_max_height.was in
     let known = claims_known g.row.FriMmcs-Error.Denot g.row.InputMmcs-Error.Denot
-        g.row.FriMmcs-Error.Denot g.Val.ComplexExtendable.CIRCLE_TWO_ADICITY
+    g.row.FriMmcs-Error.Denot g.Val.ComplexExtendable.CIRCLE_TWO_ADICITY
     c.args.params.now.log_blowup c.args.params.now.log_final_poly_len
-        (all_matrices (batch_claims c.args.claims.now)) _
-        (sym c.validate_claims.ensures ∙ c.in_ok-log_max_height.was) in
+    (all_matrices (batch_claims c.args.claims.now)) _
+    (sym c.validate_claims.ensures ∙ c.in_ok-log_max_height.was) in
     refused-is c.from_residual-in_err-check_final_poly.result c.in_err-check_final_poly.field-0.0
-        c.from_residual-in_err-check_final_poly.ensures.1
+    c.from_residual-in_err-check_final_poly.ensures.1
     ∙ sym
-        (final_refuses g.Val.ComplexExtendable.CIRCLE_TWO_ADICITY _ _ p batches
-        (proof_of c.args.proof.now)
+    (final_refuses g.Val.ComplexExtendable.CIRCLE_TWO_ADICITY _ _ p batches
+    (proof_of c.args.proof.now)
     (log_max_height p.log_blowup (all_matrices batches)) c.in_err-check_final_poly.field-0.0 _ _
-        first
+    first
     (sym c.validate_parameters.ensures ∙ c.in_ok-validate_parameters.was)
     (shape_same _ p fri batches _ known.2 ∙ sym c.validate_proof_shape.ensures
-        ∙ c.in_ok-validate_proof_shape.was)
+    ∙ c.in_ok-validate_proof_shape.was)
     (final_same p.log_final_poly_len fri.final_poly _ c.len.ensures ∙ sym c.check_final_poly.ensures
-        ∙ c.in_err-check_final_poly.was))
+    ∙ c.in_err-check_final_poly.was))
 
 pub returns-in_err-validate_points : goal.returns-in_err-validate_points
 returns-in_err-validate_points g c =
@@ -123,24 +123,24 @@ returns-in_err-validate_points g c =
     let batches = batch_claims c.args.claims.now in
     let first = sym c.validate_claims.ensures ∙ c.in_ok-log_max_height.was in
     let known = claims_known g.row.FriMmcs-Error.Denot g.row.InputMmcs-Error.Denot
-        g.row.FriMmcs-Error.Denot g.Val.ComplexExtendable.CIRCLE_TWO_ADICITY
+    g.row.FriMmcs-Error.Denot g.Val.ComplexExtendable.CIRCLE_TWO_ADICITY
     c.args.params.now.log_blowup c.args.params.now.log_final_poly_len
-        (all_matrices (batch_claims c.args.claims.now)) _
-        (sym c.validate_claims.ensures ∙ c.in_ok-log_max_height.was) in
+    (all_matrices (batch_claims c.args.claims.now)) _
+    (sym c.validate_claims.ensures ∙ c.in_ok-log_max_height.was) in
     refused-is c.from_residual-in_err-validate_points.result c.in_err-validate_points.field-0.0
-        c.from_residual-in_err-validate_points.ensures.1
+    c.from_residual-in_err-validate_points.ensures.1
     ∙ sym
-        (points_refuse g.Val.ComplexExtendable.CIRCLE_TWO_ADICITY _ _ p batches
-        (proof_of c.args.proof.now)
+    (points_refuse g.Val.ComplexExtendable.CIRCLE_TWO_ADICITY _ _ p batches
+    (proof_of c.args.proof.now)
     (log_max_height p.log_blowup (all_matrices batches)) c.in_err-validate_points.field-0.0 _ _
-        first
+    first
     (sym c.validate_parameters.ensures ∙ c.in_ok-validate_parameters.was)
     (shape_same _ p fri batches _ known.2 ∙ sym c.validate_proof_shape.ensures
-        ∙ c.in_ok-validate_proof_shape.was)
+    ∙ c.in_ok-validate_proof_shape.was)
     (final_same p.log_final_poly_len fri.final_poly _ c.len.ensures ∙ sym c.check_final_poly.ensures
-        ∙ c.in_ok-check_final_poly.was)
+    ∙ c.in_ok-check_final_poly.was)
     (points_same_tests p _ _ c.args.claims.now ∙ sym c.validate_points.ensures
-        ∙ c.in_err-validate_points.was))
+    ∙ c.in_err-validate_points.was))
 
 pub returns : goal.returns
 returns g c =
@@ -149,19 +149,19 @@ returns g c =
     let batches = batch_claims c.args.claims.now in
     let first = sym c.validate_claims.ensures ∙ c.in_ok-log_max_height.was in
     let known = claims_known g.row.FriMmcs-Error.Denot g.row.InputMmcs-Error.Denot
-        g.row.FriMmcs-Error.Denot g.Val.ComplexExtendable.CIRCLE_TWO_ADICITY
+    g.row.FriMmcs-Error.Denot g.Val.ComplexExtendable.CIRCLE_TWO_ADICITY
     c.args.params.now.log_blowup c.args.params.now.log_final_poly_len
-        (all_matrices (batch_claims c.args.claims.now)) _
-        (sym c.validate_claims.ensures ∙ c.in_ok-log_max_height.was) in
+    (all_matrices (batch_claims c.args.claims.now)) _
+    (sym c.validate_claims.ensures ∙ c.in_ok-log_max_height.was) in
     ap Ok (sym known.2)
     ∙ sym
-        (none_refuses g.Val.ComplexExtendable.CIRCLE_TWO_ADICITY _ _ p batches
-        (proof_of c.args.proof.now)
+    (none_refuses g.Val.ComplexExtendable.CIRCLE_TWO_ADICITY _ _ p batches
+    (proof_of c.args.proof.now)
     (log_max_height p.log_blowup (all_matrices batches)) _ _ first
     (sym c.validate_parameters.ensures ∙ c.in_ok-validate_parameters.was)
     (shape_same _ p fri batches _ known.2 ∙ sym c.validate_proof_shape.ensures
-        ∙ c.in_ok-validate_proof_shape.was)
+    ∙ c.in_ok-validate_proof_shape.was)
     (final_same p.log_final_poly_len fri.final_poly _ c.len.ensures ∙ sym c.check_final_poly.ensures
-        ∙ c.in_ok-check_final_poly.was)
+    ∙ c.in_ok-check_final_poly.was)
     (points_same_tests p _ _ c.args.claims.now ∙ sym c.validate_points.ensures
-        ∙ c.in_ok-validate_points.was))
+    ∙ c.in_ok-validate_points.was))

@@ -10,4 +10,4 @@ invariant-loop-i g l =
     let k = g.F.Operations.ops in
     let gen = g.F.ComplexExtendable.generators in
     All (IsClearOf k (λ x. x) (natural_order k gen (log_size l.domain) (shift_of l.domain)))
-        (take l.i (natural_order k gen (log_size l.coset) (shift_of l.coset)))
+    (take l.i (natural_order k gen (log_size l.coset) (shift_of l.coset)))

@@ -12,7 +12,7 @@ loop-batch-preserved c =
       All-more (λ b. HaveRowsForPoints b.evaluations.items) c.args.batches.now
           c.loop-batch.batch-index b c.loop-batch-test.true c.loop-batch.invariant.0
           (subst (λ b. HaveRowsForPoints b.evaluations.items) c.batch-item.is
-              (c.if-not-can_be_opened.ensures.rows refl)),
+          (c.if-not-can_be_opened.ensures.rows refl)),
       All-more HasPoints c.args.batches.now c.loop-batch.batch-index b c.loop-batch-test.true
           c.loop-batch.invariant.1
           (subst HasPoints c.batch-item.is (c.if-not-can_be_opened.ensures.points refl)),

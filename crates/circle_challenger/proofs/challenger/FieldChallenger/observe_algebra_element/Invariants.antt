@@ -7,4 +7,4 @@ abbrev pub invariant-loop-i : goal.invariant-loop-i
 invariant-loop-i g l =
     let state = g.Self.ChallengerState.state in
     state l.self ≡ after_all g.Self.CanObserve.after_observe (state l.initial.self)
-        (take l.i (g.EF.ExtensionField.coefficients l.value))
+    (take l.i (g.EF.ExtensionField.coefficients l.value))

@@ -6,9 +6,10 @@ use Rattle.circle_challenger.proofs.challenger.FieldChallenger.sample_algebra_el
 
 pub loop-i-init : goal.loop-i-init
 loop-i-init g c =
-    let begun = g.Self.ChallengerState.state c.args.self.now in
-    (sym (samples-zero g.Self.CanSample.sampled g.Self.CanSample.after_sample begun),
-        sym (after_samples-zero g.Self.CanSample.after_sample begun))
+    let begun = g.Self.ChallengerState.state c.args.self.now in (
+      sym (samples-zero g.Self.CanSample.sampled g.Self.CanSample.after_sample begun),
+      sym (after_samples-zero g.Self.CanSample.after_sample begun),
+    )
 
 pub loop-i-preserved : goal.loop-i-preserved
 loop-i-preserved g c =
@@ -21,7 +22,9 @@ loop-i-preserved g c =
     let counted = g.met.EF.ExtensionField.are_coefficients.count c.loop-i.value in
     let within : i < length xs = omega arith in
     let read = ap (take (i + 1)) c.with_coefficient-value.ensures
-        ∙ take_more_set xs i c.sample.result within in
-    (samples-more drawn next begun state i c.loop-i.invariant.1 (take i xs) _ _ c.loop-i.invariant.0
-        c.sample.ensures.value read,
-        after_samples-more drawn next begun state i c.loop-i.invariant.1 _ c.sample.ensures.after)
+    ∙ take_more_set xs i c.sample.result within in (
+      samples-more drawn next begun state i c.loop-i.invariant.1 (take i xs) _ _
+          c.loop-i.invariant.0
+          c.sample.ensures.value read,
+      after_samples-more drawn next begun state i c.loop-i.invariant.1 _ c.sample.ensures.after,
+    )

@@ -21,8 +21,8 @@ returns-in-Some-clause-answer c =
     let bits = c.args.bits in
     let below : c.loop-n.n < order = omega arith in
     first_witness (state_of c.loop-n.self) bits c.loop-n.n c.from_u64-witness.result below
-        (c.from_u64-witness.ensures ∙ ap (of_nat operations) c.from.ensures)
-        (sym c.in-Some.ensures.answer) c.loop-n.invariant.missed
+    (c.from_u64-witness.ensures ∙ ap (of_nat operations) c.from.ensures)
+    (sym c.in-Some.ensures.answer) c.loop-n.invariant.missed
     ∙ ap (λ s. least_witness s bits) c.loop-n.invariant.unchanged
 
 pub loop-n-preserved : goal.loop-n-preserved
@@ -36,13 +36,13 @@ loop-n-preserved c = record {
 pub returns-clause-answer : goal.returns-clause-answer
 returns-clause-answer c =
     let missed = λ (k : ℕ) (below : k < order). let over = c.loop-n-test.false in
-        c.loop-n.invariant.missed k (omega arith) in
+    c.loop-n.invariant.missed k (omega arith) in
     no_witness (state_of c.loop-n.self) c.args.bits missed
-        ∙ ap (λ s. least_witness s c.args.bits) c.loop-n.invariant.unchanged
+    ∙ ap (λ s. least_witness s c.args.bits) c.loop-n.invariant.unchanged
 
 pub returns-clause-none : goal.returns-clause-none
 returns-clause-none c = λ w.
     let missed = λ (k : ℕ) (below : k < order). let over = c.loop-n-test.false in
-        c.loop-n.invariant.missed k (omega arith) in
+    c.loop-n.invariant.missed k (omega arith) in
     subst (λ s. passes absorbed_element sampled_number s c.args.bits w ≡ false)
-        c.loop-n.invariant.unchanged (none_passes (state_of c.loop-n.self) c.args.bits missed w)
+    c.loop-n.invariant.unchanged (none_passes (state_of c.loop-n.self) c.args.bits missed w)

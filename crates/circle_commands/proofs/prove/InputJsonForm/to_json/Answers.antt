@@ -17,7 +17,10 @@ returns-in-Ok-json-4-clause-reads c =
       (
         has-member _ (codes "batches") value first inside (search (rules, the_lemmas)) refl
             c.in_ok-to_json.ensures.reads,
-        (has-member _ (codes "params") value second inside (search (rules, the_lemmas)) refl
-            c.in_ok-to_json-2.ensures.reads, tt),
+        (
+          has-member _ (codes "params") value second inside (search (rules, the_lemmas)) refl
+              c.in_ok-to_json-2.ensures.reads,
+          tt,
+        ),
       ),
     )

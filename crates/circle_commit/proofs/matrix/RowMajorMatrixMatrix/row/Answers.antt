@@ -11,4 +11,4 @@ returns g c =
     rows_from-row m.width (height_of m) c.args.r m.values.items c.requires
     ∙ ap (λ n. Some (take n (drop start m.values.items))) e
     ∙ ap (λ items. Some (take (start + m.width - start) (drop start items)))
-        (sym c.deref.ensures.value)
+    (sym c.deref.ensures.value)

@@ -14,13 +14,13 @@ row-long m r row e = ap length (sym (get_or_from_slice_get (rows m) r row [] e))
 pub bounds-row-c : goal.bounds-row-c
 bounds-row-c g c =
     let long = row-long c.in-Some.matrix (c.args.i % c.height.result) c.row.result.now
-        c.row.ensures in
+    c.row.ensures in
     omega (arith, c.requires.column, ap width_in c.in-Some.is, long)
 
 pub offset_bounds-row-c : goal.offset_bounds-row-c
 offset_bounds-row-c g c =
     let long = row-long c.in-Some.matrix (c.args.i % c.height.result) c.row.result.now
-        c.row.ensures in
+    c.row.ensures in
     omega (arith, c.requires.column, ap width_in c.in-Some.is, long)
 
 pub returns : goal.returns
@@ -29,12 +29,16 @@ returns g c =
     let row = c.row.result.now in
     let r = c.args.i % c.height.result in
     let there : c.args.c < length row =
-        omega (arith, c.requires.column, ap width_in c.in-Some.is,
-        row-long m r row c.row.ensures) in
+    omega (
+      arith,
+      c.requires.column,
+      ap width_in c.in-Some.is,
+      row-long m r row c.row.ensures,
+    ) in
     ap (λ values. slice_get (slice_index_or (rows_in values) (c.args.i % height_in values) [])
-        c.args.c) c.in-Some.is
+    c.args.c) c.in-Some.is
     ∙ ap (λ h. slice_get (slice_index_or (rows m) (c.args.i % h) []) c.args.c)
-        (sym c.height.ensures)
+    (sym c.height.ensures)
     ∙ ap (λ xs. slice_get xs c.args.c) (get_or_from_slice_get (rows m) r row [] c.row.ensures)
     ∙ slice_get-get_or row c.args.c c.index-row-c.result there
     ∙ ap Some (sym c.index-row-c.is)

@@ -17,5 +17,5 @@ returns g c =
     ap (λ count. walk k (count / 2) first step) c.size.ensures
     ∙ ap (λ count. walk k count first step) (half-pow n c.requires.positive)
     ∙ walk-steps laws (2 ^ (n - 1)) first s step 1
-        (c.sub.ensures.difference ∙ first_odd laws s step)
+    (c.sub.ensures.difference ∙ first_odd laws s step)
     ∙ ap (λ g. steps_from k (2 ^ (n - 1)) g s 1) c.subgroup_generator-step.ensures

@@ -16,13 +16,13 @@ returns-clause-order g c =
     let step = coordinates c.subgroup_generator-step.result in
     let second = coordinates c.sub.result in
     ap (λ count. alternating k count s second step)
-        (c.size.ensures ∙ sym (two_halves n c.requires.positive))
+    (c.size.ensures ∙ sym (two_halves n c.requires.positive))
     ∙ alternating-natural laws (2 ^ (n - 1)) s second s step 0 (sym (first_even laws s step))
-        (c.sub.ensures.difference ∙ first_odd laws (opposite k s) step)
+    (c.sub.ensures.difference ∙ first_odd laws (opposite k s) step)
     ∙ ap (λ g. natural_from k (2 ^ (n - 1)) g s 0) c.subgroup_generator-step.ensures
 
 pub returns-clause-count : goal.returns-clause-count
 returns-clause-count g c =
     length-alternating g.F.Operations.ops c.size.result (shift_of c.args.self.now)
-        (coordinates c.sub.result) (coordinates c.subgroup_generator-step.result)
+    (coordinates c.sub.result) (coordinates c.subgroup_generator-step.result)
     ∙ c.size.ensures

@@ -14,4 +14,4 @@ returns g c =
     ∙ ap (λ v. sub l v c.from_base.result) c.v_n.ensures.polynomial
     ∙ ap (sub l (vanishing l n (coordinates c.args.at)))
     (c.from_base.ensures ∙ ap g.EF.ExtensionField.embed c.v_n-2.ensures.polynomial
-        ∙ lifted-vanishing g.met.EF.ExtensionField.embedding n (shift_of c.args.self.now))
+    ∙ lifted-vanishing g.met.EF.ExtensionField.embedding n (shift_of c.args.self.now))

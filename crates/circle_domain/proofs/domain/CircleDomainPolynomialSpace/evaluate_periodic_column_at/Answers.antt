@@ -38,7 +38,7 @@ overflow_sub-self g c =
     let r = c.log2_strict-log_period.result in
     let two : 2 ≤ length col = omega (arith, c.if-col-eq0.false, c.if-col-eq1.false) in
     pow_order r c.args.self.now.log_n
-        (omega (arith, c.log2_strict-log_period.ensures.power, c.requires.at_most_size two))
+    (omega (arith, c.log2_strict-log_period.ensures.power, c.requires.at_most_size two))
 
 pub standard-requires : goal.standard-requires
 standard-requires g c =
@@ -46,8 +46,8 @@ standard-requires g c =
     let r = c.log2_strict-log_period.result in
     let two : 2 ≤ length col = omega (arith, c.if-col-eq0.false, c.if-col-eq1.false) in
     let within : r ≤ c.args.self.now.log_n =
-        pow_order r c.args.self.now.log_n
-        (omega (arith, c.log2_strict-log_period.ensures.power, c.requires.at_most_size two)) in
+    pow_order r c.args.self.now.log_n
+    (omega (arith, c.log2_strict-log_period.ensures.power, c.requires.at_most_size two)) in
     omega (arith, within, (c.requires.standard two).0)
 
 -- the length is the power of two, of at least one bit
@@ -68,9 +68,9 @@ value_off_domain-requires-clause-genuine g c =
     let positive : 1 ≤ r = pow_order 1 r (omega (arith, long, two)) in
     let within : r ≤ n = pow_order r n (omega (arith, long, c.requires.at_most_size two)) in
     let genuine = standard-genuine g.F.Operations.laws g.met.F.ComplexExtendable.generators_law r
-        positive (omega (arith, within, (c.requires.standard two).0)) in
+    positive (omega (arith, within, (c.requires.standard two).0)) in
     subst (λ j. IsGenuine g.F.Operations.ops j (shift_of c.standard.result))
-        (sym c.standard.ensures.size)
+    (sym c.standard.ensures.size)
     (subst (IsGenuine g.F.Operations.ops r) (sym c.standard.ensures.shift) genuine)
 
 pub value_off_domain-requires-clause-in_group : goal.value_off_domain-requires-clause-in_group
@@ -79,8 +79,8 @@ value_off_domain-requires-clause-in_group g c =
     let r = c.log2_strict-log_period.result in
     let two : 2 ≤ length col = omega (arith, c.if-col-eq0.false, c.if-col-eq1.false) in
     let within : r ≤ c.args.self.now.log_n =
-        pow_order r c.args.self.now.log_n
-        (omega (arith, c.log2_strict-log_period.ensures.power, c.requires.at_most_size two)) in
+    pow_order r c.args.self.now.log_n
+    (omega (arith, c.log2_strict-log_period.ensures.power, c.requires.at_most_size two)) in
     omega (arith, within, (c.requires.standard two).0, c.standard.ensures.size)
 
 pub value_off_domain-requires-clause-clear : goal.value_off_domain-requires-clause-clear
@@ -96,17 +96,17 @@ value_off_domain-requires-clause-clear g c =
     let long : length col ≡ 2 ^ r = sym c.log2_strict-log_period.ensures.power in
     let positive : 1 ≤ r = pow_order 1 r (omega (arith, long, two)) in
     let at : coordinates c.repeated_double-doubled.result ≡ times l (2 ^ (n - r))
-        (from_line l c.args.point) =
+    (from_line l c.args.point) =
     c.repeated_double-doubled.ensures ∙ ap (times l (2 ^ (n - r))) c.finite_point.ensures in
     subst
-        (λ q. IsClearOf l m
-        (natural_order k gen (log_size c.standard.result) (shift_of c.standard.result)) q) (sym at)
+    (λ q. IsClearOf l m
+    (natural_order k gen (log_size c.standard.result) (shift_of c.standard.result)) q) (sym at)
     (subst
-        (λ j. IsClearOf l m (natural_order k gen j (shift_of c.standard.result))
-        (times l (2 ^ (n - r)) (from_line l c.args.point))) (sym c.standard.ensures.size)
+    (λ j. IsClearOf l m (natural_order k gen j (shift_of c.standard.result))
+    (times l (2 ^ (n - r)) (from_line l c.args.point))) (sym c.standard.ensures.size)
     (subst
-        (λ s. IsClearOf l m (natural_order k gen r s)
-        (times l (2 ^ (n - r)) (from_line l c.args.point))) (sym c.standard.ensures.shift)
+    (λ s. IsClearOf l m (natural_order k gen r s)
+    (times l (2 ^ (n - r)) (from_line l c.args.point))) (sym c.standard.ensures.shift)
     (c.requires.clear two r positive long)))
 
 pub returns : goal.returns
@@ -124,23 +124,23 @@ returns g c =
     let at : coordinates c.repeated_double-doubled.result ≡ times l (2 ^ (n - r)) t =
     c.repeated_double-doubled.ensures ∙ ap (times l (2 ^ (n - r))) c.finite_point.ensures in
     let shift : (j : ℕ) → j ≡ r → shift_of c.standard.result ≡ gen (j + 1) =
-        λ j e. c.standard.ensures.shift ∙ ap (λ i. gen (i + 1)) (sym e) in
+    λ j e. c.standard.ensures.shift ∙ ap (λ i. gen (i + 1)) (sym e) in
     let size : (j : ℕ) → j ≡ r → log_size c.standard.result ≡ j = λ j e. c.standard.ensures.size
-        ∙ sym e in
+    ∙ sym e in
     let there : (j : ℕ) (coeffs : List g.row.F.Denot) → j ≡ r →
-        Interpolates k gen j (gen (j + 1)) coeffs col →
-        Interpolates k gen (log_size c.standard.result) (shift_of c.standard.result) coeffs col =
+    Interpolates k gen j (gen (j + 1)) coeffs col →
+    Interpolates k gen (log_size c.standard.result) (shift_of c.standard.result) coeffs col =
     λ j coeffs e has. subst (λ i. Interpolates k gen i (shift_of c.standard.result) coeffs col)
-        (sym (size j e)) (subst (λ s. Interpolates k gen j s coeffs col) (sym (shift j e)) has) in
+    (sym (size j e)) (subst (λ s. Interpolates k gen j s coeffs col) (sym (shift j e)) has) in
     let back : (j : ℕ) (coeffs : List g.row.F.Denot) → j ≡ r →
-        Interpolates k gen (log_size c.standard.result) (shift_of c.standard.result) coeffs col →
-        Interpolates k gen j (gen (j + 1)) coeffs col =
+    Interpolates k gen (log_size c.standard.result) (shift_of c.standard.result) coeffs col →
+    Interpolates k gen j (gen (j + 1)) coeffs col =
     λ j coeffs e has. subst (λ s. Interpolates k gen j s coeffs col) (shift j e)
-        (subst (λ i. Interpolates k gen i (shift_of c.standard.result) coeffs col) (size j e)
-        has) in
+    (subst (λ i. Interpolates k gen i (shift_of c.standard.result) coeffs col) (size j e)
+    has) in
     let same : (j : ℕ) (coeffs : List g.row.F.Denot) → j ≡ r →
-        value l (map m coeffs) (coordinates c.repeated_double-doubled.result) ≡ value l
-        (map m coeffs) (times l (2 ^ (n - j)) t) =
+    value l (map m coeffs) (coordinates c.repeated_double-doubled.result) ≡ value l
+    (map m coeffs) (times l (2 ^ (n - j)) t) =
     λ j coeffs e. ap (value l (map m coeffs)) (at ∙ ap (λ i. times l (2 ^ (n - i)) t) (sym e)) in
     if_ok_both _ _ _ c.value_off_domain.result
     (λ v made only. record {

@@ -8,4 +8,4 @@ pub value_off_domain-requires-clause-genuine : goal.value_off_domain-requires-cl
 value_off_domain-requires-clause-genuine g c =
     subst (IsGenuine g.F.Operations.ops (log_size c.args.self.now)) (sym c.requires.standard.1)
     (standard-genuine g.F.Operations.laws g.met.F.ComplexExtendable.generators_law
-        (log_size c.args.self.now) c.requires.positive c.requires.standard.0)
+    (log_size c.args.self.now) c.requires.positive c.requires.standard.0)

@@ -16,7 +16,7 @@ pub invariant_of-result : goal.invariant_of-result
 invariant_of-result g c =
     let h = log_height_of c.new.result in
     let rows : 2 ^ h ≡ g.M.MatrixShape.height c.args.self = ap (λ n. 2 ^ n) c.new.ensures
-        ∙ c.log2_strict-log_height.ensures.power ∙ c.height.ensures in
+    ∙ c.log2_strict-log_height.ensures.power ∙ c.height.ensures in
     record { in_range = λ r lt. subst (λ n. cfft_index h r < n) rows (cfft_index-below h r) }
 
 pub returns-clause-rows : goal.returns-clause-rows

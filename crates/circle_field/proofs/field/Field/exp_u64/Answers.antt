@@ -8,7 +8,7 @@ pub loop-rest-init : goal.loop-rest-init
 loop-rest-init g c =
     let k = g.Self.Operations.ops in
     ap (λ x. k.mul x (nth_power k c.args.self.now c.args.power))
-        (c.ONE-result.ensures ∙ g.met.Self.Field.one_law)
+    (c.ONE-result.ensures ∙ g.met.Self.Field.one_law)
     ∙ g.Self.Operations.laws.ring.one_mul _
 
 pub loop-rest-preserved : goal.loop-rest-preserved
@@ -24,7 +24,7 @@ loop-rest-preserved g c =
           ∙ halved_odd laws _ _ _ _ c.loop-rest.invariant w.if-rest-eq1.true
       | else-rest-eq1 w ↦
           squared _ ∙ ap (λ r. k.mul r (nth_power k (k.mul c.loop-rest.base c.loop-rest.base) n))
-              w.result-is
+          w.result-is
           ∙ halved_even laws _ _ _ _ c.loop-rest.invariant (omega (arith, w.if-rest-eq1.false))
     ]
 

@@ -12,11 +12,11 @@ returns-clause-written c = whole_written c.whole_object.result c.args.self.now c
 pub returns-then-self-eq0-clause-reads : goal.returns-then-self-eq0-clause-reads
 returns-then-self-eq0-clause-reads c =
     written_reads c.short_object.result c.args.self.now
-        (short_written c.short_object.result c.args.self.now c.if-self-eq0.true
-        c.short_object.ensures)
+    (short_written c.short_object.result c.args.self.now c.if-self-eq0.true
+    c.short_object.ensures)
 
 pub returns-clause-reads : goal.returns-clause-reads
 returns-clause-reads c =
     written_reads c.whole_object.result c.args.self.now
-        (whole_written c.whole_object.result c.args.self.now c.if-self-eq0.false
-        c.whole_object.ensures)
+    (whole_written c.whole_object.result c.args.self.now c.if-self-eq0.false
+    c.whole_object.ensures)

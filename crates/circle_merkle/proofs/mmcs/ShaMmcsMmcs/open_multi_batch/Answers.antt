@@ -15,7 +15,7 @@ pub rows_of-requires-clause-powers_of_two : goal.rows_of-requires-clause-powers_
 rows_of-requires-clause-powers_of_two g c =
     let d = c.args.prover_data.now in
     All-same (λ m. IsPowerOfTwo (height_of m)) c.matrices.result.now (matrices_of d)
-        c.matrices.ensures (powers_of_two d)
+    c.matrices.ensures (powers_of_two d)
 
 pub returns-clause-proof : goal.returns-clause-proof
 returns-clause-proof g c commitment isroot =
@@ -25,16 +25,16 @@ returns-clause-proof g c commitment isroot =
     let matrices = matrices_of d in
     let opened : opened_rows c.loop-index.opened.items ≡ rows_at_each matrices indices =
     c.loop-index.invariant
-        ∙ ap (rows_at_each matrices)
-        (take_all c.loop-index.index-index indices c.loop-index-test.false) in
+    ∙ ap (rows_at_each matrices)
+    (take_all c.loop-index.index-index indices c.loop-index-test.false) in
     let honest = authenticates-honest sha256 bytes matrices indices (level_count d)
-        (sym d.greatest ∙ d.levels) c.requires.some c.requires.in_range (some_matrix d)
-        (powers_of_two d) commitment isroot in
+    (sym d.greatest ∙ d.levels) c.requires.some c.requires.in_range (some_matrix d)
+    (powers_of_two d) commitment isroot in
     subst (λ (rows : List (List (List g.row.T.Denot))). Authenticates sha256 bytes commitment
-        (dimensions_of matrices) indices rows c.in_ok-siblings.field-0.items) (sym opened)
+    (dimensions_of matrices) indices rows c.in_ok-siblings.field-0.items) (sym opened)
     (subst
-        (λ (proof : List (List ℕ)). Authenticates sha256 bytes commitment (dimensions_of matrices)
-        indices (rows_at_each matrices indices) proof) (sym c.in_ok-siblings.ensures) honest)
+    (λ (proof : List (List ℕ)). Authenticates sha256 bytes commitment (dimensions_of matrices)
+    indices (rows_at_each matrices indices) proof) (sym c.in_ok-siblings.ensures) honest)
 
 pub loop-index-init : goal.loop-index-init
 loop-index-init g c = ap opened_rows c.in_ok-opened.ensures.items
@@ -49,7 +49,7 @@ loop-index-preserved g c =
     ∙ map_push (λ rows. map (λ row. row.items) rows.items) c.loop-index.opened.items new
     ∙ ap (λ before. before ++ map (λ row. row.items) new.items ∷ []) c.loop-index.invariant
     ∙ ap (λ rows. rows_at_each matrices (take k indices) ++ rows ∷ [])
-        (c.in_ok-rows_of.ensures ∙ ap (λ ms. rows_at ms (get_or indices k 0)) c.matrices.ensures)
+    (c.in_ok-rows_of.ensures ∙ ap (λ ms. rows_at ms (get_or indices k 0)) c.matrices.ensures)
     ∙ sym (map_more (rows_at matrices) indices k 0 c.loop-index-test.true)
 
 pub rows_of-requires-clause-greatest : goal.rows_of-requires-clause-greatest
@@ -60,7 +60,7 @@ pub rows_of-requires-clause-in_range : goal.rows_of-requires-clause-in_range
 rows_of-requires-clause-in_range g c =
     let k = c.loop-index.index-index in
     subst (λ n. get_or c.args.indices.now k 0 < n) (sym c.max_height-top.ensures)
-        (c.requires.in_range k 0 c.loop-index-test.true)
+    (c.requires.in_range k 0 c.loop-index-test.true)
 
 pub siblings-requires : goal.siblings-requires
 siblings-requires g c = c.requires.in_range

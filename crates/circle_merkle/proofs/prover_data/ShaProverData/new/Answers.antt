@@ -26,7 +26,7 @@ is_tree : {T : Type 0} (bytes : T → List ℕ) (matrices : List (RowMajorMatrix
     n ≡ length matrices → All (λ m. IsPowerOfTwo (height_of m)) matrices →
     (levels : Vec (Vec (List ℕ) Global) Global) (top : ℕ) → top ≡ max_height matrices →
     ((count : ℕ) → top ≡ 2 ^ count → map (λ level. level.items) levels.items
-        ≡ tree_levels sha256 bytes matrices count) → IsTree bytes matrices levels
+    ≡ tree_levels sha256 bytes matrices count) → IsTree bytes matrices levels
 is_tree bytes matrices some len powers levels top greatest tree =
     let power : IsPowerOfTwo (max_height matrices) = max-power matrices (omega arith) powers in
     let whole = tree power.0 (greatest ∙ power.1) in
@@ -50,8 +50,8 @@ pub levels_of-requires-clause-power : goal.levels_of-requires-clause-power
 levels_of-requires-clause-power g c =
     let matrices = c.args.matrices.items in
     let power : IsPowerOfTwo (max_height matrices) =
-        max-power matrices (omega (arith, c.requires.some, c.args.matrices.ok.0))
-        c.requires.powers_of_two in
+    max-power matrices (omega (arith, c.requires.some, c.args.matrices.ok.0))
+    c.requires.powers_of_two in
     (power.0, c.greatest_height-top.ensures ∙ ap max_height c.deref.ensures.value ∙ power.1)
 
 pub overflow_sub-len : goal.overflow_sub-len
@@ -60,11 +60,11 @@ overflow_sub-len g c =
     let bytes = g.T.ElementBytes.bytes in
     let levels = c.in_ok-levels.levels in
     let t : IsTree bytes matrices levels =
-        is_tree bytes matrices c.requires.some c.args.matrices.ok.0 c.requires.powers_of_two levels
-        c.greatest_height-top.result
+    is_tree bytes matrices c.requires.some c.args.matrices.ok.0 c.requires.powers_of_two levels
+    c.greatest_height-top.result
     (c.greatest_height-top.ensures ∙ ap max_height c.deref.ensures.value)
-        (λ count e. c.in_ok-levels.ensures count e
-        ∙ ap (λ ms. tree_levels sha256 bytes ms count) c.deref-2.ensures.value) in
+    (λ count e. c.in_ok-levels.ensures count e
+    ∙ ap (λ ms. tree_levels sha256 bytes ms count) c.deref-2.ensures.value) in
     some_levels t.count c.len.ensures t.long
 
 pub index-requires : goal.index-requires
@@ -73,11 +73,11 @@ index-requires g c =
     let bytes = g.T.ElementBytes.bytes in
     let levels = c.in_ok-levels.levels in
     let t : IsTree bytes matrices levels =
-        is_tree bytes matrices c.requires.some c.args.matrices.ok.0 c.requires.powers_of_two levels
-        c.greatest_height-top.result
+    is_tree bytes matrices c.requires.some c.args.matrices.ok.0 c.requires.powers_of_two levels
+    c.greatest_height-top.result
     (c.greatest_height-top.ensures ∙ ap max_height c.deref.ensures.value)
-        (λ count e. c.in_ok-levels.ensures count e
-        ∙ ap (λ ms. tree_levels sha256 bytes ms count) c.deref-2.ensures.value) in
+    (λ count e. c.in_ok-levels.ensures count e
+    ∙ ap (λ ms. tree_levels sha256 bytes ms count) c.deref-2.ensures.value) in
     last_within t.count c.len.ensures t.long
 
 pub index-root-requires : goal.index-root-requires
@@ -86,16 +86,16 @@ index-root-requires g c =
     let bytes = g.T.ElementBytes.bytes in
     let levels = c.in_ok-levels.levels in
     let t : IsTree bytes matrices levels =
-        is_tree bytes matrices c.requires.some c.args.matrices.ok.0 c.requires.powers_of_two levels
-        c.greatest_height-top.result
+    is_tree bytes matrices c.requires.some c.args.matrices.ok.0 c.requires.powers_of_two levels
+    c.greatest_height-top.result
     (c.greatest_height-top.ensures ∙ ap max_height c.deref.ensures.value)
-        (λ count e. c.in_ok-levels.ensures count e
-        ∙ ap (λ ms. tree_levels sha256 bytes ms count) c.deref-2.ensures.value) in
+    (λ count e. c.in_ok-levels.ensures count e
+    ∙ ap (λ ms. tree_levels sha256 bytes ms count) c.deref-2.ensures.value) in
     let last = last_level t.count c.len.ensures t.long in
     let v = c.index.result.now in
     let root : v.items ≡ digest sha256 (matrix_rows bytes matrices) t.count 0 ∷ [] =
     whole-root sha256 bytes matrices t.count levels.items t.tree v
-        (c.index.ensures ∙ ap (λ k. get_or levels.items k v) last) in
+    (c.index.ensures ∙ ap (λ k. get_or levels.items k v) last) in
     omega (arith, ap length root, v.ok.0)
 
 pub remove-lowest-requires : goal.remove-lowest-requires
@@ -104,11 +104,11 @@ remove-lowest-requires g c =
     let bytes = g.T.ElementBytes.bytes in
     let levels = c.in_ok-levels.levels in
     let t : IsTree bytes matrices levels =
-        is_tree bytes matrices c.requires.some c.args.matrices.ok.0 c.requires.powers_of_two levels
-        c.greatest_height-top.result
+    is_tree bytes matrices c.requires.some c.args.matrices.ok.0 c.requires.powers_of_two levels
+    c.greatest_height-top.result
     (c.greatest_height-top.ensures ∙ ap max_height c.deref.ensures.value)
-        (λ count e. c.in_ok-levels.ensures count e
-        ∙ ap (λ ms. tree_levels sha256 bytes ms count) c.deref-2.ensures.value) in
+    (λ count e. c.in_ok-levels.ensures count e
+    ∙ ap (λ ms. tree_levels sha256 bytes ms count) c.deref-2.ensures.value) in
     omega (arith, t.long)
 
 pub invariant_of-data : goal.invariant_of-data
@@ -118,14 +118,14 @@ invariant_of-data g c =
     let levels = c.in_ok-levels.levels in
     let greatest = c.greatest_height-top.ensures ∙ ap max_height c.deref.ensures.value in
     let t : IsTree bytes matrices levels =
-        is_tree bytes matrices c.requires.some c.args.matrices.ok.0 c.requires.powers_of_two levels
-        c.greatest_height-top.result
+    is_tree bytes matrices c.requires.some c.args.matrices.ok.0 c.requires.powers_of_two levels
+    c.greatest_height-top.result
     greatest (λ count e. c.in_ok-levels.ensures count e
-        ∙ ap (λ ms. tree_levels sha256 bytes ms count) c.deref-2.ensures.value) in
+    ∙ ap (λ ms. tree_levels sha256 bytes ms count) c.deref-2.ensures.value) in
     let upper = c.remove-lowest.new.self in
     let last : t.count ≡ vec_len upper = omega (arith, t.long, c.remove-lowest.ensures.len) in
     let fits : max_height matrices < 2 ^ 64 =
-        omega (arith, c.greatest_height-top.type_inv, greatest) in
+    omega (arith, c.greatest_height-top.type_inv, greatest) in
     record {
       some_matrix = c.requires.some;
       powers_of_two =
@@ -145,16 +145,16 @@ returns-clause-root g c =
     let bytes = g.T.ElementBytes.bytes in
     let levels = c.in_ok-levels.levels in
     let t : IsTree bytes matrices levels =
-        is_tree bytes matrices c.requires.some c.args.matrices.ok.0 c.requires.powers_of_two levels
-        c.greatest_height-top.result
+    is_tree bytes matrices c.requires.some c.args.matrices.ok.0 c.requires.powers_of_two levels
+    c.greatest_height-top.result
     (c.greatest_height-top.ensures ∙ ap max_height c.deref.ensures.value)
-        (λ count e. c.in_ok-levels.ensures count e
-        ∙ ap (λ ms. tree_levels sha256 bytes ms count) c.deref-2.ensures.value) in
+    (λ count e. c.in_ok-levels.ensures count e
+    ∙ ap (λ ms. tree_levels sha256 bytes ms count) c.deref-2.ensures.value) in
     let last = last_level t.count c.len.ensures t.long in
     let v = c.index.result.now in
     let root : v.items ≡ digest sha256 (matrix_rows bytes matrices) t.count 0 ∷ [] =
     whole-root sha256 bytes matrices t.count levels.items t.tree v
-        (c.index.ensures ∙ ap (λ k. get_or levels.items k v) last) in
+    (c.index.ensures ∙ ap (λ k. get_or levels.items k v) last) in
     record {
       levels = t.count;
       top = t.top;

@@ -21,9 +21,9 @@ climb_past-requires-clause-within g c =
     let indices = c.args.indices.now in
     let below : level < count = omega (arith, c.len-level-end.ensures) in
     let positions = ap siblings_of (c.deref.ensures.value ∙ c.loop-level.invariant.known)
-        ∙ siblings-known indices count level below in
+    ∙ siblings-known indices count level below in
     All-same (λ i. i < 2 ^ (count - level)) (siblings_of c.deref.result.now)
-        (taken indices count level) positions
+    (taken indices count level) positions
     (taken-within sha256 g.T.ElementBytes.bytes d.matrices.items count indices level)
 
 pub loop-level-preserved : goal.loop-level-preserved
@@ -44,7 +44,7 @@ loop-level-preserved g c =
           c.in_ok-climb_past.ensures.proof
           ∙ ap (λ before. before ++ map (at level) positions) c.loop-level.invariant.proof
           ∙ kept-proof sha256 g.T.ElementBytes.bytes d.matrices.items count indices level positions
-              (ap siblings_of known-is ∙ siblings-known indices count level below)
+          (ap siblings_of known-is ∙ siblings-known indices count level below)
           ∙ ap (proof_of at indices count) (sym (add-one level));
     }
 
@@ -52,7 +52,7 @@ pub loop-level-init : goal.loop-level-init
 loop-level-init g c =
     let d = c.args.self.now in
     let below : All (λ i. i < 2 ^ vec_len d.upper) c.args.indices.now =
-        subst (λ n. All (λ i. i < n) c.args.indices.now) (sym d.greatest ∙ d.levels) c.requires in
+    subst (λ n. All (λ i. i < n) c.args.indices.now) (sym d.greatest ∙ d.levels) c.requires in
     record {
       known = c.in_ok-known.ensures (vec_len d.upper) below;
       proof = c.in_ok-proof.ensures.items;
@@ -64,8 +64,8 @@ returns g c =
     let count = vec_len d.upper in
     let end : c.loop-level.level ≡ count = omega (arith, c.len-level-end.ensures) in
     c.loop-level.invariant.proof
-        ∙ ap (proof_of (digest sha256 (matrix_rows g.T.ElementBytes.bytes d.matrices.items))
-        c.args.indices.now count) end
+    ∙ ap (proof_of (digest sha256 (matrix_rows g.T.ElementBytes.bytes d.matrices.items))
+    c.args.indices.now count) end
 
 pub ilog2-requires : goal.ilog2-requires
 ilog2-requires g c = max_positive _ c.max.ensures

@@ -30,7 +30,7 @@ loop-node-preserved g c =
           (climbed up after left) (climbed up rest given)
           (climbed up c.args.nodes.now c.args.given.now)
           c.in_ok-push.ensures.items (ap (λ ns. climbed up ns given) whole
-              ∙ c.first_parent.ensures.parents) c.loop-node.invariant.parents;
+          ∙ c.first_parent.ensures.parents) c.loop-node.invariant.parents;
       left = sym c.first_parent.ensures.left ∙ ap (λ ns. left_of ns given) (sym whole)
           ∙ c.loop-node.invariant.left;
     }
@@ -44,7 +44,7 @@ returns-clause-parents g c =
     let parents = c.loop-node.parents.items in
     let none = nil_from_length c.loop-node.rest.now c.in_default.ensures.cases in
     sym (append-nil parents) ∙ ap (λ ns. parents ++ climbed up ns c.loop-node.given.now) (sym none)
-        ∙ c.loop-node.invariant.parents
+    ∙ c.loop-node.invariant.parents
 
 pub returns-clause-rest : goal.returns-clause-rest
 returns-clause-rest g c =

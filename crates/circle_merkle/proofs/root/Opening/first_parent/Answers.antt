@@ -44,8 +44,8 @@ returns-in-Some-clause-enough g c =
     let up = parent_in g.T.ElementBytes.bytes c.args.self.now c.args.level in
     let node = c.args.node.now in
     let same = ap (λ os. siblings_of (positions_of (node ∷ os))) c.in-Some.ensures.cases.0
-        ∙ siblings-joined up node c.in-Some.next.now (c.if-next-sibling.true ∙ c.sibling.ensures)
-        c.in-Some.after.now in
+    ∙ siblings-joined up node c.in-Some.next.now (c.if-next-sibling.true ∙ c.sibling.ensures)
+    c.in-Some.after.now in
     subst (λ is. length is ≤ length c.args.given.now) same c.requires.enough
 
 pub returns-in-Some-clause-left : goal.returns-in-Some-clause-left
@@ -53,8 +53,8 @@ returns-in-Some-clause-left g c =
     let up = parent_in g.T.ElementBytes.bytes c.args.self.now c.args.level in
     let node = c.args.node.now in
     let same = ap (λ os. siblings_of (positions_of (node ∷ os))) c.in-Some.ensures.cases.0
-        ∙ siblings-joined up node c.in-Some.next.now (c.if-next-sibling.true ∙ c.sibling.ensures)
-        c.in-Some.after.now in
+    ∙ siblings-joined up node c.in-Some.next.now (c.if-next-sibling.true ∙ c.sibling.ensures)
+    c.in-Some.after.now in
     ap (λ is. drop (length is) c.args.given.now) same
 
 pub returns-in-Some-split_first-clause-enough : goal.returns-in-Some-split_first-clause-enough
@@ -71,11 +71,11 @@ returns-in-Some-split_first-clause-enough g c =
     let digest = c.in-Some-split_first.digest.now in
     let left = c.in-Some-split_first.left.now in
     let all : suc (length (siblings_of (positions_of others))) ≤ length c.args.given.now =
-        subst (λ is. length is ≤ length c.args.given.now) (siblings-apart up node others apart)
-        c.requires.enough in
+    subst (λ is. length is ≤ length c.args.given.now) (siblings-apart up node others apart)
+    c.requires.enough in
     less_one
-        (subst (λ ds. suc (length (siblings_of (positions_of others))) ≤ length ds)
-        c.in-Some-split_first.ensures.cases.0 all)
+    (subst (λ ds. suc (length (siblings_of (positions_of others))) ≤ length ds)
+    c.in-Some-split_first.ensures.cases.0 all)
 
 pub returns-in-Some-split_first-clause-left : goal.returns-in-Some-split_first-clause-left
 returns-in-Some-split_first-clause-left g c =
@@ -90,4 +90,4 @@ returns-in-Some-split_first-clause-left g c =
     ] in
     ap (λ is. drop (length is) c.args.given.now) (siblings-apart up node others apart)
     ∙ ap (drop (suc (length (siblings_of (positions_of others)))))
-        c.in-Some-split_first.ensures.cases.0
+    c.in-Some-split_first.ensures.cases.0

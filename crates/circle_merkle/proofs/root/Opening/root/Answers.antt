@@ -30,17 +30,17 @@ climb-requires-clause-enough g c =
     let count = c.log2_strict-count.result in
     let power : 2 ^ count ≡ o.top = c.log2_strict-count.ensures.power in
     let fit =
-        nodes-fit g.T.ElementBytes.bytes o c.args.proof.now count
-        (c.requires.count count (sym power)) c.loop-level.level (omega arith) in
+    nodes-fit g.T.ElementBytes.bytes o c.args.proof.now count
+    (c.requires.count count (sym power)) c.loop-level.level (omega arith) in
     let nodes : length (siblings_of (positions_of c.deref.result.now)) ≡ length
-        (siblings_of
-        (positions_of
-        (level_nodes g.T.ElementBytes.bytes o c.args.proof.now count c.loop-level.level))) =
+    (siblings_of
+    (positions_of
+    (level_nodes g.T.ElementBytes.bytes o c.args.proof.now count c.loop-level.level))) =
     ap (λ ns. length (siblings_of (positions_of ns)))
-        (c.deref.ensures.value ∙ c.loop-level.invariant.nodes) in
+    (c.deref.ensures.value ∙ c.loop-level.invariant.nodes) in
     let left : length c.loop-level.given.now ≡ length
-        (drop (taken_below o.indices.now count c.loop-level.level) c.args.proof.now) =
-        ap length c.loop-level.invariant.given in
+    (drop (taken_below o.indices.now count c.loop-level.level) c.args.proof.now) =
+    ap length c.loop-level.invariant.given in
     omega (arith, fit, nodes, left)
 
 pub loop-level-preserved : goal.loop-level-preserved
@@ -58,17 +58,17 @@ loop-level-preserved g c =
           c.in_ok-parents.ensures.parents
           ∙ ap (λ ns. climbed (parent_in bytes o (level + 1)) ns c.loop-level.given.now) here
           ∙ ap (climbed (parent_in bytes o (level + 1)) (level_nodes bytes o proof count level))
-              c.loop-level.invariant.given
+          c.loop-level.invariant.given
           ∙ ap
-              (λ k. climbed (parent_in bytes o k) (level_nodes bytes o proof count level)
-              (drop (taken_below o.indices.now count level) proof)) (add-one level)
+          (λ k. climbed (parent_in bytes o k) (level_nodes bytes o proof count level)
+          (drop (taken_below o.indices.now count level) proof)) (add-one level)
           ∙ nodes-climbed bytes o proof count whole level (omega arith)
           ∙ ap (level_nodes bytes o proof count) (sym (add-one level));
       given =
           c.in_ok-parents.ensures.rest
           ∙ ap (λ ns. drop (length (siblings_of (positions_of ns))) c.loop-level.given.now) here
           ∙ ap (drop (length (siblings_of (positions_of (level_nodes bytes o proof count level)))))
-              c.loop-level.invariant.given
+          c.loop-level.invariant.given
           ∙ nodes-left bytes o proof count whole level (omega arith)
           ∙ ap (λ k. drop (taken_below o.indices.now count k) proof) (sym (add-one level));
     }
@@ -81,11 +81,11 @@ index-requires g c =
     let count = c.log2_strict-count.result in
     let power : 2 ^ count ≡ o.top = c.log2_strict-count.ensures.power in
     let below : All (λ i. i < 2 ^ count) o.indices.now =
-        subst (λ n. All (λ i. i < n) o.indices.now) (sym power) c.requires.in_range in
+    subst (λ n. All (λ i. i < n) o.indices.now) (sym power) c.requires.in_range in
     let end : c.loop-level.level ≡ count = omega arith in
     let one : length c.loop-level.nodes.items ≡ 1 =
-        ap length (c.loop-level.invariant.nodes ∙ ap (level_nodes bytes o proof count) end
-        ∙ nodes-root bytes o proof count c.requires.some below) in
+    ap length (c.loop-level.invariant.nodes ∙ ap (level_nodes bytes o proof count) end
+    ∙ nodes-root bytes o proof count c.requires.some below) in
     omega (arith, one, c.loop-level.nodes.ok.0)
 
 pub returns : goal.returns
@@ -96,12 +96,12 @@ returns g c levels e =
     let count = c.log2_strict-count.result in
     let power : 2 ^ count ≡ o.top = c.log2_strict-count.ensures.power in
     let below : All (λ i. i < 2 ^ count) o.indices.now =
-        subst (λ n. All (λ i. i < n) o.indices.now) (sym power) c.requires.in_range in
+    subst (λ n. All (λ i. i < n) o.indices.now) (sym power) c.requires.in_range in
     let end : c.loop-level.level ≡ count = omega arith in
     let same : count ≡ levels = c.log2_strict-count.ensures.only levels e in
     let nodes = c.loop-level.invariant.nodes ∙ ap (level_nodes bytes o proof count) end
-        ∙ nodes-root bytes o proof count c.requires.some below in
+    ∙ nodes-root bytes o proof count c.requires.some below in
     ap (λ n. n.digest) c.index.ensures
     ∙ ap (λ ns. (get_or ns 0 c.index.result.now).digest) nodes
     ∙ ap (opened_root sha256 bytes o.dimensions.now o.indices.now (opened_rows o.opened.now) proof)
-        same
+    same

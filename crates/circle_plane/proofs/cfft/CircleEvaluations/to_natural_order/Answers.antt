@@ -17,4 +17,4 @@ returns-clause-back g c =
     let rows = g.M.Matrix.rows c.args.self.values in
     ap (other_order n) (c.cfft_perm_rows.ensures.rows n c.args.self.row_for_each_point)
     ∙ other_order-twice n rows (g.met.M.Matrix.height_law c.args.self.values
-        ∙ c.args.self.row_for_each_point)
+    ∙ c.args.self.row_for_each_point)

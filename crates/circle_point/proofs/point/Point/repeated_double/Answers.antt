@@ -10,7 +10,7 @@ loop-init g c = sym (times-one g.F.Operations.laws.ring (coordinates c.args.self
 pub loop-preserved : goal.loop-preserved
 loop-preserved g c =
     c.double-point.ensures ∙ doubled-times g.F.Operations.laws.ring c.loop.counter
-        (coordinates c.args.self) (coordinates c.loop.point) c.loop.invariant
+    (coordinates c.args.self) (coordinates c.loop.point) c.loop.invariant
 
 pub returns : goal.returns
 returns g c = c.loop.invariant ∙ ap (λ n. times g.F.Operations.ops n (coordinates c.args.self))

@@ -13,5 +13,5 @@ unwrap-requires g c =
     some_unless c.to_projective_line.result (λ none.
     not_infinite g.EF.Operations.laws d c.sub.result.on_circle
     (λ e. c.requires
-        (sym c.sub.ensures.undoes ∙ ap (λ (q : Coordinates g.row.EF.Denot). plus k q other) e))
+    (sym c.sub.ensures.undoes ∙ ap (λ (q : Coordinates g.row.EF.Denot). plus k q other) e))
     (c.to_projective_line.ensures.none.0 none))

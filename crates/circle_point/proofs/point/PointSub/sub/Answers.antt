@@ -13,15 +13,20 @@ invariant_of-result g c =
     let p = coordinates c.args.self in
     let q = lifted g.EF.ExtensionField.embed (coordinates c.args.rhs) in
     let formula : at c.add.result c.sub.result ≡ at (k.add (k.mul p.x q.x) (k.mul p.y q.y))
-        (k.add (k.mul p.y q.x) (k.neg (k.mul p.x q.y))) =
-    grind (arith, common_steps, g.met.EF.Field.add_law, g.met.EF.Field.sub_law,
-        g.met.EF.Field.mul_law) in
+    (k.add (k.mul p.y q.x) (k.neg (k.mul p.x q.y))) =
+    grind (
+      arith,
+      common_steps,
+      g.met.EF.Field.add_law,
+      g.met.EF.Field.sub_law,
+      g.met.EF.Field.mul_law,
+    ) in
     record {
       on_circle = same-on_circle laws _ (formula ∙ difference laws p q)
           (plus-on_circle laws p (opposite k q) c.args.self.on_circle
-              (opposite-on_circle laws q
-              (lifted-on_circle g.met.EF.ExtensionField.embedding (coordinates c.args.rhs)
-              c.args.rhs.on_circle)));
+          (opposite-on_circle laws q
+          (lifted-on_circle g.met.EF.ExtensionField.embedding (coordinates c.args.rhs)
+          c.args.rhs.on_circle)));
     }
 
 pub returns-clause-difference : goal.returns-clause-difference
@@ -30,9 +35,14 @@ returns-clause-difference g c =
     let p = coordinates c.args.self in
     let q = lifted g.EF.ExtensionField.embed (coordinates c.args.rhs) in
     let formula : at c.add.result c.sub.result ≡ at (k.add (k.mul p.x q.x) (k.mul p.y q.y))
-        (k.add (k.mul p.y q.x) (k.neg (k.mul p.x q.y))) =
-    grind (arith, common_steps, g.met.EF.Field.add_law, g.met.EF.Field.sub_law,
-        g.met.EF.Field.mul_law) in
+    (k.add (k.mul p.y q.x) (k.neg (k.mul p.x q.y))) =
+    grind (
+      arith,
+      common_steps,
+      g.met.EF.Field.add_law,
+      g.met.EF.Field.sub_law,
+      g.met.EF.Field.mul_law,
+    ) in
     formula ∙ difference g.EF.Operations.laws.ring p q
 
 pub returns-clause-undoes : goal.returns-clause-undoes
@@ -41,11 +51,16 @@ returns-clause-undoes g c =
     let p = coordinates c.args.self in
     let q = lifted g.EF.ExtensionField.embed (coordinates c.args.rhs) in
     let formula : at c.add.result c.sub.result ≡ at (k.add (k.mul p.x q.x) (k.mul p.y q.y))
-        (k.add (k.mul p.y q.x) (k.neg (k.mul p.x q.y))) =
-    grind (arith, common_steps, g.met.EF.Field.add_law, g.met.EF.Field.sub_law,
-        g.met.EF.Field.mul_law) in
+    (k.add (k.mul p.y q.x) (k.neg (k.mul p.x q.y))) =
+    grind (
+      arith,
+      common_steps,
+      g.met.EF.Field.add_law,
+      g.met.EF.Field.sub_law,
+      g.met.EF.Field.mul_law,
+    ) in
     ap (λ (d : Coordinates g.row.EF.Denot). plus k d q)
-        (formula ∙ difference g.EF.Operations.laws.ring p q)
+    (formula ∙ difference g.EF.Operations.laws.ring p q)
     ∙ difference-plus g.EF.Operations.laws.ring p q
-        (lifted-on_circle g.met.EF.ExtensionField.embedding (coordinates c.args.rhs)
-        c.args.rhs.on_circle)
+    (lifted-on_circle g.met.EF.ExtensionField.embedding (coordinates c.args.rhs)
+    c.args.rhs.on_circle)

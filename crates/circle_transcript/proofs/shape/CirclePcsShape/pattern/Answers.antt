@@ -15,16 +15,16 @@ returns g c =
     c.new.ensures
     ∙ five_after _ _ _ _ _ _ _ _ _ _ _ (ap (map step_of) c.new-steps.ensures.items)
     (at_degree (λ d. flat_map (claim_steps d) (widths_in (batches_of c.deref.result.now))) _ _
-        c.DEGREE.result degree c.in_ok-push_batches.ensures c.DEGREE.ensures
+    c.DEGREE.result degree c.in_ok-push_batches.ensures c.DEGREE.ensures
     ∙ ap (λ bs. map step_of c.new-steps.result.items
-        ++ flat_map (claim_steps degree) (widths_in (batches_of bs))) c.deref.ensures.value)
+    ++ flat_map (claim_steps degree) (widths_in (batches_of bs))) c.deref.ensures.value)
     (at_degree
-        (λ d. guarded_challenge_steps d (codes "batch_pow") s.batch_pow_bits
-        (codes "batch_challenge")) _ _ c.DEGREE-2.result degree c.in_ok-push_batch_challenge.ensures
-        c.DEGREE-2.ensures)
+    (λ d. guarded_challenge_steps d (codes "batch_pow") s.batch_pow_bits
+    (codes "batch_challenge")) _ _ c.DEGREE-2.result degree c.in_ok-push_batch_challenge.ensures
+    c.DEGREE-2.ensures)
     (at_degree first_layer_steps _ _ c.DEGREE-3.result degree c.in_ok-push_first_layer.ensures
-        c.DEGREE-3.ensures)
+    c.DEGREE-3.ensures)
     (at_degree (λ d. rounds_steps d s.commit_pow_bits s.num_commit_rounds) _ _ c.DEGREE-4.result
-        degree c.in_ok-push_rounds.ensures c.DEGREE-4.ensures)
+    degree c.in_ok-push_rounds.ensures c.DEGREE-4.ensures)
     (at_degree (λ d. query_steps d s.log_final_poly_len s.query_pow_bits s.index_bits s.num_queries)
-        _ _ c.DEGREE-5.result degree c.in_ok-push_query.ensures c.DEGREE-5.ensures)
+    _ _ c.DEGREE-5.result degree c.in_ok-push_query.ensures c.DEGREE-5.ensures)

@@ -9,11 +9,11 @@ pub
 returns-then-log2_strict-CIRCLE_TWO_ADICITY-clause-some g c =
     let two = g.Val.ComplexExtendable.CIRCLE_TWO_ADICITY in
     let least : two ≤ c.log2_strict.result =
-        omega (arith, c.if-log2_strict-CIRCLE_TWO_ADICITY.true, c.CIRCLE_TWO_ADICITY.ensures) in
+    omega (arith, c.if-log2_strict-CIRCLE_TWO_ADICITY.true, c.CIRCLE_TWO_ADICITY.ensures) in
     let none : CanBeDegree two c.args.degree → ⊥ = λ can.
     let below : c.log2_strict.result < two =
-        power_below c.log2_strict.result two
-        (omega (arith, c.log2_strict.ensures.power, can.in_group)) in
+    power_below c.log2_strict.result two
+    (omega (arith, c.log2_strict.ensures.power, can.in_group)) in
     omega (arith, below, least) in
     search (rules, none)
 
@@ -23,7 +23,7 @@ pub
 natural_domain_for_degree-requires-clause-in_group g c =
     let two = g.Val.ComplexExtendable.CIRCLE_TWO_ADICITY in
     let less : c.log2_strict.result < two =
-        omega (arith, c.if-log2_strict-CIRCLE_TWO_ADICITY.false, c.CIRCLE_TWO_ADICITY.ensures) in
+    omega (arith, c.if-log2_strict-CIRCLE_TWO_ADICITY.false, c.CIRCLE_TWO_ADICITY.ensures) in
     let below = pow_below c.log2_strict.result two less in
     omega (arith, below, c.log2_strict.ensures.power)
 
@@ -32,7 +32,7 @@ returns-clause-some g c =
     let two = g.Val.ComplexExtendable.CIRCLE_TWO_ADICITY in
     let least : 2 ≤ c.args.degree = search rules in
     let less : c.log2_strict.result < two =
-        omega (arith, c.if-log2_strict-CIRCLE_TWO_ADICITY.false, c.CIRCLE_TWO_ADICITY.ensures) in
+    omega (arith, c.if-log2_strict-CIRCLE_TWO_ADICITY.false, c.CIRCLE_TWO_ADICITY.ensures) in
     let below = pow_below c.log2_strict.result two less in
     let can : CanBeDegree two c.args.degree = record {
       power = (c.log2_strict.result, sym c.log2_strict.ensures.power);

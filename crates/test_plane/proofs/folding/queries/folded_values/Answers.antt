@@ -46,9 +46,9 @@ first_layer_twiddles-requires-clause-points g c = ap (map coordinates) c.deref.e
 pub fold_query_values-requires-clause-twiddles : goal.fold_query_values-requires-clause-twiddles
 fold_query_values-requires-clause-twiddles g c =
     let twiddle = first_layer_twiddle g.F.Operations.ops g.F.ComplexExtendable.generators
-        c.args.log_height c.args.log_max_height in
+    c.args.log_height c.args.log_max_height in
     ap length (c.deref-2.ensures.value ∙ c.in_ok-twiddles.ensures)
-        ∙ length-map c.args.indices.now twiddle
+    ∙ length-map c.args.indices.now twiddle
 
 pub fold_query_values-requires-clause-nonzero : goal.fold_query_values-requires-clause-nonzero
 fold_query_values-requires-clause-nonzero g c =
@@ -61,8 +61,8 @@ fold_query_values-requires-clause-nonzero g c =
     c.deref-2.ensures.value ∙ c.in_ok-twiddles.ensures in
     subst (All (λ t. t ≢ k.zero)) (sym are)
     (first_layer_twiddles-nonzero g.F.Operations.laws g.met.F.ComplexExtendable.generators_law h
-        high qs c.requires.positive c.requires.within
-        (omega (arith, c.requires.in_group)) c.requires.in_range)
+    high qs c.requires.positive c.requires.within
+    (omega (arith, c.requires.in_group)) c.requires.in_range)
 
 pub fold_query_values-requires-clause-values : goal.fold_query_values-requires-clause-values
 fold_query_values-requires-clause-values g c = ap length c.deref_mut.ensures.value
