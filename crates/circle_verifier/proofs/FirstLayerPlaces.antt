@@ -69,12 +69,12 @@ module _ (p : ℕ → Bool) where
         | false ↦ λ here. place-counts (a + 1) n (suc k) h here
       ] at
 
--- the height of one of some matrices is no less than the low
-pub any-low : {M : Type 0} (f : M → ℕ) (low h : ℕ) (ms : List M) → list_any (λ m. f m == h) ms
+-- the height of one of some matrices is no less than the least
+pub any-least : {M : Type 0} (f : M → ℕ) (low h : ℕ) (ms : List M) → list_any (λ m. f m == h) ms
     ≡ true → All (λ m. low ≤ f m) ms → low ≤ h
-any-low f low h [] some all = absurd (cc)
-any-low f low h (m ∷ ms) some all =
+any-least f low h [] some all = absurd (cc)
+any-least f low h (m ∷ ms) some all =
     elim (f m == h) as (λ b. (f m == h) ≡ b → (b || list_any (λ m. f m == h) ms) ≡ true → low ≤ h) [
       | true ↦ λ e _. omega (arith, eqb-true (f m) h e, All-head (λ m. low ≤ f m) m ms all)
-      | false ↦ λ _ more. any-low f low h ms more (All-tail (λ m. low ≤ f m) m ms all)
+      | false ↦ λ _ more. any-least f low h ms more (All-tail (λ m. low ≤ f m) m ms all)
     ] refl some
