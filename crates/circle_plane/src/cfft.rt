@@ -15,7 +15,7 @@ ghost use Rattle.circle_transform.specs.Butterflies.{count_of};
 
 use circle_domain::{CfftPermutable, CfftView, CircleDomain, LagrangeWeights, lagrange_weights};
 use circle_field::{ComplexExtendable, ExtensionField, Field, Operations};
-use circle_matrix::{FieldMatrix, Matrix, MatrixShape, RowMajorMatrix, log2_strict};
+use circle_matrix::{FieldMatrix, Matrix, MatrixShape, RowMajorMatrix, entry_count, log2_strict};
 use circle_point::Point;
 use circle_transform::{
     Butterflies, backward_groups, backward_passes, backward_twiddles, forward_groups,
@@ -395,8 +395,7 @@ fn repeat<F: Field>(alloc: Global, entries: Vec<F>, count: usize) -> Result<Vec<
     if count == 1 {
         return Ok(entries);
     }
-    let len = entries.len().checked_mul(count).ok_or(AllocError)?;
-    let mut repeated = Vec::with_capacity(alloc, len)?;
+    let mut repeated = Vec::with_capacity(alloc, entry_count(count, entries.len())?)?;
     for _ in 0..count {
         repeated.extend_from_slice(&entries)?;
     }

@@ -13,7 +13,7 @@ ghost use Rattle.circle_words.specs.Lifts.{combined, extended_word, read_rows};
 use crate::values::first_domain;
 use circle_domain::CircleDomain;
 use circle_field::{ComplexExtendable, ExtensionField, Field};
-use circle_matrix::{Matrix, RowMajorMatrix};
+use circle_matrix::{Matrix, RowMajorMatrix, entry_count};
 use circle_plane::CircleEvaluations;
 use circle_relation::OverCircle;
 use std::alloc::{AllocError, Global};
@@ -72,8 +72,7 @@ fn coefficient_rows<F: Field, EF: ExtensionField<F>>(
     ensures width { IfOk result (λ m. width_of m ≡ EF.DEGREE) }
     ensures rows { IfOk result (λ m. rows m ≡ map EF.coefficients word.now) }
 {
-    let len = word.len().checked_mul(EF::DEGREE).ok_or(AllocError)?;
-    let mut values = Vec::with_capacity(alloc, len)?;
+    let mut values = Vec::with_capacity(alloc, entry_count(word.len(), EF::DEGREE)?)?;
     for entry in word {
         push_coefficients(&mut values, *entry)?;
     }

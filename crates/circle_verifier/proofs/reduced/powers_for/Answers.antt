@@ -38,4 +38,4 @@ returns-clause-enough g c =
     (λ b all. All-map (fit n) matrix_claim b.matrices.items
     (All-weaker all_wide (λ m. fit n (matrix_claim m))
     (λ m short. All-map (fits n) point_claim m.points.items (All-weaker wide (λ p. fits n (point_claim p)) (λ p le. omega (arith, le)) m.points.items short))
-    b.matrices.items all)) batches c.width_of_batches-width.ensures)))) c.powers.ensures
+    b.matrices.items all)) batches c.width_of_batches-width.ensures.greatest)))) c.powers.ensures
