@@ -5,7 +5,7 @@ ghost use Rattle.circle_field.specs.Field.{sub};
 ghost use Rattle.circle_point.specs.Point.{coordinates};
 ghost use Rattle.circle_domain.specs.Domain.{log_size, points_of};
 ghost use Rattle.circle_domain.specs.Space.{vanishing_of};
-ghost use Rattle.circle_matrix.specs.DotProduct.{pairwise};
+ghost use Rattle.circle_commit.specs.DotProduct.{pairwise};
 ghost use Rattle.circle_domain.specs.Selectors.{over_zero_at};
 
 use crate::domain::CircleDomain;

@@ -1,7 +1,7 @@
 //! Whether opened rows are those of a commitment.
 ghost use Rattle.std.specs.Prelude.{◌≡◌, ℕ, ◌↔◌, List, map, IsTrue, IfOk, IfErr, OnOk};
 ghost use Rattle.sha2.specs.Sha256.{sha256};
-ghost use Rattle.circle_matrix.specs.Mmcs.{opened_rows};
+ghost use Rattle.circle_commit.specs.Mmcs.{opened_rows};
 ghost use Rattle.circle_merkle.specs.Order.{first_places};
 ghost use Rattle.circle_merkle.specs.Tree.{taken_below};
 ghost use Rattle.circle_merkle.specs.Authentication.{Authenticates};
@@ -13,8 +13,8 @@ use crate::order::{in_order, leave_firsts};
 use crate::positions::climb;
 use crate::root::Opening;
 use crate::well_formed::{agrees, greatest_height, has_indices, has_shape};
+use circle_commit::{Dimensions, log2_strict};
 use circle_field::{ElementBytes, Field};
-use circle_matrix::{Dimensions, log2_strict};
 use std::alloc::{AllocError, Global};
 use std::mem;
 
