@@ -11,7 +11,7 @@ ghost use Rattle.circle_commit.specs.RowMajorMatrix.{rows, width_of, height_of};
 ghost use Rattle.circle_codewords.specs.Lifts.{combined, extended_word, read_rows};
 
 use crate::values::first_domain;
-use circle_commit::{Matrix, RowMajorMatrix};
+use circle_commit::{Matrix, RowMajorMatrix, entry_count};
 use circle_domain::CircleDomain;
 use circle_field::{ComplexExtendable, ExtensionField, Field};
 use circle_plane::CircleEvaluations;
@@ -72,8 +72,7 @@ fn coefficient_rows<F: Field, EF: ExtensionField<F>>(
     ensures width { IfOk result (λ m. width_of m ≡ EF.DEGREE) }
     ensures rows { IfOk result (λ m. rows m ≡ map EF.coefficients word.now) }
 {
-    let len = word.len().checked_mul(EF::DEGREE).ok_or(AllocError)?;
-    let mut values = Vec::with_capacity(alloc, len)?;
+    let mut values = Vec::with_capacity(alloc, entry_count(word.len(), EF::DEGREE)?)?;
     for entry in word {
         push_coefficients(&mut values, *entry)?;
     }

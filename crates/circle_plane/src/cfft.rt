@@ -17,7 +17,7 @@ use circle_cfft::{
     Butterflies, backward_groups, backward_passes, backward_twiddles, forward_groups,
     forward_passes, forward_twiddles,
 };
-use circle_commit::{FieldMatrix, Matrix, MatrixShape, RowMajorMatrix, log2_strict};
+use circle_commit::{FieldMatrix, Matrix, MatrixShape, RowMajorMatrix, entry_count, log2_strict};
 use circle_domain::{CfftPermutable, CfftView, CircleDomain, LagrangeWeights, lagrange_weights};
 use circle_field::{ComplexExtendable, ExtensionField, Field, Operations};
 use circle_point::Point;
@@ -395,8 +395,7 @@ fn repeat<F: Field>(alloc: Global, entries: Vec<F>, count: usize) -> Result<Vec<
     if count == 1 {
         return Ok(entries);
     }
-    let len = entries.len().checked_mul(count).ok_or(AllocError)?;
-    let mut repeated = Vec::with_capacity(alloc, len)?;
+    let mut repeated = Vec::with_capacity(alloc, entry_count(count, entries.len())?)?;
     for _ in 0..count {
         repeated.extend_from_slice(&entries)?;
     }

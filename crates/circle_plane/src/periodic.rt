@@ -21,8 +21,8 @@ ghost use Rattle.circle_plane.specs.declared.periodic.PeriodicError.TheVariants.
 
 use crate::cfft::CircleEvaluations;
 use circle_commit::{
-    PeriodicEvaluator, PeriodicLdeTable, PolynomialSpace, RowMajorMatrix, is_power_of_two,
-    log2_strict,
+    PeriodicEvaluator, PeriodicLdeTable, PolynomialSpace, RowMajorMatrix, entry_count,
+    is_power_of_two, log2_strict,
 };
 use circle_domain::CircleDomain;
 use circle_field::{ComplexExtendable, ExtensionField, Field};
@@ -275,8 +275,7 @@ fn repeated_rows<F: Field>(
     ensures rows { IfOk result (λ made. rows made
         ≡ map (table_row F.ops.zero (columns_of columns.now)) (range_with_len 0 height)) }
 {
-    let len = height.checked_mul(columns.len()).ok_or(AllocError)?;
-    let mut values = Vec::with_capacity(alloc, len)?;
+    let mut values = Vec::with_capacity(alloc, entry_count(height, columns.len())?)?;
     for r in 0..height {
         append_row(&mut values, columns, r)?;
     }

@@ -1,5 +1,5 @@
 //! The first layer: the reduced words of all heights, which are folded by y.
-ghost use Rattle.std.specs.Prelude.{◌≡◌, ◌/◌, ◌^◌, ◌<◌, ◌≤◌, [], Some, length, map, All};
+ghost use Rattle.std.specs.Prelude.{◌≡◌, ◌^◌, ◌<◌, ◌≤◌, [], Some, length, map, All};
 ghost use Rattle.std.specs.Prelude.{OnOk, IfOk, IfErr, slice_get, slice_index_or};
 ghost use Rattle.std.specs.List.{flat_map};
 ghost use Rattle.circle_commit.specs.Mmcs.{opened_rows};
@@ -16,7 +16,8 @@ ghost use Rattle.circle_verifier.specs.FirstLayer.{pair_shape};
 use circle_commit::{Dimensions, FriError, Mmcs, OpenedRows};
 use circle_field::{ComplexExtendable, ExtensionField, batch_multiplicative_inverse};
 use circle_folding::{
-    first_layer_twiddles, fold_query_values_with_inv_twiddles, push_query_pairs, subtract_vanishing,
+    first_layer_twiddles, fold_query_values_with_inv_twiddles, push_query_pairs,
+    subtract_vanishing, without_bits,
 };
 use circle_relation::{InputError, OpenedRun, OverCircle, QueriedWord, QueryValues};
 use std::alloc::{AllocError, Global};
@@ -92,7 +93,7 @@ pub fn authenticate_first_layer<
         InputMmcs.authenticates FriMmcs.authenticates InputMmcs.is_memory FriMmcs.is_memory) }
 {
     let dimensions = pair_shapes(alloc, heights)?;
-    let places = halves(alloc, run.indices)?;
+    let places = without_bits(alloc, run.indices, 1)?;
     let openings = &run.proof.fri_proof.input_openings;
     let shown = run.params.mmcs.verify_multi_batch(
         alloc,
@@ -228,11 +229,4 @@ fn pair_shapes(alloc: Global, heights: &[usize]) -> Result<Vec<Dimensions>, Allo
         })?;
     }
     Ok(shapes)
-}
-
-// The pair of each place.
-fn halves(alloc: Global, indices: &[usize]) -> Result<Vec<usize>, AllocError>
-    ensures { IfOk result (λ places. places.items ≡ map (λ q. q / 2) indices.now) }
-{
-    indices.iter().map(|index| *index >> 1).collect(alloc)
 }

@@ -1,5 +1,5 @@
 //! The sums of the quotients of all claims, for each height at all queries.
-ghost use Rattle.std.specs.Prelude.{◌≡◌, ◌+◌, ◌<◌, ◌≤◌, length, map, zip, All};
+ghost use Rattle.std.specs.Prelude.{◌≡◌, ◌+◌, ◌^◌, ◌<◌, ◌≤◌, length, map, zip, All};
 ghost use Rattle.std.specs.Prelude.{IsNone, IfSome, OnOk, IfOk, IfErr};
 ghost use Rattle.circle_field.specs.Circle.{origin};
 ghost use Rattle.circle_commit.specs.Mmcs.{opened_rows};
@@ -144,9 +144,11 @@ fn add_batches<
     Some(())
 }
 
-// The greatest number of values of a claim: of one matrix, of a batch, of all batches.
+// The greatest number of values of a claim: of one matrix, of a batch, of all batches. A list that
+// is stored has fewer than 2^63 entries.
 fn width_of_matrix<EF: Copy>(claims: &[PointOpening<EF>]) -> usize
-    ensures { All (λ c. length c.values.items ≤ result) claims.now }
+    ensures greatest { All (λ c. length c.values.items ≤ result) claims.now }
+    ensures countable { result < 2 ^ 63 }
 {
     let mut width = 0;
     for claim in claims {
@@ -156,7 +158,9 @@ fn width_of_matrix<EF: Copy>(claims: &[PointOpening<EF>]) -> usize
 }
 
 fn width_of_batch<EF: Copy, Domain>(matrices: &[MatrixOpening<EF, Domain>]) -> usize
-    ensures { All (λ m. All (λ c. length c.values.items ≤ result) m.points.items) matrices.now }
+    ensures greatest { All (λ m. All (λ c. length c.values.items ≤ result) m.points.items)
+        matrices.now }
+    ensures countable { result < 2 ^ 63 }
 {
     let mut width = 0;
     for matrix in matrices {
@@ -166,8 +170,9 @@ fn width_of_batch<EF: Copy, Domain>(matrices: &[MatrixOpening<EF, Domain>]) -> u
 }
 
 fn width_of_batches<EF: Copy, Com, Domain>(batches: &[CommitmentOpening<EF, Com, Domain>]) -> usize
-    ensures { All (λ b. All (λ m. All (λ c. length c.values.items ≤ result) m.points.items)
-        b.matrices.items) batches.now }
+    ensures greatest { All (λ b. All (λ m. All (λ c. length c.values.items ≤ result)
+        m.points.items) b.matrices.items) batches.now }
+    ensures countable { result < 2 ^ 63 }
 {
     let mut width = 0;
     for batch in batches {
@@ -176,8 +181,7 @@ fn width_of_batches<EF: Copy, Com, Domain>(batches: &[CommitmentOpening<EF, Com,
     width
 }
 
-// The powers of the batching challenge, one more than there are values of any claim; where these
-// can't be counted there is no memory for them.
+// The powers of the batching challenge, one more than there are values of any claim.
 fn powers_for<Val: ComplexExtendable, EF: ExtensionField<Val>, Com>(
     alloc: Global,
     alpha: EF,
@@ -188,9 +192,6 @@ fn powers_for<Val: ComplexExtendable, EF: ExtensionField<Val>, Com>(
         < length powers.items) m.claims) (all_matrices (batch_claims batches.now))) }
 {
     let width = width_of_batches(batches);
-    if width == usize::MAX {
-        return Err(AllocError);
-    }
     EF::powers(alloc, alpha, width + 1)
 }
 

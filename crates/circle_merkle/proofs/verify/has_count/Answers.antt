@@ -1,9 +1,21 @@
-use Rattle.std.proofs.Common.{◌≡◌, ◌+◌, ◌-◌, ◌≤◌, ◌∙◌, sym, ap, subst, length, suc, add-one, arith}
+use Rattle.std.proofs.Common.{◌≡◌, ◌+◌, ◌-◌, ◌≤◌, ◌∙◌, sym, ap, subst, length, map, suc, add-one}
+use Rattle.std.proofs.Common.{arith}
+use Rattle.std.proofs.lemmas.List.{map-id}
+use Rattle.std.proofs.lemmas.Simd.{map-map}
+use Rattle.circle_merkle.specs.Order.{place_of}
 use Rattle.circle_merkle.specs.Tree.{known, taken, taken_below}
 use Rattle.circle_merkle.specs.Walk.{parents_of, siblings_of}
 use Rattle.circle_merkle.proofs.Known.{parents-known, siblings-known}
 use Rattle.circle_merkle.proofs.Given.{taken_below-more}
 use Rattle.circle_merkle.proofs.verify.has_count.Goals as goal
+
+pub loop-level-init : goal.loop-level-init
+loop-level-init c = λ indices firsts.
+    let lowest = known indices c.args.levels 0 in (
+      c.in_ok-known.ensures ∙ ap (map (λ first. first.0)) firsts
+          ∙ map-map (λ first. first.0) (λ p. (p, place_of indices 0 p)) lowest ∙ map-id lowest,
+      omega arith,
+    )
 
 pub loop-level-preserved : goal.loop-level-preserved
 loop-level-preserved c = λ indices firsts.

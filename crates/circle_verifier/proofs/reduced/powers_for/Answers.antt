@@ -50,4 +50,4 @@ returns-clause-enough g c =
     (λ m short. All-map (fits n) point_claim m.points.items
     (All-weaker wide (λ p. fits n (point_claim p)) (λ p le. omega (arith, le)) m.points.items
     short))
-    b.matrices.items all)) batches c.width_of_batches-width.ensures)))) c.powers.ensures
+    b.matrices.items all)) batches c.width_of_batches-width.ensures.greatest)))) c.powers.ensures

@@ -13,16 +13,26 @@ loop-matrix-preserved g c =
     m.points.items in
     let a = c.width_of_matrix.result in
     let here : P a c.matrix-item.result =
-    subst (All (fits a)) c.deref.ensures.value c.width_of_matrix.ensures in
-    wider-more P
-    (λ a b m le. All-weaker (fits a) (fits b) (λ p fit. omega (arith, fit, le)) m.points.items)
-    c.args.matrices.now c.loop-matrix.matrix-index c.matrix-item.result a c.loop-matrix.width
-    c.max-width.result
-    (omega (arith, c.max-width.ensures)) (omega (arith, c.max-width.ensures))
-    c.loop-matrix-test.true c.loop-matrix.invariant (subst (P a) c.matrix-item.is here)
+    subst (All (fits a)) c.deref.ensures.value c.width_of_matrix.ensures.greatest in
+    record {
+      greatest = wider-more P
+          (λ a b m le. All-weaker (fits a) (fits b) (λ p fit. omega (arith, fit, le))
+          m.points.items)
+          c.args.matrices.now c.loop-matrix.matrix-index c.matrix-item.result a c.loop-matrix.width
+          c.max-width.result (omega (arith, c.max-width.ensures))
+          (omega (arith, c.max-width.ensures))
+          c.loop-matrix-test.true c.loop-matrix.invariant.greatest
+          (subst (P a) c.matrix-item.is here);
+      countable = omega (
+        arith,
+        c.max-width.ensures,
+        c.width_of_matrix.ensures.countable,
+        c.loop-matrix.invariant.countable,
+      );
+    }
 
-pub returns : goal.returns
-returns g c =
+pub returns-clause-greatest : goal.returns-clause-greatest
+returns-clause-greatest g c =
     subst (All (λ m. All (λ p. length p.values.items ≤ c.loop-matrix.width) m.points.items))
     (take_all c.loop-matrix.matrix-index c.args.matrices.now
-    (omega (arith, c.loop-matrix-test.false))) c.loop-matrix.invariant
+    (omega (arith, c.loop-matrix-test.false))) c.loop-matrix.invariant.greatest

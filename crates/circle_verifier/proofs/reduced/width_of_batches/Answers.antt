@@ -16,20 +16,25 @@ loop-batch-preserved g c =
     (fit w) b.matrices.items in
     let a = c.width_of_batch.result in
     let here : P a c.batch-item.result =
-    subst (All (fit a)) c.deref.ensures.value c.width_of_batch.ensures in
-    wider-more P
-    (λ a b batch le. All-weaker (fit a) (fit b)
-    (λ m. All-weaker (fits a) (fits b) (λ p short. omega (arith, short, le)) m.points.items)
-    batch.matrices.items)
-    c.args.batches.now c.loop-batch.batch-index c.batch-item.result a c.loop-batch.width
-    c.max-width.result
-    (omega (arith, c.max-width.ensures)) (omega (arith, c.max-width.ensures)) c.loop-batch-test.true
-    c.loop-batch.invariant (subst (P a) c.batch-item.is here)
+    subst (All (fit a)) c.deref.ensures.value c.width_of_batch.ensures.greatest in
+    record {
+      greatest = wider-more P (λ a b batch le. All-weaker (fit a) (fit b)
+          (λ m. All-weaker (fits a) (fits b) (λ p short. omega (arith, short, le)) m.points.items)
+          batch.matrices.items) c.args.batches.now c.loop-batch.batch-index c.batch-item.result a
+          c.loop-batch.width c.max-width.result (omega (arith, c.max-width.ensures))
+          (omega (arith, c.max-width.ensures)) c.loop-batch-test.true
+          c.loop-batch.invariant.greatest (subst (P a) c.batch-item.is here);
+      countable = omega (
+        arith,
+        c.max-width.ensures,
+        c.width_of_batch.ensures.countable,
+        c.loop-batch.invariant.countable,
+      );
+    }
 
-pub returns : goal.returns
-returns g c =
-    subst
-    (All (λ b. All (λ m. All (λ p. length p.values.items ≤ c.loop-batch.width) m.points.items)
-    b.matrices.items))
-    (take_all c.loop-batch.batch-index c.args.batches.now (omega (arith, c.loop-batch-test.false)))
-    c.loop-batch.invariant
+pub returns-clause-greatest : goal.returns-clause-greatest
+returns-clause-greatest g c =
+    subst (All (λ b. All (λ m. All (λ p. length p.values.items ≤ c.loop-batch.width)
+    m.points.items) b.matrices.items))
+    (take_all c.loop-batch.batch-index c.args.batches.now
+    (omega (arith, c.loop-batch-test.false))) c.loop-batch.invariant.greatest

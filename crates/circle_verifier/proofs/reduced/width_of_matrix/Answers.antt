@@ -10,13 +10,24 @@ loop-claim-preserved g c =
     let claim = c.claim-item.result in
     let here : length claim.values.items ≤ c.len.result =
     omega (arith, c.len.ensures, claim.values.ok.0) in
-    wider-more P (λ a b p more fit. le_trans fit more) c.args.claims.now c.loop-claim.claim-index
-    claim c.len.result c.loop-claim.width c.max-width.result
-    (omega (arith, c.max-width.ensures)) (omega (arith, c.max-width.ensures)) c.loop-claim-test.true
-    c.loop-claim.invariant (subst (P c.len.result) c.claim-item.is here)
+    record {
+      greatest = wider-more P (λ a b p more fit. le_trans fit more) c.args.claims.now
+          c.loop-claim.claim-index claim c.len.result c.loop-claim.width c.max-width.result
+          (omega (arith, c.max-width.ensures)) (omega (arith, c.max-width.ensures))
+          c.loop-claim-test.true c.loop-claim.invariant.greatest
+          (subst (P c.len.result) c.claim-item.is here);
+      countable = omega (
+        arith,
+        c.max-width.ensures,
+        c.len.ensures,
+        claim.values.ok.1,
+        claim.values.small,
+        c.loop-claim.invariant.countable,
+      );
+    }
 
-pub returns : goal.returns
-returns g c =
+pub returns-clause-greatest : goal.returns-clause-greatest
+returns-clause-greatest g c =
     subst (All (λ p. length p.values.items ≤ c.loop-claim.width))
     (take_all c.loop-claim.claim-index c.args.claims.now c.loop-claim-test.false)
-    c.loop-claim.invariant
+    c.loop-claim.invariant.greatest
