@@ -4,37 +4,50 @@ ghost use Rattle.std.specs.Borrow.{ftrue};
 ghost use Rattle.circle_challenger.specs.Step.{Step};
 
 use crate::domain_separator::DomainSeparator;
-use std::marker::Model;
+use std::marker::{Model, PhantomData};
 
-/// The steps that are still due. It takes no memory, and its methods do nothing when they run.
+/// The steps that are still due, and the challenger as it was left when they were last kept. It
+/// takes no memory, and its methods do nothing when they run.
 #[derive(Drop)]
-pub struct StepsDue {
+pub struct StepsDue<C> {
+    of: PhantomData<C>,
     pub ghost steps: { List Step },
+    pub ghost challenger: { C },
 }
 
-impl Model for StepsDue {
+impl<C> Model for StepsDue<C> {
     ghost also_owns = { λ _. ftrue };
 }
 
-impl StepsDue {
-    /// Any steps: each caller's `Invariants.antt` picks them, by what is known of `_by`.
-    fn picked<T>(_by: &T) -> StepsDue
-        ghost picked: { List Step }
-        ensures { result.steps ≡ picked }
+impl<C> StepsDue<C> {
+    /// Any steps and any challenger: each caller's `Invariants.antt` picks them, by what is known
+    /// of `_by`.
+    fn picked<T>(_by: &T) -> StepsDue<C>
+        ghost picked: { List Step × C }
+        ensures { (result.steps ≡ picked.0) × (result.challenger ≡ picked.1) }
     {
-        StepsDue {}
+        StepsDue { of: PhantomData }
     }
 
-    /// The steps of the separator.
-    pub(crate) fn of(_separator: &DomainSeparator) -> StepsDue
+    /// The steps of the separator, over this challenger.
+    pub(crate) fn of(_separator: &DomainSeparator, _challenger: &C) -> StepsDue<C>
         ensures { result.steps ≡ _separator.now.steps }
     {
-        StepsDue::picked(_separator)
+        StepsDue::picked(&(_separator, _challenger))
     }
 
-    /// The steps, of which none is left here: a list is resumed with once.
-    pub fn take(&mut self) -> StepsDue
+    /// These steps, over this challenger.
+    pub(crate) fn over(&self, _challenger: &C) -> StepsDue<C>
+        ensures steps { result.steps ≡ self.now.steps }
+        ensures challenger { result.challenger ≡ _challenger.now }
+    {
+        StepsDue::picked(&(self, _challenger))
+    }
+
+    /// Takes the steps out, over the same challenger, and leaves none: a list is resumed with once.
+    pub fn take(&mut self) -> StepsDue<C>
         ensures steps { result.steps ≡ self.old.steps }
+        ensures challenger { result.challenger ≡ self.old.challenger }
         ensures left { self.new.steps ≡ [] }
     {
         let left = StepsDue::picked(self);
@@ -42,7 +55,7 @@ impl StepsDue {
     }
 
     /// The steps but the first.
-    pub(crate) fn after_first(&self) -> StepsDue
+    pub(crate) fn after_first(&self) -> StepsDue<C>
         ensures { result.steps ≡ drop 1 self.now.steps }
     {
         StepsDue::picked(self)

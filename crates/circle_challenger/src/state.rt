@@ -29,7 +29,7 @@ use std::marker::PhantomData;
 /// it where it failed; and then `?` on the answer.
 pub struct TranscriptState<'a, C, F, S> {
     challenger: &'a mut C,
-    due: StepsDue,
+    due: StepsDue<C>,
     of: PhantomData<(F, S)>,
 }
 
@@ -55,7 +55,7 @@ impl<'a, F: Field, C: CanSample<F> + GrindingChallenger<F>, S> TranscriptState<'
             (C.state challenger.old) (map (of_nat F.ops) (seed_text separator.now)) }
     {
         separator.seed::<F, C>(challenger);
-        let due = StepsDue::of(separator);
+        let due = StepsDue::of(separator, challenger);
         TranscriptState {
             challenger,
             due,
@@ -63,10 +63,13 @@ impl<'a, F: Field, C: CanSample<F> + GrindingChallenger<F>, S> TranscriptState<'
         }
     }
 
-    /// Goes on with a transcript that was paused, with these steps due. So a caller's own type can
-    /// keep the challenger and the steps that are due, and have the transcript at hand while it
-    /// plays some: it takes the steps out, which `pause` gives back.
-    pub fn resume(challenger: &'a mut C, kept: StepsDue) -> Self
+    /// Resumes a transcript that was paused. So a caller's own type can keep the challenger and the
+    /// steps that are due, and have the transcript at hand while it plays some: it takes the steps
+    /// out, and `pause` returns those that are left.
+    ///
+    /// Requires that the challenger is as `pause` left it: the steps go on over no other.
+    pub fn resume(challenger: &'a mut C, kept: StepsDue<C>) -> Self
+        requires paused { challenger.old ≡ kept.challenger }
         ensures same_reference { Borrows result challenger.entry }
         ensures due { due result ≡ kept.steps }
         ensures challenger { current result ≡ challenger.old }
@@ -78,17 +81,24 @@ impl<'a, F: Field, C: CanSample<F> + GrindingChallenger<F>, S> TranscriptState<'
         }
     }
 
-    /// Pauses the transcript: gives the challenger back, and the steps that are still due.
-    pub fn pause(self) -> StepsDue
+    /// Pauses the transcript: gives the challenger back, and returns the steps that are still due,
+    /// over the challenger as it is now.
+    pub fn pause(self) -> StepsDue<C>
         ensures due { result.steps ≡ due self.entry }
+        ensures kept { result.challenger ≡ current self.entry }
         ensures challenger { self.exit.0.now ≡ current self.entry }
     {
-        let TranscriptState {
-            challenger: _,
-            due: steps,
-            of: _,
-        } = self;
-        steps
+        let kept = self.kept();
+        self.abort();
+        kept
+    }
+
+    /// The steps that are still due, over the challenger as it is now.
+    fn kept(&self) -> StepsDue<C>
+        ensures due { result.steps ≡ due self.now }
+        ensures challenger { result.challenger ≡ current self.now }
+    {
+        self.due.over(self.challenger)
     }
 
     /// Takes in one element of the extension, its coefficients in order.

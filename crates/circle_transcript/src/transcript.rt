@@ -2,6 +2,7 @@
 ghost use Rattle.std.specs.Prelude.{◌≡◌, ◌<◌, ◌≤◌, ◌^◌, ◌↔◌, ◌⊎◌, [], length, map, IsTrue, false};
 ghost use Rattle.std.specs.Prelude.{IsNone, IfOk, IfErr, OnOk, OnErr, Err, Some, All};
 ghost use Rattle.std.specs.Borrow.{sem, RestsIfErr};
+ghost use Rattle.std.specs.Coded.{Coded-set};
 ghost use Rattle.circle_field.specs.Field.{of_nat};
 ghost use Rattle.circle_challenger.specs.Due.{AreNext, HasPlayed};
 ghost use Rattle.circle_challenger.specs.Moves.{or_zero};
@@ -53,8 +54,8 @@ struct Numbers {
 
 /// What a run begins with once its challenger is seeded: the steps that are due, and the numbers
 /// that its calls read.
-pub struct Seeded {
-    due: StepsDue,
+pub struct Seeded<C> {
+    due: StepsDue<C>,
     shape: Numbers,
 }
 
@@ -67,9 +68,10 @@ pub struct Seeded {
 /// then `?` on the answer, as `verifier_run` and `prover_run` do.
 pub struct CircleTranscript<'a, C, F, EF, S> {
     challenger: &'a mut C,
-    due: StepsDue,
+    due: StepsDue<C>,
     shape: Numbers,
     of: PhantomData<(F, EF, S)>,
+    ghost paused: { challenger.now ≡ due.challenger } by { Coded-set C.code _ _ },
 }
 
 /// The transcript as the prover plays it.
@@ -111,7 +113,10 @@ impl<
 
     /// The transcript of a challenger that was [`seeded`](CircleTranscript::seeded) with this run:
     /// the second half of `new`.
-    pub fn of_seeded(challenger: &'a mut C, seeded: Seeded) -> Self
+    ///
+    /// Requires that the challenger is as `seeded` left it: a run begins over no other.
+    pub fn of_seeded(challenger: &'a mut C, seeded: Seeded<C>) -> Self
+        requires paused { challenger.old ≡ seeded.due.challenger }
         ensures same_reference { Borrows result challenger.entry }
         ensures same { current result ≡ challenger.old }
         ensures due { due result ≡ seeded.due.steps }
@@ -135,13 +140,14 @@ impl<
         alloc: Global,
         challenger: &mut C,
         shape: CirclePcsShape,
-    ) -> Result<Seeded, AllocError>
+    ) -> Result<Seeded<C>, AllocError>
         requires final_poly { shape.log_final_poly_len ≤ 63 }
         ensures refused { OnErr result (challenger.new ≡ challenger.old) }
         ensures due { IfOk result (λ s. s.due.steps ≡ steps_of EF.DEGREE (shape_of shape)) }
         ensures shape { IfOk result (λ s. s.shape ≡ numbers_of (shape_of shape)) }
         ensures state { OnOk result (C.state challenger.new ≡ after_all C.after_observe
             (C.state challenger.old) (map (of_nat F.ops) (text_of EF.DEGREE (shape_of shape)))) }
+        ensures kept { IfOk result (λ s. challenger.new ≡ s.due.challenger) }
     {
         let separator = shape.domain_separator::<F, EF>(alloc)?;
         Ok(Seeded {

@@ -1,5 +1,6 @@
 //! A transcript within a type of a caller's own, which pauses it between its calls.
 ghost use Rattle.std.specs.Prelude.{◌≡◌, [], ◌∷◌, Some, drop, slice_get, map};
+ghost use Rattle.std.specs.Coded.{Coded-set};
 ghost use Rattle.circle_field.specs.Field.{of_nat};
 ghost use Rattle.circle_challenger.specs.Observing.{after_all};
 ghost use Rattle.circle_challenger.specs.Sampling.{samples, after_samples};
@@ -13,9 +14,10 @@ use std::marker::PhantomData;
 /// A transcript that counts its draws.
 pub struct Counted<'a, C, F> {
     challenger: &'a mut C,
-    due: StepsDue,
+    due: StepsDue<C>,
     drawn: u64,
     of: PhantomData<F>,
+    ghost paused: { challenger.now ≡ due.challenger } by { Coded-set C.code _ _ },
 }
 
 impl<'a, F: Field, C: CanSample<F> + GrindingChallenger<F>> Counted<'a, C, F> {

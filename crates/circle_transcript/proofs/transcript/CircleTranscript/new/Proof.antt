@@ -200,13 +200,15 @@ module _ (R : Rows) (w : Says R) {M : Type 1} {𝓤 : Ura M} (𝓛 : Logic 𝓤)
         λ _ r e. sep 𝓤 (fact 𝓤 (OnErr r (e.1.0.now ≡ a.1.0.now)))
         (sep 𝓤 (fact 𝓤 (IfOk r (λ s. s.due.steps ≡ w.steps a.1.1.0)))
         (sep 𝓤 (fact 𝓤 (IfOk r (λ s. s.shape ≡ w.numbers a.1.1.0)))
-        (fact 𝓤 (OnOk r (w.state e.1.0.now ≡ w.after a.1.0.now a.1.1.0)))));
+        (sep 𝓤 (fact 𝓤 (OnOk r (w.state e.1.0.now ≡ w.after a.1.0.now a.1.1.0)))
+        (fact 𝓤 (IfOk r (λ s. e.1.0.now ≡ s.due.challenger))))));
   }
 
   abbrev makes : Clauses 𝓤 (making R)
   makes κs a = record {
     ghost = Unit {0};
-    requires = λ _. Asked κs.1.0 κs.1.1.0 κs.1.1.1.0 κs.1.1.1.1.0 κs.1.1.1.1.1.0 (emp 𝓤);
+    requires = λ _. Asked κs.1.0 κs.1.1.0 κs.1.1.1.0 κs.1.1.1.1.0 κs.1.1.1.1.1.0
+        (fact 𝓤 (a.0.now ≡ a.1.0.due.challenger));
     ensures =
         λ _ t _. sep 𝓤 (fact 𝓤 (Borrows t a.0))
         (sep 𝓤 (fact 𝓤 (t.challenger.now ≡ a.0.now))
@@ -289,11 +291,12 @@ module _ (R : Rows) (w : Says R) {M : Type 1} {𝓤 : Ura M} (𝓛 : Logic 𝓤)
           group ! 8 $ join ! $ done !
 
       abbrev Out : RattleType
-      Out = Result.the_row Seeded.the_row Refused.the_row
+      Out = Result.the_row (Seeded.the_row (C-row R)) Refused.the_row
 
       abbrev Told : Out.Denot → R.C.Denot → Type 0
       Told r n = OnErr r (n ≡ c) × IfOk r (λ s. s.due.steps ≡ w.steps d)
           × IfOk r (λ s. s.shape ≡ w.numbers d) × OnOk r (w.state n ≡ w.after c d)
+          × IfOk r (λ s. n ≡ s.due.challenger)
 
       abbrev Gave : Val → Out.Denot × R.C.Denot → Item 𝓤
       Gave v a =
@@ -319,13 +322,15 @@ module _ (R : Rows) (w : Says R) {M : Type 1} {𝓤 : Ura M} (𝓛 : Logic 𝓤)
           (lasts (seeding R) at_seeds.0.0 at_seeds.0.3 ws)
           ⊛ given (OnErr r (ws.1.0 ≡ c)) (‵ ftrue) ⊛ given (IfOk r (λ s. s.due.steps ≡ w.steps d))
           (‵ ftrue) ⊛ given (IfOk r (λ s. s.shape ≡ w.numbers d)) (‵ ftrue) ⊛ given
-          (OnOk r (w.state ws.1.0 ≡ w.after c d)) (‵ ftrue))))) (id⊢ 𝓤 _) $
+          (OnOk r (w.state ws.1.0 ≡ w.after c d)) (‵ ftrue)
+          ⊛ given (IfOk r (λ s. ws.1.0 ≡ s.due.challenger)) (‵ ftrue))))) (id⊢ 𝓤 _) $
           await ! tt $ pick !
           (λ r. split ! $ move ! (1 ∷ []) $ pick !
           (λ ws. split ! $ fsplit ! $ drop ! $ fsplit ! $ fsplit ! $ move ! (3 ∷ []) $
           split ! $ learn !
           (λ k₁. drop ! $ split ! $ learn !
-          (λ k₂. drop ! $ split ! $ learn ! (λ k₃. drop ! $ learn ! (λ k₄. drop ! $
+          (λ k₂. drop ! $ split ! $ learn ! (λ k₃. drop ! $ split ! $ learn ! (λ k₄. drop ! $
+          learn ! (λ k₅. drop ! $
           move ! (3 ∷ []) $ split ! $ split3 ! $ move ! (2 ∷ []) $ split3 ! $ move ! (2 ∷ []) $
           split3 ! $ move ! (2 ∷ []) $ split ! $
           -- [the tokens of State, none, C, S, F, EF, and the two others of κ; the answer; the last
@@ -333,11 +338,11 @@ module _ (R : Rows) (w : Says R) {M : Type 1} {𝓤 : Ura M} (𝓛 : Logic 𝓤)
           move ! (7 ∷ 2 ∷ []) $ use2 𝓛 (‵ (flft κ (Share.right q))) (𝓛.lfts.lft_join
           κ (Share.right q)) $ move ! (6 ∷ 0 ∷ []) $ use2 𝓛 (‵ (flft κ q)) (𝓛.lfts.lft_join κ q)
           $
-          at_once ! $ show ! (λ a. mean 𝓛 (Gave v a)) (r, ws.1.0) $ check ! (k₁, k₂, k₃, k₄) $ keep
-          ! (0 ∷ 7 ∷ 4 ∷ 5 ∷ 3 ∷ 1 ∷ 6 ∷ []) $ done !))))))
+          at_once ! $ show ! (λ a. mean 𝓛 (Gave v a)) (r, ws.1.0) $ check ! (k₁, k₂, k₃, k₄, k₅) $
+          keep ! (0 ∷ 7 ∷ 4 ∷ 5 ∷ 3 ∷ 1 ∷ 6 ∷ []) $ done !)))))))
 
     -- ---- the call of `of_seeded`, which takes the reference
-    module _ (n : R.C.Denot) (x : (Seeded.the_row).Denot) (u : Val) where
+    module _ (n : R.C.Denot) (x : (Seeded.the_row (C-row R)).Denot) (u : Val) where
       abbrev at_makes : Making.Ghost
       at_makes = (
         (
@@ -350,14 +355,18 @@ module _ (R : Rows) (w : Says R) {M : Type 1} {𝓤 : Ura M} (𝓛 : Logic 𝓤)
         tt,
       )
 
-      makes_goes : ent 𝓤
-          (⋆ 𝓛 (Tokens ∷ ‵ (lent κs.0 p γ n) ∷ ‵ ((Seeded.the_row).own_val x (u ∷ [])) ∷ []))
-          (Making.pre at_makes)
-      makes_goes =
-          qed 𝓛 (Tokens ∷ ‵ (lent κs.0 p γ n) ∷ ‵ ((Seeded.the_row).own_val x (u ∷ [])) ∷ []) ∵
-          use0 𝓛 (raw (Asked κs.1.0 κs.1.1.0 κs.1.1.1.0 κs.1.1.1.1.0 κs.1.1.1.1.1.0 (emp 𝓤)))
-          (asked κs.1.0 κs.1.1.0 κs.1.1.1.0 κs.1.1.1.1.0 κs.1.1.1.1.1.0 (emp 𝓤) iF iE iC iS iT
-          (id⊢ 𝓤 (emp 𝓤))) $
+      abbrev Given : List (Item 𝓤)
+      Given = Tokens ∷ ‵ (lent κs.0 p γ n) ∷ ‵ ((Seeded.the_row (C-row R)).own_val x (u ∷ [])) ∷ []
+
+      abbrev same : SProp 𝓤
+      same = fact 𝓤 (n ≡ x.due.challenger)
+
+      makes_goes : n ≡ x.due.challenger → ent 𝓤 (⋆ 𝓛 Given) (Making.pre at_makes)
+      makes_goes paused =
+          qed 𝓛 Given ∵ use0 𝓛
+          (raw (Asked κs.1.0 κs.1.1.0 κs.1.1.1.0 κs.1.1.1.1.0 κs.1.1.1.1.1.0 same))
+          (asked κs.1.0 κs.1.1.0 κs.1.1.1.0 κs.1.1.1.1.0 κs.1.1.1.1.1.0 same iF iE iC iS iT
+          (fact_i 𝓤 _ (emp 𝓤) paused)) $
           nothing ! $ move ! (3 ∷ 4 ∷ 0 ∷ []) $ group ! 3 $ move ! (2 ∷ 0 ∷ []) $ join ! $ done !
 
       abbrev Formed : Val → (Made R κs).Denot → Item 𝓤
@@ -502,12 +511,12 @@ module _ (R : Rows) (w : Says R) {M : Type 1} {𝓤 : Ura M} (𝓛 : Logic 𝓤)
           (comes_back 𝓛 (C-row R) (named 0) κs.0 κ qs.0 γ p.0 p.1 δ c r.1) $ await ! tt $ split
           ! $
           -- [the reference; the tokens of it, C, S, State; the answer; the tokens of F, EF]
-          move ! (5 ∷ []) $ by_result ! Seeded.the_row Refused.the_row SeededLaws.the_row_laws
-          RefusedLaws.the_row_laws r.0 v
+          move ! (5 ∷ []) $ by_result ! (Seeded.the_row (C-row R)) Refused.the_row
+          (SeededLaws.the_row_laws (C-row R) (param_laws 2 R.C LC)) RefusedLaws.the_row_laws r.0 v
           (λ x u is e fits.
-          lands_as ! e refl (first_Good (layout Seeded.the_row) u fits) $ first ! $ switches_on !
-          (get_tag ! (vrt ! refl (fld ! refl (stop !))) (whole !)) $ exec ! 𝓣.C 𝓣.Λ En
-          (arm_body 0 (match R ds)) Then $
+          lands_as ! e refl (first_Good (layout (Seeded.the_row (C-row R))) u fits) $ first ! $
+          switches_on ! (get_tag ! (vrt ! refl (fld ! refl (stop !))) (whole !)) $ exec ! 𝓣.C
+          𝓣.Λ En (arm_body 0 (match R ds)) Then $
           sets !
           (of_opd !
           (get_in ! (vrt ! refl (fld ! refl (stop !))) (in_variant ! 0 0 refl refl (whole !))))
@@ -515,7 +524,8 @@ module _ (R : Rows) (w : Says R) {M : Type 1} {𝓤 : Ura M} (𝓛 : Logic 𝓤)
           sets ! (addr ! (through ! refl (stop !))) refl (tt, tt) $ sets ! (of_opd ! (get ! refl))
           refl fits $
           nothing ! $ move ! (3 ∷ 7 ∷ 8 ∷ 4 ∷ 5 ∷ 6 ∷ 0 ∷ []) $ group ! 7 $ move ! (0 ∷ 2 ∷ 1 ∷ [])
-          $ group ! 3 $ use1 𝓛 (raw (Making.pre (at_makes r.1 x u))) (makes_goes r.1 x u) $
+          $ group ! 3 $ use1 𝓛 (raw (Making.pre (at_makes r.1 x u)))
+          (makes_goes r.1 x u (subst (λ z. IfOk z (λ s. r.1 ≡ s.due.challenger)) is told.4)) $
           calls_at ! (fm_of 𝓤 H 𝓛.laws 𝓣) Making makes-met (at_makes r.1 x u)
           (and_then ! (get ! refl) (and_then ! (get ! refl) (no_more !))) (λ v'.
           use1 𝓛 (later (some (Formed r.1 x u v'))) (makes_gives r.1 x u v') $ await ! tt $ pick !
