@@ -12,14 +12,6 @@ ghost use Rattle.circle_commit.specs.declared.params.PowPhase.TheVariants.{Query
 ghost use Rattle.circle_transcript.specs.Shape.{steps_of, text_of, first_layer_steps, round_steps};
 ghost use Rattle.circle_transcript.specs.ShapeOf.{shape_of};
 ghost use Rattle.circle_transcript.specs.Numbers.{numbers_of, indices_steps};
-ghost use Rattle.circle_transcript.specs.Transcript.{current, due, IsSame, Borrows, no_witness};
-ghost use Rattle.circle_transcript.specs.Transcript.{bad_witness, steps_of_batch, at_batch_pow};
-ghost use Rattle.circle_transcript.specs.Transcript.{batch_passes, batch_found, batch_challenge};
-ghost use Rattle.circle_transcript.specs.Transcript.{after_batch, commit_found, query_found};
-ghost use Rattle.circle_transcript.specs.Transcript.{at_commitment, first_layer_challenge};
-ghost use Rattle.circle_transcript.specs.Transcript.{after_first_layer, commit_passes};
-ghost use Rattle.circle_transcript.specs.Transcript.{commit_challenge, after_commit, at_query_pow};
-ghost use Rattle.circle_transcript.specs.Transcript.{query_passes, query_indices, after_query};
 ghost use Rattle.circle_transcript.specs.declared.failure.CircleTranscriptFailure.TheVariants.{Memory};
 
 use crate::failure::CircleTranscriptFailure;
@@ -87,6 +79,9 @@ impl<
     C: CanSample<F> + GrindingChallenger<F>,
     S,
 > CircleTranscript<'a, C, F, EF, S> {
+    ghost use Rattle.circle_transcript.specs.Transcript.{current, due, IsSame, Borrows};
+    ghost use Rattle.circle_transcript.specs.Transcript.{first_layer_challenge, after_first_layer};
+
     /// Begins the transcript of a run of this shape: the challenger takes in the seed's text. Where
     /// memory is refused it is left as it was.
     ///
@@ -215,6 +210,15 @@ impl<'a, F: Field, EF: ExtensionField<F>, C: CanSample<F> + GrindingChallenger<F
     EF,
     ProverSide,
 > {
+    ghost use Rattle.circle_transcript.specs.Transcript.{current, due, IsSame, no_witness};
+    ghost use Rattle.circle_transcript.specs.Transcript.{steps_of_batch, at_batch_pow};
+    ghost use Rattle.circle_transcript.specs.Transcript.{batch_passes, batch_found};
+    ghost use Rattle.circle_transcript.specs.Transcript.{batch_challenge, after_batch};
+    ghost use Rattle.circle_transcript.specs.Transcript.{commit_found, query_found, at_commitment};
+    ghost use Rattle.circle_transcript.specs.Transcript.{commit_passes, commit_challenge};
+    ghost use Rattle.circle_transcript.specs.Transcript.{after_commit, at_query_pow, query_passes};
+    ghost use Rattle.circle_transcript.specs.Transcript.{query_indices, after_query};
+
     /// Takes in the claims, by batch, matrix and point, looks for a witness where the proof of work
     /// has a difficulty, and draws the challenge that batches the claims. Fails with `NoWitness`
     /// exactly where no witness passes, and then only `abort` may follow.
@@ -367,6 +371,13 @@ impl<'a, F: Field, EF: ExtensionField<F>, C: CanSample<F> + GrindingChallenger<F
     EF,
     VerifierSide,
 > {
+    ghost use Rattle.circle_transcript.specs.Transcript.{current, due, IsSame, bad_witness};
+    ghost use Rattle.circle_transcript.specs.Transcript.{steps_of_batch, batch_passes};
+    ghost use Rattle.circle_transcript.specs.Transcript.{batch_challenge, after_batch};
+    ghost use Rattle.circle_transcript.specs.Transcript.{commit_passes, commit_challenge};
+    ghost use Rattle.circle_transcript.specs.Transcript.{after_commit, query_passes, query_indices};
+    ghost use Rattle.circle_transcript.specs.Transcript.{after_query};
+
     /// Takes in the claims, by batch, matrix and point, checks the witness where the proof of work
     /// has a difficulty, and draws the challenge that batches the claims. Fails with `PowWitness`
     /// exactly where the witness doesn't pass, and then only `abort` may follow.
