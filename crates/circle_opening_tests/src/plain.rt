@@ -9,7 +9,7 @@ use circle_commit::{
 use circle_field::{Cubic, ExtensionField, Field, Mersenne31};
 use circle_json::JsonForm;
 use circle_presets::{ChallengeMmcs, Proof, Scheme};
-use circle_statements::batches::{Batch, Size, one, scattered_batches};
+use circle_statements::batches::{Batch, Size, one, scattered_batches, two_columns};
 use circle_statements::openings::{claims_of, open, verify};
 use circle_statements::parameters::{Numbers, SMALL, scheme};
 use p3_circle::{CircleFriProof, CirclePcsProof, CirclePcsShape};
@@ -562,6 +562,16 @@ fn an_opening_by_the_plain_definitions(rt: HostRuntime) -> Result<(), Fail> {
         assert_plain(&rt, rt.alloc(), numbers, sizes)?;
     }
     Ok(())
+}
+
+#[test]
+fn two_columns_by_the_plain_definitions(rt: HostRuntime) -> Result<(), Fail> {
+    let scheme = scheme(Numbers {
+        num_queries: 40,
+        ..SMALL
+    });
+    let batches = [two_columns(rt.alloc(), &scheme)?];
+    assert_opened(&rt, rt.alloc(), &scheme, &batches)
 }
 
 #[test]
