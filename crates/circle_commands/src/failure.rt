@@ -3,7 +3,7 @@ ghost use Rattle.std.specs.Prelude.{◌≡◌};
 ghost use Rattle.circle_commands.specs.Failure.{status_of};
 
 use crate::{prove, shape, values, verify};
-use circle_commit::JsonError;
+use circle_json::JsonError;
 use serde_json::Error as TextError;
 use std::alloc::AllocError;
 use std::io;

@@ -5,8 +5,8 @@ ghost use Rattle.circle_commands.specs.Json.{HasItems, IsMissing, IsNoArray};
 ghost use Rattle.circle_commands.specs.Json.{IsNoPair, IsPair, IsPart};
 
 use crate::failure::Failure;
-use circle_commit::{JsonError, JsonForm};
 use circle_field::Mersenne31;
+use circle_json::{JsonError, JsonForm};
 use serde_json::Value;
 use std::alloc::{AllocError, Global};
 use std::io::Read;

@@ -4,11 +4,11 @@ ghost use Rattle.std.specs.Prelude.{◌≡◌, ◌⊎◌, ◌+◌, ◌^◌, ◌<
 ghost use Rattle.std.specs.Prelude.{IfOk, IsTrue, MatchResult, OnOk, false};
 ghost use Rattle.std.specs.List.{AllZip};
 ghost use Rattle.circle_challenger.specs.Sha256Challenger.{state_of};
-ghost use Rattle.circle_matrix.specs.DotProduct.{pairwise};
-ghost use Rattle.circle_matrix.specs.Matrix.{IsPowerOfTwo};
-ghost use Rattle.circle_matrix.specs.Pcs.{openings};
+ghost use Rattle.circle_commit.specs.DotProduct.{pairwise};
+ghost use Rattle.circle_commit.specs.Matrix.{IsPowerOfTwo};
+ghost use Rattle.circle_commit.specs.Pcs.{openings};
 ghost use Rattle.circle_json.specs.ObjectForm.{object_form};
-ghost use Rattle.circle_words.specs.Requests.{lists_of};
+ghost use Rattle.circle_codewords.specs.Requests.{lists_of};
 ghost use Rattle.circle_relation.specs.declared.error.ProverError.TheVariants.{Memory};
 ghost use Rattle.circle_commands.specs.Prove.{input_fields, trace_fields};
 ghost use Rattle.circle_commands.specs.Proved.{AreCommitted, ArePlaced, HavePoints, IsCommitted};
@@ -27,15 +27,14 @@ use crate::values::{is_rectangular, matrix};
 use crate::{json, verify};
 use circle_challenger::CanObserve;
 use circle_commit::{
-    FriParameters, JsonError, JsonForm, Mmcs, OpenedValues, OpeningRequest, RowMajorMatrix,
-    is_power_of_two, log2_strict,
+    FriParameters, Mmcs, OpenedValues, OpeningRequest, RowMajorMatrix, is_power_of_two, log2_strict,
 };
 use circle_field::{Cubic, Mersenne31};
-use circle_json::{has_keys, member};
-use circle_opening::OpeningOver;
+use circle_json::{JsonError, JsonForm, has_keys, member};
 use circle_presets::{
     Challenge, ChallengeMmcs, Challenger, ClaimOn, ProverData, Request, Scheme, Val, ValMmcs,
 };
+use circle_prover::OpeningOver;
 use p3_circle::{CircleDomain, CommittedBatch, ProverError, claims_of};
 use serde_json::{Value, json};
 use std::alloc::{AllocError, Global};

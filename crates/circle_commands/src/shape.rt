@@ -7,9 +7,9 @@ ghost use Rattle.circle_commands.specs.Shape.{input_fields, shape_of_input, HasR
 
 use crate::failure::Failure;
 use crate::json;
-use circle_commit::{FriParameters, JsonError};
+use circle_commit::FriParameters;
 use circle_field::{Cubic, Mersenne31};
-use circle_json::{has_keys, member};
+use circle_json::{JsonError, has_keys, member};
 use circle_transcript::CirclePcsShape;
 use serde_json::{Value, json};
 use std::alloc::{AllocError, Global};

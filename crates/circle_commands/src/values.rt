@@ -3,16 +3,16 @@ ghost use Rattle.std.specs.Prelude.{◌≡◌, ◌<◌, ◌↔◌, length, All, 
 ghost use Rattle.std.specs.Prelude.{vec_len};
 ghost use Rattle.circle_field.specs.Circle.{IsOnCircle, at};
 ghost use Rattle.circle_field.specs.Mersenne31.{operations};
-ghost use Rattle.circle_matrix.specs.RowMajorMatrix.{rows as matrix_rows, width_of, height_of};
+ghost use Rattle.circle_commit.specs.RowMajorMatrix.{rows as matrix_rows, width_of, height_of};
 ghost use Rattle.circle_commands.specs.Rows.{lists, IsRectangular, row_length};
 ghost use Rattle.circle_commands.specs.Input.{HasFittingHeight, HasFittingSize, HasPoint};
 ghost use Rattle.circle_commands.specs.Input.{HasRectangle, IsFittingHeight, values_of};
 
 use crate::failure::Failure;
 use crate::json;
-use circle_commit::{JsonError, JsonForm, Matrix, RowMajorMatrix, is_power_of_two};
+use circle_commit::{Matrix, RowMajorMatrix, is_power_of_two};
 use circle_field::{Field, Mersenne31};
-use circle_json::{has_keys, member};
+use circle_json::{JsonError, JsonForm, has_keys, member};
 use circle_plane::{CfftView, CircleDomain, CircleEvaluations, Point};
 use serde_json::{Value, json};
 use std::alloc::{AllocError, Global};
