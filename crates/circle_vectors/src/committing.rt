@@ -259,7 +259,8 @@ fn evaluations_on_domains(rt: HostRuntime) -> Result<(), Fail> {
         (Domain::standard(4), SIXTEEN),
         (Domain::new(2, Point::generator(4)), FOUR_OF_EIGHT),
     ];
-    assert_on_domains(&rt, rt.alloc(), FOUR, &cases)
+    assert_on_domains(&rt, rt.alloc(), FOUR, &cases)?;
+    assert_on_domains(&rt, rt.alloc(), &[7; 4], &[(Domain::standard(3), &[7; 8])])
 }
 
 // The columns of these entries.

@@ -14,7 +14,7 @@ use test_schemes::schemes::ListMmcs;
 
 mod zeros;
 
-use zeros::{EIGHT, FOUR, Size, Zeros, prove};
+use zeros::{EIGHT, FOUR, Size, Zeros, claim, prove};
 
 type Answer<I, W> = Result<
     (),
@@ -118,6 +118,87 @@ fn zeros_over_any_scheme(rt: HostRuntime) -> Result<(), Fail> {
     let accepts_honest = accepts_as_any(alloc, honest(alloc, FOUR)?)?;
     let accepts_other = accepts_as_any(alloc, with_another_polynomial(alloc)?)?;
     assert!(rt; accepts_honest && !accepts_other);
+    Ok(())
+}
+
+/// What is changed of four zeros and their proof.
+#[derive(Clone, Copy, Debug)]
+enum Change {
+    /// The lambda is one.
+    Lambda,
+    /// The final polynomial is one.
+    FinalPolynomial,
+    /// The round has no opening.
+    NoOpening,
+    /// Two rows are claimed beside them.
+    TwoRows,
+}
+
+const CHANGES: [Change; 4] = [
+    Change::Lambda,
+    Change::FinalPolynomial,
+    Change::NoOpening,
+    Change::TwoRows,
+];
+
+// Makes a change.
+fn apply<I: Mmcs<Mersenne31>, W: Mmcs<Cubic>>(
+    alloc: Global,
+    zeros: &mut Zeros<I, W>,
+    change: Change,
+) -> Result<(), Fail> {
+    let proof = &mut zeros.proof;
+    match change {
+        Change::Lambda => proof.lambdas = one(alloc, Cubic::ONE)?,
+        Change::FinalPolynomial => proof.fri_proof.final_poly = one(alloc, Cubic::ONE)?,
+        Change::NoOpening => proof.fri_proof.commit_phase_openings = Vec::new(alloc),
+        Change::TwoRows => {
+            let batch = zeros.claims.get_mut(0).ok_or("no claims")?;
+            batch.matrices.push(claim(alloc, 1, Cubic::ZERO)?)?;
+        }
+    }
+    Ok(())
+}
+
+// Asserts that four zeros over these schemes with a change are refused: where the round has no
+// opening with the numbers of openings, and before the challenger is seeded.
+fn assert_refused<I, W>(
+    rt: &impl Abort,
+    alloc: Global,
+    schemes: (I, W),
+    change: Change,
+) -> Result<(), Fail>
+where
+    I: Mmcs<Mersenne31> + Drop,
+    W: Mmcs<Cubic> + Drop,
+    Sha256Challenger: CanObserve<W::Commitment>,
+{
+    let (poly, mut prover) = (zero_poly(alloc, FOUR)?, Sha256Challenger::new());
+    let mut zeros = prove(alloc, schemes, FOUR, poly, &mut prover)?;
+    apply(alloc, &mut zeros, change)?;
+    let mut verifier = Sha256Challenger::new();
+    let answer = verify(alloc, zeros, &mut verifier);
+    assert!(rt; answer.is_err(), "{change:?}");
+    let is_of_openings = matches!(
+        answer,
+        Err(FriError::CommitPhaseOpeningsCountMismatch {
+            expected: 1,
+            got: 0
+        })
+    );
+    let is_unseeded = verifier == Sha256Challenger::new();
+    let due = matches!(change, Change::NoOpening);
+    assert!(rt; is_of_openings == due && is_unseeded == due, "{change:?}");
+    Ok(())
+}
+
+#[test]
+fn changed_zeros_are_refused(rt: HostRuntime) -> Result<(), Fail> {
+    for change in CHANGES {
+        let trees = (ValMmcs::new(), ChallengeMmcs::new());
+        assert_refused(&rt, rt.alloc(), trees, change)?;
+        assert_refused(&rt, rt.alloc(), (ListMmcs, ListMmcs), change)?;
+    }
     Ok(())
 }
 

@@ -137,6 +137,25 @@ pub fn sevens(alloc: Global, scheme: &Scheme) -> Result<Batch, Fail> {
     )
 }
 
+// Columns of four and of sixteen rows on their standard domains, of which row `i` holds `i`.
+fn counting_columns(alloc: Global) -> Result<Vec<(Domain, Rows)>, Fail> {
+    const ROWS: [u64; 16] = [0, 1, 2, 3, 4, 5, 6, 7, 8, 9, 10, 11, 12, 13, 14, 15];
+    let mut evaluations = Vec::new(alloc);
+    evaluations.push((Domain::standard(2), rows(alloc, &ROWS[..4], 1)?))?;
+    evaluations.push((Domain::standard(4), rows(alloc, &ROWS, 1)?))?;
+    Ok(evaluations)
+}
+
+/// Columns of four and of sixteen rows, of which row `i` holds `i`, in one batch over standard
+/// domains, each opened at `[0, 1, 0]` and `[0, 0, 1]`.
+pub fn two_columns(alloc: Global, scheme: &Scheme) -> Result<Batch, Fail> {
+    let at = [cubic([0, 1, 0]), cubic([0, 0, 1])];
+    let mut points = Vec::new(alloc);
+    points.push(Vec::from_slice(alloc, &at)?)?;
+    points.push(Vec::from_slice(alloc, &at)?)?;
+    commit(alloc, scheme, counting_columns(alloc)?, points)
+}
+
 /// A matrix without a pattern: the binary logarithm of its height, its width, and the number of
 /// points that it is opened at.
 pub type Size = (usize, usize, u64);

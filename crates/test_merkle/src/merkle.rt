@@ -252,10 +252,11 @@ fn refuses_what_is_changed(rt: HostRuntime) -> Result<(), Fail> {
 #[test]
 fn refuses_a_wide_row_before_its_index(rt: HostRuntime) -> Result<(), Fail> {
     let alloc = rt.alloc();
-    let row = vec![in alloc; element(17), element(17)]?;
-    let wide = vec![in alloc; vec![in alloc; row]?]?;
+    let wide = vec![in alloc; element(17), element(17)]?;
+    let mut rows = rows_at(alloc, &[7, 2, 3, 2])?;
+    *rows.get_mut(0).ok_or("no rows")? = vec![in alloc; wide]?;
     let proof = COLUMN_PROOF.to_vec(alloc)?;
-    let told = verify(alloc, &[8], &wide, &proof);
+    let told = verify(alloc, &[8, 2, 3, 2], &rows, &proof);
     assert_eq!(rt; told.as_str(), WRONG_WIDTH);
     Ok(())
 }

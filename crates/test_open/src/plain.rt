@@ -13,7 +13,7 @@ use p3_circle::{CircleFriProof, CirclePcsProof, CirclePcsShape};
 use std::alloc::{AllocError, Global};
 use std::process::Abort;
 use std::test::Fail;
-use test_batches::batches::{Batch, Size, one, scattered_batches};
+use test_batches::batches::{Batch, Size, one, scattered_batches, two_columns};
 use test_batches::openings::{claims_of, open, verify};
 use test_batches::parameters::{Numbers, SMALL, scheme};
 
@@ -562,6 +562,16 @@ fn an_opening_by_the_plain_definitions(rt: HostRuntime) -> Result<(), Fail> {
         assert_plain(&rt, rt.alloc(), numbers, sizes)?;
     }
     Ok(())
+}
+
+#[test]
+fn two_columns_by_the_plain_definitions(rt: HostRuntime) -> Result<(), Fail> {
+    let scheme = scheme(Numbers {
+        num_queries: 40,
+        ..SMALL
+    });
+    let batches = [two_columns(rt.alloc(), &scheme)?];
+    assert_opened(&rt, rt.alloc(), &scheme, &batches)
 }
 
 #[test]

@@ -28,4 +28,6 @@ mod smaller;
 #[cfg(test)]
 mod transform;
 #[cfg(test)]
+mod walks;
+#[cfg(test)]
 mod words;

@@ -9,7 +9,7 @@ use std::process::Abort;
 use std::test::Fail;
 
 // `vanishing_poly_at_point`, after a test of what it asks.
-fn vanishing(rt: &impl Abort, domain: Domain, point: Mersenne31) -> Mersenne31 {
+pub(crate) fn vanishing(rt: &impl Abort, domain: Domain, point: Mersenne31) -> Mersenne31 {
     assert!(rt; domain.log_n() >= 1);
     assert!(rt; Point::from_projective_line(point).is_some());
     domain.vanishing_poly_at_point(point)
@@ -39,7 +39,7 @@ fn selectors_on_coset<F: ComplexExtendable>(
 }
 
 // The coordinate of a point on the projective line.
-fn coordinate(rt: &impl Abort, at: Point<Mersenne31>) -> Mersenne31 {
+pub(crate) fn coordinate(rt: &impl Abort, at: Point<Mersenne31>) -> Mersenne31 {
     at.to_projective_line().expect(rt, "the point is (-1, 0)")
 }
 

@@ -194,16 +194,19 @@ fn without_rounds_their_difficulty_is_not_named(rt: HostRuntime) -> Result<(), F
     Ok(())
 }
 
-/// What both sides of a run of two rounds over one claim draw.
+/// What both sides of a run of two rounds over one claim draw, where the batching challenge has
+/// this difficulty.
 fn drawn_by_both(
     alloc: Global,
+    batch: usize,
     prover: &mut Sha256Challenger,
     verifier: &mut Sha256Challenger,
 ) -> Result<(CircleDraws<Cubic>, CircleDraws<Cubic>), CircleTranscriptFailure>
-    requires { state_of prover.old ≡ state_of verifier.old }
+    requires batch { batch ≤ 63 }
+    requires alike { state_of prover.old ≡ state_of verifier.old }
 {
     let bits = Difficulties {
-        batch: 8,
+        batch,
         commit: 3,
         query: 4,
     };
@@ -219,16 +222,24 @@ fn drawn_by_both(
     both_runs(alloc, prover, verifier, shape, claims.as_slice(), &messages)
 }
 
-#[test]
-fn both_runs_draw_alike(rt: HostRuntime) -> Result<(), Fail> {
+/// Asserts that both sides draw the same where the batching challenge has this difficulty.
+fn assert_drawn_alike(rt: &impl Abort, alloc: Global, batch: usize) -> Result<(), Fail>
+    requires { batch ≤ 63 }
+{
     let mut prover = Sha256Challenger::new();
     let mut verifier = Sha256Challenger::new();
-    let runs = drawn_by_both(rt.alloc(), &mut prover, &mut verifier);
+    let runs = drawn_by_both(alloc, batch, &mut prover, &mut verifier);
     let (first, second) = runs.map_err(|_| "no run")?;
     assert_eq!(rt; first.betas.len(), 2);
-    assert_alike(&rt, &first, &second);
+    assert_alike(rt, &first, &second);
     assert!(rt; prover == verifier);
     Ok(())
+}
+
+#[test]
+fn both_runs_draw_alike(rt: HostRuntime) -> Result<(), Fail> {
+    assert_drawn_alike(&rt, rt.alloc(), 0)?;
+    assert_drawn_alike(&rt, rt.alloc(), 8)
 }
 
 /// The verifier's verdict on a run of these witnesses.

@@ -3,7 +3,7 @@ use crate::damage::{
     Damage, OfClaims, OfFirstLayer, OfParameters, OfRounds, OfWitnesses, apply, numbers_for,
 };
 use crate::played::play;
-use crate::statement::{Opening, columns, numbers, proved};
+use crate::statement::{Opening, numbers, proved};
 use circle_challenger::Sha256Challenger;
 use circle_field::{Cubic, ExtensionField};
 use circle_presets::{ChallengeMmcs, Scheme, ValMmcs};
@@ -12,7 +12,7 @@ use std::alloc::Global;
 use std::fmt::InlineText;
 use std::process::Abort;
 use std::test::Fail;
-use test_batches::batches::{Batch, Domain};
+use test_batches::batches::{Batch, Domain, two_columns};
 use test_batches::openings::{open, shown, verify};
 use test_batches::parameters::scheme;
 
@@ -260,10 +260,10 @@ fn due(alloc: Global, given: &Opening, when: When) -> Result<Option<Sha256Challe
 }
 
 /// The text of an answer, and the challenger after it.
-type Answered = (InlineText<128>, Sha256Challenger);
+pub(crate) type Answered = (InlineText<128>, Sha256Challenger);
 
-// What is answered to the opening.
-fn answer_to(alloc: Global, given: Opening) -> Answered {
+/// What is answered to the opening.
+pub(crate) fn answer_to(alloc: Global, given: Opening) -> Answered {
     let Opening {
         scheme,
         claims,
@@ -322,7 +322,7 @@ fn forged_proofs(rt: HostRuntime) -> Result<(), Fail> {
 fn at_a_committed_point(alloc: Global, scheme: &Scheme) -> Result<Batch, Fail> {
     let shift = Domain::standard(5).shift();
     let first = shift.to_projective_line().ok_or("the half turn")?;
-    let mut batch = columns(alloc, scheme)?;
+    let mut batch = two_columns(alloc, scheme)?;
     let points = batch.points.get_mut(1).ok_or("two matrices")?;
     points.push(Cubic::from_base(first))?;
     Ok(batch)

@@ -10,6 +10,8 @@ mod forged;
 #[cfg(test)]
 mod played;
 #[cfg(test)]
+mod sevens;
+#[cfg(test)]
 mod statement;
 #[cfg(test)]
 mod trusting;

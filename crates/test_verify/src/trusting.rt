@@ -211,6 +211,33 @@ fn assert_answered(
     Ok(())
 }
 
+// A column of 16 zeros, claimed at one point, with the commitments and witnesses of two rounds.
+fn of_two_rounds(alloc: Global) -> Result<Zeros, Fail> {
+    let batch = CommitmentOpening {
+        commitment: Nothing,
+        matrices: one(alloc, zero_at(alloc, 4, &[cubic([0, 1, 0])])?)?,
+    };
+    Ok(Zeros {
+        log_final_poly_len: 0,
+        claims: one(alloc, batch)?,
+        proof: proof(alloc, 1, 2, 1)?,
+    })
+}
+
+#[test]
+fn two_commitments_of_three_rounds(rt: HostRuntime) -> Result<(), Fail> {
+    let (alloc, mut verifier) = (rt.alloc(), Unhearing::new());
+    let zeros = of_two_rounds(alloc)?;
+    let scheme = CirclePcs::new(TrustingMmcs, parameters(numbers(0, [0; 3]), TrustingMmcs));
+    let answer = scheme.verify(alloc, zeros.claims, &zeros.proof, &mut verifier);
+    assert_eq!(rt;
+        shown(answer).as_str(),
+        "the proof commits to 2 rounds, and 3 are due"
+    );
+    assert!(rt; verifier == Unhearing::new());
+    Ok(())
+}
+
 const ON_A_QUERY: &str = "the input is refused: opening point coincides with a query point";
 
 const OF_TWO_LEFT: &str = "1 values are left over, the next of height 2^1";

@@ -105,8 +105,8 @@ pub(super) fn coordinate() -> Cubic {
     Cubic::from_coefficients(&[Mersenne31::ZERO, Mersenne31::ONE, Mersenne31::ZERO])
 }
 
-// A matrix of `2^log_n` rows that is claimed to have this value at `[0, 1, 0]`.
-fn claim(
+/// A matrix of `2^log_n` rows that is claimed to have this value at `[0, 1, 0]`.
+pub(super) fn claim(
     alloc: Global,
     log_n: usize,
     value: Cubic,

@@ -15,7 +15,7 @@ use std::test::Fail;
 
 // All indices below `2^log_max_height`, in no order, and some of them twice.
 pub fn repeated_indices(alloc: Global, log_max_height: usize) -> Result<Vec<usize>, AllocError>
-    requires { log_max_height ≤ 8 }
+    requires { log_max_height ≤ 9 }
     ensures { IfOk result (λ indices. All (λ q. q < 2 ^ log_max_height) indices.items) }
 {
     let size = 1 << log_max_height;
@@ -177,12 +177,27 @@ fn assert_rounds<F: ComplexExtendable, EF: ExtensionField<F>>(
     Ok(())
 }
 
+// Asserts that all queries of a word of `2^(log_max_height - 1)` entries fold as it does.
+fn assert_queries_of_a_word(
+    rt: &impl Abort,
+    alloc: Global,
+    log_max_height: usize,
+) -> Result<(), AllocError>
+    requires height { 3 ≤ log_max_height }
+    requires small { log_max_height ≤ 9 }
+{
+    let indices = repeated_indices(alloc, log_max_height)?;
+    let word = scattered_word(alloc, 1 << (log_max_height - 1))?;
+    assert_queries_fold_alike::<Mersenne31, Cubic>(rt, alloc, log_max_height, &indices, word)
+}
+
+// The greatest heights are those of four to sixteen rows at blowups of two to eight, beside rows of
+// up to four times that height.
 #[test]
-fn queries_of_a_word_of_32(rt: HostRuntime) -> Result<(), Fail> {
-    let alloc = rt.alloc();
-    let indices = repeated_indices(alloc, 6)?;
-    let word = scattered_word(alloc, 32)?;
-    assert_queries_fold_alike::<Mersenne31, Cubic>(&rt, alloc, 6, &indices, word)?;
+fn queries_of_a_word(rt: HostRuntime) -> Result<(), Fail> {
+    for log_max_height in 3..10 {
+        assert_queries_of_a_word(&rt, rt.alloc(), log_max_height)?;
+    }
     Ok(())
 }
 
@@ -265,16 +280,48 @@ fn assert_first_folds_alike<F: ComplexExtendable, EF: ExtensionField<F>>(
     assert_asked(rt, alloc, bits, indices, &word, &values)
 }
 
+// Asserts that all queries below `2^log_max_height` fold by y as the word of this height does.
+fn assert_first_layer(
+    rt: &impl Abort,
+    alloc: Global,
+    log_height: usize,
+    log_max_height: usize,
+) -> Result<(), AllocError>
+    requires height { 3 ≤ log_height }
+    requires within { log_height ≤ log_max_height }
+    requires small { log_max_height ≤ 9 }
+{
+    let indices = repeated_indices(alloc, log_max_height)?;
+    let word = scattered_word(alloc, 1 << log_height)?;
+    let beta = cubic(3, 1, 4);
+    assert_first_folds_alike::<Mersenne31, Cubic>(
+        rt,
+        alloc,
+        log_height,
+        log_max_height,
+        &indices,
+        beta,
+        word,
+    )
+}
+
+// Asserts that of a word of this height that is the tallest, and of one beside which a tallest is
+// of twice or four times its height.
+fn assert_first_layers(rt: &impl Abort, alloc: Global, log_height: usize) -> Result<(), AllocError>
+    requires height { 3 ≤ log_height }
+    requires small { log_height ≤ 7 }
+{
+    for above in 0..3 {
+        assert_first_layer(rt, alloc, log_height, log_height + above)?;
+    }
+    Ok(())
+}
+
+// The heights are those of four to sixteen rows at blowups of two to eight.
 #[test]
-fn queries_of_the_tallest_word_and_of_a_lower_one(rt: HostRuntime) -> Result<(), Fail> {
-    let alloc = rt.alloc();
-    let indices = repeated_indices(alloc, 4)?;
-    for log_height in 3..5 {
-        let word = scattered_word(alloc, 1 << log_height)?;
-        let beta = cubic(3, 1, 4);
-        assert_first_folds_alike::<Mersenne31, Cubic>(
-            &rt, alloc, log_height, 4, &indices, beta, word,
-        )?;
+fn queries_of_the_tallest_word_and_of_lower_ones(rt: HostRuntime) -> Result<(), Fail> {
+    for log_height in 3..8 {
+        assert_first_layers(&rt, rt.alloc(), log_height)?;
     }
     Ok(())
 }
