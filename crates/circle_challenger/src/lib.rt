@@ -14,7 +14,8 @@
 //!   other (`DomainSeparator::text`, clause `only`).
 //! - A `ProverState` or `VerifierState` takes the text in byte by byte (`new`), each further call
 //!   asks to be the next described step, and says exactly what is taken in or drawn and the state
-//!   after it; `finish` asks that no step is left.
+//!   after it; `finish` asks that no step is left. `resume` requires the challenger as `pause` left
+//!   it, so a described transcript goes on over no other.
 //! - `Sha256Challenger` is the sponge over the digest that the crate `sha2` defines, and its
 //!   `grind` gives the least element that passes.
 //!
