@@ -1,8 +1,9 @@
 -- What contracts see of the scheme's calls.
-use Rattle.std.specs.Prelude.{◌≡◌, Bool, IsTrue, List, Vec}
+use Rattle.std.specs.Prelude.{◌≡◌, Bool, IsTrue, List, map, flat_map, Vec}
 use Rattle.std.specs.declared.alloc.Global.{Global}
 use Rattle.circle_commit.specs.Pcs.{Openings, openings}
-use Rattle.circle_completeness.specs.Honest.{AreOfLowDegree}
+use Rattle.circle_commit.specs.RowMajorMatrix.{rows}
+use Rattle.circle_completeness.specs.Honest.{AreOfLowDegree, AreReadAsIs}
 use Rattle.circle_commit.specs.declared.matrix.RowMajorMatrix.{RowMajorMatrix}
 use Rattle.circle_commit.specs.declared.params.FriParameters.{FriParameters}
 use Rattle.circle_commit.specs.declared.pcs.OpeningRequest.{OpeningRequest}
@@ -11,6 +12,7 @@ use Rattle.circle_relation.specs.declared.error.ProverError.TheVariants.{LastWor
 use Rattle.circle_verifier.specs.Refusals.{Test}
 use Rattle.circle_scheme.specs.Requesting.{request_tests}
 use Rattle.circle_relation.specs.Accepts.{Fields}
+use Rattle.circle_prover.specs.Opening.{answered_matrices}
 use Rattle.p3_circle.specs.declared.pcs.CirclePcs.{CirclePcs}
 
 -- the tests of requests to a scheme
@@ -33,3 +35,16 @@ abbrev pub IsOfHighDegreeIf : {D F E M : Type 0} → Fields F E → (D → List 
     → FriParameters M → List (OpeningRequest D E) → ProverError → Type 0
 IsOfHighDegreeIf k kept p requests e =
     e ≡ LastWordNotConstant → ¬ AreOfLowDegree kept k p requests
+
+-- the rows that were committed to, of the requested matrices one after another
+abbrev pub requested_rows : {D E F : Type 0} → (D → List (RowMajorMatrix F))
+    → List (OpeningRequest D E) → List (List (List F))
+requested_rows kept requests = map rows (flat_map (λ r. kept r.prover_data.now) requests)
+
+-- where each requested matrix is of low degree, or has few columns, the words of an opening with
+-- these values are made of the rows that were committed to
+abbrev pub ReadsOwnRowsIf : {D F E M : Type 0} → Fields F E → (D → List (RowMajorMatrix F))
+    → FriParameters M → List (OpeningRequest D E) → Openings E → Type 0
+ReadsOwnRowsIf k kept p requests values =
+    AreReadAsIs kept k p requests →
+    map (λ m. m.rows) (answered_matrices k p kept requests values) ≡ requested_rows kept requests

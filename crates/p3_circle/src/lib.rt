@@ -31,8 +31,9 @@
 //!   (`failure`): `LastWordNotConstant` is answered only where, under some challenges, the last
 //!   word is of too high degree, which it never is of matrices of low degree (`degree`);
 //!   `NoGrindingWitness` only where in the opening's own run, whose witnesses its searches find, no
-//!   witness passes. The words of a matrix of 1024 columns or more are those of the extension of
-//!   its first rows. Where one that `commit_ldes` took is of high degree, its last word doesn't
+//!   witness passes. The words are made of the committed rows of matrices that are of low degree or
+//!   have few columns (`words`); of a matrix of 1024 columns or more they are those of the extension
+//!   of its first rows. Where one that `commit_ldes` took is of high degree, its last word doesn't
 //!   tell of it, and it may be opened to a proof that `verify` refuses.
 //! - `CirclePcs::round_trip` is all three calls in a row, for any number of batches, by a prover's
 //!   and a verifier's challenger in one state: it refuses honest batches for memory alone

@@ -16,7 +16,7 @@ ghost use Rattle.circle_relation.specs.declared.error.ProverError.TheVariants.{M
 ghost use Rattle.p3_circle.specs.Scheme.{CanBeDegree, HaveCommittedHeights, IsStandardOfSize};
 ghost use Rattle.circle_scheme.specs.Requesting.{RefusesBefore};
 ghost use Rattle.circle_verifier.specs.Tests.{IsFirstRefusal};
-ghost use Rattle.p3_circle.specs.Calls.{IsAnswer, IsOfHighDegreeIf, scheme_tests};
+ghost use Rattle.p3_circle.specs.Calls.{IsAnswer, IsOfHighDegreeIf, ReadsOwnRowsIf, scheme_tests};
 
 use circle_challenger::{CanObserve, CanSample, GrindingChallenger};
 use circle_commit::{
@@ -164,10 +164,11 @@ impl<Val: ComplexExtendable, InputMmcs: Mmcs<Val>, FriMmcs> CirclePcs<Val, Input
     /// matrix of fewer than 1024 columns that `commit_ldes` took isn't of low degree, and `Memory`
     /// where memory is refused; these leave the challenger's state open. Of a wider one that isn't
     /// of low degree nothing is told: its words are those of the polynomials that its first rows
-    /// fix, and it may be opened to a proof that `verify` refuses. Honest requests are refused for
-    /// want of memory alone; the values are those of the only polynomials of the batches that were
-    /// committed to, and claims of them are accepted by `verify` from the state that `open` was
-    /// called in. The commitments are not observed, which is the caller's to do.
+    /// fix, and it may be opened to a proof that `verify` refuses. Of all others the words are made
+    /// of the committed rows themselves (`words`). Honest requests are refused for want of memory
+    /// alone; the values are those of the only polynomials of the batches that were committed to,
+    /// and claims of them are accepted by `verify` from the state that `open` was called in. The
+    /// commitments are not observed, which is the caller's to do.
     pub fn open<EF: ExtensionField<Val>, C>(
         &self,
         alloc: Global,
@@ -190,6 +191,8 @@ impl<Val: ComplexExtendable, InputMmcs: Mmcs<Val>, FriMmcs> CirclePcs<Val, Input
             InputMmcs.matrices self.now.fri_params requests.entry.items (openings r.0.items)) }
         ensures opened { IfOk result (IsAnswer (⟦<Self as Pcs<EF, C>>⟧.open_gives self.now
             requests.entry.items) (C.state challenger.old) (C.state challenger.new)) }
+        ensures words { let k = ⟦<EF as OverCircle<Val>>⟧.fields in IfOk result (λ r. ReadsOwnRowsIf
+            k InputMmcs.matrices self.now.fri_params requests.entry.items (openings r.0.items)) }
         ensures failure { let p = ⟦<Self as Pcs<EF, C>>⟧ in IfErr result (p.open_refuses self.now
             requests.entry.items (C.state challenger.old) (C.state challenger.new)) }
         ensures honest { let p = ⟦<Self as Statements<EF, C>>⟧ in IfErr result (λ e. p.is_honest

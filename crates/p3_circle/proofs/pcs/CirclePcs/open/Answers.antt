@@ -10,6 +10,7 @@ use Rattle.circle_relation.specs.Accepts.{Fields}
 use Rattle.circle_scheme.proofs.Unrefused.{are-binary, are-fit, are-requests}
 use Rattle.p3_circle.proofs.Degrees.{high-degree}
 use Rattle.p3_circle.proofs.InOrder.{refuses-before, is-first}
+use Rattle.p3_circle.proofs.OwnRows.{own-rows}
 use Rattle.p3_circle.specs.SchemeLaws.{honest-open, opening-accepted, true-values}
 use Rattle.p3_circle.proofs.Scheme.{if_both, prover-memory}
 use Rattle.p3_circle.proofs.Verdicts.{later-by}
@@ -176,6 +177,17 @@ returns-clause-only g c =
     (challenger g) (g.InputMmcs.Mmcs.authenticates c.args.self.now.mmcs)
     (g.FriMmcs.Mmcs.commits p.mmcs) (g.FriMmcs.Mmcs.authenticates p.mmcs) c.args.requests.items
     (openings r.0.items) r.1 _ _ given)
+    opened opened
+
+pub returns-clause-words : goal.returns-clause-words
+returns-clause-words g c =
+    let p = c.args.self.now.fri_params in
+    let kept = g.InputMmcs.Mmcs.matrices in
+    let opened = returns-clause-opened g c in
+    if_both c.open_requests.result _ _ _
+    (λ r given again. own-rows (fields g) g.Val.Operations.laws
+    g.met.Val.ComplexExtendable.generators_law p kept c.args.requests.items (openings r.0.items)
+    given.asked given.answers)
     opened opened
 
 pub returns-clause-accepted : goal.returns-clause-accepted
