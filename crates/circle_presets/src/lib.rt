@@ -24,7 +24,7 @@ pub type Challenger = Sha256Challenger;
 /// The scheme that commits to batches of matrices.
 pub type ValMmcs = ShaMmcs<Val>;
 
-/// The scheme that commits to the words of an opening.
+/// The scheme that commits to the codewords of an opening.
 pub type ChallengeMmcs = ShaMmcs<Challenge>;
 
 /// The scheme that opens batches.
@@ -48,7 +48,8 @@ pub type Proof = CirclePcsProof<Val, Challenge, ValMmcs, ChallengeMmcs, Val>;
 /// What a verifier knows of a batch beside the values that it is handed.
 pub type Known = CommittedBatch<Challenge, Commitment, Domain>;
 
-/// What is claimed of a batch, on domains that `D` tells: as the program does, by their sizes alone.
+/// What is claimed of a batch, on domains that `D` describes: the program does so by their sizes
+/// alone.
 pub type ClaimOn<D> = CommitmentOpening<Challenge, Commitment, D>;
 
 /// What is claimed of a batch.

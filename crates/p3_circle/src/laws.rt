@@ -1,6 +1,6 @@
-//! Laws of the relation that a verifier decides, of claims on words, of runs whose final polynomial
-//! is a constant, and of points. The calls of this module answer nothing and carry what their
-//! contracts say.
+//! Laws of the relation that a verifier decides, of claims on codewords, of runs whose final
+//! polynomial is a constant, and of points. The calls of this module return nothing and carry what
+//! their contracts say.
 ghost use Rattle.std.specs.Prelude.{◌≡◌, IsTrue};
 ghost use Rattle.p3_circle.specs.Constant.{AreSameOfConstants, HasConstantText};
 ghost use Rattle.p3_circle.specs.Constant.{HaveConstantShape};

@@ -1,58 +1,58 @@
 //! The Circle STARK polynomial commitment scheme (IACR ePrint 2024/278).
 //!
-//! It shows the names of the crates below it at one place. What is proved of its own calls, for
-//! every lawful field, extension, schemes and challenger:
+//! The crate re-exports what its callers need of the crates below it. What is proved of its own
+//! calls, for every lawful field, extension, commitment scheme and challenger:
 //!
-//! - `CirclePcs::verify` is Ok exactly where the relation `Accepts` of `circle_relation` holds of
-//!   the claims, the proof and the challenges that are drawn, memory aside (`accepted`,
-//!   `complete`). Where there is reason for a refusal before the challenger is seeded, the first is
-//!   answered and the challenger is as it was (`first`); a later refusal has its reason too
+//! - `CirclePcs::verify` returns Ok exactly where the relation `Accepts` of `circle_relation` holds
+//!   of the claims, the proof and the drawn challenges, unless out of memory (`accepted`,
+//!   `complete`). Where a test before the challenger is seeded fails, `verify` returns the first
+//!   such refusal and leaves the challenger as it was (`first`). A later refusal has its reason too
 //!   (`reason`).
-//! - `verify_queries` is Ok only where a run meets what the relation says of it once the challenges
-//!   are drawn (`opened`, `holds`), and what it refuses has its reason (`refused`).
-//! - `CirclePcs::new` keeps what it is given.
-//! - `CirclePcs::commit` commits to, and `get_quotient_ldes` answers, for each matrix the values of
+//! - `verify_queries` returns Ok only where a run meets what the relation says of it once the
+//!   challenges are drawn (`opened`, `holds`), and each refusal has its reason (`refused`).
+//! - `CirclePcs::new` keeps its arguments.
+//! - `CirclePcs::commit` commits to what `get_quotient_ldes` returns: for each matrix the values of
 //!   the only polynomials with the given rows on the given domain, at the points of a standard
-//!   domain in the transform's order (`matrices`, by `IsExtension`). `commit_ldes` commits to what
-//!   it was handed. `get_evaluations_on_domain` answers the committed rows on their own domain, and
+//!   domain in the transform's order (`matrices`, by `IsExtension`). `commit_ldes` commits to its
+//!   argument. `get_evaluations_on_domain` returns the committed rows on their own domain, and
 //!   elsewhere the values of the polynomials that the first rows fix (`values`, by
-//!   `AreCommittedValues`). Each refuses, by tests over its input in order, the first that there is
-//!   reason for, and nothing else but memory (`refused`, by `RefusesInOrder`).
-//!   `natural_domain_for_degree` answers the standard domain of so many points, and
+//!   `AreCommittedValues`). Each tests its input in order and returns the first refusal that there
+//!   is reason for, or `Memory`, and no other (`refused`, by `RefusesInOrder`).
+//!   `natural_domain_for_degree` returns the standard domain with that number of points, and
 //!   `build_periodic_lde_table` the table of `circle_plane`. `first_rows` lends the first rows of a
 //!   matrix as values on a smaller domain (`points`).
+//! - `CirclePcs::open` tests all requests in order, returns the first refusal that there is reason
+//!   for, and then leaves the challenger as it was (`refused`). Otherwise it returns, for each
+//!   request, matrix and point, the values of the polynomials that the first committed rows fix
+//!   (`values`), and a proof. The proof holds the commitments of the codewords under the challenges
+//!   that the transcript draws of the claims and the proof, their lambdas, the coefficients of the
+//!   last codeword, and the rows and siblings at the drawn indices (`opened`, by `IsGiven`). The
+//!   codewords are combined of the committed rows themselves where each matrix is of low degree or
+//!   has fewer than 1024 columns (`words`); of a wider matrix of high degree, which only
+//!   `commit_ldes` takes, they are combined of the extension of its first rows, and `verify` may
+//!   refuse the proof. A later refusal has its reason (`failure`): `LastWordNotConstant` comes only
+//!   where, under some challenges, the last codeword is of too high degree, which it never is where
+//!   the matrices are of low degree (`degree`); `NoGrindingWitness` only where no witness passes in
+//!   the opening's own run.
+//! - `CirclePcs::round_trip` makes all three calls in a row, for any number of batches, by a
+//!   prover's and a verifier's challenger in one state. It refuses honest batches only when out of
+//!   memory (`accepted`), returns the values of the only polynomials (`values`), leaves both
+//!   challengers in one state (`states`), and otherwise returns the refusal of the call that
+//!   refused, with its reason (`reason`).
 //!
-//! - `CirclePcs::open` refuses, by tests over all requests in order, the first that there is reason
-//!   for, and leaves the challenger as it was (`refused`). Otherwise it answers for each request,
-//!   matrix and point the values of the polynomials that the first committed rows fix (`values`),
-//!   and a proof that holds the commitments of the words under the challenges that the transcript
-//!   draws of the claims and the proof, their lambdas, the last word's coefficients, and the rows
-//!   and siblings at the drawn indices (`opened`, by `IsGiven`); a later refusal has its reason
-//!   (`failure`): `LastWordNotConstant` is answered only where, under some challenges, the last
-//!   word is of too high degree, which it never is of matrices of low degree (`degree`);
-//!   `NoGrindingWitness` only where in the opening's own run, whose witnesses its searches find, no
-//!   witness passes. The words are made of the committed rows of matrices that are of low degree or
-//!   have few columns (`words`); of a matrix of 1024 columns or more they are those of the extension
-//!   of its first rows. Where one that `commit_ldes` took is of high degree, its last word doesn't
-//!   tell of it, and it may be opened to a proof that `verify` refuses.
-//! - `CirclePcs::round_trip` is all three calls in a row, for any number of batches, by a prover's
-//!   and a verifier's challenger in one state: it refuses honest batches for memory alone
-//!   (`accepted`), answers the values of the only polynomials (`values`), by challengers that end
-//!   in one state (`states`), and tells the refusal of the call that refused, with its reason
-//!   (`reason`).
-//!
-//! `CirclePcs` is an instance of the traits `Pcs` and `UnivariateStarkPcs` of `circle_commit`, whose
-//! laws it meets: what `open` answers of an honest statement, `verify` accepts. The clauses of its
-//! calls cite the members of that instance, which say what each call gives and refuses.
+//! `CirclePcs` implements the traits `Pcs` and `UnivariateStarkPcs` of `circle_commit`, whose laws
+//! it meets: `verify` accepts what `open` returns of an honest statement. The clauses of its calls
+//! cite the members of that implementation, which say what each call returns and refuses.
 //!
 //! Its files:
 //!
 //! - In `specs/`, `Verdict`: what is accepted and refused. `Honest`: an honest statement. `Scheme`:
 //!   calls as relations of lists and states; `SchemeFacts`, `SchemeLaws` and the folder
-//!   `SchemeLaws`: the proofs of the traits' laws. `Calls`: words of clauses. `Constant`: folding to
-//!   a constant. `Searches`: an example of searches.
-//! - In `proofs/`, `Known`, `InOrder`, `Scheme`: tests. `Verdicts`: the answer. `Degrees`: a last
-//!   word of too high degree. `Constants`, `ConstantSeeds`.
+//!   `SchemeLaws`: the proofs of the traits' laws. `Calls`: names that clauses use. `Constant`:
+//!   folding to a constant. `Searches`: an example of searches.
+//! - In `proofs/`, `Known`, `InOrder`, `Scheme`: tests. `Verdicts`: the result of `verify`.
+//!   `Degrees`: a last codeword of too high degree. `OwnRows`: the rows that codewords are combined
+//!   of. `Constants`, `ConstantSeeds`.
 #![tactic(auto)]
 
 mod instance;

@@ -38,19 +38,19 @@ use std::marker::PhantomData;
 
 /// The polynomial commitment scheme over the circle of the field `Val`.
 ///
-/// `InputMmcs` commits to batches of matrices, `FriMmcs` to the words that an opening makes of
-/// them.
+/// `InputMmcs` commits to batches of matrices, `FriMmcs` to the codewords that an opening combines
+/// of them.
 #[derive(Debug, Drop)]
 pub struct CirclePcs<Val: Field, InputMmcs, FriMmcs> {
     /// The commitment scheme of batches of matrices.
     pub mmcs: InputMmcs,
-    /// The parameters of an opening, with the commitment scheme of its words.
+    /// The parameters of an opening, with the commitment scheme of its codewords.
     pub fri_params: FriParameters<FriMmcs>,
     of: PhantomData<Val>,
 }
 
 impl<Val: Field, InputMmcs, FriMmcs> CirclePcs<Val, InputMmcs, FriMmcs> {
-    /// The scheme of these schemes and parameters.
+    /// The scheme with these commitment schemes and parameters.
     pub fn new(mmcs: InputMmcs, fri_params: FriParameters<FriMmcs>) -> Self
         ensures mmcs { result.mmcs ≡ mmcs }
         ensures params { result.fri_params ≡ fri_params }
@@ -67,10 +67,10 @@ impl<Val: ComplexExtendable, InputMmcs: Mmcs<Val>, FriMmcs> CirclePcs<Val, Input
     /// Whether what is opened hides the rest of what was committed to: it doesn't.
     pub const ZK: bool = false;
 
-    /// The domain on which a polynomial of `degree` coefficients is given: the standard one of so
-    /// many points.
+    /// The domain on which a polynomial of `degree` coefficients is given: the standard domain of
+    /// `degree` points.
     ///
-    /// Asks a power of two from 2 up, of which the group has the standard domain.
+    /// Requires a power of two from 2 up for which the group has a standard domain.
     pub fn natural_domain_for_degree(&self, degree: usize) -> CircleDomain<Val>
         requires power { IsPowerOfTwo degree }
         requires from_two { 2 ≤ degree }
@@ -81,7 +81,7 @@ impl<Val: ComplexExtendable, InputMmcs: Mmcs<Val>, FriMmcs> CirclePcs<Val, Input
         CircleDomain::standard(log2_strict(degree))
     }
 
-    /// What [`natural_domain_for_degree`](Self::natural_domain_for_degree) answers, and `None` of a
+    /// What [`natural_domain_for_degree`](Self::natural_domain_for_degree) returns, and `None` for a
     /// degree that it doesn't take.
     pub fn try_natural_domain_for_degree(&self, degree: usize) -> Option<CircleDomain<Val>>
         ensures some { IsSome result ↔ CanBeDegree Val.CIRCLE_TWO_ADICITY degree }
@@ -98,15 +98,16 @@ impl<Val: ComplexExtendable, InputMmcs: Mmcs<Val>, FriMmcs> CirclePcs<Val, Input
     }
 
     /// Commits to matrices, each with the domain on which its columns are values of polynomials, a
-    /// row for each point in natural order. What is committed to are the polynomials' values on the
+    /// row for each point in natural order. The committed rows are the polynomials' values on the
     /// standard domain of `2^log_blowup` times as many points, in the transform's order (Circle
     /// STARKs, IACR ePrint 2024/278, sections 4.3 and 6).
     ///
-    /// Asks one row for each point. Refuses, by tests that take no memory, `NoCommittedMatrices`
-    /// where there is no matrix, and then by the first of these, matrix after matrix:
+    /// Requires one row for each point. Returns, by tests that take no memory,
+    /// `NoCommittedMatrices` where there is no matrix, and then the first of these, matrix after
+    /// matrix:
     /// `HeightTooSmall` where the domain has fewer than `2^log_min_trace_height` points,
     /// `HeightTooLarge` where the group has no standard domain to extend to, and `NotGenuine` where
-    /// the domain's halves meet. `Memory` where memory is refused.
+    /// the domain's halves meet. `Memory` where an allocation is refused.
     pub fn commit(
         &self,
         alloc: Global,
@@ -129,7 +130,7 @@ impl<Val: ComplexExtendable, InputMmcs: Mmcs<Val>, FriMmcs> CirclePcs<Val, Input
     }
 
     /// Whether all matrices of the requests have heights that are powers of two, as
-    /// [`open`](CirclePcs::open) asks.
+    /// [`open`](CirclePcs::open) requires.
     pub fn have_heights_of_powers<EF>(
         &self,
         requests: &[OpeningRequest<InputMmcs::ProverData, EF>],
@@ -147,28 +148,29 @@ impl<Val: ComplexExtendable, InputMmcs: Mmcs<Val>, FriMmcs> CirclePcs<Val, Input
         true
     }
 
-    /// Opens committed matrices at points: for each request, matrix and point the values of the
-    /// columns' polynomials, and the proof of them all (Circle STARKs, IACR ePrint 2024/278,
+    /// Opens committed matrices at points: returns for each request, matrix and point the values of
+    /// the columns' polynomials, and one proof of them all (Circle STARKs, IACR ePrint 2024/278,
     /// sections 4 to 6). The values are those of the polynomials that the first committed rows fix,
     /// as many rows as there were before the blowup. A matrix may be opened at no point; `verify`
     /// refuses it.
     ///
-    /// Asks that the matrices have heights that are powers of two, as those have that `commit` and
-    /// `commit_ldes` committed to; [`have_heights_of_powers`](CirclePcs::have_heights_of_powers)
-    /// tests it of data from elsewhere. Before the challenger is seeded it is left as it was, and
-    /// the first of these is answered, each tested over all requests, by tests that take no memory:
-    /// `UnfitParameters`, `NoCommittedMatrices`, `MatrixCountMismatch`, `HeightTooSmall` and
-    /// `HeightTooLarge` matrix after matrix, `PointAtInfinity`, `PointOnDomain`.
+    /// Requires matrices whose heights are powers of two, as `commit` and `commit_ldes` return
+    /// them; [`have_heights_of_powers`](CirclePcs::have_heights_of_powers) tests it of data from
+    /// elsewhere. Before the challenger is seeded, `open` leaves it as it was and returns the first
+    /// of these, each tested over all requests, by tests that take no memory: `UnfitParameters`,
+    /// `NoCommittedMatrices`, `MatrixCountMismatch`, `HeightTooSmall` and `HeightTooLarge` matrix
+    /// after matrix, `PointAtInfinity`, `PointOnDomain`.
     ///
     /// Then `NoGrindingWitness` of a phase where no witness passes, `LastWordNotConstant` where a
     /// matrix of fewer than 1024 columns that `commit_ldes` took isn't of low degree, and `Memory`
-    /// where memory is refused; these leave the challenger's state open. Of a wider one that isn't
-    /// of low degree nothing is told: its words are those of the polynomials that its first rows
-    /// fix, and it may be opened to a proof that `verify` refuses. Of all others the words are made
-    /// of the committed rows themselves (`words`). Honest requests are refused for want of memory
-    /// alone; the values are those of the only polynomials of the batches that were committed to,
-    /// and claims of them are accepted by `verify` from the state that `open` was called in. The
-    /// commitments are not observed, which is the caller's to do.
+    /// where an allocation is refused; these leave the challenger in an unspecified state. Honest
+    /// requests are refused only when out of memory; the values are those of the only polynomials
+    /// of the batches that were committed to, and `verify` accepts claims of them from the state
+    /// that `open` was called in. The caller observes the commitments; `open` doesn't.
+    ///
+    /// No refusal comes of a matrix of 1024 columns or more that isn't of low degree: its codewords
+    /// are those of the polynomials that its first rows fix, and `verify` may refuse the proof. Of
+    /// all other matrices the codewords are combined of the committed rows themselves (`words`).
     pub fn open<EF: ExtensionField<Val>, C>(
         &self,
         alloc: Global,
@@ -210,11 +212,11 @@ impl<Val: ComplexExtendable, InputMmcs: Mmcs<Val>, FriMmcs> CirclePcs<Val, Input
 
     /// Whether the claimed values are those of the committed polynomials (Circle STARKs, IACR
     /// ePrint 2024/278, sections 4 to 6): Ok exactly where the relation `Accepts` holds of the
-    /// claims, the proof and the challenges that are drawn, memory aside. Takes any input: what is
-    /// malformed is refused.
+    /// claims, the proof and the drawn challenges, unless out of memory. Any input may be passed:
+    /// what is malformed is refused.
     ///
-    /// Before the challenger is seeded it is left as it was, and the first of these is answered, by
-    /// tests that take no memory: `NoCommittedMatrices`, `InputError(DomainTooSmall)`,
+    /// Before the challenger is seeded, `verify` leaves it as it was and returns the first of
+    /// these, by tests that take no memory: `NoCommittedMatrices`, `InputError(DomainTooSmall)`,
     /// `GlobalMaxHeightTooLarge`, `UnsupportedGrinding`, `ZeroQueries`, `ZeroBlowup`,
     /// `UnsupportedFoldingCap`, `CommitRoundCountMismatch`, `CommitPowWitnessCountMismatch`,
     /// `NonCanonicalPowWitness` of the rounds and of the queries,
@@ -225,8 +227,8 @@ impl<Val: ComplexExtendable, InputMmcs: Mmcs<Val>, FriMmcs> CirclePcs<Val, Input
     /// Then `InvalidPowWitness` where a witness doesn't pass; and once all is drawn, in no promised
     /// order, the other variants of [`InputError`], `UnconsumedReducedOpenings`,
     /// `CommitPhaseMmcsError` and `FinalPolyMismatch`, each where its reason holds. `Memory` where
-    /// memory is refused. Of a claimed domain only its size is used; the commitments are not
-    /// observed, which is the caller's to do.
+    /// an allocation is refused. Of a claimed domain only its size is used. The caller observes the
+    /// commitments; `verify` doesn't.
     pub fn verify<EF: ExtensionField<Val>, C>(
         &self,
         alloc: Global,
@@ -250,7 +252,7 @@ impl<Val: ComplexExtendable, InputMmcs: Mmcs<Val>, FriMmcs> CirclePcs<Val, Input
     }
 
     /// The binary logarithm of the greatest number of rows that the group has a standard domain
-    /// for. With a blowup the rows that can be committed to are fewer.
+    /// for. With a blowup fewer rows can be committed to.
     pub fn log_max_trace_height(&self) -> usize
         ensures { result ≡ Val.CIRCLE_TWO_ADICITY - 1 }
     {
@@ -265,10 +267,10 @@ impl<Val: ComplexExtendable, InputMmcs: Mmcs<Val>, FriMmcs> CirclePcs<Val, Input
         log_min_trace_height(&self.fri_params)
     }
 
-    /// The matrices that [`commit`](CirclePcs::commit) would commit to, uncommitted. The number of
-    /// chunks has no effect.
+    /// The matrices that [`commit`](CirclePcs::commit) would commit to. The number of chunks has no
+    /// effect.
     ///
-    /// Asks and refuses what `commit` does, but takes no matrices too.
+    /// Requires and refuses what `commit` does, but accepts an empty list of matrices.
     pub fn get_quotient_ldes(
         &self,
         alloc: Global,
@@ -288,10 +290,10 @@ impl<Val: ComplexExtendable, InputMmcs: Mmcs<Val>, FriMmcs> CirclePcs<Val, Input
     /// Commits to matrices as they are, each on the standard domain of as many points as it has
     /// rows, in the transform's order.
     ///
-    /// Asks heights that are powers of two. Refuses, by tests that take no memory,
-    /// `NoCommittedMatrices` where there is no matrix, and then by the first of these, matrix after
+    /// Requires heights that are powers of two. Returns, by tests that take no memory,
+    /// `NoCommittedMatrices` where there is no matrix, and then the first of these, matrix after
     /// matrix: `HeightTooSmall` below `2^(log_blowup + log_min_trace_height)` rows, and
-    /// `HeightTooLarge` from `2^CIRCLE_TWO_ADICITY` rows. `Memory` where memory is refused.
+    /// `HeightTooLarge` from `2^CIRCLE_TWO_ADICITY` rows. `Memory` where an allocation is refused.
     pub fn commit_ldes(
         &self,
         alloc: Global,
@@ -311,15 +313,15 @@ impl<Val: ComplexExtendable, InputMmcs: Mmcs<Val>, FriMmcs> CirclePcs<Val, Input
         Ok(self.mmcs.commit(alloc, ldes)?)
     }
 
-    /// The values on a domain, in natural order, of the polynomials that a committed matrix is of:
-    /// on the domain that it is committed on its rows in natural order, elsewhere the values by the
+    /// The values of a committed matrix's polynomials on a domain, in natural order: on the domain
+    /// that the matrix is committed on its rows in natural order, elsewhere the values by the
     /// coefficients that its first rows fix, as many as the trace had rows.
     ///
-    /// Asks the index of a committed matrix, of which the height is a power of two, and a domain
-    /// with `1 <= log_n <= CIRCLE_TWO_ADICITY`. Refuses, by tests that take no memory,
+    /// Requires the index of a committed matrix whose height is a power of two, and a domain with
+    /// `1 <= log_n <= CIRCLE_TWO_ADICITY`. Returns, by tests that take no memory,
     /// `HeightTooSmall` and `HeightTooLarge` as [`commit_ldes`](CirclePcs::commit_ldes) does, and
     /// then `DomainSmallerThanTrace` where the domain has fewer points than the trace had rows.
-    /// `Memory` where memory is refused.
+    /// `Memory` where an allocation is refused.
     pub fn get_evaluations_on_domain(
         &self,
         alloc: Global,
@@ -341,7 +343,7 @@ impl<Val: ComplexExtendable, InputMmcs: Mmcs<Val>, FriMmcs> CirclePcs<Val, Input
     }
 
     /// The values of periodic columns of a trace at the points of an extension of its domain, as
-    /// [`build_periodic_lde_table_circle`] gives them, with the same conditions and refusals.
+    /// [`build_periodic_lde_table_circle`] returns them, with the same requirements and refusals.
     pub fn build_periodic_lde_table(
         &self,
         alloc: Global,

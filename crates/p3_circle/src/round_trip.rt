@@ -17,16 +17,16 @@ use circle_relation::InputError;
 use std::alloc::Global;
 
 impl<Val: ComplexExtendable, InputMmcs: Mmcs<Val>, FriMmcs> CirclePcs<Val, InputMmcs, FriMmcs> {
-    /// Commits to batches, opens them all at once, each matrix at its own points, and verifies what
-    /// is answered, by two challengers that begin in one state.
+    /// Commits to batches, opens them all at once, each matrix at its own points, and verifies the
+    /// result, by two challengers that begin in one state.
     ///
-    /// Answers, batch by batch, the values of the only polynomials with the batch's rows, once they
-    /// are accepted; then both challengers end in one state. Otherwise the answer is the refusal of
-    /// `commit`, `open` or `verify`, with the reason that these give for it, or `Memory`. Honest
-    /// batches are refused for memory alone, where each search for a witness finds one.
+    /// Returns, batch by batch, the values of the only polynomials with the batch's rows, once
+    /// `verify` has accepted them; then both challengers end in one state. Otherwise it returns the
+    /// refusal of `commit`, `open` or `verify`, for the reason that they state, or `Memory`. Honest
+    /// batches are refused only when out of memory, where each search for a witness finds one.
     ///
-    /// Asks of each matrix a row for each point of its domain, and a list of points for it, of one
-    /// point at least.
+    /// Requires for each matrix a row for each point of its domain, and a list of at least one
+    /// point.
     pub fn round_trip<EF: ExtensionField<Val>, C>(
         &self,
         alloc: Global,

@@ -1,4 +1,4 @@
-//! The verifier: from claims and a proof to its answer.
+//! The verifier: from claims and a proof to its result.
 ghost use Rattle.std.specs.Prelude.{◌≡◌, OnOk, IfErr};
 ghost use Rattle.circle_commit.specs.declared.error.FriError.TheVariants.{Memory};
 ghost use Rattle.circle_verifier.specs.Tests.{IsFirstRefusal};
