@@ -137,9 +137,11 @@ pub fn sevens(alloc: Global, scheme: &Scheme) -> Result<Batch, Fail> {
     )
 }
 
-// Columns of four and of sixteen rows on their standard domains, of which row `i` holds `i`.
+// The rows of the taller of two columns; the other has the first four.
+const ROWS: [u64; 16] = [0, 1, 2, 3, 4, 5, 6, 7, 8, 9, 10, 11, 12, 13, 14, 15];
+
+// Both columns on their standard domains.
 fn counting_columns(alloc: Global) -> Result<Vec<(Domain, Rows)>, Fail> {
-    const ROWS: [u64; 16] = [0, 1, 2, 3, 4, 5, 6, 7, 8, 9, 10, 11, 12, 13, 14, 15];
     let mut evaluations = Vec::new(alloc);
     evaluations.push((Domain::standard(2), rows(alloc, &ROWS[..4], 1)?))?;
     evaluations.push((Domain::standard(4), rows(alloc, &ROWS, 1)?))?;

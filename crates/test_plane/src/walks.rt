@@ -59,15 +59,16 @@ fn assert_part(
     seen: &mut [bool],
 ) {
     assert!(rt; domain.log_n() >= 1 && domain.log_n() <= 31);
-    assert!(rt; part.log_n() >= 1 && part.log_n() <= 31 && of_part.height() == part.size());
-    assert!(rt; seen.len() == domain.size() && rows.height() == domain.size());
+    assert!(rt; part.log_n() >= 1 && part.log_n() <= 31);
     for (i, point) in part.points().enumerate() {
         assert!(rt; i < part.size() && part.nth_point(part.size() - 1 - i) == -point);
+        assert!(rt; i < of_part.height());
         let row = of_part.row(i);
         assert!(rt; !row.is_empty());
         let place = row[0].value() as usize / row.len();
-        assert!(rt; place < domain.size() && !seen[place]);
-        assert!(rt; point == domain.nth_point(place) && row == rows.row(place));
+        assert!(rt; place < domain.size() && point == domain.nth_point(place));
+        assert!(rt; place < rows.height() && row == rows.row(place));
+        assert!(rt; place < seen.len() && !seen[place]);
         seen[place] = true;
     }
 }
@@ -83,9 +84,10 @@ fn assert_parts(
     assert!(rt; domain.log_n() >= 1 && domain.log_n() <= 31 && domain.is_standard());
     assert!(rt; is_power_of_two(count) && count <= domain.size() / 2);
     let rows = counting(rt, alloc, domain.size(), width)?;
-    assert!(rt; rows.height() == domain.size());
+    let copy = rows.try_clone(alloc)?;
+    assert!(rt; copy.height() == domain.size());
     let parts = domain.split_domains(alloc, count)?;
-    let of_parts = domain.split_evals(alloc, count, rows.try_clone(alloc)?)?;
+    let of_parts = domain.split_evals(alloc, count, copy)?;
     assert!(rt; parts.len() == count && of_parts.len() == count);
     let mut seen = vec![in alloc; false; domain.size()]?;
     for (part, of_part) in parts.iter().zip(&of_parts) {
@@ -101,14 +103,18 @@ fn walks_of_16_and_of_1024_points(rt: HostRuntime) {
     assert_walk(&rt, Domain::standard(10));
 }
 
+// Asserts that there are domains of at least so many points each, none of which has one of this
+// domain's.
+fn assert_others(rt: &impl Abort, domain: Domain, min_sizes: [usize; 4]) {
+    for min_size in min_sizes {
+        assert_other(rt, domain, min_size);
+    }
+}
+
 #[test]
 fn other_domains(rt: HostRuntime) {
-    for min_size in [10, 100, 11, 31] {
-        assert_other(&rt, Domain::standard(4), min_size);
-    }
-    for min_size in [10, 100, 1019, 1039] {
-        assert_other(&rt, Domain::standard(10), min_size);
-    }
+    assert_others(&rt, Domain::standard(4), [10, 100, 11, 31]);
+    assert_others(&rt, Domain::standard(10), [10, 100, 1019, 1039]);
 }
 
 #[test]
