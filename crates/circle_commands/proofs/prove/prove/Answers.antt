@@ -18,49 +18,80 @@ use Rattle.circle_commands.proofs.Proving.{committed_fit, requested_powers}
 use Rattle.circle_commands.proofs.prove.prove.Goals as goal
 
 pub commit_batches-requires : goal.commit_batches-requires
-commit_batches-requires c = subst AreFitting (c.deref.ensures.value ∙ sym c.deref-2.ensures.value) (tall-fitting c.args.input.params.log_final_poly_len c.deref.result.now c.in_ok-validate_batches.ensures)
+commit_batches-requires c = subst AreFitting (c.deref.ensures.value ∙ sym c.deref-2.ensures.value)
+    (tall-fitting c.args.input.params.log_final_poly_len c.deref.result.now
+    c.in_ok-validate_batches.ensures)
 
 pub returns-in_err-committed-clause-rows : goal.returns-in_err-committed-clause-rows
 returns-in_err-committed-clause-rows c =
-    passed_by (AreTall c.args.input.params.log_final_poly_len c.args.input.batches.items) (IsRefusalOfBatches c.args.input.params.log_final_poly_len c.args.input.batches.items) c.from_residual-in_err-committed.result (subst (AreTall c.args.input.params.log_final_poly_len) c.deref.ensures.value c.in_ok-validate_batches.ensures)
+    passed_by (AreTall c.args.input.params.log_final_poly_len c.args.input.batches.items)
+    (IsRefusalOfBatches c.args.input.params.log_final_poly_len c.args.input.batches.items)
+    c.from_residual-in_err-committed.result
+    (subst (AreTall c.args.input.params.log_final_poly_len) c.deref.ensures.value
+    c.in_ok-validate_batches.ensures)
 
 pub returns-in_err-requests-clause-rows : goal.returns-in_err-requests-clause-rows
 returns-in_err-requests-clause-rows c =
-    passed_by (AreTall c.args.input.params.log_final_poly_len c.args.input.batches.items) (IsRefusalOfBatches c.args.input.params.log_final_poly_len c.args.input.batches.items) c.from_residual-in_err-requests.result (subst (AreTall c.args.input.params.log_final_poly_len) c.deref.ensures.value c.in_ok-validate_batches.ensures)
+    passed_by (AreTall c.args.input.params.log_final_poly_len c.args.input.batches.items)
+    (IsRefusalOfBatches c.args.input.params.log_final_poly_len c.args.input.batches.items)
+    c.from_residual-in_err-requests.result
+    (subst (AreTall c.args.input.params.log_final_poly_len) c.deref.ensures.value
+    c.in_ok-validate_batches.ensures)
 
 pub open-requires : goal.open-requires
 open-requires c =
-    requested_powers (IsShaRoot bytes) c.new-scheme.result.fri_params.log_blowup matrices_of c.deref-2.result.now c.in_ok-committed.committed.items c.in_ok-requests.requests.items c.in_ok-committed.ensures
-    (subst (λ cs. AllZip (IsRequested matrices_of) cs c.in_ok-requests.requests.items) c.deref-4.ensures.value c.in_ok-requests.ensures)
+    requested_powers (IsShaRoot bytes) c.new-scheme.result.fri_params.log_blowup matrices_of
+    c.deref-2.result.now c.in_ok-committed.committed.items c.in_ok-requests.requests.items
+    c.in_ok-committed.ensures
+    (subst (λ cs. AllZip (IsRequested matrices_of) cs c.in_ok-requests.requests.items)
+    c.deref-4.ensures.value c.in_ok-requests.ensures)
 
 pub returns-in_err-values-clause-rows : goal.returns-in_err-values-clause-rows
 returns-in_err-values-clause-rows c =
-    passed_by (AreTall c.args.input.params.log_final_poly_len c.args.input.batches.items) (IsRefusalOfBatches c.args.input.params.log_final_poly_len c.args.input.batches.items) c.from_residual-in_err-values.result (subst (AreTall c.args.input.params.log_final_poly_len) c.deref.ensures.value c.in_ok-validate_batches.ensures)
+    passed_by (AreTall c.args.input.params.log_final_poly_len c.args.input.batches.items)
+    (IsRefusalOfBatches c.args.input.params.log_final_poly_len c.args.input.batches.items)
+    c.from_residual-in_err-values.result
+    (subst (AreTall c.args.input.params.log_final_poly_len) c.deref.ensures.value
+    c.in_ok-validate_batches.ensures)
 
 pub claims-requires : goal.claims-requires
 claims-requires c =
     subst (All (λ c. All HasFittingRows c.traces.now)) (sym c.deref-5.ensures.value)
-    (committed_fit (IsShaRoot bytes) c.new-scheme.result.fri_params.log_blowup c.deref-2.result.now c.in_ok-committed.committed.items c.in_ok-committed.ensures)
+    (committed_fit (IsShaRoot bytes) c.new-scheme.result.fri_params.log_blowup c.deref-2.result.now
+    c.in_ok-committed.committed.items c.in_ok-committed.ensures)
 
 pub returns-in_err-claims-clause-rows : goal.returns-in_err-claims-clause-rows
 returns-in_err-claims-clause-rows c =
-    passed_by (AreTall c.args.input.params.log_final_poly_len c.args.input.batches.items) (IsRefusalOfBatches c.args.input.params.log_final_poly_len c.args.input.batches.items) c.from_residual-in_err-claims.result (subst (AreTall c.args.input.params.log_final_poly_len) c.deref.ensures.value c.in_ok-validate_batches.ensures)
+    passed_by (AreTall c.args.input.params.log_final_poly_len c.args.input.batches.items)
+    (IsRefusalOfBatches c.args.input.params.log_final_poly_len c.args.input.batches.items)
+    c.from_residual-in_err-claims.result
+    (subst (AreTall c.args.input.params.log_final_poly_len) c.deref.ensures.value
+    c.in_ok-validate_batches.ensures)
 
 pub returns-clause-rows : goal.returns-clause-rows
-returns-clause-rows c = subst (AreTall c.args.input.params.log_final_poly_len) c.deref.ensures.value c.in_ok-validate_batches.ensures
+returns-clause-rows c = subst (AreTall c.args.input.params.log_final_poly_len) c.deref.ensures.value
+    c.in_ok-validate_batches.ensures
 
 pub returns-clause-proof : goal.returns-clause-proof
 returns-clause-proof c =
     let committed = c.in_ok-committed.committed.items in
     let requests = c.in_ok-requests.requests.items in
     let values = c.in_ok-values.values.items in
-    proved _ c.args.input _ c.new-scheme.result.mmcs c.with_mmcs.result.mmcs committed requests (openings values) c.observe_commitments.new.challenger c.open.new.challenger c.new-scheme.result.fri_params
+    proved _ c.args.input _ c.new-scheme.result.mmcs c.with_mmcs.result.mmcs committed requests
+    (openings values) c.observe_commitments.new.challenger c.open.new.challenger
+    c.new-scheme.result.fri_params
     (c.new-scheme.ensures.params ∙ c.with_mmcs.ensures)
-    (subst (λ bs. AllZip (λ b m. IsCommitted (IsShaRoot bytes) c.new-scheme.result.fri_params.log_blowup b.items m) bs committed) c.deref-2.ensures.value c.in_ok-committed.ensures)
-    (subst (λ cs. AllZip (IsRequested matrices_of) cs requests) c.deref-4.ensures.value c.in_ok-requests.ensures)
-    (c.observe_commitments.ensures ∙ ap (λ s. commitments_taken s c.deref-3.result.now) c.new-challenger.ensures ∙ ap (commitments_taken (replicate 32 0)) c.deref-3.ensures.value)
+    (subst
+    (λ bs. AllZip
+    (λ b m. IsCommitted (IsShaRoot bytes) c.new-scheme.result.fri_params.log_blowup b.items m)
+    bs committed) c.deref-2.ensures.value c.in_ok-committed.ensures)
+    (subst (λ cs. AllZip (IsRequested matrices_of) cs requests) c.deref-4.ensures.value
+    c.in_ok-requests.ensures)
+    (c.observe_commitments.ensures ∙ ap (λ s. commitments_taken s c.deref-3.result.now)
+    c.new-challenger.ensures ∙ ap (commitments_taken (replicate 32 0)) c.deref-3.ensures.value)
     c.in_ok-values.ensures.values c.in_ok-values.ensures.opened.opening
-    (c.in_ok-claims.ensures ∙ ap (λ cs. pairwise batch_claimed cs (openings values)) c.deref-5.ensures.value)
+    (c.in_ok-claims.ensures ∙ ap (λ cs. pairwise batch_claimed cs (openings values))
+    c.deref-5.ensures.value)
     refl
 
 pub returns-clause-accepted : goal.returns-clause-accepted
@@ -69,12 +100,20 @@ returns-clause-accepted c =
     let requests = c.in_ok-requests.requests.items in
     let values = c.in_ok-values.values.items in
     let given = c.in_ok-values.ensures.opened in
-    verified _ c.args.input _ base-laws laws is_embedding are_generators refl refl (lit≤ tt) (λ s bits h. number-below s bits)
-    c.new-scheme.result.mmcs c.with_mmcs.result.mmcs committed requests (openings values) c.observe_commitments.new.challenger c.open.new.challenger c.new-scheme.result.fri_params
+    verified _ c.args.input _ base-laws laws is_embedding are_generators refl refl (lit≤ tt)
+    (λ s bits h. number-below s bits)
+    c.new-scheme.result.mmcs c.with_mmcs.result.mmcs committed requests (openings values)
+    c.observe_commitments.new.challenger c.open.new.challenger c.new-scheme.result.fri_params
     (c.new-scheme.ensures.params ∙ c.with_mmcs.ensures) given.parameters given.arity given.asked
-    (subst (λ bs. AllZip (λ b m. IsCommitted (IsShaRoot bytes) c.new-scheme.result.fri_params.log_blowup b.items m) bs committed) c.deref-2.ensures.value c.in_ok-committed.ensures)
-    (subst (λ cs. AllZip (IsRequested matrices_of) cs requests) c.deref-4.ensures.value c.in_ok-requests.ensures)
-    (c.observe_commitments.ensures ∙ ap (λ s. commitments_taken s c.deref-3.result.now) c.new-challenger.ensures ∙ ap (commitments_taken (replicate 32 0)) c.deref-3.ensures.value)
+    (subst
+    (λ bs. AllZip
+    (λ b m. IsCommitted (IsShaRoot bytes) c.new-scheme.result.fri_params.log_blowup b.items m)
+    bs committed) c.deref-2.ensures.value c.in_ok-committed.ensures)
+    (subst (λ cs. AllZip (IsRequested matrices_of) cs requests) c.deref-4.ensures.value
+    c.in_ok-requests.ensures)
+    (c.observe_commitments.ensures ∙ ap (λ s. commitments_taken s c.deref-3.result.now)
+    c.new-challenger.ensures ∙ ap (commitments_taken (replicate 32 0)) c.deref-3.ensures.value)
     given.answers given.opening
-    (c.in_ok-claims.ensures ∙ ap (λ cs. pairwise batch_claimed cs (openings values)) c.deref-5.ensures.value)
+    (c.in_ok-claims.ensures ∙ ap (λ cs. pairwise batch_claimed cs (openings values))
+    c.deref-5.ensures.value)
     refl

@@ -8,7 +8,8 @@ pub loop-claim-preserved : goal.loop-claim-preserved
 loop-claim-preserved g c =
     let P = λ (w : ℕ) (p : PointOpening g.row.EF.Denot). length p.values.items ≤ w in
     let claim = c.claim-item.result in
-    let here : length claim.values.items ≤ c.len.result = omega (arith, c.len.ensures, claim.values.ok.0) in
+    let here : length claim.values.items ≤ c.len.result =
+    omega (arith, c.len.ensures, claim.values.ok.0) in
     record {
       greatest = wider-more P (λ a b p more fit. le_trans fit more) c.args.claims.now
           c.loop-claim.claim-index claim c.len.result c.loop-claim.width c.max-width.result
