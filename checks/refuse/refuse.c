@@ -1,13 +1,13 @@
 /* A library that is preloaded before a program, and refuses it memory: malloc and realloc, by which
- * a built program takes all its memory, answer null where they are told to.
+ * a built program takes all its memory, return null where they are told to.
  *
- * REFUSE_AT=N    the Nth growth is refused, the first being 1, and no other
- * REFUSE_FROM=N  the Nth growth is refused, and each after it
- * COUNT_TO=FILE  at the program's exit the file gets the number of growths that were asked for, and
- *                the number of those that were refused
+ * REFUSE_AT=N    the Nth allocation is refused, the first being 1, and no other
+ * REFUSE_FROM=N  the Nth allocation is refused, and each after it
+ * COUNT_TO=FILE  at the program's exit the file gets the number of allocations that were asked for,
+ *                and the number of those that were refused
  *
- * A growth is a call of malloc or of realloc. It stands on the names by which the GNU C library has
- * its own calls, so that none is looked up. */
+ * An allocation is a call of malloc or of realloc. It stands on the names by which the GNU C library
+ * has its own calls, so that none is looked up. */
 #include <errno.h>
 #include <fcntl.h>
 #include <stddef.h>
@@ -21,13 +21,13 @@ void *__libc_realloc(void *block, size_t size);
 static unsigned long asked, refused, at, from;
 static int is_told;
 
-/* The number in a variable of the environment, or 0, which is that of no growth. */
+/* The number in a variable of the environment, or 0, which is that of no allocation. */
 static unsigned long number(const char *name) {
     const char *text = getenv(name);
     return text == NULL ? 0 : strtoul(text, NULL, 10);
 }
 
-/* Counts a growth, and says whether it is refused. */
+/* Counts an allocation, and says whether it is refused. */
 static int is_refused(void) {
     if (!is_told) {
         return 0;
@@ -49,7 +49,7 @@ void *realloc(void *block, size_t size) {
     return is_refused() ? NULL : __libc_realloc(block, size);
 }
 
-/* The growths of the program's own start, before this is called, are not counted. */
+/* The allocations of the program's own start, before this is called, are not counted. */
 __attribute__((constructor)) static void begin(void) {
     at = number("REFUSE_AT");
     from = number("REFUSE_FROM");

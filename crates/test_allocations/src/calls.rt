@@ -1,7 +1,7 @@
 //! The calls by their names.
 use crate::plane::Domain;
 use crate::told::{Stage, Told};
-use crate::{json, plane, quiet, scheme, transcript, trees, words};
+use crate::{json, plane, scheme, transcript, trees, without, words};
 use anyhow::Result;
 use std::alloc::Global;
 
@@ -29,7 +29,16 @@ pub const NAMES: &[&str] = &[
     "open",
     "verify",
     "round_trip",
-    "without_memory",
+    "without_fields",
+    "without_points",
+    "without_domains",
+    "without_matrices",
+    "without_codewords",
+    "without_challenger",
+    "without_states",
+    "without_prover",
+    "without_verifier",
+    "without_schemes",
 ];
 
 /// What is told of the call with this name, or none where there is no such call.
@@ -62,7 +71,16 @@ pub fn told_of(alloc: Global, stage: Stage, name: &str) -> Option<Result<Told>> 
         "open" => scheme::open(alloc, stage),
         "verify" => scheme::verify(alloc, stage),
         "round_trip" => scheme::round_trip(alloc, stage),
-        "without_memory" => quiet::without_memory(alloc, stage),
+        "without_fields" => without::fields::fields(stage),
+        "without_points" => without::points::points(stage),
+        "without_domains" => without::domains::domains(stage),
+        "without_matrices" => without::matrices::matrices(alloc, stage),
+        "without_codewords" => without::codewords::codewords(stage),
+        "without_challenger" => without::challenger::challenger(stage),
+        "without_states" => without::transcripts::states(alloc, stage),
+        "without_prover" => without::transcripts::prover(alloc, stage),
+        "without_verifier" => without::transcripts::verifier(alloc, stage),
+        "without_schemes" => without::scheme::schemes(alloc, stage),
         _ => return None,
     })
 }

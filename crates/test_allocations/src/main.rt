@@ -1,23 +1,23 @@
-//! Calls of the libraries, one a run, whose growths `checks/growths` refuses in turn.
+//! Calls of the libraries, one a run, whose allocations `checks/growths` refuses in turn.
 //!
-//! - `call NAME` makes a call and prints what was answered, `Ok` and a number that the answer comes
+//! - `call NAME` makes a call and prints what it returned, `Ok` and a number that the value comes
 //!   to or the refusal, and behind it what the call left of what it was lent.
 //! - `before NAME` ends right before the call, and prints the latter as it is then.
-//! - `after NAME` ends right after it, where what follows takes memory.
+//! - `after NAME` ends right after it, where what follows allocates.
 //! - `all` makes all calls, a line for each. Any other arguments print their names.
 //!
-//! Printing takes no memory. `open` is told of with what is opened of the same matrices once more.
-//! `without_memory` makes the calls that take none.
+//! Printing allocates nothing. `open` is told of with what is opened of the same matrices once more.
+//! The names that begin with `without_` make the calls of a subject that allocate nothing.
 #![tactic(auto)]
 
 mod calls;
 mod json;
 mod plane;
-mod quiet;
 mod scheme;
 mod told;
 mod transcript;
 mod trees;
+mod without;
 mod words;
 
 use anyhow::Result;

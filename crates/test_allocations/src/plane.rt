@@ -23,7 +23,11 @@ pub type Rows = RowMajorMatrix<Mersenne31>;
 
 /// The elements of the numbers below `count`.
 pub fn elements(alloc: Global, count: u64) -> Result<Vec<Mersenne31>, AllocError> {
-    (0..count).map(Mersenne31::from_u64).collect(alloc)
+    let mut elements = Vec::new(alloc);
+    for n in 0..count {
+        elements.push(Mersenne31::from_u64(n))?;
+    }
+    Ok(elements)
 }
 
 /// The matrix whose row `i` is `[i]`.

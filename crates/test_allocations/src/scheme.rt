@@ -1,5 +1,7 @@
 //! Calls of the scheme, on one batch of a column of 4 rows and one of 16, each opened at two
 //! points.
+ghost use Rattle.std.specs.Prelude.{◌≡◌};
+
 use crate::plane::{Domain, Rows, column, cubic};
 use crate::told::{Stage, Told, before, told};
 use anyhow::{Result, bail};
@@ -13,9 +15,12 @@ use std::alloc::{AllocError, Global};
 
 type Opened = (OpenedValues<Cubic>, Proof);
 
-// Twice as many rows are committed to as there are, and 40 of them are queried.
-fn scheme() -> Scheme {
-    circle_presets::scheme(FriParameters {
+/// The parameters: twice as many rows are committed to as there are, and 40 of them are queried.
+pub fn params() -> FriParameters<()>
+    ensures blowup { result.log_blowup ≡ 1 }
+    ensures final_poly { result.log_final_poly_len ≡ 0 }
+{
+    FriParameters {
         log_blowup: 1,
         log_final_poly_len: 0,
         max_log_arity: 1,
@@ -24,7 +29,12 @@ fn scheme() -> Scheme {
         commit_proof_of_work_bits: 0,
         query_proof_of_work_bits: 0,
         mmcs: (),
-    })
+    }
+}
+
+// The scheme with these parameters.
+fn scheme() -> Scheme {
+    circle_presets::scheme(params())
 }
 
 // The challenger that took in the commitment.

@@ -36,6 +36,20 @@ pub fn told_elements<F: ExtensionField<Mersenne31>, E: Display + Drop>(
     told(answer.map(|elements| digest(&elements)))
 }
 
+/// What is told of calls that return these numbers.
+pub fn told_numbers(numbers: &[u32]) -> Told {
+    let mut sum = 0;
+    for number in numbers {
+        sum = with_number(sum, *number);
+    }
+    Told::of(format_args!("Ok {sum}"))
+}
+
+/// The lowest 32 bits of a number.
+pub fn low_bits(number: usize) -> u32 {
+    (number % (1 << 32)) as u32
+}
+
 /// A number that the coefficients of elements come to, in order.
 pub fn digest<F: ExtensionField<Mersenne31>>(elements: &[F]) -> u32 {
     let mut sum = 0;

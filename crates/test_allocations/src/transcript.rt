@@ -13,8 +13,8 @@ use circle_transcript::CircleMessages;
 use p3_circle::{CirclePcsShape, CircleProverTranscript, Neutral, Point, prover_run};
 use std::alloc::{AllocError, Global};
 
-// The shape of a run of one round over one claim of one column.
-fn shape(alloc: Global) -> Result<CirclePcsShape, AllocError>
+/// The shape of a run of one round over one claim of one column.
+pub fn shape(alloc: Global) -> Result<CirclePcsShape, AllocError>
     ensures widths { IfOk result (λ s. claimed_widths (shape_of s) ≡ 1 ∷ []) }
     ensures rounds { IfOk result (λ s. s.num_commit_rounds ≡ 1) }
     ensures batch { IfOk result (λ s. s.batch_pow_bits ≡ 0) }

@@ -9,9 +9,13 @@ use circle_field::{Cubic, Mersenne31};
 use p3_circle::{extract_lambda, fold_x, fold_y};
 use std::alloc::{AllocError, Global};
 
-// A word of so many entries.
+// A codeword of this many entries.
 fn word(alloc: Global, count: u64) -> Result<Vec<Cubic>, AllocError> {
-    (0..count).map(|i| cubic([i, 1, i])).collect(alloc)
+    let mut word = Vec::new(alloc);
+    for i in 0..count {
+        word.push(cubic([i, 1, i]))?;
+    }
+    Ok(word)
 }
 
 /// `extract_lambda`, with the word that it leaves.

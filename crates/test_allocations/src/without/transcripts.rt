@@ -1,0 +1,162 @@
+//! The calls of transcripts that allocate nothing, of the challenger's crate and of the scheme's.
+ghost use Rattle.std.specs.Prelude.{◌≡◌, [], ◌∷◌, IfOk};
+ghost use Rattle.circle_challenger.specs.Played.{elements_message, element_message, opaque_message};
+ghost use Rattle.circle_challenger.specs.Played.{pow_step, element_challenge};
+ghost use Rattle.circle_challenger.specs.TranscriptState.{due, SameChallenger};
+ghost use Rattle.circle_transcript.specs.Transcript.{due as due_of, numbers};
+ghost use Rattle.test_allocations.specs.Run.{BeginsRun};
+
+use crate::plane::cubic;
+use crate::told::{Stage, Told, before, digest, told_numbers};
+use crate::transcript::shape;
+use anyhow::{Result, bail};
+use circle_challenger::{
+    DomainSeparator, Hierarchy, Interaction, InteractionPattern, Kind, Length, ProverState,
+    Sha256Challenger, TranscriptState, VerifierState,
+};
+use circle_field::{Cubic, Field, Mersenne31};
+use p3_circle::{
+    CircleProverTranscript, CircleTranscriptFailure, CircleVerifierTranscript, Neutral, Point,
+};
+use std::alloc::{AllocError, Global};
+
+const POINT: &str = "point";
+
+const POW: &str = "pow";
+
+const ALPHA: &str = "challenge";
+
+const COMMITMENT: &str = "commitment";
+
+const FINAL: &str = "final";
+
+type Prover<'a> = CircleProverTranscript<'a, Sha256Challenger, Mersenne31, Cubic>;
+
+type Verifier<'a> = CircleVerifierTranscript<'a, Sha256Challenger, Mersenne31, Cubic>;
+
+// The separator of a run with a proof of work of 8 bits.
+fn separator(alloc: Global) -> Result<DomainSeparator, AllocError>
+    ensures { IfOk result (λ s. s.steps ≡ elements_message 3 POINT.now 2 ∷ pow_step POW.now 8
+        ∷ element_challenge 3 ALPHA.now ∷ opaque_message COMMITMENT.now
+        ∷ element_message 3 FINAL.now ∷ elements_message 3 POINT.now 2 ∷ []) }
+{
+    let pair = Interaction::algebra(Hierarchy::Atomic, Kind::Message, POINT, 3, Length::Fixed(2));
+    let steps = vec![in alloc;
+        pair,
+        Interaction::algebra(Hierarchy::Atomic, Kind::Pow, POW, 1, Length::Fixed(8)),
+        Interaction::algebra(Hierarchy::Atomic, Kind::Challenge, ALPHA, 3, Length::Scalar),
+        Interaction::opaque(Hierarchy::Atomic, Kind::Message, COMMITMENT, Length::Scalar),
+        Interaction::algebra(Hierarchy::Atomic, Kind::Message, FINAL, 3, Length::Scalar),
+        pair,
+    ]?;
+    DomainSeparator::new(alloc, 1, "a run", InteractionPattern::new(steps))
+}
+
+// Plays what follows the proof of work.
+fn play_others<S>(transcript: &mut TranscriptState<Sha256Challenger, Mersenne31, S>) -> Cubic
+    requires { due transcript.old ≡ element_challenge 3 ALPHA.now ∷ opaque_message COMMITMENT.now
+        ∷ element_message 3 FINAL.now ∷ elements_message 3 POINT.now 2 ∷ [] }
+    ensures same_reference { SameChallenger transcript.old transcript.new }
+    ensures due { due transcript.new ≡ [] }
+{
+    let drawn: Cubic = transcript.challenge_extension(ALPHA);
+    transcript.observe_opaque(COMMITMENT, &[7u8; 32]);
+    transcript.observe_extension(FINAL, &cubic([7, 8, 9]));
+    transcript.observe_extension_pair(POINT, &cubic([1, 2, 3]), &cubic([4, 5, 6]));
+    drawn
+}
+
+// The witness and what is drawn as the prover, and what is drawn as the verifier.
+fn of_states(separator: &DomainSeparator) -> Option<(Mersenne31, Cubic, Cubic)>
+    requires { separator.now.steps ≡ elements_message 3 POINT.now 2 ∷ pow_step POW.now 8
+        ∷ element_challenge 3 ALPHA.now ∷ opaque_message COMMITMENT.now
+        ∷ element_message 3 FINAL.now ∷ elements_message 3 POINT.now 2 ∷ [] }
+{
+    let points = [cubic([1, 2, 3]), cubic([4, 5, 6])];
+    let (mut prover, mut verifier) = (Sha256Challenger::new(), Sha256Challenger::new());
+    let mut proving = ProverState::<Sha256Challenger, Mersenne31>::new(&mut prover, separator);
+    proving.observe_extensions(POINT, &points);
+    let Some(witness) = proving.observe_pow(POW, 8) else {
+        proving.abort();
+        return None;
+    };
+    let proved = play_others(&mut proving);
+    proving.finish();
+    let mut checking = VerifierState::<Sha256Challenger, Mersenne31>::new(&mut verifier, separator);
+    checking.observe_extensions(POINT, &points);
+    if !checking.observe_pow(POW, 8, witness) {
+        checking.abort();
+        return None;
+    }
+    let checked = play_others(&mut checking);
+    checking.finish();
+    Some((witness, proved, checked))
+}
+
+// What the prover draws before the queries.
+fn prove(transcript: &mut Prover<'_>) -> Result<[Cubic; 3], CircleTranscriptFailure>
+    requires next { BeginsRun (numbers transcript.old) (due_of transcript.old) }
+    requires batch { (numbers transcript.old).batch_pow_bits ≡ 0 }
+    requires commit { (numbers transcript.old).commit_pow_bits ≡ 0 }
+{
+    let values = [cubic([5, 6, 7])];
+    let claims = [(Point::<Cubic>::ZERO, values.as_slice())];
+    let (alpha, _) = transcript.batch_phase(claims.as_slice())?;
+    let bivariate = transcript.first_layer(&[7u8; 32]);
+    let (beta, _) = transcript.commit_round(&[9u8; 32])?;
+    Ok([alpha, bivariate, beta])
+}
+
+// What the verifier draws before the queries.
+fn verify(transcript: &mut Verifier<'_>) -> Result<[Cubic; 3], CircleTranscriptFailure>
+    requires next { BeginsRun (numbers transcript.old) (due_of transcript.old) }
+    requires batch { (numbers transcript.old).batch_pow_bits ≡ 0 }
+    requires commit { (numbers transcript.old).commit_pow_bits ≡ 0 }
+{
+    let values = [cubic([5, 6, 7])];
+    let claims = [(Point::<Cubic>::ZERO, values.as_slice())];
+    let alpha = transcript.batch_phase(claims.as_slice(), Mersenne31::ZERO)?;
+    let bivariate = transcript.first_layer(&[7u8; 32]);
+    let beta = transcript.commit_round(&[9u8; 32], Mersenne31::ZERO)?;
+    Ok([alpha, bivariate, beta])
+}
+
+/// The calls of the challenger's transcripts, all but those that draw numbers.
+pub fn states(alloc: Global, stage: Stage) -> Result<Told> {
+    let separator = separator(alloc)?;
+    if stage == Stage::Before {
+        return Ok(before());
+    }
+    let Some((witness, proved, checked)) = of_states(&separator) else {
+        bail!("no witness passes");
+    };
+    Ok(told_numbers(&[digest(&[witness]), digest(&[proved, checked])]))
+}
+
+/// The calls of the prover's transcript before it draws the indices of the queries.
+pub fn prover(alloc: Global, stage: Stage) -> Result<Told> {
+    let shape = shape(alloc)?;
+    let mut challenger = Sha256Challenger::new();
+    let mut transcript = Prover::new(alloc, &mut challenger, shape)?;
+    if stage == Stage::Before {
+        transcript.abort();
+        return Ok(before());
+    }
+    let drawn = prove(&mut transcript);
+    transcript.abort();
+    Ok(told_numbers(&[digest(&drawn?)]))
+}
+
+/// The calls of the verifier's transcript before it draws the indices of the queries.
+pub fn verifier(alloc: Global, stage: Stage) -> Result<Told> {
+    let shape = shape(alloc)?;
+    let mut challenger = Sha256Challenger::new();
+    let mut transcript = Verifier::new(alloc, &mut challenger, shape)?;
+    if stage == Stage::Before {
+        transcript.abort();
+        return Ok(before());
+    }
+    let drawn = verify(&mut transcript);
+    transcript.abort();
+    Ok(told_numbers(&[digest(&drawn?)]))
+}
