@@ -12,8 +12,8 @@ use Rattle.circle_json.specs.ObjectForm.{object_form}
 use Rattle.circle_json.specs.Objects.{Fields, field, none_left, members_written}
 use Rattle.circle_json.specs.Values.{coefficient_residues, count_written, digest_of, digest_written, residue_of, residues_of, residues_written}
 use Rattle.circle_json.specs.Claims.{batch_fields, matrix_fields, opening_fields, parameters_form, parameters_written, point_fields, short_fields, whole_fields}
-use Rattle.circle_matrix.specs.declared.params.FriParameters.{FriParameters}
-use Rattle.circle_matrix.specs.declared.pcs.BatchMultiOpening.{BatchMultiOpening}
+use Rattle.circle_commit.specs.declared.params.FriParameters.{FriParameters}
+use Rattle.circle_commit.specs.declared.pcs.BatchMultiOpening.{BatchMultiOpening}
 use Rattle.circle_json.specs.Proof.{fri_fields, input_fields as inputs_fields, proof_fields, step_fields}
 use Rattle.circle_relation.specs.declared.proof.CircleCommitPhaseMultiStep.{CircleCommitPhaseMultiStep}
 use Rattle.circle_relation.specs.declared.proof.CircleFriProof.{CircleFriProof}

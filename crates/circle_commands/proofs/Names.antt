@@ -11,7 +11,8 @@ use Rattle.circle_relation.specs.declared.error.InputError.TheVariants as input
 use Rattle.circle_relation.specs.declared.error.ProverError.{ProverError}
 use Rattle.circle_relation.specs.declared.error.ProverError.TheVariants as prover
 use Rattle.circle_commands.specs.Arguments.{Names, name_of}
-use Rattle.circle_commands.specs.Named.{json_name, prove_name, reason_name, shape_name, values_name}
+use Rattle.circle_json.specs.Named.{json_name}
+use Rattle.circle_commands.specs.Named.{prove_name, reason_name, shape_name, values_name}
 use Rattle.circle_commands.specs.declared.failure.Reason.{Reason}
 use Rattle.circle_commands.specs.declared.failure.Reason.TheVariants as reason
 use Rattle.circle_commands.specs.declared.prove.Refusal.{Refusal as Unproved}

@@ -6,7 +6,8 @@ use Rattle.circle_json.specs.declared.error.JsonError.TheVariants as json
 use Rattle.circle_json.specs.declared.error.JsonError.{JsonError}
 use Rattle.serde_json.specs.Errors.{IsMemory}
 use Rattle.serde_json.specs.declared.error.Error.{Error}
-use Rattle.circle_commands.specs.Named.{json_name, reason_name}
+use Rattle.circle_json.specs.Named.{json_name}
+use Rattle.circle_commands.specs.Named.{reason_name}
 use Rattle.circle_commands.specs.declared.failure.Failure.{Failure}
 use Rattle.circle_commands.specs.declared.failure.Failure.TheVariants.{Usage, Input, Json, Unfit}
 use Rattle.circle_commands.specs.declared.failure.Failure.TheVariants.{Refused, Memory}

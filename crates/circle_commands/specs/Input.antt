@@ -4,7 +4,7 @@ use Rattle.std.specs.declared.alloc.Global.{Global}
 use Rattle.circle_field.specs.declared.mersenne31.Mersenne31.{Mersenne31}
 use Rattle.circle_field.specs.Mersenne31.{operations, generators}
 use Rattle.circle_field.specs.Circle.{Coordinates, at, IsOnCircle}
-use Rattle.circle_matrix.specs.Matrix.{IsPowerOfTwo}
+use Rattle.circle_commit.specs.Matrix.{IsPowerOfTwo}
 use Rattle.circle_domain.specs.Order.{natural_order}
 use Rattle.circle_domain.specs.Values.{values_at}
 use Rattle.circle_json.specs.Form.{Form, count_form}

@@ -1,7 +1,5 @@
 -- The names of refusals, letter by letter.
 use Rattle.std.specs.Prelude.{ℕ, List, codes}
-use Rattle.circle_json.specs.declared.error.JsonError.{JsonError}
-use Rattle.circle_json.specs.declared.error.JsonError.TheVariants as json
 use Rattle.circle_matrix.specs.Named.{fri_name}
 use Rattle.circle_relation.specs.Named.{input_name, prover_name}
 use Rattle.circle_commands.specs.declared.failure.Reason.{Reason}
@@ -12,15 +10,6 @@ use Rattle.circle_commands.specs.declared.shape.Refusal.{Refusal as Shapeless}
 use Rattle.circle_commands.specs.declared.shape.Refusal.TheVariants as shape
 use Rattle.circle_commands.specs.declared.values.Refusal.{Refusal as Valueless}
 use Rattle.circle_commands.specs.declared.values.Refusal.TheVariants as values
-
--- the name of a variant
-abbrev pub json_name : JsonError → List ℕ
-json_name json.Memory = codes "Memory"
-json_name json.MissingKey = codes "MissingKey"
-json_name json.UnknownKey = codes "UnknownKey"
-json_name json.WrongKind = codes "WrongKind"
-json_name json.OutOfRange = codes "OutOfRange"
-json_name json.BadHex = codes "BadHex"
 
 -- of a refusal of the command `values`
 abbrev pub values_name : Valueless → List ℕ

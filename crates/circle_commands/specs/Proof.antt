@@ -6,7 +6,7 @@ use Rattle.circle_field.specs.declared.cubic.Cubic.{Cubic}
 use Rattle.circle_field.specs.declared.mersenne31.Mersenne31.{Mersenne31}
 use Rattle.circle_json.specs.Form.{Form}
 use Rattle.circle_merkle.specs.declared.mmcs.ShaMmcs.{ShaMmcs}
-use Rattle.circle_opening.specs.Schemes.{Schemes}
+use Rattle.circle_prover.specs.Schemes.{Schemes}
 use Rattle.circle_commands.specs.Proved.{HavePoints, IsProved}
 use Rattle.circle_commands.specs.Text.{IsLineOf}
 use Rattle.circle_commands.specs.Verified.{IsVerified}

@@ -8,7 +8,7 @@ ghost use Rattle.circle_commands.specs.Text.{IsJsonOf, IsTextOf};
 ghost use Rattle.circle_commands.specs.declared.failure.Reason.{Reason};
 
 use crate::failure::Failure;
-use circle_commit::JsonError;
+use circle_json::JsonError;
 use serde_json::Value;
 use std::alloc::Global;
 

@@ -2,10 +2,11 @@
 ghost use Rattle.std.specs.Prelude.{◌≡◌, ◌≤◌, ◌++◌, codes, length};
 ghost use Rattle.std.specs.Fmt.InlineText.{inline_text};
 ghost use Rattle.circle_commands.specs.Failure.{line_of, status_of};
-ghost use Rattle.circle_commands.specs.Named.{json_name, reason_name};
+ghost use Rattle.circle_commands.specs.Named.{reason_name};
 
 use crate::{prove, shape, values, verify};
-use circle_commit::{FriError, JsonError};
+use circle_commit::{FriError, Named};
+use circle_json::JsonError;
 use p3_circle::ProverError;
 use serde_json::Error as TextError;
 use std::alloc::AllocError;
@@ -61,7 +62,7 @@ impl Failure {
             Failure::Usage => unreadable("usage"),
             Failure::Input => unreadable("input"),
             Failure::Json => unreadable("json"),
-            Failure::Unfit(error) => unreadable(error_name(error)),
+            Failure::Unfit(error) => unreadable(error.name()),
             Failure::Refused(reason) => refused(reason.name()),
             Failure::Memory => refused("Memory"),
         }
@@ -90,20 +91,6 @@ fn with(text: InlineText<LINE_LEN>, more: &str) -> InlineText<LINE_LEN>
     ensures { inline_text result ≡ inline_text text ++ more.now }
 {
     text.and_str(more, LINE_LEN)
-}
-
-// The variant's name.
-fn error_name(error: &JsonError) -> &'static str
-    ensures { result.now ≡ json_name error.now }
-{
-    match error {
-        JsonError::Memory => "Memory",
-        JsonError::MissingKey => "MissingKey",
-        JsonError::UnknownKey => "UnknownKey",
-        JsonError::WrongKind => "WrongKind",
-        JsonError::OutOfRange => "OutOfRange",
-        JsonError::BadHex => "BadHex",
-    }
 }
 
 /// Why a command refuses its input.

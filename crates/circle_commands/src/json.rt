@@ -5,8 +5,8 @@ ghost use Rattle.serde_json.specs.View.{view, items_view};
 ghost use Rattle.circle_commands.specs.Json.{HasItems, IsMissing, IsNoArray, IsPart, pair_form};
 ghost use Rattle.circle_commands.specs.Text.{IsJsonLine};
 
-use circle_commit::{JsonError, JsonForm};
 use circle_field::Mersenne31;
+use circle_json::{JsonError, JsonForm};
 use serde_json::Value;
 use std::alloc::{AllocError, Global};
 

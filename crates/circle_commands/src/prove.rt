@@ -4,11 +4,11 @@ ghost use Rattle.std.specs.Prelude.{◌≡◌, ◌⊎◌, ◌+◌, ◌^◌, ◌<
 ghost use Rattle.std.specs.Prelude.{IfErr, IfOk, IsTrue, MatchResult, OnOk, false, string_bytes};
 ghost use Rattle.std.specs.List.{AllZip};
 ghost use Rattle.circle_challenger.specs.Sha256Challenger.{state_of};
-ghost use Rattle.circle_matrix.specs.DotProduct.{pairwise};
-ghost use Rattle.circle_matrix.specs.Matrix.{IsPowerOfTwo};
-ghost use Rattle.circle_matrix.specs.Pcs.{openings};
+ghost use Rattle.circle_commit.specs.DotProduct.{pairwise};
+ghost use Rattle.circle_commit.specs.Matrix.{IsPowerOfTwo};
+ghost use Rattle.circle_commit.specs.Pcs.{openings};
 ghost use Rattle.circle_json.specs.ObjectForm.{object_form};
-ghost use Rattle.circle_words.specs.Requests.{lists_of};
+ghost use Rattle.circle_codewords.specs.Requests.{lists_of};
 ghost use Rattle.circle_relation.specs.declared.error.ProverError.TheVariants.{Memory};
 ghost use Rattle.circle_commands.specs.Named.{prove_name};
 ghost use Rattle.circle_commands.specs.Reasons.{IsProveReason};
@@ -33,15 +33,14 @@ use crate::values::{is_rectangular, matrix};
 use crate::{json, verify};
 use circle_challenger::CanObserve;
 use circle_commit::{
-    FriParameters, JsonError, JsonForm, Mmcs, OpenedValues, OpeningRequest, RowMajorMatrix,
-    is_power_of_two, log2_strict,
+    FriParameters, Mmcs, OpenedValues, OpeningRequest, RowMajorMatrix, is_power_of_two, log2_strict,
 };
 use circle_field::{Cubic, Mersenne31};
-use circle_json::{has_keys, member};
-use circle_opening::OpeningOver;
+use circle_json::{JsonError, JsonForm, has_keys, member};
 use circle_presets::{
     Challenge, ChallengeMmcs, Challenger, ClaimOn, ProverData, Request, Scheme, Val, ValMmcs,
 };
+use circle_prover::OpeningOver;
 use p3_circle::{CircleDomain, CommittedBatch, Pcs, ProverError, claims_of};
 use serde_json::{Value, json};
 use std::alloc::{AllocError, Global};

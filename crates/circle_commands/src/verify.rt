@@ -3,7 +3,7 @@
 ghost use Rattle.std.specs.Prelude.{◌≡◌, ◌⊎◌, IfOk, IfErr, OnOk};
 ghost use Rattle.circle_json.specs.ObjectForm.{object_form};
 ghost use Rattle.circle_challenger.specs.Sha256Challenger.{state_of};
-ghost use Rattle.circle_matrix.specs.declared.error.FriError.TheVariants.{Memory};
+ghost use Rattle.circle_commit.specs.declared.error.FriError.TheVariants.{Memory};
 ghost use Rattle.circle_relation.specs.StatementOf.{batch_claim, batch_claims};
 ghost use Rattle.circle_commands.specs.Verified.{IsVerified, batch_told, batches_told};
 ghost use Rattle.circle_commands.specs.Verified.{IsUnverified, taken_in};
@@ -12,12 +12,12 @@ ghost use Rattle.circle_commands.specs.Verify.{input_fields};
 use crate::command::Command;
 use crate::failure::Failure;
 use circle_challenger::CanObserve;
-use circle_commit::{CommitmentOpening, FriParameters, JsonError, JsonForm, MatrixOpening};
-use circle_json::{has_keys, member};
-use circle_opening::OpeningOver;
+use circle_commit::{CommitmentOpening, FriParameters, MatrixOpening};
+use circle_json::{JsonError, JsonForm, has_keys, member};
 use circle_presets::{
     Challenge, ChallengeMmcs, Challenger, Claim, ClaimOn, Proof, Scheme, Val, ValMmcs,
 };
+use circle_prover::OpeningOver;
 use p3_circle::{CircleDomain, Neutral, Pcs, Point};
 use serde_json::{Value, json};
 use std::alloc::{AllocError, Global};
