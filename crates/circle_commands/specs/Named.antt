@@ -1,6 +1,6 @@
 -- The names of refusals, letter by letter.
 use Rattle.std.specs.Prelude.{ℕ, List, codes}
-use Rattle.circle_matrix.specs.Named.{fri_name}
+use Rattle.circle_commit.specs.Named.{fri_name}
 use Rattle.circle_relation.specs.Named.{input_name, prover_name}
 use Rattle.circle_commands.specs.declared.failure.Reason.{Reason}
 use Rattle.circle_commands.specs.declared.failure.Reason.TheVariants as reason

@@ -6,11 +6,11 @@ use Rattle.circle_challenger.specs.declared.sha256.Sha256Challenger.{Sha256Chall
 use Rattle.circle_field.specs.declared.cubic.Cubic.{Cubic}
 use Rattle.circle_field.specs.declared.mersenne31.Mersenne31.{Mersenne31}
 use Rattle.circle_domain.specs.declared.domain.CircleDomain.{CircleDomain}
-use Rattle.circle_matrix.specs.Parameters.{with_scheme}
-use Rattle.circle_matrix.specs.declared.matrix.RowMajorMatrix.{RowMajorMatrix}
-use Rattle.circle_matrix.specs.declared.pcs.OpeningRequest.{OpeningRequest}
+use Rattle.circle_commit.specs.Parameters.{with_scheme}
+use Rattle.circle_commit.specs.declared.matrix.RowMajorMatrix.{RowMajorMatrix}
+use Rattle.circle_commit.specs.declared.pcs.OpeningRequest.{OpeningRequest}
 use Rattle.circle_merkle.specs.declared.mmcs.ShaMmcs.{ShaMmcs}
-use Rattle.circle_opening.specs.Schemes.{Schemes}
+use Rattle.circle_prover.specs.Schemes.{Schemes}
 use Rattle.circle_relation.specs.declared.error.ProverError.{ProverError}
 use Rattle.circle_commands.specs.Proved.{AreCommitted, ArePlaced, IsCommitted, IsRequested}
 use Rattle.circle_commands.specs.Proved.{commitments_taken}

@@ -213,7 +213,7 @@ impl From<prove::Refusal> for Failure {
 impl From<verify::Refusal> for Failure {
     ghost use Rattle.circle_commands.specs.Failure.{IsFailureOfRefusal};
     ghost use Rattle.circle_commands.specs.declared.failure.Reason.TheVariants.{Verify};
-    ghost use Rattle.circle_matrix.specs.declared.error.FriError.TheVariants.{Memory};
+    ghost use Rattle.circle_commit.specs.declared.error.FriError.TheVariants.{Memory};
 
     ghost from_gives = { IsFailureOfRefusal Verify Memory };
 
