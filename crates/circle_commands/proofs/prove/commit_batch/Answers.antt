@@ -1,7 +1,6 @@
 use Rattle.std.proofs.Common.{refl, inr}
 use Rattle.circle_commands.proofs.Proving.{are_extended, extended_heights, rows_for_points}
-use Rattle.circle_commands.proofs.Told.{failed}
-use Rattle.circle_commands.proofs.Unproved.{in_order}
+use Rattle.circle_commands.proofs.Unproved.{error-is, in_order}
 use Rattle.circle_commands.proofs.prove.commit_batch.Goals as goal
 
 pub commit-requires : goal.commit-requires
@@ -21,9 +20,9 @@ returns-clause-made c =
 
 pub returns-in_err-commitment-clause-reason : goal.returns-in_err-commitment-clause-reason
 returns-in_err-commitment-clause-reason c =
-    failed c.from_residual-in_err-commitment.result _ _ c.from_residual-in_err-commitment.ensures.1
-    (λ e same. inr (record {
+    error-is _ _ c.in_err-commitment.field-0.0 c.from_residual-in_err-commitment.ensures.1
+    (inr (record {
       evaluations = c.in_ok-evaluations.field-0.items;
       placed = c.in_ok-evaluations.ensures;
-      refuses = in_order _ e ?;
+      refuses = in_order _ _ c.in_err-commitment.field-0.0 c.in_err-commitment.ensures.refused;
     }))
