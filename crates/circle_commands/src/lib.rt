@@ -21,8 +21,8 @@
 //!   reason, and the scheme's refusals are those that its calls promise (`Unproved.IsUnproved`).
 //! - `verify`: the line is `{"verified":true}`, only where `Verified.IsVerified` holds. It refuses
 //!   only where it doesn't hold, for a reason that the scheme has (`Verified.IsUnverified`).
-//! - `shape`: the line is a JSON text of `Shape.shape_written`: the numbers, the layout's label, the
-//!   seed's text and the number of steps of the input's shape.
+//! - `shape`: the line is a JSON text of `Shape.shape_written`: the numbers, the layout's label,
+//!   the seed's text and the number of steps of the input's shape.
 //!
 //! Its files:
 //!
