@@ -11,10 +11,16 @@ returns c =
     let same = ap depth c.in_ok-to_json.ensures.written in
     record {
       text = string_bytes c.in_ok-line.line;
-      ends = c.in_ok-push.ensures.bytes ∙ ap (λ bytes. string_bytes c.in_ok-line.line ++ bytes) (c.in_ok-push.ensures.ascii (omega arith));
+      ends = c.in_ok-push.ensures.bytes ∙ ap (λ bytes. string_bytes c.in_ok-line.line ++ bytes)
+          (c.in_ok-push.ensures.ascii (omega arith));
       stands = record {
         value = view c.in_ok-to_json.field-0;
-        json = record { utf8 = IsUtf8-string_bytes c.in_ok-line.line; is = c.in_ok-line.ensures.reads_back (omega arith) };
+        json =
+            record {
+              utf8 = IsUtf8-string_bytes c.in_ok-line.line;
+              is =
+                  c.in_ok-line.ensures.reads_back (omega arith);
+            };
         reads = c.in_ok-to_json.ensures.reads;
       };
     }
