@@ -1,5 +1,6 @@
 pub mod Accepted
 pub mod Claimed
+pub mod Depth
 pub mod First
 pub mod Heights
 pub mod Pairs
@@ -7,4 +8,6 @@ pub mod Proved
 pub mod Proving
 pub mod Read
 pub mod Rows
+pub mod Texts
+pub mod Unproved
 pub mod Verified

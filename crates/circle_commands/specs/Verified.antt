@@ -1,5 +1,5 @@
 -- When the command `verify` accepts.
-use Rattle.std.specs.Prelude.{◌≡◌, ℕ, List, [], ◌∷◌, map, replicate, Vec}
+use Rattle.std.specs.Prelude.{◌≡◌, ℕ, List, [], ◌∷◌, map, replicate, Vec, codes}
 use Rattle.std.specs.declared.alloc.Global.{Global}
 use Rattle.circle_field.specs.declared.cubic.Cubic.{Cubic}
 use Rattle.circle_field.specs.declared.mersenne31.Mersenne31.{Mersenne31}
@@ -71,3 +71,7 @@ pub record IsUnverified {g : _} {Proof Error : Type 0}
   pub told : batch_claims claims ≡ batches_told input.batches.items
   pub refuses :
       Refuses scheme claims proof (taken_in (replicate 32 0) input.batches.items) left error
+
+-- the line of a proof that is accepted
+abbrev pub verified_line : List ℕ
+verified_line = codes "{\"verified\":true}\n"

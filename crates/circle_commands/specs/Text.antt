@@ -1,11 +1,10 @@
 -- What the bytes of a text stand for.
-use Rattle.std.specs.Prelude.{◌≡◌, ℕ, ◌⊎◌, List, Some, IsUtf8}
+use Rattle.std.specs.Prelude.{◌≡◌, ℕ, ◌++◌, List, Some, IsUtf8, codes}
 use Rattle.circle_json.specs.Form.{Form}
+use Rattle.circle_json.specs.declared.error.JsonError.{JsonError}
+use Rattle.circle_json.specs.declared.error.JsonError.TheVariants.{Memory}
 use Rattle.serde_json.specs.Data.{Data}
 use Rattle.serde_json.specs.Read.{read}
-use Rattle.circle_commands.specs.Failure.{status_of}
-use Rattle.circle_commands.specs.declared.failure.Failure.{Failure}
-use Rattle.circle_commands.specs.declared.failure.Failure.TheVariants.{Memory}
 
 -- the bytes are UTF-8, and a JSON text of the value
 pub record IsJsonOf (text : List ℕ) (value : Data) : Type 0 where
@@ -15,6 +14,12 @@ pub record IsJsonOf (text : List ℕ) (value : Data) : Type 0 where
 -- they are a JSON text of no value
 abbrev pub IsNoJson : List ℕ → Type 0
 IsNoJson text = (value : Data) → ¬ IsJsonOf text value
+
+-- they are a JSON text of the value and a newline
+pub record IsJsonLine (value : Data) (line : List ℕ) : Type 0 where
+  pub text : List ℕ
+  pub ends : line ≡ text ++ codes "\n"
+  pub json : IsJsonOf text value
 
 module _ {Input : Type 0} (form : Form Input) where
   -- they are a JSON text of a value that stands for the input
@@ -31,8 +36,15 @@ module _ {Input : Type 0} (form : Form Input) where
   abbrev pub StandsForNone : List ℕ → Type 0
   StandsForNone text = (input : Input) → ¬ IsTextOf text input
 
-  -- memory was refused, or status 1 tells of an input that isn't so, or status 2 that there is none
-  abbrev pub Refuses : (Input → Type 0) → List ℕ → Failure → Type 0
-  Refuses Is text failure = (failure ≡ Memory)
-      ⊎ (((status_of failure ≡ 1) × StandsFor (λ input. ¬ Is input) text)
-      ⊎ ((status_of failure ≡ 2) × StandsForNone text))
+  -- they are a JSON text of a value that the form refuses for this reason, and so of no input
+  pub record IsUnfit (text : List ℕ) (error : JsonError) : Type 0 where
+    pub value : Data
+    pub json : IsJsonOf text value
+    pub refuses : form.refuses value error
+    pub none : StandsForNone text
+
+  -- they are the text of the input and a newline
+  pub record IsLineOf (input : Input) (line : List ℕ) : Type 0 where
+    pub text : List ℕ
+    pub ends : line ≡ text ++ codes "\n"
+    pub stands : IsTextOf text input
