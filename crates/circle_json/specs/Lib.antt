@@ -6,3 +6,4 @@ pub mod ObjectForm
 pub mod Coefficients
 pub mod Claims
 pub mod Proof
+pub mod Named

@@ -1,7 +1,9 @@
 //! Why a JSON value stands for nothing.
 
 ghost use Rattle.std.specs.Prelude.{◌≡◌};
+ghost use Rattle.circle_json.specs.Named.{json_name};
 
+use circle_matrix::Named;
 use std::alloc::AllocError;
 use thiserror::Error;
 
@@ -26,6 +28,22 @@ pub enum JsonError {
     /// A text isn't made of hexadecimal digits, or of another number of them.
     #[error("BadHex")]
     BadHex,
+}
+
+/// The variant's name.
+impl Named for JsonError {
+    ghost name_of = { json_name };
+
+    fn name(&self) -> &'static str {
+        match self {
+            JsonError::Memory => "Memory",
+            JsonError::MissingKey => "MissingKey",
+            JsonError::UnknownKey => "UnknownKey",
+            JsonError::WrongKind => "WrongKind",
+            JsonError::OutOfRange => "OutOfRange",
+            JsonError::BadHex => "BadHex",
+        }
+    }
 }
 
 impl From<AllocError> for JsonError {

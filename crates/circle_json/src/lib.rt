@@ -20,7 +20,8 @@
 //!   `claims.rt`, `proof.rt`: records.
 //! - In `specs/`, `Form`, `FormFacts`: what a form is, with its laws. `Values`: numbers, elements,
 //!   digests and lists. `Objects`, `ObjectForm`: objects of a list of fields. `Coefficients`: a
-//!   list of which one item stands for itself. `Claims`, `Proof`: the keys of records.
+//!   list of which one item stands for itself. `Claims`, `Proof`: the keys of records. `Named`: the
+//!   names of refusals.
 //! - In `proofs/`: arrays item by item, objects and their keys, values written as objects of their
 //!   parts, parameters.
 #![tactic(auto)]
