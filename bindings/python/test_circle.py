@@ -1,5 +1,5 @@
 #!/usr/bin/env python3
-"""Tests of circle.py, over the stored proofs and the cases of crates/circle_cases/data.
+"""Tests of circle.py, over the stored proofs and the cases of crates/test_cases/data.
 
 What is due of the cases comes from outside of the library.
 """
@@ -20,7 +20,7 @@ sys.path.insert(0, str(pathlib.Path(__file__).resolve().parent))
 import circle  # noqa: E402
 
 TOP = pathlib.Path(__file__).resolve().parent.parent.parent
-DATA = TOP / "crates" / "circle_cases" / "data"
+DATA = TOP / "crates" / "test_cases" / "data"
 PROOFS = TOP / "examples" / "proofs"
 NAMES = sorted(path.name.split(".")[0] for path in PROOFS.glob("*.verify.json"))
 SEVENS = {

@@ -6,11 +6,11 @@
 mod openings;
 mod proofs;
 
+use bench_passes::chains::Operation;
+use bench_passes::timing::{self, Case, Mode};
+use bench_passes::transforms::{Size, Transform};
+use bench_passes::{commitments, evaluations, hashing, tables};
 use circle_field::{Cubic, ExtensionField, Field, Mersenne31};
-use circle_passes::chains::Operation;
-use circle_passes::timing::{self, Case, Mode};
-use circle_passes::transforms::{Size, Transform};
-use circle_passes::{commitments, evaluations, hashing, tables};
 use std::process::ExitCode;
 use std::{env, io};
 

@@ -1,13 +1,13 @@
 //! Lines about the whole scheme: what the proofs of matrices come to, whether they are accepted,
 //! and how long both take, and opening alone.
+use bench_passes::commitments::{Hash, number, numbers};
+use bench_passes::compressions::{self, Proved};
+use bench_passes::evaluations::coefficients;
+use bench_passes::timing::{self, Mode};
+use bench_passes::transforms::Size;
 use circle_challenger::{CanObserve, Sha256Challenger};
 use circle_commit::{FriError, FriParameters, OpenedValues, OpeningRequest, RowMajorMatrix};
 use circle_field::{Cubic, ExtensionField, Field, Mersenne31};
-use circle_passes::commitments::{Hash, number, numbers};
-use circle_passes::compressions::{self, Proved};
-use circle_passes::evaluations::coefficients;
-use circle_passes::timing::{self, Mode};
-use circle_passes::transforms::Size;
 use circle_presets::{Claim, Domain, Known, Proof, ProverData, Request, Scheme, scheme};
 use p3_circle::{CircleDomain, ProverError, claims_of, heights_match_domains};
 use std::alloc::{AllocError, Global};

@@ -1,9 +1,9 @@
 //! Lines about a stored proof: whether it is accepted, and how long reading and verifying it take.
 use crate::openings;
+use bench_passes::timing::{self, Mode};
 use circle_challenger::{CanObserve, Sha256Challenger};
-use circle_commit::{CommitmentOpening, FriParameters, JsonForm, MatrixOpening};
-use circle_json::member;
-use circle_passes::timing::{self, Mode};
+use circle_commit::{CommitmentOpening, FriParameters, MatrixOpening};
+use circle_json::{JsonForm, member};
 use circle_presets::{Claim, ClaimOn, Proof, scheme};
 use p3_circle::{CircleDomain, Neutral, Point};
 use serde_json::Value;

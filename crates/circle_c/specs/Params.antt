@@ -1,6 +1,6 @@
 -- Parameters as C passes them.
 use Rattle.std.specs.Prelude.{◌≡◌, ⊤}
-use Rattle.circle_matrix.specs.declared.params.FriParameters.{FriParameters}
+use Rattle.circle_commit.specs.declared.params.FriParameters.{FriParameters}
 use Rattle.circle_c.specs.declared.params.CircleParams.{CircleParams}
 
 -- the numbers of the parameters

@@ -39,9 +39,9 @@ mod verdict;
 use circle_commands::prove::Input as Statement;
 use circle_commands::verify::Input as Claims;
 use circle_commands::{Failure, shape, values};
-use circle_commit::JsonForm;
-use circle_opening::OpeningOver;
+use circle_json::JsonForm;
 use circle_presets::{Challenge, ChallengeMmcs, Challenger, Val, ValMmcs};
+use circle_prover::OpeningOver;
 pub use params::CircleParams;
 use std::alloc::Global;
 

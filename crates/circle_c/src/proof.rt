@@ -8,9 +8,9 @@ use crate::text;
 use circle_commands::Failure;
 use circle_commands::prove::{self, Input as Statement};
 use circle_commands::verify::Input as Claims;
-use circle_commit::JsonForm;
-use circle_opening::OpeningOver;
+use circle_json::JsonForm;
 use circle_presets::{Challenge, ChallengeMmcs, Challenger, Val, ValMmcs};
+use circle_prover::OpeningOver;
 use std::alloc::{AllocError, Global};
 
 /// Proves the statement that a text has, and answers claims and proof as a line.

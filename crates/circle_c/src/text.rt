@@ -6,7 +6,7 @@ ghost use Rattle.circle_commands.specs.declared.failure.Failure.TheVariants.{Mem
 ghost use Rattle.circle_c.specs.Text.{IsJsonOf, IsNoJson, IsTextOf, StandsForNone};
 
 use circle_commands::Failure;
-use circle_commit::JsonForm;
+use circle_json::JsonForm;
 use serde_json::Value;
 use std::alloc::Global;
 

@@ -3,7 +3,7 @@ ghost use Rattle.std.specs.Prelude.{◌≡◌, ◌⊎◌, IfErr, OnOk};
 ghost use Rattle.circle_commands.specs.Failure.{status_of};
 ghost use Rattle.circle_commands.specs.Verified.{IsVerified};
 ghost use Rattle.circle_commands.specs.declared.failure.Failure.TheVariants.{Memory};
-ghost use Rattle.circle_matrix.specs.declared.error.FriError.TheVariants as fri;
+ghost use Rattle.circle_commit.specs.declared.error.FriError.TheVariants as fri;
 ghost use Rattle.circle_c.specs.Params.{HasParams};
 ghost use Rattle.circle_c.specs.Text.{Refuses, StandsFor};
 
@@ -11,9 +11,10 @@ use crate::params::{CircleParams, are_numbers_of};
 use crate::text;
 use circle_commands::Failure;
 use circle_commands::verify::{self, Input as Claims, Refusal};
-use circle_commit::{FriError, JsonForm};
-use circle_opening::OpeningOver;
+use circle_commit::FriError;
+use circle_json::JsonForm;
 use circle_presets::{Challenge, ChallengeMmcs, Challenger, Val, ValMmcs};
+use circle_prover::OpeningOver;
 use std::alloc::Global;
 
 /// Verifies the proof of the claims that a text has.

@@ -1,7 +1,6 @@
 pub mod Due
 pub mod Grinding
 pub mod Interaction
-pub mod Lanes
 pub mod Least
 pub mod Moves
 pub mod Observing

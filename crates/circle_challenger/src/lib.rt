@@ -1,6 +1,6 @@
 //! Challengers for Fiat-Shamir transcripts: traits whose calls are functions of an abstract state,
 //! the description of a transcript and its seed, drivers that play a described transcript, and a
-//! challenger over SHA-256; beside it SHA-256 of sixteen messages at once.
+//! challenger over SHA-256.
 //!
 //! What is proved:
 //!
@@ -17,27 +17,23 @@
 //!   after it; `finish` asks that no step is left.
 //! - `Sha256Challenger` is the sponge over the digest that the crate `sha2` defines, and its
 //!   `grind` gives the least element that passes.
-//! - `lanes::digests` answers the digests of sixteen messages, as the crate `sha2` defines them,
-//!   which costs about half of what it costs one after another. Trees hash so.
 //!
 //! Its files:
 //!
 //! - In `src/`, `state.rt`: the drivers `ProverState` and `VerifierState` play a described
 //!   transcript on a borrowed challenger. `due.rt`: the steps still due, which contracts alone see.
-//!   `lanes.rt`: sixteen messages side by side.
 //! - In `specs/`, `Step`, `Separator`, `Interaction`: steps and the seed's text. `Observing`,
 //!   `Sampling`, `Grinding`, `Least`, `Played`, `Sponge`, `Sha256Challenger`: the functions of
 //!   states. `Moves`: these of one challenger as one record. `Due`, `TranscriptState`: steps due.
-//!   `Rows`: examples. `Lanes`: words of messages side by side.
+//!   `Rows`: examples.
 //! - In `proofs/`, `Readings`: a seed text can be read in one way. `Witnesses`, `Draws`: searches
-//!   and draws. `Shifts`, `Sixteen`: sixteen messages at once.
+//!   and draws.
 #![tactic(auto)]
 
 pub mod challenger;
 pub mod domain_separator;
 pub mod due;
 pub mod interaction;
-pub mod lanes;
 pub mod pattern;
 pub mod sha256;
 pub mod state;

@@ -1,18 +1,18 @@
 -- Claims that are made of what a verifier knows of batches, and of answered values.
 use Rattle.std.proofs.Common.{◌≡◌, ℕ, List, [], ◌∷◌, length, map, zip, ap, refl, ◌∙◌, arith}
 use Rattle.circle_field.specs.declared.cubic.Cubic.{Cubic}
-use Rattle.circle_matrix.specs.DotProduct.{pairwise}
-use Rattle.circle_matrix.specs.Pcs.{Openings}
-use Rattle.circle_matrix.specs.declared.pcs.CommitmentOpening.{CommitmentOpening}
-use Rattle.circle_matrix.specs.declared.pcs.MatrixOpening.{MatrixOpening}
-use Rattle.circle_matrix.specs.declared.pcs.PointOpening.{PointOpening}
+use Rattle.circle_commit.specs.DotProduct.{pairwise}
+use Rattle.circle_commit.specs.Pcs.{Openings}
+use Rattle.circle_commit.specs.declared.pcs.CommitmentOpening.{CommitmentOpening}
+use Rattle.circle_commit.specs.declared.pcs.MatrixOpening.{MatrixOpening}
+use Rattle.circle_commit.specs.declared.pcs.PointOpening.{PointOpening}
 use Rattle.circle_commit.specs.Claims.{Told, batch_told as all_told, matrix_told as sized, point_told}
 use Rattle.circle_commit.specs.Claims.{matrix_claimed as sized_claim, batch_claimed as sized_claims}
 use Rattle.circle_commit.specs.declared.claims.CommittedBatch.{CommittedBatch}
-use Rattle.circle_words.specs.Requests.{log_of}
+use Rattle.circle_codewords.specs.Requests.{log_of}
 use Rattle.circle_relation.specs.Statement.{BatchClaim, MatrixClaim, PointClaim}
 use Rattle.circle_relation.specs.StatementOf.{point_claim}
-use Rattle.circle_words.specs.Words.{claim_of}
+use Rattle.circle_codewords.specs.Words.{claim_of}
 use Rattle.circle_commands.specs.Proved.{batch_claimed, matrix_claimed, known_of, known_told, logs_of, points_of}
 use Rattle.circle_commands.specs.Verified.{batch_told, batches_told, matrices_told}
 use Rattle.circle_commands.specs.declared.prove.Committed.{Committed}

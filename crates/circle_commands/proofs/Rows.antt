@@ -2,7 +2,7 @@
 use Rattle.std.proofs.Common.{◌≡◌, ℕ, ◌+◌, ◌*◌, ◌<◌, ◌≤◌, List, [], ◌∷◌, ◌++◌, length, take, drop, All, zero, suc, refl, ap, subst, sym, ◌∙◌, arith, length-append, Vec, Global, vec_len, get_or, take_all}
 use Rattle.std.specs.List.{flat_map}
 use Rattle.std.proofs.Math.Seq.{take-append_seam, drop-append_seam}
-use Rattle.circle_matrix.specs.Matrix.{rows_from}
+use Rattle.circle_commit.specs.Matrix.{rows_from}
 use Rattle.circle_commands.specs.Rows.{lists, IsRectangular}
 
 module _ {T : Type 0} where

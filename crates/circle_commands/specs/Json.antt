@@ -1,13 +1,17 @@
--- Members of objects, items of arrays, and which elements a JSON array of two is read as.
-use Rattle.std.specs.Prelude.{◌≡◌, ℕ, List, [], ◌∷◌, Some, None, Result, Ok, Err}
+-- Members of objects, items of arrays, pairs of elements, and rows of them.
+use Rattle.std.specs.Prelude.{◌≡◌, ℕ, List, [], ◌∷◌, map, Some, None, Result, Ok, Err, codes}
+use Rattle.std.proofs.Common.{◌∙◌, ap}
 use Rattle.circle_field.specs.Mersenne31.{residue}
+use Rattle.circle_field.specs.Mersenne31Laws.{same_residue}
 use Rattle.circle_field.specs.declared.mersenne31.Mersenne31.{Mersenne31}
 use Rattle.circle_json.specs.declared.error.JsonError.{JsonError}
 use Rattle.circle_json.specs.declared.error.JsonError.TheVariants.{MissingKey, WrongKind}
-use Rattle.circle_json.specs.Values.{residue_of, in_front}
+use Rattle.circle_json.specs.Form.{Form, told_form}
+use Rattle.circle_json.specs.Values.{count_written, residue_of, residues_written, in_front}
 use Rattle.serde_json.specs.Data.{Data, null, boolean, number, string, array, object}
-use Rattle.serde_json.specs.Data.{Items, no_items, item}
+use Rattle.serde_json.specs.Data.{Items, no_items, item, no_members, member}
 use Rattle.serde_json.specs.Find.{as_array, get}
+use Rattle.serde_json.specs.View.{items_of}
 
 -- the residues of exactly two elements
 abbrev pub pair_of_items : Items → Result (List ℕ) JsonError
@@ -38,9 +42,25 @@ HasItems value items = as_array value ≡ Some items
 abbrev pub IsNoArray : Data → JsonError → Type 0
 IsNoArray value error = (as_array value ≡ None) × (error ≡ WrongKind)
 
--- the two elements that a value is read as, and why it is none
-abbrev pub IsPair : Data → Mersenne31 × Mersenne31 → Type 0
-IsPair value pair = pair_of value ≡ Ok (residue pair.0 ∷ residue pair.1 ∷ [])
+-- the residues of two elements
+abbrev pub pair_residues : Mersenne31 × Mersenne31 → List ℕ
+pair_residues pair = residue pair.0 ∷ residue pair.1 ∷ []
 
-abbrev pub IsNoPair : Data → JsonError → Type 0
-IsNoPair value error = pair_of value ≡ Err error
+pub same_pair : (p q : Mersenne31 × Mersenne31) → pair_residues p ≡ pair_residues q → p ≡ q
+same_pair p q e =
+    let first : residue p.0 ≡ residue q.0 = cc in
+    let second : residue p.1 ≡ residue q.1 = cc in
+    ap (λ x. (x, p.1)) (same_residue p.0 q.0 first)
+    ∙ ap (λ x. (q.0, x)) (same_residue p.1 q.1 second)
+
+-- an array of exactly two elements
+abbrev pub pair_form : Form (Mersenne31 × Mersenne31)
+pair_form = told_form pair_of pair_residues residues_written same_pair
+
+-- the JSON that a list of elements is written as, and the object of the rows
+abbrev pub row_written : List Mersenne31 → Data
+row_written row = array (items_of (map (λ x. count_written (residue x)) row))
+
+abbrev pub rows_written : List (List Mersenne31) → Data
+rows_written rows =
+    object (member (codes "rows") (array (items_of (map row_written rows))) no_members)

@@ -3,7 +3,7 @@ use Rattle.std.specs.Prelude.{Vec, codes, ⊤}
 use Rattle.std.specs.declared.alloc.Global.{Global}
 use Rattle.circle_field.specs.declared.cubic.Cubic.{Cubic}
 use Rattle.circle_field.specs.declared.mersenne31.Mersenne31.{Mersenne31}
-use Rattle.circle_matrix.specs.declared.params.FriParameters.{FriParameters}
+use Rattle.circle_commit.specs.declared.params.FriParameters.{FriParameters}
 use Rattle.circle_json.specs.Form.{Form}
 use Rattle.circle_json.specs.Objects.{Fields, field, none_left}
 use Rattle.circle_commands.specs.declared.prove.Input.{Input}

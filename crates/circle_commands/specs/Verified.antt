@@ -1,17 +1,17 @@
 -- When the command `verify` accepts.
-use Rattle.std.specs.Prelude.{◌≡◌, ℕ, List, [], ◌∷◌, map, replicate, Vec}
+use Rattle.std.specs.Prelude.{◌≡◌, ℕ, List, [], ◌∷◌, map, replicate, Vec, codes}
 use Rattle.std.specs.declared.alloc.Global.{Global}
 use Rattle.circle_field.specs.declared.cubic.Cubic.{Cubic}
 use Rattle.circle_field.specs.declared.mersenne31.Mersenne31.{Mersenne31}
 use Rattle.circle_challenger.specs.Sha256Challenger.{state_of}
 use Rattle.circle_challenger.specs.Sponge.{absorbed}
 use Rattle.circle_challenger.specs.declared.sha256.Sha256Challenger.{Sha256Challenger}
-use Rattle.circle_matrix.specs.Parameters.{with_scheme}
-use Rattle.circle_matrix.specs.declared.pcs.CommitmentOpening.{CommitmentOpening}
-use Rattle.circle_matrix.specs.declared.pcs.MatrixOpening.{MatrixOpening}
+use Rattle.circle_commit.specs.Parameters.{with_scheme}
+use Rattle.circle_commit.specs.declared.pcs.CommitmentOpening.{CommitmentOpening}
+use Rattle.circle_commit.specs.declared.pcs.MatrixOpening.{MatrixOpening}
 use Rattle.circle_domain.specs.declared.domain.CircleDomain.{CircleDomain}
 use Rattle.circle_merkle.specs.declared.mmcs.ShaMmcs.{ShaMmcs}
-use Rattle.circle_opening.specs.Schemes.{Schemes}
+use Rattle.circle_prover.specs.Schemes.{Schemes}
 use Rattle.circle_relation.specs.Accepts.{AcceptsFrom}
 use Rattle.circle_relation.specs.RunOf.{proof_of}
 use Rattle.circle_relation.specs.Statement.{BatchClaim, MatrixClaim}
@@ -71,3 +71,7 @@ pub record IsUnverified {g : _} {Proof Error : Type 0}
   pub told : batch_claims claims ≡ batches_told input.batches.items
   pub refuses :
       Refuses scheme claims proof (taken_in (replicate 32 0) input.batches.items) left error
+
+-- the line of a proof that is accepted
+abbrev pub verified_line : List ℕ
+verified_line = codes "{\"verified\":true}\n"

@@ -1,14 +1,23 @@
 //! The answers that a program gives in place of a result.
-ghost use Rattle.std.specs.Prelude.{◌≡◌};
-ghost use Rattle.circle_commands.specs.Failure.{status_of};
+ghost use Rattle.std.specs.Prelude.{◌≡◌, ◌≤◌, ◌++◌, codes, length};
+ghost use Rattle.std.specs.Fmt.InlineText.{inline_text};
+ghost use Rattle.circle_commands.specs.Failure.{line_of, status_of};
+ghost use Rattle.circle_commands.specs.Named.{reason_name};
 
 use crate::{prove, shape, values, verify};
-use circle_commit::JsonError;
+use circle_commit::{FriError, Named};
+use circle_json::JsonError;
+use p3_circle::ProverError;
 use serde_json::Error as TextError;
 use std::alloc::AllocError;
+use std::fmt;
+use std::fmt::InlineText;
 use std::io;
 use std::io::ErrorKind;
 use thiserror::Error;
+
+/// More than the longest line that a failure has.
+pub const LINE_LEN: usize = 64;
 
 /// Why there is no result. Its text is the JSON that the program answers.
 #[derive(Debug, Drop, Error)]
@@ -25,9 +34,9 @@ pub enum Failure {
     /// The JSON isn't an input of the command.
     #[error("{{\"unreadable\":\"{0}\"}}")]
     Unfit(JsonError),
-    /// The command refuses its input, for the reason of this name.
+    /// The command refuses its input, for this reason.
     #[error("{{\"refused\":\"{0}\"}}")]
-    Refused(&'static str),
+    Refused(Reason),
     /// Memory was refused.
     #[error("{{\"refused\":\"Memory\"}}")]
     Memory,
@@ -43,6 +52,86 @@ impl Failure {
             Failure::Usage | Failure::Input | Failure::Json | Failure::Unfit(_) => 2,
             Failure::Refused(_) | Failure::Memory => 1,
         }
+    }
+
+    /// The line that the failure is written as: its text and a newline.
+    pub fn line(&self) -> InlineText<LINE_LEN>
+        ensures { inline_text result ≡ line_of self.now }
+    {
+        match self {
+            Failure::Usage => unreadable("usage"),
+            Failure::Input => unreadable("input"),
+            Failure::Json => unreadable("json"),
+            Failure::Unfit(error) => unreadable(error.name()),
+            Failure::Refused(reason) => refused(reason.name()),
+            Failure::Memory => refused("Memory"),
+        }
+    }
+}
+
+// The line of an input that can't be read.
+fn unreadable(name: &str) -> InlineText<LINE_LEN>
+    requires { length name.now ≤ 40 }
+    ensures { inline_text result ≡ codes "{\"unreadable\":\"" ++ name.now ++ codes "\"}\n" }
+{
+    with(with(with(InlineText::new(), "{\"unreadable\":\""), name), "\"}\n")
+}
+
+// The line of an input that is refused.
+fn refused(name: &str) -> InlineText<LINE_LEN>
+    requires { length name.now ≤ 40 }
+    ensures { inline_text result ≡ codes "{\"refused\":\"" ++ name.now ++ codes "\"}\n" }
+{
+    with(with(with(InlineText::new(), "{\"refused\":\""), name), "\"}\n")
+}
+
+// The text with another after it.
+fn with(text: InlineText<LINE_LEN>, more: &str) -> InlineText<LINE_LEN>
+    requires { length (inline_text text ++ more.now) ≤ 64 }
+    ensures { inline_text result ≡ inline_text text ++ more.now }
+{
+    text.and_str(more, LINE_LEN)
+}
+
+/// Why a command refuses its input.
+#[derive(Debug, Drop)]
+pub enum Reason {
+    /// The command `values` does.
+    Values(values::Refusal),
+    /// The command `prove` does.
+    Prove(prove::Refusal),
+    /// The command `verify` does.
+    Verify(verify::Refusal),
+    /// The command `shape` does.
+    Shape(shape::Refusal),
+    /// The parameters aren't those that the verifier requires.
+    ParametersDiffer,
+}
+
+impl Reason {
+    /// The name of the refusal.
+    pub fn name(&self) -> &'static str
+        ensures { result.now ≡ reason_name self.now }
+    {
+        match self {
+            Reason::Values(refusal) => refusal.name(),
+            Reason::Prove(refusal) => refusal.name(),
+            Reason::Verify(refusal) => refusal.name(),
+            Reason::Shape(refusal) => refusal.name(),
+            Reason::ParametersDiffer => "ParametersDiffer",
+        }
+    }
+}
+
+/// The refusal's name.
+impl fmt::Display for Reason {
+    ghost use Rattle.std.specs.Prelude.{Some};
+    ghost use Rattle.circle_commands.specs.Named.{reason_name};
+
+    ghost output = { λ reason. Some (reason_name reason) };
+
+    fn fmt<W: fmt::Write>(&self, f: &mut fmt::Formatter<W>) -> fmt::Result {
+        f.write_str(self.name())
     }
 }
 
@@ -91,42 +180,59 @@ impl From<JsonError> for Failure {
 }
 
 impl From<values::Refusal> for Failure {
-    ghost use Rattle.circle_commands.specs.Failure.{IsRefused};
+    ghost use Rattle.circle_commands.specs.Failure.{IsFailureOfRefusal};
+    ghost use Rattle.circle_commands.specs.declared.failure.Reason.TheVariants.{Values};
+    ghost use Rattle.circle_commands.specs.declared.values.Refusal.TheVariants.{Memory};
 
-    ghost from_gives = { λ _ failure. IsRefused failure };
+    ghost from_gives = { IsFailureOfRefusal Values Memory };
 
     fn from(refusal: values::Refusal) -> Failure {
-        Failure::Refused(refusal.name())
+        match refusal {
+            values::Refusal::Memory => Failure::Memory,
+            other => Failure::Refused(Reason::Values(other)),
+        }
     }
 }
 
 impl From<prove::Refusal> for Failure {
-    ghost use Rattle.circle_commands.specs.Failure.{IsRefused};
+    ghost use Rattle.circle_commands.specs.Failure.{IsFailureOfRefusal};
+    ghost use Rattle.circle_commands.specs.declared.failure.Reason.TheVariants.{Prove};
+    ghost use Rattle.circle_commands.specs.declared.prove.Refusal.TheVariants.{Prover};
+    ghost use Rattle.circle_relation.specs.declared.error.ProverError.TheVariants.{Memory};
 
-    ghost from_gives = { λ _ failure. IsRefused failure };
+    ghost from_gives = { IsFailureOfRefusal Prove (Prover Memory) };
 
     fn from(refusal: prove::Refusal) -> Failure {
-        Failure::Refused(refusal.name())
-    }
-}
-
-impl From<shape::Refusal> for Failure {
-    ghost use Rattle.circle_commands.specs.Failure.{IsRefused};
-
-    ghost from_gives = { λ _ failure. IsRefused failure };
-
-    fn from(refusal: shape::Refusal) -> Failure {
-        Failure::Refused(refusal.name())
+        match refusal {
+            prove::Refusal::Prover(ProverError::Memory) => Failure::Memory,
+            other => Failure::Refused(Reason::Prove(other)),
+        }
     }
 }
 
 impl From<verify::Refusal> for Failure {
-    ghost use Rattle.circle_commands.specs.Failure.{IsRefused};
+    ghost use Rattle.circle_commands.specs.Failure.{IsFailureOfRefusal};
+    ghost use Rattle.circle_commands.specs.declared.failure.Reason.TheVariants.{Verify};
+    ghost use Rattle.circle_commit.specs.declared.error.FriError.TheVariants.{Memory};
 
-    ghost from_gives = { λ _ failure. IsRefused failure };
+    ghost from_gives = { IsFailureOfRefusal Verify Memory };
 
     fn from(refusal: verify::Refusal) -> Failure {
-        Failure::Refused(refusal.name())
+        match refusal {
+            FriError::Memory => Failure::Memory,
+            other => Failure::Refused(Reason::Verify(other)),
+        }
+    }
+}
+
+impl From<shape::Refusal> for Failure {
+    ghost use Rattle.circle_commands.specs.declared.failure.Failure.TheVariants.{Refused};
+    ghost use Rattle.circle_commands.specs.declared.failure.Reason.TheVariants.{Shape};
+
+    ghost from_gives = { λ refusal failure. failure ≡ Refused (Shape refusal) };
+
+    fn from(refusal: shape::Refusal) -> Failure {
+        Failure::Refused(Reason::Shape(refusal))
     }
 }
 

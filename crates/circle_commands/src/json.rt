@@ -1,27 +1,20 @@
-//! Reading JSON, and writing it as a line.
-ghost use Rattle.std.specs.Prelude.{MatchResult};
+//! Reading parts of JSON, and writing it as a line.
+ghost use Rattle.std.specs.Prelude.{◌≤◌, IfErr, IfOk, MatchResult, string_bytes};
+ghost use Rattle.serde_json.specs.Data.{depth};
 ghost use Rattle.serde_json.specs.View.{view, items_view};
-ghost use Rattle.circle_commands.specs.Json.{HasItems, IsMissing, IsNoArray};
-ghost use Rattle.circle_commands.specs.Json.{IsNoPair, IsPair, IsPart};
+ghost use Rattle.circle_commands.specs.Json.{HasItems, IsMissing, IsNoArray, IsPart, pair_form};
+ghost use Rattle.circle_commands.specs.Text.{IsJsonLine};
 
-use crate::failure::Failure;
-use circle_commit::{JsonError, JsonForm};
 use circle_field::Mersenne31;
+use circle_json::{JsonError, JsonForm};
 use serde_json::Value;
 use std::alloc::{AllocError, Global};
-use std::io::Read;
-
-/// Reads `input` to its end as one JSON value.
-///
-/// Fails as `Input` where reading fails, as `Json` where the bytes aren't JSON, and as `Memory`.
-pub fn read<R: Read>(alloc: Global, input: &mut R) -> Result<Value, Failure> {
-    let mut bytes = Vec::new(alloc);
-    input.read_to_end(&mut bytes)?;
-    Ok(Value::from_slice(alloc, &bytes)?)
-}
 
 /// The compact text of a value, as a line.
-pub fn line(alloc: Global, value: &Value) -> Result<String, AllocError> {
+pub fn line(alloc: Global, value: &Value) -> Result<String, AllocError>
+    ensures { IfOk result (λ line. depth (view value.now) ≤ 9
+        → IsJsonLine (view value.now) (string_bytes line)) }
+{
     let mut text = value.to_string(alloc)?;
     text.push('\n')?;
     Ok(text)
@@ -49,7 +42,8 @@ fn items(value: &Value) -> Result<&[Value], JsonError>
 ///
 /// Fails as `WrongKind` where the value is no array of two, and as an element does.
 pub fn pair(alloc: Global, value: &Value) -> Result<(Mersenne31, Mersenne31), JsonError>
-    ensures { MatchResult result (IsPair (view value.now)) (IsNoPair (view value.now)) }
+    ensures reads { IfOk result (pair_form.reads (view value.now)) }
+    ensures refuses { IfErr result (pair_form.refuses (view value.now)) }
 {
     let [first, second] = items(value)? else {
         return Err(JsonError::WrongKind);

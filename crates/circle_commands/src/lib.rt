@@ -28,6 +28,7 @@
 //! - In `proofs/`: what they need of lists, rows and batches.
 #![tactic(auto)]
 
+pub mod command;
 pub mod failure;
 mod json;
 pub mod prove;
@@ -36,4 +37,5 @@ pub mod shape;
 pub mod values;
 pub mod verify;
 
-pub use failure::Failure;
+pub use command::Command;
+pub use failure::{Failure, Reason};

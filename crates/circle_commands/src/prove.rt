@@ -1,15 +1,20 @@
 //! The command `prove`: the values that polynomials have at points, and a proof of them.
 
 ghost use Rattle.std.specs.Prelude.{◌≡◌, ◌⊎◌, ◌+◌, ◌^◌, ◌<◌, ◌≤◌, ◌++◌, ◌∷◌, [], All, map};
-ghost use Rattle.std.specs.Prelude.{IfOk, IsTrue, MatchResult, OnOk, false};
+ghost use Rattle.std.specs.Prelude.{IfErr, IfOk, IsTrue, MatchResult, OnOk, false, string_bytes};
 ghost use Rattle.std.specs.List.{AllZip};
 ghost use Rattle.circle_challenger.specs.Sha256Challenger.{state_of};
-ghost use Rattle.circle_matrix.specs.DotProduct.{pairwise};
-ghost use Rattle.circle_matrix.specs.Matrix.{IsPowerOfTwo};
-ghost use Rattle.circle_matrix.specs.Pcs.{openings};
+ghost use Rattle.circle_commit.specs.DotProduct.{pairwise};
+ghost use Rattle.circle_commit.specs.Matrix.{IsPowerOfTwo};
+ghost use Rattle.circle_commit.specs.Pcs.{openings};
 ghost use Rattle.circle_json.specs.ObjectForm.{object_form};
-ghost use Rattle.circle_words.specs.Requests.{lists_of};
+ghost use Rattle.circle_codewords.specs.Requests.{lists_of};
 ghost use Rattle.circle_relation.specs.declared.error.ProverError.TheVariants.{Memory};
+ghost use Rattle.circle_commands.specs.Named.{prove_name};
+ghost use Rattle.circle_commands.specs.Reasons.{IsProveReason};
+ghost use Rattle.circle_commands.specs.Text.{IsLineOf};
+ghost use Rattle.circle_commands.specs.Unproved.{IsFirstUncommitted, IsUncommitted};
+ghost use Rattle.circle_commands.specs.declared.failure.Reason.TheVariants.{Prove};
 ghost use Rattle.circle_commands.specs.Prove.{input_fields, trace_fields};
 ghost use Rattle.circle_commands.specs.Proved.{AreCommitted, ArePlaced, HavePoints, IsCommitted};
 ghost use Rattle.circle_commands.specs.Proved.{IsProved};
@@ -22,21 +27,21 @@ ghost use Rattle.circle_commands.specs.Traces.{IsRefusalOfRows};
 ghost use Rattle.circle_commands.specs.Verified.{IsVerified, batches_told};
 ghost use Rattle.circle_commands.specs.declared.prove.Refusal.TheVariants.{Prover};
 
+use crate::command::Command;
 use crate::failure::Failure;
 use crate::values::{is_rectangular, matrix};
 use crate::{json, verify};
 use circle_challenger::CanObserve;
 use circle_commit::{
-    FriParameters, JsonError, JsonForm, Mmcs, OpenedValues, OpeningRequest, RowMajorMatrix,
-    is_power_of_two, log2_strict,
+    FriParameters, Mmcs, OpenedValues, OpeningRequest, RowMajorMatrix, is_power_of_two, log2_strict,
 };
 use circle_field::{Cubic, Mersenne31};
-use circle_json::{has_keys, member};
-use circle_opening::OpeningOver;
+use circle_json::{JsonError, JsonForm, has_keys, member};
 use circle_presets::{
     Challenge, ChallengeMmcs, Challenger, ClaimOn, ProverData, Request, Scheme, Val, ValMmcs,
 };
-use p3_circle::{CircleDomain, CommittedBatch, ProverError, claims_of};
+use circle_prover::OpeningOver;
+use p3_circle::{CircleDomain, CommittedBatch, Pcs, ProverError, claims_of};
 use serde_json::{Value, json};
 use std::alloc::{AllocError, Global};
 
@@ -131,7 +136,9 @@ pub enum Refusal {
 
 impl Refusal {
     /// The refusal's name.
-    pub(crate) fn name(self) -> &'static str {
+    pub fn name(&self) -> &'static str
+        ensures { result.now ≡ prove_name self.now }
+    {
         match self {
             Refusal::RaggedRows => "RaggedRows",
             Refusal::HeightNotPowerOfTwo => "HeightNotPowerOfTwo",
@@ -156,12 +163,40 @@ impl From<AllocError> for Refusal {
     }
 }
 
-/// The line that answers `value`: claims, parameters and a proof, as [`verify::Input`] reads them.
-///
-/// Fails as [`Input`] is read and then as [`prove`] does.
-pub(crate) fn answer(alloc: Global, value: &Value) -> Result<String, Failure> {
-    let proved = prove(alloc, Input::from_json(alloc, value)?)?;
-    Ok(json::line(alloc, &proved.to_json(alloc)?)?)
+impl Command for Input {
+    ghost use Rattle.circle_commands.specs.Proof.{IsProofLine};
+    ghost use Rattle.circle_commands.specs.Reasons.{IsProveReason};
+
+    ghost form = { ⟦<Input as JsonForm>⟧.form };
+
+    ghost is_result = { IsProofLine
+        ⟦<Challenger as OpeningOver<Val, Challenge, ValMmcs, ChallengeMmcs>>⟧.schemes
+        ⟦<verify::Input as JsonForm>⟧.form };
+
+    ghost is_reason = { IsProveReason
+        ⟦<Challenger as OpeningOver<Val, Challenge, ValMmcs, ChallengeMmcs>>⟧.schemes
+        ⟦<Scheme as Pcs<Challenge, Challenger>>⟧.commit_refuses
+        ⟦<Scheme as Pcs<Challenge, Challenger>>⟧.open_refuses };
+
+    fn read(alloc: Global, value: &Value) -> Result<Input, JsonError> {
+        <Input as JsonForm>::from_json(alloc, value)
+    }
+
+    /// The line of claims, parameters and a proof, as [`verify::Input`] reads them.
+    ///
+    /// Fails as [`prove`] does.
+    fn line(self, alloc: Global) -> Result<String, Failure> {
+        let claims = prove(alloc, self)?;
+        Ok(claims_line(alloc, &claims)?)
+    }
+}
+
+// The compact text of claims, as a line.
+fn claims_line(alloc: Global, claims: &verify::Input) -> Result<String, AllocError>
+    ensures { IfOk result (λ line. IsLineOf ⟦<verify::Input as JsonForm>⟧.form claims.now
+        (string_bytes line)) }
+{
+    json::line(alloc, &claims.to_json(alloc)?)
 }
 
 /// Commits to the batches, each matrix on the standard domain of as many points as it has rows, and
@@ -180,6 +215,10 @@ pub fn prove(alloc: Global, input: Input) -> Result<verify::Input, Refusal>
         ⟦<Challenger as OpeningOver<Val, Challenge, ValMmcs, ChallengeMmcs>>⟧.schemes input) }
     ensures accepted { let o = ⟦<Challenger as OpeningOver<Val, Challenge, ValMmcs, ChallengeMmcs>>⟧
         in IfOk result (λ out. HavePoints input → IsVerified o.schemes out) }
+    ensures reason { let o = ⟦<Challenger as OpeningOver<Val, Challenge, ValMmcs, ChallengeMmcs>>⟧
+        in let p = ⟦<Scheme as Pcs<Challenge, Challenger>>⟧ in IfErr result (λ e.
+        (e ≡ Prover Memory) ⊎ IsProveReason o.schemes p.commit_refuses p.open_refuses input
+        (Prove e)) }
 {
     let Input { batches, params } = input;
     validate_batches(params.log_final_poly_len, &batches)?;
@@ -257,8 +296,11 @@ fn commit_batches<'a>(
     batches: &'a [Vec<Trace>],
 ) -> Result<Vec<Committed<'a>>, ProverError>
     requires { AreFitting batches.now }
-    ensures { IfOk result (λ v. AreCommitted (⟦<ValMmcs as Mmcs<Val>>⟧.commits
+    ensures made { IfOk result (λ v. AreCommitted (⟦<ValMmcs as Mmcs<Val>>⟧.commits
         scheme.now.mmcs) scheme.now.fri_params.log_blowup batches.now v.items) }
+    ensures reason { let p = ⟦<Scheme as Pcs<Challenge, Challenger>>⟧ in IfErr result (λ e.
+        (e ≡ Memory) ⊎ IsFirstUncommitted p.commit_refuses (⟦<ValMmcs as Mmcs<Val>>⟧.commits
+        scheme.now.mmcs) scheme.now batches.now e) }
 {
     let mut committed = Vec::with_capacity(alloc, batches.len())?;
     for batch in batches {
@@ -285,8 +327,10 @@ fn commit_batch<'a>(
     traces: &'a [Trace],
 ) -> Result<Committed<'a>, ProverError>
     requires { All HasFittingRows traces.now }
-    ensures { IfOk result (IsCommitted (⟦<ValMmcs as Mmcs<Val>>⟧.commits scheme.now.mmcs)
+    ensures made { IfOk result (IsCommitted (⟦<ValMmcs as Mmcs<Val>>⟧.commits scheme.now.mmcs)
         scheme.now.fri_params.log_blowup traces.now) }
+    ensures reason { let p = ⟦<Scheme as Pcs<Challenge, Challenger>>⟧ in IfErr result (λ e.
+        (e ≡ Memory) ⊎ IsUncommitted p.commit_refuses scheme.now traces.now e) }
 {
     let (commitment, kept) = scheme.commit(alloc, evaluations(alloc, traces)?)?;
     Ok(Committed {

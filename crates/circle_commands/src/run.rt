@@ -1,30 +1,29 @@
 //! The program as a function of its arguments, its input and its output.
-ghost use Rattle.std.specs.Prelude.{◌≡◌, ◌≤◌, ◌⊎◌, ◌↔◌, IsSome, IfSome, IsErr, IfOk, string_bytes};
-ghost use Rattle.circle_commands.specs.Failure.{IsStatusOf};
-ghost use Rattle.std.specs.Io.KnownBytes.{Appends};
+ghost use Rattle.std.specs.Prelude.{◌≡◌, ◌≤◌, ◌↔◌, Err, IfSome, IsSome, Ok};
+ghost use Rattle.circle_commands.specs.Answer.{IsAnswer};
 ghost use Rattle.circle_commands.specs.Arguments.{Names, NamesCommand};
+ghost use Rattle.circle_commands.specs.Program.{HasRun, IsOfInput, IsTold, IsWritten};
+ghost use Rattle.circle_commands.specs.declared.failure.Failure.TheVariants.{Usage};
+ghost use Rattle.circle_commands.specs.declared.run.CommandName.TheVariants as names;
 
+use crate::command::{Command, answer};
 use crate::failure::Failure;
-use crate::{json, prove, shape, values, verify};
+use crate::{prove, shape, values, verify};
 use std::alloc::Global;
-use std::fmt::InlineText;
 use std::io::{Read, Write};
-
-/// More than the longest line that a failure has.
-const FAILURE_LEN: usize = 64;
 
 /// What the program can be asked to do.
 #[derive(Clone, Copy)]
-enum Command {
+enum CommandName {
     Values,
     Prove,
     Verify,
     Shape,
 }
 
-impl Command {
+impl CommandName {
     // The command that the arguments name, if they are one name of a command.
-    fn from_args(args: &[String]) -> Option<Command>
+    fn from_args(args: &[String]) -> Option<CommandName>
         ensures some { IsSome result ↔ NamesCommand args.now }
         ensures named { IfSome result (Names args.now) }
     {
@@ -32,10 +31,10 @@ impl Command {
             return None;
         };
         match name.as_str() {
-            "values" => Some(Command::Values),
-            "prove" => Some(Command::Prove),
-            "verify" => Some(Command::Verify),
-            "shape" => Some(Command::Shape),
+            "values" => Some(CommandName::Values),
+            "prove" => Some(CommandName::Prove),
+            "verify" => Some(CommandName::Verify),
+            "shape" => Some(CommandName::Shape),
             _ => None,
         }
     }
@@ -50,51 +49,98 @@ impl Command {
 /// then JSON that isn't an input of the command, then what the command refuses.
 pub fn run<R: Read, W: Write>(alloc: Global, args: &[String], input: &mut R, output: &mut W) -> u8
     ensures status { result ≤ 2 }
-    ensures usage { ¬ NamesCommand args.now → ¬ (result ≡ 0) }
+    ensures usage { ¬ NamesCommand args.now
+        → IsTold (Err Usage) (W.contents output.old) (W.contents output.new) result }
     ensures unread { ¬ NamesCommand args.now → input.new ≡ input.old }
+    ensures values { let c = ⟦<values::Input as Command>⟧ in Names args.now names.Values
+        → HasRun (IsAnswer c.form c.is_result c.is_reason) (R.remaining input.old)
+        (R.remaining input.new) (W.contents output.old) (W.contents output.new) result }
+    ensures prove { let c = ⟦<prove::Input as Command>⟧ in Names args.now names.Prove
+        → HasRun (IsAnswer c.form c.is_result c.is_reason) (R.remaining input.old)
+        (R.remaining input.new) (W.contents output.old) (W.contents output.new) result }
+    ensures verify { let c = ⟦<verify::Input as Command>⟧ in Names args.now names.Verify
+        → HasRun (IsAnswer c.form c.is_result c.is_reason) (R.remaining input.old)
+        (R.remaining input.new) (W.contents output.old) (W.contents output.new) result }
+    ensures shape { let c = ⟦<shape::Input as Command>⟧ in Names args.now names.Shape
+        → HasRun (IsAnswer c.form c.is_result c.is_reason) (R.remaining input.old)
+        (R.remaining input.new) (W.contents output.old) (W.contents output.new) result }
 {
-    finish(answer(alloc, args, input), output)
+    match CommandName::from_args(args) {
+        Some(name) => run_named(alloc, name, input, output),
+        None => refuse(&Failure::Usage, output),
+    }
 }
 
-/// Writes the answer as one line, and gives the status that the program ends with.
-pub fn finish<W: Write>(answer: Result<String, Failure>, output: &mut W) -> u8
-    ensures range { result ≤ 2 }
-    ensures status { IsStatusOf answer result }
-    ensures written { IfOk answer (λ text. ¬ (result ≡ 1)
-        → Appends (W.contents output.old) (W.contents output.new) (string_bytes text)) }
+// Runs the command of this name.
+fn run_named<R: Read, W: Write>(
+    alloc: Global,
+    name: CommandName,
+    input: &mut R,
+    output: &mut W,
+) -> u8
+    ensures status { result ≤ 2 }
+    ensures values { let c = ⟦<values::Input as Command>⟧ in name ≡ names.Values
+        → HasRun (IsAnswer c.form c.is_result c.is_reason) (R.remaining input.old)
+        (R.remaining input.new) (W.contents output.old) (W.contents output.new) result }
+    ensures prove { let c = ⟦<prove::Input as Command>⟧ in name ≡ names.Prove
+        → HasRun (IsAnswer c.form c.is_result c.is_reason) (R.remaining input.old)
+        (R.remaining input.new) (W.contents output.old) (W.contents output.new) result }
+    ensures verify { let c = ⟦<verify::Input as Command>⟧ in name ≡ names.Verify
+        → HasRun (IsAnswer c.form c.is_result c.is_reason) (R.remaining input.old)
+        (R.remaining input.new) (W.contents output.old) (W.contents output.new) result }
+    ensures shape { let c = ⟦<shape::Input as Command>⟧ in name ≡ names.Shape
+        → HasRun (IsAnswer c.form c.is_result c.is_reason) (R.remaining input.old)
+        (R.remaining input.new) (W.contents output.old) (W.contents output.new) result }
 {
-    match answer {
-        Ok(text) => write_line(output, text.as_bytes(), 0),
-        Err(failure) => {
-            let line = InlineText::<FAILURE_LEN>::of(format_args!("{failure}\n"));
-            write_line(output, line.as_str().as_bytes(), failure.status())
-        }
+    match name {
+        CommandName::Values => run_command::<values::Input, R, W>(alloc, input, output),
+        CommandName::Prove => run_command::<prove::Input, R, W>(alloc, input, output),
+        CommandName::Verify => run_command::<verify::Input, R, W>(alloc, input, output),
+        CommandName::Shape => run_command::<shape::Input, R, W>(alloc, input, output),
     }
+}
+
+// Runs the command that takes these inputs.
+fn run_command<T: Command, R: Read, W: Write>(
+    alloc: Global,
+    input: &mut R,
+    output: &mut W,
+) -> u8
+    ensures status { result ≤ 2 }
+    ensures run { HasRun (IsAnswer T.form T.is_result T.is_reason) (R.remaining input.old)
+        (R.remaining input.new) (W.contents output.old) (W.contents output.new) result }
+{
+    match answer_input::<T, R>(alloc, input) {
+        Ok(line) => write_line(output, line.as_bytes(), 0),
+        Err(failure) => refuse(&failure, output),
+    }
+}
+
+// The command's answer of the text that is read to the end of the input.
+fn answer_input<T: Command, R: Read>(alloc: Global, input: &mut R) -> Result<String, Failure>
+    ensures { IsOfInput (IsAnswer T.form T.is_result T.is_reason) (R.remaining input.old)
+        (R.remaining input.new) result }
+{
+    let mut text = Vec::new(alloc);
+    input.read_to_end(&mut text)?;
+    answer::<T>(alloc, &text)
+}
+
+/// Writes the line of a failure, and gives the status that the program ends with: the failure's,
+/// but 1 where writing fails.
+pub fn refuse<W: Write>(failure: &Failure, output: &mut W) -> u8
+    ensures range { result ≤ 2 }
+    ensures told { IsTold (Err failure.now) (W.contents output.old) (W.contents output.new) result }
+{
+    write_line(output, failure.line().as_str().as_bytes(), failure.status())
 }
 
 // Writes the whole line at once; the status is 1 where that fails.
 fn write_line<W: Write>(output: &mut W, line: &[u8], status: u8) -> u8
-    ensures status { (result ≡ status) ⊎ (result ≡ 1) }
-    ensures written { ¬ (result ≡ 1)
-        → Appends (W.contents output.old) (W.contents output.new) line.now }
+    ensures { IsWritten status line.now (W.contents output.old) (W.contents output.new) result }
 {
     if output.write_all(line).is_err() || output.flush().is_err() {
         return 1;
     }
     status
-}
-
-// The line of the command's result.
-fn answer<R: Read>(alloc: Global, args: &[String], input: &mut R) -> Result<String, Failure>
-    ensures unread { ¬ NamesCommand args.now → input.new ≡ input.old }
-    ensures usage { ¬ NamesCommand args.now → IsErr result }
-{
-    let command = Command::from_args(args).ok_or(Failure::Usage)?;
-    let value = json::read(alloc, input)?;
-    match command {
-        Command::Values => values::answer(alloc, &value),
-        Command::Prove => prove::answer(alloc, &value),
-        Command::Verify => verify::answer(alloc, &value),
-        Command::Shape => shape::answer(alloc, &value),
-    }
 }

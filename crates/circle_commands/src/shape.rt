@@ -1,15 +1,18 @@
 //! The command `shape`: what fixes the transcript of a run.
 
-ghost use Rattle.std.specs.Prelude.{◌≡◌, ◌≤◌, ◌↔◌, IfOk, IfErr, IsErrOf};
+ghost use Rattle.std.specs.Prelude.{◌≡◌, ◌≤◌, ◌↔◌, IfOk, IfErr, IsErrOf, string_bytes};
 ghost use Rattle.serde_json.specs.View.{view};
-ghost use Rattle.circle_json.specs.Objects.{ReadsObject, RefusesObject};
-ghost use Rattle.circle_commands.specs.Shape.{input_fields, shape_of_input, HasRoom};
+ghost use Rattle.circle_transcript.specs.ShapeOf.{shape_of};
+ghost use Rattle.circle_commands.specs.Named.{shape_name};
+ghost use Rattle.circle_commands.specs.Shape.{HasRoom, shape_object, shape_of_input};
+ghost use Rattle.circle_commands.specs.Shape.{shape_written};
 
+use crate::command::Command;
 use crate::failure::Failure;
 use crate::json;
-use circle_commit::{FriParameters, JsonError};
-use circle_field::{Cubic, Mersenne31};
-use circle_json::{has_keys, member};
+use circle_commit::FriParameters;
+use circle_field::{Cubic, ExtensionField, Mersenne31};
+use circle_json::{JsonError, has_keys, member};
 use circle_transcript::CirclePcsShape;
 use serde_json::{Value, json};
 use std::alloc::{AllocError, Global};
@@ -42,7 +45,9 @@ pub enum Refusal {
 
 impl Refusal {
     /// The refusal's name.
-    pub(crate) fn name(self) -> &'static str {
+    pub fn name(&self) -> &'static str
+        ensures { result.now ≡ shape_name self.now }
+    {
         match self {
             Refusal::HeightTooSmall => "HeightTooSmall",
             Refusal::HeightTooLarge => "HeightTooLarge",
@@ -50,16 +55,22 @@ impl Refusal {
     }
 }
 
-impl Input {
-    /// The input that a JSON value is:
-    /// `{"log_max_height":n,"opened_widths":[[[n..]..]..],"params":..}`.
-    ///
-    /// Fails as `WrongKind` where the value is no object, as `MissingKey` and then as `UnknownKey`
-    /// where its keys are others, and then as its members do.
-    pub fn from_json(alloc: Global, value: &Value) -> Result<Input, JsonError>
-        ensures reads { IfOk result (ReadsObject input_fields (view value.now)) }
-        ensures refuses { IfErr result (RefusesObject input_fields (view value.now)) }
-    {
+/// An object of `log_max_height`, the `opened_widths` and the `params`.
+impl Command for Input {
+    ghost use Rattle.circle_json.specs.ObjectForm.{object_form};
+    ghost use Rattle.circle_transcript.specs.ShapeOf.{shape_of};
+    ghost use Rattle.circle_commands.specs.Reasons.{IsShapeReason};
+    ghost use Rattle.circle_commands.specs.Shape.{input_fields, shape_of_input, shape_written};
+    ghost use Rattle.circle_commands.specs.Text.{IsJsonLine};
+
+    ghost form = { object_form input_fields };
+
+    ghost is_result = { λ input. IsJsonLine (shape_written
+        ⟦<Cubic as ExtensionField<Mersenne31>>⟧.DEGREE (shape_of (shape_of_input input))) };
+
+    ghost is_reason = { IsShapeReason };
+
+    fn read(alloc: Global, value: &Value) -> Result<Input, JsonError> {
         has_keys(value, &["log_max_height", "opened_widths", "params"])?;
         Ok(Input {
             log_max_height: member(alloc, value, "log_max_height")?,
@@ -67,15 +78,15 @@ impl Input {
             params: member(alloc, value, "params")?,
         })
     }
-}
 
-/// The line that answers `value`: the shape's numbers, the number of steps of its transcript, how
-/// the claims are grouped, and the text that the transcript is seeded with.
-///
-/// Fails as [`Input::from_json`] and then as [`shape`] does.
-pub fn answer(alloc: Global, value: &Value) -> Result<String, Failure> {
-    let shape = shape(Input::from_json(alloc, value)?)?;
-    Ok(json::line(alloc, &shown(alloc, &shape)?)?)
+    /// The line of the shape's numbers, the number of steps of its transcript, how the claims are
+    /// grouped, and the text that the transcript is seeded with.
+    ///
+    /// Fails as [`shape`] does.
+    fn line(self, alloc: Global) -> Result<String, Failure> {
+        let shape = shape(self)?;
+        Ok(json::line(alloc, &shown(alloc, &shape)?)?)
+    }
 }
 
 /// The shape of a run with the input's parameters and claims.
@@ -104,17 +115,35 @@ pub fn shape(input: Input) -> Result<CirclePcsShape, Refusal>
     Ok(CirclePcsShape::new(&params, opened_widths, log_max_height, EXTRA_INDEX_BITS))
 }
 
-// What is answered of a shape.
+// The object of a shape's numbers and digits.
 fn shown(alloc: Global, shape: &CirclePcsShape) -> Result<Value, AllocError>
     requires final_poly { shape.now.log_final_poly_len ≤ 63 }
+    ensures { IfOk result (λ value. view value ≡ shape_written
+        ⟦<Cubic as ExtensionField<Mersenne31>>⟧.DEGREE (shape_of shape.now)) }
 {
     let separator = shape.domain_separator::<Mersenne31, Cubic>(alloc)?;
-    let layout = &separator.labels()[1];
+    let layout = hex::encode(alloc, separator.labels()[1].as_slice())?;
+    let seed = hex::encode(alloc, separator.text())?;
+    let steps = separator.pattern().steps().len();
+    object(alloc, shape, layout, seed, steps)
+}
+
+// The object of a shape's numbers, these digits of its layout and its seed, and so many steps.
+fn object(
+    alloc: Global,
+    shape: &CirclePcsShape,
+    layout: String,
+    seed: String,
+    steps: usize,
+) -> Result<Value, AllocError>
+    ensures { IfOk result (λ value. view value ≡ shape_object shape.now.index_bits
+        (string_bytes layout) shape.now.num_commit_rounds (string_bytes seed) steps) }
+{
     json!(in alloc; {
         "index_bits": shape.index_bits,
-        "layout": hex::encode(alloc, layout.as_slice())?,
+        "layout": layout,
         "num_commit_rounds": shape.num_commit_rounds,
-        "seed": hex::encode(alloc, separator.text())?,
-        "steps": separator.pattern().steps().len()
+        "seed": seed,
+        "steps": steps
     })
 }

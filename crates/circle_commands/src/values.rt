@@ -3,16 +3,20 @@ ghost use Rattle.std.specs.Prelude.{◌≡◌, ◌<◌, ◌↔◌, length, All, 
 ghost use Rattle.std.specs.Prelude.{vec_len};
 ghost use Rattle.circle_field.specs.Circle.{IsOnCircle, at};
 ghost use Rattle.circle_field.specs.Mersenne31.{operations};
-ghost use Rattle.circle_matrix.specs.RowMajorMatrix.{rows as matrix_rows, width_of, height_of};
+ghost use Rattle.serde_json.specs.View.{view};
+ghost use Rattle.circle_commit.specs.RowMajorMatrix.{rows as matrix_rows, width_of, height_of};
+ghost use Rattle.circle_commands.specs.Json.{rows_written};
+ghost use Rattle.circle_commands.specs.Named.{values_name};
 ghost use Rattle.circle_commands.specs.Rows.{lists, IsRectangular, row_length};
 ghost use Rattle.circle_commands.specs.Input.{HasFittingHeight, HasFittingSize, HasPoint};
 ghost use Rattle.circle_commands.specs.Input.{HasRectangle, IsFittingHeight, values_of};
 
+use crate::command::Command;
 use crate::failure::Failure;
 use crate::json;
-use circle_commit::{JsonError, JsonForm, Matrix, RowMajorMatrix, is_power_of_two};
+use circle_commit::{Matrix, RowMajorMatrix, is_power_of_two};
 use circle_field::{Field, Mersenne31};
-use circle_json::{has_keys, member};
+use circle_json::{JsonError, JsonForm, has_keys, member};
 use circle_plane::{CfftView, CircleDomain, CircleEvaluations, Point};
 use serde_json::{Value, json};
 use std::alloc::{AllocError, Global};
@@ -53,7 +57,9 @@ pub enum Refusal {
 
 impl Refusal {
     /// The refusal's name.
-    pub(crate) fn name(self) -> &'static str {
+    pub fn name(&self) -> &'static str
+        ensures { result.now ≡ values_name self.now }
+    {
         match self {
             Refusal::DomainTooSmall => "DomainTooSmall",
             Refusal::DomainTooLarge => "DomainTooLarge",
@@ -75,18 +81,22 @@ impl From<AllocError> for Refusal {
     }
 }
 
-impl Input {
-    ghost use Rattle.serde_json.specs.View.{view};
-    ghost use Rattle.circle_commands.specs.Input.{IsInput, RefusesInput};
+/// An object of the `coefficients`, `log_n` and the `shift`, an array of its two coordinates.
+impl Command for Input {
+    ghost use Rattle.std.specs.Prelude.{List, ℕ};
+    ghost use Rattle.circle_json.specs.ObjectForm.{object_form};
+    ghost use Rattle.circle_commands.specs.Input.{input_fields, values_of};
+    ghost use Rattle.circle_commands.specs.Json.{rows_written};
+    ghost use Rattle.circle_commands.specs.Reasons.{IsValuesReason};
+    ghost use Rattle.circle_commands.specs.Text.{IsJsonLine};
 
-    /// The input that a JSON value is: `{"coefficients":[[E..]..],"log_n":n,"shift":[E,E]}`.
-    ///
-    /// Fails as `WrongKind` where the value is no object, as `MissingKey` and then as `UnknownKey`
-    /// where its keys are others, and then as its members do.
-    pub fn from_json(alloc: Global, value: &Value) -> Result<Input, JsonError>
-        ensures reads { IfOk result (IsInput (view value.now)) }
-        ensures refuses { IfErr result (RefusesInput (view value.now)) }
-    {
+    ghost form = { object_form (input_fields ⟦<Vec<Vec<Mersenne31>> as JsonForm>⟧.form) };
+
+    ghost is_result = { λ input. IsJsonLine (rows_written (values_of input)) };
+
+    ghost is_reason = { IsValuesReason };
+
+    fn read(alloc: Global, value: &Value) -> Result<Input, JsonError> {
         has_keys(value, &["coefficients", "log_n", "shift"])?;
         let shift = json::part(value, "shift")?;
         Ok(Input {
@@ -95,15 +105,14 @@ impl Input {
             shift: json::pair(alloc, shift)?,
         })
     }
-}
 
-/// The line that answers `value`: `{"rows":[[E..]..]}`, in natural order.
-///
-/// Fails as [`Input::from_json`] and then as [`values_at_points`] does.
-pub fn answer(alloc: Global, value: &Value) -> Result<String, Failure> {
-    let input = Input::from_json(alloc, value)?;
-    let values = values_at_points(alloc, &input)?;
-    Ok(json::line(alloc, &shown(alloc, &values)?)?)
+    /// The line `{"rows":[[E..]..]}`, in natural order.
+    ///
+    /// Fails as [`values_at_points`] does.
+    fn line(self, alloc: Global) -> Result<String, Failure> {
+        let values = values_at_points(alloc, &self)?;
+        Ok(json::line(alloc, &shown(alloc, &values)?)?)
+    }
 }
 
 /// The values of the polynomials at the points of the domain, in natural order.
@@ -194,8 +203,11 @@ pub(crate) fn matrix(
     Ok(RowMajorMatrix::new(entries, width))
 }
 
-// The rows, in natural order.
-fn shown(alloc: Global, values: &Values) -> Result<Value, AllocError> {
+// The object of the rows, in natural order.
+fn shown(alloc: Global, values: &Values) -> Result<Value, AllocError>
+    ensures { IfOk result (λ value. view value
+        ≡ rows_written (⟦<Values as Matrix<Mersenne31>>⟧.rows values.now)) }
+{
     let mut rows = Vec::with_capacity(alloc, values.height())?;
     for r in 0..values.height() {
         rows.push(Vec::from_slice(alloc, values.row(r))?.to_json(alloc)?)?;

@@ -3,27 +3,30 @@
 ghost use Rattle.std.specs.Prelude.{◌≡◌, ◌⊎◌, IfOk, IfErr, OnOk};
 ghost use Rattle.circle_json.specs.ObjectForm.{object_form};
 ghost use Rattle.circle_challenger.specs.Sha256Challenger.{state_of};
-ghost use Rattle.circle_matrix.specs.declared.error.FriError.TheVariants.{Memory};
+ghost use Rattle.circle_commit.specs.declared.error.FriError.TheVariants.{Memory};
 ghost use Rattle.circle_relation.specs.StatementOf.{batch_claim, batch_claims};
 ghost use Rattle.circle_commands.specs.Verified.{IsVerified, batch_told, batches_told};
 ghost use Rattle.circle_commands.specs.Verified.{IsUnverified, taken_in};
 ghost use Rattle.circle_commands.specs.Verify.{input_fields};
 
+use crate::command::Command;
 use crate::failure::Failure;
-use crate::json;
 use circle_challenger::CanObserve;
-use circle_commit::{CommitmentOpening, FriParameters, JsonError, JsonForm, MatrixOpening};
-use circle_json::{has_keys, member};
-use circle_opening::OpeningOver;
+use circle_commit::{CommitmentOpening, FriParameters, MatrixOpening};
+use circle_json::{JsonError, JsonForm, has_keys, member};
 use circle_presets::{
     Challenge, ChallengeMmcs, Challenger, Claim, ClaimOn, Proof, Scheme, Val, ValMmcs,
 };
+use circle_prover::OpeningOver;
 use p3_circle::{CircleDomain, Neutral, Pcs, Point};
 use serde_json::{Value, json};
 use std::alloc::{AllocError, Global};
 
 /// Why claims or a proof are refused.
 pub use circle_presets::VerifierError as Refusal;
+
+/// The line of a proof that is accepted.
+const VERIFIED: &str = "{\"verified\":true}\n";
 
 /// What the command is given.
 #[derive(Drop)]
@@ -60,12 +63,32 @@ impl JsonForm for Input {
     }
 }
 
-/// The line that answers `value`: `{"verified":true}`.
-///
-/// Fails as [`Input`] is read and then as [`verify`] does.
-pub(crate) fn answer(alloc: Global, value: &Value) -> Result<String, Failure> {
-    verify(alloc, Input::from_json(alloc, value)?)?;
-    Ok(json::line(alloc, &json!(in alloc; {"verified": true})?)?)
+impl Command for Input {
+    ghost use Rattle.std.specs.Prelude.{◌≡◌};
+    ghost use Rattle.circle_commands.specs.Reasons.{IsVerifyReason};
+    ghost use Rattle.circle_commands.specs.Verified.{IsVerified, verified_line};
+
+    ghost form = { ⟦<Input as JsonForm>⟧.form };
+
+    ghost is_result = { λ input line. IsVerified
+        ⟦<Challenger as OpeningOver<Val, Challenge, ValMmcs, ChallengeMmcs>>⟧.schemes input
+        × (line ≡ verified_line) };
+
+    ghost is_reason = { IsVerifyReason
+        ⟦<Challenger as OpeningOver<Val, Challenge, ValMmcs, ChallengeMmcs>>⟧.schemes
+        (λ i. i.proof) ⟦<Scheme as Pcs<Challenge, Challenger>>⟧.verify_refuses };
+
+    fn read(alloc: Global, value: &Value) -> Result<Input, JsonError> {
+        <Input as JsonForm>::from_json(alloc, value)
+    }
+
+    /// The line `{"verified":true}`.
+    ///
+    /// Fails as [`verify`] does.
+    fn line(self, alloc: Global) -> Result<String, Failure> {
+        verify(alloc, self)?;
+        Ok(String::from_str(alloc, VERIFIED)?)
+    }
 }
 
 /// Verifies the input's proof of its claims, from the challenger that took in nothing but the

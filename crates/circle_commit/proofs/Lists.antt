@@ -2,7 +2,7 @@
 use Rattle.std.specs.Prelude.{◌≡◌, ℕ, ◌+◌, ◌<◌, List, [], ◌∷◌, ◌++◌, length, map, take, slice_index_or, zip}
 use Rattle.std.proofs.Common.{refl, sym, ◌∙◌, ap, arith}
 use Rattle.std.proofs.lemmas.List.{map-append, map-id, map_more, take_all}
-use Rattle.circle_matrix.specs.DotProduct.{pairwise}
+use Rattle.circle_commit.specs.DotProduct.{pairwise}
 
 -- one more item that is pushed: by h the made items are what by g the items of a list are
 pub mapped-more : {A B D : Type 0} (g : A → D) (h : B → D) (xs : List A) (i n : ℕ) (x : A) (old new : List B) (w : B) → n ≡ i + 1 →

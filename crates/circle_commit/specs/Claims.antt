@@ -1,10 +1,10 @@
 -- The claims that a verifier is handed, told by their parts.
 use Rattle.std.specs.Prelude.{List, map, zip, Vec}
 use Rattle.std.specs.declared.alloc.Global.{Global}
-use Rattle.circle_matrix.specs.DotProduct.{pairwise}
-use Rattle.circle_matrix.specs.declared.pcs.CommitmentOpening.{CommitmentOpening}
-use Rattle.circle_matrix.specs.declared.pcs.MatrixOpening.{MatrixOpening}
-use Rattle.circle_matrix.specs.declared.pcs.PointOpening.{PointOpening}
+use Rattle.circle_commit.specs.DotProduct.{pairwise}
+use Rattle.circle_commit.specs.declared.pcs.CommitmentOpening.{CommitmentOpening}
+use Rattle.circle_commit.specs.declared.pcs.MatrixOpening.{MatrixOpening}
+use Rattle.circle_commit.specs.declared.pcs.PointOpening.{PointOpening}
 use Rattle.circle_commit.specs.declared.claims.CommittedBatch.{CommittedBatch}
 
 -- the lists that vectors hold

@@ -1,6 +1,6 @@
 -- What is asked of requests to open.
 use Rattle.std.specs.Prelude.{List, All}
-use Rattle.circle_matrix.specs.declared.pcs.OpeningRequest.{OpeningRequest}
+use Rattle.circle_commit.specs.declared.pcs.OpeningRequest.{OpeningRequest}
 
 -- each request's data were kept of some batch that was committed to
 abbrev pub AreKept : {E B Com Data : Type 0} → (B → Com → Data → Type 0)

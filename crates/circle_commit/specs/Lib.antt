@@ -1,3 +1,16 @@
+pub mod Matrix
+pub mod DotProduct
+pub mod RowFacts
+pub mod FlatRows
+pub mod RowMajorMatrix
+pub mod RowMajorMatrixView
+pub mod Mmcs
+pub mod MmcsFacts
+pub mod PeriodicLdeTable
+pub mod Pcs
+pub mod Parameters
+pub mod Selectors
+pub mod Named
 pub mod Honest
 pub mod Kept
 pub mod RoundTrip

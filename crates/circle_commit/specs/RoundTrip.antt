@@ -2,9 +2,9 @@
 -- why it answers no values.
 use Rattle.std.specs.Prelude.{◌≡◌, ℕ, ◌≤◌, Bool, IsTrue, List, length, map, All, Any}
 use Rattle.std.specs.List.{AllZip}
-use Rattle.circle_matrix.specs.Pcs.{Openings}
-use Rattle.circle_matrix.specs.declared.pcs.CommitmentOpening.{CommitmentOpening}
-use Rattle.circle_matrix.specs.declared.pcs.OpeningRequest.{OpeningRequest}
+use Rattle.circle_commit.specs.Pcs.{Openings}
+use Rattle.circle_commit.specs.declared.pcs.CommitmentOpening.{CommitmentOpening}
+use Rattle.circle_commit.specs.declared.pcs.OpeningRequest.{OpeningRequest}
 use Rattle.circle_commit.specs.Claims.{lists}
 use Rattle.circle_commit.specs.Honest.{AreAnsweredBy, requested_points}
 use Rattle.circle_commit.specs.declared.any_scheme.BatchAtPoints.{BatchAtPoints}

@@ -1,7 +1,7 @@
 //! A committer and a verifier of any scheme, played against each other.
 ghost use Rattle.std.specs.Prelude.{◌≡◌, ◌∷◌, ◌++◌, [], All, IfErr, IfOk, OnOk, map};
-ghost use Rattle.circle_matrix.specs.Pcs.{openings};
-ghost use Rattle.circle_matrix.specs.Mmcs.{opened_rows};
+ghost use Rattle.circle_commit.specs.Pcs.{openings};
+ghost use Rattle.circle_commit.specs.Mmcs.{opened_rows};
 ghost use Rattle.circle_commit.specs.Claims.{lists};
 ghost use Rattle.circle_commit.specs.Honest.{requested_points};
 ghost use Rattle.circle_commit.specs.RoundTrip.{AreCommitted, HasPoints, IsCommitted};
@@ -11,12 +11,12 @@ ghost use Rattle.circle_commit.specs.declared.any_scheme.RoundTripError.TheVaria
 use crate::claims::{CommittedBatch, claims_of};
 use crate::scheme::Pcs;
 use crate::statements::Statements;
-use circle_challenger::ChallengerState;
-use circle_field::ExtensionField;
-use circle_matrix::{
+use crate::{
     OpenedValues, OpenedValuesForMatrix, OpenedValuesForRound, OpeningRequest, PolynomialSpace,
     RowMajorMatrix,
 };
+use circle_challenger::ChallengerState;
+use circle_field::ExtensionField;
 use std::alloc::{AllocError, Global};
 use std::fmt::Display;
 use thiserror::Error;

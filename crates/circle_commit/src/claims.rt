@@ -1,12 +1,12 @@
 //! The claims that a verifier is handed of what was answered.
 ghost use Rattle.std.specs.Prelude.{◌≡◌, IfOk, map, zip};
-ghost use Rattle.circle_matrix.specs.DotProduct.{pairwise};
-ghost use Rattle.circle_matrix.specs.Mmcs.{opened_rows};
-ghost use Rattle.circle_matrix.specs.Pcs.{openings};
+ghost use Rattle.circle_commit.specs.DotProduct.{pairwise};
+ghost use Rattle.circle_commit.specs.Mmcs.{opened_rows};
+ghost use Rattle.circle_commit.specs.Pcs.{openings};
 ghost use Rattle.circle_commit.specs.Claims.{batch_claimed, batch_told, lists, matrix_claimed};
 ghost use Rattle.circle_commit.specs.Claims.{matrix_told, point_told};
 
-use circle_matrix::{
+use crate::{
     CommitmentOpening, MatrixOpening, OpenedValues, OpenedValuesForMatrix, OpenedValuesForRound,
     PointOpening,
 };

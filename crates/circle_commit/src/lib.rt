@@ -1,50 +1,77 @@
-//! Polynomial commitment schemes as traits with laws, for callers that take any of them, and what
-//! `circle_matrix` shows and the trait of forms in JSON beside them, at one place.
+//! What commitment schemes stand on, and polynomial commitment schemes as traits with laws, for
+//! callers that take any of them: matrices by rows, views of them, domains that polynomials are
+//! given on, what is opened and claimed of them, the parameters of FRI, how it folds and why it
+//! refuses.
 //!
-//! `Pcs` commits to polynomials and opens them, `UnivariateStarkPcs` has what a STARK asks besides.
-//! What they promise speaks of lists and of the states of the challenger alone, so that a caller
-//! over any scheme can rely on it: a verifier's Ok is one relation of the claims, the proof and the
-//! states before and after, and a refusal that isn't of memory denies it for every state after.
-//! `claims_of` makes the claims of `verify` of what `open` answered.
-//! `round_trip` is such a caller: it commits to batches, opens them at points and verifies; an honest
-//! run is accepted, and any other answers the refusal of the call that refused.
+//! What is proved:
 //!
-//! What it shows of other crates:
-//!
-//! - Of `circle_matrix`: matrices, their views and maps of row indices; the traits `Mmcs` of
-//!   schemes that commit to matrices, `PolynomialSpace` of domains, `PeriodicEvaluator` and
-//!   `FriFoldingStrategy`; records of what is opened and claimed, in its module `pcs`; the
-//!   parameters of FRI and the refusals of a proof.
-//! - Of `circle_json`: the trait `JsonForm` and its refusals.
+//! - A matrix is its list of rows: `row`, `split_rows`, `new_col`, `copy_of`, the mapped view and
+//!   `to_row_major_matrix` say exactly which rows. `try_new` is `None` exactly where the width is 0
+//!   or doesn't divide the number of entries.
+//! - `columnwise_dot_product` returns each column's sum by weights of the rows, and
+//!   `columnwise_dot_products` the same for several lists of weights, the rows read once.
+//! - The trait `Mmcs` says what a scheme that commits to matrices promises, and `PolynomialSpace`
+//!   what a domain requires and gives; `FriFoldingStrategy` leaves that to its instances.
+//! - A `PeriodicLdeTable` returns the entry of its row i modulo its height (`get`).
+//! - `Pcs` commits to polynomials and opens them, `UnivariateStarkPcs` has what a STARK needs
+//!   besides. What they promise speaks of lists and of the challenger's states alone, so that a
+//!   caller over any scheme can rely on it: Ok of a verifier is one relation of the claims, the
+//!   proof and the states before and after, and a refusal that isn't of memory denies it for every
+//!   state after.
+//! - `claims_of` makes the claims of `verify` of what `open` returned. `round_trip` commits to
+//!   batches, opens them at points and verifies, over any scheme: an honest run is accepted, and
+//!   any other returns the refusal of the call that refused.
 //!
 //! Its files:
 //!
-//! - In `src/`, `statements.rt`: what the members of `Pcs` say together; `any_scheme.rt`:
-//!   `round_trip`; `claims.rt`: from answers to claims.
-//! - In `specs/`, `Claims`: claims by their parts; `Kept`: data kept of batches that were committed
-//!   to; `Honest`: honest requests, and the claims that a verifier is handed; `RoundTrip`: batches
-//!   at points, and why a round trip answers no values.
-//! - In `proofs/`, `Batches`, `Lists`.
+//! - In `src/`, `space.rt`: the trait of domains; `params.rt`: the parameters of FRI and the phases
+//!   of proofs of work; `pcs.rt`: what is opened and claimed; `scheme.rt`, `stark.rt`: the traits
+//!   of polynomial commitment schemes; `statements.rt`: what the members of `Pcs` say together;
+//!   `any_scheme.rt`: `round_trip`; `claims.rt`: from openings to claims.
+//! - In `specs/`, `Matrix`, `RowMajorMatrix`, `RowMajorMatrixView`, `PeriodicLdeTable`: what each
+//!   type is to contracts. `Mmcs`, `MmcsFacts`, `Pcs`, `Parameters`, `Selectors`: words of schemes,
+//!   parameters and selectors. `DotProduct`: sums by weights. `RowFacts`, `FlatRows`: lemmas on
+//!   rows stored one after another, for the crates above too. `Claims`: claims by their parts;
+//!   `Kept`: data kept of batches that were committed to; `Honest`: honest requests, and the claims
+//!   that a verifier is handed; `RoundTrip`: batches at points, and why a round trip returns no
+//!   values.
+//! - In `proofs/`: column sums, powers of two, lists written from the front; `Batches`, `Lists`.
 #![tactic(auto)]
 
 pub mod any_scheme;
 pub mod claims;
+pub mod error;
+pub mod folding;
+pub mod matrix;
+pub mod mmcs;
+pub mod params;
+pub mod pcs;
+pub mod periodic;
 pub mod scheme;
+pub mod space;
 pub mod stark;
 pub mod statements;
+pub mod view;
 
 pub use any_scheme::{BatchAtPoints, RoundTripError, round_trip};
-pub use circle_json::{JsonError, JsonForm};
-pub use circle_matrix::{
-    BatchMultiOpening, CommitmentOpening, Dimensions, FieldMatrix, FriError, FriFoldingStrategy,
-    FriParameters, LagrangeSelectors, Matrix, MatrixOpening, MatrixShape, Mmcs, Named, OpenedRows,
-    OpenedValues, OpenedValuesForMatrix, OpenedValuesForPoint, OpenedValuesForRound,
-    OpeningRequest, PeriodicEvaluator, PeriodicLdeTable, PointOpening, PolynomialSpace, PowPhase,
-    RowIndexMap, RowIndexMappedView, RowMajorMatrix, RowMajorMatrixView, are_below, error, folding,
-    heights_are_powers_of_two, is_power_of_two, log2_strict, matrix, mmcs, params, pcs, periodic,
-    space, view,
-};
 pub use claims::{CommittedBatch, claims_of};
+pub use error::{FriError, Named};
+pub use folding::FriFoldingStrategy;
+pub use matrix::{
+    Dimensions, FieldMatrix, Matrix, MatrixShape, RowIndexMap, RowIndexMappedView, RowMajorMatrix,
+    entry_count,
+};
+pub use mmcs::{
+    Mmcs, OpenedRows, are_below, heights_are_powers_of_two, is_power_of_two, log2_strict,
+};
+pub use params::{FriParameters, PowPhase};
+pub use pcs::{
+    BatchMultiOpening, CommitmentOpening, MatrixOpening, OpenedValues, OpenedValuesForMatrix,
+    OpenedValuesForPoint, OpenedValuesForRound, OpeningRequest, PointOpening,
+};
+pub use periodic::{PeriodicEvaluator, PeriodicLdeTable};
 pub use scheme::Pcs;
+pub use space::{LagrangeSelectors, PolynomialSpace};
 pub use stark::UnivariateStarkPcs;
 pub use statements::Statements;
+pub use view::RowMajorMatrixView;

@@ -1,17 +1,15 @@
 //! The trait of schemes.
 ghost use Rattle.std.specs.Prelude.{◌≡◌, ℕ, List, Bool, IfOk, IfErr, OnOk, IsTrue};
-ghost use Rattle.circle_matrix.specs.Pcs.{Openings, openings};
-ghost use Rattle.circle_matrix.specs.declared.matrix.RowMajorMatrix.{RowMajorMatrix};
-ghost use Rattle.circle_matrix.specs.declared.pcs.CommitmentOpening.{CommitmentOpening};
-ghost use Rattle.circle_matrix.specs.declared.pcs.OpeningRequest.{OpeningRequest};
+ghost use Rattle.circle_commit.specs.Pcs.{Openings, openings};
+ghost use Rattle.circle_commit.specs.declared.matrix.RowMajorMatrix.{RowMajorMatrix};
+ghost use Rattle.circle_commit.specs.declared.pcs.CommitmentOpening.{CommitmentOpening};
+ghost use Rattle.circle_commit.specs.declared.pcs.OpeningRequest.{OpeningRequest};
 ghost use Rattle.circle_commit.specs.Honest.{AcceptsAnswers, AreHonest, AreTrueValues, HaveValues};
 ghost use Rattle.circle_commit.specs.Kept.{AreKept};
 
+use crate::{CommitmentOpening, OpenedValues, OpeningRequest, PolynomialSpace, RowMajorMatrix};
 use circle_challenger::ChallengerState;
 use circle_field::ExtensionField;
-use circle_matrix::{
-    CommitmentOpening, OpenedValues, OpeningRequest, PolynomialSpace, RowMajorMatrix,
-};
 use std::alloc::Global;
 use std::fmt::Debug;
 

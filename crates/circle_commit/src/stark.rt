@@ -1,13 +1,13 @@
 //! The trait of schemes for STARKs over one trace.
 ghost use Rattle.std.specs.Prelude.{◌≡◌, ℕ, List, IfOk, IfErr};
-ghost use Rattle.circle_matrix.specs.PeriodicLdeTable.{columns_of};
-ghost use Rattle.circle_matrix.specs.declared.matrix.RowMajorMatrix.{RowMajorMatrix};
-ghost use Rattle.circle_matrix.specs.declared.periodic.PeriodicLdeTable.{PeriodicLdeTable};
+ghost use Rattle.circle_commit.specs.PeriodicLdeTable.{columns_of};
+ghost use Rattle.circle_commit.specs.declared.matrix.RowMajorMatrix.{RowMajorMatrix};
+ghost use Rattle.circle_commit.specs.declared.periodic.PeriodicLdeTable.{PeriodicLdeTable};
 
 use crate::scheme::Pcs;
+use crate::{PeriodicLdeTable, PolynomialSpace, RowMajorMatrix};
 use circle_challenger::ChallengerState;
 use circle_field::ExtensionField;
-use circle_matrix::{PeriodicLdeTable, PolynomialSpace, RowMajorMatrix};
 use std::alloc::Global;
 use std::fmt::Debug;
 

@@ -1,17 +1,17 @@
 //! What the members of a scheme say together.
 ghost use Rattle.std.specs.Prelude.{List};
-ghost use Rattle.circle_matrix.specs.Pcs.{Openings};
-ghost use Rattle.circle_matrix.specs.declared.pcs.OpeningRequest.{OpeningRequest};
-ghost use Rattle.circle_matrix.specs.declared.matrix.RowMajorMatrix.{RowMajorMatrix};
+ghost use Rattle.circle_commit.specs.Pcs.{Openings};
+ghost use Rattle.circle_commit.specs.declared.pcs.OpeningRequest.{OpeningRequest};
+ghost use Rattle.circle_commit.specs.declared.matrix.RowMajorMatrix.{RowMajorMatrix};
 ghost use Rattle.circle_commit.specs.Honest.{AcceptsAnswers, AreTrueValues, IsHonestFrom};
 ghost use Rattle.circle_commit.specs.RoundTrip.{AreHonestBatches, AreValuesOf, IsOfMemory, IsReason};
 ghost use Rattle.circle_commit.specs.declared.any_scheme.BatchAtPoints.{BatchAtPoints};
 ghost use Rattle.circle_commit.specs.declared.any_scheme.RoundTripError.{RoundTripError};
 
+use crate::PolynomialSpace;
 use crate::scheme::Pcs;
 use circle_challenger::ChallengerState;
 use circle_field::ExtensionField;
-use circle_matrix::PolynomialSpace;
 
 /// What the members of a scheme say together, for contracts alone.
 ///

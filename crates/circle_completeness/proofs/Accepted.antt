@@ -5,25 +5,25 @@ use Rattle.std.proofs.Common.{refl, sym, ◌∙◌, ap, subst, arith}
 use Rattle.std.proofs.lemmas.List.{get_or-map, length-map}
 use Rattle.std.proofs.lemmas.List.Elements.{All-from_recursion, recursion_from_All}
 use Rattle.circle_challenger.specs.Moves.{RunMoves}
-use Rattle.circle_matrix.specs.Mmcs.{greatest}
-use Rattle.circle_matrix.specs.Pcs.{Openings}
-use Rattle.circle_matrix.specs.RowMajorMatrix.{height_of}
-use Rattle.circle_matrix.specs.declared.matrix.RowMajorMatrix.{RowMajorMatrix}
-use Rattle.circle_matrix.specs.declared.params.FriParameters.{FriParameters}
-use Rattle.circle_matrix.specs.declared.pcs.OpeningRequest.{OpeningRequest}
+use Rattle.circle_commit.specs.Mmcs.{greatest}
+use Rattle.circle_commit.specs.Pcs.{Openings}
+use Rattle.circle_commit.specs.RowMajorMatrix.{height_of}
+use Rattle.circle_commit.specs.declared.matrix.RowMajorMatrix.{RowMajorMatrix}
+use Rattle.circle_commit.specs.declared.params.FriParameters.{FriParameters}
+use Rattle.circle_commit.specs.declared.pcs.OpeningRequest.{OpeningRequest}
 use Rattle.circle_field.specs.Circle.{AreGenerators}
 use Rattle.circle_field.specs.Field.{FieldLaws, IsEmbedding}
-use Rattle.circle_opening.specs.Opening.{answered_claims, answered_matrices}
-use Rattle.circle_words.specs.Requests.{AreFit, AreRequests, batch_committed, claimed, log_of, points_of}
+use Rattle.circle_prover.specs.Opening.{answered_claims, answered_matrices}
+use Rattle.circle_codewords.specs.Requests.{AreFit, AreRequests, batch_committed, claimed, log_of, points_of}
 use Rattle.circle_relation.specs.Taken.{drawn_by, shape_by, taken_by}
-use Rattle.circle_opening.specs.Words.{top_of}
-use Rattle.circle_opening.proofs.Answered.{all-some, fit-known, heights-known}
-use Rattle.circle_opening.proofs.Tops.{top-known}
+use Rattle.circle_prover.specs.Words.{top_of}
+use Rattle.circle_prover.proofs.Answered.{all-some, fit-known, heights-known}
+use Rattle.circle_prover.proofs.Tops.{top-known}
 use Rattle.circle_relation.specs.Accepts.{Authenticates, Fields, Run}
 use Rattle.circle_relation.specs.Statement.{BatchClaim, MatrixClaim, all_matrices, log_max_height}
 use Rattle.circle_transcript.specs.Draw.{draw, queried, seeded}
 use Rattle.circle_transcript.specs.Numbers.{numbers_of}
-use Rattle.circle_words.specs.Words.{Committed}
+use Rattle.circle_codewords.specs.Words.{Committed}
 use Rattle.circle_completeness.specs.Accepted.{AcceptsOpenings}
 use Rattle.circle_completeness.specs.Claimed.{AreClaimed}
 use Rattle.circle_completeness.proofs.Drawn.{drawn-is, numbers-below, parts, same-matrices, same-shape, same-taken}

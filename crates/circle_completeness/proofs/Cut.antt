@@ -7,8 +7,8 @@ use Rattle.std.proofs.lemmas.List.Elements.{All-map}
 use Rattle.std.proofs.lemmas.List.FromFn.{get_or-map-range_with_len, length-map-range_with_len}
 use Rattle.circle_field.specs.Field.{FieldOps}
 use Rattle.circle_field.specs.Circle.{Coordinates}
-use Rattle.circle_matrix.specs.Matrix.{column}
-use Rattle.circle_matrix.proofs.ColumnSums.{map-agree}
+use Rattle.circle_commit.specs.Matrix.{column}
+use Rattle.circle_commit.proofs.ColumnSums.{map-agree}
 use Rattle.circle_point.specs.Basis.{value}
 use Rattle.circle_point.proofs.Bases.{shifted}
 use Rattle.circle_domain.specs.Order.{cfft_order}

@@ -5,8 +5,8 @@ use Rattle.std.proofs.Common.{zero, suc, refl, sym, ◌∙◌, ap}
 use Rattle.std.proofs.lemmas.List.Elements.{All-from_recursion}
 use Rattle.circle_challenger.specs.Moves.{Moves, RunMoves, after_element, drawn_numbers, is_passed}
 use Rattle.circle_challenger.specs.Sampling.{samples}
-use Rattle.circle_matrix.specs.declared.params.FriParameters.{FriParameters}
-use Rattle.circle_matrix.specs.declared.params.PowPhase.TheVariants.{Batch, CommitPhase, Query}
+use Rattle.circle_commit.specs.declared.params.FriParameters.{FriParameters}
+use Rattle.circle_commit.specs.declared.params.PowPhase.TheVariants.{Batch, CommitPhase, Query}
 use Rattle.circle_field.specs.Field.{FieldOps}
 use Rattle.circle_relation.specs.Taken.{shape_by, taken_by, widths_by}
 use Rattle.circle_relation.specs.Statement.{BatchClaim, MatrixClaim, OpeningProof, all_matrices}

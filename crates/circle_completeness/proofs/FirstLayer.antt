@@ -12,11 +12,11 @@ use Rattle.std.proofs.lemmas.Option.{get_or_from_slice_get, slice_get-get_or, sl
 use Rattle.circle_field.specs.Field.{sub}
 use Rattle.circle_field.specs.Circle.{Coordinates, origin}
 use Rattle.circle_point.specs.Basis.{vanishing}
-use Rattle.circle_matrix.specs.Mmcs.{dimensions_of, max_height, rows_at, rows_at_each}
-use Rattle.circle_matrix.specs.declared.matrix.RowMajorMatrix.{RowMajorMatrix}
-use Rattle.circle_matrix.specs.declared.params.FriParameters.{FriParameters}
-use Rattle.circle_matrix.proofs.ColumnSums.{map-agree}
-use Rattle.circle_matrix.proofs.Written.{pairwise-read}
+use Rattle.circle_commit.specs.Mmcs.{dimensions_of, max_height, rows_at, rows_at_each}
+use Rattle.circle_commit.specs.declared.matrix.RowMajorMatrix.{RowMajorMatrix}
+use Rattle.circle_commit.specs.declared.params.FriParameters.{FriParameters}
+use Rattle.circle_commit.proofs.ColumnSums.{map-agree}
+use Rattle.circle_commit.proofs.Written.{pairwise-read}
 use Rattle.circle_domain.proofs.Twiddles.{map-map}
 use Rattle.circle_folding.specs.Chain.{first_layer_twiddle, pair_of}
 use Rattle.circle_folding.specs.Fold.{fold_pair, fold_y_twiddles}
@@ -26,14 +26,14 @@ use Rattle.circle_relation.specs.Sums.{reduced}
 use Rattle.circle_relation.proofs.Shown.{moved}
 use Rattle.circle_relation.specs.Accepts.{Authenticates, Fields, FirstLayerAuthenticates, HasSiblings, Run, at_queries, claimed_heights, claims_of, first_pair, first_value, pairs, place_of, point_among, top}
 use Rattle.circle_relation.proofs.AtQueries.{itself-placed, same-placed, zip-placed}
-use Rattle.circle_words.specs.Ratios.{points_of_height}
-use Rattle.circle_words.specs.Words.{Committed, claims_at, corrected_word, lambda}
-use Rattle.circle_opening.specs.Opening.{HoldsWords}
-use Rattle.circle_words.specs.Openings.{places_of, sibling_in, siblings_at}
-use Rattle.circle_opening.specs.Words.{heights_of, layer_of, top_of}
-use Rattle.circle_opening.proofs.Growing.{length-pairs_of}
-use Rattle.circle_opening.proofs.Held.{first-greatest}
-use Rattle.circle_opening.proofs.Tops.{has_height, height-known, matrices-low, pairwise-map}
+use Rattle.circle_codewords.specs.Ratios.{points_of_height}
+use Rattle.circle_codewords.specs.Words.{Committed, claims_at, corrected_word, lambda}
+use Rattle.circle_prover.specs.Opening.{HoldsWords}
+use Rattle.circle_codewords.specs.Openings.{places_of, sibling_in, siblings_at}
+use Rattle.circle_prover.specs.Words.{heights_of, layer_of, top_of}
+use Rattle.circle_prover.proofs.Growing.{length-pairs_of}
+use Rattle.circle_prover.proofs.Held.{first-greatest}
+use Rattle.circle_prover.proofs.Tops.{has_height, height-known, matrices-low, pairwise-map}
 use Rattle.circle_completeness.specs.Over.{FoldsFirst, IsRunOver, ReadsRows}
 use Rattle.circle_completeness.proofs.FirstPlaces.{place-there}
 use Rattle.circle_completeness.proofs.FirstWords.{corrected-read, have-heights, length-corrected, rows-are, shapes-are}

@@ -6,20 +6,20 @@ use Rattle.std.proofs.lemmas.List.FromFn.{length-map-range_with_len, get_or-map-
 use Rattle.circle_field.specs.Field.{FieldOps, sub}
 use Rattle.circle_field.specs.Circle.{Coordinates, origin}
 use Rattle.circle_point.specs.Basis.{vanishing}
-use Rattle.circle_matrix.specs.Mmcs.{dimensions_of, max_height, row_at, rows_at}
-use Rattle.circle_matrix.specs.MmcsFacts.{row_at-powers}
-use Rattle.circle_matrix.specs.RowMajorMatrix.{height_of, length-rows, rows, width_of}
-use Rattle.circle_matrix.specs.declared.matrix.RowMajorMatrix.{RowMajorMatrix}
-use Rattle.circle_matrix.proofs.ColumnSums.{map-agree}
-use Rattle.circle_matrix.proofs.Written.{length-pairwise, pairwise-read}
+use Rattle.circle_commit.specs.Mmcs.{dimensions_of, max_height, row_at, rows_at}
+use Rattle.circle_commit.specs.MmcsFacts.{row_at-powers}
+use Rattle.circle_commit.specs.RowMajorMatrix.{height_of, length-rows, rows, width_of}
+use Rattle.circle_commit.specs.declared.matrix.RowMajorMatrix.{RowMajorMatrix}
+use Rattle.circle_commit.proofs.ColumnSums.{map-agree}
+use Rattle.circle_commit.proofs.Written.{length-pairwise, pairwise-read}
 use Rattle.circle_domain.specs.Order.{coset, with_opposites}
 use Rattle.circle_domain.proofs.Orders.{two_halves}
 use Rattle.circle_domain.proofs.Twiddles.{length-coset, map-map}
 use Rattle.circle_folding.specs.Lambda.{vanishing_values}
 use Rattle.circle_relation.specs.Sums.{reduced}
 use Rattle.circle_relation.specs.Accepts.{Fields}
-use Rattle.circle_words.specs.Ratios.{points_of_height}
-use Rattle.circle_words.specs.Words.{Committed, HaveHeights, claims_at, corrected_word, lambda, reduced_word}
+use Rattle.circle_codewords.specs.Ratios.{points_of_height}
+use Rattle.circle_codewords.specs.Words.{Committed, HaveHeights, claims_at, corrected_word, lambda, reduced_word}
 use Rattle.circle_completeness.proofs.FirstPlaces.{half-place}
 
 -- twice as many points with their opposites

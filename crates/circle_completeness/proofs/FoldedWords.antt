@@ -11,10 +11,10 @@ use Rattle.circle_field.specs.Ring.{var, unit, plus as sum, times as prod}
 use Rattle.circle_field.specs.RingSound.{ring}
 use Rattle.circle_field.specs.Circle.{Coordinates, AreGenerators, origin}
 use Rattle.circle_point.specs.Basis.{x_value}
-use Rattle.circle_matrix.specs.DotProduct.{pairwise}
-use Rattle.circle_matrix.specs.Matrix.{rows_from}
-use Rattle.circle_matrix.specs.RowFacts.{length-rows_from, rows_from-widths}
-use Rattle.circle_matrix.proofs.Written.{length-pairwise}
+use Rattle.circle_commit.specs.DotProduct.{pairwise}
+use Rattle.circle_commit.specs.Matrix.{rows_from}
+use Rattle.circle_commit.specs.RowFacts.{length-rows_from, rows_from-widths}
+use Rattle.circle_commit.proofs.Written.{length-pairwise}
 use Rattle.circle_domain.specs.Order.{coset}
 use Rattle.circle_domain.specs.Spans.{Span, XSpan}
 use Rattle.circle_domain.proofs.Twiddles.{length-coset}
@@ -26,9 +26,9 @@ use Rattle.circle_folding.proofs.Remainders.{only-split}
 use Rattle.circle_folding.proofs.Sides.{combination, x_value-combination}
 use Rattle.circle_relation.specs.Sums.{reduced}
 use Rattle.circle_relation.specs.Accepts.{Fields}
-use Rattle.circle_words.specs.Ratios.{points_of_height}
-use Rattle.circle_words.specs.Words.{Committed, claims_at, corrected_word, lambda, next_word, pairs_of, reduced_word}
-use Rattle.circle_opening.specs.Words.{word_at}
+use Rattle.circle_codewords.specs.Ratios.{points_of_height}
+use Rattle.circle_codewords.specs.Words.{Committed, claims_at, corrected_word, lambda, next_word, pairs_of, reduced_word}
+use Rattle.circle_prover.specs.Words.{word_at}
 use Rattle.circle_completeness.proofs.TrueWords.{pairwise-map}
 
 -- rows of so many entries, one after another

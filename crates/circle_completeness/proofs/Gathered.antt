@@ -4,18 +4,18 @@ use Rattle.std.specs.List.{AllByRecursion, AllZip}
 use Rattle.std.proofs.Common.{refl, ◌∙◌, ap, subst, arith}
 use Rattle.std.proofs.lemmas.List.{length-map}
 use Rattle.std.proofs.lemmas.List.Elements.{recursion_from_All}
-use Rattle.circle_matrix.specs.Mmcs.{max_height}
-use Rattle.circle_matrix.specs.Pcs.{Openings}
-use Rattle.circle_matrix.specs.RowMajorMatrix.{height_of}
-use Rattle.circle_matrix.specs.declared.matrix.RowMajorMatrix.{RowMajorMatrix}
-use Rattle.circle_matrix.specs.declared.params.FriParameters.{FriParameters}
-use Rattle.circle_matrix.specs.declared.pcs.OpeningRequest.{OpeningRequest}
+use Rattle.circle_commit.specs.Mmcs.{max_height}
+use Rattle.circle_commit.specs.Pcs.{Openings}
+use Rattle.circle_commit.specs.RowMajorMatrix.{height_of}
+use Rattle.circle_commit.specs.declared.matrix.RowMajorMatrix.{RowMajorMatrix}
+use Rattle.circle_commit.specs.declared.params.FriParameters.{FriParameters}
+use Rattle.circle_commit.specs.declared.pcs.OpeningRequest.{OpeningRequest}
 use Rattle.circle_domain.proofs.Twiddles.{map-map}
 use Rattle.circle_relation.specs.Accepts.{Authenticates, Fields}
 use Rattle.circle_relation.specs.Statement.{BatchClaim, Opened}
-use Rattle.circle_words.specs.Words.{Committed}
-use Rattle.circle_words.specs.Openings.{OpensRows, places_of}
-use Rattle.circle_words.specs.Requests.{AreAnswers, HasBatchRows, IsFit, all_committed, batch_committed, claimed, log_of, points_of}
+use Rattle.circle_codewords.specs.Words.{Committed}
+use Rattle.circle_codewords.specs.Openings.{OpensRows, places_of}
+use Rattle.circle_codewords.specs.Requests.{AreAnswers, HasBatchRows, IsFit, all_committed, batch_committed, claimed, log_of, points_of}
 use Rattle.circle_completeness.specs.Claimed.{AreClaimed, IsClaimed}
 use Rattle.circle_completeness.proofs.ReadRows.{HasReadRows}
 use Rattle.circle_completeness.proofs.Items.{Item, claimed_of, committed_of, items-of, matrices_of}

@@ -3,13 +3,13 @@ use Rattle.std.specs.Prelude.{◌≡◌, ℕ, ◌+◌, ◌-◌, ◌≤◌, ◌==
 use Rattle.std.specs.List.{AllByRecursion, filter, list_any, range_with_len}
 use Rattle.std.proofs.Common.{suc, refl, ◌∙◌, ap, arith}
 use Rattle.std.proofs.lemmas.List.Elements.{filter_agree, recursion_from_All}
-use Rattle.circle_matrix.specs.Mmcs.{greatest}
-use Rattle.circle_matrix.specs.declared.params.FriParameters.{FriParameters}
+use Rattle.circle_commit.specs.Mmcs.{greatest}
+use Rattle.circle_commit.specs.declared.params.FriParameters.{FriParameters}
 use Rattle.circle_relation.specs.Accepts.{Fields, Run, claimed_heights, is_claimed, top}
 use Rattle.circle_relation.specs.Statement.{MatrixClaim, log_height, log_max_height}
-use Rattle.circle_words.specs.Words.{Committed}
-use Rattle.circle_words.specs.Requests.{claimed}
-use Rattle.circle_opening.specs.Words.{heights_of, top_of}
+use Rattle.circle_codewords.specs.Words.{Committed}
+use Rattle.circle_codewords.specs.Requests.{claimed}
+use Rattle.circle_prover.specs.Words.{heights_of, top_of}
 use Rattle.circle_completeness.specs.Over.{IsRunOver}
 
 module _ {F E : Type 0} (blowup final : ℕ) where

@@ -9,12 +9,12 @@ use Rattle.std.proofs.lemmas.List.Folds.{flat_map-map}
 use Rattle.std.proofs.lemmas.Option.{get_or_from_slice_get, slice_get_within}
 use Rattle.circle_field.specs.Field.{FieldLaws, IsEmbedding}
 use Rattle.circle_field.specs.Circle.{AreGenerators, lifted, origin}
-use Rattle.circle_matrix.specs.Mmcs.{dimensions_of, max_height, rows_at}
-use Rattle.circle_matrix.specs.Pcs.{Openings}
-use Rattle.circle_matrix.specs.RowMajorMatrix.{height_of}
-use Rattle.circle_matrix.specs.declared.matrix.RowMajorMatrix.{RowMajorMatrix}
-use Rattle.circle_matrix.specs.declared.params.FriParameters.{FriParameters}
-use Rattle.circle_matrix.specs.declared.pcs.OpeningRequest.{OpeningRequest}
+use Rattle.circle_commit.specs.Mmcs.{dimensions_of, max_height, rows_at}
+use Rattle.circle_commit.specs.Pcs.{Openings}
+use Rattle.circle_commit.specs.RowMajorMatrix.{height_of}
+use Rattle.circle_commit.specs.declared.matrix.RowMajorMatrix.{RowMajorMatrix}
+use Rattle.circle_commit.specs.declared.params.FriParameters.{FriParameters}
+use Rattle.circle_commit.specs.declared.pcs.OpeningRequest.{OpeningRequest}
 use Rattle.circle_domain.specs.Selectors.{IsFinite}
 use Rattle.circle_domain.proofs.CosetOrder.{length-cfft_order}
 use Rattle.circle_folding.specs.Queries.{query_point}
@@ -25,15 +25,15 @@ use Rattle.circle_relation.specs.Sums.{of_height}
 use Rattle.circle_relation.specs.Statement.{BatchClaim, MatrixClaim, Opened, PointClaim, all_matrices, log_height, log_max_height}
 use Rattle.circle_relation.proofs.Contradictions.{All-flat}
 use Rattle.circle_relation.proofs.Shown.{moved, same-bits}
-use Rattle.circle_words.specs.Words.{Committed, claims_on}
-use Rattle.circle_words.proofs.Prefix.{off-apart}
-use Rattle.circle_opening.specs.Opening.{answered_matrices}
-use Rattle.circle_words.specs.Openings.{places_of}
-use Rattle.circle_words.specs.Requests.{AreAnswers, AreRequests, HasBatchRows, IsFit, all_committed, batch_committed, claimed, log_of, points_of}
-use Rattle.circle_opening.specs.Words.{top_of}
-use Rattle.circle_opening.proofs.Answered.{all-some, fit-known, heights-back, heights-known}
-use Rattle.circle_opening.proofs.OpenedPairs.{places-left}
-use Rattle.circle_opening.proofs.Tops.{matrices-low, top-known}
+use Rattle.circle_codewords.specs.Words.{Committed, claims_on}
+use Rattle.circle_codewords.proofs.Prefix.{off-apart}
+use Rattle.circle_prover.specs.Opening.{answered_matrices}
+use Rattle.circle_codewords.specs.Openings.{places_of}
+use Rattle.circle_codewords.specs.Requests.{AreAnswers, AreRequests, HasBatchRows, IsFit, all_committed, batch_committed, claimed, log_of, points_of}
+use Rattle.circle_prover.specs.Words.{top_of}
+use Rattle.circle_prover.proofs.Answered.{all-some, fit-known, heights-back, heights-known}
+use Rattle.circle_prover.proofs.OpenedPairs.{places-left}
+use Rattle.circle_prover.proofs.Tops.{matrices-low, top-known}
 use Rattle.circle_completeness.specs.Claimed.{AreClaimed}
 use Rattle.circle_completeness.specs.Over.{IsRunOver, ReadsRows}
 use Rattle.circle_completeness.proofs.Gathered.{AreGathered, Part, gathered}

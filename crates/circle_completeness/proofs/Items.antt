@@ -5,21 +5,21 @@ use Rattle.std.proofs.Common.{refl, sym, ◌∙◌, ap, arith}
 use Rattle.std.proofs.lemmas.Bool.{eqb-true}
 use Rattle.std.proofs.lemmas.List.{length-map}
 use Rattle.std.proofs.lemmas.List.Elements.{All-from_recursion, All-map, recursion_from_All}
-use Rattle.circle_matrix.specs.DotProduct.{pairwise}
-use Rattle.circle_matrix.specs.Mmcs.{dimensions_of, greatest, max_height, row_at, rows_at}
-use Rattle.circle_matrix.specs.RowMajorMatrix.{height_of, length-rows, rows, rows-width, width_of}
-use Rattle.circle_matrix.specs.declared.matrix.Dimensions.{Dimensions}
-use Rattle.circle_matrix.specs.declared.matrix.RowMajorMatrix.{RowMajorMatrix}
+use Rattle.circle_commit.specs.DotProduct.{pairwise}
+use Rattle.circle_commit.specs.Mmcs.{dimensions_of, greatest, max_height, row_at, rows_at}
+use Rattle.circle_commit.specs.RowMajorMatrix.{height_of, length-rows, rows, rows-width, width_of}
+use Rattle.circle_commit.specs.declared.matrix.Dimensions.{Dimensions}
+use Rattle.circle_commit.specs.declared.matrix.RowMajorMatrix.{RowMajorMatrix}
 use Rattle.circle_domain.proofs.Powers.{pow_injective}
 use Rattle.circle_domain.proofs.Twiddles.{map-map}
 use Rattle.circle_domain.specs.Selectors.{IsFinite}
 use Rattle.circle_relation.specs.Accepts.{Fields}
 use Rattle.circle_relation.specs.Statement.{MatrixClaim, PointClaim, log_height, log_max_height}
-use Rattle.circle_words.specs.Values.{IsOffDomain}
-use Rattle.circle_words.specs.Words.{Committed, claim_of, claims_on}
-use Rattle.circle_words.specs.Requests.{AreHeights, AreValuesOf, IsOpenable, batch_committed, claimed, committed, log_of}
-use Rattle.circle_opening.proofs.Answered.{batch-heights}
-use Rattle.circle_opening.proofs.Held.{heights-listed}
+use Rattle.circle_codewords.specs.Values.{IsOffDomain}
+use Rattle.circle_codewords.specs.Words.{Committed, claim_of, claims_on}
+use Rattle.circle_codewords.specs.Requests.{AreHeights, AreValuesOf, IsOpenable, batch_committed, claimed, committed, log_of}
+use Rattle.circle_prover.proofs.Answered.{batch-heights}
+use Rattle.circle_prover.proofs.Held.{heights-listed}
 use Rattle.circle_completeness.proofs.ReadRows.{HasReadRows}
 use Rattle.circle_completeness.proofs.Lists.{greatest-power, if-same, row-below, row-place, zip-maps}
 

@@ -5,9 +5,9 @@ use Rattle.circle_field.specs.Field.{FieldLaws, IsEmbedding}
 use Rattle.circle_field.specs.Circle.{AreGenerators}
 use Rattle.circle_domain.specs.Spans.{XSpan}
 use Rattle.circle_folding.proofs.Remainders.{quarter_turn}
-use Rattle.circle_opening.specs.Words.{first_fold, heights_of, round_word, top_of}
+use Rattle.circle_prover.specs.Words.{first_fold, heights_of, round_word, top_of}
 use Rattle.circle_relation.specs.Accepts.{Fields}
-use Rattle.circle_words.specs.Words.{Committed, corrected_word}
+use Rattle.circle_codewords.specs.Words.{Committed, corrected_word}
 use Rattle.circle_completeness.specs.LowWords.{ReducedWordsSplit, CorrectedWordsAreLow, FirstFoldsAreLow, RoundWordsAreLow, LastWordIsLow}
 use Rattle.circle_completeness.proofs.TrueWords.{true-split}
 use Rattle.circle_completeness.proofs.FoldedWords.{corrected-low, y-low, round-low}

@@ -5,8 +5,8 @@ use Rattle.std.proofs.Common.{refl, ◌∙◌, ap, subst, arith, ⊎_elim}
 use Rattle.std.proofs.lemmas.Bool.{cases_lt}
 use Rattle.std.proofs.lemmas.List.Concat.{flat_map-append}
 use Rattle.std.proofs.lemmas.Nat.{shr-shr, shr_below}
-use Rattle.circle_matrix.specs.Mmcs.{greatest, row_at}
-use Rattle.circle_matrix.specs.MmcsFacts.{row_at-powers}
+use Rattle.circle_commit.specs.Mmcs.{greatest, row_at}
+use Rattle.circle_commit.specs.MmcsFacts.{row_at-powers}
 use Rattle.circle_domain.proofs.Powers.{pow_within}
 
 -- what is made of the same elements, side by side

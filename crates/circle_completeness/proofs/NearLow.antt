@@ -10,8 +10,8 @@ use Rattle.circle_field.specs.RingCombine.{given, combine}
 use Rattle.circle_field.specs.Circle.{Coordinates}
 use Rattle.circle_point.specs.Basis.{value}
 use Rattle.circle_point.proofs.Multiples.{iterated_x-suc}
-use Rattle.circle_matrix.specs.DotProduct.{pairwise}
-use Rattle.circle_matrix.proofs.Written.{length-pairwise}
+use Rattle.circle_commit.specs.DotProduct.{pairwise}
+use Rattle.circle_commit.proofs.Written.{length-pairwise}
 use Rattle.circle_domain.specs.Layers.{factor}
 use Rattle.circle_domain.proofs.HalfSums.{value-halves, value-low}
 

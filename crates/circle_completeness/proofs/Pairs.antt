@@ -5,9 +5,9 @@ use Rattle.std.proofs.Math.Nat.{pow-suc}
 use Rattle.std.proofs.lemmas.List.{get_or-drop, get_or-take, length-drop, length-take-le}
 use Rattle.std.proofs.lemmas.Option.{get_or_from_slice_get}
 use Rattle.circle_folding.specs.Chain.{pair_of}
-use Rattle.circle_words.specs.Words.{pairs_of}
-use Rattle.circle_words.specs.Openings.{sibling_in}
-use Rattle.circle_matrix.specs.RowFacts.{rows_from-row}
+use Rattle.circle_codewords.specs.Words.{pairs_of}
+use Rattle.circle_codewords.specs.Openings.{sibling_in}
+use Rattle.circle_commit.specs.RowFacts.{rows_from-row}
 
 -- the row of a place, and its length
 row-of : {E : Type 0} (w : List E) (i : ℕ) → i / 2 < length w / 2 → slice_index_or (pairs_of w) (i / 2) [] ≡ take 2 (drop (i / 2 * 2) w)

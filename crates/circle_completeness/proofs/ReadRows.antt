@@ -7,20 +7,20 @@ use Rattle.std.proofs.lemmas.List.{take-map}
 use Rattle.std.proofs.lemmas.List.Elements.{recursion_from_All}
 use Rattle.circle_field.specs.Field.{FieldLaws}
 use Rattle.circle_field.specs.Circle.{AreGenerators}
-use Rattle.circle_matrix.specs.RowMajorMatrix.{rows, width_of, height_of}
-use Rattle.circle_matrix.specs.declared.matrix.RowMajorMatrix.{RowMajorMatrix}
-use Rattle.circle_matrix.specs.declared.params.FriParameters.{FriParameters}
-use Rattle.circle_matrix.specs.declared.pcs.OpeningRequest.{OpeningRequest}
-use Rattle.circle_matrix.proofs.ColumnSums.{map-agree}
+use Rattle.circle_commit.specs.RowMajorMatrix.{rows, width_of, height_of}
+use Rattle.circle_commit.specs.declared.matrix.RowMajorMatrix.{RowMajorMatrix}
+use Rattle.circle_commit.specs.declared.params.FriParameters.{FriParameters}
+use Rattle.circle_commit.specs.declared.pcs.OpeningRequest.{OpeningRequest}
+use Rattle.circle_commit.proofs.ColumnSums.{map-agree}
 use Rattle.circle_domain.specs.Order.{cfft_order}
 use Rattle.circle_domain.specs.Values.{HasValues, values_at}
 use Rattle.circle_domain.proofs.Blocks.{cfft_order-prefix}
 use Rattle.circle_relation.specs.Accepts.{Fields}
-use Rattle.circle_words.specs.Lifts.{extended_row, extended_rows, lift_width, read_rows}
-use Rattle.circle_words.specs.Ratios.{points_of_height}
-use Rattle.circle_words.proofs.Lifts.{extended-values}
-use Rattle.circle_words.specs.Requests.{IsFit, log_of}
-use Rattle.circle_opening.proofs.Answered.{fit-known}
+use Rattle.circle_codewords.specs.Lifts.{extended_row, extended_rows, lift_width, read_rows}
+use Rattle.circle_codewords.specs.Ratios.{points_of_height}
+use Rattle.circle_codewords.proofs.Lifts.{extended-values}
+use Rattle.circle_codewords.specs.Requests.{IsFit, log_of}
+use Rattle.circle_prover.proofs.Answered.{fit-known}
 use Rattle.circle_completeness.proofs.Cut.{cut, cut-told, cut-values}
 use Rattle.circle_completeness.specs.Honest.{AreOfLowDegree, AreReadAsIs, IsOfLowDegree, IsReadAsIs}
 

@@ -7,10 +7,10 @@ use Rattle.std.proofs.lemmas.Bool.{cases_eq, eq-eqb, ne_eqb}
 use Rattle.std.proofs.lemmas.List.FromFn.{length-range_with_len, get_or-range_with_len}
 use Rattle.std.proofs.lemmas.Option.{get_or_from_slice_get}
 use Rattle.std.proofs.lemmas.Slice.Zip.{length-zip, get_or-zip}
-use Rattle.circle_matrix.specs.Mmcs.{max_height, row_at, rows_at}
-use Rattle.circle_matrix.specs.MmcsFacts.{row_at-powers}
-use Rattle.circle_matrix.specs.RowMajorMatrix.{height_of, rows}
-use Rattle.circle_matrix.specs.declared.matrix.RowMajorMatrix.{RowMajorMatrix}
+use Rattle.circle_commit.specs.Mmcs.{max_height, row_at, rows_at}
+use Rattle.circle_commit.specs.MmcsFacts.{row_at-powers}
+use Rattle.circle_commit.specs.RowMajorMatrix.{height_of, rows}
+use Rattle.circle_commit.specs.declared.matrix.RowMajorMatrix.{RowMajorMatrix}
 
 -- an entry of a list
 pub entry : {A : Type 0} (xs : List A) (n : ℕ) → n < length xs → (x : A) × (slice_get xs n ≡ Some x)

@@ -5,15 +5,15 @@ use Rattle.std.proofs.Common.{sym, ◌∙◌, ap, arith}
 use Rattle.std.proofs.lemmas.List.{length-map, get_or-map}
 use Rattle.circle_field.specs.Field.{RingLaws}
 use Rattle.circle_field.specs.RingFacts.{add_zero}
-use Rattle.circle_matrix.specs.DotProduct.{pairwise}
-use Rattle.circle_matrix.proofs.Written.{length-pairwise, pairwise-read}
+use Rattle.circle_commit.specs.DotProduct.{pairwise}
+use Rattle.circle_commit.proofs.Written.{length-pairwise, pairwise-read}
 use Rattle.circle_folding.specs.Fold.{fold_pair, fold_x_twiddles, x_folds}
 use Rattle.circle_folding.proofs.Twiddles.{length-fold_x_twiddles}
 use Rattle.circle_relation.specs.Accepts.{Fields}
-use Rattle.circle_words.specs.Words.{Committed, corrected_word}
-use Rattle.circle_opening.specs.Words.{first_fold, heights_of, layer_of, round_word, top_of}
-use Rattle.circle_opening.proofs.Growing.{length-pairs_of}
-use Rattle.circle_opening.proofs.Lengths.{length-word_at, length-y_folds}
+use Rattle.circle_codewords.specs.Words.{Committed, corrected_word}
+use Rattle.circle_prover.specs.Words.{first_fold, heights_of, layer_of, round_word, top_of}
+use Rattle.circle_prover.proofs.Growing.{length-pairs_of}
+use Rattle.circle_prover.proofs.Lengths.{length-word_at, length-y_folds}
 use Rattle.circle_completeness.proofs.FirstWords.{length-corrected}
 
 module _ {F E : Type 0} (k : Fields F E) (blowup : ℕ) (ms : List (Committed F E)) (alpha bivariate : E) where

@@ -12,11 +12,11 @@ use Rattle.std.proofs.lemmas.Nat.{shr-shr}
 use Rattle.std.proofs.lemmas.Option.{get_or_from_slice_get, slice_get-get_or, slice_get_within}
 use Rattle.circle_field.specs.Field.{RingLaws}
 use Rattle.circle_field.specs.Circle.{Coordinates, origin}
-use Rattle.circle_matrix.specs.Mmcs.{dimensions_of, rows_at, rows_at_each}
-use Rattle.circle_matrix.specs.RowMajorMatrix.{height_of, length-rows, rows, width_of}
-use Rattle.circle_matrix.specs.declared.matrix.Dimensions.{Dimensions}
-use Rattle.circle_matrix.specs.declared.matrix.RowMajorMatrix.{RowMajorMatrix}
-use Rattle.circle_matrix.specs.declared.params.FriParameters.{FriParameters}
+use Rattle.circle_commit.specs.Mmcs.{dimensions_of, rows_at, rows_at_each}
+use Rattle.circle_commit.specs.RowMajorMatrix.{height_of, length-rows, rows, width_of}
+use Rattle.circle_commit.specs.declared.matrix.Dimensions.{Dimensions}
+use Rattle.circle_commit.specs.declared.matrix.RowMajorMatrix.{RowMajorMatrix}
+use Rattle.circle_commit.specs.declared.params.FriParameters.{FriParameters}
 use Rattle.circle_domain.specs.Order.{coset}
 use Rattle.circle_domain.proofs.Twiddles.{length-coset, map-map}
 use Rattle.circle_point.specs.Basis.{x_value}
@@ -27,12 +27,12 @@ use Rattle.circle_relation.specs.Statement.{Opened}
 use Rattle.circle_relation.specs.Accepts.{Authenticates, Fields, Run, AreCanonical, ChainsEnd, HasRounds, HasSiblings, RoundAuthenticates, RoundsAuthenticate, at_queries, folded, is_claimed, joining, pairs, round_pair, round_value, rounds, sibling_in as sibling_of, top}
 use Rattle.circle_relation.proofs.AtQueries.{itself-placed, same-placed, zip-placed}
 use Rattle.circle_relation.proofs.Ends.{all-end}
-use Rattle.circle_words.specs.Words.{Committed, pairs_of}
-use Rattle.circle_opening.specs.Opening.{AreOpenedWords, HoldsWords, drawn_word}
-use Rattle.circle_words.specs.Openings.{places_of, sibling_in, siblings_at}
-use Rattle.circle_opening.specs.Words.{first_fold, heights_of, top_of}
-use Rattle.circle_opening.proofs.Growing.{length-pairs_of}
-use Rattle.circle_opening.proofs.Tops.{height-known, top-known}
+use Rattle.circle_codewords.specs.Words.{Committed, pairs_of}
+use Rattle.circle_prover.specs.Opening.{AreOpenedWords, HoldsWords, drawn_word}
+use Rattle.circle_codewords.specs.Openings.{places_of, sibling_in, siblings_at}
+use Rattle.circle_prover.specs.Words.{first_fold, heights_of, top_of}
+use Rattle.circle_prover.proofs.Growing.{length-pairs_of}
+use Rattle.circle_prover.proofs.Tops.{height-known, top-known}
 use Rattle.circle_completeness.specs.Over.{FoldsFirst, IsRunOver}
 use Rattle.circle_completeness.proofs.Pairs.{pair-back_power}
 use Rattle.circle_completeness.proofs.RoundLists.{among-kept, entry, in-first, in-second, numbered-read, one-row, only, same-where}

@@ -9,29 +9,29 @@ use Rattle.circle_field.specs.Circle.{Coordinates, AreGenerators}
 use Rattle.circle_point.specs.Basis.{value}
 use Rattle.circle_point.specs.Projective.{from_line}
 use Rattle.circle_point.proofs.Bases.{shifted}
-use Rattle.circle_matrix.specs.DotProduct.{pairwise}
-use Rattle.circle_matrix.specs.Matrix.{column}
+use Rattle.circle_commit.specs.DotProduct.{pairwise}
+use Rattle.circle_commit.specs.Matrix.{column}
 use Rattle.circle_challenger.specs.Moves.{RunMoves}
-use Rattle.circle_matrix.specs.Pcs.{Openings}
-use Rattle.circle_matrix.specs.RowMajorMatrix.{width_of, height_of}
-use Rattle.circle_matrix.specs.declared.matrix.RowMajorMatrix.{RowMajorMatrix}
-use Rattle.circle_matrix.specs.declared.params.FriParameters.{FriParameters}
-use Rattle.circle_matrix.specs.declared.pcs.OpeningRequest.{OpeningRequest}
-use Rattle.circle_matrix.proofs.Written.{length-pairwise, pairwise-read}
+use Rattle.circle_commit.specs.Pcs.{Openings}
+use Rattle.circle_commit.specs.RowMajorMatrix.{width_of, height_of}
+use Rattle.circle_commit.specs.declared.matrix.RowMajorMatrix.{RowMajorMatrix}
+use Rattle.circle_commit.specs.declared.params.FriParameters.{FriParameters}
+use Rattle.circle_commit.specs.declared.pcs.OpeningRequest.{OpeningRequest}
+use Rattle.circle_commit.proofs.Written.{length-pairwise, pairwise-read}
 use Rattle.circle_domain.specs.Order.{cfft_order}
 use Rattle.circle_domain.specs.Values.{values_at, lifted_values_at}
 use Rattle.circle_domain.proofs.Blocks.{all-append}
 use Rattle.circle_domain.proofs.Stored.{column-values}
 use Rattle.circle_domain.proofs.Told.{values-tell}
 use Rattle.circle_relation.specs.Accepts.{Fields}
-use Rattle.circle_words.specs.Values.{OpensTo}
-use Rattle.circle_words.specs.Words.{claim_of}
-use Rattle.circle_words.proofs.Prefix.{first-genuine, off-apart}
-use Rattle.circle_opening.specs.Opening.{answered_matrices}
-use Rattle.circle_words.specs.Requests.{AreAnswers, AreFit, AreRequests, AreValuesOf, IsFit, IsOpenable, all_committed, batch_committed, committed, log_of, points_of}
-use Rattle.circle_opening.specs.Words.{top_of}
-use Rattle.circle_opening.proofs.Answered.{all-some, fit-known, heights-known}
-use Rattle.circle_opening.proofs.Tops.{top-known}
+use Rattle.circle_codewords.specs.Values.{OpensTo}
+use Rattle.circle_codewords.specs.Words.{claim_of}
+use Rattle.circle_codewords.proofs.Prefix.{first-genuine, off-apart}
+use Rattle.circle_prover.specs.Opening.{answered_matrices}
+use Rattle.circle_codewords.specs.Requests.{AreAnswers, AreFit, AreRequests, AreValuesOf, IsFit, IsOpenable, all_committed, batch_committed, committed, log_of, points_of}
+use Rattle.circle_prover.specs.Words.{top_of}
+use Rattle.circle_prover.proofs.Answered.{all-some, fit-known, heights-known}
+use Rattle.circle_prover.proofs.Tops.{top-known}
 use Rattle.circle_completeness.specs.Honest.{IsOfLowDegree, EndsLow, IsNeverTooHigh}
 use Rattle.circle_completeness.specs.LowDegree.{IsTrueClaim, IsTrue}
 use Rattle.circle_completeness.proofs.LastWords.{last-low}

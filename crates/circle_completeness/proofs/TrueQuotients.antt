@@ -11,9 +11,9 @@ use Rattle.circle_field.specs.RingCombine.{given, combine}
 use Rattle.circle_field.specs.RingFacts.{add_neg}
 use Rattle.circle_field.specs.Circle.{Coordinates, IsOnCircle, lifted}
 use Rattle.circle_point.specs.Basis.{value}
-use Rattle.circle_matrix.specs.Matrix.{column}
-use Rattle.circle_matrix.specs.DotProduct.{dot}
-use Rattle.circle_matrix.proofs.Written.{length-pairwise}
+use Rattle.circle_commit.specs.Matrix.{column}
+use Rattle.circle_commit.specs.DotProduct.{dot}
+use Rattle.circle_commit.proofs.Written.{length-pairwise}
 use Rattle.circle_domain.specs.Layers.{factor}
 use Rattle.circle_domain.specs.Values.{values_at, lifted_values_at}
 use Rattle.circle_domain.proofs.HalfSums.{value-low}

@@ -11,7 +11,7 @@ use Rattle.circle_field.specs.CircleGroup.{lifted-on_circle}
 use Rattle.circle_point.specs.Basis.{value, vanishing}
 use Rattle.circle_point.specs.Projective.{from_line}
 use Rattle.circle_point.proofs.Projections.{line_norm-zero, from_line-on_circle}
-use Rattle.circle_matrix.specs.DotProduct.{pairwise}
+use Rattle.circle_commit.specs.DotProduct.{pairwise}
 use Rattle.circle_domain.specs.Layers.{factor}
 use Rattle.circle_domain.specs.Values.{values_at, lifted_values_at}
 use Rattle.circle_domain.proofs.CosetOrder.{length-cfft_order}
@@ -21,10 +21,10 @@ use Rattle.circle_folding.specs.Spans.{Splits}
 use Rattle.circle_relation.specs.Sums.{reduced}
 use Rattle.circle_relation.specs.Accepts.{Fields}
 use Rattle.circle_relation.specs.Statement.{PointClaim}
-use Rattle.circle_words.specs.Ratios.{points_of_height}
-use Rattle.circle_words.specs.Words.{Committed, claims_on, claims_at, reduced_word}
-use Rattle.circle_words.proofs.DomainPoints.{order-on}
-use Rattle.circle_words.proofs.Quotients.{real-nonzero, double-nonzero}
+use Rattle.circle_codewords.specs.Ratios.{points_of_height}
+use Rattle.circle_codewords.specs.Words.{Committed, claims_on, claims_at, reduced_word}
+use Rattle.circle_codewords.proofs.DomainPoints.{order-on}
+use Rattle.circle_codewords.proofs.Quotients.{real-nonzero, double-nonzero}
 use Rattle.circle_completeness.specs.LowDegree.{AreColumns, IsTrueClaim, IsTrue}
 use Rattle.circle_completeness.proofs.NearLow.{IsNearLow, near-same, near-constant, near-sum, near-scaled}
 use Rattle.circle_completeness.proofs.TrueQuotients.{near-claim}

@@ -2,13 +2,13 @@
 use Rattle.std.specs.Prelude.{◌≤◌, List, length, All}
 use Rattle.std.specs.List.{AllZip}
 use Rattle.circle_challenger.specs.Moves.{RunMoves}
-use Rattle.circle_matrix.specs.Pcs.{Openings}
-use Rattle.circle_matrix.specs.declared.matrix.RowMajorMatrix.{RowMajorMatrix}
-use Rattle.circle_matrix.specs.declared.params.FriParameters.{FriParameters}
-use Rattle.circle_matrix.specs.declared.pcs.OpeningRequest.{OpeningRequest}
-use Rattle.circle_opening.specs.Opening.{IsOpening}
-use Rattle.circle_words.specs.Requests.{AreAnswers}
-use Rattle.circle_opening.specs.Schemes.{Schemes}
+use Rattle.circle_commit.specs.Pcs.{Openings}
+use Rattle.circle_commit.specs.declared.matrix.RowMajorMatrix.{RowMajorMatrix}
+use Rattle.circle_commit.specs.declared.params.FriParameters.{FriParameters}
+use Rattle.circle_commit.specs.declared.pcs.OpeningRequest.{OpeningRequest}
+use Rattle.circle_prover.specs.Opening.{IsOpening}
+use Rattle.circle_codewords.specs.Requests.{AreAnswers}
+use Rattle.circle_prover.specs.Schemes.{Schemes}
 use Rattle.circle_relation.specs.Accepts.{AcceptsFrom, Authenticates, Fields}
 use Rattle.circle_relation.specs.Statement.{BatchClaim, OpeningProof, all_matrices}
 use Rattle.circle_completeness.specs.Claimed.{AreClaimed}

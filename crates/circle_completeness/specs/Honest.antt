@@ -3,22 +3,22 @@
 use Rattle.std.specs.Prelude.{◌≡◌, ◌≢◌, ◌⊎◌, ℕ, ◌+◌, ◌-◌, ◌^◌, ◌<◌, List, length, map, All}
 use Rattle.std.specs.List.{AllZip}
 use Rattle.circle_challenger.specs.Moves.{RunMoves}
-use Rattle.circle_matrix.specs.Pcs.{Openings}
-use Rattle.circle_matrix.specs.RowMajorMatrix.{rows, width_of, height_of}
-use Rattle.circle_matrix.specs.declared.matrix.RowMajorMatrix.{RowMajorMatrix}
-use Rattle.circle_matrix.specs.declared.params.FriParameters.{FriParameters}
-use Rattle.circle_matrix.specs.declared.pcs.OpeningRequest.{OpeningRequest}
+use Rattle.circle_commit.specs.Pcs.{Openings}
+use Rattle.circle_commit.specs.RowMajorMatrix.{rows, width_of, height_of}
+use Rattle.circle_commit.specs.declared.matrix.RowMajorMatrix.{RowMajorMatrix}
+use Rattle.circle_commit.specs.declared.params.FriParameters.{FriParameters}
+use Rattle.circle_commit.specs.declared.pcs.OpeningRequest.{OpeningRequest}
 use Rattle.circle_domain.specs.Spans.{XSpan}
 use Rattle.circle_domain.specs.Values.{values_at}
-use Rattle.circle_opening.specs.Opening.{IsFailure, answered_matrices}
-use Rattle.circle_words.specs.Requests.{AreAnswers, log_of}
-use Rattle.circle_opening.specs.Schemes.{Schemes}
-use Rattle.circle_opening.specs.Words.{last_word}
+use Rattle.circle_prover.specs.Opening.{IsFailure, answered_matrices}
+use Rattle.circle_codewords.specs.Requests.{AreAnswers, log_of}
+use Rattle.circle_prover.specs.Schemes.{Schemes}
+use Rattle.circle_prover.specs.Words.{last_word}
 use Rattle.circle_relation.specs.declared.error.ProverError.{ProverError}
 use Rattle.circle_relation.specs.declared.error.ProverError.TheVariants.{LastWordNotConstant}
 use Rattle.circle_relation.specs.Accepts.{Fields}
-use Rattle.circle_words.specs.Lifts.{lift_width}
-use Rattle.circle_words.specs.Ratios.{points_of_height}
+use Rattle.circle_codewords.specs.Lifts.{lift_width}
+use Rattle.circle_codewords.specs.Ratios.{points_of_height}
 
 -- the columns of a matrix of 2^h rows are, on the standard domain of 2^h points in the transform's
 -- order, the values of polynomials with 2^(h - blowup) coefficients

@@ -6,8 +6,8 @@ use Rattle.circle_folding.specs.Queries.{IsApart}
 use Rattle.circle_point.specs.Projective.{from_line}
 use Rattle.circle_relation.specs.Accepts.{Fields}
 use Rattle.circle_relation.specs.Statement.{PointClaim}
-use Rattle.circle_words.specs.Ratios.{points_of_height}
-use Rattle.circle_words.specs.Words.{Committed}
+use Rattle.circle_codewords.specs.Ratios.{points_of_height}
+use Rattle.circle_codewords.specs.Words.{Committed}
 
 module _ {F E : Type 0} (k : Fields F E) (blowup : ℕ) (m : Committed F E) where
   -- 2^(h - blowup) coefficients of each column's polynomial, a row for each index: on the standard

@@ -3,9 +3,9 @@
 use Rattle.std.specs.Prelude.{ℕ, ◌+◌, ◌-◌, ◌<◌, List, All}
 use Rattle.circle_domain.specs.Spans.{Span, XSpan}
 use Rattle.circle_folding.specs.Spans.{Splits}
-use Rattle.circle_opening.specs.Words.{first_fold, last_word, round_word, top_of}
+use Rattle.circle_prover.specs.Words.{first_fold, last_word, round_word, top_of}
 use Rattle.circle_relation.specs.Accepts.{Fields}
-use Rattle.circle_words.specs.Words.{Committed, reduced_word, corrected_word}
+use Rattle.circle_codewords.specs.Words.{Committed, reduced_word, corrected_word}
 use Rattle.circle_completeness.specs.LowDegree.{IsTrue}
 
 module _ {F E : Type 0} (k : Fields F E) (two_adicity blowup : ℕ) (matrices : List (Committed F E))

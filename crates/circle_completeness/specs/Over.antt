@@ -3,12 +3,12 @@
 use Rattle.std.specs.Prelude.{◌≡◌, ℕ, ◌+◌, ◌-◌, ◌/◌, ◌^◌, ◌<◌, ◌≤◌, ◌==◌, List, length, map, All}
 use Rattle.std.specs.Prelude.{Some, slice_get, slice_index_or, true}
 use Rattle.std.specs.List.{list_any}
-use Rattle.circle_matrix.specs.declared.params.FriParameters.{FriParameters}
-use Rattle.circle_words.specs.Requests.{claimed}
-use Rattle.circle_opening.specs.Words.{first_fold, top_of}
+use Rattle.circle_commit.specs.declared.params.FriParameters.{FriParameters}
+use Rattle.circle_codewords.specs.Requests.{claimed}
+use Rattle.circle_prover.specs.Words.{first_fold, top_of}
 use Rattle.circle_relation.specs.Accepts.{Fields, Run, claims_of, folded}
 use Rattle.circle_relation.specs.Statement.{all_matrices}
-use Rattle.circle_words.specs.Words.{Committed, claims_at}
+use Rattle.circle_codewords.specs.Words.{Committed, claims_at}
 
 module _ {F E M IC IP WC WP : Type 0} (k : Fields F E) (p : FriParameters M)
     (ms : List (Committed F E)) (r : Run F E WC IC IP WP) where

@@ -7,13 +7,13 @@ use Rattle.std.proofs.lemmas.List.Elements.{All-from_recursion}
 use Rattle.circle_field.specs.Field.{FieldOps}
 use Rattle.circle_field.specs.Circle.{Coordinates, at, plus, lifted}
 use Rattle.circle_folding.specs.Spans.{Splits}
-use Rattle.circle_opening.specs.Words.{round_word}
+use Rattle.circle_prover.specs.Words.{round_word}
 use Rattle.circle_point.specs.Projective.{from_line}
 use Rattle.circle_relation.specs.Accepts.{Fields}
 use Rattle.circle_relation.specs.Statement.{PointClaim}
-use Rattle.circle_words.specs.Lifts.{extended_rows, read_rows}
-use Rattle.circle_words.specs.Ratios.{points_of_height}
-use Rattle.circle_words.specs.Words.{Committed, reduced_word, corrected_word, claim_of}
+use Rattle.circle_codewords.specs.Lifts.{extended_rows, read_rows}
+use Rattle.circle_codewords.specs.Ratios.{points_of_height}
+use Rattle.circle_codewords.specs.Words.{Committed, reduced_word, corrected_word, claim_of}
 use Rattle.circle_completeness.specs.LowDegree.{IsTrue, IsTrueClaim}
 
 abbrev ops : FieldOps ℕ

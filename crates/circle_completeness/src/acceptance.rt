@@ -2,12 +2,12 @@
 //! its contract says.
 ghost use Rattle.std.specs.Prelude.{◌≡◌};
 ghost use Rattle.circle_completeness.specs.Accepted.{AcceptsOpeningsBy};
-ghost use Rattle.circle_words.specs.Requests.{AreFit, AreRequests};
+ghost use Rattle.circle_codewords.specs.Requests.{AreFit, AreRequests};
 
 use circle_challenger::{CanObserve, CanSample, GrindingChallenger};
+use circle_commit::{FriParameters, Mmcs, OpeningRequest};
 use circle_field::{ComplexExtendable, ExtensionField};
-use circle_matrix::{FriParameters, Mmcs, OpeningRequest};
-use circle_opening::OpeningOver;
+use circle_prover::OpeningOver;
 use circle_relation::OverCircle;
 
 /// Whatever an opening answers of the requests is accepted (Circle STARKs, IACR ePrint 2024/278,

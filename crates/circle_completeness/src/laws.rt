@@ -1,17 +1,17 @@
 //! Laws of the words that an opening makes of committed matrices under true claims. The calls of
 //! this module answer nothing and carry what their contracts say.
 ghost use Rattle.std.specs.Prelude.{◌≤◌, List};
-ghost use Rattle.circle_words.specs.Words.{Committed};
+ghost use Rattle.circle_codewords.specs.Words.{Committed};
 ghost use Rattle.circle_completeness.specs.LowWords.{ReducedWordsSplit, CorrectedWordsAreLow};
 ghost use Rattle.circle_completeness.specs.LowWords.{FirstFoldsAreLow, RoundWordsAreLow};
 ghost use Rattle.circle_completeness.specs.LowWords.{LastWordIsLow};
 ghost use Rattle.circle_completeness.specs.Honest.{EndsLow, IsNeverTooHighBy};
-ghost use Rattle.circle_words.specs.Requests.{AreFit, AreRequests};
+ghost use Rattle.circle_codewords.specs.Requests.{AreFit, AreRequests};
 
 use circle_challenger::{CanObserve, CanSample, GrindingChallenger};
+use circle_commit::{FriParameters, Mmcs, OpeningRequest};
 use circle_field::{ComplexExtendable, ExtensionField};
-use circle_matrix::{FriParameters, Mmcs, OpeningRequest};
-use circle_opening::OpeningOver;
+use circle_prover::OpeningOver;
 use circle_relation::OverCircle;
 
 /// The word of a height, which `alpha` combines of the quotients of all claims on matrices of that

@@ -9,9 +9,9 @@ use Rattle.circle_field.specs.Field.{FieldOps, FieldLaws, sub}
 use Rattle.circle_field.specs.Ring.{Expr, var, unit, plus as sum, times as prod, minus}
 use Rattle.circle_field.specs.RingCombine.{given, combine}
 use Rattle.circle_field.specs.Circle.{Coordinates, IsOnCircle, AreGenerators, origin, times}
-use Rattle.circle_matrix.specs.Matrix.{column}
+use Rattle.circle_commit.specs.Matrix.{column}
 use Rattle.circle_point.specs.Basis.{value}
-use Rattle.circle_matrix.specs.DotProduct.{pairwise}
+use Rattle.circle_commit.specs.DotProduct.{pairwise}
 use Rattle.circle_domain.specs.Layers.{factor, second_half}
 use Rattle.circle_domain.specs.Order.{IsGenuine, cfft_order}
 use Rattle.circle_domain.specs.Values.{HasValues}
@@ -21,7 +21,7 @@ use Rattle.circle_domain.proofs.Inversion.{factor-nonzero, first-genuine, second
 use Rattle.circle_domain.proofs.LagrangePolynomials.{twice-nonzero}
 use Rattle.circle_domain.proofs.Stored.{rows-values}
 use Rattle.circle_domain.proofs.Transform.{lower, upper, finish, finish-value, halves_of}
-use Rattle.circle_matrix.proofs.Written.{length-pairwise}
+use Rattle.circle_commit.proofs.Written.{length-pairwise}
 
 module _ {F : Type 0} {k : FieldOps F} (laws : FieldLaws k) where
   -- the halves of coefficients from their sums and differences

@@ -6,11 +6,11 @@ use Rattle.std.proofs.lemmas.List.{map-append, take-map, length-take-le, length-
 use Rattle.std.proofs.Math.ListN.{get_or-map}
 use Rattle.std.proofs.lemmas.List.FromFn.{fill_by_all, get_or-map-range_with_len}
 use Rattle.std.proofs.lemmas.List.Elements.{recursion_from_All}
-use Rattle.circle_matrix.specs.Matrix.{rows_from, column}
-use Rattle.circle_matrix.specs.RowFacts.{length-rows_from, rows_from-take, rows_from-drop, rows_from-append}
-use Rattle.circle_matrix.specs.DotProduct.{pairwise}
+use Rattle.circle_commit.specs.Matrix.{rows_from, column}
+use Rattle.circle_commit.specs.RowFacts.{length-rows_from, rows_from-take, rows_from-drop, rows_from-append}
+use Rattle.circle_commit.specs.DotProduct.{pairwise}
 use Rattle.circle_domain.specs.Layers.{layer, copies}
-use Rattle.circle_matrix.proofs.Written.{length-pairwise, pairwise-read}
+use Rattle.circle_commit.proofs.Written.{length-pairwise, pairwise-read}
 
 pub drop-map : {X Y : Type 0} (f : X → Y) (n : ℕ) (xs : List X) → drop n (map f xs) ≡ map f (drop n xs)
 drop-map f zero xs = refl

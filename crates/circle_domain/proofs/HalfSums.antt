@@ -5,7 +5,7 @@ use Rattle.circle_field.specs.Field.{FieldOps, RingLaws, sub}
 use Rattle.circle_field.specs.RingFacts.{zero_mul, add_swap, add_mul, mul_neg}
 use Rattle.circle_field.specs.Circle.{Coordinates}
 use Rattle.circle_point.specs.Basis.{circle_basis, weighted_sum, value}
-use Rattle.circle_matrix.specs.DotProduct.{pairwise}
+use Rattle.circle_commit.specs.DotProduct.{pairwise}
 use Rattle.circle_domain.specs.Layers.{factor}
 use Rattle.circle_point.proofs.Bases.{circle_basis-next}
 

@@ -14,8 +14,8 @@ use Rattle.circle_field.proofs.Inverses.{nonzero_product}
 use Rattle.circle_point.specs.Basis.{value}
 use Rattle.circle_domain.specs.Lagrange.{lagrange_at as weight}
 use Rattle.circle_domain.specs.Layers.{factor, second_half}
-use Rattle.circle_matrix.specs.DotProduct.{dot}
-use Rattle.circle_matrix.proofs.ColumnSums.{dot-append}
+use Rattle.circle_commit.specs.DotProduct.{dot}
+use Rattle.circle_commit.proofs.ColumnSums.{dot-append}
 use Rattle.circle_domain.proofs.HalfSums.{value-low, high-low}
 use Rattle.circle_domain.proofs.Blocks.{points, second_half-on_circle}
 use Rattle.circle_domain.proofs.Transform.{lower, upper, map-same, halves_of, split_values}

@@ -15,7 +15,7 @@ use Rattle.circle_point.specs.Basis.{value}
 use Rattle.circle_point.proofs.Multiples.{iterated_x-times, times-on_circle}
 use Rattle.circle_point.proofs.Selectors.{y_multiple}
 use Rattle.circle_domain.specs.Layers.{factor}
-use Rattle.circle_matrix.specs.DotProduct.{dot}
+use Rattle.circle_commit.specs.DotProduct.{dot}
 use Rattle.circle_domain.specs.Lagrange.{lagrange_at as weight, shares}
 use Rattle.circle_domain.specs.Order.{coset, with_opposites}
 use Rattle.circle_domain.proofs.Blocks.{all-append, times-plus, times-generator-past, points-cfft_order}

@@ -9,7 +9,7 @@ use Rattle.circle_field.specs.CircleGroup.{lifted-on_circle}
 use Rattle.circle_field.proofs.Inverses.{inverse_unique}
 use Rattle.circle_point.specs.Basis.{value, vanishing}
 use Rattle.circle_domain.specs.Clear.{IsClearOf}
-use Rattle.circle_matrix.specs.DotProduct.{dot}
+use Rattle.circle_commit.specs.DotProduct.{dot}
 use Rattle.circle_domain.specs.Lagrange.{shares}
 use Rattle.circle_domain.specs.Layers.{factor}
 use Rattle.circle_domain.specs.Order.{IsGenuine, coset, cfft_order, natural_order, natural_from, with_opposites}

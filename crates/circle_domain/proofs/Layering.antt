@@ -8,7 +8,7 @@ use Rattle.circle_field.specs.Field.{FieldOps, RingLaws, FieldLaws, sub}
 use Rattle.circle_field.specs.Circle.{Coordinates, IsOnCircle, AreGenerators, times, origin}
 use Rattle.circle_point.specs.Basis.{value}
 use Rattle.circle_domain.specs.Layers.{layer, factor, second_half, block_starts, copies}
-use Rattle.circle_matrix.proofs.Written.{length-pairwise}
+use Rattle.circle_commit.proofs.Written.{length-pairwise}
 use Rattle.circle_domain.proofs.Columns.{drop-map}
 use Rattle.circle_domain.proofs.Blocks.{points, all-append, second_half-on_circle}
 use Rattle.circle_domain.proofs.Inversion.{finish-scaled, factor-nonzero, first-genuine, second-genuine}

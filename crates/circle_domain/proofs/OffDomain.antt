@@ -6,9 +6,9 @@ use Rattle.std.proofs.lemmas.List.{length-map}
 use Rattle.std.proofs.lemmas.List.FromFn.{fill_by_all, length-map-range_with_len, get_or-map-range_with_len}
 use Rattle.circle_field.specs.Field.{FieldOps}
 use Rattle.circle_field.specs.Circle.{Coordinates}
-use Rattle.circle_matrix.specs.Matrix.{column}
+use Rattle.circle_commit.specs.Matrix.{column}
 use Rattle.circle_point.specs.Basis.{value}
-use Rattle.circle_matrix.specs.DotProduct.{dot}
+use Rattle.circle_commit.specs.DotProduct.{dot}
 use Rattle.circle_domain.specs.Order.{cfft_order}
 use Rattle.circle_domain.specs.Values.{HasValues, lifted_values_at}
 use Rattle.circle_domain.proofs.Stored.{column-values}

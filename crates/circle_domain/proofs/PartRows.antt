@@ -9,10 +9,10 @@ use Rattle.std.proofs.lemmas.List.FromFn.{get_or-map-range_with_len}
 use Rattle.std.proofs.lemmas.Option.{slice_get_within, slice_get-get_or, get_or_from_slice_get}
 use Rattle.circle_field.specs.Field.{FieldOps, FieldLaws}
 use Rattle.circle_field.specs.Circle.{Coordinates, AreGenerators, plus, times}
-use Rattle.circle_matrix.specs.Matrix.{mapped_rows, IsPowerOfTwo}
-use Rattle.circle_matrix.specs.RowFacts.{mapped_rows-row}
-use Rattle.circle_matrix.specs.RowMajorMatrix.{rows, width_of, height_of, length-rows, rows-width}
-use Rattle.circle_matrix.specs.declared.matrix.RowMajorMatrix.{RowMajorMatrix}
+use Rattle.circle_commit.specs.Matrix.{mapped_rows, IsPowerOfTwo}
+use Rattle.circle_commit.specs.RowFacts.{mapped_rows-row}
+use Rattle.circle_commit.specs.RowMajorMatrix.{rows, width_of, height_of, length-rows, rows-width}
+use Rattle.circle_commit.specs.declared.matrix.RowMajorMatrix.{RowMajorMatrix}
 use Rattle.circle_domain.specs.Splitting.{part_of, place_in, place_of}
 use Rattle.circle_domain.specs.Order.{natural_order}
 use Rattle.circle_domain.specs.Selectors.{IsStandard}

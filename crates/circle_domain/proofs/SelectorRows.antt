@@ -1,7 +1,7 @@
 -- Facts and values at each of the points that are stored.
 use Rattle.std.specs.Prelude.{◌≡◌, List, [], ◌∷◌, map, All}
 use Rattle.std.proofs.Common.{zero, suc, ◌∙◌, ap, refl, arith}
-use Rattle.circle_matrix.specs.DotProduct.{pairwise}
+use Rattle.circle_commit.specs.DotProduct.{pairwise}
 
 module _ {P C X : Type 0} (view : P → C) where
   -- what follows of each item's view holds of what is made of each item

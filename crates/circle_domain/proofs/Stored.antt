@@ -5,8 +5,8 @@ use Rattle.std.proofs.Math.Nat.{mul-div_cancel}
 use Rattle.std.proofs.lemmas.Nat.{mod-mul-add}
 use Rattle.circle_field.specs.Field.{FieldOps}
 use Rattle.circle_field.specs.Circle.{Coordinates}
-use Rattle.circle_matrix.specs.Matrix.{rows_from, column}
-use Rattle.circle_matrix.specs.RowFacts.{rows_from-widths}
+use Rattle.circle_commit.specs.Matrix.{rows_from, column}
+use Rattle.circle_commit.specs.RowFacts.{rows_from-widths}
 use Rattle.circle_point.specs.Basis.{value}
 use Rattle.circle_domain.specs.Values.{values_at}
 use Rattle.circle_domain.proofs.Columns.{rows-by_columns, column-made}

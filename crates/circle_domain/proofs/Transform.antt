@@ -8,9 +8,9 @@ use Rattle.circle_field.specs.Field.{FieldOps, RingLaws, sub}
 use Rattle.circle_field.specs.RingFacts.{mul_one, add_zero}
 use Rattle.circle_field.specs.Circle.{Coordinates, IsOnCircle, AreGenerators}
 use Rattle.circle_point.specs.Basis.{value}
-use Rattle.circle_matrix.specs.DotProduct.{pairwise}
+use Rattle.circle_commit.specs.DotProduct.{pairwise}
 use Rattle.circle_domain.specs.Layers.{factor, second_half}
-use Rattle.circle_matrix.proofs.Written.{length-pairwise}
+use Rattle.circle_commit.proofs.Written.{length-pairwise}
 use Rattle.circle_domain.proofs.HalfSums.{value-halves, value-low, high-low}
 use Rattle.circle_domain.proofs.Blocks.{points, factor-points, factor-opposite, second_half-on_circle}
 

@@ -6,9 +6,9 @@ use Rattle.std.proofs.lemmas.List.{map-append, take_at, drop_at, take-append-dro
 use Rattle.circle_field.specs.Field.{FieldOps, FieldLaws, two, sub}
 use Rattle.circle_field.specs.Ring.{var, unit, plus as sum, times as prod, minus}
 use Rattle.circle_field.specs.RingCombine.{given, combine}
-use Rattle.circle_matrix.specs.DotProduct.{pairwise}
+use Rattle.circle_commit.specs.DotProduct.{pairwise}
 use Rattle.circle_domain.specs.Layers.{layer}
-use Rattle.circle_matrix.proofs.Written.{length-pairwise}
+use Rattle.circle_commit.proofs.Written.{length-pairwise}
 use Rattle.circle_domain.proofs.Transform.{lower, upper}
 
 module _ {F : Type 0} (k : FieldOps F) where

@@ -4,7 +4,7 @@ use Rattle.std.specs.Prelude.{◌≡◌, ℕ, ◌^◌, List, [], ◌∷◌, leng
 use Rattle.std.proofs.Common.{zero, suc}
 use Rattle.circle_field.specs.Field.{FieldOps, sub}
 use Rattle.circle_field.specs.Circle.{Coordinates}
-use Rattle.circle_matrix.specs.DotProduct.{dot}
+use Rattle.circle_commit.specs.DotProduct.{dot}
 use Rattle.circle_point.specs.Basis.{value}
 use Rattle.circle_domain.specs.Domain.{log_size, cfft_points_of}
 use Rattle.circle_domain.specs.Layers.{factor}

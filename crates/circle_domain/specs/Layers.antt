@@ -5,7 +5,7 @@ use Rattle.std.proofs.Common.{zero, suc}
 use Rattle.circle_field.specs.Field.{FieldOps}
 use Rattle.circle_field.specs.Circle.{Coordinates, plus, opposite}
 use Rattle.circle_point.specs.Basis.{iterated_x, value}
-use Rattle.circle_matrix.specs.DotProduct.{pairwise}
+use Rattle.circle_commit.specs.DotProduct.{pairwise}
 
 -- the halves of each block of 2 * half entries, made anew of both halves and the block's factor
 abbrev pub layer : {F : Type 0} →

@@ -3,7 +3,7 @@ use Rattle.std.specs.Prelude.{ℕ, ◌+◌, ◌-◌, ◌*◌, ◌/◌, ◌%◌, 
 use Rattle.std.specs.Prelude.{List, map, slice_index_or}
 use Rattle.std.specs.List.{range_with_len}
 use Rattle.std.proofs.Common.{zero, suc}
-use Rattle.circle_matrix.specs.Matrix.{mapped_rows}
+use Rattle.circle_commit.specs.Matrix.{mapped_rows}
 
 -- the number whose n lowest bits are those of i in the other order
 abbrev pub reversed : ℕ → ℕ → ℕ

@@ -4,9 +4,9 @@
 use Rattle.std.specs.Prelude.{◌≡◌, ℕ, ◌+◌, ◌-◌, ◌*◌, ◌/◌, ◌%◌, ◌<◌, nat_lt, nat_eq, if◌then◌else◌}
 use Rattle.std.specs.Prelude.{List, IfSome, map, slice_get}
 use Rattle.std.specs.List.{range_with_len}
-use Rattle.circle_matrix.specs.Matrix.{mapped_rows}
-use Rattle.circle_matrix.specs.RowMajorMatrix.{rows}
-use Rattle.circle_matrix.specs.declared.matrix.RowMajorMatrix.{RowMajorMatrix}
+use Rattle.circle_commit.specs.Matrix.{mapped_rows}
+use Rattle.circle_commit.specs.RowMajorMatrix.{rows}
+use Rattle.circle_commit.specs.declared.matrix.RowMajorMatrix.{RowMajorMatrix}
 
 -- the part that natural point i goes to
 abbrev pub part_of : ℕ → ℕ → ℕ

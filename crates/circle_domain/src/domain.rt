@@ -17,10 +17,10 @@ ghost use Rattle.circle_domain.specs.Selectors.{IsFinite, IsLeastLog, zero_at};
 use crate::lagrange::value_off_domain;
 use crate::row_selectors::{natural_points, one_less_scaled, row_selector, vanishing_values};
 use crate::splitting::rows_of_part;
+use circle_commit::{LagrangeSelectors, PolynomialSpace, RowMajorMatrix, log2_strict};
 use circle_field::{
     ComplexExtendable, ExtensionField, Field, Operations, batch_multiplicative_inverse,
 };
-use circle_matrix::{LagrangeSelectors, PolynomialSpace, RowMajorMatrix, log2_strict};
 use circle_point::{Neutral, Point};
 use std::alloc::{AllocError, Global};
 
@@ -306,8 +306,8 @@ impl<F: ComplexExtendable> PolynomialSpace for CircleDomain<F> {
 
     ghost use Rattle.circle_point.specs.Projective.{to_line, from_line, half_turn};
     ghost use Rattle.circle_domain.specs.Domain.{log_size, shift_of, IsStandardOf};
-    ghost use Rattle.circle_matrix.specs.Matrix.{IsPowerOfTwo};
-    ghost use Rattle.circle_matrix.specs.RowMajorMatrix.{rows, width_of, height_of};
+    ghost use Rattle.circle_commit.specs.Matrix.{IsPowerOfTwo};
+    ghost use Rattle.circle_commit.specs.RowMajorMatrix.{rows, width_of, height_of};
     ghost use Rattle.circle_domain.specs.Splitting.{split_rows, EachRowGoes};
     ghost use Rattle.circle_domain.specs.Periodic.{IsPeriodicValue, IsClearOfPeriod};
     ghost use Rattle.circle_domain.specs.Values.{IsValueOfOne, IsValueOfEach};

@@ -10,7 +10,7 @@ ghost use Rattle.circle_point.specs.Point.{coordinates};
 ghost use Rattle.circle_domain.specs.Clear.{IsClearOf};
 ghost use Rattle.circle_domain.specs.Domain.{log_size, shift_of};
 ghost use Rattle.circle_domain.specs.Domain.{points_of, IsGenuineDomain};
-ghost use Rattle.circle_matrix.specs.DotProduct.{dot};
+ghost use Rattle.circle_commit.specs.DotProduct.{dot};
 ghost use Rattle.circle_domain.specs.Lagrange.{shares, x_difference, AreWeightsAt};
 ghost use Rattle.circle_domain.specs.Ordering.{reordered};
 ghost use Rattle.circle_domain.specs.Values.{IsValueOfOne, IsValueOfEach};

@@ -19,14 +19,14 @@
 //! and so the third and the fourth, which the next step pairs.
 ghost use Rattle.std.specs.Prelude.{ℕ, ◌≡◌, ◌≤◌, ◌<◌, ◌^◌, ◌-◌, map, Ok, IfOk, OnOk};
 ghost use Rattle.circle_domain.specs.Ordering.{cfft_index, reversed, other_order};
-ghost use Rattle.circle_matrix.specs.Matrix.{IsPowerOfTwo};
+ghost use Rattle.circle_commit.specs.Matrix.{IsPowerOfTwo};
 ghost use Rattle.circle_point.specs.Point.{coordinates};
 ghost use Rattle.circle_domain.specs.Domain.{log_size, shift_of};
 ghost use Rattle.circle_domain.specs.Order.{coset, with_moved};
 
 use crate::domain::CircleDomain;
+use circle_commit::{Matrix, MatrixShape, RowIndexMap, RowIndexMappedView, log2_strict};
 use circle_field::{ComplexExtendable, Field};
-use circle_matrix::{Matrix, MatrixShape, RowIndexMap, RowIndexMappedView, log2_strict};
 use circle_point::Point;
 use std::alloc::{AllocError, Global};
 

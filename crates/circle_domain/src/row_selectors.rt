@@ -5,7 +5,7 @@ ghost use Rattle.circle_field.specs.Field.{sub};
 ghost use Rattle.circle_point.specs.Point.{coordinates};
 ghost use Rattle.circle_domain.specs.Domain.{log_size, points_of};
 ghost use Rattle.circle_domain.specs.Space.{vanishing_of};
-ghost use Rattle.circle_matrix.specs.DotProduct.{pairwise};
+ghost use Rattle.circle_commit.specs.DotProduct.{pairwise};
 ghost use Rattle.circle_domain.specs.Selectors.{over_zero_at};
 
 use crate::domain::CircleDomain;
@@ -25,7 +25,11 @@ pub(crate) fn natural_points<F: ComplexExtendable>(
     ensures { IfOk result (λ points. map coordinates points.items
         ≡ points_of F.ops F.generators domain) }
 {
-    domain.points().collect(alloc)
+    let mut points = Vec::with_capacity(alloc, domain.size())?;
+    for point in domain.points() {
+        points.push(point)?;
+    }
+    Ok(points)
 }
 
 /// The vanishing polynomial of a domain at each point.

@@ -1,11 +1,11 @@
 //! The rows of a standard domain that go to one of its parts.
 ghost use Rattle.std.specs.Prelude.{◌≡◌, ℕ, ◌+◌, ◌*◌, ◌/◌, ◌^◌, ◌<◌, IfOk};
-ghost use Rattle.circle_matrix.specs.Matrix.{mapped_rows};
-ghost use Rattle.circle_matrix.specs.RowMajorMatrix.{rows, width_of, height_of};
+ghost use Rattle.circle_commit.specs.Matrix.{mapped_rows};
+ghost use Rattle.circle_commit.specs.RowMajorMatrix.{rows, width_of, height_of};
 ghost use Rattle.circle_domain.specs.Splitting.{place_of};
 
+use circle_commit::{Matrix, RowMajorMatrix};
 use circle_field::Field;
-use circle_matrix::{Matrix, RowMajorMatrix};
 use std::alloc::{AllocError, Global};
 
 // The rows that go to a part, in order.

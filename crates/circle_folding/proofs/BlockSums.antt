@@ -6,8 +6,8 @@ use Rattle.std.proofs.Math.Seq.{take-add}
 use Rattle.std.proofs.lemmas.List.{take_more, length-take-le, length-replicate, take-append-drop, length-drop}
 use Rattle.circle_field.specs.Field.{FieldOps, RingLaws}
 use Rattle.circle_field.specs.RingFacts.{zero_mul, add_mul}
-use Rattle.circle_matrix.proofs.ColumnSums.{dot-append}
-use Rattle.circle_matrix.specs.DotProduct.{dot, pairwise}
+use Rattle.circle_commit.proofs.ColumnSums.{dot-append}
+use Rattle.circle_commit.specs.DotProduct.{dot, pairwise}
 use Rattle.circle_folding.specs.Blocks.{spread, sum_of}
 use Rattle.circle_folding.proofs.Vanished.{spread-append}
 

@@ -9,7 +9,7 @@ use Rattle.circle_field.specs.Field.{FieldOps, RingLaws, FieldLaws}
 use Rattle.circle_field.specs.RingFacts.{neg_neg}
 use Rattle.circle_field.specs.Circle.{Coordinates, AreGenerators, origin}
 use Rattle.circle_domain.specs.Order.{coset, with_opposites}
-use Rattle.circle_matrix.specs.DotProduct.{pairwise}
+use Rattle.circle_commit.specs.DotProduct.{pairwise}
 use Rattle.circle_domain.proofs.CosetOrder.{with_opposites-even, with_opposites-odd}
 use Rattle.circle_domain.proofs.Twiddles.{length-coset}
 use Rattle.circle_folding.specs.Fold.{fold_y_twiddles}

@@ -17,7 +17,7 @@ use Rattle.circle_domain.proofs.Layering.{halves, block_starts-halves, length-bl
 use Rattle.circle_domain.proofs.Lifted.{lifted-doubled_x}
 use Rattle.circle_domain.proofs.Transform.{map-same}
 use Rattle.circle_domain.proofs.Twiddles.{map-map, length-coset, block_starts-coset}
-use Rattle.circle_matrix.proofs.Written.{length-pairwise}
+use Rattle.circle_commit.proofs.Written.{length-pairwise}
 use Rattle.circle_folding.specs.Fold.{folds, fold_y_twiddles, fold_x_twiddles, y_folds, x_folds}
 use Rattle.circle_folding.specs.Spans.{HalvesSpan, HalvesXSpan, ShowsSpan, ShowsXSpan}
 use Rattle.circle_folding.proofs.Sides.{in_turn, length-in_turn, taken_in_turn, value-in_turn, x_value-in_turn, combination, sides, polynomial-folds, odd_told, even_told, length-odd_told, length-even_told, polynomial-told}

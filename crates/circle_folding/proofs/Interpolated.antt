@@ -7,13 +7,13 @@ use Rattle.circle_field.specs.Field.{FieldOps, FieldLaws, IsEmbedding, sub, two,
 use Rattle.circle_field.specs.Circle.{Coordinates, IsOnCircle, AreGenerators, plus, origin, times}
 use Rattle.circle_point.specs.Basis.{iterated_x, x_value}
 use Rattle.circle_domain.specs.Order.{coset}
-use Rattle.circle_matrix.specs.DotProduct.{pairwise}
+use Rattle.circle_commit.specs.DotProduct.{pairwise}
 use Rattle.circle_domain.proofs.Blocks.{second_half-on_circle}
 use Rattle.circle_domain.proofs.Inversion.{factor-nonzero, first-genuine, second-genuine}
 use Rattle.circle_domain.proofs.Lifted.{lifted-iterated_x, lifted-inverse}
 use Rattle.circle_domain.proofs.Transform.{map-same, first-long}
 use Rattle.circle_domain.proofs.Twiddles.{map-map}
-use Rattle.circle_matrix.proofs.Written.{length-pairwise}
+use Rattle.circle_commit.proofs.Written.{length-pairwise}
 use Rattle.circle_folding.specs.Interpolation.{multiples}
 use Rattle.circle_folding.proofs.Factors.{point_factors, length-point_factors, factor-coset, factor-second}
 use Rattle.circle_folding.proofs.Halves.{x_value-halves, x_value-single}

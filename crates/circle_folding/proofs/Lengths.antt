@@ -3,9 +3,9 @@ use Rattle.std.specs.Prelude.{◌≡◌, ℕ, ◌+◌, ◌-◌, ◌^◌, List, [
 use Rattle.std.proofs.Common.{zero, suc, sym, ◌∙◌, arith, length-append, length-drop}
 use Rattle.std.proofs.Math.Nat.{pow-suc}
 use Rattle.circle_field.specs.Field.{FieldOps, sub}
-use Rattle.circle_matrix.specs.DotProduct.{pairwise}
+use Rattle.circle_commit.specs.DotProduct.{pairwise}
 use Rattle.circle_domain.proofs.Transform.{first-long}
-use Rattle.circle_matrix.proofs.Written.{length-pairwise}
+use Rattle.circle_commit.proofs.Written.{length-pairwise}
 use Rattle.circle_folding.specs.Interpolation.{multiples}
 
 module _ {F E : Type 0} (l : FieldOps E) (embed : F → E) where

@@ -21,3 +21,9 @@ pub mod Twiddles
 pub mod Vanished
 pub mod Vanishing
 pub mod Weighted
+pub mod Bound
+pub mod ClaimedColumns
+pub mod Differences
+pub mod Only
+pub mod Polynomials
+pub mod ClaimedWords

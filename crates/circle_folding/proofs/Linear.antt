@@ -7,7 +7,7 @@ use Rattle.circle_field.specs.Ring.{var, con, unit, plus as sum, times as prod, 
 use Rattle.circle_field.specs.RingSound.{ring}
 use Rattle.circle_field.specs.RingCombine.{given, combine}
 use Rattle.circle_point.specs.Basis.{x_basis, weighted_sum, x_value}
-use Rattle.circle_matrix.specs.DotProduct.{pairwise}
+use Rattle.circle_commit.specs.DotProduct.{pairwise}
 
 module _ {F : Type 0} {k : FieldOps F} (laws : RingLaws k) where
   weighted-sums : (f : ℕ → F) (j : ℕ) (xs ys : List F) → length xs ≡ length ys → weighted_sum k f j (pairwise k.add xs ys) ≡ k.add (weighted_sum k f j xs) (weighted_sum k f j ys)

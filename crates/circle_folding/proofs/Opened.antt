@@ -3,7 +3,7 @@ use Rattle.std.specs.Prelude.{◌≡◌, ℕ, ◌<◌, List, [], length, map, sl
 use Rattle.std.specs.declared.alloc.Global.{Global}
 use Rattle.std.proofs.Common.{sym, ◌∙◌, ap}
 use Rattle.std.proofs.lemmas.List.{length-map, get_or-map}
-use Rattle.circle_matrix.specs.Mmcs.{opened_rows}
+use Rattle.circle_commit.specs.Mmcs.{opened_rows}
 
 module _ {T : Type 0} (values : List (Vec (Vec T Global) Global)) (i matrix : ℕ) (rows : Vec (Vec T Global) Global) (within : i < length values) (at : rows ≡ slice_index_or values i rows) where
   opened : slice_index_or (opened_rows values) i [] ≡ map (λ row. row.items) rows.items

@@ -12,12 +12,12 @@ use Rattle.circle_field.specs.Circle.{Coordinates, IsOnCircle, AreGenerators}
 use Rattle.circle_field.proofs.Powers.{nth_power-+}
 use Rattle.circle_point.specs.Basis.{value}
 use Rattle.circle_point.proofs.Multiples.{iterated_x-suc}
-use Rattle.circle_matrix.specs.DotProduct.{dot}
+use Rattle.circle_commit.specs.DotProduct.{dot}
 use Rattle.circle_domain.specs.Layers.{factor, second_half, block_starts}
 use Rattle.circle_domain.proofs.Blocks.{points, second_half-on_circle, factor-opposite}
-use Rattle.circle_matrix.proofs.ColumnSums.{dot-append}
+use Rattle.circle_commit.proofs.ColumnSums.{dot-append}
 use Rattle.circle_domain.proofs.Transform.{lower, upper, finish, finish-value, halves_of}
-use Rattle.circle_matrix.proofs.Written.{pairwise-read}
+use Rattle.circle_commit.proofs.Written.{pairwise-read}
 use Rattle.circle_folding.specs.Blocks.{spread, sum_of}
 use Rattle.circle_folding.proofs.BlockSums.{dot-replicate}
 use Rattle.circle_folding.proofs.Vanished.{factors-spread, length-points}

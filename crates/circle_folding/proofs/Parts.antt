@@ -4,7 +4,7 @@ use Rattle.std.proofs.Common.{suc, sym, ◌∙◌, ap, arith, append_assoc, leng
 use Rattle.std.proofs.lemmas.List.{take_all}
 use Rattle.circle_field.specs.Field.{FieldOps, sub}
 use Rattle.circle_point.specs.Basis.{iterated_x}
-use Rattle.circle_matrix.specs.DotProduct.{pairwise}
+use Rattle.circle_commit.specs.DotProduct.{pairwise}
 use Rattle.circle_folding.specs.Interpolation.{block_factors, multiples}
 
 -- all but the first entry

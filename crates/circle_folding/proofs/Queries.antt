@@ -15,11 +15,11 @@ use Rattle.circle_field.specs.CircleGroup.{plus_comm, plus_assoc, doubling, plus
 use Rattle.circle_point.specs.Basis.{doubled_x}
 use Rattle.circle_domain.specs.Order.{natural_order}
 use Rattle.circle_domain.specs.Ordering.{cfft_index}
-use Rattle.circle_matrix.specs.DotProduct.{pairwise}
+use Rattle.circle_commit.specs.DotProduct.{pairwise}
 use Rattle.circle_domain.specs.Layers.{block_starts, second_half, factor}
 use Rattle.circle_domain.proofs.Layering.{halves, block_starts-halves}
 use Rattle.circle_domain.proofs.Twiddles.{map-map}
-use Rattle.circle_matrix.proofs.Written.{length-pairwise, pairwise-read}
+use Rattle.circle_commit.proofs.Written.{length-pairwise, pairwise-read}
 use Rattle.circle_folding.specs.Fold.{fold_x_twiddles, folds, fold_pair}
 use Rattle.circle_folding.specs.Chain.{round_twiddle, pair_of, asked_pairs, next_value}
 use Rattle.circle_folding.proofs.Twiddles.{x_factors, length-fold_x_twiddles, fold_x_twiddles-nonzero, x_twiddle-of}

@@ -13,7 +13,7 @@ use Rattle.circle_field.proofs.Halves.{half_unique}
 use Rattle.circle_field.specs.CircleGroup.{lifted-on_circle}
 use Rattle.circle_point.specs.Basis.{value}
 use Rattle.circle_point.proofs.Multiples.{iterated_x-times}
-use Rattle.circle_matrix.specs.DotProduct.{dot, pairwise}
+use Rattle.circle_commit.specs.DotProduct.{dot, pairwise}
 use Rattle.circle_domain.specs.Layers.{factor}
 use Rattle.circle_domain.specs.Order.{cfft_order}
 use Rattle.circle_domain.specs.Spans.{HasValues}
@@ -22,7 +22,7 @@ use Rattle.circle_domain.proofs.LagrangeShares.{power-nonzero}
 use Rattle.circle_domain.proofs.Lifted.{lifted-points, lifted-generators, lifted-factor, lifted-times}
 use Rattle.circle_domain.proofs.Twiddles.{map-map}
 use Rattle.circle_domain.proofs.Walking.{zero_square}
-use Rattle.circle_matrix.proofs.Written.{length-pairwise}
+use Rattle.circle_commit.proofs.Written.{length-pairwise}
 use Rattle.circle_folding.specs.Lambda.{vanishing_values, lambda_of, remainder_of}
 use Rattle.circle_folding.specs.Spans.{Splits, IsOnlySplit, IsOrthogonal, HasNoMultiple}
 use Rattle.circle_folding.proofs.Orthogonal.{factor-orthogonal, factor-squares}

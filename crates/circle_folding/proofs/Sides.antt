@@ -13,9 +13,9 @@ use Rattle.circle_field.specs.RingFacts.{mul_one, neg_zero_cancel}
 use Rattle.circle_field.specs.Circle.{Coordinates}
 use Rattle.circle_point.specs.Basis.{doubled_x, bit_factor, x_basis, circle_basis, weighted_sum, value, x_value}
 use Rattle.circle_point.proofs.Bases.{x_basis-doubled}
-use Rattle.circle_matrix.specs.DotProduct.{pairwise}
+use Rattle.circle_commit.specs.DotProduct.{pairwise}
 use Rattle.circle_domain.proofs.LagrangePolynomials.{twice-nonzero}
-use Rattle.circle_matrix.proofs.Written.{length-pairwise}
+use Rattle.circle_commit.proofs.Written.{length-pairwise}
 use Rattle.circle_folding.specs.Fold.{fold, folds}
 
 -- the entries of two lists in turn

@@ -5,8 +5,8 @@ use Rattle.std.proofs.Common.{zero, suc, sym, ap, ◌∙◌, refl, arith}
 use Rattle.std.proofs.lemmas.List.FromFn.{take-map-range_with_len}
 use Rattle.circle_field.specs.Field.{FieldOps, sub, nth_power}
 use Rattle.circle_field.specs.Circle.{Coordinates}
-use Rattle.circle_matrix.proofs.Written.{length-pairwise}
-use Rattle.circle_matrix.specs.DotProduct.{dot, pairwise}
+use Rattle.circle_commit.proofs.Written.{length-pairwise}
+use Rattle.circle_commit.specs.DotProduct.{dot, pairwise}
 use Rattle.circle_folding.specs.Quotient.{differences, real_part, imaginary_part, weighted_quotient, claim_quotient}
 use Rattle.circle_folding.specs.Queries.{claim_quotients}
 

@@ -3,7 +3,7 @@ use Rattle.std.specs.Prelude.{ℕ, ◌+◌, List, [], ◌∷◌, map, slice_inde
 use Rattle.circle_field.specs.Field.{FieldOps, sub, two}
 use Rattle.circle_field.specs.Circle.{Coordinates}
 use Rattle.circle_domain.specs.Order.{coset}
-use Rattle.circle_matrix.specs.DotProduct.{pairwise}
+use Rattle.circle_commit.specs.DotProduct.{pairwise}
 use Rattle.circle_domain.specs.Layers.{every_second}
 
 module _ {E : Type 0} (l : FieldOps E) where

@@ -6,7 +6,7 @@ use Rattle.std.proofs.Common.{zero, suc}
 use Rattle.circle_field.specs.Field.{FieldOps, sub}
 use Rattle.circle_field.specs.Circle.{Coordinates}
 use Rattle.circle_point.specs.Basis.{iterated_x}
-use Rattle.circle_matrix.specs.DotProduct.{pairwise}
+use Rattle.circle_commit.specs.DotProduct.{pairwise}
 use Rattle.circle_domain.specs.Order.{coset}
 
 module _ {F : Type 0} (k : FieldOps F) where

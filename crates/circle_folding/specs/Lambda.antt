@@ -4,7 +4,7 @@ use Rattle.std.specs.Prelude.{ℕ, ◌+◌, ◌-◌, List, map}
 use Rattle.circle_field.specs.Field.{FieldOps, sub, two, nth_power}
 use Rattle.circle_field.specs.Circle.{Coordinates}
 use Rattle.circle_point.specs.Basis.{vanishing}
-use Rattle.circle_matrix.specs.DotProduct.{dot, pairwise}
+use Rattle.circle_commit.specs.DotProduct.{dot, pairwise}
 use Rattle.circle_domain.specs.Order.{cfft_order}
 
 module _ {F E : Type 0} (k : FieldOps F) (gen : ℕ → Coordinates F)

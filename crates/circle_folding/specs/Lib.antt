@@ -8,3 +8,6 @@ pub mod Queries
 pub mod Quotient
 pub mod Rows
 pub mod Spans
+pub mod Claims
+pub mod ClaimRows
+pub mod WideSpans

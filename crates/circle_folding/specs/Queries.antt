@@ -4,8 +4,8 @@ use Rattle.std.specs.Prelude.{length, map, slice_index_or}
 use Rattle.std.specs.List.{Any}
 use Rattle.circle_field.specs.Field.{FieldOps}
 use Rattle.circle_field.specs.Circle.{Coordinates, origin, lifted}
-use Rattle.circle_matrix.specs.Mmcs.{opened_rows}
-use Rattle.circle_matrix.specs.DotProduct.{pairwise}
+use Rattle.circle_commit.specs.Mmcs.{opened_rows}
+use Rattle.circle_commit.specs.DotProduct.{pairwise}
 use Rattle.circle_point.specs.Point.{coordinates}
 use Rattle.circle_domain.specs.Order.{cfft_order}
 use Rattle.circle_folding.specs.Quotient.{claim_quotient, ArePowers}

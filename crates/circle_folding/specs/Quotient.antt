@@ -5,7 +5,7 @@ use Rattle.std.specs.List.{range_with_len}
 use Rattle.circle_field.specs.Field.{FieldOps, sub, nth_power}
 use Rattle.circle_field.specs.Circle.{Coordinates}
 use Rattle.circle_point.specs.Projective.{difference_from}
-use Rattle.circle_matrix.specs.DotProduct.{dot, pairwise}
+use Rattle.circle_commit.specs.DotProduct.{dot, pairwise}
 
 -- 1, alpha, alpha^2, ..
 abbrev pub ArePowers : {E : Type 0} → FieldOps E → E → List E → Type 0

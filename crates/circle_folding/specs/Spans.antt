@@ -4,7 +4,7 @@
 use Rattle.std.specs.Prelude.{◌≡◌, ◌≢◌, ℕ, ◌+◌, ◌-◌, List, flat_map}
 use Rattle.circle_field.specs.Field.{FieldOps}
 use Rattle.circle_field.specs.Circle.{Coordinates}
-use Rattle.circle_matrix.specs.DotProduct.{dot, pairwise}
+use Rattle.circle_commit.specs.DotProduct.{dot, pairwise}
 use Rattle.circle_domain.specs.Spans.{Span, XSpan}
 use Rattle.circle_folding.specs.Fold.{y_folds, x_folds}
 use Rattle.circle_folding.specs.Lambda.{vanishing_values, lambda_of, remainder_of}

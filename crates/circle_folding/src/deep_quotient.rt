@@ -5,15 +5,15 @@ ghost use Rattle.std.specs.Prelude.{length, map, IsNone, IfSome, IfOk, OnErr};
 ghost use Rattle.circle_field.specs.Field.{sub};
 ghost use Rattle.circle_field.specs.Circle.{lifted};
 ghost use Rattle.circle_point.specs.Point.{coordinates};
-ghost use Rattle.circle_matrix.specs.DotProduct.{dot, pairwise};
+ghost use Rattle.circle_commit.specs.DotProduct.{dot, pairwise};
 ghost use Rattle.circle_folding.specs.Blocks.{spread, sum_of};
 ghost use Rattle.circle_folding.specs.Lambda.{lambda_of, remainder_of};
 ghost use Rattle.circle_folding.specs.Quotient.{IsQuotientBy, differences, weighted_quotient};
 ghost use Rattle.circle_folding.specs.Spans.{IsOnlySplit, IsOrthogonal, HasNoMultiple};
 
+use circle_commit::log2_strict;
 use circle_domain::{CircleDomain, first_points};
 use circle_field::{ComplexExtendable, ExtensionField, Field};
-use circle_matrix::log2_strict;
 use circle_point::Point;
 use std::alloc::{AllocError, Global};
 

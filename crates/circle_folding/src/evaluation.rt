@@ -1,10 +1,10 @@
 //! Values of polynomials in x.
 ghost use Rattle.std.specs.Prelude.{◌≡◌, length};
-ghost use Rattle.circle_matrix.specs.Matrix.{IsPowerOfTwo};
+ghost use Rattle.circle_commit.specs.Matrix.{IsPowerOfTwo};
 ghost use Rattle.circle_point.specs.Basis.{iterated_x, x_value};
 
+use circle_commit::log2_strict;
 use circle_field::{ExtensionField, Field};
-use circle_matrix::log2_strict;
 
 /// The value at `x` of the polynomial with these coefficients: the sum of `c_j` times the product
 /// of `u_i(x)` over the bits `i` of `j` that are 1, where `u_0` is `x` and the next of `u` is

@@ -5,13 +5,13 @@
 //! transform, and a pair to two opposite points. The entries of a later word belong to x
 //! coordinates, and a pair to two opposite ones.
 ghost use Rattle.std.specs.Prelude.{◌≡◌, ◌≢◌, ℕ, ◌+◌, ◌^◌, ◌<◌, ◌≤◌, length, map, All, IfOk};
-ghost use Rattle.circle_matrix.specs.DotProduct.{pairwise};
+ghost use Rattle.circle_commit.specs.DotProduct.{pairwise};
 ghost use Rattle.circle_folding.specs.Fold.{fold, folds, y_folds, x_folds, x_fold};
 ghost use Rattle.circle_folding.specs.Spans.{HalvesSpan, HalvesXSpan, ShowsSpan, ShowsXSpan};
 
+use circle_commit::{Matrix, log2_strict};
 use circle_domain::{CircleDomain, cfft_permute_index, x_twiddles, y_twiddles};
 use circle_field::{ComplexExtendable, ExtensionField, Field, batch_multiplicative_inverse};
-use circle_matrix::{Matrix, log2_strict};
 use std::alloc::{AllocError, Global};
 
 /// The first word of `2^(k + 1)` entries, as `2^k` rows of two, folded by y: a row `(a, b)` becomes

@@ -2,16 +2,16 @@
 ghost use Rattle.std.specs.Prelude.{◌≡◌, ℕ, ◌+◌, ◌≤◌, ◌^◌, ◌++◌, length, map, All};
 ghost use Rattle.std.specs.Prelude.{IfOk, IfSome, IfNone, OnOk, IsTrue, ◌↔◌};
 ghost use Rattle.circle_field.specs.Field.{sub};
-ghost use Rattle.circle_matrix.specs.Matrix.{IsPowerOfTwo};
-ghost use Rattle.circle_matrix.specs.DotProduct.{pairwise};
+ghost use Rattle.circle_commit.specs.Matrix.{IsPowerOfTwo};
+ghost use Rattle.circle_commit.specs.DotProduct.{pairwise};
 ghost use Rattle.circle_point.specs.Point.{coordinates};
 ghost use Rattle.circle_folding.specs.Interpolation.{block_factors, factors_of, multiples};
 ghost use Rattle.circle_domain.specs.Spans.{AreOnlyXOnes, HasXValues, XSpan};
 
 use crate::evaluation::iterated_x;
+use circle_commit::log2_strict;
 use circle_domain::{CircleDomain, first_points};
 use circle_field::{ComplexExtendable, ExtensionField, Field, batch_multiplicative_inverse};
-use circle_matrix::log2_strict;
 use circle_point::Point;
 use std::alloc::{AllocError, Global};
 

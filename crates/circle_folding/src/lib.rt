@@ -21,13 +21,18 @@
 //! - Of polynomials in x: `x_value` is the sum of the coefficients times the basis at x;
 //!   `x_interpolate` answers coefficients exactly where so few have the word's values, and they are
 //!   the only ones that do (`values`, `only`, `none`).
+//! - Where the quotients of a claim are the values of polynomials with few coefficients plus
+//!   multiples of the vanishing polynomial, the claimed values are those of the codewords' only
+//!   polynomials (`quotient_binds`, `claim_binds`: calls without a result that carry a law).
 //!
 //! Its files:
 //!
 //! - In `src/`, `reduced.rt`: queries' points and the quotients of their rows; `query.rt`: their
 //!   twiddles, pairs and values; `evaluation.rt`, `interpolation.rt`: polynomials in x.
 //! - In `specs/`, `Quotient`, `Lambda`, `Fold`, `Spans`, `Queries`, `Chain`: the definitions.
-//!   `Blocks`, `Interpolation`: words of private contracts. `Rows`, `PolynomialRows`: examples.
+//!   `Blocks`, `Interpolation`: words of private contracts. `WideSpans`: values of a polynomial of
+//!   few coefficients plus a multiple of the vanishing polynomial; `Claims`: quotients on them, and
+//!   what binds claimed values. `Rows`, `PolynomialRows`, `ClaimRows`: examples.
 //! - In `proofs/`, of lambda: `Vanished`, the vanishing polynomial has one value in each block of
 //!   the transform's order; `Orthogonal`, it is orthogonal to polynomials with fewer coefficients,
 //!   and its squares add up to half the number of points; `Remainders`, so the extracted multiple
@@ -36,8 +41,14 @@
 //!   `FoldedSpans`, words of low degree fold to such words; `Folds`, `Twiddles`, `FirstLayer`,
 //!   `Queries`, `Places`. Of polynomials in x: `Halves`, `Parts`, `Interpolated`, `Told`. Of
 //!   quotients: `Vanishing`.
+//! - In `proofs/`, of binding: `Polynomials`, functions on the circle by halves of their
+//!   coefficients; `Only`; `Bound`: where f and f times im / re are values of few coefficients,
+//!   `(2 - re) f = im (im / re) f`, so at the claimed point, where re and im are 0, f is 0;
+//!   `Differences`, divided differences in the challenge; `ClaimedWords`, `ClaimedColumns`: both
+//!   laws.
 #![tactic(auto)]
 
+pub mod binding;
 pub mod deep_quotient;
 pub mod evaluation;
 pub mod folding;
@@ -46,6 +57,7 @@ pub mod query;
 pub mod reduced;
 pub mod strategy;
 
+pub use binding::{claim_binds, quotient_binds};
 pub use deep_quotient::{deep_quotient_reduce_row, extract_lambda};
 pub use evaluation::x_value;
 pub use folding::{add_each, fold_row_with_inv_twiddle, fold_x, fold_x_row, fold_y};

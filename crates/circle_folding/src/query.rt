@@ -6,18 +6,18 @@
 //! folds a word of `2^(log_max_height - 1 - r)` entries, so there `bits` is `r + 1`.
 ghost use Rattle.std.specs.Prelude.{◌≡◌, ◌≢◌, ◌+◌, ◌/◌, ◌^◌, ◌<◌, ◌≤◌, [], ◌∷◌, ◌++◌};
 ghost use Rattle.std.specs.Prelude.{List, length, map, All, IfOk, OnOk, OnErr};
-ghost use Rattle.circle_matrix.specs.Mmcs.{opened_rows};
+ghost use Rattle.circle_commit.specs.Mmcs.{opened_rows};
 ghost use Rattle.circle_point.specs.Point.{coordinates};
-ghost use Rattle.circle_matrix.specs.DotProduct.{pairwise};
+ghost use Rattle.circle_commit.specs.DotProduct.{pairwise};
 ghost use Rattle.circle_folding.specs.Fold.{folds};
 ghost use Rattle.circle_folding.specs.Queries.{query_point};
 ghost use Rattle.circle_folding.specs.Chain.{first_layer_twiddle, round_twiddles};
 ghost use Rattle.circle_folding.specs.Chain.{AreNextTwiddles, EachIsNext, asked_pairs, pair_of};
 
 use crate::folding::fold_row_with_inv_twiddle;
+use circle_commit::OpenedRows;
 use circle_domain::{CircleDomain, cfft_permute_index};
 use circle_field::{ComplexExtendable, ExtensionField, Field, batch_multiplicative_inverse};
-use circle_matrix::OpenedRows;
 use circle_point::Point;
 use std::alloc::{AllocError, Global};
 
@@ -245,5 +245,9 @@ pub fn without_bits(alloc: Global, indices: &[usize], bits: usize) -> Result<Vec
     requires { bits < 64 }
     ensures { IfOk result (λ rest. rest.items ≡ map (λ q. q / 2 ^ bits) indices.now) }
 {
-    indices.iter().map(|index| *index >> bits).collect(alloc)
+    let mut rest = Vec::with_capacity(alloc, indices.len())?;
+    for index in indices {
+        rest.push(*index >> bits)?;
+    }
+    Ok(rest)
 }

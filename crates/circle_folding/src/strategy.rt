@@ -3,8 +3,8 @@ ghost use Rattle.std.specs.Prelude.{◌≡◌, ℕ, ◌+◌, ◌^◌, ◌<◌, �
 ghost use Rattle.circle_folding.specs.Fold.{x_folds, x_fold};
 
 use crate::folding::{fold_x, fold_x_row};
+use circle_commit::{FriFoldingStrategy, Matrix};
 use circle_field::{ComplexExtendable, ExtensionField};
-use circle_matrix::{FriFoldingStrategy, Matrix};
 use std::alloc::{AllocError, Global};
 
 /// The strategy of the circle: a word after the first layer is folded by x, two neighbours at

@@ -2,7 +2,7 @@
 use Rattle.std.proofs.Common.{IfOk, Result, Ok, Err, ◌≡◌, ℕ, zero, suc, Option, Some, None, inl, inr, ⊎_elim, refl, sym, subst, ◌∙◌, arith, ap}
 use Rattle.std.specs.Bool.{⊤}
 use Rattle.circle_json.specs.Claims.{ReadsParameters, RefusesParameters, length_member, parameters_written, short_fields, whole_fields}
-use Rattle.circle_matrix.specs.declared.params.FriParameters.{FriParameters}
+use Rattle.circle_commit.specs.declared.params.FriParameters.{FriParameters}
 use Rattle.circle_json.specs.Objects.{RefusesFields, object_written}
 use Rattle.circle_json.specs.declared.error.JsonError.{JsonError}
 use Rattle.serde_json.specs.Data.{Data}

@@ -7,11 +7,11 @@ use Rattle.circle_json.specs.Form.{Form, count_form, list_form}
 use Rattle.circle_json.specs.ObjectForm.{object_form, fields_read_one, members_alike}
 use Rattle.circle_json.specs.Objects.{Fields, field, none_left, ReadsObject, RefusesObject}
 use Rattle.circle_json.specs.Objects.{SameFields, object_written}
-use Rattle.circle_matrix.specs.declared.params.FriParameters.{FriParameters}
-use Rattle.circle_matrix.specs.declared.pcs.BatchMultiOpening.{BatchMultiOpening}
-use Rattle.circle_matrix.specs.declared.pcs.CommitmentOpening.{CommitmentOpening}
-use Rattle.circle_matrix.specs.declared.pcs.MatrixOpening.{MatrixOpening}
-use Rattle.circle_matrix.specs.declared.pcs.PointOpening.{PointOpening}
+use Rattle.circle_commit.specs.declared.params.FriParameters.{FriParameters}
+use Rattle.circle_commit.specs.declared.pcs.BatchMultiOpening.{BatchMultiOpening}
+use Rattle.circle_commit.specs.declared.pcs.CommitmentOpening.{CommitmentOpening}
+use Rattle.circle_commit.specs.declared.pcs.MatrixOpening.{MatrixOpening}
+use Rattle.circle_commit.specs.declared.pcs.PointOpening.{PointOpening}
 use Rattle.serde_json.specs.Data.{Data, object}
 use Rattle.serde_json.specs.Find.{get}
 

@@ -10,7 +10,7 @@ ghost use Rattle.circle_json.specs.Claims.{whole_fields};
 use crate::error::JsonError;
 use crate::form::JsonForm;
 use crate::object::{has_keys, member, put_member};
-use circle_matrix::{
+use circle_commit::{
     BatchMultiOpening, CommitmentOpening, FriParameters, MatrixOpening, Mmcs, PointOpening,
 };
 use serde_json::{Map, Value, json};

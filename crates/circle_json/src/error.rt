@@ -3,7 +3,7 @@
 ghost use Rattle.std.specs.Prelude.{◌≡◌};
 ghost use Rattle.circle_json.specs.Named.{json_name};
 
-use circle_matrix::Named;
+use circle_commit::Named;
 use std::alloc::AllocError;
 use thiserror::Error;
 

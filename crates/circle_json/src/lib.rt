@@ -9,7 +9,7 @@
 //! `specs/Coefficients` that of a list of which one item stands for itself, told from a list by
 //! `FlatForm`.
 //!
-//! So are the records of `circle_matrix` and `circle_relation` read and written: a batch's opening,
+//! So are the records of `circle_commit` and `circle_relation` read and written: a batch's opening,
 //! claims and the parameters of FRI, of which `specs/Claims` has the keys of each object, and that
 //! the final polynomial's length may be missing; a proof and its parts, of which `specs/Proof` has
 //! the keys.

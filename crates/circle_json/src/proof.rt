@@ -11,8 +11,8 @@ use crate::coefficients::{FlatForm, coefficients_from_json, coefficients_to_json
 use crate::error::JsonError;
 use crate::form::JsonForm;
 use crate::object::{has_keys, member, put_member};
+use circle_commit::Mmcs;
 use circle_field::Field;
-use circle_matrix::Mmcs;
 use circle_relation::{
     CircleCommitPhaseMultiStep, CircleFriProof, CircleInputProof, CirclePcsProof,
 };

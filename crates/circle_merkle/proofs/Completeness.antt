@@ -7,15 +7,15 @@ use Rattle.std.proofs.lemmas.List.Elements.{All-nil, All-cons, All-head, All-tai
 use Rattle.std.proofs.lemmas.Bool.{eq-eqb, ne_eqb, cases_eq, cases_Bool}
 use Rattle.std.proofs.Math.Bool.{or-false}
 use Rattle.std.proofs.lemmas.Nat.{shr_below}
-use Rattle.circle_matrix.specs.Matrix.{IsPowerOfTwo}
-use Rattle.circle_matrix.specs.declared.matrix.RowMajorMatrix.{RowMajorMatrix}
-use Rattle.circle_matrix.specs.RowMajorMatrix.{rows, width_of, height_of, length-rows, rows-width}
-use Rattle.circle_matrix.specs.Mmcs.{heights, row_at, dimensions_of, max_height, rows_at, rows_at_each}
-use Rattle.circle_matrix.specs.MmcsFacts.{row_at-powers}
+use Rattle.circle_commit.specs.Matrix.{IsPowerOfTwo}
+use Rattle.circle_commit.specs.declared.matrix.RowMajorMatrix.{RowMajorMatrix}
+use Rattle.circle_commit.specs.RowMajorMatrix.{rows, width_of, height_of, length-rows, rows-width}
+use Rattle.circle_commit.specs.Mmcs.{heights, row_at, dimensions_of, max_height, rows_at, rows_at_each}
+use Rattle.circle_commit.specs.MmcsFacts.{row_at-powers}
 use Rattle.circle_merkle.specs.Tree.{digest, computed, node_digest, joined_digest, with_rows, is_known, is_taken, given, proof_of}
 use Rattle.circle_merkle.specs.Rows.{size_of, bytes_of_height, tree_rows, rows_of, opened_at, matrix_rows}
 use Rattle.circle_merkle.specs.Authentication.{Authenticates, IsRoot}
-use Rattle.circle_matrix.proofs.Powers.{exponent_unique}
+use Rattle.circle_commit.proofs.Powers.{exponent_unique}
 use Rattle.circle_merkle.proofs.Powers.{exponent_within, quotient_twice, level_size, halves}
 use Rattle.circle_merkle.proofs.Pairs.{sibling-even, sibling-odd, above}
 use Rattle.circle_merkle.proofs.Known.{is_known-above, known-root}

@@ -4,12 +4,12 @@ use Rattle.std.proofs.Common.{sym, ap, subst, ◌∙◌, arith, get_or}
 use Rattle.std.proofs.lemmas.List.{length-map, map-append, take_more}
 use Rattle.std.proofs.lemmas.List.Elements.{All-map}
 use Rattle.std.proofs.lemmas.Nat.{shr_below, pow_pos}
-use Rattle.circle_matrix.specs.Matrix.{IsPowerOfTwo}
-use Rattle.circle_matrix.specs.declared.matrix.Dimensions.{Dimensions}
-use Rattle.circle_matrix.specs.declared.matrix.RowMajorMatrix.{RowMajorMatrix}
-use Rattle.circle_matrix.specs.RowMajorMatrix.{width_of, height_of}
-use Rattle.circle_matrix.specs.Mmcs.{greatest, heights, row_at, dimensions_of, max_height}
-use Rattle.circle_matrix.specs.MmcsFacts.{row_at-powers}
+use Rattle.circle_commit.specs.Matrix.{IsPowerOfTwo}
+use Rattle.circle_commit.specs.declared.matrix.Dimensions.{Dimensions}
+use Rattle.circle_commit.specs.declared.matrix.RowMajorMatrix.{RowMajorMatrix}
+use Rattle.circle_commit.specs.RowMajorMatrix.{width_of, height_of}
+use Rattle.circle_commit.specs.Mmcs.{greatest, heights, row_at, dimensions_of, max_height}
+use Rattle.circle_commit.specs.MmcsFacts.{row_at-powers}
 use Rattle.circle_merkle.proofs.Fits.{greatest-append, greatest-power}
 use Rattle.circle_merkle.proofs.Powers.{exponent_within}
 use Rattle.circle_merkle.proofs.Completeness.{heights-bounded}

@@ -5,7 +5,7 @@ use Rattle.std.specs.declared.alloc.Global.{Global}
 use Rattle.std.proofs.Common.{suc, sym, ap, ◌∙◌, arith, get_or, add-one}
 use Rattle.std.proofs.lemmas.List.{length-map, get_or-map}
 use Rattle.std.proofs.lemmas.List.FromFn.{length-map-range_with_len, get_or-map-range_with_len}
-use Rattle.circle_matrix.specs.declared.matrix.RowMajorMatrix.{RowMajorMatrix}
+use Rattle.circle_commit.specs.declared.matrix.RowMajorMatrix.{RowMajorMatrix}
 use Rattle.circle_merkle.specs.Tree.{digest, is_taken, taken, proof_of}
 use Rattle.circle_merkle.specs.Rows.{matrix_rows}
 use Rattle.circle_merkle.specs.Authentication.{tree_levels, upper_levels}

@@ -13,7 +13,7 @@ use Rattle.circle_merkle.specs.Climb.{climbed, positions_of}
 use Rattle.circle_merkle.specs.Rows.{size_of, bytes_of_height}
 use Rattle.circle_merkle.specs.Order.{place_of, first_places}
 use Rattle.circle_merkle.specs.Opening.{rows_in, placed_rows, parent_in, lowest_node, level_nodes}
-use Rattle.circle_matrix.specs.Mmcs.{opened_rows}
+use Rattle.circle_commit.specs.Mmcs.{opened_rows}
 use Rattle.std.proofs.lemmas.List.{length-map}
 use Rattle.circle_merkle.proofs.OpenedBytes.{opened_at-place}
 use Rattle.circle_merkle.proofs.Places.{place-pairs}

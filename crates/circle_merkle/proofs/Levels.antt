@@ -3,12 +3,12 @@ use Rattle.std.specs.Prelude.{◌≡◌, ℕ, ◌+◌, ◌*◌, ◌<◌, ◌==�
 use Rattle.std.specs.List.{range_with_len, flat_map}
 use Rattle.std.proofs.Common.{zero, suc, refl, sym, ap, ◌∙◌, arith, length-append}
 use Rattle.std.proofs.lemmas.Bool.{eqb-true}
-use Rattle.circle_matrix.specs.declared.matrix.RowMajorMatrix.{RowMajorMatrix}
+use Rattle.circle_commit.specs.declared.matrix.RowMajorMatrix.{RowMajorMatrix}
 use Rattle.std.specs.List.{list_any}
-use Rattle.circle_matrix.specs.RowMajorMatrix.{height_of, length-rows, rows, rows-width}
+use Rattle.circle_commit.specs.RowMajorMatrix.{height_of, length-rows, rows, rows-width}
 use Rattle.std.proofs.lemmas.List.FromFn.{get_or-map-range_with_len}
 use Rattle.sha2.specs.Sha256.{sha256}
-use Rattle.circle_matrix.specs.Mmcs.{dimensions_of}
+use Rattle.circle_commit.specs.Mmcs.{dimensions_of}
 use Rattle.circle_merkle.specs.Authentication.{level_digests}
 use Rattle.circle_merkle.specs.Messages.{pair_digest, row_digests}
 use Rattle.circle_merkle.specs.RowBytes.{matrix_bytes}

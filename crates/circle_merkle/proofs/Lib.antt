@@ -21,3 +21,5 @@ pub mod Heights
 pub mod Refusals
 pub mod Padded
 pub mod Levels
+pub mod Shifts
+pub mod Sixteen

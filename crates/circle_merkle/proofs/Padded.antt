@@ -7,7 +7,7 @@ use Rattle.std.proofs.lemmas.List.Elements.{All-append}
 use Rattle.std.proofs.lemmas.List.FromFn.{length-map-range_with_len, map-range_with_len_more}
 use Rattle.std.proofs.lemmas.Grind.{flat_map-append}
 use Rattle.sha2.specs.Sha256.{padded_message, padding}
-use Rattle.circle_challenger.proofs.Sixteen.{prefix-length}
+use Rattle.circle_merkle.proofs.Sixteen.{prefix-length}
 
 -- how long a padded message is
 pub length-padded : (m : List ℕ) → length (padded_message m) ≡ length m + (1 + ((119 - length m % 64) % 64) + 8)

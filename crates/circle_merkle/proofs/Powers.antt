@@ -4,7 +4,7 @@ use Rattle.std.proofs.Common.{suc, ap, ◌∙◌, arith, lit<, ⊎_elim}
 use Rattle.std.proofs.Math.Nat.{pow-suc, pow-le-pow_right}
 use Rattle.std.proofs.lemmas.Nat.{pow_pos}
 use Rattle.std.proofs.lemmas.Bool.{cases_lt}
-use Rattle.circle_matrix.specs.MmcsFacts.{pow-div}
+use Rattle.circle_commit.specs.MmcsFacts.{pow-div}
 
 pub pow_within : (i j : ℕ) → i ≤ j → 2 ^ i ≤ 2 ^ j
 pow_within i j h = pow-le-pow_right (lit< tt) h

@@ -1,7 +1,7 @@
 -- A right refusal is of rows that aren't shown to be of the commitment.
 use Rattle.std.specs.Prelude.{ℕ, List, Result, Ok, Err, IfErr, IsTrue}
 use Rattle.std.proofs.Common.{refl}
-use Rattle.circle_matrix.specs.declared.matrix.Dimensions.{Dimensions}
+use Rattle.circle_commit.specs.declared.matrix.Dimensions.{Dimensions}
 use Rattle.circle_merkle.specs.declared.error.MerkleTreeError.{MerkleTreeError}
 use Rattle.circle_merkle.specs.declared.error.MerkleTreeError.TheVariants.{WrongIndex, WrongWidth, WrongProofLength, DisagreeingRows, RootMismatch, Memory}
 use Rattle.circle_merkle.specs.Authentication.{Authenticates}

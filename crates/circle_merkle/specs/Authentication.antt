@@ -4,10 +4,10 @@ use Rattle.std.specs.Prelude.{List, [], length, map, All, slice_index, slice_ind
 use Rattle.std.specs.List.{range_with_len}
 use Rattle.std.proofs.Common.{suc}
 use Rattle.sha2.specs.Sha256.{sha256}
-use Rattle.circle_matrix.specs.Matrix.{IsPowerOfTwo}
-use Rattle.circle_matrix.specs.declared.matrix.Dimensions.{Dimensions}
-use Rattle.circle_matrix.specs.declared.matrix.RowMajorMatrix.{RowMajorMatrix}
-use Rattle.circle_matrix.specs.Mmcs.{dimensions_of, greatest, heights, max_height, row_at}
+use Rattle.circle_commit.specs.Matrix.{IsPowerOfTwo}
+use Rattle.circle_commit.specs.declared.matrix.Dimensions.{Dimensions}
+use Rattle.circle_commit.specs.declared.matrix.RowMajorMatrix.{RowMajorMatrix}
+use Rattle.circle_commit.specs.Mmcs.{dimensions_of, greatest, heights, max_height, row_at}
 use Rattle.circle_merkle.specs.Tree.{digest, computed, is_known, given, taken_below}
 use Rattle.circle_merkle.specs.Rows.{tree_rows, opened_at, matrix_rows, size_of}
 

@@ -13,3 +13,4 @@ pub mod Verdict
 pub mod Worked
 pub mod Named
 pub mod Messages
+pub mod Lanes

@@ -1,7 +1,7 @@
 -- What opened rows are to contracts: the rows of a tree.
 use Rattle.std.specs.Prelude.{◌≡◌, ℕ, ◌^◌, List, [], map, slice_index_or}
 use Rattle.sha2.specs.Sha256.{sha256}
-use Rattle.circle_matrix.specs.Mmcs.{opened_rows}
+use Rattle.circle_commit.specs.Mmcs.{opened_rows}
 use Rattle.circle_merkle.specs.declared.root.Opening.{Opening}
 use Rattle.circle_merkle.specs.declared.root.Node.{Node}
 use Rattle.circle_merkle.specs.Tree as Tree

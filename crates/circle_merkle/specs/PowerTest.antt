@@ -6,7 +6,7 @@ use Rattle.std.proofs.Math.Nat.{pow-le-pow_right}
 use Rattle.std.proofs.lemmas.Bool.{eqb-true, eq-eqb, cases_lt}
 use Rattle.std.proofs.lemmas.List.Folds.{Any-from_list_any, list_any_at}
 use Rattle.std.proofs.lemmas.List.FromFn.{get_or-range_with_len, length-range_with_len}
-use Rattle.circle_matrix.specs.Matrix.{IsPowerOfTwo}
+use Rattle.circle_commit.specs.Matrix.{IsPowerOfTwo}
 
 -- whether the number is 2^k for a k below 64
 unfoldable pub is_power : ℕ → Bool

@@ -1,9 +1,9 @@
 -- What the kept tree is to contracts: its matrices, and the number of levels above the lowest.
 use Rattle.std.specs.Prelude.{ℕ, ◌≤◌, List, length, All, slice_index_or, vec_len}
 use Rattle.std.proofs.Common.{arith}
-use Rattle.circle_matrix.specs.Matrix.{IsPowerOfTwo}
-use Rattle.circle_matrix.specs.RowMajorMatrix.{height_of}
-use Rattle.circle_matrix.specs.declared.matrix.RowMajorMatrix.{RowMajorMatrix}
+use Rattle.circle_commit.specs.Matrix.{IsPowerOfTwo}
+use Rattle.circle_commit.specs.RowMajorMatrix.{height_of}
+use Rattle.circle_commit.specs.declared.matrix.RowMajorMatrix.{RowMajorMatrix}
 use Rattle.sha2.specs.Sha256.{sha256}
 use Rattle.circle_merkle.specs.Rows.{matrix_rows}
 use Rattle.circle_merkle.specs.Tree.{digest, proof_of}

@@ -1,10 +1,10 @@
 -- The rows of a tree: those of matrices, and those that are opened.
 use Rattle.std.specs.Prelude.{ℕ, ◌/◌, ◌^◌, ◌==◌, List, [], ◌∷◌, map, if◌then◌else◌}
 use Rattle.std.specs.List.{list_any, flat_map, zip}
-use Rattle.circle_matrix.specs.declared.matrix.Dimensions.{Dimensions}
-use Rattle.circle_matrix.specs.declared.matrix.RowMajorMatrix.{RowMajorMatrix}
-use Rattle.circle_matrix.specs.Mmcs.{greatest, heights, dimensions_of}
-use Rattle.circle_matrix.specs.RowMajorMatrix.{rows}
+use Rattle.circle_commit.specs.declared.matrix.Dimensions.{Dimensions}
+use Rattle.circle_commit.specs.declared.matrix.RowMajorMatrix.{RowMajorMatrix}
+use Rattle.circle_commit.specs.Mmcs.{greatest, heights, dimensions_of}
+use Rattle.circle_commit.specs.RowMajorMatrix.{rows}
 use Rattle.std.specs.Prelude.{slice_index_or}
 use Rattle.circle_merkle.specs.Tree as Tree
 

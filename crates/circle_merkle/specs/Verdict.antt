@@ -1,7 +1,7 @@
 -- Which refusal of opened rows comes first.
 use Rattle.std.specs.Prelude.{◌≡◌, ◌≢◌, ℕ, ◌^◌, Bool, true, false, List, length}
-use Rattle.circle_matrix.specs.declared.matrix.Dimensions.{Dimensions}
-use Rattle.circle_matrix.specs.Mmcs.{greatest, heights}
+use Rattle.circle_commit.specs.declared.matrix.Dimensions.{Dimensions}
+use Rattle.circle_commit.specs.Mmcs.{greatest, heights}
 use Rattle.circle_merkle.specs.declared.error.MerkleTreeError.{MerkleTreeError}
 use Rattle.circle_merkle.specs.declared.error.MerkleTreeError.TheVariants.{WrongIndex, WrongWidth}
 use Rattle.circle_merkle.specs.declared.error.MerkleTreeError.TheVariants.{WrongProofLength}

@@ -1,6 +1,6 @@
 -- The tree and its proofs at small instances.
 use Rattle.std.specs.Prelude.{◌≡◌, ℕ, List, [], ◌∷◌, ◌++◌, refl, slice_index_or}
-use Rattle.circle_matrix.specs.declared.matrix.Dimensions.{Dimensions}
+use Rattle.circle_commit.specs.declared.matrix.Dimensions.{Dimensions}
 use Rattle.circle_merkle.specs.Tree as Tree
 use Rattle.circle_merkle.specs.Tree.{digest, known, taken, taken_below, proof_of, given}
 use Rattle.circle_merkle.specs.Rows.{tree_rows}

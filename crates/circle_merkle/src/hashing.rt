@@ -7,8 +7,8 @@ ghost use Rattle.circle_merkle.specs.Tree.{node_digest as node_digest_of};
 ghost use Rattle.circle_merkle.specs.Tree.{rows_digest as rows_digest_of};
 ghost use Rattle.circle_merkle.specs.Rows.{bytes_of_height};
 
+pub use crate::lanes::Hash;
 use crate::rows::RowOfEach;
-pub use circle_challenger::lanes::Hash;
 use circle_field::ElementBytes;
 use sha2::{Digest, Sha256};
 

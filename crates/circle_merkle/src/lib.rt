@@ -6,6 +6,10 @@
 //! where the relation holds, memory aside; each refusal is the first whose condition holds (the
 //! clause `first`).
 //!
+//! A tree hashes sixteen messages at a time by `lanes::digests`, code of this crate, which is
+//! proved to return the digest that the crate `sha2` defines of each, at about half the cost of one
+//! after another. What is left over, and verifying, call `sha2`.
+//!
 //! A proof has the digests of the siblings of known positions that aren't known themselves, level
 //! after level from the lowest up, on each level by position. For rows 1, 4, 5 and 7 of eight it
 //! has three digests, `d0` to `d2` in this order, where four single proofs would have twelve:
@@ -26,19 +30,20 @@
 //!
 //! Its files:
 //!
-//! - In `src/`, `messages.rt`: what a tree hashes, put together for `circle_challenger::lanes`, by
-//!   sixteen messages; `order.rt`, `positions.rt`: indices and known positions; `tree.rt`,
+//! - In `src/`, `lanes.rt`: sixteen messages side by side; `messages.rt`: what a tree hashes, put
+//!   together for it; `order.rt`, `positions.rt`: indices and known positions; `tree.rt`,
 //!   `prover_data.rt`: the tree; `root.rt`, `verify.rt`: the root of opened rows, and the verdict.
 //! - In `specs/`, `Tree`, `Authentication`, `Verdict`: the tree, when rows are authenticated, which
-//!   refusal is right. `Messages`: what is hashed by sixteen. The others: what rows, kept data and
-//!   walks are to contracts. `Worked`: examples.
+//!   refusal is right. `Messages`, `Lanes`: what is hashed by sixteen. The others: what rows, kept
+//!   data and walks are to contracts. `Worked`: examples.
 //! - In `proofs/`, `Completeness`: what a tree gives is shown to be of its root. `Refusals`: a
-//!   right refusal is of rows that aren't. `Padded`, `Levels`: sixteen messages at once. The others:
-//!   walks, levels, orders and positions.
+//!   right refusal is of rows that aren't. `Padded`, `Levels`, `Shifts`, `Sixteen`: sixteen
+//!   messages at once. The others: walks, levels, orders and positions.
 #![tactic(auto)]
 
 mod error;
 mod hashing;
+mod lanes;
 mod messages;
 mod mmcs;
 mod order;

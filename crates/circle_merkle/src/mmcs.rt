@@ -2,9 +2,9 @@
 ghost use Rattle.std.specs.Prelude.{◌≡◌, ℕ, ◌<◌, ◌≤◌, List, length, map, All, IfOk, IfErr, OnOk};
 ghost use Rattle.std.specs.Prelude.{IsTrue, vec_len};
 ghost use Rattle.sha2.specs.Sha256.{sha256};
-ghost use Rattle.circle_matrix.specs.Matrix.{IsPowerOfTwo};
-ghost use Rattle.circle_matrix.specs.Mmcs.{HaveHeightsOfPowers, IsShownOf, max_height};
-ghost use Rattle.circle_matrix.specs.Mmcs.{row_at as row_at_of, rows_at, rows_at_each, opened_rows};
+ghost use Rattle.circle_commit.specs.Matrix.{IsPowerOfTwo};
+ghost use Rattle.circle_commit.specs.Mmcs.{HaveHeightsOfPowers, IsShownOf, max_height};
+ghost use Rattle.circle_commit.specs.Mmcs.{row_at as row_at_of, rows_at, rows_at_each, opened_rows};
 ghost use Rattle.circle_merkle.specs.Authentication.{ShaAuthenticates, IsShaRoot};
 ghost use Rattle.circle_merkle.specs.Verdict.{IsFirstRefusal, says_memory};
 
@@ -12,8 +12,8 @@ use crate::error::MerkleTreeError;
 use crate::hashing::Hash;
 use crate::prover_data::ShaProverData;
 use crate::verify::verify;
+use circle_commit::{Dimensions, Matrix, Mmcs, OpenedRows, RowMajorMatrix, log2_strict};
 use circle_field::{ElementBytes, Field};
-use circle_matrix::{Dimensions, Matrix, Mmcs, OpenedRows, RowMajorMatrix, log2_strict};
 use std::alloc::{AllocError, Global};
 use std::marker::PhantomData;
 

@@ -2,8 +2,8 @@
 ghost use Rattle.std.specs.Prelude.{◌≡◌, ◌-◌, ◌^◌, ◌<◌, ◌≤◌, ◌++◌, true, All, IfOk, OnOk, map};
 ghost use Rattle.std.specs.Prelude.{vec_len};
 ghost use Rattle.sha2.specs.Sha256.{sha256};
-ghost use Rattle.circle_matrix.specs.RowMajorMatrix.{height_of};
-ghost use Rattle.circle_matrix.specs.Mmcs.{max_height};
+ghost use Rattle.circle_commit.specs.RowMajorMatrix.{height_of};
+ghost use Rattle.circle_commit.specs.Mmcs.{max_height};
 ghost use Rattle.circle_merkle.specs.PowerTest.{is_power};
 ghost use Rattle.circle_merkle.specs.Authentication.{upper_levels};
 ghost use Rattle.circle_merkle.specs.Walk.{parents_of, siblings_of};
@@ -12,8 +12,8 @@ use crate::hashing::{Hash, rows_digest};
 use crate::positions::{distinct, split_pair};
 use crate::rows::MatrixRows;
 use crate::tree::levels_of;
+use circle_commit::{Matrix, RowMajorMatrix};
 use circle_field::ElementBytes;
-use circle_matrix::{Matrix, RowMajorMatrix};
 use std::alloc::{AllocError, Global};
 use std::mem;
 
@@ -34,7 +34,7 @@ pub struct ShaProverData<T: ElementBytes> {
 
 impl<T: ElementBytes> ShaProverData<T> {
     ghost use Rattle.circle_merkle.specs.ProverData.{matrices_of, level_count, digest_of, due_proof};
-    ghost use Rattle.circle_matrix.specs.Matrix.{IsPowerOfTwo};
+    ghost use Rattle.circle_commit.specs.Matrix.{IsPowerOfTwo};
     ghost use Rattle.circle_merkle.specs.Authentication.{IsShaRoot};
 
     /// The root of the tree over the rows of matrices, and what is kept of it.

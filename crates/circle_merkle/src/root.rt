@@ -2,7 +2,7 @@
 ghost use Rattle.std.specs.Prelude.{◌≡◌, ℕ, ◌+◌, ◌*◌, ◌/◌, ◌^◌, ◌<◌, ◌≤◌, ◌==◌, ◌∷◌, length, map};
 ghost use Rattle.std.specs.Prelude.{drop, All, IfOk, vec_len};
 ghost use Rattle.sha2.specs.Sha256.{sha256};
-ghost use Rattle.circle_matrix.specs.Mmcs.{greatest, heights};
+ghost use Rattle.circle_commit.specs.Mmcs.{greatest, heights};
 ghost use Rattle.circle_merkle.specs.Tree.{rows_digest as rows_digest_of, taken_below};
 ghost use Rattle.circle_merkle.specs.Walk.{siblings_of};
 ghost use Rattle.circle_merkle.specs.Order.{first_places};
@@ -10,8 +10,8 @@ ghost use Rattle.circle_merkle.specs.Order.{first_places};
 use crate::hashing::{Hash, joined_digest, node_digest, rows_digest};
 use crate::positions::sibling;
 use crate::rows::OpenedAt;
+use circle_commit::{Dimensions, log2_strict};
 use circle_field::ElementBytes;
-use circle_matrix::{Dimensions, log2_strict};
 use std::alloc::{AllocError, Global};
 
 /// The digest at a known position of a level.
@@ -43,7 +43,7 @@ pub struct Opening<'a, T> {
 
 impl<T: ElementBytes> Opening<'_, T> {
     ghost use Rattle.circle_merkle.specs.Opening.{IsRootOf, placed_rows, parent_in, lowest_node};
-    ghost use Rattle.circle_matrix.specs.Matrix.{IsPowerOfTwo};
+    ghost use Rattle.circle_commit.specs.Matrix.{IsPowerOfTwo};
     ghost use Rattle.circle_merkle.specs.Climb.{IsFirstOf, climbed, positions_of, left_of, lone};
     ghost use Rattle.circle_merkle.specs.Climb.{joined};
 

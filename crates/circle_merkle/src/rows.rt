@@ -1,10 +1,10 @@
 //! One row of each of several matrices: of committed ones, and as they are opened.
 ghost use Rattle.std.specs.Prelude.{◌≡◌, ◌<◌, List, length, map, Some, slice_get, slice_index_or};
-ghost use Rattle.circle_matrix.specs.Mmcs.{dimensions_of};
-ghost use Rattle.circle_matrix.specs.declared.matrix.Dimensions.{Dimensions};
+ghost use Rattle.circle_commit.specs.Mmcs.{dimensions_of};
+ghost use Rattle.circle_commit.specs.declared.matrix.Dimensions.{Dimensions};
 ghost use Rattle.circle_merkle.specs.Rows.{rows_of};
 
-use circle_matrix::{Dimensions, Matrix, RowMajorMatrix};
+use circle_commit::{Dimensions, Matrix, RowMajorMatrix};
 
 /// One row of each of several matrices.
 pub trait RowOfEach<T> {

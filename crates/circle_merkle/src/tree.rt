@@ -3,18 +3,18 @@ ghost use Rattle.std.specs.Prelude.{◌≡◌, ℕ, ◌+◌, ◌*◌, ◌/◌, �
 ghost use Rattle.std.specs.Prelude.{slice_index_or};
 ghost use Rattle.std.specs.List.{list_any, range_with_len};
 ghost use Rattle.sha2.specs.Sha256.{sha256};
-ghost use Rattle.circle_matrix.specs.Matrix.{IsPowerOfTwo};
-ghost use Rattle.circle_matrix.specs.RowMajorMatrix.{height_of};
-ghost use Rattle.circle_matrix.specs.Mmcs.{max_height};
+ghost use Rattle.circle_commit.specs.Matrix.{IsPowerOfTwo};
+ghost use Rattle.circle_commit.specs.RowMajorMatrix.{height_of};
+ghost use Rattle.circle_commit.specs.Mmcs.{max_height};
 ghost use Rattle.circle_merkle.specs.Messages.{pair_digest, row_digests};
 ghost use Rattle.circle_merkle.specs.Authentication.{IsNextLevel, tree_levels};
 
 use crate::hashing::{Hash, digest_of_pair, rows_digest};
+use crate::lanes::LANES;
 use crate::messages::{sixteen_pairs, sixteen_rows};
 use crate::rows::MatrixRows;
-use circle_challenger::lanes::LANES;
+use circle_commit::{Matrix, RowMajorMatrix, log2_strict};
 use circle_field::ElementBytes;
-use circle_matrix::{Matrix, RowMajorMatrix, log2_strict};
 use std::alloc::{AllocError, Global};
 
 // Adds the digests of the rows of the matrices of this height, sixteen at a time while as many are

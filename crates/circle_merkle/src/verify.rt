@@ -1,7 +1,7 @@
 //! Whether opened rows are those of a commitment.
-ghost use Rattle.std.specs.Prelude.{◌≡◌, ℕ, ◌↔◌, List, IsTrue, IfOk, IfErr, OnOk};
+ghost use Rattle.std.specs.Prelude.{◌≡◌, ℕ, ◌↔◌, List, map, IsTrue, IfOk, IfErr, OnOk};
 ghost use Rattle.sha2.specs.Sha256.{sha256};
-ghost use Rattle.circle_matrix.specs.Mmcs.{opened_rows};
+ghost use Rattle.circle_commit.specs.Mmcs.{opened_rows};
 ghost use Rattle.circle_merkle.specs.Order.{first_places};
 ghost use Rattle.circle_merkle.specs.Tree.{taken_below};
 ghost use Rattle.circle_merkle.specs.Authentication.{Authenticates};
@@ -13,8 +13,8 @@ use crate::order::{in_order, leave_firsts};
 use crate::positions::climb;
 use crate::root::Opening;
 use crate::well_formed::{agrees, greatest_height, has_indices, has_shape};
+use circle_commit::{Dimensions, log2_strict};
 use circle_field::{ElementBytes, Field};
-use circle_matrix::{Dimensions, log2_strict};
 use std::alloc::{AllocError, Global};
 use std::mem;
 
@@ -29,7 +29,7 @@ fn has_count(
     ensures { (indices : List ℕ) → firsts.now ≡ first_places indices levels
         → IfOk result (λ b. IsTrue b ↔ (count ≡ taken_below indices levels levels)) }
 {
-    let mut known: Vec<usize> = firsts.iter().map(|first| first.0).collect(alloc)?;
+    let mut known = distinct_indices(alloc, firsts)?;
     let mut parents = Vec::with_capacity(alloc, known.len())?;
     let mut left = count;
     for _level in 0..levels {
@@ -41,6 +41,17 @@ fn has_count(
         mem::swap(&mut known, &mut parents);
     }
     Ok(left == 0)
+}
+
+// The distinct indices, without their places.
+fn distinct_indices(alloc: Global, firsts: &[(usize, usize)]) -> Result<Vec<usize>, AllocError>
+    ensures { IfOk result (λ indices. indices.items ≡ map (λ first. first.0) firsts.now) }
+{
+    let mut indices = Vec::with_capacity(alloc, firsts.len())?;
+    for first in firsts {
+        indices.push(first.0)?;
+    }
+    Ok(indices)
 }
 
 // Whether two digests are the same.

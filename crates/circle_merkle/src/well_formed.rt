@@ -1,14 +1,14 @@
 //! Whether opened rows have the form of rows of a commitment.
 ghost use Rattle.std.specs.Prelude.{◌≡◌, ℕ, ◌+◌, ◌*◌, ◌/◌, ◌<◌, ◌≤◌, ◌==◌, ◌↔◌, List, length, map};
 ghost use Rattle.std.specs.Prelude.{All, IsTrue, vec_len};
-ghost use Rattle.circle_matrix.specs.Matrix.{IsPowerOfTwo};
-ghost use Rattle.circle_matrix.specs.Mmcs.{greatest, heights, opened_rows};
+ghost use Rattle.circle_commit.specs.Matrix.{IsPowerOfTwo};
+ghost use Rattle.circle_commit.specs.Mmcs.{greatest, heights, opened_rows};
 ghost use Rattle.circle_merkle.specs.Authentication.{HasShape, HasIndices, Agrees};
 ghost use Rattle.circle_merkle.specs.Order.{IsOrdered};
 ghost use Rattle.circle_merkle.specs.SamePosition.{NeighborsAgree};
 
+use circle_commit::{Dimensions, is_power_of_two};
 use circle_field::Field;
-use circle_matrix::{Dimensions, is_power_of_two};
 
 /// The greatest of the heights, 0 where there are no shapes.
 pub fn greatest_height(dimensions: &[Dimensions]) -> usize

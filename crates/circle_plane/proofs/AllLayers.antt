@@ -7,8 +7,8 @@ use Rattle.std.proofs.lemmas.List.{length-map, length-take-le, take-map, get_or-
 use Rattle.std.proofs.lemmas.List.FromFn.{get_or-map-range_with_len}
 use Rattle.circle_field.specs.Field.{FieldOps, FieldLaws, two, nth_power}
 use Rattle.circle_field.specs.Circle.{Coordinates, IsOnCircle, AreGenerators, times, origin}
-use Rattle.circle_matrix.specs.DotProduct.{pairwise}
-use Rattle.circle_matrix.proofs.Written.{length-pairwise}
+use Rattle.circle_commit.specs.DotProduct.{pairwise}
+use Rattle.circle_commit.proofs.Written.{length-pairwise}
 use Rattle.std.proofs.Math.Nat.{pow-suc}
 use Rattle.std.proofs.lemmas.Nat.{pow-add}
 use Rattle.circle_domain.specs.Layers.{layer, layer_factors, copies}
@@ -17,9 +17,9 @@ use Rattle.circle_domain.proofs.Layering.{length-copies}
 use Rattle.circle_domain.proofs.Powers.{pow_within}
 use Rattle.circle_domain.proofs.Twiddles.{length-layer_factors}
 use Rattle.circle_domain.proofs.Undoing.{forward, backward}
-use Rattle.circle_transform.specs.Butterflies.{plus_multiple, minus_multiple, total, scaled_difference}
-use Rattle.circle_transform.specs.Passes.{factors_at, descending, ascending}
-use Rattle.circle_transform.proofs.PairLayers.{length-layer}
+use Rattle.circle_cfft.specs.Butterflies.{plus_multiple, minus_multiple, total, scaled_difference}
+use Rattle.circle_cfft.specs.Passes.{factors_at, descending, ascending}
+use Rattle.circle_cfft.proofs.PairLayers.{length-layer}
 use Rattle.circle_plane.proofs.Passes.{remaining, blocks-entries, forward-pass, backward-pass}
 
 -- a layer's factors, of a list of all layers' that was made

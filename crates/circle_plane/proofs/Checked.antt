@@ -3,7 +3,7 @@ use Rattle.std.specs.Prelude.{◌≡◌, ◌≢◌, ℕ, ◌-◌, ◌*◌, ◌^�
 use Rattle.std.specs.declared.alloc.Global.{Global}
 use Rattle.std.proofs.Common.{sym, ap, ◌∙◌, subst, arith}
 use Rattle.std.proofs.lemmas.List.{length-map}
-use Rattle.circle_matrix.specs.Mmcs.{greatest}
+use Rattle.circle_commit.specs.Mmcs.{greatest}
 use Rattle.circle_plane.specs.PeriodicColumns.{columns_of, IsPeriod, IsRefusal, table_height}
 use Rattle.circle_plane.specs.declared.periodic.PeriodicError.TheVariants.{Memory}
 use Rattle.circle_plane.proofs.Periods.{greatest-positive, entries-counted}

@@ -10,12 +10,12 @@ use Rattle.std.proofs.lemmas.List.FromFn.{get_or-map-range_with_len, length-map-
 use Rattle.std.proofs.lemmas.Option.{get_or_from_slice_get, slice_get_within, slice_get-get_or}
 use Rattle.circle_field.specs.Field.{FieldOps, FieldLaws}
 use Rattle.circle_field.specs.Circle.{Coordinates, AreGenerators, IsOnCircle, origin, times}
-use Rattle.circle_matrix.specs.Matrix.{IsPowerOfTwo, column}
-use Rattle.circle_matrix.specs.Mmcs.{greatest}
-use Rattle.circle_matrix.specs.PeriodicLdeTable.{width_of as table_width, height_of as table_height_of, rows as table_rows}
-use Rattle.circle_matrix.specs.RowMajorMatrix.{rows as rows_of, width_of, height_of, length-rows, rows-width}
-use Rattle.circle_matrix.specs.declared.matrix.RowMajorMatrix.{RowMajorMatrix}
-use Rattle.circle_matrix.specs.declared.periodic.PeriodicLdeTable.{PeriodicLdeTable}
+use Rattle.circle_commit.specs.Matrix.{IsPowerOfTwo, column}
+use Rattle.circle_commit.specs.Mmcs.{greatest}
+use Rattle.circle_commit.specs.PeriodicLdeTable.{width_of as table_width, height_of as table_height_of, rows as table_rows}
+use Rattle.circle_commit.specs.RowMajorMatrix.{rows as rows_of, width_of, height_of, length-rows, rows-width}
+use Rattle.circle_commit.specs.declared.matrix.RowMajorMatrix.{RowMajorMatrix}
+use Rattle.circle_commit.specs.declared.periodic.PeriodicLdeTable.{PeriodicLdeTable}
 use Rattle.circle_point.specs.Basis.{value}
 use Rattle.circle_domain.specs.Values.{values_at}
 use Rattle.circle_domain.specs.Order.{natural_order}

@@ -4,10 +4,10 @@ use Rattle.std.proofs.Common.{sym, ◌∙◌, ap, arith, subst}
 use Rattle.std.proofs.lemmas.List.{length-map, take-map}
 use Rattle.circle_field.specs.Field.{FieldOps, FieldLaws, two, nth_power}
 use Rattle.circle_field.specs.Circle.{Coordinates, AreGenerators, IsOnCircle}
-use Rattle.circle_matrix.specs.Matrix.{rows_from, column}
-use Rattle.circle_matrix.specs.RowFacts.{length-rows_from}
-use Rattle.circle_matrix.specs.RowMajorMatrix.{rows, width_of, height_of, values_of, length-rows, length-values}
-use Rattle.circle_matrix.specs.declared.matrix.RowMajorMatrix.{RowMajorMatrix}
+use Rattle.circle_commit.specs.Matrix.{rows_from, column}
+use Rattle.circle_commit.specs.RowFacts.{length-rows_from}
+use Rattle.circle_commit.specs.RowMajorMatrix.{rows, width_of, height_of, values_of, length-rows, length-values}
+use Rattle.circle_commit.specs.declared.matrix.RowMajorMatrix.{RowMajorMatrix}
 use Rattle.circle_point.specs.Basis.{value}
 use Rattle.circle_domain.specs.Domain.{log_size, shift_of}
 use Rattle.circle_domain.specs.Layers.{layer_factors, copies}
@@ -20,8 +20,8 @@ use Rattle.circle_domain.proofs.Columns.{stored_column, length-stored_column, ro
 use Rattle.circle_domain.proofs.CosetOrder.{other_order-points}
 use Rattle.circle_domain.proofs.Stored.{rows-values, stored-wide, column-values}
 use Rattle.circle_domain.proofs.Told.{values-tell}
-use Rattle.circle_transform.specs.Butterflies.{plus_multiple, minus_multiple, total, scaled_difference}
-use Rattle.circle_transform.specs.Passes.{descending, ascending}
+use Rattle.circle_cfft.specs.Butterflies.{plus_multiple, minus_multiple, total, scaled_difference}
+use Rattle.circle_cfft.specs.Passes.{descending, ascending}
 use Rattle.circle_plane.specs.Coefficients.{Interpolates, Evaluates}
 use Rattle.circle_plane.proofs.AllLayers.{forward-all, backward-all}
 use Rattle.circle_plane.proofs.Passes.{remaining, remaining-none, copies-values, before-passes, after-passes}

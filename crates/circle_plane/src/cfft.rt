@@ -1,9 +1,9 @@
 //! Polynomials on the circle: the transform between their coefficients and values on a domain.
 ghost use Rattle.std.specs.Prelude.{◌≡◌, ℕ, ◌≤◌, ◌-◌, ◌*◌, ◌^◌, ◌++◌};
 ghost use Rattle.std.specs.Prelude.{length, map, All, IfOk, OnOk};
-ghost use Rattle.circle_matrix.specs.DotProduct.{pairwise, scaled};
-ghost use Rattle.circle_matrix.specs.Matrix.{IsPowerOfTwo};
-ghost use Rattle.circle_matrix.specs.RowMajorMatrix.{rows, width_of, height_of};
+ghost use Rattle.circle_commit.specs.DotProduct.{pairwise, scaled};
+ghost use Rattle.circle_commit.specs.Matrix.{IsPowerOfTwo};
+ghost use Rattle.circle_commit.specs.RowMajorMatrix.{rows, width_of, height_of};
 ghost use Rattle.circle_point.specs.Basis.{basis_values};
 ghost use Rattle.circle_point.specs.Point.{coordinates};
 ghost use Rattle.circle_domain.specs.Clear.{IsClearOf};
@@ -11,16 +11,16 @@ ghost use Rattle.circle_domain.specs.Domain.{log_size, shift_of, points_of};
 ghost use Rattle.circle_domain.specs.Layers.{copies};
 ghost use Rattle.circle_domain.specs.Order.{IsGenuine};
 ghost use Rattle.circle_domain.specs.Ordering.{other_order};
-ghost use Rattle.circle_transform.specs.Butterflies.{count_of};
+ghost use Rattle.circle_cfft.specs.Butterflies.{count_of};
 
-use circle_domain::{CfftPermutable, CfftView, CircleDomain, LagrangeWeights, lagrange_weights};
-use circle_field::{ComplexExtendable, ExtensionField, Field, Operations};
-use circle_matrix::{FieldMatrix, Matrix, MatrixShape, RowMajorMatrix, log2_strict};
-use circle_point::Point;
-use circle_transform::{
+use circle_cfft::{
     Butterflies, backward_groups, backward_passes, backward_twiddles, forward_groups,
     forward_passes, forward_twiddles,
 };
+use circle_commit::{FieldMatrix, Matrix, MatrixShape, RowMajorMatrix, log2_strict};
+use circle_domain::{CfftPermutable, CfftView, CircleDomain, LagrangeWeights, lagrange_weights};
+use circle_field::{ComplexExtendable, ExtensionField, Field, Operations};
+use circle_point::Point;
 use std::alloc::{AllocError, Global};
 
 /// The values of functions at the points of a domain, a column for each function: the rows stand in

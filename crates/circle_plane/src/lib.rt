@@ -40,10 +40,10 @@ pub mod cfft;
 pub mod periodic;
 
 pub use cfft::{CircleEvaluations, circle_basis};
+pub use circle_cfft::Butterflies;
 pub use circle_domain::{
     CfftPerm, CfftPermutable, CfftView, CircleCoset, CircleDomain, CirclePoints,
     cfft_permute_index, laws, x_twiddles, y_twiddles,
 };
 pub use circle_point::{Neutral, Point};
-pub use circle_transform::Butterflies;
 pub use periodic::{CirclePeriodicEvaluator, PeriodicError, build_periodic_lde_table_circle};

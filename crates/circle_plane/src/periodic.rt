@@ -6,9 +6,9 @@
 ghost use Rattle.std.specs.Prelude.{◌≡◌, ℕ, ◌≤◌, ◌<◌, ◌-◌, ◌*◌, ◌^◌, ◌++◌};
 ghost use Rattle.std.specs.Prelude.{[], All, IfOk, IfErr, OnOk, length, map, slice_index_or};
 ghost use Rattle.std.specs.List.{range_with_len};
-ghost use Rattle.circle_matrix.specs.Matrix.{IsPowerOfTwo};
-ghost use Rattle.circle_matrix.specs.Mmcs.{greatest};
-ghost use Rattle.circle_matrix.specs.RowMajorMatrix.{rows, width_of, height_of};
+ghost use Rattle.circle_commit.specs.Matrix.{IsPowerOfTwo};
+ghost use Rattle.circle_commit.specs.Mmcs.{greatest};
+ghost use Rattle.circle_commit.specs.RowMajorMatrix.{rows, width_of, height_of};
 ghost use Rattle.circle_domain.specs.Domain.{log_size};
 ghost use Rattle.circle_domain.specs.Periodic.{IsPeriodicValue};
 ghost use Rattle.circle_point.specs.Projective.{from_line};
@@ -20,12 +20,12 @@ ghost use Rattle.circle_plane.specs.declared.periodic.PeriodicError.TheVariants.
 ghost use Rattle.circle_plane.specs.declared.periodic.PeriodicError.TheVariants.{Memory};
 
 use crate::cfft::CircleEvaluations;
-use circle_domain::CircleDomain;
-use circle_field::{ComplexExtendable, ExtensionField, Field};
-use circle_matrix::{
+use circle_commit::{
     PeriodicEvaluator, PeriodicLdeTable, PolynomialSpace, RowMajorMatrix, is_power_of_two,
     log2_strict,
 };
+use circle_domain::CircleDomain;
+use circle_field::{ComplexExtendable, ExtensionField, Field};
 use std::alloc::{AllocError, Global};
 use thiserror::Error;
 

@@ -2,7 +2,7 @@
 //! trees and a challenger over SHA-256. The names are those that Plonky3's own tests give such a
 //! choice.
 ghost use Rattle.std.specs.Prelude.{◌≡◌};
-ghost use Rattle.circle_matrix.specs.Parameters.{with_scheme};
+ghost use Rattle.circle_commit.specs.Parameters.{with_scheme};
 
 use circle_challenger::Sha256Challenger;
 use circle_field::{Cubic, Mersenne31};

@@ -3,9 +3,9 @@ use Rattle.std.specs.Prelude.{◌≡◌, Bool, ℕ, ◌+◌, ◌<◌, ◌≤◌,
 use Rattle.std.proofs.Common.{zero, suc, refl, ap, subst, arith}
 use Rattle.std.proofs.lemmas.List.Elements.{All-append, All-head, All-nil, All-tail}
 use Rattle.std.proofs.lemmas.Option.{slice_get_within, get_or_from_slice_get}
-use Rattle.circle_matrix.specs.declared.error.FriError.{FriError}
-use Rattle.circle_matrix.specs.declared.error.FriError.TheVariants.{InputError as OfInput, FinalPolyMismatch, UnconsumedReducedOpenings, CommitPhaseMmcsError, Memory}
-use Rattle.circle_matrix.specs.declared.params.FriParameters.{FriParameters}
+use Rattle.circle_commit.specs.declared.error.FriError.{FriError}
+use Rattle.circle_commit.specs.declared.error.FriError.TheVariants.{InputError as OfInput, FinalPolyMismatch, UnconsumedReducedOpenings, CommitPhaseMmcsError, Memory}
+use Rattle.circle_commit.specs.declared.params.FriParameters.{FriParameters}
 use Rattle.circle_relation.specs.declared.error.InputError.{InputError}
 use Rattle.circle_relation.specs.declared.error.InputError.TheVariants.{InputMmcsError, FirstLayerMmcsError, InputShapeError, OpeningPointMatchesQueryPoint, MatrixWithoutOpeningPoints}
 use Rattle.circle_relation.specs.Accepts.{Fields, Run, Authenticates, HasInputs, HoldsWith, matrices}

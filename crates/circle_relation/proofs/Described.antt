@@ -2,7 +2,7 @@
 use Rattle.std.specs.Prelude.{◌≡◌, ℕ, ◌+◌, ◌-◌, List, [], ◌∷◌, ◌++◌, length, map, flat_map}
 use Rattle.std.proofs.Common.{refl, sym, ap, ◌∙◌, append_assoc}
 use Rattle.std.proofs.lemmas.List.{map-append}
-use Rattle.circle_matrix.specs.declared.params.FriParameters.{FriParameters}
+use Rattle.circle_commit.specs.declared.params.FriParameters.{FriParameters}
 use Rattle.circle_field.specs.Field.{FieldOps}
 use Rattle.circle_relation.specs.Statement.{BatchClaim, MatrixClaim, PointClaim, all_matrices, log_max_height}
 use Rattle.circle_transcript.specs.Draw.{Claim, widths_of}

@@ -2,7 +2,7 @@
 use Rattle.std.specs.Prelude.{◌≡◌, ℕ, ◌+◌, ◌<◌, List, [], ◌∷◌, length, zip, slice_index_or}
 use Rattle.std.specs.List.{range_with_len}
 use Rattle.std.proofs.Common.{zero, suc, sym, ◌∙◌, ap, subst, refl, arith}
-use Rattle.circle_matrix.specs.declared.params.FriParameters.{FriParameters}
+use Rattle.circle_commit.specs.declared.params.FriParameters.{FriParameters}
 use Rattle.circle_relation.specs.Accepts.{Fields, Run, rounds, round_value, final_value, ChainsEnd}
 
 -- the queries with their places

@@ -7,8 +7,8 @@ use Rattle.circle_field.specs.RingFacts.{add_zero}
 use Rattle.circle_field.specs.Circle.{Coordinates, lifted}
 use Rattle.circle_field.proofs.Powers.{nth_power-+}
 use Rattle.circle_point.specs.Projective.{from_line}
-use Rattle.circle_matrix.proofs.Written.{length-pairwise, pairwise-read}
-use Rattle.circle_matrix.specs.DotProduct.{pairwise}
+use Rattle.circle_commit.proofs.Written.{length-pairwise, pairwise-read}
+use Rattle.circle_commit.specs.DotProduct.{pairwise}
 use Rattle.circle_folding.specs.Quotient.{claim_quotient}
 use Rattle.circle_folding.specs.Queries.{claim_quotients, with_multiples, Meets}
 use Rattle.circle_relation.specs.Statement.{PointClaim}

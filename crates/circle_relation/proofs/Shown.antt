@@ -1,6 +1,6 @@
 -- What a scheme is asked to show, over lists that are the same.
 use Rattle.std.proofs.Common.{◌≡◌, ℕ, ◌-◌, ◌/◌, ◌^◌, List, map, ap, subst, ◌∙◌}
-use Rattle.circle_matrix.specs.declared.matrix.Dimensions.{Dimensions}
+use Rattle.circle_commit.specs.declared.matrix.Dimensions.{Dimensions}
 use Rattle.circle_relation.specs.Accepts.{Authenticates}
 
 -- what is shown of lists is shown of those that are the same

@@ -16,8 +16,8 @@ use Rattle.circle_point.specs.Basis.{vanishing, x_value}
 use Rattle.circle_point.specs.Projective.{from_line}
 use Rattle.circle_domain.specs.Order.{coset}
 use Rattle.circle_domain.specs.Selectors.{IsFinite}
-use Rattle.circle_matrix.specs.declared.matrix.Dimensions.{Dimensions}
-use Rattle.circle_matrix.specs.declared.params.FriParameters.{FriParameters}
+use Rattle.circle_commit.specs.declared.matrix.Dimensions.{Dimensions}
+use Rattle.circle_commit.specs.declared.params.FriParameters.{FriParameters}
 use Rattle.circle_folding.specs.Queries.{query_point}
 use Rattle.circle_folding.specs.Fold.{fold_pair}
 use Rattle.circle_folding.specs.Chain.{pair_of, first_layer_twiddle, round_twiddle}

@@ -1,12 +1,12 @@
 -- Why a run is refused once its challenges are drawn.
 use Rattle.std.specs.Prelude.{◌≡◌, Bool, false, ℕ, ◌+◌, [], slice_get, Some}
 use Rattle.std.specs.List.{Any}
-use Rattle.circle_matrix.specs.declared.error.FriError.{FriError}
-use Rattle.circle_matrix.specs.declared.error.FriError.TheVariants.{InputError as OfInput}
-use Rattle.circle_matrix.specs.declared.error.FriError.TheVariants.{FinalPolyMismatch}
-use Rattle.circle_matrix.specs.declared.error.FriError.TheVariants.{UnconsumedReducedOpenings}
-use Rattle.circle_matrix.specs.declared.error.FriError.TheVariants.{CommitPhaseMmcsError, Memory}
-use Rattle.circle_matrix.specs.declared.params.FriParameters.{FriParameters}
+use Rattle.circle_commit.specs.declared.error.FriError.{FriError}
+use Rattle.circle_commit.specs.declared.error.FriError.TheVariants.{InputError as OfInput}
+use Rattle.circle_commit.specs.declared.error.FriError.TheVariants.{FinalPolyMismatch}
+use Rattle.circle_commit.specs.declared.error.FriError.TheVariants.{UnconsumedReducedOpenings}
+use Rattle.circle_commit.specs.declared.error.FriError.TheVariants.{CommitPhaseMmcsError, Memory}
+use Rattle.circle_commit.specs.declared.params.FriParameters.{FriParameters}
 use Rattle.circle_relation.specs.declared.error.InputError.{InputError}
 use Rattle.circle_relation.specs.declared.error.InputError.TheVariants.{InputMmcsError}
 use Rattle.circle_relation.specs.declared.error.InputError.TheVariants.{FirstLayerMmcsError}

@@ -4,7 +4,7 @@ use Rattle.std.specs.Prelude.{◌≡◌, ℕ, ◌+◌, ◌*◌, ◌-◌, ◌%◌
 use Rattle.std.proofs.Common.{zero, suc}
 use Rattle.circle_field.specs.Field.{FieldOps}
 use Rattle.circle_field.specs.Circle.{Coordinates, at, plus}
-use Rattle.circle_matrix.specs.declared.params.FriParameters.{FriParameters}
+use Rattle.circle_commit.specs.declared.params.FriParameters.{FriParameters}
 use Rattle.circle_relation.specs.Statement.{PointClaim, BatchClaim, Opened, OpeningProof}
 use Rattle.circle_relation.specs.Accepts.{Fields, Run, claimed_heights, rounds, at_queries}
 use Rattle.circle_relation.specs.Accepts.{first_pair, round_value, final_value}

@@ -1,10 +1,10 @@
 -- A run as contracts see it: what the records of a proof and of a run are to the relation.
 use Rattle.std.specs.Prelude.{◌≡◌, Bool, ℕ, ◌+◌, ◌<◌, ◌≤◌, ◌^◌, List, length, map, All}
 use Rattle.circle_field.specs.Circle.{Coordinates}
-use Rattle.circle_matrix.specs.Mmcs.{opened_rows}
-use Rattle.circle_matrix.specs.declared.error.FriError.{FriError}
-use Rattle.circle_matrix.specs.declared.pcs.BatchMultiOpening.{BatchMultiOpening}
-use Rattle.circle_matrix.specs.declared.pcs.CommitmentOpening.{CommitmentOpening}
+use Rattle.circle_commit.specs.Mmcs.{opened_rows}
+use Rattle.circle_commit.specs.declared.error.FriError.{FriError}
+use Rattle.circle_commit.specs.declared.pcs.BatchMultiOpening.{BatchMultiOpening}
+use Rattle.circle_commit.specs.declared.pcs.CommitmentOpening.{CommitmentOpening}
 use Rattle.circle_domain.specs.declared.domain.CircleDomain.{CircleDomain}
 use Rattle.circle_domain.specs.Selectors.{IsFinite}
 use Rattle.circle_point.specs.Point.{coordinates}

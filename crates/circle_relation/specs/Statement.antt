@@ -1,6 +1,6 @@
 -- What a verifier is handed, as contracts see it: claims about committed matrices, and a proof.
 use Rattle.std.specs.Prelude.{ℕ, ◌+◌, List, map, flat_map}
-use Rattle.circle_matrix.specs.Mmcs.{greatest}
+use Rattle.circle_commit.specs.Mmcs.{greatest}
 
 -- values that are claimed at a point, which its coordinate on the projective line tells
 pub record PointClaim (E : Type 0) : Type 0 where

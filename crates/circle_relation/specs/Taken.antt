@@ -2,10 +2,10 @@
 use Rattle.std.specs.Prelude.{ℕ, ◌+◌, ◌-◌, List, map, flat_map, length, zip}
 use Rattle.circle_field.specs.Field.{FieldOps}
 use Rattle.circle_point.specs.Projective.{from_line}
-use Rattle.circle_matrix.specs.declared.params.FriParameters.{FriParameters}
+use Rattle.circle_commit.specs.declared.params.FriParameters.{FriParameters}
 use Rattle.circle_relation.specs.Statement.{PointClaim, BatchClaim, Challenges, OpeningProof}
 use Rattle.circle_relation.specs.Statement.{all_matrices, log_max_height}
-use Rattle.circle_runs.specs.declared.run.CircleDraws.{CircleDraws}
+use Rattle.circle_transcript.specs.declared.run.CircleDraws.{CircleDraws}
 use Rattle.circle_transcript.specs.Shape.{Shape}
 use Rattle.circle_transcript.specs.Draw.{Claim, claim, Drawn, Taken}
 

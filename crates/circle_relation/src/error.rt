@@ -4,7 +4,7 @@ ghost use Rattle.circle_relation.specs.Named.{input_name, prover_name};
 ghost use Rattle.circle_relation.specs.Failures.{prover_error};
 ghost use Rattle.circle_relation.specs.declared.error.ProverError.TheVariants.{Memory};
 
-use circle_matrix::{Named, PowPhase};
+use circle_commit::{Named, PowPhase};
 use circle_transcript::CircleTranscriptFailure;
 use std::alloc::AllocError;
 use std::fmt::Display;

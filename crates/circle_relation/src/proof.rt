@@ -1,7 +1,7 @@
 //! What a proof is made of.
 
+use circle_commit::{BatchMultiOpening, Mmcs};
 use circle_field::Field;
-use circle_matrix::{BatchMultiOpening, Mmcs};
 
 /// A proof that the folded words of a run end in the values of a polynomial.
 ///

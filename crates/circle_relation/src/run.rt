@@ -2,9 +2,9 @@
 ghost use Rattle.circle_relation.specs.Accepts.{Fields};
 
 use crate::proof::CirclePcsProof;
+use circle_commit::{CommitmentOpening, FriParameters, Mmcs};
 use circle_domain::CircleDomain;
 use circle_field::{ComplexExtendable, ExtensionField, Field};
-use circle_matrix::{CommitmentOpening, FriParameters, Mmcs};
 use circle_point::Point;
 
 /// What is known to contracts of a field with its circle and of its extension.

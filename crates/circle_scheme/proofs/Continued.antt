@@ -1,8 +1,8 @@
 -- Polynomials that the first rows of a committed matrix fix.
 use Rattle.std.proofs.Common.{◌≡◌, ℕ, ◌+◌, ◌≤◌, List, take, length, sym, ap, subst, ◌∙◌}
 use Rattle.std.proofs.lemmas.List.{length-take-le}
-use Rattle.circle_matrix.specs.RowMajorMatrixView.{rows as view_rows, height_of as view_height, length-rows as length-view_rows}
-use Rattle.circle_matrix.specs.declared.view.RowMajorMatrixView.{RowMajorMatrixView}
+use Rattle.circle_commit.specs.RowMajorMatrixView.{rows as view_rows, height_of as view_height, length-rows as length-view_rows}
+use Rattle.circle_commit.specs.declared.view.RowMajorMatrixView.{RowMajorMatrixView}
 use Rattle.circle_domain.specs.Domain.{log_size, shift_of}
 use Rattle.circle_domain.specs.Values.{HasValues}
 use Rattle.circle_domain.specs.declared.domain.CircleDomain.{CircleDomain}

@@ -4,10 +4,10 @@ use Rattle.std.proofs.lemmas.List.{length-map}
 use Rattle.std.proofs.lemmas.List.Elements.{All-nil, All-cons}
 use Rattle.std.specs.List.{AllZip}
 use Rattle.std.specs.Prelude.{slice_index_or}
-use Rattle.circle_matrix.specs.Matrix.{column, IsPowerOfTwo}
-use Rattle.circle_matrix.specs.Mmcs.{HaveHeightsOfPowers}
-use Rattle.circle_matrix.specs.RowMajorMatrix.{rows, width_of, height_of, length-rows}
-use Rattle.circle_matrix.specs.declared.matrix.RowMajorMatrix.{RowMajorMatrix}
+use Rattle.circle_commit.specs.Matrix.{column, IsPowerOfTwo}
+use Rattle.circle_commit.specs.Mmcs.{HaveHeightsOfPowers}
+use Rattle.circle_commit.specs.RowMajorMatrix.{rows, width_of, height_of, length-rows}
+use Rattle.circle_commit.specs.declared.matrix.RowMajorMatrix.{RowMajorMatrix}
 use Rattle.circle_domain.specs.Domain.{log_size, shift_of, IsGenuineDomain}
 use Rattle.circle_domain.specs.Order.{cfft_order, IsGenuine}
 use Rattle.circle_domain.specs.Ordering.{other_order}

@@ -27,13 +27,13 @@ use Rattle.circle_domain.proofs.PartLists.{length-natural_order}
 use Rattle.circle_domain.proofs.Walking.{standard-at, standard-on_circle, standard-point}
 use Rattle.std.proofs.lemmas.Option.{slice_get-get_or}
 use Rattle.circle_folding.specs.Queries.{IsApart}
-use Rattle.circle_matrix.specs.RowMajorMatrix.{height_of}
-use Rattle.circle_matrix.specs.declared.matrix.RowMajorMatrix.{RowMajorMatrix}
-use Rattle.circle_words.specs.Requests.{log_of}
+use Rattle.circle_commit.specs.RowMajorMatrix.{height_of}
+use Rattle.circle_commit.specs.declared.matrix.RowMajorMatrix.{RowMajorMatrix}
+use Rattle.circle_codewords.specs.Requests.{log_of}
 use Rattle.circle_relation.specs.Accepts.{Fields}
-use Rattle.circle_words.specs.Ratios.{points_of_height}
-use Rattle.circle_words.specs.Values.{AreOff, IsOffDomain}
-use Rattle.circle_words.proofs.Prefix.{off-apart}
+use Rattle.circle_codewords.specs.Ratios.{points_of_height}
+use Rattle.circle_codewords.specs.Values.{AreOff, IsOffDomain}
+use Rattle.circle_codewords.proofs.Prefix.{off-apart}
 use Rattle.circle_scheme.specs.Requesting.{HasDomain, is_at, some_on_domain}
 
 -- a test passes of none where it passes of nothing in the list

@@ -3,15 +3,15 @@ use Rattle.std.proofs.Common.{◌≡◌, ℕ, ◌+◌, ◌≤◌, List, [], ◌�
 use Rattle.std.specs.Prelude.{All, Result, ◌⊎◌}
 use Rattle.std.proofs.lemmas.List.Elements.{All-head}
 use Rattle.circle_challenger.specs.Moves.{RunMoves}
-use Rattle.circle_matrix.specs.declared.params.PowPhase.{PowPhase}
+use Rattle.circle_commit.specs.declared.params.PowPhase.{PowPhase}
 use Rattle.circle_relation.specs.Statement.{MatrixClaim, log_max_height}
-use Rattle.circle_matrix.specs.declared.error.FriError.{FriError}
-use Rattle.circle_matrix.specs.declared.error.FriError.TheVariants.{Memory}
+use Rattle.circle_commit.specs.declared.error.FriError.{FriError}
+use Rattle.circle_commit.specs.declared.error.FriError.TheVariants.{Memory}
 use Rattle.circle_transcript.specs.declared.failure.CircleTranscriptFailure.{CircleTranscriptFailure}
 use Rattle.circle_transcript.specs.declared.failure.CircleTranscriptFailure.TheVariants.{Memory as OutOfMemory}
 use Rattle.circle_transcript.specs.Failure.{phase_of}
 use Rattle.circle_transcript.specs.declared.transcript.Numbers.{Numbers}
-use Rattle.circle_runs.specs.Runs.{IsMiss}
+use Rattle.circle_transcript.specs.Runs.{IsMiss}
 use Rattle.circle_transcript.specs.Shape.{Shape}
 use Rattle.circle_transcript.specs.Draw.{Claim, Taken, taken, Drawn, draw}
 use Rattle.circle_scheme.specs.Replay.{refusal_of, IsMissedIn}

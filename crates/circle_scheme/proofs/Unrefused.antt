@@ -5,15 +5,15 @@ use Rattle.std.specs.declared.alloc.Global.{Global}
 use Rattle.std.proofs.Common.{suc, refl, sym, ◌∙◌, ap, arith}
 use Rattle.std.proofs.lemmas.Bool.{eqb-true, ltb-false, false≢true}
 use Rattle.std.proofs.lemmas.Slice.Zip.{get_or-zip, length-zip}
-use Rattle.circle_matrix.specs.Matrix.{IsPowerOfTwo}
-use Rattle.circle_matrix.specs.Mmcs.{HaveHeightsOfPowers}
-use Rattle.circle_matrix.specs.RowMajorMatrix.{height_of}
-use Rattle.circle_matrix.specs.declared.matrix.RowMajorMatrix.{RowMajorMatrix}
-use Rattle.circle_matrix.specs.declared.params.FriParameters.{FriParameters}
-use Rattle.circle_matrix.specs.declared.pcs.OpeningRequest.{OpeningRequest}
+use Rattle.circle_commit.specs.Matrix.{IsPowerOfTwo}
+use Rattle.circle_commit.specs.Mmcs.{HaveHeightsOfPowers}
+use Rattle.circle_commit.specs.RowMajorMatrix.{height_of}
+use Rattle.circle_commit.specs.declared.matrix.RowMajorMatrix.{RowMajorMatrix}
+use Rattle.circle_commit.specs.declared.params.FriParameters.{FriParameters}
+use Rattle.circle_commit.specs.declared.pcs.OpeningRequest.{OpeningRequest}
 use Rattle.circle_field.specs.Circle.{AreGenerators}
 use Rattle.circle_field.specs.Field.{FieldOps, FieldLaws, IsEmbedding}
-use Rattle.circle_words.specs.Requests.{AreFit, AreRequests, IsFit, IsOpenable, log_of}
+use Rattle.circle_codewords.specs.Requests.{AreFit, AreRequests, IsFit, IsOpenable, log_of}
 use Rattle.circle_relation.specs.declared.error.ProverError.{ProverError}
 use Rattle.circle_relation.specs.declared.error.ProverError.TheVariants.{UnfitParameters, MatrixCountMismatch, NoCommittedMatrices, PointAtInfinity, PointOnDomain}
 use Rattle.circle_relation.specs.Accepts.{Fields}
@@ -22,7 +22,7 @@ use Rattle.circle_verifier.specs.Refusals.{Test, answer, is_at_infinity}
 use Rattle.circle_scheme.specs.Requesting.{HasDomain, IsAtPoints, has_other_counts, is_infinite, is_unfit, lacks_matrices, meets_domain, meets_domains, opening_tests, some_on_domain}
 use Rattle.circle_scheme.proofs.CommitTests.{each-passes, eqb_positive, height-passed, log_small, passing}
 use Rattle.circle_verifier.proofs.HeightTests.{answer-none, refusing, skipped}
-use Rattle.circle_words.proofs.Logs.{log_of-power}
+use Rattle.circle_codewords.proofs.Logs.{log_of-power}
 use Rattle.circle_scheme.proofs.OnDomain.{all-off, none-passes}
 use Rattle.circle_verifier.proofs.Passed.{AllPass, front_passes, front_refuses, pass-back, pass-front, passed, passes}
 

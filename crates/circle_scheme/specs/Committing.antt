@@ -8,9 +8,9 @@ use Rattle.std.specs.Prelude.{MatchResult, slice_get, slice_index_or}
 use Rattle.std.specs.List.{AllZip}
 use Rattle.circle_field.specs.Field.{FieldOps}
 use Rattle.circle_field.specs.Circle.{Coordinates, times}
-use Rattle.circle_matrix.specs.RowMajorMatrix.{rows, width_of, height_of}
-use Rattle.circle_matrix.specs.declared.matrix.RowMajorMatrix.{RowMajorMatrix}
-use Rattle.circle_matrix.specs.declared.params.FriParameters.{FriParameters}
+use Rattle.circle_commit.specs.RowMajorMatrix.{rows, width_of, height_of}
+use Rattle.circle_commit.specs.declared.matrix.RowMajorMatrix.{RowMajorMatrix}
+use Rattle.circle_commit.specs.declared.params.FriParameters.{FriParameters}
 use Rattle.circle_domain.specs.Domain.{log_size, shift_of, IsStandardOf, IsGenuineDomain}
 use Rattle.circle_domain.specs.Order.{cfft_order, natural_order}
 use Rattle.circle_domain.specs.Ordering.{other_order}

@@ -2,11 +2,11 @@
 use Rattle.std.specs.Prelude.{◌≡◌, List, Ok, Err, Result, ◌⊎◌}
 use Rattle.circle_field.specs.Field.{FieldOps}
 use Rattle.circle_challenger.specs.Moves.{RunMoves}
-use Rattle.circle_matrix.specs.declared.error.FriError.{FriError}
-use Rattle.circle_matrix.specs.declared.error.FriError.TheVariants.{InvalidPowWitness, Memory}
-use Rattle.circle_matrix.specs.declared.params.FriParameters.{FriParameters}
-use Rattle.circle_matrix.specs.declared.params.PowPhase.{PowPhase}
-use Rattle.circle_matrix.specs.declared.pcs.CommitmentOpening.{CommitmentOpening}
+use Rattle.circle_commit.specs.declared.error.FriError.{FriError}
+use Rattle.circle_commit.specs.declared.error.FriError.TheVariants.{InvalidPowWitness, Memory}
+use Rattle.circle_commit.specs.declared.params.FriParameters.{FriParameters}
+use Rattle.circle_commit.specs.declared.params.PowPhase.{PowPhase}
+use Rattle.circle_commit.specs.declared.pcs.CommitmentOpening.{CommitmentOpening}
 use Rattle.circle_domain.specs.declared.domain.CircleDomain.{CircleDomain}
 use Rattle.circle_relation.specs.RunOf.{proof_of}
 use Rattle.circle_relation.specs.StatementOf.{batch_claims}
@@ -18,8 +18,8 @@ use Rattle.circle_transcript.specs.declared.failure.CircleTranscriptFailure.TheV
 use Rattle.circle_transcript.specs.declared.failure.CircleTranscriptFailure.TheVariants.{NoWitness}
 use Rattle.circle_transcript.specs.declared.failure.CircleTranscriptFailure.TheVariants.{Memory as OutOfMemory}
 use Rattle.circle_transcript.specs.Draw.{Drawn, draw}
-use Rattle.circle_runs.specs.Runs.{drawn_leaving}
-use Rattle.circle_runs.specs.declared.run.CircleDraws.{CircleDraws}
+use Rattle.circle_transcript.specs.Runs.{drawn_leaving}
+use Rattle.circle_transcript.specs.declared.run.CircleDraws.{CircleDraws}
 
 -- what is drawn from a state of a challenger, of claims and a proof
 abbrev pub drawing : {C S F E M Com InputCom InputProof WordProof : Type 0} → RunMoves C S F E Com

@@ -6,12 +6,12 @@ use Rattle.std.specs.declared.alloc.Global.{Global}
 use Rattle.std.specs.List.{list_any}
 use Rattle.circle_field.specs.Field.{FieldOps}
 use Rattle.circle_field.specs.Circle.{Coordinates}
-use Rattle.circle_matrix.specs.RowMajorMatrix.{height_of}
-use Rattle.circle_matrix.specs.declared.matrix.RowMajorMatrix.{RowMajorMatrix}
-use Rattle.circle_matrix.specs.declared.params.FriParameters.{FriParameters}
-use Rattle.circle_matrix.specs.declared.pcs.OpeningRequest.{OpeningRequest}
+use Rattle.circle_commit.specs.RowMajorMatrix.{height_of}
+use Rattle.circle_commit.specs.declared.matrix.RowMajorMatrix.{RowMajorMatrix}
+use Rattle.circle_commit.specs.declared.params.FriParameters.{FriParameters}
+use Rattle.circle_commit.specs.declared.pcs.OpeningRequest.{OpeningRequest}
 use Rattle.circle_domain.specs.Selectors.{IsFinite}
-use Rattle.circle_words.specs.Requests.{log_of}
+use Rattle.circle_codewords.specs.Requests.{log_of}
 use Rattle.circle_relation.specs.declared.error.ProverError.{ProverError}
 use Rattle.circle_relation.specs.declared.error.ProverError.TheVariants.{UnfitParameters}
 use Rattle.circle_relation.specs.declared.error.ProverError.TheVariants.{MatrixCountMismatch}
@@ -20,7 +20,7 @@ use Rattle.circle_relation.specs.declared.error.ProverError.TheVariants.{PointAt
 use Rattle.circle_relation.specs.declared.error.ProverError.TheVariants.{PointOnDomain}
 use Rattle.circle_point.specs.Projective.{from_line}
 use Rattle.circle_relation.specs.Accepts.{Fields}
-use Rattle.circle_words.specs.Ratios.{points_of_height}
+use Rattle.circle_codewords.specs.Ratios.{points_of_height}
 use Rattle.circle_scheme.specs.Committing.{matrix_tests}
 use Rattle.circle_verifier.specs.Refusals.{Test, answer, is_at_infinity}
 

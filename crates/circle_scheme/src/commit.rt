@@ -1,10 +1,10 @@
 //! Committing to matrices: what is refused, and what is committed to.
 ghost use Rattle.std.specs.Prelude.{◌≡◌, ◌↔◌, ℕ, ◌+◌, ◌-◌, ◌<◌, ◌≤◌, ◌^◌};
 ghost use Rattle.std.specs.Prelude.{All, IfOk, IsTrue, min, take};
-ghost use Rattle.circle_matrix.specs.Matrix.{IsPowerOfTwo};
-ghost use Rattle.circle_matrix.specs.Mmcs.{HaveHeightsOfPowers};
-ghost use Rattle.circle_matrix.specs.RowMajorMatrix.{rows, width_of, height_of};
-ghost use Rattle.circle_matrix.specs.RowMajorMatrixView.{rows as view_rows};
+ghost use Rattle.circle_commit.specs.Matrix.{IsPowerOfTwo};
+ghost use Rattle.circle_commit.specs.Mmcs.{HaveHeightsOfPowers};
+ghost use Rattle.circle_commit.specs.RowMajorMatrix.{rows, width_of, height_of};
+ghost use Rattle.circle_commit.specs.RowMajorMatrixView.{rows as view_rows};
 ghost use Rattle.circle_domain.specs.Domain.{log_size, shift_of, IsStandardOf};
 ghost use Rattle.circle_domain.specs.Ordering.{other_order};
 ghost use Rattle.circle_plane.specs.CircleEvaluations.{cfft_values, domain_of};
@@ -16,8 +16,8 @@ ghost use Rattle.circle_scheme.specs.Committing.{IsExtension, AreExtensions, Con
 ghost use Rattle.circle_scheme.specs.Committing.{AreCommittedValues};
 ghost use Rattle.circle_verifier.specs.Refusals.{answer};
 
+use circle_commit::{FriParameters, Matrix, RowMajorMatrix, RowMajorMatrixView, log2_strict};
 use circle_field::ComplexExtendable;
-use circle_matrix::{FriParameters, Matrix, RowMajorMatrix, RowMajorMatrixView, log2_strict};
 use circle_plane::{CfftPermutable, CircleDomain, CircleEvaluations, Point};
 use circle_relation::ProverError;
 use std::alloc::{AllocError, Global};

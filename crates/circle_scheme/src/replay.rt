@@ -1,7 +1,7 @@
 //! The verifier's side of the transcript: what it is described by, and what it takes in.
 ghost use Rattle.std.specs.Prelude.{◌≡◌, ◌<◌, ◌^◌, ◌++◌, map, flat_map, length, All, IfOk, IfErr};
 ghost use Rattle.std.specs.Prelude.{OnOk, Ok};
-ghost use Rattle.circle_matrix.specs.declared.error.FriError.TheVariants.{Memory};
+ghost use Rattle.circle_commit.specs.declared.error.FriError.TheVariants.{Memory};
 ghost use Rattle.circle_domain.specs.Selectors.{IsFinite};
 ghost use Rattle.circle_relation.specs.Statement.{all_matrices};
 ghost use Rattle.circle_relation.specs.RunOf.{proof_of};
@@ -15,17 +15,19 @@ ghost use Rattle.circle_verifier.specs.Tests.{claimed_height};
 ghost use Rattle.circle_verifier.specs.Tested.{IsTestedOver};
 
 use circle_challenger::{CanObserve, CanSample, GrindingChallenger, RunChallenger};
-use circle_domain::CircleDomain;
-use circle_field::{ComplexExtendable, ExtensionField, Field};
-use circle_folding::CircleFriFolding;
-use circle_matrix::{
+use circle_commit::{
     CommitmentOpening, FriError, FriFoldingStrategy, FriParameters, MatrixOpening, Mmcs,
     PointOpening,
 };
+use circle_domain::CircleDomain;
+use circle_field::{ComplexExtendable, ExtensionField, Field};
+use circle_folding::CircleFriFolding;
 use circle_point::Point;
 use circle_relation::{CirclePcsProof, InputError, OverCircle};
-use circle_runs::{CircleDraws, CircleMessages, CircleWitnesses, verifier_run};
-use circle_transcript::{CirclePcsShape, CircleTranscriptFailure, OpeningClaim};
+use circle_transcript::{
+    CircleDraws, CircleMessages, CirclePcsShape, CircleTranscriptFailure, CircleWitnesses,
+    OpeningClaim, verifier_run,
+};
 use std::alloc::{AllocError, Global};
 
 // The number of values that are claimed of a matrix at each of its points.

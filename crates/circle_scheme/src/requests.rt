@@ -1,7 +1,7 @@
 //! What is refused of requests to open before the challenger is seeded.
 ghost use Rattle.std.specs.Prelude.{◌≡◌, ◌==◌, ◌≤◌, All, flat_map, length};
-ghost use Rattle.circle_matrix.specs.Mmcs.{HaveHeightsOfPowers};
-ghost use Rattle.circle_matrix.specs.RowMajorMatrix.{height_of};
+ghost use Rattle.circle_commit.specs.Mmcs.{HaveHeightsOfPowers};
+ghost use Rattle.circle_commit.specs.RowMajorMatrix.{height_of};
 ghost use Rattle.circle_domain.specs.Selectors.{IsFinite};
 ghost use Rattle.circle_scheme.specs.Committing.{matrix_tests};
 ghost use Rattle.circle_verifier.specs.Refusals.{answer, is_at_infinity};
@@ -12,11 +12,11 @@ ghost use Rattle.circle_scheme.specs.Requesting.{HasDomain, IsAtPoints};
 ghost use Rattle.std.specs.List.{list_any};
 
 use crate::commit::validate_heights;
+use circle_codewords::are_off_domain;
+use circle_commit::{FriParameters, Matrix, Mmcs, OpeningRequest, RowMajorMatrix, log2_strict};
 use circle_field::{ComplexExtendable, ExtensionField, Field};
-use circle_matrix::{FriParameters, Matrix, Mmcs, OpeningRequest, RowMajorMatrix, log2_strict};
 use circle_relation::{OverCircle, ProverError};
 use circle_verifier::verifier::is_at_infinity as at_infinity;
-use circle_words::are_off_domain;
 
 /// The greatest difficulty, in bits, of a proof of work that is supported.
 const MAX_PROOF_OF_WORK_BITS: usize = 30;

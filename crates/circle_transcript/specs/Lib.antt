@@ -7,3 +7,4 @@ pub mod Claims
 pub mod Transcript
 pub mod Play
 pub mod Rows
+pub mod Runs

@@ -1,8 +1,8 @@
 -- What the calls of a transcript read of a shape.
 use Rattle.std.specs.Prelude.{ℕ, List, ◌++◌}
 use Rattle.circle_challenger.specs.Step.{Step}
-use Rattle.circle_matrix.specs.declared.params.PowPhase.{PowPhase}
-use Rattle.circle_matrix.specs.declared.params.PowPhase.TheVariants.{Batch, CommitPhase, Query}
+use Rattle.circle_commit.specs.declared.params.PowPhase.{PowPhase}
+use Rattle.circle_commit.specs.declared.params.PowPhase.TheVariants.{Batch, CommitPhase, Query}
 use Rattle.circle_transcript.specs.declared.transcript.Numbers.{Numbers}
 use Rattle.circle_transcript.specs.Shape.{Shape, batch_steps, first_layer_steps, rounds_steps}
 use Rattle.circle_transcript.specs.Shape.{query_steps}

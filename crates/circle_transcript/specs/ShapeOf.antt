@@ -4,7 +4,7 @@ use Rattle.std.specs.declared.alloc.Global.{Global}
 use Rattle.circle_challenger.specs.Interaction.{step_of}
 use Rattle.circle_challenger.specs.Step.{Step}
 use Rattle.circle_challenger.specs.declared.interaction.Interaction.{Interaction}
-use Rattle.circle_matrix.specs.declared.params.FriParameters.{FriParameters}
+use Rattle.circle_commit.specs.declared.params.FriParameters.{FriParameters}
 use Rattle.circle_transcript.specs.declared.shape.CirclePcsShape.{CirclePcsShape}
 use Rattle.circle_transcript.specs.Shape.{Shape}
 

@@ -3,7 +3,7 @@ ghost use Rattle.std.specs.Prelude.{◌≡◌};
 ghost use Rattle.circle_transcript.specs.Failure.{phase_of};
 ghost use Rattle.circle_transcript.specs.declared.failure.CircleTranscriptFailure.TheVariants.{Memory};
 
-use circle_matrix::PowPhase;
+use circle_commit::PowPhase;
 use std::alloc::AllocError;
 use thiserror::Error;
 

@@ -43,23 +43,32 @@
 //!   draws and the state after it; `NoWitness` and `PowWitness` come exactly where no witness
 //!   passes, and where the one at hand doesn't, and a transcript that is refused for want of
 //!   memory leaves the challenger as it was (`new`, clause `refused`).
+//! - Over a whole run (`prover_run`, `verifier_run`) the challenges, the indices and the state
+//!   after are those of the definition `Draw.draw`; a failure names the phase in which no witness
+//!   passes, or the first whose witness doesn't, and its difficulty.
+//! - Both sides, from equal states and with the prover's witnesses, draw equal challenges and leave
+//!   equal states (`both_runs`, clause `alike`).
 //!
 //! Its files:
 //!
 //! - In `src/`, `shape.rt`: what describes a run, its steps and its seed; `transcript.rt`: both
-//!   sides, whose calls `play.rt` makes of the drivers of `circle_challenger`.
+//!   sides, whose calls `play.rt` makes of the drivers of `circle_challenger`; `run.rt`: whole
+//!   runs.
 //! - In `specs/`, `Shape`, `Draw`: the definitions. `ShapeOf`, `Numbers`, `Claims`, `Transcript`,
-//!   `Failure`: what the types are; `Play`: steps of both sides; `Rows`: examples.
+//!   `Failure`: what the types are; `Play`: steps of both sides; `Runs`: what is drawn, missed or
+//!   found nowhere over a run; `Rows`: examples.
 //! - In `proofs/`, `Seeds`: a seed tells the shape; `Steps`, `Playing`, `Labels`; `ByHand`: steps
-//!   by hand.
+//!   by hand; `Runs`, `Drawn`: whole runs.
 #![tactic(auto)]
 
 pub mod failure;
 mod play;
+pub mod run;
 pub mod shape;
 pub mod transcript;
 
 pub use failure::CircleTranscriptFailure;
+pub use run::{CircleDraws, CircleMessages, CircleWitnesses, both_runs, prover_run, verifier_run};
 pub use shape::CirclePcsShape;
 pub use transcript::{
     CircleProverTranscript, CircleTranscript, CircleVerifierTranscript, OpeningClaim, Seeded,

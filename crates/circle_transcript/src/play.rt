@@ -8,7 +8,7 @@ ghost use Rattle.circle_challenger.specs.Due.{AreNext, HasPlayed};
 ghost use Rattle.circle_challenger.specs.Moves.{after_elements, or_zero};
 ghost use Rattle.circle_challenger.specs.Played.{element_challenge, numbers_challenge};
 ghost use Rattle.circle_challenger.specs.TranscriptState.{current, due, SameChallenger};
-ghost use Rattle.circle_matrix.specs.declared.params.PowPhase.TheVariants.{Query};
+ghost use Rattle.circle_commit.specs.declared.params.PowPhase.TheVariants.{Query};
 ghost use Rattle.circle_point.specs.Point.{coordinates};
 ghost use Rattle.circle_transcript.specs.Draw.{claim, widths_of, after_claims};
 ghost use Rattle.circle_transcript.specs.Claims.{claims_of};
@@ -27,8 +27,8 @@ use crate::shape::{FINAL_POLY, OPENED_VALUES, OPENING_POINT, QUERY_INDICES, QUER
 use circle_challenger::{
     CanSample, FieldChallenger, GrindingChallenger, ProverState, TranscriptState, VerifierState,
 };
+use circle_commit::PowPhase;
 use circle_field::{ExtensionField, Field};
-use circle_matrix::PowPhase;
 use circle_point::Point;
 use std::alloc::Global;
 

@@ -17,8 +17,8 @@ ghost use Rattle.circle_transcript.specs.ShapeOf.{Appends, matrices_of, batches_
 use circle_challenger::{
     DomainSeparator, Hierarchy, Interaction, InteractionPattern, Kind, Length,
 };
+use circle_commit::FriParameters;
 use circle_field::{ExtensionField, Field};
-use circle_matrix::FriParameters;
 use std::alloc::{AllocError, Global};
 
 /// The version that the seed names.

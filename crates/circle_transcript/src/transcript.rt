@@ -6,8 +6,8 @@ ghost use Rattle.circle_field.specs.Field.{of_nat};
 ghost use Rattle.circle_challenger.specs.Due.{AreNext, HasPlayed};
 ghost use Rattle.circle_challenger.specs.Moves.{or_zero};
 ghost use Rattle.circle_challenger.specs.Observing.{after_all};
-ghost use Rattle.circle_matrix.specs.declared.params.PowPhase.TheVariants.{Batch, CommitPhase};
-ghost use Rattle.circle_matrix.specs.declared.params.PowPhase.TheVariants.{Query};
+ghost use Rattle.circle_commit.specs.declared.params.PowPhase.TheVariants.{Batch, CommitPhase};
+ghost use Rattle.circle_commit.specs.declared.params.PowPhase.TheVariants.{Query};
 ghost use Rattle.circle_transcript.specs.Shape.{steps_of, text_of, first_layer_steps, round_steps};
 ghost use Rattle.circle_transcript.specs.ShapeOf.{shape_of};
 ghost use Rattle.circle_transcript.specs.Numbers.{numbers_of, indices_steps};
@@ -31,8 +31,8 @@ use circle_challenger::{
     CanObserve, CanSample, FieldChallenger, GrindingChallenger, ProverSide, ProverState,
     RunChallenger, StepsDue, TranscriptState, VerifierSide, VerifierState,
 };
+use circle_commit::PowPhase;
 use circle_field::{ExtensionField, Field};
-use circle_matrix::PowPhase;
 use circle_point::Point;
 use std::alloc::{AllocError, Global};
 use std::marker::PhantomData;

@@ -2,12 +2,7 @@
 use circle_challenger::Sha256Challenger;
 use circle_commit::{CommitmentOpening, FriError, MatrixOpening, PointOpening};
 use circle_field::{Cubic, ExtensionField, Field, Mersenne31};
-use circle_fixtures::matrix_list::MatrixList;
-use circle_fixtures::quadratic::Quadratic;
-use circle_fixtures::schemes::{ListMmcs, Nothing};
 use circle_presets::ValMmcs;
-use circle_statements::batches::one;
-use circle_statements::parameters::{SMALL, parameters};
 use p3_circle::verifier::validate_claims;
 use p3_circle::{
     CircleDomain, CircleFriProof, CircleInputProof, CirclePcs, CirclePcsProof, InputError, Neutral,
@@ -16,6 +11,11 @@ use p3_circle::{
 use std::alloc::{AllocError, Global};
 use std::fmt::InlineText;
 use std::test::Fail;
+use test_batches::batches::one;
+use test_batches::parameters::{SMALL, parameters};
+use test_schemes::matrix_list::MatrixList;
+use test_schemes::quadratic::Quadratic;
+use test_schemes::schemes::{ListMmcs, Nothing};
 
 type Answer = Result<usize, FriError<AllocError, InputError<AllocError, AllocError>>>;
 

@@ -2,12 +2,12 @@
 use crate::first_program::column;
 use circle_commit::{Dimensions, Mmcs, OpenedRows, are_below, heights_are_powers_of_two};
 use circle_field::{Field, Mersenne31};
-use circle_fixtures::matrix_list::MatrixList;
-use circle_fixtures::schemes::{ListMmcs, TrustingMmcs};
 use circle_merkle::ShaMmcs;
-use circle_statements::batches::one;
 use std::alloc::{AllocError, Global};
 use std::test::Fail;
+use test_batches::batches::one;
+use test_schemes::matrix_list::MatrixList;
+use test_schemes::schemes::{ListMmcs, TrustingMmcs};
 
 /// What is handed to verification in place of the opening at 7, 2, 3 and 2: indices, the only
 /// entries of their rows, and the dimensions.

@@ -2,13 +2,13 @@
 use circle_commit::{Matrix, Mmcs, RowMajorMatrix, heights_are_powers_of_two, is_power_of_two};
 use circle_field::{Field, Mersenne31};
 use circle_presets::{ProverData, ValMmcs};
-use circle_statements::batches::{Domain, Rows, one, rows};
-use circle_statements::openings::told;
-use circle_statements::parameters::{Numbers, SMALL, parameters};
 use p3_circle::{CirclePcs, Neutral, Point, ProverError, heights_match_domains};
 use std::alloc::Global;
 use std::process::Abort;
 use std::test::Fail;
+use test_batches::batches::{Domain, Rows, one, rows};
+use test_batches::openings::told;
+use test_batches::parameters::{Numbers, SMALL, parameters};
 
 type Committed = ([u8; 32], ProverData);
 

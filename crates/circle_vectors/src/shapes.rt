@@ -1,13 +1,13 @@
 //! Parameters and shapes of proofs that are not refused.
 use circle_commit::{FriError, FriParameters};
 use circle_field::{Cubic, Field, Mersenne31};
-use circle_fixtures::schemes::{Nothing, TrustingMmcs};
-use circle_statements::batches::one;
-use circle_statements::parameters::{Numbers, SMALL, parameters};
 use p3_circle::verifier::{validate_parameters, validate_proof_shape};
 use p3_circle::{CircleCommitPhaseMultiStep, CircleFriProof};
 use std::alloc::{AllocError, Global};
 use std::test::Fail;
+use test_batches::batches::one;
+use test_batches::parameters::{Numbers, SMALL, parameters};
+use test_schemes::schemes::{Nothing, TrustingMmcs};
 
 type Refusal = FriError<AllocError, AllocError>;
 

@@ -3,14 +3,14 @@ use crate::any_scheme::accepts;
 use circle_challenger::{CanObserve, CanSample, GrindingChallenger, Sha256Challenger};
 use circle_commit::{FriError, Mmcs};
 use circle_field::{Cubic, Field, Mersenne31};
-use circle_fixtures::schemes::ListMmcs;
 use circle_presets::{ChallengeMmcs, ValMmcs};
-use circle_statements::batches::one;
-use circle_statements::openings::shown;
 use p3_circle::InputError;
 use std::alloc::{AllocError, Global};
 use std::process::Abort;
 use std::test::Fail;
+use test_batches::batches::one;
+use test_batches::openings::shown;
+use test_schemes::schemes::ListMmcs;
 
 mod zeros;
 

@@ -8,9 +8,9 @@ use Rattle.std.proofs.lemmas.List.Elements.{All-weaker}
 use Rattle.std.proofs.lemmas.Option.{slice_get_within, slice_get-get_or}
 use Rattle.circle_field.specs.Field.{sub}
 use Rattle.circle_field.specs.Circle.{Coordinates}
-use Rattle.circle_matrix.specs.declared.matrix.Dimensions.{Dimensions}
+use Rattle.circle_commit.specs.declared.matrix.Dimensions.{Dimensions}
 use Rattle.circle_point.specs.Basis.{vanishing}
-use Rattle.circle_matrix.specs.DotProduct.{pairwise}
+use Rattle.circle_commit.specs.DotProduct.{pairwise}
 use Rattle.circle_domain.proofs.Twiddles.{map-map}
 use Rattle.circle_folding.specs.Fold.{folds}
 use Rattle.circle_folding.specs.Chain.{asked_pairs, first_layer_twiddle}

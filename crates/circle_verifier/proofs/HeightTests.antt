@@ -3,9 +3,9 @@ use Rattle.std.proofs.Common.{rules, ◌≡◌, ℕ, ◌+◌, ◌-◌, ◌^◌, 
 use Rattle.std.proofs.lemmas.Bool.{leb-false, le-leb, lt-leb}
 use Rattle.std.specs.Prelude.{Ok, Err, true, false, min, nat_le, ◌==◌}
 use Rattle.std.specs.Result.{result_and}
-use Rattle.circle_matrix.specs.Mmcs.{greatest}
-use Rattle.circle_matrix.specs.declared.error.FriError.{FriError}
-use Rattle.circle_matrix.specs.declared.error.FriError.TheVariants.{NoCommittedMatrices, GlobalMaxHeightTooLarge}
+use Rattle.circle_commit.specs.Mmcs.{greatest}
+use Rattle.circle_commit.specs.declared.error.FriError.{FriError}
+use Rattle.circle_commit.specs.declared.error.FriError.TheVariants.{NoCommittedMatrices, GlobalMaxHeightTooLarge}
 use Rattle.circle_relation.specs.declared.error.InputError.{InputError}
 use Rattle.circle_verifier.specs.Refusals.{Test, answer, domain_tests, claim_tests}
 use Rattle.circle_relation.specs.Statement.{MatrixClaim, log_sizes, log_max_height}

@@ -6,7 +6,7 @@ use Rattle.std.proofs.lemmas.List.{get_or-map}
 use Rattle.std.proofs.lemmas.List.Elements.{All-head}
 use Rattle.std.proofs.lemmas.Nat.{shr_below}
 use Rattle.std.proofs.lemmas.Option.{get_or_from_slice_get}
-use Rattle.circle_matrix.specs.declared.params.FriParameters.{FriParameters}
+use Rattle.circle_commit.specs.declared.params.FriParameters.{FriParameters}
 use Rattle.circle_field.specs.Field.{FieldOps, FieldLaws}
 use Rattle.circle_field.specs.Circle.{Coordinates, AreGenerators}
 use Rattle.circle_domain.specs.Order.{coset, natural_order, natural_from}

@@ -8,9 +8,9 @@ use Rattle.std.proofs.lemmas.List.Elements.{All-nil, All-cons, All-append, All-m
 use Rattle.std.proofs.lemmas.List.Quantifiers.{position-Some}
 use Rattle.std.proofs.lemmas.Bool.{ltb-false, eqb-true}
 use Rattle.std.proofs.lemmas.Option.{slice_get-map, slice_get-get_or, slice_get_read}
-use Rattle.circle_matrix.specs.declared.params.FriParameters.{FriParameters}
-use Rattle.circle_matrix.specs.declared.pcs.MatrixOpening.{MatrixOpening}
-use Rattle.circle_matrix.specs.declared.pcs.CommitmentOpening.{CommitmentOpening}
+use Rattle.circle_commit.specs.declared.params.FriParameters.{FriParameters}
+use Rattle.circle_commit.specs.declared.pcs.MatrixOpening.{MatrixOpening}
+use Rattle.circle_commit.specs.declared.pcs.CommitmentOpening.{CommitmentOpening}
 use Rattle.circle_domain.specs.declared.domain.CircleDomain.{CircleDomain}
 use Rattle.circle_relation.specs.Accepts.{Fields, Run}
 use Rattle.circle_relation.specs.Reasons.{IsUnclaimed}

@@ -10,9 +10,9 @@ use Rattle.std.proofs.lemmas.List.{length-map, get_or-map, get_or_default, ext_g
 use Rattle.std.proofs.lemmas.List.Elements.{All-head, All-tail, filter_passes, All-filter}
 use Rattle.std.proofs.lemmas.List.Folds.{list_any-from_Any, Any-from_list_any}
 use Rattle.std.proofs.lemmas.List.FromFn.{get_or-range_with_len, length-range_with_len}
-use Rattle.circle_matrix.specs.declared.params.FriParameters.{FriParameters}
+use Rattle.circle_commit.specs.declared.params.FriParameters.{FriParameters}
 use Rattle.circle_field.specs.Circle.{Coordinates, lifted}
-use Rattle.circle_matrix.specs.Mmcs.{greatest}
+use Rattle.circle_commit.specs.Mmcs.{greatest}
 use Rattle.circle_folding.specs.Queries.{query_point}
 use Rattle.circle_relation.specs.Statement.{MatrixClaim, log_height, log_max_height}
 use Rattle.circle_relation.specs.Accepts.{Fields, Run, matrices, top, is_claimed, claimed_heights, at_queries, point_among, reduced_at, claims_of, AreApart}

@@ -8,8 +8,8 @@ use Rattle.std.proofs.lemmas.List.Folds.{list_any_at}
 use Rattle.circle_field.specs.Field.{RingLaws}
 use Rattle.circle_field.specs.RingFacts.{add_zero}
 use Rattle.circle_field.proofs.Inverses.{take-whole}
-use Rattle.circle_matrix.specs.DotProduct.{pairwise}
-use Rattle.circle_matrix.specs.Mmcs.{greatest}
+use Rattle.circle_commit.specs.DotProduct.{pairwise}
+use Rattle.circle_commit.specs.Mmcs.{greatest}
 use Rattle.circle_folding.specs.Fold.{fold_pair, folds}
 use Rattle.circle_folding.specs.Chain.{pair_of, asked_pairs, round_twiddle}
 use Rattle.circle_relation.specs.Statement.{MatrixClaim, log_height}

@@ -3,8 +3,8 @@ use Rattle.std.proofs.Common.{◌≡◌, ℕ, Bool, true, false, ◌+◌, ◌≤
 use Rattle.std.specs.Prelude.{All}
 use Rattle.std.proofs.lemmas.List.Elements.{All-weaker}
 use Rattle.circle_field.specs.declared.field.Operations.{Ghosts}
-use Rattle.circle_matrix.specs.declared.error.FriError.{FriError}
-use Rattle.circle_matrix.specs.declared.params.FriParameters.{FriParameters}
+use Rattle.circle_commit.specs.declared.error.FriError.{FriError}
+use Rattle.circle_commit.specs.declared.params.FriParameters.{FriParameters}
 use Rattle.circle_domain.specs.Selectors.{IsFinite}
 use Rattle.circle_relation.specs.Statement.{BatchClaim, OpeningProof, Challenges, all_matrices}
 use Rattle.circle_relation.specs.Accepts.{Fields, Run, Authenticates, HasRounds, HasInputs, HasSiblings, HoldsWith, Accepts, matrices, top, rounds}

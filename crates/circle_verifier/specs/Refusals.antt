@@ -2,29 +2,29 @@
 use Rattle.std.specs.Prelude.{ℕ, ◌+◌, ◌-◌, ◌^◌, ◌==◌, Bool, not, ◌&&◌, if◌then◌else◌, List, [], ◌∷◌}
 use Rattle.std.specs.Prelude.{◌++◌, length, map, min, Result, Ok, Err, nat_lt, nat_le}
 use Rattle.std.specs.List.{list_all, list_any}
-use Rattle.circle_matrix.specs.declared.error.FriError.{FriError}
+use Rattle.circle_commit.specs.declared.error.FriError.{FriError}
 use Rattle.circle_field.specs.Field.{FieldOps}
-use Rattle.circle_matrix.specs.Mmcs.{greatest}
-use Rattle.circle_matrix.specs.declared.error.FriError.TheVariants.{NoCommittedMatrices}
-use Rattle.circle_matrix.specs.declared.error.FriError.TheVariants.{GlobalMaxHeightTooLarge}
-use Rattle.circle_matrix.specs.declared.error.FriError.TheVariants.{InputError as OfInput}
-use Rattle.circle_matrix.specs.declared.error.FriError.TheVariants.{UnsupportedGrinding}
-use Rattle.circle_matrix.specs.declared.error.FriError.TheVariants.{ZeroQueries, ZeroBlowup}
-use Rattle.circle_matrix.specs.declared.error.FriError.TheVariants.{UnsupportedFoldingCap}
-use Rattle.circle_matrix.specs.declared.error.FriError.TheVariants.{CommitRoundCountMismatch}
-use Rattle.circle_matrix.specs.declared.error.FriError.TheVariants.{CommitPowWitnessCountMismatch}
-use Rattle.circle_matrix.specs.declared.error.FriError.TheVariants.{NonCanonicalPowWitness}
-use Rattle.circle_matrix.specs.declared.error.FriError.TheVariants.{CommitPhaseOpeningsCountMismatch}
-use Rattle.circle_matrix.specs.declared.error.FriError.TheVariants.{CommitPhaseQueryCountMismatch}
-use Rattle.circle_matrix.specs.declared.error.FriError.TheVariants.{SiblingValuesLengthMismatch}
-use Rattle.circle_matrix.specs.declared.error.FriError.TheVariants.{FinalPolyLengthMismatch}
-use Rattle.circle_matrix.specs.declared.error.FriError.TheVariants.{PointAtInfinity}
-use Rattle.circle_matrix.specs.declared.pcs.CommitmentOpening.{CommitmentOpening}
+use Rattle.circle_commit.specs.Mmcs.{greatest}
+use Rattle.circle_commit.specs.declared.error.FriError.TheVariants.{NoCommittedMatrices}
+use Rattle.circle_commit.specs.declared.error.FriError.TheVariants.{GlobalMaxHeightTooLarge}
+use Rattle.circle_commit.specs.declared.error.FriError.TheVariants.{InputError as OfInput}
+use Rattle.circle_commit.specs.declared.error.FriError.TheVariants.{UnsupportedGrinding}
+use Rattle.circle_commit.specs.declared.error.FriError.TheVariants.{ZeroQueries, ZeroBlowup}
+use Rattle.circle_commit.specs.declared.error.FriError.TheVariants.{UnsupportedFoldingCap}
+use Rattle.circle_commit.specs.declared.error.FriError.TheVariants.{CommitRoundCountMismatch}
+use Rattle.circle_commit.specs.declared.error.FriError.TheVariants.{CommitPowWitnessCountMismatch}
+use Rattle.circle_commit.specs.declared.error.FriError.TheVariants.{NonCanonicalPowWitness}
+use Rattle.circle_commit.specs.declared.error.FriError.TheVariants.{CommitPhaseOpeningsCountMismatch}
+use Rattle.circle_commit.specs.declared.error.FriError.TheVariants.{CommitPhaseQueryCountMismatch}
+use Rattle.circle_commit.specs.declared.error.FriError.TheVariants.{SiblingValuesLengthMismatch}
+use Rattle.circle_commit.specs.declared.error.FriError.TheVariants.{FinalPolyLengthMismatch}
+use Rattle.circle_commit.specs.declared.error.FriError.TheVariants.{PointAtInfinity}
+use Rattle.circle_commit.specs.declared.pcs.CommitmentOpening.{CommitmentOpening}
 use Rattle.circle_relation.specs.Statement.{MatrixClaim, BatchClaim, OpeningProof, all_matrices}
 use Rattle.circle_relation.specs.Statement.{log_sizes, log_max_height}
-use Rattle.circle_matrix.specs.declared.params.FriParameters.{FriParameters}
-use Rattle.circle_matrix.specs.declared.params.PowPhase.{PowPhase}
-use Rattle.circle_matrix.specs.declared.params.PowPhase.TheVariants.{Batch, CommitPhase, Query}
+use Rattle.circle_commit.specs.declared.params.FriParameters.{FriParameters}
+use Rattle.circle_commit.specs.declared.params.PowPhase.{PowPhase}
+use Rattle.circle_commit.specs.declared.params.PowPhase.TheVariants.{Batch, CommitPhase, Query}
 use Rattle.circle_relation.specs.declared.error.InputError.{InputError}
 use Rattle.circle_relation.specs.declared.error.InputError.TheVariants.{DomainTooSmall}
 

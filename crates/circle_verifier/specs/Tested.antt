@@ -1,6 +1,6 @@
 -- What the tests before the seeding establish.
 use Rattle.std.specs.Prelude.{◌≡◌, ℕ, ◌+◌, ◌-◌, ◌^◌, ◌<◌, ◌≤◌, Bool, true, false, List, length, All}
-use Rattle.circle_matrix.specs.declared.params.FriParameters.{FriParameters}
+use Rattle.circle_commit.specs.declared.params.FriParameters.{FriParameters}
 use Rattle.circle_relation.specs.Accepts.{Fields}
 use Rattle.circle_relation.specs.Statement.{BatchClaim, OpeningProof, all_matrices, log_max_height}
 use Rattle.circle_verifier.specs.Refusals.{is_at_infinity}

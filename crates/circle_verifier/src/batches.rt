@@ -7,12 +7,12 @@ ghost use Rattle.circle_relation.specs.Statement.{log_max_height};
 ghost use Rattle.circle_relation.specs.StatementOf.{matrix_claim, matrix_claims};
 ghost use Rattle.circle_verifier.specs.Batches.{claimed_width, claimed_shape, AreShown, RefusesRows};
 
+use circle_commit::{
+    BatchMultiOpening, CommitmentOpening, Dimensions, FriError, MatrixOpening, Mmcs,
+};
 use circle_domain::CircleDomain;
 use circle_field::{ComplexExtendable, ExtensionField};
 use circle_folding::without_bits;
-use circle_matrix::{
-    BatchMultiOpening, CommitmentOpening, Dimensions, FriError, MatrixOpening, Mmcs,
-};
 use circle_relation::{InputError, OpenedRun, OverCircle};
 use std::alloc::{AllocError, Global};
 

@@ -2,7 +2,7 @@
 ghost use Rattle.std.specs.Prelude.{◌≡◌, ◌/◌, ◌^◌, ◌<◌, ◌≤◌, [], Some, length, map, All};
 ghost use Rattle.std.specs.Prelude.{OnOk, IfOk, IfErr, slice_get, slice_index_or};
 ghost use Rattle.std.specs.List.{flat_map};
-ghost use Rattle.circle_matrix.specs.Mmcs.{opened_rows};
+ghost use Rattle.circle_commit.specs.Mmcs.{opened_rows};
 ghost use Rattle.circle_point.specs.Point.{coordinates};
 ghost use Rattle.circle_folding.specs.Chain.{first_layer_twiddle};
 ghost use Rattle.circle_folding.specs.Queries.{query_point};
@@ -13,11 +13,11 @@ ghost use Rattle.circle_verifier.specs.FirstLayer.{twiddles_of, pairs_of, folded
 ghost use Rattle.circle_verifier.specs.Sums.{word_at};
 ghost use Rattle.circle_verifier.specs.FirstLayer.{pair_shape};
 
+use circle_commit::{Dimensions, FriError, Mmcs, OpenedRows};
 use circle_field::{ComplexExtendable, ExtensionField, batch_multiplicative_inverse};
 use circle_folding::{
     first_layer_twiddles, fold_query_values_with_inv_twiddles, push_query_pairs, subtract_vanishing,
 };
-use circle_matrix::{Dimensions, FriError, Mmcs, OpenedRows};
 use circle_relation::{InputError, OpenedRun, OverCircle, QueriedWord, QueryValues};
 use std::alloc::{AllocError, Global};
 

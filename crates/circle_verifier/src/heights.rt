@@ -5,9 +5,9 @@ ghost use Rattle.circle_domain.specs.Domain.{log_size};
 ghost use Rattle.circle_relation.specs.Accepts.{is_claimed};
 ghost use Rattle.circle_relation.specs.RunOf.{run_of, IsDrawn, heights_of};
 
+use circle_commit::{CommitmentOpening, MatrixOpening, Mmcs};
 use circle_domain::CircleDomain;
 use circle_field::{ComplexExtendable, ExtensionField};
-use circle_matrix::{CommitmentOpening, MatrixOpening, Mmcs};
 use circle_relation::{OpenedRun, OverCircle};
 use std::alloc::{AllocError, Global};
 

@@ -4,10 +4,10 @@ ghost use Rattle.circle_domain.specs.Order.{coset};
 ghost use Rattle.circle_relation.specs.Accepts.{ChainsEnd};
 ghost use Rattle.circle_relation.specs.RunOf.{run_of, IsDrawn, last_values, Refuses};
 
+use circle_commit::{FriError, Mmcs};
 use circle_domain::{CircleDomain, cfft_permute_index};
 use circle_field::{ComplexExtendable, ExtensionField};
 use circle_folding::x_value;
-use circle_matrix::{FriError, Mmcs};
 use circle_relation::{InputError, OpenedRun, OverCircle};
 
 /// Refuses a run of which some query ends in another value than that of the final polynomial at its

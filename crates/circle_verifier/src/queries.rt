@@ -17,11 +17,11 @@ use crate::last_word::check_final;
 use crate::reduced::reduced_words;
 use crate::rounds::fold_rounds;
 use crate::shape::validate_input_shape;
+use circle_commit::{CommitmentOpening, FriError, FriParameters, Mmcs};
 use circle_domain::CircleDomain;
 use circle_field::{ComplexExtendable, ExtensionField};
-use circle_matrix::{CommitmentOpening, FriError, FriParameters, Mmcs};
 use circle_relation::{CirclePcsProof, InputError, OpenedRun, OverCircle};
-use circle_runs::CircleDraws;
+use circle_transcript::CircleDraws;
 use std::alloc::Global;
 
 /// Refuses a run by the first of these that fails: the lists of the proof have the lengths that are

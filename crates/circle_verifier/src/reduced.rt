@@ -2,7 +2,7 @@
 ghost use Rattle.std.specs.Prelude.{◌≡◌, ◌+◌, ◌<◌, ◌≤◌, length, map, zip, All};
 ghost use Rattle.std.specs.Prelude.{IsNone, IfSome, OnOk, IfOk, IfErr};
 ghost use Rattle.circle_field.specs.Circle.{origin};
-ghost use Rattle.circle_matrix.specs.Mmcs.{opened_rows};
+ghost use Rattle.circle_commit.specs.Mmcs.{opened_rows};
 ghost use Rattle.circle_domain.specs.Selectors.{IsFinite};
 ghost use Rattle.circle_folding.specs.Quotient.{ArePowers};
 ghost use Rattle.circle_folding.specs.Queries.{HaveWidth};
@@ -16,10 +16,10 @@ ghost use Rattle.circle_verifier.specs.Sums.{AddsAll, AddsAtQueries, AddsRows, c
 ghost use Rattle.circle_verifier.specs.Sums.{IsApartFrom, IsApartFromRows};
 ghost use Rattle.circle_verifier.specs.Sums.{word_at, IsApartIn};
 
+use circle_commit::{CommitmentOpening, FriError, MatrixOpening, Mmcs, PointOpening};
 use circle_domain::CircleDomain;
 use circle_field::{ComplexExtendable, ExtensionField, Field};
 use circle_folding::{Claim, MatrixRows, add_quotients, query_points};
-use circle_matrix::{CommitmentOpening, FriError, MatrixOpening, Mmcs, PointOpening};
 use circle_point::Point;
 use circle_relation::{InputError, OpenedRun, OverCircle, QueriedWord};
 use std::alloc::{AllocError, Global};

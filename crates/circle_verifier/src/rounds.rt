@@ -1,19 +1,19 @@
 //! The rounds after the first layer, which fold words by x.
 ghost use Rattle.std.specs.Prelude.{◌≡◌, ◌+◌, ◌-◌, ◌/◌, ◌^◌, ◌<◌, ◌≤◌, length, map, All};
 ghost use Rattle.std.specs.Prelude.{slice_index_or, OnOk, IfOk, IfErr};
-ghost use Rattle.circle_matrix.specs.DotProduct.{pairwise};
+ghost use Rattle.circle_commit.specs.DotProduct.{pairwise};
 ghost use Rattle.circle_folding.specs.Chain.{round_twiddles};
 ghost use Rattle.circle_verifier.specs.Rounds.{inverses_from, values_in, siblings_in, folds_in};
 ghost use Rattle.circle_verifier.specs.Rounds.{words_below, HasRoundOf};
 ghost use Rattle.circle_relation.specs.RunOf.{IsDrawn, IsOpened, folded_words, joining_of};
 ghost use Rattle.circle_relation.specs.RunOf.{last_values, HasRoundsOf, Refuses};
 
+use circle_commit::{Dimensions, FriError, Mmcs};
 use circle_field::{ComplexExtendable, ExtensionField, Field, batch_multiplicative_inverse};
 use circle_folding::{
     add_each, first_x_twiddles, fold_query_values_with_inv_twiddles, next_x_twiddles, query_pairs,
     without_bits,
 };
-use circle_matrix::{Dimensions, FriError, Mmcs};
 use circle_relation::{InputError, OpenedRun, OverCircle, QueryValues};
 use std::alloc::{AllocError, Global};
 

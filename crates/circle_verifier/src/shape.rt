@@ -11,10 +11,10 @@ ghost use Rattle.circle_verifier.specs.Shape.{have_values, rows_fit, opened_fit}
 ghost use Rattle.circle_verifier.specs.Shape.{inputs_fit, siblings_fit};
 
 use crate::heights::has_domain;
-use circle_field::{ComplexExtendable, ExtensionField};
-use circle_matrix::{
+use circle_commit::{
     BatchMultiOpening, CommitmentOpening, FriError, MatrixOpening, Mmcs, PointOpening,
 };
+use circle_field::{ComplexExtendable, ExtensionField};
 use circle_relation::{InputError, OpenedRun, OverCircle};
 
 // Whether all claims on a matrix have so many values.

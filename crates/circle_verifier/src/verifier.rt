@@ -1,7 +1,7 @@
 //! What is refused of a proof before the challenger is seeded.
 ghost use Rattle.std.specs.Prelude.{◌≡◌, ◌≤◌, [], ◌∷◌, map, vec_len};
 ghost use Rattle.std.specs.List.{list_all, list_any};
-ghost use Rattle.circle_matrix.specs.Mmcs.{greatest};
+ghost use Rattle.circle_commit.specs.Mmcs.{greatest};
 ghost use Rattle.circle_relation.specs.Statement.{all_matrices, log_sizes};
 ghost use Rattle.circle_relation.specs.StatementOf.{matrix_claims, batch_claims};
 ghost use Rattle.circle_verifier.specs.Refusals.{answer, domain_tests, final_test, grinding_test};
@@ -11,11 +11,11 @@ ghost use Rattle.circle_verifier.specs.Refusals.{some_point, witness_test};
 ghost use Rattle.circle_verifier.specs.Tests.{batch_tests, claimed_height, proof_tests, run_tests};
 ghost use Rattle.circle_verifier.specs.Tests.{sibling_counts};
 
-use circle_domain::CircleDomain;
-use circle_field::{ComplexExtendable, ExtensionField, Field};
-use circle_matrix::{
+use circle_commit::{
     CommitmentOpening, FriError, FriParameters, MatrixOpening, Mmcs, PointOpening, PowPhase,
 };
+use circle_domain::CircleDomain;
+use circle_field::{ComplexExtendable, ExtensionField, Field};
 use circle_relation::{
     CircleCommitPhaseMultiStep, CircleFriProof, CirclePcsProof, InputError, OverCircle,
 };

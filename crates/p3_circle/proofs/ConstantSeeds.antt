@@ -3,7 +3,7 @@ use Rattle.std.specs.Prelude.{◌≡◌, ℕ, ◌+◌, ◌-◌, ◌==◌, if◌t
 use Rattle.std.proofs.Common.{◌∙◌, ap, arith}
 use Rattle.circle_challenger.specs.Separator.{Separator, seed_text, separator}
 use Rattle.circle_challenger.specs.Step.{be64}
-use Rattle.circle_matrix.specs.declared.params.FriParameters.{FriParameters}
+use Rattle.circle_commit.specs.declared.params.FriParameters.{FriParameters}
 use Rattle.circle_transcript.specs.Shape.{batch_steps, claimed_widths, first_layer_steps, layout, query_steps, rounds_steps}
 use Rattle.circle_transcript.specs.ShapeOf.{shape_of}
 use Rattle.circle_transcript.specs.declared.shape.CirclePcsShape.{CirclePcsShape}

@@ -1,7 +1,7 @@
 -- A final polynomial of one coefficient has one value.
 use Rattle.std.specs.Prelude.{◌≡◌, ℕ, [], ◌∷◌, slice_index_or}
 use Rattle.std.proofs.Common.{sym, ap, ◌∙◌}
-use Rattle.circle_matrix.specs.declared.params.FriParameters.{FriParameters}
+use Rattle.circle_commit.specs.declared.params.FriParameters.{FriParameters}
 use Rattle.circle_field.specs.Field.{FieldOps, RingLaws}
 use Rattle.circle_point.specs.Basis.{x_value}
 use Rattle.circle_relation.specs.Accepts.{Fields, Run, Authenticates, final_value, last_x, placed_queries}

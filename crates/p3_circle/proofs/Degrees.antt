@@ -7,12 +7,12 @@ use Rattle.circle_completeness.specs.Honest.{AreOfLowDegree}
 use Rattle.circle_completeness.proofs.TrueAnswers.{never-too-high}
 use Rattle.circle_field.specs.Circle.{AreGenerators}
 use Rattle.circle_field.specs.Field.{FieldLaws, IsEmbedding}
-use Rattle.circle_matrix.specs.Mmcs.{HaveHeightsOfPowers}
-use Rattle.circle_matrix.specs.RowMajorMatrix.{height_of}
-use Rattle.circle_matrix.specs.declared.matrix.RowMajorMatrix.{RowMajorMatrix}
-use Rattle.circle_matrix.specs.declared.params.FriParameters.{FriParameters}
-use Rattle.circle_matrix.specs.declared.pcs.OpeningRequest.{OpeningRequest}
-use Rattle.circle_opening.specs.Opening.{IsFailure}
+use Rattle.circle_commit.specs.Mmcs.{HaveHeightsOfPowers}
+use Rattle.circle_commit.specs.RowMajorMatrix.{height_of}
+use Rattle.circle_commit.specs.declared.matrix.RowMajorMatrix.{RowMajorMatrix}
+use Rattle.circle_commit.specs.declared.params.FriParameters.{FriParameters}
+use Rattle.circle_commit.specs.declared.pcs.OpeningRequest.{OpeningRequest}
+use Rattle.circle_prover.specs.Opening.{IsFailure}
 use Rattle.circle_relation.specs.declared.error.ProverError.{ProverError}
 use Rattle.circle_relation.specs.declared.error.ProverError.TheVariants.{LastWordNotConstant}
 use Rattle.circle_relation.specs.Accepts.{Fields}

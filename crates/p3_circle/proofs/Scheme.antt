@@ -1,8 +1,8 @@
 -- What is refused by the scheme, as the traits of schemes say it.
 use Rattle.std.specs.Prelude.{◌≡◌, Result, Ok, Err, IfErr, IfOk, IsTrue, MatchResult}
 use Rattle.std.proofs.Common.{sym, subst, refl}
-use Rattle.circle_matrix.specs.declared.error.FriError.{FriError}
-use Rattle.circle_matrix.specs.declared.error.FriError.TheVariants.{Memory}
+use Rattle.circle_commit.specs.declared.error.FriError.{FriError}
+use Rattle.circle_commit.specs.declared.error.FriError.TheVariants.{Memory}
 use Rattle.circle_relation.specs.declared.error.ProverError.{ProverError}
 use Rattle.circle_relation.specs.declared.error.ProverError.TheVariants.{Memory as OutOfMemory, NoGrindingWitness, UnfitParameters, HeightTooLarge, HeightTooSmall, NotGenuine, MatrixCountMismatch, NoCommittedMatrices, PointAtInfinity, PointOnDomain, LastWordNotConstant, DomainSmallerThanTrace}
 use Rattle.p3_circle.specs.Scheme.{says_memory, says_prover_memory}

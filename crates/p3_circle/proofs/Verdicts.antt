@@ -5,10 +5,10 @@ use Rattle.std.proofs.lemmas.List.{length-map}
 use Rattle.std.proofs.lemmas.Slice.Zip.{length-zip}
 use Rattle.circle_field.specs.declared.field.Operations.{Ghosts}
 use Rattle.circle_challenger.specs.Moves.{RunMoves}
-use Rattle.circle_matrix.specs.declared.error.FriError.{FriError}
-use Rattle.circle_matrix.specs.declared.error.FriError.TheVariants.{Memory}
-use Rattle.circle_matrix.specs.declared.params.FriParameters.{FriParameters}
-use Rattle.circle_matrix.specs.declared.pcs.CommitmentOpening.{CommitmentOpening}
+use Rattle.circle_commit.specs.declared.error.FriError.{FriError}
+use Rattle.circle_commit.specs.declared.error.FriError.TheVariants.{Memory}
+use Rattle.circle_commit.specs.declared.params.FriParameters.{FriParameters}
+use Rattle.circle_commit.specs.declared.pcs.CommitmentOpening.{CommitmentOpening}
 use Rattle.circle_domain.specs.declared.domain.CircleDomain.{CircleDomain}
 use Rattle.circle_domain.specs.Selectors.{IsFinite}
 use Rattle.circle_relation.specs.declared.error.InputError.{InputError}
@@ -28,7 +28,7 @@ use Rattle.circle_relation.specs.RunOf.{run_with}
 use Rattle.p3_circle.proofs.Known.{PartsPass, known, all_pass}
 use Rattle.circle_verifier.proofs.Passed.{AllPass, passed, passes, pass-front, pass-back, pass-both}
 use Rattle.circle_verifier.proofs.Seeding.{claims_part, parameters_part, shape_part, final_part, points_part, parts-are}
-use Rattle.circle_opening.proofs.Counts.{betas-count, queries-count}
+use Rattle.circle_prover.proofs.Counts.{betas-count, queries-count}
 use Rattle.circle_verifier.proofs.Verified.{tested, not_true, false_not, challenges-told}
 
 pub at_err : {T E : Type 0} (P : E → Type 0) (x : Result T E) (e : E) → x ≡ Err e → P e → IfErr x P

@@ -1,11 +1,11 @@
 -- What contracts see of the scheme's calls.
 use Rattle.std.specs.Prelude.{◌≡◌, Bool, IsTrue, List, Vec}
 use Rattle.std.specs.declared.alloc.Global.{Global}
-use Rattle.circle_matrix.specs.Pcs.{Openings, openings}
+use Rattle.circle_commit.specs.Pcs.{Openings, openings}
 use Rattle.circle_completeness.specs.Honest.{AreOfLowDegree}
-use Rattle.circle_matrix.specs.declared.matrix.RowMajorMatrix.{RowMajorMatrix}
-use Rattle.circle_matrix.specs.declared.params.FriParameters.{FriParameters}
-use Rattle.circle_matrix.specs.declared.pcs.OpeningRequest.{OpeningRequest}
+use Rattle.circle_commit.specs.declared.matrix.RowMajorMatrix.{RowMajorMatrix}
+use Rattle.circle_commit.specs.declared.params.FriParameters.{FriParameters}
+use Rattle.circle_commit.specs.declared.pcs.OpeningRequest.{OpeningRequest}
 use Rattle.circle_relation.specs.declared.error.ProverError.{ProverError}
 use Rattle.circle_relation.specs.declared.error.ProverError.TheVariants.{LastWordNotConstant}
 use Rattle.circle_verifier.specs.Refusals.{Test}

@@ -8,7 +8,7 @@ use Rattle.circle_challenger.specs.declared.interaction.Hierarchy.TheVariants.{A
 use Rattle.circle_challenger.specs.declared.interaction.Kind.TheVariants.{Message}
 use Rattle.circle_challenger.specs.declared.interaction.Length.TheVariants.{Scalar}
 use Rattle.circle_challenger.specs.declared.interaction.ValueType.TheVariants.{Algebra}
-use Rattle.circle_matrix.specs.declared.params.FriParameters.{FriParameters}
+use Rattle.circle_commit.specs.declared.params.FriParameters.{FriParameters}
 use Rattle.circle_relation.specs.Accepts.{Fields, Run, Authenticates, AreApart, HoldsWith}
 use Rattle.circle_relation.specs.Accepts.{InputsAuthenticate, FirstLayerAuthenticates}
 use Rattle.circle_relation.specs.Accepts.{RoundsAuthenticate, round_value, rounds, placed_queries}

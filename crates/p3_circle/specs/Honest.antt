@@ -3,22 +3,22 @@
 use Rattle.std.specs.Prelude.{◌≡◌, ℕ, ◌+◌, ◌<◌, ◌≤◌, List, length, zip, All}
 use Rattle.std.specs.List.{AllZip}
 use Rattle.circle_challenger.specs.Moves.{RunMoves}
-use Rattle.circle_matrix.specs.Pcs.{Openings}
-use Rattle.circle_matrix.specs.RowMajorMatrix.{rows, width_of}
-use Rattle.circle_matrix.specs.declared.matrix.RowMajorMatrix.{RowMajorMatrix}
-use Rattle.circle_matrix.specs.declared.params.FriParameters.{FriParameters}
-use Rattle.circle_matrix.specs.declared.pcs.OpeningRequest.{OpeningRequest}
+use Rattle.circle_commit.specs.Pcs.{Openings}
+use Rattle.circle_commit.specs.RowMajorMatrix.{rows, width_of}
+use Rattle.circle_commit.specs.declared.matrix.RowMajorMatrix.{RowMajorMatrix}
+use Rattle.circle_commit.specs.declared.params.FriParameters.{FriParameters}
+use Rattle.circle_commit.specs.declared.pcs.OpeningRequest.{OpeningRequest}
 use Rattle.circle_domain.specs.Domain.{log_size, shift_of, IsGenuineDomain}
 use Rattle.circle_domain.specs.Selectors.{IsFinite}
 use Rattle.circle_domain.specs.Values.{lifted_values_at}
 use Rattle.circle_domain.specs.declared.domain.CircleDomain.{CircleDomain}
 use Rattle.circle_folding.specs.Queries.{IsApart}
-use Rattle.circle_opening.specs.Opening.{IsStuckOn}
-use Rattle.circle_words.specs.Requests.{AreAnswers, AreFit}
+use Rattle.circle_prover.specs.Opening.{IsStuckOn}
+use Rattle.circle_codewords.specs.Requests.{AreAnswers, AreFit}
 use Rattle.circle_relation.specs.declared.error.ProverError.{ProverError}
 use Rattle.circle_point.specs.Projective.{from_line}
 use Rattle.circle_relation.specs.Accepts.{Fields}
-use Rattle.circle_words.specs.Ratios.{points_of_height}
+use Rattle.circle_codewords.specs.Ratios.{points_of_height}
 use Rattle.circle_scheme.specs.Committing.{HaveNaturalValues}
 
 module _ {F E M : Type 0} {g : _} (k : Fields F E) (two_adicity : ℕ) (p : FriParameters M) where

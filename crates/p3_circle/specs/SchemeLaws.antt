@@ -7,19 +7,19 @@ use Rattle.std.proofs.lemmas.List.Elements.{recursion_from_All}
 use Rattle.circle_completeness.proofs.Accepted.{accepts-openings}
 use Rattle.circle_completeness.proofs.ReadRows.{low-read}
 use Rattle.circle_challenger.specs.Moves.{RunMoves}
-use Rattle.circle_matrix.specs.Mmcs.{HaveHeightsOfPowers}
-use Rattle.circle_matrix.specs.Pcs.{Openings}
-use Rattle.circle_matrix.specs.declared.matrix.RowMajorMatrix.{RowMajorMatrix}
-use Rattle.circle_matrix.specs.declared.params.FriParameters.{FriParameters}
-use Rattle.circle_matrix.specs.declared.pcs.CommitmentOpening.{CommitmentOpening}
-use Rattle.circle_matrix.specs.declared.pcs.OpeningRequest.{OpeningRequest}
+use Rattle.circle_commit.specs.Mmcs.{HaveHeightsOfPowers}
+use Rattle.circle_commit.specs.Pcs.{Openings}
+use Rattle.circle_commit.specs.declared.matrix.RowMajorMatrix.{RowMajorMatrix}
+use Rattle.circle_commit.specs.declared.params.FriParameters.{FriParameters}
+use Rattle.circle_commit.specs.declared.pcs.CommitmentOpening.{CommitmentOpening}
+use Rattle.circle_commit.specs.declared.pcs.OpeningRequest.{OpeningRequest}
 use Rattle.circle_completeness.proofs.TrueAnswers.{never-too-high}
 use Rattle.circle_domain.specs.declared.domain.CircleDomain.{CircleDomain}
 use Rattle.circle_field.specs.Circle.{AreGenerators}
 use Rattle.circle_field.specs.Field.{FieldLaws, IsEmbedding}
 use Rattle.circle_field.specs.declared.field.Operations.{Ghosts}
-use Rattle.circle_opening.specs.Opening.{IsFailure}
-use Rattle.circle_words.specs.Requests.{AreAnswers, AreValuesOf, IsFit, IsOpenable}
+use Rattle.circle_prover.specs.Opening.{IsFailure}
+use Rattle.circle_codewords.specs.Requests.{AreAnswers, AreValuesOf, IsFit, IsOpenable}
 use Rattle.circle_relation.specs.declared.error.ProverError.{ProverError}
 use Rattle.circle_relation.specs.declared.error.ProverError.TheVariants.{Memory}
 use Rattle.circle_commit.specs.Honest.{AreAnsweredBy, AreHonest, HaveValues, requested_points}

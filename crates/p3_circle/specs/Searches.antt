@@ -6,20 +6,20 @@ use Rattle.std.proofs.Common.{zero, suc, refl, sym, ◌∙◌, subst}
 use Rattle.circle_challenger.specs.Moves.{RunMoves, run_moves, is_passed, after_element}
 use Rattle.circle_challenger.specs.Observing.{after_all}
 use Rattle.circle_challenger.specs.Sampling.{after_samples}
-use Rattle.circle_matrix.specs.declared.matrix.RowMajorMatrix.{RowMajorMatrix}
-use Rattle.circle_matrix.specs.declared.params.FriParameters.{FriParameters}
-use Rattle.circle_matrix.specs.declared.params.PowPhase.{PowPhase}
-use Rattle.circle_matrix.specs.declared.params.PowPhase.TheVariants.{Batch, CommitPhase, Query}
-use Rattle.circle_matrix.specs.declared.pcs.OpeningRequest.{OpeningRequest}
+use Rattle.circle_commit.specs.declared.matrix.RowMajorMatrix.{RowMajorMatrix}
+use Rattle.circle_commit.specs.declared.params.FriParameters.{FriParameters}
+use Rattle.circle_commit.specs.declared.params.PowPhase.{PowPhase}
+use Rattle.circle_commit.specs.declared.params.PowPhase.TheVariants.{Batch, CommitPhase, Query}
+use Rattle.circle_commit.specs.declared.pcs.OpeningRequest.{OpeningRequest}
 use Rattle.circle_relation.specs.Accepts.{Fields}
-use Rattle.circle_runs.specs.Runs.{NonePasses}
+use Rattle.circle_transcript.specs.Runs.{NonePasses}
 use Rattle.circle_transcript.specs.Draw.{Claim, after_claims, after_round, after_rounds, closed}
 use Rattle.circle_transcript.specs.Draw.{layered, seeded, taken}
 use Rattle.circle_transcript.specs.Numbers.{numbers_of}
 use Rattle.circle_transcript.specs.declared.transcript.Numbers.{Numbers}
-use Rattle.circle_words.specs.Words.{Committed}
-use Rattle.circle_opening.specs.Failure.{FindsNone}
-use Rattle.circle_opening.specs.Opening.{answered_claims, answered_matrices}
+use Rattle.circle_codewords.specs.Words.{Committed}
+use Rattle.circle_prover.specs.Failure.{FindsNone}
+use Rattle.circle_prover.specs.Opening.{answered_claims, answered_matrices}
 use Rattle.circle_relation.specs.Taken.{claims_taken, shape_by}
 use Rattle.p3_circle.specs.Honest.{FindsWitnesses}
 

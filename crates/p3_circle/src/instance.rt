@@ -1,6 +1,6 @@
 //! The scheme as an instance of the traits of schemes.
-ghost use Rattle.circle_matrix.specs.Mmcs.{HaveHeightsOfPowers};
-ghost use Rattle.circle_opening.specs.Opening.{IsFailure};
+ghost use Rattle.circle_commit.specs.Mmcs.{HaveHeightsOfPowers};
+ghost use Rattle.circle_prover.specs.Opening.{IsFailure};
 ghost use Rattle.circle_plane.specs.PeriodicColumns.{IsRefusedOn, IsTableOn, columns_of};
 ghost use Rattle.circle_scheme.specs.Committing.{AreExtensions, AreValuesOfMatrix};
 ghost use Rattle.circle_scheme.specs.Committing.{HaveRowsForPoints, commit_tests, evaluation_tests};
@@ -26,8 +26,8 @@ use circle_commit::{
 };
 use circle_domain::CircleDomain;
 use circle_field::{ComplexExtendable, ExtensionField};
-use circle_opening::ProverError;
 use circle_plane::PeriodicError;
+use circle_prover::ProverError;
 use circle_relation::{CirclePcsProof, InputError, OverCircle};
 use std::alloc::Global;
 

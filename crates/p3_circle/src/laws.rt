@@ -7,7 +7,7 @@ ghost use Rattle.p3_circle.specs.Constant.{HaveConstantShape};
 
 use circle_commit::{FriParameters, Mmcs};
 use circle_field::{ComplexExtendable, ExtensionField, Field};
-pub use circle_laws::{claim_binds, quotient_binds};
+pub use circle_folding::{claim_binds, quotient_binds};
 use circle_plane::Point;
 use circle_relation::{OpenedRun, OverCircle};
 use circle_transcript::CirclePcsShape;

@@ -73,12 +73,12 @@ pub use circle_folding::{
     CircleFriFolding, deep_quotient_reduce_row, extract_lambda, fold_x, fold_x_row, fold_y,
     x_interpolate, x_value,
 };
-pub use circle_opening::ProverError;
 pub use circle_plane::{
     Butterflies, CfftPerm, CfftPermutable, CfftView, CircleCoset, CircleDomain, CircleEvaluations,
     CirclePeriodicEvaluator, CirclePoints, Neutral, PeriodicError, Point,
     build_periodic_lde_table_circle, cfft_permute_index, circle_basis,
 };
+pub use circle_prover::ProverError;
 pub use circle_relation::{
     CircleCommitPhaseMultiStep, CircleFriProof, CircleInputProof, CirclePcsProof, InputError,
 };

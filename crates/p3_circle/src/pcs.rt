@@ -1,17 +1,17 @@
 //! The scheme.
 ghost use Rattle.std.specs.Prelude.{◌≡◌, ◌↔◌, ◌+◌, ◌-◌, ◌^◌, ◌<◌, ◌≤◌, length, min};
 ghost use Rattle.std.specs.Prelude.{OnOk, IfOk, IfErr, IfSome, IsSome, IsTrue};
-ghost use Rattle.circle_matrix.specs.Matrix.{IsPowerOfTwo};
-ghost use Rattle.circle_matrix.specs.Mmcs.{HaveHeightsOfPowers};
-ghost use Rattle.circle_matrix.specs.Pcs.{openings};
-ghost use Rattle.circle_matrix.specs.declared.error.FriError.TheVariants.{Memory};
+ghost use Rattle.circle_commit.specs.Matrix.{IsPowerOfTwo};
+ghost use Rattle.circle_commit.specs.Mmcs.{HaveHeightsOfPowers};
+ghost use Rattle.circle_commit.specs.Pcs.{openings};
+ghost use Rattle.circle_commit.specs.declared.error.FriError.TheVariants.{Memory};
 ghost use Rattle.circle_domain.specs.Domain.{log_size, IsStandardDomain};
 ghost use Rattle.circle_plane.specs.PeriodicColumns.{columns_of, IsTableOn, IsRefusedOn};
 ghost use Rattle.circle_scheme.specs.Committing.{RefusesInOrder, commit_tests, evaluation_tests};
 ghost use Rattle.circle_scheme.specs.Committing.{lde_tests, height_at, target_tests_at};
 ghost use Rattle.circle_scheme.specs.Committing.{HaveRowsForPoints, AreExtensions};
 ghost use Rattle.circle_scheme.specs.Committing.{AreValuesOfMatrix};
-ghost use Rattle.circle_words.specs.Requests.{AreAnswered};
+ghost use Rattle.circle_codewords.specs.Requests.{AreAnswered};
 ghost use Rattle.circle_relation.specs.declared.error.ProverError.TheVariants.{Memory as OutOfMemory};
 ghost use Rattle.p3_circle.specs.Scheme.{CanBeDegree, HaveCommittedHeights, IsStandardOfSize};
 ghost use Rattle.circle_scheme.specs.Requesting.{RefusesBefore};
@@ -26,8 +26,8 @@ use circle_commit::{
 };
 use circle_domain::CircleDomain;
 use circle_field::{ComplexExtendable, ExtensionField, Field};
-use circle_opening::{ProverError, open_requests};
 use circle_plane::{PeriodicError, build_periodic_lde_table_circle};
+use circle_prover::{ProverError, open_requests};
 use circle_relation::{CirclePcsProof, InputError, OverCircle};
 use circle_scheme::{
     evaluations_on, extensions, log_min_trace_height, validate_evaluations, validate_heights,

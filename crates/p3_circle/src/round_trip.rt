@@ -1,6 +1,6 @@
 //! A whole run over the scheme.
 ghost use Rattle.std.specs.Prelude.{◌≡◌, All, IfErr, IfOk, OnOk};
-ghost use Rattle.circle_matrix.specs.Pcs.{openings};
+ghost use Rattle.circle_commit.specs.Pcs.{openings};
 ghost use Rattle.circle_commit.specs.RoundTrip.{HasPoints};
 ghost use Rattle.circle_scheme.specs.Committing.{HaveRowsForPoints};
 
@@ -12,7 +12,7 @@ use circle_commit::{
 };
 use circle_domain::CircleDomain;
 use circle_field::{ComplexExtendable, ExtensionField};
-use circle_opening::ProverError;
+use circle_prover::ProverError;
 use circle_relation::InputError;
 use std::alloc::Global;
 

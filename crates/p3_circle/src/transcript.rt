@@ -1,9 +1,7 @@
 //! The Fiat-Shamir transcript of the scheme: what a run is described by, and both sides of it.
 
-pub use circle_runs::{
-    CircleDraws, CircleMessages, CircleWitnesses, both_runs, prover_run, verifier_run,
-};
 pub use circle_transcript::{
-    CirclePcsShape, CircleProverTranscript, CircleTranscript, CircleTranscriptFailure,
-    CircleVerifierTranscript, OpeningClaim,
+    CircleDraws, CircleMessages, CirclePcsShape, CircleProverTranscript, CircleTranscript,
+    CircleTranscriptFailure, CircleVerifierTranscript, CircleWitnesses, OpeningClaim, both_runs,
+    prover_run, verifier_run,
 };

@@ -1,6 +1,6 @@
 //! The verifier: from claims and a proof to its answer.
 ghost use Rattle.std.specs.Prelude.{◌≡◌, OnOk, IfErr};
-ghost use Rattle.circle_matrix.specs.declared.error.FriError.TheVariants.{Memory};
+ghost use Rattle.circle_commit.specs.declared.error.FriError.TheVariants.{Memory};
 ghost use Rattle.circle_verifier.specs.Tests.{IsFirstRefusal};
 
 use crate::pcs::CirclePcs;

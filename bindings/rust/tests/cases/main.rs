@@ -1,4 +1,4 @@
-//! The cases of `crates/circle_cases/data` that are of the program's commands, by this crate's
+//! The cases of `crates/test_cases/data` that are of the program's commands, by this crate's
 //! calls. What is due there comes from outside of the library.
 
 mod json;
@@ -10,7 +10,7 @@ use std::path::Path;
 
 const DATA: &str = concat!(
     env!("CARGO_MANIFEST_DIR"),
-    "/../../crates/circle_cases/data"
+    "/../../crates/test_cases/data"
 );
 
 fn read(name: &str) -> Json {

@@ -10,15 +10,14 @@ use circle_commit::{
     RowMajorMatrix, are_below, heights_are_powers_of_two,
 };
 use circle_field::{Cubic, ExtensionField, Field, Mersenne31};
-use circle_runs::{CircleMessages, prover_run};
-use circle_statements::batches::one;
-use circle_transcript::CirclePcsShape;
+use circle_transcript::{CircleMessages, CirclePcsShape, prover_run};
 use p3_circle::{
     CircleCommitPhaseMultiStep, CircleDomain, CircleFriProof, CircleInputProof, CirclePcs,
     CirclePcsProof, Neutral, Point,
 };
 use std::alloc::{AllocError, Global};
 use std::test::Fail;
+use test_batches::batches::one;
 
 /// The claims over this scheme of batches.
 pub(super) type Claims<I> = Vec<

@@ -4,15 +4,15 @@ use Rattle.std.specs.Prelude.{◌≡◌, ℕ, ◌+◌, ◌-◌, ◌^◌, ◌<◌
 use Rattle.std.specs.List.{AllByRecursion, AllZip}
 use Rattle.std.proofs.Common.{suc, refl, sym, ◌∙◌, ap, arith}
 use Rattle.std.proofs.lemmas.List.Elements.{All-from_recursion}
-use Rattle.circle_matrix.specs.DotProduct.{pairwise}
-use Rattle.circle_matrix.specs.Pcs.{Openings}
-use Rattle.circle_matrix.specs.RowMajorMatrix.{width_of, height_of}
-use Rattle.circle_matrix.specs.declared.matrix.RowMajorMatrix.{RowMajorMatrix}
-use Rattle.circle_matrix.specs.declared.params.FriParameters.{FriParameters}
-use Rattle.circle_matrix.specs.declared.pcs.CommitmentOpening.{CommitmentOpening}
-use Rattle.circle_matrix.specs.declared.pcs.MatrixOpening.{MatrixOpening}
-use Rattle.circle_matrix.specs.declared.pcs.OpeningRequest.{OpeningRequest}
-use Rattle.circle_matrix.specs.declared.pcs.PointOpening.{PointOpening}
+use Rattle.circle_commit.specs.DotProduct.{pairwise}
+use Rattle.circle_commit.specs.Pcs.{Openings}
+use Rattle.circle_commit.specs.RowMajorMatrix.{width_of, height_of}
+use Rattle.circle_commit.specs.declared.matrix.RowMajorMatrix.{RowMajorMatrix}
+use Rattle.circle_commit.specs.declared.params.FriParameters.{FriParameters}
+use Rattle.circle_commit.specs.declared.pcs.CommitmentOpening.{CommitmentOpening}
+use Rattle.circle_commit.specs.declared.pcs.MatrixOpening.{MatrixOpening}
+use Rattle.circle_commit.specs.declared.pcs.OpeningRequest.{OpeningRequest}
+use Rattle.circle_commit.specs.declared.pcs.PointOpening.{PointOpening}
 use Rattle.circle_completeness.specs.Honest.{AreOfLowDegree, IsOfLowDegree}
 use Rattle.circle_completeness.proofs.TrueAnswers.{opens-true}
 use Rattle.circle_domain.specs.Domain.{log_size}
@@ -23,15 +23,15 @@ use Rattle.circle_domain.proofs.Powers.{pow_injective}
 use Rattle.circle_field.specs.declared.field.Operations.{Ghosts}
 use Rattle.circle_field.specs.Circle.{AreGenerators}
 use Rattle.circle_field.specs.Field.{FieldLaws, IsEmbedding}
-use Rattle.circle_words.specs.Requests.{AreAnswers, AreRequests, AreValuesOf, IsFit, IsOpenable, batch_committed, claimed, committed, log_of, points_of}
+use Rattle.circle_codewords.specs.Requests.{AreAnswers, AreRequests, AreValuesOf, IsFit, IsOpenable, batch_committed, claimed, committed, log_of, points_of}
 use Rattle.circle_completeness.specs.Claimed.{AreClaimed}
 use Rattle.circle_commit.specs.Honest.{AreAnsweredBy, AreClaimedOf, IsClaimedOf, requested_points}
 use Rattle.circle_point.specs.Projective.{from_line}
 use Rattle.circle_relation.specs.Accepts.{Fields}
 use Rattle.circle_relation.specs.Statement.{MatrixClaim, PointClaim, all_matrices}
 use Rattle.circle_relation.specs.StatementOf.{batch_claims, matrix_claim, point_claim}
-use Rattle.circle_words.specs.Ratios.{points_of_height}
-use Rattle.circle_words.specs.Words.{claim_of}
+use Rattle.circle_codewords.specs.Ratios.{points_of_height}
+use Rattle.circle_codewords.specs.Words.{claim_of}
 use Rattle.circle_scheme.specs.Committing.{AreExtensions, IsExtension}
 use Rattle.p3_circle.specs.Honest.{AreValuesOfBatch, AreValuesOfRows}
 use Rattle.p3_circle.specs.Scheme.{IsCommitted}

@@ -7,21 +7,21 @@ use Rattle.std.proofs.Common.{suc, refl, sym, ◌∙◌, ap, subst, arith}
 use Rattle.std.proofs.lemmas.Bool.{eq-eqb, ne_eqb, le-ltb, lt-leb}
 use Rattle.std.proofs.lemmas.List.Elements.{All-from_recursion}
 use Rattle.std.proofs.lemmas.List.Folds.{list_any_none}
-use Rattle.circle_matrix.specs.RowMajorMatrix.{height_of}
-use Rattle.circle_matrix.specs.declared.matrix.RowMajorMatrix.{RowMajorMatrix}
-use Rattle.circle_matrix.specs.declared.params.FriParameters.{FriParameters}
-use Rattle.circle_matrix.specs.declared.pcs.OpeningRequest.{OpeningRequest}
+use Rattle.circle_commit.specs.RowMajorMatrix.{height_of}
+use Rattle.circle_commit.specs.declared.matrix.RowMajorMatrix.{RowMajorMatrix}
+use Rattle.circle_commit.specs.declared.params.FriParameters.{FriParameters}
+use Rattle.circle_commit.specs.declared.pcs.OpeningRequest.{OpeningRequest}
 use Rattle.circle_domain.specs.Domain.{log_size, shift_of}
 use Rattle.circle_domain.specs.declared.domain.CircleDomain.{CircleDomain}
 use Rattle.circle_field.specs.declared.field.Operations.{Ghosts}
 use Rattle.circle_field.specs.Circle.{times}
 use Rattle.circle_field.specs.CircleGroup.{same_coordinates}
-use Rattle.circle_words.specs.Requests.{AreFit, log_of}
+use Rattle.circle_codewords.specs.Requests.{AreFit, log_of}
 use Rattle.circle_relation.specs.declared.error.ProverError.{ProverError}
-use Rattle.circle_words.proofs.Logs.{log_of-power}
+use Rattle.circle_codewords.proofs.Logs.{log_of-power}
 use Rattle.circle_commit.specs.Honest.{IsHonest, requested_points}
 use Rattle.circle_relation.specs.Accepts.{Fields}
-use Rattle.circle_words.specs.Ratios.{points_of_height}
+use Rattle.circle_codewords.specs.Ratios.{points_of_height}
 use Rattle.circle_scheme.specs.Committing.{AreExtensions, IsExtension, commit_tests, domain_tests, evaluation_tests, height_tests, is_degenerate, matrix_tests}
 use Rattle.p3_circle.specs.Honest.{CanBeOpenedAt, IsHonestBatch}
 use Rattle.circle_verifier.specs.Refusals.{Test, answer, is_at_infinity}

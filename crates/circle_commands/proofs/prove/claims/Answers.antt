@@ -1,8 +1,8 @@
 use Rattle.std.proofs.Common.{◌≡◌, map}
-use Rattle.circle_matrix.specs.DotProduct.{pairwise}
-use Rattle.circle_matrix.specs.Pcs.{openings}
+use Rattle.circle_commit.specs.DotProduct.{pairwise}
+use Rattle.circle_commit.specs.Pcs.{openings}
 use Rattle.circle_commit.specs.Claims.{batch_told as all_told, batch_claimed as sized_claims}
-use Rattle.circle_words.proofs.Opened.{if_ok}
+use Rattle.circle_codewords.proofs.Opened.{if_ok}
 use Rattle.circle_commands.specs.Proved.{batch_claimed}
 use Rattle.circle_commands.specs.Verified.{batches_told}
 use Rattle.circle_commands.proofs.Claimed.{batches-claimed}

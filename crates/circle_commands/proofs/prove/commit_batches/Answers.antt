@@ -2,7 +2,7 @@ use Rattle.std.proofs.Common.{◌+◌, sym, subst, take, take_all, All}
 use Rattle.std.specs.List.{AllZip}
 use Rattle.circle_field.specs.Bytes.{bytes}
 use Rattle.circle_merkle.specs.Authentication.{IsShaRoot}
-use Rattle.circle_opening.proofs.Requested.{pushed-more}
+use Rattle.circle_prover.proofs.Requested.{pushed-more}
 use Rattle.circle_commands.specs.Proved.{IsCommitted}
 use Rattle.circle_commands.specs.Traces.{HasFittingRows}
 use Rattle.circle_commands.proofs.prove.commit_batches.Goals as goal

@@ -1,6 +1,6 @@
 use Rattle.std.proofs.Common.{◌+◌, sym, subst, take, take_all}
 use Rattle.std.specs.List.{AllZip}
-use Rattle.circle_opening.proofs.Requested.{pushed-more}
+use Rattle.circle_prover.proofs.Requested.{pushed-more}
 use Rattle.circle_commands.specs.Proved.{ArePlaced}
 use Rattle.circle_commands.specs.Traces.{AreFittingRows, HasFittingRows}
 use Rattle.circle_commands.proofs.prove.evaluations.Goals as goal

@@ -1,7 +1,7 @@
 use Rattle.std.proofs.Common.{◌≡◌, ◌++◌, [], ◌∷◌, ◌∙◌, ap, sym, take, take_all, subst, length, vec_len, arith}
 use Rattle.std.proofs.lemmas.List.{map_more}
-use Rattle.circle_words.proofs.Logs.{log_of-power}
-use Rattle.circle_words.specs.Requests.{log_of}
+use Rattle.circle_codewords.proofs.Logs.{log_of-power}
+use Rattle.circle_codewords.specs.Requests.{log_of}
 use Rattle.circle_commands.specs.Proved.{logs_of}
 use Rattle.circle_commands.specs.Traces.{HasFittingRows}
 use Rattle.circle_commands.specs.declared.prove.Trace.{Trace}

@@ -1,6 +1,6 @@
 use Rattle.std.proofs.Common.{◌++◌, [], ◌∷◌, ◌∙◌, ap, sym, take, take_all}
 use Rattle.std.proofs.lemmas.List.{map-append, map_more}
-use Rattle.circle_words.specs.Requests.{lists_of}
+use Rattle.circle_codewords.specs.Requests.{lists_of}
 use Rattle.circle_commands.specs.Proved.{points_of}
 use Rattle.circle_commands.specs.declared.prove.Trace.{Trace}
 use Rattle.circle_commands.proofs.prove.points.Goals as goal

@@ -1,5 +1,5 @@
 use Rattle.std.proofs.Common.{◌≡◌, take}
-use Rattle.circle_words.specs.Requests.{lists_of}
+use Rattle.circle_codewords.specs.Requests.{lists_of}
 use Rattle.circle_commands.specs.Proved.{points_of}
 use Rattle.circle_commands.proofs.prove.points.Given as goal
 

@@ -1,7 +1,7 @@
 use Rattle.std.proofs.Common.{◌∙◌, All, sym, ap, subst, replicate, refl, lit≤}
 use Rattle.std.specs.List.{AllZip}
-use Rattle.circle_matrix.specs.DotProduct.{pairwise}
-use Rattle.circle_matrix.specs.Pcs.{openings}
+use Rattle.circle_commit.specs.DotProduct.{pairwise}
+use Rattle.circle_commit.specs.Pcs.{openings}
 use Rattle.circle_challenger.specs.Sponge.{number-below}
 use Rattle.circle_field.specs.Bytes.{bytes}
 use Rattle.circle_field.specs.CubicOperations.{is_embedding, laws}

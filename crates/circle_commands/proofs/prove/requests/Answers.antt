@@ -1,7 +1,7 @@
 use Rattle.std.proofs.Common.{◌+◌, refl, sym, subst, take, take_all}
 use Rattle.std.specs.List.{AllZip}
 use Rattle.circle_merkle.specs.ProverData.{matrices_of}
-use Rattle.circle_opening.proofs.Requested.{pushed-more}
+use Rattle.circle_prover.proofs.Requested.{pushed-more}
 use Rattle.circle_commands.specs.Proved.{IsRequested}
 use Rattle.circle_commands.proofs.prove.requests.Goals as goal
 

@@ -1,7 +1,7 @@
 use Rattle.std.proofs.Common.{◌≡◌, ◌/◌, ◌%◌, length, vec_len, ◌∙◌, ap, sym}
 use Rattle.std.proofs.Math.Nat.{mul-mod_left, mul-div_cancel}
-use Rattle.circle_matrix.specs.Matrix.{rows_from}
-use Rattle.circle_matrix.specs.RowMajorMatrix.{length-rows}
+use Rattle.circle_commit.specs.Matrix.{rows_from}
+use Rattle.circle_commit.specs.RowMajorMatrix.{length-rows}
 use Rattle.circle_commands.proofs.Rows.{IsJoined, is_joined, length-lists}
 use Rattle.circle_commands.proofs.values.matrix.Goals as goal
 

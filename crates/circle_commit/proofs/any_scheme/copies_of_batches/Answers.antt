@@ -1,5 +1,5 @@
 use Rattle.std.proofs.Common.{◌∙◌, refl, ap}
-use Rattle.circle_matrix.specs.Mmcs.{opened_rows}
+use Rattle.circle_commit.specs.Mmcs.{opened_rows}
 use Rattle.circle_commit.proofs.Lists.{mapped-more}
 use Rattle.circle_commit.proofs.any_scheme.copies_of_batches.Goals as goal
 

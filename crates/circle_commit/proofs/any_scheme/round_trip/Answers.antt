@@ -1,6 +1,6 @@
 use Rattle.std.proofs.Common.{◌∙◌, ap, sym, subst}
-use Rattle.circle_matrix.specs.Pcs.{openings}
-use Rattle.circle_matrix.specs.DotProduct.{pairwise}
+use Rattle.circle_commit.specs.Pcs.{openings}
+use Rattle.circle_commit.specs.DotProduct.{pairwise}
 use Rattle.circle_commit.specs.Claims.{batch_claimed}
 use Rattle.circle_commit.specs.RoundTrip.{AreHonestBatches, IsOfMemory, IsReason}
 use Rattle.circle_commit.proofs.Batches.{are-answered, are-kept, are-requests, are-values, asks-for, handed, have-answers, honest-requests, of-memory, why-uncommitted}

@@ -5,7 +5,7 @@ use Rattle.std.proofs.lemmas.Iterator.{YieldsList-from_zip}
 use Rattle.std.proofs.lemmas.Iterator.Adapters.{YieldsList-from_vec}
 use Rattle.std.proofs.lemmas.Iterator.Consumers.{YieldsList-end, YieldsList-turn}
 use Rattle.std.proofs.lemmas.List.{length_push}
-use Rattle.circle_matrix.specs.Mmcs.{opened_rows}
+use Rattle.circle_commit.specs.Mmcs.{opened_rows}
 use Rattle.circle_commit.specs.Claims.{batch_claimed, batch_told}
 use Rattle.circle_commit.specs.declared.claims.CommittedBatch.{CommittedBatch}
 use Rattle.std.specs.Iterator.Adapters.{zip_first, zip_second}

@@ -7,7 +7,7 @@ use Rattle.circle_domain.specs.Domain.{shift_of, log_size}
 use Rattle.circle_point.specs.Basis.{doubled_x}
 use Rattle.circle_point.specs.Point.{coordinates}
 use Rattle.circle_domain.specs.Layers.{layer_factors, every_second}
-use Rattle.circle_matrix.proofs.Written.{range-more}
+use Rattle.circle_commit.proofs.Written.{range-more}
 use Rattle.circle_domain.proofs.Twiddles.{first_factors, second_factors, next_factors, length-layer_factors, length-coset, even-pow, map-map, made-count, made-read}
 use Rattle.circle_domain.proofs.factors.layer_twiddles.Goals as goal
 

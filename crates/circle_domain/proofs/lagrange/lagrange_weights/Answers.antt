@@ -8,7 +8,7 @@ use Rattle.circle_point.specs.Point.{coordinates}
 use Rattle.circle_point.specs.declared.point.Point.{Point}
 use Rattle.circle_domain.specs.Domain.{log_size, shift_of}
 use Rattle.circle_domain.specs.Order.{coset, cfft_order}
-use Rattle.circle_matrix.specs.DotProduct.{dot}
+use Rattle.circle_commit.specs.DotProduct.{dot}
 use Rattle.circle_domain.specs.Lagrange.{shares}
 use Rattle.circle_domain.proofs.LagrangeShares.{length-shares}
 use Rattle.circle_domain.proofs.LagrangeValues.{apart, normalisation-nonzero, lifted-scale, values-sum}

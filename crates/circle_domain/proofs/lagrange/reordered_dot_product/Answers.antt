@@ -1,9 +1,9 @@
 use Rattle.std.proofs.Common.{◌≡◌, ◌<◌, ◌≤◌, ◌^◌, ◌∙◌, ℕ, sym, ap, arith, length, map, take, slice_index_or}
 use Rattle.std.proofs.lemmas.List.{take_all, length-map, get_or-map, get_or_default}
 use Rattle.std.proofs.lemmas.List.FromFn.{length-map-range_with_len, get_or-map-range_with_len}
-use Rattle.circle_matrix.specs.DotProduct.{dot}
+use Rattle.circle_commit.specs.DotProduct.{dot}
 use Rattle.circle_domain.specs.Ordering.{cfft_index, reordered}
-use Rattle.circle_matrix.proofs.ColumnSums.{dot-more}
+use Rattle.circle_commit.proofs.ColumnSums.{dot-more}
 use Rattle.circle_domain.proofs.lagrange.reordered_dot_product.Goals as goal
 
 pub loop-i-preserved : goal.loop-i-preserved

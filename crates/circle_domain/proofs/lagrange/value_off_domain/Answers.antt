@@ -1,7 +1,7 @@
 use Rattle.std.proofs.Common.{◌∙◌, sym, ap, arith, map, ◌^◌, length}
 use Rattle.circle_point.specs.Basis.{value}
 use Rattle.circle_domain.specs.Domain.{log_size, shift_of}
-use Rattle.circle_matrix.specs.DotProduct.{dot}
+use Rattle.circle_commit.specs.DotProduct.{dot}
 use Rattle.circle_domain.specs.Ordering.{reordered}
 use Rattle.circle_domain.specs.Values.{Interpolates}
 use Rattle.circle_domain.proofs.NaturalValues.{natural-told, reordered-points}

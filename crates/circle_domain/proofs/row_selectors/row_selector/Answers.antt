@@ -4,10 +4,10 @@ use Rattle.circle_field.specs.Circle.{Coordinates, plus, opposite}
 use Rattle.circle_point.specs.Point.{coordinates}
 use Rattle.circle_point.specs.Projective.{to_line}
 use Rattle.circle_point.specs.declared.point.Point.{Point}
-use Rattle.circle_matrix.specs.DotProduct.{pairwise}
+use Rattle.circle_commit.specs.DotProduct.{pairwise}
 use Rattle.circle_domain.specs.Selectors.{zero_at}
 use Rattle.circle_domain.proofs.Reciprocals.{reciprocal}
-use Rattle.circle_matrix.proofs.Written.{length-pairwise, pairwise-read}
+use Rattle.circle_commit.proofs.Written.{length-pairwise, pairwise-read}
 use Rattle.circle_domain.proofs.row_selectors.row_selector.Goals as goal
 
 pub batch_multiplicative_inverse-requires : goal.batch_multiplicative_inverse-requires

@@ -1,6 +1,6 @@
 use Rattle.std.proofs.Common.{◌≡◌, take}
 use Rattle.circle_point.specs.Point.{coordinates}
-use Rattle.circle_matrix.specs.DotProduct.{pairwise}
+use Rattle.circle_commit.specs.DotProduct.{pairwise}
 use Rattle.circle_domain.specs.Selectors.{zero_at}
 use Rattle.circle_domain.proofs.row_selectors.row_selector.Given as goal
 

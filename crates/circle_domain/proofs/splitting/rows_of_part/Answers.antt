@@ -2,9 +2,9 @@ use Rattle.std.proofs.Common.{◌≡◌, ℕ, ◌+◌, ◌*◌, ◌/◌, ◌%◌
 use Rattle.std.specs.List.{range_with_len, flat_map}
 use Rattle.std.specs.Prelude.{slice_index_or, vec_len}
 use Rattle.std.proofs.lemmas.Option.{get_or_from_slice_get}
-use Rattle.circle_matrix.specs.Matrix.{rows_from}
-use Rattle.circle_matrix.specs.FlatRows.{flat-more, whole_rows, stored_rows}
-use Rattle.circle_matrix.specs.RowMajorMatrix.{rows, width_of, height_of, positive_width}
+use Rattle.circle_commit.specs.Matrix.{rows_from}
+use Rattle.circle_commit.specs.FlatRows.{flat-more, whole_rows, stored_rows}
+use Rattle.circle_commit.specs.RowMajorMatrix.{rows, width_of, height_of, positive_width}
 use Rattle.circle_domain.specs.Splitting.{place_of}
 use Rattle.circle_domain.proofs.PartPlaces.{place_of-below, part_height, turn_fits}
 use Rattle.circle_domain.proofs.PartRows.{wide_rows}

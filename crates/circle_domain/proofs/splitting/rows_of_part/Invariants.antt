@@ -1,7 +1,7 @@
 use Rattle.std.proofs.Common.{◌≡◌, []}
 use Rattle.std.specs.List.{range_with_len, flat_map}
 use Rattle.std.specs.Prelude.{slice_index_or}
-use Rattle.circle_matrix.specs.RowMajorMatrix.{rows}
+use Rattle.circle_commit.specs.RowMajorMatrix.{rows}
 use Rattle.circle_domain.specs.Splitting.{place_of}
 use Rattle.circle_domain.proofs.splitting.rows_of_part.Given as goal
 

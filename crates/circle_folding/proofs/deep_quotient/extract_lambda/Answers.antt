@@ -5,7 +5,7 @@ use Rattle.circle_field.specs.Field.{nth_power, sub, two}
 use Rattle.circle_point.specs.Point.{coordinates}
 use Rattle.circle_point.specs.declared.point.Point.{Point}
 use Rattle.circle_domain.specs.Domain.{log_size, shift_of}
-use Rattle.circle_matrix.specs.DotProduct.{dot, pairwise}
+use Rattle.circle_commit.specs.DotProduct.{dot, pairwise}
 use Rattle.circle_domain.proofs.Twiddles.{map-map}
 use Rattle.circle_folding.specs.Blocks.{spread}
 use Rattle.circle_folding.specs.Lambda.{vanishing_values, lambda_of, remainder_of}

@@ -1,7 +1,7 @@
 use Rattle.std.proofs.Common.{◌≡◌, ◌<◌, ◌+◌, ◌-◌, ◌*◌, ◌∙◌, sym, ap, length, map, take, drop, get_or, arith, []}
 use Rattle.std.proofs.lemmas.List.{length-map, get_or-map, take_all}
 use Rattle.std.proofs.Math.Nat.{zero-mul}
-use Rattle.circle_matrix.specs.DotProduct.{dot}
+use Rattle.circle_commit.specs.DotProduct.{dot}
 use Rattle.circle_point.specs.Point.{coordinates}
 use Rattle.circle_point.specs.declared.point.Point.{Point}
 use Rattle.circle_folding.specs.Blocks.{sum_of, spread}

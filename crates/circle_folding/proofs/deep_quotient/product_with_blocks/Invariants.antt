@@ -1,6 +1,6 @@
 use Rattle.std.proofs.Common.{◌≡◌, ◌*◌, map, take}
 use Rattle.circle_point.specs.Point.{coordinates}
-use Rattle.circle_matrix.specs.DotProduct.{dot}
+use Rattle.circle_commit.specs.DotProduct.{dot}
 use Rattle.circle_folding.specs.Blocks.{spread}
 use Rattle.circle_folding.proofs.deep_quotient.product_with_blocks.Given as goal
 

@@ -1,6 +1,6 @@
 use Rattle.std.proofs.Common.{◌<◌, ◌∙◌, sym, ap, length, arith}
 use Rattle.circle_field.specs.Field.{sub}
-use Rattle.circle_matrix.proofs.Written.{mapped-more}
+use Rattle.circle_commit.proofs.Written.{mapped-more}
 use Rattle.circle_folding.proofs.deep_quotient.subtract.Goals as goal
 
 pub loop-entry-preserved : goal.loop-entry-preserved

@@ -1,6 +1,6 @@
 use Rattle.std.proofs.Common.{◌≡◌, map}
 use Rattle.circle_field.specs.Field.{sub}
-use Rattle.circle_matrix.proofs.Written.{written}
+use Rattle.circle_commit.proofs.Written.{written}
 use Rattle.circle_folding.proofs.deep_quotient.subtract.Given as goal
 
 abbrev pub invariant-loop-entry : goal.invariant-loop-entry

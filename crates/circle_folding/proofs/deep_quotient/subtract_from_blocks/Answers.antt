@@ -4,7 +4,7 @@ use Rattle.std.proofs.lemmas.List.{length-map, length-take-le, get_or-map}
 use Rattle.circle_field.specs.Field.{sub}
 use Rattle.circle_point.specs.Point.{coordinates}
 use Rattle.circle_point.specs.declared.point.Point.{Point}
-use Rattle.circle_matrix.specs.DotProduct.{pairwise}
+use Rattle.circle_commit.specs.DotProduct.{pairwise}
 use Rattle.circle_domain.proofs.Layered.{block-more, block-end}
 use Rattle.circle_folding.specs.Blocks.{spread}
 use Rattle.circle_folding.proofs.BlockSums.{made-spread, block-fits}

@@ -1,7 +1,7 @@
 use Rattle.std.proofs.Common.{◌≡◌, ◌*◌, ◌++◌, map, take, drop}
 use Rattle.circle_field.specs.Field.{sub}
 use Rattle.circle_point.specs.Point.{coordinates}
-use Rattle.circle_matrix.specs.DotProduct.{pairwise}
+use Rattle.circle_commit.specs.DotProduct.{pairwise}
 use Rattle.circle_folding.specs.Blocks.{spread}
 use Rattle.circle_folding.proofs.deep_quotient.subtract_from_blocks.Given as goal
 

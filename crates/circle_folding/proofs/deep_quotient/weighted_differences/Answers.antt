@@ -1,7 +1,7 @@
 use Rattle.std.proofs.Common.{◌≡◌, ◌<◌, ◌∙◌, sym, ap, length, get_or, arith}
 use Rattle.circle_field.specs.Field.{sub}
-use Rattle.circle_matrix.proofs.Written.{length-pairwise, pairwise-read}
-use Rattle.circle_matrix.proofs.ColumnSums.{dot-more}
+use Rattle.circle_commit.proofs.Written.{length-pairwise, pairwise-read}
+use Rattle.circle_commit.proofs.ColumnSums.{dot-more}
 use Rattle.circle_folding.specs.Quotient.{differences}
 use Rattle.circle_folding.proofs.Weighted.{dot-take}
 use Rattle.circle_folding.proofs.deep_quotient.weighted_differences.Goals as goal

@@ -1,5 +1,5 @@
 use Rattle.std.proofs.Common.{◌≡◌, take}
-use Rattle.circle_matrix.specs.DotProduct.{dot}
+use Rattle.circle_commit.specs.DotProduct.{dot}
 use Rattle.circle_folding.specs.Quotient.{differences}
 use Rattle.circle_folding.proofs.deep_quotient.weighted_differences.Given as goal
 

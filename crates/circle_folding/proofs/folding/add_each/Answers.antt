@@ -1,6 +1,6 @@
 use Rattle.std.proofs.Common.{◌≡◌, ◌<◌, ◌∙◌, sym, ap, subst, length, slice_index_or, slice_set, arith}
-use Rattle.circle_matrix.proofs.Written.{written, written-read, written-more, written-all, length-pairwise, pairwise-read}
-use Rattle.circle_matrix.specs.DotProduct.{pairwise}
+use Rattle.circle_commit.proofs.Written.{written, written-read, written-more, written-all, length-pairwise, pairwise-read}
+use Rattle.circle_commit.specs.DotProduct.{pairwise}
 use Rattle.circle_folding.proofs.folding.add_each.Goals as goal
 
 pub bounds-others-i : goal.bounds-others-i

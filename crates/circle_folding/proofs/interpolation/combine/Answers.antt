@@ -1,7 +1,7 @@
 use Rattle.std.proofs.Common.{◌≡◌, ◌<◌, sym, ◌∙◌, ap, arith, length, slice_index_or, slice_set, refl}
 use Rattle.circle_field.specs.Field.{sub}
-use Rattle.circle_matrix.proofs.Written.{written, written-read, written-more, written-all, length-pairwise, pairwise-read}
-use Rattle.circle_matrix.specs.DotProduct.{pairwise}
+use Rattle.circle_commit.proofs.Written.{written, written-read, written-more, written-all, length-pairwise, pairwise-read}
+use Rattle.circle_commit.specs.DotProduct.{pairwise}
 use Rattle.circle_folding.proofs.interpolation.combine.Goals as goal
 
 pub loop-i-init : goal.loop-i-init

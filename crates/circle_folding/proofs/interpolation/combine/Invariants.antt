@@ -1,7 +1,7 @@
 use Rattle.std.proofs.Common.{◌≡◌}
 use Rattle.circle_field.specs.Field.{sub}
-use Rattle.circle_matrix.proofs.Written.{written}
-use Rattle.circle_matrix.specs.DotProduct.{pairwise}
+use Rattle.circle_commit.proofs.Written.{written}
+use Rattle.circle_commit.specs.DotProduct.{pairwise}
 use Rattle.circle_folding.proofs.interpolation.combine.Given as goal
 
 abbrev pub invariant-loop-i : goal.invariant-loop-i

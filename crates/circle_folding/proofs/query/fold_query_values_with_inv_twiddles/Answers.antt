@@ -1,6 +1,6 @@
 use Rattle.std.proofs.Common.{◌≡◌, ◌/◌, ◌^◌, ◌<◌, ◌∙◌, sym, ap, length, map, slice_index_or, slice_set, arith}
 use Rattle.std.proofs.lemmas.List.{get_or-map, length-map}
-use Rattle.circle_matrix.proofs.Written.{written, written-read, written-more, written-all}
+use Rattle.circle_commit.proofs.Written.{written, written-read, written-more, written-all}
 use Rattle.circle_folding.specs.Fold.{fold_pair, folds}
 use Rattle.circle_folding.specs.Chain.{asked_pairs, next_value}
 use Rattle.circle_folding.proofs.Queries.{folds-read, length-folds}

@@ -1,6 +1,6 @@
 use Rattle.std.proofs.Common.{◌≡◌, ◌≢◌, List, map}
 use Rattle.std.specs.Prelude.{All}
-use Rattle.circle_matrix.proofs.Written.{written}
+use Rattle.circle_commit.proofs.Written.{written}
 use Rattle.circle_folding.specs.Fold.{folds}
 use Rattle.circle_folding.specs.Chain.{asked_pairs}
 use Rattle.circle_folding.proofs.query.fold_query_values_with_inv_twiddles.Given as goal

@@ -1,8 +1,8 @@
 use Rattle.std.proofs.Common.{ℕ, ◌≡◌, ◌+◌, ◌/◌, ◌^◌, ◌<◌, ◌∙◌, sym, ap, length, slice_index_or, slice_set, arith}
 use Rattle.circle_field.specs.Field.{sub}
 use Rattle.circle_point.specs.Basis.{doubled_x}
-use Rattle.circle_matrix.proofs.Written.{written, written-read, written-more, written-all, length-pairwise, pairwise-read}
-use Rattle.circle_matrix.specs.DotProduct.{pairwise}
+use Rattle.circle_commit.proofs.Written.{written, written-read, written-more, written-all, length-pairwise, pairwise-read}
+use Rattle.circle_commit.specs.DotProduct.{pairwise}
 use Rattle.circle_folding.proofs.Queries.{signed, signed-even, signed-odd, next-twiddles}
 use Rattle.circle_folding.proofs.query.next_x_twiddles.Goals as goal
 use Rattle.circle_folding.proofs.query.next_x_twiddles.Goals.{then-pair-eq0, else-pair-eq0}

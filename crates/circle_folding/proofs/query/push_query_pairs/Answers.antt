@@ -1,8 +1,8 @@
 use Rattle.std.proofs.Common.{◌≡◌, ◌/◌, ◌^◌, ◌<◌, ◌++◌, [], ◌∷◌, ◌∙◌, List, Vec, Global, sym, ap, length, map, slice_index_or, slice_set, arith}
 use Rattle.std.proofs.lemmas.List.{map-append, map-set, length-map, get_or-map}
-use Rattle.circle_matrix.specs.Mmcs.{opened_rows}
-use Rattle.circle_matrix.proofs.Written.{written, written-read, written-more, written-all, length-pairwise, pairwise-read}
-use Rattle.circle_matrix.specs.DotProduct.{pairwise}
+use Rattle.circle_commit.specs.Mmcs.{opened_rows}
+use Rattle.circle_commit.proofs.Written.{written, written-read, written-more, written-all, length-pairwise, pairwise-read}
+use Rattle.circle_commit.specs.DotProduct.{pairwise}
 use Rattle.circle_folding.specs.Chain.{pair_of, asked_pairs}
 use Rattle.circle_folding.proofs.Queries.{length-asked_pairs, asked_pairs-read}
 use Rattle.circle_folding.proofs.query.push_query_pairs.Goals as goal

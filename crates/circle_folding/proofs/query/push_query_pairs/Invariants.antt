@@ -1,7 +1,7 @@
 use Rattle.std.proofs.Common.{◌≡◌, ◌++◌, [], ◌∷◌}
-use Rattle.circle_matrix.specs.Mmcs.{opened_rows}
-use Rattle.circle_matrix.proofs.Written.{written}
-use Rattle.circle_matrix.specs.DotProduct.{pairwise}
+use Rattle.circle_commit.specs.Mmcs.{opened_rows}
+use Rattle.circle_commit.proofs.Written.{written}
+use Rattle.circle_commit.specs.DotProduct.{pairwise}
 use Rattle.circle_folding.specs.Chain.{asked_pairs}
 use Rattle.circle_folding.proofs.query.push_query_pairs.Given as goal
 

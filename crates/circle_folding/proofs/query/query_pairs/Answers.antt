@@ -1,7 +1,7 @@
 use Rattle.std.proofs.Common.{◌≡◌, ℕ, ◌++◌, [], ◌∷◌, ◌∙◌, List, Vec, Global, sym, ap, length, map, take, drop}
 use Rattle.std.proofs.lemmas.List.{take_all, map-append, map_more, length-map}
-use Rattle.circle_matrix.specs.Mmcs.{opened_rows}
-use Rattle.circle_matrix.specs.DotProduct.{pairwise}
+use Rattle.circle_commit.specs.Mmcs.{opened_rows}
+use Rattle.circle_commit.specs.DotProduct.{pairwise}
 use Rattle.circle_field.proofs.Inverses.{take-whole}
 use Rattle.circle_folding.specs.Chain.{asked_pairs}
 use Rattle.circle_folding.proofs.FirstLayer.{pushed-onto_nothing}

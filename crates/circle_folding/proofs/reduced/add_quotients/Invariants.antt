@@ -1,9 +1,9 @@
 use Rattle.std.proofs.Common.{◌≡◌, ◌≢◌, ◌<◌, ℕ, map, slice_index_or}
 use Rattle.circle_field.specs.Circle.{lifted}
-use Rattle.circle_matrix.specs.Mmcs.{opened_rows}
+use Rattle.circle_commit.specs.Mmcs.{opened_rows}
 use Rattle.circle_point.specs.Point.{coordinates}
-use Rattle.circle_matrix.proofs.Written.{written}
-use Rattle.circle_matrix.specs.DotProduct.{pairwise}
+use Rattle.circle_commit.proofs.Written.{written}
+use Rattle.circle_commit.specs.DotProduct.{pairwise}
 use Rattle.circle_folding.specs.Quotient.{weighted_quotient}
 use Rattle.circle_folding.specs.Queries.{rows_of}
 use Rattle.circle_folding.proofs.reduced.add_quotients.Given as goal

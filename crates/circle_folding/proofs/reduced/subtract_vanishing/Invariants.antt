@@ -2,8 +2,8 @@ use Rattle.std.proofs.Common.{◌≡◌, map}
 use Rattle.circle_field.specs.Field.{sub}
 use Rattle.circle_point.specs.Point.{coordinates}
 use Rattle.circle_point.specs.Basis.{vanishing}
-use Rattle.circle_matrix.proofs.Written.{written}
-use Rattle.circle_matrix.specs.DotProduct.{pairwise}
+use Rattle.circle_commit.proofs.Written.{written}
+use Rattle.circle_commit.specs.DotProduct.{pairwise}
 use Rattle.circle_folding.proofs.reduced.subtract_vanishing.Given as goal
 
 abbrev pub invariant-loop-i : goal.invariant-loop-i

@@ -1,7 +1,7 @@
 use Rattle.std.proofs.Common.{◌++◌, ◌+◌, ◌∙◌, ◌<◌, [], refl, sym, subst, take, length, arith, get_or}
 use Rattle.std.proofs.lemmas.Option.{get_or_from_slice_get}
 use Rattle.sha2.specs.Hashers.{Holds256}
-use Rattle.circle_matrix.specs.declared.matrix.Dimensions.{Dimensions}
+use Rattle.circle_commit.specs.declared.matrix.Dimensions.{Dimensions}
 use Rattle.circle_merkle.specs.Rows.{bytes_of_height}
 use Rattle.circle_merkle.proofs.OpenedBytes.{opened-with, opened-without}
 use Rattle.circle_merkle.proofs.hashing.absorb_rows.Goals as goal

@@ -1,6 +1,6 @@
 use Rattle.std.proofs.Common.{◌^◌, ◌∙◌, ap, sym, arith}
-use Rattle.circle_matrix.specs.Mmcs.{row_at}
-use Rattle.circle_matrix.specs.MmcsFacts.{row_at-powers}
+use Rattle.circle_commit.specs.Mmcs.{row_at}
+use Rattle.circle_commit.specs.MmcsFacts.{row_at-powers}
 use Rattle.circle_merkle.proofs.Powers.{exponent_within}
 use Rattle.circle_merkle.proofs.mmcs.row_at.Goals as goal
 

@@ -1,8 +1,8 @@
 use Rattle.std.proofs.Common.{◌≡◌, ◌++◌, ◌∷◌, ◌∙◌, [], ap, sym, map, take, arith, get_or}
 use Rattle.std.proofs.lemmas.List.{map-append, take_all, take_more}
 use Rattle.std.proofs.lemmas.Option.{get_or_from_slice_get}
-use Rattle.circle_matrix.specs.RowMajorMatrix.{rows, height_of}
-use Rattle.circle_matrix.specs.Mmcs.{max_height, row_at}
+use Rattle.circle_commit.specs.RowMajorMatrix.{rows, height_of}
+use Rattle.circle_commit.specs.Mmcs.{max_height, row_at}
 use Rattle.circle_merkle.proofs.Heights.{max-power, power-at, bounded-at, row-at}
 use Rattle.circle_merkle.proofs.mmcs.rows_of.Goals as goal
 

@@ -1,6 +1,6 @@
 use Rattle.std.proofs.Common.{◌≡◌, [], map, take, get_or}
-use Rattle.circle_matrix.specs.RowMajorMatrix.{rows, height_of}
-use Rattle.circle_matrix.specs.Mmcs.{max_height, row_at}
+use Rattle.circle_commit.specs.RowMajorMatrix.{rows, height_of}
+use Rattle.circle_commit.specs.Mmcs.{max_height, row_at}
 use Rattle.circle_merkle.proofs.mmcs.rows_of.Given as goal
 
 abbrev pub invariant-loop-matrix : goal.invariant-loop-matrix

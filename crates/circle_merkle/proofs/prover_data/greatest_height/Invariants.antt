@@ -1,5 +1,5 @@
 use Rattle.std.proofs.Common.{◌≡◌, take}
-use Rattle.circle_matrix.specs.Mmcs.{max_height}
+use Rattle.circle_commit.specs.Mmcs.{max_height}
 use Rattle.circle_merkle.proofs.prover_data.greatest_height.Given as goal
 
 abbrev pub invariant-loop-matrix : goal.invariant-loop-matrix

@@ -2,7 +2,7 @@ use Rattle.std.proofs.Common.{◌≡◌, ◌<◌, ◌+◌, ◌-◌, ◌*◌, ◌
 use Rattle.std.specs.List.{range_with_len}
 use Rattle.std.proofs.lemmas.List.FromFn.{length-map-range_with_len}
 use Rattle.sha2.specs.Sha256.{sha256}
-use Rattle.circle_matrix.specs.Mmcs.{dimensions_of}
+use Rattle.circle_commit.specs.Mmcs.{dimensions_of}
 use Rattle.circle_merkle.specs.RowBytes.{matrix_bytes}
 use Rattle.circle_merkle.specs.Tree.{digest, rows_digest}
 use Rattle.circle_merkle.specs.Rows.{size_of, matrix_rows}

@@ -1,8 +1,8 @@
 use Rattle.std.proofs.Common.{◌≡◌, ◌<◌, ◌^◌, ◌∙◌, refl, sym, ap, subst, length, map, All, arith}
 use Rattle.std.proofs.lemmas.Bool.{false≢true}
 use Rattle.std.proofs.lemmas.List.{length-map}
-use Rattle.circle_matrix.specs.Matrix.{IsPowerOfTwo}
-use Rattle.circle_matrix.specs.Mmcs.{greatest, heights}
+use Rattle.circle_commit.specs.Matrix.{IsPowerOfTwo}
+use Rattle.circle_commit.specs.Mmcs.{greatest, heights}
 use Rattle.circle_merkle.specs.Tree.{taken_below}
 use Rattle.circle_merkle.specs.Order.{IsOrdered}
 use Rattle.circle_merkle.proofs.Ordered.{order-placed}

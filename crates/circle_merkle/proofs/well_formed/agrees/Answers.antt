@@ -1,8 +1,8 @@
 use Rattle.std.proofs.Common.{◌≡◌, ◌/◌, ◌∙◌, ◌<◌, ◌≤◌, ◌+◌, ℕ, [], refl, sym, ap, subst, length, map, get_or, arith, below_more}
 use Rattle.std.proofs.lemmas.Nat.{pow_pos}
 use Rattle.std.proofs.lemmas.List.{length-map, get_or-map}
-use Rattle.circle_matrix.specs.Mmcs.{greatest, heights, opened_rows}
-use Rattle.circle_matrix.specs.declared.matrix.Dimensions.{Dimensions}
+use Rattle.circle_commit.specs.Mmcs.{greatest, heights, opened_rows}
+use Rattle.circle_commit.specs.declared.matrix.Dimensions.{Dimensions}
 use Rattle.circle_merkle.specs.SamePosition.{NeighborsAgree}
 use Rattle.circle_merkle.proofs.Fits.{height-bounded, quotient-positive, height-at}
 use Rattle.circle_merkle.proofs.Neighbors.{agree-all, agree-neighbors}

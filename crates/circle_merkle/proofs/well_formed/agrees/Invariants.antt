@@ -1,5 +1,5 @@
 use Rattle.std.proofs.Common.{ℕ, ◌+◌, ◌<◌, ◌/◌, length, get_or}
-use Rattle.circle_matrix.specs.Mmcs.{heights, opened_rows}
+use Rattle.circle_commit.specs.Mmcs.{heights, opened_rows}
 use Rattle.circle_merkle.specs.SamePosition.{NeighborsAgree}
 use Rattle.circle_merkle.proofs.well_formed.agrees.Given as goal
 

@@ -1,8 +1,8 @@
 use Rattle.std.proofs.Common.{refl, subst, All}
 use Rattle.std.proofs.lemmas.List.{take_all}
 use Rattle.std.proofs.lemmas.List.Elements.{All-more}
-use Rattle.circle_matrix.specs.Matrix.{IsPowerOfTwo}
-use Rattle.circle_matrix.specs.declared.matrix.Dimensions.{Dimensions}
+use Rattle.circle_commit.specs.Matrix.{IsPowerOfTwo}
+use Rattle.circle_commit.specs.declared.matrix.Dimensions.{Dimensions}
 use Rattle.circle_merkle.proofs.well_formed.are_powers_of_two.Goals as goal
 
 pub loop-dim-preserved : goal.loop-dim-preserved

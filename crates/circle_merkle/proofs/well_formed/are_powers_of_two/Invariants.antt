@@ -1,5 +1,5 @@
 use Rattle.std.proofs.Common.{All, take}
-use Rattle.circle_matrix.specs.Matrix.{IsPowerOfTwo}
+use Rattle.circle_commit.specs.Matrix.{IsPowerOfTwo}
 use Rattle.circle_merkle.proofs.well_formed.are_powers_of_two.Given as goal
 
 abbrev pub invariant-loop-dim : goal.invariant-loop-dim

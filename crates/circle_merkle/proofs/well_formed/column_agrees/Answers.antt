@@ -1,6 +1,6 @@
 use Rattle.std.proofs.Common.{◌≡◌, ◌+◌, ◌-◌, ◌/◌, ◌<◌, ◌≤◌, ◌∙◌, ℕ, List, [], Vec, Global, refl, sym, ap, subst, get_or, length, vec_len, arith, below_more}
 use Rattle.std.proofs.lemmas.List.{get_or-map}
-use Rattle.circle_matrix.specs.Mmcs.{opened_rows}
+use Rattle.circle_commit.specs.Mmcs.{opened_rows}
 use Rattle.circle_merkle.specs.SamePosition.{row_of, NeighborsAgree}
 use Rattle.circle_merkle.proofs.Fits.{rows-at}
 use Rattle.circle_merkle.proofs.well_formed.column_agrees.Goals as goal

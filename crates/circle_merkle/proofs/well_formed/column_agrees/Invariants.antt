@@ -1,5 +1,5 @@
 use Rattle.std.proofs.Common.{ℕ, ◌+◌, ◌<◌}
-use Rattle.circle_matrix.specs.Mmcs.{opened_rows}
+use Rattle.circle_commit.specs.Mmcs.{opened_rows}
 use Rattle.circle_merkle.specs.SamePosition.{NeighborsAgree}
 use Rattle.circle_merkle.proofs.well_formed.column_agrees.Given as goal
 

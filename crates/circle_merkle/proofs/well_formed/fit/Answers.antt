@@ -1,6 +1,6 @@
 use Rattle.std.proofs.Common.{◌≡◌, ◌∙◌, ℕ, refl, sym, ap, length, map, get_or, arith, below_more}
 use Rattle.std.proofs.lemmas.List.{length-map, ext_get_or}
-use Rattle.circle_matrix.specs.declared.matrix.Dimensions.{Dimensions}
+use Rattle.circle_commit.specs.declared.matrix.Dimensions.{Dimensions}
 use Rattle.circle_merkle.proofs.Fits.{length-at, width-at}
 use Rattle.circle_merkle.proofs.well_formed.fit.Goals as goal
 

@@ -1,5 +1,5 @@
 use Rattle.std.proofs.Common.{◌<◌, ◌∙◌, sym, ap, length, arith}
-use Rattle.circle_matrix.proofs.Written.{mapped-more}
+use Rattle.circle_commit.proofs.Written.{mapped-more}
 use Rattle.circle_plane.proofs.cfft.scale.Goals as goal
 
 pub loop-entry-preserved : goal.loop-entry-preserved

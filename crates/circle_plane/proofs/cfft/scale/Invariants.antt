@@ -1,5 +1,5 @@
 use Rattle.std.proofs.Common.{◌≡◌, map}
-use Rattle.circle_matrix.proofs.Written.{written}
+use Rattle.circle_commit.proofs.Written.{written}
 use Rattle.circle_plane.proofs.cfft.scale.Given as goal
 
 abbrev pub invariant-loop-entry : goal.invariant-loop-entry

@@ -2,8 +2,8 @@ use Rattle.std.proofs.Common.{◌≡◌, ◌<◌, ◌∙◌, List, ap, arith, le
 use Rattle.std.specs.Borrow.{Bor}
 use Rattle.std.specs.Vec.{with_items}
 use Rattle.std.proofs.lemmas.List.{length-map, with_items_is}
-use Rattle.circle_matrix.proofs.Written.{written-all, length-pairwise, partnered-more}
-use Rattle.circle_matrix.specs.DotProduct.{pairwise}
+use Rattle.circle_commit.proofs.Written.{written-all, length-pairwise, partnered-more}
+use Rattle.circle_commit.specs.DotProduct.{pairwise}
 use Rattle.circle_domain.specs.declared.lagrange.LagrangeWeights.{LagrangeWeights}
 use Rattle.circle_plane.proofs.cfft.scale_each.Goals as goal
 

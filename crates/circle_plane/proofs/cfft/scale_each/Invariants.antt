@@ -1,6 +1,6 @@
 use Rattle.std.proofs.Common.{◌≡◌, map}
-use Rattle.circle_matrix.proofs.Written.{written}
-use Rattle.circle_matrix.specs.DotProduct.{pairwise}
+use Rattle.circle_commit.proofs.Written.{written}
+use Rattle.circle_commit.specs.DotProduct.{pairwise}
 use Rattle.circle_plane.proofs.cfft.scale_each.Given as goal
 
 abbrev pub invariant-loop-i : goal.invariant-loop-i

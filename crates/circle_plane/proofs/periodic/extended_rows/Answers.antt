@@ -5,7 +5,7 @@ use Rattle.std.proofs.lemmas.List.FromFn.{length-map-range_with_len}
 use Rattle.std.proofs.lemmas.Nat.{pow-add}
 use Rattle.std.proofs.lemmas.Result.{IfOk-weaker}
 use Rattle.circle_field.specs.Circle.{times}
-use Rattle.circle_matrix.specs.RowMajorMatrix.{rows, length-rows}
+use Rattle.circle_commit.specs.RowMajorMatrix.{rows, length-rows}
 use Rattle.circle_domain.specs.Values.{values_at}
 use Rattle.circle_domain.specs.Domain.{log_size, shift_of}
 use Rattle.circle_domain.specs.Order.{IsGenuine, natural_order}

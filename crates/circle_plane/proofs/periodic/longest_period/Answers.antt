@@ -1,7 +1,7 @@
 use Rattle.std.proofs.Common.{◌≡◌, ◌≤◌, ◌<◌, ◌∙◌, [], refl, sym, ap, subst, length, map, max, arith, get_or, All}
 use Rattle.std.proofs.lemmas.List.{length-map, get_or-map, take_all}
 use Rattle.std.proofs.lemmas.List.Elements.{All-more, All-nil}
-use Rattle.circle_matrix.specs.Mmcs.{greatest}
+use Rattle.circle_commit.specs.Mmcs.{greatest}
 use Rattle.circle_plane.specs.PeriodicColumns.{IsPeriod, IsFault, IsFirstFault}
 use Rattle.circle_plane.proofs.EachMore.{items-at}
 use Rattle.circle_plane.proofs.Periods.{greatest-more}

@@ -1,5 +1,5 @@
 use Rattle.std.proofs.Common.{◌≡◌, All, length, map, take}
-use Rattle.circle_matrix.specs.Mmcs.{greatest}
+use Rattle.circle_commit.specs.Mmcs.{greatest}
 use Rattle.circle_plane.specs.PeriodicColumns.{IsPeriod}
 use Rattle.circle_plane.proofs.periodic.longest_period.Given as goal
 

@@ -1,7 +1,7 @@
 use Rattle.std.proofs.Common.{◌≡◌, ◌+◌, ◌++◌, ◌∙◌, sym, ap, length, map, arith, add-one}
 use Rattle.std.specs.List.{range_with_len, flat_map}
 use Rattle.std.proofs.lemmas.List.{length-map}
-use Rattle.circle_matrix.specs.FlatRows.{flat-more, whole_rows, stored_rows}
+use Rattle.circle_commit.specs.FlatRows.{flat-more, whole_rows, stored_rows}
 use Rattle.circle_plane.specs.PeriodicRows.{table_row}
 use Rattle.circle_plane.proofs.PeriodicTables.{length-table_row}
 use Rattle.circle_plane.proofs.periodic.repeated_rows.Goals as goal

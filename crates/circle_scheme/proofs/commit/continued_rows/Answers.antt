@@ -1,14 +1,14 @@
 use Rattle.std.proofs.Common.{◌≡◌, ◌+◌, ◌*◌, ◌%◌, ◌^◌, ◌≤◌, length, take, ◌∙◌, sym, ap, subst, arith}
 use Rattle.std.proofs.lemmas.Result.{IfOk-weaker}
-use Rattle.circle_matrix.specs.RowMajorMatrix.{rows, width_of, height_of, length-rows}
-use Rattle.circle_matrix.specs.RowMajorMatrixView.{rows as view_rows, width_of as view_width}
+use Rattle.circle_commit.specs.RowMajorMatrix.{rows, width_of, height_of, length-rows}
+use Rattle.circle_commit.specs.RowMajorMatrixView.{rows as view_rows, width_of as view_width}
 use Rattle.circle_domain.specs.Domain.{log_size, shift_of}
 use Rattle.circle_domain.specs.Order.{IsGenuine}
 use Rattle.circle_domain.specs.Ordering.{other_order}
 use Rattle.circle_domain.proofs.Powers.{pow_within}
 use Rattle.circle_plane.specs.CircleEvaluations.{cfft_values}
-use Rattle.circle_words.proofs.Opened.{counted}
-use Rattle.circle_words.proofs.Prefix.{first-genuine}
+use Rattle.circle_codewords.proofs.Opened.{counted}
+use Rattle.circle_codewords.proofs.Prefix.{first-genuine}
 use Rattle.circle_scheme.proofs.Continued.{first-height, continued}
 use Rattle.circle_scheme.proofs.commit.continued_rows.Goals as goal
 

@@ -1,5 +1,5 @@
 use Rattle.std.proofs.Common.{◌+◌, ◌≤◌, ◌∙◌, sym, arith}
-use Rattle.circle_matrix.specs.RowMajorMatrix.{height_of}
+use Rattle.circle_commit.specs.RowMajorMatrix.{height_of}
 use Rattle.circle_domain.specs.Domain.{log_size}
 use Rattle.circle_scheme.proofs.CommitTests.{target-passed}
 use Rattle.circle_scheme.proofs.commit.evaluations_on.Goals as goal

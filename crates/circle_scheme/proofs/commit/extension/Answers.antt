@@ -1,5 +1,5 @@
 use Rattle.std.proofs.Common.{◌+◌, ◌^◌, ◌∙◌, ap, sym, subst}
-use Rattle.circle_matrix.specs.RowMajorMatrix.{width_of}
+use Rattle.circle_commit.specs.RowMajorMatrix.{width_of}
 use Rattle.circle_domain.specs.Domain.{log_size}
 use Rattle.circle_scheme.specs.Committing.{IsExtension}
 use Rattle.circle_scheme.proofs.Extended.{extended}

@@ -1,10 +1,10 @@
 use Rattle.std.proofs.Common.{◌*◌, ◌%◌, ◌^◌, ◌≤◌, length, take, ◌∙◌, sym, ap, arith}
-use Rattle.circle_matrix.specs.RowMajorMatrix.{rows, length-rows}
-use Rattle.circle_matrix.specs.RowMajorMatrixView.{rows as view_rows}
+use Rattle.circle_commit.specs.RowMajorMatrix.{rows, length-rows}
+use Rattle.circle_commit.specs.RowMajorMatrixView.{rows as view_rows}
 use Rattle.circle_domain.specs.Domain.{log_size, shift_of}
 use Rattle.circle_domain.proofs.Blocks.{cfft_order-prefix}
 use Rattle.circle_domain.proofs.Powers.{pow_within}
-use Rattle.circle_words.proofs.Opened.{counted}
+use Rattle.circle_codewords.proofs.Opened.{counted}
 use Rattle.circle_scheme.proofs.Continued.{first-height}
 use Rattle.circle_scheme.proofs.commit.first_rows.Goals as goal
 

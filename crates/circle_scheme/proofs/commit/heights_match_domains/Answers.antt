@@ -2,7 +2,7 @@ use Rattle.std.proofs.Common.{◌≡◌, ◌^◌, ◌∙◌, refl, sym, subst, A
 use Rattle.std.proofs.lemmas.Bool.{false≢true}
 use Rattle.std.proofs.lemmas.List.{take_all}
 use Rattle.std.proofs.lemmas.List.Elements.{All-more}
-use Rattle.circle_matrix.specs.RowMajorMatrix.{height_of}
+use Rattle.circle_commit.specs.RowMajorMatrix.{height_of}
 use Rattle.circle_domain.specs.Domain.{log_size}
 use Rattle.circle_scheme.proofs.CommitTests.{at-item}
 use Rattle.circle_scheme.proofs.commit.heights_match_domains.Goals as goal

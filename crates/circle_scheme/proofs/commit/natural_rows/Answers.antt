@@ -1,8 +1,8 @@
 use Rattle.std.proofs.Common.{◌≡◌, ◌∙◌, ap, arith}
 use Rattle.std.proofs.lemmas.List.{take_all}
 use Rattle.std.proofs.lemmas.Result.{IfOk-weaker}
-use Rattle.circle_matrix.specs.RowMajorMatrix.{rows, height_of, length-rows}
-use Rattle.circle_matrix.specs.RowMajorMatrixView.{rows as view_rows, height_of as view_height}
+use Rattle.circle_commit.specs.RowMajorMatrix.{rows, height_of, length-rows}
+use Rattle.circle_commit.specs.RowMajorMatrixView.{rows as view_rows, height_of as view_height}
 use Rattle.circle_domain.specs.Ordering.{other_order}
 use Rattle.circle_scheme.proofs.Continued.{first-height}
 use Rattle.circle_scheme.proofs.commit.natural_rows.Goals as goal

@@ -1,5 +1,5 @@
 use Rattle.std.proofs.Common.{◌+◌, ◌<◌, ◌≤◌, sym, ◌∙◌, arith}
-use Rattle.circle_matrix.specs.RowMajorMatrix.{height_of}
+use Rattle.circle_commit.specs.RowMajorMatrix.{height_of}
 use Rattle.circle_scheme.proofs.CommitTests.{height_small, height_large, height_fits}
 use Rattle.circle_scheme.proofs.commit.validate_height.Goals as goal
 

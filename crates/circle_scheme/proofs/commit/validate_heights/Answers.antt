@@ -1,13 +1,13 @@
 use Rattle.std.proofs.Common.{◌≡◌, ◌+◌, ◌<◌, ◌∙◌, List, drop, flat_map, length, sym, ap, arith}
 use Rattle.std.specs.Prelude.{Ok, Err}
 use Rattle.std.specs.Result.{result_and}
-use Rattle.circle_matrix.specs.declared.matrix.RowMajorMatrix.{RowMajorMatrix}
+use Rattle.circle_commit.specs.declared.matrix.RowMajorMatrix.{RowMajorMatrix}
 use Rattle.circle_relation.specs.declared.error.ProverError.{ProverError}
 use Rattle.circle_verifier.specs.Refusals.{Test, answer}
 use Rattle.circle_verifier.proofs.Answering.{refused-is}
 use Rattle.circle_scheme.specs.Committing.{height_tests}
-use Rattle.circle_matrix.specs.Matrix.{IsPowerOfTwo}
-use Rattle.circle_matrix.specs.RowMajorMatrix.{height_of}
+use Rattle.circle_commit.specs.Matrix.{IsPowerOfTwo}
+use Rattle.circle_commit.specs.RowMajorMatrix.{height_of}
 use Rattle.circle_scheme.proofs.CommitTests.{answer-item, at-item}
 use Rattle.circle_scheme.proofs.commit.validate_heights.Goals as goal
 

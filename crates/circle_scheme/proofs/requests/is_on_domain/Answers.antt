@@ -1,8 +1,8 @@
 use Rattle.std.proofs.Common.{sym, ◌∙◌, subst, arith}
-use Rattle.circle_matrix.specs.RowMajorMatrix.{height_of}
-use Rattle.circle_words.specs.Requests.{log_of}
+use Rattle.circle_commit.specs.RowMajorMatrix.{height_of}
+use Rattle.circle_codewords.specs.Requests.{log_of}
 use Rattle.circle_relation.specs.Accepts.{Fields}
-use Rattle.circle_words.specs.Values.{AreOff}
+use Rattle.circle_codewords.specs.Values.{AreOff}
 use Rattle.circle_scheme.proofs.OnDomain.{off-told}
 use Rattle.circle_scheme.proofs.requests.is_on_domain.Goals as goal
 

@@ -3,7 +3,7 @@ use Rattle.std.specs.Prelude.{◌≡◌, All, zip, true, false}
 use Rattle.std.specs.declared.alloc.Global.{Global}
 use Rattle.std.proofs.lemmas.List.{length_push}
 use Rattle.std.proofs.lemmas.Slice.Zip.{zip_turn, zip_end, length-zip}
-use Rattle.circle_matrix.specs.declared.matrix.RowMajorMatrix.{RowMajorMatrix}
+use Rattle.circle_commit.specs.declared.matrix.RowMajorMatrix.{RowMajorMatrix}
 use Rattle.circle_domain.specs.Selectors.{IsFinite}
 use Rattle.circle_relation.specs.Accepts.{Fields}
 use Rattle.circle_relation.proofs.Pairs.{pair-sources}

@@ -1,7 +1,7 @@
 use Rattle.std.proofs.Common.{Bool, Vec, true, false, refl, sym, ◌∙◌, ap, subst, arith}
 use Rattle.std.specs.Prelude.{◌≡◌, All}
 use Rattle.std.specs.declared.alloc.Global.{Global}
-use Rattle.circle_matrix.specs.declared.pcs.OpeningRequest.{OpeningRequest}
+use Rattle.circle_commit.specs.declared.pcs.OpeningRequest.{OpeningRequest}
 use Rattle.circle_domain.specs.Selectors.{IsFinite}
 use Rattle.circle_relation.specs.Accepts.{Fields}
 use Rattle.circle_scheme.specs.Requesting.{HasDomain, IsAtPoints, meets_domain}

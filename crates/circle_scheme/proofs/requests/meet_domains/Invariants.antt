@@ -1,6 +1,6 @@
 use Rattle.std.proofs.Common.{◌≡◌, Bool, false, take}
 use Rattle.std.specs.List.{list_any}
-use Rattle.circle_matrix.specs.declared.pcs.OpeningRequest.{OpeningRequest}
+use Rattle.circle_commit.specs.declared.pcs.OpeningRequest.{OpeningRequest}
 use Rattle.circle_relation.specs.Accepts.{Fields}
 use Rattle.circle_scheme.specs.Requesting.{meets_domain}
 use Rattle.circle_scheme.proofs.requests.meet_domains.Given as goal

@@ -1,7 +1,7 @@
 use Rattle.std.proofs.Common.{◌+◌, List, drop, flat_map, ap, sym, subst, ◌∙◌}
 use Rattle.std.specs.Result.{result_and}
-use Rattle.circle_matrix.specs.Mmcs.{HaveHeightsOfPowers}
-use Rattle.circle_matrix.specs.declared.pcs.OpeningRequest.{OpeningRequest}
+use Rattle.circle_commit.specs.Mmcs.{HaveHeightsOfPowers}
+use Rattle.circle_commit.specs.declared.pcs.OpeningRequest.{OpeningRequest}
 use Rattle.circle_relation.specs.declared.error.ProverError.{ProverError}
 use Rattle.circle_scheme.specs.Committing.{matrix_tests}
 use Rattle.circle_verifier.specs.Refusals.{Test, answer}

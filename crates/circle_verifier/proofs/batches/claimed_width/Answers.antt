@@ -1,5 +1,5 @@
 use Rattle.std.proofs.Common.{◌≡◌, ◌∙◌, List, [], ◌∷◌, Some, None, length, map, refl, ap, arith, slice_get, slice_index_or}
-use Rattle.circle_matrix.specs.declared.pcs.PointOpening.{PointOpening}
+use Rattle.circle_commit.specs.declared.pcs.PointOpening.{PointOpening}
 use Rattle.circle_relation.specs.StatementOf.{point_claim}
 use Rattle.circle_verifier.proofs.batches.claimed_width.Goals as goal
 

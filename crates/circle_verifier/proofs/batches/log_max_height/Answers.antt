@@ -2,7 +2,7 @@ use Rattle.std.proofs.Common.{rules, nat_cmp, ◌≡◌, ◌+◌, ◌<◌, ◌�
 use Rattle.std.specs.Prelude.{max}
 use Rattle.std.specs.Ordering.{ord_max}
 use Rattle.std.proofs.lemmas.List.{at_drop_more, at_drop_all}
-use Rattle.circle_matrix.specs.declared.pcs.MatrixOpening.{MatrixOpening}
+use Rattle.circle_commit.specs.declared.pcs.MatrixOpening.{MatrixOpening}
 use Rattle.circle_domain.specs.declared.domain.CircleDomain.{CircleDomain}
 use Rattle.circle_domain.specs.Domain.{log_size}
 use Rattle.circle_relation.specs.Statement.{log_max_height}

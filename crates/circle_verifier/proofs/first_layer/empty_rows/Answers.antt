@@ -1,6 +1,6 @@
 use Rattle.std.proofs.Common.{ℕ, ◌++◌, [], ◌∷◌, ◌∙◌, List, Vec, Global, sym, ap, map, take}
 use Rattle.std.proofs.lemmas.List.{map-append, map_more, take_all}
-use Rattle.circle_matrix.specs.Mmcs.{opened_rows}
+use Rattle.circle_commit.specs.Mmcs.{opened_rows}
 use Rattle.circle_verifier.proofs.first_layer.empty_rows.Goals as goal
 
 pub loop-preserved : goal.loop-preserved

@@ -1,5 +1,5 @@
 use Rattle.std.proofs.Common.{◌≡◌, [], map, take}
-use Rattle.circle_matrix.specs.Mmcs.{opened_rows}
+use Rattle.circle_commit.specs.Mmcs.{opened_rows}
 use Rattle.circle_verifier.proofs.first_layer.empty_rows.Given as goal
 
 abbrev pub invariant-loop : goal.invariant-loop

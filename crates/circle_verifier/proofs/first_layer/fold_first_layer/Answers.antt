@@ -7,7 +7,7 @@ use Rattle.std.proofs.lemmas.Iterator.Consumers.{YieldsList-turn, YieldsList-end
 use Rattle.std.proofs.lemmas.Result.{IfOk-from_err}
 use Rattle.circle_field.proofs.Inverses.{take-whole}
 use Rattle.circle_point.specs.Point.{coordinates}
-use Rattle.circle_matrix.specs.Mmcs.{opened_rows}
+use Rattle.circle_commit.specs.Mmcs.{opened_rows}
 use Rattle.circle_folding.specs.Queries.{query_point}
 use Rattle.circle_relation.specs.Accepts.{Fields}
 use Rattle.circle_relation.specs.RunOf.{heights_of, folded_words, joining_of, queried}

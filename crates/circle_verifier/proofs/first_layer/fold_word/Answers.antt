@@ -5,7 +5,7 @@ use Rattle.std.proofs.lemmas.List.{length-map}
 use Rattle.std.proofs.lemmas.Result.{IfOk-from_err}
 use Rattle.circle_field.proofs.Inverses.{take-whole}
 use Rattle.circle_point.specs.Point.{coordinates}
-use Rattle.circle_matrix.specs.Mmcs.{opened_rows}
+use Rattle.circle_commit.specs.Mmcs.{opened_rows}
 use Rattle.circle_folding.specs.Chain.{first_layer_twiddle}
 use Rattle.circle_folding.proofs.FirstLayer.{first_layer_twiddles-nonzero}
 use Rattle.circle_verifier.specs.FirstLayer.{with_pairs}

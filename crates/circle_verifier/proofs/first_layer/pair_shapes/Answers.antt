@@ -1,7 +1,7 @@
 use Rattle.std.proofs.Common.{◌≡◌, ◌-◌, ◌+◌, ◌^◌, ◌<◌, ◌∙◌, ℕ, List, [], ◌∷◌, ◌++◌, length, slice_index_or, sym, ap, map, take, arith}
 use Rattle.std.proofs.lemmas.Nat.{one_shl}
 use Rattle.std.proofs.lemmas.List.{take_all, map_more}
-use Rattle.circle_matrix.specs.declared.matrix.Dimensions.{Dimensions}
+use Rattle.circle_commit.specs.declared.matrix.Dimensions.{Dimensions}
 use Rattle.circle_verifier.specs.FirstLayer.{pair_shape}
 use Rattle.circle_verifier.proofs.first_layer.pair_shapes.Goals as goal
 

@@ -3,7 +3,7 @@ use Rattle.std.proofs.lemmas.List.{length-map, get_or-map, take_all}
 use Rattle.std.proofs.lemmas.List.Elements.{All-more, All-nil}
 use Rattle.std.proofs.lemmas.Option.{MatchOption-from_none}
 use Rattle.circle_field.specs.Circle.{origin}
-use Rattle.circle_matrix.specs.Mmcs.{opened_rows}
+use Rattle.circle_commit.specs.Mmcs.{opened_rows}
 use Rattle.circle_domain.specs.Selectors.{IsFinite}
 use Rattle.circle_point.specs.Point.{coordinates}
 use Rattle.circle_folding.specs.Queries.{rows_of}

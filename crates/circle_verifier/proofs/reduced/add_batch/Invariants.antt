@@ -1,6 +1,6 @@
 use Rattle.std.proofs.Common.{◌≡◌, length, map, take}
 use Rattle.circle_field.specs.Circle.{origin}
-use Rattle.circle_matrix.specs.Mmcs.{opened_rows}
+use Rattle.circle_commit.specs.Mmcs.{opened_rows}
 use Rattle.circle_point.specs.Point.{coordinates}
 use Rattle.circle_folding.specs.Quotient.{ArePowers}
 use Rattle.circle_relation.specs.StatementOf.{matrix_claims}

@@ -5,7 +5,7 @@ use Rattle.std.proofs.lemmas.List.Elements.{All-append, All-nil}
 use Rattle.std.proofs.lemmas.Slice.Zip.{length-zip}
 use Rattle.std.proofs.lemmas.Option.{MatchOption-from_none}
 use Rattle.circle_field.specs.Circle.{origin}
-use Rattle.circle_matrix.specs.Mmcs.{opened_rows}
+use Rattle.circle_commit.specs.Mmcs.{opened_rows}
 use Rattle.circle_domain.specs.Selectors.{IsFinite}
 use Rattle.circle_point.specs.Point.{coordinates}
 use Rattle.circle_relation.specs.Statement.{MatrixClaim, all_matrices, log_height}

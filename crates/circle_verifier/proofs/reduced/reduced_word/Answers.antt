@@ -5,7 +5,7 @@ use Rattle.std.proofs.lemmas.List.{length-map, length-replicate, get_or-replicat
 use Rattle.std.proofs.lemmas.Result.{IfOk-from_err}
 use Rattle.circle_field.specs.Circle.{origin}
 use Rattle.circle_point.specs.Point.{coordinates}
-use Rattle.circle_matrix.specs.declared.error.FriError.TheVariants.{Memory}
+use Rattle.circle_commit.specs.declared.error.FriError.TheVariants.{Memory}
 use Rattle.circle_folding.specs.Queries.{query_point}
 use Rattle.circle_relation.specs.Statement.{all_matrices}
 use Rattle.circle_relation.specs.Accepts.{Fields, top, at_queries, point_among}

@@ -1,6 +1,6 @@
 use Rattle.std.proofs.Common.{ℕ, ◌≤◌, le_trans, subst, length, All, arith}
 use Rattle.std.proofs.lemmas.List.{take_all}
-use Rattle.circle_matrix.specs.declared.pcs.PointOpening.{PointOpening}
+use Rattle.circle_commit.specs.declared.pcs.PointOpening.{PointOpening}
 use Rattle.circle_verifier.proofs.ReducedWidths.{wider-more}
 use Rattle.circle_verifier.proofs.reduced.width_of_matrix.Goals as goal
 

@@ -2,7 +2,7 @@ use Rattle.std.proofs.Common.{◌≡◌, ◌∙◌, ℕ, ◌+◌, ◌<◌, ◌�
 use Rattle.std.proofs.lemmas.List.{get_or_default, length-map}
 use Rattle.std.specs.List.{All}
 use Rattle.std.proofs.lemmas.Result.{IfOk-from_err}
-use Rattle.circle_matrix.specs.declared.error.FriError.TheVariants.{Memory}
+use Rattle.circle_commit.specs.declared.error.FriError.TheVariants.{Memory}
 use Rattle.circle_folding.specs.Chain.{round_twiddle, round_twiddles}
 use Rattle.circle_folding.proofs.Queries.{round_twiddles-nonzero}
 use Rattle.circle_relation.specs.Accepts.{Fields}

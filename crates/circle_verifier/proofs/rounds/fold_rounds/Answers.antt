@@ -2,7 +2,7 @@ use Rattle.std.proofs.Common.{◌≡◌, ◌+◌, ◌-◌, [], ◌∷◌, ◌∙
 use Rattle.std.proofs.lemmas.List.{map-append, length-map}
 use Rattle.std.proofs.lemmas.Result.{IfOk-from_err}
 use Rattle.circle_field.proofs.Inverses.{take-whole}
-use Rattle.circle_matrix.specs.declared.error.FriError.TheVariants.{Memory}
+use Rattle.circle_commit.specs.declared.error.FriError.TheVariants.{Memory}
 use Rattle.circle_relation.specs.RunOf.{joining_of, Refuses}
 use Rattle.circle_relation.specs.Reasons.{IsReason}
 use Rattle.circle_verifier.specs.Rounds.{inverses_from, values_in}

@@ -1,6 +1,6 @@
 use Rattle.std.proofs.Common.{◌+◌, ◌≤◌, ◌∷◌, [], ◌∙◌, sym, ap, length, map, arith}
 use Rattle.std.proofs.lemmas.List.{map-append, length-map}
-use Rattle.circle_matrix.specs.DotProduct.{pairwise}
+use Rattle.circle_commit.specs.DotProduct.{pairwise}
 use Rattle.circle_relation.specs.Accepts.{Fields}
 use Rattle.circle_relation.specs.RunOf.{joining_of}
 use Rattle.circle_verifier.specs.Rounds.{folds_in}

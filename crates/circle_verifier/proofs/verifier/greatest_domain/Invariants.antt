@@ -1,6 +1,6 @@
 use Rattle.std.proofs.Common.{◌≡◌, drop}
 use Rattle.std.specs.Prelude.{max}
-use Rattle.circle_matrix.specs.Mmcs.{greatest}
+use Rattle.circle_commit.specs.Mmcs.{greatest}
 use Rattle.circle_verifier.specs.Refusals.{answer, domain_tests}
 use Rattle.circle_relation.specs.Statement.{all_matrices, log_sizes}
 use Rattle.circle_relation.specs.StatementOf.{batch_claims}

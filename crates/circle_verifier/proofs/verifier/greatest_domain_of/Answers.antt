@@ -5,9 +5,9 @@ use Rattle.std.specs.Ordering.{ord_max}
 use Rattle.std.specs.Prelude.{max}
 use Rattle.circle_domain.specs.Domain.{log_size}
 use Rattle.circle_domain.specs.declared.domain.CircleDomain.{CircleDomain}
-use Rattle.circle_matrix.specs.Mmcs.{greatest}
-use Rattle.circle_matrix.specs.declared.error.FriError.TheVariants.{InputError as OfInput}
-use Rattle.circle_matrix.specs.declared.pcs.MatrixOpening.{MatrixOpening}
+use Rattle.circle_commit.specs.Mmcs.{greatest}
+use Rattle.circle_commit.specs.declared.error.FriError.TheVariants.{InputError as OfInput}
+use Rattle.circle_commit.specs.declared.pcs.MatrixOpening.{MatrixOpening}
 use Rattle.circle_relation.specs.Statement.{log_sizes}
 use Rattle.circle_relation.specs.StatementOf.{matrix_claims}
 use Rattle.circle_relation.specs.declared.error.InputError.TheVariants.{DomainTooSmall}

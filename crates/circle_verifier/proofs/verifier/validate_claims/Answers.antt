@@ -1,5 +1,5 @@
 use Rattle.std.proofs.Common.{◌≡◌, ◌+◌, ◌<◌, ◌≤◌, sym, ap, ◌∙◌, arith, Ok, Err}
-use Rattle.circle_matrix.specs.declared.error.FriError.TheVariants.{GlobalMaxHeightTooLarge}
+use Rattle.circle_commit.specs.declared.error.FriError.TheVariants.{GlobalMaxHeightTooLarge}
 use Rattle.circle_relation.specs.Statement.{all_matrices, log_sizes, log_max_height}
 use Rattle.circle_relation.specs.StatementOf.{batch_claims}
 use Rattle.circle_verifier.proofs.Answering.{refused-is}

@@ -1,6 +1,6 @@
 use Rattle.std.proofs.Common.{◌≡◌, [], ◌∷◌, Ok, Err, sym, ap, ◌∙◌}
-use Rattle.circle_matrix.specs.declared.error.FriError.TheVariants.{PointAtInfinity}
-use Rattle.circle_matrix.specs.declared.params.PowPhase.TheVariants.{Batch}
+use Rattle.circle_commit.specs.declared.error.FriError.TheVariants.{PointAtInfinity}
+use Rattle.circle_commit.specs.declared.params.PowPhase.TheVariants.{Batch}
 use Rattle.circle_verifier.specs.Refusals.{answer, witness_test}
 use Rattle.circle_verifier.proofs.Answering.{refused-is}
 use Rattle.circle_verifier.proofs.HeightTests.{skipped, refusing, answer-none}

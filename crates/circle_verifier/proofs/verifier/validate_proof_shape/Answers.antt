@@ -1,8 +1,8 @@
 use Rattle.std.proofs.Common.{◌≡◌, [], ◌∷◌, Ok, Err, not, ◌==◌, false, length, map, vec_len, sym, ap, ◌∙◌}
 use Rattle.std.proofs.lemmas.List.{length-map}
 use Rattle.std.specs.List.{list_all}
-use Rattle.circle_matrix.specs.declared.error.FriError.TheVariants.{CommitPowWitnessCountMismatch, CommitPhaseOpeningsCountMismatch}
-use Rattle.circle_matrix.specs.declared.params.PowPhase.TheVariants.{CommitPhase, Query}
+use Rattle.circle_commit.specs.declared.error.FriError.TheVariants.{CommitPowWitnessCountMismatch, CommitPhaseOpeningsCountMismatch}
+use Rattle.circle_commit.specs.declared.params.PowPhase.TheVariants.{CommitPhase, Query}
 use Rattle.circle_verifier.specs.Refusals.{answer, witness_test, rounds_tests}
 use Rattle.circle_verifier.proofs.Answering.{answer-fifth, not_different, refused-is}
 use Rattle.circle_verifier.proofs.ShapeTests.{different, second_refuses, third_refuses, fourth_refuses, fifth_refuses}

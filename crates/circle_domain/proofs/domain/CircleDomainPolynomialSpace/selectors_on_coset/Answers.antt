@@ -7,7 +7,7 @@ use Rattle.circle_point.specs.Point.{coordinates}
 use Rattle.circle_point.specs.declared.point.Point.{Point}
 use Rattle.circle_domain.specs.Clear.{IsClearOf}
 use Rattle.circle_domain.specs.Domain.{log_size, shift_of}
-use Rattle.circle_matrix.specs.DotProduct.{pairwise}
+use Rattle.circle_commit.specs.DotProduct.{pairwise}
 use Rattle.circle_domain.specs.Order.{natural_order}
 use Rattle.circle_domain.specs.Selectors.{vanishing_on, zero_at, normaliser, first_row, last_row}
 use Rattle.circle_domain.proofs.Reciprocals.{normaliser-nonzero, vanishing-nonzero, clear-first, clear-last}

@@ -4,9 +4,9 @@ use Rattle.std.proofs.lemmas.List.{map-append}
 use Rattle.std.proofs.lemmas.List.Elements.{All-push}
 use Rattle.std.proofs.lemmas.List.FromFn.{map-range_with_len_more}
 use Rattle.std.proofs.lemmas.Nat.{pow_pos}
-use Rattle.circle_matrix.specs.Matrix.{mapped_rows}
-use Rattle.circle_matrix.specs.RowMajorMatrix.{rows, width_of, height_of, length-rows}
-use Rattle.circle_matrix.specs.declared.matrix.RowMajorMatrix.{RowMajorMatrix}
+use Rattle.circle_commit.specs.Matrix.{mapped_rows}
+use Rattle.circle_commit.specs.RowMajorMatrix.{rows, width_of, height_of, length-rows}
+use Rattle.circle_commit.specs.declared.matrix.RowMajorMatrix.{RowMajorMatrix}
 use Rattle.circle_domain.specs.Domain.{log_size, shift_of}
 use Rattle.circle_domain.specs.Splitting.{place_of}
 use Rattle.circle_domain.proofs.PartPlaces.{part_height}

@@ -1,7 +1,7 @@
 use Rattle.std.proofs.Common.{◌≡◌, ◌/◌, All, map}
 use Rattle.std.specs.List.{range_with_len}
-use Rattle.circle_matrix.specs.Matrix.{mapped_rows}
-use Rattle.circle_matrix.specs.RowMajorMatrix.{rows, width_of, height_of}
+use Rattle.circle_commit.specs.Matrix.{mapped_rows}
+use Rattle.circle_commit.specs.RowMajorMatrix.{rows, width_of, height_of}
 use Rattle.circle_domain.specs.Splitting.{place_of}
 use Rattle.circle_domain.proofs.domain.CircleDomainPolynomialSpace.split_evals.Given as goal
 

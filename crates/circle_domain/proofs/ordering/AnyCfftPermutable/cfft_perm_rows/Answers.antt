@@ -1,6 +1,6 @@
 use Rattle.std.proofs.Common.{◌≡◌, ◌^◌, ◌<◌, ◌∙◌, sym, ap, subst}
 use Rattle.circle_domain.specs.CfftPerm.{log_height_of}
-use Rattle.circle_matrix.specs.Matrix.{IsPowerOfTwo, mapped_rows}
+use Rattle.circle_commit.specs.Matrix.{IsPowerOfTwo, mapped_rows}
 use Rattle.circle_domain.specs.Ordering.{cfft_index}
 use Rattle.circle_domain.proofs.Reversal.{cfft_index-below}
 use Rattle.circle_domain.proofs.ordering.AnyCfftPermutable.cfft_perm_rows.Goals as goal

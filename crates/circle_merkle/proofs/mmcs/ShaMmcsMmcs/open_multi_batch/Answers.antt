@@ -2,9 +2,9 @@ use Rattle.std.proofs.Common.{◌≡◌, ◌<◌, ◌++◌, ◌∷◌, [], ◌�
 use Rattle.std.proofs.lemmas.List.{take_all, map_push, map_more}
 use Rattle.std.proofs.lemmas.List.Elements.{All-same}
 use Rattle.sha2.specs.Sha256.{sha256}
-use Rattle.circle_matrix.specs.Matrix.{IsPowerOfTwo}
-use Rattle.circle_matrix.specs.RowMajorMatrix.{height_of}
-use Rattle.circle_matrix.specs.Mmcs.{dimensions_of, max_height, rows_at, rows_at_each, opened_rows}
+use Rattle.circle_commit.specs.Matrix.{IsPowerOfTwo}
+use Rattle.circle_commit.specs.RowMajorMatrix.{height_of}
+use Rattle.circle_commit.specs.Mmcs.{dimensions_of, max_height, rows_at, rows_at_each, opened_rows}
 use Rattle.circle_merkle.specs.Authentication.{Authenticates}
 use Rattle.circle_merkle.specs.ProverData.{matrices_of, level_count, some_matrix, powers_of_two}
 use Rattle.circle_merkle.proofs.Completeness.{authenticates-honest}

@@ -1,5 +1,5 @@
 use Rattle.std.proofs.Common.{◌≡◌, take}
-use Rattle.circle_matrix.specs.Mmcs.{rows_at_each, opened_rows}
+use Rattle.circle_commit.specs.Mmcs.{rows_at_each, opened_rows}
 use Rattle.circle_merkle.specs.ProverData.{matrices_of}
 use Rattle.circle_merkle.proofs.mmcs.ShaMmcsMmcs.open_multi_batch.Given as goal
 

@@ -1,6 +1,6 @@
 use Rattle.sha2.specs.Sha256.{sha256}
 use Rattle.std.proofs.Common.{IfErr, subst, List, ℕ}
-use Rattle.circle_matrix.specs.Mmcs.{opened_rows}
+use Rattle.circle_commit.specs.Mmcs.{opened_rows}
 use Rattle.circle_merkle.specs.Verdict.{IsFirstRefusal}
 use Rattle.circle_merkle.proofs.Refusals.{refused-first}
 use Rattle.circle_merkle.proofs.mmcs.ShaMmcsMmcs.verify_multi_batch.Goals as goal

@@ -1,9 +1,9 @@
 use Rattle.std.proofs.Common.{◌≤◌, ℕ, List, Vec, Global, All, ◌≡◌, ◌+◌, ◌-◌, ◌^◌, ◌<◌, ◌∙◌, ◌∷◌, [], refl, ap, sym, map, length, vec_len, arith, get_or}
 use Rattle.sha2.specs.Sha256.{sha256}
-use Rattle.circle_matrix.specs.Matrix.{IsPowerOfTwo}
-use Rattle.circle_matrix.specs.declared.matrix.RowMajorMatrix.{RowMajorMatrix}
-use Rattle.circle_matrix.specs.RowMajorMatrix.{height_of}
-use Rattle.circle_matrix.specs.Mmcs.{max_height}
+use Rattle.circle_commit.specs.Matrix.{IsPowerOfTwo}
+use Rattle.circle_commit.specs.declared.matrix.RowMajorMatrix.{RowMajorMatrix}
+use Rattle.circle_commit.specs.RowMajorMatrix.{height_of}
+use Rattle.circle_commit.specs.Mmcs.{max_height}
 use Rattle.circle_merkle.specs.PowerTest.{power_passes}
 use Rattle.circle_merkle.specs.Tree.{digest}
 use Rattle.circle_merkle.specs.Rows.{matrix_rows}

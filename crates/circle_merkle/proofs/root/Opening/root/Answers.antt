@@ -1,6 +1,6 @@
 use Rattle.std.proofs.Common.{◌≡◌, ◌+◌, ◌^◌, ◌<◌, ◌∙◌, refl, ap, sym, subst, length, drop, map, add-one, arith, All, get_or}
 use Rattle.sha2.specs.Sha256.{sha256}
-use Rattle.circle_matrix.specs.Mmcs.{opened_rows}
+use Rattle.circle_commit.specs.Mmcs.{opened_rows}
 use Rattle.circle_merkle.specs.Tree.{taken_below}
 use Rattle.circle_merkle.specs.Walk.{siblings_of}
 use Rattle.circle_merkle.specs.Climb.{climbed, positions_of}

@@ -4,7 +4,7 @@ use Rattle.std.proofs.Math.ListN.{get_or-eq_default}
 use Rattle.std.proofs.lemmas.Bool.{ltb-false}
 use Rattle.std.proofs.lemmas.List.{length-map}
 use Rattle.sha2.specs.Sha256.{sha256}
-use Rattle.circle_matrix.specs.Mmcs.{opened_rows}
+use Rattle.circle_commit.specs.Mmcs.{opened_rows}
 use Rattle.circle_merkle.specs.Rows.{bytes_of_height, size_of}
 use Rattle.circle_merkle.specs.Tree.{rows_digest}
 use Rattle.circle_merkle.proofs.OpenedBytes.{bytes-none}

@@ -3,9 +3,9 @@ use Rattle.std.proofs.Math.Nat.{mul-le-mul_right}
 use Rattle.std.proofs.lemmas.List.{take-map, length-take-le}
 use Rattle.std.proofs.lemmas.Nat.{pow_pos}
 use Rattle.circle_field.proofs.Inverses.{take-whole}
-use Rattle.circle_matrix.specs.Matrix.{rows_from, column}
-use Rattle.circle_matrix.specs.RowFacts.{length-rows_from}
-use Rattle.circle_matrix.specs.RowMajorMatrix.{rows, width_of, height_of, values_of, length-rows, length-values}
+use Rattle.circle_commit.specs.Matrix.{rows_from, column}
+use Rattle.circle_commit.specs.RowFacts.{length-rows_from}
+use Rattle.circle_commit.specs.RowMajorMatrix.{rows, width_of, height_of, values_of, length-rows, length-values}
 use Rattle.circle_point.specs.Basis.{value}
 use Rattle.circle_domain.specs.Values.{values_at}
 use Rattle.circle_domain.specs.Domain.{log_size, shift_of}
@@ -18,12 +18,12 @@ use Rattle.circle_domain.proofs.CosetOrder.{other_order-points}
 use Rattle.circle_domain.proofs.Powers.{pow_order, pow_injective}
 use Rattle.circle_domain.proofs.Stored.{whole, height, rows-values, stored-wide}
 use Rattle.circle_domain.proofs.Twiddles.{length-layer_factors, made-count}
-use Rattle.circle_transform.specs.Butterflies.{plus_multiple, minus_multiple}
-use Rattle.circle_transform.specs.Passes.{factors_at, descending, to_values}
+use Rattle.circle_cfft.specs.Butterflies.{plus_multiple, minus_multiple}
+use Rattle.circle_cfft.specs.Passes.{factors_at, descending, to_values}
 use Rattle.circle_plane.specs.CircleEvaluations.{cfft_values}
 use Rattle.circle_plane.specs.Coefficients.{Evaluates}
 use Rattle.circle_plane.proofs.Transformed.{evaluated}
-use Rattle.circle_transform.specs.Butterflies.{count_of}
+use Rattle.circle_cfft.specs.Butterflies.{count_of}
 use Rattle.circle_plane.proofs.AllLayers.{halved, length-take-at-most, layer-entries, factors-taken, shifted, copied-long}
 use Rattle.circle_plane.proofs.cfft.CircleEvaluations+F+RowMajorMatrix+F.evaluate_grouped.Goals as goal
 

@@ -1,5 +1,5 @@
 use Rattle.std.proofs.Common.{◌∙◌, sym, ap, length}
-use Rattle.circle_matrix.specs.RowMajorMatrix.{rows, length-rows}
+use Rattle.circle_commit.specs.RowMajorMatrix.{rows, length-rows}
 use Rattle.circle_plane.proofs.cfft.CircleEvaluations+F+RowMajorMatrix+F.try_clone.Goals as goal
 
 pub from_cfft_order-requires-clause-size : goal.from_cfft_order-requires-clause-size

@@ -2,9 +2,9 @@ use Rattle.std.proofs.Common.{◌≡◌, ◌∙◌, List, sym, ap, subst, arith,
 use Rattle.std.specs.Borrow.{Bor}
 use Rattle.std.specs.List.{AllZip, range_with_len}
 use Rattle.std.proofs.lemmas.List.{length-map, with_items_is}
-use Rattle.circle_matrix.specs.Matrix.{column}
-use Rattle.circle_matrix.specs.DotProduct.{dot, pairwise}
-use Rattle.circle_matrix.proofs.ColumnSums.{pairwise-own}
+use Rattle.circle_commit.specs.Matrix.{column}
+use Rattle.circle_commit.specs.DotProduct.{dot, pairwise}
+use Rattle.circle_commit.proofs.ColumnSums.{pairwise-own}
 use Rattle.circle_domain.specs.Domain.{log_size, shift_of}
 use Rattle.circle_domain.specs.declared.lagrange.LagrangeWeights.{LagrangeWeights}
 use Rattle.circle_domain.proofs.Coefficients.{rows-told}

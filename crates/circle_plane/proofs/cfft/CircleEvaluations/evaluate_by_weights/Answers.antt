@@ -1,9 +1,9 @@
 use Rattle.std.proofs.Common.{◌≡◌, ◌∙◌, sym, ap, arith, length, map}
 use Rattle.std.specs.List.{range_with_len}
 use Rattle.circle_field.proofs.Inverses.{take-whole}
-use Rattle.circle_matrix.specs.Matrix.{column}
+use Rattle.circle_commit.specs.Matrix.{column}
 use Rattle.circle_domain.specs.Domain.{log_size, shift_of}
-use Rattle.circle_matrix.specs.DotProduct.{dot}
+use Rattle.circle_commit.specs.DotProduct.{dot}
 use Rattle.circle_domain.proofs.Coefficients.{rows-told}
 use Rattle.circle_domain.proofs.OffDomain.{columns-values}
 use Rattle.circle_plane.proofs.cfft.CircleEvaluations.evaluate_by_weights.Goals as goal

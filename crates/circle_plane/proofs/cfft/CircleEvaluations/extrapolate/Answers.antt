@@ -1,5 +1,5 @@
 use Rattle.std.proofs.Common.{◌≡◌, ◌^◌, ◌≤◌, ◌∙◌, ap, map, arith}
-use Rattle.circle_matrix.specs.RowMajorMatrix.{rows, width_of}
+use Rattle.circle_commit.specs.RowMajorMatrix.{rows, width_of}
 use Rattle.circle_domain.specs.Values.{values_at}
 use Rattle.circle_plane.specs.CircleEvaluations.{cfft_values}
 use Rattle.circle_plane.specs.Coefficients.{BeginsWithSmaller}

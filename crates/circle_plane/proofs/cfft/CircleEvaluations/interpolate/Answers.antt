@@ -4,9 +4,9 @@ use Rattle.std.proofs.lemmas.List.{length-map}
 use Rattle.std.proofs.lemmas.Nat.{pow_pos}
 use Rattle.circle_field.specs.Field.{two, nth_power}
 use Rattle.circle_field.proofs.Inverses.{take-whole}
-use Rattle.circle_matrix.specs.Matrix.{rows_from, column}
-use Rattle.circle_matrix.specs.RowFacts.{length-rows_from}
-use Rattle.circle_matrix.specs.RowMajorMatrix.{rows, width_of, height_of, values_of, length-rows, rows-width, length-values}
+use Rattle.circle_commit.specs.Matrix.{rows_from, column}
+use Rattle.circle_commit.specs.RowFacts.{length-rows_from}
+use Rattle.circle_commit.specs.RowMajorMatrix.{rows, width_of, height_of, values_of, length-rows, rows-width, length-values}
 use Rattle.circle_point.specs.Basis.{value}
 use Rattle.circle_domain.specs.Domain.{log_size, shift_of}
 use Rattle.circle_domain.specs.Order.{cfft_order, natural_order}
@@ -19,8 +19,8 @@ use Rattle.circle_domain.proofs.Told.{values-tell}
 use Rattle.circle_domain.proofs.CosetOrder.{other_order-points}
 use Rattle.circle_domain.proofs.Stored.{whole, height, rows-values, column-values}
 use Rattle.circle_domain.proofs.Twiddles.{length-layer_factors, made-count}
-use Rattle.circle_transform.specs.Butterflies.{total, scaled_difference}
-use Rattle.circle_transform.specs.Passes.{factors_at, ascending, to_coefficients}
+use Rattle.circle_cfft.specs.Butterflies.{total, scaled_difference}
+use Rattle.circle_cfft.specs.Passes.{factors_at, ascending, to_coefficients}
 use Rattle.circle_plane.proofs.AllLayers.{factors-made, layer-entries}
 use Rattle.circle_plane.proofs.Transformed.{holds-rows, interpolated}
 use Rattle.circle_plane.proofs.cfft.CircleEvaluations.interpolate.Goals as goal

@@ -1,7 +1,7 @@
 use Rattle.std.proofs.Common.{◌≡◌, ◌<◌, ◌≤◌, ◌+◌, ◌-◌, ◌^◌, ◌++◌, ◌∙◌, [], ◌∷◌, ℕ, List, sym, ap, subst, length, map, arith, get_or, length-append}
 use Rattle.std.proofs.lemmas.List.{length-map}
 use Rattle.circle_field.specs.Circle.{times}
-use Rattle.circle_matrix.specs.Matrix.{IsPowerOfTwo}
+use Rattle.circle_commit.specs.Matrix.{IsPowerOfTwo}
 use Rattle.circle_point.specs.Projective.{from_line}
 use Rattle.circle_domain.specs.Clear.{IsClearOf}
 use Rattle.circle_domain.specs.Domain.{log_size, shift_of}

@@ -3,8 +3,8 @@ use Rattle.std.proofs.lemmas.Bool.{eqb-false, eqb-true}
 use Rattle.std.proofs.lemmas.List.{length-map, nil_from_length}
 use Rattle.std.proofs.lemmas.List.FromFn.{length-map-range_with_len}
 use Rattle.std.proofs.lemmas.Nat.{pow_pos}
-use Rattle.circle_matrix.specs.Mmcs.{greatest}
-use Rattle.circle_matrix.specs.RowMajorMatrix.{rows, height_of, length-rows}
+use Rattle.circle_commit.specs.Mmcs.{greatest}
+use Rattle.circle_commit.specs.RowMajorMatrix.{rows, height_of, length-rows}
 use Rattle.circle_domain.specs.Domain.{log_size, shift_of}
 use Rattle.circle_plane.specs.PeriodicColumns.{columns_of, IsPeriod, IsFirstFault, IsRefusal}
 use Rattle.circle_plane.specs.PeriodicRows.{AreExtended, table_row}

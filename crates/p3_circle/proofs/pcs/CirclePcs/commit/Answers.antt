@@ -1,6 +1,6 @@
 use Rattle.std.proofs.Common.{rules, ◌≡◌, ◌==◌, ◌≤◌, length, true, false, Ok, sym, subst, ◌∙◌, arith}
 use Rattle.std.proofs.lemmas.Slice.Zip.{AllZip-long}
-use Rattle.circle_matrix.specs.Mmcs.{HaveHeightsOfPowers}
+use Rattle.circle_commit.specs.Mmcs.{HaveHeightsOfPowers}
 use Rattle.circle_scheme.specs.Committing.{commit_tests, evaluation_tests, IsExtension}
 use Rattle.circle_relation.specs.declared.error.ProverError.TheVariants.{NoCommittedMatrices}
 use Rattle.circle_scheme.proofs.Extended.{extensions-heights}

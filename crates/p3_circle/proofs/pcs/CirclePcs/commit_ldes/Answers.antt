@@ -1,5 +1,5 @@
 use Rattle.std.proofs.Common.{rules, ◌≡◌, ◌==◌, length, true, false, sym, subst, ap, ◌∙◌, Ok}
-use Rattle.circle_matrix.specs.Mmcs.{HaveHeightsOfPowers}
+use Rattle.circle_commit.specs.Mmcs.{HaveHeightsOfPowers}
 use Rattle.circle_scheme.specs.Committing.{lde_tests, matrix_tests}
 use Rattle.circle_relation.specs.declared.error.ProverError.TheVariants.{NoCommittedMatrices}
 use Rattle.circle_verifier.specs.Refusals.{answer}

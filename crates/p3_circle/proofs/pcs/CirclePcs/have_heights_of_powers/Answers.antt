@@ -2,7 +2,7 @@ use Rattle.std.proofs.Common.{◌∙◌, refl, sym, subst, All}
 use Rattle.std.proofs.lemmas.Bool.{false≢true}
 use Rattle.std.proofs.lemmas.List.{take_all}
 use Rattle.std.proofs.lemmas.List.Elements.{All-more}
-use Rattle.circle_matrix.specs.Mmcs.{HaveHeightsOfPowers}
+use Rattle.circle_commit.specs.Mmcs.{HaveHeightsOfPowers}
 use Rattle.circle_scheme.proofs.CommitTests.{at-item}
 use Rattle.p3_circle.proofs.pcs.CirclePcs.have_heights_of_powers.Goals as goal
 

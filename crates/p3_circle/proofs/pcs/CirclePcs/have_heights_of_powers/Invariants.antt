@@ -1,5 +1,5 @@
 use Rattle.std.proofs.Common.{All, take}
-use Rattle.circle_matrix.specs.Mmcs.{HaveHeightsOfPowers}
+use Rattle.circle_commit.specs.Mmcs.{HaveHeightsOfPowers}
 use Rattle.p3_circle.proofs.pcs.CirclePcs.have_heights_of_powers.Given as goal
 
 -- the matrices of the requests so far have such heights

@@ -2,10 +2,10 @@ use Rattle.std.proofs.Common.{◌∙◌, All, sym, subst, arith}
 use Rattle.std.proofs.lemmas.Nat.{pow_pos}
 use Rattle.circle_challenger.specs.Moves.{RunMoves, run_moves}
 use Rattle.circle_field.specs.Field.{of_nat}
-use Rattle.circle_matrix.specs.Mmcs.{HaveHeightsOfPowers}
-use Rattle.circle_matrix.specs.Pcs.{openings}
-use Rattle.circle_matrix.specs.declared.pcs.OpeningRequest.{OpeningRequest}
-use Rattle.circle_words.specs.Requests.{AreRequests}
+use Rattle.circle_commit.specs.Mmcs.{HaveHeightsOfPowers}
+use Rattle.circle_commit.specs.Pcs.{openings}
+use Rattle.circle_commit.specs.declared.pcs.OpeningRequest.{OpeningRequest}
+use Rattle.circle_codewords.specs.Requests.{AreRequests}
 use Rattle.circle_relation.specs.Accepts.{Fields}
 use Rattle.circle_scheme.proofs.Unrefused.{are-binary, are-fit, are-requests}
 use Rattle.p3_circle.proofs.Degrees.{high-degree}

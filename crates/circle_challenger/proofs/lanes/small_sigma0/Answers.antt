@@ -1,6 +1,0 @@
-use Rattle.std.proofs.Common.{refl, arith}
-use Rattle.circle_challenger.proofs.Shifts.{two_rotations}
-use Rattle.circle_challenger.proofs.lanes.small_sigma0.Goals as goal
-
-pub returns : goal.returns
-returns c = two_rotations c.args.x 3 7 18 25 14 refl refl (omega arith)

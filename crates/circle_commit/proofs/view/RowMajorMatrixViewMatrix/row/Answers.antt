@@ -1,0 +1,12 @@
+use Rattle.std.proofs.Common.{◌≡◌, ◌-◌, ◌+◌, ◌*◌, ◌∙◌, ap, Some, take, drop, arith}
+use Rattle.circle_commit.specs.RowFacts.{rows_from-row}
+use Rattle.circle_commit.specs.RowMajorMatrixView.{height_of}
+use Rattle.circle_commit.proofs.view.RowMajorMatrixViewMatrix.row.Goals as goal
+
+pub returns : goal.returns
+returns g c =
+    let m = c.args.self.now in
+    let start = c.args.r * m.width in
+    let e : m.width ≡ start + m.width - start = omega arith in
+    rows_from-row m.width (height_of m) c.args.r m.values.now c.requires
+    ∙ ap (λ n. Some (take n (drop start m.values.now))) e

@@ -1,7 +1,0 @@
-use Rattle.std.proofs.Common.{◌≡◌, [], map, take, get_or}
-use Rattle.circle_matrix.specs.RowMajorMatrix.{rows, height_of}
-use Rattle.circle_matrix.specs.Mmcs.{max_height, row_at}
-use Rattle.circle_fixtures.proofs.matrix_list.rows_of.Given as goal
-
-abbrev pub invariant-loop-matrix : goal.invariant-loop-matrix
-invariant-loop-matrix g l = map (λ row. row.items) l.rows.items ≡ map (λ m. get_or (rows m) (row_at (max_height l.matrices) (height_of m) l.index) []) (take l.matrix-index l.matrices)

@@ -1,6 +1,0 @@
-use Rattle.std.proofs.Common.{◌≡◌, take}
-use Rattle.circle_matrix.specs.Mmcs.{dimensions_of}
-use Rattle.circle_fixtures.proofs.matrix_list.shapes.Given as goal
-
-abbrev pub invariant-loop-matrix : goal.invariant-loop-matrix
-invariant-loop-matrix g l = l.shapes.items ≡ dimensions_of (take l.matrix-index l.matrices)

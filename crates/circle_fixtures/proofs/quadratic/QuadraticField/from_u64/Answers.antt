@@ -1,5 +1,0 @@
-use Rattle.circle_fixtures.specs.QuadraticOperations.{embedded_of_nat}
-use Rattle.circle_fixtures.proofs.quadratic.QuadraticField.from_u64.Goals as goal
-
-pub returns : goal.returns
-returns c = let e = embedded_of_nat c.args.int in cc

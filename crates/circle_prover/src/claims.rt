@@ -1,0 +1,179 @@
+//! Requested matrices with the values that are answered, as an opening and its transcript take
+//! them in.
+ghost use Rattle.std.specs.Prelude.{ℕ, ◌≡◌, ◌<◌, ◌≤◌, ◌++◌, All, IfOk, OnOk};
+ghost use Rattle.std.specs.Prelude.{length, map, flat_map};
+ghost use Rattle.std.specs.List.{AllZip};
+ghost use Rattle.circle_commit.specs.Mmcs.{opened_rows};
+ghost use Rattle.circle_commit.specs.Pcs.{openings};
+ghost use Rattle.circle_commit.specs.RowMajorMatrix.{height_of, width_of};
+ghost use Rattle.circle_commit.specs.DotProduct.{pairwise};
+ghost use Rattle.circle_domain.specs.Selectors.{IsFinite};
+ghost use Rattle.circle_transcript.specs.Claims.{claims_of};
+ghost use Rattle.circle_transcript.specs.ShapeOf.{batches_of, matrices_of};
+ghost use Rattle.circle_relation.specs.Accepts.{Fields};
+ghost use Rattle.circle_codewords.specs.Words.{claim_of, committed_of};
+ghost use Rattle.circle_codewords.specs.Requests.{AreAnswers, IsFit, IsOpenable};
+ghost use Rattle.circle_codewords.specs.Requests.{IsReady};
+ghost use Rattle.circle_codewords.specs.Requests.{AddsBatch, AreAllRequested, AreBatchValues};
+ghost use Rattle.circle_codewords.specs.Requests.{lists_of};
+ghost use Rattle.circle_relation.specs.Taken.{point_taken};
+
+use circle_codewords::OpenedMatrix;
+use circle_commit::{
+    Matrix, Mmcs, OpenedValuesForMatrix, OpenedValuesForRound, OpeningRequest, RowMajorMatrix,
+    log2_strict,
+};
+use circle_field::{ComplexExtendable, ExtensionField, Field};
+use circle_point::Point;
+use circle_relation::OverCircle;
+use circle_transcript::OpeningClaim;
+use std::alloc::{AllocError, Global};
+
+// Adds the matrices of a batch.
+fn push_matrices<'a, F: ComplexExtendable, EF: ExtensionField<F>>(
+    list: &mut Vec<OpenedMatrix<'a, F, EF>>,
+    log_blowup: usize,
+    matrices: &'a [RowMajorMatrix<F>],
+    points: &'a [Vec<EF>],
+    values: &'a [OpenedValuesForMatrix<EF>],
+) -> Result<(), AllocError>
+    requires fit { AllZip (IsOpenable ⟦<EF as OverCircle<F>>⟧.fields F.CIRCLE_TWO_ADICITY
+        log_blowup) matrices.now (lists_of points.now) }
+    requires count { length values.now ≡ length points.now }
+    requires values { AreBatchValues ⟦<EF as OverCircle<F>>⟧.fields log_blowup matrices.now
+        (lists_of points.now) (opened_rows values.now) }
+    requires openable { All (IsReady ⟦<EF as OverCircle<F>>⟧.fields F.CIRCLE_TWO_ADICITY)
+        list.old.items }
+    ensures matrices { OnOk result (AddsBatch ⟦<EF as OverCircle<F>>⟧.fields log_blowup matrices.now
+        points.now values.now list.old.items list.new.items) }
+    ensures openable { OnOk result (All (IsReady ⟦<EF as OverCircle<F>>⟧.fields
+        F.CIRCLE_TWO_ADICITY) list.new.items) }
+{
+    for (matrix, (points, values)) in matrices.iter().zip(points.iter().zip(values)) {
+        list.push(OpenedMatrix {
+            log_height: log2_strict(matrix.height()),
+            rows: matrix,
+            points,
+            values,
+        })?;
+    }
+    Ok(())
+}
+
+/// All requested matrices with their values, one after another.
+///
+/// Asks requests that can be opened, and the values that are answered. Fails where memory is
+/// refused.
+pub(crate) fn opened_matrices<'a, F: ComplexExtendable, EF: ExtensionField<F>, M: Mmcs<F>>(
+    alloc: Global,
+    mmcs: &M,
+    log_blowup: usize,
+    requests: &'a [OpeningRequest<'a, M::ProverData, EF>],
+    values: &'a [OpenedValuesForRound<EF>],
+) -> Result<Vec<OpenedMatrix<'a, F, EF>>, AllocError>
+    requires fit { All (IsFit M.matrices ⟦<EF as OverCircle<F>>⟧.fields log_blowup
+        F.CIRCLE_TWO_ADICITY) requests.now }
+    requires values { AllZip (AreAnswers M.matrices ⟦<EF as OverCircle<F>>⟧.fields log_blowup)
+        requests.now (openings values.now) }
+    ensures matrices { IfOk result (λ v. AreAllRequested M.matrices ⟦<EF as OverCircle<F>>⟧.fields
+        log_blowup requests.now (openings values.now) v.items) }
+    ensures openable { IfOk result (λ v. All (IsReady ⟦<EF as OverCircle<F>>⟧.fields
+        F.CIRCLE_TWO_ADICITY) v.items) }
+{
+    let mut list = Vec::new(alloc);
+    for (request, values) in requests.iter().zip(values) {
+        let matrices = mmcs.get_matrices(request.prover_data);
+        push_matrices(&mut list, log_blowup, matrices, &request.points, values)?;
+    }
+    Ok(list)
+}
+
+/// A number above that of every matrix's columns.
+///
+/// Asks matrices of some row each.
+pub(crate) fn above_widths<F: Copy, EF>(matrices: &[OpenedMatrix<F, EF>]) -> usize
+    requires { All (λ m. 1 ≤ height_of m.rows.now) matrices.now }
+    ensures { All (λ m. width_of m.rows.now < result) matrices.now }
+{
+    let mut greatest = 0;
+    for matrix in matrices {
+        greatest = greatest.max(matrix.rows.width());
+    }
+    greatest + 1
+}
+
+// Adds the claims on a matrix.
+fn append_claims<'a, EF: Field>(
+    claims: &mut Vec<OpeningClaim<'a, EF>>,
+    points: &[EF],
+    values: &'a [Vec<EF>],
+) -> Result<(), AllocError>
+    requires finite { All (IsFinite EF.ops) points.now }
+    ensures { OnOk result (claims_of claims.new.items ≡ claims_of claims.old.items
+        ++ map (point_taken EF.ops) (pairwise claim_of points.now (lists_of values.now))) }
+{
+    for (point, values) in points.iter().zip(values) {
+        claims.push((Point::from_projective_line(*point).unwrap(), values))?;
+    }
+    Ok(())
+}
+
+/// The claims on all matrices as the transcript takes them in, one after another.
+///
+/// Asks points that are not at infinity. Fails where memory is refused.
+pub(crate) fn opened_claims<'a, F: Copy, EF: Field>(
+    alloc: Global,
+    matrices: &[OpenedMatrix<'a, F, EF>],
+) -> Result<Vec<OpeningClaim<'a, EF>>, AllocError>
+    requires finite { All (λ m. All (IsFinite EF.ops) m.points.now) matrices.now }
+    ensures { IfOk result (λ v. (k : Fields F EF) (blowup : ℕ) → claims_of v.items ≡ flat_map
+        (λ m. map (point_taken EF.ops) m.claims) (map (committed_of k blowup) matrices.now)) }
+{
+    let mut claims = Vec::new(alloc);
+    for matrix in matrices {
+        append_claims(&mut claims, matrix.points, matrix.values)?;
+    }
+    Ok(claims)
+}
+
+// The number of columns of each of a matrix's values.
+fn matrix_widths<EF>(alloc: Global, values: &[Vec<EF>]) -> Result<Vec<usize>, AllocError>
+    ensures { IfOk result (λ v. v.items ≡ map (λ w. length w) (lists_of values.now)) }
+{
+    let mut widths = Vec::with_capacity(alloc, values.len())?;
+    for columns in values {
+        widths.push(columns.len())?;
+    }
+    Ok(widths)
+}
+
+// The same of the matrices of a batch.
+fn batch_widths<EF>(
+    alloc: Global,
+    values: &[OpenedValuesForMatrix<EF>],
+) -> Result<Vec<Vec<usize>>, AllocError>
+    ensures { IfOk result (λ v. matrices_of v.items
+        ≡ map (λ m. map (λ w. length w) m) (opened_rows values.now)) }
+{
+    let mut widths = Vec::with_capacity(alloc, values.len())?;
+    for matrix in values {
+        widths.push(matrix_widths(alloc, matrix)?)?;
+    }
+    Ok(widths)
+}
+
+/// The number of columns of each of the values, by batch, matrix and point. Fails where memory is
+/// refused.
+pub(crate) fn opened_widths<EF>(
+    alloc: Global,
+    values: &[OpenedValuesForRound<EF>],
+) -> Result<Vec<Vec<Vec<usize>>>, AllocError>
+    ensures { IfOk result (λ v. batches_of v.items
+        ≡ map (λ b. map (λ m. map (λ w. length w) m) b) (openings values.now)) }
+{
+    let mut widths = Vec::with_capacity(alloc, values.len())?;
+    for batch in values {
+        widths.push(batch_widths(alloc, batch)?)?;
+    }
+    Ok(widths)
+}

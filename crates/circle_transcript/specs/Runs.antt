@@ -1,0 +1,185 @@
+-- Whole runs, as contracts see them.
+use Rattle.std.specs.Prelude.{◌≡◌, ℕ, ◌≤◌, List, [], map, length, zip, slice_get, Some, IsTrue}
+use Rattle.std.specs.Prelude.{true, false, Result, Ok, Err}
+use Rattle.std.specs.Borrow.{Bor}
+use Rattle.circle_challenger.specs.Moves.{Moves, RunMoves, is_passed, after_element}
+use Rattle.circle_commit.specs.declared.params.PowPhase.{PowPhase}
+use Rattle.circle_commit.specs.declared.params.PowPhase.TheVariants.{Batch, CommitPhase, Query}
+use Rattle.circle_point.specs.declared.point.Point.{Point}
+use Rattle.circle_transcript.specs.declared.failure.CircleTranscriptFailure.{CircleTranscriptFailure}
+use Rattle.circle_transcript.specs.declared.failure.CircleTranscriptFailure.TheVariants.{PowWitness}
+use Rattle.circle_transcript.specs.declared.failure.CircleTranscriptFailure.TheVariants.{NoWitness}
+use Rattle.circle_transcript.specs.declared.run.CircleDraws.{CircleDraws}
+use Rattle.circle_transcript.specs.declared.run.CircleMessages.{CircleMessages}
+use Rattle.circle_transcript.specs.declared.run.CircleWitnesses.{CircleWitnesses}
+use Rattle.circle_transcript.specs.declared.shape.CirclePcsShape.{CirclePcsShape}
+use Rattle.circle_transcript.specs.declared.transcript.CircleTranscript.{CircleTranscript}
+use Rattle.circle_transcript.specs.declared.transcript.Numbers.{Numbers}
+use Rattle.circle_transcript.specs.Claims.{claims_of}
+use Rattle.circle_transcript.specs.Draw.{Claim, Taken, taken, Drawn, claimed, layered, closed}
+use Rattle.circle_transcript.specs.Draw.{after_rounds, rounds_pass, draw_seeded, draw, seeded}
+use Rattle.circle_transcript.specs.Failure.{phase_of}
+use Rattle.circle_transcript.specs.Numbers.{numbers_of, difficulty_of}
+use Rattle.circle_transcript.specs.ShapeOf.{shape_of}
+use Rattle.circle_transcript.specs.Transcript.{current, numbers, no_witness, bad_witness}
+use Rattle.circle_transcript.specs.Transcript.{commits_pass}
+
+-- the numbers that a run can be played with
+pub record ArePlayable (n : Numbers) : Type 0 where
+  pub batch : n.batch_pow_bits ≤ 63
+  pub commit : n.commit_pow_bits ≤ 63
+  pub query : n.query_pow_bits ≤ 63
+  pub index : n.index_bits ≤ 63
+  pub final_poly : n.log_final_poly_len ≤ 63
+
+-- what a run takes in, of claims, messages and witnesses
+abbrev pub taken_with : {F E Com : Type 0} → List (Claim E) → CircleMessages E Com → F → List F → F
+    → Taken F E Com
+taken_with claims messages batch rounds query =
+    taken claims batch messages.first_layer.now (zip messages.commitments.now rounds)
+    messages.final_poly.now query
+
+abbrev pub taken_of : {F E Com : Type 0} {g : _} → List (Point E g × Bor (List E))
+    → CircleMessages E Com
+    → CircleWitnesses F → Taken F E Com
+taken_of claims messages witnesses =
+    taken_with (claims_of claims) messages witnesses.batch witnesses.rounds.items witnesses.query
+
+-- challenges as their coefficients, with the state after the run
+abbrev pub drawn_of : {S F E : Type 0} → (E → List F) → CircleDraws E → S → Drawn S F
+drawn_of coefficients d state = record {
+  alpha = coefficients d.alpha;
+  bivariate = coefficients d.bivariate;
+  betas = map coefficients d.betas.items;
+  indices = d.indices.items;
+  state = state;
+}
+
+-- the draw fails in the phase that the failure names, with that phase's difficulty
+pub record IsMiss {S F : Type 0} (n : Numbers) (drawn : Result (Drawn S F) PowPhase)
+    (e : CircleTranscriptFailure) : Type 0 where
+  pub named : e ≡ PowWitness (phase_of e) (difficulty_of n (phase_of e))
+  pub failed : drawn ≡ Err (phase_of e)
+
+-- no witness passes in this state
+abbrev pub NonePasses : {C S F E : Type 0} → Moves C S F E → S → ℕ → Type 0
+NonePasses {F = F} m s bits = (w : F) → is_passed m s bits w ≡ false
+
+module _ {C S F E Com : Type 0} (r : RunMoves C S F E Com) where
+  -- after rounds whose witnesses pass comes a commitment after which none passes
+  pub record HasStuckRound (bits : ℕ) (s : S) (commitments : List Com) : Type 0 where
+    pub witnesses : List F
+    pub commitment : Com
+    pub next : slice_get commitments (length witnesses) ≡ Some commitment
+    pub passed : rounds_pass r bits s (zip commitments witnesses) ≡ true
+    pub none :
+        NonePasses r.base (r.after_commitment (after_rounds r bits s (zip commitments witnesses))
+        commitment) bits
+
+  module _ (n : Numbers) (claims : List (Claim E)) (messages : CircleMessages E Com) (s : S) where
+    -- what is taken in with these witnesses, before that of the indices
+    abbrev pub with_found : F → List F → Taken F E Com
+    with_found batch rounds = taken_with claims messages batch rounds r.base.zero
+
+    -- whether a witness of the batching challenge passes
+    abbrev pub Starts : F → Type 0
+    Starts batch = IsTrue (is_passed r.base (claimed r n (with_found batch []) s)
+        n.batch_pow_bits batch)
+
+    -- the state before the rounds
+    abbrev pub before_rounds : F → S
+    before_rounds batch = after_element r.base (layered r n (with_found batch []) s)
+
+    -- the witness of the batching challenge passes, and a round after it is stuck
+    pub record IsStuckInRounds : Type 0 where
+      pub batch : F
+      pub passed : Starts batch
+      pub stuck : HasStuckRound n.commit_pow_bits (before_rounds batch) messages.commitments.now
+
+    -- the witnesses of the batching challenge and of the rounds pass, and none does before the
+    -- indices
+    pub record IsStuckInQuery : Type 0 where
+      pub batch : F
+      pub rounds : List F
+      pub passed : Starts batch
+      pub count : length rounds ≡ length messages.commitments.now
+      pub rounds_passed :
+          rounds_pass r n.commit_pow_bits (before_rounds batch)
+          (zip messages.commitments.now rounds)
+          ≡ true
+      pub none : NonePasses r.base (closed r n (with_found batch rounds) s) n.query_pow_bits
+
+    -- no witness passes in the state in which this phase looks for one
+    abbrev pub IsStuckIn : PowPhase → Type 0
+    IsStuckIn Batch = NonePasses r.base (claimed r n (with_found r.base.zero []) s) n.batch_pow_bits
+    IsStuckIn CommitPhase = IsStuckInRounds
+    IsStuckIn Query = IsStuckInQuery
+
+    -- so it is in the phase that the failure names, with that phase's difficulty
+    pub record IsStuck (e : CircleTranscriptFailure) : Type 0 where
+      pub named : e ≡ NoWitness (phase_of e) (difficulty_of n (phase_of e))
+      pub stuck : IsStuckIn (phase_of e)
+
+  -- challenges as their coefficients, with the state of the challenger that drew them
+  abbrev pub drawn_leaving : CircleDraws E → C → Drawn S F
+  drawn_leaving d challenger = drawn_of r.base.coefficients d (r.base.state challenger)
+
+  -- the run of this shape draws these from the first challenger, and leaves the other
+  abbrev pub Draws : CirclePcsShape → Taken F E Com → C → CircleDraws E → C → Type 0
+  Draws shape taken old d new =
+      draw r (shape_of shape) taken (r.base.state old) ≡ Ok (drawn_leaving d new)
+
+  -- there are witnesses with which the run of this shape draws these from the first challenger, and
+  -- leaves the other
+  abbrev pub DrawsWithSome : {g : _} → CirclePcsShape → List (Point E g × Bor (List E))
+      → CircleMessages E Com → C → CircleDraws E → C → Type 0
+  DrawsWithSome shape claims messages old d new =
+      (w : CircleWitnesses F) × Draws shape (taken_of claims messages w) old d new
+
+  -- the run of this shape fails where a witness doesn't pass
+  abbrev pub Misses : CirclePcsShape → Taken F E Com → C → CircleTranscriptFailure → Type 0
+  Misses shape taken old e =
+      IsMiss (numbers_of (shape_of shape)) (draw r (shape_of shape) taken (r.base.state old)) e
+
+  -- the run of this shape fails where no witness passes
+  abbrev pub FindsNone : {g : _} → CirclePcsShape → List (Point E g × Bor (List E))
+      → CircleMessages E Com → C
+      → CircleTranscriptFailure → Type 0
+  FindsNone shape claims messages old e =
+      IsStuck (numbers_of (shape_of shape)) (claims_of claims) messages
+      (seeded r (shape_of shape) (r.base.state old)) e
+
+-- the same of the rest of a run, from a transcript whose seed was taken in
+module _ {C S F E Com Side : Type 0} (r : RunMoves C S F E Com) where
+  -- it draws these from the first transcript, and leaves the other
+  abbrev pub DrawsFrom : CircleTranscript C F E Side → Taken F E Com → CircleDraws E
+      → CircleTranscript C F E Side → Type 0
+  DrawsFrom old taken d new =
+      draw_seeded r (numbers old) taken (r.base.state (current old))
+      ≡ Ok (drawn_leaving r d (current new))
+
+  -- it fails where a witness doesn't pass
+  abbrev pub MissesFrom : CircleTranscript C F E Side → Taken F E Com → CircleTranscriptFailure
+      → Type 0
+  MissesFrom old taken e =
+      IsMiss (numbers old) (draw_seeded r (numbers old) taken (r.base.state (current old))) e
+
+  -- it fails where no witness passes
+  abbrev pub FindsNoneFrom : {g : _} → CircleTranscript C F E Side
+      → List (Point E g × Bor (List E)) → CircleMessages E Com
+      → CircleTranscriptFailure → Type 0
+  FindsNoneFrom old claims messages e =
+      IsStuck r (numbers old) (claims_of claims) messages (r.base.state (current old)) e
+
+  -- the rounds fail where a witness doesn't pass
+  abbrev pub MissesInRounds : CircleTranscript C F E Side → List Com → List F
+      → CircleTranscriptFailure → Type 0
+  MissesInRounds old commitments witnesses e =
+      (e ≡ bad_witness CommitPhase old) × (commits_pass r old commitments witnesses ≡ false)
+
+  -- the rounds fail where no witness passes
+  abbrev pub FindsNoneInRounds : CircleTranscript C F E Side → List Com
+      → CircleTranscriptFailure → Type 0
+  FindsNoneInRounds old commitments e =
+      (e ≡ no_witness CommitPhase old)
+      × HasStuckRound r (numbers old).commit_pow_bits (r.base.state (current old)) commitments

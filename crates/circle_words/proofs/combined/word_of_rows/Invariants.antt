@@ -1,6 +1,0 @@
-use Rattle.std.proofs.Common.{◌≡◌, map, take}
-use Rattle.circle_matrix.specs.RowMajorMatrix.{rows}
-use Rattle.circle_words.proofs.combined.word_of_rows.Given as goal
-
-abbrev pub invariant-loop-r : goal.invariant-loop-r
-invariant-loop-r g l = map g.EF.ExtensionField.coefficients l.word.items ≡ take l.r (rows l.matrix)

@@ -1,7 +1,0 @@
-use Rattle.std.proofs.Common.{◌≡◌}
-use Rattle.circle_matrix.proofs.Written.{written}
-use Rattle.circle_matrix.specs.DotProduct.{pairwise}
-use Rattle.circle_words.proofs.ratios.multiply_each.Given as goal
-
-abbrev pub invariant-loop-i : goal.invariant-loop-i
-invariant-loop-i g l = l.entries ≡ written l.i (pairwise g.F.Operations.ops.mul l.fn.entries l.factors) l.fn.entries

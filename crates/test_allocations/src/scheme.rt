@@ -1,0 +1,196 @@
+//! Calls of the scheme, on one batch of a column of 4 rows and one of 16, each opened at two
+//! points.
+use crate::plane::{Domain, Rows, column, cubic};
+use crate::told::{Stage, Told, before, told};
+use anyhow::{Result, bail};
+use circle_challenger::{CanObserve, CanSample, Sha256Challenger};
+use circle_commit::{FriParameters, OpenedValues, OpeningRequest};
+use circle_field::{Cubic, Mersenne31};
+use circle_json::JsonForm;
+use circle_presets::{Claim, Commitment, Known, Proof, ProverData, Scheme};
+use p3_circle::{BatchAtPoints, ProverError, claims_of, heights_match_domains};
+use std::alloc::{AllocError, Global};
+
+type Opened = (OpenedValues<Cubic>, Proof);
+
+// Twice as many rows are committed to as there are, and 40 of them are queried.
+fn scheme() -> Scheme {
+    circle_presets::scheme(FriParameters {
+        log_blowup: 1,
+        log_final_poly_len: 0,
+        max_log_arity: 1,
+        num_queries: 40,
+        batch_proof_of_work_bits: 0,
+        commit_proof_of_work_bits: 0,
+        query_proof_of_work_bits: 0,
+        mmcs: (),
+    })
+}
+
+// The challenger that took in the commitment.
+fn after_commitment(commitment: &Commitment) -> Sha256Challenger {
+    let mut challenger = Sha256Challenger::new();
+    challenger.observe(commitment);
+    challenger
+}
+
+// The points that each matrix is opened at.
+fn points() -> [Cubic; 2] {
+    [cubic([0, 1, 0]), cubic([0, 0, 1])]
+}
+
+// The domains of the matrices.
+fn domains() -> [Domain; 2] {
+    [Domain::standard(2), Domain::standard(4)]
+}
+
+// The matrices with their domains.
+fn batch(alloc: Global) -> Result<Vec<(Domain, Rows)>, AllocError> {
+    let [low, tall] = domains();
+    Ok(vec![in alloc; (low, column(alloc, 4)?), (tall, column(alloc, 16)?)]?)
+}
+
+// What committing to the matrices answers; none before the call.
+fn committing(
+    alloc: Global,
+    stage: Stage,
+) -> Result<Option<Result<(Commitment, ProverData), ProverError>>> {
+    let evaluations = batch(alloc)?;
+    if !heights_match_domains(&evaluations) {
+        bail!("there is not one row for each point");
+    }
+    if stage == Stage::Before {
+        return Ok(None);
+    }
+    Ok(Some(scheme().commit(alloc, evaluations)))
+}
+
+/// The commitment to the matrices, and what the prover keeps.
+pub fn committed(alloc: Global) -> Result<(Commitment, ProverData)> {
+    match committing(alloc, Stage::Whole)? {
+        Some(answer) => Ok(answer?),
+        None => bail!("the call was not made"),
+    }
+}
+
+// The first number of a digest.
+fn number(digest: &[u8; 32]) -> u32 {
+    u32::from_be_bytes([digest[0], digest[1], digest[2], digest[3]])
+}
+
+/// `CirclePcs::commit`.
+pub fn commit(alloc: Global, stage: Stage) -> Result<Told> {
+    Ok(match committing(alloc, stage)? {
+        Some(answer) => told(answer.map(|committed| number(&committed.0))),
+        None => before(),
+    })
+}
+
+// What opening the matrices answers; none before the call.
+fn opening(
+    alloc: Global,
+    stage: Stage,
+    commitment: &Commitment,
+    data: &ProverData,
+) -> Result<Option<Result<Opened, ProverError>>> {
+    let pcs = scheme();
+    let points = points();
+    let request = OpeningRequest {
+        prover_data: data,
+        points: vec![in alloc;
+            Vec::from_slice(alloc, &points)?,
+            Vec::from_slice(alloc, &points)?,
+        ]?,
+    };
+    let requests = vec![in alloc; request]?;
+    if !pcs.have_heights_of_powers(&requests) {
+        bail!("a height is no power of two");
+    }
+    let mut challenger = after_commitment(commitment);
+    if stage == Stage::Before {
+        return Ok(None);
+    }
+    Ok(Some(pcs.open(alloc, requests, &mut challenger)))
+}
+
+// The opened values and the proof of them.
+fn opened(alloc: Global, commitment: &Commitment, data: &ProverData) -> Result<Opened> {
+    match opening(alloc, Stage::Whole, commitment, data)? {
+        Some(answer) => Ok(answer?),
+        None => bail!("the call was not made"),
+    }
+}
+
+// The number that a challenger draws which takes in the values and the proof as JSON.
+fn number_of_opened(alloc: Global, opened: &Opened) -> Result<u32> {
+    let (values, proof) = opened;
+    let mut challenger = Sha256Challenger::new();
+    challenger.observe_bytes(values.to_json(alloc)?.to_string(alloc)?.as_bytes());
+    challenger.observe_bytes(proof.to_json(alloc)?.to_string(alloc)?.as_bytes());
+    let drawn: Mersenne31 = challenger.sample();
+    Ok(drawn.value())
+}
+
+/// `CirclePcs::open`, with what is opened of the same matrices afterwards.
+pub fn open(alloc: Global, stage: Stage) -> Result<Told> {
+    let (commitment, data) = committed(alloc)?;
+    let answer = match opening(alloc, stage, &commitment, &data)? {
+        None => return Ok(before()),
+        Some(_) if stage == Stage::After => return Ok(Told::of("after")),
+        Some(Ok(opened)) => told::<u32, ProverError>(Ok(number_of_opened(alloc, &opened)?)),
+        Some(Err(refusal)) => told::<u32, ProverError>(Err(refusal)),
+    };
+    let again = number_of_opened(alloc, &opened(alloc, &commitment, &data)?)?;
+    Ok(Told::of(format_args!("{}, again {again}", answer.as_str())))
+}
+
+// The claims that the matrices have these values.
+fn claims(
+    alloc: Global,
+    commitment: Commitment,
+    values: OpenedValues<Cubic>,
+) -> Result<Vec<Claim>> {
+    let points = points();
+    let known = Known {
+        commitment,
+        domains: Vec::from_slice(alloc, &domains())?,
+        points: vec![in alloc;
+            Vec::from_slice(alloc, &points)?,
+            Vec::from_slice(alloc, &points)?,
+        ]?,
+    };
+    Ok(claims_of(alloc, vec![in alloc; known]?, values)?)
+}
+
+/// `CirclePcs::verify`.
+pub fn verify(alloc: Global, stage: Stage) -> Result<Told> {
+    let (commitment, data) = committed(alloc)?;
+    let (values, proof) = opened(alloc, &commitment, &data)?;
+    let claims = claims(alloc, commitment, values)?;
+    let mut challenger = after_commitment(&commitment);
+    if stage == Stage::Before {
+        return Ok(before());
+    }
+    let answer = scheme().verify(alloc, claims, &proof, &mut challenger);
+    Ok(told(answer.map(|()| "accepted")))
+}
+
+/// `CirclePcs::round_trip` of one column at one point.
+pub fn round_trip(alloc: Global, stage: Stage) -> Result<Told> {
+    let evaluations = vec![in alloc; (Domain::standard(2), column(alloc, 4)?)]?;
+    if evaluations.len() != 1 || !heights_match_domains(&evaluations) {
+        bail!("there is not one row for each point");
+    }
+    let [point, _] = points();
+    let batch = BatchAtPoints {
+        evaluations,
+        points: vec![in alloc; vec![in alloc; point]?]?,
+    };
+    let batches = vec![in alloc; batch]?;
+    let (mut prover, mut verifier) = (Sha256Challenger::new(), Sha256Challenger::new());
+    if stage == Stage::Before {
+        return Ok(before());
+    }
+    let answer = scheme().round_trip(alloc, batches, &mut prover, &mut verifier);
+    Ok(told(answer.map(|values| values.len())))
+}

@@ -1,0 +1,31 @@
+//! The fold of a pair, folds at queries, and the folds by x as a strategy.
+use circle_commit::RowMajorMatrix;
+use circle_field::{Cubic, ExtensionField, Field, Mersenne31};
+use circle_folding::fold_row_with_inv_twiddle;
+use std::process::Abort;
+use std::test::Fail;
+
+mod queries;
+mod rows;
+mod strategy;
+
+fn element(value: u64) -> Mersenne31 {
+    Mersenne31::from_u64(value)
+}
+
+fn cubic(a: u64, b: u64, c: u64) -> Cubic {
+    Cubic::from_coefficients(&[element(a), element(b), element(c)])
+}
+
+#[test]
+fn the_fold_of_a_pair(rt: HostRuntime) -> Result<(), Fail> {
+    let folded = fold_row_with_inv_twiddle(element(1), element(3), element(10), element(4));
+    assert!(&rt; folded == element(16));
+    Ok(())
+}
+
+// The rows of two that these entries make up.
+fn rows_of_two<EF: Field>(rt: &impl Abort, entries: Vec<EF>) -> RowMajorMatrix<EF> {
+    assert!(rt; entries.len() % 2 == 0);
+    RowMajorMatrix::new(entries, 2)
+}

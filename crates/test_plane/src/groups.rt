@@ -1,0 +1,228 @@
+//! The circle transform over Mersenne31, without groups and by groups of layers, beside one layer
+//! over all entries after another.
+use crate::smaller::{coefficients, extended};
+use crate::transform::{Domain, Evaluations, Rows, assert_same, evaluate, rows_of, scattered};
+use circle_commit::Matrix;
+use circle_domain::layer_twiddles;
+use circle_field::{Field, Mersenne31};
+use circle_plane::CircleEvaluations;
+use std::alloc::{AllocError, Global};
+use std::process::Abort;
+use std::test::Fail;
+
+// How many layers a group takes; the last passes the number of layers.
+const GROUPS: [usize; 4] = [1, 2, 3, 64];
+
+// From coefficients to values: one layer over all entries, one butterfly after another.
+fn forward_layer(rt: &impl Abort, entries: &mut [Mersenne31], half: usize, factors: &[Mersenne31]) {
+    assert!(rt; half >= 1 && half <= entries.len() && entries.len() <= 65536);
+    for i in 0..entries.len() / 2 {
+        let (block, low) = (i / half, i / half * (half + half) + i % half);
+        assert!(rt; block < factors.len() && low + half < entries.len());
+        let product = entries[low + half] * factors[block];
+        (entries[low], entries[low + half]) = (entries[low] + product, entries[low] - product);
+    }
+}
+
+// From values to twice the coefficients, likewise.
+fn backward_layer(
+    rt: &impl Abort,
+    entries: &mut [Mersenne31],
+    half: usize,
+    factors: &[Mersenne31],
+) {
+    assert!(rt; half >= 1 && half <= entries.len() && entries.len() <= 65536);
+    for i in 0..entries.len() / 2 {
+        let (block, low) = (i / half, i / half * (half + half) + i % half);
+        assert!(rt; block < factors.len() && low + half < entries.len());
+        let inverse = factors[block].try_inverse().expect(rt, "a genuine domain");
+        let difference = entries[low] - entries[low + half];
+        (entries[low], entries[low + half]) = (
+            entries[low] + entries[low + half],
+            difference * inverse,
+        );
+    }
+}
+
+// From coefficients to values: one layer after another, the last first.
+fn forward_layers(
+    rt: &impl Abort,
+    entries: &mut [Mersenne31],
+    width: usize,
+    twiddles: &[Vec<Mersenne31>],
+) {
+    assert!(rt; width <= 64 && twiddles.len() <= 8);
+    for layer in (0..twiddles.len()).rev() {
+        forward_layer(rt, entries, width << layer, &twiddles[layer]);
+    }
+}
+
+// From values to coefficients times `2^log_n`: one layer after another.
+fn backward_layers(
+    rt: &impl Abort,
+    entries: &mut [Mersenne31],
+    width: usize,
+    twiddles: &[Vec<Mersenne31>],
+) {
+    assert!(rt; width <= 64 && twiddles.len() <= 8);
+    for layer in 0..twiddles.len() {
+        backward_layer(rt, entries, width << layer, &twiddles[layer]);
+    }
+}
+
+// These entries with zeros behind them, so many in all.
+fn padded(
+    alloc: Global,
+    entries: &[Mersenne31],
+    count: usize,
+) -> Result<Vec<Mersenne31>, AllocError> {
+    let mut all = Vec::from_slice(alloc, entries)?;
+    for _ in entries.len()..count {
+        all.push(Mersenne31::ZERO)?;
+    }
+    Ok(all)
+}
+
+// The rows in the transform's order by one layer over the whole matrix after another.
+fn evaluate_by_layers(
+    rt: &impl Abort,
+    alloc: Global,
+    domain: Domain,
+    coeffs: &Rows,
+) -> Result<Rows, AllocError> {
+    let width = coeffs.width();
+    assert!(rt; domain.log_n() >= 1 && domain.log_n() <= 8 && width <= 64);
+    let twiddles = layer_twiddles(alloc, domain)?;
+    let mut entries = padded(alloc, coeffs.values(), domain.size() * width)?;
+    forward_layers(rt, &mut entries, width, &twiddles);
+    Ok(rows_of(rt, entries, width))
+}
+
+// The coefficients by one layer over the whole matrix after another, from rows in the transform's
+// order.
+fn interpolate_by_layers(
+    rt: &impl Abort,
+    alloc: Global,
+    domain: Domain,
+    rows: &Rows,
+) -> Result<Rows, AllocError> {
+    assert!(rt; domain.log_n() >= 1 && domain.log_n() <= 8);
+    let twiddles = layer_twiddles(alloc, domain)?;
+    let mut entries = Vec::from_slice(alloc, rows.values())?;
+    backward_layers(rt, &mut entries, rows.width(), &twiddles);
+    for entry in entries.iter_mut() {
+        *entry = entry.div_2exp_u64(domain.log_n() as u64);
+    }
+    Ok(rows_of(rt, entries, rows.width()))
+}
+
+// `CircleEvaluations::evaluate_grouped`, after a test of what it asks.
+fn evaluate_grouped(
+    rt: &impl Abort,
+    alloc: Global,
+    domain: Domain,
+    coeffs: Rows,
+    group: usize,
+) -> Result<Evaluations, AllocError> {
+    let height = coeffs.height();
+    assert!(rt; height >= 1 && height == 1 << height.ilog2() && group >= 1);
+    assert!(rt; domain.log_n() >= 1 && domain.log_n() <= 31 && height <= domain.size());
+    let (evaluations, _) = CircleEvaluations::evaluate_grouped(alloc, domain, coeffs, group)?;
+    Ok(evaluations)
+}
+
+// The coefficients of polynomials with these rows in the transform's order, by groups.
+fn interpolate_grouped(
+    rt: &impl Abort,
+    alloc: Global,
+    domain: Domain,
+    rows: Rows,
+    group: usize,
+) -> Result<Rows, AllocError> {
+    assert!(rt;
+        group >= 1 && domain.log_n() <= 31 && domain.is_genuine() && rows.height() == domain.size()
+    );
+    let evaluations = CircleEvaluations::from_cfft_order(domain, rows);
+    let (coeffs, _) = evaluations.interpolate_grouped(alloc, group)?;
+    Ok(coeffs)
+}
+
+// Asserts that these are the values of coefficients in the transform's order, without groups and
+// by each.
+fn assert_evaluated(
+    rt: &impl Abort,
+    alloc: Global,
+    domain: Domain,
+    coeffs: &Rows,
+    rows: &Rows,
+) -> Result<(), AllocError> {
+    let whole = evaluate(rt, alloc, domain, coeffs.try_clone(alloc)?)?;
+    assert_same(rt, &whole.to_cfft_order(), rows);
+    for group in GROUPS {
+        let copy = coeffs.try_clone(alloc)?;
+        let grouped = evaluate_grouped(rt, alloc, domain, copy, group)?;
+        assert_same(rt, &grouped.to_cfft_order(), rows);
+    }
+    Ok(())
+}
+
+// Asserts that rows in the transform's order have these coefficients, without groups and by each.
+fn assert_interpolated(
+    rt: &impl Abort,
+    alloc: Global,
+    domain: Domain,
+    rows: &Rows,
+    coeffs: &Rows,
+) -> Result<(), AllocError> {
+    assert_same(rt, &coefficients(rt, alloc, domain, rows)?, coeffs);
+    for group in GROUPS {
+        let copy = rows.try_clone(alloc)?;
+        assert_same(
+            rt,
+            &interpolate_grouped(rt, alloc, domain, copy, group)?,
+            coeffs,
+        );
+    }
+    Ok(())
+}
+
+// Asserts that the values of these coefficients on a larger domain are the same by layers, by the
+// transforms, and by those of the rows that the coefficients have on the domain.
+fn assert_extended(
+    rt: &impl Abort,
+    alloc: Global,
+    (domain, target): (Domain, Domain),
+    coeffs: &Rows,
+    rows: &Rows,
+) -> Result<(), AllocError> {
+    let values = evaluate_by_layers(rt, alloc, target, coeffs)?;
+    assert_evaluated(rt, alloc, target, coeffs, &values)?;
+    assert_same(rt, &extended(rt, alloc, domain, rows, target)?, &values);
+    Ok(())
+}
+
+// Asserts that the transforms of a domain's rows answer what one layer after another does.
+fn assert_as_by_layers(
+    rt: &impl Abort,
+    alloc: Global,
+    log_n: usize,
+    width: usize,
+) -> Result<(), AllocError> {
+    assert!(rt; log_n >= 1 && log_n <= 6 && width >= 1 && width <= 4);
+    let (domain, target) = (Domain::standard(log_n), Domain::standard(log_n + 2));
+    let rows = scattered(rt, alloc, 1 << log_n, width, log_n as u64)?;
+    let coeffs = interpolate_by_layers(rt, alloc, domain, &rows)?;
+    assert_interpolated(rt, alloc, domain, &rows, &coeffs)?;
+    assert_evaluated(rt, alloc, domain, &coeffs, &rows)?;
+    assert_extended(rt, alloc, (domain, target), &coeffs, &rows)
+}
+
+#[test]
+fn the_fast_forms_beside_one_layer_after_another(rt: HostRuntime) -> Result<(), Fail> {
+    for log_n in [1, 2, 3, 6] {
+        for width in [1, 4] {
+            assert_as_by_layers(&rt, rt.alloc(), log_n, width)?;
+        }
+    }
+    Ok(())
+}

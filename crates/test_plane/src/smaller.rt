@@ -1,0 +1,147 @@
+//! A polynomial's values on domains of several sizes tell the same at a point.
+use crate::off_domain::{cubic, on_line};
+use crate::transform::{Domain, Rows, plain_entry, scattered};
+use circle_commit::{Matrix, RowMajorMatrix};
+use circle_field::{Cubic, Mersenne31};
+use circle_plane::{CircleDomain, CircleEvaluations, Point, cfft_permute_index, circle_basis};
+use std::alloc::{AllocError, Global};
+use std::process::Abort;
+use std::test::Fail;
+
+// The rows on another domain, both in the transform's order, after a test of what is asked.
+pub(crate) fn extended(
+    rt: &impl Abort,
+    alloc: Global,
+    domain: Domain,
+    rows: &Rows,
+    target: Domain,
+) -> Result<Rows, AllocError> {
+    let copy = rows.try_clone(alloc)?;
+    assert!(rt;
+        domain.log_n() <= target.log_n()
+            && target.log_n() <= 31
+            && domain.is_genuine()
+            && copy.height() == domain.size()
+    );
+    let extended = CircleEvaluations::from_cfft_order(domain, copy).extrapolate(alloc, target)?;
+    Ok(extended.to_cfft_order())
+}
+
+// The coefficients of rows in the transform's order, after a test of what is asked.
+pub(crate) fn coefficients(
+    rt: &impl Abort,
+    alloc: Global,
+    domain: Domain,
+    rows: &Rows,
+) -> Result<Rows, AllocError> {
+    let copy = rows.try_clone(alloc)?;
+    assert!(rt; domain.log_n() <= 31 && domain.is_genuine() && copy.height() == domain.size());
+    CircleEvaluations::from_cfft_order(domain, copy).interpolate(alloc)
+}
+
+// The values at a point of rows in the transform's order, after a test of what is asked.
+pub(crate) fn values_at(
+    rt: &impl Abort,
+    alloc: Global,
+    domain: Domain,
+    rows: &Rows,
+    at: Point<Cubic>,
+) -> Result<Vec<Cubic>, AllocError> {
+    let copy = rows.try_clone(alloc)?;
+    assert!(rt; domain.log_n() <= 31 && domain.is_genuine() && copy.height() == domain.size());
+    assert!(rt; domain.is_clear_of(at));
+    CircleEvaluations::from_cfft_order(domain, copy).evaluate_at_point(alloc, at)
+}
+
+// The first rows.
+pub(crate) fn prefix(
+    rt: &impl Abort,
+    alloc: Global,
+    rows: &Rows,
+    height: usize,
+) -> Result<Rows, AllocError> {
+    assert!(rt; height <= rows.height());
+    let (first, _) = rows.split_rows(height);
+    RowMajorMatrix::copy_of(alloc, &first)
+}
+
+// Asserts that the columns of coefficients have these values at the point of this basis.
+fn assert_values_by_basis(rt: &impl Abort, coeffs: &Rows, basis: &[Cubic], values: &[Cubic]) {
+    for (column, value) in values.iter().enumerate() {
+        assert!(rt; plain_entry(rt, coeffs, column, basis) == *value);
+    }
+}
+
+// Asserts that the columns of rows have these values at a point, by Lagrange polynomials and by
+// coefficients.
+fn assert_values(
+    rt: &impl Abort,
+    alloc: Global,
+    domain: Domain,
+    rows: &Rows,
+    at: Point<Cubic>,
+    values: &[Cubic],
+) -> Result<(), AllocError> {
+    let log_n = domain.log_n();
+    assert!(rt; log_n >= 1 && log_n <= 31);
+    let basis = circle_basis(alloc, at, log_n)?;
+    let coeffs = coefficients(rt, alloc, domain, rows)?;
+    assert_values_by_basis(rt, &coeffs, &basis, values);
+    let found = values_at(rt, alloc, domain, rows, at)?;
+    assert!(rt; found.as_slice() == values);
+    Ok(())
+}
+
+// The point at a place of the transform's order.
+pub(crate) fn point_at(rt: &impl Abort, domain: Domain, place: usize) -> Point<Mersenne31> {
+    let log_n = domain.log_n();
+    assert!(rt; log_n >= 1 && log_n <= 31);
+    assert!(rt; place < domain.size());
+    domain.nth_point(cfft_permute_index(place, log_n))
+}
+
+// Asserts that the first points of a domain in the transform's order are those of a smaller one.
+fn assert_begins_with(rt: &impl Abort, larger: Domain, smaller: Domain) {
+    assert!(rt; smaller.log_n() <= 31);
+    for place in 0..smaller.size() {
+        assert!(rt; point_at(rt, smaller, place) == point_at(rt, larger, place));
+    }
+}
+
+// Asserts that scattered rows, their extension to a larger domain and its first rows have the same
+// values at a point.
+fn assert_alike(
+    rt: &impl Abort,
+    alloc: Global,
+    log_n: usize,
+    log_blowup: usize,
+    width: usize,
+) -> Result<(), AllocError> {
+    assert!(rt; log_n >= 1 && log_n <= 8 && log_blowup <= 2 && width <= 11);
+    let (domain, larger) = (
+        Domain::standard(log_n),
+        Domain::standard(log_n + log_blowup),
+    );
+    let at = on_line(rt, cubic(log_n as u64, 1, width as u64));
+    let rows = scattered(rt, alloc, 1 << log_n, width, width as u64)?;
+    let values = values_at(rt, alloc, domain, &rows, at)?;
+    assert_values(rt, alloc, domain, &rows, at, &values)?;
+    let all = extended(rt, alloc, domain, &rows, larger)?;
+    assert_values(rt, alloc, larger, &all, at, &values)?;
+    let first = prefix(rt, alloc, &all, 1 << log_n)?;
+    let smaller = CircleDomain::new(log_n, larger.shift());
+    assert_begins_with(rt, larger, smaller);
+    assert_values(rt, alloc, smaller, &first, at, &values)
+}
+
+#[test]
+fn values_at_a_point_on_three_domains(rt: HostRuntime) -> Result<(), Fail> {
+    for log_n in 2..8 {
+        for width in [1, 4, 11] {
+            for log_blowup in [1, 2] {
+                assert_alike(&rt, rt.alloc(), log_n, log_blowup, width)?;
+            }
+        }
+    }
+    Ok(())
+}

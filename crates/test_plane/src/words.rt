@@ -1,0 +1,53 @@
+//! What a committed column is opened to, over Mersenne31 and its cubic extension.
+use crate::off_domain::{cubic, on_line};
+use crate::transform::{Rows, column};
+use circle_codewords::{are_off_domain, opened_values};
+use circle_commit::Matrix;
+use circle_field::{Cubic, Field, Mersenne31};
+use circle_plane::Point;
+use std::alloc::{AllocError, Global};
+use std::process::Abort;
+use std::test::Fail;
+
+// The values of 1 + 2y + 3x + 4xy at the eight points of the standard domain in the transform's
+// order.
+const EIGHT_BY_PAIRS: [u64; 8] = [
+    1581940626, 1962669500, 565411951, 184945221, 1754305948, 1969764645, 393308773, 177587932,
+];
+
+// `opened_values` twice, after a test of what it asks. The second time no weights are added.
+fn opened(
+    rt: &impl Abort,
+    alloc: Global,
+    log_blowup: usize,
+    log_height: usize,
+    rows: &Rows,
+    points: &[Cubic],
+) -> Result<Vec<Vec<Cubic>>, AllocError> {
+    assert!(rt; log_height < 31 && log_blowup < log_height && rows.height() == 1 << log_height);
+    assert!(rt; are_off_domain::<Mersenne31, Cubic>(log_height, points));
+    let mut all = Vec::new(alloc);
+    let values = opened_values(alloc, &mut all, log_blowup, log_height, rows, points)?;
+    let added = all.len();
+    let again = opened_values(alloc, &mut all, log_blowup, log_height, rows, points)?;
+    assert!(rt;
+        added == points.len() && all.len() == added && values.as_slice() == again.as_slice()
+    );
+    Ok(values)
+}
+
+// The value of 1 + 2y + 3x + 4xy at a point.
+fn polynomial_at(at: Point<Cubic>) -> Cubic {
+    let [one, two, three, four] = [1, 2, 3, 4].map(|n| Cubic::from_u64(n));
+    one + two * at.y() + three * at.x() + four * at.x() * at.y()
+}
+
+#[test]
+fn the_weights_of_a_point_are_made_once(rt: HostRuntime) -> Result<(), Fail> {
+    let alloc = rt.alloc();
+    let t = cubic(0, 1, 0);
+    let expected = polynomial_at(on_line(&rt, t));
+    let values = opened(&rt, alloc, 1, 3, &column(alloc, &EIGHT_BY_PAIRS)?, &[t])?;
+    assert!(&rt; values.len() == 1 && values[0].as_slice() == [expected].as_slice());
+    Ok(())
+}

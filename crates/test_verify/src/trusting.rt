@@ -1,0 +1,226 @@
+//! Zeros over schemes that authenticate everything: what is left to refuse is the claims' own.
+use crate::played::play;
+use crate::statement::{QUERIES, numbers};
+use crate::unhearing::Unhearing;
+use circle_commit::{
+    BatchMultiOpening, CommitmentOpening, FriError, FriParameters, MatrixOpening, PointOpening,
+};
+use circle_field::{Cubic, ExtensionField, Field, Mersenne31};
+use p3_circle::{
+    CircleCommitPhaseMultiStep, CircleFriProof, CircleInputProof, CirclePcs, CirclePcsProof,
+    InputError, Neutral, Point,
+};
+use std::alloc::{AllocError, Global};
+use std::fmt::InlineText;
+use std::process::Abort;
+use std::test::Fail;
+use test_batches::batches::{Domain, cubic, one};
+use test_batches::parameters::parameters;
+use test_schemes::schemes::{Nothing, TrustingMmcs};
+
+type Claims = Vec<CommitmentOpening<Cubic, Nothing, Domain>>;
+
+type Proof = CirclePcsProof<Mersenne31, Cubic, TrustingMmcs, TrustingMmcs, Mersenne31>;
+
+// Claims that a column is zero at these points.
+fn zero_at(
+    alloc: Global,
+    log_n: usize,
+    points: &[Cubic],
+) -> Result<MatrixOpening<Cubic, Domain>, AllocError> {
+    let mut claims = Vec::new(alloc);
+    for point in points {
+        claims.push(PointOpening {
+            point: *point,
+            values: one(alloc, Cubic::ZERO)?,
+        })?;
+    }
+    Ok(MatrixOpening {
+        domain: Domain::new(log_n, Point::ZERO),
+        points: claims,
+    })
+}
+
+// The coordinates of the 32 points that a column of 16 rows is committed on.
+fn committed_points(alloc: Global) -> Result<Vec<Cubic>, Fail> {
+    let mut points = Vec::new(alloc);
+    for point in Domain::standard(5).points() {
+        let coordinate = point.to_projective_line().ok_or("the half turn")?;
+        points.push(Cubic::from_base(coordinate))?;
+    }
+    Ok(points)
+}
+
+// So many lists of so many zeros.
+fn lists_of_zeros<F: Field>(
+    alloc: Global,
+    lists: usize,
+    of: usize,
+) -> Result<Vec<Vec<F>>, AllocError> {
+    let mut all = Vec::new(alloc);
+    for _ in 0..lists {
+        all.push(vec![in alloc; F::ZERO; of]?)?;
+    }
+    Ok(all)
+}
+
+// What is opened of so many rounds.
+fn rounds(
+    alloc: Global,
+    count: usize,
+) -> Result<Vec<CircleCommitPhaseMultiStep<Cubic, TrustingMmcs>>, AllocError> {
+    let mut rounds = Vec::new(alloc);
+    for _ in 0..count {
+        rounds.push(CircleCommitPhaseMultiStep {
+            sibling_values: lists_of_zeros(alloc, QUERIES, 1)?,
+            opening_proof: Nothing,
+        })?;
+    }
+    Ok(rounds)
+}
+
+// The rows of so many columns at each query.
+fn opened(
+    alloc: Global,
+    columns: usize,
+) -> Result<BatchMultiOpening<Mersenne31, TrustingMmcs>, AllocError> {
+    let mut opened_values = Vec::new(alloc);
+    for _ in 0..QUERIES {
+        opened_values.push(lists_of_zeros(alloc, columns, 1)?)?;
+    }
+    Ok(BatchMultiOpening {
+        opened_values,
+        opening_proof: Nothing,
+    })
+}
+
+// A proof of zeros, of lengths that fit so many columns, each of another height, so many rounds and
+// so many coefficients.
+fn proof(
+    alloc: Global,
+    columns: usize,
+    num_rounds: usize,
+    coefficients: usize,
+) -> Result<Proof, AllocError> {
+    let input_openings = CircleInputProof {
+        input_openings: one(alloc, opened(alloc, columns)?)?,
+        first_layer_siblings: lists_of_zeros(alloc, QUERIES, columns)?,
+        first_layer_proof: Nothing,
+    };
+    let fri_proof = CircleFriProof {
+        commit_phase_commits: vec![in alloc; Nothing; num_rounds]?,
+        commit_pow_witnesses: vec![in alloc; Mersenne31::ZERO; num_rounds]?,
+        input_openings,
+        commit_phase_openings: rounds(alloc, num_rounds)?,
+        final_poly: vec![in alloc; Cubic::ZERO; coefficients]?,
+        pow_witness: Mersenne31::ZERO,
+    };
+    Ok(CirclePcsProof {
+        batch_pow_witness: Mersenne31::ZERO,
+        first_layer_commitment: Nothing,
+        lambdas: vec![in alloc; Cubic::ZERO; columns]?,
+        fri_proof,
+    })
+}
+
+/// Columns that are claimed to be zero, with a proof, and the logarithm of the number of
+/// coefficients of the final polynomial.
+#[derive(Drop)]
+struct Zeros {
+    log_final_poly_len: usize,
+    claims: Claims,
+    proof: Proof,
+}
+
+// A column of 16 zeros, claimed at each point that it is committed on.
+fn at_every_query(alloc: Global) -> Result<Zeros, Fail> {
+    let matrix = zero_at(alloc, 4, &committed_points(alloc)?)?;
+    let batch = CommitmentOpening {
+        commitment: Nothing,
+        matrices: one(alloc, matrix)?,
+    };
+    Ok(Zeros {
+        log_final_poly_len: 0,
+        claims: one(alloc, batch)?,
+        proof: proof(alloc, 1, 3, 1)?,
+    })
+}
+
+// A column of 16 zeros, and one of twice as many as there are coefficients.
+fn with_a_short_column(alloc: Global, two_coefficients: bool) -> Result<Zeros, Fail> {
+    let (log_final_poly_len, num_rounds, coefficients) = if two_coefficients {
+        (1, 2, 2)
+    } else {
+        (0, 3, 1)
+    };
+    let at = [cubic([0, 1, 0])];
+    let tall = zero_at(alloc, 4, &at)?;
+    let short = zero_at(alloc, 1 + log_final_poly_len, &at)?;
+    let batch = CommitmentOpening {
+        commitment: Nothing,
+        matrices: vec![in alloc; tall, short]?,
+    };
+    Ok(Zeros {
+        log_final_poly_len,
+        claims: one(alloc, batch)?,
+        proof: proof(alloc, 2, num_rounds, coefficients)?,
+    })
+}
+
+type Answer = Result<(), FriError<AllocError, InputError<AllocError, AllocError>>>;
+
+// The text of the answer.
+fn shown(answer: Answer) -> InlineText<128> {
+    match answer {
+        Ok(()) => InlineText::of("accepted"),
+        Err(refusal) => InlineText::of(refusal),
+    }
+}
+
+// The challenger that the verifier's transcript leaves over the claims and the proof.
+fn played(
+    alloc: Global,
+    params: &FriParameters<TrustingMmcs>,
+    zeros: &Zeros,
+) -> Result<Unhearing, Fail> {
+    let mut challenger = Unhearing::new();
+    play::<TrustingMmcs, TrustingMmcs, Unhearing>(
+        alloc,
+        params,
+        &zeros.claims,
+        &zeros.proof,
+        &mut challenger,
+    )??;
+    Ok(challenger)
+}
+
+// Asserts that the answer is of this text, and that the whole transcript is played.
+fn assert_answered(
+    rt: &impl Abort,
+    alloc: Global,
+    zeros: Zeros,
+    expected: &str,
+) -> Result<(), Fail> {
+    let params = parameters(numbers(zeros.log_final_poly_len, [0; 3]), TrustingMmcs);
+    let due = played(alloc, &params, &zeros)?;
+    let scheme = CirclePcs::new(TrustingMmcs, params);
+    let mut verifier = Unhearing::new();
+    let answer = scheme.verify(alloc, zeros.claims, &zeros.proof, &mut verifier);
+    assert_eq!(rt; shown(answer).as_str(), expected);
+    assert!(rt; verifier == due);
+    Ok(())
+}
+
+const ON_A_QUERY: &str = "the input is refused: opening point coincides with a query point";
+
+const OF_TWO_LEFT: &str = "1 values are left over, the next of height 2^1";
+
+const OF_FOUR_LEFT: &str = "1 values are left over, the next of height 2^2";
+
+#[test]
+fn zeros_that_authenticate(rt: HostRuntime) -> Result<(), Fail> {
+    let alloc = rt.alloc();
+    assert_answered(&rt, alloc, at_every_query(alloc)?, ON_A_QUERY)?;
+    assert_answered(&rt, alloc, with_a_short_column(alloc, false)?, OF_TWO_LEFT)?;
+    assert_answered(&rt, alloc, with_a_short_column(alloc, true)?, OF_FOUR_LEFT)
+}
