@@ -19,6 +19,7 @@ use Rattle.circle_relation.specs.declared.proof.CircleCommitPhaseMultiStep.{Circ
 use Rattle.circle_relation.specs.declared.proof.CircleFriProof.{CircleFriProof}
 use Rattle.circle_relation.specs.declared.proof.CircleInputProof.{CircleInputProof}
 use Rattle.circle_relation.specs.declared.proof.CirclePcsProof.{CirclePcsProof}
+use Rattle.circle_commands.proofs.Texts.{items_within}
 use Rattle.circle_commands.specs.Verify.{input_fields}
 use Rattle.circle_commands.specs.declared.verify.Input.{Input as Claims}
 use Rattle.serde_json.specs.Data.{Data, depth, items_depth, members_depth}
@@ -29,14 +30,10 @@ abbrev pub IsWithin : {T : Type 0} → Form T → ℕ → Type 0
 IsWithin {T} form n = (x : T) → depth (form.written x) ≤ n
 
 module _ {T : Type 0} (written : T → Data) (n : ℕ) (within : (x : T) → depth (written x) ≤ n) where
-  items_within : (xs : List T) → items_depth (items_of (map written xs)) ≤ n
-  items_within [] = omega arith
-  items_within (x ∷ xs) = let a = within x in let b = items_within xs in omega arith
-
   coefficients_within : (xs : List T) → depth (coefficients_written written xs) ≤ n + 1
   coefficients_within [] = omega arith
   coefficients_within (x ∷ []) = let a = within x in omega arith
-  coefficients_within (x ∷ y ∷ ys) = let a = items_within (x ∷ y ∷ ys) in omega arith
+  coefficients_within (x ∷ y ∷ ys) = let a = items_within written n within (x ∷ y ∷ ys) in omega arith
 
 module _ {T : Type 0} (form : Form T) (n : ℕ) (within : IsWithin form n) where
   list : IsWithin (list_form form) (n + 1)

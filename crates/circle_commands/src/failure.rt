@@ -10,10 +10,9 @@ use circle_json::JsonError;
 use p3_circle::ProverError;
 use serde_json::Error as TextError;
 use std::alloc::AllocError;
-use std::fmt;
 use std::fmt::InlineText;
-use std::io;
 use std::io::ErrorKind;
+use std::{fmt, io};
 use thiserror::Error;
 
 /// More than the longest line that a failure has.
@@ -74,7 +73,10 @@ fn unreadable(name: &str) -> InlineText<LINE_LEN>
     requires { length name.now ≤ 40 }
     ensures { inline_text result ≡ codes "{\"unreadable\":\"" ++ name.now ++ codes "\"}\n" }
 {
-    with(with(with(InlineText::new(), "{\"unreadable\":\""), name), "\"}\n")
+    with(
+        with(with(InlineText::new(), "{\"unreadable\":\""), name),
+        "\"}\n",
+    )
 }
 
 // The line of an input that is refused.
@@ -82,7 +84,10 @@ fn refused(name: &str) -> InlineText<LINE_LEN>
     requires { length name.now ≤ 40 }
     ensures { inline_text result ≡ codes "{\"refused\":\"" ++ name.now ++ codes "\"}\n" }
 {
-    with(with(with(InlineText::new(), "{\"refused\":\""), name), "\"}\n")
+    with(
+        with(with(InlineText::new(), "{\"refused\":\""), name),
+        "\"}\n",
+    )
 }
 
 // The text with another after it.

@@ -101,11 +101,7 @@ fn run_named<R: Read, W: Write>(
 }
 
 // Runs the command that takes these inputs.
-fn run_command<T: Command, R: Read, W: Write>(
-    alloc: Global,
-    input: &mut R,
-    output: &mut W,
-) -> u8
+fn run_command<T: Command, R: Read, W: Write>(alloc: Global, input: &mut R, output: &mut W) -> u8
     ensures status { result ≤ 2 }
     ensures run { HasRun (IsAnswer T.form T.is_result T.is_reason) (R.remaining input.old)
         (R.remaining input.new) (W.contents output.old) (W.contents output.new) result }

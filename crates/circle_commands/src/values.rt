@@ -203,10 +203,9 @@ pub(crate) fn matrix(
     Ok(RowMajorMatrix::new(entries, width))
 }
 
-// The object of the rows, in natural order.
-fn shown(alloc: Global, values: &Values) -> Result<Value, AllocError>
-    ensures { IfOk result (λ value. view value
-        ≡ rows_written (⟦<Values as Matrix<Mersenne31>>⟧.rows values.now)) }
+// The object of a matrix's rows.
+fn shown<M: Matrix<Mersenne31>>(alloc: Global, values: &M) -> Result<Value, AllocError>
+    ensures { IfOk result (λ value. view value ≡ rows_written (M.rows values.now)) }
 {
     let mut rows = Vec::with_capacity(alloc, values.height())?;
     for r in 0..values.height() {
