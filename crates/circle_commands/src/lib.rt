@@ -1,31 +1,37 @@
 //! The commands of `circle_tool` over circle domains, as functions of JSON texts.
 //!
-//! `run` takes the program's arguments, reads one JSON value to its end, and writes one line of
-//! JSON. Each command is a module with the type of what it is given, `Input`, why it refuses that,
-//! `Refusal`, its `answer` of a JSON value, and the call that computes it. What is proved:
+//! Each command is a module with the type of what it is given, `Input`, why it refuses that,
+//! `Refusal`, and the call that computes its result. `Input` implements the trait [`Command`], by
+//! which [`command::answer`] makes of a text's bytes the line of the result, or a [`Failure`]. The
+//! program, [`run::run`], and the library for C rest on these. What is proved:
 //!
-//! - `run::run` ends with 0, 1 or 2, with 0 only where the arguments name a command, and reads
-//!   nothing where they don't (`usage`, `unread`); `run::finish` wrote the whole line unless it
-//!   answers 1 (`written`).
-//! - `values::values_at_points` answers the values of the polynomials at the domain's points in
-//!   natural order (`rows`), and refuses exactly what there is reason for (`too_small` to
-//!   `bad_height`).
-//! - `prove::prove` commits to the matrices' extensions and opens them from a challenger that took
-//!   in nothing but the commitments (`proof`, by `Proved.IsProved`); rows that don't fit are
-//!   refused before, by the first reason (`rows`).
-//! - `verify::verify` is Ok only where the relation of `circle_relation` holds, of challenges that
-//!   are drawn from such a challenger (`Verified.IsVerified`).
-//! - `shape::shape` answers the shape that the input's numbers are (`shape`), and refuses exactly
-//!   heights without room and past the circle's group (`too_small`, `too_large`).
-//!
-//! The texts of JSON, but for how inputs are read and what `prove` and `verify` write of them, are
-//! known to no clause; tests speak of them.
+//! - `command::answer` returns a line only where the text stands for an input of which the line is
+//!   a result. It fails only where the text isn't JSON, where it is JSON that the input's form
+//!   refuses by the error that is named, where there is the named reason to refuse the input, or
+//!   for memory (`Answer.IsAnswer`).
+//! - `run::run` reads its input to the end, and appends the line of the answer of it, with the
+//!   answer's status, unless reading fails, memory is refused or writing fails (`values`, `prove`,
+//!   `verify`, `shape`, by `Program.HasRun`). It reads nothing where the arguments name no command
+//!   (`usage`, `unread`). What is known of the bytes is what the reader and the writer tell.
+//! - `Failure::line` is the line of each failure, with the refusal's name (`Failure.line_of`).
+//! - `values`: the line is a JSON text of the rows of `Input.values_of`; each refusal has its own
+//!   condition (`Reasons.IsValueless`).
+//! - `prove`: the line is a text of claims and a proof of which `Proved.IsProved` holds, and which
+//!   `verify` accepts where each matrix has a point. Rows that don't fit are refused by the first
+//!   reason, and the scheme's refusals are those that its calls promise (`Unproved.IsUnproved`).
+//! - `verify`: the line is `{"verified":true}`, only where `Verified.IsVerified` holds. It refuses
+//!   only where it doesn't hold, for a reason that the scheme has (`Verified.IsUnverified`).
+//! - `shape`: the line is a JSON text of `Shape.shape_written`: the numbers, the layout's label,
+//!   the seed's text and the number of steps of the input's shape.
 //!
 //! Its files:
 //!
-//! - In `specs/`: one file for each command's input and answer, and `Arguments`, `Failure`, `Json`,
-//!   `Rows`, `Traces`.
-//! - In `proofs/`: what they need of lists, rows and batches.
+//! - In `specs/`: one file for each command's input; `Verified`, `Proved`, `Unproved`, `Proof` and
+//!   `Traces`, what `verify` and `prove` return and refuse; `Reasons`, the reasons of all commands;
+//!   `Named`, the names of refusals; `Failure`, lines and statuses; `Text`, what bytes stand for;
+//!   `Answer`, what a command makes of them; `Program`, what a run reads and writes; `Arguments`,
+//!   `Json`, `Rows`.
+//! - In `proofs/`: what they need of lists, rows, batches, texts and of how deep JSON nests.
 #![tactic(auto)]
 
 pub mod command;
