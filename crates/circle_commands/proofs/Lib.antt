@@ -3,13 +3,11 @@ pub mod Claimed
 pub mod Depth
 pub mod First
 pub mod Heights
-pub mod Names
 pub mod Pairs
 pub mod Proved
 pub mod Proving
 pub mod Read
 pub mod Rows
 pub mod Texts
-pub mod Told
 pub mod Unproved
 pub mod Verified

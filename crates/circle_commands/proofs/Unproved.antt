@@ -15,11 +15,10 @@ use Rattle.circle_prover.specs.Schemes.{Schemes}
 use Rattle.circle_relation.specs.declared.error.ProverError.{ProverError}
 use Rattle.circle_relation.specs.declared.error.ProverError.TheVariants.{Memory}
 use Rattle.circle_commands.specs.Proved.{AreCommitted, IsCommitted, IsRequested, commitments_taken}
-use Rattle.circle_commands.specs.Reasons.{IsProveReason}
+use Rattle.circle_commands.specs.Reasons.{IsProveRefusal}
 use Rattle.circle_commands.specs.Traces.{IsRefusalOfBatches}
 use Rattle.circle_commands.specs.Unproved.{IsFirstUncommitted, IsRefusedByScheme, IsUncommitted, IsUnopened}
 use Rattle.circle_commands.specs.Verified.{Scheme}
-use Rattle.circle_commands.specs.declared.failure.Reason.TheVariants.{Prove}
 use Rattle.circle_commands.specs.declared.prove.Committed.{Committed}
 use Rattle.circle_commands.specs.declared.prove.Input.{Input}
 use Rattle.circle_commands.specs.declared.prove.Refusal.{Refusal}
@@ -79,9 +78,8 @@ module _ {g : _} {D WD : Type 0}
     (CommitRefuses : Scheme → List (CircleDomain Mersenne31 g × RowMajorMatrix Mersenne31) → ProverError → Type 0)
     (OpenRefuses : Scheme → List (OpeningRequest D Cubic) → List ℕ → List ℕ → ProverError → Type 0) (input : Input)
   where
-    -- memory was refused, or there is a reason
     abbrev pub IsReasoned : Refusal → Type 0
-    IsReasoned refusal = (refusal ≡ Prover Memory) ⊎ IsProveReason o CommitRefuses OpenRefuses input (Prove refusal)
+    IsReasoned = IsProveRefusal o CommitRefuses OpenRefuses input
 
     -- rows that are refused
     pub by_rows : {A : Type 0} (r : Result A Refusal) (e : Refusal) → IsErrAnd r (λ x. x ≡ e) → IsRefusalOfBatches input.params.log_final_poly_len input.batches.items e → IfErr r IsReasoned

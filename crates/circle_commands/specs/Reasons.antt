@@ -1,5 +1,5 @@
 -- The reasons for which each command refuses an input.
-use Rattle.std.specs.Prelude.{◌≡◌, ℕ, ◌+◌, ◌<◌, ◌≤◌, ◌⊎◌, List, Vec}
+use Rattle.std.specs.Prelude.{◌≡◌, ℕ, ◌<◌, ◌≤◌, ◌⊎◌, List, Vec}
 use Rattle.std.specs.declared.alloc.Global.{Global}
 use Rattle.circle_challenger.specs.declared.sha256.Sha256Challenger.{Sha256Challenger}
 use Rattle.circle_field.specs.declared.cubic.Cubic.{Cubic}
@@ -14,6 +14,7 @@ use Rattle.circle_merkle.specs.declared.mmcs.ShaMmcs.{ShaMmcs}
 use Rattle.circle_prover.specs.Schemes.{Schemes}
 use Rattle.circle_relation.specs.declared.error.InputError.{InputError}
 use Rattle.circle_relation.specs.declared.error.ProverError.{ProverError}
+use Rattle.circle_relation.specs.declared.error.ProverError.TheVariants.{Memory}
 use Rattle.circle_commands.specs.Input.{HasFittingHeight, HasFittingSize, HasPoint, HasRectangle}
 use Rattle.circle_commands.specs.Shape.{HasRoom}
 use Rattle.circle_commands.specs.Traces.{IsRefusalOfBatches}
@@ -22,6 +23,8 @@ use Rattle.circle_commands.specs.Verified.{IsUnverified, IsVerified, Scheme}
 use Rattle.circle_commands.specs.declared.failure.Reason.{Reason}
 use Rattle.circle_commands.specs.declared.failure.Reason.TheVariants as reason
 use Rattle.circle_commands.specs.declared.prove.Input.{Input as Statement}
+use Rattle.circle_commands.specs.declared.prove.Refusal.{Refusal}
+use Rattle.circle_commands.specs.declared.prove.Refusal.TheVariants.{Prover}
 use Rattle.circle_commands.specs.declared.shape.Input.{Input as Claimed}
 use Rattle.circle_commands.specs.declared.shape.Refusal.{Refusal as Shapeless}
 use Rattle.circle_commands.specs.declared.shape.Refusal.TheVariants.{HeightTooSmall, HeightTooLarge}
@@ -93,3 +96,8 @@ module _ {g : _} {D WD : Type 0}
       IsProveReason input (reason.Verify error) = ⊥
       IsProveReason input (reason.Shape refusal) = ⊥
       IsProveReason input reason.ParametersDiffer = ⊥
+
+      -- memory was refused, or there is a reason
+      abbrev pub IsProveRefusal : Statement → Refusal → Type 0
+      IsProveRefusal input refusal =
+          (refusal ≡ Prover Memory) ⊎ IsProveReason input (reason.Prove refusal)

@@ -1,7 +1,7 @@
 //! The answers that a program gives in place of a result.
-ghost use Rattle.std.specs.Prelude.{◌≡◌, ◌≤◌, ◌++◌, codes, length};
+ghost use Rattle.std.specs.Prelude.{◌≡◌, ◌≤◌, ◌++◌, length};
 ghost use Rattle.std.specs.Fmt.InlineText.{inline_text};
-ghost use Rattle.circle_commands.specs.Failure.{line_of, status_of};
+ghost use Rattle.circle_commands.specs.Failure.{line_of, refused_line, status_of, unreadable_line};
 ghost use Rattle.circle_commands.specs.Named.{reason_name};
 
 use crate::{prove, shape, values, verify};
@@ -71,7 +71,7 @@ impl Failure {
 // The line of an input that can't be read.
 fn unreadable(name: &str) -> InlineText<LINE_LEN>
     requires { length name.now ≤ 40 }
-    ensures { inline_text result ≡ codes "{\"unreadable\":\"" ++ name.now ++ codes "\"}\n" }
+    ensures { inline_text result ≡ unreadable_line name.now }
 {
     with(
         with(with(InlineText::new(), "{\"unreadable\":\""), name),
@@ -82,7 +82,7 @@ fn unreadable(name: &str) -> InlineText<LINE_LEN>
 // The line of an input that is refused.
 fn refused(name: &str) -> InlineText<LINE_LEN>
     requires { length name.now ≤ 40 }
-    ensures { inline_text result ≡ codes "{\"refused\":\"" ++ name.now ++ codes "\"}\n" }
+    ensures { inline_text result ≡ refused_line name.now }
 {
     with(
         with(with(InlineText::new(), "{\"refused\":\""), name),

@@ -11,10 +11,9 @@ ghost use Rattle.circle_json.specs.ObjectForm.{object_form};
 ghost use Rattle.circle_codewords.specs.Requests.{lists_of};
 ghost use Rattle.circle_relation.specs.declared.error.ProverError.TheVariants.{Memory};
 ghost use Rattle.circle_commands.specs.Named.{prove_name};
-ghost use Rattle.circle_commands.specs.Reasons.{IsProveReason};
+ghost use Rattle.circle_commands.specs.Reasons.{IsProveRefusal};
 ghost use Rattle.circle_commands.specs.Text.{IsLineOf};
 ghost use Rattle.circle_commands.specs.Unproved.{IsFirstUncommitted, IsUncommitted};
-ghost use Rattle.circle_commands.specs.declared.failure.Reason.TheVariants.{Prove};
 ghost use Rattle.circle_commands.specs.Prove.{input_fields, trace_fields};
 ghost use Rattle.circle_commands.specs.Proved.{AreCommitted, ArePlaced, HavePoints, IsCommitted};
 ghost use Rattle.circle_commands.specs.Proved.{IsProved};
@@ -216,9 +215,8 @@ pub fn prove(alloc: Global, input: Input) -> Result<verify::Input, Refusal>
     ensures accepted { let o = ⟦<Challenger as OpeningOver<Val, Challenge, ValMmcs, ChallengeMmcs>>⟧
         in IfOk result (λ out. HavePoints input → IsVerified o.schemes out) }
     ensures reason { let o = ⟦<Challenger as OpeningOver<Val, Challenge, ValMmcs, ChallengeMmcs>>⟧
-        in let p = ⟦<Scheme as Pcs<Challenge, Challenger>>⟧ in IfErr result (λ e.
-        (e ≡ Prover Memory) ⊎ IsProveReason o.schemes p.commit_refuses p.open_refuses input
-        (Prove e)) }
+        in let p = ⟦<Scheme as Pcs<Challenge, Challenger>>⟧ in IfErr result
+        (IsProveRefusal o.schemes p.commit_refuses p.open_refuses input) }
 {
     let Input { batches, params } = input;
     validate_batches(params.log_final_poly_len, &batches)?;
