@@ -12,7 +12,8 @@ use Rattle.circle_domain.specs.Order.{IsGenuine}
 use Rattle.circle_point.proofs.Multiples.{times-one, times-double}
 
 -- 2^n times a point of order 2^(n + 1) is the half turn
-module _ {F : Type 0} {k : FieldOps F} (ring : RingLaws k) {two_adicity : ℕ} {gen : ℕ → Coordinates F} (are : AreGenerators k two_adicity gen) where
+module _ {F : Type 0} {k : FieldOps F} (ring : RingLaws k) {two_adicity : ℕ}
+    {gen : ℕ → Coordinates F} (are : AreGenerators k two_adicity gen) where
   half_turned : (n : ℕ) → n < two_adicity → times k (2 ^ n) (gen (suc n)) ≡ gen 1
   half_turned zero h = times-one ring (gen 1)
   half_turned (suc n) h =
@@ -26,12 +27,14 @@ module _ {F : Type 0} {k : FieldOps F} (ring : RingLaws k) {two_adicity : ℕ} {
 -- -1 is not 1
 not_origin : generators 1 ≢ origin operations
 not_origin e =
-    let turned : at (operations.neg operations.one) operations.zero ≡ origin operations = sym are_generators.half_turn ∙ e in
+    let turned : at (operations.neg operations.one) operations.zero ≡ origin operations =
+    sym are_generators.half_turn ∙ e in
     let same : 2147483646 ≡ 1 = ap (λ p. residue p.x) turned in
     omega (arith, same)
 
 -- a standard domain of at most 2^30 points is genuine
-pub standard-genuine : (n m : ℕ) (s : Coordinates Mersenne31) → m ≡ n → s ≡ generators (n + 1) → 1 ≤ n → n < 31 → IsGenuine operations m s
+pub standard-genuine : (n m : ℕ) (s : Coordinates Mersenne31) → m ≡ n → s ≡ generators (n + 1) →
+    1 ≤ n → n < 31 → IsGenuine operations m s
 standard-genuine n m s size shift h below =
     let next : n + 1 ≡ suc n = add-one n in
     let first : generators (n + 1) ≡ generators (suc n) = ap generators next in (

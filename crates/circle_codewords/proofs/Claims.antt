@@ -1,5 +1,6 @@
 -- Claims on matrices, one after another.
-use Rattle.std.specs.Prelude.{◌≡◌, ℕ, ◌+◌, ◌<◌, ◌==◌, if◌then◌else◌, true, List, [], ◌∷◌, ◌++◌, length, map, take, slice_index_or}
+use Rattle.std.specs.Prelude.{◌≡◌, ℕ, ◌+◌, ◌<◌, ◌==◌, if◌then◌else◌, true, List, [], ◌∷◌, ◌++◌}
+use Rattle.std.specs.Prelude.{length, map, take, slice_index_or}
 use Rattle.std.proofs.Common.{sym, ◌∙◌, ap}
 use Rattle.std.proofs.lemmas.List.{map-append, append-nil, append_assoc, take_more}
 use Rattle.circle_relation.specs.Statement.{PointClaim}
@@ -11,28 +12,39 @@ module _ {F E : Type 0} where
   claims_among m claims j = map (λ c. (c, slice_index_or m.rows j [])) claims
 
   -- one claim more
-  pub among-more : (m : Committed F E) (i : ℕ) (claim : PointClaim E) (j : ℕ) → i < length m.claims → slice_index_or m.claims i claim ≡ claim →
-      claims_among m (take i m.claims) j ++ (claim, slice_index_or m.rows j []) ∷ [] ≡ claims_among m (take (i + 1) m.claims) j
+  pub among-more : (m : Committed F E) (i : ℕ) (claim : PointClaim E) (j : ℕ) →
+      i < length m.claims → slice_index_or m.claims i claim ≡ claim →
+      claims_among m (take i m.claims) j ++ (claim, slice_index_or m.rows j []) ∷ []
+      ≡ claims_among m (take (i + 1) m.claims) j
   among-more m i claim j lt is =
       let f : PointClaim E → PointClaim E × List F = λ c. (c, slice_index_or m.rows j []) in
-      sym (ap (map f) (take_more m.claims i claim lt ∙ ap (λ c. take i m.claims ++ c ∷ []) is) ∙ map-append f (take i m.claims) (claim ∷ []))
+      sym (ap (map f) (take_more m.claims i claim lt ∙ ap (λ c. take i m.claims ++ c ∷ []) is)
+      ∙ map-append f (take i m.claims) (claim ∷ []))
 
   claims-append : (h : ℕ) (ms : List (Committed F E)) (m : Committed F E) (j : ℕ) →
-      claims_at h (ms ++ m ∷ []) j ≡ claims_at h ms j ++ (if m.log_height == h then claims_on m j else [])
+      claims_at h (ms ++ m ∷ []) j ≡ claims_at h ms j
+      ++ (if m.log_height == h then claims_on m j else [])
   claims-append h [] m j = append-nil (if m.log_height == h then claims_on m j else [])
   claims-append h (n ∷ ms) m j =
-      ap (λ rest. (if n.log_height == h then claims_on n j else []) ++ rest) (claims-append h ms m j)
-      ∙ sym (append_assoc (if n.log_height == h then claims_on n j else []) (claims_at h ms j) (if m.log_height == h then claims_on m j else []))
+      ap (λ rest. (if n.log_height == h then claims_on n j else []) ++ rest)
+      (claims-append h ms m j)
+      ∙ sym (append_assoc (if n.log_height == h then claims_on n j else []) (claims_at h ms j)
+      (if m.log_height == h then claims_on m j else []))
 
   -- one matrix more, of the height and of another
-  pub claims-more : (h : ℕ) (ms : List (Committed F E)) (i : ℕ) (m : Committed F E) (j : ℕ) → i < length ms → slice_index_or ms i m ≡ m → (m.log_height == h) ≡ true →
+  pub claims-more : (h : ℕ) (ms : List (Committed F E)) (i : ℕ) (m : Committed F E) (j : ℕ) →
+      i < length ms → slice_index_or ms i m ≡ m → (m.log_height == h) ≡ true →
       claims_at h (take i ms) j ++ claims_on m j ≡ claims_at h (take (i + 1) ms) j
   claims-more h ms i m j lt is same =
-      sym (ap (λ ns. claims_at h ns j) (take_more ms i m lt ∙ ap (λ n. take i ms ++ n ∷ []) is) ∙ claims-append h (take i ms) m j
+      sym (ap (λ ns. claims_at h ns j) (take_more ms i m lt ∙ ap (λ n. take i ms ++ n ∷ []) is)
+      ∙ claims-append h (take i ms) m j
       ∙ ap (λ b. claims_at h (take i ms) j ++ (if b then claims_on m j else [])) same)
 
-  pub claims-left : (h : ℕ) (ms : List (Committed F E)) (i : ℕ) (m : Committed F E) (j : ℕ) → i < length ms → slice_index_or ms i m ≡ m →
-      (if m.log_height == h then claims_on m j else []) ≡ [] → claims_at h (take i ms) j ≡ claims_at h (take (i + 1) ms) j
+  pub claims-left : (h : ℕ) (ms : List (Committed F E)) (i : ℕ) (m : Committed F E) (j : ℕ) →
+      i < length ms → slice_index_or ms i m ≡ m →
+      (if m.log_height == h then claims_on m j else []) ≡ [] → claims_at h (take i ms) j
+      ≡ claims_at h (take (i + 1) ms) j
   claims-left h ms i m j lt is none =
-      sym (ap (λ ns. claims_at h ns j) (take_more ms i m lt ∙ ap (λ n. take i ms ++ n ∷ []) is) ∙ claims-append h (take i ms) m j
+      sym (ap (λ ns. claims_at h ns j) (take_more ms i m lt ∙ ap (λ n. take i ms ++ n ∷ []) is)
+      ∙ claims-append h (take i ms) m j
       ∙ ap (λ cs. claims_at h (take i ms) j ++ cs) none ∙ append-nil (claims_at h (take i ms) j))

@@ -1,5 +1,6 @@
 -- Ratios that were made, found by their point.
-use Rattle.std.specs.Prelude.{◌≡◌, ℕ, ◌+◌, ◌<◌, length, slice_index_or, List, [], ◌∷◌, ◌++◌, map, All, true, Option, Some, None, IfSome}
+use Rattle.std.specs.Prelude.{◌≡◌, ℕ, ◌+◌, ◌<◌, length, slice_index_or, List, [], ◌∷◌, ◌++◌, map}
+use Rattle.std.specs.Prelude.{All, true, Option, Some, None, IfSome}
 use Rattle.std.specs.Borrow.{Bor}
 use Rattle.std.specs.List.{Any}
 use Rattle.std.specs.Option.{is_some}
@@ -20,7 +21,8 @@ module _ {X : Type 0} (P : X → Type 0) where
   pub any-kept : (xs : List X) (x : X) → Any P xs → Any P (xs ++ x ∷ [])
   any-kept [] x (i, d, lt, is, p) = absurd (omega (arith, lt))
   any-kept (y ∷ ys) x (zero, d, lt, is, p) = (0, d, omega arith, is, p)
-  any-kept (y ∷ ys) x (suc i, d, lt, is, p) = let r = any-kept ys x (i, d, omega (arith, lt), is, p) in (suc r.0, r.1, omega (arith, r.2), r.3, r.4)
+  any-kept (y ∷ ys) x (suc i, d, lt, is, p) = let r =
+      any-kept ys x (i, d, omega (arith, lt), is, p) in (suc r.0, r.1, omega (arith, r.2), r.3, r.4)
 
   pub any-last : (xs : List X) (x : X) → P x → Any P (xs ++ x ∷ [])
   any-last [] x p = (0, x, omega arith, refl, p)
@@ -28,35 +30,49 @@ module _ {X : Type 0} (P : X → Type 0) where
 
 module _ {E : Type 0} where
   -- what is found is known
-  pub known-of : (o : Option (Bor (List E))) (xs : List (PointRatios E)) (p : E) → is_some o ≡ true →
-      IfSome o (λ found. Any (λ r. (r.point ≡ p) × (r.ratios.items ≡ found.now)) xs) → Any (λ r. r.point ≡ p) xs
+  pub known-of : (o : Option (Bor (List E))) (xs : List (PointRatios E)) (p : E) →
+      is_some o ≡ true →
+      IfSome o (λ found. Any (λ r. (r.point ≡ p) × (r.ratios.items ≡ found.now)) xs) →
+      Any (λ r. r.point ≡ p) xs
   known-of (Some found) xs p some h = (h.0, h.1, h.2, h.3, h.4.0)
   known-of None xs p some h = absurd (false≢true some)
 
   -- and is right
-  pub right-of : {F : Type 0} (l : FieldOps E) (embed : F → E) (points : List (Coordinates F)) (all : List (PointRatios E)) (p : E) (ratios : List E) →
-      All (AreRatiosOf l embed points) all → Any (λ r. (r.point ≡ p) × (r.ratios.items ≡ ratios)) all → ratios ≡ map (vanishing_ratio l embed (from_line l p)) points
+  pub right-of : {F : Type 0} (l : FieldOps E) (embed : F → E) (points : List (Coordinates F))
+      (all : List (PointRatios E)) (p : E) (ratios : List E) →
+      All (AreRatiosOf l embed points) all →
+      Any (λ r. (r.point ≡ p) × (r.ratios.items ≡ ratios)) all →
+      ratios ≡ map (vanishing_ratio l embed (from_line l p)) points
   right-of l embed points all p ratios right found =
       sym found.4.1 ∙ subst (AreRatiosOf l embed points) found.3 (right found.0 found.1 found.2)
       ∙ ap (λ t. map (vanishing_ratio l embed (from_line l t)) points) found.4.0
 
   -- and so of weights
-  pub weights-of : (o : Option (Bor (LagrangeWeights E))) (xs : List (PointWeights E)) (h : ℕ) (p : E) → is_some o ≡ true →
-      IfSome o (λ found. Any (λ w. (w.log_height ≡ h) × (w.point ≡ p) × (w.weights ≡ found.now)) xs) → Any (λ w. (w.log_height ≡ h) × (w.point ≡ p)) xs
+  pub weights-of : (o : Option (Bor (LagrangeWeights E))) (xs : List (PointWeights E)) (h : ℕ)
+      (p : E) → is_some o ≡ true →
+      IfSome o (λ found. Any (λ w. (w.log_height ≡ h) × (w.point ≡ p) × (w.weights ≡ found.now))
+      xs) → Any (λ w. (w.log_height ≡ h) × (w.point ≡ p)) xs
   weights-of (Some found) xs h p some has = (has.0, has.1, has.2, has.3, (has.4.0, has.4.1))
   weights-of None xs h p some has = absurd (false≢true some)
 
   -- what was found is one of them
-  pub found-of : (xs : List (PointWeights E)) (h : ℕ) (p : E) (found : LagrangeWeights E) (P : PointWeights E → Type 0) → All P xs →
-      Any (λ w. (w.log_height ≡ h) × (w.point ≡ p) × (w.weights ≡ found)) xs → P (weights_for h p found)
+  pub found-of : (xs : List (PointWeights E)) (h : ℕ) (p : E) (found : LagrangeWeights E)
+      (P : PointWeights E → Type 0) → All P xs →
+      Any (λ w. (w.log_height ≡ h) × (w.point ≡ p) × (w.weights ≡ found)) xs →
+      P (weights_for h p found)
   found-of xs h p found P all has =
-      subst (λ x. P (weights_for h p x)) has.4.2 (subst (λ t. P (weights_for h t has.1.weights)) has.4.1 (subst (λ n. P (weights_for n has.1.point has.1.weights)) has.4.0
+      subst (λ x. P (weights_for h p x)) has.4.2
+      (subst (λ t. P (weights_for h t has.1.weights)) has.4.1
+      (subst (λ n. P (weights_for n has.1.point has.1.weights)) has.4.0
       (subst P has.3 (all has.0 has.1 has.2))))
 
 -- what holds of those below a place, and of the one there, holds of those below the next
-pub below-more : {A : Type 0} (P : A → Type 0) (xs : List A) (i : ℕ) (x : A) → i < length xs → x ≡ slice_index_or xs i x →
-    ((j : ℕ) (d : A) → j < i → P (slice_index_or xs j d)) → P x → (j : ℕ) (d : A) → j < i + 1 → P (slice_index_or xs j d)
+pub below-more : {A : Type 0} (P : A → Type 0) (xs : List A) (i : ℕ) (x : A) → i < length xs →
+    x ≡ slice_index_or xs i x →
+    ((j : ℕ) (d : A) → j < i → P (slice_index_or xs j d)) → P x → (j : ℕ) (d : A) → j < i + 1 →
+    P (slice_index_or xs j d)
 below-more P xs i x within is before here j d below =
     ⊎_elim (before j d)
     (λ past. let same : j ≡ i = omega (arith, below, past) in
-    subst (λ k. P (slice_index_or xs k d)) (sym same) (subst P (is ∙ get_or_default xs i x d within) here)) (cases_lt j i)
+    subst (λ k. P (slice_index_or xs k d)) (sym same)
+    (subst P (is ∙ get_or_default xs i x d within) here)) (cases_lt j i)

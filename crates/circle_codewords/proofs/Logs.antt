@@ -17,7 +17,8 @@ module _ (m : ℕ) where
   kept : (a n : ℕ) → a < m → length (exponents a (suc n)) ≡ suc (length (exponents (a + 1) n))
   kept a n less =
       let rest = exponents (a + 1) n in
-      ap (λ b. length (cond b (a ∷ rest) rest)) (le-leb (2 ^ suc a) (2 ^ m) (pow_within (suc a) m less))
+      ap (λ b. length (cond b (a ∷ rest) rest))
+      (le-leb (2 ^ suc a) (2 ^ m) (pow_within (suc a) m less))
 
   dropped : (a n : ℕ) → m ≤ a → length (exponents a (suc n)) ≡ length (exponents (a + 1) n)
   dropped a n other =

@@ -5,7 +5,8 @@ use Rattle.std.proofs.Common.{zero, suc, refl, ap, arith}
 use Rattle.std.proofs.lemmas.List.Elements.{All-nil, All-cons}
 
 module _ {X Y : Type 0} (R : X → Y → Type 0) where
-  pub zip-push : (xs : List X) (ys : List Y) (x : X) (y : Y) → AllZip R xs ys → R x y → AllZip R (xs ++ x ∷ []) (ys ++ y ∷ [])
+  pub zip-push : (xs : List X) (ys : List Y) (x : X) (y : Y) → AllZip R xs ys → R x y →
+      AllZip R (xs ++ x ∷ []) (ys ++ y ∷ [])
   zip-push [] [] x y all here = (here, tt)
   zip-push [] (b ∷ ys) x y all here = absurd all
   zip-push (a ∷ xs) [] x y all here = absurd all
@@ -17,31 +18,37 @@ module _ {X Y : Type 0} (R : X → Y → Type 0) where
   zip-length (a ∷ xs) [] all = absurd all
   zip-length (a ∷ xs) (b ∷ ys) all = ap suc (zip-length xs ys all.1)
 
-  pub zip-read : (xs : List X) (ys : List Y) (i : ℕ) (d : X) (e : Y) → AllZip R xs ys → i < length xs → R (slice_index_or xs i d) (slice_index_or ys i e)
+  pub zip-read : (xs : List X) (ys : List Y) (i : ℕ) (d : X) (e : Y) → AllZip R xs ys →
+      i < length xs → R (slice_index_or xs i d) (slice_index_or ys i e)
   zip-read [] ys i d e all lt = absurd (omega (arith, lt))
   zip-read (a ∷ xs) [] i d e all lt = absurd all
   zip-read (a ∷ xs) (b ∷ ys) zero d e all lt = all.0
   zip-read (a ∷ xs) (b ∷ ys) (suc i) d e all lt = zip-read xs ys i d e all.1 (omega (arith, lt))
 
   -- what holds of each second element of a pair
-  pub zip-second : (P : Y → Type 0) → ((x : X) (y : Y) → R x y → P y) → (xs : List X) (ys : List Y) → AllZip R xs ys → All P ys
+  pub zip-second : (P : Y → Type 0) → ((x : X) (y : Y) → R x y → P y) →
+      (xs : List X) (ys : List Y) → AllZip R xs ys → All P ys
   zip-second P says [] [] all = All-nil P
   zip-second P says [] (b ∷ ys) all = absurd all
   zip-second P says (a ∷ xs) [] all = absurd all
-  zip-second P says (a ∷ xs) (b ∷ ys) all = All-cons P b ys (says a b all.0) (zip-second P says xs ys all.1)
+  zip-second P says (a ∷ xs) (b ∷ ys) all =
+      All-cons P b ys (says a b all.0) (zip-second P says xs ys all.1)
 
-  pub zip-weaker : (S : X → Y → Type 0) → ((x : X) (y : Y) → R x y → S x y) → (xs : List X) (ys : List Y) → AllZip R xs ys → AllZip S xs ys
+  pub zip-weaker : (S : X → Y → Type 0) → ((x : X) (y : Y) → R x y → S x y) →
+      (xs : List X) (ys : List Y) → AllZip R xs ys → AllZip S xs ys
   zip-weaker S says [] [] all = tt
   zip-weaker S says [] (b ∷ ys) all = absurd all
   zip-weaker S says (a ∷ xs) [] all = absurd all
   zip-weaker S says (a ∷ xs) (b ∷ ys) all = (says a b all.0, zip-weaker S says xs ys all.1)
 
 -- of three lists
-pub zip-through : {X Y Z : Type 0} (R : X → Y → Type 0) (S : Y → Z → Type 0) (T : X → Z → Type 0) → ((x : X) (y : Y) (z : Z) → R x y → S y z → T x z) →
+pub zip-through : {X Y Z : Type 0} (R : X → Y → Type 0) (S : Y → Z → Type 0) (T : X → Z → Type 0) →
+    ((x : X) (y : Y) (z : Z) → R x y → S y z → T x z) →
     (xs : List X) (ys : List Y) (zs : List Z) → AllZip R xs ys → AllZip S ys zs → AllZip T xs zs
 zip-through R S T says [] [] [] r s = tt
 zip-through R S T says [] [] (c ∷ zs) r s = absurd s
 zip-through R S T says [] (b ∷ ys) zs r s = absurd r
 zip-through R S T says (a ∷ xs) [] zs r s = absurd r
 zip-through R S T says (a ∷ xs) (b ∷ ys) [] r s = absurd s
-zip-through R S T says (a ∷ xs) (b ∷ ys) (c ∷ zs) r s = (says a b c r.0 s.0, zip-through R S T says xs ys zs r.1 s.1)
+zip-through R S T says (a ∷ xs) (b ∷ ys) (c ∷ zs) r s =
+    (says a b c r.0 s.0, zip-through R S T says xs ys zs r.1 s.1)

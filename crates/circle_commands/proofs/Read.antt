@@ -7,9 +7,12 @@ use Rattle.serde_json.specs.Events.{members_len}
 use Rattle.serde_json.specs.Find.{get}
 
 -- an object of so many members
-pub at-most : (n : ℕ) (value : Data) (inside : Members) → value ≡ object inside → members_len inside ≤ n → HasAtMost n value
+pub at-most : (n : ℕ) (value : Data) (inside : Members) → value ≡ object inside →
+    members_len inside ≤ n → HasAtMost n value
 at-most n value inside is few = subst (HasAtMost n) (sym is) few
 
 -- a member of an object
-pub has-member : (Is : Data → Type 0) (key : List ℕ) (value part : Data) (inside : Members) → value ≡ object inside → get key (object inside) ≡ Some part → Is part → HasMember key value Is
-has-member Is key value part inside is found so = (part, subst (λ (d : Data). get key d ≡ Some part) (sym is) found, so)
+pub has-member : (Is : Data → Type 0) (key : List ℕ) (value part : Data) (inside : Members) →
+    value ≡ object inside → get key (object inside) ≡ Some part → Is part → HasMember key value Is
+has-member Is key value part inside is found so =
+    (part, subst (λ (d : Data). get key d ≡ Some part) (sym is) found, so)

@@ -1,5 +1,7 @@
 -- Texts that fit, and the JSON of rows and of shapes.
-use Rattle.std.proofs.Common.{◌≡◌, ℕ, ◌+◌, ◌<◌, ◌≤◌, List, [], ◌∷◌, ◌++◌, length, map, take, take_all, get_or, slice_index_or, Some, zero, suc, refl, ap, sym, ◌∙◌, arith, nat_le, Vec, Global, Result, Ok, Err, IfOk}
+use Rattle.std.proofs.Common.{◌≡◌, ℕ, ◌+◌, ◌<◌, ◌≤◌, List, [], ◌∷◌, ◌++◌, length, map, take}
+use Rattle.std.proofs.Common.{take_all, get_or, slice_index_or, Some, zero, suc, refl, ap, sym, ◌∙◌}
+use Rattle.std.proofs.Common.{arith, nat_le, Vec, Global, Result, Ok, Err, IfOk}
 use Rattle.std.specs.Prelude.{slice_get}
 use Rattle.std.specs.Fmt.Cut.{cut_to}
 use Rattle.std.proofs.lemmas.List.{map-append, map_more}
@@ -21,43 +23,60 @@ unfolding cut_to
 cut-fits room text fits = grind arith
 
 -- the second of several lists
-pub second-items : {T : Type 0} (vs : List (Vec T Global)) (v : Vec T Global) (a b : List T) (rest : List (List T)) → map (λ w. w.items) vs ≡ a ∷ b ∷ rest → v ≡ slice_index_or vs 1 v → v.items ≡ b
+pub second-items : {T : Type 0} (vs : List (Vec T Global)) (v : Vec T Global) (a b : List T)
+    (rest : List (List T)) → map (λ w. w.items) vs ≡ a ∷ b ∷ rest → v ≡ slice_index_or vs 1 v →
+    v.items ≡ b
 second-items [] v a b rest e is = absurd (cc)
 second-items (u ∷ []) v a b rest e is = absurd (cc)
-second-items (u ∷ w ∷ vs) v a b rest e is = let same : v ≡ w = is in let item : w.items ≡ b = cc in ap (λ x. x.items) same ∙ item
+second-items (u ∷ w ∷ vs) v a b rest e is = let same : v ≡ w = is in let item : w.items ≡ b = cc in
+    ap (λ x. x.items) same ∙ item
 
 -- one more item is written
-pub rows-more : {T : Type 0} (written : T → Data) (items more : List Value) (v : Value) (xs : List T) (i : ℕ) (x : T) → slice_get xs i ≡ Some x → more ≡ items ++ v ∷ [] → view v ≡ written x → map view items ≡ map written (take i xs)
+pub rows-more : {T : Type 0} (written : T → Data) (items more : List Value) (v : Value)
+    (xs : List T) (i : ℕ) (x : T) → slice_get xs i ≡ Some x → more ≡ items ++ v ∷ [] →
+    view v ≡ written x → map view items ≡ map written (take i xs)
     → map view more ≡ map written (take (i + 1) xs)
 rows-more written items more v xs i x at grown shown before =
     let here : get_or xs i x ≡ x = get_or_from_slice_get xs i x x at in
-    ap (map view) grown ∙ map-append view items (v ∷ []) ∙ ap (λ ds. ds ++ view v ∷ []) before ∙ ap (λ d. map written (take i xs) ++ d ∷ []) (shown ∙ ap written (sym here))
+    ap (map view) grown ∙ map-append view items (v ∷ []) ∙ ap (λ ds. ds ++ view v ∷ []) before
+    ∙ ap (λ d. map written (take i xs) ++ d ∷ []) (shown ∙ ap written (sym here))
     ∙ sym (map_more written xs i x (slice_get_within xs i x at))
 
 -- all are
-pub rows-whole : {T : Type 0} (written : T → Data) (items : List Value) (xs : List T) (i n : ℕ) → length xs ≡ n → n ≤ i → map view items ≡ map written (take i xs) → items_view items ≡ items_of (map written xs)
-rows-whole written items xs i n long h each = ap items_of (each ∙ ap (map written) (take_all i xs (omega (arith, long, h))))
+pub rows-whole : {T : Type 0} (written : T → Data) (items : List Value) (xs : List T) (i n : ℕ) →
+    length xs ≡ n → n ≤ i → map view items ≡ map written (take i xs) → items_view items
+    ≡ items_of (map written xs)
+rows-whole written items xs i n long h each =
+    ap items_of (each ∙ ap (map written) (take_all i xs (omega (arith, long, h))))
 
 -- the JSON of a shape by its digits and its number of steps
-pub shape-same : (degree : ℕ) (s : Shape) (label seed : List ℕ) (steps : ℕ) → label ≡ encode_lower (layout s.opened_widths) → seed ≡ encode_lower (text_of degree s) → steps ≡ length (steps_of degree s)
+pub shape-same : (degree : ℕ) (s : Shape) (label seed : List ℕ) (steps : ℕ) →
+    label ≡ encode_lower (layout s.opened_widths) → seed ≡ encode_lower (text_of degree s) →
+    steps ≡ length (steps_of degree s)
     → shape_object s.index_bits label s.num_commit_rounds seed steps ≡ shape_written degree s
 shape-same degree s label seed steps l t n =
     ap (λ x. shape_object s.index_bits x s.num_commit_rounds seed steps) l
-    ∙ ap (λ x. shape_object s.index_bits (encode_lower (layout s.opened_widths)) s.num_commit_rounds x steps) t
-    ∙ ap (λ x. shape_object s.index_bits (encode_lower (layout s.opened_widths)) s.num_commit_rounds (encode_lower (text_of degree s)) x) n
+    ∙ ap (λ x. shape_object s.index_bits (encode_lower (layout s.opened_widths)) s.num_commit_rounds
+    x steps) t
+    ∙ ap (λ x. shape_object s.index_bits (encode_lower (layout s.opened_widths)) s.num_commit_rounds
+    (encode_lower (text_of degree s)) x) n
 
 -- what holds of a result
-pub if-ok : {T E : Type 0} (r : Result T E) (P Q : T → Type 0) → ((x : T) → P x → Q x) → IfOk r P → IfOk r Q
+pub if-ok : {T E : Type 0} (r : Result T E) (P Q : T → Type 0) → ((x : T) → P x → Q x) → IfOk r P →
+    IfOk r Q
 if-ok (Ok x) P Q then h = then x h
 if-ok (Err e) P Q then h = tt
 
 -- items nest no deeper than each of them
-pub items_within : {T : Type 0} (written : T → Data) (n : ℕ) → ((x : T) → depth (written x) ≤ n) → (xs : List T) → items_depth (items_of (map written xs)) ≤ n
+pub items_within : {T : Type 0} (written : T → Data) (n : ℕ) → ((x : T) → depth (written x) ≤ n) →
+    (xs : List T) → items_depth (items_of (map written xs)) ≤ n
 items_within written n within [] = omega arith
-items_within written n within (x ∷ xs) = let a = within x in let b = items_within written n within xs in omega arith
+items_within written n within (x ∷ xs) = let a = within x in let b = items_within written n within
+    xs in omega arith
 
 row_within : (row : List Mersenne31) → depth (row_written row) ≤ 1
-row_within row = let a = items_within (λ (x : Mersenne31). count_written (residue x)) 0 (λ x. omega arith) row in omega arith
+row_within row = let a = items_within
+    (λ (x : Mersenne31). count_written (residue x)) 0 (λ x. omega arith) row in omega arith
 
 -- how deep the object of rows nests
 pub rows_within : (rows : List (List Mersenne31)) → depth (rows_written rows) ≤ 3

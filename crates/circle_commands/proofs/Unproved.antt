@@ -1,5 +1,7 @@
 -- Why `prove` refuses its input.
-use Rattle.std.proofs.Common.{◌≡◌, ℕ, ◌<◌, ◌⊎◌, List, [], ◌∷◌, length, slice_index_or, take, All, Result, Ok, Err, MatchResult, IfErr, IsErrAnd, inl, inr, ⊎_elim, replicate, refl, ap, ◌∙◌, subst, sym, Vec, Global}
+use Rattle.std.proofs.Common.{◌≡◌, ℕ, ◌<◌, ◌⊎◌, List, [], ◌∷◌, length, slice_index_or, take, All}
+use Rattle.std.proofs.Common.{Result, Ok, Err, MatchResult, IfErr, IsErrAnd, inl, inr, ⊎_elim}
+use Rattle.std.proofs.Common.{replicate, refl, ap, ◌∙◌, subst, sym, Vec, Global}
 use Rattle.std.specs.List.{AllZip}
 use Rattle.circle_challenger.specs.declared.sha256.Sha256Challenger.{Sha256Challenger}
 use Rattle.std.proofs.lemmas.List.Elements.{All-nil, All-cons}
@@ -17,7 +19,8 @@ use Rattle.circle_relation.specs.declared.error.ProverError.TheVariants.{Memory}
 use Rattle.circle_commands.specs.Proved.{AreCommitted, IsCommitted, IsRequested, commitments_taken}
 use Rattle.circle_commands.specs.Reasons.{IsProveRefusal}
 use Rattle.circle_commands.specs.Traces.{IsRefusalOfBatches}
-use Rattle.circle_commands.specs.Unproved.{IsFirstUncommitted, IsRefusedByScheme, IsUncommitted, IsUnopened}
+use Rattle.circle_commands.specs.Unproved.{IsFirstUncommitted, IsRefusedByScheme, IsUncommitted}
+use Rattle.circle_commands.specs.Unproved.{IsUnopened}
 use Rattle.circle_commands.specs.Verified.{Scheme}
 use Rattle.circle_commands.specs.declared.prove.Committed.{Committed}
 use Rattle.circle_commands.specs.declared.prove.Input.{Input}
@@ -27,43 +30,71 @@ use Rattle.circle_commands.specs.declared.prove.Refusal.TheVariants.{Prover}
 use Rattle.circle_commands.proofs.First.{first_at}
 
 -- each of the first items has its fellow
-pub each_has : {S T : Type 0} (P : S → T → Type 0) (xs : List S) (ys : List T) → AllZip P xs ys → All (λ x. (y : T) × P x y) xs
+pub each_has : {S T : Type 0} (P : S → T → Type 0) (xs : List S) (ys : List T) → AllZip P xs ys →
+    All (λ x. (y : T) × P x y) xs
 each_has {S} {T} P [] [] h = All-nil (λ x. (y : T) × P x y)
 each_has P [] (y ∷ ys) h = absurd h
 each_has P (x ∷ xs) [] h = absurd h
-each_has {S} {T} P (x ∷ xs) (y ∷ ys) h = All-cons (λ x. (y : T) × P x y) x xs (y, h.0) (each_has P xs ys h.1)
+each_has {S} {T} P (x ∷ xs) (y ∷ ys) h =
+    All-cons (λ x. (y : T) × P x y) x xs (y, h.0) (each_has P xs ys h.1)
 
 -- a result that is this error
-pub error-is : {A E : Type 0} (r : Result A E) (P : E → Type 0) (e : E) → IsErrAnd r (λ x. x ≡ e) → P e → IfErr r P
+pub error-is : {A E : Type 0} (r : Result A E) (P : E → Type 0) (e : E) → IsErrAnd r (λ x. x ≡ e) →
+    P e → IfErr r P
 error-is (Ok x) P e is holds = absurd is
 error-is (Err d) P e is holds = subst P (sym is) holds
 
 -- the first refusal that there is reason for
-pub in_order : {T : Type 0} (A : Type 0) (tests : Result T ProverError) (e : ProverError) → MatchResult tests (λ passed. e ≡ Memory) (λ first. let made : Result A ProverError = Err e in made ≡ Err first) → MatchResult tests (λ passed. e ≡ Memory) (λ first. e ≡ first)
+pub in_order : {T : Type 0} (A : Type 0) (tests : Result T ProverError) (e : ProverError) →
+    MatchResult tests (λ passed. e ≡ Memory) (λ first. let made : Result A ProverError = Err e in
+    made ≡ Err first) → MatchResult tests (λ passed. e ≡ Memory) (λ first. e ≡ first)
 in_order A (Ok passed) e h = h
 in_order A (Err first) e h = cc
 
 -- the parameters of a scheme that the input tells
-pub in-params : (input : Input) (scheme : Scheme) (mmcs : ShaMmcs Cubic) → scheme.fri_params ≡ with_scheme input.params mmcs → scheme.fri_params ≡ with_scheme input.params scheme.fri_params.mmcs
-in-params input scheme mmcs same = same ∙ ap (with_scheme input.params) (sym (ap (λ (p : FriParameters (ShaMmcs Cubic)). p.mmcs) same))
+pub in-params : (input : Input) (scheme : Scheme) (mmcs : ShaMmcs Cubic) → scheme.fri_params
+    ≡ with_scheme input.params mmcs → scheme.fri_params
+    ≡ with_scheme input.params scheme.fri_params.mmcs
+in-params input scheme mmcs same =
+    same
+    ∙ ap (with_scheme input.params) (sym (ap (λ (p : FriParameters (ShaMmcs Cubic)). p.mmcs) same))
 
-module _ {g : _} (CommitRefuses : Scheme → List (CircleDomain Mersenne31 g × RowMajorMatrix Mersenne31) → ProverError → Type 0) (Commits : List (RowMajorMatrix Mersenne31) → List ℕ → Type 0) (scheme : Scheme) where
+module _ {g : _} (CommitRefuses : Scheme →
+    List (CircleDomain Mersenne31 g × RowMajorMatrix Mersenne31) → ProverError → Type 0)
+    (Commits : List (RowMajorMatrix Mersenne31) → List ℕ → Type 0) (scheme : Scheme) where
   -- a batch that isn't committed to after others that are
-  pub first-uncommitted : (batches : List (Vec Trace Global)) (committed : List Committed) (i : ℕ) (item : Vec Trace Global) (traces : List Trace) (e : ProverError) → i < length batches → item ≡ slice_index_or batches i item
-      → AllZip (λ b m. IsCommitted Commits scheme.fri_params.log_blowup b.items m) (take i batches) committed → traces ≡ item.items → (e ≡ Memory) ⊎ IsUncommitted CommitRefuses scheme traces e
+  pub first-uncommitted : (batches : List (Vec Trace Global)) (committed : List Committed) (i : ℕ)
+      (item : Vec Trace Global) (traces : List Trace) (e : ProverError) → i < length batches →
+      item ≡ slice_index_or batches i item
+      → AllZip (λ b m. IsCommitted Commits scheme.fri_params.log_blowup b.items m) (take i batches)
+      committed → traces ≡ item.items →
+      (e ≡ Memory) ⊎ IsUncommitted CommitRefuses scheme traces e
       → (e ≡ Memory) ⊎ IsFirstUncommitted CommitRefuses Commits scheme batches e
   first-uncommitted batches committed i item traces e lt at before same h =
-      let Is : Vec Trace Global → Committed → Type 0 = λ b m. IsCommitted Commits scheme.fri_params.log_blowup b.items m in
+      let Is : Vec Trace Global → Committed → Type 0 =
+      λ b m. IsCommitted Commits scheme.fri_params.log_blowup b.items m in
       ⊎_elim (λ m. inl m)
-      (λ n. inr (first_at (λ b. (c : Committed) × Is b c) (λ b. IsUncommitted CommitRefuses scheme b.items e) batches i item lt at (each_has Is (take i batches) committed before) (subst (λ ts. IsUncommitted CommitRefuses scheme ts e) same n))) h
+      (λ n. inr
+      (first_at (λ b. (c : Committed) × Is b c)
+      (λ b. IsUncommitted CommitRefuses scheme b.items e) batches i item lt at
+      (each_has Is (take i batches) committed before)
+      (subst (λ ts. IsUncommitted CommitRefuses scheme ts e) same n))) h
 
 module _ {D WD : Type 0}
-    (o : Schemes Sha256Challenger (List ℕ) Mersenne31 Cubic (ShaMmcs Mersenne31) (List ℕ) D (Vec (List ℕ) Global) (ShaMmcs Cubic) (List ℕ) WD (Vec (List ℕ) Global))
-    (OpenRefuses : Scheme → List (OpeningRequest D Cubic) → List ℕ → List ℕ → ProverError → Type 0) (input : Input)
+    (o : Schemes Sha256Challenger (List ℕ) Mersenne31 Cubic (ShaMmcs Mersenne31) (List ℕ) D
+    (Vec (List ℕ) Global) (ShaMmcs Cubic) (List ℕ) WD (Vec (List ℕ) Global))
+    (OpenRefuses : Scheme → List (OpeningRequest D Cubic) → List ℕ → List ℕ → ProverError → Type 0)
+    (input : Input)
   where
     -- an opening that is refused from the state that took in the commitments
-    pub unopened : (scheme : Scheme) (committed : List Committed) (requests : List (OpeningRequest D Cubic)) (start left : List ℕ) (e : ProverError) → AreCommitted (o.Commits scheme.mmcs) scheme.fri_params.log_blowup input.batches.items committed
-        → AllZip (IsRequested o.kept) committed requests → start ≡ commitments_taken (replicate 32 0) committed → OpenRefuses scheme requests start left e → IsUnopened o OpenRefuses scheme input.batches.items e
+    pub unopened : (scheme : Scheme) (committed : List Committed)
+        (requests : List (OpeningRequest D Cubic)) (start left : List ℕ) (e : ProverError) →
+        AreCommitted (o.Commits scheme.mmcs) scheme.fri_params.log_blowup input.batches.items
+        committed
+        → AllZip (IsRequested o.kept) committed requests →
+        start ≡ commitments_taken (replicate 32 0) committed →
+        OpenRefuses scheme requests start left e →
+        IsUnopened o OpenRefuses scheme input.batches.items e
     unopened scheme committed requests start left e are asked taken refuses = record {
       committed = committed;
       requests = requests;
@@ -74,35 +105,59 @@ module _ {D WD : Type 0}
     }
 
 module _ {g : _} {D WD : Type 0}
-    (o : Schemes Sha256Challenger (List ℕ) Mersenne31 Cubic (ShaMmcs Mersenne31) (List ℕ) D (Vec (List ℕ) Global) (ShaMmcs Cubic) (List ℕ) WD (Vec (List ℕ) Global))
-    (CommitRefuses : Scheme → List (CircleDomain Mersenne31 g × RowMajorMatrix Mersenne31) → ProverError → Type 0)
-    (OpenRefuses : Scheme → List (OpeningRequest D Cubic) → List ℕ → List ℕ → ProverError → Type 0) (input : Input)
+    (o : Schemes Sha256Challenger (List ℕ) Mersenne31 Cubic (ShaMmcs Mersenne31) (List ℕ) D
+    (Vec (List ℕ) Global) (ShaMmcs Cubic) (List ℕ) WD (Vec (List ℕ) Global))
+    (CommitRefuses : Scheme → List (CircleDomain Mersenne31 g × RowMajorMatrix Mersenne31) →
+    ProverError → Type 0)
+    (OpenRefuses : Scheme → List (OpeningRequest D Cubic) → List ℕ → List ℕ → ProverError → Type 0)
+    (input : Input)
   where
     abbrev pub IsReasoned : Refusal → Type 0
     IsReasoned = IsProveRefusal o CommitRefuses OpenRefuses input
 
     -- rows that are refused
-    pub by_rows : {A : Type 0} (r : Result A Refusal) (e : Refusal) → IsErrAnd r (λ x. x ≡ e) → IsRefusalOfBatches input.params.log_final_poly_len input.batches.items e → IfErr r IsReasoned
+    pub by_rows : {A : Type 0} (r : Result A Refusal) (e : Refusal) → IsErrAnd r (λ x. x ≡ e) →
+        IsRefusalOfBatches input.params.log_final_poly_len input.batches.items e →
+        IfErr r IsReasoned
     by_rows (Ok x) e is h = absurd is
     by_rows (Err d) e is h = subst IsReasoned (sym is) (inr (inl h))
 
     -- memory that is refused
-    pub by_memory : {A : Type 0} (r : Result A Refusal) → IsErrAnd r (λ x. x ≡ Prover Memory) → IfErr r IsReasoned
+    pub by_memory : {A : Type 0} (r : Result A Refusal) → IsErrAnd r (λ x. x ≡ Prover Memory) →
+        IfErr r IsReasoned
     by_memory (Ok x) is = absurd is
     by_memory (Err d) is = inl is
 
-    reasoned : (e : ProverError) (scheme : Scheme) → scheme.fri_params ≡ with_scheme input.params scheme.fri_params.mmcs
-        → (e ≡ Memory) ⊎ (IsFirstUncommitted CommitRefuses (o.Commits scheme.mmcs) scheme input.batches.items e ⊎ IsUnopened o OpenRefuses scheme input.batches.items e) → IsReasoned (Prover e)
-    reasoned e scheme params h = ⊎_elim (λ m. inl (subst (λ x. Prover e ≡ Prover x) m refl)) (λ n. inr (inr (record { scheme = scheme; params = params; refuses = n }))) h
+    reasoned : (e : ProverError) (scheme : Scheme) → scheme.fri_params
+        ≡ with_scheme input.params scheme.fri_params.mmcs
+        →
+        (e ≡ Memory)
+        ⊎ (IsFirstUncommitted CommitRefuses (o.Commits scheme.mmcs) scheme input.batches.items e
+        ⊎ IsUnopened o OpenRefuses scheme input.batches.items e) → IsReasoned (Prover e)
+    reasoned e scheme params h =
+        ⊎_elim (λ m. inl (subst (λ x. Prover e ≡ Prover x) m refl))
+        (λ n. inr (inr (record { scheme = scheme; params = params; refuses = n }))) h
 
     -- what the scheme refuses
-    pub by_scheme : {A : Type 0} (r : Result A Refusal) (e : ProverError) (scheme : Scheme) → IsErrAnd r (λ x. x ≡ Prover e) → scheme.fri_params ≡ with_scheme input.params scheme.fri_params.mmcs
-        → (e ≡ Memory) ⊎ (IsFirstUncommitted CommitRefuses (o.Commits scheme.mmcs) scheme input.batches.items e ⊎ IsUnopened o OpenRefuses scheme input.batches.items e) → IfErr r IsReasoned
+    pub by_scheme : {A : Type 0} (r : Result A Refusal) (e : ProverError) (scheme : Scheme) →
+        IsErrAnd r (λ x. x ≡ Prover e) → scheme.fri_params
+        ≡ with_scheme input.params scheme.fri_params.mmcs
+        →
+        (e ≡ Memory)
+        ⊎ (IsFirstUncommitted CommitRefuses (o.Commits scheme.mmcs) scheme input.batches.items e
+        ⊎ IsUnopened o OpenRefuses scheme input.batches.items e) → IfErr r IsReasoned
     by_scheme (Ok x) e scheme is params h = absurd is
     by_scheme (Err d) e scheme is params h = subst IsReasoned (sym is) (reasoned e scheme params h)
 
     -- of batches that are the input's
-    pub by_commit : {A : Type 0} (r : Result A Refusal) (e : ProverError) (scheme : Scheme) (batches : List (Vec Trace Global)) → IsErrAnd r (λ x. x ≡ Prover e) → scheme.fri_params ≡ with_scheme input.params scheme.fri_params.mmcs → batches ≡ input.batches.items
-        → (e ≡ Memory) ⊎ IsFirstUncommitted CommitRefuses (o.Commits scheme.mmcs) scheme batches e → IfErr r IsReasoned
+    pub by_commit : {A : Type 0} (r : Result A Refusal) (e : ProverError) (scheme : Scheme)
+        (batches : List (Vec Trace Global)) → IsErrAnd r (λ x. x ≡ Prover e) → scheme.fri_params
+        ≡ with_scheme input.params scheme.fri_params.mmcs → batches ≡ input.batches.items
+        → (e ≡ Memory) ⊎ IsFirstUncommitted CommitRefuses (o.Commits scheme.mmcs) scheme batches e →
+        IfErr r IsReasoned
     by_commit r e scheme batches is params same h =
-        by_scheme r e scheme is params (⊎_elim (λ m. inl m) (λ n. inr (inl (subst (λ bs. IsFirstUncommitted CommitRefuses (o.Commits scheme.mmcs) scheme bs e) same n))) h)
+        by_scheme r e scheme is params
+        (⊎_elim (λ m. inl m)
+        (λ n. inr
+        (inl (subst (λ bs. IsFirstUncommitted CommitRefuses (o.Commits scheme.mmcs) scheme bs e)
+        same n))) h)

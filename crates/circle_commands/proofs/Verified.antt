@@ -1,5 +1,6 @@
 -- What the verifier of the program is handed.
-use Rattle.std.proofs.Common.{◌≡◌, ℕ, ◌+◌, ◌<◌, ◌≤◌, List, length, drop, get_or, refl, ap, sym, subst, ◌∙◌, replicate, Vec, Global}
+use Rattle.std.proofs.Common.{◌≡◌, ℕ, ◌+◌, ◌<◌, ◌≤◌, List, length, drop, get_or, refl, ap, sym}
+use Rattle.std.proofs.Common.{subst, ◌∙◌, replicate, Vec, Global}
 use Rattle.std.proofs.lemmas.List.{at_drop_more, drop_all}
 use Rattle.circle_field.specs.declared.cubic.Cubic.{Cubic}
 use Rattle.circle_field.specs.declared.mersenne31.Mersenne31.{Mersenne31}
@@ -24,13 +25,18 @@ abbrev Batches : Type 0
 Batches = List (CommitmentOpening Cubic (List ℕ) ℕ)
 
 -- one more commitment was taken in
-pub taken_more : (s t : List ℕ) (batches : Batches) (i : ℕ) (b : CommitmentOpening Cubic (List ℕ) ℕ) → i < length batches → b ≡ get_or batches i b → t ≡ absorbed s b.commitment
+pub taken_more : (s t : List ℕ) (batches : Batches) (i : ℕ)
+    (b : CommitmentOpening Cubic (List ℕ) ℕ) → i < length batches → b ≡ get_or batches i b →
+    t ≡ absorbed s b.commitment
     → taken_in t (drop (i + 1) batches) ≡ taken_in s (drop i batches)
-taken_more s t batches i b h at step = ap (λ u. taken_in u (drop (i + 1) batches)) step ∙ ap (λ (x : CommitmentOpening Cubic (List ℕ) ℕ). taken_in (absorbed s x.commitment) (drop (i + 1) batches)) at
+taken_more s t batches i b h at step = ap (λ u. taken_in u (drop (i + 1) batches)) step
+    ∙ ap (λ (x : CommitmentOpening Cubic (List ℕ) ℕ). taken_in
+    (absorbed s x.commitment) (drop (i + 1) batches)) at
     ∙ sym (at_drop_more (taken_in s) batches i b h)
 
 -- all were
-pub taken_all : (s : List ℕ) (batches : Batches) (i : ℕ) → length batches ≤ i → s ≡ taken_in s (drop i batches)
+pub taken_all : (s : List ℕ) (batches : Batches) (i : ℕ) → length batches ≤ i → s ≡ taken_in
+    s (drop i batches)
 taken_all s batches i h = ap (taken_in s) (sym (drop_all i batches h))
 
 -- a scheme is told by its entries' type alone
@@ -38,9 +44,14 @@ one_scheme : {F : Type 0} (a b : ShaMmcs F) → a ≡ b
 one_scheme a b = refl
 
 -- what the scheme refuses from the state that took in the commitments is refused of the input
-pub unverified : {g : _} {Proof Error : Type 0} (Refuses : Scheme → List (CommitmentOpening Cubic (List ℕ) (CircleDomain Mersenne31 g)) → Proof → List ℕ → List ℕ → Error → Type 0)
-    (proof : Proof) (input : Input) (error : Error) (scheme : Scheme) (claims : List (CommitmentOpening Cubic (List ℕ) (CircleDomain Mersenne31 g))) (start left : List ℕ)
-    → scheme.fri_params ≡ with_scheme input.params scheme.fri_params.mmcs → batch_claims claims ≡ batches_told input.batches.items → start ≡ taken_in (replicate 32 0) input.batches.items
+pub unverified : {g : _} {Proof Error : Type 0} (Refuses : Scheme →
+    List (CommitmentOpening Cubic (List ℕ) (CircleDomain Mersenne31 g)) → Proof → List ℕ → List ℕ →
+    Error → Type 0)
+    (proof : Proof) (input : Input) (error : Error) (scheme : Scheme)
+    (claims : List (CommitmentOpening Cubic (List ℕ) (CircleDomain Mersenne31 g)))
+    (start left : List ℕ)
+    → scheme.fri_params ≡ with_scheme input.params scheme.fri_params.mmcs → batch_claims claims
+    ≡ batches_told input.batches.items → start ≡ taken_in (replicate 32 0) input.batches.items
     → Refuses scheme claims proof start left error → IsUnverified Refuses proof input error
 unverified Refuses proof input error scheme claims start left same told taken refused = record {
   scheme = scheme;
@@ -52,33 +63,66 @@ unverified Refuses proof input error scheme claims start left same told taken re
 }
 
 module _ {D WD : Type 0}
-    (o : Schemes Sha256Challenger (List ℕ) Mersenne31 Cubic (ShaMmcs Mersenne31) (List ℕ) D (Vec (List ℕ) Global) (ShaMmcs Cubic) (List ℕ) WD (Vec (List ℕ) Global)) (input : Input) where
-  abbrev Accepts : ShaMmcs Mersenne31 → FriParameters (ShaMmcs Cubic) → List (BatchClaim (List ℕ) Cubic) → List ℕ → List ℕ → Type 0
-  Accepts mmcs params batches old new = AcceptsFrom o.fields params o.run (o.authenticates mmcs) (o.word_authenticates params.mmcs) batches (proof_of input.proof) old new
+    (o : Schemes Sha256Challenger (List ℕ) Mersenne31 Cubic (ShaMmcs Mersenne31) (List ℕ) D
+    (Vec (List ℕ) Global) (ShaMmcs Cubic) (List ℕ) WD (Vec (List ℕ) Global)) (input : Input)
+  where
+    abbrev Accepts : ShaMmcs Mersenne31 → FriParameters (ShaMmcs Cubic) →
+        List (BatchClaim (List ℕ) Cubic) → List ℕ → List ℕ → Type 0
+    Accepts mmcs params batches old new =
+        AcceptsFrom o.fields params o.run (o.authenticates mmcs) (o.word_authenticates params.mmcs)
+        batches (proof_of input.proof) old new
 
 module _ {g : _} {D WD : Type 0}
-    (o : Schemes Sha256Challenger (List ℕ) Mersenne31 Cubic (ShaMmcs Mersenne31) (List ℕ) D (Vec (List ℕ) Global) (ShaMmcs Cubic) (List ℕ) WD (Vec (List ℕ) Global)) (input : Input) where
-  -- what is accepted of claims and parameters that the input tells, is verified
-  pub verified : (claims : List (CommitmentOpening Cubic (List ℕ) (CircleDomain Mersenne31 g))) (mmcs : ShaMmcs Mersenne31) (scheme : ShaMmcs Cubic) (params : FriParameters (ShaMmcs Cubic)) (start left : Sha256Challenger)
-      → batch_claims claims ≡ batches_told input.batches.items → params ≡ with_scheme input.params scheme → state_of start ≡ taken_in (replicate 32 0) input.batches.items
-      → IsAccepted o.fields o.run o.authenticates o.word_authenticates mmcs params claims input.proof (state_of start) (state_of left) → IsVerified o input
-  verified claims mmcs scheme params start left told same taken a = record {
-    mmcs = mmcs;
-    scheme = scheme;
-    start = start;
-    left = left;
-    taken = taken;
-    accepts =
-        subst (λ bs. Accepts o input mmcs (with_scheme input.params scheme) bs (state_of start) (state_of left)) told
-        (subst (λ p. Accepts o input mmcs p (batch_claims claims) (state_of start) (state_of left)) same a);
-  }
+    (o : Schemes Sha256Challenger (List ℕ) Mersenne31 Cubic (ShaMmcs Mersenne31) (List ℕ) D
+    (Vec (List ℕ) Global) (ShaMmcs Cubic) (List ℕ) WD (Vec (List ℕ) Global)) (input : Input)
+  where
+    -- what is accepted of claims and parameters that the input tells, is verified
+    pub verified : (claims : List (CommitmentOpening Cubic (List ℕ) (CircleDomain Mersenne31 g)))
+        (mmcs : ShaMmcs Mersenne31) (scheme : ShaMmcs Cubic)
+        (params : FriParameters (ShaMmcs Cubic))
+        (start left : Sha256Challenger)
+        → batch_claims claims ≡ batches_told input.batches.items →
+        params ≡ with_scheme input.params scheme → state_of start ≡ taken_in
+        (replicate 32 0) input.batches.items
+        → IsAccepted o.fields o.run o.authenticates o.word_authenticates mmcs params claims
+        input.proof (state_of start) (state_of left) → IsVerified o input
+    verified claims mmcs scheme params start left told same taken a = record {
+      mmcs = mmcs;
+      scheme = scheme;
+      start = start;
+      left = left;
+      taken = taken;
+      accepts =
+          subst (λ bs. Accepts o input mmcs (with_scheme input.params scheme) bs (state_of start)
+          (state_of left)) told
+          (subst
+          (λ p. Accepts o input mmcs p (batch_claims claims) (state_of start) (state_of left))
+          same a);
+    }
 
-  -- what is verified is accepted of such claims and parameters
-  pub accepted : (claims : List (CommitmentOpening Cubic (List ℕ) (CircleDomain Mersenne31 g))) (mmcs : ShaMmcs Mersenne31) (scheme : ShaMmcs Cubic) (params : FriParameters (ShaMmcs Cubic)) (start : Sha256Challenger)
-      → batch_claims claims ≡ batches_told input.batches.items → params ≡ with_scheme input.params scheme → state_of start ≡ taken_in (replicate 32 0) input.batches.items
-      → (v : IsVerified o input) → IsAccepted o.fields o.run o.authenticates o.word_authenticates mmcs params claims input.proof (state_of start) (state_of v.left)
-  accepted claims mmcs scheme params start told same taken v =
-      let of_schemes = subst (λ m. Accepts o input m (with_scheme input.params v.scheme) (batches_told input.batches.items) (state_of v.start) (state_of v.left)) (one_scheme v.mmcs mmcs) v.accepts in
-      let of_params = subst (λ p. Accepts o input mmcs p (batches_told input.batches.items) (state_of v.start) (state_of v.left)) (ap (with_scheme input.params) (one_scheme v.scheme scheme) ∙ sym same) of_schemes in
-      let of_claims = subst (λ bs. Accepts o input mmcs params bs (state_of v.start) (state_of v.left)) (sym told) of_params in
-      subst (λ s. Accepts o input mmcs params (batch_claims claims) s (state_of v.left)) (v.taken ∙ sym taken) of_claims
+    -- what is verified is accepted of such claims and parameters
+    pub accepted : (claims : List (CommitmentOpening Cubic (List ℕ) (CircleDomain Mersenne31 g)))
+        (mmcs : ShaMmcs Mersenne31) (scheme : ShaMmcs Cubic)
+        (params : FriParameters (ShaMmcs Cubic))
+        (start : Sha256Challenger)
+        → batch_claims claims ≡ batches_told input.batches.items →
+        params ≡ with_scheme input.params scheme → state_of start ≡ taken_in
+        (replicate 32 0) input.batches.items
+        → (v : IsVerified o input) →
+        IsAccepted o.fields o.run o.authenticates o.word_authenticates mmcs params claims
+        input.proof (state_of start) (state_of v.left)
+    accepted claims mmcs scheme params start told same taken v =
+        let of_schemes =
+        subst
+        (λ m. Accepts o input m (with_scheme input.params v.scheme)
+        (batches_told input.batches.items) (state_of v.start) (state_of v.left))
+        (one_scheme v.mmcs mmcs) v.accepts in
+        let of_params =
+        subst (λ p. Accepts o input mmcs p (batches_told input.batches.items) (state_of v.start)
+        (state_of v.left)) (ap (with_scheme input.params) (one_scheme v.scheme scheme) ∙ sym same)
+        of_schemes in
+        let of_claims =
+        subst (λ bs. Accepts o input mmcs params bs (state_of v.start) (state_of v.left))
+        (sym told) of_params in
+        subst (λ s. Accepts o input mmcs params (batch_claims claims) s (state_of v.left))
+        (v.taken ∙ sym taken) of_claims

@@ -1,5 +1,6 @@
 -- Powers of two.
-use Rattle.std.proofs.Common.{◌≡◌, ℕ, ◌*◌, ◌%◌, ◌<◌, ◌≤◌, ◌^◌, inl, inr, sym, suc, ap, rules, arith, ◌∙◌}
+use Rattle.std.proofs.Common.{◌≡◌, ℕ, ◌*◌, ◌%◌, ◌<◌, ◌≤◌, ◌^◌, inl, inr, sym, suc, ap, rules, arith}
+use Rattle.std.proofs.Common.{◌∙◌}
 use Rattle.std.proofs.Math.Pow.{pow-lt}
 use Rattle.std.proofs.Math.Nat.{mod-eq_of_lt, eq-or-lt_of_le}
 use Rattle.std.proofs.lemmas.Bool.{cases_lt}

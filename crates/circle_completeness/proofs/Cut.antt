@@ -21,24 +21,34 @@ module _ {F : Type 0} (k : FieldOps F) (width : ℕ) where
   abbrev pub cut : List (List F) → List (List F)
   cut coeffs = map cut_row coeffs
 
-  cut-column : (j : ℕ) → j < width → (coeffs : List (List F)) → column k.zero (cut coeffs) j ≡ column k.zero coeffs j
+  cut-column : (j : ℕ) → j < width → (coeffs : List (List F)) → column k.zero (cut coeffs) j
+      ≡ column k.zero coeffs j
   cut-column j lt [] = refl
   cut-column j lt (row ∷ coeffs) =
-      ap (λ x. x ∷ column k.zero (cut coeffs) j) (get_or-map-range_with_len (λ i. slice_index_or row i k.zero) 0 width j j k.zero lt (omega arith))
+      ap (λ x. x ∷ column k.zero (cut coeffs) j)
+      (get_or-map-range_with_len (λ i. slice_index_or row i k.zero) 0 width j j k.zero lt
+      (omega arith))
       ∙ ap (λ xs. slice_index_or row j k.zero ∷ xs) (cut-column j lt coeffs)
 
   -- at any point
-  pub cut-values : (coeffs : List (List F)) (p : Coordinates F) → values_at k (cut coeffs) width p ≡ values_at k coeffs width p
+  pub cut-values : (coeffs : List (List F)) (p : Coordinates F) → values_at k (cut coeffs) width p
+      ≡ values_at k coeffs width p
   cut-values coeffs p =
       let at = λ (cs : List (List F)) (j : ℕ). value k (column k.zero cs j) p in
       shifted (at (cut coeffs)) (at coeffs) 0 0 width
-      (λ j lt. let z : 0 + j ≡ j = omega arith in ap (at (cut coeffs)) z ∙ ap (λ c. value k c p) (cut-column j lt coeffs) ∙ ap (at coeffs) (sym z))
+      (λ j lt. let z : 0 + j ≡ j = omega arith in ap (at (cut coeffs)) z
+      ∙ ap (λ c. value k c p) (cut-column j lt coeffs) ∙ ap (at coeffs) (sym z))
 
 -- so they have the values that the coefficients have on a domain
-pub cut-told : {F : Type 0} (k : FieldOps F) (gen : ℕ → Coordinates F) (width n : ℕ) (s : Coordinates F) (coeffs rows : List (List F)) → length coeffs ≡ 2 ^ n →
-    map (values_at k coeffs width) (cfft_order k gen n s) ≡ rows → HasValues k gen n s width (cut k width coeffs) rows
+pub cut-told : {F : Type 0} (k : FieldOps F) (gen : ℕ → Coordinates F) (width n : ℕ)
+    (s : Coordinates F) (coeffs rows : List (List F)) → length coeffs ≡ 2 ^ n →
+    map (values_at k coeffs width) (cfft_order k gen n s) ≡ rows →
+    HasValues k gen n s width (cut k width coeffs) rows
 cut-told {F} k gen width n s coeffs rows count told = record {
   height = length-map coeffs _ ∙ count;
-  widths = All-map (λ (row : List F). length row ≡ width) (cut_row k width) coeffs (λ i row lt. length-map-range_with_len _ 0 width);
-  values = map-agree (values_at k (cut k width coeffs) width) (values_at k coeffs width) (cfft_order k gen n s) (λ i p lt. cut-values k width coeffs (slice_index_or (cfft_order k gen n s) i p)) ∙ told;
+  widths = All-map (λ (row : List F). length row ≡ width) (cut_row k width) coeffs
+      (λ i row lt. length-map-range_with_len _ 0 width);
+  values = map-agree (values_at k (cut k width coeffs) width) (values_at k coeffs width)
+      (cfft_order k gen n s)
+      (λ i p lt. cut-values k width coeffs (slice_index_or (cfft_order k gen n s) i p)) ∙ told;
 }

@@ -1,5 +1,6 @@
 -- Where a number stands among those that a test keeps; and where a query's row stands.
-use Rattle.std.specs.Prelude.{◌≡◌, ℕ, ◌+◌, ◌/◌, ◌^◌, ◌<◌, ◌≤◌, Bool, true, false, nat_lt, List, ◌∷◌, length, slice_get, Some}
+use Rattle.std.specs.Prelude.{◌≡◌, ℕ, ◌+◌, ◌/◌, ◌^◌, ◌<◌, ◌≤◌, Bool, true, false, nat_lt, List, ◌∷◌}
+use Rattle.std.specs.Prelude.{length, slice_get, Some}
 use Rattle.std.specs.List.{filter, range_with_len}
 use Rattle.std.proofs.Common.{zero, suc, refl, sym, ◌∙◌, ap, subst, cond, arith, ⊎_elim}
 use Rattle.std.proofs.lemmas.Bool.{cases_eq, le-ltb, lt-ltb}
@@ -15,11 +16,15 @@ module _ (p : ℕ → Bool) where
   none-below a (suc n) h le =
       let rest = filter p (range_with_len (a + 1) n) in
       let none : length (below h rest) ≡ 0 = none-below (a + 1) n h (omega arith) in
-      let here : length (below h (a ∷ rest)) ≡ 0 = ap (λ b. length (cond b (a ∷ below h rest) (below h rest))) (le-ltb a h le) ∙ none in
-      elim (p a) as (λ b. length (below h (cond b (a ∷ rest) rest)) ≡ 0) [ true ↦ here | false ↦ none ]
+      let here : length (below h (a ∷ rest)) ≡ 0 =
+      ap (λ b. length (cond b (a ∷ below h rest) (below h rest))) (le-ltb a h le) ∙ none in
+      elim (p a) as (λ b. length (below h (cond b (a ∷ rest) rest)) ≡ 0)
+      [ true ↦ here | false ↦ none ]
 
   -- a number that the test keeps stands at the place that those below it leave
-  pub place-there : (a n h : ℕ) → p h ≡ true → a ≤ h → h < a + n → slice_get (filter p (range_with_len a n)) (length (below h (filter p (range_with_len a n)))) ≡ Some h
+  pub place-there : (a n h : ℕ) → p h ≡ true → a ≤ h → h < a + n →
+      slice_get (filter p (range_with_len a n)) (length (below h (filter p (range_with_len a n))))
+      ≡ Some h
   place-there a zero h is low high = absurd (omega (arith, low, high))
   place-there a (suc n) h is low high =
       let rest = filter p (range_with_len (a + 1) n) in
@@ -27,13 +32,15 @@ module _ (p : ℕ → Bool) where
       ⊎_elim
       (λ same.
       subst (λ b. At (cond b (a ∷ rest) rest)) (sym (ap p same ∙ is))
-      (ap (λ b. slice_get (a ∷ rest) (length (cond b (a ∷ below h rest) (below h rest)))) (le-ltb a h (omega (arith, same)))
+      (ap (λ b. slice_get (a ∷ rest) (length (cond b (a ∷ below h rest) (below h rest))))
+      (le-ltb a h (omega (arith, same)))
       ∙ ap (slice_get (a ∷ rest)) (none-below (a + 1) n h (omega (arith, same))) ∙ ap Some same))
       (λ other.
       let less : a < h = omega (arith, low, other) in
       let more : At rest = place-there (a + 1) n h is (omega (arith, less)) (omega (arith, high)) in
       elim (p a) as (λ b. At (cond b (a ∷ rest) rest)) [
-        | true ↦ ap (λ b. slice_get (a ∷ rest) (length (cond b (a ∷ below h rest) (below h rest)))) (lt-ltb a h less) ∙ more
+        | true ↦ ap (λ b. slice_get (a ∷ rest) (length (cond b (a ∷ below h rest) (below h rest))))
+            (lt-ltb a h less) ∙ more
         | false ↦ more
       ])
       (cases_eq a h)

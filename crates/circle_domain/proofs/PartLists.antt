@@ -1,5 +1,6 @@
 -- A list of domains that are the parts of a standard one.
-use Rattle.std.specs.Prelude.{◌≡◌, ℕ, ◌+◌, ◌-◌, ◌*◌, ◌^◌, ◌<◌, ◌≤◌, ◌↔◌, List, Some, IfSome, All, AllPairs, Any, Contains, length, map, take, slice_get, slice_index_or}
+use Rattle.std.specs.Prelude.{◌≡◌, ℕ, ◌+◌, ◌-◌, ◌*◌, ◌^◌, ◌<◌, ◌≤◌, ◌↔◌, List, Some, IfSome, All}
+use Rattle.std.specs.Prelude.{AllPairs, Any, Contains, length, map, take, slice_get, slice_index_or}
 use Rattle.std.proofs.Common.{sym, ◌∙◌, ap, subst, arith, ⊎_elim}
 use Rattle.std.proofs.Math.ListN.{get_or-map}
 use Rattle.std.proofs.Math.Pow.{pow-lt}
@@ -7,7 +8,8 @@ use Rattle.std.proofs.Common.{suc, ◌++◌, [], ◌∷◌, length-take-le}
 use Rattle.std.proofs.Math.Nat.{pow-suc}
 use Rattle.std.proofs.lemmas.List.{get_or-take, length-map, map-append, take_more}
 use Rattle.std.proofs.lemmas.Nat.{pow_pos, pow-add}
-use Rattle.std.proofs.lemmas.Option.{slice_get_cases, slice_get_within, slice_get-get_or, get_or_from_slice_get}
+use Rattle.std.proofs.lemmas.Option.{slice_get_cases, slice_get_within, slice_get-get_or}
+use Rattle.std.proofs.lemmas.Option.{get_or_from_slice_get}
 use Rattle.circle_field.specs.Field.{FieldOps, FieldLaws}
 use Rattle.circle_field.specs.Circle.{Coordinates, AreGenerators, plus, times}
 use Rattle.circle_domain.specs.Order.{natural_order}
@@ -15,7 +17,8 @@ use Rattle.circle_domain.specs.Selectors.{AreDisjoint, IsStandard}
 use Rattle.circle_domain.specs.Splitting.{part_of, place_in, place_of}
 use Rattle.circle_domain.proofs.Orders.{length-natural_from, two_halves}
 use Rattle.circle_domain.proofs.Powers.{pow_order}
-use Rattle.circle_domain.proofs.Parts.{part-point, length-part, part-at, place-below, parts-disjoint}
+use Rattle.circle_domain.proofs.Parts.{part-point, length-part, part-at, place-below}
+use Rattle.circle_domain.proofs.Parts.{parts-disjoint}
 use Rattle.circle_domain.proofs.PartPlaces.{part_of-below}
 use Rattle.circle_domain.proofs.Walking.{standard-point, standard-at}
 

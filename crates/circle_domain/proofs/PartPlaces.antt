@@ -1,9 +1,11 @@
 -- Places of points in the whole and in its parts.
-use Rattle.std.specs.Prelude.{◌≡◌, ◌≢◌, ℕ, ◌+◌, ◌-◌, ◌*◌, ◌/◌, ◌%◌, ◌<◌, ◌≤◌, nat_lt, nat_eq, if◌then◌else◌}
+use Rattle.std.specs.Prelude.{◌≡◌, ◌≢◌, ℕ, ◌+◌, ◌-◌, ◌*◌, ◌/◌, ◌%◌, ◌<◌, ◌≤◌, nat_lt, nat_eq}
+use Rattle.std.specs.Prelude.{if◌then◌else◌}
 use Rattle.std.proofs.Common.{◌∙◌, ap, arith, ⊎_elim}
 use Rattle.std.proofs.Math.Nat.{mul-div_cancel}
 use Rattle.std.proofs.lemmas.Bool.{cases_lt, cases_eq, lt-ltb, le-ltb, eq-eqb, ne_eqb}
-use Rattle.std.proofs.lemmas.Nat.{div-add-mod', mod_below, div-mul-add, mod-mul-add, row_fits, div_below}
+use Rattle.std.proofs.lemmas.Nat.{div-add-mod', mod_below, div-mul-add, mod-mul-add, row_fits}
+use Rattle.std.proofs.lemmas.Nat.{div_below}
 use Rattle.circle_domain.specs.Splitting.{part_of, place_in, place_of}
 
 choose_lt : (a b u c : ℕ) → u < c → (if nat_lt u c then a else b) ≡ a
@@ -62,8 +64,11 @@ place_of-place_in c i h =
     place_of-even c (part_of c i) q (place_in c i) place ∙ ap (λ m. q * (2 * c) + m) part ∙ whole)
     (λ ge.
     let part : part_of c i ≡ 2 * c - 1 - u = choose_ge u (2 * c - 1 - u) u c ge in
-    let place : place_in c i ≡ q + q + 1 = ap (λ m. q * 2 + m) (choose_ge 0 1 u c ge) ∙ omega arith in
-    place_of-odd c (part_of c i) q (place_in c i) place ∙ ap (λ m. q * (2 * c) + m) (let e : 2 * c - 1 - part_of c i ≡ u = omega (arith, part, b, ge) in e) ∙ whole)
+    let place : place_in c i ≡ q + q + 1 = ap (λ m. q * 2 + m) (choose_ge 0 1 u c ge)
+    ∙ omega arith in
+    place_of-odd c (part_of c i) q (place_in c i) place
+    ∙ ap (λ m. q * (2 * c) + m) (let e : 2 * c - 1 - part_of c i ≡ u =
+    omega (arith, part, b, ge) in e) ∙ whole)
     (cases_lt u c)
 
 -- a place of a part is in the whole, and tells the part and the place
@@ -73,11 +78,13 @@ place_of-below c j r m h lt =
     ⊎_elim
     (λ even.
     let e = place_of-even c j q r (omega (arith, even)) in
-    let fits : q * (2 * c) + 2 * c ≤ m * (2 * c) = row_fits q (2 * c) m (2 * c) (omega arith) (omega arith) in
+    let fits : q * (2 * c) + 2 * c ≤ m * (2 * c) =
+    row_fits q (2 * c) m (2 * c) (omega arith) (omega arith) in
     omega (arith, e, fits, h))
     (λ odd.
     let e = place_of-odd c j q r (omega (arith, odd)) in
-    let fits : q * (2 * c) + 2 * c ≤ m * (2 * c) = row_fits q (2 * c) m (2 * c) (omega arith) (omega arith) in
+    let fits : q * (2 * c) + 2 * c ≤ m * (2 * c) =
+    row_fits q (2 * c) m (2 * c) (omega arith) (omega arith) in
     omega (arith, e, fits, h))
     (cases_eq (r % 2) 0)
 
@@ -87,11 +94,15 @@ part_of-place_of c j r h =
     let i = place_of c j r in
     ⊎_elim
     (λ even.
-    let u : i % (2 * c) ≡ j = ap (λ m. m % (2 * c)) (place_of-even c j q r (omega (arith, even))) ∙ mod-mul-add q (2 * c) j (omega (arith, h)) in
+    let u : i % (2 * c) ≡ j = ap (λ m. m % (2 * c)) (place_of-even c j q r (omega (arith, even)))
+    ∙ mod-mul-add q (2 * c) j (omega (arith, h)) in
     choose_lt (i % (2 * c)) (2 * c - 1 - i % (2 * c)) (i % (2 * c)) c (omega (arith, u, h)) ∙ u)
     (λ odd.
-    let u : i % (2 * c) ≡ 2 * c - 1 - j = ap (λ m. m % (2 * c)) (place_of-odd c j q r (omega (arith, odd))) ∙ mod-mul-add q (2 * c) (2 * c - 1 - j) (omega (arith, h)) in
-    choose_ge (i % (2 * c)) (2 * c - 1 - i % (2 * c)) (i % (2 * c)) c (omega (arith, u, h)) ∙ omega (arith, u, h))
+    let u : i % (2 * c) ≡ 2 * c - 1 - j =
+    ap (λ m. m % (2 * c)) (place_of-odd c j q r (omega (arith, odd)))
+    ∙ mod-mul-add q (2 * c) (2 * c - 1 - j) (omega (arith, h)) in
+    choose_ge (i % (2 * c)) (2 * c - 1 - i % (2 * c)) (i % (2 * c)) c (omega (arith, u, h))
+    ∙ omega (arith, u, h))
     (cases_eq (r % 2) 0)
 
 pub place_in-place_of : (c j r : ℕ) → j < c → place_in c (place_of c j r) ≡ r
@@ -101,14 +112,20 @@ place_in-place_of c j r h =
     ⊎_elim
     (λ even.
     let e = place_of-even c j q r (omega (arith, even)) in
-    let u : i % (2 * c) ≡ j = ap (λ m. m % (2 * c)) e ∙ mod-mul-add q (2 * c) j (omega (arith, h)) in
-    let d : i / (2 * c) ≡ q = ap (λ m. m / (2 * c)) e ∙ div-mul-add q (2 * c) j (omega (arith, h)) in
-    ap (λ m. i / (2 * c) * 2 + m) (choose_lt 0 1 (i % (2 * c)) c (omega (arith, u, h))) ∙ omega (arith, d, even))
+    let u : i % (2 * c) ≡ j = ap (λ m. m % (2 * c)) e
+    ∙ mod-mul-add q (2 * c) j (omega (arith, h)) in
+    let d : i / (2 * c) ≡ q = ap (λ m. m / (2 * c)) e
+    ∙ div-mul-add q (2 * c) j (omega (arith, h)) in
+    ap (λ m. i / (2 * c) * 2 + m) (choose_lt 0 1 (i % (2 * c)) c (omega (arith, u, h)))
+    ∙ omega (arith, d, even))
     (λ odd.
     let e = place_of-odd c j q r (omega (arith, odd)) in
-    let u : i % (2 * c) ≡ 2 * c - 1 - j = ap (λ m. m % (2 * c)) e ∙ mod-mul-add q (2 * c) (2 * c - 1 - j) (omega (arith, h)) in
-    let d : i / (2 * c) ≡ q = ap (λ m. m / (2 * c)) e ∙ div-mul-add q (2 * c) (2 * c - 1 - j) (omega (arith, h)) in
-    ap (λ m. i / (2 * c) * 2 + m) (choose_ge 0 1 (i % (2 * c)) c (omega (arith, u, h))) ∙ omega (arith, d, odd))
+    let u : i % (2 * c) ≡ 2 * c - 1 - j = ap (λ m. m % (2 * c)) e
+    ∙ mod-mul-add q (2 * c) (2 * c - 1 - j) (omega (arith, h)) in
+    let d : i / (2 * c) ≡ q = ap (λ m. m / (2 * c)) e
+    ∙ div-mul-add q (2 * c) (2 * c - 1 - j) (omega (arith, h)) in
+    ap (λ m. i / (2 * c) * 2 + m) (choose_ge 0 1 (i % (2 * c)) c (omega (arith, u, h)))
+    ∙ omega (arith, d, odd))
     (cases_eq (r % 2) 0)
 
 -- the height of a part, and its places as rows of the whole
@@ -119,5 +136,6 @@ part_height c m height h e =
 
 pub turn_fits : (c m r : ℕ) → r < m * 2 → (r / 2 + 1) * (2 * c) ≤ m * (2 * c)
 turn_fits c m r h =
-    let fits : r / 2 * (2 * c) + 2 * c ≤ m * (2 * c) = row_fits (r / 2) (2 * c) m (2 * c) (omega arith) (omega arith) in
+    let fits : r / 2 * (2 * c) + 2 * c ≤ m * (2 * c) =
+    row_fits (r / 2) (2 * c) m (2 * c) (omega arith) (omega arith) in
     omega (arith, fits)

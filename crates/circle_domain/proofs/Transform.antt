@@ -1,4 +1,5 @@
--- The layers of the transform, one block at a time: what they make of a block's coefficients are its values.
+-- The layers of the transform, one block at a time: what they make of a block's coefficients are
+-- its values.
 use Rattle.std.specs.Prelude.{◌≡◌, ℕ, ◌+◌, ◌^◌, ◌≤◌, List, [], ◌∷◌, ◌++◌, length, map, take, drop}
 use Rattle.std.specs.List.{AllByRecursion}
 use Rattle.std.proofs.Common.{zero, suc, sym, ◌∙◌, ap, refl, arith, length-append, length-drop}
@@ -12,7 +13,8 @@ use Rattle.circle_commit.specs.DotProduct.{pairwise}
 use Rattle.circle_domain.specs.Layers.{factor, second_half}
 use Rattle.circle_commit.proofs.Written.{length-pairwise}
 use Rattle.circle_domain.proofs.HalfSums.{value-halves, value-low, high-low}
-use Rattle.circle_domain.proofs.Blocks.{points, factor-points, factor-opposite, second_half-on_circle}
+use Rattle.circle_domain.proofs.Blocks.{points, factor-points, factor-opposite}
+use Rattle.circle_domain.proofs.Blocks.{second_half-on_circle}
 
 -- functions that agree on each element of a list
 pub map-same : {X Y : Type 0} (f h : X → Y) (P : X → Type 0) (xs : List X) → AllByRecursion P xs →
@@ -83,7 +85,8 @@ module _ {F : Type 0} (k : FieldOps F) (gen : ℕ → Coordinates F) where
         pow-suc 2 m,
       )
 
-  -- a block's coefficients by their halves: on each half of the points, what the layer makes has their values
+  -- a block's coefficients by their halves: on each half of the points, what the layer makes has
+  -- their values
   pub record SplitValues (m : ℕ) (q : Coordinates F) (c : List F) : Type 0 where
     pub whole : (p : Coordinates F) → k.add (value k (take (2 ^ m) c) p)
         (k.mul (value k (take (2 ^ m) (drop (2 ^ m) c)) p) (factor k m p)) ≡ value k c p

@@ -11,14 +11,16 @@ use Rattle.circle_field.specs.CubicFive.{five}
 use Rattle.circle_field.proofs.Sums.{ones-+}
 
 -- as many ones as a product of residues
-pub ones-product : (a b : Mersenne31) → of_nat operations (residue a * residue b) ≡ operations.mul a b
+pub ones-product : (a b : Mersenne31) → of_nat operations (residue a * residue b)
+    ≡ operations.mul a b
 ones-product a b = same_residue _ _ (residue_of_nat (residue a * residue b))
 
 -- as many ones as a sum of numbers whose elements are known
 pub ones-sum : (m n : ℕ) (a b : Mersenne31) → of_nat operations m ≡ a → of_nat operations n ≡ b →
     of_nat operations (m + n) ≡ operations.add a b
 ones-sum m n a b p q =
-    ones-+ laws.ring m n ∙ ap (λ x. operations.add x (of_nat operations n)) p ∙ ap (operations.add a) q
+    ones-+ laws.ring m n ∙ ap (λ x. operations.add x (of_nat operations n)) p
+    ∙ ap (operations.add a) q
 
 -- as many ones as five times a number that was folded
 pub ones-five : (n f : ℕ) (a : Mersenne31) → f ≡ n % 2 ^ 31 + n / 2 ^ 31 → of_nat operations n ≡ a →
@@ -26,4 +28,5 @@ pub ones-five : (n f : ℕ) (a : Mersenne31) → f ≡ n % 2 ^ 31 + n / 2 ^ 31 �
 ones-five n f a folded known =
     same_residue _ _
     (residue_of_nat (5 * f) ∙ sym (mul-mod_second 5 f order)
-    ∙ ap (λ x. (5 * x) % order) (ap (λ m. m % order) folded ∙ folded_bits n ∙ sym (residue_of_nat n) ∙ ap residue known))
+    ∙ ap (λ x. (5 * x) % order) (ap (λ m. m % order) folded ∙ folded_bits n ∙ sym (residue_of_nat n)
+    ∙ ap residue known))

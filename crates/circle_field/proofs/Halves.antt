@@ -25,5 +25,6 @@ module _ {F : Type 0} {k : FieldOps F} (laws : FieldLaws k) where
   pub doubled_half : (a x : F) → x ≡ k.mul a (k.inv (two k)) → k.add x x ≡ a
   doubled_half a x e =
       sym (times_two x) ∙ ap (λ y. k.mul y (two k)) e ∙ mul_assoc a (k.inv (two k)) (two k)
-      ∙ ap (k.mul a) (laws.ring.mul_comm (k.inv (two k)) (two k) ∙ laws.mul_inv (two k) laws.two_nonzero)
+      ∙ ap (k.mul a) (laws.ring.mul_comm (k.inv (two k)) (two k)
+      ∙ laws.mul_inv (two k) laws.two_nonzero)
       ∙ mul_one laws.ring a

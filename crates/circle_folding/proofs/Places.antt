@@ -15,14 +15,20 @@ place-below q low high le lt =
     let e : 2 ^ high ≡ 2 ^ (low + (high - low)) = ap (λ n. 2 ^ n) (omega (arith, le)) in
     shr_lt low (high - low) (omega (arith, lt, e))
 
-module _ {F : Type 0} {k : FieldOps F} (laws : RingLaws k) {gen : ℕ → Coordinates F} {bits : ℕ} (gens : AreGenerators k bits gen) where
+module _ {F : Type 0} {k : FieldOps F} (laws : RingLaws k) {gen : ℕ → Coordinates F} {bits : ℕ}
+    (gens : AreGenerators k bits gen) where
   -- the point that is computed for a place of the transform's order
-  pub point-at : (h n place index : ℕ) (s p d : Coordinates F) → 1 ≤ h → h ≤ suc bits → place < 2 ^ h → n ≡ h → s ≡ gen (h + 1) → index ≡ cfft_index h place →
-      slice_get (natural_order k gen n s) index ≡ Some p → p ≡ slice_index_or (cfft_order k gen h (gen (h + 1))) place d
+  pub point-at : (h n place index : ℕ) (s p d : Coordinates F) → 1 ≤ h → h ≤ suc bits →
+      place < 2 ^ h → n ≡ h → s ≡ gen (h + 1) → index ≡ cfft_index h place →
+      slice_get (natural_order k gen n s) index ≡ Some p →
+      p ≡ slice_index_or (cfft_order k gen h (gen (h + 1))) place d
   point-at h n place index s p d positive fits lt size shift is here =
       let e : suc (h - 1) ≡ h = omega (arith, positive) in
       sym (get_or_from_slice_get (natural_order k gen n s) index p d here)
-      ∙ ap (λ i. slice_index_or (natural_order k gen n s) i d) (is ∙ ap (λ m. cfft_index m place) (sym e))
+      ∙ ap (λ i. slice_index_or (natural_order k gen n s) i d)
+      (is ∙ ap (λ m. cfft_index m place) (sym e))
       ∙ ap (λ m. slice_index_or (natural_order k gen m s) (cfft_index (suc (h - 1)) place) d) size
       ∙ ap (λ q. slice_index_or (natural_order k gen h q) (cfft_index (suc (h - 1)) place) d) shift
-      ∙ sym (cfft-place laws gens (h - 1) place (gen (h + 1)) d (let l : place < 2 ^ suc (h - 1) = omega (arith, lt, ap (λ m. 2 ^ m) e) in l) (omega (arith, fits)))
+      ∙ sym
+      (cfft-place laws gens (h - 1) place (gen (h + 1)) d (let l : place < 2 ^ suc (h - 1) =
+      omega (arith, lt, ap (λ m. 2 ^ m) e) in l) (omega (arith, fits)))

@@ -7,8 +7,12 @@ use Rattle.std.proofs.lemmas.List.FromFn.{length-range_with_len}
 use Rattle.circle_field.specs.Field.{FieldOps, nth_power}
 use Rattle.circle_folding.specs.Quotient.{ArePowers}
 
-pub length-powers : {E : Type 0} (l : FieldOps E) (a : E) (n : ℕ) (ps : List E) → ps ≡ map (λ i. nth_power l a i) (range_with_len 0 n) → length ps ≡ n
-length-powers l a n ps is = ap length is ∙ length-map (range_with_len 0 n) (λ i. nth_power l a i) ∙ length-range_with_len 0 n
+pub length-powers : {E : Type 0} (l : FieldOps E) (a : E) (n : ℕ) (ps : List E) →
+    ps ≡ map (λ i. nth_power l a i) (range_with_len 0 n) → length ps ≡ n
+length-powers l a n ps is = ap length is ∙ length-map (range_with_len 0 n) (λ i. nth_power l a i)
+    ∙ length-range_with_len 0 n
 
-pub are-powers : {E : Type 0} (l : FieldOps E) (a : E) (n : ℕ) (ps : List E) → ps ≡ map (λ i. nth_power l a i) (range_with_len 0 n) → ArePowers l a ps
-are-powers l a n ps is = is ∙ ap (λ m. map (nth_power l a) (range_with_len 0 m)) (sym (length-powers l a n ps is))
+pub are-powers : {E : Type 0} (l : FieldOps E) (a : E) (n : ℕ) (ps : List E) →
+    ps ≡ map (λ i. nth_power l a i) (range_with_len 0 n) → ArePowers l a ps
+are-powers l a n ps is =
+    is ∙ ap (λ m. map (nth_power l a) (range_with_len 0 m)) (sym (length-powers l a n ps is))

@@ -16,17 +16,20 @@ halves count level h =
     ap (λ k. 2 ^ k) e ∙ pow-suc 2 (count - (level + 1)) ∙ omega arith
 
 -- the size of a level of a tree
-pub level_size : (top count level : ℕ) → top ≡ 2 ^ count → level ≤ count → top / 2 ^ level ≡ 2 ^ (count - level)
+pub level_size : (top count level : ℕ) → top ≡ 2 ^ count → level ≤ count → top / 2 ^ level
+    ≡ 2 ^ (count - level)
 level_size top count level e h = ap (λ n. n / 2 ^ level) e ∙ pow-div count level h
 
 -- the exponents stand as the powers do
 pub exponent_within : (h l : ℕ) → 2 ^ h ≤ 2 ^ l → h ≤ l
 exponent_within h l le =
     ⊎_elim
-    (λ lt. absurd (let next : 2 ^ suc l ≤ 2 ^ h = pow_within (suc l) h lt in omega (arith, next, pow-suc 2 l, pow_pos l)))
+    (λ lt. absurd (let next : 2 ^ suc l ≤ 2 ^ h = pow_within (suc l) h lt in
+    omega (arith, next, pow-suc 2 l, pow_pos l)))
     (λ ge. ge)
     (cases_lt l h)
 
 -- a power of two divided by its quotient with another
 pub quotient_twice : (l k : ℕ) → k ≤ l → 2 ^ l / 2 ^ (l - k) ≡ 2 ^ k
-quotient_twice l k h = pow-div l (l - k) (omega arith) ∙ (let e : l - (l - k) ≡ k = omega arith in ap (λ n. 2 ^ n) e)
+quotient_twice l k h = pow-div l (l - k) (omega arith)
+    ∙ (let e : l - (l - k) ≡ k = omega arith in ap (λ n. 2 ^ n) e)

@@ -1,14 +1,16 @@
 -- Words of several messages side by side: a list has one of each message, and a lane is what is one
 -- message's of such lists.
 use Rattle.std.specs.Prelude.{◌≡◌, ℕ, ◌+◌, ◌*◌, ◌<◌, List, [], ◌∷◌, map, slice_index}
-use Rattle.sha2.specs.Sha256.{add32, final_hash, initial_hash_256, small_sigma0, small_sigma1, word_at}
+use Rattle.sha2.specs.Sha256.{add32, final_hash, initial_hash_256, small_sigma0, small_sigma1}
+use Rattle.sha2.specs.Sha256.{word_at}
 
 -- message i's words of lists of words
 abbrev pub lane : ℕ → List (List ℕ) → List ℕ
 lane i words = map (λ word. slice_index word i) words
 
 -- message i's working variables
-abbrev pub variables : List ℕ → List ℕ → List ℕ → List ℕ → List ℕ → List ℕ → List ℕ → List ℕ → ℕ → List ℕ
+abbrev pub variables : List ℕ → List ℕ → List ℕ → List ℕ → List ℕ → List ℕ → List ℕ → List ℕ → ℕ →
+    List ℕ
 variables a b c d e f g h i =
     slice_index a i ∷ slice_index b i ∷ slice_index c i ∷ slice_index d i ∷ slice_index e i
     ∷ slice_index f i ∷ slice_index g i ∷ slice_index h i ∷ []

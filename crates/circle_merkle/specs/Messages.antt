@@ -16,6 +16,7 @@ abbrev pub pair_digest : (List ℕ → List ℕ) → ℕ → List (List ℕ) →
 pair_digest hash first pairs i = hash (pair_message first pairs i)
 
 -- the digests of the first rows of the matrices of this height, so many
-abbrev pub row_digests : {T : Type 0} → (T → List ℕ) → List (RowMajorMatrix T) → ℕ → ℕ → List (List ℕ)
+abbrev pub row_digests : {T : Type 0} → (T → List ℕ) → List (RowMajorMatrix T) → ℕ → ℕ →
+    List (List ℕ)
 row_digests bytes matrices height count =
     map (λ i. rows_digest sha256 (matrix_bytes bytes height i matrices)) (range_with_len 0 count)

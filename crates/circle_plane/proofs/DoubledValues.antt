@@ -21,24 +21,33 @@ module _ {F : Type 0} {k : FieldOps F} (laws : RingLaws k) where
       (sum (prod (var 0) (prod unit unit)) (con 0)) refl
 
   -- twice y times x is the y coordinate of the double
-  linear : (a b : F) (p : Coordinates F) → value k (a ∷ k.zero ∷ k.zero ∷ k.add b b ∷ []) p ≡ value k (a ∷ b ∷ []) (plus k p p)
+  linear : (a b : F) (p : Coordinates F) → value k (a ∷ k.zero ∷ k.zero ∷ k.add b b ∷ []) p
+      ≡ value k (a ∷ b ∷ []) (plus k p p)
   linear a b p =
       ring laws (a ∷ b ∷ p.x ∷ p.y ∷ [])
-      (sum (prod (var 0) (prod unit unit)) (sum (prod (con 0) (prod unit (var 3))) (sum (prod (con 0) (prod (prod unit (var 2)) unit)) (sum (prod (sum (var 1) (var 1)) (prod (prod unit (var 2)) (var 3))) (con 0)))))
-      (sum (prod (var 0) (prod unit unit)) (sum (prod (var 1) (prod unit (sum (prod (var 2) (var 3)) (prod (var 3) (var 2))))) (con 0))) refl
+      (sum (prod (var 0) (prod unit unit))
+      (sum (prod (con 0) (prod unit (var 3)))
+      (sum (prod (con 0) (prod (prod unit (var 2)) unit))
+      (sum (prod (sum (var 1) (var 1)) (prod (prod unit (var 2)) (var 3))) (con 0)))))
+      (sum (prod (var 0) (prod unit unit))
+      (sum (prod (var 1) (prod unit (sum (prod (var 2) (var 3)) (prod (var 3) (var 2)))))
+      (con 0))) refl
 
-  doubled_factor : (m : ℕ) (p : Coordinates F) → IsOnCircle k p → factor k (suc m) (plus k p p) ≡ factor k (suc (suc m)) p
+  doubled_factor : (m : ℕ) (p : Coordinates F) → IsOnCircle k p → factor k (suc m) (plus k p p)
+      ≡ factor k (suc (suc m)) p
   doubled_factor m p on = ap (iterated_x k m) (sym (doubled_x-plus laws p on))
 
   -- twice as many coefficients, with the values of these at the doubles
   doubled-once : (n : ℕ) (c : List F) → length c ≡ 2 ^ n →
-      (c' : List F) × (length c' ≡ 2 ^ suc n) × ((p : Coordinates F) → IsOnCircle k p → value k c' p ≡ value k c (plus k p p))
+      (c' : List F) × (length c' ≡ 2 ^ suc n)
+      × ((p : Coordinates F) → IsOnCircle k p → value k c' p ≡ value k c (plus k p p))
   doubled-once zero [] long = absurd (omega arith)
   doubled-once zero (a ∷ []) long = (a ∷ k.zero ∷ [], refl, λ p on. constant a p (plus k p p))
   doubled-once zero (a ∷ b ∷ rest) long = absurd (omega arith)
   doubled-once (suc zero) [] long = absurd (omega arith)
   doubled-once (suc zero) (a ∷ []) long = absurd (omega arith)
-  doubled-once (suc zero) (a ∷ b ∷ []) long = (a ∷ k.zero ∷ k.zero ∷ k.add b b ∷ [], refl, λ p on. linear a b p)
+  doubled-once (suc zero) (a ∷ b ∷ []) long =
+      (a ∷ k.zero ∷ k.zero ∷ k.add b b ∷ [], refl, λ p on. linear a b p)
   doubled-once (suc zero) (a ∷ b ∷ d ∷ rest) long = absurd (omega arith)
   doubled-once (suc (suc m)) c long =
       let half = 2 ^ suc m in
@@ -54,16 +63,23 @@ module _ {F : Type 0} {k : FieldOps F} (laws : RingLaws k) where
         λ p on.
             value-halves laws (suc (suc m)) low.0 high.0 p low.1 (omega (arith, high.1))
             ∙ ap (λ v. k.add v (k.mul (value k high.0 p) (factor k (suc (suc m)) p))) (low.2 p on)
-            ∙ ap (λ v. k.add (value k lo (plus k p p)) (k.mul v (factor k (suc (suc m)) p))) (high.2 p on)
-            ∙ ap (λ t. k.add (value k lo (plus k p p)) (k.mul (value k hi (plus k p p)) t)) (sym (doubled_factor m p on))
+            ∙ ap (λ v. k.add (value k lo (plus k p p)) (k.mul v (factor k (suc (suc m)) p)))
+            (high.2 p on)
+            ∙ ap (λ t. k.add (value k lo (plus k p p)) (k.mul (value k hi (plus k p p)) t))
+            (sym (doubled_factor m p on))
             ∙ sym (value-halves laws (suc m) lo hi (plus k p p) long_lo (omega (arith, long_hi)))
             ∙ ap (λ cs. value k cs (plus k p p)) (take-append-drop half c),
       )
 
   -- 2^r times as many, with the values of these at the points doubled r times
   pub doubled : (r n : ℕ) (c : List F) → length c ≡ 2 ^ n →
-      (c' : List F) × (length c' ≡ 2 ^ (r + n)) × ((p : Coordinates F) → IsOnCircle k p → value k c' p ≡ value k c (times k (2 ^ r) p))
-  doubled zero n c long = (c, long ∙ ap (λ m. 2 ^ m) (let e : n ≡ zero + n = omega arith in e), λ p on. ap (value k c) (sym (times-one laws p)))
+      (c' : List F) × (length c' ≡ 2 ^ (r + n))
+      × ((p : Coordinates F) → IsOnCircle k p → value k c' p ≡ value k c (times k (2 ^ r) p))
+  doubled zero n c long = (
+    c,
+    long ∙ ap (λ m. 2 ^ m) (let e : n ≡ zero + n = omega arith in e),
+    λ p on. ap (value k c) (sym (times-one laws p)),
+  )
   doubled (suc r) n c long =
       let before = doubled r n c long in
       let next = doubled-once (r + n) before.0 before.1 in

@@ -4,14 +4,18 @@ use Rattle.std.specs.declared.result.Result.{Result}
 use Rattle.std.proofs.Common.{sym, subst}
 use Rattle.circle_plane.specs.PeriodicColumns.{IsFirstFault, IsRefusal}
 use Rattle.circle_plane.specs.declared.periodic.PeriodicError.{PeriodicError}
-use Rattle.circle_plane.specs.declared.periodic.PeriodicError.TheVariants.{Empty, NotPowerOfTwo, LongerThanTrace, HeightTooLarge, Memory}
+use Rattle.circle_plane.specs.declared.periodic.PeriodicError.TheVariants.{Empty, NotPowerOfTwo}
+use Rattle.circle_plane.specs.declared.periodic.PeriodicError.TheVariants.{LongerThanTrace}
+use Rattle.circle_plane.specs.declared.periodic.PeriodicError.TheVariants.{HeightTooLarge, Memory}
 
-pub handed_on : {A E : Type 0} (r : Result A E) (e : E) (P : E → Type 0) → IsErrAnd r (λ x. x ≡ e) → P e → IfErr r P
+pub handed_on : {A E : Type 0} (r : Result A E) (e : E) (P : E → Type 0) → IsErrAnd r (λ x. x ≡ e) →
+    P e → IfErr r P
 handed_on (Ok x) e P h p = tt
 handed_on (Err x) e P h p = subst P (sym h) p
 
 -- the first fault of a column is the refusal
-pub fault-refusal : (size : ℕ) (periods : List ℕ) (blowup : ℕ) (e : PeriodicError) → IsFirstFault size periods e → IsRefusal size periods blowup e
+pub fault-refusal : (size : ℕ) (periods : List ℕ) (blowup : ℕ) (e : PeriodicError) →
+    IsFirstFault size periods e → IsRefusal size periods blowup e
 fault-refusal size periods blowup Empty h = h
 fault-refusal size periods blowup NotPowerOfTwo h = h
 fault-refusal size periods blowup LongerThanTrace h = h

@@ -1,27 +1,33 @@
 -- How much a run draws.
-use Rattle.std.specs.Prelude.{◌≡◌, ℕ, Bool, true, false, if◌then◌else◌, List, [], ◌∷◌, length, Ok, Err}
+use Rattle.std.specs.Prelude.{◌≡◌, ℕ, Bool, true, false, if◌then◌else◌, List, [], ◌∷◌, length, Ok}
+use Rattle.std.specs.Prelude.{Err}
 use Rattle.std.proofs.Common.{suc, refl, ap, ◌∙◌}
 use Rattle.circle_challenger.specs.Moves.{RunMoves, after_element, is_passed}
 use Rattle.circle_challenger.proofs.Draws.{length-samples}
 use Rattle.circle_commit.specs.declared.params.PowPhase.TheVariants.{Batch, CommitPhase, Query}
-use Rattle.circle_transcript.specs.Draw.{Drawn, Taken, after_round, claimed, closed, draw_seeded, drawn, fold_challenges, layered, rounds_pass}
+use Rattle.circle_transcript.specs.Draw.{Drawn, Taken, after_round, claimed, closed, draw_seeded}
+use Rattle.circle_transcript.specs.Draw.{drawn, fold_challenges, layered, rounds_pass}
 use Rattle.circle_transcript.specs.declared.transcript.Numbers.{Numbers}
 
 -- what is drawn
 pick : {S F : Type 0} (a b c : Bool) (d x : Drawn S F) →
-    (if a then (if b then (if c then Ok d else Err Query) else Err CommitPhase) else Err Batch) ≡ Ok x → x ≡ d
+    (if a then (if b then (if c then Ok d else Err Query) else Err CommitPhase) else Err Batch)
+    ≡ Ok x → x ≡ d
 pick true true true d x is = cc
 pick true true false d x is = cc
 pick true false c d x is = cc
 pick false b c d x is = cc
 
 module _ {C S F E Com : Type 0} (m : RunMoves C S F E Com) where
-  length-fold_challenges : (bits : ℕ) (s : S) (rounds : List (Com × F)) → length (fold_challenges m bits s rounds) ≡ length rounds
+  length-fold_challenges : (bits : ℕ) (s : S) (rounds : List (Com × F)) →
+      length (fold_challenges m bits s rounds) ≡ length rounds
   unfolding fold_challenges
   length-fold_challenges bits s [] = refl
-  length-fold_challenges bits s (round ∷ rounds) = ap suc (length-fold_challenges bits (after_round m bits s round) rounds)
+  length-fold_challenges bits s (round ∷ rounds) =
+      ap suc (length-fold_challenges bits (after_round m bits s round) rounds)
 
-  module _ (n : Numbers) (t : Taken F E Com) (s : S) (x : Drawn S F) (is : draw_seeded m n t s ≡ Ok x) where
+  module _ (n : Numbers) (t : Taken F E Com) (s : S) (x : Drawn S F)
+      (is : draw_seeded m n t s ≡ Ok x) where
     drawn-is : x ≡ drawn m n t s
     unfolding draw_seeded
     drawn-is =
@@ -31,7 +37,9 @@ module _ {C S F E Com : Type 0} (m : RunMoves C S F E Com) where
 
     -- a challenge for each round, and so many queries
     pub betas-count : length x.betas ≡ length t.rounds
-    betas-count = ap (λ (d : Drawn S F). length d.betas) drawn-is ∙ length-fold_challenges _ _ t.rounds
+    betas-count = ap (λ (d : Drawn S F). length d.betas) drawn-is
+        ∙ length-fold_challenges _ _ t.rounds
 
     pub queries-count : length x.indices ≡ n.num_queries
-    queries-count = ap (λ (d : Drawn S F). length d.indices) drawn-is ∙ length-samples _ _ n.num_queries _
+    queries-count = ap (λ (d : Drawn S F). length d.indices) drawn-is
+        ∙ length-samples _ _ n.num_queries _

@@ -13,7 +13,8 @@ use Rattle.circle_relation.specs.Taken.{claims_taken, shape_by}
 use Rattle.circle_prover.specs.Words.{EndsHigh, IsCommitmentOf, heights_of, layer_of, round_word}
 use Rattle.circle_prover.specs.Words.{top_of, word_at}
 use Rattle.circle_relation.specs.declared.error.ProverError.{ProverError}
-use Rattle.circle_relation.specs.declared.error.ProverError.TheVariants.{Memory, LastWordNotConstant}
+use Rattle.circle_relation.specs.declared.error.ProverError.TheVariants.{Memory}
+use Rattle.circle_relation.specs.declared.error.ProverError.TheVariants.{LastWordNotConstant}
 use Rattle.circle_relation.specs.declared.error.ProverError.TheVariants.{NoGrindingWitness}
 use Rattle.circle_transcript.specs.Draw.{Claim, Taken, AreFound, after_claims, batched, claimed}
 use Rattle.circle_transcript.specs.Draw.{layered, closed, after_rounds, fold_challenges, seeded}

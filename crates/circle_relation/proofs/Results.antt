@@ -10,6 +10,7 @@ pub on_one : {T E A P : Type 0} (x : Result T E) → (A → P) → OnOk x A → 
 on_one (Ok v) f a = f a
 on_one (Err e) f a = tt
 
-pub if_err : {T E : Type 0} (P Q : E → Type 0) (x : Result T E) → ((e : E) → P e → Q e) → IfErr x P → IfErr x Q
+pub if_err : {T E : Type 0} (P Q : E → Type 0) (x : Result T E) → ((e : E) → P e → Q e) →
+    IfErr x P → IfErr x Q
 if_err P Q (Ok v) f h = tt
 if_err P Q (Err e) f h = f e h

@@ -1,5 +1,6 @@
 -- What a run draws, as functions of the challenger's state.
-use Rattle.std.specs.Prelude.{◌≡◌, ℕ, Bool, Some, true, ◌&&◌, if◌then◌else◌, List, [], ◌∷◌, length, map}
+use Rattle.std.specs.Prelude.{◌≡◌, ℕ, Bool, Some, true, ◌&&◌, if◌then◌else◌, List, [], ◌∷◌, length}
+use Rattle.std.specs.Prelude.{map}
 use Rattle.std.specs.Prelude.{flat_map, Result, Ok, Err}
 use Rattle.circle_field.specs.Circle.{Coordinates}
 use Rattle.circle_commit.specs.declared.params.PowPhase.{PowPhase}

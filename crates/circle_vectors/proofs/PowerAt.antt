@@ -6,6 +6,8 @@ use Rattle.circle_commit.specs.RowMajorMatrix.{height_of}
 use Rattle.circle_commit.specs.declared.matrix.RowMajorMatrix.{RowMajorMatrix}
 use Rattle.circle_scheme.specs.Committing.{height_at}
 
-pub power-at : {T : Type 0} (matrices : List (RowMajorMatrix T)) (i : ℕ) (m : RowMajorMatrix T) → i < length matrices → m ≡ get_or matrices i m
+pub power-at : {T : Type 0} (matrices : List (RowMajorMatrix T)) (i : ℕ) (m : RowMajorMatrix T) →
+    i < length matrices → m ≡ get_or matrices i m
     → IsPowerOfTwo (height_of m) → IsPowerOfTwo (height_at matrices i)
-power-at matrices i m within is power = (power.0, get_or-map height_of matrices i m 0 within ∙ ap height_of (sym is) ∙ power.1)
+power-at matrices i m within is power =
+    (power.0, get_or-map height_of matrices i m 0 within ∙ ap height_of (sym is) ∙ power.1)

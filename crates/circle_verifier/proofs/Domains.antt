@@ -1,5 +1,6 @@
 -- Claimed domains, batch after batch.
-use Rattle.std.proofs.Common.{◌≡◌, ℕ, ◌+◌, ◌<◌, List, [], ◌∷◌, ◌++◌, drop, length, get_or, refl, sym, ap, ◌∙◌, arith}
+use Rattle.std.proofs.Common.{◌≡◌, ℕ, ◌+◌, ◌<◌, List, [], ◌∷◌, ◌++◌, drop, length, get_or, refl}
+use Rattle.std.proofs.Common.{sym, ap, ◌∙◌, arith}
 use Rattle.std.proofs.lemmas.List.{drop_more, map-append}
 use Rattle.std.specs.Prelude.{Ok, Err, true, false, max}
 use Rattle.std.specs.Result.{result_and}
@@ -16,51 +17,68 @@ max_assoc a b c = omega arith
 
 greatest-append : (xs ys : List ℕ) → greatest (xs ++ ys) ≡ max (greatest xs) (greatest ys)
 greatest-append [] ys = omega arith
-greatest-append (x ∷ xs) ys = ap (max x) (greatest-append xs ys) ∙ sym (max_assoc x (greatest xs) (greatest ys))
+greatest-append (x ∷ xs) ys = ap (max x) (greatest-append xs ys)
+    ∙ sym (max_assoc x (greatest xs) (greatest ys))
 
 -- tests that refuse nothing answer the value, others their refusal, whatever the value
-pub passed-value : {A E : Type 0} (ts : List (Test E)) (v w : A) → answer ts v ≡ Ok w → (answer ts (tt {0}) ≡ Ok (tt {0})) × (v ≡ w)
+pub passed-value : {A E : Type 0} (ts : List (Test E)) (v w : A) → answer ts v ≡ Ok w →
+    (answer ts (tt {0}) ≡ Ok (tt {0})) × (v ≡ w)
 unfolding answer
 passed-value [] v w is = (refl, cc)
 passed-value ((true, e) ∷ ts) v w is = cc
 passed-value ((false, e) ∷ ts) v w is = passed-value ts v w is
 
-pub refused-value : {A E : Type 0} (ts : List (Test E)) (v : A) (e : E) → answer ts v ≡ Err e → answer ts (tt {0}) ≡ Err e
+pub refused-value : {A E : Type 0} (ts : List (Test E)) (v : A) (e : E) → answer ts v ≡ Err e →
+    answer ts (tt {0}) ≡ Err e
 unfolding answer
 refused-value [] v e is = cc
 refused-value ((true, d) ∷ ts) v e is = cc
 refused-value ((false, d) ∷ ts) v e is = refused-value ts v e is
 
 module _ {C A B : Type 0} (final : ℕ) (xs ys : List ℕ) where
-  tests-append : domain_tests {C = C} {A = A} {B = B} final (xs ++ ys) ≡ domain_tests final xs ++ domain_tests final ys
+  tests-append : domain_tests {C = C} {A = A} {B = B} final (xs ++ ys) ≡ domain_tests final xs
+      ++ domain_tests final ys
   tests-append = map-append _ xs ys
 
   -- after domains of which none is refused the others are asked
-  pub more_domains : (g m : ℕ) → answer (domain_tests {C = C} {A = A} {B = B} final xs) (greatest xs) ≡ Ok m →
+  pub more_domains : (g m : ℕ) →
+      answer (domain_tests {C = C} {A = A} {B = B} final xs) (greatest xs) ≡ Ok m →
       answer (domain_tests {C = C} {A = A} {B = B} final (xs ++ ys)) (max g (greatest (xs ++ ys)))
       ≡ answer (domain_tests final ys) (max (max g m) (greatest ys))
   more_domains g m is =
-      let passed = passed-value (domain_tests {C = C} {A = A} {B = B} final xs) (greatest xs) m is in
+      let passed = passed-value (domain_tests {C = C} {A = A} {B = B} final xs) (greatest xs) m
+      is in
       let value : max g (greatest (xs ++ ys)) ≡ max (max g m) (greatest ys) =
-      ap (max g) (greatest-append xs ys ∙ ap (λ n. max n (greatest ys)) passed.1) ∙ sym (max_assoc g m (greatest ys)) in
+      ap (max g) (greatest-append xs ys ∙ ap (λ n. max n (greatest ys)) passed.1)
+      ∙ sym (max_assoc g m (greatest ys)) in
       ap (λ v. answer (domain_tests {C = C} {A = A} {B = B} final (xs ++ ys)) v) value
       ∙ ap (λ ts. answer ts (max (max g m) (greatest ys))) tests-append
       ∙ answer-append (domain_tests final xs) (domain_tests final ys) (max (max g m) (greatest ys))
-      ∙ ap (λ r. result_and r (answer (domain_tests {C = C} {A = A} {B = B} final ys) (max (max g m) (greatest ys)))) passed.0
+      ∙ ap
+      (λ r. result_and r
+      (answer (domain_tests {C = C} {A = A} {B = B} final ys) (max (max g m) (greatest ys))))
+      passed.0
 
   -- a refusal among them is the answer
-  pub refused_domains : (v : ℕ) (e : _) → answer (domain_tests {C = C} {A = A} {B = B} final xs) (greatest xs) ≡ Err e →
+  pub refused_domains : (v : ℕ) (e : _) →
+      answer (domain_tests {C = C} {A = A} {B = B} final xs) (greatest xs) ≡ Err e →
       answer (domain_tests {C = C} {A = A} {B = B} final (xs ++ ys)) v ≡ Err e
   refused_domains v e is =
       ap (λ ts. answer ts v) tests-append
       ∙ answer-append (domain_tests final xs) (domain_tests final ys) v
-      ∙ ap (λ r. result_and r (answer (domain_tests {C = C} {A = A} {B = B} final ys) v)) (refused-value (domain_tests {C = C} {A = A} {B = B} final xs) (greatest xs) e is)
+      ∙ ap (λ r. result_and r (answer (domain_tests {C = C} {A = A} {B = B} final ys) v))
+      (refused-value (domain_tests {C = C} {A = A} {B = B} final xs) (greatest xs) e is)
 
 -- the matrices of a batch, and of those after it
-pub next_batch : {E F Com : Type 0} {g : _} (claims : List (CommitmentOpening E Com (CircleDomain F g))) (i : ℕ) (b : CommitmentOpening E Com (CircleDomain F g)) →
+pub next_batch : {E F Com : Type 0} {g : _}
+    (claims : List (CommitmentOpening E Com (CircleDomain F g))) (i : ℕ)
+    (b : CommitmentOpening E Com (CircleDomain F g)) →
     i < length claims → b ≡ get_or claims i b →
     log_sizes (all_matrices (batch_claims (drop i claims)))
-    ≡ log_sizes (matrix_claims b.matrices.items) ++ log_sizes (all_matrices (batch_claims (drop (i + 1) claims)))
+    ≡ log_sizes (matrix_claims b.matrices.items)
+    ++ log_sizes (all_matrices (batch_claims (drop (i + 1) claims)))
 next_batch claims i b within is =
-    ap (λ cs. log_sizes (all_matrices (batch_claims cs))) (drop_more claims i b within ∙ ap (λ x. x ∷ drop (i + 1) claims) (sym is))
-    ∙ map-append _ (matrix_claims b.matrices.items) (all_matrices (batch_claims (drop (i + 1) claims)))
+    ap (λ cs. log_sizes (all_matrices (batch_claims cs))) (drop_more claims i b within
+    ∙ ap (λ x. x ∷ drop (i + 1) claims) (sym is))
+    ∙ map-append _ (matrix_claims b.matrices.items)
+    (all_matrices (batch_claims (drop (i + 1) claims)))

@@ -1,5 +1,6 @@
 -- What the reduced words of a run tell of their twiddles.
-use Rattle.std.specs.Prelude.{◌≡◌, ℕ, ◌<◌, ◌≤◌, List, [], ◌∷◌, ◌++◌, length, map, All, slice_index_or}
+use Rattle.std.specs.Prelude.{◌≡◌, ℕ, ◌<◌, ◌≤◌, List, [], ◌∷◌, ◌++◌, length, map, All}
+use Rattle.std.specs.Prelude.{slice_index_or}
 use Rattle.std.specs.List.{flat_map}
 use Rattle.std.proofs.Common.{refl, sym, ◌∙◌, ap, arith}
 use Rattle.std.proofs.lemmas.List.{get_or_default, map-id}
@@ -12,14 +13,17 @@ use Rattle.circle_relation.specs.Accepts.{Fields}
 use Rattle.circle_relation.specs.RunOf.{heights_of, queried}
 use Rattle.circle_verifier.specs.FirstLayer.{twiddles_of}
 use Rattle.circle_verifier.specs.Sums.{word_at}
-use Rattle.circle_verifier.proofs.FirstLayerRun.{IsClaimed, AreReduced, word-of, height-within, height-large, points-of}
+use Rattle.circle_verifier.proofs.FirstLayerRun.{IsClaimed, AreReduced, word-of, height-within}
+use Rattle.circle_verifier.proofs.FirstLayerRun.{height-large, points-of}
 
-flat_map-map : {A B C : Type 0} (f : B → List C) (h : A → B) (xs : List A) → flat_map (λ x. f (h x)) xs ≡ flat_map f (map h xs)
+flat_map-map : {A B C : Type 0} (f : B → List C) (h : A → B) (xs : List A) →
+    flat_map (λ x. f (h x)) xs ≡ flat_map f (map h xs)
 flat_map-map f h [] = refl
 flat_map-map f h (x ∷ xs) = ap (λ rest. f (h x) ++ rest) (flat_map-map f h xs)
 
 module _ {F E I W IC ID IP IE WC WD WP WE : Type 0} {g : _} {k : Fields F E}
-    {o : OpenedRun F E I W IC ID IP IE WC WD WP WE g} {f : _} {words : List (QueriedWord F E f)} (a : AreReduced k o words) where
+    {o : OpenedRun F E I W IC ID IP IE WC WD WP WE g} {f : _} {words : List (QueriedWord F E f)}
+    (a : AreReduced k o words) where
   module _ (i : ℕ) (d : QueriedWord F E f) (within : i < length words) where
     abbrev here : QueriedWord F E f
     here = slice_index_or words i d
@@ -32,7 +36,8 @@ module _ {F E I W IC ID IP IE WC WD WP WE : Type 0} {g : _} {k : Fields F E}
       let w = (word-here i d within).0 in
       (omega (arith, height-large w), height-within w)
 
-  pub points-fit : All (λ w. map coordinates w.points.items ≡ map (query_point k.field k.gen w.log_height o.log_max_height) o.indices.now) words
+  pub points-fit : All (λ w. map coordinates w.points.items
+      ≡ map (query_point k.field k.gen w.log_height o.log_max_height) o.indices.now) words
   points-fit i d within =
       let w = word-here i d within in
       points-of w.0 (map coordinates (slice_index_or words i d).points.items) (ap (λ p. p.1.0) w.1)
@@ -42,5 +47,7 @@ module _ {F E I W IC ID IP IE WC WD WP WE : Type 0} {g : _} {k : Fields F E}
       sym (map-map (λ p. p.0) queried words) ∙ ap (map (λ p. p.0)) a.reduced
       ∙ map-map (λ p. p.0) (word_at k o) (heights_of k o) ∙ map-id (heights_of k o)
 
-  pub twiddles-are : flat_map (λ w. twiddles_of k o w.log_height) words ≡ flat_map (twiddles_of k o) (heights_of k o)
-  twiddles-are = flat_map-map (twiddles_of k o) (λ w. w.log_height) words ∙ ap (flat_map (twiddles_of k o)) heights-are
+  pub twiddles-are : flat_map (λ w. twiddles_of k o w.log_height) words
+      ≡ flat_map (twiddles_of k o) (heights_of k o)
+  twiddles-are = flat_map-map (twiddles_of k o) (λ w. w.log_height) words
+      ∙ ap (flat_map (twiddles_of k o)) heights-are

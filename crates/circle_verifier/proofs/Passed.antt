@@ -26,11 +26,15 @@ module _ {A E : Type 0} where
   passed ((false, e) ∷ ts) v w is = (refl, passed ts v w is)
 
   -- the first part refuses, or it does not and the others are asked
-  pub front_refuses : {B : Type 0} (xs ys : List (Test E)) (u : B) (v : A) (e : E) → answer xs u ≡ Err e → answer (xs ++ ys) v ≡ Err e
-  front_refuses xs ys u v e is = answer-append xs ys v ∙ ap (λ r. result_and r (answer ys v)) (refused-value xs u e is)
+  pub front_refuses : {B : Type 0} (xs ys : List (Test E)) (u : B) (v : A) (e : E) →
+      answer xs u ≡ Err e → answer (xs ++ ys) v ≡ Err e
+  front_refuses xs ys u v e is = answer-append xs ys v
+      ∙ ap (λ r. result_and r (answer ys v)) (refused-value xs u e is)
 
-  pub front_passes : {B : Type 0} (xs ys : List (Test E)) (u w : B) (v : A) → answer xs u ≡ Ok w → answer (xs ++ ys) v ≡ answer ys v
-  front_passes xs ys u w v is = answer-append xs ys v ∙ ap (λ r. result_and r (answer ys v)) (passed-value xs u w is).0
+  pub front_passes : {B : Type 0} (xs ys : List (Test E)) (u w : B) (v : A) → answer xs u ≡ Ok w →
+      answer (xs ++ ys) v ≡ answer ys v
+  front_passes xs ys u w v is = answer-append xs ys v
+      ∙ ap (λ r. result_and r (answer ys v)) (passed-value xs u w is).0
 
 -- what passes of two parts
 pub pass-front : {E : Type 0} (xs ys : List (Test E)) → AllPass (xs ++ ys) → AllPass xs

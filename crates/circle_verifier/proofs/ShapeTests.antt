@@ -12,11 +12,15 @@ pub different : (a b : ℕ) → a ≢ b → not (a == b) ≡ true
 different a b differ = ap not (ne_eqb a b differ)
 
 -- the first part of tests, which refuses or does not
-pub refused_first : {E : Type 0} (ts us : List (Test E)) (e : E) → answer ts (tt {0}) ≡ Err e → answer {A = Unit {0}} (ts ++ us) (tt {0}) ≡ Err e
-refused_first ts us e refused = answer-append ts us (tt {0}) ∙ ap (λ r. result_and r (answer us (tt {0}))) refused
+pub refused_first : {E : Type 0} (ts us : List (Test E)) (e : E) → answer ts (tt {0}) ≡ Err e →
+    answer {A = Unit {0}} (ts ++ us) (tt {0}) ≡ Err e
+refused_first ts us e refused = answer-append ts us (tt {0})
+    ∙ ap (λ r. result_and r (answer us (tt {0}))) refused
 
-pub passed_first : {E : Type 0} (ts us : List (Test E)) → answer ts (tt {0}) ≡ Ok (tt {0}) → answer {A = Unit {0}} (ts ++ us) (tt {0}) ≡ answer us (tt {0})
-passed_first ts us passed = answer-append ts us (tt {0}) ∙ ap (λ r. result_and r (answer us (tt {0}))) passed
+pub passed_first : {E : Type 0} (ts us : List (Test E)) → answer ts (tt {0}) ≡ Ok (tt {0}) →
+    answer {A = Unit {0}} (ts ++ us) (tt {0}) ≡ answer us (tt {0})
+passed_first ts us passed = answer-append ts us (tt {0})
+    ∙ ap (λ r. result_and r (answer us (tt {0}))) passed
 
 -- five tests and others, of which one refuses and those before it do not
 module _ {E : Type 0} (t u w x y : Test E) (ts : List (Test E)) where
@@ -24,19 +28,28 @@ module _ {E : Type 0} (t u w x y : Test E) (ts : List (Test E)) where
   first_refuses reason = refusing t (u ∷ w ∷ x ∷ y ∷ ts) (tt {0}) reason
 
   module _ (first : t.0 ≡ false) where
-    pub second_refuses : u.0 ≡ true → answer {A = Unit {0}} (t ∷ u ∷ w ∷ x ∷ y ∷ ts) (tt {0}) ≡ Err u.1
-    second_refuses reason = skipped t (u ∷ w ∷ x ∷ y ∷ ts) (tt {0}) first ∙ refusing u (w ∷ x ∷ y ∷ ts) (tt {0}) reason
+    pub second_refuses : u.0 ≡ true → answer {A = Unit {0}} (t ∷ u ∷ w ∷ x ∷ y ∷ ts) (tt {0})
+        ≡ Err u.1
+    second_refuses reason = skipped t (u ∷ w ∷ x ∷ y ∷ ts) (tt {0}) first
+        ∙ refusing u (w ∷ x ∷ y ∷ ts) (tt {0}) reason
 
     module _ (second : u.0 ≡ false) where
-      two_pass : answer {A = Unit {0}} (t ∷ u ∷ w ∷ x ∷ y ∷ ts) (tt {0}) ≡ answer (w ∷ x ∷ y ∷ ts) (tt {0})
-      two_pass = skipped t (u ∷ w ∷ x ∷ y ∷ ts) (tt {0}) first ∙ skipped u (w ∷ x ∷ y ∷ ts) (tt {0}) second
+      two_pass : answer {A = Unit {0}} (t ∷ u ∷ w ∷ x ∷ y ∷ ts) (tt {0})
+          ≡ answer (w ∷ x ∷ y ∷ ts) (tt {0})
+      two_pass = skipped t (u ∷ w ∷ x ∷ y ∷ ts) (tt {0}) first
+          ∙ skipped u (w ∷ x ∷ y ∷ ts) (tt {0}) second
 
-      pub third_refuses : (e : E) → answer (w ∷ []) (tt {0}) ≡ Err e → answer {A = Unit {0}} (t ∷ u ∷ w ∷ x ∷ y ∷ ts) (tt {0}) ≡ Err e
+      pub third_refuses : (e : E) → answer (w ∷ []) (tt {0}) ≡ Err e →
+          answer {A = Unit {0}} (t ∷ u ∷ w ∷ x ∷ y ∷ ts) (tt {0}) ≡ Err e
       third_refuses e reason = two_pass ∙ refused_first (w ∷ []) (x ∷ y ∷ ts) e reason
 
       module _ (third : answer (w ∷ []) (tt {0}) ≡ Ok (tt {0})) where
-        pub fourth_refuses : (e : E) → answer (x ∷ []) (tt {0}) ≡ Err e → answer {A = Unit {0}} (t ∷ u ∷ w ∷ x ∷ y ∷ ts) (tt {0}) ≡ Err e
-        fourth_refuses e reason = two_pass ∙ passed_first (w ∷ []) (x ∷ y ∷ ts) third ∙ refused_first (x ∷ []) (y ∷ ts) e reason
+        pub fourth_refuses : (e : E) → answer (x ∷ []) (tt {0}) ≡ Err e →
+            answer {A = Unit {0}} (t ∷ u ∷ w ∷ x ∷ y ∷ ts) (tt {0}) ≡ Err e
+        fourth_refuses e reason = two_pass ∙ passed_first (w ∷ []) (x ∷ y ∷ ts) third
+            ∙ refused_first (x ∷ []) (y ∷ ts) e reason
 
-        pub fifth_refuses : answer (x ∷ []) (tt {0}) ≡ Ok (tt {0}) → y.0 ≡ true → answer {A = Unit {0}} (t ∷ u ∷ w ∷ x ∷ y ∷ ts) (tt {0}) ≡ Err y.1
-        fifth_refuses fourth reason = two_pass ∙ passed_first (w ∷ []) (x ∷ y ∷ ts) third ∙ passed_first (x ∷ []) (y ∷ ts) fourth ∙ refusing y ts (tt {0}) reason
+        pub fifth_refuses : answer (x ∷ []) (tt {0}) ≡ Ok (tt {0}) → y.0 ≡ true →
+            answer {A = Unit {0}} (t ∷ u ∷ w ∷ x ∷ y ∷ ts) (tt {0}) ≡ Err y.1
+        fifth_refuses fourth reason = two_pass ∙ passed_first (w ∷ []) (x ∷ y ∷ ts) third
+            ∙ passed_first (x ∷ []) (y ∷ ts) fourth ∙ refusing y ts (tt {0}) reason

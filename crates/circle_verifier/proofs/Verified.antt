@@ -1,5 +1,6 @@
 -- From what is tested, drawn and checked to the relation, and back.
-use Rattle.std.proofs.Common.{◌≡◌, ℕ, Bool, true, false, ◌+◌, ◌≤◌, ◌<◌, ◌^◌, List, [], ◌∷◌, length, map, refl, sym, ap, subst, ◌∙◌, arith}
+use Rattle.std.proofs.Common.{◌≡◌, ℕ, Bool, true, false, ◌+◌, ◌≤◌, ◌<◌, ◌^◌, List, [], ◌∷◌, length}
+use Rattle.std.proofs.Common.{map, refl, sym, ap, subst, ◌∙◌, arith}
 use Rattle.std.specs.Prelude.{All}
 use Rattle.std.proofs.lemmas.List.Elements.{All-weaker}
 use Rattle.circle_field.specs.declared.field.Operations.{Ghosts}
@@ -7,7 +8,8 @@ use Rattle.circle_commit.specs.declared.error.FriError.{FriError}
 use Rattle.circle_commit.specs.declared.params.FriParameters.{FriParameters}
 use Rattle.circle_domain.specs.Selectors.{IsFinite}
 use Rattle.circle_relation.specs.Statement.{BatchClaim, OpeningProof, Challenges, all_matrices}
-use Rattle.circle_relation.specs.Accepts.{Fields, Run, Authenticates, HasRounds, HasInputs, HasSiblings, HoldsWith, Accepts, matrices, top, rounds}
+use Rattle.circle_relation.specs.Accepts.{Fields, Run, Authenticates, HasRounds, HasInputs}
+use Rattle.circle_relation.specs.Accepts.{HasSiblings, HoldsWith, Accepts, matrices, top, rounds}
 use Rattle.circle_relation.specs.Reasons.{IsReason}
 use Rattle.circle_relation.specs.RunOf.{run_of, IsDrawn, IsOpened, Holds, Refuses}
 use Rattle.circle_relation.specs.declared.error.InputError.{InputError}
@@ -16,8 +18,10 @@ use Rattle.circle_transcript.specs.Draw.{Drawn, claimed}
 use Rattle.circle_verifier.specs.Tested.{IsTested}
 use Rattle.circle_relation.specs.Taken.{drawn_by}
 
-module _ {F E M Com WordCom InputProof WordProof : Type 0} (k : Fields F E) (is_zero : F → Bool) (is_infinite : E → Bool) (p : FriParameters M)
-    (batches : List (BatchClaim Com E)) (proof : OpeningProof F E WordCom InputProof WordProof) (drawn : Challenges E) where
+module _ {F E M Com WordCom InputProof WordProof : Type 0} (k : Fields F E) (is_zero : F → Bool)
+    (is_infinite : E → Bool) (p : FriParameters M)
+    (batches : List (BatchClaim Com E)) (proof : OpeningProof F E WordCom InputProof WordProof)
+    (drawn : Challenges E) where
   abbrev r : Run F E WordCom Com InputProof WordProof
   r = record { batches = batches; proof = proof; drawn = drawn }
 
@@ -27,15 +31,21 @@ module _ {F E M Com WordCom InputProof WordProof : Type 0} (k : Fields F E) (is_
       commitments = t.commitments;
       witnesses = t.witnesses;
       opened = t.opened;
-      siblings = All-weaker (λ o. (length o.entries ≡ p.num_queries) × All (λ values. length values ≡ 1) o.entries) (HasSiblings k p r 1)
+      siblings =
+          All-weaker (λ o. (length o.entries ≡ p.num_queries)
+          × All (λ values. length values ≡ 1) o.entries) (HasSiblings k p r 1)
           (λ o h. (h.0 ∙ sym count, h.1)) proof.rounds_opened t.siblings;
       final_poly = t.final_poly;
     }
 
-    pub accepted : {inputs : Authenticates Com F InputProof} {words : Authenticates WordCom E WordProof} →
-        ((w : F) → is_zero w ≡ true → w ≡ k.field.zero) → ((t : E) → is_infinite t ≡ false → IsFinite k.extension t) →
-        IsTested k.two_adicity is_zero is_infinite p batches proof → HasInputs k p r → All (λ m. 1 ≤ length m.claims) (matrices k p r) →
-        All (λ m. p.log_final_poly_len + 2 ≤ m.log_n) (matrices k p r) → HoldsWith k p r inputs words → Accepts k p r inputs words
+    pub accepted : {inputs : Authenticates Com F InputProof}
+        {words : Authenticates WordCom E WordProof} →
+        ((w : F) → is_zero w ≡ true → w ≡ k.field.zero) →
+        ((t : E) → is_infinite t ≡ false → IsFinite k.extension t) →
+        IsTested k.two_adicity is_zero is_infinite p batches proof → HasInputs k p r →
+        All (λ m. 1 ≤ length m.claims) (matrices k p r) →
+        All (λ m. p.log_final_poly_len + 2 ≤ m.log_n) (matrices k p r) →
+        HoldsWith k p r inputs words → Accepts k p r inputs words
     accepted null finite t shape claimed large holds = record {
       fit = record {
         some_matrix = t.some_matrix;
@@ -54,21 +64,27 @@ module _ {F E M Com WordCom InputProof WordProof : Type 0} (k : Fields F E) (is_
       inputs_shape = shape;
       canonical = record {
         batch = λ none. null proof.batch_witness (t.batch_zero none);
-        commit = λ none. All-weaker (λ w. is_zero w ≡ true) (λ w. w ≡ k.field.zero) null proof.witnesses (t.commit_zero none);
+        commit = λ none. All-weaker (λ w. is_zero w ≡ true) (λ w. w ≡ k.field.zero) null
+            proof.witnesses (t.commit_zero none);
         query = λ none. null proof.query_witness (t.query_zero none);
       };
       holds = holds;
     }
 
-    pub tested : {inputs : Authenticates Com F InputProof} {words : Authenticates WordCom E WordProof} →
-        ((w : F) → w ≡ k.field.zero → is_zero w ≡ true) → ((t : E) → IsFinite k.extension t → is_infinite t ≡ false) →
+    pub tested : {inputs : Authenticates Com F InputProof}
+        {words : Authenticates WordCom E WordProof} →
+        ((w : F) → w ≡ k.field.zero → is_zero w ≡ true) →
+        ((t : E) → IsFinite k.extension t → is_infinite t ≡ false) →
         Accepts k p r inputs words → IsTested k.two_adicity is_zero is_infinite p batches proof
     tested null finite a =
         let f = a.fit in
         let shape = a.rounds_shape in
         record {
           some_matrix = f.some_matrix;
-          large = All-weaker (λ m. p.log_final_poly_len + 2 ≤ m.log_n) (λ m. p.log_final_poly_len + 1 ≤ m.log_n) (λ m h. omega (arith, h)) (all_matrices batches) f.large;
+          large =
+              All-weaker (λ m. p.log_final_poly_len + 2 ≤ m.log_n)
+              (λ m. p.log_final_poly_len + 1 ≤ m.log_n) (λ m h. omega (arith, h))
+              (all_matrices batches) f.large;
           in_group = f.in_group;
           batch_work = f.batch_work;
           commit_work = f.commit_work;
@@ -79,18 +95,22 @@ module _ {F E M Com WordCom InputProof WordProof : Type 0} (k : Fields F E) (is_
           commitments = shape.commitments;
           witnesses = shape.witnesses;
           opened = shape.opened;
-          siblings = All-weaker (HasSiblings k p r 1) (λ o. (length o.entries ≡ p.num_queries) × All (λ values. length values ≡ 1) o.entries)
+          siblings =
+              All-weaker (HasSiblings k p r 1) (λ o. (length o.entries ≡ p.num_queries)
+              × All (λ values. length values ≡ 1) o.entries)
               (λ o h. (h.0 ∙ count, h.1)) proof.rounds_opened shape.siblings;
           final_poly = shape.final_poly;
           batch_zero = λ none. null proof.batch_witness (a.canonical.batch none);
-          commit_zero = λ none. All-weaker (λ w. w ≡ k.field.zero) (λ w. is_zero w ≡ true) null proof.witnesses (a.canonical.commit none);
+          commit_zero = λ none. All-weaker (λ w. w ≡ k.field.zero) (λ w. is_zero w ≡ true) null
+              proof.witnesses (a.canonical.commit none);
           query_zero = λ none. null proof.query_witness (a.canonical.query none);
           finite = λ i d lt j e lt'. finite _ (f.finite i d lt j e lt');
         }
 
 -- challenges from their parts
 abbrev pub challenges : {E : Type 0} → E → E → List E → List ℕ → Challenges E
-challenges alpha bivariate betas queries = record { alpha = alpha; bivariate = bivariate; betas = betas; queries = queries }
+challenges alpha bivariate betas queries =
+    record { alpha = alpha; bivariate = bivariate; betas = betas; queries = queries }
 
 -- a test that isn't true is false
 pub not_true : (b : Bool) → (b ≡ true → ⊥) → b ≡ false
@@ -101,7 +121,9 @@ pub false_not : (b : Bool) → b ≡ false → b ≡ true → ⊥
 false_not b negative positive = let both : true ≡ false = sym positive ∙ negative in cc
 
 -- challenges are told by their coefficients
-map-told : {F E : Type 0} (coefficients : E → List F) → ((a b : E) → coefficients a ≡ coefficients b → a ≡ b) → (xs ys : List E) → map coefficients xs ≡ map coefficients ys → xs ≡ ys
+map-told : {F E : Type 0} (coefficients : E → List F) →
+    ((a b : E) → coefficients a ≡ coefficients b → a ≡ b) → (xs ys : List E) → map coefficients xs
+    ≡ map coefficients ys → xs ≡ ys
 map-told f told [] [] same = refl
 map-told f told [] (y ∷ ys) same = cc
 map-told f told (x ∷ xs) [] same = cc
@@ -110,55 +132,79 @@ map-told f told (x ∷ xs) (y ∷ ys) same =
     let rest : map f xs ≡ map f ys = cc in
     ap (λ z. z ∷ xs) (told x y first) ∙ ap (λ zs. y ∷ zs) (map-told f told xs ys rest)
 
-pub challenges-told : {S F E : Type 0} (coefficients : E → List F) → ((a b : E) → coefficients a ≡ coefficients b → a ≡ b) → (c d : Challenges E) (s t : S) →
+pub challenges-told : {S F E : Type 0} (coefficients : E → List F) →
+    ((a b : E) → coefficients a ≡ coefficients b → a ≡ b) → (c d : Challenges E) (s t : S) →
     drawn_by coefficients c s ≡ drawn_by coefficients d t → c ≡ d
 challenges-told {S = S} {F = F} f told c d s t same =
     let alpha = told c.alpha d.alpha (ap (λ (x : Drawn S F). x.alpha) same) in
     let bivariate = told c.bivariate d.bivariate (ap (λ (x : Drawn S F). x.bivariate) same) in
     let betas = map-told f told c.betas d.betas (ap (λ (x : Drawn S F). x.betas) same) in
     let queries : c.queries ≡ d.queries = ap (λ (x : Drawn S F). x.indices) same in
-    ap (λ x. record { alpha = x; bivariate = c.bivariate; betas = c.betas; queries = c.queries }) alpha
-    ∙ ap (λ x. record { alpha = d.alpha; bivariate = x; betas = c.betas; queries = c.queries }) bivariate
-    ∙ ap (λ x. record { alpha = d.alpha; bivariate = d.bivariate; betas = x; queries = c.queries }) betas
-    ∙ ap (λ x. record { alpha = d.alpha; bivariate = d.bivariate; betas = d.betas; queries = x }) queries
+    ap (λ x. record { alpha = x; bivariate = c.bivariate; betas = c.betas; queries = c.queries })
+    alpha
+    ∙ ap (λ x. record { alpha = d.alpha; bivariate = x; betas = c.betas; queries = c.queries })
+    bivariate
+    ∙ ap (λ x. record { alpha = d.alpha; bivariate = d.bivariate; betas = x; queries = c.queries })
+    betas
+    ∙ ap (λ x. record { alpha = d.alpha; bivariate = d.bivariate; betas = d.betas; queries = x })
+    queries
 
-module _ {F E I W IC ID IP IE WC WD WP WE : Type 0} {g : Ghosts F} (k : Fields F E) (o : OpenedRun F E I W IC ID IP IE WC WD WP WE g)
-    (p : FriParameters W) (r : Run F E WC IC IP WP) (params : o.params.now ≡ p) (run : run_of o ≡ r) where
-  -- a run of which all is known that is tested before its challenges are drawn
-  pub is_drawn : o.log_max_height ≡ top k p r → o.log_max_height < k.two_adicity → 1 ≤ p.log_blowup → 1 ≤ length (matrices k p r) →
-      All (λ m. p.log_final_poly_len + 1 ≤ m.log_n) (matrices k p r) → All (λ m. All (λ c. IsFinite k.extension c.point) m.claims) (matrices k p r) →
-      HasRounds k p r → length r.drawn.betas ≡ rounds k p r → All (λ q. q < 2 ^ o.log_max_height) r.drawn.queries → IsDrawn k o
-  is_drawn high low blowup some large finite shape betas below =
-      let at = λ (P : FriParameters W → Run F E WC IC IP WP → Type 0) (h : P p r). subst (λ q. P q (run_of o)) (sym params) (subst (P p) (sym run) h) in
-      record {
-        top = at (λ q x. o.log_max_height ≡ top k q x) high;
-        in_group = low;
-        blowup = at (λ q x. 1 ≤ q.log_blowup) blowup;
-        some_matrix = at (λ q x. 1 ≤ length (matrices k q x)) some;
-        large = at (λ q x. All (λ m. q.log_final_poly_len + 1 ≤ m.log_n) (matrices k q x)) large;
-        finite = at (λ q x. All (λ m. All (λ c. IsFinite k.extension c.point) m.claims) (matrices k q x)) finite;
-        shape = at (λ q x. HasRounds k q x) shape;
-        betas = at (λ q x. length x.drawn.betas ≡ rounds k q x) betas;
-        below = at (λ q x. All (λ i. i < 2 ^ o.log_max_height) x.drawn.queries) below;
-      }
+module _ {F E I W IC ID IP IE WC WD WP WE : Type 0} {g : Ghosts F} (k : Fields F E)
+    (o : OpenedRun F E I W IC ID IP IE WC WD WP WE g)
+    (p : FriParameters W) (r : Run F E WC IC IP WP) (params : o.params.now ≡ p) (run : run_of o ≡ r)
+  where
+    -- a run of which all is known that is tested before its challenges are drawn
+    pub is_drawn : o.log_max_height ≡ top k p r → o.log_max_height < k.two_adicity →
+        1 ≤ p.log_blowup → 1 ≤ length (matrices k p r) →
+        All (λ m. p.log_final_poly_len + 1 ≤ m.log_n) (matrices k p r) →
+        All (λ m. All (λ c. IsFinite k.extension c.point) m.claims) (matrices k p r) →
+        HasRounds k p r → length r.drawn.betas ≡ rounds k p r →
+        All (λ q. q < 2 ^ o.log_max_height) r.drawn.queries → IsDrawn k o
+    is_drawn high low blowup some large finite shape betas below =
+        let at = λ (P : FriParameters W → Run F E WC IC IP WP → Type 0) (h : P p r). subst
+        (λ q. P q (run_of o)) (sym params) (subst (P p) (sym run) h) in
+        record {
+          top = at (λ q x. o.log_max_height ≡ top k q x) high;
+          in_group = low;
+          blowup = at (λ q x. 1 ≤ q.log_blowup) blowup;
+          some_matrix = at (λ q x. 1 ≤ length (matrices k q x)) some;
+          large = at (λ q x. All (λ m. q.log_final_poly_len + 1 ≤ m.log_n) (matrices k q x)) large;
+          finite =
+              at
+              (λ q x. All (λ m. All (λ c. IsFinite k.extension c.point) m.claims)
+              (matrices k q x))
+              finite;
+          shape = at (λ q x. HasRounds k q x) shape;
+          betas = at (λ q x. length x.drawn.betas ≡ rounds k q x) betas;
+          below = at (λ q x. All (λ i. i < 2 ^ o.log_max_height) x.drawn.queries) below;
+        }
 
-  module _ (mmcs : I) (same : o.mmcs.now ≡ mmcs) (inputs : I → Authenticates IC F IP) (words : W → Authenticates WC E WP) where
-    -- what holds of the run, in terms of its parts
-    moved : (P : I → FriParameters W → Run F E WC IC IP WP → Type 0) → P o.mmcs.now o.params.now (run_of o) → P mmcs p r
-    moved P h = subst (λ x. P mmcs p x) run (subst (λ q. P mmcs q (run_of o)) params (subst (λ x. P x o.params.now (run_of o)) same h))
+    module _ (mmcs : I) (same : o.mmcs.now ≡ mmcs) (inputs : I → Authenticates IC F IP)
+        (words : W → Authenticates WC E WP) where
+      -- what holds of the run, in terms of its parts
+      moved : (P : I → FriParameters W → Run F E WC IC IP WP → Type 0) →
+          P o.mmcs.now o.params.now (run_of o) → P mmcs p r
+      moved P h =
+          subst (λ x. P mmcs p x) run
+          (subst (λ q. P mmcs q (run_of o)) params
+          (subst (λ x. P x o.params.now (run_of o)) same h))
 
-    pub shape-of : IsOpened k o → HasInputs k p r
-    shape-of h = moved (λ x q y. HasInputs k q y) h.shape
+      pub shape-of : IsOpened k o → HasInputs k p r
+      shape-of h = moved (λ x q y. HasInputs k q y) h.shape
 
-    pub claimed-of : IsOpened k o → All (λ m. 1 ≤ length m.claims) (matrices k p r)
-    claimed-of h = moved (λ x q y. All (λ m. 1 ≤ length m.claims) (matrices k q y)) h.claimed
+      pub claimed-of : IsOpened k o → All (λ m. 1 ≤ length m.claims) (matrices k p r)
+      claimed-of h = moved (λ x q y. All (λ m. 1 ≤ length m.claims) (matrices k q y)) h.claimed
 
-    pub large-of : IsOpened k o → All (λ m. p.log_final_poly_len + 2 ≤ m.log_n) (matrices k p r)
-    large-of h = moved (λ x q y. All (λ m. q.log_final_poly_len + 2 ≤ m.log_n) (matrices k q y)) h.large
+      pub large-of : IsOpened k o → All (λ m. p.log_final_poly_len + 2 ≤ m.log_n) (matrices k p r)
+      large-of h = moved (λ x q y. All (λ m. q.log_final_poly_len + 2 ≤ m.log_n) (matrices k q y))
+          h.large
 
-    pub holds-of : Holds k o inputs words → HoldsWith k p r (inputs mmcs) (words p.mmcs)
-    holds-of h = moved (λ x q y. HoldsWith k q y (inputs x) (words q.mmcs)) h
+      pub holds-of : Holds k o inputs words → HoldsWith k p r (inputs mmcs) (words p.mmcs)
+      holds-of h = moved (λ x q y. HoldsWith k q y (inputs x) (words q.mmcs)) h
 
-    pub reason-of : (input_memory : IE → Bool) (word_memory : WE → Bool) (e : FriError WE (InputError IE WE)) → Refuses k o inputs words input_memory word_memory e →
-        IsReason k p r (inputs mmcs) (words p.mmcs) input_memory word_memory e
-    reason-of input_memory word_memory e h = moved (λ x q y. IsReason k q y (inputs x) (words q.mmcs) input_memory word_memory e) h
+      pub reason-of : (input_memory : IE → Bool) (word_memory : WE → Bool)
+          (e : FriError WE (InputError IE WE)) →
+          Refuses k o inputs words input_memory word_memory e →
+          IsReason k p r (inputs mmcs) (words p.mmcs) input_memory word_memory e
+      reason-of input_memory word_memory e h =
+          moved (λ x q y. IsReason k q y (inputs x) (words q.mmcs) input_memory word_memory e) h

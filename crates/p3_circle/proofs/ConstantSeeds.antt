@@ -4,7 +4,8 @@ use Rattle.std.proofs.Common.{◌∙◌, ap, arith}
 use Rattle.circle_challenger.specs.Separator.{Separator, seed_text, separator}
 use Rattle.circle_challenger.specs.Step.{be64}
 use Rattle.circle_commit.specs.declared.params.FriParameters.{FriParameters}
-use Rattle.circle_transcript.specs.Shape.{batch_steps, claimed_widths, first_layer_steps, layout, query_steps, rounds_steps}
+use Rattle.circle_transcript.specs.Shape.{batch_steps, claimed_widths, first_layer_steps, layout}
+use Rattle.circle_transcript.specs.Shape.{query_steps, rounds_steps}
 use Rattle.circle_transcript.specs.ShapeOf.{shape_of}
 use Rattle.circle_transcript.specs.declared.shape.CirclePcsShape.{CirclePcsShape}
 use Rattle.p3_circle.specs.Constant.{HasConstantText, HaveConstantShape}
@@ -33,6 +34,9 @@ constant-text degree shape is =
     let made : ℕ → Separator = λ f.
     separator (if f == 0 then 1 else 2) (codes "p3-circle-pcs")
     (batch_steps degree (claimed_widths s) s.batch_pow_bits
-    ++ (first_layer_steps degree ++ (rounds_steps degree s.commit_pow_bits s.num_commit_rounds ++ query_steps degree f s.query_pow_bits s.index_bits s.num_queries)))
+    ++
+    (first_layer_steps degree
+    ++ (rounds_steps degree s.commit_pow_bits s.num_commit_rounds
+    ++ query_steps degree f s.query_pow_bits s.index_bits s.num_queries)))
     (be64 s.log_blowup ∷ layout s.opened_widths ∷ (if f == 0 then [] else be64 f ∷ [])) in
     ap (λ f. seed_text (made f)) is

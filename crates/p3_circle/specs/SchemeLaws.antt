@@ -34,7 +34,8 @@ use Rattle.p3_circle.specs.Scheme.{IsCommitted, IsFirstFrom, IsFirstOf, IsGiven}
 use Rattle.p3_circle.specs.Scheme.{says_prover_memory}
 use Rattle.p3_circle.specs.SchemeFacts.{extended-powers}
 use Rattle.p3_circle.specs.Verdict.{IsAccepted}
-use Rattle.p3_circle.specs.SchemeLaws.HonestOpenings.{all-valued, answered-kept, are-claimed, are-pointed}
+use Rattle.p3_circle.specs.SchemeLaws.HonestOpenings.{all-valued, answered-kept, are-claimed}
+use Rattle.p3_circle.specs.SchemeLaws.HonestOpenings.{are-pointed}
 use Rattle.p3_circle.specs.SchemeLaws.HonestOpenings.{commits, kept-low, points_in}
 use Rattle.p3_circle.specs.SchemeLaws.HonestTests.{batch-passes, requests-pass, unrefused}
 use Rattle.p3_circle.specs.SchemeLaws.HonestTests.{unrefused-from}
@@ -124,10 +125,13 @@ module _ {F E M : Type 0} {g : Ghosts F} (k : Fields F E) (base : FieldLaws k.fi
   where
     -- a batch that may be opened is committed to, where memory suffices
     pub honest-commit : (batch : List (CircleDomain F g × RowMajorMatrix F))
-        (points : List (List E)) (err : ProverError) → IsHonestBatch k k.two_adicity p batch points →
-        IsFirstOf (commit_tests k.two_adicity p eq k.field batch) err → IsTrue (says_prover_memory err)
+        (points : List (List E)) (err : ProverError) →
+        IsHonestBatch k k.two_adicity p batch points →
+        IsFirstOf (commit_tests k.two_adicity p eq k.field batch) err →
+        IsTrue (says_prover_memory err)
     honest-commit batch points err honest refused =
-        memory-is err (unrefused (commit_tests k.two_adicity p eq k.field batch) (λ x. x ≡ Memory) err
+        memory-is err
+        (unrefused (commit_tests k.two_adicity p eq k.field batch) (λ x. x ≡ Memory) err
         (batch-passes k eq eq_law same law k.two_adicity small p batch points honest) refused)
 
     module _ {D IC : Type 0} (kept : D → List (RowMajorMatrix F))
@@ -146,14 +150,16 @@ module _ {F E M : Type 0} {g : Ghosts F} (k : Fields F E) (base : FieldLaws k.fi
           → IsTrue (says_prover_memory err)
       honest-open r WordCommits requests s t err honest finds refused =
           let tests = opening_tests kept requests k.two_adicity p k same in
-          let ok = requests-pass k eq eq_law same law k.two_adicity small p kept Commits requests honest.0
+          let ok = requests-pass k eq eq_law same law k.two_adicity small p kept Commits requests
+          honest.0
           honest.1 in
           let failure = unrefused-from tests (IsFailure k r p WordCommits kept requests s) s t err
           ok refused in
           let powers : All (λ r. HaveHeightsOfPowers (kept r.prover_data.now)) requests = λ i d lt.
           let h = honest.1 i d lt in extended-powers k.field k.gen p.log_blowup Commits h.batch
           (kept (slice_index_or requests i d).prover_data.now) h.committed.extended in
-          let asked = are-requests kept requests k.two_adicity p k same law base laws e gens powers ok in
+          let asked = are-requests kept requests k.two_adicity p k same law base laws e gens powers
+          ok in
           let low = kept-low k k.two_adicity p kept Commits requests
           (λ i d lt. let h = honest.1 i d lt in (h.batch, h.commitment, h.committed)) asked in
           let never = never-too-high k base laws e eq eq_law same law gens kept p requests
@@ -175,19 +181,22 @@ module _ {F E M : Type 0} {g : Ghosts F} (k : Fields F E) (base : FieldLaws k.fi
           (mmcs : I) (WordCommits : List (RowMajorMatrix E) → WC → Type 0)
           (requests : List (OpeningRequest D E)) (values : Openings E)
           (proof : CirclePcsProof F E I M F IC ID IP IE WC WD WP WE) (s t : S) →
-          IsGiven p kept k r Commits (inputs mmcs) WordCommits (words p.mmcs) k.two_adicity requests s values
+          IsGiven p kept k r Commits (inputs mmcs) WordCommits (words p.mmcs) k.two_adicity requests
+          s values
           proof t → (claims : List (CommitmentOpening E IC (CircleDomain F g))) →
           AreAnsweredBy points_in CommitsTo requests values claims →
           IsAccepted k r inputs words mmcs p claims proof s t
       opening-accepted r below inputs words mmcs WordCommits requests values proof s t given claims
           answered =
-          let kept_of = answered-kept k k.two_adicity p kept Commits requests values claims answered in
+          let kept_of = answered-kept k k.two_adicity p kept Commits requests values claims
+          answered in
           let low = kept-low k k.two_adicity p kept Commits requests kept_of given.asked in
           let accepted =
           accepts-openings k base laws e gens small r below p kept Commits (inputs mmcs) WordCommits
           (words p.mmcs) requests given.parameters given.arity given.asked
           (low-read k p kept requests low) values given.answers (proof_of proof) s t given.opening
           (batch_claims claims) (are-claimed k k.two_adicity p kept Commits requests values claims
-          (recursion_from_All (IsFit kept k p.log_blowup k.two_adicity) requests given.asked.fit) answered)
+          (recursion_from_All (IsFit kept k p.log_blowup k.two_adicity) requests given.asked.fit)
+          answered)
           (are-pointed k k.two_adicity p kept Commits requests values claims answered) in
           record { drawn = accepted.drawn; draws = accepted.draws; accepts = accepted.accepts }

@@ -5,6 +5,8 @@ use Rattle.circle_cfft.proofs.butterflies.combine.Given as goal
 
 abbrev pub invariant-loop-i : goal.invariant-loop-i
 invariant-loop-i g l = record {
-  low : l.lows ≡ written l.i (pairwise (g.B.Butterfly.lower l.factor) l.fn.lows l.fn.highs) l.fn.lows;
-  high : l.highs ≡ written l.i (pairwise (g.B.Butterfly.upper l.factor) l.fn.lows l.fn.highs) l.fn.highs;
+  low : l.lows ≡ written l.i (pairwise (g.B.Butterfly.lower l.factor) l.fn.lows l.fn.highs)
+      l.fn.lows;
+  high : l.highs ≡ written l.i (pairwise (g.B.Butterfly.upper l.factor) l.fn.lows l.fn.highs)
+      l.fn.highs;
 }

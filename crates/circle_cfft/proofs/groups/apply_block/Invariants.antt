@@ -11,6 +11,9 @@ invariant-loop-row g l =
     let n = length l.twiddles in
     record {
       columns : DoneColumns k.zero (l.rows * l.width) (2 ^ n)
-          (λ c. scaled k l.scale (in_order g.B.Butterfly.lower g.B.Butterfly.upper (g.B.Order.order n) 1 (block_factors n l.index (factors_at l.twiddles)) n c)) l.fn.block (l.row * l.width) l.block;
+          (λ c. scaled k l.scale
+          (in_order g.B.Butterfly.lower g.B.Butterfly.upper (g.B.Order.order n) 1
+          (block_factors n l.index (factors_at l.twiddles)) n c)) l.fn.block (l.row * l.width)
+          l.block;
       count : count_of l.butterflies ≡ count_of l.fn.butterflies + l.row * (n * 2 ^ (n - 1));
     }

@@ -10,6 +10,7 @@ invariant-loop-done g l =
     let n = length l.twiddles in
     record {
       rows : ChangesRows g.F.Operations.ops.zero r.offset r.width r.stride (2 ^ n)
-          (in_order g.B.Butterfly.lower g.B.Butterfly.upper (g.B.Order.order n) 1 (block_factors n l.index (factors_at l.twiddles)) l.done) l.fn.block l.block;
+          (in_order g.B.Butterfly.lower g.B.Butterfly.upper (g.B.Order.order n) 1
+          (block_factors n l.index (factors_at l.twiddles)) l.done) l.fn.block l.block;
       count : count_of l.butterflies ≡ count_of l.fn.butterflies + l.done * 2 ^ (n - 1);
     }

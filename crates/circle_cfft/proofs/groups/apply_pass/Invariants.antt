@@ -8,6 +8,9 @@ abbrev pub invariant-loop-index : goal.invariant-loop-index
 invariant-loop-index g l =
     let n = length l.twiddles in
     record {
-      values : BlocksDone g.F.Operations.ops g.B.Butterfly.lower g.B.Butterfly.upper (g.B.Order.order n) (factors_at l.twiddles) n (l.rows * l.width) l.scale l.fn.entries l.index l.entries;
-      count : count_of l.butterflies ≡ count_of l.fn.butterflies + l.index * (l.rows * (n * 2 ^ (n - 1)));
+      values : BlocksDone g.F.Operations.ops g.B.Butterfly.lower g.B.Butterfly.upper
+          (g.B.Order.order n) (factors_at l.twiddles) n (l.rows * l.width) l.scale l.fn.entries
+          l.index l.entries;
+      count : count_of l.butterflies ≡ count_of l.fn.butterflies
+          + l.index * (l.rows * (n * 2 ^ (n - 1)));
     }

@@ -8,8 +8,10 @@ invariant-loop-low g l =
     let k = g.F.Operations.ops in
     record {
       below : l.low < length l.inverses;
-      values : l.entries ≡ ascending (total k) (scaled_difference k) l.width (factors_at l.inverses) l.low l.fn.entries;
-      count : (half : ℕ) → length l.fn.entries ≡ (half + half) * l.width → count_of l.butterflies ≡ count_of l.fn.butterflies + l.low * half;
+      values : l.entries ≡ ascending (total k) (scaled_difference k) l.width (factors_at l.inverses)
+          l.low l.fn.entries;
+      count : (half : ℕ) → length l.fn.entries ≡ (half + half) * l.width → count_of l.butterflies
+          ≡ count_of l.fn.butterflies + l.low * half;
     }
 
 abbrev pub decreases-loop-low : goal.decreases-loop-low

@@ -9,8 +9,10 @@ invariant-loop-low g l =
     let n = length l.twiddles in
     record {
       below : l.low ≤ n;
-      values : descending (plus_multiple k) (minus_multiple k) l.width (factors_at l.twiddles) l.low l.entries ≡ to_values k l.width l.twiddles l.fn.entries;
-      count : (half : ℕ) → length l.fn.entries ≡ (half + half) * l.width → count_of l.butterflies + l.low * half ≡ count_of l.fn.butterflies + n * half;
+      values : descending (plus_multiple k) (minus_multiple k) l.width (factors_at l.twiddles) l.low
+          l.entries ≡ to_values k l.width l.twiddles l.fn.entries;
+      count : (half : ℕ) → length l.fn.entries ≡ (half + half) * l.width → count_of l.butterflies
+          + l.low * half ≡ count_of l.fn.butterflies + n * half;
     }
 
 abbrev pub decreases-loop-low : goal.decreases-loop-low

@@ -6,4 +6,5 @@ abbrev pub invariant-loop-i : goal.invariant-loop-i
 invariant-loop-i g l =
     let rest_of = layer g.B.Butterfly.lower g.B.Butterfly.upper l.half in
     let done = l.i * (l.half + l.half) in
-    take done l.values ++ rest_of (drop l.i l.factors) (drop done l.values) ≡ rest_of l.factors l.fn.values
+    take done l.values ++ rest_of (drop l.i l.factors) (drop done l.values)
+    ≡ rest_of l.factors l.fn.values

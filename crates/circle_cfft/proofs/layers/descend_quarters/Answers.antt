@@ -15,9 +15,18 @@ returns g c =
     let pc = c.split_at_mut-c.result.0.now in
     let pd = c.split_at_mut-c.result.1.now in
     let ea : length pa ≡ quarter = c.split_at_mut-a.ensures.front_len in
-    let eb : length pb ≡ quarter = omega (arith, c.split_at_mut-a.ensures.back_len, c.split_at_mut-low.ensures.front_len) in
+    let eb : length pb ≡ quarter =
+    omega (arith, c.split_at_mut-a.ensures.back_len, c.split_at_mut-low.ensures.front_len) in
     let ec : length pc ≡ quarter = c.split_at_mut-c.ensures.front_len in
-    let ed : length pd ≡ quarter = omega (arith, c.split_at_mut-c.ensures.back_len, c.split_at_mut-low.ensures.back_len, c.requires) in
-    descend-block low high quarter t u v c.args.block.now c.split_at_mut-low.result.0.now c.split_at_mut-low.result.1.now pa pb pc pd _ _ _ _ ea eb ec ed
+    let ed : length pd ≡ quarter =
+    omega (
+      arith,
+      c.split_at_mut-c.ensures.back_len,
+      c.split_at_mut-low.ensures.back_len,
+      c.requires,
+    ) in
+    descend-block low high quarter t u v c.args.block.now c.split_at_mut-low.result.0.now
+    c.split_at_mut-low.result.1.now pa pb pc pd _ _ _ _ ea eb ec ed
     c.split_at_mut-low.ensures.value c.split_at_mut-a.ensures.value c.split_at_mut-c.ensures.value
-    c.combine_four.ensures.a c.combine_four.ensures.b c.combine_four.ensures.c c.combine_four.ensures.d
+    c.combine_four.ensures.a c.combine_four.ensures.b c.combine_four.ensures.c
+    c.combine_four.ensures.d

@@ -6,5 +6,6 @@ abbrev pub invariant-loop-i : goal.invariant-loop-i
 invariant-loop-i g l =
     record {
       long : length l.factors.items ≡ length l.fn.factors.items + l.i;
-      layers : (m : ℕ) → length l.fn.factors.items ≡ 2 ^ m → l.factors.items ≡ take (2 ^ m + l.i) (layers_from g.F.Operations.ops (m + 1) l.fn.factors.items);
+      layers : (m : ℕ) → length l.fn.factors.items ≡ 2 ^ m → l.factors.items
+          ≡ take (2 ^ m + l.i) (layers_from g.F.Operations.ops (m + 1) l.fn.factors.items);
     }

@@ -5,4 +5,6 @@ use Rattle.circle_point.specs.Point.{coordinates}
 use Rattle.circle_cfft.proofs.twiddles.eighth_points.Given as goal
 
 abbrev pub invariant-loop-log_order : goal.invariant-loop-log_order
-invariant-loop-log_order g l = map coordinates l.points.items ≡ block_starts g.F.Operations.ops g.F.ComplexExtendable.generators (l.log_order - 3) 3 (shift_of l.fn.domain)
+invariant-loop-log_order g l = map coordinates l.points.items
+    ≡ block_starts g.F.Operations.ops g.F.ComplexExtendable.generators (l.log_order - 3) 3
+    (shift_of l.fn.domain)

@@ -28,16 +28,21 @@ loop-preserved g c =
     let down : n - 1 - m ≡ suc r = omega arith in
     record {
       made =
-          ap (map coordinates) c.in_ok-push.ensures.items ∙ map-append coordinates c.loop.points.items (c.loop.point ∷ [])
+          ap (map coordinates) c.in_ok-push.ensures.items
+          ∙ map-append coordinates c.loop.points.items (c.loop.point ∷ [])
           ∙ ap (λ xs. xs ++ p ∷ []) c.loop.invariant.made
           ∙ ap (λ x. map f (range_with_len 0 m) ++ x ∷ []) (c.loop.invariant.next ∙ ap f z)
           ∙ sym (range-more f 0 m) ∙ ap (λ i. map f (range_with_len 0 i)) more;
       next =
           c.double-point.ensures ∙ ap (λ q. plus k q q) (c.loop.invariant.next ∙ ap gen down)
-          ∙ g.met.F.ComplexExtendable.generators_law.doubled r (omega (arith, c.requires.in_group)) ∙ ap (λ i. gen (n - 1 - i)) more;
+          ∙ g.met.F.ComplexExtendable.generators_law.doubled r (omega (arith, c.requires.in_group))
+          ∙ ap (λ i. gen (n - 1 - i)) more;
     }
 
 pub returns : goal.returns
 returns g c =
     let e : c.loop.counter - 3 ≡ c.args.log_n - 3 = omega arith in
-    c.loop.invariant.made ∙ ap (λ i. map (λ j. g.F.ComplexExtendable.generators (c.args.log_n - 1 - j)) (range_with_len 0 i)) e
+    c.loop.invariant.made
+    ∙ ap
+    (λ i. map (λ j. g.F.ComplexExtendable.generators (c.args.log_n - 1 - j))
+    (range_with_len 0 i)) e

@@ -1,4 +1,5 @@
-use Rattle.std.proofs.Common.{◌≡◌, ◌<◌, ◌-◌, ◌+◌, ◌++◌, [], ◌∷◌, ◌∙◌, sym, ap, map, drop, length, slice_index_or, arith, append_assoc, append-nil, ◌≤◌}
+use Rattle.std.proofs.Common.{◌≡◌, ◌<◌, ◌-◌, ◌+◌, ◌++◌, [], ◌∷◌, ◌∙◌, sym, ap, map, drop, length}
+use Rattle.std.proofs.Common.{slice_index_or, arith, append_assoc, append-nil, ◌≤◌}
 use Rattle.std.proofs.Math.ListN.{get_or-map}
 use Rattle.std.proofs.lemmas.List.{drop_more, drop_all, length-map}
 use Rattle.circle_point.specs.Point.{coordinates}
@@ -9,7 +10,8 @@ use Rattle.circle_cfft.proofs.twiddles.second_layer.Goals as goal
 
 pub loop-point-init : goal.loop-point-init
 loop-point-init g c =
-    let rest = with_turns g.F.Operations.ops (g.F.ComplexExtendable.generators 2).y (map coordinates c.deref-point-items.result.now) in
+    let rest = with_turns g.F.Operations.ops (g.F.ComplexExtendable.generators 2).y
+    (map coordinates c.deref-point-items.result.now) in
     ap (λ ys. ys ++ rest) c.in_ok-factors.ensures.items
 
 pub loop-point-preserved : goal.loop-point-preserved
@@ -24,11 +26,20 @@ loop-point-preserved g c =
     let x = c.x.result in
     let z = c.neg.result in
     let rest = own (drop (i + 1) points) in
-    let here : i < length points = omega (arith, c.loop-point-test.true, length-map c.deref-point-items.result.now coordinates) in
-    let read : slice_index_or points i p ≡ p = get_or-map coordinates c.deref-point-items.result.now i c.point-item.result ∙ sym (ap coordinates c.point-item.is) in
+    let here : i < length points =
+    omega (
+      arith,
+      c.loop-point-test.true,
+      length-map c.deref-point-items.result.now coordinates,
+    ) in
+    let read : slice_index_or points i p ≡ p =
+    get_or-map coordinates c.deref-point-items.result.now i c.point-item.result
+    ∙ sym (ap coordinates c.point-item.is) in
     let second : z ≡ k.neg (k.mul e p.y) =
-    g.met.F.Field.neg_law _ z c.neg.ensures ∙ ap k.neg (c.turned.ensures ∙ ap (k.mul e) c.y.ensures) in
-    ap (λ ys. ys ++ rest) (c.in_ok-push-2.ensures.items ∙ ap (λ ys. ys ++ z ∷ []) c.in_ok-push.ensures.items)
+    g.met.F.Field.neg_law _ z c.neg.ensures
+    ∙ ap k.neg (c.turned.ensures ∙ ap (k.mul e) c.y.ensures) in
+    ap (λ ys. ys ++ rest)
+    (c.in_ok-push-2.ensures.items ∙ ap (λ ys. ys ++ z ∷ []) c.in_ok-push.ensures.items)
     ∙ ap (λ ys. ys ++ rest) (append_assoc made (x ∷ []) (z ∷ []))
     ∙ append_assoc made (x ∷ z ∷ []) rest
     ∙ ap (λ y. made ++ (y ∷ z ∷ rest)) c.x.ensures
@@ -47,10 +58,19 @@ returns g c =
     let points = map coordinates c.deref-point-items.result.now in
     let i = c.loop-point.point-index in
     let made = c.loop-point.factors.items in
-    let end : length points ≤ i = omega (arith, c.loop-point-test.false, length-map c.deref-point-items.result.now coordinates) in
-    let all : points ≡ block_starts k gen (n - 3) 3 s = ap (map coordinates) c.deref-point-items.ensures.value ∙ c.in_ok-points.ensures in
-    sym (append-nil made) ∙ ap (λ qs. made ++ own qs) (sym (drop_all i points end)) ∙ c.loop-point.invariant ∙ ap own all
-    ∙ sym (second_layer-is g.F.Operations.laws g.met.F.ComplexExtendable.generators_law g.met.F.ComplexExtendable.at_least_two n s c.requires.eights)
+    let end : length points ≤ i =
+    omega (
+      arith,
+      c.loop-point-test.false,
+      length-map c.deref-point-items.result.now coordinates,
+    ) in
+    let all : points ≡ block_starts k gen (n - 3) 3 s =
+    ap (map coordinates) c.deref-point-items.ensures.value ∙ c.in_ok-points.ensures in
+    sym (append-nil made) ∙ ap (λ qs. made ++ own qs) (sym (drop_all i points end))
+    ∙ c.loop-point.invariant ∙ ap own all
+    ∙ sym
+    (second_layer-is g.F.Operations.laws g.met.F.ComplexExtendable.generators_law
+    g.met.F.ComplexExtendable.at_least_two n s c.requires.eights)
 
 pub neg-requires : goal.neg-requires
 neg-requires g c = g.met.F.Field.can_neg_law _

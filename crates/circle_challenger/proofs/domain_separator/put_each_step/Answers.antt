@@ -13,11 +13,13 @@ loop-step-preserved c =
     let within : i < length c.args.steps.now = omega arith in
     record {
       written = grind (arith, common_steps);
-      writable = All-more (λ (x : Interaction). IsWritableStep (step_of x)) c.args.steps.now i _ within c.loop-step.invariant.writable c.in_ok-put_step.ensures.writable;
+      writable = All-more (λ (x : Interaction). IsWritableStep (step_of x)) c.args.steps.now i _
+          within c.loop-step.invariant.writable c.in_ok-put_step.ensures.writable;
     }
 
 pub returns-clause-writable : goal.returns-clause-writable
 returns-clause-writable c =
     let all = take_all c.loop-step.step-index c.args.steps.now c.loop-step-test.false in
     All-map IsWritableStep step_of c.args.steps.now
-    (All-same (λ (x : Interaction). IsWritableStep (step_of x)) c.args.steps.now _ (sym all) c.loop-step.invariant.writable)
+    (All-same (λ (x : Interaction). IsWritableStep (step_of x)) c.args.steps.now _ (sym all)
+    c.loop-step.invariant.writable)

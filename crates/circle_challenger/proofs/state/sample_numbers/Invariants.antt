@@ -8,7 +8,9 @@ invariant-loop-i g l =
     let bits = g.C.CanSampleBits in
     let begun = g.C.ChallengerState.state l.initial.challenger in
     record {
-      numbers : l.numbers.items ≡ samples (λ s. bits.sampled_bits s l.width) (λ s. bits.after_bits s l.width) l._i begun;
+      numbers : l.numbers.items
+          ≡ samples (λ s. bits.sampled_bits s l.width) (λ s. bits.after_bits s l.width) l._i begun;
       below : All (λ i. i < 2 ^ l.width) l.numbers.items;
-      state : g.C.ChallengerState.state l.challenger ≡ after_samples (λ s. bits.after_bits s l.width) l._i begun;
+      state : g.C.ChallengerState.state l.challenger
+          ≡ after_samples (λ s. bits.after_bits s l.width) l._i begun;
     }

@@ -27,12 +27,25 @@ extended-requires-clause-count g c =
     let top = c.requires.in_group in
     let small = counted n (omega (arith, top, g.met.F.ComplexExtendable.at_most_62)) in
     let low : 2 ^ n ≤ 2 ^ h = pow_within n h (omega arith) in
-    ap length (c.deref.ensures.value ∙ c.in_ok-combination.ensures) ∙ length-map (view_rows c.split_rows.result.0) _ ∙ ap length c.split_rows.ensures.first
-    ∙ length-take-le (1 * 2 ^ n % 18446744073709551616) (rows m) (omega (arith, small, low, c.requires.rows, length-rows m)) ∙ small
+    ap length (c.deref.ensures.value ∙ c.in_ok-combination.ensures)
+    ∙ length-map (view_rows c.split_rows.result.0) _ ∙ ap length c.split_rows.ensures.first
+    ∙ length-take-le (1 * 2 ^ n % 18446744073709551616) (rows m)
+    (omega (arith, small, low, c.requires.rows, length-rows m)) ∙ small
 
 pub returns : goal.returns
 returns g c =
-    let k : Fields g.row.F.Denot g.row.EF.Denot = record { field = g.F.Operations.ops; gen = g.F.ComplexExtendable.generators; two_adicity = g.F.ComplexExtendable.CIRCLE_TWO_ADICITY; is_zero = λ w. g.F.PartialEq.eq w g.F.Field.ZERO; extension = g.EF.Operations.ops; embed = g.EF.ExtensionField.embed; same = g.EF.PartialEq.eq } in
+    let k : Fields g.row.F.Denot g.row.EF.Denot =
+    record {
+      field = g.F.Operations.ops;
+      gen = g.F.ComplexExtendable.generators;
+      two_adicity =
+          g.F.ComplexExtendable.CIRCLE_TWO_ADICITY;
+      is_zero = λ w. g.F.PartialEq.eq w g.F.Field.ZERO;
+      extension = g.EF.Operations.ops;
+      embed = g.EF.ExtensionField.embed;
+      same =
+          g.EF.PartialEq.eq;
+    } in
     let h = c.args.log_height in
     let B = c.args.log_blowup in
     let n = h - B in
@@ -41,12 +54,16 @@ returns g c =
     let top = c.requires.in_group in
     let small = counted n (omega (arith, top, g.met.F.ComplexExtendable.at_most_62)) in
     let first = take (2 ^ n) (rows m) in
-    let seen : view_rows c.split_rows.result.0 ≡ first = c.split_rows.ensures.first ∙ ap (λ a. take a (rows m)) small in
-    let made : c.deref.result.now ≡ combined k powers first = c.deref.ensures.value ∙ c.in_ok-combination.ensures ∙ ap (combined k powers) seen in
+    let seen : view_rows c.split_rows.result.0 ≡ first = c.split_rows.ensures.first
+    ∙ ap (λ a. take a (rows m)) small in
+    let made : c.deref.result.now ≡ combined k powers first = c.deref.ensures.value
+    ∙ c.in_ok-combination.ensures ∙ ap (combined k powers) seen in
     let widths = All-take (λ row. length row ≡ width_of m) (2 ^ n) (rows m) (rows-width m) in
-    let least : lift_width ≤ width_of m = omega (arith, c.if-width-lt-LIFT_WIDTH.false, c.width.ensures) in
+    let least : lift_width ≤ width_of m =
+    omega (arith, c.if-width-lt-LIFT_WIDTH.false, c.width.ensures) in
     if_ok c.extended.result _ _ (λ word is.
     is ∙ ap (extended_word k B h) made
-    ∙ extended-combined k B h (width_of m) g.EF.Operations.laws g.met.EF.ExtensionField.embedding powers first widths
+    ∙ extended-combined k B h (width_of m) g.EF.Operations.laws g.met.EF.ExtensionField.embedding
+    powers first widths
     ∙ ap (combined k powers) (sym (read-wide k B h (width_of m) (rows m) least)))
     c.extended.ensures

@@ -11,7 +11,8 @@ loop-i-preserved g c =
     let x = c.coefficient.result in
     let count = g.met.EF.ExtensionField.are_coefficients.count c.args.entry in
     let split : take (i + 1) cs ≡ take i cs ++ x ∷ [] =
-    take_more cs i x (omega (arith, c.loop-i-test.true, count)) ∙ ap (λ y. take i cs ++ y ∷ []) (get_or_from_slice_get cs i x x c.coefficient.ensures) in
+    take_more cs i x (omega (arith, c.loop-i-test.true, count))
+    ∙ ap (λ y. take i cs ++ y ∷ []) (get_or_from_slice_get cs i x x c.coefficient.ensures) in
     c.in_ok-push.ensures.items
     ∙ ap (λ before. before ++ x ∷ []) c.loop-i.invariant
     ∙ append_assoc old (take i cs) (x ∷ []) ∙ ap (λ more. old ++ more) (sym split)
@@ -20,4 +21,6 @@ pub returns : goal.returns
 returns g c =
     let cs = g.EF.ExtensionField.coefficients c.args.entry in
     let count = g.met.EF.ExtensionField.are_coefficients.count c.args.entry in
-    c.loop-i.invariant ∙ ap (λ more. c.args.values.now.items ++ more) (take_all c.loop-i.i cs (omega (arith, c.loop-i-test.false, count)))
+    c.loop-i.invariant
+    ∙ ap (λ more. c.args.values.now.items ++ more)
+    (take_all c.loop-i.i cs (omega (arith, c.loop-i-test.false, count)))

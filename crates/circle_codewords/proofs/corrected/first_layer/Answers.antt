@@ -1,22 +1,36 @@
-use Rattle.std.proofs.Common.{◌≡◌, [], ◌∷◌, ◌-◌, ◌^◌, ◌∙◌, ap, subst, arith, length, map, take, slice_index_or}
+use Rattle.std.proofs.Common.{◌≡◌, [], ◌∷◌, ◌-◌, ◌^◌, ◌∙◌, ap, subst, arith, length, map, take}
+use Rattle.std.proofs.Common.{slice_index_or}
 use Rattle.std.proofs.lemmas.List.{take_all, map-append, take_more, length-append, get_or_default}
 use Rattle.std.proofs.lemmas.List.Elements.{All-same, All-push}
 use Rattle.circle_commit.specs.RowMajorMatrix.{rows, width_of, height_of}
 use Rattle.circle_commit.specs.declared.matrix.RowMajorMatrix.{RowMajorMatrix}
 use Rattle.circle_domain.proofs.Pointwise.{map_pushed}
 use Rattle.circle_relation.specs.Accepts.{Fields}
-use Rattle.circle_codewords.specs.Words.{committed_of, lambda, pairs_of, corrected_word, HaveHeights}
+use Rattle.circle_codewords.specs.Words.{committed_of, lambda, pairs_of, corrected_word}
+use Rattle.circle_codewords.specs.Words.{HaveHeights}
 use Rattle.circle_codewords.proofs.corrected.first_layer.Goals as goal
 
 pub layer-requires-clause-height : goal.layer-requires-clause-height
-layer-requires-clause-height g c = c.requires.heights c.loop-log_height.log_height-index 0 c.loop-log_height-test.true
+layer-requires-clause-height g c =
+    c.requires.heights c.loop-log_height.log_height-index 0 c.loop-log_height-test.true
 
 pub layer-requires-clause-openable : goal.layer-requires-clause-openable
 layer-requires-clause-openable g c = c.requires.openable
 
 pub loop-log_height-preserved : goal.loop-log_height-preserved
 loop-log_height-preserved g c =
-    let k : Fields g.row.F.Denot g.row.EF.Denot = record { field = g.F.Operations.ops; gen = g.F.ComplexExtendable.generators; two_adicity = g.F.ComplexExtendable.CIRCLE_TWO_ADICITY; is_zero = λ w. g.F.PartialEq.eq w g.F.Field.ZERO; extension = g.EF.Operations.ops; embed = g.EF.ExtensionField.embed; same = g.EF.PartialEq.eq } in
+    let k : Fields g.row.F.Denot g.row.EF.Denot =
+    record {
+      field = g.F.Operations.ops;
+      gen = g.F.ComplexExtendable.generators;
+      two_adicity =
+          g.F.ComplexExtendable.CIRCLE_TWO_ADICITY;
+      is_zero = λ w. g.F.PartialEq.eq w g.F.Field.ZERO;
+      extension = g.EF.Operations.ops;
+      embed = g.EF.ExtensionField.embed;
+      same =
+          g.EF.PartialEq.eq;
+    } in
     let ms = map (committed_of k c.args.log_blowup) c.args.matrices.now in
     let heights = c.args.heights.now in
     let i = c.loop-log_height.log_height-index in
@@ -28,25 +42,51 @@ loop-log_height-preserved g c =
     let made = c.in_ok-lambda.rows in
     let pushed = c.in_ok-push-2.ensures.items in
     record {
-      lambdas = λ alpha are. map_pushed (lambda k alpha ms c.args.log_blowup) heights i h c.loop-log_height.lambdas.items c.push.new.self.items c.in_ok-lambda.lambda lt is c.in_ok-push.ensures.items (inv.lambdas alpha are) (c.in_ok-lambda.ensures.lambda alpha are);
-      layers = λ alpha are. map_pushed (λ n. pairs_of (corrected_word k alpha ms c.args.log_blowup n)) heights i h (map rows old) (map rows c.push-in-loop-log_height.new.self.items) (rows made) lt is
-          (ap (map rows) pushed ∙ map-append rows old (made ∷ [])) (inv.layers alpha are) (c.in_ok-lambda.ensures.rows alpha are);
+      lambdas = λ alpha are. map_pushed (lambda k alpha ms c.args.log_blowup) heights i h
+          c.loop-log_height.lambdas.items c.push.new.self.items c.in_ok-lambda.lambda lt is
+          c.in_ok-push.ensures.items (inv.lambdas alpha are)
+          (c.in_ok-lambda.ensures.lambda alpha are);
+      layers =
+          λ alpha are. map_pushed (λ n. pairs_of (corrected_word k alpha ms c.args.log_blowup n))
+          heights i h (map rows old) (map rows c.push-in-loop-log_height.new.self.items) (rows made)
+          lt is
+          (ap (map rows) pushed ∙ map-append rows old (made ∷ [])) (inv.layers alpha are)
+          (c.in_ok-lambda.ensures.rows alpha are);
       shapes = record {
-        count = ap length pushed ∙ length-append old (made ∷ []) ∙ omega (arith, inv.shapes.count, ap length (take_more heights i h lt), length-append (take i heights) (slice_index_or heights i h ∷ []));
-        width = All-same (λ (m : RowMajorMatrix g.row.EF.Denot). width_of m ≡ 2) _ _ pushed (All-push (λ (m : RowMajorMatrix g.row.EF.Denot). width_of m ≡ 2) old made inv.shapes.width c.in_ok-lambda.ensures.width);
-        height = map_pushed (λ n. 2 ^ (n - 1)) heights i h (map height_of old) (map height_of c.push-in-loop-log_height.new.self.items) (height_of made) lt is
-            (ap (map height_of) pushed ∙ map-append height_of old (made ∷ [])) inv.shapes.height c.in_ok-lambda.ensures.height;
+        count = ap length pushed ∙ length-append old (made ∷ [])
+            ∙ omega (
+              arith,
+              inv.shapes.count,
+              ap length (take_more heights i h lt),
+              length-append (take i heights) (slice_index_or heights i h ∷ []),
+            );
+        width = All-same (λ (m : RowMajorMatrix g.row.EF.Denot). width_of m ≡ 2) _ _ pushed
+            (All-push (λ (m : RowMajorMatrix g.row.EF.Denot). width_of m ≡ 2) old made
+            inv.shapes.width c.in_ok-lambda.ensures.width);
+        height =
+            map_pushed (λ n. 2 ^ (n - 1)) heights i h (map height_of old)
+            (map height_of c.push-in-loop-log_height.new.self.items) (height_of made) lt is
+            (ap (map height_of) pushed ∙ map-append height_of old (made ∷ [])) inv.shapes.height
+            c.in_ok-lambda.ensures.height;
       };
     }
 
 pub returns-clause-lambdas : goal.returns-clause-lambdas
 returns-clause-lambdas g c = λ alpha are.
-    c.loop-log_height.invariant.lambdas alpha are ∙ ap (map _) (take_all c.loop-log_height.log_height-index c.args.heights.now (omega (arith, c.loop-log_height-test.false)))
+    c.loop-log_height.invariant.lambdas alpha are
+    ∙ ap (map _)
+    (take_all c.loop-log_height.log_height-index c.args.heights.now
+    (omega (arith, c.loop-log_height-test.false)))
 
 pub returns-clause-layers : goal.returns-clause-layers
 returns-clause-layers g c = λ alpha are.
-    c.loop-log_height.invariant.layers alpha are ∙ ap (map _) (take_all c.loop-log_height.log_height-index c.args.heights.now (omega (arith, c.loop-log_height-test.false)))
+    c.loop-log_height.invariant.layers alpha are
+    ∙ ap (map _)
+    (take_all c.loop-log_height.log_height-index c.args.heights.now
+    (omega (arith, c.loop-log_height-test.false)))
 
 pub returns-clause-shapes : goal.returns-clause-shapes
 returns-clause-shapes g c =
-    subst (λ hs. HaveHeights hs c.loop-log_height.layers.items) (take_all c.loop-log_height.log_height-index c.args.heights.now (omega (arith, c.loop-log_height-test.false))) c.loop-log_height.invariant.shapes
+    subst (λ hs. HaveHeights hs c.loop-log_height.layers.items)
+    (take_all c.loop-log_height.log_height-index c.args.heights.now
+    (omega (arith, c.loop-log_height-test.false))) c.loop-log_height.invariant.shapes

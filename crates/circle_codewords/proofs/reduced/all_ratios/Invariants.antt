@@ -5,6 +5,10 @@ use Rattle.circle_codewords.proofs.reduced.all_ratios.Given as goal
 
 abbrev pub invariant-loop-matrix : goal.invariant-loop-matrix
 invariant-loop-matrix g l = record {
-  right : All (AreRatiosOf g.EF.Operations.ops g.EF.ExtensionField.embed (points_of_height g.F.Operations.ops g.F.ComplexExtendable.generators l.log_height)) l.all.items;
-  known : All (λ m. m.log_height ≡ l.log_height → All (λ t. Any (λ r. r.point ≡ t) l.all.items) m.points.now) (take l.matrix-index l.matrices);
+  right : All
+      (AreRatiosOf g.EF.Operations.ops g.EF.ExtensionField.embed
+      (points_of_height g.F.Operations.ops g.F.ComplexExtendable.generators l.log_height))
+      l.all.items;
+  known : All (λ m. m.log_height ≡ l.log_height →
+      All (λ t. Any (λ r. r.point ≡ t) l.all.items) m.points.now) (take l.matrix-index l.matrices);
 }

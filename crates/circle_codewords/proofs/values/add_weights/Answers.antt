@@ -18,8 +18,12 @@ use Rattle.circle_codewords.proofs.values.add_weights.Goals as goal
 
 pub returns-then-is_some-clause-known : goal.returns-then-is_some-clause-known
 returns-then-is_some-clause-known g c =
-    weights-of c.weights_at.result c.args.all.now.items c.args.log_height c.args.point (sym c.is_some.ensures ∙ c.if-is_some.true)
-    (subst (λ xs. IfSome c.weights_at.result (λ found. Any (λ w. (w.log_height ≡ c.args.log_height) × (w.point ≡ c.args.point) × (w.weights ≡ found.now)) xs)) c.deref.ensures.value c.weights_at.ensures.some)
+    weights-of c.weights_at.result c.args.all.now.items c.args.log_height c.args.point
+    (sym c.is_some.ensures ∙ c.if-is_some.true)
+    (subst
+    (λ xs. IfSome c.weights_at.result
+    (λ found. Any (λ w. (w.log_height ≡ c.args.log_height) × (w.point ≡ c.args.point)
+    × (w.weights ≡ found.now)) xs)) c.deref.ensures.value c.weights_at.ensures.some)
 
 pub lagrange_weights-requires-clause-genuine : goal.lagrange_weights-requires-clause-genuine
 lagrange_weights-requires-clause-genuine g c =
@@ -29,7 +33,8 @@ lagrange_weights-requires-clause-genuine g c =
     let less = c.requires.blowup in
     subst (λ m. IsGenuine k m (shift_of c.first_domain.result)) (sym c.first_domain.ensures.size)
     (subst (IsGenuine k n) (sym c.first_domain.ensures.shift)
-    (first-genuine g.F.Operations.laws g.met.F.ComplexExtendable.generators_law n h (omega (arith, less)) (omega arith) c.requires.in_group))
+    (first-genuine g.F.Operations.laws g.met.F.ComplexExtendable.generators_law n h
+    (omega (arith, less)) (omega arith) c.requires.in_group))
 
 pub lagrange_weights-requires-clause-clear : goal.lagrange_weights-requires-clause-clear
 lagrange_weights-requires-clause-clear g c =
@@ -41,41 +46,80 @@ lagrange_weights-requires-clause-clear g c =
     let h = c.args.log_height in
     let n = h - c.args.log_blowup in
     let less = c.requires.blowup in
-    let within : h + 1 ≤ g.F.ComplexExtendable.CIRCLE_TWO_ADICITY = let top = c.requires.in_group in omega (arith, top) in
+    let within : h + 1 ≤ g.F.ComplexExtendable.CIRCLE_TWO_ADICITY = let top = c.requires.in_group in
+    omega (arith, top) in
     let at = c.unwrap-at.result in
     let is : coordinates at ≡ from_line l c.args.point =
-    subst (λ o. IfSome o (λ p. coordinates p ≡ from_line l c.args.point)) c.unwrap-at.ensures c.from_projective_line.ensures.point in
-    subst (λ m. IsClearOf l embed (natural_order k gen m (shift_of c.first_domain.result)) (coordinates at)) (sym c.first_domain.ensures.size)
-    (subst (λ s. IsClearOf l embed (natural_order k gen n s) (coordinates at)) (sym c.first_domain.ensures.shift)
-    (first-clear g.F.Operations.laws g.EF.Operations.laws g.met.EF.ExtensionField.embedding gens n h (gen (h + 1)) (coordinates at) (omega (arith, less)) (omega arith) (omega (arith, within)) (gens.on_circle (h + 1) within) at.on_circle
+    subst (λ o. IfSome o (λ p. coordinates p ≡ from_line l c.args.point)) c.unwrap-at.ensures
+    c.from_projective_line.ensures.point in
+    subst (λ m. IsClearOf l embed (natural_order k gen m (shift_of c.first_domain.result))
+    (coordinates at)) (sym c.first_domain.ensures.size)
+    (subst (λ s. IsClearOf l embed (natural_order k gen n s) (coordinates at))
+    (sym c.first_domain.ensures.shift)
+    (first-clear g.F.Operations.laws g.EF.Operations.laws g.met.EF.ExtensionField.embedding gens n h
+    (gen (h + 1)) (coordinates at) (omega (arith, less)) (omega arith) (omega (arith, within))
+    (gens.on_circle (h + 1) within) at.on_circle
     (subst (IsClearOf l embed (natural_order k gen h (gen (h + 1)))) (sym is) c.requires.off)))
 
 pub returns-clause-right : goal.returns-clause-right
 returns-clause-right g c =
-    let k : Fields g.row.F.Denot g.row.EF.Denot = record { field = g.F.Operations.ops; gen = g.F.ComplexExtendable.generators; two_adicity = g.F.ComplexExtendable.CIRCLE_TWO_ADICITY; is_zero = λ w. g.F.PartialEq.eq w g.F.Field.ZERO; extension = g.EF.Operations.ops; embed = g.EF.ExtensionField.embed; same = g.EF.PartialEq.eq } in
+    let k : Fields g.row.F.Denot g.row.EF.Denot =
+    record {
+      field = g.F.Operations.ops;
+      gen = g.F.ComplexExtendable.generators;
+      two_adicity =
+          g.F.ComplexExtendable.CIRCLE_TWO_ADICITY;
+      is_zero = λ w. g.F.PartialEq.eq w g.F.Field.ZERO;
+      extension = g.EF.Operations.ops;
+      embed = g.EF.ExtensionField.embed;
+      same =
+          g.EF.PartialEq.eq;
+    } in
     let h = c.args.log_height in
     let n = h - c.args.log_blowup in
     let weights = c.in_ok-weights.weights in
-    let made : PointWeights g.row.EF.Denot = record { log_height = h; point = c.args.point; weights = weights } in
+    let made : PointWeights g.row.EF.Denot =
+    record { log_height = h; point = c.args.point; weights = weights } in
     let at = c.unwrap-at.result in
     let is : coordinates at ≡ from_line k.extension c.args.point =
-    subst (λ o. IfSome o (λ p. coordinates p ≡ from_line k.extension c.args.point)) c.unwrap-at.ensures c.from_projective_line.ensures.point in
+    subst (λ o. IfSome o (λ p. coordinates p ≡ from_line k.extension c.args.point))
+    c.unwrap-at.ensures c.from_projective_line.ensures.point in
     let Sum : ℕ → Coordinates g.row.F.Denot → Coordinates g.row.EF.Denot → Type 0 =
-    λ m s q. AreLagrangeWeights k.extension k.embed k.field m (cfft_order k.field k.gen m s) q weights.shares.items weights.scale in
+    λ m s q. AreLagrangeWeights k.extension k.embed k.field m (cfft_order k.field k.gen m s) q
+    weights.shares.items weights.scale in
     All-same (AreWeightsOf k c.args.log_blowup) _ _ c.in_ok-push.ensures.items
     (All-push (AreWeightsOf k c.args.log_blowup) c.args.all.now.items made c.requires.right record {
       count = c.in_ok-weights.ensures.count ∙ ap (λ m. 2 ^ m) c.first_domain.ensures.size;
-      sum = subst (Sum n (k.gen (h + 1))) is (subst (λ s. Sum n s (coordinates at)) c.first_domain.ensures.shift (subst (λ m. Sum m (shift_of c.first_domain.result) (coordinates at)) c.first_domain.ensures.size c.in_ok-weights.ensures.sum));
+      sum =
+          subst (Sum n (k.gen (h + 1))) is
+          (subst (λ s. Sum n s (coordinates at)) c.first_domain.ensures.shift
+          (subst (λ m. Sum m (shift_of c.first_domain.result) (coordinates at))
+          c.first_domain.ensures.size c.in_ok-weights.ensures.sum));
     })
 
 pub returns-clause-known : goal.returns-clause-known
 returns-clause-known g c =
-    let Is : PointWeights g.row.EF.Denot → Type 0 = λ w. (w.log_height ≡ c.args.log_height) × (w.point ≡ c.args.point) in
-    let made : PointWeights g.row.EF.Denot = record { log_height = c.args.log_height; point = c.args.point; weights = c.in_ok-weights.weights } in
-    subst (Any Is) (sym c.in_ok-push.ensures.items) (any-last Is c.args.all.now.items made (refl, refl))
+    let Is : PointWeights g.row.EF.Denot → Type 0 = λ w. (w.log_height ≡ c.args.log_height)
+    × (w.point ≡ c.args.point) in
+    let made : PointWeights g.row.EF.Denot =
+    record {
+      log_height = c.args.log_height;
+      point = c.args.point;
+      weights =
+          c.in_ok-weights.weights;
+    } in
+    subst (Any Is) (sym c.in_ok-push.ensures.items)
+    (any-last Is c.args.all.now.items made (refl, refl))
 
 pub returns-clause-kept : goal.returns-clause-kept
 returns-clause-kept g c = λ t known.
-    let Is : PointWeights g.row.EF.Denot → Type 0 = λ w. (w.log_height ≡ c.args.log_height) × (w.point ≡ t) in
-    let made : PointWeights g.row.EF.Denot = record { log_height = c.args.log_height; point = c.args.point; weights = c.in_ok-weights.weights } in
+    let Is : PointWeights g.row.EF.Denot → Type 0 = λ w. (w.log_height ≡ c.args.log_height)
+    × (w.point ≡ t) in
+    let made : PointWeights g.row.EF.Denot =
+    record {
+      log_height = c.args.log_height;
+      point = c.args.point;
+      weights =
+          c.in_ok-weights.weights;
+    } in
     subst (Any Is) (sym c.in_ok-push.ensures.items) (any-kept Is c.args.all.now.items made known)

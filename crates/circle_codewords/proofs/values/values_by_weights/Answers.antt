@@ -1,9 +1,11 @@
-use Rattle.std.proofs.Common.{◌≡◌, ◌≤◌, ◌-◌, ◌+◌, ◌*◌, ◌%◌, ◌^◌, ◌∙◌, ℕ, sym, ap, subst, arith, length, map, take, List}
+use Rattle.std.proofs.Common.{◌≡◌, ◌≤◌, ◌-◌, ◌+◌, ◌*◌, ◌%◌, ◌^◌, ◌∙◌, ℕ, sym, ap, subst, arith}
+use Rattle.std.proofs.Common.{length, map, take, List}
 use Rattle.std.specs.Borrow.{Bor}
 use Rattle.std.proofs.lemmas.List.{length-take-le}
 use Rattle.circle_field.specs.Circle.{Coordinates}
 use Rattle.circle_commit.specs.RowMajorMatrix.{rows, length-rows}
-use Rattle.circle_commit.specs.RowMajorMatrixView.{rows as view_rows, length-rows as length-view_rows}
+use Rattle.circle_commit.specs.RowMajorMatrixView.{rows as view_rows}
+use Rattle.circle_commit.specs.RowMajorMatrixView.{length-rows as length-view_rows}
 use Rattle.circle_domain.specs.Domain.{log_size, shift_of}
 use Rattle.circle_domain.specs.Lagrange.{AreLagrangeWeights}
 use Rattle.circle_domain.specs.Order.{IsGenuine, cfft_order}
@@ -36,44 +38,67 @@ from_cfft_order-requires-clause-size g c =
     let low : 2 ^ n ≤ 2 ^ h = pow_within n h (omega arith) in
     let all = rows c.args.matrix.now in
     sym (length-view_rows c.split_rows.result.0) ∙ ap length c.split_rows.ensures.first
-    ∙ length-take-le (1 * 2 ^ n % 18446744073709551616) all (omega (arith, small, low, c.requires.rows, length-rows c.args.matrix.now)) ∙ small
+    ∙ length-take-le (1 * 2 ^ n % 18446744073709551616) all
+    (omega (arith, small, low, c.requires.rows, length-rows c.args.matrix.now)) ∙ small
     ∙ ap (λ m. 2 ^ m) (sym c.first_domain-domain.ensures.size)
 
-pub evaluate_by_each_weights-requires-clause-genuine : goal.evaluate_by_each_weights-requires-clause-genuine
+pub
+    evaluate_by_each_weights-requires-clause-genuine :
+    goal.evaluate_by_each_weights-requires-clause-genuine
 evaluate_by_each_weights-requires-clause-genuine g c =
     let k = g.F.Operations.ops in
     let h = c.args.log_height in
     let n = h - c.args.log_blowup in
     let less = c.requires.blowup in
     subst (λ d. IsGenuine k (log_size d) (shift_of d)) (sym c.from_cfft_order.ensures.domain)
-    (subst (λ m. IsGenuine k m (shift_of c.first_domain-domain.result)) (sym c.first_domain-domain.ensures.size)
+    (subst (λ m. IsGenuine k m (shift_of c.first_domain-domain.result))
+    (sym c.first_domain-domain.ensures.size)
     (subst (IsGenuine k n) (sym c.first_domain-domain.ensures.shift)
-    (first-genuine g.F.Operations.laws g.met.F.ComplexExtendable.generators_law n h (omega (arith, less)) (omega arith) c.requires.in_group)))
+    (first-genuine g.F.Operations.laws g.met.F.ComplexExtendable.generators_law n h
+    (omega (arith, less)) (omega arith) c.requires.in_group)))
 
 pub returns : goal.returns
 returns g c =
-    let k : Fields g.row.F.Denot g.row.EF.Denot = record { field = g.F.Operations.ops; gen = g.F.ComplexExtendable.generators; two_adicity = g.F.ComplexExtendable.CIRCLE_TWO_ADICITY; is_zero = λ w. g.F.PartialEq.eq w g.F.Field.ZERO; extension = g.EF.Operations.ops; embed = g.EF.ExtensionField.embed; same = g.EF.PartialEq.eq } in
+    let k : Fields g.row.F.Denot g.row.EF.Denot =
+    record {
+      field = g.F.Operations.ops;
+      gen = g.F.ComplexExtendable.generators;
+      two_adicity =
+          g.F.ComplexExtendable.CIRCLE_TWO_ADICITY;
+      is_zero = λ w. g.F.PartialEq.eq w g.F.Field.ZERO;
+      extension = g.EF.Operations.ops;
+      embed = g.EF.ExtensionField.embed;
+      same =
+          g.EF.PartialEq.eq;
+    } in
     let h = c.args.log_height in
     let n = h - c.args.log_blowup in
     let top = c.requires.in_group in
     let small = counted n (omega (arith, top, g.met.F.ComplexExtendable.at_most_62)) in
     let m = c.args.matrix.now in
     let d = c.from_cfft_order.result.domain in
-    let size : log_size d ≡ n = ap log_size c.from_cfft_order.ensures.domain ∙ c.first_domain-domain.ensures.size in
-    let shift : shift_of d ≡ k.gen (h + 1) = ap shift_of c.from_cfft_order.ensures.domain ∙ c.first_domain-domain.ensures.shift in
+    let size : log_size d ≡ n = ap log_size c.from_cfft_order.ensures.domain
+    ∙ c.first_domain-domain.ensures.size in
+    let shift : shift_of d ≡ k.gen (h + 1) = ap shift_of c.from_cfft_order.ensures.domain
+    ∙ c.first_domain-domain.ensures.shift in
     let given = c.from_cfft_order.result.values in
-    let By = λ (w : Bor (LagrangeWeights g.row.EF.Denot)) (found : List g.row.EF.Denot). AreValuesBy k.field k.gen k.extension k.embed d given.width (view_rows given) w.now found in
+    let By = λ (w : Bor (LagrangeWeights g.row.EF.Denot)) (found : List g.row.EF.Denot). AreValuesBy
+    k.field k.gen k.extension k.embed d given.width (view_rows given) w.now found in
     let Opens = λ (w : Bor (LagrangeWeights g.row.EF.Denot)) (found : List g.row.EF.Denot).
-    (t : g.row.EF.Denot) → AreWeightsOf k c.args.log_blowup (weights_for h t w.now) → OpensTo k c.args.log_blowup h m t found in
+    (t : g.row.EF.Denot) → AreWeightsOf k c.args.log_blowup (weights_for h t w.now) →
+    OpensTo k c.args.log_blowup h m t found in
     if_ok c.evaluate_by_each_weights.result _ _ (λ made all.
     zip-weaker By Opens (λ w found by t are.
     let q = from_line k.extension t in
     let Sum : ℕ → Coordinates g.row.F.Denot → Type 0 =
-    λ a s. AreLagrangeWeights k.extension k.embed k.field a (cfft_order k.field k.gen a s) q w.now.shares.items w.now.scale in
-    let weighed : Sum (log_size d) (shift_of d) = subst (λ a. Sum a (shift_of d)) (sym size) (subst (Sum n) (sym shift) are.sum) in
+    λ a s. AreLagrangeWeights k.extension k.embed k.field a (cfft_order k.field k.gen a s) q
+    w.now.shares.items w.now.scale in
+    let weighed : Sum (log_size d) (shift_of d) =
+    subst (λ a. Sum a (shift_of d)) (sym size) (subst (Sum n) (sym shift) are.sum) in
     let at = by q weighed in
     opens k c.args.log_blowup h m t found (log_size d) (shift_of d) _ _ at.coeffs size shift
     (ap (λ v. v.width) c.from_cfft_order.ensures.values ∙ c.split_rows.ensures.widths.0)
-    (ap view_rows c.from_cfft_order.ensures.values ∙ c.split_rows.ensures.first ∙ ap (λ a. take a (rows m)) small) at.told at.at_point)
+    (ap view_rows c.from_cfft_order.ensures.values ∙ c.split_rows.ensures.first
+    ∙ ap (λ a. take a (rows m)) small) at.told at.at_point)
     c.args.weights.now (map (λ v. v.items) made.items) all)
     c.evaluate_by_each_weights.ensures.values

@@ -2,7 +2,9 @@ use Rattle.circle_commands.proofs.Pairs.{fewer_than_two, more_than_two}
 use Rattle.circle_commands.proofs.json.pair.Goals as goal
 
 pub returns-in_default-clause-refuses : goal.returns-in_default-clause-refuses
-returns-in_default-clause-refuses c = fewer_than_two _ c.in_ok-items.field-0.now c.in_ok-items.ensures c.in_default.len_below
+returns-in_default-clause-refuses c =
+    fewer_than_two _ c.in_ok-items.field-0.now c.in_ok-items.ensures c.in_default.len_below
 
 pub returns-in_default-2-clause-refuses : goal.returns-in_default-2-clause-refuses
-returns-in_default-2-clause-refuses c = more_than_two _ c.in_ok-items.field-0.now c.in_ok-items.ensures c.in_default.len_at_least
+returns-in_default-2-clause-refuses c =
+    more_than_two _ c.in_ok-items.field-0.now c.in_ok-items.ensures c.in_default.len_at_least

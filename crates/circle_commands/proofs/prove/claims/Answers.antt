@@ -13,5 +13,7 @@ returns c =
     let committed = c.args.committed.now in
     let known = c.in_ok-known_batches.field-0.items in
     let values = openings c.args.values.items in
-    if_ok c.claims_of.result (λ v. map all_told v.items ≡ pairwise sized_claims known values) (λ v. batches_told v.items ≡ pairwise batch_claimed committed values)
-    (λ v made. batches-claimed committed known values v.items c.in_ok-known_batches.ensures made) c.claims_of.ensures
+    if_ok c.claims_of.result (λ v. map all_told v.items ≡ pairwise sized_claims known values)
+    (λ v. batches_told v.items ≡ pairwise batch_claimed committed values)
+    (λ v made. batches-claimed committed known values v.items c.in_ok-known_batches.ensures made)
+    c.claims_of.ensures

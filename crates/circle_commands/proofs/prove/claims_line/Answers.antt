@@ -13,5 +13,11 @@ returns c =
     (λ line made. let is = made (omega (arith, deep, same)) in record {
       text = is.text;
       ends = is.ends;
-      stands = record { value = view c.in_ok-to_json.field-0; json = is.json; reads = c.in_ok-to_json.ensures.reads };
+      stands =
+          record {
+            value = view c.in_ok-to_json.field-0;
+            json = is.json;
+            reads =
+                c.in_ok-to_json.ensures.reads;
+          };
     }) c.line.ensures

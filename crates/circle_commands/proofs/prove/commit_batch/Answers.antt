@@ -4,7 +4,8 @@ use Rattle.circle_commands.proofs.Unproved.{error-is, in_order}
 use Rattle.circle_commands.proofs.prove.commit_batch.Goals as goal
 
 pub commit-requires : goal.commit-requires
-commit-requires c = rows_for_points c.args.traces.now c.in_ok-evaluations.field-0.items c.in_ok-evaluations.ensures
+commit-requires c = rows_for_points c.args.traces.now c.in_ok-evaluations.field-0.items
+    c.in_ok-evaluations.ensures
 
 pub returns-clause-made : goal.returns-clause-made
 returns-clause-made c =
@@ -14,7 +15,8 @@ returns-clause-made c =
       given = refl;
       fitting = c.requires;
       commitment = c.in_ok-commitment.ensures.commitment;
-      extended = are_extended blowup c.args.traces.now es _ c.in_ok-evaluations.ensures c.in_ok-commitment.ensures.matrices;
+      extended = are_extended blowup c.args.traces.now es _ c.in_ok-evaluations.ensures
+          c.in_ok-commitment.ensures.matrices;
       powers = extended_heights blowup es _ c.in_ok-commitment.ensures.matrices;
     }
 

@@ -6,4 +6,6 @@ use Rattle.circle_commands.specs.Proved.{IsCommitted}
 use Rattle.circle_commands.proofs.prove.commit_batches.Given as goal
 
 abbrev pub invariant-loop-batch : goal.invariant-loop-batch
-invariant-loop-batch l = AllZip (λ b c. IsCommitted (IsShaRoot bytes) l.scheme.fri_params.log_blowup b.items c) (take l.batch-index l.batches) l.committed.items
+invariant-loop-batch l =
+    AllZip (λ b c. IsCommitted (IsShaRoot bytes) l.scheme.fri_params.log_blowup b.items c)
+    (take l.batch-index l.batches) l.committed.items

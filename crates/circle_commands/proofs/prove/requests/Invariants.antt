@@ -5,4 +5,5 @@ use Rattle.circle_commands.specs.Proved.{IsRequested}
 use Rattle.circle_commands.proofs.prove.requests.Given as goal
 
 abbrev pub invariant-loop-batch : goal.invariant-loop-batch
-invariant-loop-batch l = AllZip (IsRequested matrices_of) (take l.batch-index l.committed) l.requests.items
+invariant-loop-batch l = AllZip (IsRequested matrices_of) (take l.batch-index l.committed)
+    l.requests.items

@@ -8,9 +8,11 @@ loop-batch-init c = refl
 
 pub loop-batch-preserved : goal.loop-batch-preserved
 loop-batch-preserved c =
-    taken_more (state_of c.loop-batch.challenger) (state_of c.observe.new.self) c.args.batches.now c.loop-batch.batch-index c.batch-item.result
+    taken_more (state_of c.loop-batch.challenger) (state_of c.observe.new.self) c.args.batches.now
+    c.loop-batch.batch-index c.batch-item.result
     c.loop-batch-test.true c.batch-item.is c.observe.ensures
     ∙ c.loop-batch.invariant
 
 pub returns : goal.returns
-returns c = taken_all (state_of c.loop-batch.challenger) c.args.batches.now c.loop-batch.batch-index c.loop-batch-test.false ∙ c.loop-batch.invariant
+returns c = taken_all (state_of c.loop-batch.challenger) c.args.batches.now c.loop-batch.batch-index
+    c.loop-batch-test.false ∙ c.loop-batch.invariant

@@ -4,4 +4,5 @@ use Rattle.circle_commands.specs.Verified.{taken_in}
 use Rattle.circle_commands.proofs.verify.observe_commitments.Given as goal
 
 abbrev pub invariant-loop-batch : goal.invariant-loop-batch
-invariant-loop-batch l = taken_in (state_of l.challenger) (drop l.batch-index l.batches) ≡ taken_in (state_of l.fn.challenger) l.batches
+invariant-loop-batch l = taken_in (state_of l.challenger) (drop l.batch-index l.batches) ≡ taken_in
+    (state_of l.fn.challenger) l.batches

@@ -3,7 +3,9 @@ use Rattle.circle_commit.specs.Pcs.{openings}
 use Rattle.circle_commit.specs.DotProduct.{pairwise}
 use Rattle.circle_commit.specs.Claims.{batch_claimed}
 use Rattle.circle_commit.specs.RoundTrip.{AreHonestBatches, IsOfMemory, IsReason}
-use Rattle.circle_commit.proofs.Batches.{are-answered, are-kept, are-requests, are-values, asks-for, handed, have-answers, honest-requests, of-memory, why-uncommitted}
+use Rattle.circle_commit.proofs.Batches.{are-answered, are-kept, are-requests, are-values, asks-for}
+use Rattle.circle_commit.proofs.Batches.{handed, have-answers, honest-requests, of-memory}
+use Rattle.circle_commit.proofs.Batches.{why-uncommitted}
 use Rattle.circle_commit.proofs.any_scheme.round_trip.Goals as goal
 
 pub returns-in_err-committed-clause-accepted : goal.returns-in_err-committed-clause-accepted
@@ -11,17 +13,29 @@ returns-in_err-committed-clause-accepted g c =
     let pcs = c.args.pcs.now in
     let batches = c.args.batches.items in
     let state = g.C.ChallengerState.state c.args.prover.now in
-    handed (λ e. AreHonestBatches (g.P.Pcs.commits pcs) (g.P.Pcs.opens_at pcs) (g.P.Pcs.finds_witnesses pcs) batches state → IsOfMemory g.P.Pcs.is_prover_memory g.P.Pcs.is_memory e)
+    handed
+    (λ e. AreHonestBatches (g.P.Pcs.commits pcs) (g.P.Pcs.opens_at pcs)
+    (g.P.Pcs.finds_witnesses pcs) batches state →
+    IsOfMemory g.P.Pcs.is_prover_memory g.P.Pcs.is_memory e)
     c.from_residual.result c.in_err-committed.field-0.0 c.from_residual.ensures.1
-    (λ honest. of-memory g.P.Pcs.is_prover_memory g.P.Pcs.is_memory (g.P.Pcs.opens_at pcs) (g.P.Pcs.commit_refuses pcs) (g.met.P.Pcs.honest_commit pcs) batches honest.opens c.in_err-committed.field-0.0 c.in_err-committed.ensures.refused)
+    (λ honest. of-memory g.P.Pcs.is_prover_memory g.P.Pcs.is_memory (g.P.Pcs.opens_at pcs)
+    (g.P.Pcs.commit_refuses pcs) (g.met.P.Pcs.honest_commit pcs) batches honest.opens
+    c.in_err-committed.field-0.0 c.in_err-committed.ensures.refused)
 
 pub returns-in_err-committed-clause-reason : goal.returns-in_err-committed-clause-reason
 returns-in_err-committed-clause-reason g c =
     let pcs = c.args.pcs.now in
     let s = g.C.ChallengerState.state c.args.prover.now in
-    handed (IsReason g.P.Domain.PolynomialSpace.size (g.P.Pcs.commits pcs) (g.P.Pcs.commit_refuses pcs) (g.P.Pcs.open_gives pcs) (g.P.Pcs.open_refuses pcs) (g.P.Pcs.verify_refuses pcs) c.args.batches.items s s (g.C.ChallengerState.state c.args.verifier.now))
+    handed
+    (IsReason g.P.Domain.PolynomialSpace.size (g.P.Pcs.commits pcs) (g.P.Pcs.commit_refuses pcs)
+    (g.P.Pcs.open_gives pcs) (g.P.Pcs.open_refuses pcs) (g.P.Pcs.verify_refuses pcs)
+    c.args.batches.items s s (g.C.ChallengerState.state c.args.verifier.now))
     c.from_residual.result c.in_err-committed.field-0.0 c.from_residual.ensures.1
-    (why-uncommitted g.P.Domain.PolynomialSpace.size (g.P.Pcs.commits pcs) (g.P.Pcs.commit_refuses pcs) (g.P.Pcs.open_gives pcs) (g.P.Pcs.open_refuses pcs) (g.P.Pcs.verify_refuses pcs) c.args.batches.items s (g.C.ChallengerState.state c.args.verifier.now) (sym c.requires.same) c.in_err-committed.field-0.0 c.in_err-committed.ensures.refused)
+    (why-uncommitted g.P.Domain.PolynomialSpace.size (g.P.Pcs.commits pcs)
+    (g.P.Pcs.commit_refuses pcs) (g.P.Pcs.open_gives pcs) (g.P.Pcs.open_refuses pcs)
+    (g.P.Pcs.verify_refuses pcs) c.args.batches.items s
+    (g.C.ChallengerState.state c.args.verifier.now) (sym c.requires.same)
+    c.in_err-committed.field-0.0 c.in_err-committed.ensures.refused)
 
 pub open_committed-requires : goal.open_committed-requires
 open_committed-requires g c =
@@ -31,8 +45,10 @@ open_committed-requires g c =
     let committed = c.in_ok-committed.committed.items in
     let requests = c.in_ok-requests.requests.items in
     let made = c.in_ok-requests.ensures in
-    let asked = asks-for c.deref.result.now committed requests c.deref.ensures.value made.kept made.points in
-    let mine = are-requests commits batches committed requests c.in_ok-committed.ensures.committed asked in
+    let asked = asks-for c.deref.result.now committed requests c.deref.ensures.value made.kept
+    made.points in
+    let mine = are-requests commits batches committed requests c.in_ok-committed.ensures.committed
+    asked in
     record { asks = g.met.P.Pcs.kept_asks pcs requests (are-kept commits batches requests mine) }
 
 pub returns-in-Err-clause-accepted : goal.returns-in-Err-clause-accepted
@@ -43,12 +59,16 @@ returns-in-Err-clause-accepted g c =
     let committed = c.in_ok-committed.committed.items in
     let requests = c.in_ok-requests.requests.items in
     let made = c.in_ok-requests.ensures in
-    let asked = asks-for c.deref.result.now committed requests c.deref.ensures.value made.kept made.points in
-    let mine = are-requests commits batches committed requests c.in_ok-committed.ensures.committed asked in
+    let asked = asks-for c.deref.result.now committed requests c.deref.ensures.value made.kept
+    made.points in
+    let mine = are-requests commits batches committed requests c.in_ok-committed.ensures.committed
+    asked in
     let old = g.C.ChallengerState.state c.args.prover.now in
     let new = g.C.ChallengerState.state c.open_committed.new.challenger in
     λ honest.
-    g.met.P.Pcs.honest_open pcs requests old new c.in-Err.error (honest-requests commits (g.P.Pcs.opens_at pcs) (g.P.Pcs.finds_witnesses pcs) batches requests old mine honest) (honest.finds requests mine) c.in-Err.ensures.refused
+    g.met.P.Pcs.honest_open pcs requests old new c.in-Err.error
+    (honest-requests commits (g.P.Pcs.opens_at pcs) (g.P.Pcs.finds_witnesses pcs) batches
+    requests old mine honest) (honest.finds requests mine) c.in-Err.ensures.refused
 
 pub returns-in-Err-clause-reason : goal.returns-in-Err-clause-reason
 returns-in-Err-clause-reason g c =
@@ -58,9 +78,13 @@ returns-in-Err-clause-reason g c =
     let committed = c.in_ok-committed.committed.items in
     let requests = c.in_ok-requests.requests.items in
     let made = c.in_ok-requests.ensures in
-    let asked = asks-for c.deref.result.now committed requests c.deref.ensures.value made.kept made.points in
-    let mine = are-requests commits batches committed requests c.in_ok-committed.ensures.committed asked in
-    (record { requests = requests; asked = mine; refused = c.in-Err.ensures.refused }, sym c.requires.same)
+    let asked = asks-for c.deref.result.now committed requests c.deref.ensures.value made.kept
+    made.points in
+    let mine = are-requests commits batches committed requests c.in_ok-committed.ensures.committed
+    asked in (
+      record { requests = requests; asked = mine; refused = c.in-Err.ensures.refused },
+      sym c.requires.same,
+    )
 
 pub returns-in-Ok-verify-clause-values : goal.returns-in-Ok-verify-clause-values
 returns-in-Ok-verify-clause-values g c =
@@ -70,13 +94,16 @@ returns-in-Ok-verify-clause-values g c =
     let committed = c.in_ok-committed.committed.items in
     let requests = c.in_ok-requests.requests.items in
     let made = c.in_ok-requests.ensures in
-    let asked = asks-for c.deref.result.now committed requests c.deref.ensures.value made.kept made.points in
-    let mine = are-requests commits batches committed requests c.in_ok-committed.ensures.committed asked in
+    let asked = asks-for c.deref.result.now committed requests c.deref.ensures.value made.kept
+    made.points in
+    let mine = are-requests commits batches committed requests c.in_ok-committed.ensures.committed
+    asked in
     let old = g.C.ChallengerState.state c.args.prover.now in
     let new = g.C.ChallengerState.state c.open_committed.new.challenger in
     let ws = c.in-Ok.opened.0.items in
     let proof = c.in-Ok.opened.1 in
-    are-values commits (g.P.Pcs.values_of pcs) batches requests (openings ws) mine (g.met.P.Pcs.true_values pcs requests (openings ws) proof old new c.in-Ok.ensures.opened)
+    are-values commits (g.P.Pcs.values_of pcs) batches requests (openings ws) mine
+    (g.met.P.Pcs.true_values pcs requests (openings ws) proof old new c.in-Ok.ensures.opened)
 
 pub returns-in-Ok-verify-clause-states : goal.returns-in-Ok-verify-clause-states
 returns-in-Ok-verify-clause-states g c =
@@ -86,7 +113,8 @@ returns-in-Ok-verify-clause-states g c =
     let committed = c.in_ok-committed.committed.items in
     let requests = c.in_ok-requests.requests.items in
     let made = c.in_ok-requests.ensures in
-    let asked = asks-for c.deref.result.now committed requests c.deref.ensures.value made.kept made.points in
+    let asked = asks-for c.deref.result.now committed requests c.deref.ensures.value made.kept
+    made.points in
     let old = g.C.ChallengerState.state c.args.prover.now in
     let new = g.C.ChallengerState.state c.open_committed.new.challenger in
     let ws = c.in-Ok.opened.0.items in
@@ -94,11 +122,17 @@ returns-in-Ok-verify-clause-states g c =
     let claims = c.in_ok-claims.claims.items in
     let size = g.P.Domain.PolynomialSpace.size in
     let all = c.in_ok-committed.ensures.committed in
-    let have = have-answers commits batches committed requests (openings ws) c.requires.points all asked (g.met.P.Pcs.each_point pcs requests (openings ws) proof old new c.in-Ok.ensures.opened) in
+    let have = have-answers commits batches committed requests (openings ws) c.requires.points all
+    asked
+    (g.met.P.Pcs.each_point pcs requests (openings ws) proof old new c.in-Ok.ensures.opened) in
     let copied = c.in_ok-copies.ensures ∙ ap openings c.deref-2.ensures.value in
-    let told = c.in_ok-claims.ensures ∙ (λ i. pairwise batch_claimed (c.in_ok-known_batches.ensures i) (copied i)) in
-    let answered = are-answered commits size batches committed requests (openings ws) claims c.requires.points all asked have told in
-    let accepted = subst (λ s. g.P.Pcs.verify_accepts pcs claims proof s new) c.requires.same (g.met.P.Pcs.complete pcs requests (openings ws) proof old new c.in-Ok.ensures.opened claims answered) in
+    let told = c.in_ok-claims.ensures
+    ∙ (λ i. pairwise batch_claimed (c.in_ok-known_batches.ensures i) (copied i)) in
+    let answered = are-answered commits size batches committed requests (openings ws) claims
+    c.requires.points all asked have told in
+    let accepted = subst (λ s. g.P.Pcs.verify_accepts pcs claims proof s new) c.requires.same
+    (g.met.P.Pcs.complete pcs requests (openings ws) proof old new c.in-Ok.ensures.opened claims
+    answered) in
     g.met.P.Pcs.one_state pcs claims proof _ new _ accepted c.in-Ok-verify.ensures.accepted
 
 pub returns-in-Err-verify-clause-accepted : goal.returns-in-Err-verify-clause-accepted
@@ -109,7 +143,8 @@ returns-in-Err-verify-clause-accepted g c =
     let committed = c.in_ok-committed.committed.items in
     let requests = c.in_ok-requests.requests.items in
     let made = c.in_ok-requests.ensures in
-    let asked = asks-for c.deref.result.now committed requests c.deref.ensures.value made.kept made.points in
+    let asked = asks-for c.deref.result.now committed requests c.deref.ensures.value made.kept
+    made.points in
     let old = g.C.ChallengerState.state c.args.prover.now in
     let new = g.C.ChallengerState.state c.open_committed.new.challenger in
     let ws = c.in-Ok.opened.0.items in
@@ -117,11 +152,17 @@ returns-in-Err-verify-clause-accepted g c =
     let claims = c.in_ok-claims.claims.items in
     let size = g.P.Domain.PolynomialSpace.size in
     let all = c.in_ok-committed.ensures.committed in
-    let have = have-answers commits batches committed requests (openings ws) c.requires.points all asked (g.met.P.Pcs.each_point pcs requests (openings ws) proof old new c.in-Ok.ensures.opened) in
+    let have = have-answers commits batches committed requests (openings ws) c.requires.points all
+    asked
+    (g.met.P.Pcs.each_point pcs requests (openings ws) proof old new c.in-Ok.ensures.opened) in
     let copied = c.in_ok-copies.ensures ∙ ap openings c.deref-2.ensures.value in
-    let told = c.in_ok-claims.ensures ∙ (λ i. pairwise batch_claimed (c.in_ok-known_batches.ensures i) (copied i)) in
-    let answered = are-answered commits size batches committed requests (openings ws) claims c.requires.points all asked have told in
-    let accepted = subst (λ s. g.P.Pcs.verify_accepts pcs claims proof s new) c.requires.same (g.met.P.Pcs.complete pcs requests (openings ws) proof old new c.in-Ok.ensures.opened claims answered) in
+    let told = c.in_ok-claims.ensures
+    ∙ (λ i. pairwise batch_claimed (c.in_ok-known_batches.ensures i) (copied i)) in
+    let answered = are-answered commits size batches committed requests (openings ws) claims
+    c.requires.points all asked have told in
+    let accepted = subst (λ s. g.P.Pcs.verify_accepts pcs claims proof s new) c.requires.same
+    (g.met.P.Pcs.complete pcs requests (openings ws) proof old new c.in-Ok.ensures.opened claims
+    answered) in
     λ honest. c.in-Err-verify.ensures.refused new accepted
 
 pub returns-in-Err-verify-clause-reason : goal.returns-in-Err-verify-clause-reason
@@ -132,8 +173,10 @@ returns-in-Err-verify-clause-reason g c =
     let committed = c.in_ok-committed.committed.items in
     let requests = c.in_ok-requests.requests.items in
     let made = c.in_ok-requests.ensures in
-    let asked = asks-for c.deref.result.now committed requests c.deref.ensures.value made.kept made.points in
-    let mine = are-requests commits batches committed requests c.in_ok-committed.ensures.committed asked in
+    let asked = asks-for c.deref.result.now committed requests c.deref.ensures.value made.kept
+    made.points in
+    let mine = are-requests commits batches committed requests c.in_ok-committed.ensures.committed
+    asked in
     let old = g.C.ChallengerState.state c.args.prover.now in
     let new = g.C.ChallengerState.state c.open_committed.new.challenger in
     let ws = c.in-Ok.opened.0.items in
@@ -141,10 +184,14 @@ returns-in-Err-verify-clause-reason g c =
     let claims = c.in_ok-claims.claims.items in
     let size = g.P.Domain.PolynomialSpace.size in
     let all = c.in_ok-committed.ensures.committed in
-    let have = have-answers commits batches committed requests (openings ws) c.requires.points all asked (g.met.P.Pcs.each_point pcs requests (openings ws) proof old new c.in-Ok.ensures.opened) in
+    let have = have-answers commits batches committed requests (openings ws) c.requires.points all
+    asked
+    (g.met.P.Pcs.each_point pcs requests (openings ws) proof old new c.in-Ok.ensures.opened) in
     let copied = c.in_ok-copies.ensures ∙ ap openings c.deref-2.ensures.value in
-    let told = c.in_ok-claims.ensures ∙ (λ i. pairwise batch_claimed (c.in_ok-known_batches.ensures i) (copied i)) in
-    let answered = are-answered commits size batches committed requests (openings ws) claims c.requires.points all asked have told in
+    let told = c.in_ok-claims.ensures
+    ∙ (λ i. pairwise batch_claimed (c.in_ok-known_batches.ensures i) (copied i)) in
+    let answered = are-answered commits size batches committed requests (openings ws) claims
+    c.requires.points all asked have told in
     record {
       requests = requests;
       asked = mine;
@@ -153,5 +200,9 @@ returns-in-Err-verify-clause-reason g c =
       opened = c.in-Ok.ensures.opened;
       claims = claims;
       answered = answered;
-      refused = subst (λ s. g.P.Pcs.verify_refuses pcs claims proof s (g.C.ChallengerState.state c.verify.new.challenger) c.in-Err-verify.error) (sym c.requires.same) c.in-Err-verify.ensures.reason;
+      refused =
+          subst
+          (λ s. g.P.Pcs.verify_refuses pcs claims proof s
+          (g.C.ChallengerState.state c.verify.new.challenger) c.in-Err-verify.error)
+          (sym c.requires.same) c.in-Err-verify.ensures.reason;
     }

@@ -19,15 +19,28 @@ loop-domain-preserved g c =
     let inner = c.zip.ensures in
     let first = ap zip_first zipped ∙ outer.first in
     let second = ap zip_second zipped in
-    let of_domains = YieldsList-from_vec c.args.domains.items (ap (λ s. into_iter_items (zip_first s)) first ∙ ap into_iter_items inner.first ∙ c.into_iter.ensures.rest) (ap (λ s. into_iter_len (zip_first s)) first ∙ ap into_iter_len inner.first ∙ c.into_iter.ensures.len ∙ c.args.domains.ok.0) in
-    let of_points = YieldsList-from_vec c.args.points.items (ap (λ s. into_iter_items (zip_second s)) first ∙ inner.second.0) (ap (λ s. into_iter_len (zip_second s)) first ∙ inner.second.1 ∙ c.args.points.ok.0) in
-    let of_values = YieldsList-from_vec c.args.values.items (ap into_iter_items second ∙ outer.second.0) (ap into_iter_len second ∙ outer.second.1 ∙ c.args.values.ok.0) in
+    let of_domains =
+    YieldsList-from_vec c.args.domains.items (ap (λ s. into_iter_items (zip_first s)) first
+    ∙ ap into_iter_items inner.first ∙ c.into_iter.ensures.rest)
+    (ap (λ s. into_iter_len (zip_first s)) first ∙ ap into_iter_len inner.first
+    ∙ c.into_iter.ensures.len ∙ c.args.domains.ok.0) in
+    let of_points =
+    YieldsList-from_vec c.args.points.items (ap (λ s. into_iter_items (zip_second s)) first
+    ∙ inner.second.0) (ap (λ s. into_iter_len (zip_second s)) first ∙ inner.second.1
+    ∙ c.args.points.ok.0) in
+    let of_values =
+    YieldsList-from_vec c.args.values.items (ap into_iter_items second ∙ outer.second.0)
+    (ap into_iter_len second ∙ outer.second.1 ∙ c.args.values.ok.0) in
     let road = YieldsList-from_zip (YieldsList-from_zip of_domains of_points) of_values in
     let done = c.loop-domain.yielded in
-    let this : (g.row.D.Denot × Vec g.row.E.Denot Global) × Vec (Vec g.row.E.Denot Global) Global = ((c.in-Some.domain, c.in-Some.points), c.in-Some.values) in
-    let turn = YieldsList-turn road done _ c.loop-domain.yielded_by _ c.next.new.self this c.in-Some.is c.next.ensures.steps in
-    mapped-more (λ t. matrix_claimed (t.0.0, t.0.1.items) (map (λ v. v.items) t.1.items)) matrix_told all (length done) _ this c.loop-domain.claims.items c.push.new.self.items _
-    (length_push done this) turn.0 turn.1 c.in_ok-push.ensures.items (ap (λ ps. (c.in-Some.domain, ps)) c.in_ok-point_claims.ensures) c.loop-domain.invariant
+    let this : (g.row.D.Denot × Vec g.row.E.Denot Global) × Vec (Vec g.row.E.Denot Global) Global =
+    ((c.in-Some.domain, c.in-Some.points), c.in-Some.values) in
+    let turn = YieldsList-turn road done _ c.loop-domain.yielded_by _ c.next.new.self this
+    c.in-Some.is c.next.ensures.steps in
+    mapped-more (λ t. matrix_claimed (t.0.0, t.0.1.items) (map (λ v. v.items) t.1.items))
+    matrix_told all (length done) _ this c.loop-domain.claims.items c.push.new.self.items _
+    (length_push done this) turn.0 turn.1 c.in_ok-push.ensures.items
+    (ap (λ ps. (c.in-Some.domain, ps)) c.in_ok-point_claims.ensures) c.loop-domain.invariant
 
 pub returns : goal.returns
 returns g c =
@@ -37,10 +50,23 @@ returns g c =
     let inner = c.zip.ensures in
     let first = ap zip_first zipped ∙ outer.first in
     let second = ap zip_second zipped in
-    let of_domains = YieldsList-from_vec c.args.domains.items (ap (λ s. into_iter_items (zip_first s)) first ∙ ap into_iter_items inner.first ∙ c.into_iter.ensures.rest) (ap (λ s. into_iter_len (zip_first s)) first ∙ ap into_iter_len inner.first ∙ c.into_iter.ensures.len ∙ c.args.domains.ok.0) in
-    let of_points = YieldsList-from_vec c.args.points.items (ap (λ s. into_iter_items (zip_second s)) first ∙ inner.second.0) (ap (λ s. into_iter_len (zip_second s)) first ∙ inner.second.1 ∙ c.args.points.ok.0) in
-    let of_values = YieldsList-from_vec c.args.values.items (ap into_iter_items second ∙ outer.second.0) (ap into_iter_len second ∙ outer.second.1 ∙ c.args.values.ok.0) in
+    let of_domains =
+    YieldsList-from_vec c.args.domains.items (ap (λ s. into_iter_items (zip_first s)) first
+    ∙ ap into_iter_items inner.first ∙ c.into_iter.ensures.rest)
+    (ap (λ s. into_iter_len (zip_first s)) first ∙ ap into_iter_len inner.first
+    ∙ c.into_iter.ensures.len ∙ c.args.domains.ok.0) in
+    let of_points =
+    YieldsList-from_vec c.args.points.items (ap (λ s. into_iter_items (zip_second s)) first
+    ∙ inner.second.0) (ap (λ s. into_iter_len (zip_second s)) first ∙ inner.second.1
+    ∙ c.args.points.ok.0) in
+    let of_values =
+    YieldsList-from_vec c.args.values.items (ap into_iter_items second ∙ outer.second.0)
+    (ap into_iter_len second ∙ outer.second.1 ∙ c.args.values.ok.0) in
     let road = YieldsList-from_zip (YieldsList-from_zip of_domains of_points) of_values in
-    let last = YieldsList-end road c.loop-domain.yielded _ c.loop-domain.yielded_by _ c.next.new.self c.in-None.is c.next.ensures.steps in
-    c.loop-domain.invariant ∙ ap (map (λ t. matrix_claimed (t.0.0, t.0.1.items) (map (λ v. v.items) t.1.items))) (taken-all (length c.loop-domain.yielded) all last.1)
-    ∙ pairwise-of-zip matrix_claimed (λ v. v.items) (λ rows. map (λ v. v.items) rows.items) c.args.domains.items c.args.points.items c.args.values.items
+    let last = YieldsList-end road c.loop-domain.yielded _ c.loop-domain.yielded_by _
+    c.next.new.self c.in-None.is c.next.ensures.steps in
+    c.loop-domain.invariant
+    ∙ ap (map (λ t. matrix_claimed (t.0.0, t.0.1.items) (map (λ v. v.items) t.1.items)))
+    (taken-all (length c.loop-domain.yielded) all last.1)
+    ∙ pairwise-of-zip matrix_claimed (λ v. v.items) (λ rows. map (λ v. v.items) rows.items)
+    c.args.domains.items c.args.points.items c.args.values.items

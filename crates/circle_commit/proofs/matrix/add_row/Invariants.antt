@@ -7,4 +7,9 @@ abbrev pub invariant-loop-p : goal.invariant-loop-p
 invariant-loop-p g l =
     let k = g.EF.Operations.ops in
     let old = map (λ s. s.items) l.fn.sums in
-    map (λ s. s.items) l.sums ≡ written l.p (pairwise (λ s ws. pairwise (λ a x. k.add a (k.mul (g.EF.ExtensionField.embed x) (slice_index_or ws.now l.r k.zero))) s l.row) old l.weights) old
+    map (λ s. s.items) l.sums
+    ≡ written l.p
+    (pairwise
+    (λ s ws. pairwise
+    (λ a x. k.add a (k.mul (g.EF.ExtensionField.embed x) (slice_index_or ws.now l.r k.zero))) s
+    l.row) old l.weights) old

@@ -1,4 +1,5 @@
-use Rattle.std.proofs.Common.{◌≡◌, ◌+◌, ◌*◌, ◌++◌, [], ◌∷◌, ◌∙◌, sym, ap, map, drop, arith, append_assoc, List, append-nil}
+use Rattle.std.proofs.Common.{◌≡◌, ◌+◌, ◌*◌, ◌++◌, [], ◌∷◌, ◌∙◌, sym, ap, map, drop, arith}
+use Rattle.std.proofs.Common.{append_assoc, List, append-nil}
 use Rattle.std.proofs.lemmas.Grind.{common_steps}
 use Rattle.std.proofs.lemmas.List.{at_drop_all}
 use Rattle.circle_point.specs.Basis.{doubled_x}
@@ -20,7 +21,14 @@ loop-i-preserved g c =
     let x = c.sub.result in
     let rest = map f (every_second (drop (2 * (i + 1)) xs)) in
     let d = c.index-abscissas-i.result in
-    let step : x ≡ f d = grind (arith, common_steps, g.met.F.Field.add_law, g.met.F.Field.sub_law, g.met.F.Field.one_law) in
+    let step : x ≡ f d =
+    grind (
+      arith,
+      common_steps,
+      g.met.F.Field.add_law,
+      g.met.F.Field.sub_law,
+      g.met.F.Field.one_law,
+    ) in
     let next = every_second-more xs i d c.requires (omega arith) in
     ap (λ ys. ys ++ rest) c.in_ok-push.ensures.items
     ∙ append_assoc made (x ∷ []) rest
@@ -33,6 +41,7 @@ returns g c =
     let f = doubled_x g.F.Operations.ops in
     let xs = c.args.abscissas.now in
     let made = c.loop-i.doubled.items in
-    let none = at_drop_all (λ (ys : List g.row.F.Denot). made ++ map f (every_second ys)) xs (2 * c.loop-i.i)
+    let none = at_drop_all (λ (ys : List g.row.F.Denot). made ++ map f (every_second ys)) xs
+    (2 * c.loop-i.i)
     (omega (arith, c.loop-i-test.false, c.requires)) in
     sym (append-nil made) ∙ sym none ∙ c.loop-i.invariant

@@ -7,4 +7,5 @@ use Rattle.circle_domain.proofs.factors.layer_twiddles.Given as goal
 abbrev pub invariant-loop-layer : goal.invariant-loop-layer
 invariant-loop-layer g l =
     map (λ factors. factors.items) l.twiddles.items
-    ≡ map (layer_factors g.F.Operations.ops g.F.ComplexExtendable.generators (log_size l.fn.domain) (shift_of l.fn.domain)) (range_with_len 0 l.layer)
+    ≡ map (layer_factors g.F.Operations.ops g.F.ComplexExtendable.generators (log_size l.fn.domain)
+    (shift_of l.fn.domain)) (range_with_len 0 l.layer)

@@ -10,5 +10,8 @@ every_second_abscissa-requires g c =
     let n = log_size c.args.domain in
     let points = c.in_ok-first_points.field-0.items in
     let long : length points ≡ 2 ^ (n - 1) =
-    sym (length-map points coordinates) ∙ ap length c.in_ok-first_points.ensures ∙ length-coset g.F.Operations.ops g.F.ComplexExtendable.generators (n - 1) (shift_of c.args.domain) in
-    ap (λ xs. length xs % 2) c.deref.ensures.value ∙ ap (λ m. m % 2) long ∙ even-pow (n - 1) (omega (arith, c.requires.two_pairs))
+    sym (length-map points coordinates) ∙ ap length c.in_ok-first_points.ensures
+    ∙ length-coset g.F.Operations.ops g.F.ComplexExtendable.generators (n - 1)
+    (shift_of c.args.domain) in
+    ap (λ xs. length xs % 2) c.deref.ensures.value ∙ ap (λ m. m % 2) long
+    ∙ even-pow (n - 1) (omega (arith, c.requires.two_pairs))

@@ -11,6 +11,9 @@ pub returns : goal.returns
 returns g c =
     let points = c.in_ok-first_points.field-0.items in
     let y = λ (p : Coordinates g.row.F.Denot). p.y in
-    let ys : map (λ p. (coordinates p).y) c.deref.result.now ≡ map y (coset g.F.Operations.ops g.F.ComplexExtendable.generators (log_size c.args.domain - 1) (shift_of c.args.domain)) =
-    ap (map (λ p. (coordinates p).y)) c.deref.ensures.value ∙ sym (map-map y coordinates points) ∙ ap (map y) c.in_ok-first_points.ensures in
+    let ys : map (λ p. (coordinates p).y) c.deref.result.now ≡ map y
+    (coset g.F.Operations.ops g.F.ComplexExtendable.generators (log_size c.args.domain - 1)
+    (shift_of c.args.domain)) =
+    ap (map (λ p. (coordinates p).y)) c.deref.ensures.value ∙ sym (map-map y coordinates points)
+    ∙ ap (map y) c.in_ok-first_points.ensures in
     IfOk-weaker c.ordinates.result _ _ (λ made e. e ∙ ys) c.ordinates.ensures

@@ -5,5 +5,6 @@ use Rattle.circle_domain.proofs.lagrange.reordered_dot_product.Given as goal
 
 abbrev pub invariant-loop-i : goal.invariant-loop-i
 invariant-loop-i g l =
-    let values = map g.EF.ExtensionField.embed (reordered g.F.Operations.ops.zero l.log_n l.evals) in
+    let values =
+    map g.EF.ExtensionField.embed (reordered g.F.Operations.ops.zero l.log_n l.evals) in
     l.sum ≡ dot g.EF.Operations.ops (take l.i l.shares) (take l.i values)

@@ -1,4 +1,5 @@
-use Rattle.std.proofs.Common.{◌≡◌, ◌<◌, ◌≤◌, ◌++◌, [], ◌∷◌, ◌∙◌, sym, ap, map, take, slice_index_or, length, arith, append_assoc}
+use Rattle.std.proofs.Common.{◌≡◌, ◌<◌, ◌≤◌, ◌++◌, [], ◌∷◌, ◌∙◌, sym, ap, map, take, slice_index_or}
+use Rattle.std.proofs.Common.{length, arith, append_assoc}
 use Rattle.std.proofs.Math.ListN.{get_or-map}
 use Rattle.std.proofs.lemmas.List.{length-map, take_more, take_all, map-append, get_or_append_left}
 use Rattle.circle_field.specs.Circle.{Coordinates, plus}
@@ -14,9 +15,17 @@ loop-i-preserved g c =
     let now = c.loop-i.points.items in
     let p = c.index.result.now in
     let q = c.add-moved.result in
-    let here : i < length before = omega (arith, c.loop-i-test.true, c.len-i-end.ensures, length-map c.args.points.now.items coordinates, c.args.points.now.ok.0) in
+    let here : i < length before =
+    omega (
+      arith,
+      c.loop-i-test.true,
+      c.len-i-end.ensures,
+      length-map c.args.points.now.items coordinates,
+      c.args.points.now.ok.0,
+    ) in
     let read : coordinates p ≡ slice_index_or before i (coordinates p) =
-    ap coordinates c.index.ensures ∙ sym (get_or-map coordinates now i p) ∙ ap (λ xs. slice_index_or xs i (coordinates p)) c.loop-i.invariant.moved
+    ap coordinates c.index.ensures ∙ sym (get_or-map coordinates now i p)
+    ∙ ap (λ xs. slice_index_or xs i (coordinates p)) c.loop-i.invariant.moved
     ∙ get_or_append_left before (map f (take i before)) (coordinates p) i here in
     record {
       moved =
@@ -24,15 +33,25 @@ loop-i-preserved g c =
           ∙ map-append coordinates now (q ∷ [])
           ∙ ap (λ xs. xs ++ coordinates q ∷ []) c.loop-i.invariant.moved
           ∙ append_assoc before (map f (take i before)) (coordinates q ∷ [])
-          ∙ ap (λ x. before ++ (map f (take i before) ++ x ∷ [])) (c.add-moved.ensures.sum ∙ ap f read)
-          ∙ ap (λ xs. before ++ xs) (sym (map-append f (take i before) (slice_index_or before i (coordinates p) ∷ [])) ∙ ap (map f) (sym (take_more before i (coordinates p) here)));
+          ∙ ap (λ x. before ++ (map f (take i before) ++ x ∷ []))
+          (c.add-moved.ensures.sum ∙ ap f read)
+          ∙ ap (λ xs. before ++ xs)
+          (sym (map-append f (take i before) (slice_index_or before i (coordinates p) ∷ []))
+          ∙ ap (map f) (sym (take_more before i (coordinates p) here)));
       long = omega arith;
     }
 
 pub returns : goal.returns
 returns g c =
-    let f = λ (p : Coordinates g.row.F.Denot). plus g.F.Operations.ops p (coordinates c.args.step) in
+    let f =
+    λ (p : Coordinates g.row.F.Denot). plus g.F.Operations.ops p (coordinates c.args.step) in
     let before = map coordinates c.args.points.now.items in
     let end : length before ≤ c.loop-i.i =
-    omega (arith, c.loop-i-test.false, c.len-i-end.ensures, length-map c.args.points.now.items coordinates, c.args.points.now.ok.0) in
+    omega (
+      arith,
+      c.loop-i-test.false,
+      c.len-i-end.ensures,
+      length-map c.args.points.now.items coordinates,
+      c.args.points.now.ok.0,
+    ) in
     c.loop-i.invariant.moved ∙ ap (λ xs. before ++ map f xs) (take_all c.loop-i.i before end)

@@ -8,6 +8,7 @@ abbrev pub invariant-loop-i : goal.invariant-loop-i
 invariant-loop-i g l =
     let before = map coordinates l.fn.points.items in
     record {
-      moved : map coordinates l.points.items ≡ before ++ map (λ p. plus g.F.Operations.ops p (coordinates l.step)) (take l.i before);
+      moved : map coordinates l.points.items ≡ before
+          ++ map (λ p. plus g.F.Operations.ops p (coordinates l.step)) (take l.i before);
       long : vec_len l.fn.points ≤ vec_len l.points;
     }

@@ -7,4 +7,7 @@ use Rattle.circle_domain.proofs.row_selectors.row_selector.Given as goal
 abbrev pub invariant-loop-i : goal.invariant-loop-i
 invariant-loop-i g l =
     let k = g.F.Operations.ops in
-    l.values.items ≡ take l.i (pairwise (λ z p. k.mul z (k.inv (zero_at k (coordinates l.row) (coordinates p)))) l.vanishing l.points)
+    l.values.items
+    ≡ take l.i
+    (pairwise (λ z p. k.mul z (k.inv (zero_at k (coordinates l.row) (coordinates p))))
+    l.vanishing l.points)

@@ -6,4 +6,7 @@ use Rattle.circle_domain.specs.Splitting.{place_of}
 use Rattle.circle_domain.proofs.splitting.rows_of_part.Given as goal
 
 abbrev pub invariant-loop-r : goal.invariant-loop-r
-invariant-loop-r g l = l.values.items ≡ flat_map (λ i. slice_index_or (rows l.evals) (place_of l.num_chunks l.part i) []) (range_with_len 0 l.r)
+invariant-loop-r g l =
+    l.values.items
+    ≡ flat_map (λ i. slice_index_or (rows l.evals) (place_of l.num_chunks l.part i) [])
+    (range_with_len 0 l.r)

@@ -6,5 +6,6 @@ pub returns : goal.returns
 returns g c =
     record {
       ones = ones-+ g.F.Operations.laws.ring c.args.m c.args.n;
-      told = λ other same. add_left_cancel g.F.Operations.laws.ring c.args.left c.args.right other same;
+      told = λ other same. add_left_cancel g.F.Operations.laws.ring c.args.left c.args.right other
+          same;
     }

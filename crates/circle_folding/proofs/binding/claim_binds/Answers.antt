@@ -24,10 +24,19 @@ returns g c = λ h long.
     let size = c.requires.size in
     let same : size.0 ≡ h = pow_injective size.0 h (sym size.1 ∙ tall) in
     let two : suc (suc (n - 2)) ≡ n = omega (arith, size.2, same) in
-    subst (λ n. All (λ alpha. WideSpan k gen l embed n h (row_quotients k gen l embed h alpha z (rows m) values)) alphas → AreWideValuesOfOnly k gen l embed n h (rows m) z values)
+    subst
+    (λ n. All
+    (λ alpha. WideSpan k gen l embed n h
+    (row_quotients k gen l embed h alpha z (rows m) values)) alphas →
+    AreWideValuesOfOnly k gen l embed n h (rows m) z values)
     two
     (λ all j lt.
-    column-bound g.EF.Operations.laws g.EF.PartialEq.eq g.met.EF.Field.eq_law g.met.EF.ExtensionField.embedding g.met.F.ComplexExtendable.generators_law
-    h (omega (arith, size.2, same)) (omega (arith, size.3, same)) z c.args.zeta.on_circle (apart-in_order embed g.F.Operations.laws.ring g.met.F.ComplexExtendable.generators_law h (gen (h + 1)) z (omega (arith, size.2, same)) (omega (arith, size.3, same)) (c.requires.off h tall))
-    (n - 2) (omega (arith, size.2, same, c.requires.blowup)) (rows m) (width_of m) values long (rows-width m) c.requires.claims
+    column-bound g.EF.Operations.laws g.EF.PartialEq.eq g.met.EF.Field.eq_law
+    g.met.EF.ExtensionField.embedding g.met.F.ComplexExtendable.generators_law
+    h (omega (arith, size.2, same)) (omega (arith, size.3, same)) z c.args.zeta.on_circle
+    (apart-in_order embed g.F.Operations.laws.ring g.met.F.ComplexExtendable.generators_law h
+    (gen (h + 1)) z (omega (arith, size.2, same)) (omega (arith, size.3, same))
+    (c.requires.off h tall))
+    (n - 2) (omega (arith, size.2, same, c.requires.blowup)) (rows m) (width_of m) values long
+    (rows-width m) c.requires.claims
     alphas c.requires.challenges c.requires.distinct all j (omega (arith, lt, c.requires.claims)))

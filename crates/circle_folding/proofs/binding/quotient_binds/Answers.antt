@@ -19,8 +19,16 @@ returns g c = λ h long.
     let size = c.requires.size in
     let same : size.0 ≡ h = pow_injective size.0 h (sym size.1 ∙ long) in
     let two : suc (suc (n - 2)) ≡ n = omega (arith, size.2, same) in
-    subst (λ n. Span k gen l embed n h (gen (h + 1)) word → WideSpan k gen l embed n h (word_quotients k gen l embed h c.args.alpha z word c.args.value) → IsValueOfOnly k gen l embed n h word z c.args.value)
+    subst (λ n. Span k gen l embed n h (gen (h + 1)) word →
+    WideSpan k gen l embed n h
+    (word_quotients k gen l embed h c.args.alpha z word c.args.value) →
+    IsValueOfOnly k gen l embed n h word z c.args.value)
     two
-    (word-bound g.EF.Operations.laws g.EF.PartialEq.eq g.met.EF.Field.eq_law g.met.EF.ExtensionField.embedding g.met.F.ComplexExtendable.generators_law
-    h (omega (arith, size.2, same)) (omega (arith, size.3, same)) z c.args.zeta.on_circle (apart-in_order embed g.F.Operations.laws.ring g.met.F.ComplexExtendable.generators_law h (gen (h + 1)) z (omega (arith, size.2, same)) (omega (arith, size.3, same)) (c.requires.off h long))
-    (n - 2) (omega (arith, size.2, same, c.requires.blowup)) c.args.alpha c.args.value word c.requires.nonzero)
+    (word-bound g.EF.Operations.laws g.EF.PartialEq.eq g.met.EF.Field.eq_law
+    g.met.EF.ExtensionField.embedding g.met.F.ComplexExtendable.generators_law
+    h (omega (arith, size.2, same)) (omega (arith, size.3, same)) z c.args.zeta.on_circle
+    (apart-in_order embed g.F.Operations.laws.ring g.met.F.ComplexExtendable.generators_law h
+    (gen (h + 1)) z (omega (arith, size.2, same)) (omega (arith, size.3, same))
+    (c.requires.off h long))
+    (n - 2) (omega (arith, size.2, same, c.requires.blowup)) c.args.alpha c.args.value word
+    c.requires.nonzero)

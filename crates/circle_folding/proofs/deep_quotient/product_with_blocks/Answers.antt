@@ -1,4 +1,5 @@
-use Rattle.std.proofs.Common.{◌≡◌, ◌<◌, ◌+◌, ◌-◌, ◌*◌, ◌∙◌, sym, ap, length, map, take, drop, get_or, arith, []}
+use Rattle.std.proofs.Common.{◌≡◌, ◌<◌, ◌+◌, ◌-◌, ◌*◌, ◌∙◌, sym, ap, length, map, take, drop}
+use Rattle.std.proofs.Common.{get_or, arith, []}
 use Rattle.std.proofs.lemmas.List.{length-map, get_or-map, take_all}
 use Rattle.std.proofs.Math.Nat.{zero-mul}
 use Rattle.circle_commit.specs.DotProduct.{dot}
@@ -14,22 +15,52 @@ loop-i-init g c =
     ∙ sym (ap (λ n. dot g.EF.Operations.ops (take n c.args.word.now) []) (zero-mul c.args.size))
 
 pub overflow_mul-start : goal.overflow_mul-start
-overflow_mul-start g c = omega (arith, block-fits c.args.size c.loop-i.i (length c.args.points.now) (length c.args.word.now) c.loop-i-test.true c.requires)
+overflow_mul-start g c =
+    omega (
+      arith,
+      block-fits c.args.size c.loop-i.i (length c.args.points.now) (length c.args.word.now)
+          c.loop-i-test.true c.requires,
+    )
 
 pub overflow_add-start : goal.overflow_add-start
-overflow_add-start g c = omega (arith, block-fits c.args.size c.loop-i.i (length c.args.points.now) (length c.args.word.now) c.loop-i-test.true c.requires)
+overflow_add-start g c =
+    omega (
+      arith,
+      block-fits c.args.size c.loop-i.i (length c.args.points.now) (length c.args.word.now)
+          c.loop-i-test.true c.requires,
+    )
 
 pub offset_bounds-word-start : goal.offset_bounds-word-start
-offset_bounds-word-start g c = omega (arith, block-fits c.args.size c.loop-i.i (length c.args.points.now) (length c.args.word.now) c.loop-i-test.true c.requires)
+offset_bounds-word-start g c =
+    omega (
+      arith,
+      block-fits c.args.size c.loop-i.i (length c.args.points.now) (length c.args.word.now)
+          c.loop-i-test.true c.requires,
+    )
 
 pub slice_bounds-total-start : goal.slice_bounds-total-start
-slice_bounds-total-start g c = omega (arith, block-fits c.args.size c.loop-i.i (length c.args.points.now) (length c.args.word.now) c.loop-i-test.true c.requires)
+slice_bounds-total-start g c =
+    omega (
+      arith,
+      block-fits c.args.size c.loop-i.i (length c.args.points.now) (length c.args.word.now)
+          c.loop-i-test.true c.requires,
+    )
 
 pub slice_bounds-total-end : goal.slice_bounds-total-end
-slice_bounds-total-end g c = omega (arith, block-fits c.args.size c.loop-i.i (length c.args.points.now) (length c.args.word.now) c.loop-i-test.true c.requires)
+slice_bounds-total-end g c =
+    omega (
+      arith,
+      block-fits c.args.size c.loop-i.i (length c.args.points.now) (length c.args.word.now)
+          c.loop-i-test.true c.requires,
+    )
 
 pub slice_bounds-total-count : goal.slice_bounds-total-count
-slice_bounds-total-count g c = omega (arith, block-fits c.args.size c.loop-i.i (length c.args.points.now) (length c.args.word.now) c.loop-i-test.true c.requires)
+slice_bounds-total-count g c =
+    omega (
+      arith,
+      block-fits c.args.size c.loop-i.i (length c.args.points.now) (length c.args.word.now)
+          c.loop-i-test.true c.requires,
+    )
 
 pub loop-i-preserved : goal.loop-i-preserved
 loop-i-preserved g c =
@@ -37,21 +68,29 @@ loop-i-preserved g c =
     let word = c.args.word.now in
     let size = c.args.size in
     let points = c.args.points.now in
-    let x = λ (p : Point g.row.F.Denot g.F.Operations). g.EF.ExtensionField.embed (coordinates p).x in
+    let x = λ (p : Point g.row.F.Denot g.F.Operations). g.EF.ExtensionField.embed
+    (coordinates p).x in
     let vs = map x points in
     let i = c.loop-i.i in
     let p = c.index-points-i.result in
     let v = x p in
     let within : i < length points = omega (arith, c.loop-i-test.true) in
-    let at : v ≡ get_or vs i v = ap x c.index-points-i.is ∙ sym (get_or-map x points i p v within) in
+    let at : v ≡ get_or vs i v = ap x c.index-points-i.is
+    ∙ sym (get_or-map x points i p v within) in
     let block : c.total.result ≡ sum_of l (take size (drop (i * size) word)) =
-    c.total.ensures ∙ (let e : i * size + size - i * size ≡ size = omega arith in ap (λ n. sum_of l (take n (drop (i * size) word))) e) in
+    c.total.ensures
+    ∙ (let e : i * size + size - i * size ≡ size = omega arith in
+    ap (λ n. sum_of l (take n (drop (i * size) word))) e) in
     let term : c.times_base.result ≡ l.mul (sum_of l (take size (drop (i * size) word))) v =
-    c.times_base.ensures ∙ ap (λ y. l.mul (g.EF.ExtensionField.embed y) c.total.result) c.x.ensures ∙ ap (l.mul v) block ∙ g.EF.Operations.laws.ring.mul_comm v _ in
+    c.times_base.ensures ∙ ap (λ y. l.mul (g.EF.ExtensionField.embed y) c.total.result) c.x.ensures
+    ∙ ap (l.mul v) block ∙ g.EF.Operations.laws.ring.mul_comm v _ in
     g.met.EF.Field.add_law _ _ _ c.add-sum.ensures
     ∙ ap (λ s. l.add s c.times_base.result) c.loop-i.invariant
     ∙ ap (l.add _) term
-    ∙ sym (dot-block g.EF.Operations.laws.ring word vs size i v (omega (arith, within, length-map points x)) at (c.requires ∙ ap (λ n. n * size) (sym (length-map points x))))
+    ∙ sym
+    (dot-block g.EF.Operations.laws.ring word vs size i v
+    (omega (arith, within, length-map points x)) at
+    (c.requires ∙ ap (λ n. n * size) (sym (length-map points x))))
 
 pub returns : goal.returns
 returns g c =
@@ -59,7 +98,8 @@ returns g c =
     let word = c.args.word.now in
     let n = c.args.size in
     let points = c.args.points.now in
-    let x = λ (p : Point g.row.F.Denot g.F.Operations). g.EF.ExtensionField.embed (coordinates p).x in
+    let x = λ (p : Point g.row.F.Denot g.F.Operations). g.EF.ExtensionField.embed
+    (coordinates p).x in
     let vs = map x points in
     let i = c.loop-i.i in
     let end : i ≡ length points = omega (arith, c.loop-i-test.false, c.loop-i.auto.i-end) in

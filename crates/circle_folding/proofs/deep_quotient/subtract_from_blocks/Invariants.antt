@@ -10,4 +10,6 @@ invariant-loop-i g l =
     let k = g.EF.Operations.ops in
     let f = λ (a v : g.row.EF.Denot). sub k a (k.mul l.multiple v) in
     let vs = map (λ p. g.EF.ExtensionField.embed (coordinates p).x) l.points in
-    take (l.i * l.size) l.word ++ pairwise f (drop (l.i * l.size) l.word) (spread l.size (drop l.i vs)) ≡ pairwise f l.fn.word (spread l.size vs)
+    take (l.i * l.size) l.word
+    ++ pairwise f (drop (l.i * l.size) l.word) (spread l.size (drop l.i vs))
+    ≡ pairwise f l.fn.word (spread l.size vs)

@@ -9,7 +9,10 @@ loop-entry-preserved g c =
     let k = g.F.Operations.ops in
     let x = c.entry-item.result in
     g.met.F.Field.add_law _ _ _ c.add-sum.ensures ∙ ap (λ s. k.add s x) c.loop-entry.invariant
-    ∙ sym (sum-more g.F.Operations.laws.ring c.args.entries.now c.loop-entry.entry-index x c.loop-entry-test.true c.entry-item.is)
+    ∙ sym (sum-more g.F.Operations.laws.ring c.args.entries.now c.loop-entry.entry-index x
+    c.loop-entry-test.true c.entry-item.is)
 
 pub returns : goal.returns
-returns g c = c.loop-entry.invariant ∙ ap (sum_of g.F.Operations.ops) (take_all c.loop-entry.entry-index c.args.entries.now c.loop-entry-test.false)
+returns g c = c.loop-entry.invariant
+    ∙ ap (sum_of g.F.Operations.ops)
+    (take_all c.loop-entry.entry-index c.args.entries.now c.loop-entry-test.false)

@@ -35,15 +35,20 @@ loop-j-preserved g c =
     let within : j < length row = omega (arith, c.loop-j-test.true) in
     let of_values : j < length values = omega (arith, within, c.requires.widths) in
     let at : d ≡ get_or (differences l m row values) j d =
-    ap (λ r. f r c.index-values-j.result) c.index-row-j.is ∙ ap (f (get_or row j c.index-row-j.result)) c.index-values-j.is
-    ∙ sym (pairwise-read f row values j c.index-row-j.result c.index-values-j.result d within of_values) in
+    ap (λ r. f r c.index-values-j.result) c.index-row-j.is
+    ∙ ap (f (get_or row j c.index-row-j.result)) c.index-values-j.is
+    ∙ sym (pairwise-read f row values j c.index-row-j.result c.index-values-j.result d within
+    of_values) in
     let made : c.add-sum.result ≡ l.add c.loop-j.sum (l.mul w d) =
     g.met.EF.Field.add_law _ _ _ c.add-sum.ensures
     ∙ ap (l.add c.loop-j.sum) (g.met.EF.Field.mul_law _ _ _ c.mul.ensures
-    ∙ ap (l.mul w) (g.met.EF.Field.sub_law _ _ _ c.sub.ensures ∙ ap (λ a. sub l a c.index-values-j.result) c.from_base.ensures)) in
+    ∙ ap (l.mul w) (g.met.EF.Field.sub_law _ _ _ c.sub.ensures
+    ∙ ap (λ a. sub l a c.index-values-j.result) c.from_base.ensures)) in
     made ∙ ap (λ s. l.add s (l.mul w d)) c.loop-j.invariant
     ∙ sym (dot-more l m g.EF.Operations.laws.ring j weights (differences l m row values) w d
-    (omega (arith, within, c.requires.enough)) (omega (arith, within, length-pairwise f row values c.requires.widths)) c.index-weights-j.is at)
+    (omega (arith, within, c.requires.enough))
+    (omega (arith, within, length-pairwise f row values c.requires.widths)) c.index-weights-j.is
+    at)
 
 pub returns : goal.returns
 returns g c =

@@ -9,5 +9,8 @@ invariant-loop-i g l =
     let ops = g.EF.Operations.ops in
     record {
       low : l.lows ≡ written l.i (pairwise ops.add l.fn.lows l.fn.highs) l.fn.lows;
-      high : l.highs ≡ written l.i (pairwise (λ a b. ops.mul (g.EF.ExtensionField.embed l.inverse) (sub ops a b)) l.fn.lows l.fn.highs) l.fn.highs;
+      high : l.highs
+          ≡ written l.i
+          (pairwise (λ a b. ops.mul (g.EF.ExtensionField.embed l.inverse) (sub ops a b)) l.fn.lows
+          l.fn.highs) l.fn.highs;
     }

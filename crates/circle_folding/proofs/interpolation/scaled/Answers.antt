@@ -5,7 +5,8 @@ use Rattle.circle_folding.proofs.interpolation.scaled.Goals as goal
 
 pub loop-entry-preserved : goal.loop-entry-preserved
 loop-entry-preserved g c =
-    map_pushed (g.EF.Operations.ops.mul (g.EF.ExtensionField.embed c.args.factor)) c.args.entries.now c.loop-entry.entry-index
+    map_pushed (g.EF.Operations.ops.mul (g.EF.ExtensionField.embed c.args.factor))
+    c.args.entries.now c.loop-entry.entry-index
     c.entry-item.result
     c.loop-entry.scaled.items c.push.new.self.items c.times_base.result c.loop-entry-test.true
     c.entry-item.is c.in_ok-push.ensures.items c.loop-entry.invariant c.times_base.ensures

@@ -9,4 +9,9 @@ use Rattle.circle_folding.proofs.reduced.subtract_vanishing.Given as goal
 abbrev pub invariant-loop-i : goal.invariant-loop-i
 invariant-loop-i g l =
     let ops = g.EF.Operations.ops in
-    l.values ≡ written l.i (pairwise (λ v p. sub ops v (ops.mul l.lambda (g.EF.ExtensionField.embed (vanishing g.F.Operations.ops l.n p)))) l.fn.values (map coordinates l.points)) l.fn.values
+    l.values
+    ≡ written l.i
+    (pairwise
+    (λ v p. sub ops v
+    (ops.mul l.lambda (g.EF.ExtensionField.embed (vanishing g.F.Operations.ops l.n p))))
+    l.fn.values (map coordinates l.points)) l.fn.values

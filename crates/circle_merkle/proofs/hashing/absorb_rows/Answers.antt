@@ -1,4 +1,5 @@
-use Rattle.std.proofs.Common.{◌++◌, ◌+◌, ◌∙◌, ◌<◌, [], refl, sym, subst, take, length, arith, get_or}
+use Rattle.std.proofs.Common.{◌++◌, ◌+◌, ◌∙◌, ◌<◌, [], refl, sym, subst, take, length, arith}
+use Rattle.std.proofs.Common.{get_or}
 use Rattle.std.proofs.lemmas.Option.{get_or_from_slice_get}
 use Rattle.sha2.specs.Hashers.{Holds256}
 use Rattle.circle_commit.specs.declared.matrix.Dimensions.{Dimensions}
@@ -24,9 +25,14 @@ loop-j-preserved g c m held =
       | then-height w ↦
           let row = w.row.result.now in
           let at = get_or_from_slice_get rows j row [] w.row.ensures in
-          let e = opened-with bytes height dims rows j dim nothing row [] short long refl at m (sym (c.height.ensures nothing) ∙ w.if-height.true) in
-          subst (λ h. Holds256 h after) (sym w.hasher-is) (subst (Holds256 w.absorb_row.new.hasher) (sym e) (w.absorb_row.ensures before (c.loop-j.invariant m held)))
+          let e = opened-with bytes height dims rows j dim nothing row [] short long refl at m
+          (sym (c.height.ensures nothing) ∙ w.if-height.true) in
+          subst (λ h. Holds256 h after) (sym w.hasher-is)
+          (subst (Holds256 w.absorb_row.new.hasher) (sym e)
+          (w.absorb_row.ensures before (c.loop-j.invariant m held)))
       | else-height w ↦
-          let e = opened-without bytes height dims rows j dim nothing (get_or rows j []) [] short long refl refl m (λ same. w.if-height.false (c.height.ensures nothing ∙ same)) in
-          subst (λ h. Holds256 h after) (sym w.hasher-is) (subst (Holds256 c.loop-j.hasher) (sym e) (c.loop-j.invariant m held))
+          let e = opened-without bytes height dims rows j dim nothing (get_or rows j []) [] short
+          long refl refl m (λ same. w.if-height.false (c.height.ensures nothing ∙ same)) in
+          subst (λ h. Holds256 h after) (sym w.hasher-is)
+          (subst (Holds256 c.loop-j.hasher) (sym e) (c.loop-j.invariant m held))
     ]

@@ -9,7 +9,8 @@ unfolding compress
 returns c i block lt is =
     let old = c.args.state.now in
     let v = c.rounds.result in
-    let sum = λ (k : ℕ). ap (λ x. add32 x (slice_index (get_or v k []) i)) (sym (lane-at i k old)) ∙ ap (add32 (slice_index (lane i old) k)) (sym (lane-at i k v)) in
+    let sum = λ (k : ℕ). ap (λ x. add32 x (slice_index (get_or v k []) i)) (sym (lane-at i k old))
+    ∙ ap (add32 (slice_index (lane i old) k)) (sym (lane-at i k v)) in
     eight_same _ _ _ _ _ _ _ _ _ _ _ _ _ _ _ _
     (c.sums.ensures i lt ∙ sum 0)
     (c.sums-2.ensures i lt ∙ sum 1)
@@ -19,4 +20,5 @@ returns c i block lt is =
     (c.sums-6.ensures i lt ∙ sum 5)
     (c.sums-7.ensures i lt ∙ sum 6)
     (c.sums-8.ensures i lt ∙ sum 7)
-    ∙ ap (add_state (lane i old)) (c.rounds.ensures i (schedule block 48) lt (c.schedule.ensures i block lt is))
+    ∙ ap (add_state (lane i old))
+    (c.rounds.ensures i (schedule block 48) lt (c.schedule.ensures i block lt is))

@@ -15,8 +15,10 @@ loop-j-init c = (refl, refl)
 pub loop-j-preserved : goal.loop-j-preserved
 loop-j-preserved c = (
   search (rules, overwrites),
-  digest_more c.loop-j.digest (lane c.args.i c.args.state.now) _ c.loop-j.j _ c.loop-j.invariant.1 (omega arith)
-      (c.copy_from_slice.ensures.after ∙ c.to_be_bytes.ensures ∙ ap (to_be_bytes w32) (sym (lane-at c.args.i c.loop-j.j c.args.state.now))),
+  digest_more c.loop-j.digest (lane c.args.i c.args.state.now) _ c.loop-j.j _ c.loop-j.invariant.1
+      (omega arith)
+      (c.copy_from_slice.ensures.after ∙ c.to_be_bytes.ensures
+      ∙ ap (to_be_bytes w32) (sym (lane-at c.args.i c.loop-j.j c.args.state.now))),
 )
 
 pub returns : goal.returns

@@ -11,5 +11,6 @@ returns c messages sixteen all whole =
     (λ k d lt.
     get_or_default c.loop-i.digests k d [] lt
     ∙ c.loop-i.invariant.1 k (omega arith)
-    ∙ ap (λ h. digest_bytes h 8) (c.hash_values-state.ensures messages sixteen all whole k (omega arith))
+    ∙ ap (λ h. digest_bytes h 8)
+    (c.hash_values-state.ensures messages sixteen all whole k (omega arith))
     ∙ sym (get_or-map sha256 messages k [] d (omega arith)))

@@ -4,4 +4,5 @@ use Rattle.circle_merkle.specs.Lanes.{lane}
 use Rattle.circle_merkle.proofs.lanes.digests.Given as goal
 
 abbrev pub invariant-loop-i : goal.invariant-loop-i
-invariant-loop-i l = (length l.digests ≡ 16) × ((k : ℕ) → k < l.i → get_or l.digests k [] ≡ digest_bytes (lane k l.state) 8)
+invariant-loop-i l = (length l.digests ≡ 16)
+    × ((k : ℕ) → k < l.i → get_or l.digests k [] ≡ digest_bytes (lane k l.state) 8)

@@ -7,4 +7,5 @@ abbrev pub invariant-loop-n : goal.invariant-loop-n
 invariant-loop-n l = (messages : List (List ℕ)) → length messages ≡ 16
     → All (λ m. length (padded_message m) ≡ 64 * l.blocks) messages
     → l.bytes ≡ flat_map padded_message messages
-    → (i : ℕ) → i < 16 → lane i l.state ≡ hash_after initial_hash_256 (padded_message (get_or messages i [])) l.n
+    → (i : ℕ) → i < 16 →
+    lane i l.state ≡ hash_after initial_hash_256 (padded_message (get_or messages i [])) l.n

@@ -1,4 +1,5 @@
-use Rattle.std.proofs.Common.{◌++◌, ◌∙◌, ◌<◌, ◌≤◌, [], append-nil, refl, sym, ap, length, take, arith, get_or}
+use Rattle.std.proofs.Common.{◌++◌, ◌∙◌, ◌<◌, ◌≤◌, [], append-nil, refl, sym, ap, length, take}
+use Rattle.std.proofs.Common.{arith, get_or}
 use Rattle.std.specs.List.{flat_map}
 use Rattle.std.proofs.lemmas.List.{take_all}
 use Rattle.std.proofs.lemmas.Option.{get_or_from_slice_get}
@@ -27,11 +28,13 @@ loop-j-preserved g c =
           ap (λ v. v.items) w.messages-is
           ∙ w.in_ok-add_row.ensures
           ∙ ap (λ xs. xs ++ flat_map bytes row) c.loop-j.invariant
-          ∙ sym (opened-with bytes height dims rows j dim nothing row [] short long refl at before (sym (c.height.ensures nothing) ∙ w.if-height.true))
+          ∙ sym (opened-with bytes height dims rows j dim nothing row [] short long refl at before
+          (sym (c.height.ensures nothing) ∙ w.if-height.true))
       | else-height w ↦
           ap (λ v. v.items) w.messages-is
           ∙ c.loop-j.invariant
-          ∙ sym (opened-without bytes height dims rows j dim nothing (get_or rows j []) [] short long refl refl before (λ same. w.if-height.false (c.height.ensures nothing ∙ same)))
+          ∙ sym (opened-without bytes height dims rows j dim nothing (get_or rows j []) [] short
+          long refl refl before (λ same. w.if-height.false (c.height.ensures nothing ∙ same)))
     ]
 
 pub loop-j-init : goal.loop-j-init

@@ -10,7 +10,12 @@ returns c =
     let left = c.args.left.now in
     let right = c.args.right.now in
     let new = c.add_padding.new.messages.items in
-    let parts : c.extend_from_slice-2.new.self.items ≡ ((old ++ c.args.first ∷ []) ++ left) ++ right =
-    c.in_ok-extend_from_slice-2.ensures.items ∙ ap (λ xs. xs ++ right) (c.in_ok-extend_from_slice.ensures.items ∙ ap (λ xs. xs ++ left) c.in_ok-push.ensures.items) in
-    IfOk-weaker c.add_padding.result (λ _. new ≡ c.extend_from_slice-2.new.self.items ++ padding 65) (λ _. new ≡ old ++ padded_message ((c.args.first ∷ left) ++ right))
-    (λ _ e. e ∙ ap (λ xs. xs ++ padding 65) parts ∙ pair-added old left right c.args.first (omega arith) (omega arith)) c.add_padding.ensures
+    let parts : c.extend_from_slice-2.new.self.items ≡ ((old ++ c.args.first ∷ []) ++ left) ++
+    right =
+    c.in_ok-extend_from_slice-2.ensures.items
+    ∙ ap (λ xs. xs ++ right) (c.in_ok-extend_from_slice.ensures.items
+    ∙ ap (λ xs. xs ++ left) c.in_ok-push.ensures.items) in
+    IfOk-weaker c.add_padding.result (λ _. new ≡ c.extend_from_slice-2.new.self.items ++ padding 65)
+    (λ _. new ≡ old ++ padded_message ((c.args.first ∷ left) ++ right))
+    (λ _ e. e ∙ ap (λ xs. xs ++ padding 65) parts
+    ∙ pair-added old left right c.args.first (omega arith) (omega arith)) c.add_padding.ensures

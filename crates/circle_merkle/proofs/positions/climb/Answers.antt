@@ -10,10 +10,12 @@ pub returns-clause-parents : goal.returns-clause-parents
 returns-clause-parents c =
     let parents = c.loop-position.parents.items in
     let none = nil_from_length c.loop-position.rest.now c.in_default.ensures.cases in
-    sym (append-nil parents) ∙ ap (λ ps. parents ++ parents_of ps) (sym none) ∙ c.loop-position.invariant.parents
+    sym (append-nil parents) ∙ ap (λ ps. parents ++ parents_of ps) (sym none)
+    ∙ c.loop-position.invariant.parents
 
 pub returns-clause-missing : goal.returns-clause-missing
 returns-clause-missing c =
     let count = c.loop-position.count in
     let none = nil_from_length c.loop-position.rest.now c.in_default.ensures.cases in
-    with_none count ∙ ap (λ ps. count + length (siblings_of ps)) (sym none) ∙ c.loop-position.invariant.count
+    with_none count ∙ ap (λ ps. count + length (siblings_of ps)) (sym none)
+    ∙ c.loop-position.invariant.count

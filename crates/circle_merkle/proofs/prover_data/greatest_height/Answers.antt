@@ -5,5 +5,8 @@ use Rattle.circle_merkle.proofs.prover_data.greatest_height.Goals as goal
 
 pub loop-matrix-preserved : goal.loop-matrix-preserved
 loop-matrix-preserved g c =
-    c.max-top.ensures ∙ ap (λ h. max h c.loop-matrix.top) c.height.ensures ∙ ap (max _) c.loop-matrix.invariant
-    ∙ sym (max-more c.args.matrices.now c.loop-matrix.matrix-index c.matrix-item.result c.loop-matrix-test.true c.matrix-item.is)
+    c.max-top.ensures ∙ ap (λ h. max h c.loop-matrix.top) c.height.ensures
+    ∙ ap (max _) c.loop-matrix.invariant
+    ∙ sym
+    (max-more c.args.matrices.now c.loop-matrix.matrix-index c.matrix-item.result
+    c.loop-matrix-test.true c.matrix-item.is)

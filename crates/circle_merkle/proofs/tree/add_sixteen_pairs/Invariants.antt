@@ -5,4 +5,5 @@ use Rattle.circle_merkle.specs.Messages.{pair_digest}
 use Rattle.circle_merkle.proofs.tree.add_sixteen_pairs.Given as goal
 
 abbrev pub invariant-loop-group : goal.invariant-loop-group
-invariant-loop-group l = l.level.items ≡ map (pair_digest sha256 l.first l.pairs) (range_with_len 0 (16 * l.group))
+invariant-loop-group l =
+    l.level.items ≡ map (pair_digest sha256 l.first l.pairs) (range_with_len 0 (16 * l.group))

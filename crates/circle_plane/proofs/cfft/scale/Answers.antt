@@ -8,5 +8,6 @@ loop-entry-preserved g c =
     let old = c.args.entries.now in
     let i = c.loop-entry.entry-index in
     let here : i < length old = omega (arith, c.loop-entry-test.true, c.loop-entry.auto.entries) in
-    mapped-more f i old c.loop-entry.entries c.entry-item.result c.mul.result here c.loop-entry.invariant c.entry-item.is
+    mapped-more f i old c.loop-entry.entries c.entry-item.result c.mul.result here
+    c.loop-entry.invariant c.entry-item.is
     (g.met.F.Field.mul_law _ _ _ c.mul.ensures ∙ ap f (sym c.entry-item.is))

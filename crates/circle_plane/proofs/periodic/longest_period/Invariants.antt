@@ -5,6 +5,8 @@ use Rattle.circle_plane.proofs.periodic.longest_period.Given as goal
 
 abbrev pub invariant-loop-column : goal.invariant-loop-column
 invariant-loop-column g l = record {
-  fit : All (IsPeriod l.trace_len) (take l.column-index (map length (map (λ column. column.items) l.periodic_table)));
-  longest : l.longest ≡ greatest (take l.column-index (map length (map (λ column. column.items) l.periodic_table)));
+  fit : All (IsPeriod l.trace_len)
+      (take l.column-index (map length (map (λ column. column.items) l.periodic_table)));
+  longest : l.longest
+      ≡ greatest (take l.column-index (map length (map (λ column. column.items) l.periodic_table)));
 }

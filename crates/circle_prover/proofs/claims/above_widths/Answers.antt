@@ -14,14 +14,18 @@ loop-matrix-preserved g c =
     let old = c.loop-matrix.greatest in
     let new = c.max-greatest.result in
     let Is : OpenedMatrix g.row.F.Denot g.row.EF.Denot → Type 0 = λ m. width_of m.rows.now ≤ new in
-    let some : 1 ≤ height_of m.rows.now = subst (λ m. 1 ≤ height_of m.rows.now) (sym c.matrix-item.is) (c.requires i m c.loop-matrix-test.true) in
+    let some : 1 ≤ height_of m.rows.now =
+    subst (λ m. 1 ≤ height_of m.rows.now) (sym c.matrix-item.is)
+    (c.requires i m c.loop-matrix-test.true) in
     let small = width-fits m.rows.now some in
     let greater = max-of old c.width.result new c.max-greatest.ensures in
     let own : width_of m.rows.now ≤ new = omega (arith, greater.1, c.width.ensures) in
     record {
-      small = ⊎_elim (λ is. omega (arith, is, c.loop-matrix.invariant.small)) (λ is. omega (arith, is, small, c.width.ensures)) greater.2;
+      small = ⊎_elim (λ is. omega (arith, is, c.loop-matrix.invariant.small))
+          (λ is. omega (arith, is, small, c.width.ensures)) greater.2;
       most = All-more Is matrices i m c.loop-matrix-test.true
-          (All-weaker (λ m. width_of m.rows.now ≤ old) Is (λ x le. omega (arith, le, greater.0)) (take i matrices) c.loop-matrix.invariant.most)
+          (All-weaker (λ m. width_of m.rows.now ≤ old) Is (λ x le. omega (arith, le, greater.0))
+          (take i matrices) c.loop-matrix.invariant.most)
           (subst Is c.matrix-item.is own);
     }
 
@@ -29,5 +33,6 @@ pub returns : goal.returns
 returns g c = λ k d lt.
     let matrices = c.args.matrices.now in
     let i = c.loop-matrix.matrix-index in
-    let most = subst (All (λ m. width_of m.rows.now ≤ c.loop-matrix.greatest)) (take_all i matrices c.loop-matrix-test.false) c.loop-matrix.invariant.most in
+    let most = subst (All (λ m. width_of m.rows.now ≤ c.loop-matrix.greatest))
+    (take_all i matrices c.loop-matrix-test.false) c.loop-matrix.invariant.most in
     omega (arith, most k d lt)

@@ -11,4 +11,5 @@ abbrev pub invariant-loop-point : goal.invariant-loop-point
 invariant-loop-point g l =
     let i = length l.yielded in
     claims_of l.claims.items ≡ claims_of l.initial.claims.items
-    ++ map (point_taken g.EF.Operations.ops) (pairwise claim_of (take i l.points) (take i (lists_of l.values)))
+    ++ map (point_taken g.EF.Operations.ops)
+    (pairwise claim_of (take i l.points) (take i (lists_of l.values)))

@@ -9,4 +9,6 @@ use Rattle.circle_prover.proofs.claims.opened_claims.Given as goal
 abbrev pub invariant-loop-matrix : goal.invariant-loop-matrix
 invariant-loop-matrix g l =
     claims_of l.claims.items
-    ≡ flat_map (map (point_taken g.EF.Operations.ops)) (map (λ m. pairwise (λ t v. claim_of t v.items) m.points.now m.values.now) (take l.matrix-index l.matrices))
+    ≡ flat_map (map (point_taken g.EF.Operations.ops))
+    (map (λ m. pairwise (λ t v. claim_of t v.items) m.points.now m.values.now)
+    (take l.matrix-index l.matrices))

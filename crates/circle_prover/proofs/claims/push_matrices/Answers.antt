@@ -7,57 +7,128 @@ use Rattle.circle_relation.specs.Accepts.{Fields}
 use Rattle.circle_codewords.specs.Words.{committed_of}
 use Rattle.circle_codewords.specs.declared.reduced.OpenedMatrix.{OpenedMatrix}
 use Rattle.circle_codewords.specs.Requests.{IsReady, lists_of, log_of}
-use Rattle.circle_prover.proofs.Requested.{committed-all, committed-is, committed-more, openable-at, ready-is, valued-at}
+use Rattle.circle_prover.proofs.Requested.{committed-all, committed-is, committed-more, openable-at}
+use Rattle.circle_prover.proofs.Requested.{ready-is, valued-at}
 use Rattle.circle_prover.proofs.Threes.{three-sources, three_turn, three_end}
 use Rattle.circle_prover.proofs.claims.push_matrices.Goals as goal
 
 pub log2_strict-requires : goal.log2_strict-requires
 log2_strict-requires g c =
-    let k : Fields g.row.F.Denot g.row.EF.Denot = record { field = g.F.Operations.ops; gen = g.F.ComplexExtendable.generators; two_adicity = g.F.ComplexExtendable.CIRCLE_TWO_ADICITY; is_zero = λ w. g.F.PartialEq.eq w g.F.Field.ZERO; extension = g.EF.Operations.ops; embed = g.EF.ExtensionField.embed; same = g.EF.PartialEq.eq } in
+    let k : Fields g.row.F.Denot g.row.EF.Denot =
+    record {
+      field = g.F.Operations.ops;
+      gen = g.F.ComplexExtendable.generators;
+      two_adicity =
+          g.F.ComplexExtendable.CIRCLE_TWO_ADICITY;
+      is_zero = λ w. g.F.PartialEq.eq w g.F.Field.ZERO;
+      extension = g.EF.Operations.ops;
+      embed = g.EF.ExtensionField.embed;
+      same =
+          g.EF.PartialEq.eq;
+    } in
     let ms = c.args.matrices.now in
     let points = c.args.points.now in
-    let from = three-sources c.into_iter-matrix-iterator.ensures.into_iter_gives c.zip-matrix-items.ensures.first c.iter.ensures.rest c.zip-matrix-items.ensures.second c.zip.ensures.first c.iter-2.ensures.rest c.zip.ensures.second.0 in
-    let turn = three_turn ms points c.args.values.now c.loop-matrix.yielded _ _ c.next.new.self _ from.0 from.1 from.2 c.loop-matrix.yielded_by _ c.in-Some.is c.next.ensures.steps in
+    let from = three-sources c.into_iter-matrix-iterator.ensures.into_iter_gives
+    c.zip-matrix-items.ensures.first c.iter.ensures.rest c.zip-matrix-items.ensures.second
+    c.zip.ensures.first c.iter-2.ensures.rest c.zip.ensures.second.0 in
+    let turn = three_turn ms points c.args.values.now c.loop-matrix.yielded _ _ c.next.new.self _
+    from.0 from.1 from.2 c.loop-matrix.yielded_by _ c.in-Some.is c.next.ensures.steps in
     let m = c.in-Some.matrix.now in
     let p = c.in-Some.points.now in
-    let open_at = openable-at k c.args.log_blowup g.F.ComplexExtendable.CIRCLE_TWO_ADICITY ms points (length c.loop-matrix.yielded) m p c.requires.fit turn.0 turn.1 turn.3 turn.4 in
+    let open_at = openable-at k c.args.log_blowup g.F.ComplexExtendable.CIRCLE_TWO_ADICITY ms points
+    (length c.loop-matrix.yielded) m p c.requires.fit turn.0 turn.1 turn.3 turn.4 in
     (log_of (height_of m), c.height.ensures ∙ open_at.power)
 
 pub loop-matrix-preserved : goal.loop-matrix-preserved
 loop-matrix-preserved g c =
-    let k : Fields g.row.F.Denot g.row.EF.Denot = record { field = g.F.Operations.ops; gen = g.F.ComplexExtendable.generators; two_adicity = g.F.ComplexExtendable.CIRCLE_TWO_ADICITY; is_zero = λ w. g.F.PartialEq.eq w g.F.Field.ZERO; extension = g.EF.Operations.ops; embed = g.EF.ExtensionField.embed; same = g.EF.PartialEq.eq } in
+    let k : Fields g.row.F.Denot g.row.EF.Denot =
+    record {
+      field = g.F.Operations.ops;
+      gen = g.F.ComplexExtendable.generators;
+      two_adicity =
+          g.F.ComplexExtendable.CIRCLE_TWO_ADICITY;
+      is_zero = λ w. g.F.PartialEq.eq w g.F.Field.ZERO;
+      extension = g.EF.Operations.ops;
+      embed = g.EF.ExtensionField.embed;
+      same =
+          g.EF.PartialEq.eq;
+    } in
     let two = g.F.ComplexExtendable.CIRCLE_TWO_ADICITY in
     let ms = c.args.matrices.now in
     let points = c.args.points.now in
     let values = c.args.values.now in
     let i = length c.loop-matrix.yielded in
-    let from = three-sources c.into_iter-matrix-iterator.ensures.into_iter_gives c.zip-matrix-items.ensures.first c.iter.ensures.rest c.zip-matrix-items.ensures.second c.zip.ensures.first c.iter-2.ensures.rest c.zip.ensures.second.0 in
-    let turn = three_turn ms points values c.loop-matrix.yielded _ _ c.next.new.self _ from.0 from.1 from.2 c.loop-matrix.yielded_by _ c.in-Some.is c.next.ensures.steps in
+    let from = three-sources c.into_iter-matrix-iterator.ensures.into_iter_gives
+    c.zip-matrix-items.ensures.first c.iter.ensures.rest c.zip-matrix-items.ensures.second
+    c.zip.ensures.first c.iter-2.ensures.rest c.zip.ensures.second.0 in
+    let turn = three_turn ms points values c.loop-matrix.yielded _ _ c.next.new.self _ from.0 from.1
+    from.2 c.loop-matrix.yielded_by _ c.in-Some.is c.next.ensures.steps in
     let m = c.in-Some.matrix.now in
     let p = c.in-Some.points.now in
     let v = c.in-Some.values.now in
-    let open_at = openable-at k c.args.log_blowup two ms points i m p c.requires.fit turn.0 turn.1 turn.3 turn.4 in
-    let valued = valued-at k c.args.log_blowup ms points values i m p v c.requires.values turn.0 turn.1 turn.2 turn.3 turn.4 turn.5 in
-    let log : c.log2_strict.result ≡ log_of (height_of m) = c.log2_strict.ensures.only (log_of (height_of m)) (c.height.ensures ∙ open_at.power) in
-    let o : OpenedMatrix g.row.F.Denot g.row.EF.Denot = record { log_height = c.log2_strict.result; rows = c.in-Some.matrix; points = c.deref.result; values = c.deref-in-loop-matrix.result } in
+    let open_at = openable-at k c.args.log_blowup two ms points i m p c.requires.fit turn.0 turn.1
+    turn.3 turn.4 in
+    let valued = valued-at k c.args.log_blowup ms points values i m p v c.requires.values turn.0
+    turn.1 turn.2 turn.3 turn.4 turn.5 in
+    let log : c.log2_strict.result ≡ log_of (height_of m) =
+    c.log2_strict.ensures.only (log_of (height_of m)) (c.height.ensures ∙ open_at.power) in
+    let o : OpenedMatrix g.row.F.Denot g.row.EF.Denot =
+    record {
+      log_height = c.log2_strict.result;
+      rows = c.in-Some.matrix;
+      points =
+          c.deref.result;
+      values = c.deref-in-loop-matrix.result;
+    } in
     let old = c.loop-matrix.list.items in
     let new = c.push.new.self.items in
-    let made = committed-is k c.args.log_blowup o m p.items v.items log refl c.deref.ensures.value c.deref-in-loop-matrix.ensures.value in
-    let next = length_push c.loop-matrix.yielded (c.in-Some.matrix, (c.in-Some.points, c.in-Some.values)) in
-    let ready = ready-is k c.args.log_blowup two o m p.items v.items log refl c.deref.ensures.value c.deref-in-loop-matrix.ensures.value open_at valued in
+    let made = committed-is k c.args.log_blowup o m p.items v.items log refl c.deref.ensures.value
+    c.deref-in-loop-matrix.ensures.value in
+    let next =
+    length_push c.loop-matrix.yielded (
+      c.in-Some.matrix,
+      (c.in-Some.points, c.in-Some.values),
+    ) in
+    let ready = ready-is k c.args.log_blowup two o m p.items v.items log refl c.deref.ensures.value
+    c.deref-in-loop-matrix.ensures.value open_at valued in
     record {
-      matrices = committed-more k c.args.log_blowup ms points values i _ o m p v (map (committed_of k c.args.log_blowup) c.args.list.now.items) old new next turn.0 turn.1 turn.2 turn.3 turn.4 turn.5 c.in_ok-push.ensures.items made c.loop-matrix.invariant.matrices;
-      openable = All-same (IsReady k two) new (old ++ o ∷ []) c.in_ok-push.ensures.items (All-push (IsReady k two) old o c.loop-matrix.invariant.openable ready);
+      matrices = committed-more k c.args.log_blowup ms points values i _ o m p v
+          (map (committed_of k c.args.log_blowup) c.args.list.now.items) old new next turn.0 turn.1
+          turn.2 turn.3 turn.4 turn.5 c.in_ok-push.ensures.items made
+          c.loop-matrix.invariant.matrices;
+      openable = All-same (IsReady k two) new (old ++ o ∷ []) c.in_ok-push.ensures.items
+          (All-push (IsReady k two) old o c.loop-matrix.invariant.openable ready);
     }
 
 pub returns-clause-matrices : goal.returns-clause-matrices
 returns-clause-matrices g c =
-    let k : Fields g.row.F.Denot g.row.EF.Denot = record { field = g.F.Operations.ops; gen = g.F.ComplexExtendable.generators; two_adicity = g.F.ComplexExtendable.CIRCLE_TWO_ADICITY; is_zero = λ w. g.F.PartialEq.eq w g.F.Field.ZERO; extension = g.EF.Operations.ops; embed = g.EF.ExtensionField.embed; same = g.EF.PartialEq.eq } in
+    let k : Fields g.row.F.Denot g.row.EF.Denot =
+    record {
+      field = g.F.Operations.ops;
+      gen = g.F.ComplexExtendable.generators;
+      two_adicity =
+          g.F.ComplexExtendable.CIRCLE_TWO_ADICITY;
+      is_zero = λ w. g.F.PartialEq.eq w g.F.Field.ZERO;
+      extension = g.EF.Operations.ops;
+      embed = g.EF.ExtensionField.embed;
+      same =
+          g.EF.PartialEq.eq;
+    } in
     let ms = c.args.matrices.now in
     let points = c.args.points.now in
     let values = c.args.values.now in
-    let from = three-sources c.into_iter-matrix-iterator.ensures.into_iter_gives c.zip-matrix-items.ensures.first c.iter.ensures.rest c.zip-matrix-items.ensures.second c.zip.ensures.first c.iter-2.ensures.rest c.zip.ensures.second.0 in
-    let last = three_end ms points values c.loop-matrix.yielded _ _ c.next.new.self _ from.0 from.1 from.2 c.loop-matrix.yielded_by c.in-None.is c.next.ensures.steps in
+    let from = three-sources c.into_iter-matrix-iterator.ensures.into_iter_gives
+    c.zip-matrix-items.ensures.first c.iter.ensures.rest c.zip-matrix-items.ensures.second
+    c.zip.ensures.first c.iter-2.ensures.rest c.zip.ensures.second.0 in
+    let last = three_end ms points values c.loop-matrix.yielded _ _ c.next.new.self _ from.0 from.1
+    from.2 c.loop-matrix.yielded_by c.in-None.is c.next.ensures.steps in
     c.loop-matrix.invariant.matrices
     ∙ ap (λ b. map (committed_of k c.args.log_blowup) c.args.list.now.items ++ b)
-    (committed-all k c.args.log_blowup ms (lists_of points) (opened_rows values) (length c.loop-matrix.yielded) (omega (arith, last, length-map points (λ v. v.items), length-map values (λ v. lists_of v.items))))
+    (committed-all k c.args.log_blowup ms (lists_of points) (opened_rows values)
+    (length c.loop-matrix.yielded)
+    (omega (
+      arith,
+      last,
+      length-map points (λ v. v.items),
+      length-map values (λ v. lists_of v.items),
+    )))

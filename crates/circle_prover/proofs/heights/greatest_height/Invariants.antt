@@ -6,4 +6,5 @@ use Rattle.circle_prover.proofs.heights.greatest_height.Given as goal
 -- the greatest of those so far, beside that of the others, is the greatest of all
 abbrev pub invariant-loop-matrix : goal.invariant-loop-matrix
 invariant-loop-matrix g l =
-    max l.greatest (greatest (map (λ m. m.log_height) (drop l.matrix-index l.matrices))) ≡ greatest (map (λ m. m.log_height) l.matrices)
+    max l.greatest (greatest (map (λ m. m.log_height) (drop l.matrix-index l.matrices)))
+    ≡ greatest (map (λ m. m.log_height) l.matrices)

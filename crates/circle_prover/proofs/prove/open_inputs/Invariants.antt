@@ -7,4 +7,7 @@ use Rattle.circle_prover.proofs.prove.open_inputs.Given as goal
 -- of the requests so far the rows
 abbrev pub invariant-loop-request : goal.invariant-loop-request
 invariant-loop-request g l =
-    AllZip (HasBatchRows g.InputMmcs.Mmcs.matrices (g.InputMmcs.Mmcs.commits l.mmcs) (g.InputMmcs.Mmcs.authenticates l.mmcs) l.log_max_height l.indices) (take l.request-index l.requests) (map opened_batch l.openings.items)
+    AllZip
+    (HasBatchRows g.InputMmcs.Mmcs.matrices (g.InputMmcs.Mmcs.commits l.mmcs)
+    (g.InputMmcs.Mmcs.authenticates l.mmcs) l.log_max_height l.indices)
+    (take l.request-index l.requests) (map opened_batch l.openings.items)

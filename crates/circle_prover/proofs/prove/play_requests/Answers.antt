@@ -1,4 +1,5 @@
-use Rattle.std.proofs.Common.{suc, ◌≡◌, ◌+◌, ◌<◌, ◌≤◌, ◌^◌, List, All, map, flat_map, sym, ap, ◌∙◌, subst, arith, inl, inr}
+use Rattle.std.proofs.Common.{suc, ◌≡◌, ◌+◌, ◌<◌, ◌≤◌, ◌^◌, List, All, map, flat_map, sym, ap, ◌∙◌}
+use Rattle.std.proofs.Common.{subst, arith, inl, inr}
 use Rattle.std.specs.Prelude.{Ok}
 use Rattle.std.specs.List.{AllZip}
 use Rattle.std.specs.Prelude.{IfOk, slice_index_or}
@@ -45,54 +46,104 @@ use Rattle.circle_prover.proofs.prove.play_requests.Given.{Over}
 use Rattle.circle_prover.proofs.prove.play_requests.Goals as goal
 
 abbrev fields : (g : Over) → Fields g.row.Val.Denot g.row.EF.Denot
-fields g = record { field = g.Val.Operations.ops; gen = g.Val.ComplexExtendable.generators; two_adicity = g.Val.ComplexExtendable.CIRCLE_TWO_ADICITY; is_zero = λ w. g.Val.PartialEq.eq w g.Val.Field.ZERO; extension = g.EF.Operations.ops; embed = g.EF.ExtensionField.embed; same = g.EF.PartialEq.eq }
+fields g = record {
+  field = g.Val.Operations.ops;
+  gen = g.Val.ComplexExtendable.generators;
+  two_adicity = g.Val.ComplexExtendable.CIRCLE_TWO_ADICITY;
+  is_zero =
+      λ w. g.Val.PartialEq.eq w g.Val.Field.ZERO;
+  extension = g.EF.Operations.ops;
+  embed =
+      g.EF.ExtensionField.embed;
+  same = g.EF.PartialEq.eq;
+}
 
 -- what the challenger is to the run
-abbrev challenger : (g : Over) → RunMoves g.row.C.Denot g.row.C-State.Denot g.row.Val.Denot g.row.EF.Denot g.row.FriMmcs-Commitment.Denot
-challenger g = run_moves g.C.ChallengerState.state g.C.CanObserve-1.after_observe g.C.CanObserve-2.after_observe g.C.CanSample.sampled g.C.CanSample.after_sample g.C.CanSampleBits.sampled_bits g.C.CanSampleBits.after_bits g.C.GrindingChallenger.found_witness g.EF.ExtensionField.DEGREE g.EF.ExtensionField.coefficients (of_nat g.Val.Operations.ops) g.Val.Operations.ops.zero
+abbrev challenger : (g : Over) →
+    RunMoves g.row.C.Denot g.row.C-State.Denot g.row.Val.Denot g.row.EF.Denot
+    g.row.FriMmcs-Commitment.Denot
+challenger g = run_moves g.C.ChallengerState.state g.C.CanObserve-1.after_observe
+    g.C.CanObserve-2.after_observe g.C.CanSample.sampled g.C.CanSample.after_sample
+    g.C.CanSampleBits.sampled_bits g.C.CanSampleBits.after_bits g.C.GrindingChallenger.found_witness
+    g.EF.ExtensionField.DEGREE g.EF.ExtensionField.coefficients (of_nat g.Val.Operations.ops)
+    g.Val.Operations.ops.zero
 
 -- all requested matrices with their values
-abbrev nested : (g : Over) (params : FriParameters g.row.FriMmcs.Denot) (requests : List (OpeningRequest g.row.InputMmcs-ProverData.Denot g.row.EF.Denot)) (values : Openings g.row.EF.Denot) → List (List (Committed g.row.Val.Denot g.row.EF.Denot))
-nested g params requests values = all_committed g.InputMmcs.Mmcs.matrices (fields g) params.log_blowup requests values
+abbrev nested : (g : Over) (params : FriParameters g.row.FriMmcs.Denot)
+    (requests : List (OpeningRequest g.row.InputMmcs-ProverData.Denot g.row.EF.Denot))
+    (values : Openings g.row.EF.Denot) → List (List (Committed g.row.Val.Denot g.row.EF.Denot))
+nested g params requests values =
+    all_committed g.InputMmcs.Mmcs.matrices (fields g) params.log_blowup requests values
 
 pub opened_claims-requires : goal.opened_claims-requires
 opened_claims-requires g c = record {
-  finite = subst (All (λ (m : OpenedMatrix g.row.Val.Denot g.row.EF.Denot). All (IsFinite g.EF.Operations.ops) m.points.now)) (sym c.deref.ensures.value)
-      (λ i d lt. let m = slice_index_or c.in_ok-matrices.matrices.items i d in (c.in_ok-matrices.ensures.openable i d lt (suc (width_of m.rows.now)) (omega arith)).off.0);
+  finite =
+      subst
+      (All (λ (m : OpenedMatrix g.row.Val.Denot g.row.EF.Denot). All (IsFinite g.EF.Operations.ops)
+      m.points.now)) (sym c.deref.ensures.value)
+      (λ i d lt. let m = slice_index_or c.in_ok-matrices.matrices.items i d in
+      (c.in_ok-matrices.ensures.openable i d lt (suc (width_of m.rows.now))
+      (omega arith)).off.0);
 }
 
 -- what is known of the greatest height
-abbrev IsHigh : (g : Over) (params : FriParameters g.row.FriMmcs.Denot) (requests : List (OpeningRequest g.row.InputMmcs-ProverData.Denot g.row.EF.Denot)) (values : Openings g.row.EF.Denot) → Type 0
-IsHigh g params requests values = params.log_blowup + params.log_final_poly_len + 2 ≤ top_of (flat_map (λ b. b) (nested g params requests values))
+abbrev IsHigh : (g : Over) (params : FriParameters g.row.FriMmcs.Denot)
+    (requests : List (OpeningRequest g.row.InputMmcs-ProverData.Denot g.row.EF.Denot))
+    (values : Openings g.row.EF.Denot) → Type 0
+IsHigh g params requests values = params.log_blowup + params.log_final_poly_len
+    + 2 ≤ top_of (flat_map (λ b. b) (nested g params requests values))
 
-is-high : (g : Over) (params : FriParameters g.row.FriMmcs.Denot) (requests : List (OpeningRequest g.row.InputMmcs-ProverData.Denot g.row.EF.Denot)) (values : Openings g.row.EF.Denot)
-    → AreRequests g.InputMmcs.Mmcs.matrices (fields g) g.Val.ComplexExtendable.CIRCLE_TWO_ADICITY params requests → AllZip (AreAnswers g.InputMmcs.Mmcs.matrices (fields g) params.log_blowup) requests values → IsHigh g params requests values
+is-high : (g : Over) (params : FriParameters g.row.FriMmcs.Denot)
+    (requests : List (OpeningRequest g.row.InputMmcs-ProverData.Denot g.row.EF.Denot))
+    (values : Openings g.row.EF.Denot)
+    → AreRequests g.InputMmcs.Mmcs.matrices (fields g) g.Val.ComplexExtendable.CIRCLE_TWO_ADICITY
+    params requests → AllZip (AreAnswers g.InputMmcs.Mmcs.matrices (fields g) params.log_blowup)
+    requests values → IsHigh g params requests values
 is-high g params requests values asked answers =
     let flat = flat_map (λ b. b) (nested g params requests values) in
     top-known flat (λ h. params.log_blowup + params.log_final_poly_len + 2 ≤ h)
-    (all-some (fields g) params.log_blowup g.InputMmcs.Mmcs.matrices requests values answers asked.some asked.matrices)
-    (heights-known (fields g) params.log_blowup (λ h. params.log_blowup + params.log_final_poly_len + 2 ≤ h) g.InputMmcs.Mmcs.matrices requests values asked.tall)
+    (all-some (fields g) params.log_blowup g.InputMmcs.Mmcs.matrices requests values answers
+    asked.some asked.matrices)
+    (heights-known (fields g) params.log_blowup (λ h. params.log_blowup + params.log_final_poly_len
+    + 2 ≤ h) g.InputMmcs.Mmcs.matrices requests values asked.tall)
 
 -- the greatest height that is claimed
-is-top : (g : Over) (params : FriParameters g.row.FriMmcs.Denot) (requests : List (OpeningRequest g.row.InputMmcs-ProverData.Denot g.row.EF.Denot)) (values : Openings g.row.EF.Denot)
-    → AreRequests g.InputMmcs.Mmcs.matrices (fields g) g.Val.ComplexExtendable.CIRCLE_TWO_ADICITY params requests
-    → log_max_height params.log_blowup (all_matrices (answered_claims (fields g) params g.InputMmcs.Mmcs.matrices requests values)) ≡ top_of (flat_map (λ b. b) (nested g params requests values))
+is-top : (g : Over) (params : FriParameters g.row.FriMmcs.Denot)
+    (requests : List (OpeningRequest g.row.InputMmcs-ProverData.Denot g.row.EF.Denot))
+    (values : Openings g.row.EF.Denot)
+    → AreRequests g.InputMmcs.Mmcs.matrices (fields g) g.Val.ComplexExtendable.CIRCLE_TWO_ADICITY
+    params requests
+    →
+    log_max_height params.log_blowup
+    (all_matrices (answered_claims (fields g) params g.InputMmcs.Mmcs.matrices requests values))
+    ≡ top_of (flat_map (λ b. b) (nested g params requests values))
 is-top g params requests values asked =
     top-claimed params.log_blowup (nested g params requests values)
-    (λ i m lt. let tall = heights-known (fields g) params.log_blowup (λ h. params.log_blowup + params.log_final_poly_len + 2 ≤ h) g.InputMmcs.Mmcs.matrices requests values asked.tall i m lt in omega (arith, tall))
+    (λ i m lt. let tall =
+    heights-known (fields g) params.log_blowup
+    (λ h. params.log_blowup + params.log_final_poly_len + 2 ≤ h) g.InputMmcs.Mmcs.matrices
+    requests values asked.tall i m lt in omega (arith, tall))
 
 pub new-shape-requires-clause-high : goal.new-shape-requires-clause-high
 new-shape-requires-clause-high g c =
-    let high = is-high g c.args.params.now c.args.requests.now (openings c.args.values.now) c.requires.requests c.requires.values in
-    let same = c.greatest_height.ensures ∙ ap (λ (os : List (OpenedMatrix g.row.Val.Denot g.row.EF.Denot)). greatest (map (λ m. m.log_height) os)) c.deref-2.ensures.value ∙ top-seen (fields g) c.args.params.now.log_blowup c.in_ok-matrices.matrices.items ∙ ap top_of c.in_ok-matrices.ensures.matrices in
+    let high = is-high g c.args.params.now c.args.requests.now (openings c.args.values.now)
+    c.requires.requests c.requires.values in
+    let same = c.greatest_height.ensures
+    ∙ ap
+    (λ (os : List (OpenedMatrix g.row.Val.Denot g.row.EF.Denot)). greatest
+    (map (λ m. m.log_height) os)) c.deref-2.ensures.value
+    ∙ top-seen (fields g) c.args.params.now.log_blowup c.in_ok-matrices.matrices.items
+    ∙ ap top_of c.in_ok-matrices.ensures.matrices in
     omega (arith, high, same)
 
 pub above_widths-num_powers-requires : goal.above_widths-num_powers-requires
 above_widths-num_powers-requires g c =
-    subst (All (λ (m : OpenedMatrix g.row.Val.Denot g.row.EF.Denot). 1 ≤ height_of m.rows.now)) (sym c.deref-3.ensures.value)
+    subst (All (λ (m : OpenedMatrix g.row.Val.Denot g.row.EF.Denot). 1 ≤ height_of m.rows.now))
+    (sym c.deref-3.ensures.value)
     (λ i d lt.
     let m = slice_index_or c.in_ok-matrices.matrices.items i d in
-    let ready = c.in_ok-matrices.ensures.openable i d lt (suc (width_of m.rows.now)) (omega arith) in
+    let ready = c.in_ok-matrices.ensures.openable i d lt (suc (width_of m.rows.now))
+    (omega arith) in
     omega (arith, ready.rows, pow_pos m.log_height))
 
 pub open_words-requires-clause-claims : goal.open_words-requires-clause-claims
@@ -100,61 +151,112 @@ open_words-requires-clause-claims g c =
     let p = c.args.params.now in
     let l = g.EF.Operations.ops in
     let batches = nested g p c.args.requests.now (openings c.args.values.now) in
-    let claims = answered_claims (fields g) p g.InputMmcs.Mmcs.matrices c.args.requests.now (openings c.args.values.now) in
-    let taken = ap claims_of c.deref-4.ensures.value ∙ c.in_ok-claims.ensures (fields g) p.log_blowup
-    ∙ ap (flat_map (λ (m : Committed g.row.Val.Denot g.row.EF.Denot). map (point_taken l) m.claims)) (ap (map (committed_of (fields g) p.log_blowup)) c.deref.ensures.value ∙ c.in_ok-matrices.ensures.matrices) ∙ sym (all-taken p.log_blowup l batches) in
-    let wide = c.in_ok-widths.ensures ∙ sym (all-widths p.log_blowup g.InputMmcs.Mmcs.matrices (fields g) c.args.requests.now (openings c.args.values.now) c.requires.values) in
+    let claims = answered_claims (fields g) p g.InputMmcs.Mmcs.matrices c.args.requests.now
+    (openings c.args.values.now) in
+    let taken = ap claims_of c.deref-4.ensures.value
+    ∙ c.in_ok-claims.ensures (fields g) p.log_blowup
+    ∙ ap (flat_map (λ (m : Committed g.row.Val.Denot g.row.EF.Denot). map (point_taken l) m.claims))
+    (ap (map (committed_of (fields g) p.log_blowup)) c.deref.ensures.value
+    ∙ c.in_ok-matrices.ensures.matrices) ∙ sym (all-taken p.log_blowup l batches) in
+    let wide = c.in_ok-widths.ensures
+    ∙ sym (all-widths p.log_blowup g.InputMmcs.Mmcs.matrices (fields g) c.args.requests.now
+    (openings c.args.values.now) c.requires.values) in
     ap (λ cs. widths_of cs) taken ∙ claims_widths l claims
-    ∙ sym (ap (λ ws. flat_map (λ m. m) (flat_map (λ b. b) ws)) (ap (λ s. batches_of s.opened_widths.items) c.new-shape.ensures ∙ wide))
+    ∙ sym
+    (ap (λ ws. flat_map (λ m. m) (flat_map (λ b. b) ws))
+    (ap (λ s. batches_of s.opened_widths.items) c.new-shape.ensures ∙ wide))
 
 pub open_words-requires-clause-small : goal.open_words-requires-clause-small
 open_words-requires-clause-small g c =
     let t = c.requires.parameters in
     let p = c.args.params.now in
-    let high = is-high g p c.args.requests.now (openings c.args.values.now) c.requires.requests c.requires.values in
-    let same = c.greatest_height.ensures ∙ ap (λ (os : List (OpenedMatrix g.row.Val.Denot g.row.EF.Denot)). greatest (map (λ m. m.log_height) os)) c.deref-2.ensures.value ∙ top-seen (fields g) p.log_blowup c.in_ok-matrices.matrices.items ∙ ap top_of c.in_ok-matrices.ensures.matrices in
+    let high = is-high g p c.args.requests.now (openings c.args.values.now) c.requires.requests
+    c.requires.values in
+    let same = c.greatest_height.ensures
+    ∙ ap
+    (λ (os : List (OpenedMatrix g.row.Val.Denot g.row.EF.Denot)). greatest
+    (map (λ m. m.log_height) os)) c.deref-2.ensures.value
+    ∙ top-seen (fields g) p.log_blowup c.in_ok-matrices.matrices.items
+    ∙ ap top_of c.in_ok-matrices.ensures.matrices in
     let flat = flat_map (λ b. b) (nested g p c.args.requests.now (openings c.args.values.now)) in
-    let some = all-some (fields g) p.log_blowup g.InputMmcs.Mmcs.matrices c.args.requests.now (openings c.args.values.now) c.requires.values c.requires.requests.some c.requires.requests.matrices in
+    let some = all-some (fields g) p.log_blowup g.InputMmcs.Mmcs.matrices c.args.requests.now
+    (openings c.args.values.now) c.requires.values c.requires.requests.some
+    c.requires.requests.matrices in
     let low = top-known flat (λ h. h < g.Val.ComplexExtendable.CIRCLE_TWO_ADICITY) some
-    (subst (All (λ (m : Committed g.row.Val.Denot g.row.EF.Denot). m.log_height < g.Val.ComplexExtendable.CIRCLE_TWO_ADICITY)) c.in_ok-matrices.ensures.matrices
-    (All-map (λ (m : Committed g.row.Val.Denot g.row.EF.Denot). m.log_height < g.Val.ComplexExtendable.CIRCLE_TWO_ADICITY) (committed_of (fields g) p.log_blowup) c.in_ok-matrices.matrices.items
-    (λ i d lt. let m = slice_index_or c.in_ok-matrices.matrices.items i d in (c.in_ok-matrices.ensures.openable i d lt (suc (width_of m.rows.now)) (omega arith)).in_group))) in
+    (subst
+    (All
+    (λ (m : Committed g.row.Val.Denot g.row.EF.Denot). m.log_height <
+    g.Val.ComplexExtendable.CIRCLE_TWO_ADICITY)) c.in_ok-matrices.ensures.matrices
+    (All-map
+    (λ (m : Committed g.row.Val.Denot g.row.EF.Denot). m.log_height <
+    g.Val.ComplexExtendable.CIRCLE_TWO_ADICITY) (committed_of (fields g) p.log_blowup)
+    c.in_ok-matrices.matrices.items
+    (λ i d lt. let m = slice_index_or c.in_ok-matrices.matrices.items i d in
+    (c.in_ok-matrices.ensures.openable i d lt (suc (width_of m.rows.now))
+    (omega arith)).in_group))) in
     let most = g.met.Val.ComplexExtendable.at_most_62 in
     let one = c.extra_query_index_bits-extra_bits.ensures in
     record {
-      batch = let is = ap (λ s. s.batch_pow_bits) c.new-shape.ensures in omega (arith, is, t.batch_work);
-      commit = let is = ap (λ s. s.commit_pow_bits) c.new-shape.ensures in omega (arith, is, t.commit_work);
-      query = let is = ap (λ s. s.query_pow_bits) c.new-shape.ensures in omega (arith, is, t.query_work);
-      index = let is = ap (λ s. s.index_bits) c.new-shape.ensures in omega (arith, is, one, low, most, same);
-      final_poly = let is = ap (λ s. s.log_final_poly_len) c.new-shape.ensures in omega (arith, is, high, low, most);
+      batch = let is = ap (λ s. s.batch_pow_bits) c.new-shape.ensures in
+          omega (arith, is, t.batch_work);
+      commit = let is = ap (λ s. s.commit_pow_bits) c.new-shape.ensures in
+          omega (arith, is, t.commit_work);
+      query = let is = ap (λ s. s.query_pow_bits) c.new-shape.ensures in
+          omega (arith, is, t.query_work);
+      index = let is = ap (λ s. s.index_bits) c.new-shape.ensures in
+          omega (arith, is, one, low, most, same);
+      final_poly = let is = ap (λ s. s.log_final_poly_len) c.new-shape.ensures in
+          omega (arith, is, high, low, most);
     }
 
 pub open_words-requires-clause-tall : goal.open_words-requires-clause-tall
 open_words-requires-clause-tall g c =
     let p = c.args.params.now in
-    subst (AreTall p) (sym (ap (map (committed_of (fields g) p.log_blowup)) c.deref-5.ensures.value ∙ c.in_ok-matrices.ensures.matrices)) (
-      all-some (fields g) p.log_blowup g.InputMmcs.Mmcs.matrices c.args.requests.now (openings c.args.values.now) c.requires.values c.requires.requests.some c.requires.requests.matrices,
-      heights-known (fields g) p.log_blowup (λ h. p.log_blowup + p.log_final_poly_len + 2 ≤ h) g.InputMmcs.Mmcs.matrices c.args.requests.now (openings c.args.values.now) c.requires.requests.tall,
+    subst (AreTall p)
+    (sym (ap (map (committed_of (fields g) p.log_blowup)) c.deref-5.ensures.value
+    ∙ c.in_ok-matrices.ensures.matrices)) (
+      all-some (fields g) p.log_blowup g.InputMmcs.Mmcs.matrices c.args.requests.now
+          (openings c.args.values.now) c.requires.values c.requires.requests.some
+          c.requires.requests.matrices,
+      heights-known (fields g) p.log_blowup (λ h. p.log_blowup + p.log_final_poly_len + 2 ≤ h)
+          g.InputMmcs.Mmcs.matrices c.args.requests.now (openings c.args.values.now)
+          c.requires.requests.tall,
     )
 
 pub open_words-requires-clause-openable : goal.open_words-requires-clause-openable
 open_words-requires-clause-openable g c =
-    subst (All (CanBeOpened (fields g) g.Val.ComplexExtendable.CIRCLE_TWO_ADICITY c.above_widths-num_powers.result)) (sym c.deref-5.ensures.value)
+    subst
+    (All
+    (CanBeOpened (fields g) g.Val.ComplexExtendable.CIRCLE_TWO_ADICITY
+    c.above_widths-num_powers.result)) (sym c.deref-5.ensures.value)
     (λ i d lt.
     c.in_ok-matrices.ensures.openable i d lt c.above_widths-num_powers.result
-    (subst (All (λ (m : OpenedMatrix g.row.Val.Denot g.row.EF.Denot). width_of m.rows.now < c.above_widths-num_powers.result)) c.deref-3.ensures.value c.above_widths-num_powers.ensures i d lt))
+    (subst
+    (All
+    (λ (m : OpenedMatrix g.row.Val.Denot g.row.EF.Denot). width_of m.rows.now <
+    c.above_widths-num_powers.result)) c.deref-3.ensures.value c.above_widths-num_powers.ensures
+    i d lt))
 
 pub returns-clause-below : goal.returns-clause-below
 returns-clause-below g c =
     let p = c.args.params.now in
-    let high = is-high g p c.args.requests.now (openings c.args.values.now) c.requires.requests c.requires.values in
-    let same = c.greatest_height.ensures ∙ ap (λ (os : List (OpenedMatrix g.row.Val.Denot g.row.EF.Denot)). greatest (map (λ m. m.log_height) os)) c.deref-2.ensures.value ∙ top-seen (fields g) p.log_blowup c.in_ok-matrices.matrices.items ∙ ap top_of c.in_ok-matrices.ensures.matrices in
-    let ms = ap top_of (ap (map (committed_of (fields g) p.log_blowup)) c.deref-5.ensures.value ∙ c.in_ok-matrices.ensures.matrices) in
+    let high = is-high g p c.args.requests.now (openings c.args.values.now) c.requires.requests
+    c.requires.values in
+    let same = c.greatest_height.ensures
+    ∙ ap
+    (λ (os : List (OpenedMatrix g.row.Val.Denot g.row.EF.Denot)). greatest
+    (map (λ m. m.log_height) os)) c.deref-2.ensures.value
+    ∙ top-seen (fields g) p.log_blowup c.in_ok-matrices.matrices.items
+    ∙ ap top_of c.in_ok-matrices.ensures.matrices in
+    let ms =
+    ap top_of (ap (map (committed_of (fields g) p.log_blowup)) c.deref-5.ensures.value
+    ∙ c.in_ok-matrices.ensures.matrices) in
     let is = ap (λ s. s.index_bits) c.new-shape.ensures in
     let one = c.extra_query_index_bits-extra_bits.ensures in
     if_ok2 c.open_words.result _ _ _
     (λ w known low.
-    let bits : c.new-shape.result.index_bits ≡ w.log_max_height = let top = known.top in omega (arith, is, one, high, same, ms, top) in
+    let bits : c.new-shape.result.index_bits ≡ w.log_max_height = let top = known.top in
+    omega (arith, is, one, high, same, ms, top) in
     subst (λ n. All (λ q. q < 2 ^ n) w.draws.indices.items) bits low)
     c.open_words.ensures.words c.open_words.ensures.below
 
@@ -165,7 +267,8 @@ returns-clause-some g c =
     let is = ap (λ s. s.num_queries) c.new-shape.ensures in
     if_ok2 c.open_words.result _ _ _
     (λ w drawn again.
-    let count = queries-count r (numbers_of shape) (taken_in (claims_of c.deref-4.result.now) w) _ _ drawn in
+    let count = queries-count r (numbers_of shape) (taken_in (claims_of c.deref-4.result.now) w) _ _
+    drawn in
     omega (arith, count, is, c.requires.parameters.queries))
     c.open_words.ensures.draws c.open_words.ensures.draws
 
@@ -174,13 +277,26 @@ returns-clause-easy g c =
     let batch = ap (λ s. s.batch_pow_bits) c.new-shape.ensures in
     let commit = ap (λ s. s.commit_pow_bits) c.new-shape.ensures in
     let query = ap (λ s. s.query_pow_bits) c.new-shape.ensures in
-    let Words : Type 0 = CommittedWords g.row.Val.Denot g.row.EF.Denot g.row.FriMmcs-Commitment.Denot g.row.FriMmcs-ProverData.Denot in
+    let Words : Type 0 =
+    CommittedWords g.row.Val.Denot g.row.EF.Denot g.row.FriMmcs-Commitment.Denot
+    g.row.FriMmcs-ProverData.Denot in
     let zero = g.Val.Operations.ops.zero in
-    let Batch : Words → Type 0 = λ w. c.new-shape.result.batch_pow_bits ≡ 0 → w.witnesses.batch ≡ zero in
-    let Rounds : Words → Type 0 = λ w. c.new-shape.result.commit_pow_bits ≡ 0 → All (λ a. a ≡ zero) w.witnesses.rounds.items in
-    let Query : Words → Type 0 = λ w. c.new-shape.result.query_pow_bits ≡ 0 → w.witnesses.query ≡ zero in
-    if_ok2 c.open_words.result (λ w. Batch w × Rounds w) Query _ (λ w both last. record { batch = λ none. both.0 (batch ∙ none); rounds = λ none. both.1 (commit ∙ none); query = λ none. last (query ∙ none) })
-    (if_ok2 c.open_words.result Batch Rounds (λ w. Batch w × Rounds w) (λ w first second. (first, second)) c.open_words.ensures.easy_batch c.open_words.ensures.easy_rounds) c.open_words.ensures.easy_query
+    let Batch : Words → Type 0 = λ w. c.new-shape.result.batch_pow_bits ≡ 0 → w.witnesses.batch
+    ≡ zero in
+    let Rounds : Words → Type 0 = λ w. c.new-shape.result.commit_pow_bits ≡ 0 →
+    All (λ a. a ≡ zero) w.witnesses.rounds.items in
+    let Query : Words → Type 0 = λ w. c.new-shape.result.query_pow_bits ≡ 0 → w.witnesses.query
+    ≡ zero in
+    if_ok2 c.open_words.result (λ w. Batch w × Rounds w) Query _
+    (λ w both last. record {
+      batch = λ none. both.0 (batch ∙ none);
+      rounds =
+          λ none. both.1 (commit ∙ none);
+      query = λ none. last (query ∙ none);
+    })
+    (if_ok2 c.open_words.result Batch Rounds (λ w. Batch w × Rounds w)
+    (λ w first second. (first, second)) c.open_words.ensures.easy_batch
+    c.open_words.ensures.easy_rounds) c.open_words.ensures.easy_query
 
 pub returns-clause-draws : goal.returns-clause-draws
 returns-clause-draws g c =
@@ -188,29 +304,54 @@ returns-clause-draws g c =
     let r = challenger g in
     let l = g.EF.Operations.ops in
     let batches = nested g p c.args.requests.now (openings c.args.values.now) in
-    let claims = answered_claims (fields g) p g.InputMmcs.Mmcs.matrices c.args.requests.now (openings c.args.values.now) in
-    let taken = ap claims_of c.deref-4.ensures.value ∙ c.in_ok-claims.ensures (fields g) p.log_blowup
-    ∙ ap (flat_map (λ (m : Committed g.row.Val.Denot g.row.EF.Denot). map (point_taken l) m.claims)) (ap (map (committed_of (fields g) p.log_blowup)) c.deref.ensures.value ∙ c.in_ok-matrices.ensures.matrices) ∙ sym (all-taken p.log_blowup l batches) in
-    let wide = c.in_ok-widths.ensures ∙ sym (all-widths p.log_blowup g.InputMmcs.Mmcs.matrices (fields g) c.args.requests.now (openings c.args.values.now) c.requires.values) in
-    let high = c.greatest_height.ensures ∙ ap (λ (os : List (OpenedMatrix g.row.Val.Denot g.row.EF.Denot)). greatest (map (λ m. m.log_height) os)) c.deref-2.ensures.value ∙ top-seen (fields g) p.log_blowup c.in_ok-matrices.matrices.items ∙ ap top_of c.in_ok-matrices.ensures.matrices ∙ sym (is-top g p c.args.requests.now (openings c.args.values.now) c.requires.requests) in
-    let shape = shape_is p claims (batches_of c.in_ok-widths.widths.items) c.greatest_height.result c.extra_query_index_bits-extra_bits.result (shape_of c.new-shape.result)
+    let claims = answered_claims (fields g) p g.InputMmcs.Mmcs.matrices c.args.requests.now
+    (openings c.args.values.now) in
+    let taken = ap claims_of c.deref-4.ensures.value
+    ∙ c.in_ok-claims.ensures (fields g) p.log_blowup
+    ∙ ap (flat_map (λ (m : Committed g.row.Val.Denot g.row.EF.Denot). map (point_taken l) m.claims))
+    (ap (map (committed_of (fields g) p.log_blowup)) c.deref.ensures.value
+    ∙ c.in_ok-matrices.ensures.matrices) ∙ sym (all-taken p.log_blowup l batches) in
+    let wide = c.in_ok-widths.ensures
+    ∙ sym (all-widths p.log_blowup g.InputMmcs.Mmcs.matrices (fields g) c.args.requests.now
+    (openings c.args.values.now) c.requires.values) in
+    let high = c.greatest_height.ensures
+    ∙ ap
+    (λ (os : List (OpenedMatrix g.row.Val.Denot g.row.EF.Denot)). greatest
+    (map (λ m. m.log_height) os)) c.deref-2.ensures.value
+    ∙ top-seen (fields g) p.log_blowup c.in_ok-matrices.matrices.items
+    ∙ ap top_of c.in_ok-matrices.ensures.matrices
+    ∙ sym (is-top g p c.args.requests.now (openings c.args.values.now) c.requires.requests) in
+    let shape = shape_is p claims (batches_of c.in_ok-widths.widths.items) c.greatest_height.result
+    c.extra_query_index_bits-extra_bits.result (shape_of c.new-shape.result)
     (ap shape_of c.new-shape.ensures) wide high c.extra_query_index_bits-extra_bits.ensures in
     let s = g.C.ChallengerState.state c.args.challenger.now in
-    let Words : Type 0 = CommittedWords g.row.Val.Denot g.row.EF.Denot g.row.FriMmcs-Commitment.Denot g.row.FriMmcs-ProverData.Denot in
+    let Words : Type 0 =
+    CommittedWords g.row.Val.Denot g.row.EF.Denot g.row.FriMmcs-Commitment.Denot
+    g.row.FriMmcs-ProverData.Denot in
     let end = g.C.ChallengerState.state c.open_words.new.challenger in
-    let before : Words → Type 0 = λ w. draw r (shape_of c.new-shape.result) (taken_in (claims_of c.deref-4.result.now) w) s ≡ Ok (drawn_of g.EF.ExtensionField.coefficients w.draws end) in
-    let after : Words → Type 0 = λ w. draw r (shape_by p claims) (taken_in (claims_taken l claims) w) s ≡ Ok (drawn_of g.EF.ExtensionField.coefficients w.draws end) in
+    let before : Words → Type 0 =
+    λ w. draw r (shape_of c.new-shape.result) (taken_in (claims_of c.deref-4.result.now) w) s
+    ≡ Ok (drawn_of g.EF.ExtensionField.coefficients w.draws end) in
+    let after : Words → Type 0 =
+    λ w. draw r (shape_by p claims) (taken_in (claims_taken l claims) w) s
+    ≡ Ok (drawn_of g.EF.ExtensionField.coefficients w.draws end) in
     if_ok2 c.open_words.result before before after
     (λ w drawn again.
-    draw-moved r (shape_of c.new-shape.result) (shape_by p claims) (taken_in (claims_of c.deref-4.result.now) w) (taken_in (claims_taken l claims) w) s (Ok (drawn_of g.EF.ExtensionField.coefficients w.draws end)) shape
+    draw-moved r (shape_of c.new-shape.result) (shape_by p claims)
+    (taken_in (claims_of c.deref-4.result.now) w) (taken_in (claims_taken l claims) w) s
+    (Ok (drawn_of g.EF.ExtensionField.coefficients w.draws end)) shape
     (ap (λ cs. taken_in cs w) taken) drawn)
     c.open_words.ensures.draws c.open_words.ensures.draws
 
 pub returns-clause-words : goal.returns-clause-words
 returns-clause-words g c =
     let p = c.args.params.now in
-    subst (λ ms. IfOk c.open_words.result (AreWordsOf (fields g) p.log_blowup p.log_final_poly_len (g.FriMmcs.Mmcs.commits p.mmcs) g.FriMmcs.Mmcs.matrices ms))
-    (ap (map (committed_of (fields g) p.log_blowup)) c.deref-5.ensures.value ∙ c.in_ok-matrices.ensures.matrices) c.open_words.ensures.words
+    subst
+    (λ ms. IfOk c.open_words.result
+    (AreWordsOf (fields g) p.log_blowup p.log_final_poly_len (g.FriMmcs.Mmcs.commits p.mmcs)
+    g.FriMmcs.Mmcs.matrices ms))
+    (ap (map (committed_of (fields g) p.log_blowup)) c.deref-5.ensures.value
+    ∙ c.in_ok-matrices.ensures.matrices) c.open_words.ensures.words
 
 pub returns-clause-failure : goal.returns-clause-failure
 returns-clause-failure g c =
@@ -220,27 +361,52 @@ returns-clause-failure g c =
     let commits = g.FriMmcs.Mmcs.commits p.mmcs in
     let l = g.EF.Operations.ops in
     let batches = nested g p c.args.requests.now (openings c.args.values.now) in
-    let claims = answered_claims (fields g) p g.InputMmcs.Mmcs.matrices c.args.requests.now (openings c.args.values.now) in
-    let taken = ap claims_of c.deref-4.ensures.value ∙ c.in_ok-claims.ensures (fields g) p.log_blowup
-    ∙ ap (flat_map (λ (m : Committed g.row.Val.Denot g.row.EF.Denot). map (point_taken l) m.claims)) (ap (map (committed_of (fields g) p.log_blowup)) c.deref.ensures.value ∙ c.in_ok-matrices.ensures.matrices) ∙ sym (all-taken p.log_blowup l batches) in
-    let wide = c.in_ok-widths.ensures ∙ sym (all-widths p.log_blowup g.InputMmcs.Mmcs.matrices (fields g) c.args.requests.now (openings c.args.values.now) c.requires.values) in
-    let high = c.greatest_height.ensures ∙ ap (λ (os : List (OpenedMatrix g.row.Val.Denot g.row.EF.Denot)). greatest (map (λ m. m.log_height) os)) c.deref-2.ensures.value ∙ top-seen (fields g) p.log_blowup c.in_ok-matrices.matrices.items ∙ ap top_of c.in_ok-matrices.ensures.matrices ∙ sym (is-top g p c.args.requests.now (openings c.args.values.now) c.requires.requests) in
-    let shape = shape_is p claims (batches_of c.in_ok-widths.widths.items) c.greatest_height.result c.extra_query_index_bits-extra_bits.result (shape_of c.new-shape.result)
+    let claims = answered_claims (fields g) p g.InputMmcs.Mmcs.matrices c.args.requests.now
+    (openings c.args.values.now) in
+    let taken = ap claims_of c.deref-4.ensures.value
+    ∙ c.in_ok-claims.ensures (fields g) p.log_blowup
+    ∙ ap (flat_map (λ (m : Committed g.row.Val.Denot g.row.EF.Denot). map (point_taken l) m.claims))
+    (ap (map (committed_of (fields g) p.log_blowup)) c.deref.ensures.value
+    ∙ c.in_ok-matrices.ensures.matrices) ∙ sym (all-taken p.log_blowup l batches) in
+    let wide = c.in_ok-widths.ensures
+    ∙ sym (all-widths p.log_blowup g.InputMmcs.Mmcs.matrices (fields g) c.args.requests.now
+    (openings c.args.values.now) c.requires.values) in
+    let high = c.greatest_height.ensures
+    ∙ ap
+    (λ (os : List (OpenedMatrix g.row.Val.Denot g.row.EF.Denot)). greatest
+    (map (λ m. m.log_height) os)) c.deref-2.ensures.value
+    ∙ top-seen (fields g) p.log_blowup c.in_ok-matrices.matrices.items
+    ∙ ap top_of c.in_ok-matrices.ensures.matrices
+    ∙ sym (is-top g p c.args.requests.now (openings c.args.values.now) c.requires.requests) in
+    let shape = shape_is p claims (batches_of c.in_ok-widths.widths.items) c.greatest_height.result
+    c.extra_query_index_bits-extra_bits.result (shape_of c.new-shape.result)
     (ap shape_of c.new-shape.ensures) wide high c.extra_query_index_bits-extra_bits.ensures in
     let s = g.C.ChallengerState.state c.args.challenger.now in
     let flat = flat_map (λ b. b) batches in
-    let are : map (committed_of (fields g) p.log_blowup) c.deref-5.result.now ≡ flat = ap (map (committed_of (fields g) p.log_blowup)) c.deref-5.ensures.value ∙ c.in_ok-matrices.ensures.matrices in
+    let are : map (committed_of (fields g) p.log_blowup) c.deref-5.result.now ≡ flat =
+    ap (map (committed_of (fields g) p.log_blowup)) c.deref-5.ensures.value
+    ∙ c.in_ok-matrices.ensures.matrices in
     if_err _ _ c.open_words.result
     (λ e why.
     elim why [
       | inl refused ↦ inl refused
       | inr rest ↦
           elim rest [
-            | inl last ↦ inr (inl (subst (λ ms. IsTooHigh k p.log_blowup p.log_final_poly_len ms e) are last))
+            | inl last ↦ inr
+                (inl (subst (λ ms. IsTooHigh k p.log_blowup p.log_final_poly_len ms e) are last))
             | inr stuck ↦
-                inr (inr (subst (λ cs. IsStuck r commits k p flat (numbers_of (shape_by p claims)) cs (seeded r (shape_by p claims) s) e) taken
-                (subst (λ sh. IsStuck r commits k p flat (numbers_of sh) (claims_of c.deref-4.result.now) (seeded r sh s) e) shape
-                (subst (λ ms. IsStuck r commits k p ms (numbers_of (shape_of c.new-shape.result)) (claims_of c.deref-4.result.now) (seeded r (shape_of c.new-shape.result) s) e) are stuck))))
+                inr
+                (inr
+                (subst
+                (λ cs. IsStuck r commits k p flat (numbers_of (shape_by p claims)) cs
+                (seeded r (shape_by p claims) s) e) taken
+                (subst
+                (λ sh. IsStuck r commits k p flat (numbers_of sh)
+                (claims_of c.deref-4.result.now) (seeded r sh s) e) shape
+                (subst
+                (λ ms. IsStuck r commits k p ms (numbers_of (shape_of c.new-shape.result))
+                (claims_of c.deref-4.result.now) (seeded r (shape_of c.new-shape.result) s) e)
+                are stuck))))
           ]
     ])
     c.open_words.ensures.failure

@@ -18,7 +18,8 @@ pub commit_word-requires-clause-power : goal.commit_word-requires-clause-power
 commit_word-requires-clause-power g c = (c.args.log_height, c.requires.word)
 
 pub commit_word-requires-clause-pairs : goal.commit_word-requires-clause-pairs
-commit_word-requires-clause-pairs g c = even_power c.args.log_height (length c.args.word.items) c.requires.positive c.requires.word
+commit_word-requires-clause-pairs g c =
+    even_power c.args.log_height (length c.args.word.items) c.requires.positive c.requires.word
 
 pub fold_round-requires-clause-rows : goal.fold_round-requires-clause-rows
 fold_round-requires-clause-rows g c =
@@ -26,17 +27,32 @@ fold_round-requires-clause-rows g c =
     let matrices = c.get_matrices.result.now in
     let word = c.args.word.items in
     let is_layer : rows layer ≡ pairs_of word =
-    ap rows c.index-get_matrices-0.is ∙ first_rows matrices (pairs_of word) layer (ap (map rows) c.get_matrices.ensures ∙ c.in_ok-commitment.ensures.rows) in
-    sym (length-rows layer) ∙ ap length is_layer ∙ length-pairs_of word c.args.log_height c.requires.positive c.requires.word
+    ap rows c.index-get_matrices-0.is
+    ∙ first_rows matrices (pairs_of word) layer (ap (map rows) c.get_matrices.ensures
+    ∙ c.in_ok-commitment.ensures.rows) in
+    sym (length-rows layer) ∙ ap length is_layer
+    ∙ length-pairs_of word c.args.log_height c.requires.positive c.requires.word
 
 -- what the challenger is to the run
-abbrev challenger : (g : Over) → RunMoves g.row.C.Denot g.row.C-State.Denot g.row.F.Denot g.row.EF.Denot g.row.M-Commitment.Denot
-challenger g = run_moves g.C.ChallengerState.state g.C.CanObserve-1.after_observe g.C.CanObserve-2.after_observe g.C.CanSample.sampled g.C.CanSample.after_sample g.C.CanSampleBits.sampled_bits g.C.CanSampleBits.after_bits g.C.GrindingChallenger.found_witness g.EF.ExtensionField.DEGREE g.EF.ExtensionField.coefficients (of_nat g.F.Operations.ops) g.F.Operations.ops.zero
+abbrev challenger : (g : Over) →
+    RunMoves g.row.C.Denot g.row.C-State.Denot g.row.F.Denot g.row.EF.Denot g.row.M-Commitment.Denot
+challenger g = run_moves g.C.ChallengerState.state g.C.CanObserve-1.after_observe
+    g.C.CanObserve-2.after_observe g.C.CanSample.sampled g.C.CanSample.after_sample
+    g.C.CanSampleBits.sampled_bits g.C.CanSampleBits.after_bits g.C.GrindingChallenger.found_witness
+    g.EF.ExtensionField.DEGREE g.EF.ExtensionField.coefficients (of_nat g.F.Operations.ops)
+    g.F.Operations.ops.zero
 
 pub returns-in_err-beta-clause-failure : goal.returns-in_err-beta-clause-failure
 returns-in_err-beta-clause-failure g c =
-    handed_on c.from_residual-in_err-beta.result (prover_error c.in_err-beta.field-0.0) (IsRoundFailure (challenger g) (g.M.Mmcs.commits c.args.mmcs.now) c.args.transcript.now c.args.word.items) c.from_residual-in_err-beta.ensures.1
-    (inr (ap prover_error c.in_err-beta.ensures.failure, c.in_ok-commitment.commitment, (g.M.Mmcs.matrices c.in_ok-commitment.kept, c.in_ok-commitment.ensures), c.in_err-beta.ensures.none))
+    handed_on c.from_residual-in_err-beta.result (prover_error c.in_err-beta.field-0.0)
+    (IsRoundFailure (challenger g) (g.M.Mmcs.commits c.args.mmcs.now) c.args.transcript.now
+    c.args.word.items) c.from_residual-in_err-beta.ensures.1
+    (inr (
+      ap prover_error c.in_err-beta.ensures.failure,
+      c.in_ok-commitment.commitment,
+      (g.M.Mmcs.matrices c.in_ok-commitment.kept, c.in_ok-commitment.ensures),
+      c.in_err-beta.ensures.none,
+    ))
 
 pub commit_round-requires-clause-next : goal.commit_round-requires-clause-next
 commit_round-requires-clause-next g c = c.requires.next
@@ -58,28 +74,44 @@ returns-clause-due g c = c.in_ok-beta.ensures.due
 
 pub returns-clause-easy : goal.returns-clause-easy
 returns-clause-easy g c = λ none.
-    c.unwrap_or.ensures ∙ ap (unwrap_or c.in_ok-beta.witness) (c.ZERO.ensures ∙ g.met.F.Field.zero_law)
+    c.unwrap_or.ensures
+    ∙ ap (unwrap_or c.in_ok-beta.witness) (c.ZERO.ensures ∙ g.met.F.Field.zero_law)
     ∙ unwrap_none g.F.Operations.ops.zero c.in_ok-beta.witness (c.in_ok-beta.ensures.needed.1 none)
 
 pub returns-clause-found : goal.returns-clause-found
 returns-clause-found g c =
-    let is_witness : c.unwrap_or.result ≡ unwrap_or c.in_ok-beta.witness g.F.Operations.ops.zero = c.unwrap_or.ensures ∙ ap (unwrap_or c.in_ok-beta.witness) (c.ZERO.ensures ∙ g.met.F.Field.zero_law) in
+    let is_witness : c.unwrap_or.result ≡ unwrap_or c.in_ok-beta.witness g.F.Operations.ops.zero =
+    c.unwrap_or.ensures
+    ∙ ap (unwrap_or c.in_ok-beta.witness) (c.ZERO.ensures ∙ g.met.F.Field.zero_law) in
     c.in_ok-beta.ensures.found ∙ ap Some (sym is_witness)
 
 pub returns-clause-passes : goal.returns-clause-passes
 returns-clause-passes g c =
-    let is_witness : c.unwrap_or.result ≡ unwrap_or c.in_ok-beta.witness g.F.Operations.ops.zero = c.unwrap_or.ensures ∙ ap (unwrap_or c.in_ok-beta.witness) (c.ZERO.ensures ∙ g.met.F.Field.zero_law) in
-    subst (λ w. IsTrue (commit_passes (challenger g) c.args.transcript.now c.in_ok-commitment.commitment w)) (sym is_witness) c.in_ok-beta.ensures.passes
+    let is_witness : c.unwrap_or.result ≡ unwrap_or c.in_ok-beta.witness g.F.Operations.ops.zero =
+    c.unwrap_or.ensures
+    ∙ ap (unwrap_or c.in_ok-beta.witness) (c.ZERO.ensures ∙ g.met.F.Field.zero_law) in
+    subst
+    (λ w. IsTrue
+    (commit_passes (challenger g) c.args.transcript.now c.in_ok-commitment.commitment w))
+    (sym is_witness) c.in_ok-beta.ensures.passes
 
 pub returns-clause-challenge : goal.returns-clause-challenge
 returns-clause-challenge g c =
-    let is_witness : c.unwrap_or.result ≡ unwrap_or c.in_ok-beta.witness g.F.Operations.ops.zero = c.unwrap_or.ensures ∙ ap (unwrap_or c.in_ok-beta.witness) (c.ZERO.ensures ∙ g.met.F.Field.zero_law) in
-    c.in_ok-beta.ensures.challenge ∙ ap (commit_challenge (challenger g) c.args.transcript.now c.in_ok-commitment.commitment) (sym is_witness)
+    let is_witness : c.unwrap_or.result ≡ unwrap_or c.in_ok-beta.witness g.F.Operations.ops.zero =
+    c.unwrap_or.ensures
+    ∙ ap (unwrap_or c.in_ok-beta.witness) (c.ZERO.ensures ∙ g.met.F.Field.zero_law) in
+    c.in_ok-beta.ensures.challenge
+    ∙ ap (commit_challenge (challenger g) c.args.transcript.now c.in_ok-commitment.commitment)
+    (sym is_witness)
 
 pub returns-clause-state : goal.returns-clause-state
 returns-clause-state g c =
-    let is_witness : c.unwrap_or.result ≡ unwrap_or c.in_ok-beta.witness g.F.Operations.ops.zero = c.unwrap_or.ensures ∙ ap (unwrap_or c.in_ok-beta.witness) (c.ZERO.ensures ∙ g.met.F.Field.zero_law) in
-    c.in_ok-beta.ensures.state ∙ ap (after_commit (challenger g) c.args.transcript.now c.in_ok-commitment.commitment) (sym is_witness)
+    let is_witness : c.unwrap_or.result ≡ unwrap_or c.in_ok-beta.witness g.F.Operations.ops.zero =
+    c.unwrap_or.ensures
+    ∙ ap (unwrap_or c.in_ok-beta.witness) (c.ZERO.ensures ∙ g.met.F.Field.zero_law) in
+    c.in_ok-beta.ensures.state
+    ∙ ap (after_commit (challenger g) c.args.transcript.now c.in_ok-commitment.commitment)
+    (sym is_witness)
 
 pub returns-clause-committed : goal.returns-clause-committed
 returns-clause-committed g c = c.in_ok-commitment.ensures
@@ -96,7 +128,9 @@ fold_round-requires-clause-width g c =
     let matrices = c.get_matrices.result.now in
     let one = ap length (ap (map rows) c.get_matrices.ensures ∙ c.in_ok-commitment.ensures.rows) in
     let within : 0 < length matrices = omega (arith, one, length-map matrices rows) in
-    ap width_of c.index-get_matrices-0.is ∙ subst (All (λ m. width_of m ≡ 2)) (sym c.get_matrices.ensures) c.in_ok-commitment.ensures.width 0 layer within
+    ap width_of c.index-get_matrices-0.is
+    ∙ subst (All (λ m. width_of m ≡ 2)) (sym c.get_matrices.ensures)
+    c.in_ok-commitment.ensures.width 0 layer within
 
 pub fold_round-requires-clause-positive : goal.fold_round-requires-clause-positive
 fold_round-requires-clause-positive g c = c.requires.positive
@@ -111,7 +145,17 @@ pub returns-clause-length : goal.returns-clause-length
 returns-clause-length g c = c.in_ok-next.ensures.length
 
 abbrev fields : (g : Over) → Fields g.row.F.Denot g.row.EF.Denot
-fields g = record { field = g.F.Operations.ops; gen = g.F.ComplexExtendable.generators; two_adicity = g.F.ComplexExtendable.CIRCLE_TWO_ADICITY; is_zero = λ w. g.F.PartialEq.eq w g.F.Field.ZERO; extension = g.EF.Operations.ops; embed = g.EF.ExtensionField.embed; same = g.EF.PartialEq.eq }
+fields g =
+    record {
+      field = g.F.Operations.ops;
+      gen = g.F.ComplexExtendable.generators;
+      two_adicity =
+          g.F.ComplexExtendable.CIRCLE_TWO_ADICITY;
+      is_zero = λ w. g.F.PartialEq.eq w g.F.Field.ZERO;
+      extension = g.EF.Operations.ops;
+      embed = g.EF.ExtensionField.embed;
+      same = g.EF.PartialEq.eq;
+    }
 
 pub returns-clause-folds : goal.returns-clause-folds
 returns-clause-folds g c =
@@ -119,5 +163,8 @@ returns-clause-folds g c =
     let matrices = c.get_matrices.result.now in
     let word = c.args.word.items in
     let is_layer : rows layer ≡ pairs_of word =
-    ap rows c.index-get_matrices-0.is ∙ first_rows matrices (pairs_of word) layer (ap (map rows) c.get_matrices.ensures ∙ c.in_ok-commitment.ensures.rows) in
-    subst (λ rs. IsNextWord (fields g) c.args.heights.now c.args.folded.now c.args.log_height c.in_ok-beta.beta rs c.in_ok-next.next.items) is_layer c.in_ok-next.ensures.folds
+    ap rows c.index-get_matrices-0.is
+    ∙ first_rows matrices (pairs_of word) layer (ap (map rows) c.get_matrices.ensures
+    ∙ c.in_ok-commitment.ensures.rows) in
+    subst (λ rs. IsNextWord (fields g) c.args.heights.now c.args.folded.now c.args.log_height
+    c.in_ok-beta.beta rs c.in_ok-next.next.items) is_layer c.in_ok-next.ensures.folds

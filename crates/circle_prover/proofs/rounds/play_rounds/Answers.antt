@@ -1,5 +1,6 @@
 use Rattle.std.specs.Prelude.{All, zip}
-use Rattle.std.proofs.Common.{◌≡◌, ℕ, List, ◌+◌, ◌-◌, ◌^◌, ◌<◌, ◌≤◌, ◌∷◌, [], length, map, refl, sym, ap, ◌∙◌, subst, arith, inl, inr}
+use Rattle.std.proofs.Common.{◌≡◌, ℕ, List, ◌+◌, ◌-◌, ◌^◌, ◌<◌, ◌≤◌, ◌∷◌, [], length, map, refl}
+use Rattle.std.proofs.Common.{sym, ap, ◌∙◌, subst, arith, inl, inr}
 use Rattle.std.proofs.lemmas.List.{map-append, length_push}
 use Rattle.std.proofs.lemmas.Slice.Zip.{length-zip}
 use Rattle.std.proofs.lemmas.List.Elements.{All-nil}
@@ -12,17 +13,33 @@ use Rattle.circle_transcript.proofs.Runs.{rounds_all, next_round, rounds_none}
 use Rattle.circle_prover.specs.Failure.{IsRoundsFailure}
 use Rattle.circle_relation.specs.declared.error.ProverError.TheVariants.{Memory}
 use Rattle.circle_prover.specs.Words.{word_at}
-use Rattle.circle_prover.proofs.Growing.{word_at-kept, word_at-next, rounds_begun, rounds_more, played_begun, played_more, stuck_after, words_committed}
+use Rattle.circle_prover.proofs.Growing.{word_at-kept, word_at-next, rounds_begun, rounds_more}
+use Rattle.circle_prover.proofs.Growing.{played_begun, played_more, stuck_after, words_committed}
 use Rattle.circle_prover.proofs.rounds.play_rounds.Given.{Over}
 use Rattle.circle_prover.proofs.rounds.play_rounds.Goals as goal
 
 -- what the challenger is to the run
-abbrev challenger : (g : Over) → RunMoves g.row.C.Denot g.row.C-State.Denot g.row.F.Denot g.row.EF.Denot g.row.M-Commitment.Denot
-challenger g = run_moves g.C.ChallengerState.state g.C.CanObserve-1.after_observe g.C.CanObserve-2.after_observe g.C.CanSample.sampled g.C.CanSample.after_sample g.C.CanSampleBits.sampled_bits g.C.CanSampleBits.after_bits g.C.GrindingChallenger.found_witness g.EF.ExtensionField.DEGREE g.EF.ExtensionField.coefficients (of_nat g.F.Operations.ops) g.F.Operations.ops.zero
+abbrev challenger : (g : Over) →
+    RunMoves g.row.C.Denot g.row.C-State.Denot g.row.F.Denot g.row.EF.Denot g.row.M-Commitment.Denot
+challenger g = run_moves g.C.ChallengerState.state g.C.CanObserve-1.after_observe
+    g.C.CanObserve-2.after_observe g.C.CanSample.sampled g.C.CanSample.after_sample
+    g.C.CanSampleBits.sampled_bits g.C.CanSampleBits.after_bits g.C.GrindingChallenger.found_witness
+    g.EF.ExtensionField.DEGREE g.EF.ExtensionField.coefficients (of_nat g.F.Operations.ops)
+    g.F.Operations.ops.zero
 
 -- the fields of the run
 abbrev fields : (g : Over) → Fields g.row.F.Denot g.row.EF.Denot
-fields g = record { field = g.F.Operations.ops; gen = g.F.ComplexExtendable.generators; two_adicity = g.F.ComplexExtendable.CIRCLE_TWO_ADICITY; is_zero = λ w. g.F.PartialEq.eq w g.F.Field.ZERO; extension = g.EF.Operations.ops; embed = g.EF.ExtensionField.embed; same = g.EF.PartialEq.eq }
+fields g =
+    record {
+      field = g.F.Operations.ops;
+      gen = g.F.ComplexExtendable.generators;
+      two_adicity =
+          g.F.ComplexExtendable.CIRCLE_TWO_ADICITY;
+      is_zero = λ w. g.F.PartialEq.eq w g.F.Field.ZERO;
+      extension = g.EF.Operations.ops;
+      embed = g.EF.ExtensionField.embed;
+      same = g.EF.PartialEq.eq;
+    }
 
 pub loop-i-init : goal.loop-i-init
 loop-i-init g c =
@@ -39,8 +56,10 @@ loop-i-init g c =
       commitments = ap length no_commitments;
       witnesses = ap length no_witnesses;
       betas = ap length no_betas;
-      easy = λ none. subst (All (λ w. w ≡ g.F.Operations.ops.zero)) (sym no_witnesses) (All-nil (λ w. w ≡ g.F.Operations.ops.zero));
-      played = played_begun (challenger g) bits begun begun _ _ _ no_commitments (ap (map coefficients) no_betas);
+      easy = λ none. subst (All (λ w. w ≡ g.F.Operations.ops.zero)) (sym no_witnesses)
+          (All-nil (λ w. w ≡ g.F.Operations.ops.zero));
+      played = played_begun (challenger g) bits begun begun _ _ _ no_commitments
+          (ap (map coefficients) no_betas);
       length = c.requires.first ∙ ap (λ n. 2 ^ n) (omega arith);
       committed = λ f are. rounds_begun _ _ _ _ _ no_kept no_commitments;
       word = λ f are. refl;
@@ -52,7 +71,8 @@ play_round-requires-clause-next g c =
     let bits = (numbers c.args.transcript.now).commit_pow_bits in
     let same_bits = ap (λ v. v.commit_pow_bits) c.loop-i.invariant.same.shape in (
       _,
-      next_round g.EF.ExtensionField.DEGREE bits _ c.args.num_rounds c.loop-i.i rest _ same_bits (omega arith) (c.loop-i.invariant.due rest c.requires.next.1),
+      next_round g.EF.ExtensionField.DEGREE bits _ c.args.num_rounds c.loop-i.i rest _ same_bits
+          (omega arith) (c.loop-i.invariant.due rest c.requires.next.1),
     )
 
 pub returns-in_err-round-clause-failure : goal.returns-in_err-round-clause-failure
@@ -64,18 +84,28 @@ returns-in_err-round-clause-failure g c =
     let before = c.loop-i.invariant in
     let rounds = c.loop-i.rounds in
     let commits = g.M.Mmcs.commits c.args.mmcs.now in
-    let word : (ℕ → List g.row.EF.Denot) → List g.row.EF.Denot → ℕ → List g.row.EF.Denot = λ f. word_at (fields g) c.args.heights.now f c.args.log_height c.args.first.items in
+    let word : (ℕ → List g.row.EF.Denot) → List g.row.EF.Denot → ℕ → List g.row.EF.Denot =
+    λ f. word_at (fields g) c.args.heights.now f c.args.log_height c.args.first.items in
     let played = zip rounds.commitments.items rounds.witnesses.items in
-    let long : length played ≡ c.loop-i.i = (let e = length-zip rounds.commitments.items rounds.witnesses.items in omega (arith, e, before.commitments, before.witnesses)) in
-    handed_on c.from_residual-in_err-round.result c.in_err-round.field-0.0 (IsRoundsFailure r commits c.args.transcript.now (fields g) c.args.heights.now c.args.folded.now c.args.log_height c.args.first.items c.args.num_rounds) c.from_residual-in_err-round.ensures.1
+    let long : length played ≡ c.loop-i.i =
+    (let e = length-zip rounds.commitments.items rounds.witnesses.items in
+    omega (arith, e, before.commitments, before.witnesses)) in
+    handed_on c.from_residual-in_err-round.result c.in_err-round.field-0.0
+    (IsRoundsFailure r commits c.args.transcript.now (fields g) c.args.heights.now
+    c.args.folded.now c.args.log_height c.args.first.items c.args.num_rounds)
+    c.from_residual-in_err-round.ensures.1
     (elim c.in_err-round.ensures.failure [
       | inl refused ↦ inl refused
       | inr stuck ↦
           inr (
             stuck.0,
-            λ f are. stuck_after r bits begun _ commits (word f) c.args.num_rounds played rounds.betas.items _ same_bits before.played
-                (words_committed commits g.M.Mmcs.matrices (word f rounds.betas.items) rounds.kept.items rounds.commitments.items rounds.witnesses.items (before.committed f are))
-                (omega (arith, long)) c.loop-i.word.items (before.word f are ∙ ap (word f rounds.betas.items) (sym long))
+            λ f are. stuck_after r bits begun _ commits (word f) c.args.num_rounds played
+                rounds.betas.items _ same_bits before.played
+                (words_committed commits g.M.Mmcs.matrices (word f rounds.betas.items)
+                rounds.kept.items rounds.commitments.items rounds.witnesses.items
+                (before.committed f are))
+                (omega (arith, long)) c.loop-i.word.items
+                (before.word f are ∙ ap (word f rounds.betas.items) (sym long))
                 stuck.1 stuck.2 stuck.3,
           )
     ])
@@ -108,36 +138,52 @@ loop-i-preserved g c =
         challenger = c.play_round.ensures.same.challenger ∙ before.same.challenger;
         shape = c.play_round.ensures.same.shape ∙ before.same.shape;
       };
-      due = λ rest e. played.due _ (next_round degree bits _ n i rest _ same_bits within (before.due rest e));
-      commitments = ap length added.commitments ∙ length_push old.commitments.items round.commitment ∙ ap (λ m. m + 1) before.commitments;
-      witnesses = ap length added.witnesses ∙ length_push old.witnesses.items round.witness ∙ ap (λ m. m + 1) before.witnesses;
-      betas = ap length added.betas ∙ length_push old.betas.items round.beta ∙ ap (λ m. m + 1) before.betas;
-      easy = λ none. zeros_pushed zero old.witnesses.items new.witnesses.items round.witness (before.easy none) (played.easy (same_bits ∙ none)) added.witnesses;
+      due =
+          λ rest e. played.due _ (next_round degree bits _ n i rest _ same_bits within
+          (before.due rest e));
+      commitments = ap length added.commitments ∙ length_push old.commitments.items round.commitment
+          ∙ ap (λ m. m + 1) before.commitments;
+      witnesses = ap length added.witnesses ∙ length_push old.witnesses.items round.witness
+          ∙ ap (λ m. m + 1) before.witnesses;
+      betas = ap length added.betas ∙ length_push old.betas.items round.beta
+          ∙ ap (λ m. m + 1) before.betas;
+      easy = λ none. zeros_pushed zero old.witnesses.items new.witnesses.items round.witness
+          (before.easy none) (played.easy (same_bits ∙ none)) added.witnesses;
       played =
-          played_more r bits begun _ old.commitments.items new.commitments.items old.witnesses.items new.witnesses.items round.commitment round.witness
-          (map coefficients old.betas.items) (map coefficients new.betas.items) (coefficients round.beta) _ _ (before.commitments ∙ sym before.witnesses) added.commitments added.witnesses same_bits before.played
-          played.found played.passes played.challenge (ap (map coefficients) added.betas ∙ map-append coefficients old.betas.items (round.beta ∷ [])) played.state;
+          played_more r bits begun _ old.commitments.items new.commitments.items old.witnesses.items
+          new.witnesses.items round.commitment round.witness
+          (map coefficients old.betas.items) (map coefficients new.betas.items)
+          (coefficients round.beta) _ _ (before.commitments ∙ sym before.witnesses)
+          added.commitments added.witnesses same_bits before.played
+          played.found played.passes played.challenge (ap (map coefficients) added.betas
+          ∙ map-append coefficients old.betas.items (round.beta ∷ [])) played.state;
       length = ap length is_word ∙ played.length ∙ ap (λ m. 2 ^ m) (omega arith);
       committed = λ f are.
           rounds_more (g.M.Mmcs.commits c.args.mmcs.now) g.M.Mmcs.matrices
-          (word_at k heights f h first old.betas.items) (word_at k heights f h first new.betas.items) c.loop-i.word.items
-          old.kept.items new.kept.items old.commitments.items new.commitments.items round.kept round.commitment added.kept added.commitments
+          (word_at k heights f h first old.betas.items)
+          (word_at k heights f h first new.betas.items) c.loop-i.word.items
+          old.kept.items new.kept.items old.commitments.items new.commitments.items round.kept
+          round.commitment added.kept added.commitments
           (λ m low.
           let known = before.commitments in
           let counted = before.betas in
           ap (λ bs. word_at k heights f h first bs m) added.betas
-          ∙ word_at-kept k heights f h first old.betas.items round.beta m (omega (arith, low, known, counted)))
-          (before.word f are ∙ ap (word_at k heights f h first old.betas.items) (sym before.commitments))
+          ∙ word_at-kept k heights f h first old.betas.items round.beta m
+          (omega (arith, low, known, counted)))
+          (before.word f are ∙ ap (word_at k heights f h first old.betas.items)
+          (sym before.commitments))
           (before.committed f are) played.committed;
       word = λ f are.
           is_word ∙ played.folds f are
-          ∙ word_at-next k heights f h first old.betas.items new.betas.items round.beta i c.loop-i.word.items added.betas before.betas (before.word f are);
+          ∙ word_at-next k heights f h first old.betas.items new.betas.items round.beta i
+          c.loop-i.word.items added.betas before.betas (before.word f are);
     }
 
 pub returns-clause-due : goal.returns-clause-due
 returns-clause-due g c = λ rest e.
     c.loop-i.invariant.due rest e
-    ∙ rounds_none g.EF.ExtensionField.DEGREE (numbers c.args.transcript.now).commit_pow_bits c.args.num_rounds c.loop-i.i rest (omega arith)
+    ∙ rounds_none g.EF.ExtensionField.DEGREE (numbers c.args.transcript.now).commit_pow_bits
+    c.args.num_rounds c.loop-i.i rest (omega arith)
 
 pub play_round-requires-clause-small : goal.play_round-requires-clause-small
 play_round-requires-clause-small g c =
@@ -187,7 +233,10 @@ returns-clause-committed g c = c.loop-i.invariant.committed
 pub returns-clause-word : goal.returns-clause-word
 returns-clause-word g c = λ f are.
     let ended : c.loop-i.i ≡ c.args.num_rounds = omega arith in
-    c.loop-i.invariant.word f are ∙ ap (word_at (fields g) c.args.heights.now f c.args.log_height c.args.first.items c.loop-i.rounds.betas.items) ended
+    c.loop-i.invariant.word f are
+    ∙ ap
+    (word_at (fields g) c.args.heights.now f c.args.log_height c.args.first.items
+    c.loop-i.rounds.betas.items) ended
 
 pub play_round-requires-clause-positive : goal.play_round-requires-clause-positive
 play_round-requires-clause-positive g c =
@@ -199,4 +248,7 @@ play_round-requires-clause-in_group g c = omega (arith, c.requires.in_group)
 
 pub returns-in_err-word-clause-failure : goal.returns-in_err-word-clause-failure
 returns-in_err-word-clause-failure g c =
-    handed_on c.from_residual-in_err-word.result Memory (IsRoundsFailure (challenger g) (g.M.Mmcs.commits c.args.mmcs.now) c.args.transcript.now (fields g) c.args.heights.now c.args.folded.now c.args.log_height c.args.first.items c.args.num_rounds) c.from_residual-in_err-word.ensures.1 (inl refl)
+    handed_on c.from_residual-in_err-word.result Memory
+    (IsRoundsFailure (challenger g) (g.M.Mmcs.commits c.args.mmcs.now) c.args.transcript.now
+    (fields g) c.args.heights.now c.args.folded.now c.args.log_height c.args.first.items
+    c.args.num_rounds) c.from_residual-in_err-word.ensures.1 (inl refl)

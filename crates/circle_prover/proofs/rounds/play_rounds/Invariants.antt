@@ -13,22 +13,44 @@ use Rattle.circle_prover.proofs.rounds.play_rounds.Given as goal
 -- there, and the other rounds are due
 abbrev pub invariant-loop-i : goal.invariant-loop-i
 invariant-loop-i g l =
-    let r = run_moves g.C.ChallengerState.state g.C.CanObserve-1.after_observe g.C.CanObserve-2.after_observe g.C.CanSample.sampled g.C.CanSample.after_sample g.C.CanSampleBits.sampled_bits g.C.CanSampleBits.after_bits g.C.GrindingChallenger.found_witness g.EF.ExtensionField.DEGREE g.EF.ExtensionField.coefficients (of_nat g.F.Operations.ops) g.F.Operations.ops.zero in
-    let k : Fields g.row.F.Denot g.row.EF.Denot = record { field = g.F.Operations.ops; gen = g.F.ComplexExtendable.generators; two_adicity = g.F.ComplexExtendable.CIRCLE_TWO_ADICITY; is_zero = λ w. g.F.PartialEq.eq w g.F.Field.ZERO; extension = g.EF.Operations.ops; embed = g.EF.ExtensionField.embed; same = g.EF.PartialEq.eq } in
+    let r = run_moves g.C.ChallengerState.state g.C.CanObserve-1.after_observe
+    g.C.CanObserve-2.after_observe g.C.CanSample.sampled g.C.CanSample.after_sample
+    g.C.CanSampleBits.sampled_bits g.C.CanSampleBits.after_bits
+    g.C.GrindingChallenger.found_witness g.EF.ExtensionField.DEGREE
+    g.EF.ExtensionField.coefficients (of_nat g.F.Operations.ops) g.F.Operations.ops.zero in
+    let k : Fields g.row.F.Denot g.row.EF.Denot =
+    record {
+      field = g.F.Operations.ops;
+      gen = g.F.ComplexExtendable.generators;
+      two_adicity =
+          g.F.ComplexExtendable.CIRCLE_TWO_ADICITY;
+      is_zero = λ w. g.F.PartialEq.eq w g.F.Field.ZERO;
+      extension = g.EF.Operations.ops;
+      embed = g.EF.ExtensionField.embed;
+      same =
+          g.EF.PartialEq.eq;
+    } in
     let degree = g.EF.ExtensionField.DEGREE in
     let bits = (numbers l.initial.transcript).commit_pow_bits in
     let begun = g.C.ChallengerState.state (current l.initial.transcript) in
     record {
       same : IsSame l.initial.transcript l.transcript;
-      due : (rest : List Step) → due l.initial.transcript ≡ rounds_steps degree bits l.num_rounds ++ rest → due l.transcript ≡ rounds_steps degree bits (l.num_rounds - l.i) ++ rest;
+      due : (rest : List Step) → due l.initial.transcript ≡ rounds_steps degree bits l.num_rounds
+          ++ rest → due l.transcript ≡ rounds_steps degree bits (l.num_rounds - l.i) ++ rest;
       commitments : length l.rounds.commitments.items ≡ l.i;
       witnesses : length l.rounds.witnesses.items ≡ l.i;
       betas : length l.rounds.betas.items ≡ l.i;
       easy : bits ≡ 0 → All (λ w. w ≡ g.F.Operations.ops.zero) l.rounds.witnesses.items;
-      played : HavePlayed r bits begun (g.C.ChallengerState.state (current l.transcript)) (zip l.rounds.commitments.items l.rounds.witnesses.items) (map g.EF.ExtensionField.coefficients l.rounds.betas.items);
+      played : HavePlayed r bits begun (g.C.ChallengerState.state (current l.transcript))
+          (zip l.rounds.commitments.items l.rounds.witnesses.items)
+          (map g.EF.ExtensionField.coefficients l.rounds.betas.items);
       length : length l.word.items ≡ 2 ^ (l.log_height - l.i);
       committed : (f : ℕ → List g.row.EF.Denot) → map (λ w. w.items) l.folded ≡ map f l.heights
-          → AreRounds (g.M.Mmcs.commits l.mmcs) g.M.Mmcs.matrices (word_at k l.heights f l.log_height l.fn.first.items l.rounds.betas.items) l.rounds.kept.items l.rounds.commitments.items;
+          →
+          AreRounds (g.M.Mmcs.commits l.mmcs) g.M.Mmcs.matrices
+          (word_at k l.heights f l.log_height l.fn.first.items l.rounds.betas.items)
+          l.rounds.kept.items l.rounds.commitments.items;
       word : (f : ℕ → List g.row.EF.Denot) → map (λ w. w.items) l.folded ≡ map f l.heights
-          → l.word.items ≡ word_at k l.heights f l.log_height l.fn.first.items l.rounds.betas.items l.i;
+          → l.word.items ≡ word_at k l.heights f l.log_height l.fn.first.items l.rounds.betas.items
+          l.i;
     }

@@ -16,22 +16,48 @@ use Rattle.circle_prover.proofs.run.open_words.Given.{Over}
 use Rattle.circle_prover.proofs.run.open_words.Goals as goal
 
 -- what the challenger is to the run
-abbrev challenger : (g : Over) → RunMoves g.row.C.Denot g.row.C-State.Denot g.row.F.Denot g.row.EF.Denot g.row.M-Commitment.Denot
-challenger g = run_moves g.C.ChallengerState.state g.C.CanObserve-1.after_observe g.C.CanObserve-2.after_observe g.C.CanSample.sampled g.C.CanSample.after_sample g.C.CanSampleBits.sampled_bits g.C.CanSampleBits.after_bits g.C.GrindingChallenger.found_witness g.EF.ExtensionField.DEGREE g.EF.ExtensionField.coefficients (of_nat g.F.Operations.ops) g.F.Operations.ops.zero
+abbrev challenger : (g : Over) →
+    RunMoves g.row.C.Denot g.row.C-State.Denot g.row.F.Denot g.row.EF.Denot g.row.M-Commitment.Denot
+challenger g = run_moves g.C.ChallengerState.state g.C.CanObserve-1.after_observe
+    g.C.CanObserve-2.after_observe g.C.CanSample.sampled g.C.CanSample.after_sample
+    g.C.CanSampleBits.sampled_bits g.C.CanSampleBits.after_bits g.C.GrindingChallenger.found_witness
+    g.EF.ExtensionField.DEGREE g.EF.ExtensionField.coefficients (of_nat g.F.Operations.ops)
+    g.F.Operations.ops.zero
 
 abbrev fields : (g : Over) → Fields g.row.F.Denot g.row.EF.Denot
-fields g = record { field = g.F.Operations.ops; gen = g.F.ComplexExtendable.generators; two_adicity = g.F.ComplexExtendable.CIRCLE_TWO_ADICITY; is_zero = λ w. g.F.PartialEq.eq w g.F.Field.ZERO; extension = g.EF.Operations.ops; embed = g.EF.ExtensionField.embed; same = g.EF.PartialEq.eq }
+fields g =
+    record {
+      field = g.F.Operations.ops;
+      gen = g.F.ComplexExtendable.generators;
+      two_adicity =
+          g.F.ComplexExtendable.CIRCLE_TWO_ADICITY;
+      is_zero = λ w. g.F.PartialEq.eq w g.F.Field.ZERO;
+      extension = g.EF.Operations.ops;
+      embed = g.EF.ExtensionField.embed;
+      same = g.EF.PartialEq.eq;
+    }
 
 pub returns-in-Ok-clause-draws : goal.returns-in-Ok-clause-draws
 returns-in-Ok-clause-draws g c =
-    drawn-moved (challenger g) _ _ (taken_in (claims_of c.args.claims.now) c.in-Ok.words) _ _ g.EF.ExtensionField.coefficients c.in-Ok.words.draws g.C.ChallengerState.state _ _
-    (c.of_seeded-transcript.ensures.shape ∙ c.in_ok-seeded.ensures.shape) (ap g.C.ChallengerState.state c.of_seeded-transcript.ensures.same ∙ c.in_ok-seeded.ensures.state) (search rules) c.in-Ok.ensures.draws
+    drawn-moved (challenger g) _ _ (taken_in (claims_of c.args.claims.now) c.in-Ok.words) _ _
+    g.EF.ExtensionField.coefficients c.in-Ok.words.draws g.C.ChallengerState.state _ _
+    (c.of_seeded-transcript.ensures.shape ∙ c.in_ok-seeded.ensures.shape)
+    (ap g.C.ChallengerState.state c.of_seeded-transcript.ensures.same
+    ∙ c.in_ok-seeded.ensures.state) (search rules) c.in-Ok.ensures.draws
 
 pub returns-in-Err-clause-failure : goal.returns-in-Err-clause-failure
 returns-in-Err-clause-failure g c =
     elim c.in-Err.ensures.failure [
       | inl refused ↦ inl refused
-      | inr rest ↦ inr (or_moved (λ n s. IsStuck (challenger g) (g.M.Mmcs.commits c.args.params.now.mmcs) (fields g) c.args.params.now (map (committed_of (fields g) c.args.params.now.log_blowup) c.args.matrices.now) n (claims_of c.args.claims.now) s c.in-Err.failure) _ _ _ _ (c.of_seeded-transcript.ensures.shape ∙ c.in_ok-seeded.ensures.shape) (ap g.C.ChallengerState.state c.of_seeded-transcript.ensures.same ∙ c.in_ok-seeded.ensures.state) rest)
+      | inr rest ↦ inr
+          (or_moved
+          (λ n s. IsStuck (challenger g) (g.M.Mmcs.commits c.args.params.now.mmcs) (fields g)
+          c.args.params.now
+          (map (committed_of (fields g) c.args.params.now.log_blowup) c.args.matrices.now) n
+          (claims_of c.args.claims.now) s c.in-Err.failure) _ _ _ _
+          (c.of_seeded-transcript.ensures.shape ∙ c.in_ok-seeded.ensures.shape)
+          (ap g.C.ChallengerState.state c.of_seeded-transcript.ensures.same
+          ∙ c.in_ok-seeded.ensures.state) rest)
     ]
 
 pub play_words-requires-clause-next : goal.play_words-requires-clause-next
@@ -42,30 +68,41 @@ play_words-requires-clause-next g c =
     c.of_seeded-transcript.ensures.due ∙ c.in_ok-seeded.ensures.due
     ∙ ap (λ v. run_steps degree v c.args.shape.num_commit_rounds n) (sym c.requires.claims)
     ∙ ap (λ k. run_steps degree widths k n) c.requires.rounds
-    ∙ ap (run_steps degree widths (rounds_for c.args.params.now c.args.matrices.now)) (sym (c.of_seeded-transcript.ensures.shape ∙ c.in_ok-seeded.ensures.shape))
+    ∙ ap (run_steps degree widths (rounds_for c.args.params.now c.args.matrices.now))
+    (sym (c.of_seeded-transcript.ensures.shape ∙ c.in_ok-seeded.ensures.shape))
 
 pub play_words-requires-clause-small : goal.play_words-requires-clause-small
-play_words-requires-clause-small g c = subst ArePlayable (sym (c.of_seeded-transcript.ensures.shape ∙ c.in_ok-seeded.ensures.shape)) c.requires.small
+play_words-requires-clause-small g c =
+    subst ArePlayable (sym (c.of_seeded-transcript.ensures.shape ∙ c.in_ok-seeded.ensures.shape))
+    c.requires.small
 
 pub play_words-requires-clause-coefficients : goal.play_words-requires-clause-coefficients
 play_words-requires-clause-coefficients g c =
-    ap (λ n. n.log_final_poly_len) (c.of_seeded-transcript.ensures.shape ∙ c.in_ok-seeded.ensures.shape) ∙ c.requires.coefficients
+    ap (λ n. n.log_final_poly_len) (c.of_seeded-transcript.ensures.shape
+    ∙ c.in_ok-seeded.ensures.shape) ∙ c.requires.coefficients
 
 pub returns-in-Ok-clause-below : goal.returns-in-Ok-clause-below
 returns-in-Ok-clause-below g c =
-    subst (λ n. All (λ i. i < 2 ^ n.index_bits) c.in-Ok.words.draws.indices.items) (c.of_seeded-transcript.ensures.shape ∙ c.in_ok-seeded.ensures.shape) c.in-Ok.ensures.below
+    subst (λ n. All (λ i. i < 2 ^ n.index_bits) c.in-Ok.words.draws.indices.items)
+    (c.of_seeded-transcript.ensures.shape ∙ c.in_ok-seeded.ensures.shape) c.in-Ok.ensures.below
 
 pub returns-in-Ok-clause-easy_batch : goal.returns-in-Ok-clause-easy_batch
 returns-in-Ok-clause-easy_batch g c = λ none.
-    c.in-Ok.ensures.easy_batch (ap (λ n. n.batch_pow_bits) (c.of_seeded-transcript.ensures.shape ∙ c.in_ok-seeded.ensures.shape) ∙ none)
+    c.in-Ok.ensures.easy_batch
+    (ap (λ n. n.batch_pow_bits) (c.of_seeded-transcript.ensures.shape
+    ∙ c.in_ok-seeded.ensures.shape) ∙ none)
 
 pub returns-in-Ok-clause-easy_rounds : goal.returns-in-Ok-clause-easy_rounds
 returns-in-Ok-clause-easy_rounds g c = λ none.
-    c.in-Ok.ensures.easy_rounds (ap (λ n. n.commit_pow_bits) (c.of_seeded-transcript.ensures.shape ∙ c.in_ok-seeded.ensures.shape) ∙ none)
+    c.in-Ok.ensures.easy_rounds
+    (ap (λ n. n.commit_pow_bits) (c.of_seeded-transcript.ensures.shape
+    ∙ c.in_ok-seeded.ensures.shape) ∙ none)
 
 pub returns-in-Ok-clause-easy_query : goal.returns-in-Ok-clause-easy_query
 returns-in-Ok-clause-easy_query g c = λ none.
-    c.in-Ok.ensures.easy_query (ap (λ n. n.query_pow_bits) (c.of_seeded-transcript.ensures.shape ∙ c.in_ok-seeded.ensures.shape) ∙ none)
+    c.in-Ok.ensures.easy_query
+    (ap (λ n. n.query_pow_bits) (c.of_seeded-transcript.ensures.shape
+    ∙ c.in_ok-seeded.ensures.shape) ∙ none)
 
 pub returns-in-Ok-clause-words : goal.returns-in-Ok-clause-words
 returns-in-Ok-clause-words g c = c.in-Ok.ensures.words

@@ -9,8 +9,20 @@ use Rattle.circle_prover.proofs.values.requested_values.Given as goal
 -- the values of the requests so far are there
 abbrev pub invariant-loop-request : goal.invariant-loop-request
 invariant-loop-request g l =
-    let k : Fields g.row.F.Denot g.row.EF.Denot = record { field = g.F.Operations.ops; gen = g.F.ComplexExtendable.generators; two_adicity = g.F.ComplexExtendable.CIRCLE_TWO_ADICITY; is_zero = λ w. g.F.PartialEq.eq w g.F.Field.ZERO; extension = g.EF.Operations.ops; embed = g.EF.ExtensionField.embed; same = g.EF.PartialEq.eq } in
+    let k : Fields g.row.F.Denot g.row.EF.Denot =
+    record {
+      field = g.F.Operations.ops;
+      gen = g.F.ComplexExtendable.generators;
+      two_adicity =
+          g.F.ComplexExtendable.CIRCLE_TWO_ADICITY;
+      is_zero = λ w. g.F.PartialEq.eq w g.F.Field.ZERO;
+      extension = g.EF.Operations.ops;
+      embed = g.EF.ExtensionField.embed;
+      same =
+          g.EF.PartialEq.eq;
+    } in
     record {
       right : All (AreWeightsOf k l.log_blowup) l.all.items;
-      values : AllZip (AreAnswers g.M.Mmcs.matrices k l.log_blowup) (take l.request-index l.requests) (openings l.values.items);
+      values : AllZip (AreAnswers g.M.Mmcs.matrices k l.log_blowup)
+          (take l.request-index l.requests) (openings l.values.items);
     }

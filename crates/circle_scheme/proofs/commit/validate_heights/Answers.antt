@@ -16,7 +16,8 @@ validate_height-requires g c =
     let matrices = c.args.matrices.now in
     let i = c.loop-matrix.matrix-index in
     let within : i < length matrices = omega arith in
-    at-item (λ m. IsPowerOfTwo (height_of m)) matrices i c.matrix-item.result c.requires within c.matrix-item.is
+    at-item (λ m. IsPowerOfTwo (height_of m)) matrices i c.matrix-item.result c.requires within
+    c.matrix-item.is
 
 pub returns-in_err-validate_height : goal.returns-in_err-validate_height
 returns-in_err-validate_height g c =
@@ -26,9 +27,11 @@ returns-in_err-validate_height g c =
     λ m. height_tests g.F.ComplexExtendable.CIRCLE_TWO_ADICITY c.args.params.now (height_of m) in
     let e = c.in_err-validate_height.field-0.0 in
     let within : i < length matrices = omega arith in
-    let refused : answer (tests c.matrix-item.result) (tt {0}) ≡ Err e = sym c.validate_height.ensures ∙ c.in_err-validate_height.was in
+    let refused : answer (tests c.matrix-item.result) (tt {0}) ≡ Err e =
+    sym c.validate_height.ensures ∙ c.in_err-validate_height.was in
     refused-is c.from_residual.result e c.from_residual.ensures.1
-    ∙ sym (ap (λ r. result_and r (answer (flat_map tests (drop (i + 1) matrices)) (tt {0}))) refused)
+    ∙ sym (ap (λ r. result_and r (answer (flat_map tests (drop (i + 1) matrices)) (tt {0})))
+    refused)
     ∙ sym (answer-item tests matrices i c.matrix-item.result within c.matrix-item.is)
     ∙ c.loop-matrix.invariant
 
@@ -39,7 +42,8 @@ loop-matrix-preserved g c =
     let tests : RowMajorMatrix g.row.F.Denot → List (Test ProverError) =
     λ m. height_tests g.F.ComplexExtendable.CIRCLE_TWO_ADICITY c.args.params.now (height_of m) in
     let within : i < length matrices = omega arith in
-    let passed : answer (tests c.matrix-item.result) (tt {0}) ≡ Ok (tt {0}) = sym c.validate_height.ensures ∙ c.in_ok-validate_height.was in
+    let passed : answer (tests c.matrix-item.result) (tt {0}) ≡ Ok (tt {0}) =
+    sym c.validate_height.ensures ∙ c.in_ok-validate_height.was in
     sym (ap (λ r. result_and r (answer (flat_map tests (drop (i + 1) matrices)) (tt {0}))) passed)
     ∙ sym (answer-item tests matrices i c.matrix-item.result within c.matrix-item.is)
     ∙ c.loop-matrix.invariant

@@ -7,4 +7,5 @@ use Rattle.circle_scheme.proofs.commit.validate_heights.Given as goal
 abbrev pub invariant-loop-matrix : goal.invariant-loop-matrix
 invariant-loop-matrix g l =
     let two = g.F.ComplexExtendable.CIRCLE_TWO_ADICITY in
-    answer {A = Unit {0}} (matrix_tests two l.params (drop l.matrix-index l.matrices)) (tt {0}) ≡ answer (matrix_tests two l.params l.matrices) (tt {0})
+    answer {A = Unit {0}} (matrix_tests two l.params (drop l.matrix-index l.matrices)) (tt {0})
+    ≡ answer (matrix_tests two l.params l.matrices) (tt {0})

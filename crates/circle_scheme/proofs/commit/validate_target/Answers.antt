@@ -9,7 +9,9 @@ overflow_sub-log2_strict g c =
     let p = c.args.params.now in
     let h = c.log2_strict.result in
     let height = height_of c.args.committed.now in
-    let fits = height-passed g.F.ComplexExtendable.CIRCLE_TWO_ADICITY p height h (c.log2_strict.ensures.power ∙ c.height.ensures) (sym c.validate_height.ensures ∙ c.in_ok-validate_height.was) in
+    let fits = height-passed g.F.ComplexExtendable.CIRCLE_TWO_ADICITY p height h
+    (c.log2_strict.ensures.power ∙ c.height.ensures)
+    (sym c.validate_height.ensures ∙ c.in_ok-validate_height.was) in
     let enough : p.log_blowup + 2 + p.log_final_poly_len ≤ h = fits.0 in
     omega (arith, enough)
 
@@ -19,8 +21,12 @@ returns-then-log_n-log2_strict g c =
     let h = c.log2_strict.result in
     let n = log_size c.args.domain.now in
     let height = height_of c.args.committed.now in
-    let small : n + p.log_blowup < h = omega (arith, c.if-log_n-log2_strict.true, c.log_n.ensures) in
-    sym (target_small g.F.ComplexExtendable.CIRCLE_TWO_ADICITY p height h (c.log2_strict.ensures.power ∙ c.height.ensures) n (sym c.validate_height.ensures ∙ c.in_ok-validate_height.was) small)
+    let small : n + p.log_blowup < h =
+    omega (arith, c.if-log_n-log2_strict.true, c.log_n.ensures) in
+    sym
+    (target_small g.F.ComplexExtendable.CIRCLE_TWO_ADICITY p height h
+    (c.log2_strict.ensures.power ∙ c.height.ensures) n
+    (sym c.validate_height.ensures ∙ c.in_ok-validate_height.was) small)
 
 pub returns : goal.returns
 returns g c =
@@ -28,5 +34,9 @@ returns g c =
     let h = c.log2_strict.result in
     let n = log_size c.args.domain.now in
     let height = height_of c.args.committed.now in
-    let large : h ≤ n + p.log_blowup = omega (arith, c.if-log_n-log2_strict.false, c.log_n.ensures) in
-    sym (target_fits g.F.ComplexExtendable.CIRCLE_TWO_ADICITY p height h (c.log2_strict.ensures.power ∙ c.height.ensures) n (sym c.validate_height.ensures ∙ c.in_ok-validate_height.was) large)
+    let large : h ≤ n + p.log_blowup =
+    omega (arith, c.if-log_n-log2_strict.false, c.log_n.ensures) in
+    sym
+    (target_fits g.F.ComplexExtendable.CIRCLE_TWO_ADICITY p height h
+    (c.log2_strict.ensures.power ∙ c.height.ensures) n
+    (sym c.validate_height.ensures ∙ c.in_ok-validate_height.was) large)

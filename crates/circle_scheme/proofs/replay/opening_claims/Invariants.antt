@@ -7,4 +7,5 @@ use Rattle.circle_scheme.proofs.replay.opening_claims.Given as goal
 -- the claims of the batches so far are there
 abbrev pub invariant-loop-batch : goal.invariant-loop-batch
 invariant-loop-batch g l =
-    claims_of l.claims.items ≡ claims_taken g.EF.Operations.ops (batch_claims (take l.batch-index l.batches))
+    claims_of l.claims.items
+    ≡ claims_taken g.EF.Operations.ops (batch_claims (take l.batch-index l.batches))

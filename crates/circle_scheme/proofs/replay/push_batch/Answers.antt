@@ -9,12 +9,15 @@ use Rattle.circle_scheme.proofs.replay.push_batch.Goals as goal
 
 pub push_matrix-requires : goal.push_matrix-requires
 push_matrix-requires g c =
-    subst (λ ps. All (λ p. IsFinite g.EF.Operations.ops p.point) (map point_claim ps)) (sym c.deref.ensures.value)
-    (All-read (λ m. All (λ p. IsFinite g.EF.Operations.ops p.point) m.claims) matrix_claim c.args.matrices.now c.loop-matrix.matrix-index c.matrix-item.result
+    subst (λ ps. All (λ p. IsFinite g.EF.Operations.ops p.point) (map point_claim ps))
+    (sym c.deref.ensures.value)
+    (All-read (λ m. All (λ p. IsFinite g.EF.Operations.ops p.point) m.claims) matrix_claim
+    c.args.matrices.now c.loop-matrix.matrix-index c.matrix-item.result
     c.requires c.loop-matrix-test.true c.matrix-item.is)
 
 pub returns : goal.returns
 returns g c =
     c.loop-matrix.invariant
-    ∙ ap (λ ms. claims_of c.args.claims.now.items ++ flat_map (λ m. map (point_taken g.EF.Operations.ops) m.claims) (matrix_claims ms))
+    ∙ ap (λ ms. claims_of c.args.claims.now.items
+    ++ flat_map (λ m. map (point_taken g.EF.Operations.ops) m.claims) (matrix_claims ms))
     (take_all c.loop-matrix.matrix-index c.args.matrices.now c.loop-matrix-test.false)

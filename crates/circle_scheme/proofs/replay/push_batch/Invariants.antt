@@ -7,4 +7,6 @@ use Rattle.circle_scheme.proofs.replay.push_batch.Given as goal
 -- the claims of the matrices so far are there
 abbrev pub invariant-loop-matrix : goal.invariant-loop-matrix
 invariant-loop-matrix g l =
-    claims_of l.claims.items ≡ claims_of l.initial.claims.items ++ flat_map (λ m. map (point_taken g.EF.Operations.ops) m.claims) (matrix_claims (take l.matrix-index l.matrices))
+    claims_of l.claims.items ≡ claims_of l.initial.claims.items
+    ++ flat_map (λ m. map (point_taken g.EF.Operations.ops) m.claims)
+    (matrix_claims (take l.matrix-index l.matrices))

@@ -7,4 +7,5 @@ use Rattle.circle_scheme.proofs.replay.push_matrix.Given as goal
 -- the claims so far are there
 abbrev pub invariant-loop-opening : goal.invariant-loop-opening
 invariant-loop-opening g l =
-    claims_of l.claims.items ≡ claims_of l.initial.claims.items ++ map (point_taken g.EF.Operations.ops) (map point_claim (take l.opening-index l.points))
+    claims_of l.claims.items ≡ claims_of l.initial.claims.items
+    ++ map (point_taken g.EF.Operations.ops) (map point_claim (take l.opening-index l.points))

@@ -6,4 +6,5 @@ use Rattle.circle_scheme.proofs.replay.widths_of_batch.Given as goal
 -- the widths of the matrices so far are there
 abbrev pub invariant-loop-matrix : goal.invariant-loop-matrix
 invariant-loop-matrix g l =
-    matrices_of l.widths.items ≡ map (λ m. map (λ c. length c.values) m.claims) (matrix_claims (take l.matrix-index l.matrices))
+    matrices_of l.widths.items ≡ map (λ m. map (λ c. length c.values) m.claims)
+    (matrix_claims (take l.matrix-index l.matrices))

@@ -6,4 +6,5 @@ use Rattle.circle_scheme.proofs.replay.widths_of_matrix.Goals as goal
 pub returns : goal.returns
 returns g c =
     c.loop-point.invariant
-    ∙ ap (λ ps. map (λ c. length c.values) (map point_claim ps)) (take_all c.loop-point.point-index c.args.points.now c.loop-point-test.false)
+    ∙ ap (λ ps. map (λ c. length c.values) (map point_claim ps))
+    (take_all c.loop-point.point-index c.args.points.now c.loop-point-test.false)

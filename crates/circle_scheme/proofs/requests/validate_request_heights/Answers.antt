@@ -13,7 +13,9 @@ pub validate_heights-requires : goal.validate_heights-requires
 validate_heights-requires g c =
     let matrices = g.M.Mmcs.matrices in
     subst HaveHeightsOfPowers (sym c.get_matrices.ensures)
-    (at-item (λ r. HaveHeightsOfPowers (matrices r.prover_data.now)) c.args.requests.now c.loop-request.request-index c.request-item.result c.requires c.loop-request-test.true c.request-item.is)
+    (at-item (λ r. HaveHeightsOfPowers (matrices r.prover_data.now)) c.args.requests.now
+    c.loop-request.request-index c.request-item.result c.requires c.loop-request-test.true
+    c.request-item.is)
 
 pub returns-in_err-validate_heights : goal.returns-in_err-validate_heights
 returns-in_err-validate_heights g c =
@@ -21,11 +23,17 @@ returns-in_err-validate_heights g c =
     let p = c.args.params.now in
     let requests = c.args.requests.now in
     let i = c.loop-request.request-index in
-    let tests : OpeningRequest g.row.M-ProverData.Denot g.row.EF.Denot → List (Test ProverError) = λ r. matrix_tests two p (g.M.Mmcs.matrices r.prover_data.now) in
+    let tests : OpeningRequest g.row.M-ProverData.Denot g.row.EF.Denot → List (Test ProverError) =
+    λ r. matrix_tests two p (g.M.Mmcs.matrices r.prover_data.now) in
     let rest = answer {A = Unit {0}} (flat_map tests (drop (i + 1) requests)) (tt {0}) in
-    let step = answer-item tests requests i c.request-item.result c.loop-request-test.true c.request-item.is in
+    let step = answer-item tests requests i c.request-item.result c.loop-request-test.true
+    c.request-item.is in
     refused-is c.from_residual.result c.in_err-validate_heights.field-0.0 c.from_residual.ensures.1
-    ∙ sym (ap (λ r. result_and r rest) (ap (λ ms. answer {A = Unit {0}} (matrix_tests two p ms) (tt {0})) (sym c.get_matrices.ensures) ∙ sym c.validate_heights.ensures ∙ c.in_err-validate_heights.was))
+    ∙ sym
+    (ap (λ r. result_and r rest)
+    (ap (λ ms. answer {A = Unit {0}} (matrix_tests two p ms) (tt {0}))
+    (sym c.get_matrices.ensures) ∙ sym c.validate_heights.ensures
+    ∙ c.in_err-validate_heights.was))
     ∙ sym step ∙ c.loop-request.invariant
 
 pub loop-request-preserved : goal.loop-request-preserved
@@ -34,8 +42,14 @@ loop-request-preserved g c =
     let p = c.args.params.now in
     let requests = c.args.requests.now in
     let i = c.loop-request.request-index in
-    let tests : OpeningRequest g.row.M-ProverData.Denot g.row.EF.Denot → List (Test ProverError) = λ r. matrix_tests two p (g.M.Mmcs.matrices r.prover_data.now) in
+    let tests : OpeningRequest g.row.M-ProverData.Denot g.row.EF.Denot → List (Test ProverError) =
+    λ r. matrix_tests two p (g.M.Mmcs.matrices r.prover_data.now) in
     let rest = answer {A = Unit {0}} (flat_map tests (drop (i + 1) requests)) (tt {0}) in
-    let step = answer-item tests requests i c.request-item.result c.loop-request-test.true c.request-item.is in
-    sym (ap (λ r. result_and r rest) (ap (λ ms. answer {A = Unit {0}} (matrix_tests two p ms) (tt {0})) (sym c.get_matrices.ensures) ∙ sym c.validate_heights.ensures ∙ c.in_ok-validate_heights.was))
+    let step = answer-item tests requests i c.request-item.result c.loop-request-test.true
+    c.request-item.is in
+    sym
+    (ap (λ r. result_and r rest)
+    (ap (λ ms. answer {A = Unit {0}} (matrix_tests two p ms) (tt {0}))
+    (sym c.get_matrices.ensures) ∙ sym c.validate_heights.ensures
+    ∙ c.in_ok-validate_heights.was))
     ∙ sym step ∙ c.loop-request.invariant

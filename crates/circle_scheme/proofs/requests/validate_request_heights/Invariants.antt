@@ -9,5 +9,7 @@ use Rattle.circle_scheme.proofs.requests.validate_request_heights.Given as goal
 abbrev pub invariant-loop-request : goal.invariant-loop-request
 invariant-loop-request g l =
     let tests : OpeningRequest g.row.M-ProverData.Denot g.row.EF.Denot → List (Test ProverError) =
-    λ r. matrix_tests g.F.ComplexExtendable.CIRCLE_TWO_ADICITY l.params (g.M.Mmcs.matrices r.prover_data.now) in
-    answer {A = Unit {0}} (flat_map tests (drop l.request-index l.requests)) (tt {0}) ≡ answer (flat_map tests l.requests) (tt {0})
+    λ r. matrix_tests g.F.ComplexExtendable.CIRCLE_TWO_ADICITY l.params
+    (g.M.Mmcs.matrices r.prover_data.now) in
+    answer {A = Unit {0}} (flat_map tests (drop l.request-index l.requests)) (tt {0})
+    ≡ answer (flat_map tests l.requests) (tt {0})

@@ -11,7 +11,9 @@ check-requires-clause-next g c =
 
 pub challenge_bits-requires-clause-next : goal.challenge_bits-requires-clause-next
 challenge_bits-requires-clause-next g c =
-    next_is _ _ _ (c.in_ok-check.ensures.due _ (c.requires.next.1 ∙ append_assoc (pow_steps (codes "query_pow") c.args.bits) _ _))
+    next_is _ _ _
+    (c.in_ok-check.ensures.due _
+    (c.requires.next.1 ∙ append_assoc (pow_steps (codes "query_pow") c.args.bits) _ _))
 
 pub returns-in-Ok-clause-same_reference : goal.returns-in-Ok-clause-same_reference
 returns-in-Ok-clause-same_reference g c =
@@ -19,7 +21,9 @@ returns-in-Ok-clause-same_reference g c =
 
 pub returns-in-Ok-clause-due : goal.returns-in-Ok-clause-due
 returns-in-Ok-clause-due g c = λ rest e.
-    left_is _ _ _ _ (c.in_ok-check.ensures.due _ (e ∙ append_assoc (pow_steps (codes "query_pow") c.args.bits) _ _)) c.in-Ok.ensures.due
+    left_is _ _ _ _
+    (c.in_ok-check.ensures.due _
+    (e ∙ append_assoc (pow_steps (codes "query_pow") c.args.bits) _ _)) c.in-Ok.ensures.due
 
 pub returns-in-Ok-clause-passes : goal.returns-in-Ok-clause-passes
 returns-in-Ok-clause-passes g c = c.in_ok-check.ensures.passes
@@ -27,14 +31,18 @@ returns-in-Ok-clause-passes g c = c.in_ok-check.ensures.passes
 pub returns-in-Ok-clause-indices : goal.returns-in-Ok-clause-indices
 returns-in-Ok-clause-indices g c =
     let bits = g.C.CanSampleBits in
-    c.in-Ok.ensures.values ∙ ap (samples (λ s. bits.sampled_bits s c.args.width) (λ s. bits.after_bits s c.args.width) c.args.count) c.in_ok-check.ensures.state
+    c.in-Ok.ensures.values
+    ∙ ap (samples (λ s. bits.sampled_bits s c.args.width) (λ s. bits.after_bits s c.args.width)
+    c.args.count) c.in_ok-check.ensures.state
 
 pub returns-in-Ok-clause-below : goal.returns-in-Ok-clause-below
 returns-in-Ok-clause-below g c = c.in-Ok.ensures.below
 
 pub returns-in-Ok-clause-state : goal.returns-in-Ok-clause-state
 returns-in-Ok-clause-state g c =
-    c.in-Ok.ensures.state ∙ ap (after_samples (λ s. g.C.CanSampleBits.after_bits s c.args.width) c.args.count) c.in_ok-check.ensures.state
+    c.in-Ok.ensures.state
+    ∙ ap (after_samples (λ s. g.C.CanSampleBits.after_bits s c.args.width) c.args.count)
+    c.in_ok-check.ensures.state
 
 pub returns-in-Err-clause-same_reference : goal.returns-in-Err-clause-same_reference
 returns-in-Err-clause-same_reference g c =

@@ -1,4 +1,5 @@
-use Rattle.std.proofs.Common.{◌+◌, ◌<◌, ◌++◌, ◌∷◌, [], length, drop, take, flat_map, refl, sym, ap, ◌∙◌, append_assoc, arith}
+use Rattle.std.proofs.Common.{◌+◌, ◌<◌, ◌++◌, ◌∷◌, [], length, drop, take, flat_map, refl, sym, ap}
+use Rattle.std.proofs.Common.{◌∙◌, append_assoc, arith}
 use Rattle.std.proofs.lemmas.List.{map-append, take_all, drop_all}
 use Rattle.circle_transcript.specs.Shape.{claim_steps}
 use Rattle.circle_transcript.specs.Draw.{widths_of, after_claims_by}
@@ -23,25 +24,36 @@ loop-point-preserved g c =
     let rest_of = drop_read claims i item within c.loop-point-item.is in
     let front_of = take_read claims i item within c.loop-point-item.is in
     record {
-      same_reference = c.observe_claim.ensures.same_reference ∙ c.loop-point.invariant.same_reference;
+      same_reference = c.observe_claim.ensures.same_reference
+          ∙ c.loop-point.invariant.same_reference;
       due = λ rest e.
           c.observe_claim.ensures.due _
-          (c.loop-point.invariant.due rest e ∙ ap (λ xs. flat_map (claim_steps degree) (widths_of (claims_of xs)) ++ rest) rest_of
-          ∙ append_assoc (claim_steps degree (length item.1.now)) (flat_map (claim_steps degree) (widths_of (claims_of (drop (i + 1) claims)))) rest);
+          (c.loop-point.invariant.due rest e
+          ∙ ap (λ xs. flat_map (claim_steps degree) (widths_of (claims_of xs)) ++ rest) rest_of
+          ∙ append_assoc (claim_steps degree (length item.1.now))
+          (flat_map (claim_steps degree) (widths_of (claims_of (drop (i + 1) claims)))) rest);
       state =
           c.observe_claim.ensures.state
-          ∙ ap (λ s. after_claims_by observe coefficients s (claim_of item ∷ [])) c.loop-point.invariant.state
-          ∙ sym (claims-append observe coefficients begun (claims_of (take i claims)) (claim_of item ∷ []))
-          ∙ ap (after_claims_by observe coefficients begun) (sym (ap claims_of front_of ∙ map-append claim_of (take i claims) (item ∷ [])));
+          ∙ ap (λ s. after_claims_by observe coefficients s (claim_of item ∷ []))
+          c.loop-point.invariant.state
+          ∙ sym
+          (claims-append observe coefficients begun (claims_of (take i claims))
+          (claim_of item ∷ []))
+          ∙ ap (after_claims_by observe coefficients begun)
+          (sym (ap claims_of front_of ∙ map-append claim_of (take i claims) (item ∷ [])));
     }
 
 pub returns-clause-due : goal.returns-clause-due
 returns-clause-due g c = λ rest e.
     let degree = g.EF.ExtensionField.DEGREE in
-    c.loop-point.invariant.due rest e ∙ ap (λ xs. flat_map (claim_steps degree) (widths_of (claims_of xs)) ++ rest) (drop_all c.loop-point.point-index c.args.claims.now c.loop-point-test.false)
+    c.loop-point.invariant.due rest e
+    ∙ ap (λ xs. flat_map (claim_steps degree) (widths_of (claims_of xs)) ++ rest)
+    (drop_all c.loop-point.point-index c.args.claims.now c.loop-point-test.false)
 
 pub returns-clause-state : goal.returns-clause-state
 returns-clause-state g c =
     let begun = g.C.ChallengerState.state c.args.transcript.now.challenger.now in
     c.loop-point.invariant.state
-    ∙ ap (λ xs. after_claims_by g.C.CanObserve.after_observe g.EF.ExtensionField.coefficients begun (claims_of xs)) (take_all c.loop-point.point-index c.args.claims.now c.loop-point-test.false)
+    ∙ ap (λ xs. after_claims_by g.C.CanObserve.after_observe g.EF.ExtensionField.coefficients begun
+    (claims_of xs))
+    (take_all c.loop-point.point-index c.args.claims.now c.loop-point-test.false)

@@ -12,6 +12,13 @@ invariant-loop-point g l =
     let degree = g.EF.ExtensionField.DEGREE in
     record {
       same_reference : SameChallenger l.initial.transcript l.transcript;
-      due : (rest : List Step) → due l.initial.transcript ≡ flat_map (claim_steps degree) (widths_of (claims_of l.claims)) ++ rest → due l.transcript ≡ flat_map (claim_steps degree) (widths_of (claims_of (drop l.point-index l.claims))) ++ rest;
-      state : g.C.ChallengerState.state (current l.transcript) ≡ after_claims_by g.C.CanObserve.after_observe g.EF.ExtensionField.coefficients (g.C.ChallengerState.state (current l.initial.transcript)) (claims_of (take l.point-index l.claims));
+      due : (rest : List Step) → due l.initial.transcript
+          ≡ flat_map (claim_steps degree) (widths_of (claims_of l.claims)) ++ rest →
+          due l.transcript
+          ≡ flat_map (claim_steps degree) (widths_of (claims_of (drop l.point-index l.claims)))
+          ++ rest;
+      state : g.C.ChallengerState.state (current l.transcript)
+          ≡ after_claims_by g.C.CanObserve.after_observe g.EF.ExtensionField.coefficients
+          (g.C.ChallengerState.state (current l.initial.transcript))
+          (claims_of (take l.point-index l.claims));
     }

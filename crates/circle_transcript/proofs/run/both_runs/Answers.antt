@@ -13,23 +13,36 @@ use Rattle.circle_transcript.proofs.run.both_runs.Given.{Over}
 use Rattle.circle_transcript.proofs.run.both_runs.Goals as goal
 
 -- what the challenger is to the run
-abbrev challenger : (g : Over) → RunMoves g.row.C.Denot g.row.C-State.Denot g.row.F.Denot g.row.EF.Denot g.row.Com.Denot
-challenger g = run_moves g.C.ChallengerState.state g.C.CanObserve-1.after_observe g.C.CanObserve-2.after_observe g.C.CanSample.sampled g.C.CanSample.after_sample g.C.CanSampleBits.sampled_bits g.C.CanSampleBits.after_bits g.C.GrindingChallenger.found_witness g.EF.ExtensionField.DEGREE g.EF.ExtensionField.coefficients (of_nat g.F.Operations.ops) g.F.Operations.ops.zero
+abbrev challenger : (g : Over) →
+    RunMoves g.row.C.Denot g.row.C-State.Denot g.row.F.Denot g.row.EF.Denot g.row.Com.Denot
+challenger g = run_moves g.C.ChallengerState.state g.C.CanObserve-1.after_observe
+    g.C.CanObserve-2.after_observe g.C.CanSample.sampled g.C.CanSample.after_sample
+    g.C.CanSampleBits.sampled_bits g.C.CanSampleBits.after_bits g.C.GrindingChallenger.found_witness
+    g.EF.ExtensionField.DEGREE g.EF.ExtensionField.coefficients (of_nat g.F.Operations.ops)
+    g.F.Operations.ops.zero
 
 pub returns-in_err-drawn-clause-failure : goal.returns-in_err-drawn-clause-failure
 returns-in_err-drawn-clause-failure g c =
     let r = challenger g in
     let e = c.in_err-drawn.field-0.0 in
-    handed_on c.from_residual-in_err-drawn.result e (λ e. (e ≡ Memory) ⊎ FindsNone r c.args.shape c.args.claims.now c.args.messages.now c.args.prover.now e) c.from_residual-in_err-drawn.ensures.1
-    (subst (λ shape. (e ≡ Memory) ⊎ IsStuck r (numbers_of shape) (claims_of c.args.claims.now) c.args.messages.now (seeded r shape (r.base.state c.args.prover.now)) e) c.in_ok-copy.ensures c.in_err-drawn.ensures.failure)
+    handed_on c.from_residual-in_err-drawn.result e
+    (λ e. (e ≡ Memory) ⊎ FindsNone r c.args.shape c.args.claims.now c.args.messages.now
+    c.args.prover.now e) c.from_residual-in_err-drawn.ensures.1
+    (subst (λ shape. (e ≡ Memory) ⊎ IsStuck r (numbers_of shape) (claims_of c.args.claims.now)
+    c.args.messages.now (seeded r shape (r.base.state c.args.prover.now)) e)
+    c.in_ok-copy.ensures c.in_err-drawn.ensures.failure)
 
 pub returns-in_err-redrawn-clause-failure : goal.returns-in_err-redrawn-clause-failure
 returns-in_err-redrawn-clause-failure g c =
     let r = challenger g in
     let all = taken_of c.args.claims.now c.args.messages.now c.in_ok-drawn.witnesses in
-    let same : draw r (shape_of c.in_ok-copy.copy) all (r.base.state c.args.prover.now) ≡ draw r (shape_of c.args.shape) all (r.base.state c.args.verifier.now) =
-    ap (λ shape. draw r shape all (r.base.state c.args.prover.now)) c.in_ok-copy.ensures ∙ ap (draw r (shape_of c.args.shape) all) c.requires.equal in
-    handed_on c.from_residual-in_err-redrawn.result c.in_err-redrawn.field-0.0 (λ e. (e ≡ Memory) ⊎ FindsNone r c.args.shape c.args.claims.now c.args.messages.now c.args.prover.now e) c.from_residual-in_err-redrawn.ensures.1
+    let same : draw r (shape_of c.in_ok-copy.copy) all (r.base.state c.args.prover.now) ≡ draw r
+    (shape_of c.args.shape) all (r.base.state c.args.verifier.now) =
+    ap (λ shape. draw r shape all (r.base.state c.args.prover.now)) c.in_ok-copy.ensures
+    ∙ ap (draw r (shape_of c.args.shape) all) c.requires.equal in
+    handed_on c.from_residual-in_err-redrawn.result c.in_err-redrawn.field-0.0
+    (λ e. (e ≡ Memory) ⊎ FindsNone r c.args.shape c.args.claims.now c.args.messages.now
+    c.args.prover.now e) c.from_residual-in_err-redrawn.ensures.1
     (elim c.in_err-redrawn.ensures.failure [
       | inl refused ↦ inl refused
       | inr missed ↦ absurd (not_both _ _ _ _ c.in_ok-drawn.ensures.draws missed.failed same)
@@ -39,13 +52,18 @@ pub returns-clause-draws : goal.returns-clause-draws
 returns-clause-draws g c =
     let r = challenger g in
     let w = c.in_ok-drawn.witnesses in
-    let all = taken_of c.args.claims.now c.args.messages.now w in
-    (w, ap (λ shape. draw r shape all (r.base.state c.args.prover.now)) (sym c.in_ok-copy.ensures) ∙ c.in_ok-drawn.ensures.draws)
+    let all = taken_of c.args.claims.now c.args.messages.now w in (
+      w,
+      ap (λ shape. draw r shape all (r.base.state c.args.prover.now)) (sym c.in_ok-copy.ensures)
+          ∙ c.in_ok-drawn.ensures.draws,
+    )
 
 pub returns-clause-alike : goal.returns-clause-alike
 returns-clause-alike g c =
     let r = challenger g in
     let all = taken_of c.args.claims.now c.args.messages.now c.in_ok-drawn.witnesses in
-    let same : draw r (shape_of c.in_ok-copy.copy) all (r.base.state c.args.prover.now) ≡ draw r (shape_of c.args.shape) all (r.base.state c.args.verifier.now) =
-    ap (λ shape. draw r shape all (r.base.state c.args.prover.now)) c.in_ok-copy.ensures ∙ ap (draw r (shape_of c.args.shape) all) c.requires.equal in
+    let same : draw r (shape_of c.in_ok-copy.copy) all (r.base.state c.args.prover.now) ≡ draw r
+    (shape_of c.args.shape) all (r.base.state c.args.verifier.now) =
+    ap (λ shape. draw r shape all (r.base.state c.args.prover.now)) c.in_ok-copy.ensures
+    ∙ ap (draw r (shape_of c.args.shape) all) c.requires.equal in
     same_ok _ _ _ _ c.in_ok-drawn.ensures.draws c.in_ok-redrawn.ensures.draws same

@@ -1,5 +1,6 @@
 use Rattle.std.specs.Prelude.{◌⊎◌, Ok, Err, All, unwrap_or}
-use Rattle.std.proofs.Common.{◌≡◌, ◌<◌, ◌≤◌, ◌^◌, ◌++◌, [], length, map, refl, sym, ap, ◌∙◌, subst, inl, inr}
+use Rattle.std.proofs.Common.{◌≡◌, ◌<◌, ◌≤◌, ◌^◌, ◌++◌, [], length, map, refl, sym, ap, ◌∙◌, subst}
+use Rattle.std.proofs.Common.{inl, inr}
 use Rattle.circle_commit.specs.declared.params.PowPhase.TheVariants.{Batch, CommitPhase, Query}
 use Rattle.circle_field.specs.Field.{of_nat}
 use Rattle.circle_challenger.specs.Moves.{RunMoves, run_moves, after_element}
@@ -13,13 +14,19 @@ use Rattle.circle_transcript.specs.declared.transcript.Numbers.{Numbers}
 use Rattle.circle_transcript.specs.Transcript.{numbers}
 use Rattle.circle_transcript.proofs.Playing.{handed_on, unwrap_none}
 use Rattle.circle_transcript.proofs.Runs.{indices_due}
-use Rattle.circle_transcript.proofs.Drawn.{AtRounds, at_layer, at_query, stuck_in, stuck_rounds, stuck_query, all_drawn, drawn_parts}
+use Rattle.circle_transcript.proofs.Drawn.{AtRounds, at_layer, at_query, stuck_in, stuck_rounds}
+use Rattle.circle_transcript.proofs.Drawn.{stuck_query, all_drawn, drawn_parts}
 use Rattle.circle_transcript.proofs.run.grinding_run.Given.{Over}
 use Rattle.circle_transcript.proofs.run.grinding_run.Goals as goal
 
 -- what the challenger is to the run
-abbrev challenger : (g : Over) → RunMoves g.row.C.Denot g.row.C-State.Denot g.row.F.Denot g.row.EF.Denot g.row.Com.Denot
-challenger g = run_moves g.C.ChallengerState.state g.C.CanObserve-1.after_observe g.C.CanObserve-2.after_observe g.C.CanSample.sampled g.C.CanSample.after_sample g.C.CanSampleBits.sampled_bits g.C.CanSampleBits.after_bits g.C.GrindingChallenger.found_witness g.EF.ExtensionField.DEGREE g.EF.ExtensionField.coefficients (of_nat g.F.Operations.ops) g.F.Operations.ops.zero
+abbrev challenger : (g : Over) →
+    RunMoves g.row.C.Denot g.row.C-State.Denot g.row.F.Denot g.row.EF.Denot g.row.Com.Denot
+challenger g = run_moves g.C.ChallengerState.state g.C.CanObserve-1.after_observe
+    g.C.CanObserve-2.after_observe g.C.CanSample.sampled g.C.CanSample.after_sample
+    g.C.CanSampleBits.sampled_bits g.C.CanSampleBits.after_bits g.C.GrindingChallenger.found_witness
+    g.EF.ExtensionField.DEGREE g.EF.ExtensionField.coefficients (of_nat g.F.Operations.ops)
+    g.F.Operations.ops.zero
 
 pub returns-in_err-alpha-clause-failure : goal.returns-in_err-alpha-clause-failure
 returns-in_err-alpha-clause-failure g c =
@@ -29,8 +36,12 @@ returns-in_err-alpha-clause-failure g c =
     let s = g.C.ChallengerState.state c.args.transcript.now.challenger.now in
     let claims = claims_of c.args.claims.now in
     let messages = c.args.messages.now in
-    handed_on c.from_residual.result c.in_err-alpha.field-0.0 (λ e. (e ≡ Memory) ⊎ IsStuck r n claims messages s e) c.from_residual.ensures.1
-    (inr (stuck_in r n claims messages s Batch c.in_err-alpha.field-0.0 _ c.in_err-alpha.ensures.failure refl c.in_err-alpha.ensures.none))
+    handed_on c.from_residual.result c.in_err-alpha.field-0.0
+    (λ e. (e ≡ Memory) ⊎ IsStuck r n claims messages s e) c.from_residual.ensures.1
+    (inr
+    (stuck_in
+    r n claims messages s Batch c.in_err-alpha.field-0.0 _ c.in_err-alpha.ensures.failure refl
+    c.in_err-alpha.ensures.none))
 
 pub returns-in_err-betas-clause-failure : goal.returns-in_err-betas-clause-failure
 returns-in_err-betas-clause-failure g c =
@@ -42,29 +53,46 @@ returns-in_err-betas-clause-failure g c =
     let messages = c.args.messages.now in
     let all = taken_with claims messages (unwrap_or c.in_ok-alpha.batch zero) [] zero in
     let same2 = c.first_layer-bivariate.ensures.same.shape ∙ c.batch_phase.ensures.same.shape in
-    let second : AtRounds r n all s (numbers c.first_layer-bivariate.new.self) (g.C.ChallengerState.state c.first_layer-bivariate.new.self.challenger.now) =
-    record { same = same2; batch = c.in_ok-alpha.ensures.passes; state = c.first_layer-bivariate.ensures.state ∙ ap (after_element r.base) (at_layer r n all s _ c.in_ok-alpha.ensures.state) } in
-    handed_on c.from_residual-in_err-betas.result c.in_err-betas.field-0.0 (λ e. (e ≡ Memory) ⊎ IsStuck r n claims messages s e) c.from_residual-in_err-betas.ensures.1
+    let second : AtRounds r n all s (numbers c.first_layer-bivariate.new.self)
+    (g.C.ChallengerState.state c.first_layer-bivariate.new.self.challenger.now) =
+    record {
+      same = same2;
+      batch = c.in_ok-alpha.ensures.passes;
+      state =
+          c.first_layer-bivariate.ensures.state
+          ∙ ap (after_element r.base) (at_layer r n all s _ c.in_ok-alpha.ensures.state);
+    } in
+    handed_on c.from_residual-in_err-betas.result c.in_err-betas.field-0.0
+    (λ e. (e ≡ Memory) ⊎ IsStuck r n claims messages s e) c.from_residual-in_err-betas.ensures.1
     (elim c.in_err-betas.ensures.failure [
       | inl refused ↦ inl refused
       | inr stuck ↦
-          inr (stuck_in r n claims messages s CommitPhase c.in_err-betas.field-0.0 _ stuck.0 (ap (λ v. v.commit_pow_bits) same2)
-          (stuck_rounds r n claims messages s (unwrap_or c.in_ok-alpha.batch zero) _ _ second stuck.1))
+          inr
+          (stuck_in r n claims messages s CommitPhase c.in_err-betas.field-0.0 _ stuck.0
+          (ap (λ v. v.commit_pow_bits) same2)
+          (stuck_rounds r n claims messages s (unwrap_or c.in_ok-alpha.batch zero) _ _ second
+          stuck.1))
     ])
 
 -- the steps that are due before the indices
 pub query_phase-requires-clause-next : goal.query_phase-requires-clause-next
 query_phase-requires-clause-next g c = (
   [],
-  indices_due g.EF.ExtensionField.DEGREE (length c.args.messages.now.commitments.now) (numbers c.args.transcript.now) _ _ _ _ (c.first_layer-bivariate.ensures.same.shape ∙ c.batch_phase.ensures.same.shape) c.grinding_rounds.ensures.same.shape
-      (c.first_layer-bivariate.ensures.due _ (c.in_ok-alpha.ensures.due _ c.requires.next)) c.in_ok-betas.ensures.due,
+  indices_due g.EF.ExtensionField.DEGREE (length c.args.messages.now.commitments.now)
+      (numbers c.args.transcript.now) _ _ _ _ (c.first_layer-bivariate.ensures.same.shape
+      ∙ c.batch_phase.ensures.same.shape) c.grinding_rounds.ensures.same.shape
+      (c.first_layer-bivariate.ensures.due _ (c.in_ok-alpha.ensures.due _ c.requires.next))
+      c.in_ok-betas.ensures.due,
 )
 
 pub returns-clause-due : goal.returns-clause-due
 returns-clause-due g c =
     c.in_ok-indices.ensures.due []
-    (indices_due g.EF.ExtensionField.DEGREE (length c.args.messages.now.commitments.now) (numbers c.args.transcript.now) _ _ _ _ (c.first_layer-bivariate.ensures.same.shape ∙ c.batch_phase.ensures.same.shape) c.grinding_rounds.ensures.same.shape
-    (c.first_layer-bivariate.ensures.due _ (c.in_ok-alpha.ensures.due _ c.requires.next)) c.in_ok-betas.ensures.due)
+    (indices_due g.EF.ExtensionField.DEGREE (length c.args.messages.now.commitments.now)
+    (numbers c.args.transcript.now) _ _ _ _ (c.first_layer-bivariate.ensures.same.shape
+    ∙ c.batch_phase.ensures.same.shape) c.grinding_rounds.ensures.same.shape
+    (c.first_layer-bivariate.ensures.due _ (c.in_ok-alpha.ensures.due _ c.requires.next))
+    c.in_ok-betas.ensures.due)
 
 pub returns-in_err-indices-clause-failure : goal.returns-in_err-indices-clause-failure
 returns-in_err-indices-clause-failure g c =
@@ -74,17 +102,33 @@ returns-in_err-indices-clause-failure g c =
     let s = g.C.ChallengerState.state c.args.transcript.now.challenger.now in
     let claims = claims_of c.args.claims.now in
     let messages = c.args.messages.now in
-    let all = taken_with claims messages (unwrap_or c.in_ok-alpha.batch zero) c.in_ok-betas.rounds.items zero in
+    let all = taken_with claims messages (unwrap_or c.in_ok-alpha.batch zero)
+    c.in_ok-betas.rounds.items zero in
     let same2 = c.first_layer-bivariate.ensures.same.shape ∙ c.batch_phase.ensures.same.shape in
-    let second : AtRounds r n all s (numbers c.first_layer-bivariate.new.self) (g.C.ChallengerState.state c.first_layer-bivariate.new.self.challenger.now) =
-    record { same = same2; batch = c.in_ok-alpha.ensures.passes; state = c.first_layer-bivariate.ensures.state ∙ ap (after_element r.base) (at_layer r n all s _ c.in_ok-alpha.ensures.state) } in
-    let third = at_query r n all s (numbers c.grinding_rounds.new.transcript) _ _ _ second c.grinding_rounds.ensures.same.shape c.in_ok-betas.ensures.passes c.in_ok-betas.ensures.state in
-    handed_on c.from_residual-in_err-indices.result c.in_err-indices.field-0.0 (λ e. (e ≡ Memory) ⊎ IsStuck r n claims messages s e) c.from_residual-in_err-indices.ensures.1
+    let second : AtRounds r n all s (numbers c.first_layer-bivariate.new.self)
+    (g.C.ChallengerState.state c.first_layer-bivariate.new.self.challenger.now) =
+    record {
+      same = same2;
+      batch = c.in_ok-alpha.ensures.passes;
+      state =
+          c.first_layer-bivariate.ensures.state
+          ∙ ap (after_element r.base) (at_layer r n all s _ c.in_ok-alpha.ensures.state);
+    } in
+    let third = at_query r n all s (numbers c.grinding_rounds.new.transcript) _ _ _ second
+    c.grinding_rounds.ensures.same.shape c.in_ok-betas.ensures.passes
+    c.in_ok-betas.ensures.state in
+    handed_on c.from_residual-in_err-indices.result c.in_err-indices.field-0.0
+    (λ e. (e ≡ Memory) ⊎ IsStuck r n claims messages s e)
+    c.from_residual-in_err-indices.ensures.1
     (elim c.in_err-indices.ensures.failure [
       | inl refused ↦ inl refused
       | inr none ↦
-          inr (stuck_in r n claims messages s Query c.in_err-indices.field-0.0 _ none (ap (λ v. v.query_pow_bits) (c.grinding_rounds.ensures.same.shape ∙ same2))
-          (stuck_query r n claims messages s (unwrap_or c.in_ok-alpha.batch zero) c.in_ok-betas.rounds.items _ _ third c.in_ok-betas.ensures.count
+          inr
+          (stuck_in
+          r n claims messages s Query c.in_err-indices.field-0.0 _ none
+          (ap (λ v. v.query_pow_bits) (c.grinding_rounds.ensures.same.shape ∙ same2))
+          (stuck_query r n claims messages s (unwrap_or c.in_ok-alpha.batch zero)
+          c.in_ok-betas.rounds.items _ _ third c.in_ok-betas.ensures.count
           (c.query_phase.ensures.none (c.in_err-indices.was ∙ ap Err none))))
     ])
 
@@ -96,33 +140,58 @@ returns-clause-draws g c =
     let s = g.C.ChallengerState.state c.args.transcript.now.challenger.now in
     let claims = claims_of c.args.claims.now in
     let messages = c.args.messages.now in
-    let all = taken_with claims messages (unwrap_or c.in_ok-alpha.batch zero) c.in_ok-betas.rounds.items (unwrap_or c.in_ok-indices.query zero) in
+    let all = taken_with claims messages (unwrap_or c.in_ok-alpha.batch zero)
+    c.in_ok-betas.rounds.items (unwrap_or c.in_ok-indices.query zero) in
     let same2 = c.first_layer-bivariate.ensures.same.shape ∙ c.batch_phase.ensures.same.shape in
-    let second : AtRounds r n all s (numbers c.first_layer-bivariate.new.self) (g.C.ChallengerState.state c.first_layer-bivariate.new.self.challenger.now) =
-    record { same = same2; batch = c.in_ok-alpha.ensures.passes; state = c.first_layer-bivariate.ensures.state ∙ ap (after_element r.base) (at_layer r n all s _ c.in_ok-alpha.ensures.state) } in
-    let third = at_query r n all s (numbers c.grinding_rounds.new.transcript) _ _ _ second c.grinding_rounds.ensures.same.shape c.in_ok-betas.ensures.passes c.in_ok-betas.ensures.state in
+    let second : AtRounds r n all s (numbers c.first_layer-bivariate.new.self)
+    (g.C.ChallengerState.state c.first_layer-bivariate.new.self.challenger.now) =
+    record {
+      same = same2;
+      batch = c.in_ok-alpha.ensures.passes;
+      state =
+          c.first_layer-bivariate.ensures.state
+          ∙ ap (after_element r.base) (at_layer r n all s _ c.in_ok-alpha.ensures.state);
+    } in
+    let third = at_query r n all s (numbers c.grinding_rounds.new.transcript) _ _ _ second
+    c.grinding_rounds.ensures.same.shape c.in_ok-betas.ensures.passes
+    c.in_ok-betas.ensures.state in
     let coefficients = g.EF.ExtensionField.coefficients in
-    let drawn = drawn_parts (coefficients c.in_ok-alpha.alpha) (coefficients c.first_layer-bivariate.result) (map coefficients c.in_ok-betas.betas.items) c.in_ok-indices.indices.items
+    let drawn =
+    drawn_parts (coefficients c.in_ok-alpha.alpha) (coefficients c.first_layer-bivariate.result)
+    (map coefficients c.in_ok-betas.betas.items) c.in_ok-indices.indices.items
     (g.C.ChallengerState.state c.query_phase.new.self.challenger.now) in
     let given : draw_seeded r n all s ≡ Ok drawn =
     all_drawn r n all s _ _ third drawn.alpha drawn.bivariate drawn.betas drawn.indices
     _ _ _ drawn.state c.in_ok-alpha.ensures.state second c.in_ok-indices.ensures.passes
-    c.in_ok-alpha.ensures.challenge c.first_layer-bivariate.ensures.challenge c.in_ok-betas.ensures.challenges c.in_ok-indices.ensures.indices c.in_ok-indices.ensures.state in
-    subst (λ w. draw_seeded r n (taken_with claims messages w c.in_ok-betas.rounds.items c.or_zero-query_witness.result) s ≡ Ok drawn) (sym c.or_zero-batch_witness.ensures)
-    (subst (λ w. draw_seeded r n (taken_with claims messages (unwrap_or c.in_ok-alpha.batch zero) c.in_ok-betas.rounds.items w) s ≡ Ok drawn) (sym c.or_zero-query_witness.ensures) given)
+    c.in_ok-alpha.ensures.challenge c.first_layer-bivariate.ensures.challenge
+    c.in_ok-betas.ensures.challenges c.in_ok-indices.ensures.indices
+    c.in_ok-indices.ensures.state in
+    subst
+    (λ w. draw_seeded r n
+    (taken_with claims messages w c.in_ok-betas.rounds.items c.or_zero-query_witness.result) s
+    ≡ Ok drawn) (sym c.or_zero-batch_witness.ensures)
+    (subst
+    (λ w. draw_seeded r n
+    (taken_with claims messages (unwrap_or c.in_ok-alpha.batch zero) c.in_ok-betas.rounds.items
+    w) s ≡ Ok drawn) (sym c.or_zero-query_witness.ensures) given)
 
 pub returns-clause-easy_batch : goal.returns-clause-easy_batch
 returns-clause-easy_batch g c = λ none.
-    c.or_zero-batch_witness.ensures ∙ unwrap_none g.F.Operations.ops.zero c.in_ok-alpha.batch (c.in_ok-alpha.ensures.needed.1 none)
+    c.or_zero-batch_witness.ensures ∙ unwrap_none g.F.Operations.ops.zero c.in_ok-alpha.batch
+    (c.in_ok-alpha.ensures.needed.1 none)
 
 pub returns-clause-easy_rounds : goal.returns-clause-easy_rounds
 returns-clause-easy_rounds g c = λ none.
-    c.in_ok-betas.ensures.easy (ap (λ v. v.commit_pow_bits) (c.first_layer-bivariate.ensures.same.shape ∙ c.batch_phase.ensures.same.shape) ∙ none)
+    c.in_ok-betas.ensures.easy
+    (ap (λ v. v.commit_pow_bits) (c.first_layer-bivariate.ensures.same.shape
+    ∙ c.batch_phase.ensures.same.shape) ∙ none)
 
 pub returns-clause-easy_query : goal.returns-clause-easy_query
 returns-clause-easy_query g c = λ none.
-    let same = c.grinding_rounds.ensures.same.shape ∙ c.first_layer-bivariate.ensures.same.shape ∙ c.batch_phase.ensures.same.shape in
-    c.or_zero-query_witness.ensures ∙ unwrap_none g.F.Operations.ops.zero c.in_ok-indices.query (c.in_ok-indices.ensures.needed.1 (ap (λ v. v.query_pow_bits) same ∙ none))
+    let same = c.grinding_rounds.ensures.same.shape ∙ c.first_layer-bivariate.ensures.same.shape
+    ∙ c.batch_phase.ensures.same.shape in
+    c.or_zero-query_witness.ensures ∙ unwrap_none g.F.Operations.ops.zero c.in_ok-indices.query
+    (c.in_ok-indices.ensures.needed.1 (ap (λ v. v.query_pow_bits) same ∙ none))
 
 pub batch_phase-requires-clause-next : goal.batch_phase-requires-clause-next
 batch_phase-requires-clause-next g c = (_, c.requires.next)
@@ -131,59 +200,78 @@ pub batch_phase-requires-clause-small : goal.batch_phase-requires-clause-small
 batch_phase-requires-clause-small g c = c.requires.small.batch
 
 pub first_layer-bivariate-requires : goal.first_layer-bivariate-requires
-first_layer-bivariate-requires g c = record { next = (_, c.in_ok-alpha.ensures.due _ c.requires.next) }
+first_layer-bivariate-requires g c =
+    record { next = (_, c.in_ok-alpha.ensures.due _ c.requires.next) }
 
 pub grinding_rounds-requires-clause-next : goal.grinding_rounds-requires-clause-next
 grinding_rounds-requires-clause-next g c =
     let n = numbers c.args.transcript.now in (
       _,
       c.first_layer-bivariate.ensures.due _ (c.in_ok-alpha.ensures.due _ c.requires.next)
-          ∙ ap (λ (v : Numbers). rounds_steps g.EF.ExtensionField.DEGREE v.commit_pow_bits (length c.args.messages.now.commitments.now) ++ indices_steps g.EF.ExtensionField.DEGREE n)
+          ∙ ap
+          (λ (v : Numbers). rounds_steps g.EF.ExtensionField.DEGREE v.commit_pow_bits
+          (length c.args.messages.now.commitments.now)
+          ++ indices_steps g.EF.ExtensionField.DEGREE n)
           (sym (c.first_layer-bivariate.ensures.same.shape ∙ c.batch_phase.ensures.same.shape)),
     )
 
 pub grinding_rounds-requires-clause-small : goal.grinding_rounds-requires-clause-small
 grinding_rounds-requires-clause-small g c =
-    subst (λ n. n.commit_pow_bits ≤ 63) (sym (c.first_layer-bivariate.ensures.same.shape ∙ c.batch_phase.ensures.same.shape)) c.requires.small.commit
+    subst (λ n. n.commit_pow_bits ≤ 63)
+    (sym (c.first_layer-bivariate.ensures.same.shape ∙ c.batch_phase.ensures.same.shape))
+    c.requires.small.commit
 
 pub query_phase-requires-clause-small : goal.query_phase-requires-clause-small
 query_phase-requires-clause-small g c =
-    subst (λ n. n.query_pow_bits ≤ 63) (sym (c.grinding_rounds.ensures.same.shape ∙ c.first_layer-bivariate.ensures.same.shape ∙ c.batch_phase.ensures.same.shape)) c.requires.small.query
+    subst (λ n. n.query_pow_bits ≤ 63)
+    (sym (c.grinding_rounds.ensures.same.shape ∙ c.first_layer-bivariate.ensures.same.shape
+    ∙ c.batch_phase.ensures.same.shape)) c.requires.small.query
 
 pub query_phase-requires-clause-narrow : goal.query_phase-requires-clause-narrow
 query_phase-requires-clause-narrow g c =
-    subst (λ n. n.index_bits ≤ 63) (sym (c.grinding_rounds.ensures.same.shape ∙ c.first_layer-bivariate.ensures.same.shape ∙ c.batch_phase.ensures.same.shape)) c.requires.small.index
+    subst (λ n. n.index_bits ≤ 63)
+    (sym (c.grinding_rounds.ensures.same.shape ∙ c.first_layer-bivariate.ensures.same.shape
+    ∙ c.batch_phase.ensures.same.shape)) c.requires.small.index
 
 pub query_phase-requires-clause-count : goal.query_phase-requires-clause-count
 query_phase-requires-clause-count g c =
     c.requires.count
-    ∙ ap (λ n. 2 ^ n.log_final_poly_len) (sym (c.grinding_rounds.ensures.same.shape ∙ c.first_layer-bivariate.ensures.same.shape ∙ c.batch_phase.ensures.same.shape))
+    ∙ ap (λ n. 2 ^ n.log_final_poly_len)
+    (sym (c.grinding_rounds.ensures.same.shape ∙ c.first_layer-bivariate.ensures.same.shape
+    ∙ c.batch_phase.ensures.same.shape))
 
 pub returns-in_err-alpha-clause-same : goal.returns-in_err-alpha-clause-same
 returns-in_err-alpha-clause-same g c = c.batch_phase.ensures.same
 
 pub returns-in_err-betas-clause-same : goal.returns-in_err-betas-clause-same
 returns-in_err-betas-clause-same g c = record {
-  challenger = c.grinding_rounds.ensures.same.challenger ∙ c.first_layer-bivariate.ensures.same.challenger ∙ c.batch_phase.ensures.same.challenger;
-  shape = c.grinding_rounds.ensures.same.shape ∙ c.first_layer-bivariate.ensures.same.shape ∙ c.batch_phase.ensures.same.shape;
+  challenger = c.grinding_rounds.ensures.same.challenger
+      ∙ c.first_layer-bivariate.ensures.same.challenger ∙ c.batch_phase.ensures.same.challenger;
+  shape = c.grinding_rounds.ensures.same.shape ∙ c.first_layer-bivariate.ensures.same.shape
+      ∙ c.batch_phase.ensures.same.shape;
 }
 
 pub returns-in_err-indices-clause-same : goal.returns-in_err-indices-clause-same
 returns-in_err-indices-clause-same g c = record {
-  challenger = c.query_phase.ensures.same.challenger ∙ c.grinding_rounds.ensures.same.challenger ∙ c.first_layer-bivariate.ensures.same.challenger ∙ c.batch_phase.ensures.same.challenger;
-  shape = c.query_phase.ensures.same.shape ∙ c.grinding_rounds.ensures.same.shape ∙ c.first_layer-bivariate.ensures.same.shape ∙ c.batch_phase.ensures.same.shape;
+  challenger = c.query_phase.ensures.same.challenger ∙ c.grinding_rounds.ensures.same.challenger
+      ∙ c.first_layer-bivariate.ensures.same.challenger ∙ c.batch_phase.ensures.same.challenger;
+  shape = c.query_phase.ensures.same.shape ∙ c.grinding_rounds.ensures.same.shape
+      ∙ c.first_layer-bivariate.ensures.same.shape ∙ c.batch_phase.ensures.same.shape;
 }
 
 pub returns-clause-same : goal.returns-clause-same
 returns-clause-same g c = record {
-  challenger = c.query_phase.ensures.same.challenger ∙ c.grinding_rounds.ensures.same.challenger ∙ c.first_layer-bivariate.ensures.same.challenger ∙ c.batch_phase.ensures.same.challenger;
-  shape = c.query_phase.ensures.same.shape ∙ c.grinding_rounds.ensures.same.shape ∙ c.first_layer-bivariate.ensures.same.shape ∙ c.batch_phase.ensures.same.shape;
+  challenger = c.query_phase.ensures.same.challenger ∙ c.grinding_rounds.ensures.same.challenger
+      ∙ c.first_layer-bivariate.ensures.same.challenger ∙ c.batch_phase.ensures.same.challenger;
+  shape = c.query_phase.ensures.same.shape ∙ c.grinding_rounds.ensures.same.shape
+      ∙ c.first_layer-bivariate.ensures.same.shape ∙ c.batch_phase.ensures.same.shape;
 }
 
 pub returns-clause-below : goal.returns-clause-below
 returns-clause-below g c =
     subst (λ n. All (λ i. i < 2 ^ n.index_bits) c.in_ok-indices.indices.items)
-    (c.grinding_rounds.ensures.same.shape ∙ c.first_layer-bivariate.ensures.same.shape ∙ c.batch_phase.ensures.same.shape) c.in_ok-indices.ensures.below
+    (c.grinding_rounds.ensures.same.shape ∙ c.first_layer-bivariate.ensures.same.shape
+    ∙ c.batch_phase.ensures.same.shape) c.in_ok-indices.ensures.below
 
 pub returns-clause-count : goal.returns-clause-count
 returns-clause-count g c = c.in_ok-betas.ensures.count

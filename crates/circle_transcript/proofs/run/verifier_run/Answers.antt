@@ -13,13 +13,21 @@ use Rattle.circle_transcript.proofs.run.verifier_run.Given.{Over}
 use Rattle.circle_transcript.proofs.run.verifier_run.Goals as goal
 
 -- what the challenger is to the run
-abbrev challenger : (g : Over) → RunMoves g.row.C.Denot g.row.C-State.Denot g.row.F.Denot g.row.EF.Denot g.row.Com.Denot
-challenger g = run_moves g.C.ChallengerState.state g.C.CanObserve-1.after_observe g.C.CanObserve-2.after_observe g.C.CanSample.sampled g.C.CanSample.after_sample g.C.CanSampleBits.sampled_bits g.C.CanSampleBits.after_bits g.C.GrindingChallenger.found_witness g.EF.ExtensionField.DEGREE g.EF.ExtensionField.coefficients (of_nat g.F.Operations.ops) g.F.Operations.ops.zero
+abbrev challenger : (g : Over) →
+    RunMoves g.row.C.Denot g.row.C-State.Denot g.row.F.Denot g.row.EF.Denot g.row.Com.Denot
+challenger g = run_moves g.C.ChallengerState.state g.C.CanObserve-1.after_observe
+    g.C.CanObserve-2.after_observe g.C.CanSample.sampled g.C.CanSample.after_sample
+    g.C.CanSampleBits.sampled_bits g.C.CanSampleBits.after_bits g.C.GrindingChallenger.found_witness
+    g.EF.ExtensionField.DEGREE g.EF.ExtensionField.coefficients (of_nat g.F.Operations.ops)
+    g.F.Operations.ops.zero
 
 pub returns-in-Err-clause-failure : goal.returns-in-Err-clause-failure
 returns-in-Err-clause-failure g c =
     let all = taken_of c.args.claims.now c.args.messages.now c.args.witnesses.now in
-    or_moved (λ n s. IsMiss n (draw_seeded (challenger g) n all s) c.in-Err.failure) _ _ _ _ (c.of_seeded-transcript.ensures.shape ∙ c.in_ok-seeded.ensures.shape) (ap g.C.ChallengerState.state c.of_seeded-transcript.ensures.same ∙ c.in_ok-seeded.ensures.state) c.in-Err.ensures.failure
+    or_moved (λ n s. IsMiss n (draw_seeded (challenger g) n all s) c.in-Err.failure) _ _ _ _
+    (c.of_seeded-transcript.ensures.shape ∙ c.in_ok-seeded.ensures.shape)
+    (ap g.C.ChallengerState.state c.of_seeded-transcript.ensures.same
+    ∙ c.in_ok-seeded.ensures.state) c.in-Err.ensures.failure
 
 pub returns-in-Ok-clause-below : goal.returns-in-Ok-clause-below
 returns-in-Ok-clause-below g c =
@@ -35,22 +43,31 @@ checking_run-requires-clause-next g c =
     c.of_seeded-transcript.ensures.due ∙ c.in_ok-seeded.ensures.due
     ∙ ap (λ v. run_steps degree v c.args.shape.num_commit_rounds n) (sym c.requires.claims)
     ∙ ap (λ k. run_steps degree widths k n) (sym c.requires.rounds)
-    ∙ ap (run_steps degree widths rounds) (sym (c.of_seeded-transcript.ensures.shape ∙ c.in_ok-seeded.ensures.shape))
+    ∙ ap (run_steps degree widths rounds)
+    (sym (c.of_seeded-transcript.ensures.shape ∙ c.in_ok-seeded.ensures.shape))
 
 pub checking_run-requires-clause-small : goal.checking_run-requires-clause-small
 checking_run-requires-clause-small g c =
-    subst ArePlayable (sym (c.of_seeded-transcript.ensures.shape ∙ c.in_ok-seeded.ensures.shape)) c.requires.small
+    subst ArePlayable (sym (c.of_seeded-transcript.ensures.shape ∙ c.in_ok-seeded.ensures.shape))
+    c.requires.small
 
 pub checking_run-requires-clause-count : goal.checking_run-requires-clause-count
 checking_run-requires-clause-count g c =
-    c.requires.count ∙ ap (λ n. 2 ^ n.log_final_poly_len) (sym (c.of_seeded-transcript.ensures.shape ∙ c.in_ok-seeded.ensures.shape))
+    c.requires.count
+    ∙ ap (λ n. 2 ^ n.log_final_poly_len)
+    (sym (c.of_seeded-transcript.ensures.shape ∙ c.in_ok-seeded.ensures.shape))
 
 pub returns-in-Ok-clause-draws : goal.returns-in-Ok-clause-draws
 returns-in-Ok-clause-draws g c =
     let r = challenger g in
     let all = taken_of c.args.claims.now c.args.messages.now c.args.witnesses.now in
     let begun = c.of_seeded-transcript.result in
-    let moved : draw_seeded r (numbers begun) all (r.base.state (current begun)) ≡ draw r (shape_of c.args.shape) all (r.base.state c.args.challenger.now) =
-    ap (λ n. draw_seeded r n all (r.base.state (current begun))) (c.of_seeded-transcript.ensures.shape ∙ c.in_ok-seeded.ensures.shape)
-    ∙ ap (draw_seeded r (numbers_of (shape_of c.args.shape)) all) (ap g.C.ChallengerState.state c.of_seeded-transcript.ensures.same ∙ c.in_ok-seeded.ensures.state) in
-    subst (λ v. draw r (shape_of c.args.shape) all (r.base.state c.args.challenger.now) ≡ Ok (drawn_leaving r c.in-Ok.draws v)) (search rules) (sym moved ∙ c.in-Ok.ensures.draws)
+    let moved : draw_seeded r (numbers begun) all (r.base.state (current begun)) ≡ draw r
+    (shape_of c.args.shape) all (r.base.state c.args.challenger.now) =
+    ap (λ n. draw_seeded r n all (r.base.state (current begun)))
+    (c.of_seeded-transcript.ensures.shape ∙ c.in_ok-seeded.ensures.shape)
+    ∙ ap (draw_seeded r (numbers_of (shape_of c.args.shape)) all)
+    (ap g.C.ChallengerState.state c.of_seeded-transcript.ensures.same
+    ∙ c.in_ok-seeded.ensures.state) in
+    subst (λ v. draw r (shape_of c.args.shape) all (r.base.state c.args.challenger.now)
+    ≡ Ok (drawn_leaving r c.in-Ok.draws v)) (search rules) (sym moved ∙ c.in-Ok.ensures.draws)

@@ -16,7 +16,10 @@ loop-matrix-preserved c =
     ∙ map-append (λ m. m.items) c.loop-matrix.copies.items (copy ∷ [])
     ∙ ap (λ before. before ++ copy.items ∷ []) c.loop-matrix.invariant
     ∙ ap (λ last. matrices_of (take i matrices) ++ last ∷ []) same
-    ∙ sym (ap matrices_of (take_read matrices i m within c.matrix-item.is) ∙ map-append (λ m. m.items) (take i matrices) (m ∷ []))
+    ∙ sym (ap matrices_of (take_read matrices i m within c.matrix-item.is)
+    ∙ map-append (λ m. m.items) (take i matrices) (m ∷ []))
 
 pub returns : goal.returns
-returns c = c.loop-matrix.invariant ∙ ap matrices_of (take_all c.loop-matrix.matrix-index c.args.matrices.now c.loop-matrix-test.false)
+returns c = c.loop-matrix.invariant
+    ∙ ap matrices_of
+    (take_all c.loop-matrix.matrix-index c.args.matrices.now c.loop-matrix-test.false)

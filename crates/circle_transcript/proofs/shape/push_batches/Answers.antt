@@ -14,12 +14,17 @@ loop-batch-preserved c =
     let i = c.loop-batch.batch-index in
     let b = c.batch-item.result in
     let within : i < length batches = omega arith in
-    one_more (λ bs. flat_map steps (widths_in (batches_of bs))) (flat_map steps (flat_map (λ m. m) (matrices_of b.items))) batches i b _ _ _
-    (take_read batches i b within c.batch-item.is) (batches-push steps (take i batches) b) c.loop-batch.invariant
-    (c.in_ok-push_matrices.ensures ∙ ap (λ ms. map step_of c.loop-batch.steps.items ++ flat_map steps (flat_map (λ m. m) (matrices_of ms))) c.deref.ensures.value)
+    one_more (λ bs. flat_map steps (widths_in (batches_of bs)))
+    (flat_map steps (flat_map (λ m. m) (matrices_of b.items))) batches i b _ _ _
+    (take_read batches i b within c.batch-item.is) (batches-push steps (take i batches) b)
+    c.loop-batch.invariant
+    (c.in_ok-push_matrices.ensures
+    ∙ ap (λ ms. map step_of c.loop-batch.steps.items
+    ++ flat_map steps (flat_map (λ m. m) (matrices_of ms))) c.deref.ensures.value)
 
 pub returns : goal.returns
 returns c =
     let steps = claim_steps c.args.degree in
     c.loop-batch.invariant
-    ∙ ap (λ bs. map step_of c.args.steps.now.items ++ flat_map steps (widths_in (batches_of bs))) (take_all c.loop-batch.batch-index c.args.batches.now c.loop-batch-test.false)
+    ∙ ap (λ bs. map step_of c.args.steps.now.items ++ flat_map steps (widths_in (batches_of bs)))
+    (take_all c.loop-batch.batch-index c.args.batches.now c.loop-batch-test.false)

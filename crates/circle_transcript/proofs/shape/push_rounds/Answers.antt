@@ -15,5 +15,6 @@ loop-round-preserved c =
     let steps = map step_of c.args.steps.now.items in
     let round = round_steps c.args.degree c.args.bits in
     let rounds = rounds_steps c.args.degree c.args.bits c.loop-round._round in
-    c.in_ok-push_round.ensures ∙ ap (λ v. v ++ round) c.loop-round.invariant ∙ append_assoc steps rounds round
+    c.in_ok-push_round.ensures ∙ ap (λ v. v ++ round) c.loop-round.invariant
+    ∙ append_assoc steps rounds round
     ∙ ap (λ v. steps ++ v) (sym (rounds-push c.args.degree c.args.bits c.loop-round._round))

@@ -5,4 +5,5 @@ use Rattle.circle_transcript.proofs.shape.put_batches.Given as goal
 
 -- the batches so far are written
 abbrev pub invariant-loop-batch : goal.invariant-loop-batch
-invariant-loop-batch l = l.text.items ≡ l.initial.text.items ++ flat_map batch_layout (batches_of (take l.batch-index l.batches))
+invariant-loop-batch l = l.text.items ≡ l.initial.text.items
+    ++ flat_map batch_layout (batches_of (take l.batch-index l.batches))

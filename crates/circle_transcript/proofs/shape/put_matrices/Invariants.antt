@@ -5,4 +5,5 @@ use Rattle.circle_transcript.proofs.shape.put_matrices.Given as goal
 
 -- the numbers so far are written
 abbrev pub invariant-loop-matrix : goal.invariant-loop-matrix
-invariant-loop-matrix l = l.text.items ≡ l.initial.text.items ++ flat_map (λ m. be64 (length m)) (matrices_of (take l.matrix-index l.matrices))
+invariant-loop-matrix l = l.text.items ≡ l.initial.text.items
+    ++ flat_map (λ m. be64 (length m)) (matrices_of (take l.matrix-index l.matrices))

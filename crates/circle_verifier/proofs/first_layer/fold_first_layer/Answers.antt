@@ -1,4 +1,5 @@
-use Rattle.std.proofs.Common.{◌≡◌, ◌≤◌, ◌+◌, ◌++◌, [], ◌∷◌, ◌∙◌, List, Vec, Global, sym, ap, subst, length, map, take, drop, arith}
+use Rattle.std.proofs.Common.{◌≡◌, ◌≤◌, ◌+◌, ◌++◌, [], ◌∷◌, ◌∙◌, List, Vec, Global, sym, ap, subst}
+use Rattle.std.proofs.Common.{length, map, take, drop, arith}
 use Rattle.std.specs.Prelude.{All}
 use Rattle.std.specs.List.{flat_map}
 use Rattle.std.proofs.lemmas.List.{length_push, map-append, length-map}
@@ -13,73 +14,108 @@ use Rattle.circle_relation.specs.Accepts.{Fields}
 use Rattle.circle_relation.specs.RunOf.{heights_of, folded_words, joining_of, queried}
 use Rattle.circle_verifier.specs.FirstLayer.{twiddles_of}
 use Rattle.circle_verifier.specs.Sums.{word_at}
-use Rattle.circle_verifier.proofs.FirstLayerRun.{IsClaimed, pairs_up_to, all_reduced, word-of, place-of, none-yet, count-rows, pairs-all, folded-all, folded-more, pairs-more, next-inverses}
+use Rattle.circle_verifier.proofs.FirstLayerRun.{IsClaimed, pairs_up_to, all_reduced, word-of}
+use Rattle.circle_verifier.proofs.FirstLayerRun.{place-of, none-yet, count-rows, pairs-all}
+use Rattle.circle_verifier.proofs.FirstLayerRun.{folded-all, folded-more, pairs-more, next-inverses}
 use Rattle.circle_verifier.proofs.FirstLayerTwiddles.{heights-fit, points-fit, twiddles-are}
 use Rattle.circle_verifier.proofs.first_layer.fold_first_layer.Given as given
 use Rattle.circle_verifier.proofs.first_layer.fold_first_layer.Goals as goal
 use Rattle.circle_verifier.proofs.first_layer.fold_first_layer.Goals.{In-Some}
 
 abbrev fields : (g : given.Over) → Fields g.row.Val.Denot g.row.EF.Denot
-fields g = record { field = g.Val.Operations.ops; gen = g.Val.ComplexExtendable.generators; two_adicity = g.Val.ComplexExtendable.CIRCLE_TWO_ADICITY; is_zero = λ w. g.Val.PartialEq.eq w g.Val.Field.ZERO; extension = g.EF.Operations.ops; embed = g.EF.ExtensionField.embed; same = g.EF.PartialEq.eq }
+fields g = record {
+  field = g.Val.Operations.ops;
+  gen = g.Val.ComplexExtendable.generators;
+  two_adicity = g.Val.ComplexExtendable.CIRCLE_TWO_ADICITY;
+  is_zero =
+      λ w. g.Val.PartialEq.eq w g.Val.Field.ZERO;
+  extension = g.EF.Operations.ops;
+  embed =
+      g.EF.ExtensionField.embed;
+  same = g.EF.PartialEq.eq;
+}
 
 -- the word of this turn
-word-here : (g : given.Over) (c : In-Some g) → IsClaimed (fields g) c.args.run.now (length c.loop-word.yielded) c.in-Some.word.log_height
+word-here : (g : given.Over) (c : In-Some g) →
+    IsClaimed (fields g) c.args.run.now (length c.loop-word.yielded) c.in-Some.word.log_height
     × (queried c.in-Some.word ≡ word_at (fields g) c.args.run.now c.in-Some.word.log_height)
 word-here g c =
-    let reduced = all_reduced c.requires.drawn c.requires.opened c.args.words.items c.requires.words in
+    let reduced = all_reduced c.requires.drawn c.requires.opened c.args.words.items
+    c.requires.words in
     let given = c.into_iter-word-iterator.ensures.into_iter_gives in
     let all = YieldsList-from_vec c.args.words.items given.0 (given.1 ∙ c.args.words.ok.0) in
-    let t = YieldsList-turn all c.loop-word.yielded _ c.loop-word.yielded_by _ c.next.new.self c.in-Some.word c.in-Some.is c.next.ensures.steps in
+    let t = YieldsList-turn all c.loop-word.yielded _ c.loop-word.yielded_by _ c.next.new.self
+    c.in-Some.word c.in-Some.is c.next.ensures.steps in
     word-of reduced (length c.loop-word.yielded) c.in-Some.word t.0 t.1
 
-pub inverse_first_twiddles-requires-clause-in_group : goal.inverse_first_twiddles-requires-clause-in_group
+pub
+    inverse_first_twiddles-requires-clause-in_group :
+    goal.inverse_first_twiddles-requires-clause-in_group
 inverse_first_twiddles-requires-clause-in_group g c = c.requires.drawn.in_group
 
 pub inverse_first_twiddles-requires-clause-below : goal.inverse_first_twiddles-requires-clause-below
 inverse_first_twiddles-requires-clause-below g c = c.requires.drawn.below
 
-pub inverse_first_twiddles-requires-clause-heights : goal.inverse_first_twiddles-requires-clause-heights
+pub
+    inverse_first_twiddles-requires-clause-heights :
+    goal.inverse_first_twiddles-requires-clause-heights
 inverse_first_twiddles-requires-clause-heights g c =
-    let reduced = all_reduced c.requires.drawn c.requires.opened c.args.words.items c.requires.words in
-    subst (λ ws. All (λ w. (1 ≤ w.log_height) × (w.log_height ≤ c.args.run.now.log_max_height)) ws) (sym c.deref.ensures.value) (heights-fit reduced)
+    let reduced = all_reduced c.requires.drawn c.requires.opened c.args.words.items
+    c.requires.words in
+    subst (λ ws. All (λ w. (1 ≤ w.log_height) × (w.log_height ≤ c.args.run.now.log_max_height)) ws)
+    (sym c.deref.ensures.value) (heights-fit reduced)
 
-pub inverse_first_twiddles-requires-clause-points : goal.inverse_first_twiddles-requires-clause-points
+pub
+    inverse_first_twiddles-requires-clause-points :
+    goal.inverse_first_twiddles-requires-clause-points
 inverse_first_twiddles-requires-clause-points g c =
     let k = fields g in
     let run = c.args.run.now in
-    let reduced = all_reduced c.requires.drawn c.requires.opened c.args.words.items c.requires.words in
-    subst (λ ws. All (λ w. map coordinates w.points.items ≡ map (query_point k.field k.gen w.log_height run.log_max_height) run.indices.now) ws) (sym c.deref.ensures.value) (points-fit reduced)
+    let reduced = all_reduced c.requires.drawn c.requires.opened c.args.words.items
+    c.requires.words in
+    subst
+    (λ ws. All (λ w. map coordinates w.points.items
+    ≡ map (query_point k.field k.gen w.log_height run.log_max_height) run.indices.now) ws)
+    (sym c.deref.ensures.value) (points-fit reduced)
 
 pub returns-in_err-inverses-clause-pairs : goal.returns-in_err-inverses-clause-pairs
-returns-in_err-inverses-clause-pairs g c = IfOk-from_err c.from_residual.result _ c.from_residual.ensures.0
+returns-in_err-inverses-clause-pairs g c =
+    IfOk-from_err c.from_residual.result _ c.from_residual.ensures.0
 
 pub returns-in_err-inverses-clause-folded : goal.returns-in_err-inverses-clause-folded
-returns-in_err-inverses-clause-folded g c = IfOk-from_err c.from_residual.result _ c.from_residual.ensures.0
+returns-in_err-inverses-clause-folded g c =
+    IfOk-from_err c.from_residual.result _ c.from_residual.ensures.0
 
 pub returns-in_err-rows-clause-pairs : goal.returns-in_err-rows-clause-pairs
-returns-in_err-rows-clause-pairs g c = IfOk-from_err c.from_residual-in_err-rows.result _ c.from_residual-in_err-rows.ensures.0
+returns-in_err-rows-clause-pairs g c =
+    IfOk-from_err c.from_residual-in_err-rows.result _ c.from_residual-in_err-rows.ensures.0
 
 pub returns-in_err-rows-clause-folded : goal.returns-in_err-rows-clause-folded
-returns-in_err-rows-clause-folded g c = IfOk-from_err c.from_residual-in_err-rows.result _ c.from_residual-in_err-rows.ensures.0
+returns-in_err-rows-clause-folded g c =
+    IfOk-from_err c.from_residual-in_err-rows.result _ c.from_residual-in_err-rows.ensures.0
 
 pub returns-in_err-folded-clause-pairs : goal.returns-in_err-folded-clause-pairs
-returns-in_err-folded-clause-pairs g c = IfOk-from_err c.from_residual-in_err-folded.result _ c.from_residual-in_err-folded.ensures.0
+returns-in_err-folded-clause-pairs g c =
+    IfOk-from_err c.from_residual-in_err-folded.result _ c.from_residual-in_err-folded.ensures.0
 
 pub returns-in_err-folded-clause-folded : goal.returns-in_err-folded-clause-folded
-returns-in_err-folded-clause-folded g c = IfOk-from_err c.from_residual-in_err-folded.result _ c.from_residual-in_err-folded.ensures.0
+returns-in_err-folded-clause-folded g c =
+    IfOk-from_err c.from_residual-in_err-folded.result _ c.from_residual-in_err-folded.ensures.0
 
 pub loop-word-init : goal.loop-word-init
 loop-word-init g c =
     let k = fields g in
     let run = c.args.run.now in
-    let reduced = all_reduced c.requires.drawn c.requires.opened c.args.words.items c.requires.words in
+    let reduced = all_reduced c.requires.drawn c.requires.opened c.args.words.items
+    c.requires.words in
     record {
       count = c.in_ok-folded.ensures.len;
       folded = ap (map joining_of) c.in_ok-folded.ensures.items;
       pairs = none-yet reduced c.in_ok-rows.ensures;
       later =
           c.as_slice-later.ensures.value ∙ c.in_ok-inverses.ensures
-          ∙ ap (λ ws. map k.field.inv (flat_map (λ w. twiddles_of k run w.log_height) ws)) c.deref.ensures.value
+          ∙ ap (λ ws. map k.field.inv (flat_map (λ w. twiddles_of k run w.log_height) ws))
+          c.deref.ensures.value
           ∙ ap (map k.field.inv) (twiddles-are reduced);
     }
 
@@ -97,7 +133,8 @@ fold_word-requires-clause-opened g c = c.requires.opened
 
 pub fold_word-requires-clause-place : goal.fold_word-requires-clause-place
 fold_word-requires-clause-place g c =
-    let reduced = all_reduced c.requires.drawn c.requires.opened c.args.words.items c.requires.words in
+    let reduced = all_reduced c.requires.drawn c.requires.opened c.args.words.items
+    c.requires.words in
     let word = word-here g (goal.at.fold_word-requires-clause-place g c).In-Some in
     place-of reduced (c.len-in-loop-word.ensures ∙ c.loop-word.invariant.count) word.0
 
@@ -113,23 +150,29 @@ fold_word-requires-clause-inverses g c =
 
 pub fold_word-requires-clause-rows : goal.fold_word-requires-clause-rows
 fold_word-requires-clause-rows g c =
-    let reduced = all_reduced c.requires.drawn c.requires.opened c.args.words.items c.requires.words in
+    let reduced = all_reduced c.requires.drawn c.requires.opened c.args.words.items
+    c.requires.words in
     let rows = c.loop-word.rows.items in
-    let entries : Vec (Vec g.row.EF.Denot Global) Global → List (List g.row.EF.Denot) = λ rows. map (λ row. row.items) rows.items in
+    let entries : Vec (Vec g.row.EF.Denot Global) Global → List (List g.row.EF.Denot) =
+    λ rows. map (λ row. row.items) rows.items in
     ap length c.deref_mut.ensures.value ∙ sym (length-map rows entries)
     ∙ count-rows reduced (opened_rows rows) (length c.loop-word.yielded) c.loop-word.invariant.pairs
 
 pub returns-in_err-values-clause-pairs : goal.returns-in_err-values-clause-pairs
-returns-in_err-values-clause-pairs g c = IfOk-from_err c.from_residual-in_err-values.result _ c.from_residual-in_err-values.ensures.0
+returns-in_err-values-clause-pairs g c =
+    IfOk-from_err c.from_residual-in_err-values.result _ c.from_residual-in_err-values.ensures.0
 
 pub returns-in_err-values-clause-folded : goal.returns-in_err-values-clause-folded
-returns-in_err-values-clause-folded g c = IfOk-from_err c.from_residual-in_err-values.result _ c.from_residual-in_err-values.ensures.0
+returns-in_err-values-clause-folded g c =
+    IfOk-from_err c.from_residual-in_err-values.result _ c.from_residual-in_err-values.ensures.0
 
 pub returns-in_err-push-clause-pairs : goal.returns-in_err-push-clause-pairs
-returns-in_err-push-clause-pairs g c = IfOk-from_err c.from_residual-in_err-push.result _ c.from_residual-in_err-push.ensures.0
+returns-in_err-push-clause-pairs g c =
+    IfOk-from_err c.from_residual-in_err-push.result _ c.from_residual-in_err-push.ensures.0
 
 pub returns-in_err-push-clause-folded : goal.returns-in_err-push-clause-folded
-returns-in_err-push-clause-folded g c = IfOk-from_err c.from_residual-in_err-push.result _ c.from_residual-in_err-push.ensures.0
+returns-in_err-push-clause-folded g c =
+    IfOk-from_err c.from_residual-in_err-push.result _ c.from_residual-in_err-push.ensures.0
 
 pub loop-word-preserved : goal.loop-word-preserved
 loop-word-preserved g c =
@@ -139,34 +182,45 @@ loop-word-preserved g c =
     let done = length c.loop-word.yielded in
     let old = c.loop-word.rows in
     let new = c.fold_word.new.rows in
-    let more : done + 1 ≡ length (c.loop-word.yielded ++ c.in-Some.word ∷ []) = sym (length_push c.loop-word.yielded c.in-Some.word) in
+    let more : done + 1 ≡ length (c.loop-word.yielded ++ c.in-Some.word ∷ []) =
+    sym (length_push c.loop-word.yielded c.in-Some.word) in
     let whole : take old.len (new ++ drop (length new) old.items) ≡ new =
-    take-whole old.len new old.items old.ok.0 (c.fold_word.auto.rows ∙ ap length c.deref_mut.ensures.value) in
+    take-whole old.len new old.items old.ok.0
+    (c.fold_word.auto.rows ∙ ap length c.deref_mut.ensures.value) in
     let held = ap opened_rows c.deref_mut.ensures.value ∙ c.loop-word.invariant.pairs in
     record {
       count = c.in_ok-push.ensures.len ∙ ap (λ n. n + 1) c.loop-word.invariant.count ∙ more;
       folded =
-          ap (map joining_of) c.in_ok-push.ensures.items ∙ map-append joining_of c.loop-word.folded.items (c.in_ok-values.values ∷ [])
+          ap (map joining_of) c.in_ok-push.ensures.items
+          ∙ map-append joining_of c.loop-word.folded.items (c.in_ok-values.values ∷ [])
           ∙ folded-more word.0 c.loop-word.invariant.folded c.in_ok-values.ensures.folded
           ∙ ap (λ n. take n (folded_words k run)) more;
       later =
           c.split_at.ensures.back ∙ (next-inverses word.0 c.loop-word.invariant.later).2
-          ∙ ap (λ n. map k.field.inv (flat_map (twiddles_of k run) (drop n (heights_of k run)))) more;
-      pairs = ap opened_rows whole ∙ pairs-more word.0 held c.in_ok-values.ensures.pairs ∙ ap (pairs_up_to k run) more;
+          ∙ ap (λ n. map k.field.inv (flat_map (twiddles_of k run) (drop n (heights_of k run))))
+          more;
+      pairs = ap opened_rows whole ∙ pairs-more word.0 held c.in_ok-values.ensures.pairs
+          ∙ ap (pairs_up_to k run) more;
     }
 
 pub returns-clause-pairs : goal.returns-clause-pairs
 returns-clause-pairs g c =
-    let reduced = all_reduced c.requires.drawn c.requires.opened c.args.words.items c.requires.words in
+    let reduced = all_reduced c.requires.drawn c.requires.opened c.args.words.items
+    c.requires.words in
     let given = c.into_iter-word-iterator.ensures.into_iter_gives in
     let all = YieldsList-from_vec c.args.words.items given.0 (given.1 ∙ c.args.words.ok.0) in
-    let t = YieldsList-end all c.loop-word.yielded _ c.loop-word.yielded_by _ c.next.new.self c.in-None.is c.next.ensures.steps in
-    pairs-all reduced (opened_rows c.loop-word.rows.items) (length c.loop-word.yielded) t.1 c.loop-word.invariant.pairs
+    let t = YieldsList-end all c.loop-word.yielded _ c.loop-word.yielded_by _ c.next.new.self
+    c.in-None.is c.next.ensures.steps in
+    pairs-all reduced (opened_rows c.loop-word.rows.items) (length c.loop-word.yielded) t.1
+    c.loop-word.invariant.pairs
 
 pub returns-clause-folded : goal.returns-clause-folded
 returns-clause-folded g c =
-    let reduced = all_reduced c.requires.drawn c.requires.opened c.args.words.items c.requires.words in
+    let reduced = all_reduced c.requires.drawn c.requires.opened c.args.words.items
+    c.requires.words in
     let given = c.into_iter-word-iterator.ensures.into_iter_gives in
     let all = YieldsList-from_vec c.args.words.items given.0 (given.1 ∙ c.args.words.ok.0) in
-    let t = YieldsList-end all c.loop-word.yielded _ c.loop-word.yielded_by _ c.next.new.self c.in-None.is c.next.ensures.steps in
-    folded-all reduced (map joining_of c.loop-word.folded.items) (length c.loop-word.yielded) t.1 c.loop-word.invariant.folded
+    let t = YieldsList-end all c.loop-word.yielded _ c.loop-word.yielded_by _ c.next.new.self
+    c.in-None.is c.next.ensures.steps in
+    folded-all reduced (map joining_of c.loop-word.folded.items) (length c.loop-word.yielded) t.1
+    c.loop-word.invariant.folded

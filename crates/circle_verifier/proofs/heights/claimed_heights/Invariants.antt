@@ -8,4 +8,6 @@ use Rattle.circle_verifier.proofs.heights.claimed_heights.Given as goal
 abbrev pub invariant-loop-log_height : goal.invariant-loop-log_height
 invariant-loop-log_height g l =
     let matrices = all_matrices (batch_claims l.run.claims.now) in
-    l.heights.items ≡ filter (λ h. list_any (λ m. log_height l.run.params.now.log_blowup m == h) matrices) (range_with_len 0 l.log_height)
+    l.heights.items
+    ≡ filter (λ h. list_any (λ m. log_height l.run.params.now.log_blowup m == h) matrices)
+    (range_with_len 0 l.log_height)

@@ -17,6 +17,9 @@ cfft_permute_index-requires-clause-in_range g c =
 pub returns : goal.returns
 returns g c =
     c.x.ensures
-    ∙ last-point g.F.Operations.laws g.met.F.ComplexExtendable.generators_law c.args.log_len c.args.place (log_size c.standard-domain.result)
-    c.cfft_permute_index.result (shift_of c.standard-domain.result) (coordinates c.nth_point.result) c.requires.within c.requires.in_group
-    c.standard-domain.ensures.size c.standard-domain.ensures.shift c.cfft_permute_index.ensures.value c.nth_point.ensures
+    ∙ last-point g.F.Operations.laws g.met.F.ComplexExtendable.generators_law c.args.log_len
+    c.args.place (log_size c.standard-domain.result)
+    c.cfft_permute_index.result (shift_of c.standard-domain.result) (coordinates c.nth_point.result)
+    c.requires.within c.requires.in_group
+    c.standard-domain.ensures.size c.standard-domain.ensures.shift
+    c.cfft_permute_index.ensures.value c.nth_point.ensures

@@ -14,8 +14,10 @@ invariant-loop-i g l =
     let done = take l.i (matrix_claims l.matrices) in
     record {
       counted : length l.sums ≡ length l.fn.sums;
-      apart : AreApartAt ops g.EF.ExtensionField.embed l.word.log_blowup l.word.log_height points done;
+      apart : AreApartAt ops g.EF.ExtensionField.embed l.word.log_blowup l.word.log_height points
+          done;
       adds : (alpha : _) → ArePowers ops alpha l.word.powers.now
           → Adds ops g.EF.ExtensionField.embed alpha points (origin g.Val.Operations.ops)
-          (claims_at l.word.log_blowup l.word.log_height done (opened_rows l.opened)) l.fn.offset l.after l.fn.sums l.sums;
+          (claims_at l.word.log_blowup l.word.log_height done (opened_rows l.opened)) l.fn.offset
+          l.after l.fn.sums l.sums;
     }

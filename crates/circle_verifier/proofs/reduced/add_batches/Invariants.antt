@@ -15,8 +15,10 @@ invariant-loop-i g l =
     let done = take l.i (run_of l.run).batches in
     record {
       counted : length l.sums ≡ length l.fn.sums;
-      apart : AreApartAt ops g.EF.ExtensionField.embed l.word.log_blowup l.word.log_height points (all_matrices done);
+      apart : AreApartAt ops g.EF.ExtensionField.embed l.word.log_blowup l.word.log_height points
+          (all_matrices done);
       adds : (alpha : _) → ArePowers ops alpha l.word.powers.now
           → Adds ops g.EF.ExtensionField.embed alpha points (origin g.Val.Operations.ops)
-          (all_claims_at l.word.log_blowup l.word.log_height (zip done (run_of l.run).proof.inputs)) ops.one l.offset l.fn.sums l.sums;
+          (all_claims_at l.word.log_blowup l.word.log_height (zip done (run_of l.run).proof.inputs))
+          ops.one l.offset l.fn.sums l.sums;
     }

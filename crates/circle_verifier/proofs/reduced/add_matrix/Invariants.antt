@@ -16,5 +16,6 @@ invariant-loop-opening g l =
       counted : length l.sums ≡ length l.fn.sums;
       apart : AreApartFrom ops g.EF.ExtensionField.embed points done;
       adds : (alpha : _) → ArePowers ops alpha l.word.powers.now
-          → Adds ops g.EF.ExtensionField.embed alpha points (origin g.Val.Operations.ops) (claims_on l.rows done) l.fn.offset l.after l.fn.sums l.sums;
+          → Adds ops g.EF.ExtensionField.embed alpha points (origin g.Val.Operations.ops)
+          (claims_on l.rows done) l.fn.offset l.after l.fn.sums l.sums;
     }

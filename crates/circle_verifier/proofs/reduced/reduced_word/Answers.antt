@@ -1,4 +1,5 @@
-use Rattle.std.proofs.Common.{◌≡◌, ℕ, ◌<◌, ◌∙◌, refl, sym, ap, subst, length, map, arith, slice_index_or, replicate, lt_of_le_of_lt, le_trans, le_of_lt}
+use Rattle.std.proofs.Common.{◌≡◌, ℕ, ◌<◌, ◌∙◌, refl, sym, ap, subst, length, map, arith}
+use Rattle.std.proofs.Common.{slice_index_or, replicate, lt_of_le_of_lt, le_trans, le_of_lt}
 use Rattle.std.specs.Prelude.{zip}
 use Rattle.std.specs.Vec.{with_items}
 use Rattle.std.proofs.lemmas.List.{length-map, length-replicate, get_or-replicate, with_items_is}
@@ -23,66 +24,118 @@ pub query_points-requires-clause-within : goal.query_points-requires-clause-with
 query_points-requires-clause-within g c = c.requires.within
 
 pub query_points-requires-clause-in_group : goal.query_points-requires-clause-in_group
-query_points-requires-clause-in_group g c = lt_of_le_of_lt c.requires.within c.requires.drawn.in_group
+query_points-requires-clause-in_group g c = lt_of_le_of_lt c.requires.within
+    c.requires.drawn.in_group
 
 pub query_points-requires-clause-small : goal.query_points-requires-clause-small
-query_points-requires-clause-small g c = le_trans (le_of_lt c.requires.drawn.in_group) g.met.Val.ComplexExtendable.at_most_62
+query_points-requires-clause-small g c =
+    le_trans (le_of_lt c.requires.drawn.in_group) g.met.Val.ComplexExtendable.at_most_62
 
 pub query_points-requires-clause-below : goal.query_points-requires-clause-below
 query_points-requires-clause-below g c = c.requires.drawn.below
 
 pub returns-in_err-points-clause-word : goal.returns-in_err-points-clause-word
-returns-in_err-points-clause-word g c = IfOk-from_err c.from_residual.result _ c.from_residual.ensures.0
+returns-in_err-points-clause-word g c =
+    IfOk-from_err c.from_residual.result _ c.from_residual.ensures.0
 
 pub returns-in_err-points-clause-apart : goal.returns-in_err-points-clause-apart
-returns-in_err-points-clause-apart g c = IfOk-from_err c.from_residual.result _ c.from_residual.ensures.0
+returns-in_err-points-clause-apart g c =
+    IfOk-from_err c.from_residual.result _ c.from_residual.ensures.0
 
 pub returns-in_err-points-clause-refused : goal.returns-in_err-points-clause-refused
 unfolding IsReason
 returns-in_err-points-clause-refused g c =
-    let k : Fields g.row.Val.Denot g.row.EF.Denot = record { field = g.Val.Operations.ops; gen = g.Val.ComplexExtendable.generators; two_adicity = g.Val.ComplexExtendable.CIRCLE_TWO_ADICITY; is_zero = λ w. g.Val.PartialEq.eq w g.Val.Field.ZERO; extension = g.EF.Operations.ops; embed = g.EF.ExtensionField.embed; same = g.EF.PartialEq.eq } in
+    let k : Fields g.row.Val.Denot g.row.EF.Denot =
+    record {
+      field = g.Val.Operations.ops;
+      gen = g.Val.ComplexExtendable.generators;
+      two_adicity = g.Val.ComplexExtendable.CIRCLE_TWO_ADICITY;
+      is_zero =
+          λ w. g.Val.PartialEq.eq w g.Val.Field.ZERO;
+      extension = g.EF.Operations.ops;
+      embed =
+          g.EF.ExtensionField.embed;
+      same = g.EF.PartialEq.eq;
+    } in
     let r = run_of c.args.run.now in
     let h = c.args.log_height in
-    handed_on c.from_residual.result Memory (Refuses k c.args.run.now g.InputMmcs.Mmcs.authenticates g.FriMmcs.Mmcs.authenticates g.InputMmcs.Mmcs.is_memory g.FriMmcs.Mmcs.is_memory) c.from_residual.ensures.1 tt
+    handed_on c.from_residual.result Memory
+    (Refuses k c.args.run.now g.InputMmcs.Mmcs.authenticates g.FriMmcs.Mmcs.authenticates
+    g.InputMmcs.Mmcs.is_memory g.FriMmcs.Mmcs.is_memory) c.from_residual.ensures.1 tt
 
 pub returns-in_err-values-clause-word : goal.returns-in_err-values-clause-word
-returns-in_err-values-clause-word g c = IfOk-from_err c.from_residual-in_err-values.result _ c.from_residual-in_err-values.ensures.0
+returns-in_err-values-clause-word g c =
+    IfOk-from_err c.from_residual-in_err-values.result _ c.from_residual-in_err-values.ensures.0
 
 pub returns-in_err-values-clause-apart : goal.returns-in_err-values-clause-apart
-returns-in_err-values-clause-apart g c = IfOk-from_err c.from_residual-in_err-values.result _ c.from_residual-in_err-values.ensures.0
+returns-in_err-values-clause-apart g c =
+    IfOk-from_err c.from_residual-in_err-values.result _ c.from_residual-in_err-values.ensures.0
 
 pub returns-in_err-values-clause-refused : goal.returns-in_err-values-clause-refused
 unfolding IsReason
 returns-in_err-values-clause-refused g c =
-    let k : Fields g.row.Val.Denot g.row.EF.Denot = record { field = g.Val.Operations.ops; gen = g.Val.ComplexExtendable.generators; two_adicity = g.Val.ComplexExtendable.CIRCLE_TWO_ADICITY; is_zero = λ w. g.Val.PartialEq.eq w g.Val.Field.ZERO; extension = g.EF.Operations.ops; embed = g.EF.ExtensionField.embed; same = g.EF.PartialEq.eq } in
+    let k : Fields g.row.Val.Denot g.row.EF.Denot =
+    record {
+      field = g.Val.Operations.ops;
+      gen = g.Val.ComplexExtendable.generators;
+      two_adicity = g.Val.ComplexExtendable.CIRCLE_TWO_ADICITY;
+      is_zero =
+          λ w. g.Val.PartialEq.eq w g.Val.Field.ZERO;
+      extension = g.EF.Operations.ops;
+      embed =
+          g.EF.ExtensionField.embed;
+      same = g.EF.PartialEq.eq;
+    } in
     let r = run_of c.args.run.now in
     let h = c.args.log_height in
-    handed_on c.from_residual-in_err-values.result Memory (Refuses k c.args.run.now g.InputMmcs.Mmcs.authenticates g.FriMmcs.Mmcs.authenticates g.InputMmcs.Mmcs.is_memory g.FriMmcs.Mmcs.is_memory) c.from_residual-in_err-values.ensures.1 tt
+    handed_on c.from_residual-in_err-values.result Memory
+    (Refuses k c.args.run.now g.InputMmcs.Mmcs.authenticates g.FriMmcs.Mmcs.authenticates
+    g.InputMmcs.Mmcs.is_memory g.FriMmcs.Mmcs.is_memory) c.from_residual-in_err-values.ensures.1
+    tt
 
 pub add_batches-requires-clause-points : goal.add_batches-requires-clause-points
 add_batches-requires-clause-points g c =
-    let k : Fields g.row.Val.Denot g.row.EF.Denot = record { field = g.Val.Operations.ops; gen = g.Val.ComplexExtendable.generators; two_adicity = g.Val.ComplexExtendable.CIRCLE_TWO_ADICITY; is_zero = λ w. g.Val.PartialEq.eq w g.Val.Field.ZERO; extension = g.EF.Operations.ops; embed = g.EF.ExtensionField.embed; same = g.EF.PartialEq.eq } in
+    let k : Fields g.row.Val.Denot g.row.EF.Denot =
+    record {
+      field = g.Val.Operations.ops;
+      gen = g.Val.ComplexExtendable.generators;
+      two_adicity = g.Val.ComplexExtendable.CIRCLE_TWO_ADICITY;
+      is_zero =
+          λ w. g.Val.PartialEq.eq w g.Val.Field.ZERO;
+      extension = g.EF.Operations.ops;
+      embed =
+          g.EF.ExtensionField.embed;
+      same = g.EF.PartialEq.eq;
+    } in
     let r = run_of c.args.run.now in
     let h = c.args.log_height in
     let queries = c.args.run.now.indices.now in
     let ps = c.in_ok-points.points.items in
-    let of_points : map coordinates ps ≡ map (query_point k.field k.gen h (top k c.args.run.now.params.now r)) queries =
-    c.in_ok-points.ensures ∙ ap (λ n. map (query_point k.field k.gen h n) queries) c.requires.drawn.top in
-    let listed : map coordinates c.deref.result.now ≡ map (query_point k.field k.gen h (top k c.args.run.now.params.now r)) queries =
+    let of_points : map coordinates ps ≡ map
+    (query_point k.field k.gen h (top k c.args.run.now.params.now r)) queries =
+    c.in_ok-points.ensures ∙ ap (λ n. map (query_point k.field k.gen h n) queries)
+    c.requires.drawn.top in
+    let listed : map coordinates c.deref.result.now ≡ map
+    (query_point k.field k.gen h (top k c.args.run.now.params.now r)) queries =
     ap (map coordinates) c.deref.ensures.value ∙ of_points in
     let zeros : c.in_ok-values.values.items ≡ replicate (length queries) c.ZERO.result =
     c.in_ok-values.ensures.items_if_clones_equal (λ y same. g.met.EF.Field.clone_law _ _ same) in
     let old = c.deref_mut.result.now in
-    let is_old : old ≡ replicate (length queries) c.ZERO.result = c.deref_mut.ensures.value ∙ zeros in
-    let counted : length old ≡ length queries = ap length is_old ∙ length-replicate (length queries) c.ZERO.result in
-    sym (length-map c.deref.result.now coordinates) ∙ ap length listed ∙ length-map queries (query_point k.field k.gen h (top k c.args.run.now.params.now r)) ∙ sym counted
+    let is_old : old ≡ replicate (length queries) c.ZERO.result = c.deref_mut.ensures.value
+    ∙ zeros in
+    let counted : length old ≡ length queries = ap length is_old
+    ∙ length-replicate (length queries) c.ZERO.result in
+    sym (length-map c.deref.result.now coordinates) ∙ ap length listed
+    ∙ length-map queries (query_point k.field k.gen h (top k c.args.run.now.params.now r))
+    ∙ sym counted
 
 pub add_batches-requires-clause-queries : goal.add_batches-requires-clause-queries
 add_batches-requires-clause-queries g c =
     let queries = c.args.run.now.indices.now in
     let zeros : c.in_ok-values.values.items ≡ replicate (length queries) c.ZERO.result =
     c.in_ok-values.ensures.items_if_clones_equal (λ y same. g.met.EF.Field.clone_law _ _ same) in
-    sym (ap length (c.deref_mut.ensures.value ∙ zeros) ∙ length-replicate (length queries) c.ZERO.result)
+    sym (ap length (c.deref_mut.ensures.value ∙ zeros)
+    ∙ length-replicate (length queries) c.ZERO.result)
 
 pub add_batches-requires-clause-blowup : goal.add_batches-requires-clause-blowup
 add_batches-requires-clause-blowup g c = refl
@@ -98,62 +151,135 @@ add_batches-requires-clause-finite g c = c.requires.drawn.finite
 
 pub add_batches-requires-clause-small : goal.add_batches-requires-clause-small
 add_batches-requires-clause-small g c = λ i m lt.
-    let below = below-top c.args.run.now.params.now.log_blowup (all_matrices (run_of c.args.run.now).batches) i m lt in
-    omega (arith, below, c.requires.drawn.top, c.requires.drawn.in_group, g.met.Val.ComplexExtendable.at_most_62)
+    let below =
+    below-top c.args.run.now.params.now.log_blowup
+    (all_matrices (run_of c.args.run.now).batches) i m lt in
+    omega (
+      arith,
+      below,
+      c.requires.drawn.top,
+      c.requires.drawn.in_group,
+      g.met.Val.ComplexExtendable.at_most_62,
+    )
 
 pub returns-in-Some-clause-word : goal.returns-in-Some-clause-word
 returns-in-Some-clause-word g c =
-    let k : Fields g.row.Val.Denot g.row.EF.Denot = record { field = g.Val.Operations.ops; gen = g.Val.ComplexExtendable.generators; two_adicity = g.Val.ComplexExtendable.CIRCLE_TWO_ADICITY; is_zero = λ w. g.Val.PartialEq.eq w g.Val.Field.ZERO; extension = g.EF.Operations.ops; embed = g.EF.ExtensionField.embed; same = g.EF.PartialEq.eq } in
+    let k : Fields g.row.Val.Denot g.row.EF.Denot =
+    record {
+      field = g.Val.Operations.ops;
+      gen = g.Val.ComplexExtendable.generators;
+      two_adicity = g.Val.ComplexExtendable.CIRCLE_TWO_ADICITY;
+      is_zero =
+          λ w. g.Val.PartialEq.eq w g.Val.Field.ZERO;
+      extension = g.EF.Operations.ops;
+      embed =
+          g.EF.ExtensionField.embed;
+      same = g.EF.PartialEq.eq;
+    } in
     let r = run_of c.args.run.now in
     let h = c.args.log_height in
     let queries = c.args.run.now.indices.now in
     let ps = c.in_ok-points.points.items in
-    let of_points : map coordinates ps ≡ map (query_point k.field k.gen h (top k c.args.run.now.params.now r)) queries =
-    c.in_ok-points.ensures ∙ ap (λ n. map (query_point k.field k.gen h n) queries) c.requires.drawn.top in
-    let listed : map coordinates c.deref.result.now ≡ map (query_point k.field k.gen h (top k c.args.run.now.params.now r)) queries =
+    let of_points : map coordinates ps ≡ map
+    (query_point k.field k.gen h (top k c.args.run.now.params.now r)) queries =
+    c.in_ok-points.ensures ∙ ap (λ n. map (query_point k.field k.gen h n) queries)
+    c.requires.drawn.top in
+    let listed : map coordinates c.deref.result.now ≡ map
+    (query_point k.field k.gen h (top k c.args.run.now.params.now r)) queries =
     ap (map coordinates) c.deref.ensures.value ∙ of_points in
     let zeros : c.in_ok-values.values.items ≡ replicate (length queries) c.ZERO.result =
     c.in_ok-values.ensures.items_if_clones_equal (λ y same. g.met.EF.Field.clone_law _ _ same) in
     let old = c.deref_mut.result.now in
-    let is_old : old ≡ replicate (length queries) c.ZERO.result = c.deref_mut.ensures.value ∙ zeros in
-    let counted : length old ≡ length queries = ap length is_old ∙ length-replicate (length queries) c.ZERO.result in
+    let is_old : old ≡ replicate (length queries) c.ZERO.result = c.deref_mut.ensures.value
+    ∙ zeros in
+    let counted : length old ≡ length queries = ap length is_old
+    ∙ length-replicate (length queries) c.ZERO.result in
     let l = k.extension in
     let new = c.add_batches.new.sums in
     let none = origin g.Val.Operations.ops in
-    let claims = all_claims_at c.args.run.now.params.now.log_blowup h (zip r.batches r.proof.inputs) in
+    let claims =
+    all_claims_at c.args.run.now.params.now.log_blowup h (zip r.batches r.proof.inputs) in
     let added = c.in-Some.ensures.sums c.args.run.now.alpha c.requires.powers in
-    let adds : Adds l k.embed c.args.run.now.alpha (map coordinates c.deref.result.now) none claims l.one added.0 old new = added.1 in
+    let adds : Adds l k.embed c.args.run.now.alpha (map coordinates c.deref.result.now) none claims
+    l.one added.0 old new = added.1 in
     let zero : (j : ℕ) → j < length queries → slice_index_or old j l.zero ≡ l.zero =
-    λ j lt. ap (λ xs. slice_index_or xs j l.zero) is_old ∙ get_or-replicate (length queries) j c.ZERO.result l.zero lt ∙ c.ZERO.ensures ∙ g.met.EF.Field.zero_law in
-    let sums = sums-at k c.args.run.now.params.now r h new (map coordinates c.deref.result.now) none (adds.counted ∙ counted) listed
-    (λ j lt. adds-all g.EF.Operations.laws.ring k.embed c.args.run.now.alpha (map coordinates c.deref.result.now) none claims added.0 old new adds j (omega (arith, lt, adds.counted)) (zero j (omega (arith, lt, adds.counted, counted)))) in
+    λ j lt. ap (λ xs. slice_index_or xs j l.zero) is_old
+    ∙ get_or-replicate (length queries) j c.ZERO.result l.zero lt ∙ c.ZERO.ensures
+    ∙ g.met.EF.Field.zero_law in
+    let sums = sums-at k c.args.run.now.params.now r h new (map coordinates c.deref.result.now) none
+    (adds.counted ∙ counted) listed
+    (λ j lt. adds-all g.EF.Operations.laws.ring k.embed c.args.run.now.alpha
+    (map coordinates c.deref.result.now) none claims added.0 old new adds j
+    (omega (arith, lt, adds.counted)) (zero j (omega (arith, lt, adds.counted, counted)))) in
     let stored : (with_items c.in_ok-values.values new).items ≡ new =
-    with_items_is c.in_ok-values.values new (omega (arith, adds.counted, c.deref_mut.ensures.len)) in
-    ap (λ xs. (h, (map coordinates ps, xs))) stored ∙ ap (λ xs. (h, (xs, new))) (of_points ∙ sym (points-at k c.args.run.now.params.now r h)) ∙ ap (λ ss. (h, (at_queries k c.args.run.now.params.now r (λ j q. point_among k c.args.run.now.params.now r j q h), ss))) sums
+    with_items_is c.in_ok-values.values new
+    (omega (arith, adds.counted, c.deref_mut.ensures.len)) in
+    ap (λ xs. (h, (map coordinates ps, xs))) stored
+    ∙ ap (λ xs. (h, (xs, new))) (of_points ∙ sym (points-at k c.args.run.now.params.now r h))
+    ∙ ap
+    (λ ss. (
+      h,
+      (
+        at_queries k c.args.run.now.params.now r
+            (λ j q. point_among k c.args.run.now.params.now r j q h),
+        ss,
+      ),
+    )) sums
 
 pub returns-in-Some-clause-apart : goal.returns-in-Some-clause-apart
 returns-in-Some-clause-apart g c =
-    let k : Fields g.row.Val.Denot g.row.EF.Denot = record { field = g.Val.Operations.ops; gen = g.Val.ComplexExtendable.generators; two_adicity = g.Val.ComplexExtendable.CIRCLE_TWO_ADICITY; is_zero = λ w. g.Val.PartialEq.eq w g.Val.Field.ZERO; extension = g.EF.Operations.ops; embed = g.EF.ExtensionField.embed; same = g.EF.PartialEq.eq } in
+    let k : Fields g.row.Val.Denot g.row.EF.Denot =
+    record {
+      field = g.Val.Operations.ops;
+      gen = g.Val.ComplexExtendable.generators;
+      two_adicity = g.Val.ComplexExtendable.CIRCLE_TWO_ADICITY;
+      is_zero =
+          λ w. g.Val.PartialEq.eq w g.Val.Field.ZERO;
+      extension = g.EF.Operations.ops;
+      embed =
+          g.EF.ExtensionField.embed;
+      same = g.EF.PartialEq.eq;
+    } in
     let r = run_of c.args.run.now in
     let h = c.args.log_height in
     let queries = c.args.run.now.indices.now in
     let ps = c.in_ok-points.points.items in
-    let of_points : map coordinates ps ≡ map (query_point k.field k.gen h (top k c.args.run.now.params.now r)) queries =
-    c.in_ok-points.ensures ∙ ap (λ n. map (query_point k.field k.gen h n) queries) c.requires.drawn.top in
-    let listed : map coordinates c.deref.result.now ≡ map (query_point k.field k.gen h (top k c.args.run.now.params.now r)) queries =
+    let of_points : map coordinates ps ≡ map
+    (query_point k.field k.gen h (top k c.args.run.now.params.now r)) queries =
+    c.in_ok-points.ensures ∙ ap (λ n. map (query_point k.field k.gen h n) queries)
+    c.requires.drawn.top in
+    let listed : map coordinates c.deref.result.now ≡ map
+    (query_point k.field k.gen h (top k c.args.run.now.params.now r)) queries =
     ap (map coordinates) c.deref.ensures.value ∙ of_points in
-    subst (λ xs. AreApartAt k.extension k.embed c.args.run.now.params.now.log_blowup h xs (all_matrices r.batches)) listed c.in-Some.ensures.apart
+    subst (λ xs. AreApartAt k.extension k.embed c.args.run.now.params.now.log_blowup h xs
+    (all_matrices r.batches)) listed c.in-Some.ensures.apart
 
 pub returns-in-None-clause-refused : goal.returns-in-None-clause-refused
 unfolding IsReason
 returns-in-None-clause-refused g c = λ apart.
-    let k : Fields g.row.Val.Denot g.row.EF.Denot = record { field = g.Val.Operations.ops; gen = g.Val.ComplexExtendable.generators; two_adicity = g.Val.ComplexExtendable.CIRCLE_TWO_ADICITY; is_zero = λ w. g.Val.PartialEq.eq w g.Val.Field.ZERO; extension = g.EF.Operations.ops; embed = g.EF.ExtensionField.embed; same = g.EF.PartialEq.eq } in
+    let k : Fields g.row.Val.Denot g.row.EF.Denot =
+    record {
+      field = g.Val.Operations.ops;
+      gen = g.Val.ComplexExtendable.generators;
+      two_adicity = g.Val.ComplexExtendable.CIRCLE_TWO_ADICITY;
+      is_zero =
+          λ w. g.Val.PartialEq.eq w g.Val.Field.ZERO;
+      extension = g.EF.Operations.ops;
+      embed =
+          g.EF.ExtensionField.embed;
+      same = g.EF.PartialEq.eq;
+    } in
     let r = run_of c.args.run.now in
     let h = c.args.log_height in
     let queries = c.args.run.now.indices.now in
     let ps = c.in_ok-points.points.items in
-    let of_points : map coordinates ps ≡ map (query_point k.field k.gen h (top k c.args.run.now.params.now r)) queries =
-    c.in_ok-points.ensures ∙ ap (λ n. map (query_point k.field k.gen h n) queries) c.requires.drawn.top in
-    let listed : map coordinates c.deref.result.now ≡ map (query_point k.field k.gen h (top k c.args.run.now.params.now r)) queries =
+    let of_points : map coordinates ps ≡ map
+    (query_point k.field k.gen h (top k c.args.run.now.params.now r)) queries =
+    c.in_ok-points.ensures ∙ ap (λ n. map (query_point k.field k.gen h n) queries)
+    c.requires.drawn.top in
+    let listed : map coordinates c.deref.result.now ≡ map
+    (query_point k.field k.gen h (top k c.args.run.now.params.now r)) queries =
     ap (map coordinates) c.deref.ensures.value ∙ of_points in
-    c.in-None.ensures.none refl (subst (λ xs. AreApartAt k.extension k.embed c.args.run.now.params.now.log_blowup h xs (all_matrices r.batches)) (sym listed) (apart-at k c.args.run.now.params.now r h apart))
+    c.in-None.ensures.none refl
+    (subst (λ xs. AreApartAt k.extension k.embed c.args.run.now.params.now.log_blowup h xs
+    (all_matrices r.batches)) (sym listed) (apart-at k c.args.run.now.params.now r h apart))

@@ -1,18 +1,31 @@
-use Rattle.std.proofs.Common.{◌≡◌, ◌∙◌, ℕ, ◌+◌, ◌-◌, ◌<◌, ◌≤◌, Fits, w64, sym, ap, true, true≢false, length, arith}
+use Rattle.std.proofs.Common.{◌≡◌, ◌∙◌, ℕ, ◌+◌, ◌-◌, ◌<◌, ◌≤◌, Fits, w64, sym, ap, true, true≢false}
+use Rattle.std.proofs.Common.{length, arith}
 use Rattle.std.proofs.lemmas.Result.{IfOk-from_err}
 use Rattle.circle_commit.specs.Mmcs.{opened_rows}
 use Rattle.circle_commit.specs.declared.error.FriError.TheVariants.{Memory}
 use Rattle.circle_relation.specs.Accepts.{Fields}
 use Rattle.circle_relation.specs.Reasons.{IsReason}
 use Rattle.circle_relation.specs.RunOf.{Refuses}
-use Rattle.circle_verifier.proofs.RoundsValues.{length-values_in, length-siblings_in, asked-rows, round-within}
-use Rattle.circle_verifier.proofs.RoundsOpened.{shifted-one, of-steps, shown-round, round-shown, of-commits}
+use Rattle.circle_verifier.proofs.RoundsValues.{length-values_in, length-siblings_in, asked-rows}
+use Rattle.circle_verifier.proofs.RoundsValues.{round-within}
+use Rattle.circle_verifier.proofs.RoundsOpened.{shifted-one, of-steps, shown-round, round-shown}
+use Rattle.circle_verifier.proofs.RoundsOpened.{of-commits}
 use Rattle.circle_verifier.proofs.ReducedWords.{handed_on}
 use Rattle.circle_verifier.proofs.rounds.authenticate_round.Given as given
 use Rattle.circle_verifier.proofs.rounds.authenticate_round.Goals as goal
 
 abbrev fields : (g : given.Over) → Fields g.row.Val.Denot g.row.EF.Denot
-fields g = record { field = g.Val.Operations.ops; gen = g.Val.ComplexExtendable.generators; two_adicity = g.Val.ComplexExtendable.CIRCLE_TWO_ADICITY; is_zero = λ w. g.Val.PartialEq.eq w g.Val.Field.ZERO; extension = g.EF.Operations.ops; embed = g.EF.ExtensionField.embed; same = g.EF.PartialEq.eq }
+fields g = record {
+  field = g.Val.Operations.ops;
+  gen = g.Val.ComplexExtendable.generators;
+  two_adicity = g.Val.ComplexExtendable.CIRCLE_TWO_ADICITY;
+  is_zero =
+      λ w. g.Val.PartialEq.eq w g.Val.Field.ZERO;
+  extension = g.EF.Operations.ops;
+  embed =
+      g.EF.ExtensionField.embed;
+  same = g.EF.PartialEq.eq;
+}
 
 -- what a round below the greatest height fits into
 module _ (n top two : ℕ) (deep : n + 3 ≤ top) (below : top < two) (few : two ≤ 62) where
@@ -34,69 +47,114 @@ module _ (n top two : ℕ) (deep : n + 3 ≤ top) (below : top < two) (few : two
 pub overflow_add-round : goal.overflow_add-round
 overflow_add-round g c =
     let o = c.args.run.now in
-    one-fits c.args.round o.log_max_height g.Val.ComplexExtendable.CIRCLE_TWO_ADICITY (round-within (fields g) o c.requires.drawn c.args.round c.requires.round) c.requires.drawn.in_group g.met.Val.ComplexExtendable.at_most_62
+    one-fits c.args.round o.log_max_height g.Val.ComplexExtendable.CIRCLE_TWO_ADICITY
+    (round-within (fields g) o c.requires.drawn c.args.round c.requires.round)
+    c.requires.drawn.in_group g.met.Val.ComplexExtendable.at_most_62
 
 pub query_pairs-requires-clause-values : goal.query_pairs-requires-clause-values
-query_pairs-requires-clause-values g c = ap length c.requires.values ∙ length-values_in (fields g) c.args.run.now c.args.round
+query_pairs-requires-clause-values g c = ap length c.requires.values ∙ length-values_in
+    (fields g) c.args.run.now c.args.round
 
 pub query_pairs-requires-clause-siblings : goal.query_pairs-requires-clause-siblings
-query_pairs-requires-clause-siblings g c = ap length c.requires.siblings ∙ length-siblings_in (fields g) c.args.run.now c.args.round
+query_pairs-requires-clause-siblings g c = ap length c.requires.siblings ∙ length-siblings_in
+    (fields g) c.args.run.now c.args.round
 
 pub query_pairs-requires-clause-bits : goal.query_pairs-requires-clause-bits
 query_pairs-requires-clause-bits g c =
     let o = c.args.run.now in
-    one-low c.args.round o.log_max_height g.Val.ComplexExtendable.CIRCLE_TWO_ADICITY (round-within (fields g) o c.requires.drawn c.args.round c.requires.round) c.requires.drawn.in_group g.met.Val.ComplexExtendable.at_most_62
+    one-low c.args.round o.log_max_height g.Val.ComplexExtendable.CIRCLE_TWO_ADICITY
+    (round-within (fields g) o c.requires.drawn c.args.round c.requires.round)
+    c.requires.drawn.in_group g.met.Val.ComplexExtendable.at_most_62
 
 pub returns-in_err-pairs-clause-shown : goal.returns-in_err-pairs-clause-shown
-returns-in_err-pairs-clause-shown g c = IfOk-from_err c.from_residual.result _ c.from_residual.ensures.0
+returns-in_err-pairs-clause-shown g c =
+    IfOk-from_err c.from_residual.result _ c.from_residual.ensures.0
 
 pub returns-in_err-pairs-clause-refused : goal.returns-in_err-pairs-clause-refused
 unfolding IsReason
-returns-in_err-pairs-clause-refused g c = handed_on c.from_residual.result Memory (Refuses (fields g) c.args.run.now g.InputMmcs.Mmcs.authenticates g.FriMmcs.Mmcs.authenticates g.InputMmcs.Mmcs.is_memory g.FriMmcs.Mmcs.is_memory) c.from_residual.ensures.1 tt
+returns-in_err-pairs-clause-refused g c =
+    handed_on c.from_residual.result Memory
+    (Refuses (fields g) c.args.run.now g.InputMmcs.Mmcs.authenticates g.FriMmcs.Mmcs.authenticates
+    g.InputMmcs.Mmcs.is_memory g.FriMmcs.Mmcs.is_memory) c.from_residual.ensures.1 tt
 
 pub overflow_add-round-2 : goal.overflow_add-round-2
 overflow_add-round-2 g c =
     let o = c.args.run.now in
-    two-fits c.args.round o.log_max_height g.Val.ComplexExtendable.CIRCLE_TWO_ADICITY (round-within (fields g) o c.requires.drawn c.args.round c.requires.round) c.requires.drawn.in_group g.met.Val.ComplexExtendable.at_most_62
+    two-fits c.args.round o.log_max_height g.Val.ComplexExtendable.CIRCLE_TWO_ADICITY
+    (round-within (fields g) o c.requires.drawn c.args.round c.requires.round)
+    c.requires.drawn.in_group g.met.Val.ComplexExtendable.at_most_62
 
 pub without_bits-requires : goal.without_bits-requires
 without_bits-requires g c =
     let o = c.args.run.now in
-    two-low c.args.round o.log_max_height g.Val.ComplexExtendable.CIRCLE_TWO_ADICITY (round-within (fields g) o c.requires.drawn c.args.round c.requires.round) c.requires.drawn.in_group g.met.Val.ComplexExtendable.at_most_62
+    two-low c.args.round o.log_max_height g.Val.ComplexExtendable.CIRCLE_TWO_ADICITY
+    (round-within (fields g) o c.requires.drawn c.args.round c.requires.round)
+    c.requires.drawn.in_group g.met.Val.ComplexExtendable.at_most_62
 
 pub returns-in_err-places-clause-shown : goal.returns-in_err-places-clause-shown
-returns-in_err-places-clause-shown g c = IfOk-from_err c.from_residual-in_err-places.result _ c.from_residual-in_err-places.ensures.0
+returns-in_err-places-clause-shown g c =
+    IfOk-from_err c.from_residual-in_err-places.result _ c.from_residual-in_err-places.ensures.0
 
 pub returns-in_err-places-clause-refused : goal.returns-in_err-places-clause-refused
 unfolding IsReason
-returns-in_err-places-clause-refused g c = handed_on c.from_residual-in_err-places.result Memory (Refuses (fields g) c.args.run.now g.InputMmcs.Mmcs.authenticates g.FriMmcs.Mmcs.authenticates g.InputMmcs.Mmcs.is_memory g.FriMmcs.Mmcs.is_memory) c.from_residual-in_err-places.ensures.1 tt
+returns-in_err-places-clause-refused g c =
+    handed_on c.from_residual-in_err-places.result Memory
+    (Refuses (fields g) c.args.run.now g.InputMmcs.Mmcs.authenticates g.FriMmcs.Mmcs.authenticates
+    g.InputMmcs.Mmcs.is_memory g.FriMmcs.Mmcs.is_memory) c.from_residual-in_err-places.ensures.1 tt
 
 pub overflow_sub-shape : goal.overflow_sub-shape
-overflow_sub-shape g c = omega (arith, round-within (fields g) c.args.run.now c.requires.drawn c.args.round c.requires.round)
+overflow_sub-shape g c =
+    omega (
+      arith,
+      round-within
+          (fields g) c.args.run.now c.requires.drawn c.args.round c.requires.round,
+    )
 
 pub overflow_sub-shape-2 : goal.overflow_sub-shape-2
-overflow_sub-shape-2 g c = omega (arith, round-within (fields g) c.args.run.now c.requires.drawn c.args.round c.requires.round)
+overflow_sub-shape-2 g c =
+    omega (
+      arith,
+      round-within
+          (fields g) c.args.run.now c.requires.drawn c.args.round c.requires.round,
+    )
 
 pub overflow_shl-shape : goal.overflow_shl-shape
 overflow_shl-shape g c =
     let o = c.args.run.now in
-    shift-low c.args.round o.log_max_height g.Val.ComplexExtendable.CIRCLE_TWO_ADICITY (round-within (fields g) o c.requires.drawn c.args.round c.requires.round) c.requires.drawn.in_group g.met.Val.ComplexExtendable.at_most_62
+    shift-low c.args.round o.log_max_height g.Val.ComplexExtendable.CIRCLE_TWO_ADICITY
+    (round-within (fields g) o c.requires.drawn c.args.round c.requires.round)
+    c.requires.drawn.in_group g.met.Val.ComplexExtendable.at_most_62
 
 pub index-commitment-requires : goal.index-commitment-requires
-index-commitment-requires g c = omega (arith, of-commits (fields g) c.args.run.now c.requires.drawn c.args.round c.requires.round, c.args.run.now.proof.now.fri_proof.commit_phase_commits.ok.0)
+index-commitment-requires g c =
+    omega (
+      arith,
+      of-commits (fields g) c.args.run.now c.requires.drawn c.args.round c.requires.round,
+      c.args.run.now.proof.now.fri_proof.commit_phase_commits.ok.0,
+    )
 
 pub index-requires : goal.index-requires
-index-requires g c = omega (arith, of-steps (fields g) c.args.run.now c.requires.drawn c.args.round c.requires.round, c.args.run.now.proof.now.fri_proof.commit_phase_openings.ok.0)
+index-requires g c =
+    omega (
+      arith,
+      of-steps (fields g) c.args.run.now c.requires.drawn c.args.round c.requires.round,
+      c.args.run.now.proof.now.fri_proof.commit_phase_openings.ok.0,
+    )
 
 pub returns-in-Ok-clause-shown : goal.returns-in-Ok-clause-shown
 returns-in-Ok-clause-shown g c =
     let k = fields g in
     let o = c.args.run.now in
     let n = c.args.round in
-    let rows = c.in_ok-pairs.ensures ∙ asked-rows k o n c.args.values.now c.args.siblings.now c.requires.values c.requires.siblings in
-    shown-round k o c.requires.drawn n c.requires.round c.index-commitment.result.now c.index.result.now c.index-commitment.ensures c.index.ensures
+    let rows = c.in_ok-pairs.ensures ∙ asked-rows k o n c.args.values.now c.args.siblings.now
+    c.requires.values c.requires.siblings in
+    shown-round k o c.requires.drawn n c.requires.round c.index-commitment.result.now
+    c.index.result.now c.index-commitment.ensures c.index.ensures
     g.FriMmcs.Mmcs.authenticates _ c.deref.result.now (opened_rows c.deref-2.result.now)
-    (shifted-one (o.log_max_height - 2 - n) (omega (arith, c.requires.drawn.in_group, g.met.Val.ComplexExtendable.at_most_62))) (c.deref.ensures.value ∙ c.in_ok-places.ensures) (ap opened_rows c.deref-2.ensures.value ∙ rows)
+    (shifted-one (o.log_max_height - 2 - n)
+    (omega (arith, c.requires.drawn.in_group, g.met.Val.ComplexExtendable.at_most_62)))
+    (c.deref.ensures.value ∙ c.in_ok-places.ensures) (ap opened_rows c.deref-2.ensures.value
+    ∙ rows)
     c.in-Ok.ensures.accepted
 
 pub returns-clause-refused : goal.returns-clause-refused
@@ -107,11 +165,17 @@ returns-clause-refused g c = (
       let k = fields g in
       let o = c.args.run.now in
       let n = c.args.round in
-      let rows = c.in_ok-pairs.ensures ∙ asked-rows k o n c.args.values.now c.args.siblings.now c.requires.values c.requires.siblings in
-      let told = round-shown k o c.requires.drawn n c.requires.round c.index-commitment.result.now c.index.result.now c.index-commitment.ensures c.index.ensures
+      let rows = c.in_ok-pairs.ensures ∙ asked-rows k o n c.args.values.now c.args.siblings.now
+      c.requires.values c.requires.siblings in
+      let told = round-shown k o c.requires.drawn n c.requires.round c.index-commitment.result.now
+      c.index.result.now c.index-commitment.ensures c.index.ensures
       g.FriMmcs.Mmcs.authenticates _ c.deref.result.now (opened_rows c.deref-2.result.now)
-      (shifted-one (o.log_max_height - 2 - n) (omega (arith, c.requires.drawn.in_group, g.met.Val.ComplexExtendable.at_most_62))) (c.deref.ensures.value ∙ c.in_ok-places.ensures) (ap opened_rows c.deref-2.ensures.value ∙ rows)
+      (shifted-one (o.log_max_height - 2 - n)
+      (omega (arith, c.requires.drawn.in_group, g.met.Val.ComplexExtendable.at_most_62)))
+      (c.deref.ensures.value ∙ c.in_ok-places.ensures) (ap opened_rows c.deref-2.ensures.value
+      ∙ rows)
       all in
-      let memory : c.is_memory.result ≡ true = c.is_memory.ensures ∙ c.in-Err.ensures.refused told in
+      let memory : c.is_memory.result ≡ true = c.is_memory.ensures
+      ∙ c.in-Err.ensures.refused told in
       absurd (true≢false (sym memory ∙ c.if-is_memory.false)),
 )

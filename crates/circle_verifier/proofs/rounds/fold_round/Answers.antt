@@ -1,4 +1,5 @@
-use Rattle.std.proofs.Common.{◌≡◌, ◌∙◌, ℕ, ◌+◌, ◌<◌, ◌≤◌, Fits, w64, Vec, Global, refl, sym, ap, subst, length, map, slice_index_or, arith}
+use Rattle.std.proofs.Common.{◌≡◌, ◌∙◌, ℕ, ◌+◌, ◌<◌, ◌≤◌, Fits, w64, Vec, Global, refl, sym, ap}
+use Rattle.std.proofs.Common.{subst, length, map, slice_index_or, arith}
 use Rattle.std.proofs.lemmas.List.{get_or_default, length-map}
 use Rattle.std.specs.List.{All}
 use Rattle.std.proofs.lemmas.Result.{IfOk-from_err}
@@ -8,14 +9,25 @@ use Rattle.circle_folding.proofs.Queries.{round_twiddles-nonzero}
 use Rattle.circle_relation.specs.Accepts.{Fields}
 use Rattle.circle_relation.specs.RunOf.{Refuses}
 use Rattle.circle_relation.specs.Reasons.{IsReason}
-use Rattle.circle_verifier.proofs.RoundsValues.{length-values_in, length-siblings_in, folds-of, round-within}
+use Rattle.circle_verifier.proofs.RoundsValues.{length-values_in, length-siblings_in, folds-of}
+use Rattle.circle_verifier.proofs.RoundsValues.{round-within}
 use Rattle.circle_verifier.proofs.RoundsOpened.{of-steps, one-sibling, siblings-are}
 use Rattle.circle_verifier.proofs.ReducedWords.{handed_on}
 use Rattle.circle_verifier.proofs.rounds.fold_round.Given as given
 use Rattle.circle_verifier.proofs.rounds.fold_round.Goals as goal
 
 abbrev fields : (g : given.Over) → Fields g.row.Val.Denot g.row.EF.Denot
-fields g = record { field = g.Val.Operations.ops; gen = g.Val.ComplexExtendable.generators; two_adicity = g.Val.ComplexExtendable.CIRCLE_TWO_ADICITY; is_zero = λ w. g.Val.PartialEq.eq w g.Val.Field.ZERO; extension = g.EF.Operations.ops; embed = g.EF.ExtensionField.embed; same = g.EF.PartialEq.eq }
+fields g = record {
+  field = g.Val.Operations.ops;
+  gen = g.Val.ComplexExtendable.generators;
+  two_adicity = g.Val.ComplexExtendable.CIRCLE_TWO_ADICITY;
+  is_zero =
+      λ w. g.Val.PartialEq.eq w g.Val.Field.ZERO;
+  extension = g.EF.Operations.ops;
+  embed =
+      g.EF.ExtensionField.embed;
+  same = g.EF.PartialEq.eq;
+}
 
 module _ (n top two : ℕ) (deep : n + 3 ≤ top) (below : top < two) (few : two ≤ 62) where
   one-fits : Fits w64 (n + 1)
@@ -26,22 +38,33 @@ module _ (n top two : ℕ) (deep : n + 3 ≤ top) (below : top < two) (few : two
 
 pub index-opening-requires : goal.index-opening-requires
 index-opening-requires g c =
-    omega (arith, of-steps (fields g) c.args.run.now c.requires.drawn c.args.round c.requires.round, c.args.run.now.proof.now.fri_proof.commit_phase_openings.ok.0)
+    omega (
+      arith,
+      of-steps (fields g) c.args.run.now c.requires.drawn c.args.round c.requires.round,
+      c.args.run.now.proof.now.fri_proof.commit_phase_openings.ok.0,
+    )
 
 pub first_entries-requires : goal.first_entries-requires
 first_entries-requires g c =
-    subst (λ rows. All (λ row. length row ≡ 1) (map (λ row. row.items) rows)) (sym c.deref.ensures.value)
-    (one-sibling (fields g) c.args.run.now c.requires.drawn c.args.round c.requires.round c.index-opening.result.now c.index-opening.ensures)
+    subst (λ rows. All (λ row. length row ≡ 1) (map (λ row. row.items) rows))
+    (sym c.deref.ensures.value)
+    (one-sibling (fields g) c.args.run.now c.requires.drawn c.args.round c.requires.round
+    c.index-opening.result.now c.index-opening.ensures)
 
 pub returns-in_err-siblings-clause-folded : goal.returns-in_err-siblings-clause-folded
-returns-in_err-siblings-clause-folded g c = IfOk-from_err c.from_residual.result _ c.from_residual.ensures.0
+returns-in_err-siblings-clause-folded g c =
+    IfOk-from_err c.from_residual.result _ c.from_residual.ensures.0
 
 pub returns-in_err-siblings-clause-shown : goal.returns-in_err-siblings-clause-shown
-returns-in_err-siblings-clause-shown g c = IfOk-from_err c.from_residual.result _ c.from_residual.ensures.0
+returns-in_err-siblings-clause-shown g c =
+    IfOk-from_err c.from_residual.result _ c.from_residual.ensures.0
 
 pub returns-in_err-siblings-clause-refused : goal.returns-in_err-siblings-clause-refused
 unfolding IsReason
-returns-in_err-siblings-clause-refused g c = handed_on c.from_residual.result Memory (Refuses (fields g) c.args.run.now g.InputMmcs.Mmcs.authenticates g.FriMmcs.Mmcs.authenticates g.InputMmcs.Mmcs.is_memory g.FriMmcs.Mmcs.is_memory) c.from_residual.ensures.1 tt
+returns-in_err-siblings-clause-refused g c =
+    handed_on c.from_residual.result Memory
+    (Refuses (fields g) c.args.run.now g.InputMmcs.Mmcs.authenticates g.FriMmcs.Mmcs.authenticates
+    g.InputMmcs.Mmcs.is_memory g.FriMmcs.Mmcs.is_memory) c.from_residual.ensures.1 tt
 
 pub authenticate_round-requires-clause-drawn : goal.authenticate_round-requires-clause-drawn
 authenticate_round-requires-clause-drawn g c = c.requires.drawn
@@ -54,62 +77,103 @@ authenticate_round-requires-clause-values g c = c.requires.values
 
 pub authenticate_round-requires-clause-siblings : goal.authenticate_round-requires-clause-siblings
 authenticate_round-requires-clause-siblings g c =
-    let head : Vec g.row.EF.Denot Global → g.row.EF.Denot = λ row. slice_index_or row.items 0 g.EF.Operations.ops.zero in
+    let head : Vec g.row.EF.Denot Global → g.row.EF.Denot =
+    λ row. slice_index_or row.items 0 g.EF.Operations.ops.zero in
     let o = c.args.run.now in
-    let are = c.in_ok-siblings.ensures ∙ ap (map head) c.deref.ensures.value ∙ siblings-are (fields g) o c.requires.drawn c.args.round c.requires.round c.index-opening.result.now c.index-opening.ensures in
+    let are = c.in_ok-siblings.ensures ∙ ap (map head) c.deref.ensures.value
+    ∙ siblings-are (fields g) o c.requires.drawn c.args.round c.requires.round
+    c.index-opening.result.now c.index-opening.ensures in
     c.deref-2.ensures.value ∙ are
 
-pub returns-in_err-authenticate_round-clause-folded : goal.returns-in_err-authenticate_round-clause-folded
-returns-in_err-authenticate_round-clause-folded g c = IfOk-from_err c.from_residual-in_err-authenticate_round.result _ c.from_residual-in_err-authenticate_round.ensures.0
+pub
+    returns-in_err-authenticate_round-clause-folded :
+    goal.returns-in_err-authenticate_round-clause-folded
+returns-in_err-authenticate_round-clause-folded g c =
+    IfOk-from_err c.from_residual-in_err-authenticate_round.result _
+    c.from_residual-in_err-authenticate_round.ensures.0
 
-pub returns-in_err-authenticate_round-clause-shown : goal.returns-in_err-authenticate_round-clause-shown
-returns-in_err-authenticate_round-clause-shown g c = IfOk-from_err c.from_residual-in_err-authenticate_round.result _ c.from_residual-in_err-authenticate_round.ensures.0
+pub
+    returns-in_err-authenticate_round-clause-shown :
+    goal.returns-in_err-authenticate_round-clause-shown
+returns-in_err-authenticate_round-clause-shown g c =
+    IfOk-from_err c.from_residual-in_err-authenticate_round.result _
+    c.from_residual-in_err-authenticate_round.ensures.0
 
-pub returns-in_err-authenticate_round-clause-refused : goal.returns-in_err-authenticate_round-clause-refused
+pub
+    returns-in_err-authenticate_round-clause-refused :
+    goal.returns-in_err-authenticate_round-clause-refused
 returns-in_err-authenticate_round-clause-refused g c =
     handed_on c.from_residual-in_err-authenticate_round.result c.in_err-authenticate_round.field-0.0
-    (Refuses (fields g) c.args.run.now g.InputMmcs.Mmcs.authenticates g.FriMmcs.Mmcs.authenticates g.InputMmcs.Mmcs.is_memory g.FriMmcs.Mmcs.is_memory)
+    (Refuses (fields g) c.args.run.now g.InputMmcs.Mmcs.authenticates g.FriMmcs.Mmcs.authenticates
+    g.InputMmcs.Mmcs.is_memory g.FriMmcs.Mmcs.is_memory)
     c.from_residual-in_err-authenticate_round.ensures.1 c.in_err-authenticate_round.ensures.refused
 
 pub overflow_add-bits : goal.overflow_add-bits
 overflow_add-bits g c =
     let o = c.args.run.now in
-    one-fits c.args.round o.log_max_height g.Val.ComplexExtendable.CIRCLE_TWO_ADICITY (round-within (fields g) o c.requires.drawn c.args.round c.requires.round) c.requires.drawn.in_group g.met.Val.ComplexExtendable.at_most_62
+    one-fits c.args.round o.log_max_height g.Val.ComplexExtendable.CIRCLE_TWO_ADICITY
+    (round-within (fields g) o c.requires.drawn c.args.round c.requires.round)
+    c.requires.drawn.in_group g.met.Val.ComplexExtendable.at_most_62
 
-pub fold_query_values_with_inv_twiddles-requires-clause-inverses : goal.fold_query_values_with_inv_twiddles-requires-clause-inverses
+pub
+    fold_query_values_with_inv_twiddles-requires-clause-inverses :
+    goal.fold_query_values_with_inv_twiddles-requires-clause-inverses
 fold_query_values_with_inv_twiddles-requires-clause-inverses g c =
     let o = c.args.run.now in
     let k = g.Val.Operations.ops in
-    let twiddle = round_twiddle k g.Val.ComplexExtendable.generators o.log_max_height c.args.round in
-    ap length c.requires.inverses ∙ length-map (map twiddle o.indices.now) k.inv ∙ length-map o.indices.now twiddle
+    let twiddle = round_twiddle k g.Val.ComplexExtendable.generators o.log_max_height
+    c.args.round in
+    ap length c.requires.inverses ∙ length-map (map twiddle o.indices.now) k.inv
+    ∙ length-map o.indices.now twiddle
 
-pub fold_query_values_with_inv_twiddles-requires-clause-values : goal.fold_query_values_with_inv_twiddles-requires-clause-values
-fold_query_values_with_inv_twiddles-requires-clause-values g c = ap length c.requires.values ∙ length-values_in (fields g) c.args.run.now c.args.round
+pub
+    fold_query_values_with_inv_twiddles-requires-clause-values :
+    goal.fold_query_values_with_inv_twiddles-requires-clause-values
+fold_query_values_with_inv_twiddles-requires-clause-values g c = ap length c.requires.values
+    ∙ length-values_in (fields g) c.args.run.now c.args.round
 
-pub fold_query_values_with_inv_twiddles-requires-clause-siblings : goal.fold_query_values_with_inv_twiddles-requires-clause-siblings
+pub
+    fold_query_values_with_inv_twiddles-requires-clause-siblings :
+    goal.fold_query_values_with_inv_twiddles-requires-clause-siblings
 fold_query_values_with_inv_twiddles-requires-clause-siblings g c =
-    let head : Vec g.row.EF.Denot Global → g.row.EF.Denot = λ row. slice_index_or row.items 0 g.EF.Operations.ops.zero in
+    let head : Vec g.row.EF.Denot Global → g.row.EF.Denot =
+    λ row. slice_index_or row.items 0 g.EF.Operations.ops.zero in
     let o = c.args.run.now in
-    let are = c.in_ok-siblings.ensures ∙ ap (map head) c.deref.ensures.value ∙ siblings-are (fields g) o c.requires.drawn c.args.round c.requires.round c.index-opening.result.now c.index-opening.ensures in
+    let are = c.in_ok-siblings.ensures ∙ ap (map head) c.deref.ensures.value
+    ∙ siblings-are (fields g) o c.requires.drawn c.args.round c.requires.round
+    c.index-opening.result.now c.index-opening.ensures in
     ap length (c.deref-3.ensures.value ∙ are) ∙ length-siblings_in (fields g) o c.args.round
 
-pub fold_query_values_with_inv_twiddles-requires-clause-bits : goal.fold_query_values_with_inv_twiddles-requires-clause-bits
+pub
+    fold_query_values_with_inv_twiddles-requires-clause-bits :
+    goal.fold_query_values_with_inv_twiddles-requires-clause-bits
 fold_query_values_with_inv_twiddles-requires-clause-bits g c =
     let o = c.args.run.now in
-    one-low c.args.round o.log_max_height g.Val.ComplexExtendable.CIRCLE_TWO_ADICITY (round-within (fields g) o c.requires.drawn c.args.round c.requires.round) c.requires.drawn.in_group g.met.Val.ComplexExtendable.at_most_62
+    one-low c.args.round o.log_max_height g.Val.ComplexExtendable.CIRCLE_TWO_ADICITY
+    (round-within (fields g) o c.requires.drawn c.args.round c.requires.round)
+    c.requires.drawn.in_group g.met.Val.ComplexExtendable.at_most_62
 
 pub returns-clause-folded : goal.returns-clause-folded
 returns-clause-folded g c =
-    let head : Vec g.row.EF.Denot Global → g.row.EF.Denot = λ row. slice_index_or row.items 0 g.EF.Operations.ops.zero in
+    let head : Vec g.row.EF.Denot Global → g.row.EF.Denot =
+    λ row. slice_index_or row.items 0 g.EF.Operations.ops.zero in
     let o = c.args.run.now in
-    let are = c.in_ok-siblings.ensures ∙ ap (map head) c.deref.ensures.value ∙ siblings-are (fields g) o c.requires.drawn c.args.round c.requires.round c.index-opening.result.now c.index-opening.ensures in
+    let are = c.in_ok-siblings.ensures ∙ ap (map head) c.deref.ensures.value
+    ∙ siblings-are (fields g) o c.requires.drawn c.args.round c.requires.round
+    c.index-opening.result.now c.index-opening.ensures in
     let beta = c.index-run-round.result in
     let enough = round-within (fields g) o c.requires.drawn c.args.round c.requires.round in
-    let twiddles = round_twiddles g.Val.Operations.ops g.Val.ComplexExtendable.generators o.log_max_height c.args.round o.indices.now in
-    let nonzero = round_twiddles-nonzero g.Val.Operations.laws g.met.Val.ComplexExtendable.generators_law o.log_max_height c.args.round o.indices.now (omega (arith, enough)) c.requires.drawn.in_group c.requires.drawn.below in
+    let twiddles = round_twiddles g.Val.Operations.ops g.Val.ComplexExtendable.generators
+    o.log_max_height c.args.round o.indices.now in
+    let nonzero =
+    round_twiddles-nonzero g.Val.Operations.laws g.met.Val.ComplexExtendable.generators_law
+    o.log_max_height c.args.round o.indices.now (omega (arith, enough))
+    c.requires.drawn.in_group c.requires.drawn.below in
     c.fold_query_values_with_inv_twiddles.ensures twiddles nonzero c.requires.inverses
-    ∙ folds-of (fields g) o c.args.round (slice_index_or o.betas.now c.args.round beta) twiddles c.args.values.now c.deref-3.result.now c.requires.drawn.top
-    (get_or_default o.betas.now c.args.round beta g.EF.Operations.ops.zero c.requires.round) refl c.requires.values (c.deref-3.ensures.value ∙ are)
+    ∙ folds-of (fields g) o c.args.round (slice_index_or o.betas.now c.args.round beta) twiddles
+    c.args.values.now c.deref-3.result.now c.requires.drawn.top
+    (get_or_default o.betas.now c.args.round beta g.EF.Operations.ops.zero c.requires.round) refl
+    c.requires.values (c.deref-3.ensures.value ∙ are)
 
 pub returns-clause-shown : goal.returns-clause-shown
 returns-clause-shown g c = c.in_ok-authenticate_round.ensures.shown

@@ -1,4 +1,5 @@
-use Rattle.std.proofs.Common.{◌≡◌, ◌+◌, ◌-◌, [], ◌∷◌, ◌∙◌, sym, ap, length, map, below_more, arith, le_antisymm}
+use Rattle.std.proofs.Common.{◌≡◌, ◌+◌, ◌-◌, [], ◌∷◌, ◌∙◌, sym, ap, length, map, below_more, arith}
+use Rattle.std.proofs.Common.{le_antisymm}
 use Rattle.std.proofs.lemmas.List.{map-append, length-map}
 use Rattle.std.proofs.lemmas.Result.{IfOk-from_err}
 use Rattle.circle_field.proofs.Inverses.{take-whole}
@@ -7,7 +8,8 @@ use Rattle.circle_relation.specs.RunOf.{joining_of, Refuses}
 use Rattle.circle_relation.specs.Reasons.{IsReason}
 use Rattle.circle_verifier.specs.Rounds.{inverses_from, values_in}
 use Rattle.circle_verifier.proofs.LastWord.{last-short}
-use Rattle.circle_verifier.proofs.RoundsValues.{written-twice, length-values_in, length-folds_in, first-left, first-values, first-there}
+use Rattle.circle_verifier.proofs.RoundsValues.{written-twice, length-values_in, length-folds_in}
+use Rattle.circle_verifier.proofs.RoundsValues.{first-left, first-values, first-there}
 use Rattle.circle_verifier.proofs.RoundsOpened.{of-rounds}
 use Rattle.circle_verifier.proofs.Twiddles.{next-inverses}
 use Rattle.circle_verifier.proofs.rounds.fold_rounds.Invariants.{fields}
@@ -17,35 +19,64 @@ use Rattle.circle_verifier.proofs.rounds.fold_rounds.Goals as goal
 pub returns-in_default-clause-values : goal.returns-in_default-clause-values
 returns-in_default-clause-values g c =
     let words = map joining_of c.args.folded.items in
-    absurd (first-there (fields g) c.args.run.now c.requires.drawn.top c.requires.drawn.some_matrix words
-    (omega (arith, length-map c.args.folded.items joining_of, c.args.folded.ok.0, c.in_default.ensures.cases.0)) c.requires.folded)
+    absurd (first-there (fields g) c.args.run.now c.requires.drawn.top c.requires.drawn.some_matrix
+    words
+    (omega (
+      arith,
+      length-map c.args.folded.items joining_of,
+      c.args.folded.ok.0,
+      c.in_default.ensures.cases.0,
+    )) c.requires.folded)
 
 pub returns-in_default-clause-shown : goal.returns-in_default-clause-shown
 returns-in_default-clause-shown g c =
     let words = map joining_of c.args.folded.items in
-    absurd (first-there (fields g) c.args.run.now c.requires.drawn.top c.requires.drawn.some_matrix words
-    (omega (arith, length-map c.args.folded.items joining_of, c.args.folded.ok.0, c.in_default.ensures.cases.0)) c.requires.folded)
+    absurd (first-there (fields g) c.args.run.now c.requires.drawn.top c.requires.drawn.some_matrix
+    words
+    (omega (
+      arith,
+      length-map c.args.folded.items joining_of,
+      c.args.folded.ok.0,
+      c.in_default.ensures.cases.0,
+    )) c.requires.folded)
 
-pub inverse_round_twiddles-requires-clause-rounds : goal.inverse_round_twiddles-requires-clause-rounds
+pub
+    inverse_round_twiddles-requires-clause-rounds :
+    goal.inverse_round_twiddles-requires-clause-rounds
 inverse_round_twiddles-requires-clause-rounds g c =
     let o = c.args.run.now in
-    omega (arith, c.requires.drawn.betas, c.requires.drawn.top, c.requires.drawn.blowup, last-short (fields g) o c.requires.drawn)
+    omega (
+      arith,
+      c.requires.drawn.betas,
+      c.requires.drawn.top,
+      c.requires.drawn.blowup,
+      last-short (fields g) o c.requires.drawn,
+    )
 
-pub inverse_round_twiddles-requires-clause-in_group : goal.inverse_round_twiddles-requires-clause-in_group
+pub
+    inverse_round_twiddles-requires-clause-in_group :
+    goal.inverse_round_twiddles-requires-clause-in_group
 inverse_round_twiddles-requires-clause-in_group g c = c.requires.drawn.in_group
 
-pub inverse_round_twiddles-requires-clause-in_range : goal.inverse_round_twiddles-requires-clause-in_range
+pub
+    inverse_round_twiddles-requires-clause-in_range :
+    goal.inverse_round_twiddles-requires-clause-in_range
 inverse_round_twiddles-requires-clause-in_range g c = c.requires.drawn.below
 
 pub returns-in_err-inverses-clause-values : goal.returns-in_err-inverses-clause-values
-returns-in_err-inverses-clause-values g c = IfOk-from_err c.from_residual.result _ c.from_residual.ensures.0
+returns-in_err-inverses-clause-values g c =
+    IfOk-from_err c.from_residual.result _ c.from_residual.ensures.0
 
 pub returns-in_err-inverses-clause-shown : goal.returns-in_err-inverses-clause-shown
-returns-in_err-inverses-clause-shown g c = IfOk-from_err c.from_residual.result _ c.from_residual.ensures.0
+returns-in_err-inverses-clause-shown g c =
+    IfOk-from_err c.from_residual.result _ c.from_residual.ensures.0
 
 pub returns-in_err-inverses-clause-refused : goal.returns-in_err-inverses-clause-refused
 unfolding IsReason
-returns-in_err-inverses-clause-refused g c = handed_on c.from_residual.result Memory (Refuses (fields g) c.args.run.now g.InputMmcs.Mmcs.authenticates g.FriMmcs.Mmcs.authenticates g.InputMmcs.Mmcs.is_memory g.FriMmcs.Mmcs.is_memory) c.from_residual.ensures.1 tt
+returns-in_err-inverses-clause-refused g c =
+    handed_on c.from_residual.result Memory
+    (Refuses (fields g) c.args.run.now g.InputMmcs.Mmcs.authenticates g.FriMmcs.Mmcs.authenticates
+    g.InputMmcs.Mmcs.is_memory g.FriMmcs.Mmcs.is_memory) c.from_residual.ensures.1 tt
 
 pub loop-round-init : goal.loop-round-init
 loop-round-init g c =
@@ -53,12 +84,17 @@ loop-round-init g c =
     let o = c.args.run.now in
     let first = c.in-Some.first in
     let rest = c.pop.new.self.items in
-    let e = sym (map-append joining_of rest (first ∷ [])) ∙ ap (map joining_of) (sym c.in-Some.ensures.items) ∙ c.requires.folded in
+    let e = sym (map-append joining_of rest (first ∷ []))
+    ∙ ap (map joining_of) (sym c.in-Some.ensures.items) ∙ c.requires.folded in
     let all : length o.betas.now ≡ length o.betas.now - 0 = omega arith in
     record {
-      values = first-values k o c.requires.drawn.top c.requires.drawn.some_matrix (map joining_of rest) (joining_of first) e;
-      left = ap (map joining_of) c.as_slice-left.ensures.value ∙ first-left k o c.requires.drawn.top c.requires.drawn.some_matrix (map joining_of rest) (joining_of first) e;
-      later = c.as_slice-later.ensures.value ∙ c.in_ok-inverses.ensures ∙ ap (inverses_from k.field k.gen o.log_max_height o.indices.now 0) all;
+      values = first-values k o c.requires.drawn.top c.requires.drawn.some_matrix
+          (map joining_of rest) (joining_of first) e;
+      left = ap (map joining_of) c.as_slice-left.ensures.value
+          ∙ first-left k o c.requires.drawn.top c.requires.drawn.some_matrix (map joining_of rest)
+          (joining_of first) e;
+      later = c.as_slice-later.ensures.value ∙ c.in_ok-inverses.ensures
+          ∙ ap (inverses_from k.field k.gen o.log_max_height o.indices.now 0) all;
       shown = λ n none. absurd (omega (arith, none));
     }
 
@@ -66,7 +102,12 @@ pub split_at-requires : goal.split_at-requires
 split_at-requires g c =
     let o = c.args.run.now in
     let k = g.Val.Operations.ops in
-    omega (arith, (next-inverses k g.Val.ComplexExtendable.generators o.log_max_height o.indices.now c.loop-round.round (length o.betas.now) c.loop-round-test.true c.loop-round.invariant.later).0)
+    omega (
+      arith,
+      (next-inverses k g.Val.ComplexExtendable.generators o.log_max_height o.indices.now
+          c.loop-round.round (length o.betas.now) c.loop-round-test.true
+          c.loop-round.invariant.later).0,
+    )
 
 pub fold_round-requires-clause-drawn : goal.fold_round-requires-clause-drawn
 fold_round-requires-clause-drawn g c = c.requires.drawn
@@ -78,21 +119,29 @@ pub fold_round-requires-clause-inverses : goal.fold_round-requires-clause-invers
 fold_round-requires-clause-inverses g c =
     let o = c.args.run.now in
     let k = g.Val.Operations.ops in
-    c.split_at.ensures.front ∙ (next-inverses k g.Val.ComplexExtendable.generators o.log_max_height o.indices.now c.loop-round.round (length o.betas.now) c.loop-round-test.true c.loop-round.invariant.later).1
+    c.split_at.ensures.front
+    ∙ (next-inverses k g.Val.ComplexExtendable.generators o.log_max_height o.indices.now
+    c.loop-round.round (length o.betas.now) c.loop-round-test.true
+    c.loop-round.invariant.later).1
 
 pub fold_round-requires-clause-values : goal.fold_round-requires-clause-values
 fold_round-requires-clause-values g c = c.deref_mut.ensures.value ∙ c.loop-round.invariant.values
 
 pub returns-in_err-fold_round-clause-values : goal.returns-in_err-fold_round-clause-values
-returns-in_err-fold_round-clause-values g c = IfOk-from_err c.from_residual-in_err-fold_round.result _ c.from_residual-in_err-fold_round.ensures.0
+returns-in_err-fold_round-clause-values g c =
+    IfOk-from_err c.from_residual-in_err-fold_round.result _
+    c.from_residual-in_err-fold_round.ensures.0
 
 pub returns-in_err-fold_round-clause-shown : goal.returns-in_err-fold_round-clause-shown
-returns-in_err-fold_round-clause-shown g c = IfOk-from_err c.from_residual-in_err-fold_round.result _ c.from_residual-in_err-fold_round.ensures.0
+returns-in_err-fold_round-clause-shown g c =
+    IfOk-from_err c.from_residual-in_err-fold_round.result _
+    c.from_residual-in_err-fold_round.ensures.0
 
 pub returns-in_err-fold_round-clause-refused : goal.returns-in_err-fold_round-clause-refused
 returns-in_err-fold_round-clause-refused g c =
     handed_on c.from_residual-in_err-fold_round.result c.in_err-fold_round.field-0.0
-    (Refuses (fields g) c.args.run.now g.InputMmcs.Mmcs.authenticates g.FriMmcs.Mmcs.authenticates g.InputMmcs.Mmcs.is_memory g.FriMmcs.Mmcs.is_memory)
+    (Refuses (fields g) c.args.run.now g.InputMmcs.Mmcs.authenticates g.FriMmcs.Mmcs.authenticates
+    g.InputMmcs.Mmcs.is_memory g.FriMmcs.Mmcs.is_memory)
     c.from_residual-in_err-fold_round.ensures.1 c.in_err-fold_round.ensures.refused
 
 pub join-left-requires-clause-drawn : goal.join-left-requires-clause-drawn
@@ -113,7 +162,8 @@ join-left-requires-clause-values g c =
     let folded = c.in_ok-fold_round.ensures.folded in
     let long = ap length c.loop-round.invariant.values ∙ length-values_in k o n in
     c.deref_mut-in-loop-round.ensures.value
-    ∙ take-whole values.len c.fold_round.new.values values.items values.ok.0 (ap length folded ∙ length-folds_in k o n ∙ sym long) ∙ folded
+    ∙ take-whole values.len c.fold_round.new.values values.items values.ok.0
+    (ap length folded ∙ length-folds_in k o n ∙ sym long) ∙ folded
 
 pub loop-round-preserved : goal.loop-round-preserved
 loop-round-preserved g c =
@@ -124,21 +174,30 @@ loop-round-preserved g c =
     let values = c.loop-round.values in
     let long = ap length now.values ∙ length-values_in k o n in
     record {
-      values = written-twice values.len c.join-left.new.values c.fold_round.new.values values.items values.ok.0
+      values = written-twice values.len c.join-left.new.values c.fold_round.new.values values.items
+          values.ok.0
           (ap length c.in_ok-fold_round.ensures.folded ∙ length-folds_in k o n ∙ sym long)
           (ap length c.join-left.ensures.values ∙ length-values_in k o (n + 1) ∙ sym long)
           ∙ c.join-left.ensures.values;
       left = c.join-left.ensures.left;
-      later = c.split_at.ensures.back ∙ (next-inverses k.field k.gen o.log_max_height o.indices.now n (length o.betas.now) c.loop-round-test.true now.later).2;
+      later = c.split_at.ensures.back
+          ∙ (next-inverses k.field k.gen o.log_max_height o.indices.now n (length o.betas.now)
+          c.loop-round-test.true now.later).2;
       shown = below_more _ _ now.shown c.in_ok-fold_round.ensures.shown;
     }
 
 pub returns-clause-values : goal.returns-clause-values
 returns-clause-values g c =
     let o = c.args.run.now in
-    let last : c.loop-round.round ≡ length o.betas.now = le_antisymm c.loop-round.auto.round-end c.loop-round-test.false in
+    let last : c.loop-round.round ≡ length o.betas.now =
+    le_antisymm c.loop-round.auto.round-end c.loop-round-test.false in
     c.loop-round.invariant.values ∙ ap (values_in (fields g) o) (last ∙ c.requires.drawn.betas)
 
 pub returns-clause-shown : goal.returns-clause-shown
 returns-clause-shown g c = λ n d lt.
-    c.loop-round.invariant.shown n (omega (arith, of-rounds (fields g) c.args.run.now c.requires.drawn n lt, c.loop-round-test.false)) d lt
+    c.loop-round.invariant.shown n
+    (omega (
+      arith,
+      of-rounds (fields g) c.args.run.now c.requires.drawn n lt,
+      c.loop-round-test.false,
+    )) d lt

@@ -1,4 +1,5 @@
-use Rattle.std.proofs.Common.{◌≢◌, ◌+◌, ◌≤◌, ◌++◌, ◌∙◌, sym, ap, subst, length, arith, le_antisymm, ◌≡◌, map}
+use Rattle.std.proofs.Common.{◌≢◌, ◌+◌, ◌≤◌, ◌++◌, ◌∙◌, sym, ap, subst, length, arith, le_antisymm}
+use Rattle.std.proofs.Common.{◌≡◌, map}
 use Rattle.std.specs.Prelude.{All, IfOk}
 use Rattle.std.proofs.lemmas.List.Elements.{All-append, All-nil}
 use Rattle.std.proofs.lemmas.List.{length-map}
@@ -29,12 +30,20 @@ loop-round-init g c =
 
 pub next_x_twiddles-requires-clause-count : goal.next_x_twiddles-requires-clause-count
 next_x_twiddles-requires-clause-count g c =
-    let twiddle = round_twiddle g.F.Operations.ops g.F.ComplexExtendable.generators c.args.log_max_height c.loop-round.round in
-    ap length (c.deref_mut.ensures.value ∙ c.loop-round.invariant.of_round) ∙ length-map c.args.indices.now twiddle
+    let twiddle = round_twiddle g.F.Operations.ops g.F.ComplexExtendable.generators
+    c.args.log_max_height c.loop-round.round in
+    ap length (c.deref_mut.ensures.value ∙ c.loop-round.invariant.of_round)
+    ∙ length-map c.args.indices.now twiddle
 
 pub next_x_twiddles-requires-clause-round : goal.next_x_twiddles-requires-clause-round
 next_x_twiddles-requires-clause-round g c =
-    omega (arith, c.loop-round-test.true, c.requires.rounds, c.requires.in_group, g.met.F.ComplexExtendable.at_most_62)
+    omega (
+      arith,
+      c.loop-round-test.true,
+      c.requires.rounds,
+      c.requires.in_group,
+      g.met.F.ComplexExtendable.at_most_62,
+    )
 
 pub loop-round-preserved : goal.loop-round-preserved
 loop-round-preserved g c =
@@ -49,26 +58,39 @@ loop-round-preserved g c =
     let enough : n + 3 ≤ h = omega (arith, c.loop-round-test.true, c.requires.rounds) in
     let read = c.deref.ensures.value ∙ now.of_round in
     let longer = c.in_ok-extend_from_slice.ensures.items in
-    let whole = take-whole was.len next was.items was.ok.0 (c.next_x_twiddles.auto.twiddles ∙ ap length c.deref_mut.ensures.value) in
+    let whole =
+    take-whole was.len next was.items was.ok.0 (c.next_x_twiddles.auto.twiddles
+    ∙ ap length c.deref_mut.ensures.value) in
     let others =
     subst (All (λ t. t ≢ k.zero)) (sym read)
-    (round_twiddles-nonzero g.F.Operations.laws g.met.F.ComplexExtendable.generators_law h n qs (omega (arith, enough)) c.requires.in_group c.requires.in_range) in
+    (round_twiddles-nonzero g.F.Operations.laws g.met.F.ComplexExtendable.generators_law h n qs
+    (omega (arith, enough)) c.requires.in_group c.requires.in_range) in
     record {
       twiddles =
-          longer ∙ ap (λ xs. xs ++ c.deref.result.now) now.twiddles ∙ ap (λ xs. twiddles_from k gen h qs 0 n ++ xs) read
+          longer ∙ ap (λ xs. xs ++ c.deref.result.now) now.twiddles
+          ∙ ap (λ xs. twiddles_from k gen h qs 0 n ++ xs) read
           ∙ rounds-more (λ r. round_twiddles k gen h r qs) n;
-      of_round = whole ∙ c.next_x_twiddles.ensures h enough c.requires.in_group c.requires.in_range (c.deref_mut.ensures.value ∙ now.of_round);
-      nonzero = subst (All (λ t. t ≢ k.zero)) (sym longer) (All-append (λ t. t ≢ k.zero) c.loop-round.twiddles.items c.deref.result.now now.nonzero others);
+      of_round = whole ∙ c.next_x_twiddles.ensures h enough c.requires.in_group c.requires.in_range
+          (c.deref_mut.ensures.value ∙ now.of_round);
+      nonzero =
+          subst (All (λ t. t ≢ k.zero)) (sym longer)
+          (All-append (λ t. t ≢ k.zero) c.loop-round.twiddles.items c.deref.result.now now.nonzero
+          others);
     }
 
 pub batch_multiplicative_inverse-requires : goal.batch_multiplicative_inverse-requires
 batch_multiplicative_inverse-requires g c =
-    subst (All (λ (t : g.row.F.Denot). t ≢ g.F.Operations.ops.zero)) (sym c.deref-2.ensures.value) c.loop-round.invariant.nonzero
+    subst (All (λ (t : g.row.F.Denot). t ≢ g.F.Operations.ops.zero)) (sym c.deref-2.ensures.value)
+    c.loop-round.invariant.nonzero
 
 pub returns : goal.returns
 returns g c =
     let k = g.F.Operations.ops in
-    let inverses = inverses_from k g.F.ComplexExtendable.generators c.args.log_max_height c.args.indices.now 0 in
-    let last : c.loop-round.round ≡ c.args.rounds = le_antisymm c.loop-round.auto.round-end c.loop-round-test.false in
-    subst (λ ts. IfOk c.batch_multiplicative_inverse.result (λ r. r.items ≡ ts)) (ap (map k.inv) (c.deref-2.ensures.value ∙ c.loop-round.invariant.twiddles) ∙ ap inverses last)
+    let inverses = inverses_from k g.F.ComplexExtendable.generators c.args.log_max_height
+    c.args.indices.now 0 in
+    let last : c.loop-round.round ≡ c.args.rounds =
+    le_antisymm c.loop-round.auto.round-end c.loop-round-test.false in
+    subst (λ ts. IfOk c.batch_multiplicative_inverse.result (λ r. r.items ≡ ts))
+    (ap (map k.inv) (c.deref-2.ensures.value ∙ c.loop-round.invariant.twiddles)
+    ∙ ap inverses last)
     c.batch_multiplicative_inverse.ensures

@@ -9,14 +9,32 @@ use Rattle.circle_verifier.proofs.shape.check_sizes.Goals as goal
 pub overflow_add-next_log_height : goal.overflow_add-next_log_height
 overflow_add-next_log_height g c =
     let params = c.args.run.now.params.now in
-    let fits = room params.log_blowup params.log_final_poly_len (all_matrices (batch_claims c.args.run.now.claims.now)) c.requires.drawn.some_matrix c.requires.drawn.large in
-    omega (arith, fits, c.requires.drawn.top, c.requires.drawn.in_group, g.met.Val.ComplexExtendable.at_most_62)
+    let fits =
+    room params.log_blowup params.log_final_poly_len
+    (all_matrices (batch_claims c.args.run.now.claims.now)) c.requires.drawn.some_matrix
+    c.requires.drawn.large in
+    omega (
+      arith,
+      fits,
+      c.requires.drawn.top,
+      c.requires.drawn.in_group,
+      g.met.Val.ComplexExtendable.at_most_62,
+    )
 
 pub overflow_add-run : goal.overflow_add-run
 overflow_add-run g c =
     let params = c.args.run.now.params.now in
-    let fits = room params.log_blowup params.log_final_poly_len (all_matrices (batch_claims c.args.run.now.claims.now)) c.requires.drawn.some_matrix c.requires.drawn.large in
-    omega (arith, fits, c.requires.drawn.top, c.requires.drawn.in_group, g.met.Val.ComplexExtendable.at_most_62)
+    let fits =
+    room params.log_blowup params.log_final_poly_len
+    (all_matrices (batch_claims c.args.run.now.claims.now)) c.requires.drawn.some_matrix
+    c.requires.drawn.large in
+    omega (
+      arith,
+      fits,
+      c.requires.drawn.top,
+      c.requires.drawn.in_group,
+      g.met.Val.ComplexExtendable.at_most_62,
+    )
 
 pub returns-then-has_domain-clause-refused : goal.returns-then-has_domain-clause-refused
 unfolding IsReason
@@ -26,11 +44,15 @@ returns-then-has_domain-clause-refused g c =
     record {
       next = refl;
       one = refl;
-      some = some-size n (all_matrices (batch_claims claims)) (sym (any-batches (λ m. m == n) claims) ∙ sym c.has_domain.ensures ∙ c.if-has_domain.true);
+      some =
+          some-size n (all_matrices (batch_claims claims)) (sym (any-batches (λ m. m == n) claims)
+          ∙ sym c.has_domain.ensures ∙ c.if-has_domain.true);
     }
 
 pub returns-clause-large : goal.returns-clause-large
 returns-clause-large g c =
     let final = c.args.run.now.params.now.log_final_poly_len in
     let claims = c.args.run.now.claims.now in
-    all-larger final (all_matrices (batch_claims claims)) (sym (any-batches (λ m. m == final + 1) claims) ∙ sym c.has_domain.ensures ∙ c.if-has_domain.false) c.requires.drawn.large
+    all-larger final (all_matrices (batch_claims claims))
+    (sym (any-batches (λ m. m == final + 1) claims) ∙ sym c.has_domain.ensures
+    ∙ c.if-has_domain.false) c.requires.drawn.large

@@ -8,4 +8,5 @@ use Rattle.circle_verifier.proofs.shape.opened_fit.Goals as goal
 pub returns-then-opened-num_queries : goal.returns-then-opened-num_queries
 returns-then-opened-num_queries g c =
     after-same _ _ _ _ c.if-opened-num_queries.true
-    (all_from_yields_List (λ rows. rows_fit c.args.matrices.now rows.items) _ _ _ c.all.ensures.ran (YieldsList-from_slice c.args.opened.now cc) (λ x b q k. search (rules, tests)))
+    (all_from_yields_List (λ rows. rows_fit c.args.matrices.now rows.items) _ _ _ c.all.ensures.ran
+    (YieldsList-from_slice c.args.opened.now cc) (λ x b q k. search (rules, tests)))

@@ -11,5 +11,7 @@ abbrev pub invariant-loop-batch : goal.invariant-loop-batch
 invariant-loop-batch g l =
     let sizes = log_sizes (all_matrices (batch_claims l.claims)) in
     let left = log_sizes (all_matrices (batch_claims (drop l.batch-index l.claims))) in
-    answer (domain_tests {C = g.row.CommitErr.Denot} {A = g.row.InputMmcsErr.Denot} {B = g.row.FriMmcsErr.Denot} l.log_final_poly_len left) (max l.greatest (greatest left))
+    answer
+    (domain_tests {C = g.row.CommitErr.Denot} {A = g.row.InputMmcsErr.Denot}
+    {B = g.row.FriMmcsErr.Denot} l.log_final_poly_len left) (max l.greatest (greatest left))
     ≡ answer (domain_tests l.log_final_poly_len sizes) (greatest sizes)

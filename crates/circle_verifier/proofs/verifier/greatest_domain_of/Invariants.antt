@@ -11,5 +11,7 @@ abbrev pub invariant-loop-matrix : goal.invariant-loop-matrix
 invariant-loop-matrix g l =
     let sizes = log_sizes (matrix_claims l.matrices) in
     let left = log_sizes (matrix_claims (drop l.matrix-index l.matrices)) in
-    answer (domain_tests {C = g.row.CommitErr.Denot} {A = g.row.InputMmcsErr.Denot} {B = g.row.FriMmcsErr.Denot} l.log_final_poly_len left) (max l.greatest (greatest left))
+    answer
+    (domain_tests {C = g.row.CommitErr.Denot} {A = g.row.InputMmcsErr.Denot}
+    {B = g.row.FriMmcsErr.Denot} l.log_final_poly_len left) (max l.greatest (greatest left))
     ≡ answer (domain_tests l.log_final_poly_len sizes) (greatest sizes)

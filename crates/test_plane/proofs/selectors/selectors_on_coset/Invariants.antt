@@ -8,4 +8,5 @@ abbrev pub invariant-loop-i : goal.invariant-loop-i
 invariant-loop-i g l =
     let k = g.F.Operations.ops in
     let gen = g.F.ComplexExtendable.generators in
-    All (IsClearOf k (λ x. x) (natural_order k gen (log_size l.domain) (shift_of l.domain))) (take l.i (natural_order k gen (log_size l.coset) (shift_of l.coset)))
+    All (IsClearOf k (λ x. x) (natural_order k gen (log_size l.domain) (shift_of l.domain)))
+    (take l.i (natural_order k gen (log_size l.coset) (shift_of l.coset)))

@@ -8,5 +8,6 @@ use Rattle.test_plane.proofs.smaller.values_at.Goals as goal
 
 pub evaluate_at_point-requires-clause-clear : goal.evaluate_at_point-requires-clause-clear
 evaluate_at_point-requires-clause-clear g c =
-    subst (λ d. IsClearOf operations embed (points_of base generators d) (coordinates c.args.at)) (sym c.from_cfft_order.ensures.domain)
+    subst (λ d. IsClearOf operations embed (points_of base generators d) (coordinates c.args.at))
+    (sym c.from_cfft_order.ensures.domain)
     (c.is_clear_of.ensures.0 (search rules))

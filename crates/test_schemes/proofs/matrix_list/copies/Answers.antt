@@ -7,6 +7,9 @@ pub loop-matrix-preserved : goal.loop-matrix-preserved
 loop-matrix-preserved g c =
     let m = c.matrix-item.result in
     let copy = c.in_ok-try_clone.field-0 in
-    let height : height_of copy ≡ height_of m = sym (length-rows copy) ∙ ap length c.in_ok-try_clone.ensures.rows ∙ length-rows m in
-    same-more c.args.matrices.now c.loop-matrix.copies.items c.push.new.self.items c.loop-matrix.matrix-index m copy c.loop-matrix-test.true c.matrix-item.is
-    c.in_ok-push.ensures.items c.in_ok-try_clone.ensures.width c.in_ok-try_clone.ensures.rows height c.loop-matrix.invariant
+    let height : height_of copy ≡ height_of m = sym (length-rows copy)
+    ∙ ap length c.in_ok-try_clone.ensures.rows ∙ length-rows m in
+    same-more c.args.matrices.now c.loop-matrix.copies.items c.push.new.self.items
+    c.loop-matrix.matrix-index m copy c.loop-matrix-test.true c.matrix-item.is
+    c.in_ok-push.ensures.items c.in_ok-try_clone.ensures.width c.in_ok-try_clone.ensures.rows height
+    c.loop-matrix.invariant

@@ -8,12 +8,19 @@ use Rattle.test_schemes.proofs.matrix_list.row_of.Goals as goal
 pub returns-then-r-height : goal.returns-then-r-height
 returns-then-r-height g c =
     let m = c.args.matrix.now in
-    let same : row_at c.args.top c.height-height.result c.args.index ≡ row_at c.args.top (height_of m) c.args.index =
+    let same : row_at c.args.top c.height-height.result c.args.index ≡ row_at c.args.top
+    (height_of m) c.args.index =
     ap (λ h. row_at c.args.top h c.args.index) c.height-height.ensures in
-    c.new-then-r-height.ensures.items ∙ sym (get_or_past (rows m) (row_at c.args.top (height_of m) c.args.index) [] (omega (arith, length-rows m, same, c.if-r-height.true, c.height-height.ensures)))
+    c.new-then-r-height.ensures.items
+    ∙ sym
+    (get_or_past (rows m) (row_at c.args.top (height_of m) c.args.index) []
+    (omega (arith, length-rows m, same, c.if-r-height.true, c.height-height.ensures)))
 
 pub returns : goal.returns
 returns g c =
     let m = c.args.matrix.now in
-    c.in_ok-row.ensures.items ∙ sym (get_or_from_slice_get (rows m) (row_at c.args.top c.height-height.result c.args.index) c.row.result.now [] c.row.ensures)
+    c.in_ok-row.ensures.items
+    ∙ sym
+    (get_or_from_slice_get (rows m) (row_at c.args.top c.height-height.result c.args.index)
+    c.row.result.now [] c.row.ensures)
     ∙ ap (λ h. get_or (rows m) (row_at c.args.top h c.args.index) []) c.height-height.ensures

@@ -4,4 +4,6 @@ use Rattle.circle_commit.specs.Mmcs.{max_height, row_at}
 use Rattle.test_schemes.proofs.matrix_list.rows_of.Given as goal
 
 abbrev pub invariant-loop-matrix : goal.invariant-loop-matrix
-invariant-loop-matrix g l = map (λ row. row.items) l.rows.items ≡ map (λ m. get_or (rows m) (row_at (max_height l.matrices) (height_of m) l.index) []) (take l.matrix-index l.matrices)
+invariant-loop-matrix g l = map (λ row. row.items) l.rows.items
+    ≡ map (λ m. get_or (rows m) (row_at (max_height l.matrices) (height_of m) l.index) [])
+    (take l.matrix-index l.matrices)

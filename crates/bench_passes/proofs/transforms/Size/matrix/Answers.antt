@@ -15,6 +15,8 @@ returns c =
     let count : vec_len c.loop.values ≡ c.rows.result * c.args.self.width =
     omega (arith, c.loop.invariant, c.loop.auto.counter-end, c.loop-test.false) in
     let height : vec_len c.loop.values / c.args.self.width ≡ 2 ^ c.args.self.log_rows =
-    ap (λ n. n / c.args.self.width) count ∙ mul-div_cancel c.rows.result c.args.self.some_columns ∙ c.rows.ensures in
+    ap (λ n. n / c.args.self.width) count ∙ mul-div_cancel c.rows.result c.args.self.some_columns
+    ∙ c.rows.ensures in
     sym (length-rows c.new.result) ∙ ap length c.new.ensures.content
-    ∙ length-rows_from c.args.self.width (vec_len c.loop.values / c.args.self.width) c.loop.values.items ∙ height
+    ∙ length-rows_from c.args.self.width (vec_len c.loop.values / c.args.self.width)
+    c.loop.values.items ∙ height

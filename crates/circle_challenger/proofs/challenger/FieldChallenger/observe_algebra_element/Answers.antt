@@ -5,4 +5,5 @@ pub loop-i-preserved : goal.loop-i-preserved
 loop-i-preserved g c =
     let begun = g.Self.ChallengerState.state c.args.self.now in
     let xs = g.EF.ExtensionField.coefficients c.args.value.now in
-    after_all-read g.Self.CanObserve.after_observe begun _ _ xs c.loop-i.i _ c.loop-i.invariant c.coefficient.ensures c.observe.ensures
+    after_all-read g.Self.CanObserve.after_observe begun _ _ xs c.loop-i.i _ c.loop-i.invariant
+    c.coefficient.ensures c.observe.ensures

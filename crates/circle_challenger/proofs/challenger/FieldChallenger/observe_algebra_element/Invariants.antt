@@ -6,4 +6,5 @@ use Rattle.circle_challenger.proofs.challenger.FieldChallenger.observe_algebra_e
 abbrev pub invariant-loop-i : goal.invariant-loop-i
 invariant-loop-i g l =
     let state = g.Self.ChallengerState.state in
-    state l.self ≡ after_all g.Self.CanObserve.after_observe (state l.initial.self) (take l.i (g.EF.ExtensionField.coefficients l.value))
+    state l.self ≡ after_all g.Self.CanObserve.after_observe (state l.initial.self)
+    (take l.i (g.EF.ExtensionField.coefficients l.value))

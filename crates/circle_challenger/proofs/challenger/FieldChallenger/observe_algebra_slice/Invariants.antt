@@ -6,4 +6,5 @@ use Rattle.circle_challenger.proofs.challenger.FieldChallenger.observe_algebra_s
 abbrev pub invariant-loop-value : goal.invariant-loop-value
 invariant-loop-value g l =
     let state = g.Self.ChallengerState.state in
-    state l.self ≡ after_all g.Self.CanObserve.after_observe (state l.initial.self) (flat_map g.EF.ExtensionField.coefficients (take l.value-index l.values))
+    state l.self ≡ after_all g.Self.CanObserve.after_observe (state l.initial.self)
+    (flat_map g.EF.ExtensionField.coefficients (take l.value-index l.values))

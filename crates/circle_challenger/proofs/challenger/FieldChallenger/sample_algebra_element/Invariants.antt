@@ -7,4 +7,6 @@ abbrev pub invariant-loop-i : goal.invariant-loop-i
 invariant-loop-i g l =
     let state = g.Self.ChallengerState.state in
     let next = g.Self.CanSample.after_sample in
-    (take l.i (g.EF.ExtensionField.coefficients l.value) ≡ samples g.Self.CanSample.sampled next l.i (state l.initial.self)) × (state l.self ≡ after_samples next l.i (state l.initial.self))
+    (take l.i (g.EF.ExtensionField.coefficients l.value)
+    ≡ samples g.Self.CanSample.sampled next l.i (state l.initial.self))
+    × (state l.self ≡ after_samples next l.i (state l.initial.self))

@@ -4,4 +4,5 @@ use Rattle.circle_challenger.proofs.domain_separator.DomainSeparator.text.Goals 
 
 pub returns-clause-only : goal.returns-clause-only
 returns-clause-only c = λ other writable same.
-    same_separator other _ writable c.self.invariant.writable (same ∙ c.deref.ensures.value ∙ c.self.invariant.text) ∙ c.self.view_is
+    same_separator other _ writable c.self.invariant.writable
+    (same ∙ c.deref.ensures.value ∙ c.self.invariant.text) ∙ c.self.view_is

@@ -30,15 +30,23 @@ pub picked_spec : {M : Type 1} → statement M
 picked_spec 𝓤 𝓛 𝓜 𝓡 wired T laws =
     let c = f.clauses T 𝓛 𝓜.mem 𝓡.returns in
     let of_type = layouts (a_type ∷ []) (T, tt) in
-    proved 𝓛 (f.ended T) (stayed T) c 𝓜 𝓡 (Goes-none_ref 𝓛 2 (0 ∷ []) tt (plain (λ _. f.T-row T)) yes, tt)
+    proved 𝓛 (f.ended T) (stayed T) c 𝓜 𝓡
+    (Goes-none_ref 𝓛 2 (0 ∷ []) tt (plain (λ _. f.T-row T)) yes, tt)
     (f.Key.name of_type) (inst_fn of_type code.function) (code.unfolded 𝓤 𝓛.H 𝓜 𝓡 wired (T, tt))
-    (λ κs. (shr_vals, tt)) (λ κs. (shr_Tells (named 0) κs.0 (f.T-row T), tt)) (λ κs qs bounds a g are.
+    (λ κs. (shr_vals, tt)) (λ κs. (shr_Tells (named 0) κs.0 (f.T-row T), tt))
+    (λ κs qs bounds a g are.
     let reference = vptr a.0.ref_ptr.0 a.0.ref_ptr.1 in
-    let y : (walk_of 𝓛 (f.ended T) (stayed T) c).Ghost = ((κs, qs, bounds, a, (reference ∷ [], tt)), g) in
+    let y : (walk_of 𝓛 (f.ended T) (stayed T) c).Ghost =
+    ((κs, qs, bounds, a, (reference ∷ [], tt)), g) in
     via 𝓤 _ (fst∗ 𝓤 _ ((c κs a).requires g)) (
-    qed 𝓛 (raw (alive 𝓛 (f.signature T) κs qs) ∷ ‵ (owns (types_at (f.signature T).params κs) a (reference ∷ [], tt)) ∷ []) ∵ enter ! _ _ _ _ _ $
+    qed 𝓛 (raw (alive 𝓛 (f.signature T) κs qs)
+    ∷ ‵ (owns (types_at (f.signature T).params κs) a (reference ∷ [], tt)) ∷ []) ∵ enter ! _ _ _
+    _ _ $
     alloc_all ! (λ l. pass_all ! refl ((tt, tt), tt) $ sets ! (agg ! (no_more !)) refl (tt, tt) $
     returns ! (look_at ! 0 refl) $ free_all ! refl $
-    suffices ! _ (ends_at 𝓛 (f.ended T) (stayed T) c y (vstruct vnil) (record { steps = g }) (tt, tt) (tt, tt)) $
-    says ! refl $ pure_i ! (made.the_row.own_val (record { steps = g }) (vstruct vnil ∷ [])) ((λ vss. (tt, tt)), tt) ((tt, (refl, tt)), tt) $
+    suffices ! _
+    (ends_at 𝓛 (f.ended T) (stayed T) c y (vstruct vnil) (record { steps = g }) (tt, tt)
+    (tt, tt)) $
+    says ! refl $ pure_i ! (made.the_row.own_val (record { steps = g }) (vstruct vnil ∷ []))
+    ((λ vss. (tt, tt)), tt) ((tt, (refl, tt)), tt) $
     move ! (1 ∷ 2 ∷ 0 ∷ []) $ done !)))

@@ -15,7 +15,12 @@ returns-in-Ok-json-4-clause-reads c =
     let inside = member (codes "points") first (member (codes "rows") second no_members) in (
       at-most 2 value inside (search (rules, the_lemmas)) (omega arith),
       (
-        has-member _ (codes "points") value first inside (search (rules, the_lemmas)) refl c.in_ok-to_json.ensures.reads,
-        (has-member _ (codes "rows") value second inside (search (rules, the_lemmas)) refl c.in_ok-to_json-2.ensures.reads, tt),
+        has-member _ (codes "points") value first inside (search (rules, the_lemmas)) refl
+            c.in_ok-to_json.ensures.reads,
+        (
+          has-member _ (codes "rows") value second inside (search (rules, the_lemmas)) refl
+              c.in_ok-to_json-2.ensures.reads,
+          tt,
+        ),
       ),
     )

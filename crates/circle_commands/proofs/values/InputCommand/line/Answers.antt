@@ -10,5 +10,8 @@ use Rattle.circle_commands.proofs.values.InputCommand.line.Goals as goal
 pub returns-clause-result : goal.returns-clause-result
 returns-clause-result c =
     let rows = values_of c.args.self in
-    let same : view c.in_ok-shown.field-0 ≡ rows_written rows = c.in_ok-shown.ensures ∙ ap rows_written c.in_ok-values.ensures.rows in
-    subst (λ (d : Data). IsJsonLine d (string_bytes c.in_ok-line.field-0)) same (c.in_ok-line.ensures (let deep = ap depth same in let within = rows_within rows in omega arith))
+    let same : view c.in_ok-shown.field-0 ≡ rows_written rows = c.in_ok-shown.ensures
+    ∙ ap rows_written c.in_ok-values.ensures.rows in
+    subst (λ (d : Data). IsJsonLine d (string_bytes c.in_ok-line.field-0)) same
+    (c.in_ok-line.ensures (let deep = ap depth same in let within = rows_within rows in
+    omega arith))

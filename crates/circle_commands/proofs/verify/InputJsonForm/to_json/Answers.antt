@@ -13,13 +13,21 @@ returns-in-Ok-json-6-clause-reads c =
     let second = view c.in_ok-to_json-2.field-0 in
     let third = view c.in_ok-to_json-3.field-0 in
     let value = view (Object c.json-put-3.new.map) in
-    let inside = member (codes "batches") first (member (codes "params") second (member (codes "proof") third no_members)) in (
+    let inside =
+    member (codes "batches") first
+    (member (codes "params") second (member (codes "proof") third no_members)) in (
       at-most 3 value inside (search (rules, the_lemmas)) (omega arith),
       (
-        has-member _ (codes "batches") value first inside (search (rules, the_lemmas)) refl c.in_ok-to_json.ensures.reads,
+        has-member _ (codes "batches") value first inside (search (rules, the_lemmas)) refl
+            c.in_ok-to_json.ensures.reads,
         (
-          has-member _ (codes "params") value second inside (search (rules, the_lemmas)) refl c.in_ok-to_json-2.ensures.reads,
-          (has-member _ (codes "proof") value third inside (search (rules, the_lemmas)) refl c.in_ok-to_json-3.ensures.reads, tt),
+          has-member _ (codes "params") value second inside (search (rules, the_lemmas)) refl
+              c.in_ok-to_json-2.ensures.reads,
+          (
+            has-member _ (codes "proof") value third inside (search (rules, the_lemmas)) refl
+                c.in_ok-to_json-3.ensures.reads,
+            tt,
+          ),
         ),
       ),
     )

@@ -5,4 +5,7 @@ use Rattle.circle_commit.proofs.matrix.FieldMatrix.columnwise_dot_product.Given 
 
 abbrev pub invariant-loop-i : goal.invariant-loop-i
 invariant-loop-i g l =
-    l.sums.items ≡ map (partial g.EF.Operations.ops g.EF.ExtensionField.embed g.EF.Operations.laws.ring g.F.Operations.ops.zero l.weights (g.Self.Matrix.rows l.self) l.i) (range_with_len 0 (g.Self.MatrixShape.width l.self))
+    l.sums.items
+    ≡ map (partial g.EF.Operations.ops g.EF.ExtensionField.embed g.EF.Operations.laws.ring
+    g.F.Operations.ops.zero l.weights (g.Self.Matrix.rows l.self) l.i)
+    (range_with_len 0 (g.Self.MatrixShape.width l.self))

@@ -10,4 +10,5 @@ returns g c =
     let e : m.width ≡ start + m.width - start = omega arith in
     rows_from-row m.width (height_of m) c.args.r m.values.items c.requires
     ∙ ap (λ n. Some (take n (drop start m.values.items))) e
-    ∙ ap (λ items. Some (take (start + m.width - start) (drop start items))) (sym c.deref.ensures.value)
+    ∙ ap (λ items. Some (take (start + m.width - start) (drop start items)))
+    (sym c.deref.ensures.value)

@@ -11,14 +11,16 @@ returns-clause-steps g c =
     let it = c.args.self.now in
     let one_more : it.remaining ≡ suc (it.remaining - 1) = omega arith in
     ap (λ n. walk k n (coordinates it.current) (coordinates it.step)) one_more
-    ∙ ap (λ (q : Coordinates g.row.F.Denot). coordinates it.current ∷ walk k (it.remaining - 1) q (coordinates it.step)) (sym c.add-self.ensures.sum)
+    ∙ ap (λ (q : Coordinates g.row.F.Denot). coordinates it.current
+    ∷ walk k (it.remaining - 1) q (coordinates it.step)) (sym c.add-self.ensures.sum)
 
 pub returns-clause-goes : goal.returns-clause-goes
 returns-clause-goes g c =
     let k = g.F.Operations.ops in
     let it = c.args.self.now in
     let before = length-walk k it.remaining (coordinates it.current) (coordinates it.step) in
-    let after = length-walk k (it.remaining - 1) (coordinates c.add-self.result) (coordinates it.step) in
+    let after = length-walk k (it.remaining - 1) (coordinates c.add-self.result)
+    (coordinates it.step) in
     record {
       on = λ _. (tt, tt, omega (arith, before, after));
       keeps = tt;

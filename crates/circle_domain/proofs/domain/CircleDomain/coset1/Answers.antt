@@ -16,5 +16,6 @@ returns g c =
     let first = coordinates c.sub.result in
     ap (λ count. walk k (count / 2) first step) c.size.ensures
     ∙ ap (λ count. walk k count first step) (half-pow n c.requires.positive)
-    ∙ walk-steps laws (2 ^ (n - 1)) first s step 1 (c.sub.ensures.difference ∙ first_odd laws s step)
+    ∙ walk-steps laws (2 ^ (n - 1)) first s step 1
+    (c.sub.ensures.difference ∙ first_odd laws s step)
     ∙ ap (λ g. steps_from k (2 ^ (n - 1)) g s 1) c.subgroup_generator-step.ensures

@@ -13,4 +13,5 @@ returns g c =
     g.met.EF.Field.sub_law _ _ _ c.sub.ensures
     ∙ ap (λ v. sub l v c.from_base.result) c.v_n.ensures.polynomial
     ∙ ap (sub l (vanishing l n (coordinates c.args.at)))
-    (c.from_base.ensures ∙ ap g.EF.ExtensionField.embed c.v_n-2.ensures.polynomial ∙ lifted-vanishing g.met.EF.ExtensionField.embedding n (shift_of c.args.self.now))
+    (c.from_base.ensures ∙ ap g.EF.ExtensionField.embed c.v_n-2.ensures.polynomial
+    ∙ lifted-vanishing g.met.EF.ExtensionField.embedding n (shift_of c.args.self.now))

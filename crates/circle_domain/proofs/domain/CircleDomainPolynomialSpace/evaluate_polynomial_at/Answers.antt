@@ -7,4 +7,5 @@ use Rattle.circle_domain.proofs.domain.CircleDomainPolynomialSpace.evaluate_poly
 pub value_off_domain-requires-clause-genuine : goal.value_off_domain-requires-clause-genuine
 value_off_domain-requires-clause-genuine g c =
     subst (IsGenuine g.F.Operations.ops (log_size c.args.self.now)) (sym c.requires.standard.1)
-    (standard-genuine g.F.Operations.laws g.met.F.ComplexExtendable.generators_law (log_size c.args.self.now) c.requires.positive c.requires.standard.0)
+    (standard-genuine g.F.Operations.laws g.met.F.ComplexExtendable.generators_law
+    (log_size c.args.self.now) c.requires.positive c.requires.standard.0)

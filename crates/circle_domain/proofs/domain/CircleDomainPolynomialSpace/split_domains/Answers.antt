@@ -1,4 +1,5 @@
-use Rattle.std.proofs.Common.{◌≡◌, ◌-◌, ◌++◌, [], ◌∷◌, ◌*◌, ◌^◌, All, List, Some, refl, ◌∙◌, sym, ap, subst, arith, map, take}
+use Rattle.std.proofs.Common.{◌≡◌, ◌-◌, ◌++◌, [], ◌∷◌, ◌*◌, ◌^◌, All, List, Some, refl, ◌∙◌, sym}
+use Rattle.std.proofs.Common.{ap, subst, arith, map, take}
 use Rattle.std.proofs.lemmas.List.Elements.{All-push}
 use Rattle.circle_domain.specs.Domain.{log_size, shift_of, points_of}
 use Rattle.circle_domain.specs.declared.domain.CircleDomain.{CircleDomain}
@@ -7,7 +8,11 @@ use Rattle.circle_domain.proofs.domain.CircleDomainPolynomialSpace.split_domains
 
 pub nth_point-requires-clause-positive : goal.nth_point-requires-clause-positive
 nth_point-requires-clause-positive g c =
-    omega (arith, parts_room c.log2_strict.result c.args.self.now.log_n c.args.num_chunks c.log2_strict.ensures.power c.requires.room)
+    omega (
+      arith,
+      parts_room c.log2_strict.result c.args.self.now.log_n c.args.num_chunks
+          c.log2_strict.ensures.power c.requires.room,
+    )
 
 pub nth_point-requires-clause-in_group : goal.nth_point-requires-clause-in_group
 nth_point-requires-clause-in_group g c = omega (arith, c.requires.standard.0)

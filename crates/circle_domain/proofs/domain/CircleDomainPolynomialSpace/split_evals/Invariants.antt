@@ -7,6 +7,9 @@ use Rattle.circle_domain.proofs.domain.CircleDomainPolynomialSpace.split_evals.G
 
 abbrev pub invariant-loop-part : goal.invariant-loop-part
 invariant-loop-part g l = record {
-  matched : map rows l.parts.items ≡ map (λ j. mapped_rows (place_of l.num_chunks j) (height_of l.evals / l.num_chunks) (rows l.evals)) (range_with_len 0 l.part);
+  matched : map rows l.parts.items
+      ≡ map
+      (λ j. mapped_rows (place_of l.num_chunks j) (height_of l.evals / l.num_chunks) (rows l.evals))
+      (range_with_len 0 l.part);
   wide : All (λ part. width_of part ≡ width_of l.evals) l.parts.items;
 }

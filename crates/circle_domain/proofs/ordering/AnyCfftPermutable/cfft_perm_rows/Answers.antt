@@ -9,12 +9,14 @@ pub log2_strict-log_height-requires : goal.log2_strict-log_height-requires
 log2_strict-log_height-requires g c = subst IsPowerOfTwo (sym c.height.ensures) c.requires
 
 pub returns-clause-height : goal.returns-clause-height
-returns-clause-height g c = ap (λ n. 2 ^ n) c.new.ensures ∙ c.log2_strict-log_height.ensures.power ∙ c.height.ensures
+returns-clause-height g c = ap (λ n. 2 ^ n) c.new.ensures ∙ c.log2_strict-log_height.ensures.power
+    ∙ c.height.ensures
 
 pub invariant_of-result : goal.invariant_of-result
 invariant_of-result g c =
     let h = log_height_of c.new.result in
-    let rows : 2 ^ h ≡ g.M.MatrixShape.height c.args.self = ap (λ n. 2 ^ n) c.new.ensures ∙ c.log2_strict-log_height.ensures.power ∙ c.height.ensures in
+    let rows : 2 ^ h ≡ g.M.MatrixShape.height c.args.self = ap (λ n. 2 ^ n) c.new.ensures
+    ∙ c.log2_strict-log_height.ensures.power ∙ c.height.ensures in
     record { in_range = λ r lt. subst (λ n. cfft_index h r < n) rows (cfft_index-below h r) }
 
 pub returns-clause-rows : goal.returns-clause-rows

@@ -9,5 +9,6 @@ returns c =
     are_coefficients.determined _ _
     (ap (λ a. a ∷ c.mul-2.result ∷ c.mul-3.result ∷ []) c.mul.ensures
     ∙ ap (λ a. operations.mul f c.args.self.c0 ∷ a ∷ c.mul-3.result ∷ []) c.mul-2.ensures
-    ∙ ap (λ a. operations.mul f c.args.self.c0 ∷ operations.mul f c.args.self.c1 ∷ a ∷ []) c.mul-3.ensures
+    ∙ ap (λ a. operations.mul f c.args.self.c0 ∷ operations.mul f c.args.self.c1 ∷ a ∷ [])
+    c.mul-3.ensures
     ∙ sym (are_coefficients.of_multiple f c.args.self))

@@ -6,6 +6,7 @@ pub returns : goal.returns
 returns g c =
     let k = g.Self.Operations.ops in
     let half : c.halve.result ≡ k.inv (two k) =
-    c.halve.ensures ∙ ap (λ x. k.mul x (k.inv (two k))) (c.ONE.ensures ∙ g.met.Self.Field.one_law) ∙ g.Self.Operations.laws.ring.one_mul _ in
+    c.halve.ensures ∙ ap (λ x. k.mul x (k.inv (two k))) (c.ONE.ensures ∙ g.met.Self.Field.one_law)
+    ∙ g.Self.Operations.laws.ring.one_mul _ in
     g.met.Self.Field.mul_law _ _ _ c.mul.ensures
     ∙ ap (k.mul c.args.self.now) (c.exp_u64.ensures ∙ ap (λ x. nth_power k x c.args.exp) half)

@@ -7,7 +7,8 @@ use Rattle.circle_field.proofs.field.Field.exp_u64.Goals.{then-rest-eq1, else-re
 pub loop-rest-init : goal.loop-rest-init
 loop-rest-init g c =
     let k = g.Self.Operations.ops in
-    ap (λ x. k.mul x (nth_power k c.args.self.now c.args.power)) (c.ONE-result.ensures ∙ g.met.Self.Field.one_law)
+    ap (λ x. k.mul x (nth_power k c.args.self.now c.args.power))
+    (c.ONE-result.ensures ∙ g.met.Self.Field.one_law)
     ∙ g.Self.Operations.laws.ring.one_mul _
 
 pub loop-rest-preserved : goal.loop-rest-preserved
@@ -22,9 +23,11 @@ loop-rest-preserved g c =
           (w.result-is ∙ g.met.Self.Field.mul_law _ _ _ w.mul-result.ensures)
           ∙ halved_odd laws _ _ _ _ c.loop-rest.invariant w.if-rest-eq1.true
       | else-rest-eq1 w ↦
-          squared _ ∙ ap (λ r. k.mul r (nth_power k (k.mul c.loop-rest.base c.loop-rest.base) n)) w.result-is
+          squared _ ∙ ap (λ r. k.mul r (nth_power k (k.mul c.loop-rest.base c.loop-rest.base) n))
+          w.result-is
           ∙ halved_even laws _ _ _ _ c.loop-rest.invariant (omega (arith, w.if-rest-eq1.false))
     ]
 
 pub returns : goal.returns
-returns g c = no_more g.Self.Operations.laws.ring _ _ _ _ c.loop-rest.invariant c.loop-rest-test.false
+returns g c = no_more g.Self.Operations.laws.ring _ _ _ _ c.loop-rest.invariant
+    c.loop-rest-test.false

@@ -10,7 +10,8 @@ loop-preserved g c =
     let n = c.loop.counter in
     let base = c.args.base in
     let before = map (λ i. nth_power k base i) (range_with_len 0 n) in
-    let next : nth_power k base (n + 1) ≡ k.mul base (nth_power k base n) = ap (nth_power k base) (add-one n) in
+    let next : nth_power k base (n + 1) ≡ k.mul base (nth_power k base n) =
+    ap (nth_power k base) (add-one n) in
     record {
       made =
           c.in_ok-push.ensures.items

@@ -5,4 +5,5 @@ pub loop-init : goal.loop-init
 loop-init c = no_squaring c.args.self
 
 pub loop-preserved : goal.loop-preserved
-loop-preserved c = squaring_more c.args.self c.loop.squared _ c.loop.counter c.loop.invariant c.square-squared.ensures
+loop-preserved c = squaring_more c.args.self c.loop.squared _ c.loop.counter c.loop.invariant
+    c.square-squared.ensures

@@ -6,7 +6,8 @@ use Rattle.circle_field.proofs.mersenne31.Mersenne31Field.try_inverse.Goals as g
 pub returns-clause-inverse : goal.returns-clause-inverse
 returns-clause-inverse c =
     let a = c.args.self.now in
-    let p101 = product a _ a _ 4 1 c.exp_power_of_2.ensures (sym (power-one a)) c.mul-p101.ensures in
+    let p101 = product a _ a _ 4 1 c.exp_power_of_2.ensures (sym (power-one a))
+    c.mul-p101.ensures in
     let squared = product a _ _ _ 5 5 p101 p101 c.square.ensures in
     let ones_4 = product a _ _ _ 10 5 squared p101 c.mul-ones_4.ensures in
     let shifted_4 = repeated a _ _ 15 16 ones_4 c.exp_power_of_2-2.ensures in

@@ -8,5 +8,11 @@ use Rattle.circle_json.proofs.claims.CommitmentOpeningUsizeJsonForm.to_json.Goal
 pub returns-clause-reads : goal.returns-clause-reads
 returns-clause-reads g c =
     let fields = batch_fields g.Challenge.JsonForm.form g.Commitment.JsonForm.form in
-    read_of fields c.args.self.now _ (members_written fields c.args.self.now) (search (rules, the_lemmas))
-    (omega arith, ((_, refl, c.in_ok-put_member.ensures.reads), ((_, refl, c.in_ok-put_member-2.ensures.reads), tt)))
+    read_of fields c.args.self.now _ (members_written fields c.args.self.now)
+    (search (rules, the_lemmas)) (
+      omega arith,
+      (
+        (_, refl, c.in_ok-put_member.ensures.reads),
+        ((_, refl, c.in_ok-put_member-2.ensures.reads), tt),
+      ),
+    )

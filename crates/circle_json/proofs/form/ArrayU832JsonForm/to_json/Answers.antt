@@ -11,4 +11,6 @@ returns-clause-reads c =
     let fits = c.fits-self in
     let len : length c.args.self.now ≡ 32 = search rules in
     let bytes : (i : ℕ) → get_or c.args.self.now i 0 < 256 = search rules in
-    ap digest_of (c.from.ensures ∙ ap string (c.in_ok-encode.ensures ∙ ap encode_lower c.as_slice.ensures)) ∙ ap digest_of_digits (decode_sized-encode_lower c.args.self.now 32 len bytes)
+    ap digest_of
+    (c.from.ensures ∙ ap string (c.in_ok-encode.ensures ∙ ap encode_lower c.as_slice.ensures))
+    ∙ ap digest_of_digits (decode_sized-encode_lower c.args.self.now 32 len bytes)

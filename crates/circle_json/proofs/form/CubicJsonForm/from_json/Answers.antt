@@ -2,7 +2,9 @@ use Rattle.circle_json.proofs.Items.{fewer_than_three, more_than_three}
 use Rattle.circle_json.proofs.form.CubicJsonForm.from_json.Goals as goal
 
 pub returns-in_default-clause-refuses : goal.returns-in_default-clause-refuses
-returns-in_default-clause-refuses c = fewer_than_three _ c.in_ok-items.field-0.now c.in_ok-items.ensures c.in_default.len_below
+returns-in_default-clause-refuses c =
+    fewer_than_three _ c.in_ok-items.field-0.now c.in_ok-items.ensures c.in_default.len_below
 
 pub returns-in_default-2-clause-refuses : goal.returns-in_default-2-clause-refuses
-returns-in_default-2-clause-refuses c = more_than_three _ c.in_ok-items.field-0.now c.in_ok-items.ensures c.in_default.len_at_least
+returns-in_default-2-clause-refuses c =
+    more_than_three _ c.in_ok-items.field-0.now c.in_ok-items.ensures c.in_default.len_at_least

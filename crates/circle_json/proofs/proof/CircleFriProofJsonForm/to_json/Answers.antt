@@ -7,6 +7,25 @@ use Rattle.circle_json.proofs.proof.CircleFriProofJsonForm.to_json.Goals as goal
 
 pub returns-clause-reads : goal.returns-clause-reads
 returns-clause-reads g c =
-    let fields = fri_fields g.F.JsonForm.form g.Witness.JsonForm.form g.InputProof.JsonForm.form g.M.Commitment.JsonForm.form g.M.MultiProof.JsonForm.form in
-    read_of fields c.args.self.now _ (members_written fields c.args.self.now) (search (rules, the_lemmas))
-    (omega arith, ((_, refl, c.in_ok-put_member.ensures.reads), ((_, refl, c.in_ok-put_member-2.ensures.reads), ((_, refl, c.in_ok-put_member-3.ensures.reads), ((_, refl, c.in_ok-put_final_poly.ensures.reads), ((_, refl, c.in_ok-put_member-4.ensures.reads), ((_, refl, c.in_ok-put_member-5.ensures.reads), tt)))))))
+    let fields = fri_fields g.F.JsonForm.form g.Witness.JsonForm.form g.InputProof.JsonForm.form
+    g.M.Commitment.JsonForm.form g.M.MultiProof.JsonForm.form in
+    read_of fields c.args.self.now _ (members_written fields c.args.self.now)
+    (search (rules, the_lemmas)) (
+      omega arith,
+      (
+        (_, refl, c.in_ok-put_member.ensures.reads),
+        (
+          (_, refl, c.in_ok-put_member-2.ensures.reads),
+          (
+            (_, refl, c.in_ok-put_member-3.ensures.reads),
+            (
+              (_, refl, c.in_ok-put_final_poly.ensures.reads),
+              (
+                (_, refl, c.in_ok-put_member-4.ensures.reads),
+                ((_, refl, c.in_ok-put_member-5.ensures.reads), tt),
+              ),
+            ),
+          ),
+        ),
+      ),
+    )

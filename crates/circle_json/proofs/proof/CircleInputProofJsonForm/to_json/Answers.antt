@@ -7,6 +7,17 @@ use Rattle.circle_json.proofs.proof.CircleInputProofJsonForm.to_json.Goals as go
 
 pub returns-clause-reads : goal.returns-clause-reads
 returns-clause-reads g c =
-    let fields = input_fields g.Val.JsonForm.form g.Challenge.JsonForm.form g.InputMmcs.MultiProof.JsonForm.form g.FriMmcs.MultiProof.JsonForm.form in
-    read_of fields c.args.self.now _ (members_written fields c.args.self.now) (search (rules, the_lemmas))
-    (omega arith, ((_, refl, c.in_ok-put_member.ensures.reads), ((_, refl, c.in_ok-put_member-2.ensures.reads), ((_, refl, c.in_ok-put_member-3.ensures.reads), tt))))
+    let fields =
+    input_fields g.Val.JsonForm.form g.Challenge.JsonForm.form
+    g.InputMmcs.MultiProof.JsonForm.form g.FriMmcs.MultiProof.JsonForm.form in
+    read_of fields c.args.self.now _ (members_written fields c.args.self.now)
+    (search (rules, the_lemmas)) (
+      omega arith,
+      (
+        (_, refl, c.in_ok-put_member.ensures.reads),
+        (
+          (_, refl, c.in_ok-put_member-2.ensures.reads),
+          ((_, refl, c.in_ok-put_member-3.ensures.reads), tt),
+        ),
+      ),
+    )

@@ -7,6 +7,20 @@ use Rattle.circle_json.proofs.proof.CirclePcsProofJsonForm.to_json.Goals as goal
 
 pub returns-clause-reads : goal.returns-clause-reads
 returns-clause-reads g c =
-    let fields = proof_fields g.Val.JsonForm.form g.Challenge.JsonForm.form g.Witness.JsonForm.form g.InputMmcs.MultiProof.JsonForm.form g.FriMmcs.Commitment.JsonForm.form g.FriMmcs.MultiProof.JsonForm.form in
-    read_of fields c.args.self.now _ (members_written fields c.args.self.now) (search (rules, the_lemmas))
-    (omega arith, ((_, refl, c.in_ok-put_member.ensures.reads), ((_, refl, c.in_ok-put_member-2.ensures.reads), ((_, refl, c.in_ok-put_member-3.ensures.reads), ((_, refl, c.in_ok-put_member-4.ensures.reads), tt)))))
+    let fields = proof_fields g.Val.JsonForm.form g.Challenge.JsonForm.form g.Witness.JsonForm.form
+    g.InputMmcs.MultiProof.JsonForm.form g.FriMmcs.Commitment.JsonForm.form
+    g.FriMmcs.MultiProof.JsonForm.form in
+    read_of fields c.args.self.now _ (members_written fields c.args.self.now)
+    (search (rules, the_lemmas)) (
+      omega arith,
+      (
+        (_, refl, c.in_ok-put_member.ensures.reads),
+        (
+          (_, refl, c.in_ok-put_member-2.ensures.reads),
+          (
+            (_, refl, c.in_ok-put_member-3.ensures.reads),
+            ((_, refl, c.in_ok-put_member-4.ensures.reads), tt),
+          ),
+        ),
+      ),
+    )

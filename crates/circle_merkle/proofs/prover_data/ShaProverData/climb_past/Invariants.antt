@@ -10,7 +10,8 @@ invariant-loop-position g l =
     let at = digest sha256 (matrix_rows g.T.ElementBytes.bytes l.self.matrices.items) l.level in
     record {
       parents : l.parents.items ++ parents_of l.rest ≡ parents_of l.known;
-      proof : l.proof.items ++ map at (siblings_of l.rest) ≡ l.initial.proof.items ++ map at (siblings_of l.known);
+      proof : l.proof.items ++ map at (siblings_of l.rest) ≡ l.initial.proof.items
+          ++ map at (siblings_of l.known);
       within : All (λ i. i < 2 ^ (vec_len l.self.upper - l.level)) (siblings_of l.rest);
     }
 

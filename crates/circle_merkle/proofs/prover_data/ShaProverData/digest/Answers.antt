@@ -13,8 +13,12 @@ index-requires-in-Some g c =
     let above = c.in-Some.above in
     let level = c.index.result.now in
     let same : c.args.level ≡ suc above = omega (arith, c.in-Some.ensures.0, c.in-Some.ensures.1) in
-    let whole = kept-digest sha256 g.T.ElementBytes.bytes d.matrices.items count d.upper.items d.tree above (omega (arith, c.requires.below)) level c.index.ensures in
-    let long = level.ok.0 ∙ ap length whole ∙ length-map-range_with_len (digest sha256 (matrix_rows g.T.ElementBytes.bytes d.matrices.items) (suc above)) 0 (2 ^ (count - suc above)) in
+    let whole = kept-digest sha256 g.T.ElementBytes.bytes d.matrices.items count d.upper.items
+    d.tree above (omega (arith, c.requires.below)) level c.index.ensures in
+    let long = level.ok.0 ∙ ap length whole
+    ∙ length-map-range_with_len
+    (digest sha256 (matrix_rows g.T.ElementBytes.bytes d.matrices.items) (suc above)) 0
+    (2 ^ (count - suc above)) in
     omega (arith, long, ap (λ k. 2 ^ (count - k)) same, c.requires.within)
 
 pub returns-in-Some : goal.returns-in-Some
@@ -26,8 +30,12 @@ returns-in-Some g c =
     let r = c.index-in-Some.result.now in
     let at = digest sha256 (matrix_rows g.T.ElementBytes.bytes d.matrices.items) in
     let same : c.args.level ≡ suc above = omega (arith, c.in-Some.ensures.0, c.in-Some.ensures.1) in
-    let within : i < 2 ^ (count - suc above) = omega (arith, ap (λ k. 2 ^ (count - k)) same, c.requires.within) in
+    let within : i < 2 ^ (count - suc above) =
+    omega (arith, ap (λ k. 2 ^ (count - k)) same, c.requires.within) in
     c.index-in-Some.ensures
-    ∙ ap (λ ds. get_or ds i r) (kept-digest sha256 g.T.ElementBytes.bytes d.matrices.items count d.upper.items d.tree above (omega (arith, c.requires.below)) c.index.result.now c.index.ensures)
-    ∙ get_or-map-range_with_len (at (suc above)) 0 (2 ^ (count - suc above)) i i r within (omega arith)
+    ∙ ap (λ ds. get_or ds i r)
+    (kept-digest sha256 g.T.ElementBytes.bytes d.matrices.items count d.upper.items d.tree above
+    (omega (arith, c.requires.below)) c.index.result.now c.index.ensures)
+    ∙ get_or-map-range_with_len (at (suc above)) 0 (2 ^ (count - suc above)) i i r within
+    (omega arith)
     ∙ ap (λ k. at k i) (sym same)

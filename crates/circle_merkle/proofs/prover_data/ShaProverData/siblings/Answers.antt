@@ -1,4 +1,5 @@
-use Rattle.std.proofs.Common.{◌≡◌, ℕ, ◌-◌, ◌++◌, ◌<◌, ◌^◌, ◌∙◌, ap, sym, subst, map, All, vec_len, add-one, arith}
+use Rattle.std.proofs.Common.{◌≡◌, ℕ, ◌-◌, ◌++◌, ◌<◌, ◌^◌, ◌∙◌, ap, sym, subst, map, All, vec_len}
+use Rattle.std.proofs.Common.{add-one, arith}
 use Rattle.std.specs.Prelude.{max}
 use Rattle.std.proofs.lemmas.List.Elements.{All-same}
 use Rattle.sha2.specs.Sha256.{sha256}
@@ -19,8 +20,10 @@ climb_past-requires-clause-within g c =
     let level = c.loop-level.level in
     let indices = c.args.indices.now in
     let below : level < count = omega (arith, c.len-level-end.ensures) in
-    let positions = ap siblings_of (c.deref.ensures.value ∙ c.loop-level.invariant.known) ∙ siblings-known indices count level below in
-    All-same (λ i. i < 2 ^ (count - level)) (siblings_of c.deref.result.now) (taken indices count level) positions
+    let positions = ap siblings_of (c.deref.ensures.value ∙ c.loop-level.invariant.known)
+    ∙ siblings-known indices count level below in
+    All-same (λ i. i < 2 ^ (count - level)) (siblings_of c.deref.result.now)
+    (taken indices count level) positions
     (taken-within sha256 g.T.ElementBytes.bytes d.matrices.items count indices level)
 
 pub loop-level-preserved : goal.loop-level-preserved
@@ -34,18 +37,22 @@ loop-level-preserved g c =
     let below : level < count = omega (arith, c.len-level-end.ensures) in
     let positions = siblings_of c.deref.result.now in
     record {
-      known = ap (λ v. v.items) c.swap.ensures.x_after ∙ c.in_ok-climb_past.ensures.parents ∙ ap parents_of known-is ∙ parents-known indices count level below ∙ ap (known indices count) (sym (add-one level));
+      known = ap (λ v. v.items) c.swap.ensures.x_after ∙ c.in_ok-climb_past.ensures.parents
+          ∙ ap parents_of known-is ∙ parents-known indices count level below
+          ∙ ap (known indices count) (sym (add-one level));
       proof =
           c.in_ok-climb_past.ensures.proof
           ∙ ap (λ before. before ++ map (at level) positions) c.loop-level.invariant.proof
-          ∙ kept-proof sha256 g.T.ElementBytes.bytes d.matrices.items count indices level positions (ap siblings_of known-is ∙ siblings-known indices count level below)
+          ∙ kept-proof sha256 g.T.ElementBytes.bytes d.matrices.items count indices level positions
+          (ap siblings_of known-is ∙ siblings-known indices count level below)
           ∙ ap (proof_of at indices count) (sym (add-one level));
     }
 
 pub loop-level-init : goal.loop-level-init
 loop-level-init g c =
     let d = c.args.self.now in
-    let below : All (λ i. i < 2 ^ vec_len d.upper) c.args.indices.now = subst (λ n. All (λ i. i < n) c.args.indices.now) (sym d.greatest ∙ d.levels) c.requires in
+    let below : All (λ i. i < 2 ^ vec_len d.upper) c.args.indices.now =
+    subst (λ n. All (λ i. i < n) c.args.indices.now) (sym d.greatest ∙ d.levels) c.requires in
     record {
       known = c.in_ok-known.ensures (vec_len d.upper) below;
       proof = c.in_ok-proof.ensures.items;
@@ -56,7 +63,9 @@ returns g c =
     let d = c.args.self.now in
     let count = vec_len d.upper in
     let end : c.loop-level.level ≡ count = omega (arith, c.len-level-end.ensures) in
-    c.loop-level.invariant.proof ∙ ap (proof_of (digest sha256 (matrix_rows g.T.ElementBytes.bytes d.matrices.items)) c.args.indices.now count) end
+    c.loop-level.invariant.proof
+    ∙ ap (proof_of (digest sha256 (matrix_rows g.T.ElementBytes.bytes d.matrices.items))
+    c.args.indices.now count) end
 
 pub ilog2-requires : goal.ilog2-requires
 ilog2-requires g c = max_positive _ c.max.ensures

@@ -17,8 +17,11 @@ returns-in-None g c =
     let opened = opened_rows o.opened.now in
     let bytes = g.T.ElementBytes.bytes in
     let size = size_of dims c.args.level in
-    let long : length o.opened.now ≤ c.args.place = ltb-false c.args.place (length o.opened.now) (sym c.in-None.ensures.lookup.0) in
-    let past : length opened ≤ c.args.place = omega (arith, long, length-map o.opened.now (λ rows. map (λ row. row.items) rows.items)) in
+    let long : length o.opened.now ≤ c.args.place =
+    ltb-false c.args.place (length o.opened.now) (sym c.in-None.ensures.lookup.0) in
+    let past : length opened ≤ c.args.place =
+    omega (arith, long, length-map o.opened.now (λ rows. map (λ row. row.items) rows.items)) in
     let none : bytes_of_height bytes dims size (slice_index_or opened c.args.place []) ≡ [] =
-    ap (bytes_of_height bytes dims size) (get_or-eq_default opened [] past) ∙ bytes-none bytes size dims in
+    ap (bytes_of_height bytes dims size) (get_or-eq_default opened [] past)
+    ∙ bytes-none bytes size dims in
     c.rows_digest-in-None.ensures ∙ sym (ap (rows_digest sha256) none)

@@ -1,11 +1,13 @@
-use Rattle.std.proofs.Common.{rules, ◌≡◌, ℕ, ◌-◌, ◌+◌, ◌*◌, ◌/◌, ◌%◌, ◌^◌, ◌<◌, ◌≤◌, ◌++◌, ◌∙◌, sym, ap, refl, subst, map, take, drop, length, arith}
+use Rattle.std.proofs.Common.{rules, ◌≡◌, ℕ, ◌-◌, ◌+◌, ◌*◌, ◌/◌, ◌%◌, ◌^◌, ◌<◌, ◌≤◌, ◌++◌, ◌∙◌, sym}
+use Rattle.std.proofs.Common.{ap, refl, subst, map, take, drop, length, arith}
 use Rattle.std.proofs.Math.Nat.{mul-le-mul_right}
 use Rattle.std.proofs.lemmas.List.{take-map, length-take-le}
 use Rattle.std.proofs.lemmas.Nat.{pow_pos}
 use Rattle.circle_field.proofs.Inverses.{take-whole}
 use Rattle.circle_commit.specs.Matrix.{rows_from, column}
 use Rattle.circle_commit.specs.RowFacts.{length-rows_from}
-use Rattle.circle_commit.specs.RowMajorMatrix.{rows, width_of, height_of, values_of, length-rows, length-values}
+use Rattle.circle_commit.specs.RowMajorMatrix.{rows, width_of, height_of, values_of, length-rows}
+use Rattle.circle_commit.specs.RowMajorMatrix.{length-values}
 use Rattle.circle_point.specs.Basis.{value}
 use Rattle.circle_domain.specs.Values.{values_at}
 use Rattle.circle_domain.specs.Domain.{log_size, shift_of}
@@ -30,7 +32,8 @@ pub overflow_sub-copies : goal.overflow_sub-copies
 overflow_sub-copies g c =
     let n = log_size c.args.domain in
     let h = c.log2_strict-log_height.result in
-    let tall : height_of c.args.coeffs ≡ 2 ^ h = sym (c.log2_strict-log_height.ensures.power ∙ c.height.ensures) in
+    let tall : height_of c.args.coeffs ≡ 2 ^ h =
+    sym (c.log2_strict-log_height.ensures.power ∙ c.height.ensures) in
     let le : h ≤ n = pow_order h n (omega (arith, tall, c.requires.at_most_size)) in
     omega (arith, le, c.log_n.ensures)
 
@@ -38,11 +41,16 @@ pub slice_bounds-forward_passes-end : goal.slice_bounds-forward_passes-end
 slice_bounds-forward_passes-end g c =
     let n = log_size c.args.domain in
     let h = c.log2_strict-log_height.result in
-    let tall : height_of c.args.coeffs ≡ 2 ^ h = sym (c.log2_strict-log_height.ensures.power ∙ c.height.ensures) in
+    let tall : height_of c.args.coeffs ≡ 2 ^ h =
+    sym (c.log2_strict-log_height.ensures.power ∙ c.height.ensures) in
     let le : h ≤ n = pow_order h n (omega (arith, tall, c.requires.at_most_size)) in
-    let f = layer_factors g.F.Operations.ops g.F.ComplexExtendable.generators n (shift_of c.args.domain) in
-    let count = made-count (λ w. w.items) f c.in_ok-twiddles.twiddles.items n c.in_ok-twiddles.ensures in
-    sym (length-take-le h c.deref.result.now (omega (arith, le, count, ap length c.deref.ensures.value)))
+    let f = layer_factors g.F.Operations.ops g.F.ComplexExtendable.generators n
+    (shift_of c.args.domain) in
+    let count =
+    made-count (λ w. w.items) f c.in_ok-twiddles.twiddles.items n c.in_ok-twiddles.ensures in
+    sym
+    (length-take-le h c.deref.result.now
+    (omega (arith, le, count, ap length c.deref.ensures.value)))
 
 pub forward_passes-requires-clause-some : goal.forward_passes-requires-clause-some
 forward_passes-requires-clause-some g c =
@@ -50,12 +58,19 @@ forward_passes-requires-clause-some g c =
     let coeffs = c.args.coeffs in
     let width = width_of coeffs in
     let h = c.log2_strict-log_height.result in
-    let tall : height_of coeffs ≡ 2 ^ h = sym (c.log2_strict-log_height.ensures.power ∙ c.height.ensures) in
+    let tall : height_of coeffs ≡ 2 ^ h =
+    sym (c.log2_strict-log_height.ensures.power ∙ c.height.ensures) in
     let le : h ≤ n = pow_order h n (omega (arith, tall, c.requires.at_most_size)) in
     let stored = values_of coeffs in
-    let times = shifted c.log_n.result n h c.log_n.ensures (omega (arith, c.requires.in_group, g.met.F.ComplexExtendable.at_most_62)) in
-    let made : c.in_ok-entries.entries.items ≡ copies (2 ^ (n - h)) stored = c.in_ok-entries.ensures ∙ ap (λ t. copies t c.into_values.result.items) times ∙ ap (copies (2 ^ (n - h))) c.into_values.ensures in
-    let long : length c.deref_mut.result.now ≡ 2 ^ n * width = ap length (c.deref_mut.ensures.value ∙ made) ∙ copied-long n h width stored le (length-values coeffs ∙ ap (λ t. t * width) tall) in
+    let times =
+    shifted c.log_n.result n h c.log_n.ensures
+    (omega (arith, c.requires.in_group, g.met.F.ComplexExtendable.at_most_62)) in
+    let made : c.in_ok-entries.entries.items ≡ copies (2 ^ (n - h)) stored = c.in_ok-entries.ensures
+    ∙ ap (λ t. copies t c.into_values.result.items) times
+    ∙ ap (copies (2 ^ (n - h))) c.into_values.ensures in
+    let long : length c.deref_mut.result.now ≡ 2 ^ n * width =
+    ap length (c.deref_mut.ensures.value ∙ made)
+    ∙ copied-long n h width stored le (length-values coeffs ∙ ap (λ t. t * width) tall) in
     let some : 1 * width ≤ 2 ^ n * width = mul-le-mul_right width (pow_pos n) in
     omega (arith, long, some, coeffs.width_positive)
 
@@ -68,12 +83,19 @@ forward_passes-requires-clause-layers g c l lt =
     let coeffs = c.args.coeffs in
     let width = width_of coeffs in
     let h = c.log2_strict-log_height.result in
-    let tall : height_of coeffs ≡ 2 ^ h = sym (c.log2_strict-log_height.ensures.power ∙ c.height.ensures) in
+    let tall : height_of coeffs ≡ 2 ^ h =
+    sym (c.log2_strict-log_height.ensures.power ∙ c.height.ensures) in
     let le : h ≤ n = pow_order h n (omega (arith, tall, c.requires.at_most_size)) in
     let stored = values_of coeffs in
-    let times = shifted c.log_n.result n h c.log_n.ensures (omega (arith, c.requires.in_group, g.met.F.ComplexExtendable.at_most_62)) in
-    let made : c.in_ok-entries.entries.items ≡ copies (2 ^ (n - h)) stored = c.in_ok-entries.ensures ∙ ap (λ t. copies t c.into_values.result.items) times ∙ ap (copies (2 ^ (n - h))) c.into_values.ensures in
-    let long : length c.deref_mut.result.now ≡ 2 ^ n * width = ap length (c.deref_mut.ensures.value ∙ made) ∙ copied-long n h width stored le (length-values coeffs ∙ ap (λ t. t * width) tall) in
+    let times =
+    shifted c.log_n.result n h c.log_n.ensures
+    (omega (arith, c.requires.in_group, g.met.F.ComplexExtendable.at_most_62)) in
+    let made : c.in_ok-entries.entries.items ≡ copies (2 ^ (n - h)) stored = c.in_ok-entries.ensures
+    ∙ ap (λ t. copies t c.into_values.result.items) times
+    ∙ ap (copies (2 ^ (n - h))) c.into_values.ensures in
+    let long : length c.deref_mut.result.now ≡ 2 ^ n * width =
+    ap length (c.deref_mut.ensures.value ∙ made)
+    ∙ copied-long n h width stored le (length-values coeffs ∙ ap (λ t. t * width) tall) in
     let f = layer_factors k gen n s in
     let items = c.in_ok-twiddles.twiddles.items in
     let all = made-count (λ w. w.items) f items n c.in_ok-twiddles.ensures in
@@ -81,9 +103,11 @@ forward_passes-requires-clause-layers g c l lt =
     let counted : length (take h items) ≡ h = length-take-le h items (omega (arith, le, all)) in
     let below : l < h = omega (arith, lt, ap length seen, counted) in
     let ts = factors_at (take h c.deref.result.now) l in
-    let read : ts ≡ f l = ap (λ xs. factors_at xs l) seen ∙ factors-taken f items n h l c.in_ok-twiddles.ensures le below in
+    let read : ts ≡ f l = ap (λ xs. factors_at xs l) seen
+    ∙ factors-taken f items n h l c.in_ok-twiddles.ensures le below in
     ap (λ w. length ts * (2 ^ l * w + 2 ^ l * w)) c.width-width.ensures
-    ∙ layer-entries k gen n s width l ts (omega (arith, below, le)) (ap length read ∙ length-layer_factors k gen n l s) ∙ sym long
+    ∙ layer-entries k gen n s width l ts (omega (arith, below, le))
+    (ap length read ∙ length-layer_factors k gen n l s) ∙ sym long
 
 pub new-requires-clause-whole : goal.new-requires-clause-whole
 new-requires-clause-whole g c =
@@ -91,14 +115,21 @@ new-requires-clause-whole g c =
     let coeffs = c.args.coeffs in
     let width = width_of coeffs in
     let h = c.log2_strict-log_height.result in
-    let tall : height_of coeffs ≡ 2 ^ h = sym (c.log2_strict-log_height.ensures.power ∙ c.height.ensures) in
+    let tall : height_of coeffs ≡ 2 ^ h =
+    sym (c.log2_strict-log_height.ensures.power ∙ c.height.ensures) in
     let le : h ≤ n = pow_order h n (omega (arith, tall, c.requires.at_most_size)) in
     let stored = values_of coeffs in
-    let times = shifted c.log_n.result n h c.log_n.ensures (omega (arith, c.requires.in_group, g.met.F.ComplexExtendable.at_most_62)) in
-    let made : c.in_ok-entries.entries.items ≡ copies (2 ^ (n - h)) stored = c.in_ok-entries.ensures ∙ ap (λ t. copies t c.into_values.result.items) times ∙ ap (copies (2 ^ (n - h))) c.into_values.ensures in
+    let times =
+    shifted c.log_n.result n h c.log_n.ensures
+    (omega (arith, c.requires.in_group, g.met.F.ComplexExtendable.at_most_62)) in
+    let made : c.in_ok-entries.entries.items ≡ copies (2 ^ (n - h)) stored = c.in_ok-entries.ensures
+    ∙ ap (λ t. copies t c.into_values.result.items) times
+    ∙ ap (copies (2 ^ (n - h))) c.into_values.ensures in
     let old = c.in_ok-entries.entries in
-    let total : old.len ≡ 2 ^ n * width = old.ok.0 ∙ ap length made ∙ copied-long n h width stored le (length-values coeffs ∙ ap (λ t. t * width) tall) in
-    ap (λ w. old.len % w) c.width-width.ensures ∙ whole old.len (2 ^ n) width total coeffs.width_positive
+    let total : old.len ≡ 2 ^ n * width = old.ok.0 ∙ ap length made
+    ∙ copied-long n h width stored le (length-values coeffs ∙ ap (λ t. t * width) tall) in
+    ap (λ w. old.len % w) c.width-width.ensures
+    ∙ whole old.len (2 ^ n) width total coeffs.width_positive
 
 pub from_cfft_order-requires-clause-size : goal.from_cfft_order-requires-clause-size
 from_cfft_order-requires-clause-size g c =
@@ -106,16 +137,24 @@ from_cfft_order-requires-clause-size g c =
     let coeffs = c.args.coeffs in
     let width = width_of coeffs in
     let h = c.log2_strict-log_height.result in
-    let tall : height_of coeffs ≡ 2 ^ h = sym (c.log2_strict-log_height.ensures.power ∙ c.height.ensures) in
+    let tall : height_of coeffs ≡ 2 ^ h =
+    sym (c.log2_strict-log_height.ensures.power ∙ c.height.ensures) in
     let le : h ≤ n = pow_order h n (omega (arith, tall, c.requires.at_most_size)) in
     let stored = values_of coeffs in
-    let times = shifted c.log_n.result n h c.log_n.ensures (omega (arith, c.requires.in_group, g.met.F.ComplexExtendable.at_most_62)) in
-    let made : c.in_ok-entries.entries.items ≡ copies (2 ^ (n - h)) stored = c.in_ok-entries.ensures ∙ ap (λ t. copies t c.into_values.result.items) times ∙ ap (copies (2 ^ (n - h))) c.into_values.ensures in
+    let times =
+    shifted c.log_n.result n h c.log_n.ensures
+    (omega (arith, c.requires.in_group, g.met.F.ComplexExtendable.at_most_62)) in
+    let made : c.in_ok-entries.entries.items ≡ copies (2 ^ (n - h)) stored = c.in_ok-entries.ensures
+    ∙ ap (λ t. copies t c.into_values.result.items) times
+    ∙ ap (copies (2 ^ (n - h))) c.into_values.ensures in
     let old = c.in_ok-entries.entries in
-    let total : old.len ≡ 2 ^ n * width = old.ok.0 ∙ ap length made ∙ copied-long n h width stored le (length-values coeffs ∙ ap (λ t. t * width) tall) in
+    let total : old.len ≡ 2 ^ n * width = old.ok.0 ∙ ap length made
+    ∙ copied-long n h width stored le (length-values coeffs ∙ ap (λ t. t * width) tall) in
     let new = c.forward_passes.new.entries in
     let wide : c.width-width.result ≡ width = c.width-width.ensures in
-    sym (length-rows c.new.result) ∙ ap length c.new.ensures.content ∙ length-rows_from c.width-width.result (old.len / c.width-width.result) (take old.len (new ++ drop (length new) old.items))
+    sym (length-rows c.new.result) ∙ ap length c.new.ensures.content
+    ∙ length-rows_from c.width-width.result (old.len / c.width-width.result)
+    (take old.len (new ++ drop (length new) old.items))
     ∙ ap (λ w. old.len / w) wide ∙ height old.len (2 ^ n) width total coeffs.width_positive
 
 pub returns : goal.returns
@@ -128,13 +167,19 @@ returns g c =
     let width = width_of coeffs in
     let h = c.log2_strict-log_height.result in
     let positive = coeffs.width_positive in
-    let tall : height_of coeffs ≡ 2 ^ h = sym (c.log2_strict-log_height.ensures.power ∙ c.height.ensures) in
+    let tall : height_of coeffs ≡ 2 ^ h =
+    sym (c.log2_strict-log_height.ensures.power ∙ c.height.ensures) in
     let le : h ≤ n = pow_order h n (omega (arith, tall, c.requires.at_most_size)) in
     let stored = values_of coeffs in
-    let stored_long : length stored ≡ 2 ^ h * width = length-values coeffs ∙ ap (λ t. t * width) tall in
-    let times = shifted c.log_n.result n h c.log_n.ensures (omega (arith, c.requires.in_group, g.met.F.ComplexExtendable.at_most_62)) in
+    let stored_long : length stored ≡ 2 ^ h * width = length-values coeffs
+    ∙ ap (λ t. t * width) tall in
+    let times =
+    shifted c.log_n.result n h c.log_n.ensures
+    (omega (arith, c.requires.in_group, g.met.F.ComplexExtendable.at_most_62)) in
     let copied = copies (2 ^ (n - h)) stored in
-    let made : c.in_ok-entries.entries.items ≡ copied = c.in_ok-entries.ensures ∙ ap (λ t. copies t c.into_values.result.items) times ∙ ap (copies (2 ^ (n - h))) c.into_values.ensures in
+    let made : c.in_ok-entries.entries.items ≡ copied = c.in_ok-entries.ensures
+    ∙ ap (λ t. copies t c.into_values.result.items) times
+    ∙ ap (copies (2 ^ (n - h))) c.into_values.ensures in
     let old = c.in_ok-entries.entries in
     let long : length copied ≡ 2 ^ n * width = copied-long n h width stored le stored_long in
     let total : old.len ≡ 2 ^ n * width = old.ok.0 ∙ ap length made ∙ long in
@@ -143,26 +188,45 @@ returns g c =
     let items = c.in_ok-twiddles.twiddles.items in
     let seen = take h c.deref.result.now in
     let shown : seen ≡ take h items = ap (take h) c.deref.ensures.value in
-    let count : length seen ≡ h = ap length shown ∙ length-take-le h items (omega (arith, le, made-count (λ w. w.items) f items n c.in_ok-twiddles.ensures)) in
-    let read : (l : ℕ) → l < h → factors_at seen l ≡ f l = λ l below. ap (λ xs. factors_at xs l) shown ∙ factors-taken f items n h l c.in_ok-twiddles.ensures le below in
+    let count : length seen ≡ h = ap length shown
+    ∙ length-take-le h items
+    (omega (arith, le, made-count (λ w. w.items) f items n c.in_ok-twiddles.ensures)) in
+    let read : (l : ℕ) → l < h → factors_at seen l ≡ f l =
+    λ l below. ap (λ xs. factors_at xs l) shown
+    ∙ factors-taken f items n h l c.in_ok-twiddles.ensures le below in
     let new = c.forward_passes.new.entries in
     let done = descending (plus_multiple k) (minus_multiple k) width (factors_at seen) h copied in
     let new_is : new ≡ done =
     c.forward_passes.ensures ∙ ap (λ w. to_values k w seen c.deref_mut.result.now) wide
-    ∙ ap (λ i. descending (plus_multiple k) (minus_multiple k) width (factors_at seen) i c.deref_mut.result.now) count
-    ∙ ap (descending (plus_multiple k) (minus_multiple k) width (factors_at seen) h) (c.deref_mut.ensures.value ∙ made) in
-    let kept : length new ≡ length old.items = c.forward_passes.auto.entries ∙ ap length c.deref_mut.ensures.value in
-    let all : take old.len (new ++ drop (length new) old.items) ≡ new = take-whole old.len new old.items old.ok.0 kept in
+    ∙ ap (λ i. descending (plus_multiple k) (minus_multiple k) width (factors_at seen) i
+    c.deref_mut.result.now) count
+    ∙ ap (descending (plus_multiple k) (minus_multiple k) width (factors_at seen) h)
+    (c.deref_mut.ensures.value ∙ made) in
+    let kept : length new ≡ length old.items = c.forward_passes.auto.entries
+    ∙ ap length c.deref_mut.ensures.value in
+    let all : take old.len (new ++ drop (length new) old.items) ≡ new =
+    take-whole old.len new old.items old.ok.0 kept in
     let r = c.new.result in
     let content : rows r ≡ rows_from width (2 ^ n) done =
-    c.new.ensures.content ∙ ap (λ w. rows_from w (old.len / w) (take old.len (new ++ drop (length new) old.items))) wide
-    ∙ ap (λ t. rows_from width t (take old.len (new ++ drop (length new) old.items))) (height old.len (2 ^ n) width total positive) ∙ ap (rows_from width (2 ^ n)) (all ∙ new_is) in
-    let done_long : length done ≡ 2 ^ n * width = ap length (sym new_is) ∙ kept ∙ ap length made ∙ long in
-    let made_is = evaluated g.F.Operations.laws g.met.F.ComplexExtendable.generators_law c.args.domain c.requires.in_group g.met.F.ComplexExtendable.at_most_62 c.args.domain.shift.on_circle width positive h stored done (rows r)
+    c.new.ensures.content
+    ∙ ap (λ w. rows_from w (old.len / w) (take old.len (new ++ drop (length new) old.items)))
+    wide
+    ∙ ap (λ t. rows_from width t (take old.len (new ++ drop (length new) old.items)))
+    (height old.len (2 ^ n) width total positive)
+    ∙ ap (rows_from width (2 ^ n)) (all ∙ new_is) in
+    let done_long : length done ≡ 2 ^ n * width = ap length (sym new_is) ∙ kept ∙ ap length made
+    ∙ long in
+    let made_is = evaluated g.F.Operations.laws g.met.F.ComplexExtendable.generators_law
+    c.args.domain
+    c.requires.in_group g.met.F.ComplexExtendable.at_most_62 c.args.domain.shift.on_circle width
+    positive h stored done (rows r)
     (factors_at seen) c.requires.positive le stored_long long read refl done_long content in
-    let found : Evaluates k gen c.args.domain width (rows coeffs) (rows (cfft_values c.from_cfft_order.result)) =
-    subst (λ m. Evaluates k gen c.args.domain width (rows coeffs) (rows m)) (sym c.from_cfft_order.ensures.values)
-    (subst (λ t. Evaluates k gen c.args.domain width (rows_from width t stored) (rows r)) (sym tall) made_is) in
+    let found : Evaluates k gen c.args.domain
+    width (rows coeffs) (rows (cfft_values c.from_cfft_order.result)) =
+    subst (λ m. Evaluates k gen c.args.domain width (rows coeffs) (rows m))
+    (sym c.from_cfft_order.ensures.values)
+    (subst (λ t. Evaluates k gen c.args.domain width (rows_from width t stored) (rows r)) (sym tall)
+    made_is) in
     record {
       domain = search rules;
       width = search rules;

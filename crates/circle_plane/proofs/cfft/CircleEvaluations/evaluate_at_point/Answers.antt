@@ -7,8 +7,12 @@ evaluate_by_weights-requires-clause-genuine g c = c.requires.genuine
 
 pub returns-clause-values : goal.returns-clause-values
 returns-clause-values g c =
-    IfOk-weaker c.evaluate_by_weights.result _ _ (λ found by. by (coordinates c.args.point) c.in_ok-weights.ensures.sum) c.evaluate_by_weights.ensures.values
+    IfOk-weaker c.evaluate_by_weights.result _ _
+    (λ found by. by (coordinates c.args.point) c.in_ok-weights.ensures.sum)
+    c.evaluate_by_weights.ensures.values
 
 pub returns-clause-only : goal.returns-clause-only
 returns-clause-only g c =
-    IfOk-weaker c.evaluate_by_weights.result _ _ (λ found by. by (coordinates c.args.point) c.in_ok-weights.ensures.sum) c.evaluate_by_weights.ensures.only
+    IfOk-weaker c.evaluate_by_weights.result _ _
+    (λ found by. by (coordinates c.args.point) c.in_ok-weights.ensures.sum)
+    c.evaluate_by_weights.ensures.only

@@ -9,4 +9,5 @@ returns-clause-back g c =
     let n = log_size c.args.domain in
     let rows = g.M.Matrix.rows c.args.values in
     rw c.from_cfft_order.ensures.values
-    (ap (other_order n) (c.cfft_perm_rows.ensures.rows n c.requires.size) ∙ other_order-twice n rows (g.met.M.Matrix.height_law c.args.values ∙ c.requires.size))
+    (ap (other_order n) (c.cfft_perm_rows.ensures.rows n c.requires.size)
+    ∙ other_order-twice n rows (g.met.M.Matrix.height_law c.args.values ∙ c.requires.size))

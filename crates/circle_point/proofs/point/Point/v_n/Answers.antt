@@ -10,9 +10,16 @@ loop-preserved g c =
     let k = g.F.Operations.ops in
     let x = c.args.self.x in
     let step : c.sub-x.result ≡ doubled_x k c.loop.x =
-    grind (arith, common_steps, g.met.F.Field.add_law, g.met.F.Field.sub_law, g.met.F.Field.one_law) in
+    grind (
+      arith,
+      common_steps,
+      g.met.F.Field.add_law,
+      g.met.F.Field.sub_law,
+      g.met.F.Field.one_law,
+    ) in
     let e : suc (c.loop.counter - 1) ≡ c.loop.counter + 1 - 1 = omega arith in
-    step ∙ ap (doubled_x k) c.loop.invariant ∙ sym (iterated_x-suc k (c.loop.counter - 1) x) ∙ ap (λ n. iterated_x k n x) e
+    step ∙ ap (doubled_x k) c.loop.invariant ∙ sym (iterated_x-suc k (c.loop.counter - 1) x)
+    ∙ ap (λ n. iterated_x k n x) e
 
 pub returns-clause-multiple : goal.returns-clause-multiple
 returns-clause-multiple g c =

@@ -15,7 +15,8 @@ pub returns-clause-norm : goal.returns-clause-norm
 returns-clause-norm g c =
     let k = g.EF.Operations.ops in
     let d = coordinates c.add-difference.result in
-    let re : c.sub.result ≡ sub k k.one d.x = grind (arith, common_steps, g.met.EF.Field.sub_law, g.met.EF.Field.one_law) in
+    let re : c.sub.result ≡ sub k k.one d.x =
+    grind (arith, common_steps, g.met.EF.Field.sub_law, g.met.EF.Field.one_law) in
     let im : c.neg-2.result ≡ k.neg d.y = g.met.EF.Field.neg_law _ _ c.neg-2.ensures in
     ap (λ r. k.add (k.mul r r) (k.mul c.neg-2.result c.neg-2.result)) re
     ∙ ap (λ i. k.add (k.mul (sub k k.one d.x) (sub k k.one d.x)) (k.mul i i)) im

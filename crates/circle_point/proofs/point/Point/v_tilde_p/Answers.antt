@@ -12,5 +12,6 @@ unwrap-requires g c =
     let other = lifted g.EF.ExtensionField.embed (coordinates c.args.self) in
     some_unless c.to_projective_line.result (λ none.
     not_infinite g.EF.Operations.laws d c.sub.result.on_circle
-    (λ e. c.requires (sym c.sub.ensures.undoes ∙ ap (λ (q : Coordinates g.row.EF.Denot). plus k q other) e))
+    (λ e. c.requires
+    (sym c.sub.ensures.undoes ∙ ap (λ (q : Coordinates g.row.EF.Denot). plus k q other) e))
     (c.to_projective_line.ensures.none.0 none))

@@ -10,7 +10,11 @@ invariant_of-result g c =
     let laws = g.F.Operations.laws.ring in
     let e : at c.args.self.x c.neg.result ≡ opposite g.F.Operations.ops (coordinates c.args.self) =
     grind (arith, common_steps, g.met.F.Field.neg_law) in
-    record { on_circle = same-on_circle laws _ e (opposite-on_circle laws (coordinates c.args.self) c.args.self.on_circle) }
+    record {
+      on_circle =
+          same-on_circle laws _ e
+          (opposite-on_circle laws (coordinates c.args.self) c.args.self.on_circle);
+    }
 
 pub returns-clause-cancels : goal.returns-clause-cancels
 returns-clause-cancels g c =

@@ -15,4 +15,5 @@ extensions-requires-clause-extendable g c =
     let two = g.Val.ComplexExtendable.CIRCLE_TWO_ADICITY in
     let p = c.args.self.now.fri_params in
     subst (All (λ e. IsExtendable g.Val.Operations.ops two p.log_blowup e.0)) c.deref.ensures.value
-    (all-extendable g.Val.PartialEq.eq g.met.Val.Field.eq_law g.Val.Operations.ops two p c.deref.result.now (sym c.validate_evaluations.ensures ∙ c.in_ok-validate_evaluations.was))
+    (all-extendable g.Val.PartialEq.eq g.met.Val.Field.eq_law g.Val.Operations.ops two p
+    c.deref.result.now (sym c.validate_evaluations.ensures ∙ c.in_ok-validate_evaluations.was))

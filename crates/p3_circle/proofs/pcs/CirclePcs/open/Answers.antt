@@ -18,15 +18,35 @@ use Rattle.p3_circle.proofs.pcs.CirclePcs.open.Given.{Over}
 use Rattle.p3_circle.proofs.pcs.CirclePcs.open.Goals as goal
 
 abbrev fields : (g : Over) → Fields g.row.Val.Denot g.row.EF.Denot
-fields g = record { field = g.Val.Operations.ops; gen = g.Val.ComplexExtendable.generators; two_adicity = g.Val.ComplexExtendable.CIRCLE_TWO_ADICITY; is_zero = λ w. g.Val.PartialEq.eq w g.Val.Field.ZERO; extension = g.EF.Operations.ops; embed = g.EF.ExtensionField.embed; same = g.EF.PartialEq.eq }
+fields g = record {
+  field = g.Val.Operations.ops;
+  gen = g.Val.ComplexExtendable.generators;
+  two_adicity = g.Val.ComplexExtendable.CIRCLE_TWO_ADICITY;
+  is_zero =
+      λ w. g.Val.PartialEq.eq w g.Val.Field.ZERO;
+  extension = g.EF.Operations.ops;
+  embed =
+      g.EF.ExtensionField.embed;
+  same = g.EF.PartialEq.eq;
+}
 
 -- what the challenger is to the run
-abbrev challenger : (g : Over) → RunMoves g.row.C.Denot g.row.C-State.Denot g.row.Val.Denot g.row.EF.Denot g.row.FriMmcs-Commitment.Denot
-challenger g = run_moves g.C.ChallengerState.state g.C.CanObserve-1.after_observe g.C.CanObserve-2.after_observe g.C.CanSample.sampled g.C.CanSample.after_sample g.C.CanSampleBits.sampled_bits g.C.CanSampleBits.after_bits g.C.GrindingChallenger.found_witness g.EF.ExtensionField.DEGREE g.EF.ExtensionField.coefficients (of_nat g.Val.Operations.ops) g.Val.Operations.ops.zero
+abbrev challenger : (g : Over) →
+    RunMoves g.row.C.Denot g.row.C-State.Denot g.row.Val.Denot g.row.EF.Denot
+    g.row.FriMmcs-Commitment.Denot
+challenger g = run_moves g.C.ChallengerState.state g.C.CanObserve-1.after_observe
+    g.C.CanObserve-2.after_observe g.C.CanSample.sampled g.C.CanSample.after_sample
+    g.C.CanSampleBits.sampled_bits g.C.CanSampleBits.after_bits g.C.GrindingChallenger.found_witness
+    g.EF.ExtensionField.DEGREE g.EF.ExtensionField.coefficients (of_nat g.Val.Operations.ops)
+    g.Val.Operations.ops.zero
 
 pub validate_requests-requires-clause-rows : goal.validate_requests-requires-clause-rows
 validate_requests-requires-clause-rows g c =
-    let powers = subst (All (λ (r : OpeningRequest g.row.InputMmcs-ProverData.Denot g.row.EF.Denot). HaveHeightsOfPowers (g.InputMmcs.Mmcs.matrices r.prover_data.now))) (sym c.deref.ensures.value) c.requires in
+    let powers =
+    subst
+    (All
+    (λ (r : OpeningRequest g.row.InputMmcs-ProverData.Denot g.row.EF.Denot). HaveHeightsOfPowers
+    (g.InputMmcs.Mmcs.matrices r.prover_data.now))) (sym c.deref.ensures.value) c.requires in
     λ i d lt j e lt'.
     let power = powers i d lt j e lt' in
     let is = power.1 in
@@ -35,20 +55,31 @@ validate_requests-requires-clause-rows g c =
 
 pub validate_requests-requires-clause-powers : goal.validate_requests-requires-clause-powers
 validate_requests-requires-clause-powers g c =
-    subst (All (λ (r : OpeningRequest g.row.InputMmcs-ProverData.Denot g.row.EF.Denot). HaveHeightsOfPowers (g.InputMmcs.Mmcs.matrices r.prover_data.now))) (sym c.deref.ensures.value) c.requires
+    subst
+    (All
+    (λ (r : OpeningRequest g.row.InputMmcs-ProverData.Denot g.row.EF.Denot). HaveHeightsOfPowers
+    (g.InputMmcs.Mmcs.matrices r.prover_data.now))) (sym c.deref.ensures.value) c.requires
 
 pub open_requests-requires-clause-parameters : goal.open_requests-requires-clause-parameters
 open_requests-requires-clause-parameters g c =
-    are-fit g.InputMmcs.Mmcs.matrices c.deref.result.now g.Val.ComplexExtendable.CIRCLE_TWO_ADICITY c.args.self.now.fri_params (fields g) g.EF.PartialEq.eq (sym c.validate_requests.ensures ∙ c.in_ok-validate_requests.was)
+    are-fit g.InputMmcs.Mmcs.matrices c.deref.result.now g.Val.ComplexExtendable.CIRCLE_TWO_ADICITY
+    c.args.self.now.fri_params (fields g) g.EF.PartialEq.eq (sym c.validate_requests.ensures
+    ∙ c.in_ok-validate_requests.was)
 
 pub open_requests-requires-clause-requests : goal.open_requests-requires-clause-requests
 open_requests-requires-clause-requests g c =
     let kept = g.InputMmcs.Mmcs.matrices in
     let two = g.Val.ComplexExtendable.CIRCLE_TWO_ADICITY in
     let p = c.args.self.now.fri_params in
-    let powers = subst (All (λ (r : OpeningRequest g.row.InputMmcs-ProverData.Denot g.row.EF.Denot). HaveHeightsOfPowers (kept r.prover_data.now))) (sym c.deref.ensures.value) c.requires in
+    let powers =
+    subst
+    (All
+    (λ (r : OpeningRequest g.row.InputMmcs-ProverData.Denot g.row.EF.Denot). HaveHeightsOfPowers
+    (kept r.prover_data.now))) (sym c.deref.ensures.value) c.requires in
     subst (AreRequests kept (fields g) two p) (c.deref.ensures.value ∙ sym c.deref-2.ensures.value)
-    (are-requests kept c.deref.result.now two p (fields g) g.EF.PartialEq.eq g.met.EF.Field.eq_law g.Val.Operations.laws g.EF.Operations.laws g.met.EF.ExtensionField.embedding g.met.Val.ComplexExtendable.generators_law powers
+    (are-requests kept c.deref.result.now two p (fields g) g.EF.PartialEq.eq g.met.EF.Field.eq_law
+    g.Val.Operations.laws g.EF.Operations.laws g.met.EF.ExtensionField.embedding
+    g.met.Val.ComplexExtendable.generators_law powers
     (sym c.validate_requests.ensures ∙ c.in_ok-validate_requests.was))
 
 pub returns-clause-opened : goal.returns-clause-opened
@@ -57,12 +88,16 @@ returns-clause-opened g c =
     let two = g.Val.ComplexExtendable.CIRCLE_TWO_ADICITY in
     let p = c.args.self.now.fri_params in
     let same = g.EF.PartialEq.eq in
-    let ok = rw c.deref.ensures.value at (sym c.validate_requests.ensures ∙ c.in_ok-validate_requests.was) in
+    let ok =
+    rw c.deref.ensures.value at (sym c.validate_requests.ensures
+    ∙ c.in_ok-validate_requests.was) in
     if_both c.open_requests.result _ _ _
     (λ r values opening. record {
       parameters = are-fit kept c.args.requests.items two p (fields g) same ok;
       arity = are-binary kept c.args.requests.items two p (fields g) same ok;
-      asked = are-requests kept c.args.requests.items two p (fields g) same g.met.EF.Field.eq_law g.Val.Operations.laws g.EF.Operations.laws g.met.EF.ExtensionField.embedding g.met.Val.ComplexExtendable.generators_law c.requires ok;
+      asked = are-requests kept c.args.requests.items two p (fields g) same g.met.EF.Field.eq_law
+          g.Val.Operations.laws g.EF.Operations.laws g.met.EF.ExtensionField.embedding
+          g.met.Val.ComplexExtendable.generators_law c.requires ok;
       answers = values;
       opening = opening;
     })
@@ -71,35 +106,62 @@ returns-clause-opened g c =
 
 pub returns-clause-failure : goal.returns-clause-failure
 returns-clause-failure g c =
-    let ok = rw c.deref.ensures.value at (sym c.validate_requests.ensures ∙ c.in_ok-validate_requests.was) in
-    if_err _ _ c.open_requests.result (λ e why. later-by _ _ e (g.C.ChallengerState.state c.args.challenger.now) (g.C.ChallengerState.state c.open_requests.new.challenger) ok why) (rw c.deref-2.ensures.value at c.open_requests.ensures.failure)
+    let ok =
+    rw c.deref.ensures.value at (sym c.validate_requests.ensures
+    ∙ c.in_ok-validate_requests.was) in
+    if_err _ _ c.open_requests.result
+    (λ e why. later-by _ _ e (g.C.ChallengerState.state c.args.challenger.now)
+    (g.C.ChallengerState.state c.open_requests.new.challenger) ok why)
+    (rw c.deref-2.ensures.value at c.open_requests.ensures.failure)
 
 pub returns-in_err-validate_requests-clause-refused :
     goal.returns-in_err-validate_requests-clause-refused
 returns-in_err-validate_requests-clause-refused g c =
-    let first = rw c.deref.ensures.value at (sym c.validate_requests.ensures ∙ c.in_err-validate_requests.was) in
-    refuses-before _ c.from_residual.result c.in_err-validate_requests.field-0.0 first c.from_residual.ensures.1 c.args.challenger.now
+    let first =
+    rw c.deref.ensures.value at (sym c.validate_requests.ensures
+    ∙ c.in_err-validate_requests.was) in
+    refuses-before _ c.from_residual.result c.in_err-validate_requests.field-0.0 first
+    c.from_residual.ensures.1 c.args.challenger.now
 
 pub returns-in_err-validate_requests-clause-failure :
     goal.returns-in_err-validate_requests-clause-failure
 returns-in_err-validate_requests-clause-failure g c =
-    let first = rw c.deref.ensures.value at (sym c.validate_requests.ensures ∙ c.in_err-validate_requests.was) in
-    is-first _ c.from_residual.result c.in_err-validate_requests.field-0.0 first c.from_residual.ensures.1 _ (g.C.ChallengerState.state c.args.challenger.now)
+    let first =
+    rw c.deref.ensures.value at (sym c.validate_requests.ensures
+    ∙ c.in_err-validate_requests.was) in
+    is-first _ c.from_residual.result c.in_err-validate_requests.field-0.0 first
+    c.from_residual.ensures.1 _ (g.C.ChallengerState.state c.args.challenger.now)
 
 pub returns-clause-honest : goal.returns-clause-honest
 returns-clause-honest g c =
     let p = c.args.self.now.fri_params in
     if_err _ _ c.open_requests.result
-    (λ e why honest. prover-memory e (honest-open (fields g) g.Val.Operations.laws g.EF.Operations.laws g.met.EF.ExtensionField.embedding g.Val.PartialEq.eq g.met.Val.Field.eq_law g.EF.PartialEq.eq g.met.EF.Field.eq_law g.met.Val.ComplexExtendable.at_most_62 g.met.Val.ComplexExtendable.generators_law p
-    g.InputMmcs.Mmcs.matrices (g.InputMmcs.Mmcs.commits c.args.self.now.mmcs) (challenger g) (g.FriMmcs.Mmcs.commits p.mmcs) c.args.requests.items (g.C.ChallengerState.state c.args.challenger.now) (g.C.ChallengerState.state c.open_requests.new.challenger) e honest.0 honest.1 why))
+    (λ e why honest. prover-memory e
+    (honest-open (fields g) g.Val.Operations.laws g.EF.Operations.laws
+    g.met.EF.ExtensionField.embedding g.Val.PartialEq.eq g.met.Val.Field.eq_law
+    g.EF.PartialEq.eq g.met.EF.Field.eq_law g.met.Val.ComplexExtendable.at_most_62
+    g.met.Val.ComplexExtendable.generators_law p
+    g.InputMmcs.Mmcs.matrices (g.InputMmcs.Mmcs.commits c.args.self.now.mmcs) (challenger g)
+    (g.FriMmcs.Mmcs.commits p.mmcs) c.args.requests.items
+    (g.C.ChallengerState.state c.args.challenger.now)
+    (g.C.ChallengerState.state c.open_requests.new.challenger) e honest.0 honest.1 why))
     (returns-clause-failure g c)
 
-pub returns-in_err-validate_requests-clause-honest : goal.returns-in_err-validate_requests-clause-honest
+pub
+    returns-in_err-validate_requests-clause-honest :
+    goal.returns-in_err-validate_requests-clause-honest
 returns-in_err-validate_requests-clause-honest g c =
     let p = c.args.self.now.fri_params in
     if_err _ _ c.from_residual.result
-    (λ e why honest. prover-memory e (honest-open (fields g) g.Val.Operations.laws g.EF.Operations.laws g.met.EF.ExtensionField.embedding g.Val.PartialEq.eq g.met.Val.Field.eq_law g.EF.PartialEq.eq g.met.EF.Field.eq_law g.met.Val.ComplexExtendable.at_most_62 g.met.Val.ComplexExtendable.generators_law p
-    g.InputMmcs.Mmcs.matrices (g.InputMmcs.Mmcs.commits c.args.self.now.mmcs) (challenger g) (g.FriMmcs.Mmcs.commits p.mmcs) c.args.requests.items (g.C.ChallengerState.state c.args.challenger.now) (g.C.ChallengerState.state c.args.challenger.now) e honest.0 honest.1 why))
+    (λ e why honest. prover-memory e
+    (honest-open (fields g) g.Val.Operations.laws g.EF.Operations.laws
+    g.met.EF.ExtensionField.embedding g.Val.PartialEq.eq g.met.Val.Field.eq_law
+    g.EF.PartialEq.eq g.met.EF.Field.eq_law g.met.Val.ComplexExtendable.at_most_62
+    g.met.Val.ComplexExtendable.generators_law p
+    g.InputMmcs.Mmcs.matrices (g.InputMmcs.Mmcs.commits c.args.self.now.mmcs) (challenger g)
+    (g.FriMmcs.Mmcs.commits p.mmcs) c.args.requests.items
+    (g.C.ChallengerState.state c.args.challenger.now)
+    (g.C.ChallengerState.state c.args.challenger.now) e honest.0 honest.1 why))
     (returns-in_err-validate_requests-clause-failure g c)
 
 pub returns-clause-only : goal.returns-clause-only
@@ -107,8 +169,13 @@ returns-clause-only g c =
     let p = c.args.self.now.fri_params in
     let opened = returns-clause-opened g c in
     if_both c.open_requests.result _ _ _
-    (λ r given again. true-values _ (fields g) g.Val.Operations.laws g.EF.Operations.laws g.met.EF.ExtensionField.embedding g.Val.ComplexExtendable.CIRCLE_TWO_ADICITY g.met.Val.ComplexExtendable.generators_law p g.InputMmcs.Mmcs.matrices (g.InputMmcs.Mmcs.commits c.args.self.now.mmcs)
-    (challenger g) (g.InputMmcs.Mmcs.authenticates c.args.self.now.mmcs) (g.FriMmcs.Mmcs.commits p.mmcs) (g.FriMmcs.Mmcs.authenticates p.mmcs) c.args.requests.items (openings r.0.items) r.1 _ _ given)
+    (λ r given again. true-values _ (fields g) g.Val.Operations.laws g.EF.Operations.laws
+    g.met.EF.ExtensionField.embedding g.Val.ComplexExtendable.CIRCLE_TWO_ADICITY
+    g.met.Val.ComplexExtendable.generators_law p g.InputMmcs.Mmcs.matrices
+    (g.InputMmcs.Mmcs.commits c.args.self.now.mmcs)
+    (challenger g) (g.InputMmcs.Mmcs.authenticates c.args.self.now.mmcs)
+    (g.FriMmcs.Mmcs.commits p.mmcs) (g.FriMmcs.Mmcs.authenticates p.mmcs) c.args.requests.items
+    (openings r.0.items) r.1 _ _ given)
     opened opened
 
 pub returns-clause-accepted : goal.returns-clause-accepted
@@ -116,8 +183,13 @@ returns-clause-accepted g c =
     let p = c.args.self.now.fri_params in
     let opened = returns-clause-opened g c in
     if_both c.open_requests.result _ _ _
-    (λ r given again. opening-accepted (fields g) g.Val.Operations.laws g.EF.Operations.laws g.met.EF.ExtensionField.embedding g.Val.PartialEq.eq g.met.Val.Field.eq_law g.EF.PartialEq.eq g.met.EF.Field.eq_law g.met.Val.ComplexExtendable.at_most_62 g.met.Val.ComplexExtendable.generators_law p
-    g.InputMmcs.Mmcs.matrices (g.InputMmcs.Mmcs.commits c.args.self.now.mmcs) (challenger g) g.met.C.CanSampleBits.bits_below g.InputMmcs.Mmcs.authenticates g.FriMmcs.Mmcs.authenticates c.args.self.now.mmcs (g.FriMmcs.Mmcs.commits p.mmcs)
+    (λ r given again. opening-accepted (fields g) g.Val.Operations.laws g.EF.Operations.laws
+    g.met.EF.ExtensionField.embedding g.Val.PartialEq.eq g.met.Val.Field.eq_law
+    g.EF.PartialEq.eq g.met.EF.Field.eq_law g.met.Val.ComplexExtendable.at_most_62
+    g.met.Val.ComplexExtendable.generators_law p
+    g.InputMmcs.Mmcs.matrices (g.InputMmcs.Mmcs.commits c.args.self.now.mmcs) (challenger g)
+    g.met.C.CanSampleBits.bits_below g.InputMmcs.Mmcs.authenticates g.FriMmcs.Mmcs.authenticates
+    c.args.self.now.mmcs (g.FriMmcs.Mmcs.commits p.mmcs)
     c.args.requests.items (openings r.0.items) r.1 _ _ given)
     opened opened
 
@@ -125,14 +197,24 @@ pub returns-clause-degree : goal.returns-clause-degree
 returns-clause-degree g c =
     let p = c.args.self.now.fri_params in
     if_err _ _ c.open_requests.result
-    (λ e why. high-degree (fields g) g.Val.Operations.laws g.EF.Operations.laws g.met.EF.ExtensionField.embedding g.Val.PartialEq.eq g.met.Val.Field.eq_law g.EF.PartialEq.eq g.met.EF.Field.eq_law g.met.Val.ComplexExtendable.generators_law p
-    g.InputMmcs.Mmcs.matrices (challenger g) (g.FriMmcs.Mmcs.commits p.mmcs) c.args.requests.items c.requires (g.C.ChallengerState.state c.args.challenger.now) (g.C.ChallengerState.state c.open_requests.new.challenger) e why)
+    (λ e why. high-degree (fields g) g.Val.Operations.laws g.EF.Operations.laws
+    g.met.EF.ExtensionField.embedding g.Val.PartialEq.eq g.met.Val.Field.eq_law
+    g.EF.PartialEq.eq g.met.EF.Field.eq_law g.met.Val.ComplexExtendable.generators_law p
+    g.InputMmcs.Mmcs.matrices (challenger g) (g.FriMmcs.Mmcs.commits p.mmcs) c.args.requests.items
+    c.requires (g.C.ChallengerState.state c.args.challenger.now)
+    (g.C.ChallengerState.state c.open_requests.new.challenger) e why)
     (returns-clause-failure g c)
 
-pub returns-in_err-validate_requests-clause-degree : goal.returns-in_err-validate_requests-clause-degree
+pub
+    returns-in_err-validate_requests-clause-degree :
+    goal.returns-in_err-validate_requests-clause-degree
 returns-in_err-validate_requests-clause-degree g c =
     let p = c.args.self.now.fri_params in
     if_err _ _ c.from_residual.result
-    (λ e why. high-degree (fields g) g.Val.Operations.laws g.EF.Operations.laws g.met.EF.ExtensionField.embedding g.Val.PartialEq.eq g.met.Val.Field.eq_law g.EF.PartialEq.eq g.met.EF.Field.eq_law g.met.Val.ComplexExtendable.generators_law p
-    g.InputMmcs.Mmcs.matrices (challenger g) (g.FriMmcs.Mmcs.commits p.mmcs) c.args.requests.items c.requires (g.C.ChallengerState.state c.args.challenger.now) (g.C.ChallengerState.state c.args.challenger.now) e why)
+    (λ e why. high-degree (fields g) g.Val.Operations.laws g.EF.Operations.laws
+    g.met.EF.ExtensionField.embedding g.Val.PartialEq.eq g.met.Val.Field.eq_law
+    g.EF.PartialEq.eq g.met.EF.Field.eq_law g.met.Val.ComplexExtendable.generators_law p
+    g.InputMmcs.Mmcs.matrices (challenger g) (g.FriMmcs.Mmcs.commits p.mmcs) c.args.requests.items
+    c.requires (g.C.ChallengerState.state c.args.challenger.now)
+    (g.C.ChallengerState.state c.args.challenger.now) e why)
     (returns-in_err-validate_requests-clause-failure g c)

@@ -4,7 +4,8 @@ use Rattle.std.proofs.lemmas.Bool.Decides.{nat_tests}
 use Rattle.test_open.proofs.stubborn.StubbornGrindingChallengerMersenne31.grind.Goals as goal
 
 -- the greatest number of some bits is not 0
-greatest_passes : (bits : ℕ) → (bits ≡ 0 → ⊥) → (if bits == 0 then true else (2 ^ bits - 1) == 0) ≡ false
+greatest_passes : (bits : ℕ) → (bits ≡ 0 → ⊥) → (if bits == 0 then true else (2 ^ bits - 1) == 0)
+    ≡ false
 greatest_passes bits some =
     let positive : 0 < bits = omega arith in
     let power : 2 ^ 0 < 2 ^ bits = pow-lt positive in

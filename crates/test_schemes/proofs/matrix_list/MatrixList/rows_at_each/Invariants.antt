@@ -4,4 +4,5 @@ use Rattle.test_schemes.specs.MatrixList.{matrices_of}
 use Rattle.test_schemes.proofs.matrix_list.MatrixList.rows_at_each.Given as goal
 
 abbrev pub invariant-loop-index : goal.invariant-loop-index
-invariant-loop-index g l = opened_rows l.opened.items ≡ rows_at_each (matrices_of l.self) (take l.index-index l.indices)
+invariant-loop-index g l = opened_rows l.opened.items
+    ≡ rows_at_each (matrices_of l.self) (take l.index-index l.indices)
