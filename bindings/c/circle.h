@@ -4,26 +4,33 @@
  * Link libcircle_c.a and then the kit's liblibc_c.a, or libcircle.so, which holds both.
  *
  * Each call judges one JSON text, which is lent for the call, in UTF-8 and without an end mark.
- * It answers the program's status:
+ * It returns the program's status:
  *
  *   0  there is a result
- *   1  the input is refused, for memory too
+ *   1  the input is refused, also where the call is out of memory
  *   2  the text can't be read as an input of the command
  *
- * and the line that the program writes, with its newline at the end and no zero byte after it. The
- * line's length is written to *needed whatever it is. Where it is at most line_len, the line is
- * written to line[0] up to line[*needed - 1]; else nothing is written to line. docs/PROGRAM.md has
- * the inputs and the lines. CIRCLE_LINE_LEN bytes hold each line of circle_verify,
- * circle_verify_with and every refusal.
+ * and writes the line that the program writes, with its newline at the end and no zero byte after
+ * it. The line's length is written to *needed whatever it is. Where it is at most line_len, the
+ * line is written to line[0] up to line[*needed - 1]; else nothing is written to line.
+ * docs/PROGRAM.md has the inputs and the lines. CIRCLE_LINE_LEN bytes hold each line of
+ * circle_verify, circle_verify_with and every refusal.
  *
- * A call keeps nothing: the same text gets the same answer, where memory suffices. It may be made
- * from any thread, and from several at once, each with a line and a needed of its own.
+ * A pointer beside a length of 0 may be null, as data() of an empty std::vector is: text where the
+ * text is empty, and line where only *needed is to be written.
  *
- * What the caller owes, which nothing tests:
+ * A call keeps nothing: the same text gets the same line, unless the call is out of memory. It may
+ * be made from any thread, and from several at once, each with a line and a needed of its own.
  *
- * - No pointer is null, also where the length beside it is 0. text points to text_len bytes that
- *   nobody writes while the call runs, line to line_len bytes and needed to one size_t that nobody
- *   else reads or writes then; these three don't overlap. The bytes of line need no value before.
+ * What the caller owes. Nothing tests it; where it isn't so, the behaviour is undefined, in the
+ * sense of the C standard:
+ *
+ * - text points to text_len bytes, line to line_len bytes, needed to one size_t and params to one
+ *   circle_params. needed and params aren't null. The bytes of line need no value before.
+ * - While the call runs, nobody else writes the text or the parameters, and nobody else reads or
+ *   writes the line or *needed.
+ * - line and *needed overlap neither each other nor the text nor the parameters. So a call can't
+ *   write its line over its own text.
  * - malloc, realloc and free come from one allocator, which aligns a block to each power of two up
  *   to 16 that divides its size, as that of a C library does.
  * - The calling thread has enough stack: 1 MiB does.
@@ -62,8 +69,9 @@ uint8_t circle_values(const uint8_t *text, size_t text_len, uint8_t *line, size_
 uint8_t circle_prove(const uint8_t *text, size_t text_len, uint8_t *line, size_t line_len,
                      size_t *needed);
 
-/* Status 0, {"verified":true}, exactly where the text's proof is accepted, memory aside. Parameters
- * and claims are read from the text too: see circle_verify_with and docs/SECURITY.md. */
+/* Status 0, {"verified":true}, exactly where the text's proof is accepted, unless the call is out
+ * of memory. Parameters and claims are read from the text too: see circle_verify_with and
+ * docs/SECURITY.md. */
 uint8_t circle_verify(const uint8_t *text, size_t text_len, uint8_t *line, size_t line_len,
                       size_t *needed);
 
@@ -73,7 +81,7 @@ uint8_t circle_shape(const uint8_t *text, size_t text_len, uint8_t *line, size_t
 
 /* As circle_verify where the text's parameters are *params, each of the seven; else status 1 and
  * {"refused":"ParametersDiffer"}, which is found after faults of the JSON and before the command's
- * own refusals. params points to a circle_params that nobody writes while the call runs. */
+ * own refusals. */
 uint8_t circle_verify_with(const uint8_t *text, size_t text_len, const circle_params *params,
                            uint8_t *line, size_t line_len, size_t *needed);
 

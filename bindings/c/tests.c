@@ -1,6 +1,7 @@
 /* What checks/bindings_c runs: calls of the library, by which circle.h is tested.
  *
- *   tests judge COMMAND                judges standard input, with lines of several lengths
+ *   tests judge COMMAND                judges standard input, with lines of several lengths, and
+ *                                      with null pointers where there are no bytes
  *   tests with N N N N N N N           the same by circle_verify_with and these parameters
  *   tests once COMMAND                 judges it by one call, and takes no memory beside
  *   tests threads (COMMAND FILE)..     judges the files in eight threads at once
@@ -145,6 +146,28 @@ static bytes judged(const char *command, bytes text, size_t len, const size_t *d
     return line;
 }
 
+/* Calls with null pointers where there are no bytes: without a line, and without a text where it is
+ * empty. What is due are the length and the status of an earlier call. */
+static void judge_null(const char *command, bytes text, bytes due, uint8_t status) {
+    bytes null = {NULL, 0};
+    size_t needed = (size_t)-1;
+    if (call(command, text, null, &needed) != status || needed != due.len) {
+        fail("a call with a line that is null differs from the others");
+    }
+    if (text.len > 0) {
+        return;
+    }
+    bytes line = judged(command, null, due.len, &due.len, &status);
+    if (memcmp(line.at, due.at, due.len) != 0) {
+        fail("a call with a text that is null differs from the others");
+    }
+    needed = (size_t)-1;
+    if (call(command, null, null, &needed) != status || needed != due.len) {
+        fail("a call with a text and a line that are null differs from the others");
+    }
+    free(line.at);
+}
+
 static int judge(const char *command, bytes text) {
     uint8_t status = 0;
     bytes copy = {room(text.len), text.len};
@@ -157,6 +180,7 @@ static int judge(const char *command, bytes text) {
     if (memcmp(line.at, more.at, needed) != 0 || memcmp(copy.at, text.at, text.len) != 0) {
         fail("two lines differ, or the text was changed");
     }
+    judge_null(command, text, line, status);
     fwrite(line.at, 1, needed, stdout);
     free(none.at);
     free(less.at);

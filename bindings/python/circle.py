@@ -105,9 +105,16 @@ def _numbers(params):
     if numbers.keys() != set(names):
         raise ValueError(f"the parameters are {', '.join(names)}")
     for name, number in numbers.items():
-        if not isinstance(number, int) or not 0 <= number < 1 << 64:
+        if not _is_count(number):
             raise ValueError(f"{name} is no whole number below 2^64: {number!r}")
     return ctypes.byref(_Params(**numbers))
+
+
+def _is_count(number):
+    """Whether this is a whole number below 2^64. True and False are ints of Python, and aren't."""
+    if isinstance(number, bool) or not isinstance(number, int):
+        return False
+    return 0 <= number < 1 << 64
 
 
 def _bytes(text):

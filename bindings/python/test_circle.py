@@ -152,6 +152,13 @@ class Params(unittest.TestCase):
             wrong = {**SEVENS, "num_queries": number}
             self.assertRaises(ValueError, circle.verify, text, wrong)
 
+    def test_true_and_false_are_no_parameters(self):
+        text = stored("sevens", "verify")
+        for name in [*SEVENS, "log_final_poly_len"]:
+            for wrong in (True, False):
+                with self.assertRaisesRegex(ValueError, f"{name} is no whole number.*: {wrong}"):
+                    circle.verify(text, {**SEVENS, name: wrong})
+
 
 class Texts(unittest.TestCase):
     def unreadable(self, name, text):

@@ -1,4 +1,3 @@
 pub mod Line
 pub mod Params
-pub mod Proof
-pub mod Text
+pub mod With

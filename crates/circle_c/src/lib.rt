@@ -1,51 +1,56 @@
 //! The commands of `circle_commands`, as a static library for C and what calls C.
 //!
 //! Each export takes the bytes of a JSON text, a line to write to and a place for a length. It
-//! answers the status that the program `circle_tool` ends with, and writes the line that it writes,
-//! where that fits. `bindings/c/circle.h` declares them for C. What is proved:
+//! returns the status that the program `circle_tool` ends with, and writes the line that it writes,
+//! where that fits. `bindings/c/circle.h` declares them for C. No export requires anything of its
+//! caller beyond its types, and each returns. What is proved of every export, by the clauses:
 //!
-//! - No export asks anything of its caller beyond its types, and each returns.
-//! - The length that is told is that of the text to be written, which stands at the start of the
-//!   line where it fits, and else the line is as it was (`line`). The status is at most 2.
-//! - `circle_verify` answers 0 only where the bytes are UTF-8 and a JSON text of an input of which
-//!   `Verified.IsVerified` of `circle_commands` holds (`accepted`), 1 only where the line tells of
-//!   refused memory, or of an input of which it doesn't hold (`refused`), and 2 only where they
-//!   stand for no input (`unreadable`). `circle_verify_with` does so of inputs with its parameters.
-//! - `circle_prove` answers 0 only with the text of claims and their proof, of which
-//!   `Verified.IsVerified` holds where each matrix has a point (`proved`), and 2 only where the
-//!   bytes stand for no input (`unreadable`).
+//! - `status`: the status is 0, 1 or 2.
+//! - Status 0 (`rows`, `shape`, `proved`, `accepted`): the text stands for an input of the command,
+//!   and the line is a result of that input, as `is_result` of the command in `circle_commands` has
+//!   it: of `values` the JSON text of the polynomials' values, of `shape` that of the shape, of
+//!   `prove` claims with a proof that is accepted where each matrix has a point, and of `verify`
+//!   `{"verified":true}`, where the relation holds of the input (`Verified.IsVerified`).
+//! - Status 1 (`refused`): the line is `{"refused":"Memory"}`, or that of the name of a reason to
+//!   refuse the input that the text stands for, as `is_reason` of the command has it.
+//! - Status 2 (`unreadable`): the line is `{"unreadable":"json"}` and the text isn't JSON, or the
+//!   line is that of why the JSON stands for no input.
+//! - `short`: the line of a refusal, and each line of a verifier, has at most `LINE_LEN` bytes.
+//!
+//! A line is written so: its length is reported whatever it is; it stands at the start of the
+//! caller's line where it fits, and else the caller's line is as it was (`Line.IsWritten`).
+//!
+//! `circle_verify_with` returns 0 only for claims that have the caller's parameters. Its reason is
+//! `ParametersDiffer` exactly where they have others, and a reason of `verify` only where they have
+//! these (`With.IsReasonWith`).
+//!
+//! A null pointer beside a length of 0 is an empty text or line. No clause says so, since a slice
+//! has no null pointer here: the compiler gives each export a place in the stead of one. The
+//! scripts that call the built library test it.
 //!
 //! Its files:
 //!
-//! - In `specs/`: `Line`, what is written; `Text`, which input bytes stand for; `Params`; `Proof`,
-//!   what `circle_prove` writes.
-//! - In `proofs/`: `Depth`, how deep the JSON of claims and a proof nests; `Told`, what is told
-//!   of a text.
+//! - In `src/`, `line.rt`: a command's answer, and what is written of it. `with.rt`: the verifier's
+//!   answer by the caller's parameters. `params.rt`: these.
+//! - In `specs/`: `Line`, what is written; `Params` and `With`, the parameters and what a verifier
+//!   returns by them.
 #![tactic(auto)]
 
-ghost use Rattle.std.specs.Prelude.{◌≡◌, ◌≤◌, ◌⊎◌};
-ghost use Rattle.circle_commands.specs.Verified.{IsVerified};
-ghost use Rattle.circle_c.specs.Line.{IsSomeWritten, IsWritten, memory_line, verified_line};
-ghost use Rattle.circle_c.specs.Params.{HasParams};
-ghost use Rattle.circle_c.specs.Proof.{WritesProof};
-ghost use Rattle.circle_c.specs.Text.{StandsFor, StandsForNone};
+ghost use Rattle.std.specs.Prelude.{◌≡◌, ◌≤◌};
+ghost use Rattle.circle_c.specs.Line.{WritesRefusal, WritesResult, WritesUnreadable};
+ghost use Rattle.circle_c.specs.With.{IsReasonWith, IsResultWith};
 
 mod line;
 mod params;
-mod proof;
-mod text;
-mod verdict;
+mod with;
 
-use circle_commands::prove::Input as Statement;
-use circle_commands::verify::Input as Claims;
-use circle_commands::{Failure, shape, values};
-use circle_json::JsonForm;
-use circle_presets::{Challenge, ChallengeMmcs, Challenger, Val, ValMmcs};
-use circle_prover::OpeningOver;
+use circle_commands::command::Command;
+use circle_commands::failure::LINE_LEN;
+use circle_commands::{prove, shape, values, verify};
 pub use params::CircleParams;
 use std::alloc::Global;
 
-/// The values of polynomials on a domain, as the program's command `values` answers.
+/// The values of polynomials on a domain, as the program's command `values` writes them.
 #[unsafe(no_mangle)]
 pub extern "C" fn circle_values(
     alloc: Global,
@@ -54,12 +59,18 @@ pub extern "C" fn circle_values(
     needed: &mut usize,
 ) -> u8
     ensures status { result ≤ 2 }
-    ensures line { IsSomeWritten line.old line.new needed.new }
+    ensures rows { let c = ⟦<values::Input as Command>⟧ in result ≡ 0
+        → WritesResult c.form text.now line.old line.new needed.new c.is_result }
+    ensures refused { let c = ⟦<values::Input as Command>⟧ in result ≡ 1
+        → WritesRefusal c.form text.now line.old line.new needed.new c.is_reason }
+    ensures unreadable { let c = ⟦<values::Input as Command>⟧ in result ≡ 2
+        → WritesUnreadable c.form text.now line.old line.new needed.new }
+    ensures short { ¬ (result ≡ 0) → needed.new ≤ LINE_LEN }
 {
-    line::tell(values_of(alloc, text), line, needed)
+    line::call::<values::Input>(alloc, text, line, needed)
 }
 
-/// The shape of claims, as the program's command `shape` answers.
+/// The shape of claims, as the program's command `shape` writes it.
 #[unsafe(no_mangle)]
 pub extern "C" fn circle_shape(
     alloc: Global,
@@ -68,12 +79,18 @@ pub extern "C" fn circle_shape(
     needed: &mut usize,
 ) -> u8
     ensures status { result ≤ 2 }
-    ensures line { IsSomeWritten line.old line.new needed.new }
+    ensures shape { let c = ⟦<shape::Input as Command>⟧ in result ≡ 0
+        → WritesResult c.form text.now line.old line.new needed.new c.is_result }
+    ensures refused { let c = ⟦<shape::Input as Command>⟧ in result ≡ 1
+        → WritesRefusal c.form text.now line.old line.new needed.new c.is_reason }
+    ensures unreadable { let c = ⟦<shape::Input as Command>⟧ in result ≡ 2
+        → WritesUnreadable c.form text.now line.old line.new needed.new }
+    ensures short { ¬ (result ≡ 0) → needed.new ≤ LINE_LEN }
 {
-    line::tell(shape_of(alloc, text), line, needed)
+    line::call::<shape::Input>(alloc, text, line, needed)
 }
 
-/// Claims with their proof, as the program's command `prove` answers.
+/// Claims with their proof, as the program's command `prove` writes them.
 #[unsafe(no_mangle)]
 pub extern "C" fn circle_prove(
     alloc: Global,
@@ -82,17 +99,18 @@ pub extern "C" fn circle_prove(
     needed: &mut usize,
 ) -> u8
     ensures status { result ≤ 2 }
-    ensures line { IsSomeWritten line.old line.new needed.new }
-    ensures proved { let o =
-        ⟦<Challenger as OpeningOver<Val, Challenge, ValMmcs, ChallengeMmcs>>⟧.schemes
-        in result ≡ 0 → WritesProof o ⟦<Statement as JsonForm>⟧.form ⟦<Claims as JsonForm>⟧.form
-        text.now line.old line.new needed.new }
-    ensures unreadable { result ≡ 2 → StandsForNone ⟦<Statement as JsonForm>⟧.form text.now }
+    ensures proved { let c = ⟦<prove::Input as Command>⟧ in result ≡ 0
+        → WritesResult c.form text.now line.old line.new needed.new c.is_result }
+    ensures refused { let c = ⟦<prove::Input as Command>⟧ in result ≡ 1
+        → WritesRefusal c.form text.now line.old line.new needed.new c.is_reason }
+    ensures unreadable { let c = ⟦<prove::Input as Command>⟧ in result ≡ 2
+        → WritesUnreadable c.form text.now line.old line.new needed.new }
+    ensures short { ¬ (result ≡ 0) → needed.new ≤ LINE_LEN }
 {
-    line::tell(proof::line_of(alloc, text), line, needed)
+    line::call::<prove::Input>(alloc, text, line, needed)
 }
 
-/// Whether a proof shows the claims beside it, as the program's command `verify` answers.
+/// Whether a proof shows the claims beside it, as the program's command `verify` writes it.
 #[unsafe(no_mangle)]
 pub extern "C" fn circle_verify(
     alloc: Global,
@@ -101,18 +119,15 @@ pub extern "C" fn circle_verify(
     needed: &mut usize,
 ) -> u8
     ensures status { result ≤ 2 }
-    ensures line { IsSomeWritten line.old line.new needed.new }
-    ensures verified { result ≡ 0 → IsWritten verified_line line.old line.new needed.new }
-    ensures accepted { let o =
-        ⟦<Challenger as OpeningOver<Val, Challenge, ValMmcs, ChallengeMmcs>>⟧.schemes
-        in result ≡ 0 → StandsFor ⟦<Claims as JsonForm>⟧.form (IsVerified o) text.now }
-    ensures refused { let o =
-        ⟦<Challenger as OpeningOver<Val, Challenge, ValMmcs, ChallengeMmcs>>⟧.schemes
-        in result ≡ 1 → IsWritten memory_line line.old line.new needed.new
-        ⊎ StandsFor ⟦<Claims as JsonForm>⟧.form (λ claims. ¬ IsVerified o claims) text.now }
-    ensures unreadable { result ≡ 2 → StandsForNone ⟦<Claims as JsonForm>⟧.form text.now }
+    ensures accepted { let c = ⟦<verify::Input as Command>⟧ in result ≡ 0
+        → WritesResult c.form text.now line.old line.new needed.new c.is_result }
+    ensures refused { let c = ⟦<verify::Input as Command>⟧ in result ≡ 1
+        → WritesRefusal c.form text.now line.old line.new needed.new c.is_reason }
+    ensures unreadable { let c = ⟦<verify::Input as Command>⟧ in result ≡ 2
+        → WritesUnreadable c.form text.now line.old line.new needed.new }
+    ensures short { needed.new ≤ LINE_LEN }
 {
-    line::tell_verdict(verdict::verified(alloc, text), line, needed)
+    line::call::<verify::Input>(alloc, text, line, needed)
 }
 
 /// As [`circle_verify`] where the text's parameters are `params`, else the status is 1 and the
@@ -126,28 +141,13 @@ pub extern "C" fn circle_verify_with(
     needed: &mut usize,
 ) -> u8
     ensures status { result ≤ 2 }
-    ensures line { IsSomeWritten line.old line.new needed.new }
-    ensures verified { result ≡ 0 → IsWritten verified_line line.old line.new needed.new }
-    ensures accepted { let o =
-        ⟦<Challenger as OpeningOver<Val, Challenge, ValMmcs, ChallengeMmcs>>⟧.schemes
-        in result ≡ 0 → StandsFor ⟦<Claims as JsonForm>⟧.form
-        (λ claims. HasParams params.now claims.params × IsVerified o claims) text.now }
-    ensures refused { let o =
-        ⟦<Challenger as OpeningOver<Val, Challenge, ValMmcs, ChallengeMmcs>>⟧.schemes
-        in result ≡ 1 → IsWritten memory_line line.old line.new needed.new
-        ⊎ StandsFor ⟦<Claims as JsonForm>⟧.form
-        (λ claims. ¬ (HasParams params.now claims.params × IsVerified o claims)) text.now }
-    ensures unreadable { result ≡ 2 → StandsForNone ⟦<Claims as JsonForm>⟧.form text.now }
+    ensures accepted { let c = ⟦<verify::Input as Command>⟧ in result ≡ 0 → WritesResult c.form
+        text.now line.old line.new needed.new (IsResultWith params.now c.is_result) }
+    ensures refused { let c = ⟦<verify::Input as Command>⟧ in result ≡ 1 → WritesRefusal c.form
+        text.now line.old line.new needed.new (IsReasonWith params.now c.is_reason) }
+    ensures unreadable { let c = ⟦<verify::Input as Command>⟧ in result ≡ 2
+        → WritesUnreadable c.form text.now line.old line.new needed.new }
+    ensures short { needed.new ≤ LINE_LEN }
 {
-    line::tell_verdict(verdict::verified_with(alloc, text, params), line, needed)
-}
-
-// The line of the command `values`.
-fn values_of(alloc: Global, text: &[u8]) -> Result<String, Failure> {
-    values::answer(alloc, &text::value(alloc, text)?)
-}
-
-// The line of the command `shape`.
-fn shape_of(alloc: Global, text: &[u8]) -> Result<String, Failure> {
-    shape::answer(alloc, &text::value(alloc, text)?)
+    line::report(&with::answer_with(alloc, text, params), line, needed)
 }

@@ -1,66 +1,51 @@
 //! What is written to a caller's line.
-ghost use Rattle.std.specs.Prelude.{◌≡◌, ◌≤◌, MatchResult, string_bytes};
-ghost use Rattle.circle_commands.specs.Failure.{status_of};
-ghost use Rattle.circle_commands.specs.declared.failure.Failure.TheVariants.{Memory};
-ghost use Rattle.circle_c.specs.Line.{IsSomeWritten, IsWritten, memory_line, verified_line};
+ghost use Rattle.std.specs.Prelude.{◌≡◌, ◌≤◌, IsErr};
+ghost use Rattle.circle_commands.specs.Program.{answer_line, answer_status};
+ghost use Rattle.circle_c.specs.Line.{IsWritten, WritesRefusal, WritesResult, WritesUnreadable};
 
 use circle_commands::Failure;
-use std::fmt::InlineText;
+use circle_commands::command::{Command, answer};
+use circle_commands::failure::LINE_LEN;
+use std::alloc::Global;
 
-/// More than the longest line that a failure has.
-const FAILURE_LEN: usize = 64;
-
-/// Writes the result, or what the failure tells, and answers the status.
-pub(crate) fn tell(answer: Result<String, Failure>, line: &mut [u8], needed: &mut usize) -> u8
+/// Runs the command that takes these inputs on a text, writes the line and returns the status.
+pub(crate) fn call<T: Command>(
+    alloc: Global,
+    text: &[u8],
+    line: &mut [u8],
+    needed: &mut usize,
+) -> u8
     ensures status { result ≤ 2 }
-    ensures line { IsSomeWritten line.old line.new needed.new }
-    ensures told { MatchResult answer (λ text. (result ≡ 0)
-        × IsWritten (string_bytes text) line.old line.new needed.new)
-        (λ failure. result ≡ status_of failure) }
+    ensures result { result ≡ 0
+        → WritesResult T.form text.now line.old line.new needed.new T.is_result }
+    ensures refused { result ≡ 1
+        → WritesRefusal T.form text.now line.old line.new needed.new T.is_reason }
+    ensures unreadable { result ≡ 2
+        → WritesUnreadable T.form text.now line.old line.new needed.new }
+    ensures short { ¬ (result ≡ 0) → needed.new ≤ LINE_LEN }
+{
+    report(&answer::<T>(alloc, text), line, needed)
+}
+
+/// Writes the result, or the line of the failure, and returns the status.
+pub(crate) fn report(answer: &Result<String, Failure>, line: &mut [u8], needed: &mut usize) -> u8
+    ensures status { result ≡ answer_status answer.now }
+    ensures written { IsWritten (answer_line answer.now) line.old line.new needed.new }
+    ensures short { IsErr answer.now → needed.new ≤ LINE_LEN }
 {
     match answer {
         Ok(text) => {
             write(text.as_bytes(), line, needed);
             0
         }
-        Err(failure) => tell_failure(&failure, line, needed),
-    }
-}
-
-/// Writes that a proof is accepted, or what the failure tells, and answers the status.
-pub(crate) fn tell_verdict(verdict: Result<(), Failure>, line: &mut [u8], needed: &mut usize) -> u8
-    ensures status { result ≤ 2 }
-    ensures line { IsSomeWritten line.old line.new needed.new }
-    ensures told { MatchResult verdict (λ _. (result ≡ 0)
-        × IsWritten verified_line line.old line.new needed.new)
-        (λ failure. (result ≡ status_of failure)
-        × (failure ≡ Memory → IsWritten memory_line line.old line.new needed.new)) }
-{
-    match verdict {
-        Ok(()) => {
-            write(b"{\"verified\":true}\n", line, needed);
-            0
+        Err(failure) => {
+            write(failure.line().as_str().as_bytes(), line, needed);
+            failure.status()
         }
-        Err(failure) => tell_failure(&failure, line, needed),
     }
 }
 
-// Writes what a failure tells, and answers its status.
-fn tell_failure(failure: &Failure, line: &mut [u8], needed: &mut usize) -> u8
-    ensures status { result ≡ status_of failure.now }
-    ensures line { IsSomeWritten line.old line.new needed.new }
-    ensures memory { failure.now ≡ Memory → IsWritten memory_line line.old line.new needed.new }
-{
-    if let Failure::Memory = failure {
-        write(b"{\"refused\":\"Memory\"}\n", line, needed);
-    } else {
-        let text = InlineText::<FAILURE_LEN>::of(format_args!("{failure}\n"));
-        write(text.as_str().as_bytes(), line, needed);
-    }
-    failure.status()
-}
-
-// Writes the text to the start of the line, where it fits, and tells its length.
+// Writes the text to the start of the line, where it fits, and reports its length.
 fn write(text: &[u8], line: &mut [u8], needed: &mut usize)
     ensures { IsWritten text.now line.old line.new needed.new }
 {
