@@ -36,12 +36,14 @@ module _ {Input : Type 0} (form : Form Input) where
   abbrev pub StandsForNone : List ℕ → Type 0
   StandsForNone text = (input : Input) → ¬ IsTextOf text input
 
-  -- they are a JSON text of a value that the form refuses for this reason, and so of no input
+  -- they are a JSON text of a value that the form refuses for this reason, and so of no input; want
+  -- of memory is no such reason
   pub record IsUnfit (text : List ℕ) (error : JsonError) : Type 0 where
     pub value : Data
     pub json : IsJsonOf text value
     pub refuses : form.refuses value error
     pub none : StandsForNone text
+    pub reported : ¬ (error ≡ Memory)
 
   -- they are the text of the input and a newline
   pub record IsLineOf (input : Input) (line : List ℕ) : Type 0 where
