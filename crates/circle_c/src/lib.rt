@@ -24,9 +24,9 @@
 //! `ParametersDiffer` exactly where they have others, and a reason of `verify` only where they have
 //! these (`With.IsReasonWith`).
 //!
-//! A null pointer beside a length of 0 is an empty text or line. No clause says so, since a slice
-//! has no null pointer here: the compiler gives each export a place in the stead of one. The
-//! scripts that call the built library test it.
+//! A null pointer beside a length of 0 is an empty text or line. No clause says so, since no slice
+//! has a null pointer here: the compiler passes the export a valid address instead. The scripts that
+//! call the built library test it.
 //!
 //! Its files:
 //!

@@ -1,4 +1,4 @@
-//! What the commands have in common: what each is given, and what it makes of that.
+//! What the commands have in common: the input of each, and the line that it returns.
 ghost use Rattle.std.specs.Prelude.{◌≡◌, ℕ, List, IfErr, IfOk, string_bytes};
 ghost use Rattle.serde_json.specs.View.{view};
 ghost use Rattle.circle_json.specs.Form.{Form};
@@ -12,7 +12,7 @@ use circle_json::JsonError;
 use serde_json::Value;
 use std::alloc::Global;
 
-/// What a command is given.
+/// The input of a command.
 pub trait Command: Sized {
     // How inputs stand in JSON.
     ghost form: { Form Self };

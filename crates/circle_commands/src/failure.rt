@@ -1,4 +1,4 @@
-//! The answers that a program gives in place of a result.
+//! Why there is no result, and the line that reports it.
 ghost use Rattle.std.specs.Prelude.{◌≡◌, ◌≤◌, ◌++◌, length};
 ghost use Rattle.std.specs.Fmt.InlineText.{inline_text};
 ghost use Rattle.circle_commands.specs.Failure.{line_of, refused_line, status_of, unreadable_line};
@@ -18,7 +18,7 @@ use thiserror::Error;
 /// More than the longest line that a failure has.
 pub const LINE_LEN: usize = 64;
 
-/// Why there is no result. Its text is the JSON that the program answers.
+/// Why there is no result. Its text is the JSON that the program writes.
 #[derive(Debug, Drop, Error)]
 pub enum Failure {
     /// The arguments aren't one command.
@@ -42,7 +42,7 @@ pub enum Failure {
 }
 
 impl Failure {
-    /// The status of a program that ends with this answer: 2 where the input can't be read, 1 where
+    /// The status of a program that ends with this line: 2 where the input can't be read, 1 where
     /// it is refused.
     pub fn status(&self) -> u8
         ensures { result ≡ status_of self.now }

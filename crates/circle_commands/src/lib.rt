@@ -1,18 +1,18 @@
 //! The commands of `circle_tool` over circle domains, as functions of JSON texts.
 //!
-//! Each command is a module with the type of what it is given, `Input`, why it refuses that,
+//! Each command is a module with the type of its input, `Input`, the reasons to refuse it,
 //! `Refusal`, and the call that computes its result. `Input` implements the trait [`Command`], by
-//! which [`command::answer`] makes of a text's bytes the line of the result, or a [`Failure`]. The
+//! which [`command::answer`] turns a text's bytes into the line of the result, or a [`Failure`]. The
 //! program, [`run::run`], and the library for C rest on these. What is proved:
 //!
 //! - `command::answer` returns a line only where the text stands for an input of which the line is
 //!   a result. It fails only where the text isn't JSON, where it is JSON that the input's form
-//!   refuses by the error that is named, where there is the named reason to refuse the input, or
-//!   for memory (`Answer.IsAnswer`).
-//! - `run::run` reads its input to the end, and appends the line of the answer of it, with the
-//!   answer's status, unless reading fails, memory is refused or writing fails (`values`, `prove`,
+//!   refuses for the named error, where there is the named reason to refuse the input, or when out
+//!   of memory (`Answer.IsAnswer`).
+//! - `run::run` reads its input to the end and writes the line that `answer` returns of it, with
+//!   its status, unless reading fails, an allocation is refused or writing fails (`values`, `prove`,
 //!   `verify`, `shape`, by `Program.HasRun`). It reads nothing where the arguments name no command
-//!   (`usage`, `unread`). What is known of the bytes is what the reader and the writer tell.
+//!   (`usage`, `unread`). The bytes are those that the contracts of the reader and the writer know.
 //! - `Failure::line` is the line of each failure, with the refusal's name (`Failure.line_of`).
 //! - `values`: the line is a JSON text of the rows of `Input.values_of`; each refusal has its own
 //!   condition (`Reasons.IsValueless`).

@@ -58,7 +58,7 @@ pub(crate) struct Committed<'a> {
     commitment: [u8; 32],
     /// What is kept of it.
     kept: ProverData,
-    /// The matrices as they were given.
+    /// The matrices of the input.
     traces: &'a [Trace],
 }
 
@@ -92,7 +92,7 @@ impl JsonForm for Trace {
     }
 }
 
-/// What the command is given.
+/// The input of the command.
 #[derive(Drop)]
 pub struct Input {
     /// The matrices, batch by batch.
@@ -199,14 +199,14 @@ fn claims_line(alloc: Global, claims: &verify::Input) -> Result<String, AllocErr
 }
 
 /// Commits to the batches, each matrix on the standard domain of as many points as it has rows, and
-/// opens them from the challenger that took in nothing but the commitments, in order.
+/// opens them from the challenger that has absorbed the commitments alone, in order.
 ///
 /// Before anything is committed to, refuses by the first of these, matrix after matrix:
 /// `RaggedRows` where rows differ in length or one is empty, `HeightNotPowerOfTwo`,
 /// `HeightTooLarge` above `2^24` rows, and `HeightTooSmall` below `2^(2 + log_final_poly_len)`, so
 /// below four at least. Then fails as [`CirclePcs::commit`] does of the first batch that it
-/// refuses, and then as [`CirclePcs::open`] does. Where each matrix has a point, what is answered
-/// is accepted by [`verify::verify`].
+/// refuses, and then as [`CirclePcs::open`] does. Where each matrix has a point,
+/// [`verify::verify`] accepts the result.
 pub fn prove(alloc: Global, input: Input) -> Result<verify::Input, Refusal>
     ensures rows { let f = input.params.log_final_poly_len in let bs = input.batches.items in
         MatchResult result (λ _. AreTall f bs) (λ e. IsRefusalOfBatches f bs e ⊎ AreTall f bs) }
@@ -255,7 +255,7 @@ fn validate_batch(log_final_poly_len: usize, batch: &[Trace]) -> Result<(), Refu
     Ok(())
 }
 
-// Whether so many rows, a power of two of them, leave nothing to fold where folding stops at
+// Whether `height` rows, a power of two, leave nothing to fold where folding stops at
 // `2^log_final_poly_len` coefficients.
 fn is_too_small(log_final_poly_len: usize, height: usize) -> bool
     requires { IsPowerOfTwo height }

@@ -41,12 +41,12 @@ impl CommandName {
 }
 
 /// Runs the program whose arguments, without its own name, are `args`: reads `input` to its end,
-/// writes one line of JSON to `output`, and answers the exit status.
+/// writes one line of JSON to `output`, and returns the exit status.
 ///
-/// The status is 0 where there is a result, 1 where the input is refused, memory is refused or
-/// writing fails, and 2 where the input can't be read. Of several faults the first counts: wrong
-/// arguments, in which case nothing is read, then a failure of `input`, then text that isn't JSON,
-/// then JSON that isn't an input of the command, then what the command refuses.
+/// The status is 0 where there is a result, 1 where the command refuses the input, an allocation is
+/// refused or writing fails, and 2 where the input can't be read. Of several faults the first
+/// counts: wrong arguments, in which case nothing is read, then a failure of `input`, then text that
+/// isn't JSON, then JSON that isn't an input of the command, then what the command refuses.
 pub fn run<R: Read, W: Write>(alloc: Global, args: &[String], input: &mut R, output: &mut W) -> u8
     ensures status { result ≤ 2 }
     ensures usage { ¬ NamesCommand args.now
@@ -112,7 +112,7 @@ fn run_command<T: Command, R: Read, W: Write>(alloc: Global, input: &mut R, outp
     }
 }
 
-// The command's answer of the text that is read to the end of the input.
+// What the command returns of the text that it reads to the end of the input.
 fn answer_input<T: Command, R: Read>(alloc: Global, input: &mut R) -> Result<String, Failure>
     ensures { IsOfInput (IsAnswer T.form T.is_result T.is_reason) (R.remaining input.old)
         (R.remaining input.new) result }
@@ -122,7 +122,7 @@ fn answer_input<T: Command, R: Read>(alloc: Global, input: &mut R) -> Result<Str
     answer::<T>(alloc, &text)
 }
 
-/// Writes the line of a failure, and gives the status that the program ends with: the failure's,
+/// Writes the line of a failure, and returns the status that the program ends with: the failure's,
 /// but 1 where writing fails.
 pub fn refuse<W: Write>(failure: &Failure, output: &mut W) -> u8
     ensures range { result ≤ 2 }

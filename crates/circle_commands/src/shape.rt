@@ -23,7 +23,7 @@ const LOG_HEIGHT_BOUND: usize = 31;
 /// The bits of an index besides those that folding uses up.
 const EXTRA_INDEX_BITS: usize = 1;
 
-/// What the command is given.
+/// The input of the command.
 #[derive(Drop)]
 pub struct Input {
     /// The binary logarithm of the greatest committed height.
@@ -128,7 +128,7 @@ fn shown(alloc: Global, shape: &CirclePcsShape) -> Result<Value, AllocError>
     object(alloc, shape, layout, seed, steps)
 }
 
-// The object of a shape's numbers, these digits of its layout and its seed, and so many steps.
+// The object of a shape's numbers, the digits of its layout and its seed, and the number of steps.
 fn object(
     alloc: Global,
     shape: &CirclePcsShape,

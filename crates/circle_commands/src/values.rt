@@ -27,7 +27,7 @@ const MAX_LOG_N: usize = 24;
 /// The values of a matrix of polynomials, a row for each point.
 type Values = CfftView<RowMajorMatrix<Mersenne31>>;
 
-/// What the command is given.
+/// The input of the command.
 #[derive(Drop)]
 pub struct Input {
     /// The rows of the matrix whose columns are the coefficients in the circle basis.

@@ -28,7 +28,7 @@ pub use circle_presets::VerifierError as Refusal;
 /// The line of a proof that is accepted.
 const VERIFIED: &str = "{\"verified\":true}\n";
 
-/// What the command is given.
+/// The input of the command.
 #[derive(Drop)]
 pub struct Input {
     /// The claims about each batch; of the domains the binary logarithms of their sizes.
@@ -91,10 +91,10 @@ impl Command for Input {
     }
 }
 
-/// Verifies the input's proof of its claims, from the challenger that took in nothing but the
-/// commitments, in order.
+/// Verifies the input's proof of its claims, from the challenger that has absorbed the commitments
+/// alone, in order.
 ///
-/// Fails as [`CirclePcs::verify`] does, and for a proof that is verified for want of memory alone.
+/// Fails as [`CirclePcs::verify`] does, and of a proof that is verified only when out of memory.
 pub fn verify(alloc: Global, input: Input) -> Result<(), Refusal>
     ensures accepted { OnOk result (IsVerified
         ⟦<Challenger as OpeningOver<Val, Challenge, ValMmcs, ChallengeMmcs>>⟧.schemes input) }

@@ -7,7 +7,7 @@ use circle_commit::Named;
 use std::alloc::AllocError;
 use thiserror::Error;
 
-/// Why a JSON value isn't of the form that is asked for.
+/// Why a JSON value isn't of the form that is due.
 #[derive(Clone, Copy, Debug, Drop, Error, PartialEq, Eq)]
 pub enum JsonError {
     /// Memory was refused.
