@@ -39,6 +39,7 @@ pub const NAMES: &[&str] = &[
     "without_prover",
     "without_verifier",
     "without_schemes",
+    "without_laws",
 ];
 
 /// What is told of the call with this name, or none where there is no such call.
@@ -81,6 +82,7 @@ pub fn told_of(alloc: Global, stage: Stage, name: &str) -> Option<Result<Told>> 
         "without_prover" => without::transcripts::prover(alloc, stage),
         "without_verifier" => without::transcripts::verifier(alloc, stage),
         "without_schemes" => without::scheme::schemes(alloc, stage),
+        "without_laws" => without::laws::laws(stage),
         _ => return None,
     })
 }

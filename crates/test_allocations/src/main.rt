@@ -1,4 +1,4 @@
-//! Calls of the libraries, one a run, whose allocations `checks/growths` refuses in turn.
+//! Calls of the libraries, one a run, whose allocations `checks/allocations` refuses in turn.
 //!
 //! - `call NAME` makes a call and prints what it returned, `Ok` and a number that the value comes
 //!   to or the refusal, and behind it what the call left of what it was lent.

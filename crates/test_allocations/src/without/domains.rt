@@ -68,16 +68,20 @@ fn of_values(domain: Domain, t: Mersenne31) -> Result<u32> {
     ]))
 }
 
-// The coordinate of the next point, and the logarithm of the size of another domain.
-fn of_others(domain: Domain, t: Mersenne31) -> Result<[u32; 2]> {
+// The coordinates of the first point and of the next one, and the logarithm of the size of another domain.
+fn of_others(domain: Domain, t: Mersenne31) -> Result<[u32; 3]> {
     if domain.log_n() == 0 || domain.log_n() > 31 {
         bail!("the domain has one point, or isn't in the group");
     }
+    if domain.shift().to_projective_line().is_none() {
+        bail!("the first point is (-1, 0)");
+    }
+    let first = domain.first_point();
     let next = domain.next_point(t).unwrap_or(Mersenne31::ZERO);
     let other = domain
         .try_create_disjoint_domain(8)
         .map_or(0, |other| other.log_n());
-    Ok([next.value(), low_bits(other)])
+    Ok([first.value(), next.value(), low_bits(other)])
 }
 
 // The number that the points of a domain and of its halves come to.
@@ -101,10 +105,11 @@ pub fn domains(stage: Stage) -> Result<Told> {
     for number in of_readers(Domain::standard(4)) {
         sum = with_number(sum, low_bits(number));
     }
-    let [next, other] = of_others(domain, t)?;
+    let [first, next, other] = of_others(domain, t)?;
     Ok(told_numbers(&[
         sum,
         of_values(domain, t)?,
+        first,
         next,
         other,
         of_orders(domain)?,

@@ -6,7 +6,7 @@ use circle_commit::{
     Matrix, PeriodicLdeTable, RowMajorMatrix, RowMajorMatrixView, entry_count, is_power_of_two,
 };
 use circle_field::Mersenne31;
-use p3_circle::{CfftPermutable, CircleEvaluations};
+use p3_circle::{CfftPermutable, CircleEvaluations, first_rows};
 use std::alloc::Global;
 
 // The number that the rows of a matrix come to.
@@ -51,6 +51,14 @@ fn of_permuted(rows: Rows) -> Result<u32> {
     Ok(of_rows(&rows.cfft_perm_rows()))
 }
 
+// The first rows in the transform's order, two of them.
+fn of_first(domain: Domain, rows: &Rows) -> Result<u32> {
+    if domain.log_n() == 0 || domain.log_n() > 31 || rows.height() != domain.size() {
+        bail!("there is not one row for each point");
+    }
+    Ok(of_rows(&first_rows(domain, rows, 1).to_cfft_order()))
+}
+
 // An entry of the table of these rows.
 fn of_table(rows: Rows) -> Result<u32> {
     let table = PeriodicLdeTable::new(rows);
@@ -72,11 +80,15 @@ pub fn matrices(alloc: Global, stage: Stage) -> Result<Told> {
     };
     let [first, second, view] = of_parts(&rows)?;
     let column = RowMajorMatrix::new_col(others);
+    let begun = of_first(Domain::standard(3), &column)?;
+    let no_columns = PeriodicLdeTable::<Mersenne31>::empty().width();
     Ok(told_numbers(&[
         first,
         second,
         view,
         low_bits(rows.width()),
+        begun,
+        low_bits(no_columns),
         of_orders(Domain::standard(3), column)?,
         of_permuted(RowMajorMatrix::new_col(permuted))?,
         of_table(RowMajorMatrix::new_col(table))?,

@@ -2,7 +2,7 @@
 use crate::plane::cubic;
 use crate::told::{Stage, Told, before, digest, told_numbers};
 use anyhow::{Result, bail};
-use circle_field::{Cubic, ExtensionField, Mersenne31};
+use circle_field::{Cubic, ExtensionField, Field, Mersenne31};
 use p3_circle::laws::equal_points_hash_equally;
 use p3_circle::{Neutral, Point};
 
@@ -44,6 +44,19 @@ fn of_values(point: Point<Mersenne31>, at: Point<Cubic>) -> [u32; 2] {
     ]
 }
 
+// The selector of a point at another, which does not have the x coordinate of the pole.
+fn of_selector(point: Point<Mersenne31>, at: Point<Cubic>) -> Option<Cubic> {
+    let half_turn = (-Cubic::ONE, Cubic::ZERO);
+    if !Point::is_on_circle(half_turn.0, half_turn.1) {
+        return None;
+    }
+    let pole = Point::new(half_turn.0, half_turn.1) + point;
+    if at.x() == pole.x() {
+        return None;
+    }
+    Some(point.v_tilde_p(at))
+}
+
 // The point of these coordinates, where the circle has it.
 fn of_coordinates(x: Mersenne31, y: Mersenne31) -> Option<Point<Mersenne31>> {
     if !Point::is_on_circle(x, y) {
@@ -67,6 +80,9 @@ pub fn points(stage: Stage) -> Result<Told> {
     let (Some(line), Some(lifted)) = (point.to_projective_line(), at.to_projective_line()) else {
         bail!("the point is (-1, 0)");
     };
+    let Some(selector) = of_selector(point, at) else {
+        bail!("the point is the pole");
+    };
     let [base, extended] = of_sums(point, at);
     let [values, others] = of_values(point, at);
     Ok(told_numbers(&[
@@ -76,6 +92,7 @@ pub fn points(stage: Stage) -> Result<Told> {
         others,
         digest(&[line]),
         digest(&[lifted]),
+        digest(&[selector]),
         u32::from(point == generator),
     ]))
 }

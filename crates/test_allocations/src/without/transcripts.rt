@@ -7,12 +7,12 @@ ghost use Rattle.circle_transcript.specs.Transcript.{due as due_of, numbers};
 ghost use Rattle.test_allocations.specs.Run.{BeginsRun};
 
 use crate::plane::cubic;
-use crate::told::{Stage, Told, before, digest, told_numbers};
+use crate::told::{Stage, Told, before, digest, low_bits, told_numbers};
 use crate::transcript::shape;
 use anyhow::{Result, bail};
 use circle_challenger::{
-    DomainSeparator, Hierarchy, Interaction, InteractionPattern, Kind, Length, ProverState,
-    Sha256Challenger, TranscriptState, VerifierState,
+    CanSample, DomainSeparator, Hierarchy, Interaction, InteractionPattern, Kind, Length,
+    ProverState, Sha256Challenger, TranscriptState, VerifierState,
 };
 use circle_field::{Cubic, Field, Mersenne31};
 use p3_circle::{
@@ -93,6 +93,23 @@ fn of_states(separator: &DomainSeparator) -> Option<(Mersenne31, Cubic, Cubic)>
     Some((witness, proved, checked))
 }
 
+// How many steps and labels a separator has, and how many bytes its text.
+fn of_readers(separator: &DomainSeparator) -> [usize; 3] {
+    [
+        separator.pattern().steps().len(),
+        separator.labels().len(),
+        separator.text().len(),
+    ]
+}
+
+// What is drawn after a transcript that was paused and resumed.
+fn of_paused(separator: &DomainSeparator) -> Mersenne31 {
+    let mut challenger = Sha256Challenger::new();
+    let due = ProverState::<Sha256Challenger, Mersenne31>::new(&mut challenger, separator).pause();
+    ProverState::<Sha256Challenger, Mersenne31>::resume(&mut challenger, due).abort();
+    challenger.sample()
+}
+
 // What the prover draws before the queries.
 fn prove(transcript: &mut Prover<'_>) -> Result<[Cubic; 3], CircleTranscriptFailure>
     requires next { BeginsRun (numbers transcript.old) (due_of transcript.old) }
@@ -130,7 +147,15 @@ pub fn states(alloc: Global, stage: Stage) -> Result<Told> {
     let Some((witness, proved, checked)) = of_states(&separator) else {
         bail!("no witness passes");
     };
-    Ok(told_numbers(&[digest(&[witness]), digest(&[proved, checked])]))
+    let [steps, labels, bytes] = of_readers(&separator);
+    Ok(told_numbers(&[
+        digest(&[witness]),
+        digest(&[proved, checked]),
+        digest(&[of_paused(&separator)]),
+        low_bits(steps),
+        low_bits(labels),
+        low_bits(bytes),
+    ]))
 }
 
 /// The calls of the prover's transcript before it draws the indices of the queries.
