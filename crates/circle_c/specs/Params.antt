@@ -1,6 +1,7 @@
 -- Parameters as C passes them.
 use Rattle.std.specs.Prelude.{◌≡◌, ⊤}
 use Rattle.circle_commit.specs.declared.params.FriParameters.{FriParameters}
+use Rattle.circle_commands.specs.declared.verify.Input.{Input as Claims}
 use Rattle.circle_c.specs.declared.params.CircleParams.{CircleParams}
 
 -- the numbers of the parameters
@@ -18,3 +19,12 @@ numbers_of p = record {
 -- the parameters have these numbers
 abbrev pub HasParams : CircleParams → FriParameters ⊤ → Type 0
 HasParams params p = params ≡ numbers_of p
+
+-- an input, of which these are the parameters, has parameters with the numbers
+abbrev pub HasNumbersBy : {Given : Type 0} → (Given → FriParameters ⊤) → CircleParams → Given →
+    Type 0
+HasNumbersBy params_of params input = HasParams params (params_of input)
+
+-- claims have
+abbrev pub HasNumbers : CircleParams → Claims → Type 0
+HasNumbers params claims = HasParams params claims.params

@@ -38,6 +38,7 @@
 
 ghost use Rattle.std.specs.Prelude.{◌≡◌, ◌≤◌};
 ghost use Rattle.circle_c.specs.Line.{WritesRefusal, WritesResult, WritesUnreadable};
+ghost use Rattle.circle_c.specs.Params.{HasNumbers};
 ghost use Rattle.circle_c.specs.With.{IsReasonWith, IsResultWith};
 
 mod line;
@@ -142,12 +143,12 @@ pub extern "C" fn circle_verify_with(
 ) -> u8
     ensures status { result ≤ 2 }
     ensures accepted { let c = ⟦<verify::Input as Command>⟧ in result ≡ 0 → WritesResult c.form
-        text.now line.old line.new needed.new (IsResultWith params.now c.is_result) }
+        text.now line.old line.new needed.new (IsResultWith (HasNumbers params.now) c.is_result) }
     ensures refused { let c = ⟦<verify::Input as Command>⟧ in result ≡ 1 → WritesRefusal c.form
-        text.now line.old line.new needed.new (IsReasonWith params.now c.is_reason) }
+        text.now line.old line.new needed.new (IsReasonWith (HasNumbers params.now) c.is_reason) }
     ensures unreadable { let c = ⟦<verify::Input as Command>⟧ in result ≡ 2
         → WritesUnreadable c.form text.now line.old line.new needed.new }
     ensures short { needed.new ≤ LINE_LEN }
 {
-    line::report(&with::answer_with(alloc, text, params), line, needed)
+    with::call_with::<verify::Input>(alloc, text, params, line, needed)
 }
