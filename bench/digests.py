@@ -1,9 +1,9 @@
 #!/usr/bin/env python3
-"""Prints what circle_bench has to print of the circle transform, of values at a point, of tables of periodic
-columns and of commitments, computed from the definition.
+"""Prints what circle_bench must print for the circle transform, values at a point, tables of
+periodic columns and commitments, computed from the definition.
 
-A value is the plain sum of the coefficients times the basis at the point, and coefficients are the
-solution of that system of linear equations, by elimination. Nothing is computed by layers. Digests are hashlib's.
+A value is the plain sum of the coefficients times the basis at the point. Coefficients solve that
+system of linear equations, by elimination. Nothing is computed by layers. Digests are hashlib's.
 Compressions of a proof are counted message by message, by docs/FORMAT.md.
 """
 

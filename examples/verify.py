@@ -3,9 +3,9 @@
 
     python3 examples/verify.py [--trace] [FILE]
 
-reads FILE, or standard input where none is named, and answers on standard output what
-`circle_tool verify` answers, with the same status. With --trace it writes on standard error each
-step of the transcript and each value of each query's chain of folds.
+reads FILE, or standard input if none is named, and writes the line that `circle_tool verify`
+writes, with the same status. With --trace it writes to standard error each step of the transcript
+and each value of each query's chain of folds.
 """
 import collections, functools, hashlib, itertools, json, os, re, sys
 
@@ -81,7 +81,7 @@ SCALAR, FIXED = 0, 1
 Step = collections.namedtuple("Step", "label kind type parameter form length values")
 
 def steps(run):
-    """The steps; values are what is absorbed."""
+    """The steps, each with the values that it absorbs."""
     def work(phase, witness):
         bits = run.params[f"{phase}_pow_bits"]
         return [Step(f"{phase}_pow", POW, ALGEBRA, 1, FIXED, bits, [witness])] if bits > 0 else []
@@ -193,7 +193,7 @@ def fold(a, b, t, beta): return (a + b + beta * (a - b) * inverse(t)) * inverse(
 def in_order(i, value, sibling): return [sibling, value] if i % 2 else [value, sibling]
 
 def first_layer(run, alpha, bivariate, indices, trace):
-    """For each height what the pairs of the queries fold to."""
+    """What the pairs of the queries fold to, by height."""
     pairs, folded = [[] for _ in indices], {h: [] for h in run.heights}
     for place, h in enumerate(run.heights):
         for k, q in enumerate(indices):
@@ -211,7 +211,7 @@ def first_layer(run, alpha, bivariate, indices, trace):
     return folded
 
 def fold_rounds(run, betas, indices, folded, trace):
-    """The values of the queries in the last word."""
+    """The values of the queries in the last codeword."""
     values = folded[run.top]
     for r, opening in enumerate(run.fri["commit_phase_openings"]):
         siblings, m = [sibling for [sibling] in opening["sibling_values"]], run.top - 1 - r
@@ -231,19 +231,20 @@ def x_value(c, x):
     pairs = zip(c[::2], c[1::2])
     return c[0] if len(c) == 1 else x_value([a + b * x for a, b in pairs], u(1, x))
 
-def last_word(run, indices, values, trace):
+def last_codeword(run, indices, values, trace):
     m = run.B + run.f
     for k, position in enumerate([q >> (run.rounds + 1) for q in indices]):
         x = H(m, gen(m + 2), position)[0]
-        trace(f"query {k} last word", position=position, x=x, due=x_value(run.fri["final_poly"], x))
-        yield "FinalPolyMismatch", values[k] != x_value(run.fri["final_poly"], x)
+        due = x_value(run.fri["final_poly"], x)
+        trace(f"query {k} last codeword", position=position, x=x, due=due)
+        yield "FinalPolyMismatch", values[k] != due
 
 # 12. JSON
 class Unreadable(Exception): pass
 STRING = re.compile(r'"[^"\\]*(?:\\.[^"\\]*)*"')
 
 def number(text):
-    """The number that a text stands for: a float where it isn't one of 64 bits."""
+    """The number that a text stands for: a float unless it is an integer of 64 bits."""
     whole = re.fullmatch("-?[0-9]{1,20}", text) and text != "-0" and -(2**63) <= int(text) < 2**64
     if not whole and abs(float(text)) == float("inf"):
         raise ValueError("it is too large")
@@ -267,8 +268,8 @@ def expect(holds, name):
         raise Unreadable(name)
 
 def read(form, value):
-    """What a value stands for. Its form is a number that it is below, a pattern of hexadecimal
-    digits, a list of the form of all items, an object of the forms of its members, a function."""
+    """What a value stands for. A form is a bound of numbers, a pattern of hexadecimal digits, a
+    list of the form of all items, an object of the forms of its members, or a function."""
     if callable(form):
         return form(value)
     expect(type(value) is type(form), "WrongKind")
@@ -356,6 +357,10 @@ def tests(run, trace):
     for batch in run.batches:
         trace(f"absorb commitment: {batch['commitment'].hex()}")
         challenger.observe(batch["commitment"])
+    yield from tests_from(run, challenger, trace)
+
+def tests_from(run, challenger, trace):
+    """The refusals from the seed on, by a challenger that has absorbed the commitments."""
     alpha, bivariate, *betas = yield from draw(run, challenger, trace)
     yield from tests_of_shape(run)
     indices = [challenger.squeeze() % 2**run.top for _ in range(run.params["num_queries"])]
@@ -367,11 +372,11 @@ def tests(run, trace):
         yield "InputMmcsError", not authenticates(batch["commitment"], dims, places, rows, proof)
     folded = yield from first_layer(run, alpha, bivariate, indices, trace)
     values = yield from fold_rounds(run, betas, indices, folded, trace)
-    yield from last_word(run, indices, values, trace)
+    yield from last_codeword(run, indices, values, trace)
 
 # 14. The program
 def answer(load, trace=lambda text, **values: None):
-    """What is answered to the input whose bytes `load` gives, and the status."""
+    """The line for the input whose bytes `load` returns, as a value, and the status."""
     try:
         run = Run(**read(INPUT, parse(load())))
     except OSError:

@@ -1,7 +1,7 @@
 #!/usr/bin/env python3
 """Breaks the lines of .antt files that pass 100 columns.
 
-usage: tools/antt_layout.py [--check] [FILE..]
+usage: python3 -m tools.antt_layout [--check] [FILE..]
 
 Without files all that git knows of. A `use` line becomes several, a comment is wrapped, and any
 other line goes on below, four columns further in: where the fewest brackets are open, behind `=`,
@@ -117,6 +117,13 @@ def laid_out(line):
     return broken(text, indent) or [line]
 
 
+def too_long(lines):
+    """A fault for each of a file's lines that passes the columns, but for an import of one name."""
+    for number, line in enumerate(lines, 1):
+        if len(line) > COLUMNS and not IMPORT.fullmatch(line):
+            yield f"{number}: it has {len(line)} columns"
+
+
 def main(args):
     is_check = "--check" in args
     files = [arg for arg in args if not arg.startswith("--")]
@@ -131,10 +138,9 @@ def main(args):
         if new != old:
             with open(path, "w", encoding="utf-8") as file:
                 file.write("\n".join(new))
-        for number, line in enumerate(new, 1):
-            if len(line) > COLUMNS and not IMPORT.fullmatch(line):
-                left += 1
-                print(f"{path}:{number}: it has {len(line)} columns")
+        for fault in too_long(new):
+            left += 1
+            print(f"{path}:{fault}")
     print(f"{left} lines pass {COLUMNS} columns")
     return 1 if left else 0
 

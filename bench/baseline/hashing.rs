@@ -1,4 +1,4 @@
-//! A challenger over SHA-256: elements that are taken in, and proofs of work.
+//! A challenger over SHA-256: elements that are absorbed, and proofs of work.
 use crate::field::ORDER;
 use crate::merkle::Hash;
 use crate::sha256;
@@ -56,7 +56,8 @@ impl Challenger {
         (self.draw() & ((1 << bits) - 1)) as usize
     }
 
-    /// The least element after which so many bits are zero. The state after a draw is made once, for it.
+    /// The least element after which `bits` bits are zero. The state after a draw is made once, for
+    /// it.
     fn grind(&mut self, bits: u32) -> u32 {
         for witness in 0..ORDER {
             let mut after = *self;
@@ -71,7 +72,7 @@ impl Challenger {
     }
 }
 
-/// Prints a line for elements that are taken in, and one for proofs of work.
+/// Prints a line for elements that are absorbed, and one for proofs of work.
 pub fn report(timed: bool) {
     if timed {
         let (time, next) = observe(OBSERVED_TIMED, RUNS);

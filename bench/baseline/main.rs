@@ -312,7 +312,7 @@ fn time_line(transform: Transform, log_rows: u32, width: usize) {
     println!("Mersenne31 {name} {rows} x {width}: {} ns, [{last}]", best.as_nanos());
 }
 
-/// How many times a matrix of so many entries is transformed when that is timed.
+/// How many times a matrix with `entries` entries is transformed when that is timed.
 fn runs(entries: usize) -> usize {
     ((1 << 23) / entries).clamp(5, 200)
 }

@@ -19,14 +19,14 @@ pub struct Claim {
     pub values: Vec<Cubic>,
 }
 
-/// The entries beside those that the queries ask for, and the digests beside their rows.
+/// The entries beside those at the queries, and the digests beside their rows.
 pub struct Siblings {
     pub values: Vec<Cubic>,
     pub proof: Vec<Hash>,
 }
 
 pub struct Proof {
-    /// The multiple of the vanishing polynomial in the first word.
+    /// The multiple of the vanishing polynomial in the first codeword.
     pub lambda: Cubic,
     pub first_commitment: Hash,
     pub commitments: Vec<Hash>,

@@ -67,7 +67,7 @@ pub fn open(
     (claims, proof)
 }
 
-/// Commits to a word and to what it is folded into, again and again, down to a constant.
+/// Commits to a codeword and to what it is folded into, again and again, down to a constant.
 fn fold_word(
     params: Params,
     mut word: Vec<Cubic>,
@@ -133,7 +133,7 @@ fn reduced_word(
     word
 }
 
-/// The multiple of the vanishing polynomial in a word, which the word loses. The vanishing
+/// The multiple of the vanishing polynomial in a codeword, which the codeword loses. The vanishing
 /// polynomial is constant on blocks.
 fn extract_lambda(params: Params, word: &mut [Cubic]) -> Cubic {
     let log_height = word.len().ilog2();
@@ -158,7 +158,7 @@ fn folded(beta: Cubic, word: &[Cubic], twiddles: &[Mersenne31]) -> Vec<Cubic> {
     pairs.map(|(pair, inverse)| fold(beta, pair[0], pair[1], inverse)).collect()
 }
 
-/// The entries of a word beside those at the queries without so many of their lowest bits.
+/// The entries of a codeword beside those at the queries without their lowest `bits` bits.
 fn siblings(tree: &Tree<Cubic>, bits: usize, queries: &[usize]) -> Siblings {
     let rows: Vec<usize> = queries.iter().map(|query| query >> (bits + 1)).collect();
     let (rows, proof) = tree.open(&rows);

@@ -41,8 +41,8 @@ pub struct Transcript {
 }
 
 impl Transcript {
-    /// The transcript of claims on so many columns at so many points, where `2^log_height` rows are
-    /// committed to.
+    /// The transcript of claims on these numbers of columns and points, where `2^log_height` rows
+    /// are committed to.
     pub fn new(
         mut challenger: Challenger,
         params: Params,
@@ -67,7 +67,7 @@ impl Transcript {
         Cubic { c0, c1, c2 }
     }
 
-    /// Takes in the claims, and draws what they are batched by.
+    /// Absorbs the claims, and draws what they are batched by.
     pub fn batch(&mut self, claims: &[Claim]) -> Cubic {
         for claim in claims {
             self.observe(claim.at.x);
@@ -77,13 +77,13 @@ impl Transcript {
         self.challenge()
     }
 
-    /// Takes in the commitment to a word, and draws what it is folded by.
+    /// Absorbs the commitment to a codeword, and draws what it is folded by.
     pub fn round(&mut self, commitment: &Hash) -> Cubic {
         self.challenger.observe_bytes(commitment);
         self.challenge()
     }
 
-    /// Takes in the constant that folding ends in, and draws the queries.
+    /// Absorbs the constant that folding ends in, and draws the queries.
     pub fn queries(mut self, constant: Cubic) -> Vec<usize> {
         self.observe(constant);
         (0..self.params.queries).map(|_| self.challenger.sample_bits(self.log_height)).collect()

@@ -3,18 +3,18 @@
  *
  * Link libcircle_c.a and then the kit's liblibc_c.a, or libcircle.so, which holds both.
  *
- * Each call judges one JSON text, which is lent for the call, in UTF-8 and without an end mark.
+ * Each call reads one JSON text, which it borrows for the call, in UTF-8 and without a terminator.
  * It returns the program's status:
  *
  *   0  there is a result
- *   1  the input is refused, also where the call is out of memory
+ *   1  the input is refused, or the call ran out of memory
  *   2  the text can't be read as an input of the command
  *
  * and writes the line that the program writes, with its newline at the end and no zero byte after
- * it. The line's length is written to *needed whatever it is. Where it is at most line_len, the
- * line is written to line[0] up to line[*needed - 1]; else nothing is written to line.
- * docs/PROGRAM.md has the inputs and the lines. CIRCLE_LINE_LEN bytes hold each line of
- * circle_verify, circle_verify_with and every refusal.
+ * it. It always writes the line's length to *needed. If that is at most line_len, it writes the
+ * line to line[0] up to line[*needed - 1]; else it writes nothing to line. docs/PROGRAM.md describes
+ * the inputs and the lines. CIRCLE_LINE_LEN bytes hold each line of circle_verify and
+ * circle_verify_with, and every refusal.
  *
  * A pointer beside a length of 0 may be null, as data() of an empty std::vector is: text where the
  * text is empty, and line where only *needed is to be written.
@@ -22,18 +22,18 @@
  * A call keeps nothing: the same text gets the same line, unless the call is out of memory. It may
  * be made from any thread, and from several at once, each with a line and a needed of its own.
  *
- * What the caller owes. Nothing tests it; where it isn't so, the behaviour is undefined, in the
- * sense of the C standard:
+ * What the caller must ensure. Nothing tests it; otherwise the behaviour is undefined, in the sense
+ * of the C standard:
  *
  * - text points to text_len bytes, line to line_len bytes, needed to one size_t and params to one
- *   circle_params. needed and params aren't null. The bytes of line need no value before.
+ *   circle_params. needed and params aren't null. The bytes of line need no initial value.
  * - While the call runs, nobody else writes the text or the parameters, and nobody else reads or
  *   writes the line or *needed.
  * - line and *needed overlap neither each other nor the text nor the parameters. So a call can't
  *   write its line over its own text.
  * - malloc, realloc and free come from one allocator, which aligns a block to each power of two up
  *   to 16 that divides its size, as that of a C library does.
- * - The calling thread has enough stack: 1 MiB does.
+ * - The calling thread has enough stack: 1 MiB suffices.
  * - No call is made from a signal handler, nor in the forked child of a process with threads.
  */
 #ifndef CIRCLE_H
@@ -64,8 +64,8 @@ typedef struct circle_params {
 uint8_t circle_values(const uint8_t *text, size_t text_len, uint8_t *line, size_t line_len,
                       size_t *needed);
 
-/* Claims with their proof, which circle_verify takes. Where the line doesn't fit, a call with a
- * longer one proves anew. */
+/* Claims with their proof, which circle_verify reads. If the line doesn't fit, a call with a longer
+ * one proves again. */
 uint8_t circle_prove(const uint8_t *text, size_t text_len, uint8_t *line, size_t line_len,
                      size_t *needed);
 

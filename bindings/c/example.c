@@ -1,6 +1,6 @@
-/* Verifies the proof in a file as the program's command `verify` does, and prints the answer.
+/* Verifies the proof in a file as the program's command `verify` does, and prints the line.
  *
- *   example FILE                      by the parameters that stand in the file
+ *   example FILE                      by the parameters in the file
  *   example FILE N N N N N N N        by these parameters, in the order of circle_params
  */
 #include "circle.h"

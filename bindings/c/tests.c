@@ -3,7 +3,7 @@
  *   tests judge COMMAND                judges standard input, with lines of several lengths, and
  *                                      with null pointers where there are no bytes
  *   tests with N N N N N N N           the same by circle_verify_with and these parameters
- *   tests once COMMAND                 judges it by one call, and takes no memory beside
+ *   tests once COMMAND                 judges it by one call, and allocates nothing else
  *   tests threads (COMMAND FILE)..     judges the files in eight threads at once
  *   tests time COMMAND FILE N          prints how many nanoseconds each of N calls took
  *
@@ -215,7 +215,7 @@ static void *work_on(void *given) {
         uint8_t status = call(due->command, due->text, line, &needed);
         if (status != due->status || needed != line.len ||
             memcmp(line.at, due->line.at, needed) != 0) {
-            own->fault = "a call beside others answers another line";
+            own->fault = "a call beside others returns another line";
         }
         free(line.at);
     }

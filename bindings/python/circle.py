@@ -8,14 +8,14 @@
 Each takes a text, as str or as the bytes of UTF-8, and raises Refused or Unreadable where there is
 no result. The calls are those of a library in the language Rattle, whose functions are proved to
 meet their contracts: `verify` returns exactly where the relation of an accepted opening holds of
-the text, memory aside. That is proved of the library. This file is tested and not proved:
-docs/BINDINGS.md says what that leaves, and docs/PROGRAM.md has the forms of the texts.
+the text, unless out of memory. That is proved of the library. This file is tested and not proved:
+docs/BINDINGS.md says what remains, and docs/PROGRAM.md describes the texts.
 
 The library is libcircle.so in ../c/out, where ../c/build leaves it, or in the folder that the
 environment's CIRCLE_LIBRARIES names.
 
 A call keeps nothing, may be made from any thread, and lets other threads run meanwhile. Its thread
-has to have enough stack: 1 MiB is. In the forked child of a process with threads no call may be
+needs enough stack: 1 MiB suffices. In the forked child of a process with threads no call may be
 made, and each raises RuntimeError.
 """
 
@@ -26,9 +26,9 @@ import re
 
 __all__ = ["Error", "Refused", "Unreadable", "prove", "shape", "values", "verify"]
 
-# The library's CIRCLE_LINE_LEN: a verdict and each refusal have at most as many bytes.
+# The library's CIRCLE_LINE_LEN: a verdict and each refusal have at most that many bytes.
 _VERDICT_LEN = 64
-# More than most results have. A call whose result is longer is made once more.
+# More than most results have. Where a result is longer, the call is repeated.
 _RESULT_LEN = 1 << 22
 _OPTIONAL = {"log_final_poly_len": 0}
 
@@ -42,7 +42,7 @@ class Error(Exception):
 
 
 class Refused(Error):
-    """The text is refused. Where `name` is `Memory`, memory was, and this is no verdict."""
+    """The text is refused. Where `name` is `Memory` the call ran out of memory: no verdict."""
 
 
 class Unreadable(Error):
@@ -69,17 +69,16 @@ class _Params(ctypes.Structure):
 def verify(text, params=None):
     """Returns where the text's proof of its claims is accepted, and raises otherwise.
 
-    `params` are the caller's own, by the names that a text's `params` have. A text of others is
-    refused, as `ParametersDiffer`. Without them the parameters are those of the text. The claims
-    are the text's own either way, so a caller compares them with what it means to believe
-    (docs/SECURITY.md).
+    `params` are the caller's own, by the names that a text's `params` have. A text with others is
+    refused as `ParametersDiffer`. Without `params` the parameters are those of the text. The claims
+    are the text's own either way, so compare them with the statement (docs/SECURITY.md).
     """
     if params is None:
         line = _line(_library.circle_verify, text, _VERDICT_LEN)
     else:
         line = _line(_library.circle_verify_with, text, _VERDICT_LEN, _numbers(params))
     if line != '{"verified":true}':
-        raise RuntimeError(f"the library answers {line!r}")
+        raise RuntimeError(f"the library returned {line!r}")
 
 
 def prove(statement):
@@ -89,12 +88,12 @@ def prove(statement):
 
 
 def shape(text):
-    """The shape of claims, as the program's `shape` answers it."""
+    """The shape of claims, as the program's `shape` writes it."""
     return _line(_library.circle_shape, text, _RESULT_LEN)
 
 
 def values(text):
-    """The values of polynomials on a domain, as the program's `values` answers them."""
+    """The values of polynomials on a domain, as the program's `values` writes them."""
     return _line(_library.circle_values, text, _RESULT_LEN)
 
 
@@ -111,14 +110,14 @@ def _numbers(params):
 
 
 def _is_count(number):
-    """Whether this is a whole number below 2^64. True and False are ints of Python, and aren't."""
+    """Whether this is a whole number below 2^64, where True and False are none."""
     if isinstance(number, bool) or not isinstance(number, int):
         return False
     return 0 <= number < 1 << 64
 
 
 def _bytes(text):
-    """The bytes of a text. A str with half of a pair of surrogates has none."""
+    """The bytes of a text. A str with an unpaired surrogate has none."""
     if isinstance(text, bytes):
         return text
     if not isinstance(text, str):
@@ -130,7 +129,7 @@ def _bytes(text):
 
 
 def _line(call, text, room, *params):
-    """The line that a call answers, without its newline."""
+    """The line of a call, without its newline."""
     if _is_forked:
         raise RuntimeError("this is the forked child of a process with threads")
     given, needed = _bytes(text), ctypes.c_size_t(room)
@@ -146,11 +145,11 @@ def _line(call, text, room, *params):
 
 
 def _error(status, told):
-    """The error that a line without a result tells."""
+    """The error that a line without a result names."""
     found = re.fullmatch(r'\{"(\w+)":"(\w+)"\}\n', told)
     error = found and _ERRORS.get((status, found[1]))
     if not error:
-        return RuntimeError(f"the library answers {told!r} with status {status}")
+        return RuntimeError(f"the library returned {told!r} with status {status}")
     return error(found[2])
 
 

@@ -69,7 +69,7 @@ CALLS = {
 
 
 def answer(call, text):
-    """The line that is answered, as its value, and the status."""
+    """The line that is printed, as its value, and the status."""
     try:
         return json.loads(CALLS[call](text)), 0
     except circle.Refused as refused:
@@ -84,7 +84,7 @@ def given_text(given):
 
 
 def is_due(found, due):
-    """Whether an answer is what is due."""
+    """Whether a result is what is due."""
     line, status = found
     if status != due["status"]:
         return False
@@ -211,7 +211,7 @@ class Threads(unittest.TestCase):
         self.assertEqual(len(done), 1)
 
     def status_of_child(self):
-        """How a forked child's call ends: 0 where it answers, 3 where it isn't allowed."""
+        """How a forked child's call ends: 0 where it returns, 3 where it isn't allowed."""
         child = os.fork()
         if child == 0:
             try:

@@ -1,8 +1,8 @@
-//! Links the static library `circle_c` and the kit's part of the C library that it stands on.
+//! Links the static library `circle_c` and the kit's part of the C library that it needs.
 //!
 //! `bindings/c/build` leaves both in `bindings/c/out`. Where the first is missing, or older than
-//! its sources, it proves and builds it, which takes tens of minutes from nothing. Where the
-//! environment's `CIRCLE_LIBRARIES` names a folder, both are taken from there.
+//! its sources, it proves and builds it, which takes tens of minutes from nothing. If the
+//! environment's `CIRCLE_LIBRARIES` names a folder, both come from there.
 
 use std::path::{Path, PathBuf};
 use std::process::{Command, ExitCode};
@@ -39,7 +39,7 @@ fn folder() -> io::Result<PathBuf> {
     c.join("out").canonicalize()
 }
 
-// Runs a script, whose words are told where it fails.
+// Runs a script, and reports what it wrote where it fails.
 fn run(script: &Path) -> io::Result<()> {
     let failed = |why: String| io::Error::other(format!("{}: {why}", script.display()));
     let ran = Command::new(script).output();

@@ -41,7 +41,7 @@ extern "C" {
     ) -> u8;
 }
 
-/// What the library is asked to do of a text.
+/// A call of the library.
 #[derive(Clone, Copy)]
 pub(crate) enum Call<'a> {
     Values,
@@ -52,8 +52,8 @@ pub(crate) enum Call<'a> {
 }
 
 impl Call<'_> {
-    // Makes the call, writes the length of its line to `needed`, and the line into the room of
-    // `line` where that suffices; answers the status.
+    // Makes the call and returns the status. Writes the line's length to `needed`, and the line to
+    // the room of `line` if that suffices.
     fn make(self, text: &str, line: &mut Vec<u8>, needed: &mut usize) -> u8 {
         let (start, len) = (text.as_ptr(), text.len());
         let (room, room_len) = (line.as_mut_ptr(), line.capacity());
@@ -74,10 +74,9 @@ impl Call<'_> {
         }
     }
 
-    /// The line that the library answers `text`, without its newline, or why there is no result.
+    /// The line that the library returns for `text`, without its newline, or why there is none.
     ///
-    /// `room` is the length that there is room for at first. Where the line is longer, the call is
-    /// made once more.
+    /// There is room for `room` bytes at first. Where the line is longer, the call is repeated.
     pub(crate) fn line(self, text: &str, room: usize) -> Result<String, Refusal> {
         let mut line = Vec::new();
         let mut needed = room;

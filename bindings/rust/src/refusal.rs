@@ -13,14 +13,14 @@ macro_rules! refusals {
             $($(#[$refused_doc:meta])* $refused:ident = $refused_name:literal,)*
         }
     ) => {
-        /// Why a text has no result. `docs/PROGRAM.md` tells where each is given, and which comes
+        /// Why a text has no result. `docs/PROGRAM.md` says when each is returned, and which comes
         /// first.
         #[derive(Clone, Copy, Debug, PartialEq, Eq, Hash)]
         #[non_exhaustive]
         pub enum Refusal {
             $($(#[$unreadable_doc])* $unreadable,)*
             $($(#[$refused_doc])* $refused,)*
-            /// The library's answer isn't one that this crate knows: they don't belong together.
+            /// This crate doesn't know the library's line: they don't belong together.
             Unknown,
         }
 
@@ -50,11 +50,11 @@ macro_rules! refusals {
 
 refusals! {
     unreadable {
-        /// The program's arguments are no command. No call of this crate is answered so.
+        /// The program's arguments are no command. No call of this crate returns this.
         Usage = "usage",
-        /// Reading the input fails. No call of this crate is answered so.
+        /// Reading the input fails. No call of this crate returns this.
         Input = "input",
-        /// The text isn't JSON, or nests too deeply.
+        /// The text isn't JSON, or is nested too deeply.
         Json = "json",
         /// A key is missing.
         MissingKey = "MissingKey",
@@ -69,7 +69,7 @@ refusals! {
     }
 
     refused {
-        /// Memory is refused. This is no verdict.
+        /// The call ran out of memory. This is no verdict.
         Memory = "Memory",
         /// The text's parameters aren't those that the caller gave.
         ParametersDiffer = "ParametersDiffer",
@@ -85,19 +85,19 @@ refusals! {
         BadHeight = "BadHeight",
         /// The number of a matrix's rows isn't a power of two.
         HeightNotPowerOfTwo = "HeightNotPowerOfTwo",
-        /// A matrix has too few rows, or a shape has no room.
+        /// A matrix has too few rows, or a shape leaves nothing to fold.
         HeightTooSmall = "HeightTooSmall",
-        /// A height is past what can be committed to, or past the circle's group.
+        /// A height exceeds what can be committed to, or the circle's group.
         HeightTooLarge = "HeightTooLarge",
         /// There is no matrix.
         NoCommittedMatrices = "NoCommittedMatrices",
-        /// Nothing can be proved by these parameters.
+        /// Nothing can be proved under these parameters.
         UnfitParameters = "UnfitParameters",
         /// A matrix is opened at a point of the domain that it is committed on.
         PointOnDomain = "PointOnDomain",
         /// No witness passes a proof of work.
         NoGrindingWitness = "NoGrindingWitness",
-        /// The greatest committed height is past the circle's group.
+        /// The greatest committed height exceeds the circle's group.
         GlobalMaxHeightTooLarge = "GlobalMaxHeightTooLarge",
         /// A proof of work has too many bits.
         UnsupportedGrinding = "UnsupportedGrinding",
@@ -107,19 +107,19 @@ refusals! {
         ZeroBlowup = "ZeroBlowup",
         /// `max_log_arity` isn't 1.
         UnsupportedFoldingCap = "UnsupportedFoldingCap",
-        /// The proof has another number of rounds than is due.
+        /// The proof has a wrong number of rounds.
         CommitRoundCountMismatch = "CommitRoundCountMismatch",
-        /// The proof has another number of the rounds' witnesses than is due.
+        /// The proof has a wrong number of the rounds' witnesses.
         CommitPowWitnessCountMismatch = "CommitPowWitnessCountMismatch",
-        /// The proof has another number of opened rounds than is due.
+        /// The proof has a wrong number of opened rounds.
         CommitPhaseOpeningsCountMismatch = "CommitPhaseOpeningsCountMismatch",
-        /// A round is opened at another number of queries than is due.
+        /// A round is opened at a wrong number of queries.
         CommitPhaseQueryCountMismatch = "CommitPhaseQueryCountMismatch",
-        /// A round's siblings are another number than is due.
+        /// A query of a round has a wrong number of siblings.
         SiblingValuesLengthMismatch = "SiblingValuesLengthMismatch",
-        /// The final polynomial has another number of coefficients than is due.
+        /// The final polynomial has a wrong number of coefficients.
         FinalPolyLengthMismatch = "FinalPolyLengthMismatch",
-        /// A witness isn't 0 where its proof of work has no bits.
+        /// A witness isn't 0 although its proof of work has no bits.
         NonCanonicalPowWitness = "NonCanonicalPowWitness",
         /// A claimed coordinate belongs to no point.
         PointAtInfinity = "PointAtInfinity",
@@ -129,15 +129,15 @@ refusals! {
         InputShapeError = "InputShapeError",
         /// A matrix is claimed at no point.
         MatrixWithoutOpeningPoints = "MatrixWithoutOpeningPoints",
-        /// Opened rows are not those of a batch.
+        /// The rows of a batch don't authenticate.
         InputMmcsError = "InputMmcsError",
-        /// Opened rows are not those of the first layer.
+        /// The pairs of the first layer don't authenticate.
         FirstLayerMmcsError = "FirstLayerMmcsError",
-        /// Opened rows are not those of a round.
+        /// The pairs of a round don't authenticate.
         CommitPhaseMmcsError = "CommitPhaseMmcsError",
         /// A claimed point is queried.
         OpeningPointMatchesQueryPoint = "OpeningPointMatchesQueryPoint",
-        /// Values are left over after the last round.
+        /// A domain leaves nothing to fold after the first layer.
         UnconsumedReducedOpenings = "UnconsumedReducedOpenings",
         /// A query ends in another value than the final polynomial's.
         FinalPolyMismatch = "FinalPolyMismatch",
@@ -145,7 +145,7 @@ refusals! {
 }
 
 impl Refusal {
-    // The refusal that a line of the library tells, which stands without its newline.
+    // The refusal that a line of the library names, without its newline.
     pub(crate) fn told(line: &str) -> Refusal {
         let said = |refusal: &&Refusal| refusal.line() == line;
         Refusal::ALL

@@ -21,7 +21,7 @@ const SEVENS: Params = Params {
     num_queries: 2,
     query_pow_bits: 0,
 };
-// The least stack that a thread is told to have, as the page tells.
+// The stack that suffices for a thread, as the page says.
 const STACK: usize = 1 << 20;
 const LONG: usize = 100_000_000;
 

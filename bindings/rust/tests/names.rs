@@ -1,4 +1,4 @@
-//! The names of refusals, held against the page that tells them.
+//! The names of refusals, held against the page that lists them.
 
 use circle::Refusal;
 use std::collections::BTreeSet;
@@ -47,9 +47,9 @@ fn names_are_those_of_the_page() {
 fn names_of_unreadable_texts_are_those_of_the_list() {
     let page = fs::read_to_string(PAGE).expect("the page");
     let (_, list) = page
-        .split_once("The name of an input that can't be read is\n")
+        .split_once("The name of an input that can't be read:\n")
         .expect("a list");
-    let (list, _) = list.split_once("Of several faults").expect("its end");
+    let (list, _) = list.split_once("The first of several faults").expect("its end");
     for refusal in Refusal::ALL {
         let stands = list.contains(&format!("`{}`", refusal.name()));
         assert_eq!(stands, refusal.is_unreadable(), "{refusal:?}");

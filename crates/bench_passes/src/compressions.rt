@@ -16,7 +16,7 @@ const CHALLENGE: u64 = 12;
 
 const NODE: u64 = 65;
 
-/// The compressions of a challenge of the extension, and of a commitment that is taken in.
+/// The compressions of a challenge of the extension, and of a commitment that is absorbed.
 const DRAW: u64 = 6;
 
 const COMMITMENT: u64 = 2;
@@ -42,14 +42,14 @@ fn of_bytes(bytes: u64) -> u64 {
     (bytes.saturating_add(8) / 64).saturating_add(1)
 }
 
-/// Those of a tree over so many rows of so many bytes, each behind a byte.
+/// Those of a tree over `rows` rows of `bytes` bytes, each behind a byte.
 fn of_tree(rows: u64, bytes: u64) -> u64 {
     let leaves = rows.saturating_mul(of_bytes(bytes.saturating_add(1)));
     let nodes = rows.saturating_sub(1).saturating_mul(of_bytes(NODE));
     leaves.saturating_add(nodes)
 }
 
-/// Those of the transcript of so many rounds: of the commitment, of the seed's text, one for each
+/// Those of the transcript of `rounds` rounds: of the commitment, of the seed's text, one for each
 /// byte, of the claims, one for each coefficient, of the first layer and of the rounds, of the
 /// constant, and of the queries, two for each.
 fn of_transcript(proved: Proved, rounds: u64) -> u64 {
@@ -72,7 +72,7 @@ fn of_transcript(proved: Proved, rounds: u64) -> u64 {
     sum
 }
 
-/// Those of a proof: of the trees of the words, by pairs, of the matrix's tree, and of the
+/// Those of a proof: of the trees of the codewords, by pairs, of the matrix's tree, and of the
 /// transcript.
 fn of_proof(proved: Proved) -> u64 {
     let size = proved.size;
@@ -107,7 +107,7 @@ pub fn report(rt: &HostRuntime, mode: Mode, proved: Proved, time: Duration) -> i
     println!(rt; "[{count}]")
 }
 
-/// The shortest time of so many compressions of one message.
+/// The shortest time of `count` compressions of one message.
 fn alone(rt: &HostRuntime, count: u64) -> io::Result<Duration> {
     let blocks = count.saturating_sub(1);
     let message = [0u8; 4096];

@@ -7,7 +7,7 @@ use circle_field::{Field, Mersenne31};
 use std::io;
 use std::time::{Duration, Instant};
 
-/// How many elements are taken in, in a line without a time and in one with a time.
+/// How many elements are absorbed, in a line without a time and in one with a time.
 const OBSERVED: u32 = 1000;
 
 const OBSERVED_TIMED: u32 = 1 << 16;
@@ -20,7 +20,7 @@ const BITS_TIMED: usize = 16;
 /// How many times each is done when it is timed.
 const RUNS: u32 = 9;
 
-/// Prints a line for elements that are taken in, and one for proofs of work.
+/// Prints a line for elements that are absorbed, and one for proofs of work.
 pub fn report(rt: &HostRuntime, mode: Mode) -> io::Result<()> {
     match mode {
         Mode::Digests => report_digests(rt),
@@ -45,7 +45,7 @@ fn report_times(rt: &HostRuntime) -> io::Result<()> {
     println!(rt; "Sha256Challenger grind {BITS_TIMED}: {time} ns a trial, {witness}")
 }
 
-/// The nanoseconds of an element that is taken in, in the fastest run, and the element drawn at
+/// The nanoseconds of an element that is absorbed, in the fastest run, and the element drawn at
 /// last. Each run begins in the state where the one before it ended.
 fn observe(rt: &HostRuntime, count: u32, runs: u32) -> io::Result<(u128, Mersenne31)> {
     let mut challenger = Sha256Challenger::new();

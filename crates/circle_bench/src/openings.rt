@@ -125,7 +125,7 @@ fn open_once(
     Ok((time, digest(rt.alloc(), commitment, &proof)?))
 }
 
-/// Prints the line of a pass over a matrix at so many points.
+/// Prints the line of a pass over a matrix at these points.
 fn print_line(
     rt: &HostRuntime,
     mode: Mode,

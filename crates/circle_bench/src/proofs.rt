@@ -122,7 +122,7 @@ fn is_accepted(alloc: Global, input: Input) -> io::Result<bool> {
     openings::is_accepted(alloc, &pcs, claims, &input.proof, &mut challenger)
 }
 
-/// The claims, whose commitments the challenger takes in.
+/// The claims, whose commitments the challenger absorbs.
 fn observed(
     alloc: Global,
     claims: Vec<ClaimOn<usize>>,

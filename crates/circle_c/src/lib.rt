@@ -30,8 +30,8 @@
 //!
 //! Its files:
 //!
-//! - In `src/`, `line.rt`: a command's answer, and what is written of it. `with.rt`: the verifier's
-//!   answer by the caller's parameters. `params.rt`: these.
+//! - In `src/`, `line.rt`: a command's result, and what is written of it. `with.rt`: the verifier's
+//!   result by the caller's parameters. `params.rt`: these.
 //! - In `specs/`: `Line`, what is written; `Params` and `With`, the parameters and what a verifier
 //!   returns by them.
 #![tactic(auto)]

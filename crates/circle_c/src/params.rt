@@ -4,7 +4,7 @@ ghost use Rattle.circle_c.specs.Params.{HasParams};
 
 use circle_commit::FriParameters;
 
-/// The parameters that a verifier asks for.
+/// The parameters that a verifier requires.
 #[repr(C)]
 #[derive(Clone, Copy, Debug, Drop, PartialEq, Eq)]
 pub struct CircleParams {

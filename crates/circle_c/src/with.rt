@@ -1,4 +1,4 @@
-//! A command's answer to a text by parameters of the caller's own.
+//! A command's result for a text by parameters of the caller's own.
 ghost use Rattle.std.specs.Prelude.{◌≡◌, ◌≤◌, ⊤};
 ghost use Rattle.circle_commit.specs.declared.params.FriParameters.{FriParameters};
 ghost use Rattle.circle_commands.specs.Answer.{IsAnswer};

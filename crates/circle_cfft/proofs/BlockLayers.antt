@@ -73,7 +73,7 @@ module _ {F : Type 0} (low high : F → F → F → F) where
         (descending low high (2 ^ m * width) (λ l. fs (m + l)) k
         (layer low high h (fs (m + k)) xs))) size
 
-    -- and the same of the smallest blocks first
+    -- and likewise of the smallest blocks first
     pub ascending-same : (fs gs : ℕ → List F) (n : ℕ) → ((l : ℕ) → l < n → fs l ≡ gs l) →
         (xs : List F) → ascending low high width fs n xs ≡ ascending low high width gs n xs
     ascending-same fs gs zero same xs = refl

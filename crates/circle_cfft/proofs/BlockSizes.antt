@@ -17,7 +17,7 @@ positive_factor zero m n e h =
     absurd (let none : 0 * m ≡ 0 = omega arith in omega (arith, e, h, none))
 positive_factor (suc a) m n e h = omega arith
 
--- a part that has so many entries is within the list
+-- a part with n entries is within the list
 pub part-fits : {F : Type 0} (part n : ℕ) (factors : List F) → 0 < n →
     length (part_of part n factors) ≡ n → part * n + n ≤ length factors
 part-fits part n factors h long =

@@ -287,7 +287,7 @@ module _ {F : Type 0} (width count m : ℕ) (twiddles : List (Vec F Global)) (wi
 
   module _ (width' : ℕ) (above below : List (Vec F Global)) (e_width : width' ≡ 2 ^ m * width)
       (e_above : above ≡ drop m twiddles) (e_below : below ≡ take m twiddles) where
-    -- the same of slices that are known to be these
+    -- likewise for slices that are known to be these
     pub layers-of-above : (n : ℕ) → n ≡ count → AreLayersOf width' n above
     layers-of-above n e =
         subst (λ k. AreLayersOf width' k above) (sym e)

@@ -25,7 +25,7 @@ module _ {F : Type 0} (low high : F → F → F → F) (half : ℕ) where
       ∙ ap (layer low high half ts) (drop_all (half + half) empty (omega arith)) ∙ layer-nil ts
 
 module _ {F : Type 0} (low high : F → F → F → F) (order : ℕ → ℕ) (width : ℕ) where
-  -- the first n layers of the order have factors for so many entries
+  -- the first n layers of the order have factors for count entries
   abbrev pub FactorsFit : (ℕ → List F) → ℕ → ℕ → Type 0
   FactorsFit fs n count = (s : ℕ) → s < n →
       length (fs (order s)) * (2 ^ order s * width + 2 ^ order s * width) ≡ count
@@ -77,7 +77,7 @@ module _ {F : Type 0} (low high : F → F → F → F) (order : ℕ → ℕ) (wi
       ap (layer low high (2 ^ order n * width) (fs (order n))) (in_order-nil fs n)
       ∙ layer-nil low high (2 ^ order n * width) (fs (order n))
 
--- the entries of so many lanes
+-- the entries of n lanes
 pub lane-entries : (n half stride height : ℕ) → n * (half + half) ≡ height →
     n * (half * stride + half * stride) ≡ height * stride
 lane-entries n half stride height e =
@@ -114,7 +114,7 @@ in_order-column low high order d stride height j fs (suc n) xs inside long fit =
     (λ h. layer low high h ts
     (in_order low high order 1 fs n (lane_column d stride height j xs))) one
 
--- half of so many lanes
+-- half of 2^n lanes
 pub half-power : (n : ℕ) → 1 ≤ n → 2 ^ (n - 1) + 2 ^ (n - 1) ≡ 2 ^ n
 half-power n some =
     let e : suc (n - 1) ≡ n = omega (arith, some) in

@@ -146,7 +146,7 @@ module _ {F : Type 0} {k : FieldOps F} (laws : FieldLaws k) {gen : ℕ → Coord
       ∙ ap (λ rest. q.x ∷ k.neg (k.mul (gen 2).y q.y) ∷ rest) (with_turns-halves qs)
 
   -- the first points of the pairs of opposite points have the y coordinates that the second layer
-  -- tells
+  -- has
   four-y : (qs : List (Coordinates F)) → map (λ p. p.y) (halves k gen 1 (halves k gen 2 qs))
       ≡ first_of_second k (gen 2).y (with_turns k (gen 2).y qs)
   four-y [] = refl

@@ -184,7 +184,7 @@ module _ {F : Type 0} (k : FieldOps F) (gen : ℕ → Coordinates F) where
   following (suc count) n j s some e =
       ap (layers_from k (suc count)) (sym (next_factors k gen n j s some (omega (arith, e))))
 
-  -- how many factors the layer has that so many others follow
+  -- how many factors the layer has that count others follow
   length-from : (count n j : ℕ) (s : Coordinates F) → j + suc count ≡ n →
       length (layer_factors k gen n s j) ≡ 2 ^ count
   length-from count n j s e =

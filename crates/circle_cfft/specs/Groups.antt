@@ -48,12 +48,12 @@ abbrev pub scaled : {F : Type 0} → FieldOps F → Option F → List F → List
 scaled k None xs = xs
 scaled k (Some factor) xs = map (λ a. k.mul a factor) xs
 
--- column j of so many lanes, one after another, of `stride` entries
+-- column j of lanes of `stride` entries, `height` lanes one after another
 abbrev pub lane_column : {F : Type 0} → F → (stride height j : ℕ) → List F → List F
 lane_column d stride height j entries = column d (rows_from stride height entries) j
 
--- in each of so many lanes the entries offset .. offset + width are changed, and no others: f gives
--- each of their columns anew
+-- in each of `height` lanes the entries offset .. offset + width are changed, and no others: f
+-- gives each of their columns anew
 pub record ChangesRows {F : Type 0} (d : F) (offset width stride height : ℕ) (f : List F → List F)
     (old new : List F) : Type 0 where
   pub inside : (j : ℕ) → offset ≤ j → j < offset + width →
@@ -65,7 +65,7 @@ pub record ChangesRows {F : Type 0} (d : F) (offset width stride height : ℕ) (
 abbrev pub IsGroup : Group → Type 0
 IsGroup group = (1 ≤ group.width) × (group.offset + group.width ≤ group.stride)
 
--- the rows of the group are changed, in so many lanes
+-- the rows of the group are changed, in this many lanes
 abbrev pub ChangesGroup : {F : Type 0} →
     F → Group → ℕ → (List F → List F) → (old new : List F) → Type 0
 ChangesGroup d group = ChangesRows d group.offset group.width group.stride

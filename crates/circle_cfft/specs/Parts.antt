@@ -3,7 +3,7 @@ use Rattle.std.specs.Prelude.{◌≡◌, ℕ, ◌+◌, ◌*◌, ◌/◌, ◌^◌
 use Rattle.std.specs.declared.alloc.Global.{Global}
 use Rattle.circle_cfft.specs.Passes.{factors_at}
 
--- part number `part` of a layer's factors, of so many each
+-- part number `part` of a layer's factors, `blocks` in each
 abbrev pub part_of : {F : Type 0} → (part blocks : ℕ) → List F → List F
 part_of part blocks factors = take blocks (drop (part * blocks) factors)
 

@@ -12,7 +12,7 @@ use Rattle.circle_cfft.specs.Butterflies.{total, scaled_difference}
 abbrev pub factors_at : {F : Type 0} → List (Vec F Global) → ℕ → List F
 factors_at twiddles l = slice_index_or (map (λ v. v.items) twiddles) l []
 
--- at each layer the blocks, one for each factor, make up so many entries
+-- at each layer the blocks, one for each factor, make up `count` entries
 abbrev pub AreLayersOf : {F : Type 0} → (width count : ℕ) → List (Vec F Global) → Type 0
 AreLayersOf width count twiddles = (l : ℕ) → l < length twiddles →
     length (factors_at twiddles l) * (2 ^ l * width + 2 ^ l * width) ≡ count

@@ -19,7 +19,7 @@ module _ {F : Type 0} (k : FieldOps F) where
   first_of_second e (x ∷ z ∷ rest) =
       k.neg (k.mul e z) ∷ k.mul e z ∷ k.mul e x ∷ k.neg (k.mul e x) ∷ first_of_second e rest
 
-  -- the factors of so many layers, one layer after another, from the lowest of them on
+  -- the factors of n layers, one layer after another, from the lowest of them on
   abbrev pub layers_from : ℕ → List F → List F
   layers_from zero xs = []
   layers_from (suc count) xs = xs ++ layers_from count (map (doubled_x k) (every_second xs))
@@ -33,7 +33,7 @@ abbrev pub halving_parts : {T : Type 0} → ℕ → List T → List (List T)
 halving_parts zero xs = []
 halving_parts (suc count) xs = take (2 ^ count) xs ∷ halving_parts count (drop (2 ^ count) xs)
 
--- so many layers, one by one, from one after another of all but the first
+-- n layers, one by one, where all but the first are given one after another
 abbrev pub all_layers : {F : Type 0} → FieldOps F → F → ℕ → List F → List (List F)
 all_layers k e n higher =
     first_of_second k e (take (2 ^ (n - 2)) higher) ∷ halving_parts (n - 1) higher

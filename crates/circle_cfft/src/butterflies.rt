@@ -71,7 +71,7 @@ impl Butterflies {
 
 /// The butterfly of two rows, which is counted.
 ///
-/// Asks rows of one length and a count below `2^128 - 1`.
+/// Requires rows of one length and a count below `2^128 - 1`.
 pub(crate) fn combine_rows<F: Field, B: Butterfly<F>>(
     lows: &mut [F],
     highs: &mut [F],

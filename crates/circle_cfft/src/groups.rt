@@ -21,7 +21,7 @@ use circle_field::Field;
 trait Order {
     ghost order: { ℕ → ℕ → ℕ };
 
-    /// The layer to apply after `done` of so many `layers`.
+    /// The layer to apply after `done` of `layers` layers.
     fn next_layer(done: usize, layers: usize) -> usize
         requires { done < layers }
         ensures { result ≡ order layers done };
@@ -63,7 +63,7 @@ struct Group {
 /// applied to one independent group of rows before the next group is begun. A `group` above the
 /// number of layers counts as that number.
 ///
-/// Asks at least one layer a group, that at each layer the blocks make up the entries, of which
+/// Requires at least one layer a group, that at each layer the blocks make up the entries, of which
 /// there are some, and room for the count.
 pub fn forward_groups<F: Field>(
     entries: &mut [F],
@@ -93,7 +93,7 @@ pub fn forward_groups<F: Field>(
 /// What [`backward_passes`](crate::backward_passes) does, by groups of rows as
 /// [`forward_groups`] has them. The multiplication by `scale` is in the last pass.
 ///
-/// Asks at least one layer a group, that at each layer the blocks make up the entries, of which
+/// Requires at least one layer a group, that at each layer the blocks make up the entries, of which
 /// there are some, and room for the count.
 pub fn backward_groups<F: Field>(
     entries: &mut [F],
@@ -127,7 +127,7 @@ pub fn backward_groups<F: Field>(
     apply_pass::<F, Backward>(entries, width, 1 << low, layers, Some(scale), butterflies);
 }
 
-// The layers of these factors, block after block, where a lane has so many rows, and the
+// The layers of these factors, block after block, where a lane has `rows` rows, and the
 // multiplication of all entries by the scale that there may be.
 fn apply_pass<F: Field, B: Butterfly<F> + Order>(
     entries: &mut [F],
@@ -263,7 +263,7 @@ fn combine_lanes<F: Field, B: Butterfly<F>>(
     }
 }
 
-// Multiplies a group of rows of so many lanes by the scale that there may be.
+// Multiplies a group of rows of `lanes` lanes by the scale that there may be.
 fn scale_group<F: Field>(block: &mut [F], group: Group, lanes: usize, scale: Option<F>)
     requires group { IsGroup group }
     requires length { length block.old ≡ lanes * group.stride }

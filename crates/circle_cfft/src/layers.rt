@@ -11,7 +11,7 @@ use circle_field::Field;
 
 /// One layer: combines the halves of each block of `2 * half` entries by the block's factor.
 ///
-/// Asks that the blocks make up the entries.
+/// Requires that the blocks make up the entries.
 pub(crate) fn apply_layer<F: Field, B: Butterfly<F>>(values: &mut [F], half: usize, factors: &[F])
     requires { length values.old ≡ length factors.now * (half + half) }
     ensures { values.new ≡ layer B.lower B.upper half factors.now values.old }
@@ -60,7 +60,7 @@ fn apply_halves<F: Field, B: Butterfly<F>>(block: &mut [F], half: usize, factor:
 /// Two layers at once, the upper first: the blocks of `4 * quarter` entries by `uppers`, and their
 /// halves by `lowers`.
 ///
-/// Asks that the blocks make up the entries, and two lower factors for each upper one.
+/// Requires that the blocks make up the entries, and two lower factors for each upper one.
 pub(crate) fn descend_pair<F: Field, B: Butterfly<F>>(
     values: &mut [F],
     quarter: usize,
@@ -138,7 +138,7 @@ fn descend_quarters<F: Field, B: Butterfly<F>>(
 /// Two layers at once, the lower first: the halves of the blocks of `4 * quarter` entries by
 /// `lowers`, and the blocks by `uppers`. Each entry is finished as it is written.
 ///
-/// Asks that the blocks make up the entries, and two lower factors for each upper one.
+/// Requires that the blocks make up the entries, and two lower factors for each upper one.
 pub(crate) fn ascend_pair<F: Field, B: Butterfly<F>, S: Finish<F>>(
     values: &mut [F],
     quarter: usize,

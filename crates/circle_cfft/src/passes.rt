@@ -8,13 +8,13 @@ use crate::butterflies::{Backward, Butterfly, Forward};
 use crate::layers::{Kept, Scaled, apply_layer, ascend_pair, descend_pair, scale_entries};
 use circle_field::Field;
 
-// A block of so many entries stays in the cache while its layers are applied.
+// A block of this many entries stays in the cache while its layers are applied.
 const CACHED_ENTRIES: usize = 1 << 16;
 
 /// From coefficients to values: the layers of these factors, the largest blocks first. Layer `l`
 /// combines rows that are `2^l` apart, and `twiddles[l]` has the factor of each of its blocks.
 ///
-/// Asks that at each layer the blocks make up the entries, of which there are some.
+/// Requires that at each layer the blocks make up the entries, of which there are some.
 pub fn forward_passes<F: Field>(entries: &mut [F], width: usize, twiddles: &[Vec<F>])
     requires wide { 1 ≤ width }
     requires some { 1 ≤ length entries.old }
@@ -30,7 +30,7 @@ pub fn forward_passes<F: Field>(entries: &mut [F], width: usize, twiddles: &[Vec
 /// From values to coefficients: the layers of the inverses of the factors, the smallest blocks
 /// first, and each entry times `scale`.
 ///
-/// Asks that at each layer the blocks make up the entries, of which there are some.
+/// Requires that at each layer the blocks make up the entries, of which there are some.
 pub fn backward_passes<F: Field>(entries: &mut [F], width: usize, inverses: &[Vec<F>], scale: F)
     requires wide { 1 ≤ width }
     requires some { 1 ≤ length entries.old }
@@ -217,7 +217,7 @@ fn factors_of<F: Field>(
     nth_part(&twiddles[layer], part, count / (2 * half_of(width, layer)))
 }
 
-// Part number `part` of the factors, of so many each.
+// Part number `part` of the factors, `blocks` in each.
 fn nth_part<F: Field>(factors: &[F], part: usize, blocks: usize) -> &[F]
     requires { part * blocks + blocks ≤ length factors.now }
     ensures { result.now ≡ part_of part blocks factors.now }

@@ -23,7 +23,7 @@ use std::alloc::{AllocError, Global};
 /// The factors of the blocks of each layer, beginning with the smallest blocks: entry `m` has
 /// those of the layer whose blocks have `2^(m + 1)` points.
 ///
-/// Asks `1 <= log_n <= CIRCLE_TWO_ADICITY`. Fails where memory is refused.
+/// Requires `1 <= log_n <= CIRCLE_TWO_ADICITY`. Fails where memory is refused.
 pub fn forward_twiddles<F: ComplexExtendable>(
     alloc: Global,
     domain: CircleDomain<F>,
@@ -41,9 +41,9 @@ pub fn forward_twiddles<F: ComplexExtendable>(
     split_layers(alloc, domain.log_n(), left, &factors)
 }
 
-/// The inverses of the factors that [`forward_twiddles`] answers.
+/// The inverses of the factors that [`forward_twiddles`] returns.
 ///
-/// Asks a genuine domain with `log_n <= CIRCLE_TWO_ADICITY`. Fails where memory is refused.
+/// Requires a genuine domain with `log_n <= CIRCLE_TWO_ADICITY`. Fails where memory is refused.
 pub fn backward_twiddles<F: ComplexExtendable>(
     alloc: Global,
     domain: CircleDomain<F>,

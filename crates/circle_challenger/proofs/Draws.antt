@@ -1,4 +1,4 @@
--- Values that are taken in and drawn one after another.
+-- Values that are absorbed and drawn one after another.
 use Rattle.std.proofs.Common.{◌≡◌, ℕ, zero, suc, ◌+◌, List, [], ◌∷◌, ◌++◌, length, take, Some}
 use Rattle.std.proofs.Common.{slice_get, refl, sym, ap, ◌∙◌, add-one}
 use Rattle.std.proofs.lemmas.List.{take_more, append-nil}
@@ -13,20 +13,20 @@ take_read xs i x h =
     take_more xs i x (slice_get_within xs i x h)
     ∙ ap (λ y. take i xs ++ y ∷ []) (get_or_from_slice_get xs i x x h)
 
--- values taken in after others
+-- values absorbed after others
 pub after_all-append : {S A : Type 0} (f : S → A → S) (s : S) (xs ys : List A) →
     after_all f s (xs ++ ys) ≡ after_all f (after_all f s xs) ys
 after_all-append f s [] ys = refl
 after_all-append f s (x ∷ xs) ys = after_all-append f (f s x) xs ys
 
--- two lists of values taken in, one after the other
+-- two lists of values absorbed, one after the other
 pub after_all-pair : {S A : Type 0} (f : S → A → S) (s t u : S) (xs ys : List A) →
     t ≡ after_all f s xs → u ≡ after_all f t ys → u ≡ after_all f s (xs ++ (ys ++ []))
 after_all-pair f s t u xs ys first second =
     second ∙ ap (λ v. after_all f v ys) first ∙ sym (after_all-append f s xs ys)
     ∙ ap (λ zs. after_all f s (xs ++ zs)) (sym (append-nil ys))
 
--- one more value of a list taken in, as it is read there
+-- one more value of a list absorbed, as it is read there
 pub after_all-read : {S A : Type 0} (f : S → A → S) (s t u : S) (xs : List A) (i : ℕ) (x : A) →
     t ≡ after_all f s (take i xs) → slice_get xs i ≡ Some x → u ≡ f t x →
     u ≡ after_all f s (take (i + 1) xs)

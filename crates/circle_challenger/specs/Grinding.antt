@@ -2,8 +2,8 @@
 use Rattle.std.specs.Prelude.{ℕ, Bool, true, ◌==◌, if◌then◌else◌}
 
 module _ {S F : Type 0} (after_observe : S → F → S) where
-  -- whether the witness passes at the difficulty: after it is taken in, so many sampled bits are
-  -- zero
+  -- whether the witness passes at the difficulty: after it is absorbed, that number of sampled bits
+  -- are zero
   abbrev pub passes : (S → ℕ → ℕ) → S → ℕ → F → Bool
   passes sampled_bits s bits w = if bits ==
       0 then true else sampled_bits (after_observe s w) bits == 0

@@ -6,7 +6,7 @@ use Rattle.circle_challenger.specs.Observing.{after_all}
 use Rattle.circle_challenger.specs.Sampling.{samples, after_samples}
 
 -- a challenger of type C, with states S, over the base field F, in a transcript whose challenges
--- are in the extension E: its state, the state after an element is taken in, what is drawn, of
+-- are in the extension E: its state, the state after an element is absorbed, what is drawn, of
 -- elements and of bits, with the state after it, the witness that a search at a difficulty finds,
 -- and what is known of the fields
 pub record Moves (C S F E : Type 0) : Type 0 where
@@ -40,7 +40,7 @@ moves state after_observe sampled after_sample sampled_bits after_bits found
       zero = zero;
     }
 
--- the same, and the state after a commitment is taken in
+-- the same, and the state after a commitment is absorbed
 pub record RunMoves (C S F E Com : Type 0) : Type 0 where
   pub base : Moves C S F E
   pub after_commitment : S → Com → S
@@ -58,11 +58,11 @@ run_moves state after_observe after_commitment sampled after_sample sampled_bits
     }
 
 module _ {C S F E : Type 0} (m : Moves C S F E) where
-  -- the state after bytes were taken in, each as an element of the base field
+  -- the state after bytes were absorbed, each as an element of the base field
   abbrev pub after_bytes : S → List ℕ → S
   after_bytes s bytes = after_all m.after_observe s (map m.of_nat bytes)
 
-  -- the state after elements of the extension were taken in, the coefficients of each in order
+  -- the state after elements of the extension were absorbed, the coefficients of each in order
   abbrev pub after_elements : S → List E → S
   after_elements s xs = after_all m.after_observe s (flat_map m.coefficients xs)
 
@@ -73,7 +73,7 @@ module _ {C S F E : Type 0} (m : Moves C S F E) where
   abbrev pub after_element : S → S
   after_element s = after_samples m.after_sample m.degree s
 
-  -- so many numbers of so many bits that are drawn, and the state after them
+  -- `count` numbers of `width` bits that are drawn, and the state after them
   abbrev pub drawn_numbers : ℕ → ℕ → S → List ℕ
   drawn_numbers width count s =
       samples (λ t. m.sampled_bits t width) (λ t. m.after_bits t width) count s

@@ -81,7 +81,7 @@ first_bits : map (sampled_number (replicate 32 0)) (10 ∷ 63 ∷ []) ≡ 708 �
 unfolding sha256 first_words schedule rounds compress hash_after digest_bytes
 first_bits = refl
 
--- the states after that, and after the element -1 is taken in
+-- the states after that, and after the element -1 is absorbed
 after_draw : after_squeeze (replicate 32 0)
     ≡ 82 ∷ 59 ∷ 165 ∷ 167 ∷ 236 ∷ 147 ∷ 98 ∷ 219 ∷ 176 ∷ 128 ∷ 57 ∷ 163 ∷ 135 ∷ 146 ∷ 37 ∷ 146
     ∷ 204 ∷ 234 ∷ 61 ∷ 222 ∷ 99 ∷ 99 ∷ 68 ∷ 128 ∷ 205 ∷ 27 ∷ 5 ∷ 183 ∷ 189 ∷ 80 ∷ 162 ∷ 105 ∷ []

@@ -10,7 +10,7 @@ use Rattle.circle_field.specs.Bytes.{bytes}
 use Rattle.circle_challenger.specs.Grinding.{passes}
 use Rattle.circle_challenger.specs.Least.{least}
 
--- the state after bytes were taken in
+-- the state after bytes were absorbed
 abbrev pub absorbed : List ℕ → List ℕ → List ℕ
 absorbed s bytes = sha256 (0 ∷ s ++ bytes)
 
@@ -37,7 +37,7 @@ sampled_number s bits = number_of s % 2 ^ bits
 pub number-below : (s : List ℕ) (bits : ℕ) → sampled_number s bits < 2 ^ bits
 number-below s bits = mod-lt (number_of s) (pow_pos bits)
 
--- the state after an element was taken in
+-- the state after an element was absorbed
 abbrev pub absorbed_element : List ℕ → Mersenne31 → List ℕ
 absorbed_element s x = absorbed s (bytes x)
 

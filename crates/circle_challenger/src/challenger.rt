@@ -9,9 +9,9 @@ ghost use Rattle.circle_challenger.specs.Sampling.{samples, after_samples};
 
 use circle_field::{ExtensionField, Field};
 
-/// The state of a challenger as contracts see it: what its answers depend on, and nothing else.
+/// The state of a challenger as contracts see it: what its results depend on, and nothing else.
 ///
-/// Two challengers in one state answer alike, however they keep that state.
+/// Two challengers in one state return the same, however they keep that state.
 pub trait ChallengerState {
     /// The states.
     type State;
@@ -19,11 +19,11 @@ pub trait ChallengerState {
     ghost state: { Self → Self.State };
 }
 
-/// A challenger that takes in values of the type `T`.
+/// A challenger that absorbs values of the type `T`.
 pub trait CanObserve<T>: ChallengerState {
     ghost after_observe: { Self.State → T → Self.State };
 
-    /// Takes in the value.
+    /// Absorbs the value.
     fn observe(&mut self, value: &T)
         ensures { Self.state self.new ≡ after_observe (Self.state self.old) value.now };
 }
@@ -48,7 +48,7 @@ pub trait CanSampleBits: ChallengerState {
 
     /// The next number below `2^bits`.
     ///
-    /// Asks `bits <= 63`.
+    /// Requires `bits <= 63`.
     fn sample_bits(&mut self, bits: usize) -> usize
         requires { bits ≤ 63 }
         ensures value { result ≡ sampled_bits (Self.state self.old) bits }
@@ -57,15 +57,15 @@ pub trait CanSampleBits: ChallengerState {
     ghost bits_below: { (s : Self.State) (bits : ℕ) → bits ≤ 63 → sampled_bits s bits < 2 ^ bits };
 }
 
-/// A challenger with proofs of work: a witness passes at a difficulty of `bits` bits where after it
-/// was taken in so many sampled bits are zero.
+/// A challenger with proofs of work: a witness passes at a difficulty of `bits` bits where `bits`
+/// sampled bits are zero after it was absorbed.
 pub trait GrindingChallenger<F: Field>: CanObserve<F> + CanSampleBits {
     ghost found_witness: { Self.State → ℕ → Option F };
 
-    /// Takes in the witness, and answers whether `bits` bits sampled then are zero. A difficulty of
+    /// Absorbs the witness, and returns whether `bits` bits sampled then are zero. A difficulty of
     /// no bits passes with every witness, and nothing changes.
     ///
-    /// Asks `bits <= 63`.
+    /// Requires `bits <= 63`.
     fn check_witness(&mut self, bits: usize, witness: F) -> bool
         requires { bits ≤ 63 }
         ensures answer { result ≡ passes Self.after_observe Self.sampled_bits (Self.state self.old)
@@ -83,7 +83,7 @@ pub trait GrindingChallenger<F: Field>: CanObserve<F> + CanSampleBits {
     /// Looks for a witness that passes, and takes it in as `check_witness` does. `None` where none
     /// does, and then nothing changes. A difficulty of no bits gives 0.
     ///
-    /// Asks `bits <= 63`.
+    /// Requires `bits <= 63`.
     fn grind(&mut self, bits: usize) -> Option<F>
         requires { bits ≤ 63 }
         ensures answer { result ≡ found_witness (Self.state self.old) bits }
@@ -97,15 +97,15 @@ pub trait GrindingChallenger<F: Field>: CanObserve<F> + CanSampleBits {
         ensures easy { bits ≡ 0 → result ≡ Some F.ops.zero };
 }
 
-/// What a challenger over the field `F` takes in and gives of the extension `EF`, and what it is to
+/// What a challenger over the field `F` absorbs and gives of the extension `EF`, and what it is to
 /// a transcript whose challenges are there.
 ///
-/// Each challenger that samples and grinds has it, so no function asks for it: a clause cites `⟦<C
+/// Each challenger that samples and grinds has it, so no function requires it: a clause cites `⟦<C
 /// as FieldChallenger<F, EF>>⟧.moves`.
 pub trait FieldChallenger<F: Field, EF: ExtensionField<F>>: CanSample<F> + GrindingChallenger<F> {
     ghost moves: { Moves Self Self.State F EF };
 
-    /// Takes in an element of the extension, its coefficients in order.
+    /// Absorbs an element of the extension, its coefficients in order.
     fn observe_algebra_element(&mut self, value: &EF)
         ensures { Self.state self.new ≡ after_all Self.after_observe (Self.state self.old)
             (EF.coefficients value.now) }
@@ -115,7 +115,7 @@ pub trait FieldChallenger<F: Field, EF: ExtensionField<F>>: CanSample<F> + Grind
         }
     }
 
-    /// Takes in elements of the extension in order, the coefficients of each in order.
+    /// Absorbs elements of the extension in order, the coefficients of each in order.
     fn observe_algebra_slice(&mut self, values: &[EF])
         ensures { Self.state self.new ≡ after_all Self.after_observe (Self.state self.old)
             (flat_map EF.coefficients values.now) }
@@ -159,8 +159,8 @@ impl<F: Field, EF: ExtensionField<F>, C: CanSample<F> + GrindingChallenger<F>> F
     } };
 }
 
-/// The same of a challenger that takes in commitments of the type `Com` too: a clause cites
-/// `⟦<C as RunChallenger<F, EF, Com>>⟧.run`.
+/// The same for a challenger that absorbs commitments of the type `Com` too: a clause cites `⟦<C as
+/// RunChallenger<F, EF, Com>>⟧.run`.
 pub trait RunChallenger<F: Field, EF: ExtensionField<F>, Com>: FieldChallenger<F, EF>
     + CanObserve<Com> {
     ghost run: { RunMoves Self Self.State F EF Com };

@@ -211,7 +211,7 @@ impl DomainSeparator {
         &self.text
     }
 
-    /// Has the challenger take in the text, each byte as an element of the base field, in order.
+    /// Has the challenger absorb the text, each byte as an element of the base field, in order.
     pub fn seed<F: Field, C: CanObserve<F>>(&self, challenger: &mut C)
         ensures { C.state challenger.new ≡ after_all C.after_observe (C.state challenger.old)
             (map (of_nat F.ops) (seed_text self.now)) }
@@ -220,7 +220,7 @@ impl DomainSeparator {
     }
 }
 
-/// Has the challenger take in each byte as an element of the base field, in order.
+/// Has the challenger absorb each byte as an element of the base field, in order.
 fn observe_bytes<F: Field, C: CanObserve<F>>(challenger: &mut C, bytes: &[u8])
     ensures { C.state challenger.new ≡ after_all C.after_observe (C.state challenger.old)
         (map (of_nat F.ops) bytes.now) }

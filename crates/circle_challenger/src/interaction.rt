@@ -13,11 +13,11 @@ pub enum Hierarchy {
 /// What a step does.
 #[derive(Clone, Copy, PartialEq, Eq, Debug)]
 pub enum Kind {
-    /// Values are taken in.
+    /// Values are absorbed.
     Message,
     /// Values are drawn.
     Challenge,
-    /// A witness of a proof of work is taken in.
+    /// A witness of a proof of work is absorbed.
     Pow,
 }
 
@@ -26,7 +26,7 @@ pub enum Kind {
 pub enum ValueType {
     /// Elements of an algebra of this degree over the base field.
     Algebra(usize),
-    /// Values that the challenger takes in as they are.
+    /// Values that the challenger absorbs as they are.
     Opaque,
     /// Numbers of this many bits.
     Bits(usize),
@@ -149,7 +149,7 @@ impl Interaction {
         }
     }
 
-    /// A step of values that the challenger takes in as they are.
+    /// A step of values that the challenger absorbs as they are.
     pub fn opaque(hierarchy: Hierarchy, kind: Kind, label: &'static str, length: Length) -> Self
         ensures { step_of result ≡ step hierarchy kind ValueType.Opaque label.now length }
     {

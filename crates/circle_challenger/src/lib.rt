@@ -4,17 +4,17 @@
 //!
 //! What is proved:
 //!
-//! - What a challenger answers and the state after it are functions of the state before, for any
+//! - What a challenger returns and the state after it are functions of the state before, for any
 //!   lawful challenger. A witness of a proof of work passes exactly where the sampled bits are
 //!   zero, `grind` finds one where some passes, and at no difficulty nothing changes (the trait
 //!   `GrindingChallenger`).
-//! - An element of an extension is taken in, and drawn, as its coefficients in order, by any such
+//! - An element of an extension is absorbed, and drawn, as its coefficients in order, by any such
 //!   challenger (`FieldChallenger`).
 //! - The text of a `DomainSeparator` is that of its version, name, steps and labels, and of no
 //!   other (`DomainSeparator::text`, clause `only`).
 //! - A `ProverState` or `VerifierState` takes the text in byte by byte (`new`), each further call
-//!   asks to be the next described step, and says exactly what is taken in or drawn and the state
-//!   after it; `finish` asks that no step is left.
+//!   is required to be the next described step, and says exactly what is absorbed or drawn and the
+//!   state after it; `finish` requires that no step is left.
 //! - `Sha256Challenger` is the sponge over the digest that the crate `sha2` defines, and its
 //!   `grind` gives the least element that passes.
 //!

@@ -12,7 +12,7 @@ use crate::challenger::{
 use circle_field::{ElementBytes, Field, Mersenne31};
 use sha2::{Digest, Sha256};
 
-/// A challenger over SHA-256 whose state is 32 bytes, zeros at first. What it takes in, and each
+/// A challenger over SHA-256 whose state is 32 bytes, zeros at first. What it absorbs, and each
 /// draw, replaces the state by a digest of it (FIPS 180-4).
 #[derive(Clone, PartialEq, Eq, Debug, Drop)]
 pub struct Sha256Challenger {
@@ -40,7 +40,7 @@ impl Sha256Challenger {
         Sha256Challenger { state: [0; 32] }
     }
 
-    /// Takes in bytes.
+    /// Absorbs bytes.
     pub fn observe_bytes(&mut self, bytes: &[u8])
         ensures { state_of self.new ≡ absorbed (state_of self.old) bytes.now }
     {

@@ -25,8 +25,8 @@ use std::marker::PhantomData;
 ///
 /// `S` is the side that plays it. It has no `Drop`: it is spent by `finish` or `abort`, or handed
 /// on by `pause`. So a `?` may not leave the function that owns one. Play it in a function that
-/// takes it by `&mut`, where `?` is free; then `finish` it where that function answered and `abort`
-/// it where it failed; and then `?` on the answer.
+/// takes it by `&mut`, where `?` is free; then `finish` it where that function succeeded and
+/// `abort` it where it failed; and then `?` on the result.
 pub struct TranscriptState<'a, C, F, S> {
     challenger: &'a mut C,
     due: StepsDue<C>,
@@ -46,7 +46,7 @@ pub type ProverState<'a, C, F> = TranscriptState<'a, C, F, ProverSide>;
 pub type VerifierState<'a, C, F> = TranscriptState<'a, C, F, VerifierSide>;
 
 impl<'a, F: Field, C: CanSample<F> + GrindingChallenger<F>, S> TranscriptState<'a, C, F, S> {
-    /// Begins the described transcript: the challenger takes in the seed's text, each byte as an
+    /// Begins the described transcript: the challenger absorbs the seed's text, each byte as an
     /// element of the base field.
     pub fn new(challenger: &'a mut C, separator: &DomainSeparator) -> Self
         ensures same_reference { Borrows result challenger.entry }
@@ -101,9 +101,9 @@ impl<'a, F: Field, C: CanSample<F> + GrindingChallenger<F>, S> TranscriptState<'
         self.due.over(self.challenger)
     }
 
-    /// Takes in one element of the extension, its coefficients in order.
+    /// Absorbs one element of the extension, its coefficients in order.
     ///
-    /// Asks that this is the next step.
+    /// Requires that this is the next step.
     pub fn observe_extension<EF: ExtensionField<F>>(&mut self, label: &str, value: &EF)
         requires next { slice_get (due self.old) 0 ≡ Some (element_message EF.DEGREE label.now) }
         ensures same_reference { SameChallenger self.old self.new }
@@ -115,9 +115,9 @@ impl<'a, F: Field, C: CanSample<F> + GrindingChallenger<F>, S> TranscriptState<'
         self.due = self.due.after_first();
     }
 
-    /// Takes in elements of the extension in order, the coefficients of each in order.
+    /// Absorbs elements of the extension in order, the coefficients of each in order.
     ///
-    /// Asks that this is the next step.
+    /// Requires that this is the next step.
     pub fn observe_extensions<EF: ExtensionField<F>>(&mut self, label: &str, values: &[EF])
         requires next { slice_get (due self.old) 0 ≡ Some (elements_message EF.DEGREE label.now
             (length values.now)) }
@@ -130,9 +130,9 @@ impl<'a, F: Field, C: CanSample<F> + GrindingChallenger<F>, S> TranscriptState<'
         self.due = self.due.after_first();
     }
 
-    /// Takes in two elements of the extension, the coefficients of each in order.
+    /// Absorbs two elements of the extension, the coefficients of each in order.
     ///
-    /// Asks that this is the next step.
+    /// Requires that this is the next step.
     pub fn observe_extension_pair<EF: ExtensionField<F>>(
         &mut self,
         label: &str,
@@ -150,9 +150,9 @@ impl<'a, F: Field, C: CanSample<F> + GrindingChallenger<F>, S> TranscriptState<'
         self.due = self.due.after_first();
     }
 
-    /// Takes in a value as it is.
+    /// Absorbs a value as it is.
     ///
-    /// Asks that this is the next step.
+    /// Requires that this is the next step.
     pub fn observe_opaque<Com>(&mut self, label: &str, value: &Com)
     where
         C: CanObserve<Com>,
@@ -168,7 +168,7 @@ impl<'a, F: Field, C: CanSample<F> + GrindingChallenger<F>, S> TranscriptState<'
 
     /// Draws an element of the extension, its coefficients in order.
     ///
-    /// Asks that this is the next step.
+    /// Requires that this is the next step.
     pub fn challenge_extension<EF: ExtensionField<F>>(&mut self, label: &str) -> EF
         requires next { slice_get (due self.old) 0 ≡ Some (element_challenge EF.DEGREE label.now) }
         ensures same_reference { SameChallenger self.old self.new }
@@ -186,7 +186,7 @@ impl<'a, F: Field, C: CanSample<F> + GrindingChallenger<F>, S> TranscriptState<'
     /// Draws `count` numbers of `width` bits. Fails where memory is refused, and then only `abort`
     /// may follow.
     ///
-    /// Asks that this is the next step, and that `width <= 63`.
+    /// Requires that this is the next step, and that `width <= 63`.
     pub fn challenge_bits(
         &mut self,
         alloc: Global,
@@ -212,7 +212,7 @@ impl<'a, F: Field, C: CanSample<F> + GrindingChallenger<F>, S> TranscriptState<'
 
     /// Ends the transcript and gives the challenger back.
     ///
-    /// Asks that no step is due.
+    /// Requires that no step is due.
     pub fn finish(self)
         requires { due self ≡ [] }
         ensures { self.exit.0.now ≡ current self.entry }
@@ -236,7 +236,7 @@ impl<'a, F: Field, C: CanSample<F> + GrindingChallenger<F>> TranscriptState<'a, 
     /// Looks for a witness at a difficulty of `bits` bits and takes it in. `None` where none
     /// passes, and then only `abort` may follow.
     ///
-    /// Asks that this is the next step, and that `bits <= 63`.
+    /// Requires that this is the next step, and that `bits <= 63`.
     pub fn observe_pow(&mut self, label: &str, bits: usize) -> Option<F>
         requires next { slice_get (due self.old) 0 ≡ Some (pow_step label.now bits) }
         requires small { bits ≤ 63 }
@@ -263,10 +263,10 @@ impl<'a, F: Field, C: CanSample<F> + GrindingChallenger<F>> TranscriptState<
     F,
     VerifierSide,
 > {
-    /// Takes in a witness, and answers whether it passes at a difficulty of `bits` bits. Where it
+    /// Absorbs a witness, and returns whether it passes at a difficulty of `bits` bits. Where it
     /// doesn't only `abort` may follow.
     ///
-    /// Asks that this is the next step, and that `bits <= 63`.
+    /// Requires that this is the next step, and that `bits <= 63`.
     pub fn observe_pow(&mut self, label: &str, bits: usize, witness: F) -> bool
         requires next { slice_get (due self.old) 0 ≡ Some (pow_step label.now bits) }
         requires small { bits ≤ 63 }

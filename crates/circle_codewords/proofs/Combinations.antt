@@ -1,4 +1,4 @@
--- Combinations of the columns of rows, and of words by their coefficients.
+-- Combinations of the columns of rows, and of codewords by their coefficients.
 use Rattle.std.specs.Prelude.{◌≡◌, ℕ, ◌<◌, List, [], ◌∷◌, length, map, slice_index_or, All}
 use Rattle.std.specs.List.{range_with_len}
 use Rattle.std.proofs.Common.{zero, suc, refl, sym, ◌∙◌, ap, arith}

@@ -1,4 +1,4 @@
--- Which of the heights joins a word.
+-- Which of the heights joins a codeword.
 use Rattle.std.specs.Prelude.{◌≡◌, ℕ, ◌<◌, ◌==◌, ◌||◌, false, List, [], ◌∷◌, length, slice_index_or}
 use Rattle.std.specs.List.{list_any}
 use Rattle.std.proofs.Common.{suc, refl, ◌∙◌, ap, arith}

@@ -72,9 +72,8 @@ module _ {F E : Type 0} (k : Fields F E) (laws : FieldLaws k.field) {bits : ℕ}
         ∙ ap (dot k.field weights) (column-made zero width j at there lt)
         ∙ first-sum (column zero coeffs j) p (length-map coeffs _ ∙ told.height))))
 
-    -- a word whose coefficients are the values of polynomials with the first entries' coefficients
-    -- is
-    -- what these extend to
+    -- a codeword whose coefficients are the values of polynomials with the first entries'
+    -- coefficients is what these extend to
     pub extended-entries : {degree : ℕ} {coefficients : E → List F} (above : FieldLaws k.extension)
         (are : AreCoefficients k.field k.extension k.embed degree coefficients)
         (first word : List E) (coeffs : List (List F)) →
@@ -122,7 +121,7 @@ module _ {F E : Type 0} (k : Fields F E) (blowup h width : ℕ) where
       (first_weights k blowup h (slice_index_or points i d)) wide))
       ∙ sym (map-map combination (extended_row k blowup h width first) points)
 
-  -- what words read of a matrix of many columns
+  -- what codewords read of a matrix of many columns
   pub read-wide : (rows : List (List F)) → lift_width ≤ width → read_rows k blowup h width rows
       ≡ extended_rows k blowup h width rows
   read-wide rows least = ap (λ b. if b then extended_rows k blowup h width rows else rows)

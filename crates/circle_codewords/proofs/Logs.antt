@@ -26,7 +26,7 @@ module _ (m : ℕ) where
       let above : 2 ^ m < 2 ^ suc a = omega (arith, pow_within m a other, pow-suc 2 a, pow_pos a) in
       ap (λ b. length (cond b (a ∷ rest) rest)) (lt-leb (2 ^ suc a) (2 ^ m) above)
 
-  -- so many of them are below m
+  -- min n (m - a) of them are below m
   counted : (n a : ℕ) → length (exponents a n) ≡ min n (m - a)
   counted zero a = omega arith
   counted (suc n) a = ⊎_elim

@@ -10,13 +10,13 @@ use Rattle.circle_point.specs.Projective.{from_line}
 use Rattle.circle_relation.specs.Accepts.{Fields}
 use Rattle.circle_codewords.specs.Values.{OpensTo}
 
--- what is known of an answer
+-- what is known of a result
 pub if_ok : {A E : Type 0} (r : Result A E) (P Q : A → Type 0) → ((a : A) → P a → Q a) → IfOk r P →
     IfOk r Q
 if_ok (Ok a) P Q f h = f a h
 if_ok (Err e) P Q f h = tt
 
--- so many rows, as the program counts them
+-- 2^t rows, as the program counts them
 pub counted : (t : ℕ) → t ≤ 62 → 1 * 2 ^ t % 18446744073709551616 ≡ 2 ^ t
 counted t small = let bound : 2 ^ t ≤ 2 ^ 62 = pow_within t 62 small in omega (arith, bound)
 

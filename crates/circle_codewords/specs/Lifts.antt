@@ -1,5 +1,5 @@
--- The rows that the words of an opening read of a committed matrix, and their combinations: Circle
--- STARKs (ePrint 2024/278), section 4.3.
+-- The rows that the codewords of an opening read of a committed matrix, and their combinations:
+-- Circle STARKs (ePrint 2024/278), section 4.3.
 use Rattle.std.specs.Prelude.{ℕ, ◌+◌, ◌-◌, ◌^◌, List, map, take, nat_le, if◌then◌else◌}
 use Rattle.circle_field.specs.Circle.{Coordinates}
 use Rattle.circle_commit.specs.DotProduct.{dot, column_sums}
@@ -23,7 +23,7 @@ module _ {F E : Type 0} (k : Fields F E) (blowup h : ℕ) where
       map (lagrange_at k.field (h - blowup) p)
       (cfft_order k.field k.gen (h - blowup) (k.gen (h + 1)))
 
-  -- at each point of the domain of 2^h points the sum of a word's first entries, each times the
+  -- at each point of the domain of 2^h points the sum of a codeword's first entries, each times the
   -- Lagrange polynomial of its point
   abbrev pub extended_word : List E → List E
   extended_word first =
@@ -42,7 +42,7 @@ module _ {F E : Type 0} (k : Fields F E) (blowup h : ℕ) where
     extended_rows rows =
         map (extended_row (take (2 ^ (h - blowup)) rows)) (points_of_height k.field k.gen h)
 
-    -- the rows that words read: those of a matrix of few columns, and of a wide one the values of
-    -- the polynomials that its first rows fix
+    -- the rows that codewords read: those of a matrix of few columns, and of a wide one the values
+    -- of the polynomials that its first rows fix
     abbrev pub read_rows : List (List F) → List (List F)
     read_rows rows = if nat_le lift_width width then extended_rows rows else rows

@@ -8,7 +8,7 @@ use Rattle.circle_commit.specs.declared.matrix.RowMajorMatrix.{RowMajorMatrix}
 use Rattle.circle_commit.specs.DotProduct.{pairwise}
 use Rattle.circle_relation.specs.declared.proof.CircleCommitPhaseMultiStep.{CircleCommitPhaseMultiStep}
 
--- the queries without so many of their lowest bits
+-- the queries without their lowest `bits` bits
 abbrev pub places_of : ℕ → List ℕ → List ℕ
 places_of bits queries = map (λ q. q / 2 ^ bits) queries
 
@@ -31,8 +31,8 @@ module _ {T C P : Type 0} (Commits : List (RowMajorMatrix T) → C → Type 0)
     pub rows : entries ≡ rows_at_each matrices places
     pub shown : IsShownOf Commits Authenticates matrices places entries proof
 
-  -- of the rows at the queries without so many bits, the entries beside the queries' places, and a
-  -- proof of those rows
+  -- of the rows at the queries without their lowest `bits` bits, the entries beside the queries'
+  -- places, and a proof of those rows
   pub record OpensSiblings (zero : T) (top : ℕ) (heights : List ℕ) (bits : ℕ) (queries : List ℕ)
       (siblings : List (List T)) (proof : P) : Type 0 where
     pub entries :
@@ -53,7 +53,7 @@ module _ {E W C P : Type 0} (Commits : W → List (RowMajorMatrix E) → C → T
       OpensSiblings (Commits mmcs) (authenticates mmcs) matrices zero top heights bits queries
       (map (λ s. s.items) siblings) proof
 
-  -- and those of each round, whose word is committed to alone
+  -- and those of each round, whose codeword is committed to alone
   abbrev pub AreOpenedRounds : {D WD WE : Type 0} → (D → List (RowMajorMatrix E)) → ℕ → List ℕ
       → List D → List (CircleCommitPhaseMultiStep E W C WD P WE) → Type 0
   AreOpenedRounds {D = D} {WD = WD} {WE = WE} kept_of top queries kept steps =

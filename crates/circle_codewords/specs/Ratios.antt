@@ -18,7 +18,7 @@ module _ {F E : Type 0} (l : FieldOps E) (embed : F → E) where
   abbrev pub vanishing_ratio : Coordinates E → Coordinates F → E
   vanishing_ratio z x = l.mul (imaginary_part l embed x z) (l.inv (real_part l embed x z))
 
-  -- those of a point that its coordinate on the projective line tells
+  -- those of a point given by its coordinate on the projective line
   abbrev pub AreRatiosOf : List (Coordinates F) → PointRatios E → Type 0
   AreRatiosOf points r =
       r.ratios.items ≡ map (vanishing_ratio (from_line l r.point)) points

@@ -1,4 +1,4 @@
--- What is asked to be opened, and what is answered.
+-- What an opening is requested of, and what it returns.
 use Rattle.std.specs.Prelude.{◌≡◌, ℕ, ◌+◌, ◌-◌, ◌^◌, ◌<◌, ◌≤◌, List, length, map, zip, flat_map}
 use Rattle.std.specs.Prelude.{All, nat_le, Vec, ◌++◌}
 use Rattle.std.specs.List.{AllZip, filter, range_with_len}
@@ -42,7 +42,7 @@ module _ {F E : Type 0} where
     pub widths : All (λ v. length v ≡ width_of m) values
     pub opened : AreOpened k blowup (log_of (height_of m)) m points values
 
-  -- a matrix by the rows that words read of it, with its points and the values there
+  -- a matrix by the rows that codewords read of it, with its points and the values there
   abbrev pub committed : Fields F E → ℕ → RowMajorMatrix F → List E → List (List E)
       → Committed F E
   committed k blowup m points values = record {
@@ -57,7 +57,7 @@ module _ {F E : Type 0} where
   batch_committed k blowup matrices points values =
       pairwise (λ m rest. committed k blowup m rest.0 rest.1) matrices (zip points values)
 
-  -- for each of several points of each matrix of a batch the values that they ask for
+  -- for each of several points of each matrix of a batch the values that they request
   abbrev pub AreBatchValues : Fields F E → ℕ → List (RowMajorMatrix F) → List (List E)
       → List (List (List E)) → Type 0
   AreBatchValues k blowup matrices points values =
@@ -91,7 +91,7 @@ module _ {D F E : Type 0} (kept : D → List (RowMajorMatrix F)) where
   points_of request = lists_of request.points.items
 
   module _ (k : Fields F E) (blowup : ℕ) where
-    -- all requested matrices, batch by batch, with the values that are answered
+    -- all requested matrices, batch by batch, with the values that are returned
     abbrev pub all_committed : List (OpeningRequest D E) → Openings E
         → List (List (Committed F E))
     all_committed requests values =
@@ -109,13 +109,13 @@ module _ {D F E : Type 0} (kept : D → List (RowMajorMatrix F)) where
     IsFit two_adicity r =
         AllZip (IsOpenable k two_adicity blowup) (kept r.prover_data.now) (points_of r)
 
-    -- these are the values that a request asks for
+    -- these are the values that a request is for
     abbrev pub AreAnswers : OpeningRequest D E → List (List (List E)) → Type 0
     AreAnswers r values =
         AreBatchValues k blowup (kept r.prover_data.now) (points_of r) values
         × (length values ≡ length (points_of r))
 
--- these are the values that requests ask for
+-- these are the values that requests are for
 abbrev pub AreAnswered : {D F E M : Type 0} → Fields F E → (D → List (RowMajorMatrix F))
     → FriParameters M → List (OpeningRequest D E) → Openings E → Type 0
 AreAnswered k kept p requests values = AllZip (AreAnswers kept k p.log_blowup) requests values

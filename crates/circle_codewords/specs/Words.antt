@@ -1,5 +1,5 @@
--- The words that an opening makes of committed matrices: Circle STARKs (ePrint 2024/278), sections
--- 4 to 6.
+-- The codewords that an opening makes of committed matrices: Circle STARKs (ePrint 2024/278),
+-- sections 4 to 6.
 use Rattle.std.specs.Prelude.{◌≡◌, ℕ, ◌-◌, ◌/◌, ◌^◌, ◌<◌, ◌≤◌, ◌==◌, if◌then◌else◌, List, []}
 use Rattle.std.specs.Prelude.{length, map, flat_map, All, slice_index_or, Vec}
 use Rattle.std.specs.declared.alloc.Global.{Global}
@@ -20,8 +20,8 @@ use Rattle.circle_codewords.specs.Ratios.{points_of_height}
 use Rattle.circle_codewords.specs.Values.{AreOff}
 use Rattle.circle_codewords.specs.declared.reduced.OpenedMatrix.{OpenedMatrix}
 
--- a committed matrix: the logarithm of its height, its rows as words read them, and the points that
--- it is opened at with its columns' values there
+-- a committed matrix: the logarithm of its height, its rows as codewords read them, and the points
+-- that it is opened at with its columns' values there
 pub record Committed (F E : Type 0) : Type 0 where
   pub log_height : ℕ
   pub rows : List (List F)
@@ -41,8 +41,8 @@ module _ {F E : Type 0} where
       flat_map (λ m. if m.log_height == h then claims_on m i else []) matrices
 
 module _ {F E : Type 0} (k : Fields F E) (alpha : E) (matrices : List (Committed F E)) where
-  -- the word of height 2^h: at each place the quotients of the claims on matrices of that height,
-  -- each times alpha to twice the number of columns that are claimed before it, added up
+  -- the codeword of height 2^h: at each place the quotients of the claims on matrices of that
+  -- height, each times alpha to twice the number of columns that are claimed before it, added up
   abbrev pub reduced_word : ℕ → List E
   reduced_word h =
       let points = points_of_height k.field k.gen h in
@@ -58,7 +58,7 @@ module _ {F E : Type 0} (k : Fields F E) (alpha : E) (matrices : List (Committed
     corrected_word h =
         remainder_of k.field k.gen k.extension k.embed blowup h (lambda h) (reduced_word h)
 
--- a word as rows of two
+-- a codeword as rows of two
 abbrev pub pairs_of : {E : Type 0} → List E → List (List E)
 pairs_of word = rows_from 2 (length word / 2) word
 
@@ -82,7 +82,7 @@ pub record CanBeOpened {F E : Type 0} (k : Fields F E) (two_adicity powers : ℕ
   pub widths : All (λ v. length v.items ≡ width_of m.rows.now) m.values.now
   pub enough : width_of m.rows.now < powers
 
--- the logarithm of a height that leaves something of its word without the blowup
+-- the logarithm of a height that leaves something of its codeword without the blowup
 abbrev pub IsHeight : ℕ → ℕ → ℕ → Type 0
 IsHeight two_adicity blowup h = (blowup < h) × (h < two_adicity)
 
@@ -94,12 +94,12 @@ pub record HaveHeights {E : Type 0} (heights : List ℕ) (layers : List (RowMajo
   pub height : map height_of layers ≡ map (λ h. 2 ^ (h - 1)) heights
 
 module _ {F E : Type 0} (k : Fields F E) (heights : List ℕ) (folded : ℕ → List E) where
-  -- a word with what was folded from the height 2^h, where that is one of the heights
+  -- a codeword with what was folded from the height 2^h, where that is one of the heights
   abbrev pub joined : ℕ → List E → List E
   joined h word =
       if list_any (λ n. n == h) heights then pairwise k.extension.add word (folded h) else word
 
-  -- the word that follows one of 2^h entries: its fold by x, and what joins there
+  -- the codeword that follows one of 2^h entries: its fold by x, and what joins there
   abbrev pub next_word : ℕ → E → List E → List E
   next_word h beta word =
       joined h (x_folds k.field k.gen k.extension k.embed (h - 1) beta (pairs_of word))
@@ -108,12 +108,12 @@ module _ {F E : Type 0} (k : Fields F E) (heights : List ℕ) (folded : ℕ → 
 abbrev pub OfPowers : {F E : Type 0} → Fields F E → List E → (E → Type 0) → Type 0
 OfPowers k powers Holds = (alpha : _) → ArePowers k.extension alpha powers → Holds alpha
 
--- the words of matrices that are opened
+-- the codewords of matrices that are opened
 module _ {F E : Type 0} (k : Fields F E) (matrices : List (OpenedMatrix F E)) (blowup : ℕ) where
   abbrev pub opened_word : E → ℕ → List E
   opened_word alpha = reduced_word k alpha (map (committed_of k blowup) matrices)
 
-  -- its multiple of the vanishing polynomial, and what is left, in rows of two
+  -- the codeword's multiple of the vanishing polynomial, and what is left, in rows of two
   abbrev pub opened_lambda : E → ℕ → E
   opened_lambda alpha = lambda k alpha (map (committed_of k blowup) matrices) blowup
 
@@ -135,8 +135,8 @@ AddsClaims k blowup m alpha =
 abbrev pub y_folded : {F E : Type 0} → Fields F E → E → ℕ → List (List E) → List E
 y_folded k bivariate h layer = y_folds k.field k.gen k.extension k.embed (h - 1) bivariate layer
 
--- whatever the words of the heights are called, the word that follows these rows of two of the
--- height 2^h: their fold by x, and what joins there
+-- whatever the codewords of the heights are called, the codeword that follows these rows of two of
+-- the height 2^h: their fold by x, and what joins there
 abbrev pub IsNextWord : {F E : Type 0} → Fields F E → List ℕ → List (Vec E Global) → ℕ → E
     → List (List E) → List E → Type 0
 IsNextWord k heights folded h beta layer word =

@@ -64,7 +64,7 @@ fn push_coefficients<F: Field, EF: ExtensionField<F>>(
     Ok(())
 }
 
-// The coefficients of a word's entries in the base field, a row for each entry.
+// The coefficients of a codeword's entries in the base field, a row for each entry.
 fn coefficient_rows<F: Field, EF: ExtensionField<F>>(
     alloc: Global,
     word: &[EF],
@@ -79,7 +79,7 @@ fn coefficient_rows<F: Field, EF: ExtensionField<F>>(
     Ok(RowMajorMatrix::new(values, EF::DEGREE))
 }
 
-// The word of whose entries these rows are the coefficients.
+// The codeword of whose entries these rows are the coefficients.
 fn word_of_rows<F: Field, EF: ExtensionField<F>>(
     alloc: Global,
     matrix: &RowMajorMatrix<F>,
@@ -94,8 +94,8 @@ fn word_of_rows<F: Field, EF: ExtensionField<F>>(
     Ok(word)
 }
 
-// The word of `2^log_height` entries that its first ones fix: at each point of the domain the sum
-// of these, each times the Lagrange polynomial of its point.
+// The codeword of `2^log_height` entries that its first ones fix: at each point of the domain the
+// sum of these, each times the Lagrange polynomial of its point.
 fn extended<F: ComplexExtendable, EF: ExtensionField<F>>(
     alloc: Global,
     log_height: usize,
@@ -116,11 +116,11 @@ fn extended<F: ComplexExtendable, EF: ExtensionField<F>>(
 }
 
 /// The combination of the columns of a committed matrix: at each row the sum of the entries that
-/// words read there, each times its power of the batching challenge. Of at least [`LIFT_WIDTH`]
+/// codewords read there, each times its power of the batching challenge. Of at least [`LIFT_WIDTH`]
 /// columns the values are read that the first `2^(log_height - log_blowup)` rows fix.
 ///
-/// Asks `log_blowup < log_height < CIRCLE_TWO_ADICITY`, a matrix of `2^log_height` rows and as many
-/// powers as it has columns. Fails where memory is refused.
+/// Requires `log_blowup < log_height < CIRCLE_TWO_ADICITY`, a matrix of `2^log_height` rows and as
+/// many powers as it has columns. Fails where memory is refused.
 pub fn combined_rows<F: ComplexExtendable, EF: ExtensionField<F>>(
     alloc: Global,
     log_height: usize,

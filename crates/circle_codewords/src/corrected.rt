@@ -1,6 +1,6 @@
-//! The first layer of an opening: the reduced words of all heights without their multiples of the
-//! vanishing polynomial, as rows of two, and what these fold into by y (Circle STARKs, sections 4.2
-//! and 4.3).
+//! The first layer of an opening: the reduced codewords of all heights without their multiples of
+//! the vanishing polynomial, as rows of two, and what these fold into by y (Circle STARKs, sections
+//! 4.2 and 4.3).
 ghost use Rattle.std.specs.Prelude.{◌≡◌, ◌-◌, ◌^◌, ◌<◌, ◌≤◌, length, map, All, IfOk};
 ghost use Rattle.circle_commit.specs.RowMajorMatrix.{rows, width_of, height_of};
 ghost use Rattle.circle_commit.specs.DotProduct.{pairwise};
@@ -14,7 +14,7 @@ use circle_folding::{extract_lambda, fold_y};
 use circle_relation::OverCircle;
 use std::alloc::{AllocError, Global};
 
-// The lambda of one height, and what is left of the word of that height, as rows of two.
+// The lambda of one height, and what is left of the codeword of that height, as rows of two.
 fn layer<F: ComplexExtendable, EF: ExtensionField<F>>(
     alloc: Global,
     log_height: usize,
@@ -38,11 +38,11 @@ fn layer<F: ComplexExtendable, EF: ExtensionField<F>>(
     Ok((lambda, RowMajorMatrix::new(word, 2)))
 }
 
-/// Of each height the multiple of the vanishing polynomial in its reduced word, and the word
-/// without it, as rows of two.
+/// Of each height the multiple of the vanishing polynomial in its reduced codeword, and the
+/// codeword without it, as rows of two.
 ///
-/// Asks `log_blowup >= 1`, heights above it and below `CIRCLE_TWO_ADICITY`, matrices that can be
-/// opened, and powers of the batching challenge from the first on, more than any matrix has
+/// Requires `log_blowup >= 1`, heights above it and below `CIRCLE_TWO_ADICITY`, matrices that can
+/// be opened, and powers of the batching challenge from the first on, more than any matrix has
 /// columns. Fails where memory is refused.
 pub fn first_layer<F: ComplexExtendable, EF: ExtensionField<F>>(
     alloc: Global,
@@ -73,7 +73,7 @@ pub fn first_layer<F: ComplexExtendable, EF: ExtensionField<F>>(
 
 /// What the layers of these heights fold into by y.
 ///
-/// Asks a layer for each height, of half as many rows of two, and heights below
+/// Requires a layer for each height, of half as many rows of two, and heights below
 /// `CIRCLE_TWO_ADICITY`. Fails where memory is refused.
 pub fn fold_corrected<F: ComplexExtendable, EF: ExtensionField<F>>(
     alloc: Global,

@@ -1,36 +1,37 @@
-//! The words that an opening of Circle STARKs (IACR ePrint 2024/278) makes of committed matrices:
-//! one for each height, of the quotients of all claims on matrices of that height.
+//! The codewords that an opening of Circle STARKs (IACR ePrint 2024/278) makes of committed
+//! matrices: one for each height, of the quotients of all claims on matrices of that height.
 //!
 //! What is proved, for every lawful field and extension:
 //!
-//! - `opened_values` answers, at each point and for each column, the value of the only polynomial
+//! - `opened_values` returns, at each point and for each column, the value of the only polynomial
 //!   that the first committed rows fix (`values`, by `AreOpened`), and what it adds to the weights
 //!   that were made before is right too (`right`).
 //! - `are_off_domain` is true exactly where no point is at infinity and the domain of the committed
 //!   rows is clear of each (`yes`, `no`); then none is a point of that domain (`apart`).
-//! - `can_all_be_opened` is true exactly where each matrix meets what the words ask of it (`yes`,
-//!   `no`, by `CanBeOpened`).
-//! - `standard_points` answers the points of a standard domain in the order of the transform, and
+//! - `can_all_be_opened` is true exactly where each matrix meets what the codewords require of it
+//!   (`yes`, `no`, by `CanBeOpened`).
+//! - `standard_points` returns the points of a standard domain in the order of the transform, and
 //!   `vanishing_ratios` at each of them the imaginary part of a claimed point's vanishing function
 //!   over the real one.
-//! - `combined_rows` answers at each row of a matrix the sum of the entries that words read there,
-//!   each times its power of the batching challenge. Of a matrix of at least `LIFT_WIDTH` columns
-//!   words read the values of the polynomials that the first committed rows fix (`read_rows`): the
-//!   sums are formed on these rows alone, and their coefficients extended by the transform. Rows of
-//!   low degree are read as they are, which `circle_completeness` proves.
+//! - `combined_rows` returns at each row of a matrix the sum of the entries that codewords read
+//!   there, each times its power of the batching challenge. Of a matrix of at least `LIFT_WIDTH`
+//!   columns codewords read the values of the polynomials that the first committed rows fix
+//!   (`read_rows`): the sums are formed on these rows alone, and their coefficients extended by the
+//!   transform. Rows of low degree are read as they are, which `circle_completeness` proves.
 //! - `reduced_word` has at each point of a height's domain the quotients there of the claims on
 //!   matrices of that height, each times its power of the batching challenge, added up (`word`).
-//! - `first_layer` answers for each height the multiple of the vanishing polynomial in the reduced
-//!   word (`lambdas`), and the word without it as rows of two (`layers`, `shapes`).
-//! - `fold_corrected` folds each of these by y, and `fold_round` a later word by x and adds to it
-//!   what was folded from its height, where that is one of the heights.
+//! - `first_layer` returns for each height the multiple of the vanishing polynomial in the reduced
+//!   codeword (`lambdas`), and the codeword without it as rows of two (`layers`, `shapes`).
+//! - `fold_corrected` folds each of these by y, and `fold_round` a later codeword by x and adds to
+//!   it what was folded from its height, where that is one of the heights.
 //!
 //! Its files:
 //!
-//! - In `src/`, `combined.rt`: combinations of columns; `corrected.rt`: words without their lambda,
-//!   as rows of two, and their folds by y.
-//! - In `specs/`, `Values`, `Ratios`, `Lifts`, `Words`: the definitions. `Requests`, `Openings`: what
-//!   is asked of an opening and answered, and what is opened at the queries. `Rows`: logarithms.
+//! - In `src/`, `combined.rt`: combinations of columns; `corrected.rt`: codewords without their
+//!   lambda, as rows of two, and their folds by y.
+//! - In `specs/`, `Values`, `Ratios`, `Lifts`, `Words`: the definitions. `Requests`, `Openings`:
+//!   what an opening is requested of and returns, and what is opened at the queries. `Rows`:
+//!   logarithms.
 //! - In `proofs/`, `Prefix`: the first rows of a committed matrix are those of a smaller domain;
 //!   `Lifts`: what they extend to; `Combinations`: to combine extended rows is to extend what is
 //!   combined; `Opened`, `Known`: values by weights; `DomainPoints`, `Quotients`, `Claims`: sums of

@@ -28,7 +28,7 @@ pub struct PointRatios<EF> {
 
 /// The points of the standard domain of `2^log_height` points, in the order of the transform.
 ///
-/// Asks `1 <= log_height < CIRCLE_TWO_ADICITY`. Fails where memory is refused.
+/// Requires `1 <= log_height < CIRCLE_TWO_ADICITY`. Fails where memory is refused.
 pub fn standard_points<F: ComplexExtendable>(
     alloc: Global,
     log_height: usize,
@@ -58,7 +58,7 @@ fn with_opposites<F: Field>(alloc: Global, first: &[Point<F>]) -> Result<Vec<Poi
 /// At each of the points the imaginary part of the vanishing function of `zeta` over its real part
 /// (section 3.3, equation 11).
 ///
-/// Asks that `zeta` is none of the points. Fails where memory is refused.
+/// Requires that `zeta` is none of the points. Fails where memory is refused.
 pub fn vanishing_ratios<F: Field, EF: ExtensionField<F>>(
     alloc: Global,
     points: &[Point<F>],

@@ -1,5 +1,5 @@
-//! The reduced words: of each height, at every point of its domain, the quotients of all claims on
-//! matrices of that height (Circle STARKs, section 6).
+//! The reduced codewords: of each height, at every point of its domain, the quotients of all claims
+//! on matrices of that height (Circle STARKs, section 6).
 ghost use Rattle.std.specs.Prelude.{◌≡◌, ◌≢◌, ◌^◌, ◌<◌, ◌≤◌, length, map, All};
 ghost use Rattle.std.specs.Prelude.{IsTrue, IsNone, IfSome, IfOk, OnOk};
 ghost use Rattle.std.specs.List.{Any};
@@ -35,7 +35,7 @@ pub struct OpenedMatrix<'a, F, EF> {
     pub values: &'a [Vec<EF>],
 }
 
-// Whether values are of so many columns each.
+// Whether values are of `width` columns each.
 fn have_width<EF: Copy>(values: &[Vec<EF>], width: usize) -> bool
     ensures yes { IsTrue result → All (λ v. length v.items ≡ width) values.now }
     ensures no { All (λ v. length v.items ≡ width) values.now → IsTrue result }
@@ -48,7 +48,7 @@ fn have_width<EF: Copy>(values: &[Vec<EF>], width: usize) -> bool
     true
 }
 
-// Whether a matrix can be opened by so many powers.
+// Whether a matrix can be opened by these powers.
 fn can_be_opened<F: ComplexExtendable, EF: ExtensionField<F>>(
     matrix: &OpenedMatrix<F, EF>,
     num_powers: usize,
@@ -67,10 +67,10 @@ fn can_be_opened<F: ComplexExtendable, EF: ExtensionField<F>>(
         && matrix.rows.width() < num_powers
 }
 
-/// Whether matrices can be opened by so many powers of the batching challenge, as the words of an
-/// opening ask: each has `2^log_height` rows, with `1 <= log_height < CIRCLE_TWO_ADICITY`, points
-/// off the domain of its rows, for each of them a value of each column, and fewer columns than
-/// there are powers. Takes no memory.
+/// Whether matrices can be opened by `powers` powers of the batching challenge, as the codewords of
+/// an opening require: each has `2^log_height` rows, with `1 <= log_height < CIRCLE_TWO_ADICITY`,
+/// points off the domain of its rows, for each of them a value of each column, and fewer columns
+/// than there are powers. Takes no memory.
 pub fn can_all_be_opened<F: ComplexExtendable, EF: ExtensionField<F>>(
     matrices: &[OpenedMatrix<F, EF>],
     num_powers: usize,
@@ -205,7 +205,7 @@ fn all_ratios<F: ComplexExtendable, EF: ExtensionField<F>>(
     Ok(all)
 }
 
-// Adds to the sums the quotients of a matrix's rows under all claims on it, and answers the offset
+// Adds to the sums the quotients of a matrix's rows under all claims on it, and returns the offset
 // behind them.
 fn add_matrix<F: ComplexExtendable, EF: ExtensionField<F>>(
     alloc: Global,
@@ -243,14 +243,14 @@ fn add_matrix<F: ComplexExtendable, EF: ExtensionField<F>>(
     Ok(after)
 }
 
-/// The word of one height: at each point of its domain the quotients of the claims on matrices of
-/// that height, in order, each times the power of the batching challenge of twice the number of
+/// The codeword of one height: at each point of its domain the quotients of the claims on matrices
+/// of that height, in order, each times the power of the batching challenge of twice the number of
 /// columns that are claimed before it (section 6, Remark 21).
 ///
 /// Of a matrix of at least [`LIFT_WIDTH`](crate::LIFT_WIDTH) columns the values are taken that its
 /// first `2^(log_height - log_blowup)` rows fix.
 ///
-/// Asks `log_blowup < log_height < CIRCLE_TWO_ADICITY`, matrices that can be opened, as
+/// Requires `log_blowup < log_height < CIRCLE_TWO_ADICITY`, matrices that can be opened, as
 /// [`can_all_be_opened`] tests, and powers of the batching challenge from the first on. Fails where
 /// memory is refused.
 pub fn reduced_word<F: ComplexExtendable, EF: ExtensionField<F>>(

@@ -1,5 +1,5 @@
-//! The rounds of an opening: words that are folded by x, each joined by what was folded from the
-//! height that is due (Circle STARKs, section 4.2).
+//! The rounds of an opening: codewords that are folded by x, each joined by what was folded from
+//! the height that is due (Circle STARKs, section 4.2).
 ghost use Rattle.std.specs.Prelude.{◌≡◌, ◌+◌, ◌-◌, ◌==◌, ◌^◌, ◌<◌, ◌≤◌, length, map, IfOk};
 ghost use Rattle.std.specs.Prelude.{false, IfNone, IfSome, slice_index_or};
 ghost use Rattle.std.specs.List.{list_any};
@@ -26,11 +26,11 @@ fn place_of(heights: &[usize], log_height: usize) -> Option<usize>
     None
 }
 
-/// The word that follows one of `2^log_height` entries, which stands in rows of two: its fold by x,
-/// and what was folded from the height `2^log_height`, where that is one of the heights.
+/// The codeword that follows one of `2^log_height` entries, which stands in rows of two: its fold
+/// by x, and what was folded from the height `2^log_height`, where that is one of the heights.
 ///
-/// Asks `1 <= log_height` and `log_height + 2 <= CIRCLE_TWO_ADICITY`, half as many rows of two, and
-/// for each of the heights a word of half as many entries. Fails where memory is refused.
+/// Requires `1 <= log_height` and `log_height + 2 <= CIRCLE_TWO_ADICITY`, half as many rows of two,
+/// and for each of the heights a codeword of half as many entries. Fails where memory is refused.
 pub fn fold_round<F: ComplexExtendable, EF: ExtensionField<F>>(
     alloc: Global,
     beta: EF,

@@ -50,9 +50,9 @@ fn is_off_domain<F: ComplexExtendable, EF: ExtensionField<F>>(log_height: usize,
 }
 
 /// Whether the points are not at infinity, and the domain of `2^log_height` committed rows is clear
-/// of each, as an opening there asks; then none is a point of that domain.
+/// of each, as an opening there requires; then none is a point of that domain.
 ///
-/// Asks `1 <= log_height < CIRCLE_TWO_ADICITY`. Takes no memory.
+/// Requires `1 <= log_height < CIRCLE_TWO_ADICITY`. Takes no memory.
 pub fn are_off_domain<F: ComplexExtendable, EF: ExtensionField<F>>(
     log_height: usize,
     points: &[EF],
@@ -206,7 +206,7 @@ fn values_by_weights<F: ComplexExtendable, EF: ExtensionField<F>>(
 /// made are added to `all`, where those of other matrices are found; the rows are gone over once
 /// for all points.
 ///
-/// Asks `log_blowup < log_height < CIRCLE_TWO_ADICITY`, a matrix of `2^log_height` rows, points
+/// Requires `log_blowup < log_height < CIRCLE_TWO_ADICITY`, a matrix of `2^log_height` rows, points
 /// that are off its domain, as [`are_off_domain`] tests, and in `all` weights that this function
 /// made for the same blowup. Fails where memory is refused.
 pub fn opened_values<F: ComplexExtendable, EF: ExtensionField<F>>(

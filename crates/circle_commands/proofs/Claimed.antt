@@ -1,4 +1,4 @@
--- Claims that are made of what a verifier knows of batches, and of answered values.
+-- Claims made of what a verifier knows of batches and of the values that were opened.
 use Rattle.std.proofs.Common.{◌≡◌, ℕ, List, [], ◌∷◌, length, map, zip, ap, refl, ◌∙◌, arith}
 use Rattle.circle_field.specs.declared.cubic.Cubic.{Cubic}
 use Rattle.circle_commit.specs.DotProduct.{pairwise}

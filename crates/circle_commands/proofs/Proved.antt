@@ -26,7 +26,7 @@ module _ {D WD : Type 0}
     (o : Schemes Sha256Challenger (List ℕ) Mersenne31 Cubic (ShaMmcs Mersenne31) (List ℕ) D
     (Vec (List ℕ) Global) (ShaMmcs Cubic) (List ℕ) WD (Vec (List ℕ) Global)) (input : Input)
     (output : Claims) where
-  -- what is opened under parameters that the input tells, is proved
+  -- what is opened under the input's parameters is proved
   pub proved : (mmcs : ShaMmcs Mersenne31) (scheme : ShaMmcs Cubic) (committed : List Committed)
       (requests : List (OpeningRequest D Cubic)) (values : Openings Cubic)
       (start left : Sha256Challenger)

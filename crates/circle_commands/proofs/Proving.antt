@@ -16,8 +16,7 @@ use Rattle.circle_domain.specs.Domain.{log_size, shift_of}
 use Rattle.circle_domain.specs.declared.domain.CircleDomain.{CircleDomain}
 use Rattle.circle_field.specs.Mersenne31.{operations, generators}
 use Rattle.circle_field.specs.declared.mersenne31.Mersenne31.{Mersenne31}
-use Rattle.circle_scheme.specs.Committing.{AreExtensions, HaveRowsForPoints, IsExtension}
-use Rattle.circle_scheme.specs.Committing.{IsExtensionOf}
+use Rattle.p3_circle.specs.Committing.{AreExtensions, HaveRowsForPoints, IsExtension, IsExtensionOf}
 use Rattle.circle_commands.specs.Proved.{ArePlaced, IsCommitted, IsExtended, IsRequested}
 use Rattle.circle_commands.specs.Proved.{commitments_taken}
 use Rattle.circle_commands.specs.Rows.{lists}
@@ -113,7 +112,7 @@ module _ (Commits : List (RowMajorMatrix Mersenne31) → List ℕ → Type 0) (b
       (subst HaveHeightsOfPowers (sym q.0.matrices) p.0.powers)
       (requested_powers kept bs cs rs p.1 q.1)
 
--- one more commitment was taken in
+-- one more commitment was absorbed
 pub commitment_more : (s t : List ℕ) (cs : List Committed) (i : ℕ) (c : Committed) → i < length cs →
     c ≡ get_or cs i c → t ≡ absorbed s c.commitment
     → commitments_taken t (drop (i + 1) cs) ≡ commitments_taken s (drop i cs)

@@ -6,7 +6,7 @@ use Rattle.serde_json.specs.Data.{Data, Members, object}
 use Rattle.serde_json.specs.Events.{members_len}
 use Rattle.serde_json.specs.Find.{get}
 
--- an object of so many members
+-- an object of at most n members
 pub at-most : (n : ℕ) (value : Data) (inside : Members) → value ≡ object inside →
     members_len inside ≤ n → HasAtMost n value
 at-most n value inside is few = subst (HasAtMost n) (sym is) few

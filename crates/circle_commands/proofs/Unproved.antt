@@ -51,7 +51,7 @@ pub in_order : {T : Type 0} (A : Type 0) (tests : Result T ProverError) (e : Pro
 in_order A (Ok passed) e h = h
 in_order A (Err first) e h = cc
 
--- the parameters of a scheme that the input tells
+-- the parameters of a scheme that the input gives
 pub in-params : (input : Input) (scheme : Scheme) (mmcs : ShaMmcs Cubic) → scheme.fri_params
     ≡ with_scheme input.params mmcs → scheme.fri_params
     ≡ with_scheme input.params scheme.fri_params.mmcs
@@ -86,7 +86,7 @@ module _ {D WD : Type 0}
     (OpenRefuses : Scheme → List (OpeningRequest D Cubic) → List ℕ → List ℕ → ProverError → Type 0)
     (input : Input)
   where
-    -- an opening that is refused from the state that took in the commitments
+    -- an opening that is refused from the state that has absorbed the commitments
     pub unopened : (scheme : Scheme) (committed : List Committed)
         (requests : List (OpeningRequest D Cubic)) (start left : List ℕ) (e : ProverError) →
         AreCommitted (o.Commits scheme.mmcs) scheme.fri_params.log_blowup input.batches.items

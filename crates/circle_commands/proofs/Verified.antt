@@ -1,4 +1,4 @@
--- What the verifier of the program is handed.
+-- What the program hands to the verifier.
 use Rattle.std.proofs.Common.{◌≡◌, ℕ, ◌+◌, ◌<◌, ◌≤◌, List, length, drop, get_or, refl, ap, sym}
 use Rattle.std.proofs.Common.{subst, ◌∙◌, replicate, Vec, Global}
 use Rattle.std.proofs.lemmas.List.{at_drop_more, drop_all}
@@ -24,7 +24,7 @@ use Rattle.circle_commands.specs.declared.verify.Input.{Input}
 abbrev Batches : Type 0
 Batches = List (CommitmentOpening Cubic (List ℕ) ℕ)
 
--- one more commitment was taken in
+-- one more commitment was absorbed
 pub taken_more : (s t : List ℕ) (batches : Batches) (i : ℕ)
     (b : CommitmentOpening Cubic (List ℕ) ℕ) → i < length batches → b ≡ get_or batches i b →
     t ≡ absorbed s b.commitment
@@ -39,11 +39,11 @@ pub taken_all : (s : List ℕ) (batches : Batches) (i : ℕ) → length batches 
     s (drop i batches)
 taken_all s batches i h = ap (taken_in s) (sym (drop_all i batches h))
 
--- a scheme is told by its entries' type alone
+-- the type of its entries fixes a scheme
 one_scheme : {F : Type 0} (a b : ShaMmcs F) → a ≡ b
 one_scheme a b = refl
 
--- what the scheme refuses from the state that took in the commitments is refused of the input
+-- what the scheme refuses from the state that has absorbed the commitments, it refuses of the input
 pub unverified : {g : _} {Proof Error : Type 0} (Refuses : Scheme →
     List (CommitmentOpening Cubic (List ℕ) (CircleDomain Mersenne31 g)) → Proof → List ℕ → List ℕ →
     Error → Type 0)
@@ -76,7 +76,7 @@ module _ {g : _} {D WD : Type 0}
     (o : Schemes Sha256Challenger (List ℕ) Mersenne31 Cubic (ShaMmcs Mersenne31) (List ℕ) D
     (Vec (List ℕ) Global) (ShaMmcs Cubic) (List ℕ) WD (Vec (List ℕ) Global)) (input : Input)
   where
-    -- what is accepted of claims and parameters that the input tells, is verified
+    -- what is accepted of the input's claims and parameters is verified
     pub verified : (claims : List (CommitmentOpening Cubic (List ℕ) (CircleDomain Mersenne31 g)))
         (mmcs : ShaMmcs Mersenne31) (scheme : ShaMmcs Cubic)
         (params : FriParameters (ShaMmcs Cubic))
@@ -100,7 +100,7 @@ module _ {g : _} {D WD : Type 0}
           same a);
     }
 
-    -- what is verified is accepted of such claims and parameters
+    -- what is verified is accepted of the input's claims and parameters
     pub accepted : (claims : List (CommitmentOpening Cubic (List ℕ) (CircleDomain Mersenne31 g)))
         (mmcs : ShaMmcs Mersenne31) (scheme : ShaMmcs Cubic)
         (params : FriParameters (ShaMmcs Cubic))

@@ -1,4 +1,4 @@
--- What a command answers of a text: the line of a result, or why there is none.
+-- What a command returns of a text: the line of a result, or why there is none.
 use Rattle.std.specs.Prelude.{ℕ, List, MatchResult, Result, String, string_bytes}
 use Rattle.std.specs.declared.alloc.Global.{Global}
 use Rattle.circle_json.specs.Form.{Form}

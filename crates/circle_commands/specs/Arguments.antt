@@ -1,4 +1,4 @@
--- What the program is asked to do.
+-- The command that the program's arguments name.
 use Rattle.std.specs.Prelude.{◌≡◌, ℕ, ◌⊎◌, List, [], ◌∷◌, map, codes, String, string_bytes}
 use Rattle.std.specs.declared.alloc.Global.{Global}
 use Rattle.circle_commands.specs.declared.run.CommandName.{CommandName}

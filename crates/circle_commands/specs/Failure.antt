@@ -1,4 +1,4 @@
--- The status and the line that tell a failure, and which failure an error is.
+-- The status and the line of a failure, and the failure that an error becomes.
 use Rattle.std.specs.Prelude.{◌≡◌, ℕ, ◌++◌, List, codes}
 use Rattle.std.specs.declared.io.ErrorKind.{ErrorKind}
 use Rattle.std.specs.declared.io.ErrorKind.TheVariants.{OutOfMemory}
@@ -38,22 +38,22 @@ line_of (Unfit error) = unreadable_line (json_name error)
 line_of (Refused reason) = refused_line (reason_name reason)
 line_of Memory = refused_line (codes "Memory")
 
--- what a failure of a reader is
+-- what an error of the reader becomes
 abbrev pub failure_of_reading : ErrorKind → Failure
 failure_of_reading OutOfMemory = Memory
 failure_of_reading _ = Input
 
--- what a failure to read JSON of a text is
+-- what an error of the JSON parser becomes
 pub record IsFailureOfText (error : Error) (failure : Failure) : Type 0 where
   pub memory : IsMemory error → failure ≡ Memory
   pub text : (¬ IsMemory error) → failure ≡ Json
 
--- what a failure to read an input of JSON is
+-- what an error of reading an input from JSON becomes
 pub record IsFailureOfJson (error : JsonError) (failure : Failure) : Type 0 where
   pub memory : error ≡ json.Memory → failure ≡ Memory
   pub unfit : (¬ (error ≡ json.Memory)) → failure ≡ Unfit error
 
--- what a refusal is: that of memory, or one for its reason
+-- what a refusal becomes: want of memory, or a refusal for its reason
 abbrev pub IsFailureOfRefusal : {R : Type 0} → (R → Reason) → R → R → Failure → Type 0
 IsFailureOfRefusal reason memory refusal Usage = ⊥
 IsFailureOfRefusal reason memory refusal Input = ⊥

@@ -1,4 +1,4 @@
--- What the command `values` is given, and what it asks of that.
+-- What the command `values` is given, and what it requires of that.
 use Rattle.std.specs.Prelude.{◌≡◌, ℕ, ◌≤◌, ◌^◌, List, length, map, Vec, codes}
 use Rattle.std.specs.declared.alloc.Global.{Global}
 use Rattle.circle_field.specs.declared.mersenne31.Mersenne31.{Mersenne31}

@@ -1,4 +1,4 @@
--- What a run of the program reads, writes and tells by its status.
+-- What a run of the program reads and writes, and the status that it returns.
 use Rattle.std.specs.Prelude.{◌≡◌, ℕ, ◌⊎◌, List, Option, Result, Ok, Err, String, string_bytes}
 use Rattle.std.specs.Io.KnownBytes.{Appends, Consumes, IsAtEnd}
 use Rattle.std.specs.declared.alloc.Global.{Global}
@@ -11,7 +11,7 @@ use Rattle.circle_commands.specs.declared.failure.Failure.TheVariants.{Refused, 
 abbrev pub Answer : Type 0
 Answer = Result (String Global) Failure
 
--- the status and the line that tell an answer
+-- the status and the line of an answer
 abbrev pub answer_status : Answer → ℕ
 answer_status (Ok line) = 0
 answer_status (Err failure) = status_of failure
@@ -20,11 +20,11 @@ abbrev pub answer_line : Answer → List ℕ
 answer_line (Ok line) = string_bytes line
 answer_line (Err failure) = line_of failure
 
--- the line was written and this status is given, or writing failed and it is 1
+-- the line was written and this status is returned, or writing failed and the status is 1
 abbrev pub IsWritten : ℕ → List ℕ → Option (List ℕ) → Option (List ℕ) → ℕ → Type 0
 IsWritten due line old new status = ((status ≡ due) × Appends old new line) ⊎ (status ≡ 1)
 
--- so of an answer
+-- so of the line and the status of an answer
 abbrev pub IsTold : Answer → Option (List ℕ) → Option (List ℕ) → ℕ → Type 0
 IsTold answer = IsWritten (answer_status answer) (answer_line answer)
 
@@ -39,13 +39,14 @@ IsUnread (Err (Refused reason)) = ⊥
 IsUnread (Err Memory) = Unit {0}
 
 module _ (Answers : List ℕ → Answer → Type 0) where
-  -- a text was read to the end of the input and this is the answer of it, unless reading failed
+  -- the input was read to its end and this is the answer to its text, unless reading failed or
+  -- memory was refused
   pub record IsOfInput (old new : Option (List ℕ)) (answer : Answer) : Type 0 where
     pub text : List ℕ
     pub read : Consumes old new text
     pub told : IsUnread answer ⊎ (IsAtEnd new × Answers text answer)
 
-  -- the input was read so, and the answer was told
+  -- the input was read so, and the line of the answer was written
   pub record HasRun (input_old input_new output_old output_new : Option (List ℕ)) (status : ℕ)
       : Type 0 where
     pub answer : Answer

@@ -1,4 +1,4 @@
--- What the command `prove` answers.
+-- What the command `prove` returns.
 use Rattle.std.specs.Prelude.{◌≡◌, ℕ, ◌+◌, ◌^◌, ◌≤◌, List, [], ◌∷◌, length, map, replicate, zip}
 use Rattle.std.specs.Prelude.{All, Vec}
 use Rattle.std.specs.List.{AllZip}
@@ -27,7 +27,7 @@ use Rattle.circle_commit.specs.declared.claims.CommittedBatch.{CommittedBatch}
 use Rattle.circle_relation.specs.RunOf.{proof_of}
 use Rattle.circle_relation.specs.Statement.{BatchClaim, MatrixClaim}
 use Rattle.circle_codewords.specs.Words.{claim_of}
-use Rattle.circle_scheme.specs.Committing.{IsExtensionOf}
+use Rattle.p3_circle.specs.Committing.{IsExtensionOf}
 use Rattle.circle_commands.specs.Rows.{lists}
 use Rattle.circle_commands.specs.Traces.{HasFittingRows}
 use Rattle.circle_commands.specs.Verified.{batches_told}
@@ -71,7 +71,7 @@ known_of c = (c.commitment, zip (logs_of c.traces.now) (points_of c.traces.now))
 abbrev pub known_told : CommittedBatch Cubic (List ℕ) ℕ → List ℕ × List (ℕ × List Cubic)
 known_told b = (b.commitment, zip b.domains.items (lists_of b.points.items))
 
--- the challenger's state after the commitments were taken in, in order
+-- the challenger's state once it has absorbed the commitments, in order
 abbrev pub commitments_taken : List ℕ → List Committed → List ℕ
 commitments_taken s [] = s
 commitments_taken s (c ∷ cs) = commitments_taken (absorbed s c.commitment) cs
@@ -115,9 +115,9 @@ module _ {D WD : Type 0}
     (o : Schemes Sha256Challenger (List ℕ) Mersenne31 Cubic (ShaMmcs Mersenne31) (List ℕ) D
     (Vec (List ℕ) Global) (ShaMmcs Cubic) (List ℕ) WD (Vec (List ℕ) Global))
   where
-    -- the batches are committed to, and opened from the challenger that took in nothing but the
-    -- commitments; the claims tell the commitments, the points and the values, and the proof is
-    -- theirs
+    -- the batches are committed to, and opened from the challenger that has absorbed the
+    -- commitments alone; the claims state the commitments, the points and the values, and the proof
+    -- is theirs
     pub record IsProved (input : Input) (output : Claims) : Type 0 where
       pub mmcs : ShaMmcs Mersenne31
       pub scheme : ShaMmcs Cubic

@@ -1,4 +1,4 @@
--- The rows that `prove` takes, and which refusal it answers to others.
+-- The rows that `prove` accepts, and how it refuses others.
 use Rattle.std.specs.Prelude.{ℕ, ◌+◌, ◌<◌, ◌≤◌, ◌^◌, ◌⊎◌, List, [], ◌∷◌, length, All, Vec}
 use Rattle.std.specs.declared.alloc.Global.{Global}
 use Rattle.circle_commit.specs.Matrix.{IsPowerOfTwo}
@@ -25,7 +25,7 @@ HasFittingRows t = AreFittingRows t.rows.items
 abbrev pub AreFitting : List (Vec Trace Global) → Type 0
 AreFitting batches = All (λ b. All HasFittingRows b.items) batches
 
--- so many of them that something is left to fold where folding stops at 2^final coefficients
+-- enough of them that something is left to fold where folding stops at 2^final coefficients
 abbrev pub AreTallRows : ℕ → List (Vec Mersenne31 Global) → Type 0
 AreTallRows final rows = AreFittingRows rows × (2 ^ (2 + final) ≤ length rows)
 

@@ -43,8 +43,8 @@ module _ {D WD : Type 0}
     (o : Schemes Sha256Challenger (List ℕ) Mersenne31 Cubic (ShaMmcs Mersenne31) (List ℕ) D
     (Vec (List ℕ) Global) (ShaMmcs Cubic) (List ℕ) WD (Vec (List ℕ) Global))
   where
-    -- the scheme refuses to open the batches that it committed to, from the challenger that took in
-    -- nothing but the commitments
+    -- the scheme refuses to open the batches that it committed to, from the challenger that has
+    -- absorbed the commitments alone
     pub record IsUnopened (Refuses : Scheme → List (OpeningRequest D Cubic) → List ℕ → List ℕ →
         ProverError → Type 0) (scheme : Scheme) (batches : List (Vec Trace Global))
         (error : ProverError) : Type 0 where

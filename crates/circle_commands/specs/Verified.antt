@@ -19,7 +19,7 @@ use Rattle.circle_relation.specs.StatementOf.{batch_claims, point_claim}
 use Rattle.p3_circle.specs.declared.pcs.CirclePcs.{CirclePcs}
 use Rattle.circle_commands.specs.declared.verify.Input.{Input}
 
--- the claims about matrices whose sizes are told by logarithms
+-- the claims about matrices whose sizes are given by logarithms
 abbrev pub matrix_told : MatrixOpening Cubic ℕ → MatrixClaim Cubic
 matrix_told m = record { log_n = m.domain; claims = map point_claim m.points.items }
 
@@ -33,13 +33,13 @@ abbrev pub batches_told : List (CommitmentOpening Cubic (List ℕ) ℕ) →
     List (BatchClaim (List ℕ) Cubic)
 batches_told batches = map batch_told batches
 
--- the challenger's state after the commitments were taken in, in order
+-- the challenger's state once it has absorbed the commitments, in order
 abbrev pub taken_in : List ℕ → List (CommitmentOpening Cubic (List ℕ) ℕ) → List ℕ
 taken_in s [] = s
 taken_in s (b ∷ bs) = taken_in (absorbed s b.commitment) bs
 
--- the verifier accepts the proof of the input's claims from a challenger that took in nothing but
--- the commitments, under the scheme's relation
+-- the verifier accepts the proof of the input's claims from a challenger that has absorbed the
+-- commitments alone, under the scheme's relation
 pub record IsVerified {D WD : Type 0}
     (o : Schemes Sha256Challenger (List ℕ) Mersenne31 Cubic (ShaMmcs Mersenne31) (List ℕ) D
     (Vec (List ℕ) Global) (ShaMmcs Cubic) (List ℕ) WD (Vec (List ℕ) Global))
@@ -58,8 +58,8 @@ pub record IsVerified {D WD : Type 0}
 abbrev pub Scheme : Type 0
 Scheme = CirclePcs Mersenne31 (ShaMmcs Mersenne31) (ShaMmcs Cubic)
 
--- the scheme refuses, for this reason, claims and parameters that the input tells, from a
--- challenger that took in nothing but the commitments
+-- the scheme refuses, for this reason, the input's claims and parameters, from a challenger that
+-- has absorbed the commitments alone
 pub record IsUnverified {g : _} {Proof Error : Type 0}
     (Refuses : Scheme → List (CommitmentOpening Cubic (List ℕ) (CircleDomain Mersenne31 g))
     → Proof → List ℕ → List ℕ → Error → Type 0)

@@ -8,7 +8,7 @@ use Rattle.circle_json.specs.Form.{Form}
 use Rattle.circle_json.specs.Objects.{Fields, field, none_left}
 use Rattle.circle_commands.specs.declared.verify.Input.{Input}
 
--- claims about batches, whose matrices' sizes are told by logarithms
+-- claims about batches, whose matrices' sizes are given by logarithms
 abbrev pub Batches : Type 0
 Batches = Vec (CommitmentOpening Cubic (List ℕ) ℕ) Global
 

@@ -36,7 +36,7 @@ pub enum Failure {
     /// The command refuses its input, for this reason.
     #[error("{{\"refused\":\"{0}\"}}")]
     Refused(Reason),
-    /// Memory was refused.
+    /// An allocation was refused.
     #[error("{{\"refused\":\"Memory\"}}")]
     Memory,
 }
@@ -140,7 +140,7 @@ impl fmt::Display for Reason {
     }
 }
 
-/// A failure of the input, but where it is memory that is refused.
+/// `Input`, but `Memory` where the reader is out of memory.
 impl From<io::Error> for Failure {
     ghost use Rattle.circle_commands.specs.Failure.{failure_of_reading};
     ghost use Rattle.std.specs.IoError.{error_kind};
@@ -155,7 +155,7 @@ impl From<io::Error> for Failure {
     }
 }
 
-/// A text that isn't JSON, but where it is memory that is refused.
+/// `Json`, but `Memory` where the parser is out of memory.
 impl From<TextError> for Failure {
     ghost use Rattle.circle_commands.specs.Failure.{IsFailureOfText};
 
@@ -170,7 +170,7 @@ impl From<TextError> for Failure {
     }
 }
 
-/// JSON that isn't an input of the command, but where it is memory that is refused.
+/// `Unfit`, but `Memory` where the reading of the value is out of memory.
 impl From<JsonError> for Failure {
     ghost use Rattle.circle_commands.specs.Failure.{IsFailureOfJson};
 

@@ -365,7 +365,7 @@ fn evaluation(
     Ok((domain, matrix(alloc, rows)?))
 }
 
-// Takes in the commitments, in order.
+// Absorbs the commitments, in order.
 fn observe_commitments(challenger: &mut Challenger, committed: &[Committed])
     ensures { state_of challenger.new ≡ commitments_taken (state_of challenger.old) committed.now }
 {

@@ -12,7 +12,7 @@ use crate::{prove, shape, values, verify};
 use std::alloc::Global;
 use std::io::{Read, Write};
 
-/// What the program can be asked to do.
+/// The commands of the program.
 #[derive(Clone, Copy)]
 enum CommandName {
     Values,

@@ -51,7 +51,7 @@ pub enum Refusal {
     RaggedRows,
     /// The number of rows isn't a power of two, or exceeds the number of points.
     BadHeight,
-    /// Memory was refused.
+    /// An allocation was refused.
     Memory,
 }
 

@@ -114,7 +114,7 @@ pub fn verify(alloc: Global, input: Input) -> Result<(), Refusal>
     scheme.verify(alloc, placed(alloc, batches)?, &proof, &mut challenger)
 }
 
-// Takes in the commitments, in order.
+// Absorbs the commitments, in order.
 fn observe_commitments(challenger: &mut Challenger, batches: &[ClaimOn<usize>])
     ensures { state_of challenger.new ≡ taken_in (state_of challenger.old) batches.now }
 {

@@ -1,5 +1,4 @@
 pub mod Written
 pub mod ColumnSums
 pub mod Powers
-pub mod Batches
 pub mod Lists

@@ -1,4 +1,4 @@
--- Requests that are honest, and the claims that a verifier is handed of what is answered of them.
+-- Requests that are honest, and the claims that a verifier is handed of what is returned for them.
 use Rattle.std.specs.Prelude.{◌≡◌, ℕ, ◌≤◌, List, [], ◌∷◌, length, map, All}
 use Rattle.std.specs.List.{AllZip}
 use Rattle.circle_commit.specs.Pcs.{Openings}
@@ -39,7 +39,7 @@ module _ {E Dom M : Type 0} (size : Dom → ℕ) where
 -- that this was kept of it
 module _ {E Com Data Dom M : Type 0} (size : Dom → ℕ)
     (commits : List (Dom × M) → Com → Data → Type 0) where
-  -- the claims of one commitment are of a batch that has it, and say what is answered at the
+  -- the claims of one commitment are of a batch that has it, and say what is returned at the
   -- requested points
   pub record IsAnsweredBy (request : OpeningRequest Data E) (values : List (List (List E)))
       (claim : CommitmentOpening E Com Dom) : Type 0 where
@@ -75,7 +75,7 @@ abbrev pub IsHonestFrom : {E Com Data Dom M S : Type 0} → (List (Dom × M) →
 IsHonestFrom commits OpensAt Finds requests state =
     AreHonest commits OpensAt requests × Finds requests state
 
--- what is answered of each request are the values of the batches that its data were kept of
+-- what is returned for each request are the values of the batches that its data were kept of
 abbrev pub AreTrueValues : {E Com Data Dom M : Type 0} → (List (Dom × M) → Com → Data → Type 0)
     → (List (Dom × M) → List (List E) → List (List (List E)) → Type 0)
     → List (OpeningRequest Data E) → Openings E → Type 0
@@ -84,7 +84,7 @@ AreTrueValues {Com = Com} {Dom = Dom} {M = M} commits ValuesOf requests values =
     → commits batch commitment r.prover_data.now → ValuesOf batch (requested_points r) v)
     requests values
 
--- claims that say what is answered are accepted, on domains of as many points as the batches'
+-- claims that say what is returned are accepted, on domains of as many points as the batches'
 abbrev pub AcceptsAnswers : {E Com Data Dom M : Type 0} → (Dom → ℕ)
     → (List (Dom × M) → Com → Data → Type 0) → (List (CommitmentOpening E Com Dom) → Type 0)
     → List (OpeningRequest Data E) → Openings E → Type 0

@@ -1,4 +1,4 @@
--- What is asked of requests to open.
+-- What requests to open must satisfy.
 use Rattle.std.specs.Prelude.{List, All}
 use Rattle.circle_commit.specs.declared.pcs.OpeningRequest.{OpeningRequest}
 

@@ -13,5 +13,4 @@ pub mod Selectors
 pub mod Named
 pub mod Honest
 pub mod Kept
-pub mod RoundTrip
 pub mod Claims

@@ -1,4 +1,4 @@
--- Words for commitments to several matrices at once.
+-- Definitions for commitments to several matrices at once.
 use Rattle.std.specs.Prelude.{ℕ, ◌/◌, List, [], ◌∷◌, map, All, slice_index_or, max, Vec}
 use Rattle.std.specs.declared.alloc.Global.{Global}
 use Rattle.circle_commit.specs.Matrix.{IsPowerOfTwo}

@@ -1,7 +1,7 @@
 -- The parameters of FRI over a commitment scheme.
 use Rattle.circle_commit.specs.declared.params.FriParameters.{FriParameters}
 
--- the same numbers, with another commitment scheme of the folded words
+-- the same numbers, with another commitment scheme of the folded codewords
 abbrev pub with_scheme : {A B : Type 0} → FriParameters A → B → FriParameters B
 with_scheme p scheme = record {
   log_blowup = p.log_blowup;

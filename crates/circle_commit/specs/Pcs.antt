@@ -1,4 +1,4 @@
--- Words for polynomial commitment schemes.
+-- Definitions for polynomial commitment schemes.
 use Rattle.std.specs.Prelude.{List, map, Vec}
 use Rattle.std.specs.declared.alloc.Global.{Global}
 use Rattle.circle_commit.specs.Mmcs.{opened_rows}

@@ -1,4 +1,4 @@
-//! The claims that a verifier is handed of what was answered.
+//! The claims that a verifier is given on what was returned.
 ghost use Rattle.std.specs.Prelude.{◌≡◌, IfOk, map, zip};
 ghost use Rattle.circle_commit.specs.DotProduct.{pairwise};
 ghost use Rattle.circle_commit.specs.Mmcs.{opened_rows};
@@ -25,7 +25,7 @@ pub struct CommittedBatch<Challenge, Commitment, Domain> {
 }
 
 /// The claims that the matrices of batches have these values at their points, as `verify` takes
-/// them: `values` as `open` answers them of requests for the same batches, matrices and points, in
+/// them: `values` as `open` returns them for requests for the same batches, matrices and points, in
 /// their order. What has no counterpart at its place is left out. Values and points are moved.
 ///
 /// Fails where memory is refused.

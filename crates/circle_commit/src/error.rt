@@ -18,8 +18,8 @@ pub trait Named {
         ensures { result.now ≡ name_of self.now };
 }
 
-/// Why a proof is refused. `CommitErr` is the error of the scheme that commits to the folded words,
-/// `InputErr` that of the openings of what was committed to first.
+/// Why a proof is refused. `CommitErr` is the error of the scheme that commits to the folded
+/// codewords, `InputErr` that of the openings of what was committed to first.
 #[derive(Debug, Drop, Error)]
 #[error_bound(CommitErr: Display, InputErr: Display)]
 pub enum FriError<CommitErr, InputErr> {
@@ -45,7 +45,7 @@ pub enum FriError<CommitErr, InputErr> {
         /// Its difficulty, in bits.
         bits: usize,
     },
-    /// The parameters ask for no queries.
+    /// The parameters have no queries.
     #[error("there are no queries")]
     ZeroQueries,
     /// The parameters make codewords no longer than what they encode.

@@ -1,12 +1,12 @@
-//! How words are folded.
+//! How codewords are folded.
 ghost use Rattle.std.specs.Prelude.{◌≡◌, ℕ, List, IfOk};
 
 use crate::matrix::Matrix;
 use circle_field::{ExtensionField, Field};
 use std::alloc::{AllocError, Global};
 
-/// How a word of an extension field's elements is folded by a challenge: so many neighbouring
-/// entries, a row of a matrix, become one. What each call asks and gives is said by each strategy.
+/// How a codeword of an extension field's elements is folded by a challenge: neighbouring entries,
+/// a row of a matrix, become one. Each strategy says what each call requires and returns.
 pub trait FriFoldingStrategy<F: Field, EF: ExtensionField<F>> {
     ghost extra_query_index_bits: { Self → ℕ };
 
@@ -20,7 +20,8 @@ pub trait FriFoldingStrategy<F: Field, EF: ExtensionField<F>> {
 
     ghost fold_matrix_gives: { Self → EF → ℕ → List (List EF) → List EF → Type 0 };
 
-    /// How many bits a query's index has beyond those of the first word that this strategy folds.
+    /// How many bits a query's index has beyond those of the first codeword that this strategy
+    /// folds.
     fn extra_query_index_bits(&self) -> usize
         ensures { result ≡ extra_query_index_bits self.now };
 

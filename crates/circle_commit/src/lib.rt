@@ -18,27 +18,23 @@
 //!   caller over any scheme can rely on it: Ok of a verifier is one relation of the claims, the
 //!   proof and the states before and after, and a refusal that isn't of memory denies it for every
 //!   state after.
-//! - `claims_of` makes the claims of `verify` of what `open` returned. `round_trip` commits to
-//!   batches, opens them at points and verifies, over any scheme: an honest run is accepted, and
-//!   any other returns the refusal of the call that refused.
+//! - `claims_of` makes the claims of `verify` of what `open` returned.
 //!
 //! Its files:
 //!
 //! - In `src/`, `space.rt`: the trait of domains; `params.rt`: the parameters of FRI and the phases
 //!   of proofs of work; `pcs.rt`: what is opened and claimed; `scheme.rt`, `stark.rt`: the traits
 //!   of polynomial commitment schemes; `statements.rt`: what the members of `Pcs` say together;
-//!   `any_scheme.rt`: `round_trip`; `claims.rt`: from openings to claims.
+//!   `claims.rt`: from openings to claims.
 //! - In `specs/`, `Matrix`, `RowMajorMatrix`, `RowMajorMatrixView`, `PeriodicLdeTable`: what each
-//!   type is to contracts. `Mmcs`, `MmcsFacts`, `Pcs`, `Parameters`, `Selectors`: words of schemes,
-//!   parameters and selectors. `DotProduct`: sums by weights. `RowFacts`, `FlatRows`: lemmas on
-//!   rows stored one after another, for the crates above too. `Claims`: claims by their parts;
-//!   `Kept`: data kept of batches that were committed to; `Honest`: honest requests, and the claims
-//!   that a verifier is handed; `RoundTrip`: batches at points, and why a round trip returns no
-//!   values.
-//! - In `proofs/`: column sums, powers of two, lists written from the front; `Batches`, `Lists`.
+//!   type is to contracts. `Mmcs`, `MmcsFacts`, `Pcs`, `Parameters`, `Selectors`: definitions of
+//!   schemes, parameters and selectors. `DotProduct`: sums by weights. `RowFacts`, `FlatRows`:
+//!   lemmas on rows stored one after another, for the crates above too. `Claims`: claims by their
+//!   parts; `Kept`: data kept of batches that were committed to; `Honest`: honest requests, and the
+//!   claims that a verifier is handed.
+//! - In `proofs/`: column sums, powers of two, lists written from the front; `Lists`.
 #![tactic(auto)]
 
-pub mod any_scheme;
 pub mod claims;
 pub mod error;
 pub mod folding;
@@ -53,7 +49,6 @@ pub mod stark;
 pub mod statements;
 pub mod view;
 
-pub use any_scheme::{BatchAtPoints, RoundTripError, round_trip};
 pub use claims::{CommittedBatch, claims_of};
 pub use error::{FriError, Named};
 pub use folding::FriFoldingStrategy;
@@ -64,7 +59,7 @@ pub use matrix::{
 pub use mmcs::{
     Mmcs, OpenedRows, are_below, heights_are_powers_of_two, is_power_of_two, log2_strict,
 };
-pub use params::{FriParameters, PowPhase};
+pub use params::{FriParameters, MAX_PROOF_OF_WORK_BITS, PowPhase};
 pub use pcs::{
     BatchMultiOpening, CommitmentOpening, MatrixOpening, OpenedValues, OpenedValuesForMatrix,
     OpenedValuesForPoint, OpenedValuesForRound, OpeningRequest, PointOpening,

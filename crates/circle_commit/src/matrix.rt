@@ -34,7 +34,7 @@ pub trait Matrix<T>: MatrixShape {
 
     /// The entries of row `r`.
     ///
-    /// Asks `r < height`.
+    /// Requires `r < height`.
     fn row(&self, r: usize) -> &[T]
         requires { r < Self.height self.now }
         ensures { slice_get (rows self.now) r ≡ Some result.now };
@@ -50,7 +50,7 @@ pub trait Matrix<T>: MatrixShape {
 pub trait FieldMatrix<F: Field>: Matrix<F> {
     /// For each column the sum of its entries, each times the weight of its row.
     ///
-    /// Asks a weight for each row. Fails where memory is refused.
+    /// Requires a weight for each row. Fails where memory is refused.
     fn columnwise_dot_product<EF: ExtensionField<F>>(
         &self,
         alloc: Global,
@@ -67,10 +67,10 @@ pub trait FieldMatrix<F: Field>: Matrix<F> {
         Ok(sums)
     }
 
-    /// What `columnwise_dot_product` answers for each of the lists of weights. The rows are gone
+    /// What `columnwise_dot_product` returns for each of the lists of weights. The rows are gone
     /// over once for all of them.
     ///
-    /// Asks in each list a weight for each row. Fails where memory is refused.
+    /// Requires in each list a weight for each row. Fails where memory is refused.
     fn columnwise_dot_products<EF: ExtensionField<F>>(
         &self,
         alloc: Global,
@@ -149,7 +149,7 @@ fn add_multiple<F: Field, EF: ExtensionField<F>>(sums: &mut [EF], row: &[F], wei
 }
 
 /// The number of entries of `height` rows of `width`. Fails exactly where it passes `usize`: no
-/// memory holds so many.
+/// memory holds that many.
 pub fn entry_count(height: usize, width: usize) -> Result<usize, AllocError>
     ensures { MatchResult result (λ count. count ≡ height * width)
         (λ _. 2 ^ 64 ≤ height * width) }
@@ -181,8 +181,8 @@ impl<T: Copy> RowMajorMatrix<T> {
 
     /// The matrix with these entries, row after row.
     ///
-    /// Asks a width of at least 1 that divides the number of entries, as [`try_new`](Self::try_new)
-    /// tests.
+    /// Requires a width of at least 1 that divides the number of entries, as
+    /// [`try_new`](Self::try_new) tests.
     pub fn new(values: Vec<T>, width: usize) -> Self
         requires positive { 1 ≤ width }
         requires whole { vec_len values % width ≡ 0 }
@@ -192,8 +192,8 @@ impl<T: Copy> RowMajorMatrix<T> {
         RowMajorMatrix { values, width }
     }
 
-    /// What [`new`](Self::new) answers, and `None` where the width is 0 or doesn't divide the number
-    /// of entries.
+    /// What [`new`](Self::new) returns, and `None` where the width is 0 or doesn't divide the
+    /// number of entries.
     pub fn try_new(values: Vec<T>, width: usize) -> Option<Self>
         ensures some { IsSome result ↔ ((1 ≤ width) × (vec_len values % width ≡ 0)) }
         ensures shape { IfSome result (λ m. width_of m ≡ width) }
@@ -253,7 +253,7 @@ impl<T: Copy> RowMajorMatrix<T> {
 
     /// The first `n` rows and the others, as two views.
     ///
-    /// Asks that `n` is at most the height.
+    /// Requires that `n` is at most the height.
     pub fn split_rows(&self, n: usize) -> (RowMajorMatrixView<'_, T>, RowMajorMatrixView<'_, T>)
         requires { n ≤ height_of self.now }
         ensures widths { (view_width result.0 ≡ width_of self.now)
@@ -315,7 +315,7 @@ pub trait RowIndexMap {
 
     /// The row of the underlying matrix that stands at row `r`.
     ///
-    /// Asks `r < height`.
+    /// Requires `r < height`.
     fn map_row_index(&self, r: usize) -> usize
         requires { r < height self.now }
         ensures { result ≡ map_row_index self.now r };

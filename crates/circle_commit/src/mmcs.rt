@@ -16,10 +16,10 @@ pub type OpenedRows<T> = Vec<Vec<Vec<T>>>;
 
 /// A scheme that commits to several matrices at once ("mixed matrix commitment scheme").
 ///
-/// Its laws: data is its list of matrices; rows are accepted exactly where they are shown, memory
-/// aside; what is opened is shown; and the row of a matrix of height `2^h` at index `i` under the
-/// greatest height `2^H` is its row `i >> (H - h)`. `commit` alone asks for heights that are powers
-/// of two: data may be of any matrices, and of none.
+/// Its laws: data is its list of matrices; rows are accepted exactly where they are shown, unless
+/// out of memory; what is opened is shown; and the row of a matrix of height `2^h` at index `i`
+/// under the greatest height `2^H` is its row `i >> (H - h)`. `commit` alone requires heights that
+/// are powers of two: data may be of any matrices, and of none.
 pub trait Mmcs<T: Copy> {
     /// What is published of the matrices.
     type Commitment: Debug + Drop;
@@ -49,8 +49,8 @@ pub trait Mmcs<T: Copy> {
 
     /// Commits to matrices.
     ///
-    /// Asks at least one, and heights that are powers of two: [`heights_are_powers_of_two`] tests
-    /// the second of a `Vec` too. Fails where memory is refused.
+    /// Requires at least one, and heights that are powers of two: [`heights_are_powers_of_two`]
+    /// tests the second of a `Vec` too. Fails where memory is refused.
     fn commit(
         &self,
         alloc: Global,
@@ -71,8 +71,8 @@ pub trait Mmcs<T: Copy> {
 
     /// The rows at the indices, and a proof that they are those that were committed to.
     ///
-    /// Asks at least one index, each below the greatest height, as [`are_below`] tests; an index
-    /// may stand there more than once. Fails where memory is refused.
+    /// Requires at least one index, each below the greatest height, as [`are_below`] tests; an
+    /// index may stand there more than once. Fails where memory is refused.
     fn open_multi_batch(
         &self,
         alloc: Global,
@@ -119,7 +119,8 @@ pub fn is_power_of_two(n: usize) -> bool
 
 /// The binary logarithm of a power of two.
 ///
-/// Asks that there is an `m` with `n = 2^m`, as [`is_power_of_two`] tests; that `m` is the answer.
+/// Requires that there is an `m` with `n = 2^m`, as [`is_power_of_two`] tests; that `m` is the
+/// result.
 pub fn log2_strict(n: usize) -> usize
     requires { IsPowerOfTwo n }
     ensures power { 2 ^ result ≡ n }
@@ -129,14 +130,14 @@ pub fn log2_strict(n: usize) -> usize
     n.ilog2() as usize
 }
 
-/// Whether each of the numbers is below a bound, as an opening asks of indices.
+/// Whether each of the numbers is below a bound, as an opening requires of indices.
 pub fn are_below(numbers: &[usize], bound: usize) -> bool
     ensures { IsTrue result ↔ All (λ n. n < bound) numbers.now }
 {
     numbers.iter().all(|n| *n < bound)
 }
 
-/// Whether the heights of all matrices are powers of two, as a commitment asks.
+/// Whether the heights of all matrices are powers of two, as a commitment requires.
 pub fn heights_are_powers_of_two<T: Copy>(matrices: &[RowMajorMatrix<T>]) -> bool
     // Of the list by the name that a caller has for it, as that of a `Vec` that lends the slice.
     ensures yes { IsTrue result → (list : List (RowMajorMatrix T)) → matrices.now ≡ list

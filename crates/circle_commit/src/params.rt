@@ -6,9 +6,12 @@ ghost use Rattle.circle_commit.specs.declared.params.PowPhase.TheVariants.{Query
 
 use std::fmt;
 
+/// The greatest difficulty, in bits, of a proof of work that is supported.
+pub const MAX_PROOF_OF_WORK_BITS: usize = 30;
+
 /// The parameters of FRI: how much the codewords are longer than what they encode, how they are
 /// folded and queried, the difficulties of the proofs of work, and the commitment scheme of the
-/// folded words.
+/// folded codewords.
 #[derive(Debug, Drop)]
 pub struct FriParameters<M> {
     /// The binary logarithm of the blowup, by which a codeword is longer than what it encodes.
@@ -27,12 +30,12 @@ pub struct FriParameters<M> {
     pub commit_proof_of_work_bits: usize,
     /// The difficulty, in bits, of the proof of work before the query indices.
     pub query_proof_of_work_bits: usize,
-    /// The commitment scheme of the folded words.
+    /// The commitment scheme of the folded codewords.
     pub mmcs: M,
 }
 
 impl<M> FriParameters<M> {
-    /// The same numbers, with another commitment scheme of the folded words.
+    /// The same numbers, with another commitment scheme of the folded codewords.
     pub fn with_mmcs<Other>(&self, mmcs: Other) -> FriParameters<Other>
         ensures { result ≡ with_scheme self.now mmcs }
     {

@@ -20,7 +20,7 @@ pub type OpenedValuesForMatrix<F> = Vec<OpenedValuesForPoint<F>>;
 /// The values of one batch of matrices, by matrix and point.
 pub type OpenedValuesForRound<F> = Vec<OpenedValuesForMatrix<F>>;
 
-/// The values that an opening answers: for each batch, for each of its matrices, for each of its
+/// The values that an opening returns: for each batch, for each of its matrices, for each of its
 /// points, the values of the columns.
 pub type OpenedValues<F> = Vec<OpenedValuesForRound<F>>;
 

@@ -65,7 +65,7 @@ impl<T: Copy> PeriodicLdeTable<T> {
     /// The value of column `c` at point `i` of the extension, which stands in row `i` modulo the
     /// height.
     ///
-    /// Asks `c < width` and a table of at least one row.
+    /// Requires `c < width` and a table of at least one row.
     pub fn get(&self, i: usize, c: usize) -> T
         requires column { c < width_of self.now }
         requires nonempty { 1 ≤ height_of self.now }

@@ -93,7 +93,7 @@ where
 
     ghost is_prover_memory: { Self.ProverError → Bool };
 
-    /// The domain on which a polynomial of so many coefficients is given.
+    /// The domain on which a polynomial of `degree` coefficients is given.
     fn natural_domain_for_degree(&self, degree: usize) -> Self::Domain
         requires { natural_domain_for_degree_asks self.now degree }
         ensures { natural_domain_for_degree_gives self.now degree result };
@@ -116,8 +116,8 @@ where
 
     /// The values of the committed polynomials at the requested points, and a proof that they are.
     ///
-    /// Asks what `open_asks` says of its data, which holds of those that were kept of batches that
-    /// were committed to. Fails where memory is refused.
+    /// Requires of its data what `open_asks` says, which holds of those that were kept of batches
+    /// that were committed to. Fails where memory is refused.
     fn open(
         &self,
         alloc: Global,
@@ -131,7 +131,7 @@ where
             requests.entry.items (s challenger.old) (s challenger.new)) };
 
     /// Whether the claimed values are those of the committed polynomials: Ok exactly where the
-    /// scheme's relation holds, memory aside.
+    /// scheme's relation holds, unless out of memory.
     ///
     /// Takes any input: what is malformed is refused.
     fn verify(
@@ -168,19 +168,19 @@ where
         → AreHonest (commits pcs) (opens_at pcs) requests → finds_witnesses pcs requests s
         → open_refuses pcs requests s t e → IsTrue (is_prover_memory e) };
 
-    // `open` answers a list of values for each requested point.
+    // `open` returns a list of values for each requested point.
     ghost each_point: { (pcs : Self) (requests : List (OpeningRequest Self.ProverData Challenge))
         (values : Openings Challenge) (proof : Self.Proof) (s t : Challenger.State)
         → open_gives pcs requests s values proof t → HaveValues requests values };
 
-    // What `open` answers of batches that were committed to are the values of their polynomials.
+    // What `open` returns for batches that were committed to are the values of their polynomials.
     ghost true_values: { (pcs : Self) (requests : List (OpeningRequest Self.ProverData Challenge))
         (values : Openings Challenge) (proof : Self.Proof) (s t : Challenger.State)
         → open_gives pcs requests s values proof t
         → AreTrueValues (commits pcs) (values_of pcs) requests values };
 
     // What `open` gives is accepted from the state that it was called in, and leaves the same
-    // state: where the claims are what was answered, of batches that have the claimed commitments,
+    // state: where the claims are what was returned, of batches that have the claimed commitments,
     // on domains of as many points.
     ghost complete: { (pcs : Self) (requests : List (OpeningRequest Self.ProverData Challenge))
         (values : Openings Challenge) (proof : Self.Proof) (s t : Challenger.State)

@@ -25,8 +25,8 @@ pub struct LagrangeSelectors<T> {
 
 /// A set of points on which a polynomial is given by its values, a row for each point.
 ///
-/// A point stands here by one coordinate, in the field of the values or in an extension of it.
-/// What each call asks and gives is said by each space.
+/// A point stands here by one coordinate, in the field of the values or in an extension of it. Each
+/// space says what each call requires and returns.
 pub trait PolynomialSpace: Copy {
     /// The field of the values.
     type Val: Field;
@@ -106,7 +106,7 @@ pub trait PolynomialSpace: Copy {
         requires { next_point_asks self.now }
         ensures { next_point_gives Ext Ext.ops Ext.embed self.now point result };
 
-    /// A domain of at least so many points that has no point of this one.
+    /// A domain of at least `min_size` points that has no point of this one.
     fn try_create_disjoint_domain(&self, min_size: usize) -> Option<Self>
         requires { try_create_disjoint_domain_asks self.now }
         ensures { try_create_disjoint_domain_gives self.now min_size result };

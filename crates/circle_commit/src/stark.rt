@@ -11,7 +11,7 @@ use circle_field::ExtensionField;
 use std::alloc::Global;
 use std::fmt::Debug;
 
-/// What a STARK over one trace asks of a scheme besides: matrices that are committed to as they
+/// What a STARK over one trace also requires of a scheme: matrices that are committed to as they
 /// are, what a committed matrix is on another domain, and periodic columns.
 pub trait UnivariateStarkPcs<Challenge, Challenger: ChallengerState>: Pcs<Challenge, Challenger>
 where
@@ -66,7 +66,8 @@ where
         ensures { result ≡ log_min_trace_height self.now };
 
     /// The matrices that [`commit`](Pcs::commit) would commit to, uncommitted: of the chunks of a
-    /// quotient, as many as are told. Asks what `commit` asks. Fails where memory is refused.
+    /// quotient, of which there are `num_chunks`. Requires what `commit` requires. Fails where
+    /// memory is refused.
     fn get_quotient_ldes(
         &self,
         alloc: Global,

@@ -18,8 +18,8 @@ impl<'a, T> RowMajorMatrixView<'a, T> {
 
     /// The rows of these entries, row after row.
     ///
-    /// Asks a width of at least 1 that divides the number of entries, as [`try_new`](Self::try_new)
-    /// tests.
+    /// Requires a width of at least 1 that divides the number of entries, as
+    /// [`try_new`](Self::try_new) tests.
     pub fn new(values: &'a [T], width: usize) -> Self
         requires positive { 1 ≤ width }
         requires whole { length values.now % width ≡ 0 }
@@ -30,8 +30,8 @@ impl<'a, T> RowMajorMatrixView<'a, T> {
         RowMajorMatrixView { values, width }
     }
 
-    /// What [`new`](Self::new) answers, and `None` where the width is 0 or doesn't divide the number
-    /// of entries.
+    /// What [`new`](Self::new) returns, and `None` where the width is 0 or doesn't divide the
+    /// number of entries.
     pub fn try_new(values: &'a [T], width: usize) -> Option<Self>
         ensures some { IsSome result ↔ ((1 ≤ width) × (length values.entry.now % width ≡ 0)) }
         ensures shape { IfSome result (λ m. width_of m ≡ width) }

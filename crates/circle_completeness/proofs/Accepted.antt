@@ -1,4 +1,4 @@
--- What an opening answers is accepted.
+-- What an opening returns is accepted.
 use Rattle.std.specs.Prelude.{◌≡◌, ℕ, ◌+◌, ◌^◌, ◌<◌, ◌≤◌, List, [], ◌∷◌, length, map, All, Ok}
 use Rattle.std.specs.List.{AllByRecursion}
 use Rattle.std.proofs.Common.{refl, sym, ◌∙◌, ap, subst, arith}
@@ -38,7 +38,7 @@ use Rattle.circle_completeness.proofs.Inputs.{inputs-count, inputs-rows, reads, 
 use Rattle.circle_completeness.proofs.ReadRows.{all-read}
 use Rattle.circle_completeness.proofs.Rounds.{canonical, chains, rounds-authenticate, rounds-shape}
 
--- claims of what is answered have the parts that the answers have
+-- claims of what is returned have the parts that it has
 parts-are : {D F E M IC : Type 0} (k : Fields F E) (p : FriParameters M)
     (kept : D → List (RowMajorMatrix F)) (Commits : List (RowMajorMatrix F) → IC → Type 0)
     (requests : List (OpeningRequest D E)) (values : Openings E)
@@ -58,7 +58,7 @@ parts-are k p kept Commits (r ∷ rs) [] [] are = absurd are
 parts-are k p kept Commits (r ∷ rs) [] (b ∷ bs) are = absurd are
 parts-are k p kept Commits (r ∷ rs) (v ∷ vs) [] are = absurd are
 
--- each matrix that is claimed at a point was answered at one
+-- each matrix that is claimed at a point was opened at one
 claimed-pointed : {F E : Type 0} (blowup : ℕ) (ms : List (Committed F E)) →
     All (λ m. 1 ≤ length m.claims) (map (claimed blowup) ms) → All (λ m. 1 ≤ length m.claims) ms
 claimed-pointed {E = E} blowup ms all = λ i d lt.
@@ -78,7 +78,7 @@ claimed-top {F = F} {E = E} p ms tall =
     (recursion_from_All (λ (m : Committed F E). p.log_blowup + p.log_final_poly_len
     + 2 ≤ m.log_height) ms tall))
 
--- the logarithms of the sizes of what was answered
+-- the logarithms of the sizes of what was opened
 each-large : {F E : Type 0} (blowup final : ℕ) (ms : List (Committed F E)) →
     AllByRecursion (λ m. blowup + final + 2 ≤ m.log_height) ms →
     AllByRecursion (λ m. final + 2 ≤ m.log_n) (map (claimed blowup) ms)

@@ -1,4 +1,4 @@
--- Coefficients cut to so many columns: the values of these are the same.
+-- Coefficients cut to `width` columns: the values of these are the same.
 use Rattle.std.specs.Prelude.{◌≡◌, ℕ, ◌+◌, ◌^◌, ◌<◌, List, [], ◌∷◌, length, map, slice_index_or}
 use Rattle.std.specs.List.{range_with_len}
 use Rattle.std.proofs.Common.{refl, sym, ◌∙◌, ap, arith}

@@ -15,7 +15,7 @@ use Rattle.circle_transcript.specs.Draw.{Drawn, Taken, claimed, closed, draw_see
 use Rattle.circle_transcript.specs.Draw.{rounds_pass}
 use Rattle.circle_transcript.specs.declared.transcript.Numbers.{Numbers}
 
--- numbers of so many bits are below the power of two
+-- numbers of `width` bits are below 2^width
 all-below : {S : Type 0} (width : ℕ) (next : S → S) (bits_of : S → ℕ) →
     ((s : S) → bits_of s < 2 ^ width) → (count : ℕ) (s : S) →
     AllByRecursion (λ q. q < 2 ^ width) (samples bits_of next count s)

@@ -1,5 +1,5 @@
 -- The first layer of a verifier's run over committed matrices: what is opened of it are the pairs
--- of the words of the heights, and these pairs fold to the entries of the words' folds.
+-- of the codewords of the heights, and these pairs fold to the entries of the codewords' folds.
 use Rattle.std.specs.Prelude.{◌≡◌, ℕ, ◌+◌, ◌-◌, ◌/◌, ◌^◌, ◌<◌, ◌≤◌, ◌==◌, true, List, [], length}
 use Rattle.std.specs.Prelude.{map, nat_lt, All, Some, slice_get, slice_index_or}
 use Rattle.std.specs.List.{filter, range_with_len}
@@ -77,7 +77,7 @@ module _ {F E M IC IP WC WP : Type 0} {k : Fields F E} {p : FriParameters M}
   abbrev kept : List (RowMajorMatrix E)
   kept = words.first_layer.kept
 
-  -- where a query reads the word of a height
+  -- where a query reads the codeword of a height
   abbrev place : ℕ → ℕ → ℕ
   place h q = q / 2 ^ (high - h)
 
@@ -172,7 +172,7 @@ module _ {F E M IC IP WC WP : Type 0} {k : Fields F E} {p : FriParameters M}
       hs n h zero (at-place h is)
 
   module _ (reads : ReadsRows k p ms r) where
-    -- the first value at a query is the entry of the height's word at its place
+    -- the first value at a query is the entry of the height's codeword at its place
     value-read : (j q h : ℕ) → slice_get queries j ≡ Some q → has_height ms h ≡ true →
         place h q < 2 ^ h →
         first_value k p r j q h ≡ slice_index_or (word h) (place h q) k.extension.zero
@@ -258,7 +258,7 @@ module _ {F E M IC IP WC WP : Type 0} {k : Fields F E} {p : FriParameters M}
         ∙ sym (zip-placed first 0 queries))
         (opened.shown r.proof.first_layer committed.commits)
 
-    -- and fold to the entries of the words' folds
+    -- and fold to the entries of the codewords' folds
     pub folds-first : FoldsFirst k p ms r
     folds-first j q h at is =
         let l = k.extension in

@@ -1,4 +1,4 @@
--- The words of the first layer, entry by entry, and the rows of the matrices that hold them.
+-- The codewords of the first layer, entry by entry, and the rows of the matrices that hold them.
 use Rattle.std.specs.Prelude.{◌≡◌, ℕ, ◌+◌, ◌-◌, ◌/◌, ◌^◌, ◌<◌, ◌≤◌, List, [], ◌∷◌, length, map, All}
 use Rattle.std.specs.Prelude.{slice_index_or}
 use Rattle.std.proofs.Common.{refl, sym, ◌∙◌, ap, arith}
@@ -65,7 +65,7 @@ module _ {F E : Type 0} (k : Fields F E) (alpha : E) (ms : List (Committed F E))
   abbrev less : E → E → E
   less a v = sub k.extension a (k.extension.mul (lambda k alpha ms blowup h) v)
 
-  -- a word of a height without its lambda
+  -- a codeword of a height without its lambda
   pub length-corrected : length (corrected_word k alpha ms blowup h) ≡ 2 ^ h
   length-corrected =
       length-pairwise less (reduced_word k alpha ms h) values (length-reduced ∙ sym length-values)

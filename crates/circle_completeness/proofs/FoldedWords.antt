@@ -1,5 +1,5 @@
--- The words of an opening from the first layer on: without its lambda a word of a height that
--- splits is of low degree, and so are its fold and the words of the rounds.
+-- The codewords of an opening from the first layer on: without its lambda a codeword of a height
+-- that splits is of low degree, and so are its fold and the codewords of the rounds.
 use Rattle.std.specs.Prelude.{◌≡◌, ℕ, ◌+◌, ◌-◌, ◌*◌, ◌/◌, ◌^◌, ◌<◌, ◌≤◌, ◌==◌, Bool, true, false}
 use Rattle.std.specs.Prelude.{if◌then◌else◌, List, [], ◌∷◌, ◌++◌, length, map, flat_map, take, drop}
 use Rattle.std.specs.Prelude.{All, slice_index_or}
@@ -35,7 +35,7 @@ use Rattle.circle_codewords.specs.Words.{pairs_of, reduced_word}
 use Rattle.circle_prover.specs.Words.{word_at}
 use Rattle.circle_completeness.proofs.TrueWords.{pairwise-map}
 
--- rows of so many entries, one after another
+-- n rows of `width` entries, one after another
 rows-again : {T : Type 0} (width n : ℕ) (xs : List T) → length xs ≡ n * width →
     flat_map (λ row. row) (rows_from width n xs) ≡ xs
 rows-again width zero [] long = refl
@@ -45,7 +45,7 @@ rows-again width (suc n) xs long =
     (rows-again width n (drop width xs) (omega (arith, length-drop width xs, long)))
     ∙ take-append-drop width xs
 
--- the pairs of a word of a power of two
+-- the pairs of a codeword of a power of two
 module _ {E : Type 0} (word : List E) (m : ℕ) (long : length word ≡ 2 ^ suc m) where
   half : length word / 2 ≡ 2 ^ m
   half = omega (arith, long, pow-suc 2 m)
@@ -106,7 +106,7 @@ module _ {F E : Type 0} (k : Fields F E) (base : FieldLaws k.field) (laws : Fiel
         },
       )
 
-  -- the word of a height without its lambda
+  -- the codeword of a height without its lambda
   module _ (quarter : (k.gen 2).x ≡ k.field.zero) (blowup : ℕ) (positive : 1 ≤ blowup) (alpha : E)
       (ms : List (Committed F E)) where
     pub corrected-low : (h : ℕ) → blowup < h → h < bits →
@@ -126,7 +126,7 @@ module _ {F E : Type 0} (k : Fields F E) (base : FieldLaws k.field) (laws : Fiel
         let parts = only split.0 split.1 split.2 in
         subst (SpanOf (h - blowup) h) (sym parts.0) split.2.span
 
-  -- the fold by y of a word of a height
+  -- the fold by y of a codeword of a height
   pub y-low : (blowup h : ℕ) (word : List E) (beta : E) → 1 ≤ blowup → blowup < h → h < bits →
       SpanOf (h - blowup) h word →
       XSpanOf (h - 1 - blowup) (h - 1)
@@ -152,7 +152,7 @@ module _ {F E : Type 0} (k : Fields F E) (base : FieldLaws k.field) (laws : Fiel
       (omega (arith, fits, below)) (y_folds k.field k.gen k.extension k.embed m beta rows) refl
       b as_rows
 
-  -- the fold by x of a later word
+  -- the fold by x of a later codeword
   x-low : (b m : ℕ) (word : List E) (beta : E) → m + 3 ≤ bits → XSpanOf (b + 1) (m + 1) word →
       XSpanOf b m (x_folds k.field k.gen k.extension k.embed m beta (pairs_of word))
   x-low b m word beta fits span =
@@ -164,7 +164,7 @@ module _ {F E : Type 0} (k : Fields F E) (base : FieldLaws k.field) (laws : Fiel
       (x_folds k.field k.gen k.extension k.embed m beta rows) refl b
       (subst (XSpanOf (b + 1) (m + 1)) (sym (pairs-again word m long)) span)
 
-  -- the words of the rounds, where what joins is of low degree
+  -- the codewords of the rounds, where what joins is of low degree
   module _ (blowup top : ℕ) (positive : 1 ≤ blowup) (fits : top < bits) (heights : List ℕ)
       (fold : ℕ → List E)
       (low : (h : ℕ) → blowup < h → h < bits → XSpanOf (h - 1 - blowup) (h - 1) (fold h))

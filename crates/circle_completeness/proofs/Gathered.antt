@@ -1,4 +1,4 @@
--- What is requested, answered, claimed and opened, side by side.
+-- What is requested, returned, claimed and opened, side by side.
 use Rattle.std.specs.Prelude.{◌≡◌, ℕ, ◌-◌, ◌≤◌, List, [], ◌∷◌, ◌++◌, length, map, flat_map, All}
 use Rattle.std.specs.List.{AllByRecursion, AllZip}
 use Rattle.std.proofs.Common.{refl, ◌∙◌, ap, subst, arith}

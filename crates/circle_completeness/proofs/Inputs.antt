@@ -54,7 +54,7 @@ use Rattle.circle_completeness.proofs.Lists.{each-known, flat-same, flat-twice, 
 
 module _ {D F E M IC : Type 0} (k : Fields F E) (p : FriParameters M)
     (kept : D → List (RowMajorMatrix F)) (Commits : List (RowMajorMatrix F) → IC → Type 0) where
-  -- what is claimed is claimed of the answered matrices
+  -- what is claimed is claimed of the opened matrices
   pub claims-are : (requests : List (OpeningRequest D E)) (values : Openings E)
       (batches : List (BatchClaim IC E)) → AreClaimed k p kept Commits requests values batches →
       all_matrices batches ≡ map (claimed p.log_blowup) (answered_matrices k p kept requests values)
@@ -74,7 +74,7 @@ module _ {D F E M IC : Type 0} (k : Fields F E) (p : FriParameters M)
       (map-append (claimed p.log_blowup) here
       (flat_map (λ b. b) (all_committed kept k p.log_blowup requests values)))
 
--- a verifier's run over the answered matrices, whose queries are below the greatest height
+-- a verifier's run over the opened matrices, whose queries are below the greatest height
 pub run-over : {D F E M IC IP WC WP : Type 0} (k : Fields F E) {bits : ℕ} (p : FriParameters M)
     (kept : D → List (RowMajorMatrix F)) (requests : List (OpeningRequest D E))
     (values : Openings E)

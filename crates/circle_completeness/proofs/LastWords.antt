@@ -1,4 +1,4 @@
--- The laws of the words of an opening under true claims.
+-- The laws of the codewords of an opening under true claims.
 use Rattle.std.specs.Prelude.{◌≡◌, ◌↔◌, ℕ, ◌+◌, ◌-◌, ◌≤◌, Bool, true, List}
 use Rattle.std.proofs.Common.{subst, arith}
 use Rattle.circle_field.specs.Field.{FieldLaws, IsEmbedding}

@@ -1,4 +1,4 @@
--- A word as rows of two: what stands at a place, its sibling, and the row that both are in.
+-- A codeword as rows of two: what stands at a place, its sibling, and the row that both are in.
 use Rattle.std.specs.Prelude.{◌≡◌, ℕ, ◌+◌, ◌-◌, ◌*◌, ◌/◌, ◌%◌, ◌^◌, ◌<◌, ◌≤◌, List, [], ◌∷◌, length}
 use Rattle.std.specs.Prelude.{take, drop, slice_index_or, nat_eq, if◌then◌else◌}
 use Rattle.std.proofs.Common.{zero, suc, refl, sym, ◌∙◌, ap, arith}
@@ -22,7 +22,7 @@ length-row w i lt =
     ap length (row-of w i lt)
     ∙ length-take-le 2 (drop (i / 2 * 2) w) (omega (arith, lt, length-drop (i / 2 * 2) w))
 
--- what stands at a place of a word stands in its row
+-- what stands at a place of a codeword stands in its row
 pub row-read : {E : Type 0} (z : E) (w : List E) (i : ℕ) → i / 2 < length w / 2 →
     slice_index_or (slice_index_or (pairs_of w) (i / 2) []) (i % 2) z ≡ slice_index_or w i z
 row-read z w i lt =
@@ -52,13 +52,13 @@ pair-back z w i lt =
     ap (λ v. pair_of i v (sibling_in z i row)) (sym (row-read z w i lt))
     ∙ put-back z row (i % 2) (omega arith) (length-row w i lt)
 
--- so in a word of an even number of entries
+-- so in a codeword of an even number of entries
 pub pair-back_even : {E : Type 0} (z : E) (w : List E) (n i : ℕ) → length w ≡ 2 * n → i < length w →
     pair_of i (slice_index_or w i z) (sibling_in z i (slice_index_or (pairs_of w) (i / 2) []))
     ≡ slice_index_or (pairs_of w) (i / 2) []
 pair-back_even z w n i even lt = pair-back z w i (omega arith)
 
--- and in a word of a power of two
+-- and in a codeword of a power of two
 pub pair-back_power : {E : Type 0} (z : E) (w : List E) (h i : ℕ) → 1 ≤ h → length w ≡ 2 ^ h →
     i < 2 ^ h →
     pair_of i (slice_index_or w i z) (sibling_in z i (slice_index_or (pairs_of w) (i / 2) []))

@@ -1,4 +1,4 @@
--- Matrices whose rows are those that words read.
+-- Matrices whose rows are those that codewords read.
 use Rattle.std.specs.Prelude.{◌≡◌, ℕ, ◌+◌, ◌-◌, ◌^◌, ◌<◌, Bool, true, false, if◌then◌else◌, List}
 use Rattle.std.specs.Prelude.{map, take, nat_le, All, slice_index_or}
 use Rattle.std.specs.List.{AllByRecursion}
@@ -26,7 +26,7 @@ use Rattle.circle_completeness.proofs.Cut.{cut, cut-told, cut-values}
 use Rattle.circle_completeness.specs.Honest.{AreOfLowDegree, AreReadAsIs, IsOfLowDegree, IsReadAsIs}
 
 module _ {F E : Type 0} (k : Fields F E) (blowup : ℕ) where
-  -- the rows that words read of a matrix are its rows
+  -- the rows that codewords read of a matrix are its rows
   abbrev pub HasReadRows : RowMajorMatrix F → Type 0
   HasReadRows m = read_rows k blowup (log_of (height_of m)) (width_of m) (rows m) ≡ rows m
 

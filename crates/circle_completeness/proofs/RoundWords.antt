@@ -1,5 +1,5 @@
--- The words of the rounds, entry by entry: how long they are, and how an entry of one comes from a
--- pair of the one before.
+-- The codewords of the rounds, entry by entry: how long they are, and how an entry of one comes
+-- from a pair of the one before.
 use Rattle.std.specs.Prelude.{◌≡◌, ℕ, ◌-◌, ◌^◌, ◌<◌, ◌≤◌, Bool, true, false, if◌then◌else◌, List}
 use Rattle.std.specs.Prelude.{[], length, map, All, slice_index_or}
 use Rattle.std.proofs.Common.{sym, ◌∙◌, ap, arith}
@@ -19,7 +19,7 @@ use Rattle.circle_completeness.proofs.FirstWords.{length-corrected}
 
 module _ {F E : Type 0} (k : Fields F E) (blowup : ℕ) (ms : List (Committed F E))
     (alpha bivariate : E) where
-  -- the fold of the word of a height
+  -- the fold of the codeword of a height
   pub first_fold-length : (h : ℕ) → 1 ≤ h → length (first_fold k blowup ms alpha bivariate h)
       ≡ 2 ^ (h - 1)
   first_fold-length h positive =
@@ -27,7 +27,7 @@ module _ {F E : Type 0} (k : Fields F E) (blowup : ℕ) (ms : List (Committed F 
       (length-pairs_of (corrected_word k alpha ms blowup h) h positive
       (length-corrected k alpha ms blowup h positive))
 
-  -- the word of a round
+  -- the codeword of a round
   pub round_word-length : (betas : List E) → 1 ≤ top_of ms → All (λ h. 1 ≤ h) (heights_of ms) →
       (n : ℕ) → n ≤ top_of ms - 1 →
       length (round_word k blowup ms alpha bivariate betas n) ≡ 2 ^ (top_of ms - 1 - n)
@@ -62,7 +62,7 @@ module _ {F E : Type 0} (k : Fields F E) where
       ∙ ap (λ t. fold_pair k.extension beta t (slice_index_or pairs i []))
       (get_or-map k.embed ts i k.field.zero (k.embed k.field.zero) long)
 
-  -- an entry of a word that another one may join
+  -- an entry of a codeword that another one may join
   pub joined-read : RingLaws k.extension → (test : Bool) (word other : List E) (i : ℕ) →
       i < length word → i < length other →
       slice_index_or (if test then pairwise k.extension.add word other else word) i k.extension.zero

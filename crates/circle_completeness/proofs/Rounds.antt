@@ -1,6 +1,6 @@
 -- The rounds of an opening, as a verifier sees them: at each query the value that a round is left
--- with is the entry of the round's word, so what it is shown of a round authenticates, and the last
--- value is the final polynomial's.
+-- with is the entry of the round's codeword, so what it is shown of a round authenticates, and the
+-- last value is the final polynomial's.
 use Rattle.std.specs.Prelude.{◌≡◌, ℕ, ◌+◌, ◌-◌, ◌/◌, ◌^◌, ◌<◌, ◌≤◌, ◌==◌, Bool, true, if◌then◌else◌}
 use Rattle.std.specs.Prelude.{List, [], ◌∷◌, length, All, Some, slice_get, slice_index_or}
 use Rattle.std.specs.List.{list_any}
@@ -81,7 +81,7 @@ module _ {F E M IC IP WC WP : Type 0} (k : Fields F E) (p : FriParameters M)
   few : length r.proof.commitments + p.log_blowup + p.log_final_poly_len + 1 ≡ top_of ms
   few = omega (arith, words.count, tall)
 
-  -- a query is below the greatest height, and its place in a word is one of the word's
+  -- a query is below the greatest height, and its place in a codeword is one of the codeword's
   below : (j q : ℕ) → slice_get queries j ≡ Some q → q < 2 ^ top_of ms
   below j q at_q = subst (λ i. i < 2 ^ top_of ms) (get_or_from_slice_get queries j q q at_q)
       (over.below j q (slice_get_within queries j q at_q))
@@ -101,7 +101,7 @@ module _ {F E M IC IP WC WP : Type 0} (k : Fields F E) (p : FriParameters M)
   word-length n within = round_word-length k p.log_blowup ms r.drawn.alpha r.drawn.bivariate
       r.drawn.betas (omega (arith, within)) positive n (omega (arith, within))
 
-  -- what is opened of a round's word
+  -- what is opened of a round's codeword
   module _ (n : ℕ) (commitment : WC) (o : Opened (List E) WP) (lt : n < length r.proof.commitments)
       (at_commitment : slice_get r.proof.commitments n ≡ Some commitment)
       (at_o : slice_get r.proof.rounds_opened n ≡ Some o) where
@@ -184,7 +184,7 @@ module _ {F E M IC IP WC WP : Type 0} (k : Fields F E) (p : FriParameters M)
         ∙ ap (λ i. sibling_in zero_of (q / 2 ^ (n + 1)) (slice_index_or pairs_here i []))
         (sym (next-place n q))
 
-    -- where the value is the word's entry, the pair is the word's
+    -- where the value is the codeword's entry, the pair is the codeword's
     pair-here : (j q : ℕ) → slice_get queries j ≡ Some q → round_value k p r j q n
         ≡ slice_index_or (word n) (q / 2 ^ (n + 1)) zero_of →
         round_pair k p r j q n ≡ slice_index_or pairs_here (q / 2 ^ (n + 2)) []
@@ -197,7 +197,7 @@ module _ {F E M IC IP WC WP : Type 0} (k : Fields F E) (p : FriParameters M)
         (place-in n q (omega (arith, high)) (below j q at_q))
         ∙ ap (λ place. slice_index_or pairs_here place []) (next-place n q)
 
-    -- what is shown of the round is what a verifier asks for
+    -- what is shown of the round is what a verifier requires
     round-here : ((j q : ℕ) → slice_get queries j ≡ Some q → round_value k p r j q n
         ≡ slice_index_or (word n) (q / 2 ^ (n + 1)) zero_of) →
         RoundAuthenticates k p r word_authenticates (n, (commitment, o))
@@ -244,7 +244,7 @@ module _ {F E M IC IP WC WP : Type 0} (k : Fields F E) (p : FriParameters M)
 
   module _ (laws : RingLaws k.extension) (claimed-same : (h : ℕ) → is_claimed k p r h
       ≡ list_any (λ m. m.log_height == h) ms) (folds : FoldsFirst k p ms r) where
-    -- what joins a round's word at a query's place
+    -- what joins a round's codeword at a query's place
     joins-here : (j q n : ℕ) → slice_get queries j ≡ Some q → n + 2 ≤ top_of ms →
         joining k p r j q (top_of ms - 1 - n)
         ≡
@@ -265,7 +265,7 @@ module _ {F E M IC IP WC WP : Type 0} (k : Fields F E) (p : FriParameters M)
         ∙ ap (λ i. slice_index_or fold i zero_of)
         (ap (λ b. q / 2 ^ b / 2) cut ∙ next-place n q))
 
-    -- the value that a query is left with from round to round is its entry of the round's word
+    -- the value that a query is left with from round to round is its entry of the round's codeword
     values : (j q : ℕ) → slice_get queries j ≡ Some q → (n : ℕ) → n ≤ length r.proof.commitments →
         round_value k p r j q n ≡ slice_index_or (word n) (q / 2 ^ (n + 1)) zero_of
     values j q at_q zero within =

@@ -1,4 +1,4 @@
--- What is answered of matrices of low degree is true, so the words of their opening end in the
+-- What is returned for matrices of low degree is true, so the codewords of their opening end in the
 -- values of a final polynomial.
 use Rattle.std.specs.Prelude.{◌≡◌, ◌↔◌, ℕ, ◌+◌, ◌-◌, ◌^◌, ◌<◌, ◌≤◌, Bool, true, List, [], ◌∷◌}
 use Rattle.std.specs.Prelude.{length, map, flat_map, zip, All, slice_index_or}
@@ -71,7 +71,7 @@ module _ {F E : Type 0} (k : Fields F E) (base : FieldLaws k.field) (laws : Fiel
       ∙ ap (λ d. value k.extension (map k.embed d) q) (of_column j lt)
       ∙ ap (λ i. value k.extension (map k.embed (col others i)) q) (sym z))
 
-  -- what is answered of a matrix of low degree at a point
+  -- what is returned for a matrix of low degree at a point
   pub opens-true : (m : RowMajorMatrix F) (low : IsOfLowDegree k blowup m) (t : E)
       (values : List E) → blowup < log_of (height_of m) → log_of (height_of m) < bits →
       OpensTo k blowup (log_of (height_of m)) m t values →
@@ -154,7 +154,7 @@ module _ {F E : Type 0} (k : Fields F E) (base : FieldLaws k.field) (laws : Fiel
         are.0.0)
         (all-true requests values low.1 fit.1 are.1)
 
-    -- all answers
+    -- all results
     pub answers-true : (requests : List (OpeningRequest D E)) (values : Openings E) →
         All (λ r. All (IsOfLowDegree k blowup) (kept r.prover_data.now)) requests →
         All (IsFit kept k blowup bits) requests →
@@ -169,7 +169,7 @@ module _ {F E : Type 0} (k : Fields F E) (base : FieldLaws k.field) (laws : Fiel
         requests low)
         (recursion_from_All (IsFit kept k blowup bits) requests fit) are)
 
--- the word that the rounds end in
+-- the codeword that the rounds end in
 pub ends-low : {D F E M : Type 0} (k : Fields F E) (base : FieldLaws k.field)
     (laws : FieldLaws k.extension) (e : IsEmbedding k.field k.extension k.embed)
     (base_eq : F → F → Bool) (base_law : (a b : F) → (base_eq a b ≡ true) ↔ (a ≡ b))
@@ -195,7 +195,7 @@ ends-low k base laws e base_eq base_law eq eq_law {bits} gens kept p requests fi
     (answers-true k base laws e gens p.log_blowup kept requests values low asked.fit are) top_fits
     (omega (arith, tall))
 
--- so none is refused for a last word of too high degree
+-- so none is refused for a last codeword of too high degree
 pub never-too-high : {C S D F E M WC : Type 0} (k : Fields F E) (base : FieldLaws k.field)
     (laws : FieldLaws k.extension) (e : IsEmbedding k.field k.extension k.embed)
     (base_eq : F → F → Bool) (base_law : (a b : F) → (base_eq a b ≡ true) ↔ (a ≡ b))

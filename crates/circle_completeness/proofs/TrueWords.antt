@@ -1,4 +1,4 @@
--- The word of a height, where all claims are true: it is the values of a polynomial with 2^n
+-- The codeword of a height, where all claims are true: it is the values of a polynomial with 2^n
 -- coefficients plus a multiple of v_n.
 use Rattle.std.specs.Prelude.{◌≡◌, ◌≢◌, ◌↔◌, ℕ, ◌+◌, ◌-◌, ◌*◌, ◌^◌, ◌<◌, ◌==◌, Bool, true, false}
 use Rattle.std.specs.Prelude.{if◌then◌else◌, List, [], ◌∷◌, ◌++◌, length, map, All, slice_index_or}
@@ -48,7 +48,7 @@ module _ {F E : Type 0} (k : Fields F E) (base : FieldLaws k.field) (laws : Fiel
   long : length points ≡ 2 ^ h
   long = length-cfft_order base.ring gens h (k.gen (h + 1)) (omega (arith, below))
 
-  -- a place in the word
+  -- a place in the codeword
   abbrev Place : Type 0
   Place = (i : ℕ) × (i < 2 ^ h)
 
@@ -161,7 +161,7 @@ module _ {F E : Type 0} (k : Fields F E) (base : FieldLaws k.field) (laws : Fiel
       ] in
       by_test (m.log_height == h) refl
 
-  -- the word
+  -- the codeword
   pub true-split : (ms : List (Committed F E)) → All (IsTrue k blowup) ms →
       (low : List E) × (multiple : E) × Splits k.field k.gen k.extension k.embed blowup h
       (reduced_word k alpha ms h) low multiple

@@ -1,4 +1,4 @@
--- That what an opening answers is accepted: Circle STARKs (ePrint 2024/278), sections 4 to 6.
+-- That what an opening returns is accepted: Circle STARKs (ePrint 2024/278), sections 4 to 6.
 use Rattle.std.specs.Prelude.{◌≤◌, List, length, All}
 use Rattle.std.specs.List.{AllZip}
 use Rattle.circle_challenger.specs.Moves.{RunMoves}
@@ -17,9 +17,9 @@ use Rattle.circle_completeness.specs.Honest.{AreReadAsIs}
 module _ {C S F E M IC IP WC WP : Type 0} (k : Fields F E) (r : RunMoves C S F E WC)
     (p : FriParameters M) (authenticates : Authenticates IC F IP)
     (word_authenticates : Authenticates WC E WP) where
-  -- whatever an opening answers of requested matrices whose rows are read as they are is accepted,
+  -- whatever an opening returns for requested matrices whose rows are read as they are is accepted,
   -- from the state that it began in to that which it left: where what is claimed is what was
-  -- answered, of each matrix at a point at least, under commitments of the matrices
+  -- returned, of each matrix at a point at least, under commitments of the matrices
   abbrev pub AcceptsOpenings : {D : Type 0} → (D → List (RowMajorMatrix F))
       → (List (RowMajorMatrix F) → IC → Type 0) → (List (RowMajorMatrix E) → WC → Type 0)
       → List (OpeningRequest D E) → Type 0

@@ -1,4 +1,4 @@
--- Claims that a verifier is handed of what an opening answers.
+-- Claims that a verifier is given on what an opening returns.
 use Rattle.std.specs.Prelude.{◌≡◌, List, [], ◌∷◌, map}
 use Rattle.circle_commit.specs.Pcs.{Openings}
 use Rattle.circle_commit.specs.declared.matrix.RowMajorMatrix.{RowMajorMatrix}
@@ -10,7 +10,8 @@ use Rattle.circle_relation.specs.Statement.{BatchClaim}
 
 module _ {D F E M IC : Type 0} (k : Fields F E) (p : FriParameters M)
     (kept : D → List (RowMajorMatrix F)) (Commits : List (RowMajorMatrix F) → IC → Type 0) where
-  -- the claims on one batch: under a commitment of the request's matrices, what is answered of them
+  -- the claims on one batch: under a commitment of the request's matrices, what is returned for
+  -- them
   pub record IsClaimed (request : OpeningRequest D E) (values : List (List (List E)))
       (batch : BatchClaim IC E) : Type 0 where
     pub committed : Commits (kept request.prover_data.now) batch.commitment

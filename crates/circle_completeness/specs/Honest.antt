@@ -1,5 +1,5 @@
--- Requests that are honest: the matrices are of low degree, and the answers are their values. And
--- matrices that words read as they are.
+-- Requests that are honest: the matrices are of low degree, and the returned values are theirs. And
+-- matrices that codewords read as they are.
 use Rattle.std.specs.Prelude.{◌≡◌, ◌≢◌, ◌⊎◌, ℕ, ◌+◌, ◌-◌, ◌^◌, ◌<◌, List, length, map, All}
 use Rattle.std.specs.List.{AllZip}
 use Rattle.circle_challenger.specs.Moves.{RunMoves}
@@ -31,7 +31,7 @@ pub record IsOfLowDegree {F E : Type 0} (k : Fields F E) (blowup : ℕ) (m : Row
       (points_of_height k.field k.gen (log_of (height_of m)))
       ≡ rows m
 
--- words read the rows that a matrix has: it has few columns, or is of low degree
+-- codewords read the rows that a matrix has: it has few columns, or is of low degree
 abbrev pub IsReadAsIs : {F E : Type 0} → Fields F E → ℕ → RowMajorMatrix F → Type 0
 IsReadAsIs k blowup m = (width_of m < lift_width) ⊎ IsOfLowDegree k blowup m
 
@@ -41,12 +41,12 @@ module _ {D F E M : Type 0} (kept : D → List (RowMajorMatrix F)) (k : Fields F
   abbrev pub AreOfLowDegree : Type 0
   AreOfLowDegree = All (λ r. All (IsOfLowDegree k p.log_blowup) (kept r.prover_data.now)) requests
 
-  -- words read the rows that each of them has
+  -- codewords read the rows that each of them has
   abbrev pub AreReadAsIs : Type 0
   AreReadAsIs = All (λ r. All (IsReadAsIs k p.log_blowup) (kept r.prover_data.now)) requests
 
-  -- where the requested matrices are of low degree and these values are answered, the word that the
-  -- rounds end in is, whatever the challenges, the values of a final polynomial
+  -- where the requested matrices are of low degree and these values are returned, the codeword that
+  -- the rounds end in is, whatever the challenges, the values of a final polynomial
   abbrev pub EndsLow : Type 0
   EndsLow =
       AreOfLowDegree
@@ -57,7 +57,7 @@ module _ {D F E M : Type 0} (kept : D → List (RowMajorMatrix F)) (k : Fields F
       (last_word k p.log_blowup (answered_matrices k p kept requests values) alpha
       p.log_final_poly_len bivariate betas)
 
-  -- so no opening of them is refused for a last word of too high degree
+  -- so no opening of them is refused for a last codeword of too high degree
   abbrev pub IsNeverTooHigh : {C S WC : Type 0} → RunMoves C S F E WC
       → (List (RowMajorMatrix E) → WC → Type 0) → Type 0
   IsNeverTooHigh r Commits =

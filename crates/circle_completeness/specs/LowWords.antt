@@ -1,5 +1,5 @@
--- The words of an opening as the values of polynomials with few coefficients: Circle STARKs (ePrint
--- 2024/278), sections 4.2, 4.3 and 6.
+-- The codewords of an opening as the values of polynomials with few coefficients: Circle STARKs
+-- (ePrint 2024/278), sections 4.2, 4.3 and 6.
 use Rattle.std.specs.Prelude.{ℕ, ◌+◌, ◌-◌, ◌<◌, List, All}
 use Rattle.circle_domain.specs.Spans.{Span, XSpan}
 use Rattle.circle_folding.specs.Spans.{Splits}
@@ -10,7 +10,7 @@ use Rattle.circle_completeness.specs.LowDegree.{IsTrue}
 
 module _ {F E : Type 0} (k : Fields F E) (two_adicity blowup : ℕ) (matrices : List (Committed F E))
   where
-    -- where all claims on the matrices are true, the word of each height is the values of a
+    -- where all claims on the matrices are true, the codeword of each height is the values of a
     -- polynomial with few coefficients plus a multiple of the vanishing polynomial
     abbrev pub ReducedWordsSplit : E → Type 0
     ReducedWordsSplit alpha =
@@ -32,8 +32,8 @@ module _ {F E : Type 0} (k : Fields F E) (two_adicity blowup : ℕ) (matrices : 
         → XSpan k.field k.gen k.extension k.embed (h - 1 - blowup) (h - 1)
         (first_fold k blowup matrices alpha bivariate h)
 
-    -- with each round the word, with what joins there, is the values of a polynomial in x with half
-    -- as many coefficients, as long as there are some to halve
+    -- with each round the codeword, with what joins there, is the values of a polynomial in x with
+    -- half as many coefficients, as long as there are some to halve
     abbrev pub RoundWordsAreLow : E → E → List E → Type 0
     RoundWordsAreLow alpha bivariate betas =
         All (IsTrue k blowup) matrices → top_of matrices < two_adicity
@@ -41,7 +41,8 @@ module _ {F E : Type 0} (k : Fields F E) (two_adicity blowup : ℕ) (matrices : 
         → XSpan k.field k.gen k.extension k.embed (top_of matrices - 1 - blowup - n)
         (top_of matrices - 1 - n) (round_word k blowup matrices alpha bivariate betas n)
 
-    -- the word that the rounds end in is the values of a final polynomial of 2^final coefficients
+    -- the codeword that the rounds end in is the values of a final polynomial of 2^final
+    -- coefficients
     abbrev pub LastWordIsLow : ℕ → E → E → List E → Type 0
     LastWordIsLow final alpha bivariate betas =
         All (IsTrue k blowup) matrices → top_of matrices < two_adicity

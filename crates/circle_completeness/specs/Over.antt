@@ -1,5 +1,5 @@
 -- A verifier's run over committed matrices: what is claimed is claimed of them, and what is opened
--- are their rows and the entries of their words.
+-- are their rows and the entries of their codewords.
 use Rattle.std.specs.Prelude.{◌≡◌, ℕ, ◌+◌, ◌-◌, ◌/◌, ◌^◌, ◌<◌, ◌≤◌, ◌==◌, List, length, map, All}
 use Rattle.std.specs.Prelude.{Some, slice_get, slice_index_or, true}
 use Rattle.std.specs.List.{list_any}
@@ -27,7 +27,7 @@ module _ {F E M IC IP WC WP : Type 0} (k : Fields F E) (p : FriParameters M)
   ReadsRows = (j q h : ℕ) → slice_get r.drawn.queries j ≡ Some q → h ≤ top_of ms
       → claims_of k p r h j ≡ claims_at h ms (q / 2 ^ (top_of ms - h))
 
-  -- what the pairs of the first layer fold to at each query are the entries of the words' folds
+  -- what the pairs of the first layer fold to at each query are the entries of the codewords' folds
   abbrev pub FoldsFirst : Type 0
   FoldsFirst = (j q h : ℕ) → slice_get r.drawn.queries j ≡ Some q
       → list_any (λ m. m.log_height == h) ms ≡ true

@@ -42,7 +42,8 @@ fields = record {
   same = λ a b. a == b;
 }
 
--- 3 + 2 y at (4, 27), (4, 4), (27, 4) and (27, 27), and at (18, 7), which 2 tells
+-- 3 + 2 y at (4, 27), (4, 4), (27, 4) and (27, 27), and at (18, 7), whose coordinate on the
+-- projective line is 2
 abbrev claim : PointClaim ℕ
 claim = claim_of 2 (17 ∷ [])
 
@@ -95,7 +96,7 @@ true_row = record {
       (claim ∷ []) (claim_row, tt);
 }
 
--- combined by 5, its word is 21 + y plus 5 times x
+-- combined by 5, its codeword is 21 + y plus 5 times x
 word_row : reduced_word fields 5 (matrix ∷ []) 2 ≡ 6 ∷ 14 ∷ 5 ∷ 28 ∷ []
 word_row = refl
 

@@ -1,5 +1,5 @@
-//! Laws of the words that an opening makes of committed matrices under true claims. The calls of
-//! this module answer nothing and carry what their contracts say.
+//! Laws of the codewords that an opening makes of committed matrices under true claims. The calls
+//! of this module return nothing and carry what their contracts say.
 ghost use Rattle.std.specs.Prelude.{◌≤◌, List};
 ghost use Rattle.circle_codewords.specs.Words.{Committed};
 ghost use Rattle.circle_completeness.specs.LowWords.{ReducedWordsSplit, CorrectedWordsAreLow};
@@ -14,11 +14,12 @@ use circle_field::{ComplexExtendable, ExtensionField};
 use circle_prover::OpeningOver;
 use circle_relation::OverCircle;
 
-/// The word of a height, which `alpha` combines of the quotients of all claims on matrices of that
-/// height, is the values of a polynomial with `2^(h - log_blowup)` coefficients plus a multiple of
-/// the vanishing polynomial, where all claims are true; without its lambda it is those values.
+/// The codeword of a height, which `alpha` combines of the quotients of all claims on matrices of
+/// that height, is the values of a polynomial with `2^(h - log_blowup)` coefficients plus a
+/// multiple of the vanishing polynomial, where all claims are true; without its lambda it is those
+/// values.
 ///
-/// Asks a blowup of at least 2. Takes no memory.
+/// Requires a blowup of at least 2. Takes no memory.
 pub fn height_words_are_low<F: ComplexExtendable, EF: ExtensionField<F>>(
     alpha: EF,
     log_blowup: usize,
@@ -32,12 +33,12 @@ pub fn height_words_are_low<F: ComplexExtendable, EF: ExtensionField<F>>(
     let _law = (alpha, log_blowup);
 }
 
-/// Where all claims are true, what the words of the heights fold to by `bivariate` and the words of
-/// the rounds under `betas`, with the heights that join, are the values of polynomials in x, each
-/// with half as many coefficients as the one before; so the last word is the values of a final
-/// polynomial.
+/// Where all claims are true, what the codewords of the heights fold to by `bivariate` and the
+/// codewords of the rounds under `betas`, with the heights that join, are the values of polynomials
+/// in x, each with half as many coefficients as the one before; so the last codeword is the values
+/// of a final polynomial.
 ///
-/// Asks a blowup of at least 2. Takes no memory.
+/// Requires a blowup of at least 2. Takes no memory.
 pub fn last_word_is_low<F: ComplexExtendable, EF: ExtensionField<F>>(
     alpha: EF,
     bivariate: EF,
@@ -57,11 +58,11 @@ pub fn last_word_is_low<F: ComplexExtendable, EF: ExtensionField<F>>(
     let _law = (alpha, bivariate, log_blowup, log_final_poly_len);
 }
 
-/// Where the requested matrices are of low degree, the word that the rounds of an opening with its
-/// answers end in is, whatever the challenges, the values of a final polynomial; so no opening of
-/// them is refused for a last word of too high degree.
+/// Where the requested matrices are of low degree, the codeword that the rounds of an opening with
+/// its values end in is, whatever the challenges, the values of a final polynomial; so no opening
+/// of them is refused for a last codeword of too high degree.
 ///
-/// Asks what an opening asks. Takes no memory.
+/// Requires what an opening requires. Takes no memory.
 pub fn honest_openings_end_low<
     Val: ComplexExtendable,
     EF: ExtensionField<Val>,

@@ -83,7 +83,7 @@ module _ {F E : Type 0} {k : FieldOps F} {l : FieldOps E} {m : F → E} (base : 
           (subst Clear (with_opposites-odd k ps h (suc (h + h)) o refl there)
           (at (suc (h + h)) (omega (arith, lt, pow))))
 
-      -- in the form that an inversion asks
+      -- in the form that an inversion requires
       pub differences-nonzero : All (λ d. d ≢ l.zero)
           (map (λ (p : Coordinates F). sub l (m p.x) q.x) (coset k gen i s))
       differences-nonzero h d lt =

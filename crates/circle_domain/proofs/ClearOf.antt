@@ -1,4 +1,5 @@
--- A point is clear of a domain exactly where the vanishing polynomial tells it from the shift.
+-- A point is clear of a domain exactly where the vanishing polynomial has other values at the point
+-- and at the shift.
 use Rattle.std.proofs.lemmas.Bool.{false≢true}
 use Rattle.std.specs.Prelude.{Bool, true, false, not, ◌≡◌, ◌≢◌, ℕ, ◌-◌, ◌^◌, ◌<◌, ◌≤◌, ◌↔◌, List}
 use Rattle.std.specs.Prelude.{[], ◌∷◌, ◌++◌, All, map, max, slice_index_or}
@@ -46,7 +47,7 @@ module _ {F : Type 0} {k : FieldOps F} (laws : FieldLaws k) where
       (given (minus (prod x x)) (sum (prod a a) (prod b b)) unit
       ∷ given (prod a a) (sum (prod x x) (prod y y)) unit ∷ []) refl (hp, (hq, tt))
 
-  -- the doubled x tells squares apart
+  -- equal doubled x mean equal squares
   doubled_same : (a b : F) → k.mul a a ≡ k.mul b b → doubled_x k a ≡ doubled_x k b
   doubled_same a b e = ap (λ s. k.add (k.add s s) (k.neg k.one)) e
 
@@ -256,8 +257,8 @@ module _ {F E : Type 0} {k : FieldOps F} {l : FieldOps E} {m : F → E} (laws : 
             (subst (AllByRecursion Clear) (sym same) rec)),
       )
 
-  -- a point is clear of a domain exactly where this polynomial of at least two doublings tells it
-  -- from the shift
+  -- a point is clear of a domain exactly where this polynomial of at least two doublings has other
+  -- values at the point and at the shift
   pub clear-of : IsClearOf l m (natural_order k gen n s) q ↔
       (vanishing l (max n 2) q ≢ m (vanishing k (max n 2) s))
   clear-of =

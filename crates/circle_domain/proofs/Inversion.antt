@@ -81,7 +81,7 @@ module _ {F : Type 0} {k : FieldOps F} (laws : FieldLaws k) where
       ∙ ap (λ v. k.mul v (k.inv c)) e
       ∙ laws.ring.mul_assoc b c (k.inv c) ∙ ap (k.mul b) (laws.mul_inv c h) ∙ mul_one laws.ring b
 
-  -- sums and differences by a factor that is not 0 tell the halves
+  -- sums and differences by a factor that is not 0 determine the halves
   halves_told : (t : F) (xs ys us vs : List F) → t ≢ k.zero → length xs ≡ length ys →
       length us ≡ length vs → length xs ≡ length us →
       lower k t xs ys ≡ lower k t us vs → upper k t xs ys ≡ upper k t us vs → (xs ≡ us) × (ys ≡ vs)
@@ -174,7 +174,7 @@ module _ {F : Type 0} {k : FieldOps F} (laws : FieldLaws k) where
         (sym (times-generator-past laws.ring gens (suc m) (suc m) (omega arith) g))
         ∙ sym (times-plus laws.ring (2 ^ suc m) q (gen (suc m))) ∙ e)
 
-    -- the layers of a genuine block tell its coefficients
+    -- the layers of a genuine block determine its coefficients
     pub finish-injective : (m : ℕ) (q : Coordinates F) (xs ys : List F) → length xs ≡ 2 ^ m →
         length ys ≡ 2 ^ m → m ≤ suc bits → IsOnCircle k q → times k (2 ^ m) q ≢ origin k →
         finish k gen m q xs ≡ finish k gen m q ys → xs ≡ ys

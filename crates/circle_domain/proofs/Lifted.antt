@@ -34,7 +34,7 @@ module _ {F E : Type 0} {k : FieldOps F} {l : FieldOps E} {m : F → E} (e : IsE
   lifted-times zero p = lifted-origin
   lifted-times (suc n) p = lifted-plus p (times k n p) ∙ ap (plus l (lifted m p)) (lifted-times n p)
 
-  -- an embedding tells points apart
+  -- an embedding maps different points to different points
   pub lifted-injective : (p q : Coordinates F) → lifted m p ≡ lifted m q → p ≡ q
   lifted-injective p q h =
       same_coordinates (e.injective p.x q.x (ap (λ (r : Coordinates E). r.x) h))

@@ -71,7 +71,7 @@ place_of-place_in c i h =
     omega (arith, part, b, ge) in e) ∙ whole)
     (cases_lt u c)
 
--- a place of a part is in the whole, and tells the part and the place
+-- a place of a part is in the whole, and determines the part and the place
 pub place_of-below : (c j r m : ℕ) → j < c → r < m * 2 → place_of c j r < m * (2 * c)
 place_of-below c j r m h lt =
     let q = r / 2 in

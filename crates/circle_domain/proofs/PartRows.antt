@@ -59,7 +59,7 @@ rows_go rows_of parts all c m some long matched i lt =
     (ap (slice_get all) (place_of-place_in c i some) ∙ read)
     ∙ sym read)
 
--- so many rows fill the parts
+-- 2^n rows fill the parts
 pub whole_parts : (c n : ℕ) → IsPowerOfTwo c → 2 * c ≤ 2 ^ n → (m : ℕ) × (2 ^ n ≡ m * (2 * c))
 whole_parts c n power room =
     let b = power.0 in

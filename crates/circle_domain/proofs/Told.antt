@@ -1,4 +1,4 @@
--- On a genuine domain a polynomial's values tell its coefficients.
+-- On a genuine domain a polynomial's values determine its coefficients.
 use Rattle.std.specs.Prelude.{◌≡◌, ◌≢◌, ℕ, ◌^◌, ◌≤◌, List, length, map}
 use Rattle.std.proofs.Common.{sym, ◌∙◌, ap, arith}
 use Rattle.circle_field.specs.Field.{FieldOps, FieldLaws}

@@ -25,7 +25,7 @@ abbrev pub points_of : {F : Type 0} {g : _} →
     FieldOps F → (ℕ → Coordinates F) → CircleDomain F g → List (Coordinates F)
 points_of k gen d = natural_order k gen (log_size d) (shift_of d)
 
--- and in the order of the circle FFT
+-- the points of a domain in the order of the circle FFT
 abbrev pub cfft_points_of : {F : Type 0} {g : _} →
     FieldOps F → (ℕ → Coordinates F) → CircleDomain F g → List (Coordinates F)
 cfft_points_of k gen d = cfft_order k gen (log_size d) (shift_of d)

@@ -1,5 +1,4 @@
--- What is asked of a domain at points off it: its vanishing polynomial, its selectors, and its next
--- points.
+-- What a domain has at points off it: its vanishing polynomial, its selectors, and its next points.
 -- Circle STARKs (ePrint 2024/278), sections 3.3 and 5.1.
 use Rattle.std.specs.Prelude.{◌≡◌, ◌≢◌, ℕ, ◌+◌, ◌-◌, ◌^◌, ◌<◌, ◌≤◌}
 use Rattle.std.specs.Prelude.{nat_eq, if◌then◌else◌, List, All}

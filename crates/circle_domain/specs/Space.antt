@@ -1,4 +1,4 @@
--- What a domain asks and gives as a space of polynomials.
+-- What a domain requires and returns as a space of polynomials.
 use Rattle.std.specs.Prelude.{◌≡◌, ◌⊎◌, ◌↔◌, ℕ, ◌+◌, ◌*◌, ◌^◌, ◌%◌, ◌<◌}
 use Rattle.std.specs.Prelude.{Option, Some, IfSome, List, Any, Contains, slice_get}
 use Rattle.circle_field.specs.Field.{FieldOps}
@@ -12,14 +12,14 @@ use Rattle.circle_domain.specs.Selectors.{vanishing_on, first_row, last_row, tra
 use Rattle.circle_domain.specs.Splitting.{part_of, place_in}
 
 module _ {F E : Type 0} {g : _} (l : FieldOps E) (embed : F → E) (d : CircleDomain F g) where
-  -- the domain's vanishing polynomial at a point
+  -- the domain's vanishing polynomial at a point, and the inverse of that value
   abbrev pub vanishing_of : Coordinates E → E
   vanishing_of q = vanishing_on l (log_size d) (lifted embed (shift_of d)) q
 
   abbrev pub inverse_vanishing_of : Coordinates E → E
   inverse_vanishing_of q = l.inv (vanishing_of q)
 
-  -- and the selectors of its rows
+  -- the selectors of the domain's first row, of its last row, and of all but the last, at a point
   abbrev pub first_row_of : Coordinates E → E
   first_row_of q = first_row l (log_size d) (lifted embed (shift_of d)) q
 
@@ -70,7 +70,7 @@ module _ {F : Type 0} {g : _} (k : FieldOps F) (gen : ℕ → Coordinates F) whe
       → IfSome (slice_get parts (part_of c i)) (λ part.
       slice_get (points_of k gen part) (place_in c i) ≡ Some p)
 
-  -- the same of the domains that c parts would be
+  -- likewise of the domains that c parts would be
   abbrev pub EachPointWouldGo : CircleDomain F g → ℕ → Type 0
   EachPointWouldGo d c =
       (i m : ℕ) (p s : Coordinates F) → 2 ^ m * c ≡ 2 ^ log_size d

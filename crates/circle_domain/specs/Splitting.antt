@@ -20,12 +20,12 @@ place_in c i = i / (2 * c) * 2 + (if nat_lt (i % (2 * c)) c then 0 else 1)
 abbrev pub place_of : ℕ → ℕ → ℕ → ℕ
 place_of c j r = r / 2 * (2 * c) + (if nat_eq (r % 2) 0 then j else 2 * c - 1 - j)
 
--- so many rows, part by part
+-- `height` rows, part by part
 abbrev pub split_rows : {T : Type 0} → ℕ → ℕ → List (List T) → List (List (List T))
 split_rows c height all =
     map (λ j. mapped_rows (place_of c j) (height / c) all) (range_with_len 0 c)
 
--- each of so many rows stands at its place in its part
+-- each of `height` rows stands at its place in its part
 abbrev pub EachRowGoes : {T : Type 0} →
     ℕ → ℕ → RowMajorMatrix T → List (RowMajorMatrix T) → Type 0
 EachRowGoes c height whole parts =

@@ -23,7 +23,7 @@ pub record HasValues {F : Type 0} (k : FieldOps F) (gen : ℕ → Coordinates F)
   pub widths : All (λ row. length row ≡ width) coeffs
   pub values : map (values_at k coeffs width) (cfft_order k gen n s) ≡ rows
 
--- the rows and so many rows of zeros
+-- the rows and `count` rows of zeros
 abbrev pub with_zero_rows : {F : Type 0} → F → ℕ → ℕ → List (List F) → List (List F)
 with_zero_rows zero width count rows = rows ++ replicate count (replicate width zero)
 

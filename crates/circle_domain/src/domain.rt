@@ -97,7 +97,7 @@ impl<F: ComplexExtendable> CircleDomain<F> {
 
     /// The standard domain of `2^log_n` points: all points of order `2^(log_n + 1)`.
     ///
-    /// Asks `log_n + 1 <= CIRCLE_TWO_ADICITY`, as [`try_standard`](Self::try_standard) tests.
+    /// Requires `log_n + 1 <= CIRCLE_TWO_ADICITY`, as [`try_standard`](Self::try_standard) tests.
     pub fn standard(log_n: usize) -> Self
         requires { log_n + 1 ≤ F.CIRCLE_TWO_ADICITY }
         ensures size { log_size result ≡ log_n }
@@ -109,7 +109,7 @@ impl<F: ComplexExtendable> CircleDomain<F> {
         }
     }
 
-    /// What [`standard`](Self::standard) answers, and `None` where the group is too small for it.
+    /// What [`standard`](Self::standard) returns, and `None` where the group is too small for it.
     pub fn try_standard(log_n: usize) -> Option<Self>
         ensures some { IsSome result ↔ (log_n + 1 ≤ F.CIRCLE_TWO_ADICITY) }
         ensures size { IfSome result (λ d. log_size d ≡ log_n) }
@@ -130,7 +130,7 @@ impl<F: ComplexExtendable> CircleDomain<F> {
 
     /// Whether this is the standard domain of its size, so false where the group has none.
     ///
-    /// Asks `1 <= log_n <= CIRCLE_TWO_ADICITY`.
+    /// Requires `1 <= log_n <= CIRCLE_TWO_ADICITY`.
     pub fn is_standard(&self) -> bool
         requires positive { 1 ≤ log_size self.now }
         requires in_group { log_size self.now ≤ F.CIRCLE_TWO_ADICITY }
@@ -147,7 +147,7 @@ impl<F: ComplexExtendable> CircleDomain<F> {
     /// projective line is `Point::from_projective_line(t)`, which is also the test for a coordinate
     /// that is not at infinity.
     ///
-    /// Asks `1 <= log_n <= CIRCLE_TWO_ADICITY`.
+    /// Requires `1 <= log_n <= CIRCLE_TWO_ADICITY`.
     pub fn is_clear_of<EF: ExtensionField<F>>(&self, at: Point<EF>) -> bool
         requires positive { 1 ≤ log_size self.now }
         requires in_group { log_size self.now ≤ F.CIRCLE_TWO_ADICITY }
@@ -160,7 +160,7 @@ impl<F: ComplexExtendable> CircleDomain<F> {
 
     /// The number of points, `2^log_n`.
     ///
-    /// Asks `log_n <= 63`.
+    /// Requires `log_n <= 63`.
     pub fn size(&self) -> usize
         requires { log_size self.now ≤ 63 }
         ensures { result ≡ 2 ^ log_size self.now }
@@ -170,7 +170,7 @@ impl<F: ComplexExtendable> CircleDomain<F> {
 
     /// The points in natural order.
     ///
-    /// Asks `1 <= log_n <= CIRCLE_TWO_ADICITY`.
+    /// Requires `1 <= log_n <= CIRCLE_TWO_ADICITY`.
     pub fn points(&self) -> CirclePoints<F>
         requires positive { 1 ≤ log_size self.now }
         requires in_group { log_size self.now ≤ F.CIRCLE_TWO_ADICITY }
@@ -188,7 +188,7 @@ impl<F: ComplexExtendable> CircleDomain<F> {
 
     /// The first half in order: `shift + a * g` for each `a` below `2^(log_n - 1)`.
     ///
-    /// Asks `1 <= log_n <= CIRCLE_TWO_ADICITY`.
+    /// Requires `1 <= log_n <= CIRCLE_TWO_ADICITY`.
     pub fn coset0(&self) -> CircleCoset<F>
         requires positive { 1 ≤ log_size self.now }
         requires in_group { log_size self.now ≤ F.CIRCLE_TWO_ADICITY }
@@ -204,7 +204,7 @@ impl<F: ComplexExtendable> CircleDomain<F> {
 
     /// The second half in order: `-shift + (a + 1) * g` for each `a` below `2^(log_n - 1)`.
     ///
-    /// Asks `1 <= log_n <= CIRCLE_TWO_ADICITY`.
+    /// Requires `1 <= log_n <= CIRCLE_TWO_ADICITY`.
     pub fn coset1(&self) -> CircleCoset<F>
         requires positive { 1 ≤ log_size self.now }
         requires in_group { log_size self.now ≤ F.CIRCLE_TWO_ADICITY }
@@ -221,7 +221,7 @@ impl<F: ComplexExtendable> CircleDomain<F> {
 
     /// The point at place `index` of the natural order.
     ///
-    /// Asks `1 <= log_n <= CIRCLE_TWO_ADICITY` and `index < size`, as
+    /// Requires `1 <= log_n <= CIRCLE_TWO_ADICITY` and `index < size`, as
     /// [`try_nth_point`](Self::try_nth_point) tests.
     pub fn nth_point(&self, index: usize) -> Point<F>
         requires positive { 1 ≤ log_size self.now }
@@ -238,7 +238,7 @@ impl<F: ComplexExtendable> CircleDomain<F> {
         }
     }
 
-    /// What [`nth_point`](Self::nth_point) answers, and `None` where `log_n` is 0 or above
+    /// What [`nth_point`](Self::nth_point) returns, and `None` where `log_n` is 0 or above
     /// `CIRCLE_TWO_ADICITY`, or the index isn't below the size.
     pub fn try_nth_point(&self, index: usize) -> Option<Point<F>>
         ensures some { IsSome result ↔ ((1 ≤ log_size self.now)
@@ -411,7 +411,8 @@ impl<F: ComplexExtendable> PolynomialSpace for CircleDomain<F> {
 
     /// The coordinate of the shift.
     ///
-    /// Asks that the shift is not `(-1, 0)`, so that `self.shift().to_projective_line()` is `Some`.
+    /// Requires that the shift is not `(-1, 0)`, so that `self.shift().to_projective_line()` is
+    /// `Some`.
     fn first_point(&self) -> F {
         self.shift.to_projective_line().unwrap()
     }
@@ -420,7 +421,7 @@ impl<F: ComplexExtendable> PolynomialSpace for CircleDomain<F> {
     /// which the natural order steps. `None` on others, at infinity (`t^2 = -1`), and where the sum
     /// is `(-1, 0)`.
     ///
-    /// Asks `1 <= log_n <= CIRCLE_TWO_ADICITY`.
+    /// Requires `1 <= log_n <= CIRCLE_TWO_ADICITY`.
     fn next_point<Ext: ExtensionField<F>>(&self, point: Ext) -> Option<Ext>
         requires positive { 1 ≤ log_size self.now }
         requires in_group { log_size self.now ≤ F.CIRCLE_TWO_ADICITY }
@@ -441,7 +442,7 @@ impl<F: ComplexExtendable> PolynomialSpace for CircleDomain<F> {
     /// The standard domain of the least number of points that is at least `min_size` and 2 and not
     /// this domain's. `None` where this domain isn't standard or the group is too small.
     ///
-    /// Asks `1 <= log_n <= CIRCLE_TWO_ADICITY`.
+    /// Requires `1 <= log_n <= CIRCLE_TWO_ADICITY`.
     fn try_create_disjoint_domain(&self, min_size: usize) -> Option<Self>
         requires positive { 1 ≤ log_size self.now }
         requires in_group { log_size self.now ≤ F.CIRCLE_TWO_ADICITY }
@@ -473,8 +474,8 @@ impl<F: ComplexExtendable> PolynomialSpace for CircleDomain<F> {
     /// The parts of a standard domain are disjoint and make it up: each point goes to the part that
     /// `split_evals` gives its row to.
     ///
-    /// Asks a standard domain, as [`CircleDomain::is_standard`] tests, and a number of parts that
-    /// is a power of two, as `is_power_of_two` tests, and leaves at least two points for each.
+    /// Requires a standard domain, as [`CircleDomain::is_standard`] tests, and a number of parts
+    /// that is a power of two, as `is_power_of_two` tests, and leaves at least two points for each.
     /// Fails where memory is refused.
     fn split_domains(&self, alloc: Global, num_chunks: usize) -> Result<Vec<Self>, AllocError>
         requires standard { IsStandardDomain F.CIRCLE_TWO_ADICITY F.generators self.now }
@@ -514,7 +515,7 @@ impl<F: ComplexExtendable> PolynomialSpace for CircleDomain<F> {
     /// shift `0` of the first half, and its second half begins at the opposite of the shift and one
     /// step of its own, which is place `7` of the whole.
     ///
-    /// Asks as many rows as points, and a number of parts that is a power of two, as
+    /// Requires as many rows as points, and a number of parts that is a power of two, as
     /// `is_power_of_two` tests, and leaves at least two rows for each. Fails where memory is
     /// refused.
     fn split_evals(
@@ -545,8 +546,8 @@ impl<F: ComplexExtendable> PolynomialSpace for CircleDomain<F> {
     /// `v_n(point) - v_n(shift)` for `n = log_n`, where `v_n` is the vanishing polynomial of the
     /// standard domain (section 3.3, equation 8).
     ///
-    /// Asks `log_n >= 1` and a point that is not at infinity: `Point::from_projective_line(point)`
-    /// is `Some`.
+    /// Requires `log_n >= 1` and a point that is not at infinity:
+    /// `Point::from_projective_line(point)` is `Some`.
     fn vanishing_poly_at_point<Ext: ExtensionField<F>>(&self, point: Ext) -> Ext {
         self.vanishing_poly(finite_point(point))
     }
@@ -555,7 +556,7 @@ impl<F: ComplexExtendable> PolynomialSpace for CircleDomain<F> {
     /// for the first row, `z / v_tilde_(-shift)`, not normalised, for the last, `1` less the
     /// normalised one of the last for the transition, and `1 / z` (section 5.1).
     ///
-    /// Asks a genuine domain, as [`CircleDomain::is_genuine`] tests, with `log_n <=
+    /// Requires a genuine domain, as [`CircleDomain::is_genuine`] tests, with `log_n <=
     /// CIRCLE_TWO_ADICITY`, and a point that is not at infinity and is clear of the domain, as
     /// [`CircleDomain::is_clear_of`] tests of `Point::from_projective_line(point)`.
     fn selectors_at_point<Ext: ExtensionField<F>>(&self, point: Ext) -> LagrangeSelectors<Ext>
@@ -578,7 +579,7 @@ impl<F: ComplexExtendable> PolynomialSpace for CircleDomain<F> {
 
     /// The selectors at each point of another domain, in natural order.
     ///
-    /// Asks a genuine domain, as [`CircleDomain::is_genuine`] tests, with `log_n <=
+    /// Requires a genuine domain, as [`CircleDomain::is_genuine`] tests, with `log_n <=
     /// CIRCLE_TWO_ADICITY`, and a coset with `1 <= log_n <= CIRCLE_TWO_ADICITY` each of whose
     /// points is clear of the domain, as [`CircleDomain::is_clear_of`] tests of one. Fails where
     /// memory is refused.
@@ -617,7 +618,7 @@ impl<F: ComplexExtendable> PolynomialSpace for CircleDomain<F> {
     /// The value at this point of the only polynomial with these values in natural order (Circle
     /// STARKs, section 4.3).
     ///
-    /// Asks a standard domain of at least two points, as [`CircleDomain::is_standard`] tests, a
+    /// Requires a standard domain of at least two points, as [`CircleDomain::is_standard`] tests, a
     /// value for each of them, and a point that is not at infinity and that is clear of the domain,
     /// as [`CircleDomain::is_clear_of`] tests of `Point::from_projective_line(point)`. Fails where
     /// memory is refused.
@@ -645,7 +646,7 @@ impl<F: ComplexExtendable> PolynomialSpace for CircleDomain<F> {
     /// entries, the entry for one, and for `2^k` entries the value at the point, doubled `log_n -
     /// k` times, of the only polynomial with these values on the standard domain of `2^k` points.
     ///
-    /// Asks nothing of a column of at most one entry. Of others asks a standard domain, as
+    /// Requires nothing of a column of at most one entry. For others requires a standard domain, as
     /// [`CircleDomain::is_standard`] tests, a length that is a power of two, as `is_power_of_two`
     /// tests, and at most the size, and a point that is not at infinity and, once doubled, clear of
     /// that smaller domain, as [`CircleDomain::is_clear_of`] tests. Fails where memory is refused.

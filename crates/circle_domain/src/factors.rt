@@ -15,7 +15,7 @@ use std::alloc::{AllocError, Global};
 /// The factors of the blocks of each layer, beginning with the smallest blocks: entry `m` has
 /// those of the layer whose blocks have `2^(m + 1)` points.
 ///
-/// Asks `1 <= log_n <= CIRCLE_TWO_ADICITY`. Fails where memory is refused.
+/// Requires `1 <= log_n <= CIRCLE_TWO_ADICITY`. Fails where memory is refused.
 pub fn layer_twiddles<F: ComplexExtendable>(
     alloc: Global,
     domain: CircleDomain<F>,
@@ -38,7 +38,7 @@ pub fn layer_twiddles<F: ComplexExtendable>(
 /// The y coordinate of the first point of each pair of opposite points, in the order of the
 /// transform.
 ///
-/// Asks `1 <= log_n <= CIRCLE_TWO_ADICITY`. Fails where memory is refused.
+/// Requires `1 <= log_n <= CIRCLE_TWO_ADICITY`. Fails where memory is refused.
 pub fn y_twiddles<F: ComplexExtendable>(
     alloc: Global,
     domain: CircleDomain<F>,
@@ -54,7 +54,7 @@ pub fn y_twiddles<F: ComplexExtendable>(
 /// The x coordinate of the first point of every second pair of opposite points, in the order of the
 /// transform; the pair after it has the opposite x coordinate.
 ///
-/// Asks `2 <= log_n <= CIRCLE_TWO_ADICITY`. Fails where memory is refused.
+/// Requires `2 <= log_n <= CIRCLE_TWO_ADICITY`. Fails where memory is refused.
 pub fn x_twiddles<F: ComplexExtendable>(
     alloc: Global,
     domain: CircleDomain<F>,

@@ -34,7 +34,7 @@ pub struct LagrangeWeights<EF> {
 /// coefficient for each point, each times its point's share, add up to its value at `at` once they
 /// are multiplied by the scale.
 ///
-/// Asks a genuine domain, as [`CircleDomain::is_genuine`] tests, with `log_n <=
+/// Requires a genuine domain, as [`CircleDomain::is_genuine`] tests, with `log_n <=
 /// CIRCLE_TWO_ADICITY`, that `at` is clear of, as [`CircleDomain::is_clear_of`] tests. Fails where
 /// memory is refused.
 pub fn lagrange_weights<F: ComplexExtendable, EF: ExtensionField<F>>(
@@ -64,7 +64,7 @@ pub fn lagrange_weights<F: ComplexExtendable, EF: ExtensionField<F>>(
 /// The value at `at` of the only polynomial with a coefficient for each point of the domain that
 /// has these values there, in natural order.
 ///
-/// Asks a genuine domain, as [`CircleDomain::is_genuine`] tests, with `log_n <=
+/// Requires a genuine domain, as [`CircleDomain::is_genuine`] tests, with `log_n <=
 /// CIRCLE_TWO_ADICITY`, that `at` is clear of, as [`CircleDomain::is_clear_of`] tests, and a value
 /// for each point. Fails where memory is refused.
 pub fn value_off_domain<F: ComplexExtendable, EF: ExtensionField<F>>(

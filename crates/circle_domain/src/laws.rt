@@ -1,4 +1,4 @@
-//! Laws of points and of the circle basis. The calls of this module answer nothing, take no memory
+//! Laws of points and of the circle basis. The calls of this module return nothing, take no memory
 //! and carry what their contracts say.
 ghost use Rattle.std.specs.Prelude.{◌≡◌, ◌+◌, ◌^◌, ◌≤◌, ◌++◌, length};
 ghost use Rattle.circle_field.specs.Circle.{plus, times};
@@ -28,7 +28,7 @@ pub fn multiples_add<F: Field>(point: Point<F>, m: usize, n: usize)
 /// which the upper half begins, that of the upper half (Circle STARKs, IACR ePrint 2024/278,
 /// section 4).
 ///
-/// Asks `2^log_half` coefficients in the lower half and no more in the upper.
+/// Requires `2^log_half` coefficients in the lower half and no more in the upper.
 pub fn halves_add<F: Field>(lower: &[F], upper: &[F], point: Point<F>, log_half: usize)
     requires lower { length lower.now ≡ 2 ^ log_half }
     requires upper { length upper.now ≤ 2 ^ log_half }
@@ -44,7 +44,7 @@ pub fn halves_add<F: Field>(lower: &[F], upper: &[F], point: Point<F>, log_half:
 /// On a genuine domain only one polynomial of as many coefficients as there are points has its
 /// values at them.
 ///
-/// Asks `log_n <= CIRCLE_TWO_ADICITY` and a coefficient for each point.
+/// Requires `log_n <= CIRCLE_TWO_ADICITY` and a coefficient for each point.
 pub fn coefficients_are_only<F: ComplexExtendable>(
     domain: &CircleDomain<F>,
     coefficients: &[F],

@@ -6,12 +6,13 @@
 //!   `2^log_n` of them; `is_genuine` is true exactly where the halves are disjoint, `is_standard`
 //!   exactly on standard domains, and `is_clear_of` exactly at points whose difference from each
 //!   of the domain's points has a y coordinate that is not 0.
-//! - `try_standard` and `try_nth_point` are `None` exactly where `standard` and `nth_point` ask more.
+//! - `try_standard` and `try_nth_point` are `None` exactly where `standard` and `nth_point` require
+//!   more.
 //! - `cfft_permute_index` is the bit reversal between the two orders and its own inverse.
 //! - On a standard domain `next_point` from `first_point` walks all points in natural order and
-//!   returns (`walk`); `try_create_disjoint_domain` answers a standard domain of at least so many
-//!   points that has no point of this one (`enough`, `disjoint`) and says exactly when there is
-//!   none.
+//!   returns (`walk`); `try_create_disjoint_domain` returns a standard domain of at least the
+//!   required size that has no point of this one (`enough`, `disjoint`) and says exactly when there
+//!   is none.
 //! - The parts of `split_domains` are disjoint and make up the whole (`disjoint`, `whole`), and
 //!   `split_evals` sends each row to the part that holds its point, at the point's natural place
 //!   there (`goes`, `points`).
@@ -21,7 +22,7 @@
 //!   polynomial with these values, also over an extension (`value`, `only`), and
 //!   `evaluate_periodic_column_at` that of a column that repeats (`IsPeriodicValue`).
 //! - Multiples of points, values by the halves of the coefficients, and that values on a genuine
-//!   domain tell them, by calls that answer nothing (`laws`).
+//!   domain determine them, by calls that return nothing (`laws`).
 //!
 //! Its files:
 //!
@@ -29,9 +30,9 @@
 //!   the factors of the transform's layers and of folds; `row_selectors.rt`, `splitting.rt`:
 //!   selectors at many points, and the rows of a part. `laws.rt`: laws for the crates above.
 //! - In `specs/`, `Order`, `Ordering`, `Values`, `Clear`, `Selectors`, `Splitting`, `Periodic`: the
-//!   definitions. `Spans`: words that are the values of polynomials with few coefficients.
-//!   `Domain`, `CfftPerm`, `Space`: what the types are, ask and give. `Layers`, `Lagrange`: blocks,
-//!   factors and weights, for folding and the transform. `Rows`: examples.
+//!   definitions. `Spans`: codewords that are the values of polynomials with few coefficients.
+//!   `Domain`, `CfftPerm`, `Space`: what the types are, require and return. `Layers`, `Lagrange`:
+//!   blocks, factors and weights, for folding and the transform. `Rows`: examples.
 //! - In `proofs/`, of orders: `Orders`, `Reversal`, `ReversedBlocks`, `CosetOrder`,
 //!   `NaturalValues`, `OtherOrder`; in a larger field `Lifted`, `LiftedValues`; of domains
 //!   `StandardDomain`, `Disjoint`, `NextPoints`, `Walking`, `Parts` and those beside it, `ClearOf`.

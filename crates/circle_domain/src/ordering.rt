@@ -36,7 +36,7 @@ use std::alloc::{AllocError, Global};
 ///
 /// It is its own inverse, so that the rows of either order are found in the other by it.
 ///
-/// Asks `log_n <= 63` and `index < 2^log_n`.
+/// Requires `log_n <= 63` and `index < 2^log_n`.
 pub fn cfft_permute_index(index: usize, log_n: usize) -> usize
     requires small { log_n ≤ 63 }
     requires in_range { index < 2 ^ log_n }
@@ -125,7 +125,7 @@ pub type CfftView<M> = RowIndexMappedView<CfftPerm, M>;
 pub trait CfftPermutable<T>: Matrix<T> {
     /// The rows in the other order of a domain, without copying them.
     ///
-    /// Asks a height that is a power of two, as `is_power_of_two` tests.
+    /// Requires a height that is a power of two, as `is_power_of_two` tests.
     fn cfft_perm_rows(self) -> CfftView<Self>
         requires { IsPowerOfTwo (Self.height self) }
         ensures rows { (n : ℕ) → Self.height self ≡ 2 ^ n →
@@ -146,7 +146,7 @@ impl<T, M: Matrix<T>> CfftPermutable<T> for M {
 
 /// The first points of the pairs of opposite points, in the order of the transform.
 ///
-/// Asks `1 <= log_n <= CIRCLE_TWO_ADICITY`. Fails where memory is refused.
+/// Requires `1 <= log_n <= CIRCLE_TWO_ADICITY`. Fails where memory is refused.
 pub fn first_points<F: ComplexExtendable>(
     alloc: Global,
     domain: CircleDomain<F>,

@@ -15,7 +15,7 @@ use std::alloc::{AllocError, Global};
 
 /// The points of a domain in natural order.
 ///
-/// Asks `1 <= log_n <= CIRCLE_TWO_ADICITY`. Fails where memory is refused.
+/// Requires `1 <= log_n <= CIRCLE_TWO_ADICITY`. Fails where memory is refused.
 pub(crate) fn natural_points<F: ComplexExtendable>(
     alloc: Global,
     domain: CircleDomain<F>,
@@ -34,7 +34,7 @@ pub(crate) fn natural_points<F: ComplexExtendable>(
 
 /// The vanishing polynomial of a domain at each point.
 ///
-/// Asks `log_n >= 1`. Fails where memory is refused.
+/// Requires `log_n >= 1`. Fails where memory is refused.
 pub(crate) fn vanishing_values<F: ComplexExtendable>(
     alloc: Global,
     domain: CircleDomain<F>,
@@ -56,7 +56,7 @@ pub(crate) fn vanishing_values<F: ComplexExtendable>(
 /// For each point the value of the vanishing polynomial over the coordinate of the point less that
 /// of the row: the selector of the row.
 ///
-/// Asks a value for each point, and points that differ from the row's by no y coordinate of 0.
+/// Requires a value for each point, and points that differ from the row's by no y coordinate of 0.
 /// Fails where memory is refused.
 pub(crate) fn row_selector<F: Field>(
     alloc: Global,

@@ -26,7 +26,7 @@ const PARAMETERS: FriParameters<()> = FriParameters {
     mmcs: (),
 };
 
-/// What the verifier answers.
+/// What the verifier returns.
 type Answer = Result<(), VerifierError>;
 
 /// What the prover publishes.
@@ -37,12 +37,12 @@ struct Published {
     proof: Proof,
 }
 
-/// The powers of two, so many of them, as a column.
+/// The first `rows` powers of two, as a column.
 fn column(alloc: Global, rows: usize) -> Result<RowMajorMatrix<Val>, AllocError> {
     Ok(RowMajorMatrix::new_col(Val::powers(alloc, Val::TWO, rows)?))
 }
 
-/// The challenger that took in the commitments, and the point that it draws.
+/// The challenger that absorbed the commitments, and the point that it draws.
 fn after_commitments(commitments: &[Commitment; 2]) -> (Challenger, Challenge) {
     let mut challenger = Challenger::new();
     for commitment in commitments {
@@ -109,7 +109,7 @@ fn prove(alloc: Global, pcs: &Scheme) -> Result<Published> {
     })
 }
 
-/// What the verifier answers to what is published.
+/// The verdict on what is published.
 fn verify(alloc: Global, pcs: &Scheme, published: &Published) -> Result<Answer> {
     let (mut challenger, point) = after_commitments(&published.commitments);
     let [of_first, of_second] = points(alloc, point)?;
@@ -130,7 +130,7 @@ fn verify(alloc: Global, pcs: &Scheme, published: &Published) -> Result<Answer> 
     Ok(pcs.verify(alloc, claims, &published.proof, &mut challenger))
 }
 
-/// How an answer is told.
+/// How a verdict is printed.
 fn told(answer: Answer) -> &'static str {
     answer.map_or_else(|error| error.name(), |()| "accepted")
 }

@@ -40,7 +40,7 @@ is_embedding = record {
   injective = λ a b h. ap (λ c. c.c0) h;
 }
 
--- the coefficients are linear and tell elements apart
+-- the coefficients are linear, and different elements have different ones
 pub are_coefficients : AreCoefficients base operations embed 3 coefficients
 unfolding entry
 are_coefficients = record {

@@ -47,7 +47,8 @@ module _ {F : Type 0} (k : FieldOps F) where
   abbrev pub sub : F → F → F
   sub a b = k.add a (k.neg b)
 
--- a map of fields that keeps sums, products, opposites, 0 and 1, and tells elements apart
+-- a map of fields that keeps sums, products, opposites, 0 and 1, and maps different elements to
+-- different ones
 pub record IsEmbedding {F E : Type 0} (k : FieldOps F) (l : FieldOps E)
     (embed : F → E) : Type 0 where
   pub zero : embed k.zero ≡ l.zero

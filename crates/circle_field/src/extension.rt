@@ -21,9 +21,9 @@ pub trait ComplexExtendable: Field {
 
     ghost generators: { ℕ → Coordinates Self };
 
-    /// The coordinates of a point of order `2^log_n`, whose double is the answer for `log_n - 1`.
+    /// The coordinates of a point of order `2^log_n`, whose double is the result for `log_n - 1`.
     ///
-    /// Asks `log_n <= CIRCLE_TWO_ADICITY`.
+    /// Requires `log_n <= CIRCLE_TWO_ADICITY`.
     fn circle_two_adic_generator(log_n: usize) -> (Self, Self)
         requires { log_n ≤ CIRCLE_TWO_ADICITY }
         ensures { at result.0 result.1 ≡ generators log_n };
@@ -53,21 +53,21 @@ pub trait ExtensionField<F: Field>: Field {
 
     /// The coefficient at place `i`.
     ///
-    /// Asks `i < DEGREE`.
+    /// Requires `i < DEGREE`.
     fn coefficient(&self, i: usize) -> F
         requires { i < DEGREE }
         ensures { slice_get (coefficients self.now) i ≡ Some result };
 
     /// The element with another coefficient at place `i`.
     ///
-    /// Asks `i < DEGREE`.
+    /// Requires `i < DEGREE`.
     fn with_coefficient(&self, i: usize, coefficient: F) -> Self
         requires { i < DEGREE }
         ensures { coefficients result ≡ slice_set (coefficients self.now) i coefficient };
 
     /// The element with these coefficients.
     ///
-    /// Asks `DEGREE` of them.
+    /// Requires `DEGREE` of them.
     fn from_coefficients(coeffs: &[F]) -> Self
         requires { length coeffs.now ≡ DEGREE }
         ensures { coefficients result ≡ coeffs.now };

@@ -1,4 +1,4 @@
-//! Laws of sums and powers. The calls of this module answer nothing, take no memory and carry what
+//! Laws of sums and powers. The calls of this module return nothing, take no memory and carry what
 //! their contracts say.
 ghost use Rattle.std.specs.Prelude.{◌≡◌, ◌≢◌, ◌+◌};
 ghost use Rattle.circle_field.specs.Field.{nth_power, of_nat};
@@ -16,8 +16,8 @@ pub fn powers_multiply<F: Field>(base: F, m: usize, n: usize)
     let _law = (base, m, n);
 }
 
-/// The sum of `m + n` ones is that of `m` and that of `n` ones, and what one element is added to
-/// tells the other.
+/// The sum of `m + n` ones is that of `m` and that of `n` ones, and an element and its sum with
+/// another determine the other.
 pub fn sums_add<F: Field>(left: F, right: F, m: usize, n: usize)
     ensures ones { of_nat F.ops (m + n) ≡ F.ops.add (of_nat F.ops m) (of_nat F.ops n) }
     ensures told { (other : F) → F.ops.add left right ≡ F.ops.add left other → right ≡ other }

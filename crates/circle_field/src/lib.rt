@@ -16,14 +16,15 @@
 //!   `halve`, `div_2exp_u64`, `powers`, `exp_u64`, `mul_2exp_u64`, `square`, `double` and
 //!   `is_zero` are what they say, and `batch_multiplicative_inverse` is the list of the inverses
 //!   in order.
-//! - An extension field keeps the operations and tells the elements of its base field apart; its
-//!   coefficients are linear and determine the element; `from_coefficients` and `coefficient` undo
-//!   each other (the laws of `ExtensionField`); every field is an extension of itself.
+//! - An extension field keeps the operations of its base field and has different elements for
+//!   different ones of it; its coefficients are linear and determine the element;
+//!   `from_coefficients` and `coefficient` undo each other (the laws of `ExtensionField`); every
+//!   field is an extension of itself.
 //! - The bytes of an element are of a fixed number and determine it (`ElementBytes`).
 //! - The generators of `Mersenne31` lie on the circle, each is the double of the next, the first
 //!   is (1, 0) and the second (-1, 0) (`generators_law`).
 //! - Powers by sums of exponents, of squares and of what isn't 0, and sums of ones, by calls that
-//!   answer nothing (`laws`).
+//!   return nothing (`laws`).
 //!
 //! Its files:
 //!

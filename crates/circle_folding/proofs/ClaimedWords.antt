@@ -1,4 +1,4 @@
--- Words on a standard domain by index, and what one quotient of a claim says of a word.
+-- Codewords on a standard domain by index, and what one quotient of a claim says of a codeword.
 use Rattle.std.specs.Prelude.{◌≡◌, ◌≢◌, ◌↔◌, ℕ, ◌+◌, ◌^◌, ◌<◌, ◌≤◌, Bool, true, List, [], ◌∷◌}
 use Rattle.std.specs.Prelude.{length, map, slice_index_or}
 use Rattle.std.specs.List.{AllByRecursion}
@@ -111,7 +111,7 @@ module _ {F E : Type 0} {k : FieldOps F} {l : FieldOps E} {embed : F → E} (law
       all-read (IsOnCircle l) ps (origin l)
       (points-on_circle laws lgens h first below first-on_circle)
 
-  -- a polynomial's values as a word
+  -- a polynomial's values as a codeword
   pub values-are : (n : ℕ) (word c : List E) → HasValues k gen l embed n h (gen (h + 1)) word c →
       map (value l c) ps ≡ word
   values-are n word c has = ap (map (value l c)) (sym points-are)

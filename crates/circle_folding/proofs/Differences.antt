@@ -1,6 +1,6 @@
--- Polynomials in a challenge whose coefficients are words: where their values at as many challenges
--- as
--- there are coefficients are of a kind that sums of multiples keep, so are the coefficients.
+-- Polynomials in a challenge whose coefficients are codewords: where their values at as many
+-- challenges as there are coefficients are of a kind that sums of multiples keep, so are the
+-- coefficients.
 use Rattle.std.specs.Prelude.{◌≡◌, ◌≢◌, ℕ, ◌+◌, ◌<◌, List, [], ◌∷◌, ◌++◌, length, map}
 use Rattle.std.specs.List.{AllByRecursion, range_with_len}
 use Rattle.std.proofs.Common.{zero, suc, ◌∙◌, ap, refl, arith, add-one}
@@ -19,7 +19,7 @@ module _ {E : Type 0} (l : FieldOps E) where
   power_sum a [] = l.zero
   power_sum a (x ∷ xs) = l.add x (l.mul a (power_sum a xs))
 
-  -- the same of words, at a place
+  -- likewise for codewords, at a place
   abbrev pub word_sum : List (ℕ → E) → E → ℕ → E
   word_sum [] a i = l.zero
   word_sum (t ∷ ts) a i = l.add (t i) (l.mul a (word_sum ts a i))

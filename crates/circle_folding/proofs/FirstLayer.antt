@@ -1,4 +1,4 @@
--- The values that queries ask for in the first layer.
+-- The values at queries in the first layer.
 use Rattle.std.specs.Prelude.{◌≡◌, ◌≢◌, ℕ, ◌+◌, ◌-◌, ◌/◌, ◌%◌, ◌^◌, ◌≤◌, ◌<◌, List, [], ◌∷◌, ◌++◌}
 use Rattle.std.specs.Prelude.{length, map, All, slice_index_or}
 use Rattle.std.proofs.Common.{suc, refl, sym, ◌∙◌, ap, ⊎_elim, arith}

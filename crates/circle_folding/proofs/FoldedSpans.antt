@@ -1,5 +1,5 @@
--- Words that are the values of polynomials with few coefficients fold to those of polynomials in x
--- with half as many, and only they do so by two challenges.
+-- Codewords that are the values of polynomials with few coefficients fold to those of polynomials
+-- in x with half as many, and only they do so by two challenges.
 use Rattle.std.specs.Prelude.{◌≡◌, ◌≢◌, ℕ, ◌+◌, ◌-◌, ◌^◌, ◌≤◌, List, [], ◌∷◌, length, map, All}
 use Rattle.std.specs.List.{AllByRecursion}
 use Rattle.std.proofs.Common.{suc, refl, sym, ◌∙◌, ap, subst, arith}
@@ -95,7 +95,7 @@ module _ {F E : Type 0} {k : FieldOps F} {l : FieldOps E} {embed : F → E} (bas
 
   module _ (m : ℕ) (beta : E) (rows : List (List E)) (wide : All (λ row. length row ≡ 2) rows)
       (tall : length rows ≡ 2 ^ m) where
-    -- a first word
+    -- a first codeword
     module _ (fits : m + 2 ≤ bits) where
       abbrev ps : List (Coordinates F)
       ps = coset k gen m (gen (m + 2))
@@ -164,7 +164,7 @@ module _ {F E : Type 0} {k : FieldOps F} {l : FieldOps E} {embed : F → E} (bas
             },
           )
 
-    -- a later word
+    -- a later codeword
     module _ (fits : m + 3 ≤ bits) where
       abbrev starts : List (Coordinates F)
       starts = block_starts k gen m 2 (gen (m + 3))

@@ -74,7 +74,7 @@ module _ {E : Type 0} {l : FieldOps E} (laws : FieldLaws l) where
   more-zeros f j count [] = zeros-sum f j count
   more-zeros f j count (x ∷ xs) = ap (l.add (l.mul x (f j))) (more-zeros f (suc j) count xs)
 
-  -- v_n as the factor of so many coefficients
+  -- v_n as the factor of 2^n coefficients
   pub vanishing-factor : (n : ℕ) (p : Coordinates E) → 1 ≤ n → vanishing l n p ≡ factor l n p
   vanishing-factor zero p positive = absurd (omega arith)
   vanishing-factor (suc j) p positive = let e : suc j - 1 ≡ j = omega arith in

@@ -1,4 +1,4 @@
--- The places of queries in words of different lengths, and the points there.
+-- The places of queries in codewords of different lengths, and the points there.
 use Rattle.std.specs.Prelude.{◌≡◌, ℕ, ◌+◌, ◌-◌, ◌/◌, ◌^◌, ◌<◌, ◌≤◌, Some, slice_get, slice_index_or}
 use Rattle.std.proofs.Common.{suc, sym, ◌∙◌, ap, arith}
 use Rattle.std.proofs.Math.Pow.{shr_lt}

@@ -1,4 +1,4 @@
--- Lists of so many powers.
+-- Lists of powers.
 use Rattle.std.specs.Prelude.{◌≡◌, ℕ, List, length, map}
 use Rattle.std.specs.List.{range_with_len}
 use Rattle.std.proofs.Common.{sym, ◌∙◌, ap}

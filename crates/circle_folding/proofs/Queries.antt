@@ -1,4 +1,4 @@
--- The values that queries ask for, from round to round.
+-- The values at queries, from round to round.
 use Rattle.std.specs.Prelude.{◌≡◌, ◌≢◌, ℕ, ◌+◌, ◌-◌, ◌*◌, ◌/◌, ◌%◌, ◌^◌, ◌≤◌, ◌<◌, List, [], ◌∷◌}
 use Rattle.std.specs.Prelude.{◌++◌, Some, nat_eq, if◌then◌else◌, length, map, All, slice_get}
 use Rattle.std.specs.Prelude.{slice_index_or}

@@ -1,4 +1,4 @@
--- A word less its multiple of the vanishing polynomial.
+-- A codeword less its multiple of the vanishing polynomial.
 use Rattle.std.specs.Prelude.{◌≡◌, ◌↔◌, ℕ, ◌+◌, ◌-◌, ◌^◌, ◌<◌, ◌≤◌, Bool, true, List, [], ◌∷◌}
 use Rattle.std.specs.Prelude.{length, map}
 use Rattle.std.proofs.Common.{suc, refl, sym, ◌∙◌, ap, arith}
@@ -32,7 +32,7 @@ use Rattle.circle_folding.proofs.Orthogonal.{factor-orthogonal, factor-squares}
 use Rattle.circle_folding.proofs.Vanished.{length-points}
 
 module _ {F : Type 0} {k : FieldOps F} (laws : RingLaws k) where
-  -- products with entries plus or less so many times the others
+  -- products with entries plus or less a multiple of the others
   dot-plus : (a : F) (fs vs : List F) → length fs ≡ length vs →
       dot k (pairwise (λ f v. k.add f (k.mul a v)) fs vs) vs
       ≡ k.add (dot k fs vs) (k.mul a (dot k vs vs))
@@ -188,7 +188,7 @@ module _ {F E : Type 0} {k : FieldOps F} {l : FieldOps E} {embed : F → E} (bas
       inverse : l.mul number (l.inv number) ≡ l.one
       inverse = laws.mul_inv number (power-nonzero laws (m - 1))
 
-      -- the parts of a word that splits
+      -- the parts of a codeword that splits
       split-parts : (word low : List E) (a : E) → Splits k gen l embed blowup m word low a →
           (remainder_of k gen l embed blowup m (lambda_of k gen l embed blowup m word) word ≡ low)
           × (lambda_of k gen l embed blowup m word ≡ a)

@@ -1,4 +1,4 @@
--- Polynomials by their coefficients at even and at odd places, and words of pairs: what a fold
+-- Polynomials by their coefficients at even and at odd places, and codewords of pairs: what a fold
 -- makes of a pair, and which pairs have two given folds.
 use Rattle.std.specs.Prelude.{◌≡◌, ◌≢◌, ℕ, ◌+◌, ◌*◌, ◌/◌, ◌%◌, List, [], ◌∷◌, length, map, flat_map}
 use Rattle.std.specs.Prelude.{All}

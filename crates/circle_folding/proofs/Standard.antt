@@ -1,4 +1,4 @@
--- Words on half of a standard domain, and the only coefficients that have their values.
+-- Codewords on half of a standard domain, and the only coefficients that have their values.
 use Rattle.std.specs.Prelude.{◌≡◌, ◌≢◌, ℕ, ◌+◌, ◌-◌, ◌*◌, ◌%◌, ◌^◌, ◌≤◌, List, [], ◌∷◌, ◌++◌}
 use Rattle.std.specs.Prelude.{length, map, take, drop, replicate, All}
 use Rattle.std.specs.List.{AllByRecursion}

@@ -1,4 +1,4 @@
--- Values at the points of a block tell the coefficients.
+-- Values at the points of a block determine the coefficients.
 use Rattle.std.specs.Prelude.{◌≡◌, ◌≢◌, ℕ, ◌^◌, ◌≤◌, List, [], ◌∷◌, length, map}
 use Rattle.std.proofs.Common.{suc, sym, ◌∙◌, ap, refl, arith}
 use Rattle.std.proofs.Math.Nat.{pow-suc}

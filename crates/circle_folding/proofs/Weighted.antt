@@ -47,7 +47,7 @@ claimed_quotient l m alpha top weights x z row values widths enough is_top are =
     (l.mul (sub l (real_part l m x z) (l.mul (f n) (imaginary_part l m x z)))
     (l.inv (l.add (real_part l m x z) (real_part l m x z))))) sums
 
--- the same of several rows
+-- likewise for several rows
 pub claimed_quotients : {F E : Type 0} (l : FieldOps E) (m : F → E) (alpha top : E)
     (weights : List E) (xs : List (Coordinates F)) (z : Coordinates E) (rows : List (List F))
     (values : List E) →

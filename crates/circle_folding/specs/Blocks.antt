@@ -2,7 +2,7 @@
 use Rattle.std.specs.Prelude.{ℕ, List, [], ◌∷◌, ◌++◌, replicate}
 use Rattle.circle_field.specs.Field.{FieldOps}
 
--- each entry so many times over
+-- each entry n times over
 abbrev pub spread : {T : Type 0} → ℕ → List T → List T
 spread n [] = []
 spread n (x ∷ xs) = replicate n x ++ spread n xs

@@ -1,7 +1,8 @@
 -- A query's way through the first layer and the rounds: Circle STARKs (ePrint 2024/278), section
 -- 4.2. With high the logarithm of the greatest height that is committed, a query q below 2^high
--- asks for the entry at place q >> (high - h) of a word of 2^h entries; the other of its pair is
--- its sibling. The first layer folds words of several heights by y, round r a word of 2^(high - 1
+-- reads the entry at place q >> (high - h) of a codeword of 2^h entries; the other of its pair is
+-- its sibling. The first layer folds codewords of several heights by y, round r a codeword of
+-- 2^(high - 1
 -- - r) entries by x.
 use Rattle.std.specs.Prelude.{◌≡◌, ℕ, ◌+◌, ◌-◌, ◌/◌, ◌%◌, ◌^◌, ◌<◌, ◌≤◌, List, [], ◌∷◌}
 use Rattle.std.specs.Prelude.{All, length, map, nat_eq, if◌then◌else◌, slice_index_or}
@@ -11,12 +12,12 @@ use Rattle.circle_commit.specs.DotProduct.{pairwise}
 use Rattle.circle_folding.specs.Fold.{fold_pair, fold_y_twiddles, fold_x_twiddles}
 
 module _ {F : Type 0} (k : FieldOps F) (gen : ℕ → Coordinates F) where
-  -- the twiddle of the pair that query q below 2^high asks for in the first word of 2^h entries
+  -- the twiddle of the pair that query q below 2^high reads in the first codeword of 2^h entries
   abbrev pub first_layer_twiddle : ℕ → ℕ → ℕ → F
   first_layer_twiddle h high q =
       slice_index_or (fold_y_twiddles k gen (h - 1)) (q / 2 ^ (high - h) / 2) k.zero
 
-  -- the twiddle of the pair that query q below 2^h asks for in round r
+  -- the twiddle of the pair that query q below 2^h reads in round r
   abbrev pub round_twiddle : ℕ → ℕ → ℕ → F
   round_twiddle h r q = slice_index_or (fold_x_twiddles k gen (h - 2 - r)) (q / 2 ^ (r + 2)) k.zero
 
@@ -36,8 +37,8 @@ module _ {E : Type 0} where
   pair_of place value sibling =
       if nat_eq (place % 2) 0 then value ∷ sibling ∷ [] else sibling ∷ value ∷ []
 
-  -- the pairs that queries ask for in a word where each is the place of its entry once it has lost
-  -- its lowest bits, each of the query's value and its sibling
+  -- the pairs at queries in a codeword where each is the place of its entry once it has lost its
+  -- lowest bits, each of the query's value and its sibling
   abbrev pub asked_pairs : ℕ → List ℕ → List E → List E → List (List E)
   asked_pairs bits queries values siblings = pairwise (λ pair sibling. pair sibling)
       (pairwise (λ q. pair_of (q / 2 ^ bits)) queries values) siblings

@@ -16,7 +16,7 @@ abbrev pub AreDistinct : {E : Type 0} → List E → Type 0
 AreDistinct [] = Unit {0}
 AreDistinct (x ∷ xs) = All (λ y. y ≢ x) xs × AreDistinct xs
 
--- z is none of the points of the standard domain of so many points
+-- z is none of the points of the standard domain of 2^n points
 abbrev pub IsOffStandard : {F E : Type 0} →
     FieldOps F → (ℕ → Coordinates F) → (F → E) → ℕ → Coordinates E → Type 0
 IsOffStandard k gen embed size z =
@@ -29,32 +29,33 @@ module _ {F E : Type 0} (k : FieldOps F) (gen : ℕ → Coordinates F) (l : Fiel
   row_quotients h alpha z rows values =
       claim_quotients l (λ r. r) alpha (standard_points k gen l embed h) z rows values
 
-  -- the same of a word, as rows of one entry, under one value
+  -- likewise for a codeword, as rows of one entry, under one value
   abbrev pub word_quotients : ℕ → E → Coordinates E → List E → E → List E
   word_quotients h alpha z word v = row_quotients h alpha z (map (λ w. w ∷ []) word) (v ∷ [])
 
-  -- only one polynomial with 2^n coefficients has the word for values, and v is its value at z
+  -- only one polynomial with 2^n coefficients has the codeword for values, and v is its value at z
   abbrev pub IsValueOfOnly : ℕ → ℕ → List E → Coordinates E → E → Type 0
   IsValueOfOnly n h word z v =
       (c : List E) × HasValues k gen l embed n h (gen (h + 1)) word c × (v ≡ value l c z)
       × ((d : List E) → HasValues k gen l embed n h (gen (h + 1)) word d → d ≡ c)
 
-  -- only one such polynomial and one multiple of v_n add up to the word, and v is their value at z
+  -- only one such polynomial and one multiple of v_n add up to the codeword, and v is their value
+  -- at z
   abbrev pub IsWideValueOfOnly : ℕ → ℕ → List E → Coordinates E → E → Type 0
   IsWideValueOfOnly n h word z v =
       (c : List E) × (a : E) × HasWideValues k gen l embed n h word c a
       × (v ≡ wide_value l n c a z)
       × ((d : List E) (b : E) → HasWideValues k gen l embed n h word d b → (d ≡ c) × (b ≡ a))
 
-  -- the same of each column of a matrix and its value
+  -- likewise for each column of a matrix and its value
   abbrev pub AreWideValuesOfOnly : ℕ → ℕ → List (List E) → Coordinates E → List E → Type 0
   AreWideValuesOfOnly n h rows z values =
       (j : ℕ) → j < length values
       → IsWideValueOfOnly n h (column l.zero rows j) z (slice_index_or values j l.zero)
 
-  -- of a word of 2^h entries, n being h less the blowup's logarithm: if it is the values of a
+  -- of a codeword of 2^h entries, n being h less the blowup's logarithm: if it is the values of a
   -- polynomial with 2^n coefficients, and its quotients under v, claimed at z, are those of one
-  -- plus a multiple of v_n, then v is the value at z of the word's only polynomial
+  -- plus a multiple of v_n, then v is the value at z of the codeword's only polynomial
   abbrev pub BindsValue : ℕ → E → Coordinates E → List E → E → Type 0
   BindsValue blowup alpha z word v =
       (h : ℕ) → length word ≡ 2 ^ h → Span k gen l embed (h - blowup) h (gen (h + 1)) word

@@ -1,4 +1,4 @@
--- Folding a word by pairs: Circle STARKs (ePrint 2024/278), section 4.2.
+-- Folding a codeword by pairs: Circle STARKs (ePrint 2024/278), section 4.2.
 use Rattle.std.specs.Prelude.{ℕ, ◌+◌, List, [], ◌∷◌, map, slice_index_or}
 use Rattle.circle_field.specs.Field.{FieldOps, sub, two}
 use Rattle.circle_field.specs.Circle.{Coordinates}
@@ -23,27 +23,27 @@ module _ {E : Type 0} (l : FieldOps E) where
   folds beta ts pairs = pairwise (fold_pair beta) ts pairs
 
 module _ {F : Type 0} (k : FieldOps F) (gen : ℕ → Coordinates F) where
-  -- for each of the 2^m pairs of a word on the standard domain of 2^(m + 1) points, in the order of
-  -- the transform, the y coordinate of its first point
+  -- for each of the 2^m pairs of a codeword on the standard domain of 2^(m + 1) points, in the
+  -- order of the transform, the y coordinate of its first point
   abbrev pub fold_y_twiddles : ℕ → List F
   fold_y_twiddles m = map (λ p. p.y) (coset k gen m (gen (m + 2)))
 
-  -- for each of the 2^m pairs of a later word, on the x coordinates of 2^(m + 1) points, the first
-  -- of its two x coordinates
+  -- for each of the 2^m pairs of a later codeword, on the x coordinates of 2^(m + 1) points, the
+  -- first of its two x coordinates
   abbrev pub fold_x_twiddles : ℕ → List F
   fold_x_twiddles m = map (λ p. p.x) (every_second (coset k gen (m + 1) (gen (m + 3))))
 
 module _ {F E : Type 0} (k : FieldOps F) (gen : ℕ → Coordinates F)
     (l : FieldOps E) (embed : F → E) where
-  -- a first word of 2^(m + 1) entries, as 2^m rows of two, folded by y
+  -- a first codeword of 2^(m + 1) entries, as 2^m rows of two, folded by y
   abbrev pub y_folds : ℕ → E → List (List E) → List E
   y_folds m beta rows = folds l beta (map embed (fold_y_twiddles k gen m)) rows
 
-  -- a later word of 2^(m + 1) entries, as 2^m rows of two, folded by x
+  -- a later codeword of 2^(m + 1) entries, as 2^m rows of two, folded by x
   abbrev pub x_folds : ℕ → E → List (List E) → List E
   x_folds m beta rows = folds l beta (map embed (fold_x_twiddles k gen m)) rows
 
-  -- the pair at an index of such a word folded by x
+  -- the pair at an index of such a codeword folded by x
   abbrev pub x_fold : ℕ → ℕ → E → List E → E
   x_fold m index beta pair =
       fold_pair l beta (embed (slice_index_or (fold_x_twiddles k gen m) index k.zero)) pair

@@ -18,7 +18,7 @@ module _ {F : Type 0} (k : FieldOps F) where
       iterated_x k m (slice_index_or xs 0 k.zero)
       ∷ (block_factors m (take (2 ^ m) xs) ++ block_factors m (drop (2 ^ m) xs))
 
-  -- those of the points at whose x coordinates the entries of a word of 2^n entries stand
+  -- those of the points at whose x coordinates the entries of a codeword of 2^n entries stand
   abbrev pub factors_of : (ℕ → Coordinates F) → ℕ → List F
   factors_of gen n = block_factors n (map (λ p. p.x) (coset k gen n (gen (n + 2))))
 

@@ -1,4 +1,4 @@
--- The multiple of the vanishing polynomial in a word: Circle STARKs (ePrint 2024/278), section
+-- The multiple of the vanishing polynomial in a codeword: Circle STARKs (ePrint 2024/278), section
 -- 4.3, Lemma 6.
 use Rattle.std.specs.Prelude.{ℕ, ◌+◌, ◌-◌, List, map}
 use Rattle.circle_field.specs.Field.{FieldOps, sub, two, nth_power}
@@ -15,12 +15,12 @@ module _ {F E : Type 0} (k : FieldOps F) (gen : ℕ → Coordinates F)
   vanishing_values blowup m =
       map (λ p. embed (vanishing k (m - blowup) p)) (cfft_order k gen m (gen (m + 1)))
 
-  -- the sum of a word of 2^m entries times v_n, divided by 2^(m - 1)
+  -- the sum of a codeword of 2^m entries times v_n, divided by 2^(m - 1)
   abbrev pub lambda_of : ℕ → ℕ → List E → E
   lambda_of blowup m word =
       l.mul (dot l word (vanishing_values blowup m)) (l.inv (nth_power l (two l) (m - 1)))
 
-  -- a word less so many times v_n
+  -- a codeword less lambda times v_n
   abbrev pub remainder_of : ℕ → ℕ → E → List E → List E
   remainder_of blowup m lambda word =
       pairwise (λ a v. sub l a (l.mul lambda v)) word (vanishing_values blowup m)

@@ -27,7 +27,7 @@ module _ {F : Type 0} where
   abbrev pub matrix_rows : MatrixRows F → List (List F)
   matrix_rows rows = rows_of rows.matrix (opened_rows rows.opened.now)
 
-  -- there is such a row at each query, of so many entries
+  -- there is such a row of `width` entries at each query
   abbrev pub HaveWidth : ℕ → MatrixRows F → Type 0
   HaveWidth width rows =
       All (λ all. (rows.matrix < length all) × (length (slice_index_or all rows.matrix []) ≡ width))

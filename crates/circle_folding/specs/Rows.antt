@@ -31,7 +31,7 @@ twiddles_row : map (fold_x_twiddles ops gen) (2 ∷ 1 ∷ 0 ∷ [])
     ≡ (2 ∷ 11 ∷ 21 ∷ 5 ∷ []) ∷ (7 ∷ 13 ∷ []) ∷ (4 ∷ []) ∷ []
 twiddles_row = refl
 
--- a word of 8 entries folded twice
+-- a codeword of 8 entries folded twice
 folded_row : folds ops 2 (fold_x_twiddles ops gen 2)
     ((3 ∷ 1 ∷ []) ∷ (4 ∷ 1 ∷ []) ∷ (5 ∷ 9 ∷ []) ∷ (2 ∷ 6 ∷ []) ∷ []) ≡ 3 ∷ 7 ∷ 26 ∷ 28 ∷ []
 folded_row = refl
@@ -62,14 +62,14 @@ folded_span_row :
     y_folds ops gen ops (λ a. a) 1 7 ((26 ∷ 11 ∷ []) ∷ (11 ∷ 26 ∷ []) ∷ []) ≡ 17 ∷ 17 ∷ []
 folded_span_row = refl
 
--- queries 13, 2 and 7 of 16 ask for the pairs 6, 1 and 3 of the first word of 16 entries, and for
+-- queries 13, 2 and 7 of 16 read the pairs 6, 1 and 3 of the first codeword of 16 entries, and for
 -- 3, 0 and 1 of that of 8
 first_layer_twiddles_row :
     map (λ h. map (first_layer_twiddle ops gen h 4) (13 ∷ 2 ∷ 7 ∷ [])) (4 ∷ 3 ∷ [])
     ≡ (10 ∷ 20 ∷ 2 ∷ []) ∷ (7 ∷ 13 ∷ 18 ∷ []) ∷ []
 first_layer_twiddles_row = refl
 
--- in the rounds they ask for the entries 6, 1 and 3 of that word, and then for entries 3, 0 and 1
+-- in the rounds they read the entries 6, 1 and 3 of that codeword, and then for entries 3, 0 and 1
 query_twiddles_row : map (round_twiddle ops gen 4 0) (13 ∷ 2 ∷ 7 ∷ []) ≡ 5 ∷ 2 ∷ 11 ∷ []
 query_twiddles_row = refl
 
@@ -80,13 +80,13 @@ asked_pairs_row : asked_pairs {E = ℕ} 1 (13 ∷ 2 ∷ 7 ∷ []) (2 ∷ 1 ∷ 1
     ≡ (2 ∷ 6 ∷ []) ∷ (3 ∷ 1 ∷ []) ∷ (4 ∷ 1 ∷ []) ∷ []
 asked_pairs_row = refl
 
--- of a word that has as many entries as there are indices a query is itself the place
+-- of a codeword that has as many entries as there are indices a query is itself the place
 asked_pairs-themselves_row :
     asked_pairs {E = ℕ} 0 (13 ∷ 2 ∷ 7 ∷ []) (2 ∷ 1 ∷ 1 ∷ []) (6 ∷ 3 ∷ 4 ∷ [])
     ≡ (6 ∷ 2 ∷ []) ∷ (1 ∷ 3 ∷ []) ∷ (4 ∷ 1 ∷ []) ∷ []
 asked_pairs-themselves_row = refl
 
--- query 13 meets entry 3 of the word folded once, and entry 1 of the word folded twice
+-- query 13 meets entry 3 of the codeword folded once, and entry 1 of the codeword folded twice
 first_value_row : next_value ops 2 (round_twiddle ops gen 4 0 13) 6 2 6 ≡ 28
 first_value_row = refl
 

@@ -1,5 +1,5 @@
-//! Laws of claims on words. The calls of this module answer nothing, take no memory and carry what
-//! their contracts say.
+//! Laws of claims on codewords. The calls of this module return nothing, take no memory and carry
+//! what their contracts say.
 ghost use Rattle.std.specs.Prelude.{◌≡◌, ◌≢◌, ℕ, ◌+◌, ◌*◌, ◌^◌, ◌≤◌, length};
 ghost use Rattle.circle_point.specs.Point.{coordinates};
 ghost use Rattle.circle_commit.specs.RowMajorMatrix.{rows, width_of, height_of};
@@ -9,13 +9,13 @@ use circle_commit::RowMajorMatrix;
 use circle_field::{ComplexExtendable, ExtensionField};
 use circle_point::Point;
 
-/// Where a word of `2^h` entries is the values of a polynomial with `2^n` coefficients on the
+/// Where a codeword of `2^h` entries is the values of a polynomial with `2^n` coefficients on the
 /// standard domain, n being h less `log_blowup`, and its quotients under a value that is claimed at
 /// `zeta` are those of such a polynomial plus a multiple of the vanishing polynomial `v_n`, the
-/// claimed value is that of the word's only polynomial.
+/// claimed value is that of the codeword's only polynomial.
 ///
-/// Asks n of at least 2, `log_blowup` of at least 1, a challenge other than 0 and a point off the
-/// domain. Takes no memory.
+/// Requires n of at least 2, `log_blowup` of at least 1, a challenge other than 0 and a point off
+/// the domain. Takes no memory.
 pub fn quotient_binds<F: ComplexExtendable, EF: ExtensionField<F>>(
     alpha: EF,
     zeta: Point<EF>,
@@ -44,8 +44,8 @@ pub fn quotient_binds<F: ComplexExtendable, EF: ExtensionField<F>>(
 /// one way only, and its claimed value is that of this sum. The columns have `2^h` entries, and n
 /// is h less `log_blowup`.
 ///
-/// Asks n of at least 2, `log_blowup` of at least 1, a value for each column and a point off the
-/// domain. Takes no memory.
+/// Requires n of at least 2, `log_blowup` of at least 1, a value for each column and a point off
+/// the domain. Takes no memory.
 pub fn claim_binds<F: ComplexExtendable, EF: ExtensionField<F>>(
     alphas: &[EF],
     zeta: Point<EF>,

@@ -1,5 +1,5 @@
 //! Quotients that bind claimed values to a row, and the multiple of the vanishing polynomial in a
-//! word.
+//! codeword.
 ghost use Rattle.std.specs.Prelude.{◌≡◌, ℕ, ◌+◌, ◌*◌, ◌^◌, ◌<◌, ◌≤◌, ◌↔◌};
 ghost use Rattle.std.specs.Prelude.{length, map, IsNone, IfSome, IfOk, OnErr};
 ghost use Rattle.circle_field.specs.Field.{sub};
@@ -27,7 +27,7 @@ use std::alloc::{AllocError, Global};
 /// low degree, so each part has a power of its own: column j has `alpha^j` and `alpha^(width + j)`,
 /// and the next claim begins `2 width` powers on.
 ///
-/// Asks as many claimed values as the row has entries, and at least as many powers. Takes no
+/// Requires as many claimed values as the row has entries, and at least as many powers. Takes no
 /// memory.
 pub fn deep_quotient_reduce_row<F: ComplexExtendable, EF: ExtensionField<F>>(
     alpha_pow_width: EF,
@@ -68,19 +68,19 @@ fn weighted_differences<F: ComplexExtendable, EF: ExtensionField<F>>(
     sum
 }
 
-/// The multiple of the vanishing polynomial in a word over the standard domain of its length, in
-/// the order of the transform, which the word then loses (Circle STARKs, section 4.3, Lemma 6):
-/// with `2^L` entries and `n = L - log_blowup`, the sum of the entries times `v_n`, divided by
+/// The multiple of the vanishing polynomial in a codeword over the standard domain of its length,
+/// in the order of the transform, which the codeword then loses (Circle STARKs, section 4.3, Lemma
+/// 6): with `2^L` entries and `n = L - log_blowup`, the sum of the entries times `v_n`, divided by
 /// `2^(L - 1)`. Of the values of a polynomial with `2^n` coefficients plus a multiple of `v_n` it
-/// answers that multiple and leaves the values; of any word it leaves one that is orthogonal to
-/// `v_n`, of which it would answer 0.
+/// returns that multiple and leaves the values; of any codeword it leaves one that is orthogonal to
+/// `v_n`, for which it would return 0.
 ///
 /// Lambda is for a gap of one dimension: the quotients of true claims are the values of polynomials
 /// with `2^n` coefficients plus a multiple of `v_n`, and folding, which halves coefficients, is of
-/// use for the former alone. The prover takes the multiple away and tells it.
+/// use for the former alone. The prover subtracts the multiple and sends it.
 ///
-/// Asks `2^L` entries with `L + 1 <= CIRCLE_TWO_ADICITY` and `1 <= log_blowup < L`. Where memory is
-/// refused the word stays as it was.
+/// Requires `2^L` entries with `L + 1 <= CIRCLE_TWO_ADICITY` and `1 <= log_blowup < L`. Where
+/// memory is refused the codeword stays as it was.
 pub fn extract_lambda<F: ComplexExtendable, EF: ExtensionField<F>>(
     alloc: Global,
     lde: &mut [EF],

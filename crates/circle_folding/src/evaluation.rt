@@ -10,7 +10,7 @@ use circle_field::{ExtensionField, Field};
 /// of `u_i(x)` over the bits `i` of `j` that are 1, where `u_0` is `x` and the next of `u` is
 /// `2 u^2 - 1` (Circle STARKs, IACR ePrint 2024/278, section 3.3).
 ///
-/// Asks a number of coefficients that is a power of two.
+/// Requires a number of coefficients that is a power of two.
 pub fn x_value<F: Field, EF: ExtensionField<F>>(coefficients: &[EF], x: F) -> EF
     requires { IsPowerOfTwo (length coefficients.now) }
     ensures { result ≡ x_value EF.ops coefficients.now (EF.embed x) }
@@ -23,7 +23,7 @@ pub fn x_value<F: Field, EF: ExtensionField<F>>(coefficients: &[EF], x: F) -> EF
     x_value(low, x) + x_value(high, x).times_base(iterated_x(x, log2_strict(half)))
 }
 
-/// The x coordinate of the point that one with x coordinate `x` becomes by so many doublings.
+/// The x coordinate of the point that one with x coordinate `x` becomes by `times` doublings.
 pub(crate) fn iterated_x<F: Field>(x: F, times: usize) -> F
     ensures { result ≡ iterated_x F.ops times x }
 {

@@ -1,8 +1,8 @@
-//! Folding a word to half its length by a challenge: each pair of entries becomes one (Circle
+//! Folding a codeword to half its length by a challenge: each pair of entries becomes one (Circle
 //! STARKs, section 4.2).
 //!
-//! The entries of the first word belong to the points of a standard domain, in the order of the
-//! transform, and a pair to two opposite points. The entries of a later word belong to x
+//! The entries of the first codeword belong to the points of a standard domain, in the order of the
+//! transform, and a pair to two opposite points. The entries of a later codeword belong to x
 //! coordinates, and a pair to two opposite ones.
 ghost use Rattle.std.specs.Prelude.{◌≡◌, ◌≢◌, ℕ, ◌+◌, ◌^◌, ◌<◌, ◌≤◌, length, map, All, IfOk};
 ghost use Rattle.circle_commit.specs.DotProduct.{pairwise};
@@ -14,10 +14,11 @@ use circle_domain::{CircleDomain, cfft_permute_index, x_twiddles, y_twiddles};
 use circle_field::{ComplexExtendable, ExtensionField, Field, batch_multiplicative_inverse};
 use std::alloc::{AllocError, Global};
 
-/// The first word of `2^(k + 1)` entries, as `2^k` rows of two, folded by y: a row `(a, b)` becomes
-/// `(a + b) / 2 + beta * (a - b) / (2 t)`, where `t` is the y coordinate of the row's first point.
+/// The first codeword of `2^(k + 1)` entries, as `2^k` rows of two, folded by y: a row `(a, b)`
+/// becomes `(a + b) / 2 + beta * (a - b) / (2 t)`, where `t` is the y coordinate of the row's first
+/// point.
 ///
-/// Asks width 2 and a height `2^k` with `k + 2 <= CIRCLE_TWO_ADICITY`. Fails where memory is
+/// Requires width 2 and a height `2^k` with `k + 2 <= CIRCLE_TWO_ADICITY`. Fails where memory is
 /// refused.
 pub fn fold_y<F: ComplexExtendable, EF: ExtensionField<F>, M: Matrix<EF>>(
     alloc: Global,
@@ -38,12 +39,12 @@ pub fn fold_y<F: ComplexExtendable, EF: ExtensionField<F>, M: Matrix<EF>>(
     fold_rows(alloc, beta, &twiddles, evals)
 }
 
-/// A later word of `2^(k + 1)` entries, as `2^k` rows of two, folded by x: a row `(a, b)` becomes
-/// `(a + b) / 2 + beta * (a - b) / (2 t)`, where `t` is the x coordinate that the row's first entry
-/// belongs to.
+/// A later codeword of `2^(k + 1)` entries, as `2^k` rows of two, folded by x: a row `(a, b)`
+/// becomes `(a + b) / 2 + beta * (a - b) / (2 t)`, where `t` is the x coordinate that the row's
+/// first entry belongs to.
 ///
-/// Asks width 2, `log_arity` 1, and a height `2^k` with `k + 3 <= CIRCLE_TWO_ADICITY`. Fails where
-/// memory is refused.
+/// Requires width 2, `log_arity` 1, and a height `2^k` with `k + 3 <= CIRCLE_TWO_ADICITY`. Fails
+/// where memory is refused.
 pub fn fold_x<F: ComplexExtendable, EF: ExtensionField<F>, M: Matrix<EF>>(
     alloc: Global,
     beta: EF,
@@ -65,9 +66,10 @@ pub fn fold_x<F: ComplexExtendable, EF: ExtensionField<F>, M: Matrix<EF>>(
     fold_rows(alloc, beta, &x_twiddles(alloc, domain)?, evals)
 }
 
-/// The fold by x of the pair at one index of a later word of `2^(log_folded_height + 1)` entries.
+/// The fold by x of the pair at one index of a later codeword of `2^(log_folded_height + 1)`
+/// entries.
 ///
-/// Asks `log_arity` 1, `log_folded_height + 3 <= CIRCLE_TWO_ADICITY` and an index below
+/// Requires `log_arity` 1, `log_folded_height + 3 <= CIRCLE_TWO_ADICITY` and an index below
 /// `2^log_folded_height`. Takes no memory.
 pub fn fold_x_row<F: ComplexExtendable, EF: ExtensionField<F>>(
     index: usize,
@@ -126,7 +128,7 @@ fn fold_rows<F: Field, EF: ExtensionField<F>, M: Matrix<EF>>(
 
 /// Adds to each value the other at its place.
 ///
-/// Asks as many others.
+/// Requires as many others.
 pub fn add_each<E: Field>(values: &mut [E], others: &[E])
     requires { length others.now ≡ length values.old }
     ensures { values.new ≡ pairwise E.ops.add values.old others.now }

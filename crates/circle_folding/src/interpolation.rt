@@ -1,4 +1,4 @@
-//! The polynomial in x with the values of a word.
+//! The polynomial in x with the values of a codeword.
 ghost use Rattle.std.specs.Prelude.{◌≡◌, ℕ, ◌+◌, ◌≤◌, ◌^◌, ◌++◌, length, map, All};
 ghost use Rattle.std.specs.Prelude.{IfOk, IfSome, IfNone, OnOk, IsTrue, ◌↔◌};
 ghost use Rattle.circle_field.specs.Field.{sub};
@@ -19,8 +19,8 @@ use std::alloc::{AllocError, Global};
 /// of the circle transform, at the x coordinates of as many points, half of a standard domain;
 /// `None` where there is none with so few coefficients.
 ///
-/// Asks a word of `2^m` entries with `log_len <= m` and `m + 2 <= CIRCLE_TWO_ADICITY`. Fails where
-/// memory is refused.
+/// Requires a codeword of `2^m` entries with `log_len <= m` and `m + 2 <= CIRCLE_TWO_ADICITY`.
+/// Fails where memory is refused.
 pub fn x_interpolate<F: ComplexExtendable, EF: ExtensionField<F>>(
     alloc: Global,
     word: &[EF],
@@ -45,7 +45,7 @@ pub fn x_interpolate<F: ComplexExtendable, EF: ExtensionField<F>>(
     Ok(Some(scaled(alloc, first, factor)?))
 }
 
-// The coefficients, times the number of points, of the polynomial with the values of a word.
+// The coefficients, times the number of points, of the polynomial with the values of a codeword.
 fn all_multiples<F: ComplexExtendable, EF: ExtensionField<F>>(
     alloc: Global,
     word: &[EF],

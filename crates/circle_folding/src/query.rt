@@ -1,9 +1,9 @@
-//! Folding the values that queries ask for, all queries of a word together.
+//! Folding the values at queries, all queries of a codeword together.
 //!
-//! A query is an index below `2^log_max_height`, the greatest height that is committed. Of a word
-//! of `2^(log_max_height - bits)` entries it asks for the one at place `index >> bits`; its pair
-//! has the index `index >> (bits + 1)`, and its sibling is the other entry of the pair. Round `r`
-//! folds a word of `2^(log_max_height - 1 - r)` entries, so there `bits` is `r + 1`.
+//! A query is an index below `2^log_max_height`, the greatest height that is committed. Of a
+//! codeword of `2^(log_max_height - bits)` entries it reads the one at place `index >> bits`; its
+//! pair has the index `index >> (bits + 1)`, and its sibling is the other entry of the pair. Round
+//! `r` folds a codeword of `2^(log_max_height - 1 - r)` entries, so there `bits` is `r + 1`.
 ghost use Rattle.std.specs.Prelude.{◌≡◌, ◌≢◌, ◌+◌, ◌/◌, ◌^◌, ◌<◌, ◌≤◌, [], ◌∷◌, ◌++◌};
 ghost use Rattle.std.specs.Prelude.{List, length, map, All, IfOk, OnOk, OnErr};
 ghost use Rattle.circle_commit.specs.Mmcs.{opened_rows};
@@ -21,14 +21,14 @@ use circle_field::{ComplexExtendable, ExtensionField, Field, batch_multiplicativ
 use circle_point::Point;
 use std::alloc::{AllocError, Global};
 
-/// For each query the twiddle of its pair in a word of `2^log_height` entries of the first layer,
-/// the y coordinate of the pair's first point: that of the query's own point, or its opposite where
-/// the point stands at an odd place. The place is the query without its lowest
+/// For each query the twiddle of its pair in a codeword of `2^log_height` entries of the first
+/// layer, the y coordinate of the pair's first point: that of the query's own point, or its
+/// opposite where the point stands at an odd place. The place is the query without its lowest
 /// `log_max_height - log_height` bits.
 ///
-/// Asks `1 <= log_height <= log_max_height <= 62`, `log_height < CIRCLE_TWO_ADICITY`, queries below
-/// `2^log_max_height`, and their points, as [`query_points`](crate::query_points) gives them. Fails
-/// where memory is refused.
+/// Requires `1 <= log_height <= log_max_height <= 62`, `log_height < CIRCLE_TWO_ADICITY`, queries
+/// below `2^log_max_height`, and their points, as [`query_points`](crate::query_points) gives them.
+/// Fails where memory is refused.
 pub fn first_layer_twiddles<F: ComplexExtendable>(
     alloc: Global,
     log_height: usize,
@@ -60,7 +60,7 @@ pub fn first_layer_twiddles<F: ComplexExtendable>(
 /// For each query the twiddle of its pair in round 0, the x coordinate that the pair's first entry
 /// belongs to.
 ///
-/// Asks `2 <= log_max_height < CIRCLE_TWO_ADICITY` and indices below `2^log_max_height`. Fails
+/// Requires `2 <= log_max_height < CIRCLE_TWO_ADICITY` and indices below `2^log_max_height`. Fails
 /// where memory is refused.
 pub fn first_x_twiddles<F: ComplexExtendable>(
     alloc: Global,
@@ -86,7 +86,7 @@ pub fn first_x_twiddles<F: ComplexExtendable>(
 /// Takes the queries' twiddles of this round to those of the next: `t` becomes `2 t^2 - 1`, or its
 /// opposite where the pair stands at an odd place among the pairs.
 ///
-/// Asks a twiddle for each query, and `round < 62`. Takes no memory.
+/// Requires a twiddle for each query, and `round < 62`. Takes no memory.
 pub fn next_x_twiddles<F: ComplexExtendable>(round: usize, indices: &[usize], twiddles: &mut [F])
     requires count { length twiddles.old ≡ length indices.now }
     requires round { round < 62 }
@@ -100,11 +100,11 @@ pub fn next_x_twiddles<F: ComplexExtendable>(round: usize, indices: &[usize], tw
     }
 }
 
-/// For each query the one row that a word's commitment is asked for: the pair of the query's value
-/// and its sibling. The value is the word's entry at the place that the query is without its `bits`
-/// lowest bits.
+/// For each query the one row of a codeword's commitment that is opened: the pair of the query's
+/// value and its sibling. The value is the codeword's entry at the place that the query is without
+/// its `bits` lowest bits.
 ///
-/// Asks a value and a sibling for each query, and `bits < 63`. Fails where memory is refused.
+/// Requires a value and a sibling for each query, and `bits < 63`. Fails where memory is refused.
 pub fn query_pairs<T: Copy>(
     alloc: Global,
     bits: usize,
@@ -126,11 +126,11 @@ pub fn query_pairs<T: Copy>(
     Ok(rows)
 }
 
-/// Adds to each query's rows the one that the commitment to one more word is asked for: the pair of
-/// the query's value and its sibling. The value is the word's entry at the place that the query is
-/// without its `bits` lowest bits.
+/// Adds to each query's rows the one that is opened of the commitment to one more codeword: the
+/// pair of the query's value and its sibling. The value is the codeword's entry at the place that
+/// the query is without its `bits` lowest bits.
 ///
-/// Asks a list of rows, a value and a sibling for each query, and `bits < 63`. Where memory is
+/// Requires a list of rows, a value and a sibling for each query, and `bits < 63`. Where memory is
 /// refused the rows are of no use.
 pub fn push_query_pairs<T: Copy>(
     alloc: Global,
@@ -154,10 +154,10 @@ pub fn push_query_pairs<T: Copy>(
 }
 
 /// Folds each query's pair by `beta`, where the query without its `bits` lowest bits is the place
-/// of its value: the values become those of the folded word, to which whoever calls adds what
+/// of its value: the values become those of the folded codeword, to which whoever calls adds what
 /// joins it.
 ///
-/// Asks a twiddle that isn't 0, a value and a sibling for each query, and `bits < 63`. Where
+/// Requires a twiddle that isn't 0, a value and a sibling for each query, and `bits < 63`. Where
 /// memory is refused the values stay as they were.
 pub fn fold_query_values<F: Field, EF: ExtensionField<F>>(
     alloc: Global,
@@ -185,10 +185,10 @@ pub fn fold_query_values<F: Field, EF: ExtensionField<F>>(
 }
 
 /// Folds each query's pair as [`fold_query_values`] does, where the inverses of the twiddles are
-/// there already: so one inversion can serve many words.
+/// there already: so one inversion can serve many codewords.
 ///
-/// Asks the inverse of a twiddle that isn't 0, a value and a sibling for each query, and
-/// `bits < 63`. Takes no memory.
+/// Requires the inverse of a twiddle that isn't 0, a value and a sibling for each query, and `bits
+/// < 63`. Takes no memory.
 pub fn fold_query_values_with_inv_twiddles<F: Field, EF: ExtensionField<F>>(
     beta: EF,
     bits: usize,
@@ -238,9 +238,9 @@ fn ordered<T: Copy>(place: usize, value: T, sibling: T) -> (T, T)
     }
 }
 
-/// The indices without so many of their lowest bits.
+/// The indices without their lowest `bits` bits.
 ///
-/// Asks `bits < 64`. Fails where memory is refused.
+/// Requires `bits < 64`. Fails where memory is refused.
 pub fn without_bits(alloc: Global, indices: &[usize], bits: usize) -> Result<Vec<usize>, AllocError>
     requires { bits < 64 }
     ensures { IfOk result (λ rest. rest.items ≡ map (λ q. q / 2 ^ bits) indices.now) }

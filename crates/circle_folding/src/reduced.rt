@@ -36,8 +36,8 @@ pub struct Claim<'a, EF: Operations> {
 /// `2^log_max_height` without its lowest `log_max_height - log_height` bits is a place in the order
 /// of the transform.
 ///
-/// Asks `1 <= log_height <= log_max_height <= 62`, `log_height < CIRCLE_TWO_ADICITY`, and queries
-/// below `2^log_max_height`. Fails where memory is refused.
+/// Requires `1 <= log_height <= log_max_height <= 62`, `log_height < CIRCLE_TWO_ADICITY`, and
+/// queries below `2^log_max_height`. Fails where memory is refused.
 pub fn query_points<F: ComplexExtendable>(
     alloc: Global,
     log_height: usize,
@@ -64,8 +64,8 @@ pub fn query_points<F: ComplexExtendable>(
 /// Adds to the sum of each query the quotient of its row under the claim, times `offset`. `None`
 /// exactly where the claim's point is that of a query; the sums are of no use then.
 ///
-/// Asks a point and opened rows for each sum, in these a row of the matrix of as many entries as
-/// there are claimed values, and more powers. Takes no memory.
+/// Requires a point and opened rows for each sum, in these a row of the matrix of as many entries
+/// as there are claimed values, and more powers. Takes no memory.
 pub fn add_quotients<F: ComplexExtendable, EF: ExtensionField<F>>(
     sums: &mut [EF],
     offset: EF,
@@ -105,7 +105,7 @@ pub fn add_quotients<F: ComplexExtendable, EF: ExtensionField<F>>(
 /// Takes from each value `lambda` times `v_n` of its point, the vanishing polynomial of the
 /// standard domain of `2^n` points.
 ///
-/// Asks a point for each value, and `n >= 1`. Takes no memory.
+/// Requires a point for each value, and `n >= 1`. Takes no memory.
 pub fn subtract_vanishing<F: Field, EF: ExtensionField<F>>(
     lambda: EF,
     n: usize,

@@ -7,7 +7,7 @@ use circle_commit::{FriFoldingStrategy, Matrix};
 use circle_field::{ComplexExtendable, ExtensionField};
 use std::alloc::{AllocError, Global};
 
-/// The strategy of the circle: a word after the first layer is folded by x, two neighbours at
+/// The strategy of the circle: a codeword after the first layer is folded by x, two neighbours at
 /// once. The fold of the first layer, by y, is no part of it and takes one further bit of a query's
 /// index.
 #[derive(Clone, Copy, Debug, Default)]
@@ -33,9 +33,9 @@ impl<F: ComplexExtendable, EF: ExtensionField<F>> FriFoldingStrategy<F, EF> for 
         1
     }
 
-    /// The fold by x of the pair at one index of a word of `2^(log_folded_height + 1)` entries.
+    /// The fold by x of the pair at one index of a codeword of `2^(log_folded_height + 1)` entries.
     ///
-    /// Asks `log_arity` 1, `log_folded_height + 3 <= CIRCLE_TWO_ADICITY` and an index below
+    /// Requires `log_arity` 1, `log_folded_height + 3 <= CIRCLE_TWO_ADICITY` and an index below
     /// `2^log_folded_height`. Takes no memory.
     fn fold_row(
         &self,
@@ -54,10 +54,10 @@ impl<F: ComplexExtendable, EF: ExtensionField<F>> FriFoldingStrategy<F, EF> for 
         fold_x_row(index, log_folded_height, log_arity, beta, evals)
     }
 
-    /// A word of `2^(k + 1)` entries, as `2^k` rows of two, folded by x.
+    /// A codeword of `2^(k + 1)` entries, as `2^k` rows of two, folded by x.
     ///
-    /// Asks width 2, `log_arity` 1, and a height `2^k` with `k + 3 <= CIRCLE_TWO_ADICITY`. Fails
-    /// where memory is refused.
+    /// Requires width 2, `log_arity` 1, and a height `2^k` with `k + 3 <= CIRCLE_TWO_ADICITY`.
+    /// Fails where memory is refused.
     fn fold_matrix<M: Matrix<EF> + Drop>(
         &self,
         alloc: Global,

@@ -7,3 +7,6 @@ pub mod Coefficients
 pub mod Claims
 pub mod Proof
 pub mod Named
+pub mod Choices
+pub mod ChoiceForm
+pub mod Airs

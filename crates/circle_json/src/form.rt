@@ -37,7 +37,7 @@ pub trait JsonForm: Sized {
 }
 
 // A whole number below 2^64.
-fn count(value: &Value) -> Result<u64, JsonError>
+pub(crate) fn count(value: &Value) -> Result<u64, JsonError>
     ensures { result ≡ count_of (view value.now) }
 {
     let number = value.as_number().ok_or(JsonError::WrongKind)?;
@@ -48,7 +48,7 @@ fn count(value: &Value) -> Result<u64, JsonError>
 }
 
 // The items of an array.
-fn items(value: &Value) -> Result<&[Value], JsonError>
+pub(crate) fn items(value: &Value) -> Result<&[Value], JsonError>
     ensures { let found = as_array (view value.now) in MatchResult result
         (λ items. found ≡ Some (items_view items.now)) (IsOtherKind found) }
 {

@@ -12,20 +12,23 @@
 //! So are the records of `circle_commit` and `circle_relation` read and written: a batch's opening,
 //! claims and the parameters of FRI, of which `specs/Claims` has the keys of each object, and that
 //! the final polynomial's length may be missing; a proof and its parts, of which `specs/Proof` has
-//! the keys.
+//! the keys; the parts of an AIR (`specs/Airs`), whose nodes are objects of one member, told apart
+//! by its key (`specs/Choices`, `specs/ChoiceForm`).
 //!
 //! Its files:
 //!
 //! - In `src/`, `form.rt`: the trait. `object.rt`: keys and members of an object, read and written.
-//!   `claims.rt`, `proof.rt`: records.
+//!   `claims.rt`, `proof.rt`, `airs.rt`: records.
 //! - In `specs/`, `Form`, `FormFacts`: what a form is, with its laws. `Values`: numbers, elements,
 //!   digests and lists. `Objects`, `ObjectForm`: objects of a list of fields. `Coefficients`: a
-//!   list of which one item stands for itself. `Claims`, `Proof`: the keys of records. `Named`: the
-//!   names of refusals.
+//!   list of which one item stands for itself. `Choices`, `ChoiceForm`: objects of one member, whose
+//!   key says what it is. `Claims`, `Proof`, `Airs`: the keys of records. `Named`: the names of
+//!   refusals.
 //! - In `proofs/`: arrays item by item, objects and their keys, values written as objects of their
 //!   parts, parameters.
 #![tactic(auto)]
 
+pub mod airs;
 pub mod claims;
 pub mod coefficients;
 pub mod error;

@@ -33,7 +33,7 @@ pub fn has_keys(value: &Value, keys: &[&str]) -> Result<(), JsonError>
 }
 
 // The members of an object.
-fn members(value: &Value) -> Result<&Map<String, Value>, JsonError>
+pub(crate) fn members(value: &Value) -> Result<&Map<String, Value>, JsonError>
     ensures { let found = as_object (view value.now) in MatchResult result
         (λ members. found ≡ Some (members_view members.now.entries)) (IsOtherKind found) }
 {

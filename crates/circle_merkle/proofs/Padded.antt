@@ -32,7 +32,7 @@ pub padded-alike : (m n : List ℕ) → length m ≡ length n → length (padded
     ≡ length (padded_message n)
 padded-alike m n same = omega (arith, length-padded m, length-padded n, same)
 
--- of sixteen messages of so many bytes when padded, the number of blocks of each
+-- of sixteen messages, each as long as m when padded, the number of blocks of each
 pub padded-blocks : (m : List ℕ) (all : ℕ) → all ≡ 16 * length (padded_message m) →
     64 * (all / 1024) ≡ length (padded_message m)
 padded-blocks m all whole =

@@ -54,7 +54,7 @@ module _ {T : Type 0} where
       pub count : length proof ≡ taken_below indices levels levels
       pub root : opened_root dims indices opened proof levels ≡ commitment
 
-    -- the digests of the first positions of a level of the tree over matrices, so many
+    -- the digests of the first `count` positions of a level of the tree over matrices
     abbrev pub level_digests : List (RowMajorMatrix T) → ℕ → ℕ → List (List ℕ)
     level_digests matrices level count =
         map (digest hash (matrix_rows bytes matrices) level) (range_with_len 0 count)
@@ -71,7 +71,8 @@ module _ {T : Type 0} where
         map (λ level. level_digests matrices level (2 ^ (levels - level)))
         (range_with_len 1 levels)
 
-    -- where so many positions of a level have the digests below, so many of the next have those
+    -- where 2 * height positions of a level have the digests `below`, `height` positions of the
+    -- next have the digests `above`
     abbrev pub IsNextLevel :
         List (RowMajorMatrix T) → ℕ → List (List ℕ) → List (List ℕ) → Type 0
     IsNextLevel matrices height below above =

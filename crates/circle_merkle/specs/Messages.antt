@@ -15,7 +15,7 @@ pair_message first pairs i =
 abbrev pub pair_digest : (List ℕ → List ℕ) → ℕ → List (List ℕ) → ℕ → List ℕ
 pair_digest hash first pairs i = hash (pair_message first pairs i)
 
--- the digests of the first rows of the matrices of this height, so many
+-- the digests of the first n rows of the matrices of this height
 abbrev pub row_digests : {T : Type 0} → (T → List ℕ) → List (RowMajorMatrix T) → ℕ → ℕ →
     List (List ℕ)
 row_digests bytes matrices height count =

@@ -34,8 +34,8 @@ module _ {T : Type 0} (bytes : T → List ℕ) where
         rows_digest sha256 ((placed_rows o).bytes 0 entry.1);
   }
 
-  -- the root over opened rows and the digests of a proof, with so many levels as the greatest
-  -- height tells
+  -- the root over opened rows and the digests of a proof, with as many levels as the greatest
+  -- height has
   abbrev pub IsRootOf : Opening T → List (List ℕ) → List ℕ → Type 0
   IsRootOf o proof root =
       (levels : ℕ) → o.top ≡ 2 ^ levels → root ≡ opened_root sha256 bytes o.dimensions.now

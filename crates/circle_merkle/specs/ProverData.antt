@@ -11,6 +11,7 @@ use Rattle.circle_merkle.specs.PowerTest.{power_of}
 use Rattle.circle_merkle.specs.declared.prover_data.ShaProverData.{ShaProverData}
 
 module _ {T B : Type 0} {g h : _} where
+  -- the matrices that a tree is over, and the number of its levels above the lowest
   abbrev pub matrices_of : ShaProverData T B g h → List (RowMajorMatrix T)
   matrices_of d = d.matrices.items
 

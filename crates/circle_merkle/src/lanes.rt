@@ -91,7 +91,7 @@ fn word_at(bytes: &[u8], at: usize) -> u32
     u32::from_be_bytes([bytes[at], bytes[at + 1], bytes[at + 2], bytes[at + 3]])
 }
 
-// Of each lane the word at a place, where a lane has so many bytes.
+// Of each lane the word at a place, where a lane has `stride` bytes.
 fn words_at(bytes: &[u8], stride: usize, at: usize) -> Words
     requires lanes { length bytes.now ≡ 16 * stride }
     requires within { at + 4 ≤ stride }
@@ -245,7 +245,7 @@ fn compress(state: &mut [Words; 8], bytes: &[u8], stride: usize, at: usize)
     ];
 }
 
-// The hash value of each lane that has taken in nothing.
+// The hash value of each lane that has absorbed nothing.
 fn initial() -> [Words; 8]
     ensures { (i : ℕ) → i < 16 → lane i result ≡ initial_hash_256 }
 {
@@ -261,7 +261,7 @@ fn initial() -> [Words; 8]
     ]
 }
 
-// The hash value of each lane after so many blocks, which are all that it has.
+// The hash value of each lane after its `blocks` blocks, which are all that it has.
 fn hash_values(bytes: &[u8], blocks: usize) -> [Words; 8]
     requires lanes { length bytes.now ≡ 16 * (64 * blocks) }
     ensures { (messages : List (List ℕ)) → length messages ≡ 16
@@ -289,7 +289,8 @@ fn digest(state: &[Words; 8], i: usize) -> Hash
 }
 
 /// The digests of sixteen messages. Their bytes stand one after another, each message's with its
-/// padding, and are so many blocks of 64 bytes each. What the digests of other bytes are isn't said.
+/// padding, and are `blocks` blocks of 64 bytes each. What the digests of other bytes are isn't
+/// said.
 pub fn digests(padded: &[u8], blocks: usize) -> [Hash; LANES]
     requires lanes { length padded.now ≡ 16 * (64 * blocks) }
     ensures { (messages : List (List ℕ)) → length messages ≡ 16

@@ -1,9 +1,9 @@
 //! Merkle trees over the rows of several matrices, with SHA-256 (FIPS 180-4).
 //!
 //! `ShaMmcs` has the laws of `Mmcs`, with the trees of `specs/Tree.antt`: its data is its list of
-//! matrices, what `open_multi_batch` answers is the rows at the indices and authenticates under
-//! the matrices' commitment, repeated indices included, and `verify_multi_batch` is Ok exactly
-//! where the relation holds, memory aside; each refusal is the first whose condition holds (the
+//! matrices, what `open_multi_batch` returns is the rows at the indices and authenticates under the
+//! matrices' commitment, repeated indices included, and `verify_multi_batch` is Ok exactly where
+//! the relation holds, unless out of memory; each refusal is the first whose condition holds (the
 //! clause `first`).
 //!
 //! A tree hashes sixteen messages at a time by `lanes::digests`, code of this crate, which is

@@ -39,7 +39,8 @@ impl<T: ElementBytes> ShaProverData<T> {
 
     /// The root of the tree over the rows of matrices, and what is kept of it.
     ///
-    /// Asks at least one matrix, and heights that are powers of two. Fails where memory is refused.
+    /// Requires at least one matrix, and heights that are powers of two. Fails where memory is
+    /// refused.
     pub fn new(alloc: Global, matrices: Vec<RowMajorMatrix<T>>) -> Result<(Hash, Self), AllocError>
         requires some { 1 ≤ vec_len matrices }
         requires powers_of_two { All (λ m. IsPowerOfTwo (height_of m)) matrices.items }
@@ -75,7 +76,7 @@ impl<T: ElementBytes> ShaProverData<T> {
     /// The digests of a proof for these indices: level after level, those of the siblings of known
     /// positions that aren't known.
     ///
-    /// Asks indices below the greatest height. Fails where memory is refused.
+    /// Requires indices below the greatest height. Fails where memory is refused.
     pub fn siblings(&self, alloc: Global, indices: &[usize]) -> Result<Vec<Hash>, AllocError>
         requires { All (λ i. i < max_height (matrices_of self.now)) indices.now }
         ensures { IfOk result (λ proof. proof.items ≡ due_proof T.bytes self.now indices.now) }

@@ -203,8 +203,8 @@ impl<T: ElementBytes> Opening<'_, T> {
     /// The root of the tree over the rows, with these digests for the positions that aren't known.
     ///
     /// Takes the distinct indices in ascending order, each with the place of the first that equals
-    /// it. Asks at least one index, each below the greatest height, which is a power of two, and as
-    /// many digests as are missing. Fails where memory is refused.
+    /// it. Requires at least one index, each below the greatest height, which is a power of two,
+    /// and as many digests as are missing. Fails where memory is refused.
     pub fn root(
         &self,
         alloc: Global,

@@ -127,7 +127,7 @@ fn next_level<T: ElementBytes>(
 
 /// The levels of the tree over the rows of matrices, the lowest first.
 ///
-/// Asks for the greatest height of the matrices, a power of two.
+/// Requires that `top` is the greatest height of the matrices, and a power of two.
 pub fn levels_of<T: ElementBytes>(
     alloc: Global,
     matrices: &[RowMajorMatrix<T>],

@@ -18,8 +18,8 @@ use circle_field::{ElementBytes, Field};
 use std::alloc::{AllocError, Global};
 use std::mem;
 
-// Whether a proof has so many digests, under so many levels above the lowest. Takes the distinct
-// indices in ascending order, each with its place.
+// Whether a proof of `count` digests has as many as are missing, under `levels` levels above the
+// lowest. Takes the distinct indices in ascending order, each with its place.
 fn has_count(
     alloc: Global,
     firsts: &[(usize, usize)],

@@ -31,18 +31,18 @@ use Rattle.circle_plane.proofs.Passes.{remaining, remaining-none, copies-values,
 use Rattle.circle_plane.proofs.Passes.{after-passes}
 
 -- the entries of a matrix that was made of given rows
-pub record HoldsRows {F : Type 0} (m : RowMajorMatrix F) (n width : ℕ)
+pub record HoldsRows {F : Type 0} (m : RowMajorMatrix F) (count width : ℕ)
     (given : List (List F)) : Type 0 where
-  pub long : length (values_of m) ≡ 2 ^ n * width
-  pub same : rows_from width (2 ^ n) (values_of m) ≡ given
+  pub long : length (values_of m) ≡ count * width
+  pub same : rows_from width count (values_of m) ≡ given
 
-pub holds-rows : {F : Type 0} (m : RowMajorMatrix F) (n width : ℕ) (given : List (List F)) →
-    rows m ≡ given → width_of m ≡ width → length given ≡ 2 ^ n → HoldsRows m n width given
-holds-rows m n width given content wide count =
-    let tall : height_of m ≡ 2 ^ n = sym (length-rows m) ∙ ap length content ∙ count in
+pub holds-rows : {F : Type 0} (m : RowMajorMatrix F) (count width : ℕ) (given : List (List F)) →
+    rows m ≡ given → width_of m ≡ width → length given ≡ count → HoldsRows m count width given
+holds-rows m count width given content wide counted =
+    let tall : height_of m ≡ count = sym (length-rows m) ∙ ap length content ∙ counted in
     record {
-      long = length-values m ∙ ap (λ h. h * width_of m) tall ∙ ap (λ w. 2 ^ n * w) wide;
-      same = ap (λ w. rows_from w (2 ^ n) (values_of m)) (sym wide)
+      long = length-values m ∙ ap (λ h. h * width_of m) tall ∙ ap (λ w. count * w) wide;
+      same = ap (λ w. rows_from w count (values_of m)) (sym wide)
           ∙ ap (λ h. rows_from (width_of m) h (values_of m)) (sym tall) ∙ content;
     }
 

@@ -1,4 +1,4 @@
--- What evaluations on a domain tell of the polynomials with their values.
+-- What evaluations on a domain say of the polynomials with their values.
 use Rattle.std.specs.Prelude.{ℕ, List}
 use Rattle.std.specs.Borrow.{Bor}
 use Rattle.std.specs.List.{AllZip}

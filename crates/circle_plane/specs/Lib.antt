@@ -1,5 +1,6 @@
 pub mod CircleEvaluations
 pub mod Coefficients
 pub mod Evaluated
+pub mod Layers
 pub mod PeriodicColumns
 pub mod PeriodicRows

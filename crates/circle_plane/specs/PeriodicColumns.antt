@@ -32,7 +32,7 @@ ArePeriodicValues k gen l embed n q table values = (c : ℕ) → c < length tabl
     IsPeriodicValue k gen l embed n (slice_index_or (columns_of table) c []) q
     (slice_index_or values c l.zero)
 
--- a number of entries that repeat over so many rows
+-- a number n of entries that repeat over `size` rows
 abbrev pub IsPeriod : ℕ → ℕ → Type 0
 IsPeriod size n = IsPowerOfTwo n × (n ≤ size)
 

@@ -1,22 +1,21 @@
 //! Polynomials on the circle: the transform between their coefficients and values on a domain.
-ghost use Rattle.std.specs.Prelude.{◌≡◌, ℕ, ◌≤◌, ◌-◌, ◌*◌, ◌^◌, ◌++◌};
+ghost use Rattle.std.specs.Prelude.{◌≡◌, ℕ, ◌≤◌, ◌<◌, ◌-◌, ◌*◌, ◌^◌, ◌++◌};
 ghost use Rattle.std.specs.Prelude.{length, map, All, IfOk, OnOk};
 ghost use Rattle.circle_commit.specs.DotProduct.{pairwise, scaled};
-ghost use Rattle.circle_commit.specs.Matrix.{IsPowerOfTwo};
-ghost use Rattle.circle_commit.specs.RowMajorMatrix.{rows, width_of, height_of};
+ghost use Rattle.circle_commit.specs.Matrix.{IsPowerOfTwo, rows_from};
+ghost use Rattle.circle_commit.specs.RowMajorMatrix.{rows, width_of, height_of, values_of};
 ghost use Rattle.circle_point.specs.Basis.{basis_values};
 ghost use Rattle.circle_point.specs.Point.{coordinates};
 ghost use Rattle.circle_domain.specs.Clear.{IsClearOf};
 ghost use Rattle.circle_domain.specs.Domain.{log_size, shift_of, points_of};
-ghost use Rattle.circle_domain.specs.Layers.{copies};
+ghost use Rattle.circle_domain.specs.Layers.{copies, layer_factors};
 ghost use Rattle.circle_domain.specs.Order.{IsGenuine};
 ghost use Rattle.circle_domain.specs.Ordering.{other_order};
 ghost use Rattle.circle_cfft.specs.Butterflies.{count_of};
+ghost use Rattle.circle_cfft.specs.Passes.{factors_at};
 
-use circle_cfft::{
-    Butterflies, backward_groups, backward_passes, backward_twiddles, forward_groups,
-    forward_passes, forward_twiddles,
-};
+use crate::layers::{InGroups, InPasses, Layers};
+use circle_cfft::{Butterflies, backward_twiddles, forward_twiddles};
 use circle_commit::{FieldMatrix, Matrix, MatrixShape, RowMajorMatrix, entry_count, log2_strict};
 use circle_domain::{CfftPermutable, CfftView, CircleDomain, LagrangeWeights, lagrange_weights};
 use circle_field::{ComplexExtendable, ExtensionField, Field, Operations};
@@ -38,7 +37,7 @@ impl<F: Operations, M: Matrix<F>> CircleEvaluations<F, M> {
 
     /// Evaluations whose rows stand in the order of the circle transform.
     ///
-    /// Asks one row for each point.
+    /// Requires one row for each point.
     pub fn from_cfft_order(domain: CircleDomain<F>, values: M) -> Self
         requires small { log_size domain ≤ 63 }
         requires size { M.height values ≡ 2 ^ log_size domain }
@@ -50,7 +49,7 @@ impl<F: Operations, M: Matrix<F>> CircleEvaluations<F, M> {
 
     /// Evaluations whose rows stand in natural order, without copying them.
     ///
-    /// Asks one row for each point.
+    /// Requires one row for each point.
     pub fn from_natural_order(
         domain: CircleDomain<F>,
         values: M,
@@ -98,7 +97,7 @@ impl<F: ComplexExtendable, M: Matrix<F> + Drop> CircleEvaluations<F, M> {
     /// for each: as many as the domain has points (Circle STARKs, section 4.2). Their values at the
     /// points in natural order are the rows in natural order.
     ///
-    /// Asks a genuine domain with `log_n <= CIRCLE_TWO_ADICITY`. Fails where memory is refused.
+    /// Requires a genuine domain with `log_n <= CIRCLE_TWO_ADICITY`. Fails where memory is refused.
     pub fn interpolate(self, alloc: Global) -> Result<RowMajorMatrix<F>, AllocError>
         requires genuine { IsGenuine F.ops (log_size (domain_of self)) (shift_of (domain_of self)) }
         requires in_group { log_size (domain_of self) ≤ F.CIRCLE_TWO_ADICITY }
@@ -111,21 +110,15 @@ impl<F: ComplexExtendable, M: Matrix<F> + Drop> CircleEvaluations<F, M> {
         ensures only { IfOk result (λ coeffs. AreOnlyOnes F.ops F.generators (domain_of self)
             (M.width (cfft_values self)) (M.rows (cfft_values self)) (rows coeffs)) }
     {
-        let CircleEvaluations { domain, values } = self;
-        let matrix = RowMajorMatrix::copy_of(alloc, &values)?;
-        let inverses = backward_twiddles(alloc, domain)?;
-        let width = matrix.width();
-        let mut entries = matrix.into_values();
-        let scale = F::ONE.div_2exp_u64(domain.log_n() as u64);
-        backward_passes(&mut entries, width, &inverses, scale);
-        Ok(RowMajorMatrix::new(entries, width))
+        self.interpolate_by(alloc, &mut InPasses)
     }
 
-    /// What [`interpolate`](Self::interpolate) answers, and the number of butterflies of a column:
+    /// What [`interpolate`](Self::interpolate) returns, and the number of butterflies of a column:
     /// up to `group` consecutive layers are applied to one independent group of rows before the
     /// next group is begun. A `group` above the number of layers counts as that number.
     ///
-    /// Asks what `interpolate` asks, and at least one layer a group. Fails where memory is refused.
+    /// Requires what `interpolate` requires, and at least one layer a group. Fails where memory is
+    /// refused.
     pub fn interpolate_grouped(
         self,
         alloc: Global,
@@ -140,22 +133,33 @@ impl<F: ComplexExtendable, M: Matrix<F> + Drop> CircleEvaluations<F, M> {
         ensures count { let n = log_size (domain_of self) in
             IfOk result (λ made. count_of made.1 ≡ n * 2 ^ (n - 1)) }
     {
+        let mut layers = InGroups::new(group);
+        let coeffs = self.interpolate_by(alloc, &mut layers)?;
+        Ok((coeffs, layers.into_butterflies()))
+    }
+
+    // The coefficients, by layers that are applied in this way.
+    fn interpolate_by<L: Layers<F>>(
+        self,
+        alloc: Global,
+        layers: &mut L,
+    ) -> Result<RowMajorMatrix<F>, AllocError>
+        requires genuine { IsGenuine F.ops (log_size (domain_of self)) (shift_of (domain_of self)) }
+        requires in_group { log_size (domain_of self) ≤ F.CIRCLE_TWO_ADICITY }
+        requires room { (n : ℕ) → n < 2 ^ 70 → L.has_room layers.old n }
+        ensures width { IfOk result (λ coeffs. width_of coeffs ≡ M.width (cfft_values self)) }
+        ensures values { let given = cfft_values self in IfOk result (λ coeffs. Interpolates F.ops
+            F.generators (domain_of self) (M.width given) (M.rows given) (rows coeffs)) }
+        ensures count { let n = log_size (domain_of self) in let width = M.width (cfft_values self)
+            in OnOk result (L.counts layers.old layers.new width (2 ^ n * width) n) }
+    {
         let CircleEvaluations { domain, values } = self;
-        let matrix = RowMajorMatrix::copy_of(alloc, &values)?;
+        let width = values.width();
+        let mut entries = copied_rows(alloc, &values)?;
         let inverses = backward_twiddles(alloc, domain)?;
-        let width = matrix.width();
-        let mut entries = matrix.into_values();
         let scale = F::ONE.div_2exp_u64(domain.log_n() as u64);
-        let mut butterflies = Butterflies::new();
-        backward_groups(
-            &mut entries,
-            width,
-            &inverses,
-            scale,
-            group,
-            &mut butterflies,
-        );
-        Ok((RowMajorMatrix::new(entries, width), butterflies))
+        layers.backward(&mut entries, width, &inverses, scale);
+        Ok(RowMajorMatrix::new(entries, width))
     }
 
     /// The values on `target` of the only polynomials with these values (Circle STARKs, section
@@ -163,8 +167,8 @@ impl<F: ComplexExtendable, M: Matrix<F> + Drop> CircleEvaluations<F, M> {
     /// order of the transform the first `2^m` rows are the values on the domain of `2^m` points
     /// with the target's shift.
     ///
-    /// Asks a genuine domain and a target that is at least as large, with
-    /// `log_n <= CIRCLE_TWO_ADICITY`. Fails where memory is refused.
+    /// Requires a genuine domain and a target that is at least as large, with `log_n <=
+    /// CIRCLE_TWO_ADICITY`. Fails where memory is refused.
     pub fn extrapolate(
         self,
         alloc: Global,
@@ -191,7 +195,7 @@ impl<F: ComplexExtendable, M: Matrix<F>> CircleEvaluations<F, M> {
     /// The values at `point` of the only polynomials with these values, for each column (Circle
     /// STARKs, section 4.3).
     ///
-    /// Asks a genuine domain with `log_n <= CIRCLE_TWO_ADICITY` that `point` is clear of. Fails
+    /// Requires a genuine domain with `log_n <= CIRCLE_TWO_ADICITY` that `point` is clear of. Fails
     /// where memory is refused.
     pub fn evaluate_at_point<EF: ExtensionField<F>>(
         &self,
@@ -214,7 +218,7 @@ impl<F: ComplexExtendable, M: Matrix<F>> CircleEvaluations<F, M> {
     /// The values of the only polynomials with these values, for each column, at the point whose
     /// Lagrange polynomials these are: so that they can be made once for several matrices.
     ///
-    /// Asks a genuine domain with `log_n <= CIRCLE_TWO_ADICITY`, and a share for each of its
+    /// Requires a genuine domain with `log_n <= CIRCLE_TWO_ADICITY`, and a share for each of its
     /// points. Fails where memory is refused.
     pub fn evaluate_by_weights<EF: ExtensionField<F>>(
         &self,
@@ -235,10 +239,10 @@ impl<F: ComplexExtendable, M: Matrix<F>> CircleEvaluations<F, M> {
     }
 
     /// For each of the weights the values that [`evaluate_by_weights`](Self::evaluate_by_weights)
-    /// answers. The rows are gone over once for all of them.
+    /// returns. The rows are gone over once for all of them.
     ///
-    /// Asks a genuine domain with `log_n <= CIRCLE_TWO_ADICITY`, and in each of the weights a share
-    /// for each of its points. Fails where memory is refused.
+    /// Requires a genuine domain with `log_n <= CIRCLE_TWO_ADICITY`, and in each of the weights a
+    /// share for each of its points. Fails where memory is refused.
     pub fn evaluate_by_each_weights<EF: ExtensionField<F>>(
         &self,
         alloc: Global,
@@ -269,7 +273,7 @@ impl<F: ComplexExtendable> CircleEvaluations<F, RowMajorMatrix<F>> {
     /// In the order of the transform the first `2^m` rows are the values on the domain of `2^m`
     /// points with the same shift.
     ///
-    /// Asks `1 <= log_n <= CIRCLE_TWO_ADICITY` of the domain, with any shift, and of `coeffs` a
+    /// Requires `1 <= log_n <= CIRCLE_TWO_ADICITY` of the domain, with any shift, and of `coeffs` a
     /// height that is a power of two and at most the domain's size. Fails where memory is refused.
     pub fn evaluate(
         alloc: Global,
@@ -289,23 +293,16 @@ impl<F: ComplexExtendable> CircleEvaluations<F, RowMajorMatrix<F>> {
         ensures prefix { IfOk result (λ e. BeginsWithSmaller F.ops F.generators domain
             (width_of coeffs) (rows coeffs) (rows (cfft_values e))) }
     {
-        let width = coeffs.width();
-        let log_height = log2_strict(coeffs.height());
-        let twiddles = forward_twiddles(alloc, domain)?;
-        // The further coefficients are zeros, and a layer whose upper halves are zeros is a copy:
-        // `a + 0 t` and `a - 0 t` are `a`. So the layers above the height copy the coefficients.
-        let copies = 1 << (domain.log_n() - log_height);
-        let mut entries = repeat(alloc, coeffs.into_values(), copies)?;
-        forward_passes(&mut entries, width, &twiddles[..log_height]);
-        Ok(CircleEvaluations::from_cfft_order(domain, RowMajorMatrix::new(entries, width)))
+        CircleEvaluations::evaluate_by(alloc, domain, coeffs, &mut InPasses)
     }
 
-    /// What [`evaluate`](Self::evaluate) answers, and the number of butterflies of a column: up to
+    /// What [`evaluate`](Self::evaluate) returns, and the number of butterflies of a column: up to
     /// `group` consecutive layers are applied to one independent group of rows before the next
-    /// group is begun. A `group` above the number of layers counts as that number. Layers that
-    /// copy coefficients cost none.
+    /// group is begun. A `group` above the number of layers counts as that number. Layers that copy
+    /// coefficients cost none.
     ///
-    /// Asks what `evaluate` asks, and at least one layer a group. Fails where memory is refused.
+    /// Requires what `evaluate` requires, and at least one layer a group. Fails where memory is
+    /// refused.
     pub fn evaluate_grouped(
         alloc: Global,
         domain: CircleDomain<F>,
@@ -324,19 +321,36 @@ impl<F: ComplexExtendable> CircleEvaluations<F, RowMajorMatrix<F>> {
         ensures count { (n : ℕ) → height_of coeffs ≡ 2 ^ n →
             IfOk result (λ made. count_of made.1 ≡ n * 2 ^ (log_size domain - 1)) }
     {
+        let mut layers = InGroups::new(group);
+        let values = CircleEvaluations::evaluate_by(alloc, domain, coeffs, &mut layers)?;
+        Ok((values, layers.into_butterflies()))
+    }
+
+    // The values, by layers that are applied in this way.
+    fn evaluate_by<L: Layers<F>>(
+        alloc: Global,
+        domain: CircleDomain<F>,
+        coeffs: RowMajorMatrix<F>,
+        layers: &mut L,
+    ) -> Result<Self, AllocError>
+        requires positive { 1 ≤ log_size domain }
+        requires in_group { log_size domain ≤ F.CIRCLE_TWO_ADICITY }
+        requires power { IsPowerOfTwo (height_of coeffs) }
+        requires at_most_size { height_of coeffs ≤ 2 ^ log_size domain }
+        requires room { (n : ℕ) → n < 2 ^ 70 → L.has_room layers.old n }
+        ensures domain { IfOk result (λ e. domain_of e ≡ domain) }
+        ensures width { IfOk result (λ e. width_of (cfft_values e) ≡ width_of coeffs) }
+        ensures values { IfOk result (λ e. Evaluates F.ops F.generators domain (width_of coeffs)
+            (rows coeffs) (rows (cfft_values e))) }
+        ensures count { (n : ℕ) → height_of coeffs ≡ 2 ^ n → OnOk result (L.counts layers.old
+            layers.new (width_of coeffs) (2 ^ log_size domain * width_of coeffs) n) }
+    {
         let width = coeffs.width();
         let log_height = log2_strict(coeffs.height());
-        let twiddles = forward_twiddles(alloc, domain)?;
-        let copies = 1 << (domain.log_n() - log_height);
-        let mut entries = repeat(alloc, coeffs.into_values(), copies)?;
-        let mut butterflies = Butterflies::new();
-        let layers = &twiddles[..log_height];
-        forward_groups(&mut entries, width, layers, group, &mut butterflies);
-        let values = RowMajorMatrix::new(entries, width);
-        Ok((
-            CircleEvaluations::from_cfft_order(domain, values),
-            butterflies,
-        ))
+        let twiddles = lowest_twiddles(alloc, domain, log_height)?;
+        let mut entries = copied_entries(alloc, coeffs, domain.log_n())?;
+        layers.forward(&mut entries, width, &twiddles);
+        Ok(CircleEvaluations::from_cfft_order(domain, RowMajorMatrix::new(entries, width)))
     }
 
     /// Equal evaluations. Fails where memory is refused.
@@ -355,7 +369,7 @@ impl<F: ComplexExtendable> CircleEvaluations<F, RowMajorMatrix<F>> {
 /// stands for `y`, bit 1 for `x`, bit 2 for `2x^2 - 1`, and so on, each for the doubled point's x
 /// coordinate (Circle STARKs, section 3.3 and 4).
 ///
-/// Asks `1 <= log_n <= 62`. Fails where memory is refused.
+/// Requires `1 <= log_n <= 62`. Fails where memory is refused.
 pub fn circle_basis<F: Field>(
     alloc: Global,
     point: Point<F>,
@@ -386,6 +400,54 @@ fn append_scaled<F: Field>(entries: &mut Vec<F>, factor: F) -> Result<(), AllocE
         entries.push(scaled)?;
     }
     Ok(())
+}
+
+// The entries of rows, one row after another.
+fn copied_rows<F: Field, M: Matrix<F>>(alloc: Global, values: &M) -> Result<Vec<F>, AllocError>
+    ensures length { IfOk result (λ v.
+        length v.items ≡ M.height values.now * M.width values.now) }
+    ensures rows { IfOk result (λ v.
+        rows_from (M.width values.now) (M.height values.now) v.items ≡ M.rows values.now) }
+{
+    Ok(RowMajorMatrix::copy_of(alloc, values)?.into_values())
+}
+
+// The factors of the lowest `layers` layers of a domain.
+fn lowest_twiddles<F: ComplexExtendable>(
+    alloc: Global,
+    domain: CircleDomain<F>,
+    layers: usize,
+) -> Result<Vec<Vec<F>>, AllocError>
+    requires positive { 1 ≤ log_size domain }
+    requires in_group { log_size domain ≤ F.CIRCLE_TWO_ADICITY }
+    requires within { layers ≤ log_size domain }
+    ensures count { IfOk result (λ twiddles. length twiddles.items ≡ layers) }
+    ensures factors { IfOk result (λ twiddles. (l : ℕ) → l < layers → factors_at twiddles.items l
+        ≡ layer_factors F.ops F.generators (log_size domain) (shift_of domain) l) }
+{
+    let mut twiddles = forward_twiddles(alloc, domain)?;
+    twiddles.truncate(layers);
+    Ok(twiddles)
+}
+
+// The entries of coefficients, over and over, for the points of a domain of `2^log_n`.
+//
+// The further coefficients are zeros, and a layer whose upper halves are zeros is a copy: `a + 0 t`
+// and `a - 0 t` are `a`. So the layers above the height copy the coefficients.
+fn copied_entries<F: Field>(
+    alloc: Global,
+    coeffs: RowMajorMatrix<F>,
+    log_n: usize,
+) -> Result<Vec<F>, AllocError>
+    requires small { log_n ≤ 62 }
+    requires power { IsPowerOfTwo (height_of coeffs) }
+    requires at_most_size { height_of coeffs ≤ 2 ^ log_n }
+    ensures length { IfOk result (λ v. length v.items ≡ 2 ^ log_n * width_of coeffs) }
+    ensures copies { (h : ℕ) → height_of coeffs ≡ 2 ^ h →
+        IfOk result (λ v. v.items ≡ copies (2 ^ (log_n - h)) (values_of coeffs)) }
+{
+    let log_height = log2_strict(coeffs.height());
+    repeat(alloc, coeffs.into_values(), 1 << (log_n - log_height))
 }
 
 // The entries, `count` times over.

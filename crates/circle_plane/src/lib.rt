@@ -2,33 +2,36 @@
 //!
 //! What is proved, for every lawful field:
 //!
-//! - `circle_basis` answers the first `2^n` polynomials of the circle basis at a point.
+//! - `circle_basis` returns the first `2^n` polynomials of the circle basis at a point.
 //! - `CircleEvaluations::evaluate` gives in row i of the transform's order, column by column, the
 //!   value of the column's polynomial at point i of that order, for any shift (the clause `cfft`),
 //!   and in natural order at point i of the natural order (`values`, with the clause `rows` of
 //!   `to_natural_order`); the first `2^m` rows are the values on the smaller domain with the same
 //!   shift (`prefix`).
-//! - On a genuine domain `interpolate` answers coefficients that have the rows as their values, in
+//! - On a genuine domain `interpolate` returns coefficients that have the rows as their values, in
 //!   both orders, and all that have them are these (`values`, `natural`, `only`); so each of the
 //!   two undoes the other. `extrapolate` gives the values of these coefficients on the target in
 //!   both orders and on smaller domains, and the coefficients of what it gives are the same with
 //!   zeros after them (`values`, by `Extrapolates`).
 //! - `from_natural_order` and `to_natural_order` show the rows in the other order without copying,
 //!   and twice is back (`back`).
-//! - `evaluate_at_point` answers, for each column, the value of the only polynomial with these
+//! - `evaluate_at_point` returns, for each column, the value of the only polynomial with these
 //!   values at any point that the domain is clear of, also over an extension (`values`, `only`).
-//!   `evaluate_by_each_weights` answers these at several points at once, the rows read once.
-//! - The table that `eval_on_lde` and `build_periodic_lde_table_circle` answer has the columns'
-//!   values at the points of the extension in natural order, in as many rows as differ (`table`,
-//!   by `IsPeriodicTable`), and each refusal is the first whose condition holds (`refusal`, by
-//!   `IsRefusal`). `eval_at_point` answers the columns' values at a point (`values`).
+//!   `evaluate_by_each_weights` returns these at several points at once, the rows read once.
+//! - The table that `eval_on_lde` and `build_periodic_lde_table_circle` return has the columns'
+//!   values at the points of the extension in natural order, in as many rows as differ (`table`, by
+//!   `IsPeriodicTable`), and each refusal is the first whose condition holds (`refusal`, by
+//!   `IsRefusal`). `eval_at_point` returns the columns' values at a point (`values`).
 //! - Multiples of points, values by the halves of the coefficients, and that values on a genuine
-//!   domain tell them, by calls that answer nothing (`laws`).
+//!   domain determine them, by calls that return nothing (`laws`).
 //!
 //! Its files:
 //!
-//! - In `specs/`, `CircleEvaluations`, `Coefficients`, `Evaluated`: what evaluations are and tell.
-//!   `PeriodicColumns`, `PeriodicRows`: columns that repeat, what is wrong with one, their table.
+//! - In `src/`, `cfft`: evaluations and their transform, over the ways of `layers` to apply it.
+//!   `periodic`: periodic columns.
+//! - In `specs/`, `CircleEvaluations`, `Coefficients`, `Evaluated`: what evaluations are and say.
+//!   `Layers`: what groups of rows count. `PeriodicColumns`, `PeriodicRows`: columns that repeat,
+//!   what is wrong with one, their table.
 //! - In `proofs/`, `Passes`, `AllLayers`, `Transformed`: coefficients are made of values and values
 //!   of coefficients. `DoubledPoints`, `DoubledValues`: the points of a domain, doubled r times,
 //!   are those of the domain of `2^r` times fewer points over and over. `NaturalRows`,
@@ -37,6 +40,7 @@
 #![tactic(auto)]
 
 pub mod cfft;
+mod layers;
 pub mod periodic;
 
 pub use cfft::{CircleEvaluations, circle_basis};

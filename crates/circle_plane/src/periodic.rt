@@ -86,7 +86,7 @@ impl<F: ComplexExtendable> PeriodicEvaluator<F, CircleDomain<F>> for CirclePerio
     /// is the longest period times how many times larger `lde_domain` is than the trace. Where
     /// `lde_domain` has more points than the group, only the table's height and width are promised.
     ///
-    /// Asks that `lde_domain` is at least as large as the trace's domain, and of the latter
+    /// Requires that `lde_domain` is at least as large as the trace's domain, and of the latter
     /// `log_n < CIRCLE_TWO_ADICITY`. Refuses the first column that is empty, isn't of a power of
     /// two of entries, or is longer than the trace, then a table of more entries than `usize`
     /// counts; fails where memory is refused.
@@ -128,7 +128,8 @@ impl<F: ComplexExtendable> PeriodicEvaluator<F, CircleDomain<F>> for CirclePerio
 
     /// The values of the columns at this point, in their order: 0 for a column without entries.
     ///
-    /// Asks of each column what `evaluate_periodic_column_at` asks. Fails where memory is refused.
+    /// Requires of each column what `evaluate_periodic_column_at` requires. Fails where memory is
+    /// refused.
     fn eval_at_point<EF: ExtensionField<F>>(
         alloc: Global,
         periodic_table: &[Vec<F>],
@@ -187,7 +188,7 @@ fn longest_period<F: Field>(
     Ok(longest)
 }
 
-// Whether so many entries repeat over so many rows.
+// Whether `period` entries repeat over `trace_len` rows.
 fn check_period(period: usize, trace_len: usize) -> Result<(), PeriodicError>
     ensures fit { OnOk result (IsPeriod trace_len period) }
     ensures refusal { IfErr result (IsFault trace_len period) }
@@ -204,7 +205,7 @@ fn check_period(period: usize, trace_len: usize) -> Result<(), PeriodicError>
     Ok(())
 }
 
-// `period * 2^log_blowup`, where so many rows of `width` entries can be counted.
+// `period * 2^log_blowup`, where the entries of this many rows of `width` can be counted.
 fn checked_height(period: usize, log_blowup: usize, width: usize) -> Result<usize, PeriodicError>
     requires period { 1 ≤ period }
     requires width { 1 ≤ width }
@@ -249,7 +250,7 @@ fn extended_rows<F: ComplexExtendable>(
 {
     let log_period = log2_strict(period);
     let log_blowup = lde_domain.log_n() - trace_log_n;
-    // No domain has so many points, so there are no values that the rows could have to be.
+    // No domain has that many points, so there are no values that the rows could have to be.
     if log_blowup > F::CIRCLE_TWO_ADICITY - log_period {
         return repeated_rows(alloc, periodic_table, height);
     }

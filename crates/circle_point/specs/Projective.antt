@@ -1,5 +1,6 @@
 -- The projective line as coordinates of the circle.
 -- Circle STARKs (ePrint 2024/278), section 3, Lemma 1.
+use Rattle.std.specs.Prelude.{Bool}
 use Rattle.circle_field.specs.Field.{FieldOps, sub}
 use Rattle.circle_field.specs.Circle.{Coordinates, at, plus, opposite, lifted}
 
@@ -30,3 +31,7 @@ module _ {F E : Type 0} (l : FieldOps E) (embed : F → E) where
   -- the difference p - z of a point of a field and one of its extension
   abbrev pub difference_from : Coordinates F → Coordinates E → Coordinates E
   difference_from p z = plus l (opposite l z) (lifted embed p)
+
+-- whether a coordinate of the projective line belongs to no point: t^2 = -1
+abbrev pub is_at_infinity : {E : Type 0} → (E → E → Bool) → FieldOps E → E → Bool
+is_at_infinity eq k t = eq (k.mul t t) (k.neg k.one)

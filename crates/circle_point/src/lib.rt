@@ -6,7 +6,8 @@
 //!   `double` or `Mul::mul`, and `P * n` is the n-fold sum. `+` and `-` take a point of an
 //!   extension and one of the field.
 //! - `from_projective_line` is `None` exactly where `t^2 = -1`, `to_projective_line` exactly at `x
-//!   = -1`, and where they answer they undo each other (`back`).
+//!   = -1`, and where they return a value they undo each other (`back`).
+//! - `is_at_infinity` is whether `t^2 = -1`.
 //! - `v_tilde_p` and `v_p` are by their formulas, `re^2 + im^2 = 2 re` for the latter (`norm`),
 //!   and `s_p_at_p(n)` is `-2^n` times the y coordinate of the multiple by `2^(n-1)`.
 //! - `repeated_double`, `v_n` and `v_n_prod` are the multiple by a power of two, its x coordinate
@@ -20,4 +21,4 @@
 
 pub mod point;
 
-pub use point::{Neutral, Point};
+pub use point::{Neutral, Point, is_at_infinity};

@@ -2,7 +2,7 @@
 ghost use Rattle.std.specs.Prelude.{◌≡◌, ◌≢◌, ◌↔◌, IsTrue, IsNone, IfSome, ◌≤◌, ◌<◌, ◌^◌, ◌-◌, Ok};
 ghost use Rattle.circle_field.specs.Circle.{Coordinates, IsOnCircle, at, origin, lifted};
 ghost use Rattle.circle_field.specs.Circle.{plus, opposite, times};
-ghost use Rattle.circle_point.specs.Projective.{minus};
+ghost use Rattle.circle_point.specs.Projective.{is_at_infinity, minus};
 ghost use Rattle.circle_field.specs.Field.{nth_power, two, sub};
 
 use circle_field::{ComplexExtendable, ExtensionField, Field, Operations};
@@ -55,12 +55,19 @@ impl<F: Field> Neutral for Point<F> {
     } };
 }
 
+/// Whether the coordinate is that of a point at infinity: `t^2 = -1`.
+pub fn is_at_infinity<F: Field>(t: &F) -> bool
+    ensures { result ≡ is_at_infinity F.eq F.ops t.now }
+{
+    t.square() == -F::ONE
+}
+
 impl<F: Field> Point<F> {
     ghost use Rattle.circle_point.specs.Basis.{vanishing, vanishing_product};
     ghost use Rattle.circle_point.specs.Projective.{from_line, to_line, half_turn, difference_from};
     ghost use Rattle.circle_point.specs.Point.{coordinates};
 
-    /// Whether `x^2 + y^2 = 1`, as [`Point::new`] asks.
+    /// Whether `x^2 + y^2 = 1`, as [`Point::new`] requires.
     pub fn is_on_circle(x: F, y: F) -> bool
         ensures { IsTrue result ↔ IsOnCircle F.ops (at x y) }
     {
@@ -69,7 +76,7 @@ impl<F: Field> Point<F> {
 
     /// The point with these coordinates.
     ///
-    /// Asks `x^2 + y^2 = 1`, as [`Point::is_on_circle`] tests.
+    /// Requires `x^2 + y^2 = 1`, as [`Point::is_on_circle`] tests.
     pub fn new(x: F, y: F) -> Self
         requires { IsOnCircle F.ops (at x y) }
         ensures { coordinates result ≡ at x y }
@@ -141,7 +148,7 @@ impl<F: Field> Point<F> {
     /// The vanishing polynomial of the standard domain of `2^log_n` points, at this point: the x
     /// coordinate of the point's multiple by `2^(log_n - 1)` (section 3.3, equation 8).
     ///
-    /// Asks `log_n >= 1`.
+    /// Requires `log_n >= 1`.
     pub fn v_n(self, log_n: usize) -> F
         requires { 1 ≤ log_n }
         ensures multiple { result ≡ (times F.ops (2 ^ (log_n - 1)) (coordinates self)).x }
@@ -170,8 +177,8 @@ impl<F: Field> Point<F> {
     /// The selector that is zero at this point alone, at the point `at`: the coordinate of
     /// `at - self` on the projective line (section 5.1, Lemma 11).
     ///
-    /// Asks that `at` is not `self + (-1, 0)`, the pole: where it isn't,
-    /// `(at - self).to_projective_line()` is `Some`, the answer.
+    /// Requires that `at` is not `self + (-1, 0)`, the pole: where it isn't, `(at -
+    /// self).to_projective_line()` is `Some`, the result.
     pub fn v_tilde_p<EF: ExtensionField<F>>(self, at: Point<EF>) -> EF
         requires { coordinates at
             ≢ plus EF.ops (half_turn EF.ops) (lifted EF.embed (coordinates self)) }
@@ -185,7 +192,7 @@ impl<F: Field> Point<F> {
     /// polynomials are normalised: `-2^log_n` times the y coordinate of the point's multiple by
     /// `2^(log_n - 1)` (section 5.1, Remark 16).
     ///
-    /// Asks `log_n >= 1` and `log_n < 2^63`.
+    /// Requires `log_n >= 1` and `log_n < 2^63`.
     pub fn s_p_at_p(self, log_n: usize) -> F
         requires positive { 1 ≤ log_n }
         requires small { log_n < 2 ^ 63 }
@@ -216,7 +223,7 @@ impl<F: ComplexExtendable> Point<F> {
 
     /// The generator of the cyclic group of `2^log_n` points.
     ///
-    /// Asks `log_n <= CIRCLE_TWO_ADICITY`.
+    /// Requires `log_n <= CIRCLE_TWO_ADICITY`.
     pub fn generator(log_n: usize) -> Self
         requires { log_n ≤ F.CIRCLE_TWO_ADICITY }
         ensures { coordinates result ≡ F.generators log_n }

@@ -17,7 +17,7 @@ use Rattle.circle_codewords.specs.Requests.{all_committed, batch_committed, log_
 use Rattle.circle_prover.proofs.Held.{heights-listed}
 use Rattle.circle_prover.proofs.Tops.{greatest-there}
 
--- what is known of an answer twice
+-- what is known of a result twice
 pub if_ok2 : {A E : Type 0} (r : Result A E) (P Q R : A → Type 0) → ((a : A) → P a → Q a → R a) →
     IfOk r P → IfOk r Q → IfOk r R
 if_ok2 (Ok a) P Q R f p q = f a p q
@@ -155,7 +155,7 @@ module _ {F E : Type 0} (k : Fields F E) (blowup : ℕ) (P : ℕ → Type 0) whe
             (second-known (λ (c : Committed F E). P c.log_height) here rest known),
       )
 
-  -- what is known of the height of each answered matrix is known of each requested one
+  -- what is known of the height of each opened matrix is known of each requested one
   pub heights-back : {D : Type 0} (kept : D → List (RowMajorMatrix F))
       (requests : List (OpeningRequest D E)) (values : Openings E) →
       AllZip (AreAnswers kept k blowup) requests values →

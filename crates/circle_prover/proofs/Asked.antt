@@ -43,7 +43,7 @@ module _ {F E : Type 0} (blowup : ℕ) where
   points-taken l [] = refl
   points-taken l (m ∷ ms) = ap (λ cs. map (point_taken l) m.claims ++ cs) (points-taken l ms)
 
-  -- what a transcript takes in of them
+  -- what a transcript absorbs of them
   pub all-taken : (l : FieldOps E) (batches : List (List (Committed F E))) →
       claims_taken l (map (claimed_batch blowup) batches)
       ≡ flat_map (λ m. map (point_taken l) m.claims) (flat_map (λ b. b) batches)

@@ -35,7 +35,7 @@ module _ {C S F E Com : Type 0} (m : RunMoves C S F E Com) where
         (rounds_pass m n.commit_pow_bits (after_element m.base (layered m n t s)) t.rounds)
         (is_passed m.base (closed m n t s) n.query_pow_bits t.query_witness) (drawn m n t s) x is
 
-    -- a challenge for each round, and so many queries
+    -- a challenge for each round, and the due number of queries
     pub betas-count : length x.betas ≡ length t.rounds
     betas-count = ap (λ (d : Drawn S F). length d.betas) drawn-is
         ∙ length-fold_challenges _ _ t.rounds

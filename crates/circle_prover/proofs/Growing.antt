@@ -1,4 +1,4 @@
--- Words and rounds that are pushed one after another.
+-- Codewords and rounds that are pushed one after another.
 use Rattle.std.specs.Prelude.{◌≡◌, ℕ, ◌+◌, ◌-◌, ◌/◌, ◌%◌, ◌^◌, ◌<◌, ◌≤◌, ◌++◌, List, [], ◌∷◌}
 use Rattle.std.specs.Prelude.{length, map, zip, All, Some, IsTrue, slice_get, slice_index_or}
 use Rattle.std.proofs.Common.{zero, suc, inl, inr, refl, sym, ◌∙◌, ap, subst, arith}
@@ -47,7 +47,7 @@ pub whole_pairs : (m n : ℕ) → n ≡ 2 ^ m → 2 ≤ n → n % 2 ≡ 0
 whole_pairs m n is even = let half = twice-half m (positive_power m n is even) in
     omega (arith, is, half)
 
--- a word of a power of two has half as many pairs
+-- a codeword of a power of two has half as many pairs
 pub length-pairs_of : {E : Type 0} (word : List E) (h : ℕ) → 1 ≤ h → length word ≡ 2 ^ h →
     length (pairs_of word) ≡ 2 ^ (h - 1)
 length-pairs_of word h positive is = length-rows_from 2 (length word / 2) word
@@ -62,7 +62,7 @@ first_rows (m ∷ ms) word d is = ap (λ v. slice_index_or v 0 word) is
 
 module _ {F E : Type 0} (k : Fields F E) (heights : List ℕ) (folded : ℕ → List E) (h : ℕ)
     (first : List E) where
-  -- a later challenge leaves the words before it
+  -- a later challenge leaves the codewords before it
   pub word_at-kept : (betas : List E) (b : E) (n : ℕ) → n ≤ length betas →
       word_at k heights folded h first (betas ++ b ∷ []) n
       ≡ word_at k heights folded h first betas n
@@ -75,7 +75,7 @@ module _ {F E : Type 0} (k : Fields F E) (heights : List ℕ) (folded : ℕ → 
       ∙ ap (next_word k heights folded (h - n) (slice_index_or betas n k.extension.zero))
       (word_at-kept betas b n (omega (arith, within)))
 
-  -- it gives the next word
+  -- it gives the next codeword
   pub word_at-next : (betas pushed : List E) (b : E) (n : ℕ) (word : List E) → pushed ≡ betas ++ b
       ∷ [] → length betas ≡ n → word ≡ word_at k heights folded h first betas n
       → next_word k heights folded (h - n) b word ≡ word_at k heights folded h first pushed (n + 1)
@@ -181,7 +181,7 @@ there [] i within = absurd (omega (arith, within))
 there (x ∷ xs) zero within = (x, refl)
 there (x ∷ xs) (suc i) within = there xs i (omega (arith, within))
 
--- each round's commitment is of its word
+-- each round's commitment is of its codeword
 pub words_committed : {E F D Com : Type 0} (Commits : List (RowMajorMatrix E) → Com → Type 0)
     (matrices : D → List (RowMajorMatrix E)) (word : ℕ → List E) (kept : List D)
     (commitments : List Com) (witnesses : List F)
@@ -256,7 +256,7 @@ module _ {C S F E Com : Type 0} (r : RunMoves C S F E Com) (bits : ℕ) (begun n
         state = next.state;
       }
 
-  -- where none passes after the commitment of the next word
+  -- where none passes after the commitment of the next codeword
   module _ (Commits : List (RowMajorMatrix E) → Com → Type 0) (word : List E → ℕ → List E)
       (count : ℕ) (rounds : List (Com × F)) (betas : List E) (b : ℕ) where
     pub stuck_after : b ≡ bits → HavePlayed r bits begun now rounds (map r.base.coefficients betas)

@@ -1,4 +1,4 @@
--- The lengths of an opening's words.
+-- The lengths of an opening's codewords.
 use Rattle.std.specs.Prelude.{◌≡◌, ℕ, ◌-◌, ◌==◌, ◌^◌, ◌≤◌, Bool, true, false, if◌then◌else◌, List}
 use Rattle.std.specs.Prelude.{[], ◌∷◌, length, map, drop, All, slice_index_or}
 use Rattle.std.specs.List.{AllByRecursion, list_any}
@@ -86,7 +86,7 @@ module _ {F E : Type 0} (k : Fields F E) where
         (length-x_folds (h - 1) beta (pairs_of word) (length-pairs_of word h positive long))
         (among (λ h. length (f h) ≡ 2 ^ (h - 1)) hs h joins)
 
-    -- a word of the rounds
+    -- a codeword of the rounds
     pub length-word_at : (h : ℕ) (first betas : List E) → length first ≡ 2 ^ h → (n : ℕ) → n ≤ h →
         length (word_at k hs f h first betas n) ≡ 2 ^ (h - n)
     length-word_at h first betas long zero within = let e : h ≡ h - 0 = omega arith in

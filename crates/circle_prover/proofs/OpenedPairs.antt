@@ -33,7 +33,7 @@ at-most (m ∷ ms) zero d lt = le-max_left (height_of m) (max_height ms)
 at-most (m ∷ ms) (suc k) d lt = let rest = at-most ms k d (omega (arith, lt)) in
     omega (arith, rest, le-max_right (height_of m) (max_height ms))
 
--- a query below 2^top, where so many bits are more than what is left
+-- a query below 2^top, where the height is what `bits` bits leave of it
 pub queries-below : (top bits height : ℕ) (queries : List ℕ) → bits ≤ top →
     height ≡ 2 ^ (top - bits) → All (λ q. q < 2 ^ top) queries →
     All (λ q. q < height * 2 ^ bits) queries

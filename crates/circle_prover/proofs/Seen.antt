@@ -1,4 +1,4 @@
--- The heights of matrices as words see them: those that the matrices have.
+-- The heights of matrices as codewords see them: those that the matrices have.
 use Rattle.std.specs.Prelude.{◌≡◌, ℕ, Bool, ◌||◌, ◌==◌, List, [], ◌∷◌, map}
 use Rattle.std.specs.List.{filter, list_any, range_with_len}
 use Rattle.std.proofs.Common.{suc, refl, sym, ◌∙◌, ap}

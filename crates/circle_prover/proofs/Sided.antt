@@ -42,7 +42,7 @@ module _ {A B C W : Type 0} (f : A → B → C) (view : W → B) (xs : List A) (
       ≡ pairwise f xs (map view ws)
   pair-all n all = take_all n (pairwise f xs (map view ws)) (omega (arith, all, same, made-length))
 
--- places without so many bits are below what is left
+-- places without their lowest `bits` bits are below what is left
 pub places-below : (top bits : ℕ) (queries : List ℕ) → All (λ q. q < top * 2 ^ bits) queries →
     All (λ i. i < top) (places_of bits queries)
 places-below top bits queries low =

@@ -21,7 +21,7 @@ use Rattle.circle_prover.specs.Words.{IsCommitmentOf, round_word, top_of}
 
 module _ {C S F E Com : Type 0} (r : RunMoves C S F E Com) (Commits : List (RowMajorMatrix E) →
     Com → Type 0) where
-  -- rounds whose words are told by another name, from a state that is
+  -- rounds whose codewords are given by another name, from a state that is
   pub rounds-moved : (n m : Numbers) (now then : S) (word next : List E → ℕ → List E)
       (rounds : List (Com × F)) (betas : List E) → m ≡ n → now ≡ then →
       ((i : ℕ) → word betas i ≡ next betas i)
@@ -100,7 +100,7 @@ drawn-moved r n m t s u coefficients d state a b numbers begun ended drawn =
     ap (λ v. draw_seeded r v t u) (sym numbers) ∙ ap (draw_seeded r n t) (sym begun) ∙ drawn
     ∙ ap (λ c. Ok (drawn_of coefficients d (state c))) (sym ended)
 
--- a run of a shape that is told by another name, which takes in what is told so too
+-- a run of a shape that is given by another name, which absorbs what is given so too
 pub draw-moved : {C S F E Com : Type 0} (r : RunMoves C S F E Com) (a b : Shape)
     (t u : Taken F E Com) (s : S) (x : Result (Drawn S F) PowPhase) → a ≡ b → t ≡ u →
     draw r a t s ≡ x → draw r b u s ≡ x

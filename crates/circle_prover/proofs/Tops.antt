@@ -189,7 +189,7 @@ joins-alike hs top n lt =
     ∙ ap (λ b. list_any (λ m. m == n) hs || (b || false)) other
     ∙ or-nothing (list_any (λ m. m == n) hs))
 
--- the words of the rounds are the same without the greatest height, which they don't reach
+-- the codewords of the rounds are the same without the greatest height, which they don't reach
 pub word-alike : {F E : Type 0} (k : Fields F E) (hs : List ℕ) (top : ℕ) (f : ℕ → List E) (h : ℕ)
     (first betas : List E) → h < top → (n : ℕ) →
     word_at k hs f h first betas n ≡ word_at k (hs ++ top ∷ []) f h first betas n
@@ -217,7 +217,7 @@ split-last f xs x ns n same =
     omega (arith, long, length-append xs (x ∷ []), length-append (map f ns) (f n ∷ [])) in
     (same-front xs (map f ns) x (f n) count apart, same-last xs (map f ns) x (f n) count apart)
 
--- rounds whose words are the same
+-- rounds whose codewords are the same
 pub rounds-alike : {E D Com : Type 0} (Commits : List (RowMajorMatrix E) → Com → Type 0)
     (kept_of : D → List (RowMajorMatrix E)) (v w : ℕ → List E) (kept : List D)
     (commitments : List Com) →
@@ -230,7 +230,7 @@ rounds-alike Commits kept_of v w kept commitments same rounds = record {
       (rounds.each n d commitment at_kept at_commitment);
 }
 
--- the words of the rounds, by what is at hand of the heights and of the first word
+-- the codewords of the rounds, by what is at hand of the heights and of the first codeword
 pub words-alike : {F E : Type 0} (k : Fields F E) (blowup : ℕ) (ms : List (Committed F E))
     (alpha bivariate : E) (hs : List ℕ) (high : ℕ) (first : List E) → 1 ≤ length ms → 1 ≤ top_of ms
     → hs ≡ lower ms → high ≡ top_of ms →
@@ -247,7 +247,7 @@ words-alike k blowup ms alpha bivariate hs high first some positive fewer same i
     ∙ word-alike k (lower ms) top fold (top - 1) (fold top) betas low n
     ∙ ap (λ v. word_at k v fold (top - 1) (fold top) betas n) (sym (heights-end ms some))
 
--- what is folded from the first layer's words, the tallest apart
+-- what is folded from the first layer's codewords, the tallest apart
 pub folds-split : {F E : Type 0} (k : Fields F E) (blowup : ℕ) (ms : List (Committed F E))
     (alpha bivariate : E) (hs : List ℕ) (layers : List (RowMajorMatrix E)) (joining : List (List E))
     (tallest : List E) → 1 ≤ length ms

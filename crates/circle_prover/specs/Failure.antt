@@ -32,7 +32,7 @@ use Rattle.circle_transcript.specs.declared.transcript.CircleTranscript.{CircleT
 use Rattle.circle_codewords.specs.Words.{Committed, committed_of, pairs_of}
 use Rattle.circle_codewords.specs.declared.reduced.OpenedMatrix.{OpenedMatrix}
 
--- the last word of these matrices is of too high degree
+-- the last codeword of these matrices is of too high degree
 abbrev pub IsTooHigh : {F E : Type 0} → Fields F E → ℕ → ℕ → List (Committed F E) → ProverError
     → Type 0
 IsTooHigh k blowup final matrices e =
@@ -40,8 +40,8 @@ IsTooHigh k blowup final matrices e =
 
 module _ {C S F E Com : Type 0} (r : RunMoves C S F E Com)
     (Commits : List (RowMajorMatrix E) → Com → Type 0) where
-  -- rounds from a state on: each commitment is of the round's word under the challenges before it,
-  -- and each witness is the one that the search in its state finds
+  -- rounds from a state on: each commitment is of the round's codeword under the challenges before
+  -- it, and each witness is the one that the search in its state finds
   pub record AreRoundsOf (bits : ℕ) (begun : S) (word : List E → ℕ → List E)
       (rounds : List (Com × F)) (betas : List E) : Type 0 where
     pub found : AreFound r bits begun rounds
@@ -49,7 +49,7 @@ module _ {C S F E Com : Type 0} (r : RunMoves C S F E Com)
     pub committed : (i : ℕ) (round : Com × F) → slice_get rounds i ≡ Some round
         → IsCommitmentOf Commits (pairs_of (word betas i) ∷ []) round.0
 
-  -- after some of so many rounds the next word is committed to, and then no witness passes
+  -- after some of `count` rounds the next codeword is committed to, and then no witness passes
   pub record IsStuckAfter (bits : ℕ) (begun : S) (word : List E → ℕ → List E) (count : ℕ)
       : Type 0 where
     pub rounds : List (Com × F)
@@ -62,12 +62,12 @@ module _ {C S F E Com : Type 0} (r : RunMoves C S F E Com)
         NonePasses r.base (r.after_commitment (after_rounds r bits begun rounds) commitment) bits
 
   -- the run of an opening of matrices, from the state after its seed on, over its claims: the
-  -- witnesses are those that its searches find, and what is committed to are the words under the
-  -- challenges that were drawn before
+  -- witnesses are those that its searches find, and what is committed to are the codewords under
+  -- the challenges that were drawn before
   module _ {M : Type 0} (k : Fields F E) (p : FriParameters M) (matrices : List (Committed F E))
       (n : Numbers) (claims : List (Claim E)) (s : S) where
-    -- it comes to the challenge that batches, commits to the words of the first layer, and comes to
-    -- the challenge that folds them
+    -- it comes to the challenge that batches, commits to the codewords of the first layer, and
+    -- comes to the challenge that folds them
     pub record Begins (taken : Taken F E Com) (alpha bivariate : E) : Type 0 where
       pub same : taken.claims ≡ claims
       pub found :
@@ -95,7 +95,7 @@ module _ {C S F E Com : Type 0} (r : RunMoves C S F E Com)
           IsStuckAfter n.commit_pow_bits (before_rounds taken)
           (round_word k p.log_blowup matrices alpha bivariate) round_count
 
-    -- it takes in the coefficients of its last word, and its queries are stuck
+    -- it absorbs the coefficients of its last codeword, and its queries are stuck
     pub record IsStuckInQuery : Type 0 where
       pub taken : Taken F E Com
       pub alpha : E
@@ -122,8 +122,8 @@ module _ {C S F E Com : Type 0} (r : RunMoves C S F E Com)
     abbrev pub IsStuck : ProverError → Type 0
     IsStuck e = (phase : PowPhase) × (e ≡ NoGrindingWitness phase) × FindsNone phase
 
-  -- memory is refused, or no witness passes: in the round of a word; in one of so many rounds, the
-  -- first of a word of 2^h entries, whatever is folded from the heights
+  -- memory is refused, or no witness passes: in the round of a codeword; in one of several rounds,
+  -- the first of a codeword of 2^h entries, whatever is folded from the heights
   module _ {Side : Type 0} (t : CircleTranscript C F E Side) where
     abbrev pub IsRoundFailure : List E → ProverError → Type 0
     IsRoundFailure word e = (e ≡ Memory) ⊎ ((e ≡ NoGrindingWitness CommitPhase)
@@ -142,7 +142,7 @@ module _ {C S F E Com : Type 0} (r : RunMoves C S F E Com)
   -- challenger that is seeded with its shape
   module _ {M : Type 0} {g : _} (k : Fields F E) (p : FriParameters M)
       (matrices : List (OpenedMatrix F E)) (claims : List (Point E g × Bor (List E))) where
-    -- the matrices as words see them
+    -- the matrices as codewords see them
     abbrev pub seen : List (Committed F E)
     seen = map (committed_of k p.log_blowup) matrices
 

@@ -2,3 +2,4 @@ pub mod Words
 pub mod Opening
 pub mod Failure
 pub mod Schemes
+pub mod Requesting

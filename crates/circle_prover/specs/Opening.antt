@@ -1,4 +1,4 @@
--- What an opening answers: Circle STARKs (ePrint 2024/278), sections 4 and 6.
+-- What an opening returns: Circle STARKs (ePrint 2024/278), sections 4 and 6.
 use Rattle.std.specs.Prelude.{◌≡◌, ℕ, ◌+◌, ◌-◌, ◌⊎◌, List, [], ◌∷◌, length, map, flat_map, All}
 use Rattle.std.specs.Prelude.{Some, slice_get, Ok}
 use Rattle.std.specs.List.{AllZip}
@@ -27,8 +27,9 @@ use Rattle.circle_prover.specs.Words.{AreCommitted, AreMade, heights_of, layer_o
 use Rattle.circle_prover.specs.Words.{top_of}
 use Rattle.circle_prover.specs.declared.run.CommittedWords.{CommittedWords}
 
--- under a scheme, words of these heights that have this commitment, and of their rows at the
--- queries without so many bits the entries beside the queries' places, with a proof of the rows
+-- under a scheme, codewords of these heights that have this commitment, and of their rows at the
+-- queries without their lowest `bits` bits the entries beside the queries' places, with a proof of
+-- the rows
 pub record AreOpenedWords {E Com P : Type 0} (Commits : List (RowMajorMatrix E) → Com → Type 0)
     (authenticates : Authenticates Com E P) (zero : E) (top bits : ℕ) (queries heights : List ℕ)
     (words : List (List (List E))) (commitment : Com) (o : Opened (List E) P) : Type 0 where
@@ -39,7 +40,8 @@ pub record AreOpenedWords {E Com P : Type 0} (Commits : List (RowMajorMatrix E) 
 
 module _ {F E WC IP WP : Type 0} (k : Fields F E) (matrices : List (Committed F E))
     (c : Challenges E) (proof : OpeningProof F E WC IP WP) where
-  -- the words under the challenges that were drawn, by the heights of the first layer and by round
+  -- the codewords under the challenges that were drawn, by the heights of the first layer and by
+  -- round
   abbrev pub drawn_layer : ℕ → ℕ → List (List E)
   drawn_layer blowup = layer_of k blowup matrices c.alpha
 
@@ -49,9 +51,9 @@ module _ {F E WC IP WP : Type 0} (k : Fields F E) (matrices : List (Committed F 
   module _ {M : Type 0} (p : FriParameters M)
       (Commits : List (RowMajorMatrix E) → WC → Type 0) (authenticates : Authenticates WC E WP)
     where
-      -- the proof holds the multiples of the vanishing polynomial, the commitments of the words,
-      -- what the queries ask of them, and the last word's coefficients; witnesses of no difficulty
-      -- are zero
+      -- the proof holds the multiples of the vanishing polynomial, the commitments of the
+      -- codewords, what is opened of them at the queries, and the last codeword's coefficients;
+      -- witnesses of no difficulty are zero
       pub record HoldsWords : Type 0 where
         pub lambdas : proof.lambdas ≡ map (lambda k c.alpha matrices p.log_blowup)
             (heights_of matrices)
@@ -81,7 +83,7 @@ module _ {F E WC IP WP : Type 0} (k : Fields F E) (matrices : List (Committed F 
 module _ {D F E M : Type 0} (k : Fields F E) (p : FriParameters M)
     (kept : D → List (RowMajorMatrix F)) (requests : List (OpeningRequest D E))
     (values : Openings E) where
-  -- the requested matrices with the values that are answered, batch by batch and one after another
+  -- the requested matrices with the values that are returned, batch by batch and one after another
   abbrev pub answered : List (List (Committed F E))
   answered = all_committed kept k p.log_blowup requests values
 
@@ -97,7 +99,7 @@ module _ {D F E M C S IC IP WC WP : Type 0} (p : FriParameters M)
     (values : Openings E) (k : Fields F E) (r : RunMoves C S F E WC)
     (proof : OpeningProof F E WC IP WP) where
   -- the challenges are those that the transcript draws of the claims and the proof, and the proof
-  -- holds what the words under these challenges and the queries ask for
+  -- holds what is opened of the codewords under these challenges at the queries
   pub record IsOpening (Commits : List (RowMajorMatrix F) → IC → Type 0)
       (authenticates : Authenticates IC F IP)
       (WordCommits : List (RowMajorMatrix E) → WC → Type 0)
@@ -122,8 +124,8 @@ IsStuckOn k r p Commits kept requests values s e =
     IsStuckFrom r Commits k p (answered_matrices k p kept requests values)
     (answered_claims k p kept requests values) s e
 
--- why requests are not opened: memory was refused; or with the values that they ask for the last
--- word is of too high degree, or no witness passes where their run looks for one
+-- why requests are not opened: memory was refused; or with the values that they request the last
+-- codeword is of too high degree, or no witness passes where their run looks for one
 abbrev pub IsFailure : {C S D F E M WC : Type 0} → Fields F E → RunMoves C S F E WC
     → FriParameters M → (List (RowMajorMatrix E) → WC → Type 0) → (D → List (RowMajorMatrix F))
     → List (OpeningRequest D E) → S → ProverError → Type 0
@@ -140,7 +142,7 @@ pub record AreEasy {F M : Type 0} (p : FriParameters M) (l : FieldOps F) (w : Ci
   pub rounds : p.commit_proof_of_work_bits ≡ 0 → All (λ a. a ≡ l.zero) w.rounds.items
   pub query : p.query_proof_of_work_bits ≡ 0 → w.query ≡ l.zero
 
--- whatever matrices these are the words of, the proof holds what they ask for
+-- whatever matrices these are the codewords of, the proof holds what is opened of them
 abbrev pub HoldsMade : {F E I M IC ID IP IE WC WD WP WE : Type 0} → Fields F E
     → (M → List (RowMajorMatrix E) → WC → Type 0) → (WD → List (RowMajorMatrix E))
     → (M → Authenticates WC E WP) → FriParameters M → CommittedWords F E WC WD

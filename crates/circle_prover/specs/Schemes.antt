@@ -20,7 +20,7 @@ use Rattle.circle_relation.specs.declared.error.ProverError.{ProverError}
 use Rattle.circle_relation.specs.declared.error.ProverError.TheVariants.{Memory}
 use Rattle.circle_prover.specs.declared.run.CommittedWords.{CommittedWords}
 
--- I and W are the schemes of the batches and of the words, each with its commitments, data and
+-- I and W are the schemes of the batches and of the codewords, each with its commitments, data and
 -- proofs
 pub record Schemes (C S F E I IC ID IP W WC WD WP : Type 0) : Type 1 where
   pub fields : Fields F E
@@ -34,7 +34,7 @@ pub record Schemes (C S F E I IC ID IP W WC WD WP : Type 0) : Type 1 where
 
 module _ {C S F E I IC ID IP W WC WD WP : Type 0} (o : Schemes C S F E I IC ID IP W WC WD WP)
     (p : FriParameters W) (requests : List (OpeningRequest ID E)) where
-  -- the answer, values and a proof, is an opening from the one challenger, which leaves the other
+  -- the result, values and a proof, is an opening from the one challenger, which leaves the other
   abbrev pub IsOpeningBy : {IE WE : Type 0} → I → C
       → Vec (Vec (Vec (Vec E Global) Global) Global) Global
       × CirclePcsProof F E I W F IC ID IP IE WC WD WP WE → C → Type 0
@@ -48,7 +48,7 @@ module _ {C S F E I IC ID IP W WC WD WP : Type 0} (o : Schemes C S F E I IC ID I
   IsFailureFrom old e =
       IsFailure o.fields o.run p (o.WordCommits p.mmcs) o.kept requests (o.run.base.state old) e
 
-  -- the same of the run, once the values are known
+  -- likewise for the run, once the values are known
   module _ (values : List (Vec (Vec (Vec E Global) Global) Global)) where
     abbrev pub AreWordsFor : CommittedWords F E WC WD → Type 0
     AreWordsFor words =

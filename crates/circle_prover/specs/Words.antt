@@ -44,20 +44,20 @@ pub record AreCommitted {E Com : Type 0} (Commits : List (RowMajorMatrix E) → 
 
 module _ {F E : Type 0} (k : Fields F E) (heights : List ℕ) (folded : ℕ → List E) (h : ℕ)
     (first betas : List E) where
-  -- the words of the rounds, from one of 2^h entries on: each is the fold by x of the one before,
-  -- joined by what was folded from the height that is due
+  -- the codewords of the rounds, from one of 2^h entries on: each is the fold by x of the one
+  -- before, joined by what was folded from the height that is due
   abbrev pub word_at : ℕ → List E
   word_at zero = first
   word_at (suc n) =
       next_word k heights folded (h - n) (slice_index_or betas n k.extension.zero) (word_at n)
 
--- words have this commitment
+-- codewords have this commitment
 abbrev pub IsCommitmentOf : {E Com : Type 0} → (List (RowMajorMatrix E) → Com → Type 0)
     → List (List (List E)) → Com → Type 0
 IsCommitmentOf {E = E} Commits words commitment =
     (kept : List (RowMajorMatrix E)) × AreCommitted Commits words kept commitment
 
--- each of the words, from the first on, is committed to alone, by pairs
+-- each of the codewords, from the first on, is committed to alone, by pairs
 pub record AreRounds {E D Com : Type 0} (Commits : List (RowMajorMatrix E) → Com → Type 0)
     (matrices : D → List (RowMajorMatrix E)) (word : ℕ → List E) (kept : List D)
     (commitments : List Com) : Type 0 where
@@ -66,10 +66,10 @@ pub record AreRounds {E D Com : Type 0} (Commits : List (RowMajorMatrix E) → C
       → slice_get commitments n ≡ Some commitment
       → AreCommitted Commits (pairs_of (word n) ∷ []) (matrices d) commitment
 
--- the words of an opening under its challenges
+-- the codewords of an opening under its challenges
 module _ {F E : Type 0} (k : Fields F E) (blowup : ℕ) (matrices : List (Committed F E))
     (alpha : E) where
-  -- the word of a height in the first layer, as rows of two
+  -- the codeword of a height in the first layer, as rows of two
   abbrev pub layer_of : ℕ → List (List E)
   layer_of h = pairs_of (corrected_word k alpha matrices blowup h)
 
@@ -77,19 +77,19 @@ module _ {F E : Type 0} (k : Fields F E) (blowup : ℕ) (matrices : List (Commit
   abbrev pub first_fold : E → ℕ → List E
   first_fold bivariate h = y_folds k.field k.gen k.extension k.embed (h - 1) bivariate (layer_of h)
 
-  -- the word of a round
+  -- the codeword of a round
   abbrev pub round_word : E → List E → ℕ → List E
   round_word bivariate betas =
       let top = top_of matrices in
       let fold = first_fold bivariate in
       word_at k (heights_of matrices) fold (top - 1) (fold top) betas
 
-  -- the word that the rounds end in where folding stops at 2^final coefficients
+  -- the codeword that the rounds end in where folding stops at 2^final coefficients
   abbrev pub last_word : ℕ → E → List E → List E
   last_word final bivariate betas =
       round_word bivariate betas (top_of matrices - 1 - blowup - final)
 
--- under some challenges that word is not the values of a polynomial with 2^final coefficients
+-- under some challenges that codeword is not the values of a polynomial with 2^final coefficients
 pub record EndsHigh {F E : Type 0} (k : Fields F E) (blowup final : ℕ)
     (matrices : List (Committed F E)) : Type 0 where
   pub alpha : E
@@ -108,7 +108,8 @@ pub record HavePlayed {C S F E Com : Type 0} (r : RunMoves C S F E Com) (bits : 
   pub challenges : betas ≡ fold_challenges r bits begun rounds
   pub state : now ≡ after_rounds r bits begun rounds
 
--- what was made and committed to are the words of an opening under the challenges that were drawn
+-- what was made and committed to are the codewords of an opening under the challenges that were
+-- drawn
 pub record AreWordsOf {F E Com D : Type 0} (k : Fields F E) (blowup final : ℕ)
     (Commits : List (RowMajorMatrix E) → Com → Type 0) (kept_of : D → List (RowMajorMatrix E))
     (matrices : List (Committed F E)) (w : CommittedWords F E Com D) : Type 0 where
@@ -131,7 +132,7 @@ pub record AreWordsOf {F E Com D : Type 0} (k : Fields F E) (blowup final : ℕ)
       (length w.commitments.items))
       w.final_poly.items
 
--- what a run takes in, of its claims and of what was committed to
+-- what a run absorbs, of its claims and of what was committed to
 abbrev pub taken_in : {F E Com D : Type 0} → List (Claim E) → CommittedWords F E Com D
     → Taken F E Com
 taken_in claims w =
@@ -144,8 +145,8 @@ AreTall p matrices =
     (1 ≤ length matrices)
     × All (λ m. p.log_blowup + p.log_final_poly_len + 2 ≤ m.log_height) matrices
 
--- the words of the first layer that matrices with their points and values there have, committed to;
--- what layers, kept by a committer, fold into by y
+-- the codewords of the first layer that matrices with their points and values there have, committed
+-- to; what layers, kept by a committer, fold into by y
 module _ {F E : Type 0} (k : Fields F E) where
   abbrev pub AreLayers : {D Com : Type 0} → (D → List (RowMajorMatrix E))
       → (List (RowMajorMatrix E) → Com → Type 0) → List (OpenedMatrix F E) → ℕ → E → List ℕ → D
@@ -157,15 +158,15 @@ module _ {F E : Type 0} (k : Fields F E) where
   folded_layers bivariate heights layers =
       pairwise (y_folded k bivariate) heights (map rows layers)
 
--- whatever these words are folded from, by the heights
+-- whatever these codewords are folded from, by the heights
 module _ {F E : Type 0} (k : Fields F E) (heights : List ℕ) (folded : List (Vec E Global)) where
-  -- this is the word that follows one of 2^h entries
+  -- this is the codeword that follows one of 2^h entries
   abbrev pub Follows : ℕ → E → List E → List E → Type 0
   Follows h beta word next =
       (f : ℕ → List E) → map (λ w. w.items) folded ≡ map f heights →
       next ≡ next_word k heights f h beta word
 
-  -- this is the word after so many rounds that begin with one of 2^h entries
+  -- this is the codeword after `count` rounds that begin with one of 2^h entries
   abbrev pub EndsIn : ℕ → List E → List E → ℕ → List E → Type 0
   EndsIn h first betas count word =
       (f : ℕ → List E) → map (λ w. w.items) folded ≡ map f heights →
@@ -187,19 +188,20 @@ ArePlayed r old new rounds =
     (r.base.state (current new)) (zip rounds.commitments.items rounds.witnesses.items)
     (map r.base.coefficients rounds.betas.items)
 
--- so many rounds leave the coefficients at which folding stops
+-- this many rounds leave the coefficients at which folding stops
 abbrev pub rounds_for : {F E M : Type 0} → FriParameters M → List (OpenedMatrix F E) → ℕ
 rounds_for p matrices =
     greatest (map (λ m. m.log_height) matrices) - 1 - p.log_blowup - p.log_final_poly_len
 
--- what was made are the words of these matrices, under parameters and the scheme of the words
+-- what was made are the codewords of these matrices, under parameters and the scheme of the
+-- codewords
 abbrev pub AreMade : {F E M Com D : Type 0} → Fields F E
     → (M → List (RowMajorMatrix E) → Com → Type 0) → (D → List (RowMajorMatrix E))
     → FriParameters M → List (Committed F E) → CommittedWords F E Com D → Type 0
 AreMade k Commits kept_of p matrices words =
     AreWordsOf k p.log_blowup p.log_final_poly_len (Commits p.mmcs) kept_of matrices words
 
--- what was made are the words of some matrices that leave something to fold
+-- what was made are the codewords of some matrices that leave something to fold
 abbrev pub AreSomeWords : {F E M Com D : Type 0} → Fields F E
     → (M → List (RowMajorMatrix E) → Com → Type 0) → (D → List (RowMajorMatrix E))
     → FriParameters M → CommittedWords F E Com D → Type 0

@@ -1,5 +1,5 @@
-//! Requested matrices with the values that are answered, as an opening and its transcript take
-//! them in.
+//! Requested matrices with the values that are returned, as an opening and its transcript absorb
+//! them.
 ghost use Rattle.std.specs.Prelude.{ℕ, ◌≡◌, ◌<◌, ◌≤◌, ◌++◌, All, IfOk, OnOk};
 ghost use Rattle.std.specs.Prelude.{length, map, flat_map};
 ghost use Rattle.std.specs.List.{AllZip};
@@ -62,7 +62,7 @@ fn push_matrices<'a, F: ComplexExtendable, EF: ExtensionField<F>>(
 
 /// All requested matrices with their values, one after another.
 ///
-/// Asks requests that can be opened, and the values that are answered. Fails where memory is
+/// Requires requests that can be opened, and the values that are returned. Fails where memory is
 /// refused.
 pub(crate) fn opened_matrices<'a, F: ComplexExtendable, EF: ExtensionField<F>, M: Mmcs<F>>(
     alloc: Global,
@@ -90,7 +90,7 @@ pub(crate) fn opened_matrices<'a, F: ComplexExtendable, EF: ExtensionField<F>, M
 
 /// A number above that of every matrix's columns.
 ///
-/// Asks matrices of some row each.
+/// Requires matrices of some row each.
 pub(crate) fn above_widths<F: Copy, EF>(matrices: &[OpenedMatrix<F, EF>]) -> usize
     requires { All (λ m. 1 ≤ height_of m.rows.now) matrices.now }
     ensures { All (λ m. width_of m.rows.now < result) matrices.now }
@@ -120,7 +120,7 @@ fn append_claims<'a, EF: Field>(
 
 /// The claims on all matrices as the transcript takes them in, one after another.
 ///
-/// Asks points that are not at infinity. Fails where memory is refused.
+/// Requires points that are not at infinity. Fails where memory is refused.
 pub(crate) fn opened_claims<'a, F: Copy, EF: Field>(
     alloc: Global,
     matrices: &[OpenedMatrix<'a, F, EF>],

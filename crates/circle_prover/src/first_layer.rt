@@ -19,22 +19,25 @@ use std::alloc::{AllocError, Global};
 /// The first layer of an opening.
 #[derive(Drop)]
 pub(crate) struct FirstLayer<EF, Com, Data> {
-    /// For each height, from the least up, the multiple of the vanishing polynomial in its word.
+    /// For each height, from the least up, the multiple of the vanishing polynomial in its
+    /// codeword.
     pub lambdas: Vec<EF>,
-    /// The commitment to the words without it.
+    /// The commitment to the codewords without it.
     pub commitment: Com,
     /// What the committer keeps of them.
     pub kept: Data,
 }
 
-/// Makes the words of all heights, and commits to them by pairs.
+/// Makes the codewords of all heights, and commits to them by pairs.
 ///
 /// The first layer has a commitment of its own, apart from the rounds: its pairs are at opposite
-/// points and fold by y, where those of rounds fold by x; and it has the words of all heights, so
-/// that those that join a later round are fixed too before the one challenge that folds them all.
+/// points and fold by y, where those of rounds fold by x; and it has the codewords of all heights,
+/// so that those that join a later round are fixed too before the one challenge that folds them
+/// all.
 ///
-/// Asks `log_blowup >= 1`, some height, heights above the blowup and below `CIRCLE_TWO_ADICITY`,
-/// and matrices that can be opened by so many powers. Fails where memory is refused.
+/// Requires `log_blowup >= 1`, some height, heights above the blowup and below
+/// `CIRCLE_TWO_ADICITY`, and matrices that can be opened by these powers. Fails where memory is
+/// refused.
 pub(crate) fn commit_first_layer<F: ComplexExtendable, EF: ExtensionField<F>, M: Mmcs<EF>>(
     alloc: Global,
     mmcs: &M,
@@ -65,10 +68,10 @@ pub(crate) fn commit_first_layer<F: ComplexExtendable, EF: ExtensionField<F>, M:
     })
 }
 
-/// What the word of the greatest height folds into by y, and what those of the others do.
+/// What the codeword of the greatest height folds into by y, and what those of the others do.
 ///
-/// Asks some height, heights below `CIRCLE_TWO_ADICITY`, and a layer of half as many rows of two
-/// for each. Fails where memory is refused.
+/// Requires some height, heights below `CIRCLE_TWO_ADICITY`, and a layer of half as many rows of
+/// two for each. Fails where memory is refused.
 pub(crate) fn fold_first_layer<F: ComplexExtendable, EF: ExtensionField<F>, M: Mmcs<EF>>(
     alloc: Global,
     mmcs: &M,
@@ -89,10 +92,11 @@ pub(crate) fn fold_first_layer<F: ComplexExtendable, EF: ExtensionField<F>, M: M
     Ok((tallest, folded))
 }
 
-/// The coefficients of the polynomial whose values the last word is. Refuses `LastWordNotConstant`
-/// where there is none of so few coefficients, and `Memory` where memory is refused.
+/// The coefficients of the polynomial whose values the last codeword is. Refuses
+/// `LastWordNotConstant` where there is none of so few coefficients, and `Memory` where memory is
+/// refused.
 ///
-/// Asks a word of `2^m` entries with `log_len <= m` and `m + 2 <= CIRCLE_TWO_ADICITY`.
+/// Requires a codeword of `2^m` entries with `log_len <= m` and `m + 2 <= CIRCLE_TWO_ADICITY`.
 pub(crate) fn final_coefficients<F: ComplexExtendable, EF: ExtensionField<F>>(
     alloc: Global,
     word: &[EF],

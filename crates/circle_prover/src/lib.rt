@@ -1,4 +1,4 @@
-//! The opening of committed matrices at points, once their values there are known: the words of
+//! The opening of committed matrices at points, once their values there are known: the codewords of
 //! Circle STARKs (IACR ePrint 2024/278, sections 4 and 6) are made, committed to and folded under
 //! the challenges that the transcript draws from their commitments.
 //!
@@ -24,29 +24,37 @@
 //!                   2 entries                              the values of the final polynomial
 //! ```
 //!
-//! - In `src/`, `prove` has the whole: `values` for the values, `claims` and `heights` for what is
-//!   requested, `run` for the run of the transcript, with `first_layer` and `rounds` in it, and
-//!   `openings` for the rows and siblings at the queries. `schemes` is what contracts see of the
-//!   fields, the challenger and the schemes.
-//! - In `specs/`, `Opening` says what is answered, by `Words`, the words under the challenges and
-//!   what is committed to; `Failure` why a run comes to no end, `Schemes` the whole by the schemes.
-//! - In `proofs/`, `Growing`, `Lengths` and `FoldedLengths` are of words, `Tops` and `Seen` of
-//!   heights, `Counts` and `Stuck` of the transcript, `Asked`, `Answered` and
-//!   `Requested` of requested matrices as claims, `Held` and `OpenedPairs` of what a proof holds
-//!   and opens. The folders have what is proved of the functions of the file of that name.
+//! Before the challenger is seeded, `validate_requests` refuses requests by tests in order: it
+//! returns the first refusal that there is reason for, and allocates nothing.
+//!
+//! - In `src/`, `requests` tests what is requested. `prove` has the whole opening: `values` for the
+//!   values, `claims` and `heights` for what is requested, `run` for the run of the transcript,
+//!   with `first_layer` and `rounds` in it, and `openings` for the rows and siblings at the
+//!   queries. `schemes` is what contracts see of the fields, the challenger and the schemes.
+//! - In `specs/`, `Requesting`: the tests of requests, in order. `Opening` says what is returned,
+//!   by `Words`, the codewords under the challenges and what is committed to; `Failure` why a run
+//!   fails, `Schemes` the whole by the schemes.
+//! - In `proofs/`, `CommittedHeights`, `OnDomain`, `RequestLists` and `Unrefused` are of the tests,
+//!   `Growing`, `Lengths` and `FoldedLengths` of codewords, `Tops` and `Seen` of heights, `Counts`
+//!   and `Stuck` of the transcript, `Asked`, `Answered` and `Requested` of requested matrices as
+//!   claims, `Held` and `OpenedPairs` of what a proof holds and opens. The folders have what is
+//!   proved of the functions of the file of that name.
 #![tactic(auto)]
 
 mod claims;
 mod first_layer;
-mod heights;
+pub mod heights;
 mod openings;
 pub mod prove;
+pub mod requests;
 mod rounds;
 pub mod run;
 mod schemes;
 mod values;
 
 pub use circle_relation::ProverError;
+pub use heights::{log_min_trace_height, validate_height, validate_heights};
 pub use prove::open_requests;
+pub use requests::validate_requests;
 pub use run::CommittedWords;
 pub use schemes::OpeningOver;

@@ -1,4 +1,4 @@
-//! Committed rows at the queries, and the entries beside those that the queries ask for.
+//! Committed rows at the queries, and the siblings of the entries there.
 ghost use Rattle.std.specs.Prelude.{◌≡◌, ℕ, ◌≤◌, ◌<◌, ◌-◌, ◌+◌, ◌*◌, ◌^◌, [], ◌∷◌, length, map};
 ghost use Rattle.std.specs.Prelude.{All, Some};
 ghost use Rattle.std.specs.Prelude.{IfOk, slice_get};
@@ -14,11 +14,11 @@ use circle_folding::without_bits;
 use circle_relation::CircleCommitPhaseMultiStep;
 use std::alloc::{AllocError, Global};
 
-/// The rows of committed matrices at the queries without so many of their lowest bits, with a proof
+/// The rows of committed matrices at the queries without their lowest `bits` bits, with a proof
 /// that they are theirs.
 ///
-/// Asks some query, each below the greatest height times `2^bits`, `bits <= 62`, and heights that
-/// are powers of two. Fails where memory is refused.
+/// Requires some query, each below the greatest height times `2^bits`, `bits <= 62`, and heights
+/// that are powers of two. Fails where memory is refused.
 pub(crate) fn open_rows<T: Copy, M: Mmcs<T>>(
     alloc: Global,
     mmcs: &M,
@@ -37,7 +37,7 @@ pub(crate) fn open_rows<T: Copy, M: Mmcs<T>>(
     mmcs.open_multi_batch(alloc, &places, kept)
 }
 
-// The entries beside those that a query asks for, in rows of two.
+// The siblings of the entries at a query, in rows of two.
 fn siblings_of<EF: Field>(
     alloc: Global,
     log_max_height: usize,
@@ -83,11 +83,11 @@ fn all_siblings<EF: Field>(
     Ok(siblings)
 }
 
-/// Of the rows of words, by pairs, at the queries without so many of their lowest bits, the entries
-/// beside those that the queries ask for, with a proof of the rows.
+/// Of the rows of codewords, by pairs, at the queries without their lowest `bits` bits, the
+/// siblings of the queries' entries, with a proof of the rows.
 ///
-/// Asks some query, each below `2^log_max_height`, `bits <= log_max_height <= 62`, for each of the
-/// heights a matrix of half as many rows of two, and `2^(log_max_height - bits)` rows of the
+/// Requires some query, each below `2^log_max_height`, `bits <= log_max_height <= 62`, for each of
+/// the heights a matrix of half as many rows of two, and `2^(log_max_height - bits)` rows of the
 /// greatest. Fails where memory is refused.
 pub(crate) fn open_siblings<EF: Field, M: Mmcs<EF>>(
     alloc: Global,
@@ -113,12 +113,12 @@ pub(crate) fn open_siblings<EF: Field, M: Mmcs<EF>>(
     Ok((siblings, proof))
 }
 
-/// For each round the entries beside those that the queries ask for in its word, with a proof of
-/// the rows that these fall into. The word of round r, from 0 on, has `2^(log_max_height - 1 - r)`
-/// entries, and a query asks for the entry at its place without the lowest `r + 1` bits.
+/// For each round the siblings of the queries' entries in its codeword, with a proof of the rows
+/// that these fall into. The codeword of round r, from 0 on, has `2^(log_max_height - 1 - r)`
+/// entries, and a query reads the entry at its place without the lowest `r + 1` bits.
 ///
-/// Asks some query, each below `2^log_max_height`, `log_max_height <= 62`, at most
-/// `log_max_height - 2` rounds, and of each its word alone, by pairs. Fails where memory is
+/// Requires some query, each below `2^log_max_height`, `log_max_height <= 62`, at most
+/// `log_max_height - 2` rounds, and of each its codeword alone, by pairs. Fails where memory is
 /// refused.
 pub(crate) fn open_rounds<EF: Field, M: Mmcs<EF>>(
     alloc: Global,

@@ -108,7 +108,7 @@ fn open_inputs<Val: ComplexExtendable, EF: Field, InputMmcs: Mmcs<Val>>(
     Ok(openings)
 }
 
-// The proof that holds what was committed to, and what the queries ask for.
+// The proof that holds what was committed to, and what is opened at the queries.
 fn prove_words<
     Val: ComplexExtendable,
     EF: ExtensionField<Val>,
@@ -182,10 +182,10 @@ fn prove_words<
 /// Opens requested matrices: their values at the points, and a proof that a verifier accepts where
 /// the matrices are of low degree (Circle STARKs, IACR ePrint 2024/278, sections 4 to 6).
 ///
-/// Asks supported parameters, a request, some matrix in each, and matrices that can be opened at
-/// their points and leave something to fold. Refuses `NoGrindingWitness` of a phase where no
-/// witness passes, `LastWordNotConstant` where the last word is of too high degree, as some matrix
-/// of fewer than 1024 columns is, and `Memory` where memory is refused.
+/// Requires supported parameters, a request, some matrix in each, and matrices that can be opened
+/// at their points and leave something to fold. Refuses `NoGrindingWitness` of a phase where no
+/// witness passes, `LastWordNotConstant` where the last codeword is of too high degree, as some
+/// matrix of fewer than 1024 columns is, and `Memory` where memory is refused.
 pub fn open_requests<
     Val: ComplexExtendable,
     EF: ExtensionField<Val>,

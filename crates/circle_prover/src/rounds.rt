@@ -1,5 +1,5 @@
-//! The rounds of an opening: each word is committed to, a challenge is drawn, and the word is
-//! folded by it.
+//! The rounds of an opening: each codeword is committed to, a challenge is drawn, and the codeword
+//! is folded by it.
 ghost use Rattle.std.specs.Prelude.{◌≡◌, ℕ, ◌≤◌, ◌-◌, ◌+◌, ◌^◌, ◌++◌, [], ◌∷◌, length, map, All};
 ghost use Rattle.std.specs.Prelude.{IsTrue, IfOk, IfErr, OnOk, Some};
 ghost use Rattle.circle_challenger.specs.Due.{AreNext, HasPlayed};
@@ -24,7 +24,7 @@ use std::alloc::{AllocError, Global};
 /// A round that was played.
 #[derive(Drop)]
 pub(crate) struct Round<F, EF, Com, Data> {
-    /// The commitment to its word.
+    /// The commitment to its codeword.
     pub commitment: Com,
     /// What the committer keeps of it.
     pub kept: Data,
@@ -32,14 +32,14 @@ pub(crate) struct Round<F, EF, Com, Data> {
     pub witness: F,
     /// The folding challenge.
     pub beta: EF,
-    /// The word that the round leaves.
+    /// The codeword that the round leaves.
     pub next: Vec<EF>,
 }
 
 /// The rounds that were played so far, each by its place.
 #[derive(Drop)]
 pub(crate) struct Rounds<F, EF, Com, Data> {
-    /// The commitments to their words.
+    /// The commitments to their codewords.
     pub commitments: Vec<Com>,
     /// What the committer keeps of them.
     pub kept: Vec<Data>,
@@ -49,7 +49,7 @@ pub(crate) struct Rounds<F, EF, Com, Data> {
     pub betas: Vec<EF>,
 }
 
-// Commits to a word, by pairs. Asks a number of entries that is a power of two, and even.
+// Commits to a codeword, by pairs. Requires a number of entries that is a power of two, and even.
 fn commit_word<EF: Field, M: Mmcs<EF>>(
     alloc: Global,
     mmcs: &M,
@@ -65,10 +65,10 @@ fn commit_word<EF: Field, M: Mmcs<EF>>(
     mmcs.commit(alloc, words)
 }
 
-/// Plays the round of a word of `2^log_height` entries.
+/// Plays the round of a codeword of `2^log_height` entries.
 ///
-/// Asks that its steps are the next, a difficulty of at most 63, `1 <= log_height` and
-/// `log_height + 2 <= CIRCLE_TWO_ADICITY`, and for each of the heights a word of half as many
+/// Requires that its steps are the next, a difficulty of at most 63, `1 <= log_height` and
+/// `log_height + 2 <= CIRCLE_TWO_ADICITY`, and for each of the heights a codeword of half as many
 /// entries. Refuses `NoGrindingWitness` where no witness passes, and `Memory` where memory is
 /// refused.
 fn play_round<'a, F: ComplexExtendable, EF: ExtensionField<F>, M: Mmcs<EF>, C>(
@@ -123,7 +123,7 @@ where
     })
 }
 
-// No rounds, with room for so many.
+// No rounds, with room for `capacity` of them.
 fn no_rounds<F: Field, EF: Field, Com: Drop, Data: Drop>(
     alloc: Global,
     capacity: usize,
@@ -141,7 +141,7 @@ fn no_rounds<F: Field, EF: Field, Com: Drop, Data: Drop>(
     })
 }
 
-// Adds a round to those that were played, and answers the word that it leaves.
+// Adds a round to those that were played, and returns the codeword that it leaves.
 fn add_round<F: Field, EF: Field, Com: Drop, Data: Drop>(
     rounds: &mut Rounds<F, EF, Com, Data>,
     round: Round<F, EF, Com, Data>,
@@ -162,11 +162,11 @@ fn add_round<F: Field, EF: Field, Com: Drop, Data: Drop>(
     Ok(round.next)
 }
 
-/// Plays so many rounds, the first of a word of `2^log_height` entries.
+/// Plays `num_rounds` rounds, the first of a codeword of `2^log_height` entries.
 ///
-/// Asks that their steps are the next, a difficulty of at most 63, no more rounds than
-/// `log_height`, `log_height + 2 <= CIRCLE_TWO_ADICITY`, and for each of the heights a word of half
-/// as many entries. Refuses `NoGrindingWitness` where a round has no witness that passes, and
+/// Requires that their steps are the next, a difficulty of at most 63, no more rounds than
+/// `log_height`, `log_height + 2 <= CIRCLE_TWO_ADICITY`, and for each of the heights a codeword of
+/// half as many entries. Refuses `NoGrindingWitness` where a round has no witness that passes, and
 /// `Memory` where memory is refused.
 pub(crate) fn play_rounds<'a, F: ComplexExtendable, EF: ExtensionField<F>, M: Mmcs<EF>, C>(
     alloc: Global,

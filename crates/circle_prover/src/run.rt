@@ -36,17 +36,18 @@ pub struct CommittedWords<F, EF, Com, Data> {
     pub draws: CircleDraws<EF>,
     /// The witnesses of the proofs of work, 0 where there is no difficulty.
     pub witnesses: CircleWitnesses<F>,
-    /// For each height, from the least up, the multiple of the vanishing polynomial in its word.
+    /// For each height, from the least up, the multiple of the vanishing polynomial in its
+    /// codeword.
     pub lambdas: Vec<EF>,
     /// The commitment to the first layer.
     pub first_commitment: Com,
     /// What the committer keeps of it.
     pub first_kept: Data,
-    /// For each round the commitment to its word.
+    /// For each round the commitment to its codeword.
     pub commitments: Vec<Com>,
-    /// For each round what the committer keeps of its word.
+    /// For each round what the committer keeps of its codeword.
     pub kept: Vec<Data>,
-    /// The coefficients of the polynomial whose values the last word is.
+    /// The coefficients of the polynomial whose values the last codeword is.
     pub final_poly: Vec<EF>,
 }
 
@@ -150,15 +151,15 @@ where
     })
 }
 
-/// Seeds the challenger with the shape of the run, takes in the claims, makes the words of the
+/// Seeds the challenger with the shape of the run, absorbs the claims, makes the codewords of the
 /// matrices and commits to them, and draws the challenges. Refuses `NoGrindingWitness` of a phase
-/// where no witness passes, `LastWordNotConstant` where the last word is of too high degree, and
-/// `Memory` where memory is refused.
+/// where no witness passes, `LastWordNotConstant` where the last codeword is of too high degree,
+/// and `Memory` where memory is refused.
 ///
-/// Asks claims of the described numbers of values, the shape's rounds to be those of the matrices'
-/// greatest height and the parameters, difficulties and a number of bits of an index of at most 63,
-/// `log_blowup >= 1`, some matrix, heights that leave something to fold, and matrices that can be
-/// opened by so many powers.
+/// Requires claims of the described numbers of values, the shape's rounds to be those of the
+/// matrices' greatest height and the parameters, difficulties and a number of bits of an index of
+/// at most 63, `log_blowup >= 1`, some matrix, heights that leave something to fold, and matrices
+/// that can be opened by these powers.
 pub(crate) fn open_words<F: ComplexExtendable, EF: ExtensionField<F>, M: Mmcs<EF>, C>(
     alloc: Global,
     challenger: &mut C,

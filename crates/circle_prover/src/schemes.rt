@@ -8,7 +8,7 @@ use circle_commit::Mmcs;
 use circle_field::{ComplexExtendable, ExtensionField};
 use circle_relation::OverCircle;
 
-/// The fields, the challenger, the scheme of the batches and that of the words, for contracts
+/// The fields, the challenger, the scheme of the batches and that of the codewords, for contracts
 /// alone: a clause cites `⟦<C as OpeningOver<Val, EF, InputMmcs, FriMmcs>>⟧.schemes`.
 pub trait OpeningOver<
     Val: ComplexExtendable,

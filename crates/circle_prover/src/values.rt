@@ -46,8 +46,8 @@ fn batch_values<F: ComplexExtendable, EF: ExtensionField<F>>(
 /// (Circle STARKs, section 4.3). What depends on a height and a point alone is made once for all
 /// matrices.
 ///
-/// Asks a list of points for each matrix, heights that leave something without the blowup and that
-/// the group has domains for, and domains that are clear of the points. Fails where memory is
+/// Requires a list of points for each matrix, heights that leave something without the blowup and
+/// that the group has domains for, and domains that are clear of the points. Fails where memory is
 /// refused.
 pub(crate) fn requested_values<F: ComplexExtendable, EF: ExtensionField<F>, M: Mmcs<F>>(
     alloc: Global,

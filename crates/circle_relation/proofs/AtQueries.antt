@@ -1,4 +1,4 @@
--- What is asked for at each query, as lists.
+-- What is opened at each query, as lists.
 use Rattle.std.specs.Prelude.{◌≡◌, ℕ, ◌+◌, ◌<◌, List, [], ◌∷◌, length, map, zip, slice_index_or}
 use Rattle.std.specs.List.{range_with_len}
 use Rattle.std.proofs.Common.{zero, suc, refl, sym, ◌∙◌, ap, arith}

@@ -1,9 +1,11 @@
+pub mod Answering
 pub mod AtQueries
 pub mod Contradictions
 pub mod Described
 pub mod Ends
 pub mod Kept
 pub mod Pairs
+pub mod Passed
 pub mod ReducedSums
 pub mod Results
 pub mod Shown

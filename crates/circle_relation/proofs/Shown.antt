@@ -1,4 +1,4 @@
--- What a scheme is asked to show, over lists that are the same.
+-- What a scheme is to show, over lists that are the same.
 use Rattle.std.proofs.Common.{◌≡◌, ℕ, ◌-◌, ◌/◌, ◌^◌, List, map, ap, subst, ◌∙◌}
 use Rattle.circle_commit.specs.declared.matrix.Dimensions.{Dimensions}
 use Rattle.circle_relation.specs.Accepts.{Authenticates}

@@ -1,10 +1,11 @@
 -- When a verifier accepts: Circle STARKs (ePrint 2024/278), sections 4 to 6, as a relation between
 -- claims, a proof and the challenges that are drawn.
 --
--- Four words are needed to trust an Ok: `Accepts`, at the end of this page, whose parts (a) to (h)
--- but (d) stand above it; `Statement`, beside this page, which says what claims and a proof are;
--- `draw` of `circle_transcript`, which says what a transcript draws of them; and `AcceptsFrom`,
--- below `Accepts`, which joins the two: what is drawn from a challenger's state (d) is accepted.
+-- Four definitions are needed to trust an Ok: `Accepts`, at the end of this page, whose parts (a)
+-- to (h) but (d) stand above it; `Statement`, beside this page, which says what claims and a proof
+-- are; `draw` of `circle_transcript`, which says what a transcript draws of them; and
+-- `AcceptsFrom`, below `Accepts`, which joins the two: what is drawn from a challenger's state (d)
+-- is accepted.
 use Rattle.std.specs.Prelude.{◌≡◌, ◌≢◌, ℕ, ◌+◌, ◌-◌, ◌/◌, ◌^◌, ◌<◌, ◌≤◌, Bool, ◌==◌}
 use Rattle.std.specs.Prelude.{if◌then◌else◌, List, [], ◌∷◌, length, map, zip, All}
 use Rattle.std.specs.Prelude.{slice_index_or, nat_lt, Ok}
@@ -116,14 +117,14 @@ module _ {F E M Com InputCom InputProof WordProof : Type 0} (k : Fields F E)
     abbrev pub joining : ℕ → E
     joining h = if is_claimed h then folded h else k.extension.zero
 
-    -- its sibling in the word of a round
+    -- its sibling in the codeword of a round
     abbrev pub sibling_in : ℕ → E
     sibling_in round =
         let siblings = slice_index_or (map (λ o. o.entries) r.proof.rounds_opened) round [] in
         slice_index_or (slice_index_or siblings j []) 0 k.extension.zero
 
-    -- its value in the word of a round: that of the greatest height in the first round, then the
-    -- fold of the pair of the round before, and the height that joins there
+    -- its value in the codeword of a round: that of the greatest height in the first round, then
+    -- the fold of the pair of the round before, and the height that joins there
     abbrev pub round_value : ℕ → E
     round_value zero = folded top
     round_value (suc n) =
@@ -132,11 +133,11 @@ module _ {F E M Com InputCom InputProof WordProof : Type 0} (k : Fields F E)
         let twiddle = round_twiddle k.field k.gen top n q in
         k.extension.add (fold_pair k.extension beta (k.embed twiddle) pair) (joining (top - 1 - n))
 
-    -- its pair in the word of a round
+    -- its pair in the codeword of a round
     abbrev pub round_pair : ℕ → List E
     round_pair n = pair_of (q / 2 ^ (n + 1)) (round_value n) (sibling_in n)
 
-    -- the x coordinate of its entry of the last word, and the final polynomial's value there
+    -- the x coordinate of its entry of the last codeword, and the final polynomial's value there
     abbrev pub last_x : F
     last_x =
         let m = params.log_blowup + params.log_final_poly_len in
@@ -146,11 +147,11 @@ module _ {F E M Com InputCom InputProof WordProof : Type 0} (k : Fields F E)
     abbrev pub final_value : E
     final_value = x_value k.extension r.proof.final_poly (k.embed last_x)
 
-  -- pairs, so many
+  -- `height` pairs
   abbrev pub pairs : ℕ → Dimensions
   pairs height = record { width = 2; height = height }
 
-  -- the queries with their places, and what is asked for at each
+  -- the queries with their places, and what is opened at each
   abbrev pub placed_queries : List (ℕ × ℕ)
   placed_queries = zip (range_with_len 0 (length r.drawn.queries)) r.drawn.queries
 
@@ -181,7 +182,7 @@ module _ {F E M Com InputCom InputProof WordProof : Type 0} (k : Fields F E)
       × All (λ rows. (length rows ≡ length p.0.matrices)
       × All IsAsLongAsClaims (zip p.0.matrices rows)) p.1.entries
 
-  -- so many siblings at each query
+  -- `count` siblings at each query
   abbrev pub HasSiblings : ℕ → Opened (List E) WordProof → Type 0
   HasSiblings count o =
       (length o.entries ≡ length r.drawn.queries)
@@ -263,7 +264,7 @@ module _ {F E M Com InputCom InputProof WordProof : Type 0} (k : Fields F E)
   ChainsEnd = All (λ p. round_value p.0 p.1 rounds ≡ final_value p.0 p.1) placed_queries
 
   -- what the relation says of a run once its challenges are drawn, under the schemes of the batches
-  -- and of the words
+  -- and of the codewords
   pub record HoldsWith (inputs : Authenticates InputCom F InputProof)
       (words : Authenticates Com E WordProof) : Type 0 where
     pub inputs_authenticate : InputsAuthenticate inputs

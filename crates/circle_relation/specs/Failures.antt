@@ -1,4 +1,4 @@
--- What a prover answers where its transcript fails.
+-- What a prover returns where its transcript fails.
 use Rattle.circle_relation.specs.declared.error.ProverError.{ProverError}
 use Rattle.circle_relation.specs.declared.error.ProverError.TheVariants.{Memory, NoGrindingWitness}
 use Rattle.circle_transcript.specs.declared.failure.CircleTranscriptFailure.{CircleTranscriptFailure}
@@ -6,7 +6,7 @@ use Rattle.circle_transcript.specs.declared.failure.CircleTranscriptFailure.TheV
 use Rattle.circle_transcript.specs.declared.failure.CircleTranscriptFailure.TheVariants.{NoWitness}
 use Rattle.circle_transcript.specs.declared.failure.CircleTranscriptFailure.TheVariants.{Memory as OutOfMemory}
 
--- the refusal by which a transcript's failure is answered
+-- the refusal that a transcript's failure is returned as
 abbrev pub prover_error : CircleTranscriptFailure → ProverError
 prover_error (PowWitness phase bits) = NoGrindingWitness phase
 prover_error (NoWitness phase bits) = NoGrindingWitness phase

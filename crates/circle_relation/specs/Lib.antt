@@ -8,3 +8,4 @@ pub mod RunOf
 pub mod Rows
 pub mod Named
 pub mod Failures
+pub mod TestsInOrder

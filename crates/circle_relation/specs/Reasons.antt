@@ -28,8 +28,8 @@ module _ {F E M Com InputCom InputProof WordProof : Type 0} (k : Fields F E)
     pub here : slice_get of.matrices matrix ≡ Some claim
     pub none : claim.claims ≡ []
 
-  -- a domain is claimed on which nothing is left to fold: the first layer's fold of such a word has
-  -- as many entries as the last word
+  -- a domain is claimed on which nothing is left to fold: the first layer's fold of such a codeword
+  -- has as many entries as the last codeword
   pub record IsLeftOver (next_log_height remaining : ℕ) : Type 0 where
     pub next : next_log_height ≡ params.log_blowup + params.log_final_poly_len
     pub one : remaining ≡ 1

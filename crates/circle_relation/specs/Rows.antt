@@ -35,7 +35,7 @@ fields = record {
   same = λ a b. a == b;
 }
 
--- the blowup is 2, there are three queries, and folding goes on to so many coefficients
+-- the blowup is 2, there are three queries, and folding goes on to 2^final coefficients
 abbrev numbers : ℕ → FriParameters ⊤
 numbers final = record {
   log_blowup = 1;
@@ -98,7 +98,7 @@ run final_poly = record {
   drawn = record { alpha = 11; bivariate = 6; betas = 17 ∷ 22 ∷ []; queries = 13 ∷ 2 ∷ 7 ∷ [] };
 }
 
--- two heights are claimed, and the words are folded in two rounds
+-- two heights are claimed, and the codewords are folded in two rounds
 heights_row : claimed_heights fields whole (run (6 ∷ [])) ≡ 3 ∷ 4 ∷ []
 heights_row = refl
 

@@ -23,8 +23,8 @@ use Rattle.circle_relation.specs.Accepts.{round_value, InputsAuthenticate, First
 use Rattle.circle_relation.specs.Accepts.{RoundsAuthenticate, HoldsWith}
 use Rattle.circle_relation.specs.Reasons.{IsReason}
 
--- I and W are the schemes of the batches and of the words, each with its commitments, data, proofs
--- and errors
+-- what is opened of a batch, and of a round; I and W are the schemes of the batches and of the
+-- codewords, each with its commitments, data, proofs and errors
 abbrev pub opened_batch : {F I IC ID IP IE : Type 0} → BatchMultiOpening F I IC ID IP IE
     → Opened (List (List F)) IP
 opened_batch b = record { entries = opened_rows b.opened_values.items; proof = b.opening_proof }
@@ -36,6 +36,7 @@ opened_round o = record {
   proof = o.opening_proof;
 }
 
+-- the proof of a statement, and the run, as the relation has them
 module _ {F E I W IC ID IP IE WC WD WP WE : Type 0} where
   abbrev pub proof_of :
       CirclePcsProof F E I W F IC ID IP IE WC WD WP WE → OpeningProof F E WC IP WP
@@ -130,14 +131,14 @@ module _ {F E I W IC ID IP IE WC WD WP WE : Type 0} where
         let r = run_of o in
         map (λ h. (h, at_queries k p r (λ j q. folded k p r j q h))) heights_of
 
-    -- the queries' values in the last word
+    -- the queries' values in the last codeword
     abbrev pub last_values : List E
     last_values =
         let p = o.params.now in
         let r = run_of o in
         at_queries k p r (λ j q. round_value k p r j q (rounds k p r))
 
-    -- the relation's parts that a scheme of batches, and one of words, decides
+    -- the relation's parts that a scheme of batches, and one of codewords, decides
     module _ (inputs : I → Authenticates IC F IP) (words : W → Authenticates WC E WP) where
       abbrev pub HasInputsOf : Type 0
       HasInputsOf = InputsAuthenticate k o.params.now (run_of o) (inputs o.mmcs.now)
@@ -170,7 +171,7 @@ run_with claims proof drawn = record {
   drawn = drawn;
 }
 
--- what contracts see of the queries of a word, and of those that join the rounds
+-- what contracts see of the queries of a codeword, and of those that join the rounds
 abbrev pub queried : {F E : Type 0} {g : _} → QueriedWord F E g →
     ℕ × (List (Coordinates F) × List E)
 queried w = (w.log_height, (map coordinates w.points.items, w.values.items))

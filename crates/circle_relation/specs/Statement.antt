@@ -2,7 +2,7 @@
 use Rattle.std.specs.Prelude.{ℕ, ◌+◌, List, map, flat_map}
 use Rattle.circle_commit.specs.Mmcs.{greatest}
 
--- values that are claimed at a point, which its coordinate on the projective line tells
+-- values that are claimed at a point, given by its coordinate on the projective line
 pub record PointClaim (E : Type 0) : Type 0 where
   pub point : E
   pub values : List E
@@ -24,7 +24,7 @@ pub record Opened (Entries Proof : Type 0) : Type 0 where
   pub proof : Proof
 
 -- a proof: for each query and matrix of a batch a row, for each query and height a sibling in the
--- first layer, for each round and query the siblings in its word
+-- first layer, for each round and query the siblings in its codeword
 pub record OpeningProof (F E Com InputProof WordProof : Type 0) : Type 0 where
   pub batch_witness : F
   pub first_layer : Com

@@ -8,10 +8,12 @@ use Rattle.circle_domain.specs.Domain.{log_size}
 use Rattle.circle_relation.specs.Statement.{PointClaim, MatrixClaim, BatchClaim}
 
 module _ {E : Type 0} where
+  -- the claimed values at a point
   abbrev pub point_claim : PointOpening E → PointClaim E
   point_claim p = record { point = p.point; values = p.values.items }
 
-  -- of the claimed domain only its size is a part of the statement
+  -- the claims on a matrix and on a batch, and on several: of a claimed domain only its size is a
+  -- part of the statement
   abbrev pub matrix_claim : {F : Type 0} {g : _} →
       MatrixOpening E (CircleDomain F g) → MatrixClaim E
   matrix_claim m = record { log_n = log_size m.domain; claims = map point_claim m.points.items }

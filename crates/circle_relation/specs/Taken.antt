@@ -1,4 +1,4 @@
--- What describes a run's transcript, what it takes in and what it draws, of claims and a proof.
+-- What describes a run's transcript, what it absorbs and what it draws, of claims and a proof.
 use Rattle.std.specs.Prelude.{ℕ, ◌+◌, ◌-◌, List, map, flat_map, length, zip}
 use Rattle.circle_field.specs.Field.{FieldOps}
 use Rattle.circle_point.specs.Projective.{from_line}
@@ -14,7 +14,7 @@ abbrev pub widths_by : {Com E : Type 0} → List (BatchClaim Com E) → List (Li
 widths_by batches =
     map (λ b. map (λ m. map (λ c. length c.values) m.claims) b.matrices) batches
 
--- the shape of a run over these claims: so many rounds as leave 2^final coefficients, and indices
+-- the shape of a run over these claims: as many rounds as leave 2^final coefficients, and indices
 -- below the greatest height, of which the first layer takes one bit
 abbrev pub shape_by : {M Com E : Type 0} → FriParameters M → List (BatchClaim Com E) → Shape
 shape_by p batches =
@@ -39,7 +39,7 @@ module _ {E : Type 0} (l : FieldOps E) where
   abbrev pub claims_taken : {Com : Type 0} → List (BatchClaim Com E) → List (Claim E)
   claims_taken batches = flat_map (λ m. map point_taken m.claims) (all_matrices batches)
 
-  -- what the transcript takes in of claims and a proof
+  -- what the transcript absorbs of claims and a proof
   abbrev pub taken_by : {F Com WordCom InputProof WordProof : Type 0} → List (BatchClaim Com E)
       → OpeningProof F E WordCom InputProof WordProof → Taken F E WordCom
   taken_by batches proof = record {

@@ -4,7 +4,7 @@ ghost use Rattle.circle_relation.specs.Named.{input_name, prover_name};
 ghost use Rattle.circle_relation.specs.Failures.{prover_error};
 ghost use Rattle.circle_relation.specs.declared.error.ProverError.TheVariants.{Memory};
 
-use circle_commit::{Named, PowPhase};
+use circle_commit::{FriError, Named, PowPhase};
 use circle_transcript::CircleTranscriptFailure;
 use std::alloc::AllocError;
 use std::fmt::Display;
@@ -12,7 +12,7 @@ use thiserror::Error;
 
 /// Why what a proof opens of the batches and of the first layer is refused.
 ///
-/// The two parameters are the errors of the commitment schemes of the batches and of the words.
+/// The two parameters are the errors of the commitment schemes of the batches and of the codewords.
 #[derive(Debug, Drop, Error)]
 #[error_bound(InputMmcsError: Display, FriMmcsError: Display)]
 pub enum InputError<InputMmcsError, FriMmcsError> {
@@ -43,6 +43,14 @@ pub enum InputError<InputMmcsError, FriMmcsError> {
         log_n: usize,
     },
 }
+
+/// Why claims and a proof are refused.
+///
+/// The two parameters are the errors of the commitment schemes of the batches and of the codewords.
+pub type VerifierError<InputMmcsError, FriMmcsError> = FriError<
+    FriMmcsError,
+    InputError<InputMmcsError, FriMmcsError>,
+>;
 
 /// The variant's name.
 impl<InputMmcsError, FriMmcsError> Named for InputError<InputMmcsError, FriMmcsError> {
@@ -97,8 +105,8 @@ pub enum ProverError {
     /// A matrix is to be opened at a point of the domain that it is committed on.
     #[error("an opening point lies on the committed domain of its matrix")]
     PointOnDomain,
-    /// The last folded word is not that of a polynomial of as many coefficients as are due, so some
-    /// committed matrix isn't of low degree.
+    /// The last folded codeword is not that of a polynomial of as many coefficients as are due, so
+    /// some committed matrix isn't of low degree.
     #[error("the last folded word is of too high degree")]
     LastWordNotConstant,
     /// A domain has fewer points than the trace has rows.

@@ -3,35 +3,35 @@
 use circle_commit::{BatchMultiOpening, Mmcs};
 use circle_field::Field;
 
-/// A proof that the folded words of a run end in the values of a polynomial.
+/// A proof that the folded codewords of a run end in the values of a polynomial.
 ///
-/// `M` commits to the folded words, `Witness` shows a proof of work, and `InputProof` opens what
-/// the first of these words was made of.
+/// `M` commits to the folded codewords, `Witness` shows a proof of work, and `InputProof` opens
+/// what the first of these codewords was made of.
 #[derive(Drop)]
 pub struct CircleFriProof<F: Field, M: Mmcs<F>, Witness, InputProof> {
-    /// For each round, the commitment to its word.
+    /// For each round, the commitment to its codeword.
     pub commit_phase_commits: Vec<M::Commitment>,
     /// For each round, the witness of the proof of work before its challenge; zero where it has no
     /// difficulty.
     pub commit_pow_witnesses: Vec<Witness>,
     /// The openings, at all queries, of what was committed to before the rounds.
     pub input_openings: InputProof,
-    /// For each round, the openings of its word at all queries.
+    /// For each round, the openings of its codeword at all queries.
     pub commit_phase_openings: Vec<CircleCommitPhaseMultiStep<F, M>>,
-    /// The coefficients, in the basis in x, of the polynomial whose values the last word is.
+    /// The coefficients, in the basis in x, of the polynomial whose values the last codeword is.
     pub final_poly: Vec<F>,
     /// The witness of the proof of work before the query indices; zero where it has no difficulty.
     pub pow_witness: Witness,
 }
 
-/// The openings of one round's word at all queries, with one proof for them all.
+/// The openings of one round's codeword at all queries, with one proof for them all.
 #[derive(Drop)]
 #[derive_where(Debug)]
 pub struct CircleCommitPhaseMultiStep<F: Field, M: Mmcs<F>> {
     /// For each query, the other entries of the row that it falls into: one, as two entries fold
     /// into one.
     pub sibling_values: Vec<Vec<F>>,
-    /// The proof that the rows are those of the word.
+    /// The proof that the rows are those of the codeword.
     pub opening_proof: M::MultiProof,
 }
 
@@ -54,7 +54,7 @@ pub struct CircleInputProof<
 
 /// A proof of an opening.
 ///
-/// `InputMmcs` commits to the batches, `FriMmcs` to the words that are made of them.
+/// `InputMmcs` commits to the batches, `FriMmcs` to the codewords that are made of them.
 #[derive(Drop)]
 pub struct CirclePcsProof<
     Val: Field,
@@ -66,12 +66,12 @@ pub struct CirclePcsProof<
     /// The witness of the proof of work before the challenge that batches the claims; zero where it
     /// has no difficulty.
     pub batch_pow_witness: Witness,
-    /// The commitment to the first layer: the reduced words of all heights, by pairs.
+    /// The commitment to the first layer: the reduced codewords of all heights, by pairs.
     pub first_layer_commitment: FriMmcs::Commitment,
     /// For each height of a batch's matrix from the least up, the multiple of the vanishing
-    /// polynomial that was taken away from the reduced word.
+    /// polynomial that was taken away from the reduced codeword.
     pub lambdas: Vec<Challenge>,
-    /// The proof that the words of the first layer, folded and joined, end in the values of a
+    /// The proof that the codewords of the first layer, folded and joined, end in the values of a
     /// polynomial.
     pub fri_proof: CircleFriProof<
         Challenge,

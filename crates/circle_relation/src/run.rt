@@ -9,8 +9,8 @@ use circle_point::Point;
 
 /// What is known to contracts of a field with its circle and of its extension.
 ///
-/// Each extension has it, so no function asks for it: a clause cites
-/// `⟦<EF as OverCircle<F>>⟧.fields`.
+/// Each extension has it, so no function requires it: a clause cites `⟦<EF as
+/// OverCircle<F>>⟧.fields`.
 pub trait OverCircle<F: ComplexExtendable>: ExtensionField<F> {
     ghost fields: { Fields F Self };
 }
@@ -39,7 +39,7 @@ pub struct OpenedRun<
 > {
     /// The commitment scheme of the batches.
     pub mmcs: &'a InputMmcs,
-    /// The parameters, with the commitment scheme of the words.
+    /// The parameters, with the commitment scheme of the codewords.
     pub params: &'a FriParameters<FriMmcs>,
     /// What is claimed of each batch.
     pub claims: &'a [CommitmentOpening<EF, InputMmcs::Commitment, CircleDomain<Val>>],
@@ -57,10 +57,10 @@ pub struct OpenedRun<
     pub indices: &'a [usize],
 }
 
-/// The points and the values of all queries in a word of the first layer.
+/// The points and the values of all queries in a codeword of the first layer.
 #[derive(Drop)]
 pub struct QueriedWord<F: Field, EF> {
-    /// The binary logarithm of the word's length.
+    /// The binary logarithm of the codeword's length.
     pub log_height: usize,
     /// The point of each query.
     pub points: Vec<Point<F>>,

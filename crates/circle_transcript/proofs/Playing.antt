@@ -21,7 +21,7 @@ module _ {A : Type 0} where
   left_is x xs due left is after = after ∙ ap (drop 1) is
 
 module _ {S F E : Type 0} (f : S → F → S) (coefficients : E → List F) where
-  -- a claim is taken in: a point's coordinates, and values
+  -- a claim is absorbed: a point's coordinates, and values
   pub claim_taken : (s t u : S) (x y a b : E) (vs : List E) → a ≡ x → b ≡ y
       → t ≡ after_all f s (coefficients a ++ (coefficients b ++ [])) →
       u ≡ after_all f t (flat_map coefficients vs)
@@ -45,7 +45,7 @@ module _ {S F E : Type 0} (f : S → F → S) (coefficients : E → List F) wher
       (λ v. after_all f s
       (coefficients x ++ (coefficients v ++ flat_map coefficients (vs ++ [])))) same_y
 
-  -- claims are taken in after others
+  -- claims are absorbed after others
   pub claims-append : (s : S) (cs ds : List (Claim E)) → after_claims_by f coefficients s (cs ++ ds)
       ≡ after_claims_by f coefficients (after_claims_by f coefficients s cs) ds
   unfolding after_claims_by
@@ -94,10 +94,10 @@ pub or_moved : {X A B : Type 0} (P : A → B → Type 0) (a c : A) (b d : B) →
 or_moved P a c b d same too (inl x) = inl x
 or_moved P a c b d same too (inr p) = inr (subst (P c) too (subst (λ v. P v b) same p))
 
--- equal answers hold equal values
+-- equal results hold equal values
 pub same_ok : {A E : Type 0} (x y : Result A E) (a b : A) → x ≡ Ok a → y ≡ Ok b → x ≡ y → b ≡ a
 same_ok x y a b first second same = cc
 
--- no answer is both
+-- no result is both
 pub not_both : {A E : Type 0} (x y : Result A E) (a : A) (e : E) → x ≡ Ok a → y ≡ Err e → x ≡ y → ⊥
 not_both x y a e first second same = cc

@@ -1,4 +1,4 @@
--- The text of a seed tells the shape of the run.
+-- The text of a seed determines the shape of the run.
 use Rattle.std.proofs.Math.Dec.{eqb-suc-zero}
 use Rattle.std.specs.Prelude.{if◌then◌else◌, ◌≡◌, ◌==◌, ℕ, ◌<◌, ◌^◌, List, [], ◌∷◌, ◌++◌, length}
 use Rattle.std.specs.Prelude.{map, flat_map, All, codes}
@@ -163,7 +163,8 @@ module _ (degree : ℕ) where
         ap (λ (s : Step). value_count s.size) numbers,
       )
 
-  -- the steps tell all numbers but how the claims are grouped, the blowup, and that of coefficients
+  -- the steps determine all numbers but how the claims are grouped, the blowup, and that of
+  -- coefficients
   pub steps_told : (a b : Shape) → steps_of degree a ≡ steps_of degree b →
       (claimed_widths a ≡ claimed_widths b) × (a.batch_pow_bits ≡ b.batch_pow_bits)
       × (a.num_commit_rounds ≡ b.num_commit_rounds)
@@ -264,7 +265,7 @@ writable_counts a h =
           each bs h.1 g.1,
         )
 
--- the grouping and all widths tell the widths
+-- the grouping and all widths determine the widths of each batch
 same_counts : (a b : Shape) → HasWritableLabels a → HasWritableLabels b → layout a.opened_widths
     ≡ layout b.opened_widths → counts_of a.opened_widths ≡ counts_of b.opened_widths
 same_counts a b p q same =
@@ -309,8 +310,8 @@ same_widths xs ys counts same =
         ap (λ n. n ∷ map (λ c. length c) (map (λ batch. map (λ matrix. length matrix) batch) bs))
         (length-map b (λ m. length m)) ∙ ap (λ r. length b ∷ r) (sizes bs)
 
--- the third label, which is there where the final polynomial has several coefficients, tells how
--- many
+-- the third label, which is there where the final polynomial has several coefficients, determines
+-- how many
 same_coefficients : (a b : Shape) → HasWritableLabels a → HasWritableLabels b →
     labels_of a ≡ labels_of b → a.log_final_poly_len ≡ b.log_final_poly_len
 same_coefficients a b p q same =

@@ -25,11 +25,11 @@ claim point values = record { point = point; values = values }
 abbrev pub widths_of : {E : Type 0} → List (Claim E) → List ℕ
 widths_of claims = map (λ c. length c.values) claims
 
--- what is taken in of a claim: the point's coordinates, and the values
+-- what is absorbed of a claim: the point's coordinates, and the values
 abbrev pub claim_elements : {E : Type 0} → Claim E → List E
 claim_elements c = c.point.x ∷ c.point.y ∷ c.values
 
--- what a run takes in: the claims and the witness after them, the commitment to the first layer,
+-- what a run absorbs: the claims and the witness after them, the commitment to the first layer,
 -- each round's commitment and witness, and the coefficients of the final polynomial and the witness
 -- after them
 pub record Taken (F E Com : Type 0) : Type 0 where
@@ -59,7 +59,7 @@ pub record Drawn (S F : Type 0) : Type 0 where
   pub indices : List ℕ
   pub state : S
 
--- the state after the claims, whose elements are taken in by their coefficients
+-- the state after the claims, whose elements are absorbed by their coefficients
 unfoldable pub after_claims_by : {S F E : Type 0} → (S → F → S) → (E → List F) → S → List (Claim E)
     → S
 after_claims_by after_observe coefficients s claims =

@@ -29,7 +29,7 @@ abbrev pub indices_steps : ℕ → Numbers → List Step
 indices_steps degree n =
     query_steps degree n.log_final_poly_len n.query_pow_bits n.index_bits n.num_queries
 
--- the steps of a run with claims of these numbers of columns, and so many rounds
+-- the steps of a run with claims of these numbers of columns, and of `rounds` rounds
 abbrev pub run_steps : ℕ → List ℕ → ℕ → Numbers → List Step
 run_steps degree widths rounds n =
     batch_steps degree widths n.batch_pow_bits

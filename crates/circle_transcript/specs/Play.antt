@@ -29,7 +29,7 @@ module _ {C S F E Side : Type 0} (m : Moves C S F E) (t : TranscriptState C F Si
   abbrev pub after_guarded_challenge : ℕ → F → S
   after_guarded_challenge bits w = after_element m (after_witness bits w)
 
-  -- so many numbers of so many bits that the witness guards, and the state after them
+  -- `count` numbers of `width` bits that the witness guards, and the state after them
   abbrev pub guarded_numbers : ℕ → ℕ → ℕ → F → List ℕ
   guarded_numbers bits width count w = drawn_numbers m width count (after_witness bits w)
 

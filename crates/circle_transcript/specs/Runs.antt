@@ -32,7 +32,7 @@ pub record ArePlayable (n : Numbers) : Type 0 where
   pub index : n.index_bits ≤ 63
   pub final_poly : n.log_final_poly_len ≤ 63
 
--- what a run takes in, of claims, messages and witnesses
+-- what a run absorbs, of claims, messages and witnesses
 abbrev pub taken_with : {F E Com : Type 0} → List (Claim E) → CircleMessages E Com → F → List F → F
     → Taken F E Com
 taken_with claims messages batch rounds query =
@@ -77,7 +77,7 @@ module _ {C S F E Com : Type 0} (r : RunMoves C S F E Com) where
         commitment) bits
 
   module _ (n : Numbers) (claims : List (Claim E)) (messages : CircleMessages E Com) (s : S) where
-    -- what is taken in with these witnesses, before that of the indices
+    -- what is absorbed with these witnesses, before that of the indices
     abbrev pub with_found : F → List F → Taken F E Com
     with_found batch rounds = taken_with claims messages batch rounds r.base.zero
 
@@ -149,7 +149,7 @@ module _ {C S F E Com : Type 0} (r : RunMoves C S F E Com) where
       IsStuck (numbers_of (shape_of shape)) (claims_of claims) messages
       (seeded r (shape_of shape) (r.base.state old)) e
 
--- the same of the rest of a run, from a transcript whose seed was taken in
+-- likewise for the rest of a run, from a transcript whose seed was absorbed
 module _ {C S F E Com Side : Type 0} (r : RunMoves C S F E Com) where
   -- it draws these from the first transcript, and leaves the other
   abbrev pub DrawsFrom : CircleTranscript C F E Side → Taken F E Com → CircleDraws E

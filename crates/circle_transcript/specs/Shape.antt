@@ -40,7 +40,7 @@ abbrev pub guarded_numbers_steps : List ℕ → ℕ → List ℕ → ℕ → ℕ
 guarded_numbers_steps pow_label bits label width count =
     pow_steps pow_label bits ++ numbers_challenge label width count ∷ []
 
--- a claim of so many columns: its point's two coordinates, and its values
+-- a claim of `width` columns: its point's two coordinates, and its values
 unfoldable pub claim_steps : ℕ → ℕ → List Step
 claim_steps degree width =
     elements_message degree (codes "opening_point") 2
@@ -64,7 +64,7 @@ round_steps degree bits =
     opaque_message (codes "commit_phase_commitment")
     ∷ guarded_challenge_steps degree (codes "commit_pow") bits (codes "fold_challenge")
 
--- so many rounds
+-- rounds
 unfoldable pub rounds_steps : ℕ → ℕ → ℕ → List Step
 rounds_steps degree bits zero = []
 rounds_steps degree bits (suc n) = round_steps degree bits ++ rounds_steps degree bits n
@@ -75,7 +75,7 @@ final_poly_step degree f =
     step Atomic Message (Algebra degree) (codes "final_poly")
     (if f == 0 then Scalar else Fixed (2 ^ f))
 
--- the final polynomial, and so many indices of so many bits
+-- the final polynomial, and `count` indices of `width` bits
 unfoldable pub query_steps : ℕ → ℕ → ℕ → ℕ → ℕ → List Step
 query_steps degree f bits width count =
     final_poly_step degree f

@@ -78,17 +78,19 @@ module _ {C S F EF Side : Type 0} {g : _} (m : Moves C S F EF) (t : CircleTransc
 
 module _ {C S F EF Com Side : Type 0} (r : RunMoves C S F EF Com) (t : CircleTranscript C F EF Side)
     (commitment : Com) where
+  -- the state after a commitment was absorbed
   abbrev pub at_commitment : S
   at_commitment = r.after_commitment (r.base.state (current t)) commitment
 
-  -- the first layer, whose challenge no proof of work guards
+  -- the first layer, whose challenge no proof of work guards: the challenge, and the state after it
   abbrev pub first_layer_challenge : List F
   first_layer_challenge = drawn_element r.base at_commitment
 
   abbrev pub after_first_layer : S
   after_first_layer = after_element r.base at_commitment
 
-  -- a round
+  -- a round: whether a witness passes, the one that a search finds, the challenge, and the state
+  -- after it
   abbrev pub commit_passes : F → Bool
   commit_passes w = is_passed r.base at_commitment t.shape.commit_pow_bits w
 
@@ -117,6 +119,8 @@ module _ {C S F EF Com Side : Type 0} (r : RunMoves C S F EF Com) (t : CircleTra
   after_commits ws = after_rounds r t.shape.commit_pow_bits (r.base.state (current t))
       (zip commitments ws)
 
+-- the queries: the state in which the witness is checked, whether it passes, the one that a search
+-- finds, the indices, and the state after them
 module _ {C S F EF Side : Type 0} (m : Moves C S F EF) (t : CircleTranscript C F EF Side)
     (final_poly : List EF) where
   abbrev pub at_query_pow : S

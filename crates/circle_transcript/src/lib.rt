@@ -1,13 +1,13 @@
 //! The Fiat-Shamir transcript of the Circle STARK polynomial commitment scheme (IACR ePrint
 //! 2024/278): what a run is described by, and both sides of it.
 //!
-//! A run takes in the claimed openings and draws the challenge that batches them, takes in the
-//! commitment to the first layer and draws the challenge that folds it, takes in a commitment and
-//! draws a folding challenge in each round, and takes in the final polynomial's coefficients and
+//! A run absorbs the claimed openings and draws the challenge that batches them, absorbs the
+//! commitment to the first layer and draws the challenge that folds it, absorbs a commitment and
+//! draws a folding challenge in each round, and absorbs the final polynomial's coefficients and
 //! draws the query indices. Proofs of work guard the batching challenge, the folding challenges and
 //! the indices.
 //!
-//! The steps by their labels, top down. Each draw depends on the seed and on all that was taken in
+//! The steps by their labels, top down. Each draw depends on the seed and on all that was absorbed
 //! above it, so that none of this can be chosen in view of what is drawn:
 //!
 //! ```text
@@ -30,19 +30,19 @@
 //!  +->  out  query_indices                  where rows and words are opened
 //! ```
 //!
-//! Not taken in are the claims' own commitments, which are for the caller to take in before it
-//! draws points, and what is tested against a commitment later: lambdas, opened rows and siblings.
+//! Not absorbed are the claims' own commitments, which are for the caller to absorb before it draws
+//! points, and what is tested against a commitment later: lambdas, opened rows and siblings.
 //!
 //! What is proved, for any field, extension, commitment and lawful challenger:
 //!
-//! - The steps that `CirclePcsShape::pattern` answers and the separator that `domain_separator`
-//!   answers are those of the definition, byte for byte; shapes with equal seed texts are equal,
+//! - The steps that `CirclePcsShape::pattern` returns and the separator that `domain_separator`
+//!   returns are those of the definition, byte for byte; shapes with equal seed texts are equal,
 //!   but for a difficulty of rounds that there aren't (`has_seed_of`, clause `told`). That is so
 //!   for final polynomials of any number of coefficients that is a power of two.
-//! - Both sides of the transcript ask each call to be the next described step and say what it
+//! - Both sides of the transcript require each call to be the next described step and say what it
 //!   draws and the state after it; `NoWitness` and `PowWitness` come exactly where no witness
-//!   passes, and where the one at hand doesn't, and a transcript that is refused for want of
-//!   memory leaves the challenger as it was (`new`, clause `refused`).
+//!   passes, and where the one at hand doesn't, and a transcript that is refused for want of memory
+//!   leaves the challenger as it was (`new`, clause `refused`).
 //! - Over a whole run (`prover_run`, `verifier_run`) the challenges, the indices and the state
 //!   after are those of the definition `Draw.draw`; a failure names the phase in which no witness
 //!   passes, or the first whose witness doesn't, and its difficulty.
@@ -57,8 +57,8 @@
 //! - In `specs/`, `Shape`, `Draw`: the definitions. `ShapeOf`, `Numbers`, `Claims`, `Transcript`,
 //!   `Failure`: what the types are; `Play`: steps of both sides; `Runs`: what is drawn, missed or
 //!   found nowhere over a run; `Rows`: examples.
-//! - In `proofs/`, `Seeds`: a seed tells the shape; `Steps`, `Playing`, `Labels`; `ByHand`: steps
-//!   by hand; `Runs`, `Drawn`: whole runs.
+//! - In `proofs/`, `Seeds`: a seed determines the shape; `Steps`, `Playing`, `Labels`; `ByHand`:
+//!   steps by hand; `Runs`, `Drawn`: whole runs.
 #![tactic(auto)]
 
 pub mod failure;

@@ -32,7 +32,7 @@ use circle_field::{ExtensionField, Field};
 use circle_point::Point;
 use std::alloc::Global;
 
-/// Takes in a claim: the coordinates of its point, and its values.
+/// Absorbs a claim: the coordinates of its point, and its values.
 #[tactic(auto, unfolding(crate::specs::Shape::claim_steps))]
 fn observe_claim<'a, C, F: Field, EF: ExtensionField<F>, S>(
     transcript: &mut TranscriptState<'a, C, F, S>,
@@ -52,7 +52,7 @@ where
     transcript.observe_extensions(OPENED_VALUES, values);
 }
 
-/// Takes in claims, in order.
+/// Absorbs claims, in order.
 pub(crate) fn observe_claims<'a, C, F: Field, EF: ExtensionField<F>, S>(
     transcript: &mut TranscriptState<'a, C, F, S>,
     claims: &[(Point<EF>, &[EF])],
@@ -72,10 +72,10 @@ where
     }
 }
 
-/// Takes in the coefficients of the final polynomial in order, each by its own coefficients over
-/// the base field.
+/// Absorbs the coefficients of the final polynomial in order, each by its own coefficients over the
+/// base field.
 ///
-/// Asks that this is the next step, and that there are as many as it says.
+/// Requires that this is the next step, and that there are as many as it says.
 pub(crate) fn observe_final_poly<'a, C, F: Field, EF: ExtensionField<F>, S>(
     transcript: &mut TranscriptState<'a, C, F, S>,
     final_poly: &[EF],
@@ -99,7 +99,7 @@ where
 
 /// Looks for a witness and takes it in, where the proof of work has a difficulty.
 ///
-/// Asks that this is the next step, and that `bits <= 63`.
+/// Requires that this is the next step, and that `bits <= 63`.
 pub(crate) fn grind<'a, C, F: Field>(
     transcript: &mut ProverState<'a, C, F>,
     label: &str,
@@ -135,9 +135,9 @@ where
     }
 }
 
-/// Takes in a witness and checks it, where the proof of work has a difficulty.
+/// Absorbs a witness and checks it, where the proof of work has a difficulty.
 ///
-/// Asks that this is the next step, and that `bits <= 63`.
+/// Requires that this is the next step, and that `bits <= 63`.
 pub(crate) fn check<'a, C, F: Field>(
     transcript: &mut VerifierState<'a, C, F>,
     label: &str,
@@ -172,7 +172,7 @@ where
 
 /// Draws a challenge that is guarded by a proof of work: looks for the witness first.
 ///
-/// Asks that these are the next steps, and that `bits <= 63`.
+/// Requires that these are the next steps, and that `bits <= 63`.
 pub(crate) fn grinding_challenge<'a, C, F: Field, EF: ExtensionField<F>>(
     transcript: &mut ProverState<'a, C, F>,
     pow_label: &str,
@@ -209,7 +209,7 @@ where
 
 /// Draws a challenge that is guarded by a proof of work: checks the witness first.
 ///
-/// Asks that these are the next steps, and that `bits <= 63`.
+/// Requires that these are the next steps, and that `bits <= 63`.
 pub(crate) fn checking_challenge<'a, C, F: Field, EF: ExtensionField<F>>(
     transcript: &mut VerifierState<'a, C, F>,
     pow_label: &str,
@@ -242,7 +242,7 @@ where
 
 /// Draws the query indices, guarded by a proof of work: looks for the witness first.
 ///
-/// Asks that these are the next steps, and that `bits <= 63` and `width <= 63`.
+/// Requires that these are the next steps, and that `bits <= 63` and `width <= 63`.
 pub(crate) fn grinding_indices<'a, C, F: Field>(
     alloc: Global,
     transcript: &mut ProverState<'a, C, F>,
@@ -284,7 +284,7 @@ where
 
 /// Draws the query indices, guarded by a proof of work: checks the witness first.
 ///
-/// Asks that these are the next steps, and that `bits <= 63` and `width <= 63`.
+/// Requires that these are the next steps, and that `bits <= 63` and `width <= 63`.
 pub(crate) fn checking_indices<'a, C, F: Field>(
     alloc: Global,
     transcript: &mut VerifierState<'a, C, F>,

@@ -60,8 +60,8 @@ pub struct CircleWitnesses<F> {
 
 /// Plays rounds with their witnesses, and draws their challenges.
 ///
-/// Asks that these are the next steps, one witness for each commitment, and a difficulty of at most
-/// 63.
+/// Requires that these are the next steps, one witness for each commitment, and a difficulty of at
+/// most 63.
 fn checking_rounds<'a, F: Field, EF: ExtensionField<F>, C, Com>(
     alloc: Global,
     transcript: &mut CircleVerifierTranscript<'a, C, F, EF>,
@@ -99,8 +99,8 @@ where
 
 /// Plays a run with its witnesses, and draws what it draws.
 ///
-/// Asks that these are all the steps due, one witness for each commitment, as many coefficients as
-/// the shape says, and difficulties and a number of bits of an index of at most 63.
+/// Requires that these are all the steps due, one witness for each commitment, as many coefficients
+/// as the shape says, and difficulties and a number of bits of an index of at most 63.
 fn checking_run<'a, F: Field, EF: ExtensionField<F>, C, Com>(
     alloc: Global,
     transcript: &mut CircleVerifierTranscript<'a, C, F, EF>,
@@ -137,12 +137,12 @@ where
     })
 }
 
-/// The verifier's side of a run: seeds the challenger, takes in the claims and what a proof holds,
+/// The verifier's side of a run: seeds the challenger, absorbs the claims and what a proof holds,
 /// and draws the challenges. Fails with `PowWitness` where a witness doesn't pass, and with
 /// `Memory` where memory is refused.
 ///
-/// Asks claims of the described numbers of values, a commitment and a witness for each round, as
-/// many coefficients as the shape says, and difficulties, a number of bits of an index and a
+/// Requires claims of the described numbers of values, a commitment and a witness for each round,
+/// as many coefficients as the shape says, and difficulties, a number of bits of an index and a
 /// `log_final_poly_len` of at most 63.
 pub fn verifier_run<F: Field, EF: ExtensionField<F>, C, Com>(
     alloc: Global,
@@ -181,7 +181,7 @@ where
 
 /// Plays rounds, looking for their witnesses, and draws their challenges.
 ///
-/// Asks that these are the next steps, and a difficulty of at most 63.
+/// Requires that these are the next steps, and a difficulty of at most 63.
 fn grinding_rounds<'a, F: Field, EF: ExtensionField<F>, C, Com>(
     alloc: Global,
     transcript: &mut CircleProverTranscript<'a, C, F, EF>,
@@ -233,8 +233,8 @@ fn or_zero<F: Field>(witness: Option<F>) -> F
 
 /// Plays a run, looking for the witnesses, and draws what it draws.
 ///
-/// Asks that these are all the steps due, as many coefficients as the shape says, and difficulties
-/// and a number of bits of an index of at most 63.
+/// Requires that these are all the steps due, as many coefficients as the shape says, and
+/// difficulties and a number of bits of an index of at most 63.
 fn grinding_run<'a, F: Field, EF: ExtensionField<F>, C, Com>(
     alloc: Global,
     transcript: &mut CircleProverTranscript<'a, C, F, EF>,
@@ -286,11 +286,11 @@ where
     ))
 }
 
-/// The prover's side of a run whose messages are given: seeds the challenger, takes in the claims
+/// The prover's side of a run whose messages are given: seeds the challenger, absorbs the claims
 /// and the messages, looks for the witnesses, and draws the challenges. Fails with `NoWitness`
 /// where no witness passes, and with `Memory` where memory is refused.
 ///
-/// Asks claims of the described numbers of values, a commitment for each round, as many
+/// Requires claims of the described numbers of values, a commitment for each round, as many
 /// coefficients as the shape says, and difficulties, a number of bits of an index and a
 /// `log_final_poly_len` of at most 63.
 pub fn prover_run<F: Field, EF: ExtensionField<F>, C, Com>(
@@ -335,7 +335,7 @@ where
 /// Both sides of a run from equal states, the verifier's with the prover's witnesses: they draw
 /// equal challenges and leave equal states, and no witness of the prover's fails to pass.
 ///
-/// Asks what `prover_run` asks, and that the challengers' states are equal.
+/// Requires what `prover_run` requires, and that the challengers' states are equal.
 pub fn both_runs<F: Field, EF: ExtensionField<F>, C, Com>(
     alloc: Global,
     prover: &mut C,

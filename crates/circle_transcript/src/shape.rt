@@ -77,7 +77,7 @@ pub struct CirclePcsShape {
     /// The number of columns of every claim, by batch, matrix and point. A matrix that is opened at
     /// no point has an empty list.
     pub opened_widths: Vec<Vec<Vec<usize>>>,
-    /// The number of rounds that fold the word after the first layer.
+    /// The number of rounds that fold the codeword after the first layer.
     pub num_commit_rounds: usize,
     /// The difficulty, in bits, of the proof of work before the batching challenge.
     pub batch_pow_bits: usize,
@@ -100,13 +100,14 @@ impl CirclePcsShape {
 
     /// The shape of a run with these parameters, over claims of these numbers of columns, where
     /// `log_max_height` is the logarithm of the greatest committed height and the folding strategy
-    /// asks for so many further bits of an index.
+    /// needs `extra_query_index_bits` further bits of an index.
     ///
-    /// Folding halves the word, the first layer takes one bit, and folding stops at the word of the
-    /// final polynomial, so there are `log_max_height - 1 - log_blowup - log_final_poly_len` rounds
-    /// and `log_max_height - 1 + extra_query_index_bits` bits of an index.
+    /// Folding halves the codeword, the first layer takes one bit, and folding stops at the
+    /// codeword of the final polynomial, so there are `log_max_height - 1 - log_blowup -
+    /// log_final_poly_len` rounds and `log_max_height - 1 + extra_query_index_bits` bits of an
+    /// index.
     ///
-    /// Asks `log_max_height > log_blowup + log_final_poly_len`, and that the number of bits is
+    /// Requires `log_max_height > log_blowup + log_final_poly_len`, and that the number of bits is
     /// below `2^64`.
     pub fn new<M>(
         params: &FriParameters<M>,
@@ -151,7 +152,7 @@ impl CirclePcsShape {
 
     /// The steps of the run, in order.
     ///
-    /// Asks `log_final_poly_len <= 63`.
+    /// Requires `log_final_poly_len <= 63`.
     #[tactic(auto, unfolding(crate::specs::Shape::batch_steps))]
     pub fn pattern<F: Field, EF: ExtensionField<F>>(
         &self,
@@ -185,7 +186,7 @@ impl CirclePcsShape {
     /// blowup and how the claims are grouped. Where the final polynomial has several coefficients
     /// there is a third label, `log_final_poly_len`, and the version is another one.
     ///
-    /// Asks `log_final_poly_len <= 63`.
+    /// Requires `log_final_poly_len <= 63`.
     #[tactic(auto, unfolding(circle_challenger::specs::Step::be64))]
     pub fn domain_separator<F: Field, EF: ExtensionField<F>>(
         &self,
@@ -234,7 +235,7 @@ impl CirclePcsShape {
     /// one seed text agree in all but the difficulty of rounds that there aren't. Fails where
     /// memory is refused.
     ///
-    /// Asks `log_final_poly_len <= 63` of both.
+    /// Requires `log_final_poly_len <= 63` of both.
     pub fn has_seed_of<F: Field, EF: ExtensionField<F>>(
         &self,
         alloc: Global,
@@ -386,7 +387,7 @@ fn push_round(steps: &mut Vec<Interaction>, degree: usize, bits: usize) -> Resul
     Ok(())
 }
 
-/// Appends the steps of so many rounds.
+/// Appends the steps of the rounds.
 fn push_rounds(
     steps: &mut Vec<Interaction>,
     degree: usize,

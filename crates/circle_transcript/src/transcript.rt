@@ -56,8 +56,8 @@ pub struct Seeded<C> {
 ///
 /// `S` is the side that plays it. It has no `Drop`: it is spent by `finish` or `abort`. So a `?`
 /// may not leave the function that owns one. Play it in a function that takes it by `&mut`, where
-/// `?` is free; then `finish` it where that function answered and `abort` it where it failed; and
-/// then `?` on the answer, as `verifier_run` and `prover_run` do.
+/// `?` is free; then `finish` it where that function succeeded and `abort` it where it failed; and
+/// then `?` on the result, as `verifier_run` and `prover_run` do.
 pub struct CircleTranscript<'a, C, F, EF, S> {
     challenger: &'a mut C,
     due: StepsDue<C>,
@@ -82,10 +82,10 @@ impl<
     ghost use Rattle.circle_transcript.specs.Transcript.{current, due, IsSame, Borrows};
     ghost use Rattle.circle_transcript.specs.Transcript.{first_layer_challenge, after_first_layer};
 
-    /// Begins the transcript of a run of this shape: the challenger takes in the seed's text. Where
+    /// Begins the transcript of a run of this shape: the challenger absorbs the seed's text. Where
     /// memory is refused it is left as it was.
     ///
-    /// Asks `log_final_poly_len <= 63`.
+    /// Requires `log_final_poly_len <= 63`.
     pub fn new(
         alloc: Global,
         challenger: &'a mut C,
@@ -126,11 +126,11 @@ impl<
         }
     }
 
-    /// Seeds a challenger with the text of a run of this shape, and answers what the run begins
-    /// with. Where memory is refused the challenger is left as it was. The first half of `new`,
-    /// for callers that borrow the challenger again where it fails.
+    /// Seeds a challenger with the text of a run of this shape, and returns what the run begins
+    /// with. Where memory is refused the challenger is left as it was. The first half of `new`, for
+    /// callers that borrow the challenger again where it fails.
     ///
-    /// Asks `log_final_poly_len <= 63`.
+    /// Requires `log_final_poly_len <= 63`.
     pub fn seeded(
         alloc: Global,
         challenger: &mut C,
@@ -158,9 +158,9 @@ impl<
         })
     }
 
-    /// Takes in the commitment to the first layer, and draws the challenge that folds that layer.
+    /// Absorbs the commitment to the first layer, and draws the challenge that folds that layer.
     ///
-    /// Asks that these are the next steps.
+    /// Requires that these are the next steps.
     #[tactic(auto, unfolding(crate::specs::Shape::first_layer_steps))]
     pub fn first_layer<Com>(&mut self, commitment: &Com) -> EF
     where
@@ -182,7 +182,7 @@ impl<
 
     /// Ends the transcript and gives the challenger back.
     ///
-    /// Asks that no step is due.
+    /// Requires that no step is due.
     pub fn finish(self)
         requires { due self ≡ [] }
         ensures { self.exit.0.now ≡ current self.entry }
@@ -219,12 +219,12 @@ impl<'a, F: Field, EF: ExtensionField<F>, C: CanSample<F> + GrindingChallenger<F
     ghost use Rattle.circle_transcript.specs.Transcript.{after_commit, at_query_pow, query_passes};
     ghost use Rattle.circle_transcript.specs.Transcript.{query_indices, after_query};
 
-    /// Takes in the claims, by batch, matrix and point, looks for a witness where the proof of work
+    /// Absorbs the claims, by batch, matrix and point, looks for a witness where the proof of work
     /// has a difficulty, and draws the challenge that batches the claims. Fails with `NoWitness`
     /// exactly where no witness passes, and then only `abort` may follow.
     ///
-    /// Asks that these are the next steps, so that the claims have the described numbers of values,
-    /// and that the difficulty is at most 63.
+    /// Requires that these are the next steps, so that the claims have the described numbers of
+    /// values, and that the difficulty is at most 63.
     #[tactic(auto, unfolding(crate::specs::Shape::batch_steps))]
     pub fn batch_phase(
         &mut self,
@@ -264,11 +264,11 @@ impl<'a, F: Field, EF: ExtensionField<F>, C: CanSample<F> + GrindingChallenger<F
         drawn
     }
 
-    /// Takes in a round's commitment, looks for a witness where the proof of work has a difficulty,
+    /// Absorbs a round's commitment, looks for a witness where the proof of work has a difficulty,
     /// and draws the folding challenge. Fails with `NoWitness` exactly where no witness passes, and
     /// then only `abort` may follow.
     ///
-    /// Asks that these are the next steps, and that the difficulty is at most 63.
+    /// Requires that these are the next steps, and that the difficulty is at most 63.
     #[tactic(auto, unfolding(crate::specs::Shape::round_steps))]
     pub fn commit_round<Com>(
         &mut self,
@@ -310,13 +310,13 @@ impl<'a, F: Field, EF: ExtensionField<F>, C: CanSample<F> + GrindingChallenger<F
         drawn
     }
 
-    /// Takes in the coefficients of the final polynomial in order, looks for a witness where the
+    /// Absorbs the coefficients of the final polynomial in order, looks for a witness where the
     /// proof of work has a difficulty, and draws the query indices. Fails with `NoWitness` exactly
     /// where no witness passes, and with `Memory` where memory is refused; then only `abort` may
     /// follow.
     ///
-    /// Asks that these are the next steps, that the difficulty and the number of bits of an index
-    /// are at most 63, and that there are as many coefficients as the shape says.
+    /// Requires that these are the next steps, that the difficulty and the number of bits of an
+    /// index are at most 63, and that there are as many coefficients as the shape says.
     #[tactic(auto, unfolding(crate::specs::Shape::query_steps))]
     pub fn query_phase(
         &mut self,
@@ -378,12 +378,12 @@ impl<'a, F: Field, EF: ExtensionField<F>, C: CanSample<F> + GrindingChallenger<F
     ghost use Rattle.circle_transcript.specs.Transcript.{after_commit, query_passes, query_indices};
     ghost use Rattle.circle_transcript.specs.Transcript.{after_query};
 
-    /// Takes in the claims, by batch, matrix and point, checks the witness where the proof of work
+    /// Absorbs the claims, by batch, matrix and point, checks the witness where the proof of work
     /// has a difficulty, and draws the challenge that batches the claims. Fails with `PowWitness`
     /// exactly where the witness doesn't pass, and then only `abort` may follow.
     ///
-    /// Asks that these are the next steps, so that the claims have the described numbers of values,
-    /// and that the difficulty is at most 63.
+    /// Requires that these are the next steps, so that the claims have the described numbers of
+    /// values, and that the difficulty is at most 63.
     #[tactic(auto, unfolding(crate::specs::Shape::batch_steps))]
     pub fn batch_phase(
         &mut self,
@@ -420,11 +420,11 @@ impl<'a, F: Field, EF: ExtensionField<F>, C: CanSample<F> + GrindingChallenger<F
         drawn
     }
 
-    /// Takes in a round's commitment, checks the witness where the proof of work has a difficulty,
+    /// Absorbs a round's commitment, checks the witness where the proof of work has a difficulty,
     /// and draws the folding challenge. Fails with `PowWitness` exactly where the witness doesn't
     /// pass, and then only `abort` may follow.
     ///
-    /// Asks that these are the next steps, and that the difficulty is at most 63.
+    /// Requires that these are the next steps, and that the difficulty is at most 63.
     #[tactic(auto, unfolding(crate::specs::Shape::round_steps))]
     pub fn commit_round<Com>(
         &mut self,
@@ -463,13 +463,13 @@ impl<'a, F: Field, EF: ExtensionField<F>, C: CanSample<F> + GrindingChallenger<F
         drawn
     }
 
-    /// Takes in the coefficients of the final polynomial in order, checks the witness where the
+    /// Absorbs the coefficients of the final polynomial in order, checks the witness where the
     /// proof of work has a difficulty, and draws the query indices. Fails with `PowWitness` exactly
     /// where the witness doesn't pass, and with `Memory` where memory is refused; then only `abort`
     /// may follow.
     ///
-    /// Asks that these are the next steps, that the difficulty and the number of bits of an index
-    /// are at most 63, and that there are as many coefficients as the shape says.
+    /// Requires that these are the next steps, that the difficulty and the number of bits of an
+    /// index are at most 63, and that there are as many coefficients as the shape says.
     #[tactic(auto, unfolding(crate::specs::Shape::query_steps))]
     pub fn query_phase(
         &mut self,

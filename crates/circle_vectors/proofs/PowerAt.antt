@@ -1,10 +1,10 @@
 -- The height of a matrix among others.
-use Rattle.std.proofs.Common.{◌≡◌, ℕ, ◌<◌, ◌^◌, List, length, get_or, sym, ap, ◌∙◌}
+use Rattle.std.proofs.Common.{◌≡◌, ℕ, ◌<◌, List, length, get_or, sym, ap, ◌∙◌}
 use Rattle.std.proofs.lemmas.List.{get_or-map}
 use Rattle.circle_commit.specs.Matrix.{IsPowerOfTwo}
 use Rattle.circle_commit.specs.RowMajorMatrix.{height_of}
 use Rattle.circle_commit.specs.declared.matrix.RowMajorMatrix.{RowMajorMatrix}
-use Rattle.circle_scheme.specs.Committing.{height_at}
+use Rattle.p3_circle.specs.Committing.{height_at}
 
 pub power-at : {T : Type 0} (matrices : List (RowMajorMatrix T)) (i : ℕ) (m : RowMajorMatrix T) →
     i < length matrices → m ≡ get_or matrices i m

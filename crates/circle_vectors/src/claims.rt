@@ -19,7 +19,7 @@ use test_schemes::schemes::{ListMmcs, Nothing};
 
 type Answer = Result<usize, FriError<AllocError, InputError<AllocError, AllocError>>>;
 
-// A batch of matrices, each claimed at no point on a domain of so many points.
+// A batch of matrices, each claimed at no point on a domain of this size.
 fn batch(
     alloc: Global,
     log_sizes: &[usize],
@@ -40,7 +40,7 @@ fn batch(
 /// The sizes of the matrices of two batches.
 type Sizes<'a> = (&'a [usize], &'a [usize]);
 
-// The answer to claims of two batches, at a blowup and a number of coefficients.
+// The verdict on claims of two batches, at a blowup and a number of coefficients.
 fn answer(alloc: Global, sizes: Sizes, params: (usize, usize)) -> Result<Answer, AllocError> {
     let mut claims = one(alloc, batch(alloc, sizes.0)?)?;
     claims.push(batch(alloc, sizes.1)?)?;
@@ -102,7 +102,7 @@ fn proof_of_nothing(alloc: Global) -> Result<QuadraticProof, AllocError> {
     })
 }
 
-// The text of the answer to a claim at a point.
+// The text of the verdict on a claim at a point.
 fn answer_at(
     alloc: Global,
     point: Quadratic,

@@ -35,7 +35,8 @@ const SIXTEEN: &[u64] = &[
     230530337, 1544837587, 1084847618, 1597827222, 973631757, 1201044311, 1968039776, 1247091134,
 ];
 
-// The scheme over trees with this blowup, where folding stops at so many coefficients.
+// The scheme over trees with this blowup, where folding stops at `2^log_final_poly_len`
+// coefficients.
 fn scheme(log_blowup: usize, log_final_poly_len: usize) -> Scheme {
     let numbers = Numbers {
         log_blowup,
@@ -50,7 +51,7 @@ fn batch(alloc: Global, domain: Domain, entries: &[u64]) -> Result<Vec<(Domain, 
     Ok(one(alloc, (domain, rows(alloc, entries, 1)?))?)
 }
 
-// `commit`, after a test of what it asks.
+// `commit`, after a test of what it requires.
 fn commit(
     rt: &impl Abort,
     alloc: Global,
@@ -61,7 +62,7 @@ fn commit(
     scheme.commit(alloc, batch)
 }
 
-// `get_quotient_ldes`, after a test of what it asks.
+// `get_quotient_ldes`, after a test of what it requires.
 fn quotient_ldes(
     rt: &impl Abort,
     alloc: Global,
@@ -73,7 +74,7 @@ fn quotient_ldes(
     scheme.get_quotient_ldes(alloc, batch, num_chunks)
 }
 
-// `commit_ldes`, after a test of what it asks.
+// `commit_ldes`, after a test of what it requires.
 fn commit_ldes(
     rt: &impl Abort,
     alloc: Global,
@@ -84,7 +85,7 @@ fn commit_ldes(
     scheme.commit_ldes(alloc, ldes)
 }
 
-// `get_evaluations_on_domain` of the first matrix, after a test of what it asks.
+// `get_evaluations_on_domain` of the first matrix, after a test of what it requires.
 fn evaluations_on(
     rt: &impl Abort,
     alloc: Global,
@@ -189,8 +190,8 @@ fn refusals_of_domains(rt: HostRuntime) -> Result<(), Fail> {
     Ok(())
 }
 
-// Asserts that the only extension, in so many chunks, of the four values is of these entries, and
-// has this commitment.
+// Asserts that the only extension, in this number of chunks, of the four values is of these
+// entries, and has this commitment.
 fn assert_extended(
     rt: &impl Abort,
     alloc: Global,
@@ -373,7 +374,7 @@ fn sevens(
     Ok(batch)
 }
 
-// Asserts that a matrix has sevens alone, in so many rows.
+// Asserts that a matrix has sevens alone, in `height` rows.
 fn assert_sevens(rt: &impl Abort, matrix: &Rows, height: usize, width: usize) {
     assert!(rt; matrix.height() == height && matrix.width() == width);
     assert!(rt; matrix.values().iter().all(|entry| entry.value() == 7));

@@ -32,8 +32,8 @@ const LOW: Dimensions = Dimensions {
     height: 4,
 };
 
-// Commits to the columns, opens them at the indices and verifies what was opened. Gives no answer
-// where the indices or the heights aren't what the calls ask.
+// Commits to the columns, opens them at the indices and verifies what was opened. Returns nothing
+// where the indices or the heights aren't what the calls require.
 fn commit_open_verify(
     alloc: Global,
     indices: &[usize],
@@ -72,7 +72,7 @@ fn assert_opened(rt: &impl Abort, rows: &[Vec<Vec<Mersenne31>>]) {
     }
 }
 
-// Asserts that there is no answer at these indices.
+// Asserts that there is no result at these indices.
 fn assert_none(rt: &impl Abort, alloc: Global, indices: &[usize]) -> Result<(), Fail> {
     assert!(rt; commit_open_verify(alloc, indices)?.is_none());
     Ok(())

@@ -1,5 +1,5 @@
 //! Worked examples of the scheme over several crates, with expected values from outside: what is
-//! committed to and what the verifier answers; and a caller of it over any scheme.
+//! committed to and what the verifier returns; and a caller of it over any scheme.
 #![tactic(auto)]
 
 #[cfg(test)]

@@ -13,7 +13,7 @@ type Refusal = FriError<AllocError, AllocError>;
 
 type Proof = CircleFriProof<Cubic, TrustingMmcs, Mersenne31, ()>;
 
-// Parameters of two queries, with proofs of work of so many bits in the order of the run.
+// Parameters of two queries, with proofs of work of these difficulties in the order of the run.
 fn of_work(work: [usize; 3]) -> FriParameters<TrustingMmcs> {
     parameters(Numbers { work, ..SMALL }, TrustingMmcs)
 }
@@ -27,7 +27,7 @@ fn copies<T: Copy>(alloc: Global, item: T, count: usize) -> Result<Vec<T>, Alloc
     Ok(items)
 }
 
-// A round that is opened at so many queries, each with so many siblings.
+// A round that is opened at `queries` queries, each with `siblings` siblings.
 fn round(
     alloc: Global,
     queries: usize,

@@ -50,7 +50,7 @@ fn honest(alloc: Global, size: Size) -> Result<Zeros<ValMmcs, ChallengeMmcs>, Fa
     proved(alloc, size, zero_poly(alloc, size)?)
 }
 
-// What is answered from the state of the challenger.
+// The verdict from the state of the challenger.
 fn verify<I, W, C>(alloc: Global, zeros: Zeros<I, W>, challenger: &mut C) -> Answer<I, W>
 where
     I: Mmcs<Mersenne31> + Drop,
@@ -95,7 +95,7 @@ fn zeros_are_accepted(rt: HostRuntime) -> Result<(), Fail> {
     Ok(())
 }
 
-// What a caller over any scheme answers of the zeros over this one.
+// What a caller over any scheme returns for the zeros over this one.
 fn accepts_as_any(alloc: Global, zeros: Zeros<ValMmcs, ChallengeMmcs>) -> Result<bool, AllocError> {
     let Zeros {
         scheme,

@@ -1,16 +1,17 @@
 -- Claimed domains, batch after batch.
-use Rattle.std.proofs.Common.{◌≡◌, ℕ, ◌+◌, ◌<◌, List, [], ◌∷◌, ◌++◌, drop, length, get_or, refl}
-use Rattle.std.proofs.Common.{sym, ap, ◌∙◌, arith}
+use Rattle.std.proofs.Common.{◌≡◌, ℕ, ◌+◌, ◌<◌, List, [], ◌∷◌, ◌++◌, drop, length, get_or, sym, ap}
+use Rattle.std.proofs.Common.{◌∙◌, arith}
 use Rattle.std.proofs.lemmas.List.{drop_more, map-append}
-use Rattle.std.specs.Prelude.{Ok, Err, true, false, max}
+use Rattle.std.specs.Prelude.{Ok, Err, max}
 use Rattle.std.specs.Result.{result_and}
 use Rattle.circle_commit.specs.Mmcs.{greatest}
 use Rattle.circle_commit.specs.declared.pcs.CommitmentOpening.{CommitmentOpening}
 use Rattle.circle_domain.specs.declared.domain.CircleDomain.{CircleDomain}
-use Rattle.circle_verifier.specs.Refusals.{Test, answer, domain_tests}
+use Rattle.circle_relation.specs.TestsInOrder.{answer}
+use Rattle.circle_verifier.specs.Refusals.{domain_tests}
 use Rattle.circle_relation.specs.Statement.{all_matrices, log_sizes}
 use Rattle.circle_relation.specs.StatementOf.{matrix_claims, batch_claims}
-use Rattle.circle_verifier.proofs.Answering.{answer-append}
+use Rattle.circle_relation.proofs.Answering.{answer-append, passed-value, refused-value}
 
 max_assoc : (a b c : ℕ) → max (max a b) c ≡ max a (max b c)
 max_assoc a b c = omega arith
@@ -20,27 +21,12 @@ greatest-append [] ys = omega arith
 greatest-append (x ∷ xs) ys = ap (max x) (greatest-append xs ys)
     ∙ sym (max_assoc x (greatest xs) (greatest ys))
 
--- tests that refuse nothing answer the value, others their refusal, whatever the value
-pub passed-value : {A E : Type 0} (ts : List (Test E)) (v w : A) → answer ts v ≡ Ok w →
-    (answer ts (tt {0}) ≡ Ok (tt {0})) × (v ≡ w)
-unfolding answer
-passed-value [] v w is = (refl, cc)
-passed-value ((true, e) ∷ ts) v w is = cc
-passed-value ((false, e) ∷ ts) v w is = passed-value ts v w is
-
-pub refused-value : {A E : Type 0} (ts : List (Test E)) (v : A) (e : E) → answer ts v ≡ Err e →
-    answer ts (tt {0}) ≡ Err e
-unfolding answer
-refused-value [] v e is = cc
-refused-value ((true, d) ∷ ts) v e is = cc
-refused-value ((false, d) ∷ ts) v e is = refused-value ts v e is
-
 module _ {C A B : Type 0} (final : ℕ) (xs ys : List ℕ) where
   tests-append : domain_tests {C = C} {A = A} {B = B} final (xs ++ ys) ≡ domain_tests final xs
       ++ domain_tests final ys
   tests-append = map-append _ xs ys
 
-  -- after domains of which none is refused the others are asked
+  -- after domains of which none is refused the others decide
   pub more_domains : (g m : ℕ) →
       answer (domain_tests {C = C} {A = A} {B = B} final xs) (greatest xs) ≡ Ok m →
       answer (domain_tests {C = C} {A = A} {B = B} final (xs ++ ys)) (max g (greatest (xs ++ ys)))
@@ -59,7 +45,7 @@ module _ {C A B : Type 0} (final : ℕ) (xs ys : List ℕ) where
       (answer (domain_tests {C = C} {A = A} {B = B} final ys) (max (max g m) (greatest ys))))
       passed.0
 
-  -- a refusal among them is the answer
+  -- a refusal among them is the result
   pub refused_domains : (v : ℕ) (e : _) →
       answer (domain_tests {C = C} {A = A} {B = B} final xs) (greatest xs) ≡ Err e →
       answer (domain_tests {C = C} {A = A} {B = B} final (xs ++ ys)) v ≡ Err e

@@ -4,7 +4,7 @@ use Rattle.std.proofs.Common.{sym, ◌∙◌}
 use Rattle.circle_field.specs.Field.{FieldOps}
 use Rattle.circle_domain.specs.Selectors.{IsFinite}
 use Rattle.circle_relation.specs.Statement.{MatrixClaim}
-use Rattle.circle_verifier.specs.Refusals.{is_at_infinity}
+use Rattle.circle_point.specs.Projective.{is_at_infinity}
 
 -- coordinates that a test finds finite are
 pub finite_from : {E : Type 0} (l : FieldOps E) (eq : E → E → Bool) (ms : List (MatrixClaim E)) →

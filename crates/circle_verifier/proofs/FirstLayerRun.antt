@@ -1,4 +1,4 @@
--- A run's words of the first layer, each of one height that is claimed.
+-- A run's codewords of the first layer, each of one height that is claimed.
 use Rattle.std.specs.Prelude.{◌≡◌, ℕ, true, ◌+◌, ◌-◌, ◌/◌, ◌<◌, ◌≤◌, List, [], ◌∷◌, ◌++◌, length}
 use Rattle.std.specs.Prelude.{map, take, drop, All, slice_get, slice_index_or, Some, Vec}
 use Rattle.std.specs.List.{flat_map}
@@ -39,7 +39,7 @@ All-unmap P f xs all =
     λ i d lt. subst P (get_or-map f xs i d (f d) lt)
     (all i (f d) (omega (arith, lt, length-map xs f)))
 
--- of a height the queries' values and siblings in the first layer; the pairs of so many heights
+-- of a height the queries' values and siblings in the first layer; the pairs of the heights
 module _ {F E I W IC ID IP IE WC WD WP WE : Type 0} {g : _} (k : Fields F E)
     (o : OpenedRun F E I W IC ID IP IE WC WD WP WE g) where
   abbrev at_each : {T : Type 0} → (ℕ → ℕ → T) → List T
@@ -68,7 +68,7 @@ pub claimed : {F E I W IC ID IP IE WC WD WP WE : Type 0} {g : _} {k : Fields F E
     IsClaimed k o place h
 claimed d e place h a = record { drawn = d; opened = e; at = a }
 
--- the reduced words
+-- the reduced codewords
 pub record AreReduced {F E I W IC ID IP IE WC WD WP WE : Type 0} {g : _} {f : _} (k : Fields F E)
     (o : OpenedRun F E I W IC ID IP IE WC WD WP WE g) (words : List (QueriedWord F E f)) : Type 0
   where
@@ -194,7 +194,7 @@ module _ {F E I W IC ID IP IE WC WD WP WE : Type 0} {g : _} {k : Fields F E}
         ∙ ap (folds k.extension o.bivariate (map k.embed (twiddles (top k o.params.now r)))) ps
         ∙ folded-at k o.params.now r h
 
-    -- the words so far, with that of this height
+    -- the codewords so far, with that of this height
     pub folded-more : {fs : List (ℕ × List E)} {word : ℕ × List E} →
         fs ≡ take place (folded_words k o) → word ≡ folded_word k o h → fs ++ word ∷ []
         ≡ take (place + 1) (folded_words k o)
@@ -236,7 +236,7 @@ module _ {F E I W IC ID IP IE WC WD WP WE : Type 0} {g : _} {k : Fields F E}
 module _ {F E I W IC ID IP IE WC WD WP WE : Type 0} {g : _} {k : Fields F E}
     {o : OpenedRun F E I W IC ID IP IE WC WD WP WE g} {f : _} {words : List (QueriedWord F E f)}
     (a : AreReduced k o words) where
-  -- the word at a place is that of a height that is claimed
+  -- the codeword at a place is that of a height that is claimed
   pub word-of : (n : ℕ) (word : QueriedWord F E f) → n < length words →
       word ≡ slice_index_or words n word →
       IsClaimed k o n word.log_height × (queried word ≡ word_at k o word.log_height)
@@ -261,7 +261,7 @@ module _ {F E I W IC ID IP IE WC WD WP WE : Type 0} {g : _} {k : Fields F E}
       ∙ length-at k o.params.now (run_of o)
       (λ j q. map (first_pair k o.params.now (run_of o) j q) (take n (heights_of k o)))
 
-  -- all words
+  -- all codewords
   pub all-heights : (n : ℕ) → n ≡ length words → length (heights_of k o) ≡ n
   all-heights n all =
       sym (all ∙ sym (length-map words queried) ∙ ap length a.reduced
@@ -286,7 +286,7 @@ module _ {F E I W IC ID IP IE WC WD WP WE : Type 0} {g : _} {k : Fields F E}
 module _ {F E I W IC ID IP IE WC WD WP WE : Type 0} {g : _} {k : Fields F E}
     {o : OpenedRun F E I W IC ID IP IE WC WD WP WE g} (drawn : IsDrawn k o) (opened : IsOpened k o)
   where
-    -- the heights that are claimed are those of words that fold by pairs
+    -- the heights that are claimed are those of codewords that fold by pairs
     pub heights-fit : (hs : List ℕ) → k.two_adicity ≤ 62 → hs ≡ heights_of k o →
         All (λ h. (1 ≤ h) × (h ≤ 63)) hs
     heights-fit hs small are = λ i d lt.
@@ -297,7 +297,7 @@ module _ {F E I W IC ID IP IE WC WD WP WE : Type 0} {g : _} {k : Fields F E}
           omega (arith, height-within c, drawn.in_group, small),
         )
 
-    -- the first layer authenticates by what is asked of the scheme
+    -- the first layer authenticates by what the scheme is to show
     pub layer-asked : (A : Authenticates WC E WP) (shapes : List Dimensions) (places : List ℕ)
         (rows : List (List (List E))) →
         shapes ≡ map pair_shape (heights_of k o) → places ≡ map (λ q. q / 2) o.indices.now →

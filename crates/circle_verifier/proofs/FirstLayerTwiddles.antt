@@ -1,4 +1,4 @@
--- What the reduced words of a run tell of their twiddles.
+-- What the reduced codewords of a run say of their twiddles.
 use Rattle.std.specs.Prelude.{◌≡◌, ℕ, ◌<◌, ◌≤◌, List, [], ◌∷◌, ◌++◌, length, map, All}
 use Rattle.std.specs.Prelude.{slice_index_or}
 use Rattle.std.specs.List.{flat_map}

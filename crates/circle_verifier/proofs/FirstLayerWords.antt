@@ -1,4 +1,4 @@
--- The words of the first layer: what is asked for at each query, as lists.
+-- The codewords of the first layer: what is opened at each query, as lists.
 use Rattle.std.specs.Prelude.{◌≡◌, ℕ, ◌+◌, ◌-◌, ◌/◌, ◌^◌, ◌<◌, List, [], ◌∷◌, ◌++◌, Some, length}
 use Rattle.std.specs.Prelude.{map, take, slice_get, slice_index_or}
 use Rattle.std.specs.Option.{option_map}
@@ -30,7 +30,7 @@ pub take-push-map : {B : Type 0} (f : ℕ → B) (xs : List ℕ) (i x : ℕ) →
 take-push-map f xs i x at =
     take-push (map f xs) i (f x) (slice_get-map f xs i ∙ ap (option_map f) at)
 
--- the word at a place, of those that heights are taken to
+-- the codeword at a place, of those that heights are taken to
 pub word-there : {B : Type 0} (f : ℕ → ℕ × B) (hs : List ℕ) (ws : List (ℕ × B)) (n : ℕ)
     (w : ℕ × B) → ((h : ℕ) → (f h).0 ≡ h) → ws ≡ map f hs → n < length ws →
     w ≡ slice_index_or ws n w →

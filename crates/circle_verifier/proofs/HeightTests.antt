@@ -9,31 +9,18 @@ use Rattle.circle_commit.specs.declared.error.FriError.{FriError}
 use Rattle.circle_commit.specs.declared.error.FriError.TheVariants.{NoCommittedMatrices}
 use Rattle.circle_commit.specs.declared.error.FriError.TheVariants.{GlobalMaxHeightTooLarge}
 use Rattle.circle_relation.specs.declared.error.InputError.{InputError}
-use Rattle.circle_verifier.specs.Refusals.{Test, answer, domain_tests, claim_tests}
+use Rattle.circle_relation.specs.TestsInOrder.{Test, answer}
+use Rattle.circle_verifier.specs.Refusals.{domain_tests, claim_tests}
 use Rattle.circle_relation.specs.Statement.{MatrixClaim, log_sizes, log_max_height}
-use Rattle.circle_verifier.proofs.Answering.{answer-append}
-use Rattle.circle_verifier.proofs.Domains.{passed-value, refused-value}
-
-module _ {A E : Type 0} (t : Test E) (ts : List (Test E)) (v : A) where
-  -- a test that there is no reason for leaves the answer to the others, one that there is gives it
-  pub skipped : t.0 ≡ false → answer (t ∷ ts) v ≡ answer ts v
-  unfolding answer
-  skipped none = ap (λ b. answer ((b, t.1) ∷ ts) v) none
-
-  pub refusing : t.0 ≡ true → answer (t ∷ ts) v ≡ Err t.1
-  unfolding answer
-  refusing some = ap (λ b. answer ((b, t.1) ∷ ts) v) some
+use Rattle.circle_relation.proofs.Answering.{answer-append, answer-none, passed-value}
+use Rattle.circle_relation.proofs.Answering.{refused-value}
+use Rattle.circle_relation.proofs.Answering.{refusing, skipped}
 
 first_passes : {A E : Type 0} (t : Test E) (ts : List (Test E)) (v w : A) → answer (t ∷ ts) v
     ≡ Ok w → t.0 ≡ false
 unfolding answer
 first_passes (true, e) ts v w is = cc
 first_passes (false, e) ts v w is = refl
-
--- no tests
-pub answer-none : {A E : Type 0} (v : A) → answer {E = E} [] v ≡ Ok v
-unfolding answer
-answer-none v = refl
 
 -- the greatest height is the greatest size and the blowup
 pub raised : {E : Type 0} (b : ℕ) (m : MatrixClaim E) (ms : List (MatrixClaim E)) →
@@ -42,7 +29,7 @@ raised b m [] = omega arith
 raised b m (k ∷ ms) = let e = raised b k ms in omega arith
 
 module _ {C A B : Type 0} (two blowup final v : ℕ) where
-  -- a domain's refusal is the answer
+  -- a domain's refusal is the result
   pub claims_refused : (sizes : List ℕ) (e : FriError C (InputError A B)) →
       answer (domain_tests final sizes) (greatest sizes) ≡ Err e →
       answer (claim_tests {C = C} {A = A} {B = B} two blowup final sizes) v ≡ Err e

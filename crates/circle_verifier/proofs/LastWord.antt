@@ -1,4 +1,4 @@
--- Where the queries end: in entries of the last word.
+-- Where the queries end: in entries of the last codeword.
 use Rattle.std.specs.Prelude.{◌≡◌, ℕ, ◌+◌, ◌-◌, ◌*◌, ◌/◌, ◌^◌, ◌≤◌, ◌<◌, List, [], ◌∷◌, Some}
 use Rattle.std.specs.Prelude.{length, map, All, slice_get, slice_index_or}
 use Rattle.std.proofs.Common.{suc, sym, ◌∙◌, ap, subst, arith}
@@ -65,7 +65,7 @@ module _ {F E M C IC IP WP : Type 0} (fields : Fields F E) (params : FriParamete
   length-at_queries f = ap length (zip-placed f 0 r.drawn.queries)
       ∙ length-placed f 0 r.drawn.queries
 
-  -- what stands at the place of a query in a list of what is asked for at each
+  -- what stands at the place of a query in a list of what is opened at each
   pub value-at : {T : Type 0} (f : ℕ → ℕ → T) (vs : List T) (j : ℕ) (v : T) →
       vs ≡ at_queries fields params r f → j < length r.drawn.queries → v ≡ slice_index_or vs j v →
       v ≡ f j (slice_index_or r.drawn.queries j 0)
@@ -80,7 +80,7 @@ module _ {F E I W IC ID IP IE WC WD WP WE : Type 0} {g : _} (k : Fields F E)
   abbrev log_len : ℕ
   log_len = o.params.now.log_blowup + o.params.now.log_final_poly_len
 
-  -- the last word is shorter than the first
+  -- the last codeword is shorter than the first
   pub last-short : log_len < o.log_max_height
   last-short =
       let past = highest-past o.params.now.log_blowup (o.params.now.log_final_poly_len + 1)

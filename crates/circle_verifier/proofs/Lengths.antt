@@ -61,7 +61,7 @@ pub same-lengths : (a b m n : ℕ) → a ≡ m → b ≡ n → Decides (a == b) 
 same-lengths a b m n is is' =
     change (a == b) (Decides-eqb a b) (λ e. omega arith) (λ e. omega arith)
 
--- one sibling list for each query, each of so many
+-- one sibling list for each query, each of `count`
 pub siblings-decide : {T : Type 0} (queries count : ℕ) (siblings : List (Vec T Global)) →
     Decides (siblings_fit queries count siblings) ((length (map items siblings) ≡ queries)
     × All (λ s. length s ≡ count) (map items siblings))

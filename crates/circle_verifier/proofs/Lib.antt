@@ -1,4 +1,3 @@
-pub mod Answering
 pub mod Claimed
 pub mod Domains
 pub mod Finite
@@ -7,13 +6,14 @@ pub mod FirstLayerRun
 pub mod FirstLayerTwiddles
 pub mod FirstLayerWords
 pub mod HeightTests
+pub mod Items
 pub mod LastWord
 pub mod Lengths
-pub mod Passed
 pub mod Points
 pub mod ReducedRows
 pub mod ReducedWidths
 pub mod ReducedWords
+pub mod Replayed
 pub mod RoundsOpened
 pub mod RoundsValues
 pub mod RoundsWaiting

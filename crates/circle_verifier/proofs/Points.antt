@@ -20,7 +20,7 @@ use Rattle.circle_relation.specs.Statement.{MatrixClaim, all_matrices}
 use Rattle.circle_relation.specs.StatementOf.{point_claim, matrix_claim, matrix_claims, batch_claim}
 use Rattle.circle_relation.specs.StatementOf.{batch_claims}
 
--- where no index is answered, no entry passes
+-- where no index is returned, no entry passes
 no-index : {t : Bool} (a : ℕ) → cond t (Some a) None ≡ None → t ≡ false
 no-index {t = true} a none = cc
 no-index {t = false} a none = refl

@@ -1,4 +1,4 @@
--- The reduced words at the queries, and what they are apart from.
+-- The reduced codewords at the queries, and what they are apart from.
 use Rattle.std.specs.Prelude.{◌≡◌, ℕ, ◌+◌, ◌<◌, ◌≤◌, ◌==◌, if◌then◌else◌, Bool, true, false, List}
 use Rattle.std.specs.Prelude.{[], ◌∷◌, length, map, zip, All, slice_index_or}
 use Rattle.std.specs.List.{filter, range_with_len}

@@ -102,7 +102,7 @@ module _ {F E I W IC ID IP IE WC WD WP WE : Type 0} {g : _} (k : Fields F E)
         ∙ ap (λ x. (x, slice_index_or (map opened_round steps) n (opened_round p))) (sym is_c)
         ∙ ap (λ x. (c, x)) step-here)
 
-    -- what the scheme is asked, and what the relation says
+    -- what the scheme is to show, and what the relation says
     module _ (words : W → Authenticates WC E WP) (height : ℕ) (places : List ℕ)
         (rows : List (List (List E))) (is_height : height ≡ 2 ^ (o.log_max_height - 2 - n))
         (are_places : places ≡ map (λ q. q / 2 ^ (n + 2)) queries)

@@ -134,7 +134,7 @@ module _ {F E I W IC ID IP IE WC WD WP WE : Type 0} {g : _} (k : Fields F E)
       (sym height)
       ∙ sym (zip-placed (value (suc n)) 0 queries)
 
-  -- the pairs that are asked for
+  -- the pairs at the queries
   asked : (n : ℕ) (values siblings : List E) → values ≡ values_in k o n → siblings ≡ siblings_in
       k o n → asked_pairs (n + 1) queries values siblings ≡ placed (pair n) 0 queries
   asked n values siblings vs ss =
@@ -177,7 +177,7 @@ module _ {F E I W IC ID IP IE WC WD WP WE : Type 0} {g : _} (k : Fields F E)
       ∙ pairwise-placed (fold_pair l b) (λ j q. k.embed (twiddle n q)) (pair n) 0 queries
       ∙ sym (zip-placed (fold n) 0 queries)
 
-  -- the words begin with that of the greatest height
+  -- the codewords begin with that of the greatest height
   module _ (height : o.log_max_height ≡ top k o.params.now (run_of o))
       (some : 1 ≤ length (matrices k o.params.now (run_of o))) where
     abbrev highest : ℕ
@@ -295,7 +295,7 @@ module _ {F E I W IC ID IP IE WC WD WP WE : Type 0} {g : _} (k : Fields F E)
 
 module _ {F E I W IC ID IP IE WC WD WP WE : Type 0} {g : _} (k : Fields F E)
     (o : OpenedRun F E I W IC ID IP IE WC WD WP WE g) (drawn : IsDrawn k o) where
-  -- a round is due only above the last word
+  -- a round is due only above the last codeword
   pub round-within : (n : ℕ) → n < length o.betas.now → n + 3 ≤ o.log_max_height
   round-within n lt =
       let r = run_of o in

@@ -1,4 +1,4 @@
--- The words that wait for the rounds where they join.
+-- The codewords that wait for the rounds where they join.
 use Rattle.std.specs.Prelude.{◌≡◌, ◌≢◌, ℕ, ◌+◌, ◌-◌, ◌<◌, Bool, true, false, cond, List, [], ◌∷◌}
 use Rattle.std.specs.Prelude.{◌++◌, length, map, All, slice_index_or}
 use Rattle.std.specs.List.{filter, range_with_len}
@@ -26,7 +26,7 @@ range-more a (suc n) =
     let same : a + 1 + n ≡ a + suc n = omega arith in
     ap (λ t. a ∷ t) (range-more (a + 1) n ∙ ap (λ m. range_with_len (a + 1) n ++ m ∷ []) same)
 
--- the words of the heights below a bound that pass a test
+-- the codewords of the heights below a bound that pass a test
 module _ {T : Type 0} (p : ℕ → Bool) (word : ℕ → T) where
   abbrev pub below : ℕ → List (ℕ × T)
   below b = map (λ h. (h, word h)) (filter p (range_with_len 0 b))
@@ -65,7 +65,7 @@ module _ {T : Type 0} (p : ℕ → Bool) (word : ℕ → T) where
       ap (λ i. slice_index_or (w ∷ []) i w) z))
       (all (length front) w (omega (arith, length-append front (w ∷ []))))
 
-  -- the last word is that of the next height below, where there is one
+  -- the last codeword is that of the next height below, where there is one
   pub last-due : (b : ℕ) (front : List (ℕ × T)) (w : ℕ × T) → front ++ w ∷ [] ≡ below (suc b) →
       w.0 ≡ b → (p b ≡ true) × (front ≡ below b) × (w.1 ≡ word b)
   last-due b front w e due =

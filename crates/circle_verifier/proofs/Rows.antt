@@ -1,4 +1,4 @@
--- What a scheme is asked of a batch, and what its refusal says.
+-- What a scheme is to show of a batch, and what its refusal says.
 use Rattle.std.proofs.Common.{◌≡◌, ℕ, ◌+◌, ◌<◌, ◌≤◌, Bool, true, false, List, [], ◌∷◌, length}
 use Rattle.std.proofs.Common.{get_or, take, map, refl, sym, ap, subst, ◌∙◌, arith}
 use Rattle.std.specs.Prelude.{All, Result, Ok, Err, IfErr, IsErrAnd, min, zip, if◌then◌else◌}

@@ -20,12 +20,13 @@ use Rattle.circle_relation.specs.Statement.{MatrixClaim, BatchClaim, OpeningProo
 use Rattle.circle_relation.specs.Statement.{log_sizes, log_max_height}
 use Rattle.circle_relation.specs.StatementOf.{point_claim, matrix_claims, batch_claims}
 use Rattle.circle_relation.specs.RunOf.{opened_round}
-use Rattle.circle_verifier.specs.Refusals.{Test, answer, claim_tests, domain_tests, parameter_tests}
-use Rattle.circle_verifier.specs.Refusals.{shape_tests, final_test, point_tests, some_point}
-use Rattle.circle_verifier.specs.Refusals.{some_claim, seeding_tests}
-use Rattle.circle_verifier.proofs.Domains.{passed-value}
-use Rattle.circle_verifier.proofs.Passed.{AllPass, passed, passes, pass-back, front_refuses}
-use Rattle.circle_verifier.proofs.Passed.{front_passes}
+use Rattle.circle_relation.specs.TestsInOrder.{Test, answer}
+use Rattle.circle_verifier.specs.Refusals.{claim_tests, domain_tests, parameter_tests, shape_tests}
+use Rattle.circle_verifier.specs.Refusals.{final_test, point_tests, some_point, some_claim}
+use Rattle.circle_verifier.specs.Refusals.{seeding_tests}
+use Rattle.circle_relation.proofs.Answering.{passed-value}
+use Rattle.circle_relation.proofs.Passed.{AllPass, passed, passes, pass-back, front_refuses}
+use Rattle.circle_relation.proofs.Passed.{front_passes}
 use Rattle.circle_verifier.proofs.HeightTests.{raised}
 
 module _ {F E M Com WordCom InputProof WordProof C A B : Type 0} (two : ℕ) (is_zero : F → Bool)

@@ -1,11 +1,13 @@
 -- The tests of a proof's shape, one after another.
-use Rattle.std.proofs.Common.{◌≡◌, ◌≢◌, ◌==◌, ◌++◌, not, true, false, List, [], ◌∷◌, ℕ, ap, ◌∙◌}
+use Rattle.std.proofs.Common.{rules, ◌≡◌, ◌≢◌, ◌==◌, ◌+◌, ◌<◌, ◌++◌, not, true, false, List, []}
+use Rattle.std.proofs.Common.{◌∷◌, ℕ, drop, length, map, get_or, sym, ap, ◌∙◌}
+use Rattle.std.proofs.lemmas.List.{drop_more}
 use Rattle.std.proofs.lemmas.Bool.{ne_eqb}
-use Rattle.std.specs.Prelude.{Ok, Err}
+use Rattle.std.specs.Prelude.{Result, Ok, Err}
 use Rattle.std.specs.Result.{result_and}
-use Rattle.circle_verifier.specs.Refusals.{Test, answer}
-use Rattle.circle_verifier.proofs.Answering.{answer-append}
-use Rattle.circle_verifier.proofs.HeightTests.{skipped, refusing}
+use Rattle.circle_relation.specs.TestsInOrder.{Test, answer}
+use Rattle.circle_relation.proofs.Answering.{answer-append, skipped, refusing}
+use Rattle.circle_verifier.specs.Refusals.{rounds_tests, round_tests}
 
 -- numbers that aren't the same differ
 pub different : (a b : ℕ) → a ≢ b → not (a == b) ≡ true
@@ -53,3 +55,36 @@ module _ {E : Type 0} (t u w x y : Test E) (ts : List (Test E)) where
             answer {A = Unit {0}} (t ∷ u ∷ w ∷ x ∷ y ∷ ts) (tt {0}) ≡ Err y.1
         fifth_refuses fourth reason = two_pass ∙ passed_first (w ∷ []) (x ∷ y ∷ ts) third
             ∙ passed_first (x ∷ []) (y ∷ ts) fourth ∙ refusing y ts (tt {0}) reason
+
+module _ {C I X : Type 0} (lengths : X → List ℕ) (queries : ℕ) where
+  -- a round and those after it
+  pub answer-round : (round : ℕ) (xs : List X) (i : ℕ) (x : X) → i < length xs → x ≡ get_or xs i x
+      → answer {A = Unit {0}} (rounds_tests {C = C} {I = I} queries round (map lengths (drop i xs)))
+      (tt {0})
+      ≡ result_and (answer (round_tests queries round (lengths x)) (tt {0}))
+      (answer (rounds_tests queries (round + 1) (map lengths (drop (i + 1) xs))) (tt {0}))
+  unfolding rounds_tests
+  answer-round round xs i x within is =
+      ap (λ ys. answer {A = Unit {0}} (rounds_tests {C = C} {I = I} queries round (map lengths ys))
+      (tt {0})) (drop_more xs i x within ∙ ap (λ v. v ∷ drop (i + 1) xs) (sym is))
+      ∙ answer-append (round_tests queries round (lengths x))
+      (rounds_tests queries (round + 1) (map lengths (drop (i + 1) xs))) (tt {0})
+
+-- numbers that are the same do not differ
+pub not_different : (a b : ℕ) → a ≡ b → not (a == b) ≡ false
+not_different a b same = search rules
+
+-- five tests of which none refuses, and others
+pub answer-fifth : {E : Type 0} (t u w x y : Test E) (ts : List (Test E))
+    (r : Result (Unit {0}) E) → t.0 ≡ false → u.0 ≡ false
+    → answer (w ∷ []) (tt {0}) ≡ Ok (tt {0}) → answer (x ∷ []) (tt {0}) ≡ Ok (tt {0}) →
+    y.0 ≡ false → r ≡ answer ts (tt {0})
+    → r ≡ answer (t ∷ u ∷ w ∷ x ∷ y ∷ ts) (tt {0})
+answer-fifth t u w x y ts r first second third fourth fifth others =
+    others
+    ∙ sym (
+    skipped t (u ∷ w ∷ x ∷ y ∷ ts) (tt {0}) first
+    ∙ skipped u (w ∷ x ∷ y ∷ ts) (tt {0}) second
+    ∙ passed_first (w ∷ []) (x ∷ y ∷ ts) third
+    ∙ passed_first (x ∷ []) (y ∷ ts) fourth
+    ∙ skipped y ts (tt {0}) fifth)

@@ -1,4 +1,4 @@
--- The twiddles of words and of rounds, one list after another.
+-- The twiddles of codewords and of rounds, one list after another.
 use Rattle.std.specs.Prelude.{◌≡◌, ℕ, ◌+◌, ◌-◌, ◌<◌, ◌≤◌, List, [], ◌∷◌, ◌++◌, Some, length, map}
 use Rattle.std.specs.Prelude.{take, drop, slice_get}
 use Rattle.std.specs.List.{flat_map, range_with_len}

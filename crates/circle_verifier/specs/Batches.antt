@@ -1,4 +1,4 @@
--- What is asked of a batch's rows.
+-- What a batch's rows must satisfy.
 use Rattle.std.specs.Prelude.{◌≡◌, Bool, false, ℕ, ◌^◌, [], length, map, slice_index_or}
 use Rattle.circle_commit.specs.declared.matrix.Dimensions.{Dimensions}
 use Rattle.circle_commit.specs.declared.pcs.CommitmentOpening.{CommitmentOpening}

@@ -23,7 +23,7 @@ module _ {F E I W IC ID IP IE WC WD WP WE : Type 0} {g : _} (k : Fields F E)
       let r = run_of o in
       (h, at_queries k o.params.now r (λ j q. folded k o.params.now r j q h))
 
--- the shape of a word of 2^h entries, by pairs
+-- the shape of a codeword of 2^h entries, by pairs
 abbrev pub pair_shape : ℕ → Dimensions
 pair_shape h = record { width = 2; height = 2 ^ (h - 1) }
 

@@ -6,3 +6,4 @@ pub mod Shape
 pub mod Sums
 pub mod Tested
 pub mod Tests
+pub mod Replay

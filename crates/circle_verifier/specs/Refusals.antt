@@ -1,9 +1,8 @@
 -- What is refused of a proof before the challenger is seeded, in order.
-use Rattle.std.specs.Prelude.{ℕ, ◌+◌, ◌-◌, ◌^◌, ◌==◌, Bool, not, ◌&&◌, if◌then◌else◌, List, [], ◌∷◌}
-use Rattle.std.specs.Prelude.{◌++◌, length, map, min, Result, Ok, Err, nat_lt, nat_le}
+use Rattle.std.specs.Prelude.{ℕ, ◌+◌, ◌-◌, ◌^◌, ◌==◌, Bool, not, ◌&&◌, List, [], ◌∷◌, ◌++◌, length}
+use Rattle.std.specs.Prelude.{map, min, nat_lt, nat_le}
 use Rattle.std.specs.List.{list_all, list_any}
 use Rattle.circle_commit.specs.declared.error.FriError.{FriError}
-use Rattle.circle_field.specs.Field.{FieldOps}
 use Rattle.circle_commit.specs.Mmcs.{greatest}
 use Rattle.circle_commit.specs.declared.error.FriError.TheVariants.{NoCommittedMatrices}
 use Rattle.circle_commit.specs.declared.error.FriError.TheVariants.{GlobalMaxHeightTooLarge}
@@ -26,20 +25,11 @@ use Rattle.circle_commit.specs.declared.params.FriParameters.{FriParameters}
 use Rattle.circle_commit.specs.declared.params.PowPhase.{PowPhase}
 use Rattle.circle_commit.specs.declared.params.PowPhase.TheVariants.{Batch, CommitPhase, Query}
 use Rattle.circle_relation.specs.declared.error.InputError.{InputError}
+use Rattle.circle_relation.specs.TestsInOrder.{Test}
 use Rattle.circle_relation.specs.declared.error.InputError.TheVariants.{DomainTooSmall}
 
--- a refusal, and whether there is reason for it
-abbrev pub Test : Type 0 → Type 0
-Test E = Bool × E
-
--- the answer after tests: the first refusal that there is reason for, or the value where there is
--- none
-unfoldable pub answer : {A E : Type 0} → List (Test E) → A → Result A E
-answer [] value = Ok value
-answer (test ∷ tests) value = if test.0 then Err test.1 else answer tests value
-
 module _ {C A B : Type 0} where
-  -- domains of so many points each, where folding stops at 2^final coefficients: one of too few
+  -- domains of these sizes, where folding stops at 2^final coefficients: one of too few
   abbrev pub domain_tests : ℕ → List ℕ → List (Test (FriError C (InputError A B)))
   domain_tests final log_sizes = map (λ n. (nat_le n final, OfInput (DomainTooSmall n))) log_sizes
 
@@ -88,8 +78,8 @@ module _ {C I : Type 0} where
   rounds_tests queries round (siblings ∷ rest) =
       round_tests queries round siblings ++ rounds_tests queries (round + 1) rest
 
-  -- the shape of a proof where so many rounds are due: the number of commitments of rounds, their
-  -- witnesses, that of the queries, and for each round and query the number of siblings
+  -- the shape of a proof where this number of rounds is due: the number of commitments of rounds,
+  -- their witnesses, that of the queries, and for each round and query the number of siblings
   abbrev pub shape_tests : {M W : Type 0} → (W → Bool) → FriParameters M → ℕ → ℕ → List W → W →
       List (List ℕ) → List (Test (FriError C I))
   shape_tests is_zero p rounds commits witnesses query_witness siblings =
@@ -129,10 +119,6 @@ seeding_tests two_adicity is_zero is_infinite p batches proof =
     proof.query_witness siblings
     ++ (final_test final (length proof.final_poly)
     ∷ point_tests p (is_zero proof.batch_witness) (some_claim is_infinite matrices))))
-
--- whether a coordinate of the projective line belongs to no point: t^2 = -1
-abbrev pub is_at_infinity : {E : Type 0} → (E → E → Bool) → FieldOps E → E → Bool
-is_at_infinity eq k t = eq (k.mul t t) (k.neg k.one)
 
 -- whether some claimed coordinate passes a test
 abbrev pub some_point : {E Com D : Type 0} → (E → Bool) → List (CommitmentOpening E Com D) → Bool

@@ -12,7 +12,7 @@ use Rattle.circle_relation.specs.Accepts.{folded, sibling_in, round_value, round
 use Rattle.circle_relation.specs.Accepts.{RoundAuthenticates}
 use Rattle.circle_relation.specs.RunOf.{run_of}
 
--- the queries' twiddles of so many rounds from round n on, one round after another, for queries
+-- the queries' twiddles of `count` rounds from round n on, one round after another, for queries
 -- below 2^h, and their inverses
 module _ {F : Type 0} (k : FieldOps F) (gen : ℕ → Coordinates F) (h : ℕ) (queries : List ℕ) where
   abbrev pub twiddles_from : ℕ → ℕ → List F
@@ -23,7 +23,8 @@ module _ {F : Type 0} (k : FieldOps F) (gen : ℕ → Coordinates F) (h : ℕ) (
 
 module _ {F E I W IC ID IP IE WC WD WP WE : Type 0} {g : _} (k : Fields F E)
     (o : OpenedRun F E I W IC ID IP IE WC WD WP WE g) where
-  -- the queries' values in the word of a round, their siblings there, and the folds of their pairs
+  -- the queries' values in the codeword of a round, their siblings there, and the folds of their
+  -- pairs
   abbrev pub values_in : ℕ → List E
   values_in n =
       let r = run_of o in

@@ -7,7 +7,7 @@ use Rattle.circle_commit.specs.declared.pcs.MatrixOpening.{MatrixOpening}
 use Rattle.circle_commit.specs.declared.pcs.CommitmentOpening.{CommitmentOpening}
 use Rattle.circle_commit.specs.declared.pcs.BatchMultiOpening.{BatchMultiOpening}
 
--- whether all claims have so many values
+-- whether all claims have `count` values
 abbrev pub have_values : {E : Type 0} → List (PointOpening E) → ℕ → Bool
 have_values points count = list_all (λ p. vec_len p.values == count) points
 
@@ -33,7 +33,7 @@ inputs_fit queries claims inputs =
     && list_all (λ p. opened_fit queries p.0.matrices.items p.1.opened_values.items)
     (zip claims inputs)
 
--- whether there are so many siblings for each query
+-- whether there are `count` siblings for each query
 abbrev pub siblings_fit : {T : Type 0} → ℕ → ℕ → List (Vec T Global) → Bool
 siblings_fit queries count siblings =
     (length siblings == queries) && list_all (λ s. vec_len s == count) siblings

@@ -22,7 +22,7 @@ abbrev pub claims_on : {F E : Type 0} → MatrixRows F → List (PointClaim E) �
 claims_on rows claims j = on_row (slice_index_or (matrix_rows rows) j []) claims
 
 module _ {F E : Type 0} {g : _} (l : FieldOps E) (embed : F → E) (word : Word F E g) where
-  -- none of the word's points is claimed
+  -- none of the codeword's points is claimed
   abbrev pub IsApartFrom : List (PointClaim E) → Type 0
   IsApartFrom claims = AreApartFrom l embed (map coordinates word.points.now) claims
 
@@ -31,8 +31,8 @@ module _ {F E : Type 0} {g : _} (l : FieldOps E) (embed : F → E) (word : Word 
   IsApartFromRows matrices =
       AreApartAt l embed word.log_blowup word.log_height (map coordinates word.points.now) matrices
 
-  -- the word's sums from old to new, under any alpha with its powers: by claims at each point, by
-  -- those on a batch's matrices of its height, and by all of them from the first power on
+  -- the codeword's sums from old to new, under any alpha with its powers: by claims at each point,
+  -- by those on a batch's matrices of its height, and by all of them from the first power on
   abbrev pub AddsAtQueries : Coordinates F → (ℕ → List (PointClaim E × List F)) → E → E →
       List E → List E → Type 0
   AddsAtQueries none claims offset after old new = (alpha : E) → ArePowers l alpha word.powers.now →
@@ -50,7 +50,8 @@ module _ {F E : Type 0} {g : _} (l : FieldOps E) (embed : F → E) (word : Word 
       (after : E) × Adds l embed alpha (map coordinates word.points.now) none
       (all_claims_at word.log_blowup word.log_height pairs) l.one after old new
 
--- the word of height 2^h at the queries: their points, and the sums of the quotients of their rows
+-- the codeword of height 2^h at the queries: their points, and the sums of the quotients of their
+-- rows
 abbrev pub word_at : {F E I W IC ID IP IE WC WD WP WE : Type 0} {g : _} →
     Fields F E → OpenedRun F E I W IC ID IP IE WC WD WP WE g → ℕ
     → ℕ × (List (Coordinates F) × List E)

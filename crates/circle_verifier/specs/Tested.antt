@@ -3,9 +3,9 @@ use Rattle.std.specs.Prelude.{◌≡◌, ℕ, ◌+◌, ◌-◌, ◌^◌, ◌<◌
 use Rattle.circle_commit.specs.declared.params.FriParameters.{FriParameters}
 use Rattle.circle_relation.specs.Accepts.{Fields}
 use Rattle.circle_relation.specs.Statement.{BatchClaim, OpeningProof, all_matrices, log_max_height}
-use Rattle.circle_verifier.specs.Refusals.{is_at_infinity}
+use Rattle.circle_point.specs.Projective.{is_at_infinity}
 
--- the number of rounds that claims and parameters ask for
+-- the number of rounds that claims and parameters require
 abbrev pub rounds_due : {M Com E : Type 0} → FriParameters M → List (BatchClaim Com E) → ℕ
 rounds_due p batches =
     log_max_height p.log_blowup (all_matrices batches) - 1 - p.log_blowup - p.log_final_poly_len

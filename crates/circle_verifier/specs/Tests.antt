@@ -12,11 +12,12 @@ use Rattle.circle_relation.specs.declared.error.InputError.{InputError}
 use Rattle.circle_relation.specs.declared.proof.CircleCommitPhaseMultiStep.{CircleCommitPhaseMultiStep}
 use Rattle.circle_relation.specs.declared.proof.CircleFriProof.{CircleFriProof}
 use Rattle.circle_relation.specs.declared.proof.CirclePcsProof.{CirclePcsProof}
-use Rattle.circle_verifier.specs.Refusals.{Test, answer, claim_tests, is_at_infinity, seeding_tests}
-use Rattle.circle_verifier.specs.Refusals.{shape_tests}
+use Rattle.circle_relation.specs.TestsInOrder.{Test, answer}
+use Rattle.circle_verifier.specs.Refusals.{claim_tests, seeding_tests, shape_tests}
+use Rattle.circle_point.specs.Projective.{is_at_infinity}
 
--- I and W are the schemes of the batches and of the words, each with its commitments, data, proofs
--- and errors
+-- I and W are the schemes of the batches and of the codewords, each with its commitments, data,
+-- proofs and errors
 module _ {F E I W IC ID IP IE WC WD WP WE : Type 0} {g : _} (k : Fields F E) (p : FriParameters W)
     (claims : List (CommitmentOpening E IC (CircleDomain F g)))
     (proof : CirclePcsProof F E I W F IC ID IP IE WC WD WP WE) where
@@ -26,7 +27,7 @@ module _ {F E I W IC ID IP IE WC WD WP WE : Type 0} {g : _} (k : Fields F E) (p 
       seeding_tests k.two_adicity k.is_zero (is_at_infinity k.same k.extension) p
       (batch_claims claims) (proof_of proof)
 
-  -- where one of them has reason to refuse, the first is the answer, and the challenger is as it
+  -- where one of them has reason to refuse, the first is the result, and the challenger is as it
   -- was
   abbrev pub IsFirstRefusal : {C : Type 0} → Result (Unit {0}) (FriError WE (InputError IE WE))
       → C → C → Type 0
@@ -43,13 +44,13 @@ batch_tests two_adicity blowup final batches =
 abbrev pub claimed_height : {Com E : Type 0} → ℕ → List (BatchClaim Com E) → ℕ
 claimed_height blowup batches = log_max_height blowup (all_matrices batches)
 
--- W is the scheme of the words, with its commitments, data, proofs and errors
+-- W is the scheme of the codewords, with its commitments, data, proofs and errors
 module _ {E W WC WD WP WE : Type 0} where
   -- for each round and query the number of siblings
   abbrev pub sibling_counts : List (CircleCommitPhaseMultiStep E W WC WD WP WE) → List (List ℕ)
   sibling_counts openings = map (λ o. map vec_len o.sibling_values.items) openings
 
-  -- the tests of the lengths of a proof and of its witnesses where so many rounds are due
+  -- the tests of the lengths of a proof and of its witnesses where this number of rounds is due
   abbrev pub proof_tests : {F P I : Type 0} → (F → Bool) → FriParameters W → ℕ
       → CircleFriProof E W F P WC WD WP WE → List (Test (FriError WE I))
   proof_tests is_zero p rounds proof =

@@ -13,7 +13,7 @@ use circle_commit::{
 use circle_domain::CircleDomain;
 use circle_field::{ComplexExtendable, ExtensionField};
 use circle_folding::without_bits;
-use circle_relation::{InputError, OpenedRun, OverCircle};
+use circle_relation::{InputError, OpenedRun, OverCircle, VerifierError};
 use std::alloc::{AllocError, Global};
 
 // The greatest logarithm of a height of a batch's matrices, or 0 where there is none.
@@ -61,10 +61,8 @@ fn claimed_shapes<F: ComplexExtendable, E>(
     Ok(shapes)
 }
 
-// What a scheme's refusal of a batch's rows is answered as.
-fn refusal<T: Copy, M: Mmcs<T>, WordsErr>(
-    error: M::Error,
-) -> FriError<WordsErr, InputError<M::Error, WordsErr>>
+// What a scheme's refusal of a batch's rows is returned as.
+fn refusal<T: Copy, M: Mmcs<T>, WordsErr>(error: M::Error) -> VerifierError<M::Error, WordsErr>
     ensures { result ≡ (if M.is_memory error then FriError.Memory
         else FriError.InputError (InputError.InputMmcsError error)) }
 {
@@ -86,7 +84,7 @@ fn authenticate_batch<
     run: &OpenedRun<Val, EF, InputMmcs, FriMmcs>,
     batch: &CommitmentOpening<EF, InputMmcs::Commitment, CircleDomain<Val>>,
     opening: &BatchMultiOpening<Val, InputMmcs>,
-) -> Result<(), FriError<FriMmcs::Error, InputError<InputMmcs::Error, FriMmcs::Error>>>
+) -> Result<(), VerifierError<InputMmcs::Error, FriMmcs::Error>>
     requires drawn { IsDrawn ⟦<EF as OverCircle<Val>>⟧.fields run.now }
     requires heights { All (λ m. log_size m.domain + run.now.params.now.log_blowup
         ≤ run.now.log_max_height) batch.now.matrices.items }
@@ -118,8 +116,8 @@ fn authenticate_batch<
 /// their first points, and the claimed heights; its rows stand at the queries without the bits by
 /// which its greatest height falls short of the greatest of all.
 ///
-/// Asks a run that was tested before its challenges were drawn, with lists of fitting lengths. Each
-/// batch is asked once, for all queries. Fails with `Memory` where memory is refused.
+/// Requires a run that was tested before its challenges were drawn, with lists of fitting lengths.
+/// Each batch is verified once, for all queries. Fails with `Memory` where memory is refused.
 pub fn authenticate_inputs<
     Val: ComplexExtendable,
     EF: ExtensionField<Val>,
@@ -128,7 +126,7 @@ pub fn authenticate_inputs<
 >(
     alloc: Global,
     run: &OpenedRun<Val, EF, InputMmcs, FriMmcs>,
-) -> Result<(), FriError<FriMmcs::Error, InputError<InputMmcs::Error, FriMmcs::Error>>>
+) -> Result<(), VerifierError<InputMmcs::Error, FriMmcs::Error>>
     requires drawn { IsDrawn ⟦<EF as OverCircle<Val>>⟧.fields run.now }
     requires opened { IsOpened ⟦<EF as OverCircle<Val>>⟧.fields run.now }
     ensures shown { OnOk result (HasInputsOf ⟦<EF as OverCircle<Val>>⟧.fields run.now

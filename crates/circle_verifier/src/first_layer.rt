@@ -1,4 +1,4 @@
-//! The first layer: the reduced words of all heights, which are folded by y.
+//! The first layer: the reduced codewords of all heights, which are folded by y.
 ghost use Rattle.std.specs.Prelude.{◌≡◌, ◌^◌, ◌<◌, ◌≤◌, [], Some, length, map, All};
 ghost use Rattle.std.specs.Prelude.{OnOk, IfOk, IfErr, slice_get, slice_index_or};
 ghost use Rattle.std.specs.List.{flat_map};
@@ -19,21 +19,21 @@ use circle_folding::{
     first_layer_twiddles, fold_query_values_with_inv_twiddles, push_query_pairs,
     subtract_vanishing, without_bits,
 };
-use circle_relation::{InputError, OpenedRun, OverCircle, QueriedWord, QueryValues};
+use circle_relation::{InputError, OpenedRun, OverCircle, QueriedWord, QueryValues, VerifierError};
 use std::alloc::{AllocError, Global};
 
-/// Takes from each reduced word its lambda times the vanishing polynomial, and folds the pairs that
-/// the queries ask for: for each query its pairs, one for each height, and for each height what
-/// they fold into.
+/// Takes from each reduced codeword its lambda times the vanishing polynomial, and folds the pairs
+/// at the queries: for each query its pairs, one for each height, and for each height what they
+/// fold into.
 ///
 /// The transcript takes no lambda in, and needs none: it has the commitment to the first layer, and
 /// the pairs are made with lambda and tested against that commitment. As the vanishing polynomial
-/// is 0 at no point of a height's word, a lambda that isn't that of the committed words makes other
-/// pairs, which authenticate only where digests collide.
+/// is 0 at no point of a height's codeword, a lambda that isn't that of the committed codewords
+/// makes other pairs, which authenticate only where digests collide.
 ///
-/// Asks a run that was tested before its challenges were drawn, with lists of fitting lengths, and
-/// its reduced words. The twiddles of all heights are inverted together. Fails where memory is
-/// refused.
+/// Requires a run that was tested before its challenges were drawn, with lists of fitting lengths,
+/// and its reduced codewords. The twiddles of all heights are inverted together. Fails where memory
+/// is refused.
 pub fn fold_first_layer<
     Val: ComplexExtendable,
     EF: ExtensionField<Val>,
@@ -69,8 +69,8 @@ pub fn fold_first_layer<
 /// Refuses a run of which the pairs of the first layer don't authenticate, by
 /// `FirstLayerMmcsError`.
 ///
-/// Asks a run that was tested before its challenges were drawn, the heights that are claimed, and
-/// for each query its pairs. Fails with `Memory` where memory is refused.
+/// Requires a run that was tested before its challenges were drawn, the heights that are claimed,
+/// and for each query its pairs. Fails with `Memory` where memory is refused.
 pub fn authenticate_first_layer<
     Val: ComplexExtendable,
     EF: ExtensionField<Val>,
@@ -81,7 +81,7 @@ pub fn authenticate_first_layer<
     run: &OpenedRun<Val, EF, InputMmcs, FriMmcs>,
     heights: &[usize],
     pairs: &[Vec<Vec<EF>>],
-) -> Result<(), FriError<FriMmcs::Error, InputError<InputMmcs::Error, FriMmcs::Error>>>
+) -> Result<(), VerifierError<InputMmcs::Error, FriMmcs::Error>>
     requires drawn { IsDrawn ⟦<EF as OverCircle<Val>>⟧.fields run.now }
     requires opened { IsOpened ⟦<EF as OverCircle<Val>>⟧.fields run.now }
     requires heights { heights.now ≡ heights_of ⟦<EF as OverCircle<Val>>⟧.fields run.now }
@@ -110,7 +110,8 @@ pub fn authenticate_first_layer<
     }
 }
 
-// The inverses of the queries' twiddles in these words, word after word, by one inversion.
+// The inverses of the queries' twiddles in these codewords, codeword after codeword, by one
+// inversion.
 fn inverse_first_twiddles<Val: ComplexExtendable, EF>(
     alloc: Global,
     log_max_height: usize,
@@ -139,9 +140,9 @@ fn inverse_first_twiddles<Val: ComplexExtendable, EF>(
     batch_multiplicative_inverse(alloc, &twiddles)
 }
 
-// Takes from the values of the word in this place of the heights its lambda times the vanishing
-// polynomial, adds the pairs that the queries ask for to their rows, and folds them by the inverses
-// of their twiddles. Where memory is refused the rows are of no use.
+// Takes from the values of the codeword in this place of the heights its lambda times the vanishing
+// polynomial, adds the pairs at the queries to their rows, and folds them by the inverses of their
+// twiddles. Where memory is refused the rows are of no use.
 fn fold_word<
     Val: ComplexExtendable,
     EF: ExtensionField<Val>,
@@ -216,7 +217,7 @@ fn entries_at<T: Copy>(alloc: Global, lists: &[Vec<T>], place: usize) -> Result<
     Ok(entries)
 }
 
-// The shapes of the words of these heights, by pairs.
+// The shapes of the codewords of these heights, by pairs.
 fn pair_shapes(alloc: Global, heights: &[usize]) -> Result<Vec<Dimensions>, AllocError>
     requires { All (λ h. (1 ≤ h) × (h ≤ 63)) heights.now }
     ensures { IfOk result (λ shapes. shapes.items ≡ map pair_shape heights.now) }

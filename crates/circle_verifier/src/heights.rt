@@ -53,7 +53,7 @@ fn is_claimed<
 
 /// The binary logarithms of all heights that matrices are claimed of, ascending, each once.
 ///
-/// Asks a run that was tested before its challenges were drawn. Fails where memory is refused.
+/// Requires a run that was tested before its challenges were drawn. Fails where memory is refused.
 pub fn claimed_heights<
     Val: ComplexExtendable,
     EF: ExtensionField<Val>,

@@ -8,13 +8,13 @@ use circle_commit::{FriError, Mmcs};
 use circle_domain::{CircleDomain, cfft_permute_index};
 use circle_field::{ComplexExtendable, ExtensionField};
 use circle_folding::x_value;
-use circle_relation::{InputError, OpenedRun, OverCircle};
+use circle_relation::{OpenedRun, OverCircle, VerifierError};
 
 /// Refuses a run of which some query ends in another value than that of the final polynomial at its
-/// place in the last word, by `FinalPolyMismatch`.
+/// place in the last codeword, by `FinalPolyMismatch`.
 ///
-/// Asks a run that was tested before its challenges were drawn, and the queries' values in the last
-/// word. Takes no memory.
+/// Requires a run that was tested before its challenges were drawn, and the queries' values in the
+/// last codeword. Takes no memory.
 #[tactic(auto, unfolding(circle_relation::specs::Reasons::IsReason))]
 pub fn check_final<
     Val: ComplexExtendable,
@@ -24,7 +24,7 @@ pub fn check_final<
 >(
     run: &OpenedRun<Val, EF, InputMmcs, FriMmcs>,
     values: &[EF],
-) -> Result<(), FriError<FriMmcs::Error, InputError<InputMmcs::Error, FriMmcs::Error>>>
+) -> Result<(), VerifierError<InputMmcs::Error, FriMmcs::Error>>
     requires drawn { IsDrawn ⟦<EF as OverCircle<Val>>⟧.fields run.now }
     requires values { values.now ≡ last_values ⟦<EF as OverCircle<Val>>⟧.fields run.now }
     ensures ended { let k = ⟦<EF as OverCircle<Val>>⟧.fields in
@@ -43,8 +43,8 @@ pub fn check_final<
     Ok(())
 }
 
-// The x coordinate that an entry of a word of 2^log_len entries belongs to: that of every second
-// point of a standard domain in the order of the transform.
+// The x coordinate that an entry of a codeword of 2^log_len entries belongs to: that of every
+// second point of a standard domain in the order of the transform.
 fn x_at<F: ComplexExtendable>(log_len: usize, place: usize) -> F
     requires in_group { log_len + 2 ≤ F.CIRCLE_TWO_ADICITY }
     requires within { place < 2 ^ log_len }

@@ -1,24 +1,27 @@
 //! What a verifier of Circle STARK openings (IACR ePrint 2024/278) checks.
 //!
-//! Before the challenger is seeded, in `verifier`: `validate_run` answers the first refusal of
+//! Before the challenger is seeded, in `verifier`: `validate_run` returns the first refusal of
 //! claims and a proof that there is reason for, or the logarithm of the greatest height
 //! (`run_tests`). `validate_claims`, `validate_parameters`, `validate_proof_shape` and
 //! `validate_points` do so of parts of these tests (`batch_tests`, `parameter_tests`,
 //! `proof_tests`, `point_tests`), which `specs/Refusals` lists in order.
 //!
+//! `replay_transcript` draws what the transcript of claims and a proof draws from a challenger, or
+//! returns the refusal of the first witness that doesn't pass.
+//!
 //! Once the challenges of a run are drawn, by the relation of `circle_relation`, for every lawful
 //! field, extension and schemes:
 //!
-//! - `claimed_heights` answers the heights that matrices are claimed of, ascending.
+//! - `claimed_heights` returns the heights that matrices are claimed of, ascending.
 //! - `validate_input_shape` is Ok only where the proof's lists have the lengths that the claims and
 //!   the queries fix, each matrix is claimed at a point, and each leaves something to fold
 //!   (`opened`).
 //! - `authenticate_inputs` is Ok only where the rows of each batch authenticate at the queries
 //!   (`shown`).
-//! - `reduced_words` answers for each height the sums of the quotients of all claims at the queries
+//! - `reduced_words` returns for each height the sums of the quotients of all claims at the queries
 //!   (`words`), and is Ok only where no claimed point is that of a query (`apart`).
-//! - `fold_first_layer` answers the pairs that the queries ask of the first layer (`pairs`), and
-//!   what they fold into (`folded`). `authenticate_first_layer` is Ok only where these pairs
+//! - `fold_first_layer` returns the pairs of the first layer at the queries (`pairs`), and what
+//!   they fold into (`folded`). `authenticate_first_layer` is Ok only where these pairs
 //!   authenticate (`shown`).
 //! - `fold_rounds` folds the queries' values round by round, joining each height where it is due
 //!   (`values`), and is Ok only where the pairs of all rounds authenticate (`shown`).
@@ -31,12 +34,12 @@
 //! Its files:
 //!
 //! - In `specs/`, `Refusals`: the tests before the seeding, in order; `Tests`: these over the
-//!   records; `Tested`: what they establish. `Shape`, `Batches`, `Sums`, `FirstLayer`, `Rounds`:
-//!   words of private contracts.
-//! - In `proofs/`, `Answering`, `Domains`, `HeightTests`, `Passed`, `Seeding`, `Finite`, `Claimed`:
-//!   the tests. `Sizes`, `Lengths`, `Points`, `Rows`: shapes and rows. Those that begin with
-//!   `Reduced`, `FirstLayer` and `Rounds`, and `LastWord`: each part. `Verified`: the relation, and
-//!   back.
+//!   records; `Tested`: what they establish. `Replay`: what is drawn. `Shape`, `Batches`, `Sums`,
+//!   `FirstLayer`, `Rounds`: definitions of private contracts.
+//! - In `proofs/`, `Domains`, `HeightTests`, `ShapeTests`, `Seeding`, `Finite`, `Claimed`: the
+//!   tests. `Items`, `Replayed`: the transcript. `Sizes`, `Lengths`, `Points`, `Rows`: shapes and
+//!   rows. Those that begin with `Reduced`, `FirstLayer` and `Rounds`, and `LastWord`: each part.
+//!   `Verified`: the relation, and back.
 #![tactic(auto)]
 
 pub mod batches;
@@ -45,6 +48,7 @@ pub mod heights;
 pub mod last_word;
 pub mod queries;
 pub mod reduced;
+pub mod replay;
 pub mod rounds;
 pub mod shape;
 pub mod verifier;
@@ -55,5 +59,6 @@ pub use heights::claimed_heights;
 pub use last_word::check_final;
 pub use queries::{verify_drawn, verify_queries};
 pub use reduced::reduced_words;
+pub use replay::replay_transcript;
 pub use rounds::fold_rounds;
 pub use shape::validate_input_shape;

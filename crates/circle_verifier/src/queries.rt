@@ -17,10 +17,10 @@ use crate::last_word::check_final;
 use crate::reduced::reduced_words;
 use crate::rounds::fold_rounds;
 use crate::shape::validate_input_shape;
-use circle_commit::{CommitmentOpening, FriError, FriParameters, Mmcs};
+use circle_commit::{CommitmentOpening, FriParameters, Mmcs};
 use circle_domain::CircleDomain;
 use circle_field::{ComplexExtendable, ExtensionField};
-use circle_relation::{CirclePcsProof, InputError, OpenedRun, OverCircle};
+use circle_relation::{CirclePcsProof, OpenedRun, OverCircle, VerifierError};
 use circle_transcript::CircleDraws;
 use std::alloc::Global;
 
@@ -28,8 +28,8 @@ use std::alloc::Global;
 /// due, each batch's rows authenticate, no claimed point is that of a query, the pairs of the first
 /// layer and of each round authenticate, and each query ends in the value of the final polynomial.
 ///
-/// Asks a run that was tested before its challenges were drawn. Fails with `Memory` where memory is
-/// refused.
+/// Requires a run that was tested before its challenges were drawn. Fails with `Memory` where
+/// memory is refused.
 #[tactic(auto, unfolding(circle_relation::specs::Reasons::IsReason))]
 pub fn verify_queries<
     Val: ComplexExtendable,
@@ -39,7 +39,7 @@ pub fn verify_queries<
 >(
     alloc: Global,
     run: &OpenedRun<Val, EF, InputMmcs, FriMmcs>,
-) -> Result<(), FriError<FriMmcs::Error, InputError<InputMmcs::Error, FriMmcs::Error>>>
+) -> Result<(), VerifierError<InputMmcs::Error, FriMmcs::Error>>
     requires drawn { IsDrawn ⟦<EF as OverCircle<Val>>⟧.fields run.now }
     ensures opened { OnOk result (IsOpened ⟦<EF as OverCircle<Val>>⟧.fields run.now) }
     ensures holds { OnOk result (Holds ⟦<EF as OverCircle<Val>>⟧.fields run.now
@@ -99,8 +99,8 @@ fn opened_run<
 
 /// Refuses a run that was tested, once its challenges are drawn, as [`verify_queries`] does.
 ///
-/// Asks the binary logarithm of the greatest height that is claimed, a challenge for each round, as
-/// many queries as the parameters say, and queries below that height.
+/// Requires the binary logarithm of the greatest height that is claimed, a challenge for each
+/// round, as many queries as the parameters say, and queries below that height.
 pub fn verify_drawn<
     Val: ComplexExtendable,
     EF: ExtensionField<Val>,
@@ -114,7 +114,7 @@ pub fn verify_drawn<
     proof: &CirclePcsProof<Val, EF, InputMmcs, FriMmcs, Val>,
     log_max_height: usize,
     draws: &CircleDraws<EF>,
-) -> Result<(), FriError<FriMmcs::Error, InputError<InputMmcs::Error, FriMmcs::Error>>>
+) -> Result<(), VerifierError<InputMmcs::Error, FriMmcs::Error>>
     requires tested { IsTestedOver ⟦<EF as OverCircle<Val>>⟧.fields params.now
         (batch_claims claims.now) (proof_of proof.now) }
     requires top { log_max_height ≡ claimed_height params.now.log_blowup (batch_claims claims.now) }

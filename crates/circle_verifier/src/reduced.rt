@@ -21,10 +21,10 @@ use circle_domain::CircleDomain;
 use circle_field::{ComplexExtendable, ExtensionField, Field};
 use circle_folding::{Claim, MatrixRows, add_quotients, query_points};
 use circle_point::Point;
-use circle_relation::{InputError, OpenedRun, OverCircle, QueriedWord};
+use circle_relation::{InputError, OpenedRun, OverCircle, QueriedWord, VerifierError};
 use std::alloc::{AllocError, Global};
 
-// The word of one height, at the queries.
+// The codeword of one height, at the queries.
 #[derive(Drop)]
 struct Word<'a, F: Field, EF> {
     // The binary logarithms of its length, and of the blowup.
@@ -36,7 +36,7 @@ struct Word<'a, F: Field, EF> {
     points: &'a [Point<F>],
 }
 
-// Adds to the sums the quotients of a matrix's rows under its claims, and answers the offset behind
+// Adds to the sums the quotients of a matrix's rows under its claims, and returns the offset behind
 // them. `None` exactly where a claimed point is that of a query.
 fn add_matrix<Val: ComplexExtendable, EF: ExtensionField<Val>>(
     sums: &mut [EF],
@@ -75,8 +75,8 @@ fn add_matrix<Val: ComplexExtendable, EF: ExtensionField<Val>>(
     Some(after)
 }
 
-// Adds to the sums the quotients of a batch's rows under the claims on matrices of the word's
-// height, and answers the offset behind them. `None` exactly where a claimed point is that of a
+// Adds to the sums the quotients of a batch's rows under the claims on matrices of the codeword's
+// height, and returns the offset behind them. `None` exactly where a claimed point is that of a
 // query.
 fn add_batch<Val: ComplexExtendable, EF: ExtensionField<Val>>(
     sums: &mut [EF],
@@ -110,7 +110,7 @@ fn add_batch<Val: ComplexExtendable, EF: ExtensionField<Val>>(
     Some(after)
 }
 
-// Adds to the sums the quotients of all rows under the claims on matrices of the word's height.
+// Adds to the sums the quotients of all rows under the claims on matrices of the codeword's height.
 // `None` exactly where a claimed point is that of a query.
 fn add_batches<
     Val: ComplexExtendable,
@@ -195,7 +195,7 @@ fn powers_for<Val: ComplexExtendable, EF: ExtensionField<Val>, Com>(
     EF::powers(alloc, alpha, width + 1)
 }
 
-// The word of one height at the queries.
+// The codeword of one height at the queries.
 fn reduced_word<
     Val: ComplexExtendable,
     EF: ExtensionField<Val>,
@@ -206,10 +206,7 @@ fn reduced_word<
     run: &OpenedRun<Val, EF, InputMmcs, FriMmcs>,
     powers: &[EF],
     log_height: usize,
-) -> Result<
-    QueriedWord<Val, EF>,
-    FriError<FriMmcs::Error, InputError<InputMmcs::Error, FriMmcs::Error>>,
->
+) -> Result<QueriedWord<Val, EF>, VerifierError<InputMmcs::Error, FriMmcs::Error>>
     requires drawn { IsDrawn ⟦<EF as OverCircle<Val>>⟧.fields run.now }
     requires opened { IsOpened ⟦<EF as OverCircle<Val>>⟧.fields run.now }
     requires positive { 1 ≤ log_height }
@@ -248,8 +245,8 @@ fn reduced_word<
 /// batching challenge of twice the number of columns that are claimed before it. Refuses a claim at
 /// the point of a query, by `OpeningPointMatchesQueryPoint`.
 ///
-/// Asks a run that was tested before its challenges were drawn, with lists of fitting lengths, and
-/// the heights that are claimed. Fails with `Memory` where memory is refused.
+/// Requires a run that was tested before its challenges were drawn, with lists of fitting lengths,
+/// and the heights that are claimed. Fails with `Memory` where memory is refused.
 pub fn reduced_words<
     Val: ComplexExtendable,
     EF: ExtensionField<Val>,
@@ -259,10 +256,7 @@ pub fn reduced_words<
     alloc: Global,
     run: &OpenedRun<Val, EF, InputMmcs, FriMmcs>,
     heights: &[usize],
-) -> Result<
-    Vec<QueriedWord<Val, EF>>,
-    FriError<FriMmcs::Error, InputError<InputMmcs::Error, FriMmcs::Error>>,
->
+) -> Result<Vec<QueriedWord<Val, EF>>, VerifierError<InputMmcs::Error, FriMmcs::Error>>
     requires drawn { IsDrawn ⟦<EF as OverCircle<Val>>⟧.fields run.now }
     requires opened { IsOpened ⟦<EF as OverCircle<Val>>⟧.fields run.now }
     requires heights { heights.now ≡ heights_of ⟦<EF as OverCircle<Val>>⟧.fields run.now }

@@ -1,4 +1,4 @@
-//! The rounds after the first layer, which fold words by x.
+//! The rounds after the first layer, which fold codewords by x.
 ghost use Rattle.std.specs.Prelude.{◌≡◌, ◌+◌, ◌-◌, ◌/◌, ◌^◌, ◌<◌, ◌≤◌, length, map, All};
 ghost use Rattle.std.specs.Prelude.{slice_index_or, OnOk, IfOk, IfErr};
 ghost use Rattle.circle_commit.specs.DotProduct.{pairwise};
@@ -14,17 +14,17 @@ use circle_folding::{
     add_each, first_x_twiddles, fold_query_values_with_inv_twiddles, next_x_twiddles, query_pairs,
     without_bits,
 };
-use circle_relation::{InputError, OpenedRun, OverCircle, QueryValues};
+use circle_relation::{OpenedRun, OverCircle, QueryValues, VerifierError};
 use std::alloc::{AllocError, Global};
 
 /// Folds the queries' values through all rounds, beginning with those of the greatest height: in
-/// each round the pairs that the queries ask for authenticate, are folded, and the height that is
-/// due joins them. Answers the values in the last word. Refuses a round whose pairs don't
-/// authenticate, by `CommitPhaseMmcsError`.
+/// each round the pairs at the queries authenticate, are folded, and the height that is due joins
+/// them. Returns the values in the last codeword. Refuses a round whose pairs don't authenticate,
+/// by `CommitPhaseMmcsError`.
 ///
-/// Asks a run that was tested before its challenges were drawn, with lists of fitting lengths, and
-/// what the first layer folds into. Each round is asked once, for all queries, and the twiddles of
-/// all rounds are inverted together. Fails with `Memory` where memory is refused.
+/// Requires a run that was tested before its challenges were drawn, with lists of fitting lengths,
+/// and what the first layer folds into. Each round is verified once, for all queries, and the
+/// twiddles of all rounds are inverted together. Fails with `Memory` where memory is refused.
 #[tactic(auto, unfolding(circle_relation::specs::Reasons::IsReason))]
 pub fn fold_rounds<
     Val: ComplexExtendable,
@@ -35,7 +35,7 @@ pub fn fold_rounds<
     alloc: Global,
     run: &OpenedRun<Val, EF, InputMmcs, FriMmcs>,
     folded: Vec<QueryValues<EF>>,
-) -> Result<Vec<EF>, FriError<FriMmcs::Error, InputError<InputMmcs::Error, FriMmcs::Error>>>
+) -> Result<Vec<EF>, VerifierError<InputMmcs::Error, FriMmcs::Error>>
     requires drawn { IsDrawn ⟦<EF as OverCircle<Val>>⟧.fields run.now }
     requires opened { IsOpened ⟦<EF as OverCircle<Val>>⟧.fields run.now }
     requires folded { let k = ⟦<EF as OverCircle<Val>>⟧.fields in
@@ -66,7 +66,7 @@ pub fn fold_rounds<
     Ok(values)
 }
 
-// The inverses of the queries' twiddles in so many rounds, round after round, by one inversion.
+// The inverses of the queries' twiddles in the rounds, round after round, by one inversion.
 fn inverse_round_twiddles<F: ComplexExtendable>(
     alloc: Global,
     log_max_height: usize,
@@ -88,7 +88,7 @@ fn inverse_round_twiddles<F: ComplexExtendable>(
     batch_multiplicative_inverse(alloc, &twiddles)
 }
 
-// Folds the queries' values in the word of a round, where their pairs authenticate.
+// Folds the queries' values in the codeword of a round, where their pairs authenticate.
 #[tactic(auto, unfolding(circle_relation::specs::Reasons::IsReason))]
 fn fold_round<
     Val: ComplexExtendable,
@@ -101,7 +101,7 @@ fn fold_round<
     round: usize,
     inv_twiddles: &[Val],
     values: &mut [EF],
-) -> Result<(), FriError<FriMmcs::Error, InputError<InputMmcs::Error, FriMmcs::Error>>>
+) -> Result<(), VerifierError<InputMmcs::Error, FriMmcs::Error>>
     requires drawn { IsDrawn ⟦<EF as OverCircle<Val>>⟧.fields run.now }
     requires round { round < length run.now.betas.now }
     requires inverses { inv_twiddles.now ≡ map Val.ops.inv (round_twiddles Val.ops Val.generators
@@ -135,7 +135,7 @@ fn authenticate_round<
     round: usize,
     values: &[EF],
     siblings: &[EF],
-) -> Result<(), FriError<FriMmcs::Error, InputError<InputMmcs::Error, FriMmcs::Error>>>
+) -> Result<(), VerifierError<InputMmcs::Error, FriMmcs::Error>>
     requires drawn { IsDrawn ⟦<EF as OverCircle<Val>>⟧.fields run.now }
     requires round { round < length run.now.betas.now }
     requires values { values.now ≡ values_in ⟦<EF as OverCircle<Val>>⟧.fields run.now round }
@@ -165,7 +165,7 @@ fn authenticate_round<
 }
 
 // Adds to the values that a round folds into those that join them at their height, where it is
-// claimed; answers the words that are left.
+// claimed; returns the codewords that are left.
 fn join<
     'a,
     Val: ComplexExtendable,

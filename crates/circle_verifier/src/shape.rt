@@ -15,9 +15,9 @@ use circle_commit::{
     BatchMultiOpening, CommitmentOpening, FriError, MatrixOpening, Mmcs, PointOpening,
 };
 use circle_field::{ComplexExtendable, ExtensionField};
-use circle_relation::{InputError, OpenedRun, OverCircle};
+use circle_relation::{InputError, OpenedRun, OverCircle, VerifierError};
 
-// Whether all claims on a matrix have so many values.
+// Whether all claims on a matrix have `count` values.
 fn have_values<E>(points: &[PointOpening<E>], count: usize) -> bool
     ensures { result ≡ have_values points.now count }
 {
@@ -62,7 +62,7 @@ fn inputs_fit<E, Com, D, T: Copy, M: Mmcs<T>>(
         ))
 }
 
-// Whether there are so many siblings for each query.
+// Whether there are `count` siblings for each query.
 fn siblings_fit<T>(num_queries: usize, count: usize, siblings: &[Vec<T>]) -> bool
     ensures { result ≡ siblings_fit num_queries count siblings.now }
 {
@@ -104,7 +104,7 @@ fn check_points<
     FriMmcs: Mmcs<EF>,
 >(
     run: &OpenedRun<Val, EF, InputMmcs, FriMmcs>,
-) -> Result<(), FriError<FriMmcs::Error, InputError<InputMmcs::Error, FriMmcs::Error>>>
+) -> Result<(), VerifierError<InputMmcs::Error, FriMmcs::Error>>
     ensures claimed { OnOk result
         (All (λ m. 1 ≤ length m.claims) (all_matrices (batch_claims run.now.claims.now))) }
     ensures refused { IfErr result (Refuses ⟦<EF as OverCircle<Val>>⟧.fields run.now
@@ -128,7 +128,7 @@ fn check_sizes<
     FriMmcs: Mmcs<EF>,
 >(
     run: &OpenedRun<Val, EF, InputMmcs, FriMmcs>,
-) -> Result<(), FriError<FriMmcs::Error, InputError<InputMmcs::Error, FriMmcs::Error>>>
+) -> Result<(), VerifierError<InputMmcs::Error, FriMmcs::Error>>
     requires drawn { IsDrawn ⟦<EF as OverCircle<Val>>⟧.fields run.now }
     ensures large { OnOk result (All (λ m. run.now.params.now.log_final_poly_len + 2 ≤ m.log_n)
         (all_matrices (batch_claims run.now.claims.now))) }
@@ -150,8 +150,8 @@ fn check_sizes<
 /// (`MatrixWithoutOpeningPoints`), and a domain on which nothing is left to fold
 /// (`UnconsumedReducedOpenings`).
 ///
-/// Asks a run that was tested before its challenges were drawn, and the heights that are claimed.
-/// Takes no memory.
+/// Requires a run that was tested before its challenges were drawn, and the heights that are
+/// claimed. Takes no memory.
 #[tactic(auto, unfolding(circle_relation::specs::Reasons::IsReason))]
 pub fn validate_input_shape<
     Val: ComplexExtendable,
@@ -161,7 +161,7 @@ pub fn validate_input_shape<
 >(
     run: &OpenedRun<Val, EF, InputMmcs, FriMmcs>,
     heights: &[usize],
-) -> Result<(), FriError<FriMmcs::Error, InputError<InputMmcs::Error, FriMmcs::Error>>>
+) -> Result<(), VerifierError<InputMmcs::Error, FriMmcs::Error>>
     requires drawn { IsDrawn ⟦<EF as OverCircle<Val>>⟧.fields run.now }
     requires heights { heights.now ≡ heights_of ⟦<EF as OverCircle<Val>>⟧.fields run.now }
     ensures opened { OnOk result (IsOpened ⟦<EF as OverCircle<Val>>⟧.fields run.now) }

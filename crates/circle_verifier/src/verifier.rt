@@ -4,28 +4,30 @@ ghost use Rattle.std.specs.List.{list_all, list_any};
 ghost use Rattle.circle_commit.specs.Mmcs.{greatest};
 ghost use Rattle.circle_relation.specs.Statement.{all_matrices, log_sizes};
 ghost use Rattle.circle_relation.specs.StatementOf.{matrix_claims, batch_claims};
-ghost use Rattle.circle_verifier.specs.Refusals.{answer, domain_tests, final_test, grinding_test};
-ghost use Rattle.circle_verifier.specs.Refusals.{is_at_infinity, parameter_tests, point_tests};
-ghost use Rattle.circle_verifier.specs.Refusals.{round_tests, rounds_tests, sibling_tests};
-ghost use Rattle.circle_verifier.specs.Refusals.{some_point, witness_test};
+ghost use Rattle.circle_relation.specs.TestsInOrder.{answer};
+ghost use Rattle.circle_verifier.specs.Refusals.{domain_tests, final_test, grinding_test};
+ghost use Rattle.circle_verifier.specs.Refusals.{parameter_tests, point_tests, round_tests};
+ghost use Rattle.circle_verifier.specs.Refusals.{rounds_tests, sibling_tests, some_point};
+ghost use Rattle.circle_verifier.specs.Refusals.{witness_test};
+ghost use Rattle.circle_point.specs.Projective.{is_at_infinity};
 ghost use Rattle.circle_verifier.specs.Tests.{batch_tests, claimed_height, proof_tests, run_tests};
 ghost use Rattle.circle_verifier.specs.Tests.{sibling_counts};
 
 use circle_commit::{
-    CommitmentOpening, FriError, FriParameters, MatrixOpening, Mmcs, PointOpening, PowPhase,
+    CommitmentOpening, FriError, FriParameters, MAX_PROOF_OF_WORK_BITS, MatrixOpening, Mmcs,
+    PointOpening, PowPhase,
 };
 use circle_domain::CircleDomain;
 use circle_field::{ComplexExtendable, ExtensionField, Field};
+use circle_point::is_at_infinity;
 use circle_relation::{
     CircleCommitPhaseMultiStep, CircleFriProof, CirclePcsProof, InputError, OverCircle,
+    VerifierError,
 };
-
-/// The greatest difficulty, in bits, of a proof of work that is supported.
-const MAX_PROOF_OF_WORK_BITS: usize = 30;
 
 // The greatest logarithm of a domain of a batch, or 0 where it claims no matrix. Refuses the first
 // domain that leaves nothing to fold.
-#[tactic(auto, unfolding(crate::specs::Refusals::answer))]
+#[tactic(auto, unfolding(circle_relation::specs::TestsInOrder::answer))]
 fn greatest_domain_of<F: ComplexExtendable, E, CommitErr, InputMmcsErr, FriMmcsErr>(
     matrices: &[MatrixOpening<E, CircleDomain<F>>],
     log_final_poly_len: usize,
@@ -46,7 +48,7 @@ fn greatest_domain_of<F: ComplexExtendable, E, CommitErr, InputMmcsErr, FriMmcsE
 
 // The greatest logarithm of a claimed domain, or 0 where no matrix is claimed. Refuses the first
 // domain that leaves nothing to fold.
-#[tactic(auto, unfolding(crate::specs::Refusals::answer))]
+#[tactic(auto, unfolding(circle_relation::specs::TestsInOrder::answer))]
 fn greatest_domain<F: ComplexExtendable, E, Com, CommitErr, InputMmcsErr, FriMmcsErr>(
     claims: &[CommitmentOpening<E, Com, CircleDomain<F>>],
     log_final_poly_len: usize,
@@ -61,7 +63,7 @@ fn greatest_domain<F: ComplexExtendable, E, Com, CommitErr, InputMmcsErr, FriMmc
     Ok(greatest)
 }
 
-/// Refuses claims by the first of these that holds, and answers the logarithm of the greatest
+/// Refuses claims by the first of these that holds, and returns the logarithm of the greatest
 /// height that is claimed, which is below that of the circle's group.
 ///
 /// - `NoCommittedMatrices` where no matrix is claimed.
@@ -70,7 +72,7 @@ fn greatest_domain<F: ComplexExtendable, E, Com, CommitErr, InputMmcsErr, FriMmc
 /// - `GlobalMaxHeightTooLarge` where the group has no domain of the greatest height's points.
 ///
 /// Takes no memory.
-#[tactic(auto, unfolding(crate::specs::Refusals::answer))]
+#[tactic(auto, unfolding(circle_relation::specs::TestsInOrder::answer))]
 pub fn validate_claims<F: ComplexExtendable, E, Com, CommitErr, InputMmcsErr, FriMmcsErr>(
     claims: &[CommitmentOpening<E, Com, CircleDomain<F>>],
     log_blowup: usize,
@@ -98,7 +100,7 @@ pub fn validate_claims<F: ComplexExtendable, E, Com, CommitErr, InputMmcsErr, Fr
 }
 
 // Refuses a difficulty past what is supported.
-#[tactic(auto, unfolding(crate::specs::Refusals::answer))]
+#[tactic(auto, unfolding(circle_relation::specs::TestsInOrder::answer))]
 fn check_grinding<CommitErr, InputErr>(
     phase: PowPhase,
     bits: usize,
@@ -117,7 +119,7 @@ fn check_grinding<CommitErr, InputErr>(
 /// - `ZeroQueries` where there are no queries.
 /// - `ZeroBlowup` where the codewords are no longer than what they encode.
 /// - `UnsupportedFoldingCap` where a round may fold by another number than two.
-#[tactic(auto, unfolding(crate::specs::Refusals::answer))]
+#[tactic(auto, unfolding(circle_relation::specs::TestsInOrder::answer))]
 pub fn validate_parameters<M, CommitErr, InputErr>(
     params: &FriParameters<M>,
 ) -> Result<(), FriError<CommitErr, InputErr>>
@@ -126,7 +128,7 @@ pub fn validate_parameters<M, CommitErr, InputErr>(
     check_grinding(PowPhase::Batch, params.batch_proof_of_work_bits)?;
     check_grinding(PowPhase::CommitPhase, params.commit_proof_of_work_bits)?;
     check_grinding(PowPhase::Query, params.query_proof_of_work_bits)?;
-    // Only at queries are the words compared with committed rows, with one another and with the
+    // Only at queries are the codewords compared with committed rows, with one another and with the
     // final polynomial. Without a query any final polynomial would pass.
     if params.num_queries == 0 {
         return Err(FriError::ZeroQueries);
@@ -154,7 +156,7 @@ fn are_zero<Witness: Field>(witnesses: &[Witness]) -> bool
 // Refuses witnesses that are not zero where the proof of work has no difficulty: the transcript
 // takes such a witness in nowhere and every value passes, so that without this test anyone could
 // change the bytes of an accepted proof.
-#[tactic(auto, unfolding(crate::specs::Refusals::answer))]
+#[tactic(auto, unfolding(circle_relation::specs::TestsInOrder::answer))]
 fn check_witnesses<CommitErr, InputErr>(
     phase: PowPhase,
     bits: usize,
@@ -169,7 +171,7 @@ fn check_witnesses<CommitErr, InputErr>(
 }
 
 // Refuses a query that has not one sibling.
-#[tactic(auto, unfolding(crate::specs::Refusals::answer))]
+#[tactic(auto, unfolding(circle_relation::specs::TestsInOrder::answer))]
 fn check_siblings<F, CommitErr, InputErr>(
     round: usize,
     siblings: &[Vec<F>],
@@ -189,7 +191,7 @@ fn check_siblings<F, CommitErr, InputErr>(
 }
 
 // Refuses a round that is not opened at every query, or with another number of siblings than one.
-#[tactic(auto, unfolding(crate::specs::Refusals::answer))]
+#[tactic(auto, unfolding(circle_relation::specs::TestsInOrder::answer))]
 fn check_round<F: Field, M: Mmcs<F>, CommitErr, InputErr>(
     num_queries: usize,
     round: usize,
@@ -210,7 +212,7 @@ fn check_round<F: Field, M: Mmcs<F>, CommitErr, InputErr>(
 }
 
 // Refuses rounds by the first that is not opened at every query with one sibling.
-#[tactic(auto, unfolding(crate::specs::Refusals::answer, crate::specs::Refusals::rounds_tests))]
+#[tactic(auto, unfolding(circle_relation::specs::TestsInOrder::answer, crate::specs::Refusals::rounds_tests))]
 fn check_rounds<F: Field, M: Mmcs<F>, CommitErr, InputErr>(
     num_queries: usize,
     openings: &[CircleCommitPhaseMultiStep<F, M>],
@@ -223,8 +225,8 @@ fn check_rounds<F: Field, M: Mmcs<F>, CommitErr, InputErr>(
     Ok(())
 }
 
-/// Refuses a proof of another shape than the parameters and the number of rounds ask, by the first
-/// of these that holds.
+/// Refuses a proof of another shape than the parameters and the number of rounds require, by the
+/// first of these that holds.
 ///
 /// - `CommitRoundCountMismatch` where there isn't one commitment for each round.
 /// - `CommitPowWitnessCountMismatch` where there isn't one witness for each round.
@@ -233,7 +235,7 @@ fn check_rounds<F: Field, M: Mmcs<F>, CommitErr, InputErr>(
 /// - `CommitPhaseOpeningsCountMismatch` where there isn't one opening for each round.
 /// - For each round in turn, `CommitPhaseQueryCountMismatch` where it isn't opened at every query,
 ///   and `SiblingValuesLengthMismatch` where a query has another number of siblings than one.
-#[tactic(auto, unfolding(crate::specs::Refusals::answer))]
+#[tactic(auto, unfolding(circle_relation::specs::TestsInOrder::answer))]
 pub fn validate_proof_shape<F: Field, M: Mmcs<F>, Witness: Field, InputProof, InputErr>(
     params: &FriParameters<M>,
     proof: &CircleFriProof<F, M, Witness, InputProof>,
@@ -268,13 +270,6 @@ pub fn validate_proof_shape<F: Field, M: Mmcs<F>, Witness: Field, InputProof, In
     check_rounds(params.num_queries, &proof.commit_phase_openings)
 }
 
-// Whether the coordinate is that of a point at infinity: `t^2 = -1`.
-pub fn is_at_infinity<F: Field>(t: &F) -> bool
-    ensures { result ≡ is_at_infinity F.eq F.ops t.now }
-{
-    t.square() == -F::ONE
-}
-
 // Whether a matrix is claimed at infinity.
 fn matrix_at_infinity<F: Field>(points: &[PointOpening<F>]) -> bool
     ensures { result ≡ list_any (λ p. is_at_infinity F.eq F.ops p.point) points.now }
@@ -306,7 +301,7 @@ fn is_zero<Witness: Field>(witness: &Witness) -> bool
 
 // Refuses a final polynomial of another number of coefficients than `2^log_final_poly_len`, which
 // is to be a number.
-#[tactic(auto, unfolding(crate::specs::Refusals::answer))]
+#[tactic(auto, unfolding(circle_relation::specs::TestsInOrder::answer))]
 fn check_final_poly<CommitErr, InputErr>(
     log_final_poly_len: usize,
     got: usize,
@@ -328,7 +323,7 @@ fn check_final_poly<CommitErr, InputErr>(
 ///   difficulty.
 /// - `PointAtInfinity` where a claimed coordinate `t` has `t^2 = -1`, so that it belongs to no
 ///   point.
-#[tactic(auto, unfolding(crate::specs::Refusals::answer))]
+#[tactic(auto, unfolding(circle_relation::specs::TestsInOrder::answer))]
 pub fn validate_points<F: Field, Commitment, D, M, Witness: Field, CommitErr, InputErr>(
     params: &FriParameters<M>,
     batch_pow_witness: &Witness,
@@ -349,7 +344,7 @@ pub fn validate_points<F: Field, Commitment, D, M, Witness: Field, CommitErr, In
 }
 
 /// Refuses claims and a proof by the first reason in the one order in which a verifier tests them
-/// before it seeds the challenger, and answers the logarithm of the greatest height that is
+/// before it seeds the challenger, and returns the logarithm of the greatest height that is
 /// claimed: the claims ([`validate_claims`]), the parameters ([`validate_parameters`]), the lengths
 /// and the witnesses of the proof ([`validate_proof_shape`]), the number of coefficients of the
 /// final polynomial (`FinalPolyLengthMismatch`), and the witness of the batching challenge and the
@@ -369,7 +364,7 @@ pub fn validate_run<
     params: &FriParameters<FriMmcs>,
     claims: &[CommitmentOpening<EF, InputMmcs::Commitment, CircleDomain<Val>>],
     proof: &CirclePcsProof<Val, EF, InputMmcs, FriMmcs, Val>,
-) -> Result<usize, FriError<FriMmcs::Error, InputError<InputMmcs::Error, FriMmcs::Error>>>
+) -> Result<usize, VerifierError<InputMmcs::Error, FriMmcs::Error>>
     ensures { let t = ⟦<EF as OverCircle<Val>>⟧.fields in result ≡ answer (run_tests t params.now
         claims.now proof.now) (claimed_height params.now.log_blowup (batch_claims claims.now)) }
 {

@@ -1,4 +1,4 @@
--- That a last word isn't constant is told of matrices that are not of low degree alone.
+-- A last codeword that isn't constant is reported only of matrices that are not of low degree.
 use Rattle.std.specs.Prelude.{◌≡◌, ◌≢◌, ◌↔◌, ℕ, Bool, true, false, List, [], ◌∷◌, ◌++◌, flat_map}
 use Rattle.std.specs.Prelude.{All, MatchResult, Result, Ok, Err}
 use Rattle.std.specs.List.{AllByRecursion}
@@ -17,12 +17,11 @@ use Rattle.circle_prover.specs.Opening.{IsFailure}
 use Rattle.circle_relation.specs.declared.error.ProverError.{ProverError}
 use Rattle.circle_relation.specs.declared.error.ProverError.TheVariants.{LastWordNotConstant}
 use Rattle.circle_relation.specs.Accepts.{Fields}
-use Rattle.circle_verifier.specs.Refusals.{Test, answer}
+use Rattle.circle_relation.specs.TestsInOrder.{Test, answer}
 use Rattle.p3_circle.specs.Calls.{IsOfHighDegreeIf}
-use Rattle.circle_scheme.specs.Committing.{height_tests, matrix_tests}
-use Rattle.circle_scheme.specs.Requesting.{opening_tests}
+use Rattle.circle_prover.specs.Requesting.{height_tests, matrix_tests, opening_tests}
 use Rattle.p3_circle.specs.Scheme.{IsFirstFrom}
-use Rattle.circle_scheme.proofs.Unrefused.{are-fit, are-requests}
+use Rattle.circle_prover.proofs.Unrefused.{are-fit, are-requests}
 
 -- tests that refuse for other reasons
 abbrev Others : List (Test ProverError) → Type 0

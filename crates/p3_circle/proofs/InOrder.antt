@@ -1,15 +1,14 @@
--- What is answered where tests refuse in order.
+-- The result where tests refuse in order.
 use Rattle.std.proofs.Common.{◌≡◌, List, ◌∷◌, refl, sym, ap, subst}
 use Rattle.std.specs.Prelude.{Result, Ok, Err, MatchResult, IfErr, IsErrAnd, true}
-use Rattle.circle_scheme.specs.Committing.{RefusesInOrder}
-use Rattle.circle_scheme.specs.Requesting.{RefusesBefore}
+use Rattle.p3_circle.specs.Committing.{RefusesInOrder}
+use Rattle.circle_prover.specs.Requesting.{RefusesBefore}
 use Rattle.p3_circle.specs.Scheme.{IsFirstFrom}
 use Rattle.p3_circle.proofs.Verdicts.{first-by}
-use Rattle.circle_verifier.specs.Refusals.{Test, answer}
+use Rattle.circle_relation.specs.TestsInOrder.{Test, answer}
 use Rattle.circle_relation.specs.declared.error.ProverError.{ProverError}
 use Rattle.circle_relation.specs.declared.error.ProverError.TheVariants.{Memory}
-use Rattle.circle_verifier.proofs.Answering.{refused-is}
-use Rattle.circle_verifier.proofs.HeightTests.{refusing}
+use Rattle.circle_relation.proofs.Answering.{refused-is, refusing}
 
 abbrev After : {A : Type 0} → Result A ProverError → Result (Unit {0}) ProverError → Type 0
 After result answered = MatchResult answered (λ passed. IfErr result (λ e. e ≡ Memory))
@@ -26,12 +25,12 @@ module _ {A : Type 0} (tests : List (Test ProverError)) (result : Result A Prove
       RefusesInOrder tests result
   passes passed memory = subst (After result) (sym passed) memory
 
-  -- other tests with the same answer refuse alike
+  -- other tests with the same result refuse alike
   pub alike : (others : List (Test ProverError)) → answer others (tt {0}) ≡ answer tests (tt {0}) →
       RefusesInOrder others result → RefusesInOrder tests result
   alike others same refused = subst (After result) same refused
 
--- the first refusal is the answer
+-- the first refusal is the result
 pub refuses-first : (A : Type 0) (t : Test ProverError) (ts : List (Test ProverError)) →
     t.0 ≡ true → RefusesInOrder {A = A} (t ∷ ts) (Err t.1)
 refuses-first A t ts some = subst (After {A = A} (Err t.1)) (sym (refusing t ts (tt {0}) some)) refl
@@ -41,7 +40,7 @@ ok-after : {A : Type 0} (x : A) (answered : Result (Unit {0}) ProverError) → A
 ok-after x (Ok u) refused = refl
 ok-after x (Err e) refused = cc
 
--- where something is answered no test refuses
+-- where a value is returned no test refuses
 pub ok-passes : {A : Type 0} (tests : List (Test ProverError)) (x : A) →
     RefusesInOrder tests (Ok x) → answer tests (tt {0}) ≡ Ok (tt {0})
 ok-passes tests x refused = ok-after x (answer tests (tt {0})) refused

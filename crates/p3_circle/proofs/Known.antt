@@ -17,7 +17,7 @@ use Rattle.circle_relation.specs.Statement.{log_sizes, log_max_height}
 use Rattle.circle_verifier.specs.Refusals.{domain_tests, sibling_tests, round_tests, rounds_tests}
 use Rattle.circle_verifier.specs.Refusals.{some_claim}
 use Rattle.circle_verifier.specs.Tested.{rounds_due, IsTested}
-use Rattle.circle_verifier.proofs.Passed.{AllPass, pass-front, pass-back, pass-both}
+use Rattle.circle_relation.proofs.Passed.{AllPass, pass-front, pass-back, pass-both}
 use Rattle.circle_verifier.proofs.Seeding.{claims_part, parameters_part, shape_part, final_part}
 use Rattle.circle_verifier.proofs.Seeding.{points_part, height_of_claims}
 

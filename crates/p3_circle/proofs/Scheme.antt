@@ -34,7 +34,7 @@ pub memory-said : {A WE I S : Type 0} (r : Result A (FriError WE I)) (P : S → 
 memory-said (Ok x) P h = tt
 memory-said (Err e) P h = λ left p. subst (λ e. IsTrue (says_memory e)) (sym (h left p)) refl
 
--- what holds of an answer by two facts of it
+-- what holds of a result by two facts of it
 pub if_both : {A E : Type 0} (r : Result A E) (P Q R : A → Type 0) → ((x : A) → P x → Q x → R x) →
     IfOk r P → IfOk r Q → IfOk r R
 if_both (Ok x) P Q R f p q = f x p q

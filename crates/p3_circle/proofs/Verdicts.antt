@@ -1,4 +1,4 @@
--- The verifier's answers, from those of its parts.
+-- The verifier's verdicts, from those of its parts.
 use Rattle.std.proofs.Common.{◌≡◌, ℕ, Bool, true, false, List, length, refl, sym, subst, ◌∙◌, arith}
 use Rattle.std.proofs.Common.{inl, inr}
 use Rattle.std.specs.Prelude.{Result, Ok, Err, IfErr, MatchResult, ◌↔◌, ◌⊎◌}
@@ -18,16 +18,17 @@ use Rattle.circle_relation.specs.Statement.{Challenges}
 use Rattle.circle_relation.specs.StatementOf.{batch_claims}
 use Rattle.circle_relation.specs.Accepts.{Fields, Authenticates, Accepts}
 use Rattle.circle_relation.specs.Reasons.{IsReason}
-use Rattle.circle_relation.specs.RunOf.{proof_of}
+use Rattle.circle_relation.specs.RunOf.{proof_of, run_with}
 use Rattle.circle_relation.proofs.Contradictions.{only_memory}
-use Rattle.circle_verifier.specs.Refusals.{Test, answer, seeding_tests, is_at_infinity}
+use Rattle.circle_relation.specs.TestsInOrder.{Test, answer}
+use Rattle.circle_verifier.specs.Refusals.{seeding_tests}
+use Rattle.circle_point.specs.Projective.{is_at_infinity}
 use Rattle.circle_verifier.specs.Tested.{rounds_due, IsTested}
 use Rattle.circle_relation.specs.Taken.{drawn_by}
-use Rattle.circle_scheme.specs.Replay.{IsMissedIn}
+use Rattle.circle_verifier.specs.Replay.{IsMissedIn}
 use Rattle.p3_circle.specs.Verdict.{IsAccepted, IsDrawnFrom, draw_from}
-use Rattle.circle_relation.specs.RunOf.{run_with}
 use Rattle.p3_circle.proofs.Known.{PartsPass, known, all_pass}
-use Rattle.circle_verifier.proofs.Passed.{AllPass, passed, passes, pass-front, pass-back, pass-both}
+use Rattle.circle_relation.proofs.Passed.{AllPass, passed, passes, pass-front, pass-back, pass-both}
 use Rattle.circle_verifier.proofs.Seeding.{claims_part, parameters_part, shape_part, final_part}
 use Rattle.circle_verifier.proofs.Seeding.{points_part, parts-are}
 use Rattle.circle_prover.proofs.Counts.{betas-count, queries-count}
@@ -138,7 +139,7 @@ module _ {C S F E I W IC ID IP IE WC WD WP WE : Type 0} {g : Ghosts F} (k : Fiel
   abbrev i' : E → Bool
   i' t = is_at_infinity same k.extension t
 
-  -- so many challenges and queries are drawn
+  -- the due numbers of challenges and queries are drawn
   pub queries-drawn : (old new : S) (c : Challenges E) → IsDrawnFrom k m p claims proof old c new →
       length c.queries ≡ p.num_queries
   queries-drawn old new c is = queries-count m _ _ _ _ is

@@ -9,8 +9,8 @@ use Rattle.circle_commit.specs.declared.params.FriParameters.{FriParameters}
 use Rattle.circle_commit.specs.declared.pcs.OpeningRequest.{OpeningRequest}
 use Rattle.circle_relation.specs.declared.error.ProverError.{ProverError}
 use Rattle.circle_relation.specs.declared.error.ProverError.TheVariants.{LastWordNotConstant}
-use Rattle.circle_verifier.specs.Refusals.{Test}
-use Rattle.circle_scheme.specs.Requesting.{request_tests}
+use Rattle.circle_relation.specs.TestsInOrder.{Test}
+use Rattle.circle_prover.specs.Requesting.{request_tests}
 use Rattle.circle_relation.specs.Accepts.{Fields}
 use Rattle.circle_prover.specs.Opening.{answered_matrices}
 use Rattle.p3_circle.specs.declared.pcs.CirclePcs.{CirclePcs}
@@ -24,13 +24,13 @@ scheme_tests k kept pcs requests = request_tests k kept pcs.fri_params requests
 abbrev pub IsOfMemoryIf : {S Err : Type 0} → (Err → Bool) → (S → Type 0) → Err → Type 0
 IsOfMemoryIf {S = S} is_memory Accepts e = (left : S) → Accepts left → IsTrue (is_memory e)
 
--- an answer, values and a proof, is given from the one state, which leaves the other
+-- a result, values and a proof, is returned from the one state, which leaves the other
 abbrev pub IsAnswer : {S E P : Type 0} → (S → Openings E → P → S → Type 0) → S → S
     → Vec (Vec (Vec (Vec E Global) Global) Global) Global × P → Type 0
 IsAnswer Gives old new answer = Gives old (openings answer.0.items) answer.1 new
 
--- a refusal tells of a last word that isn't constant only where some requested matrix is not of low
--- degree
+-- a refusal names a last codeword that isn't constant only where some requested matrix is not of
+-- low degree
 abbrev pub IsOfHighDegreeIf : {D F E M : Type 0} → Fields F E → (D → List (RowMajorMatrix F))
     → FriParameters M → List (OpeningRequest D E) → ProverError → Type 0
 IsOfHighDegreeIf k kept p requests e =
@@ -41,8 +41,8 @@ abbrev pub requested_rows : {D E F : Type 0} → (D → List (RowMajorMatrix F))
     → List (OpeningRequest D E) → List (List (List F))
 requested_rows kept requests = map rows (flat_map (λ r. kept r.prover_data.now) requests)
 
--- where each requested matrix is of low degree, or has few columns, the words of an opening with
--- these values are made of the rows that were committed to
+-- where each requested matrix is of low degree, or has few columns, the codewords of an opening
+-- with these values are made of the rows that were committed to
 abbrev pub ReadsOwnRowsIf : {D F E M : Type 0} → Fields F E → (D → List (RowMajorMatrix F))
     → FriParameters M → List (OpeningRequest D E) → Openings E → Type 0
 ReadsOwnRowsIf k kept p requests values =

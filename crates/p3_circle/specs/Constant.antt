@@ -84,8 +84,8 @@ module _ {F E M Com InputCom InputProof WordProof : Type 0} (k : Fields F E)
     pub from : (c : E) → r.proof.final_poly ≡ c ∷ [] → HoldsWithConstant c
         → HoldsWith k params r inputs words
 
--- the same of a run that was drawn; I and W are the schemes of the batches and of the words, each
--- with its commitments, data, proofs and errors
+-- likewise for a run that was drawn; I and W are the schemes of the batches and of the codewords,
+-- each with its commitments, data, proofs and errors
 abbrev pub AreSameOfConstants : {F E I W IC ID IP IE WC WD WP WE : Type 0} {g : _} → Fields F E
     → OpenedRun F E I W IC ID IP IE WC WD WP WE g → (I → Authenticates IC F IP)
     → (W → Authenticates WC E WP) → Type 0

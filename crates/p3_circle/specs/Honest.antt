@@ -19,7 +19,7 @@ use Rattle.circle_relation.specs.declared.error.ProverError.{ProverError}
 use Rattle.circle_point.specs.Projective.{from_line}
 use Rattle.circle_relation.specs.Accepts.{Fields}
 use Rattle.circle_codewords.specs.Ratios.{points_of_height}
-use Rattle.circle_scheme.specs.Committing.{HaveNaturalValues}
+use Rattle.p3_circle.specs.Committing.{HaveNaturalValues}
 
 module _ {F E M : Type 0} {g : _} (k : Fields F E) (two_adicity : ℕ) (p : FriParameters M) where
   -- rows on a domain that leaves something to fold, whose halves are disjoint, and of which the
@@ -68,8 +68,8 @@ module _ {F E : Type 0} {g : _} (k : Fields F E) where
   AreValuesOfBatch batch points values =
       AllZip (λ given rest. AreValuesOfRows given rest.0 rest.1) batch (zip points values)
 
--- with the values that are answered of requests, their run from this state never comes to a proof
--- of work that no witness passes, whatever commitments its words have
+-- with the values that are returned for requests, their run from this state never comes to a proof
+-- of work that no witness passes, whatever commitments its codewords have
 abbrev pub FindsWitnesses : {C S D F E M WC : Type 0} → Fields F E → RunMoves C S F E WC
     → FriParameters M → (List (RowMajorMatrix E) → WC → Type 0) → (D → List (RowMajorMatrix F))
     → List (OpeningRequest D E) → S → Type 0

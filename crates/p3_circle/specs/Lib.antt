@@ -1,4 +1,5 @@
 pub mod Calls
+pub mod Committing
 pub mod Constant
 pub mod Honest
 pub mod Scheme

@@ -1,5 +1,5 @@
--- What the scheme's calls ask and give, as relations of lists and states that a caller over any
--- scheme cites.
+-- What the scheme's calls require and return, as relations of lists and states that a caller over
+-- any scheme cites.
 use Rattle.std.specs.Prelude.{◌≡◌, ℕ, ◌^◌, ◌<◌, ◌≤◌, Bool, true, false, List, length, All}
 use Rattle.std.specs.Prelude.{MatchResult}
 use Rattle.std.specs.List.{AllZip}
@@ -23,8 +23,8 @@ use Rattle.circle_relation.specs.declared.error.ProverError.TheVariants.{Memory}
 use Rattle.circle_relation.specs.Accepts.{Authenticates, Fields}
 use Rattle.circle_relation.specs.RunOf.{proof_of}
 use Rattle.circle_relation.specs.declared.proof.CirclePcsProof.{CirclePcsProof}
-use Rattle.circle_scheme.specs.Committing.{AreExtensions, height_at}
-use Rattle.circle_verifier.specs.Refusals.{Test, answer}
+use Rattle.p3_circle.specs.Committing.{AreExtensions, height_at}
+use Rattle.circle_relation.specs.TestsInOrder.{Test, answer}
 
 -- whether a verifier says that memory was refused
 abbrev pub says_memory : {WE I : Type 0} → FriError WE I → Bool
@@ -50,14 +50,14 @@ IsFirstFrom tests Otherwise old new e =
 abbrev pub IsFirstOf : List (Test ProverError) → ProverError → Type 0
 IsFirstOf tests = IsFirst tests (λ e. e ≡ Memory)
 
--- the domain that a polynomial of so many coefficients is given on
+-- the domain that a polynomial of `degree` coefficients is given on
 pub record CanBeDegree (two_adicity degree : ℕ) : Type 0 where
   pub power : IsPowerOfTwo degree
   pub from_two : 2 ≤ degree
   pub in_group : degree < 2 ^ two_adicity
 
 module _ {F : Type 0} {g : _} (two_adicity : ℕ) where
-  -- the standard domain of so many points
+  -- the standard domain of `size` points
   pub record IsStandardOfSize (gen : ℕ → Coordinates F) (size : ℕ) (d : CircleDomain F g)
       : Type 0 where
     pub points : 2 ^ log_size d ≡ size
@@ -98,8 +98,8 @@ abbrev pub HaveCommittedHeights : {D E F : Type 0} → (D → List (RowMajorMatr
 HaveCommittedHeights kept requests =
     All (λ r. HaveHeightsOfPowers (kept r.prover_data.now)) requests
 
--- I and W are the schemes of the batches and of the words, each with its commitments, data, proofs
--- and errors; r is what the challenger is to the transcript
+-- I and W are the schemes of the batches and of the codewords, each with its commitments, data,
+-- proofs and errors; r is what the challenger is to the transcript
 module _ {C S D F E I W IC ID IP IE WC WD WP WE : Type 0} (p : FriParameters W)
     (kept : D → List (RowMajorMatrix F)) (k : Fields F E) (r : RunMoves C S F E WC)
     (Commits : List (RowMajorMatrix F) → IC → Type 0) (authenticates : Authenticates IC F IP)

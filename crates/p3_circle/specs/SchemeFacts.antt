@@ -19,7 +19,7 @@ use Rattle.circle_commit.specs.Kept.{AreKept}
 use Rattle.circle_relation.specs.Taken.{drawn_by}
 use Rattle.circle_relation.specs.Accepts.{Authenticates, Fields}
 use Rattle.circle_relation.specs.declared.proof.CirclePcsProof.{CirclePcsProof}
-use Rattle.circle_scheme.specs.Committing.{AreExtensions}
+use Rattle.p3_circle.specs.Committing.{AreExtensions}
 use Rattle.p3_circle.specs.Scheme.{AreCommittedTo, IsCommitted}
 use Rattle.p3_circle.specs.Verdict.{IsAccepted}
 

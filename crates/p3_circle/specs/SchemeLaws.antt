@@ -27,19 +27,17 @@ use Rattle.circle_relation.specs.Accepts.{Authenticates, Fields}
 use Rattle.circle_relation.specs.RunOf.{proof_of}
 use Rattle.circle_relation.specs.StatementOf.{batch_claims}
 use Rattle.circle_relation.specs.declared.proof.CirclePcsProof.{CirclePcsProof}
-use Rattle.circle_scheme.specs.Committing.{commit_tests}
+use Rattle.p3_circle.specs.Committing.{commit_tests}
 use Rattle.p3_circle.specs.Honest.{AreValuesOfBatch, FindsWitnesses, IsHonestBatch}
-use Rattle.circle_scheme.specs.Requesting.{opening_tests}
-use Rattle.p3_circle.specs.Scheme.{IsCommitted, IsFirstFrom, IsFirstOf, IsGiven}
-use Rattle.p3_circle.specs.Scheme.{says_prover_memory}
+use Rattle.circle_prover.specs.Requesting.{opening_tests}
+use Rattle.p3_circle.specs.Scheme.{IsCommitted, IsFirstFrom, IsFirstOf, IsGiven, says_prover_memory}
 use Rattle.p3_circle.specs.SchemeFacts.{extended-powers}
 use Rattle.p3_circle.specs.Verdict.{IsAccepted}
 use Rattle.p3_circle.specs.SchemeLaws.HonestOpenings.{all-valued, answered-kept, are-claimed}
-use Rattle.p3_circle.specs.SchemeLaws.HonestOpenings.{are-pointed}
-use Rattle.p3_circle.specs.SchemeLaws.HonestOpenings.{commits, kept-low, points_in}
+use Rattle.p3_circle.specs.SchemeLaws.HonestOpenings.{are-pointed, commits, kept-low, points_in}
 use Rattle.p3_circle.specs.SchemeLaws.HonestTests.{batch-passes, requests-pass, unrefused}
 use Rattle.p3_circle.specs.SchemeLaws.HonestTests.{unrefused-from}
-use Rattle.circle_scheme.proofs.Unrefused.{are-fit, are-requests}
+use Rattle.circle_prover.proofs.Unrefused.{are-fit, are-requests}
 pub mod HonestTests
 pub mod HonestOpenings
 
@@ -95,7 +93,7 @@ each-point k two p kept Commits r authenticates WordCommits word_authenticates r
     all-counted k two p.log_blowup kept requests values
     (recursion_from_All (IsFit kept k p.log_blowup two) requests given.asked.fit) given.answers
 
--- what is answered are the values of the batches' polynomials
+-- what is returned are the values of the batches' polynomials
 pub true-values : {C S D F E I M IC IP ID IE WC WD WP WE : Type 0} (g : Ghosts F) (k : Fields F E)
     (base : FieldLaws k.field) (laws : FieldLaws k.extension)
     (e : IsEmbedding k.field k.extension k.embed)
@@ -174,7 +172,7 @@ module _ {F E M : Type 0} {g : Ghosts F} (k : Fields F E) (base : FieldLaws k.fi
                 ]
           ])
 
-      -- claims of what is answered are accepted from the same state
+      -- claims of what is returned are accepted from the same state
       pub opening-accepted : {C S I IP ID IE WC WD WP WE : Type 0} (r : RunMoves C S F E WC)
           (below : (s : S) (n : ℕ) → n ≤ 63 → r.base.sampled_bits s n < 2 ^ n)
           (inputs : I → Authenticates IC F IP) (words : M → Authenticates WC E WP)

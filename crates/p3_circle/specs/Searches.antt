@@ -23,7 +23,7 @@ use Rattle.circle_prover.specs.Opening.{answered_claims, answered_matrices}
 use Rattle.circle_relation.specs.Taken.{claims_taken, shape_by}
 use Rattle.p3_circle.specs.Honest.{FindsWitnesses}
 
--- words have the commitment 1, and no other
+-- codewords have the commitment 1, and no other
 abbrev pub CommitsToOne : {E : Type 0} → List (RowMajorMatrix E) → ℕ → Type 0
 CommitsToOne words commitment = commitment ≡ 1
 
@@ -44,7 +44,7 @@ not-both : true ≡ false → ⊥
 not-both bad = cc
 
 module _ {F E : Type 0} (k : Fields F E) where
-  -- a challenger whose state is the commitment that it took in last: at any difficulty every
+  -- a challenger whose state is the commitment that it absorbed last: at any difficulty every
   -- witness passes where that is 1, and none elsewhere
   abbrev pub picky : RunMoves (Unit {0}) ℕ F E ℕ
   picky =
@@ -74,7 +74,7 @@ module _ {F E : Type 0} (k : Fields F E) where
   module _ {M : Type 0} (p : FriParameters M) (easy : p.batch_proof_of_work_bits ≡ 0)
       (n : Numbers) (same : n.batch_pow_bits ≡ p.batch_proof_of_work_bits)
       (matrices : List (Committed F E)) (claims : List (Claim E)) (s : ℕ) where
-    -- a run that takes in commitments of the words alone is never stuck
+    -- a run that absorbs commitments of the codewords alone is never stuck
     never : (phase : PowPhase) → FindsNone picky CommitsToOne k p matrices n claims s phase → ⊥
     never Batch none =
         let passes : ℕ → Type 0 =

@@ -17,10 +17,10 @@ use Rattle.circle_relation.specs.Reasons.{IsReason}
 use Rattle.circle_relation.specs.RunOf.{proof_of, run_with}
 use Rattle.circle_transcript.specs.Draw.{Drawn}
 use Rattle.circle_relation.specs.Taken.{drawn_by}
-use Rattle.circle_scheme.specs.Replay.{drawing, IsMissedIn}
+use Rattle.circle_verifier.specs.Replay.{drawing, IsMissedIn}
 
--- I and W are the schemes of the batches and of the words, each with its commitments, data, proofs
--- and errors; r is what the challenger is to the transcript
+-- I and W are the schemes of the batches and of the codewords, each with its commitments, data,
+-- proofs and errors; r is what the challenger is to the transcript
 module _ {C S F E I W IC ID IP IE WC WD WP WE : Type 0} {g : _} (k : Fields F E)
     (r : RunMoves C S F E WC) (p : FriParameters W)
     (claims : List (CommitmentOpening E IC (CircleDomain F g)))

@@ -2,16 +2,15 @@
 ghost use Rattle.circle_commit.specs.Mmcs.{HaveHeightsOfPowers};
 ghost use Rattle.circle_prover.specs.Opening.{IsFailure};
 ghost use Rattle.circle_plane.specs.PeriodicColumns.{IsRefusedOn, IsTableOn, columns_of};
-ghost use Rattle.circle_scheme.specs.Committing.{AreExtensions, AreValuesOfMatrix};
-ghost use Rattle.circle_scheme.specs.Committing.{HaveRowsForPoints, commit_tests, evaluation_tests};
-ghost use Rattle.circle_scheme.specs.Committing.{lde_tests, target_tests_at};
+ghost use Rattle.p3_circle.specs.Committing.{AreExtensions, AreValuesOfMatrix, HaveRowsForPoints};
+ghost use Rattle.p3_circle.specs.Committing.{commit_tests, evaluation_tests, lde_tests};
+ghost use Rattle.p3_circle.specs.Committing.{target_tests_at};
 ghost use Rattle.p3_circle.specs.Honest.{AreValuesOfBatch, FindsWitnesses, IsHonestBatch};
-ghost use Rattle.circle_scheme.specs.Requesting.{opening_tests};
-ghost use Rattle.p3_circle.specs.Scheme.{AreCommittedTo, AreExtended, CanBeDegree};
-ghost use Rattle.p3_circle.specs.Scheme.{CanBeEvaluated};
+ghost use Rattle.circle_prover.specs.Requesting.{opening_tests};
+ghost use Rattle.p3_circle.specs.Scheme.{AreCommittedTo, AreExtended, CanBeDegree, CanBeEvaluated};
 ghost use Rattle.p3_circle.specs.Scheme.{HaveCommittedHeights, IsCommitted, IsFirstFrom, IsFirstOf};
-ghost use Rattle.p3_circle.specs.Scheme.{IsGiven};
-ghost use Rattle.p3_circle.specs.Scheme.{IsStandardOfSize, says_memory, says_prover_memory};
+ghost use Rattle.p3_circle.specs.Scheme.{IsGiven, IsStandardOfSize, says_memory};
+ghost use Rattle.p3_circle.specs.Scheme.{says_prover_memory};
 ghost use Rattle.circle_verifier.specs.Tests.{run_tests};
 ghost use Rattle.p3_circle.specs.Verdict.{IsAccepted, IsRefused};
 ghost use Rattle.p3_circle.specs.Calls.{IsAnswer, IsOfMemoryIf};
@@ -28,7 +27,7 @@ use circle_domain::CircleDomain;
 use circle_field::{ComplexExtendable, ExtensionField};
 use circle_plane::PeriodicError;
 use circle_prover::ProverError;
-use circle_relation::{CirclePcsProof, InputError, OverCircle};
+use circle_relation::{CirclePcsProof, OverCircle, VerifierError};
 use std::alloc::Global;
 
 impl<Val, EF, InputMmcs, FriMmcs, C> Pcs<EF, C> for CirclePcs<Val, InputMmcs, FriMmcs>
@@ -51,7 +50,7 @@ where
 
     type Proof = CirclePcsProof<Val, EF, InputMmcs, FriMmcs, Val>;
 
-    type Error = FriError<FriMmcs::Error, InputError<InputMmcs::Error, FriMmcs::Error>>;
+    type Error = VerifierError<InputMmcs::Error, FriMmcs::Error>;
 
     type ProverError = ProverError;
 
@@ -194,7 +193,7 @@ where
         claims: Vec<CommitmentOpening<EF, InputMmcs::Commitment, CircleDomain<Val>>>,
         proof: &CirclePcsProof<Val, EF, InputMmcs, FriMmcs, Val>,
         challenger: &mut C,
-    ) -> Result<(), FriError<FriMmcs::Error, InputError<InputMmcs::Error, FriMmcs::Error>>>
+    ) -> Result<(), VerifierError<InputMmcs::Error, FriMmcs::Error>>
         ensures accepted { let p = ⟦<Self as Pcs<EF, C>>⟧ in OnOk result (p.verify_accepts self.now
             claims.items proof.now (C.state challenger.old) (C.state challenger.new)) }
         ensures refused { let p = ⟦<Self as Pcs<EF, C>>⟧ in IfErr result (IsOfMemoryIf p.is_memory
@@ -205,9 +204,7 @@ where
         self.verify(alloc, claims, proof, challenger)
     }
 
-    fn is_memory(
-        error: &FriError<FriMmcs::Error, InputError<InputMmcs::Error, FriMmcs::Error>>,
-    ) -> bool
+    fn is_memory(error: &VerifierError<InputMmcs::Error, FriMmcs::Error>) -> bool
         ensures { result ≡ says_memory error.now }
     {
         matches!(error, FriError::Memory)

@@ -55,6 +55,7 @@
 //!   of. `Constants`, `ConstantSeeds`.
 #![tactic(auto)]
 
+pub mod commit;
 mod instance;
 pub mod laws;
 pub mod pcs;
@@ -65,9 +66,9 @@ pub mod verifier;
 
 pub use circle_challenger::{CanObserve, CanSample, FieldChallenger, GrindingChallenger};
 pub use circle_commit::{
-    BatchAtPoints, CommitmentOpening, CommittedBatch, FriError, FriParameters, Matrix,
-    MatrixOpening, Mmcs, OpenedValues, OpeningRequest, Pcs, PeriodicLdeTable, PointOpening,
-    PolynomialSpace, PowPhase, RoundTripError, RowMajorMatrix, UnivariateStarkPcs, claims_of,
+    CommitmentOpening, CommittedBatch, FriError, FriParameters, Matrix, MatrixOpening, Mmcs,
+    OpenedValues, OpeningRequest, Pcs, PeriodicLdeTable, PointOpening, PolynomialSpace, PowPhase,
+    RowMajorMatrix, UnivariateStarkPcs, claims_of,
 };
 pub use circle_field::{ComplexExtendable, ExtensionField, Field};
 pub use circle_folding::{
@@ -83,7 +84,8 @@ pub use circle_prover::ProverError;
 pub use circle_relation::{
     CircleCommitPhaseMultiStep, CircleFriProof, CircleInputProof, CirclePcsProof, InputError,
 };
-pub use circle_scheme::{first_rows, heights_match_domains};
+pub use circle_round_trip::{BatchAtPoints, RoundTripError};
+pub use commit::{first_rows, heights_match_domains};
 pub use pcs::CirclePcs;
 pub use transcript::{
     CircleDraws, CirclePcsShape, CircleProverTranscript, CircleTranscript, CircleTranscriptFailure,

@@ -1,38 +1,35 @@
 //! The scheme.
-ghost use Rattle.std.specs.Prelude.{◌≡◌, ◌↔◌, ◌+◌, ◌-◌, ◌^◌, ◌<◌, ◌≤◌, length, min};
-ghost use Rattle.std.specs.Prelude.{OnOk, IfOk, IfErr, IfSome, IsSome, IsTrue};
+ghost use Rattle.std.specs.Prelude.{◌≡◌, ◌↔◌, ◌+◌, ◌-◌, ◌^◌, ◌<◌, ◌≤◌, length, min, OnOk, IfOk};
+ghost use Rattle.std.specs.Prelude.{IfErr, IfSome, IsSome, IsTrue};
 ghost use Rattle.circle_commit.specs.Matrix.{IsPowerOfTwo};
 ghost use Rattle.circle_commit.specs.Mmcs.{HaveHeightsOfPowers};
 ghost use Rattle.circle_commit.specs.Pcs.{openings};
 ghost use Rattle.circle_commit.specs.declared.error.FriError.TheVariants.{Memory};
 ghost use Rattle.circle_domain.specs.Domain.{log_size, IsStandardDomain};
 ghost use Rattle.circle_plane.specs.PeriodicColumns.{columns_of, IsTableOn, IsRefusedOn};
-ghost use Rattle.circle_scheme.specs.Committing.{RefusesInOrder, commit_tests, evaluation_tests};
-ghost use Rattle.circle_scheme.specs.Committing.{lde_tests, height_at, target_tests_at};
-ghost use Rattle.circle_scheme.specs.Committing.{HaveRowsForPoints, AreExtensions};
-ghost use Rattle.circle_scheme.specs.Committing.{AreValuesOfMatrix};
+ghost use Rattle.p3_circle.specs.Committing.{RefusesInOrder, commit_tests, evaluation_tests};
+ghost use Rattle.p3_circle.specs.Committing.{lde_tests, height_at, target_tests_at};
+ghost use Rattle.p3_circle.specs.Committing.{HaveRowsForPoints, AreExtensions, AreValuesOfMatrix};
 ghost use Rattle.circle_codewords.specs.Requests.{AreAnswered};
 ghost use Rattle.circle_relation.specs.declared.error.ProverError.TheVariants.{Memory as OutOfMemory};
 ghost use Rattle.p3_circle.specs.Scheme.{CanBeDegree, HaveCommittedHeights, IsStandardOfSize};
-ghost use Rattle.circle_scheme.specs.Requesting.{RefusesBefore};
+ghost use Rattle.circle_prover.specs.Requesting.{RefusesBefore};
 ghost use Rattle.circle_verifier.specs.Tests.{IsFirstRefusal};
 ghost use Rattle.p3_circle.specs.Calls.{IsAnswer, IsOfHighDegreeIf, ReadsOwnRowsIf, scheme_tests};
 
+use crate::commit::{evaluations_on, extensions, validate_evaluations};
 use circle_challenger::{CanObserve, CanSample, GrindingChallenger};
 use circle_commit::{
-    CommitmentOpening, FriError, FriParameters, Mmcs, OpenedValues, OpeningRequest, Pcs,
-    PeriodicLdeTable, RowMajorMatrix, Statements, heights_are_powers_of_two, is_power_of_two,
-    log2_strict,
+    CommitmentOpening, FriParameters, Mmcs, OpenedValues, OpeningRequest, Pcs, PeriodicLdeTable,
+    RowMajorMatrix, Statements, heights_are_powers_of_two, is_power_of_two, log2_strict,
 };
 use circle_domain::CircleDomain;
 use circle_field::{ComplexExtendable, ExtensionField, Field};
 use circle_plane::{PeriodicError, build_periodic_lde_table_circle};
-use circle_prover::{ProverError, open_requests};
-use circle_relation::{CirclePcsProof, InputError, OverCircle};
-use circle_scheme::{
-    evaluations_on, extensions, log_min_trace_height, validate_evaluations, validate_heights,
-    validate_requests,
+use circle_prover::{
+    ProverError, log_min_trace_height, open_requests, validate_heights, validate_requests,
 };
+use circle_relation::{CirclePcsProof, OverCircle, VerifierError};
 use std::alloc::Global;
 use std::marker::PhantomData;
 
@@ -235,7 +232,7 @@ impl<Val: ComplexExtendable, InputMmcs: Mmcs<Val>, FriMmcs> CirclePcs<Val, Input
         claims: Vec<CommitmentOpening<EF, InputMmcs::Commitment, CircleDomain<Val>>>,
         proof: &CirclePcsProof<Val, EF, InputMmcs, FriMmcs, Val>,
         challenger: &mut C,
-    ) -> Result<(), FriError<FriMmcs::Error, InputError<InputMmcs::Error, FriMmcs::Error>>>
+    ) -> Result<(), VerifierError<InputMmcs::Error, FriMmcs::Error>>
     where
         FriMmcs: Mmcs<EF>,
         C: CanSample<Val> + GrindingChallenger<Val> + CanObserve<FriMmcs::Commitment>,

@@ -5,13 +5,12 @@ ghost use Rattle.circle_verifier.specs.Tests.{IsFirstRefusal};
 
 use crate::pcs::CirclePcs;
 use circle_challenger::{CanObserve, CanSample, GrindingChallenger};
-use circle_commit::{CommitmentOpening, FriError, Mmcs, Pcs};
+use circle_commit::{CommitmentOpening, Mmcs, Pcs};
 use circle_domain::CircleDomain;
 use circle_field::{ComplexExtendable, ExtensionField};
-use circle_relation::{CirclePcsProof, InputError, OverCircle};
-use circle_scheme::replay_transcript;
+use circle_relation::{CirclePcsProof, OverCircle, VerifierError};
 use circle_verifier::verifier::validate_run;
-use circle_verifier::verify_drawn;
+use circle_verifier::{replay_transcript, verify_drawn};
 use std::alloc::Global;
 
 impl<Val: ComplexExtendable, InputMmcs: Mmcs<Val>, FriMmcs> CirclePcs<Val, InputMmcs, FriMmcs> {
@@ -22,7 +21,7 @@ impl<Val: ComplexExtendable, InputMmcs: Mmcs<Val>, FriMmcs> CirclePcs<Val, Input
         claims: &[CommitmentOpening<EF, InputMmcs::Commitment, CircleDomain<Val>>],
         proof: &CirclePcsProof<Val, EF, InputMmcs, FriMmcs, Val>,
         challenger: &mut C,
-    ) -> Result<(), FriError<FriMmcs::Error, InputError<InputMmcs::Error, FriMmcs::Error>>>
+    ) -> Result<(), VerifierError<InputMmcs::Error, FriMmcs::Error>>
     where
         FriMmcs: Mmcs<EF>,
         C: CanSample<Val> + GrindingChallenger<Val> + CanObserve<FriMmcs::Commitment>,

@@ -1,1 +1,2 @@
+mod OffStandard
 mod OneRound

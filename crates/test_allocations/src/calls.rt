@@ -1,7 +1,7 @@
 //! The calls by their names.
 use crate::plane::Domain;
 use crate::told::{Stage, Told};
-use crate::{json, plane, scheme, transcript, trees, without, words};
+use crate::{airs, json, plane, scheme, transcript, trees, without, words};
 use anyhow::Result;
 use std::alloc::Global;
 
@@ -25,6 +25,8 @@ pub const NAMES: &[&str] = &[
     "prover_run",
     "from_json",
     "verify_multi_batch",
+    "build_air",
+    "check_constraints",
     "commit",
     "open",
     "verify",
@@ -34,11 +36,15 @@ pub const NAMES: &[&str] = &[
     "without_domains",
     "without_matrices",
     "without_codewords",
+    "without_airs",
+    "without_quotients",
     "without_challenger",
     "without_states",
     "without_prover",
     "without_verifier",
+    "without_finish",
     "without_schemes",
+    "without_openings",
     "without_laws",
 ];
 
@@ -68,6 +74,8 @@ pub fn told_of(alloc: Global, stage: Stage, name: &str) -> Option<Result<Told>> 
         "prover_run" => transcript::run(alloc, stage),
         "from_json" => json::elements(alloc, stage),
         "verify_multi_batch" => trees::verdict(alloc, stage),
+        "build_air" => airs::build(alloc, stage),
+        "check_constraints" => airs::check(alloc, stage),
         "commit" => scheme::commit(alloc, stage),
         "open" => scheme::open(alloc, stage),
         "verify" => scheme::verify(alloc, stage),
@@ -77,12 +85,16 @@ pub fn told_of(alloc: Global, stage: Stage, name: &str) -> Option<Result<Told>> 
         "without_domains" => without::domains::domains(stage),
         "without_matrices" => without::matrices::matrices(alloc, stage),
         "without_codewords" => without::codewords::codewords(stage),
+        "without_airs" => without::airs::airs(alloc, stage),
+        "without_quotients" => without::quotients::quotients(stage),
         "without_challenger" => without::challenger::challenger(stage),
         "without_states" => without::transcripts::states(alloc, stage),
         "without_prover" => without::transcripts::prover(alloc, stage),
         "without_verifier" => without::transcripts::verifier(alloc, stage),
+        "without_finish" => without::transcripts::finish(alloc, stage),
         "without_schemes" => without::scheme::schemes(alloc, stage),
-        "without_laws" => without::laws::laws(stage),
+        "without_openings" => without::openings::openings(alloc, stage),
+        "without_laws" => without::laws::laws(alloc, stage),
         _ => return None,
     })
 }

@@ -10,6 +10,7 @@
 //! The names that begin with `without_` make the calls of a subject that allocate nothing.
 #![tactic(auto)]
 
+mod airs;
 mod calls;
 mod json;
 mod plane;

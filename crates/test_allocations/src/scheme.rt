@@ -9,7 +9,7 @@ use circle_challenger::{CanObserve, CanSample, Sha256Challenger};
 use circle_commit::{FriParameters, OpenedValues, OpeningRequest};
 use circle_field::{Cubic, Mersenne31};
 use circle_json::JsonForm;
-use circle_presets::{Claim, Commitment, Known, Proof, ProverData, Scheme};
+use circle_presets::{Claim, Commitment, Known, Proof, ProverData, Request, Scheme};
 use p3_circle::{BatchAtPoints, ProverError, claims_of, heights_match_domains};
 use std::alloc::{AllocError, Global};
 
@@ -32,13 +32,13 @@ pub fn params() -> FriParameters<()>
     }
 }
 
-// The scheme with these parameters.
-fn scheme() -> Scheme {
+/// The scheme with these parameters.
+pub fn scheme() -> Scheme {
     circle_presets::scheme(params())
 }
 
-// The challenger that took in the commitment.
-fn after_commitment(commitment: &Commitment) -> Sha256Challenger {
+/// The challenger that absorbed the commitment.
+pub fn after_commitment(commitment: &Commitment) -> Sha256Challenger {
     let mut challenger = Sha256Challenger::new();
     challenger.observe(commitment);
     challenger
@@ -60,7 +60,7 @@ fn batch(alloc: Global) -> Result<Vec<(Domain, Rows)>, AllocError> {
     Ok(vec![in alloc; (low, column(alloc, 4)?), (tall, column(alloc, 16)?)]?)
 }
 
-// What committing to the matrices answers; none before the call.
+// What committing to the matrices returns; none before the call.
 fn committing(
     alloc: Global,
     stage: Stage,
@@ -96,14 +96,8 @@ pub fn commit(alloc: Global, stage: Stage) -> Result<Told> {
     })
 }
 
-// What opening the matrices answers; none before the call.
-fn opening(
-    alloc: Global,
-    stage: Stage,
-    commitment: &Commitment,
-    data: &ProverData,
-) -> Result<Option<Result<Opened, ProverError>>> {
-    let pcs = scheme();
+/// The request to open the matrices.
+pub fn requests(alloc: Global, data: &ProverData) -> Result<Vec<Request<'_>>, AllocError> {
     let points = points();
     let request = OpeningRequest {
         prover_data: data,
@@ -112,7 +106,18 @@ fn opening(
             Vec::from_slice(alloc, &points)?,
         ]?,
     };
-    let requests = vec![in alloc; request]?;
+    Ok(vec![in alloc; request]?)
+}
+
+// What opening the matrices returns; none before the call.
+fn opening(
+    alloc: Global,
+    stage: Stage,
+    commitment: &Commitment,
+    data: &ProverData,
+) -> Result<Option<Result<Opened, ProverError>>> {
+    let pcs = scheme();
+    let requests = requests(alloc, data)?;
     if !pcs.have_heights_of_powers(&requests) {
         bail!("a height is no power of two");
     }
@@ -123,15 +128,15 @@ fn opening(
     Ok(Some(pcs.open(alloc, requests, &mut challenger)))
 }
 
-// The opened values and the proof of them.
-fn opened(alloc: Global, commitment: &Commitment, data: &ProverData) -> Result<Opened> {
+/// The opened values and the proof of them.
+pub fn opened(alloc: Global, commitment: &Commitment, data: &ProverData) -> Result<Opened> {
     match opening(alloc, Stage::Whole, commitment, data)? {
         Some(answer) => Ok(answer?),
         None => bail!("the call was not made"),
     }
 }
 
-// The number that a challenger draws which takes in the values and the proof as JSON.
+// The number that a challenger draws which absorbs the values and the proof as JSON.
 fn number_of_opened(alloc: Global, opened: &Opened) -> Result<u32> {
     let (values, proof) = opened;
     let mut challenger = Sha256Challenger::new();
@@ -154,8 +159,8 @@ pub fn open(alloc: Global, stage: Stage) -> Result<Told> {
     Ok(Told::of(format_args!("{}, again {again}", answer.as_str())))
 }
 
-// The claims that the matrices have these values.
-fn claims(
+/// The claims that the matrices have these values.
+pub fn claims(
     alloc: Global,
     commitment: Commitment,
     values: OpenedValues<Cubic>,

@@ -1,4 +1,4 @@
-//! Where a run ends, and how an answer is told.
+//! Where a run ends, and how a result is printed.
 use circle_field::{ExtensionField, Mersenne31};
 use std::fmt::{Display, InlineText};
 
@@ -21,7 +21,7 @@ pub fn before() -> Told {
     Told::of("before")
 }
 
-/// What is told of an answer: `Ok` and the value, or the text of the refusal.
+/// What is printed of a result: `Ok` and the value, or the text of the refusal.
 pub fn told<T: Display + Drop, E: Display + Drop>(answer: Result<T, E>) -> Told {
     match answer {
         Ok(value) => Told::of(format_args!("Ok {value}")),
@@ -29,7 +29,7 @@ pub fn told<T: Display + Drop, E: Display + Drop>(answer: Result<T, E>) -> Told 
     }
 }
 
-/// What is told of an answer of elements.
+/// What is printed of a result of elements.
 pub fn told_elements<F: ExtensionField<Mersenne31>, E: Display + Drop>(
     answer: Result<Vec<F>, E>,
 ) -> Told {

@@ -1,4 +1,4 @@
-//! Calls on words.
+//! Calls on codewords.
 ghost use Rattle.std.specs.Prelude.{◌≡◌, ◌≤◌, ◌^◌, IfOk};
 
 use crate::plane::cubic;
@@ -18,7 +18,7 @@ fn word(alloc: Global, count: u64) -> Result<Vec<Cubic>, AllocError> {
     Ok(word)
 }
 
-/// `extract_lambda`, with the word that it leaves.
+/// `extract_lambda`, with the codeword that it leaves.
 pub fn lambda(alloc: Global, stage: Stage, log_size: usize) -> Result<Told> {
     let mut word = word(alloc, 8)?;
     if log_size < 2 || log_size > 8 || word.len() != 1 << log_size {
@@ -33,7 +33,7 @@ pub fn lambda(alloc: Global, stage: Stage, log_size: usize) -> Result<Told> {
     Ok(Told::of(format_args!("{}, left {}", answer.as_str(), digest(&word))))
 }
 
-// Words of two entries a row.
+// Codewords of two entries a row.
 type Pairs = RowMajorMatrix<Cubic>;
 
 // Rows of two, as many as this power of two.

@@ -74,7 +74,7 @@ pub struct Batch {
     pub points: Vec<Vec<Cubic>>,
 }
 
-// `CirclePcs::commit`, after a test of what it asks.
+// `CirclePcs::commit`, after a test of what it requires.
 fn commit_to<F: ComplexExtendable, I: Mmcs<F>, W>(
     alloc: Global,
     scheme: &CirclePcs<F, I, W>,

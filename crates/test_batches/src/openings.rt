@@ -1,4 +1,4 @@
-//! What is opened of committed batches, the claims on them, and what is answered to these.
+//! What is opened of committed batches, the claims on them, and the verdict on these.
 use crate::batches::Batch;
 use circle_challenger::{CanObserve, CanSample, GrindingChallenger, Sha256Challenger};
 use circle_commit::{CommitmentOpening, FriError, Mmcs, OpenedValues, OpeningRequest};
@@ -12,7 +12,7 @@ pub type Claims = Vec<Claim>;
 
 pub type Answer = Result<(), VerifierError>;
 
-/// `CirclePcs::open`, or `NotGenuine`, which it never answers, where it asks for other heights.
+/// `CirclePcs::open`, or `NotGenuine`, which it never returns, where it requires other heights.
 pub fn open_at<F: ComplexExtendable, EF: ExtensionField<F>, I: Mmcs<F>, W: Mmcs<EF>, C>(
     alloc: Global,
     scheme: &CirclePcs<F, I, W>,
@@ -101,7 +101,7 @@ where
     scheme.verify(alloc, claims, proof, challenger)
 }
 
-/// What is answered to the claims and the proof.
+/// The verdict on the claims and the proof.
 pub fn verify(
     alloc: Global,
     scheme: &Scheme,
@@ -112,7 +112,7 @@ pub fn verify(
     verify_at(alloc, scheme, claims, proof, challenger)
 }
 
-/// The text of the answer, `accepted` where it is Ok.
+/// The text of the verdict, `accepted` where it is Ok.
 pub fn shown(answer: Answer) -> InlineText<128> {
     match answer {
         Ok(()) => InlineText::of("accepted"),

@@ -23,7 +23,7 @@ pub const SMALL: Numbers = Numbers {
     work: [0; 3],
 };
 
-/// The parameters with these numbers, where words are committed to by this scheme.
+/// The parameters with these numbers, where codewords are committed to by this scheme.
 pub fn parameters<W>(numbers: Numbers, mmcs: W) -> FriParameters<W>
     ensures blowup { result.log_blowup ≡ numbers.log_blowup }
     ensures final_poly { result.log_final_poly_len ≡ numbers.log_final_poly_len }

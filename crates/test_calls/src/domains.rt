@@ -11,7 +11,7 @@ use circle_plane::Point;
 use serde_json::{Map, Value, put};
 use std::alloc::{AllocError, Global};
 
-/// What a call of this kind answers, or none where the call is of another kind.
+/// What a call of this kind returns, or none where the call is of another kind.
 pub fn answer(alloc: Global, call: &str, given: &Value) -> Result<Option<Value>> {
     let Some(("CircleDomain", call)) = call.split_once("::") else {
         return Ok(None);

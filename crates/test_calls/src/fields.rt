@@ -8,7 +8,7 @@ use circle_json::{JsonForm, member};
 use serde_json::Value;
 use std::alloc::Global;
 
-/// What a call of this kind answers, or none where the call is of another kind.
+/// What a call of this kind returns, or none where the call is of another kind.
 pub fn answer(alloc: Global, call: &str, given: &Value) -> Result<Option<Value>> {
     let answer = match call.split_once(' ') {
         Some(("Mersenne31", operation)) => of_field::<Mersenne31>(alloc, operation, given),
@@ -18,7 +18,7 @@ pub fn answer(alloc: Global, call: &str, given: &Value) -> Result<Option<Value>>
     Ok(Some(answer?))
 }
 
-// What an operation answers.
+// What an operation returns.
 fn of_field<F: Field + JsonForm>(alloc: Global, operation: &str, given: &Value) -> Result<Value> {
     match operation {
         "powers" => powers::<F>(alloc, given),
@@ -27,7 +27,7 @@ fn of_field<F: Field + JsonForm>(alloc: Global, operation: &str, given: &Value) 
     }
 }
 
-// The element that an operation answers, or none where there is none.
+// The element that an operation returns, or none where there is none.
 fn element<F: Field + JsonForm>(
     alloc: Global,
     operation: &str,
@@ -43,7 +43,7 @@ fn element<F: Field + JsonForm>(
     }
 }
 
-// What an operation of one element answers.
+// What an operation of one element returns.
 fn of_one<F: Field>(operation: &str, a: F) -> Result<Option<F>> {
     match operation {
         "negated" => Ok(Some(-a)),
@@ -55,7 +55,7 @@ fn of_one<F: Field>(operation: &str, a: F) -> Result<Option<F>> {
     }
 }
 
-// What an operation of two elements answers.
+// What an operation of two elements returns.
 fn of_two<F: Field>(operation: &str, a: F, b: F) -> F {
     match operation {
         "+" => a + b,
@@ -64,7 +64,7 @@ fn of_two<F: Field>(operation: &str, a: F, b: F) -> F {
     }
 }
 
-// What an operation of an element and a number answers.
+// What an operation of an element and a number returns.
 fn with_number<F: Field>(operation: &str, a: F, n: u64) -> F {
     match operation {
         "exp_u64" => a.exp_u64(n),

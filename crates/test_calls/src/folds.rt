@@ -13,7 +13,7 @@ use circle_plane::Point;
 use serde_json::Value;
 use std::alloc::Global;
 
-/// What a call of this kind answers, or none where the call is of another kind.
+/// What a call of this kind returns, or none where the call is of another kind.
 pub fn answer(alloc: Global, call: &str, given: &Value) -> Result<Option<Value>> {
     let answer = match call {
         "deep_quotient_reduce_row" => quotient(alloc, given),
@@ -70,7 +70,7 @@ fn log_of(length: usize) -> Result<usize>
     Ok(log)
 }
 
-// Lambda, and what is left of the word.
+// Lambda, and what is left of the codeword.
 fn lambda(alloc: Global, given: &Value) -> Result<Value> {
     let log_blowup: usize = member(alloc, given, "log_blowup")?;
     let mut word: Vec<Cubic> = member(alloc, given, "word")?;
@@ -86,7 +86,7 @@ fn extracted(alloc: Global, word: &mut [Cubic], log_blowup: usize) -> Result<Cub
     Ok(extract_lambda::<Mersenne31, Cubic>(alloc, word, log_blowup)?)
 }
 
-// What a fold answers of all rows.
+// What a fold returns for all rows.
 fn folded(alloc: Global, call: &str, given: &Value) -> Result<Value> {
     let beta: Cubic = member(alloc, given, "beta")?;
     let rows = matrix(alloc, given, "rows")?;

@@ -1,4 +1,4 @@
-//! What direct calls are given and answer, as JSON.
+//! What direct calls are given and return, as JSON.
 ghost use Rattle.std.specs.Prelude.{◌≡◌, IfOk};
 ghost use Rattle.circle_commit.specs.RowMajorMatrix.{height_of};
 

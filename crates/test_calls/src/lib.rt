@@ -1,5 +1,5 @@
-//! What calls of the libraries answer, by their names, over `Mersenne31` and its cubic extension:
-//! what they are given and what they answer is JSON. A call whose conditions what is given doesn't
+//! What calls of the libraries return, by their names, over `Mersenne31` and its cubic extension:
+//! what they are given and what they return is JSON. A call whose conditions what is given doesn't
 //! meet isn't made.
 #![tactic(auto)]
 
@@ -14,7 +14,7 @@ use anyhow::{Result, bail};
 use serde_json::Value;
 use std::alloc::Global;
 
-/// What the call with this name answers, or why it isn't made: there is no such call, what is given
+/// What the call with this name returns, or why it isn't made: there is no such call, what is given
 /// can't be read or doesn't meet its conditions, or memory is refused.
 pub fn answer(alloc: Global, call: &str, given: &Value) -> Result<Value> {
     if let Some(answer) = fields::answer(alloc, call, given)? {

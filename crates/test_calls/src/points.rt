@@ -9,7 +9,7 @@ use std::alloc::Global;
 
 type Circle = Point<Mersenne31>;
 
-/// What a call of this kind answers, or none where the call is of another kind.
+/// What a call of this kind returns, or none where the call is of another kind.
 pub fn answer(alloc: Global, call: &str, given: &Value) -> Result<Option<Value>> {
     let answer = match call {
         "Point +" | "Point -" | "Point *" | "Point double" | "Point negated" => {
@@ -28,12 +28,12 @@ pub fn answer(alloc: Global, call: &str, given: &Value) -> Result<Option<Value>>
     Ok(Some(answer?))
 }
 
-// The coordinates of what an operator answers.
+// The coordinates of what an operator returns.
 fn operator(alloc: Global, call: &str, given: &Value) -> Result<Value> {
     Ok(coordinates(alloc, sum(alloc, call, given)?)?)
 }
 
-// What an operator answers.
+// What an operator returns.
 fn sum(alloc: Global, call: &str, given: &Value) -> Result<Circle> {
     let p = point(alloc, given, "p")?;
     Ok(match call {
@@ -81,7 +81,7 @@ fn to_line(alloc: Global, given: &Value) -> Result<Value> {
     Ok(maybe(alloc, point(alloc, given, "p")?.to_projective_line())?)
 }
 
-// The value at a point of what vanishes on subgroups of so many points.
+// The value at a point of what vanishes on subgroups of these sizes.
 fn vanishing(alloc: Global, call: &str, given: &Value) -> Result<Value> {
     let p = point(alloc, given, "p")?;
     let n: usize = member(alloc, given, "n")?;

@@ -20,7 +20,7 @@ use std::alloc::{AllocError, Global};
 
 type Evaluations = CircleEvaluations<Mersenne31, Rows>;
 
-/// What a call of this kind answers, or none where the call is of another kind.
+/// What a call of this kind returns, or none where the call is of another kind.
 pub fn answer(alloc: Global, call: &str, given: &Value) -> Result<Option<Value>> {
     let answer = match call {
         "circle_basis" => basis(alloc, given),
@@ -87,7 +87,7 @@ fn interpolate(alloc: Global, given: &Value) -> Result<Value> {
     Ok(rows_of(alloc, &coefficients)?)
 }
 
-// What a transform answers by each of some groups.
+// What a transform returns for each of some groups.
 fn by_groups(alloc: Global, call: &str, given: &Value) -> Result<Value> {
     let domain = domain(alloc, given, "domain")?;
     let groups: Vec<usize> = member(alloc, given, "groups")?;
@@ -98,7 +98,7 @@ fn by_groups(alloc: Global, call: &str, given: &Value) -> Result<Value> {
     Ok(common)
 }
 
-// The second answer, which the first has to be where there is one.
+// The second result, which the first has to be where there is one.
 fn same(first: Value, second: Value) -> Result<Value> {
     if first.is_null() || first == second {
         return Ok(second);

@@ -22,7 +22,7 @@ pub fn are_named(call: &str) -> bool {
     )
 }
 
-/// The answer of a case's command where it isn't what is due.
+/// The result of a case's command where it isn't what is due.
 pub fn difference(rt: &HostRuntime, case: &Case) -> Result<Option<String>> {
     let answer = run_commands(rt.alloc(), case.call, &input(rt, case.given)?)?;
     if is_due(rt, &answer, case.due)? {
@@ -52,7 +52,7 @@ fn changed_file(rt: &HostRuntime, given: &Value) -> Result<String> {
     Ok(value.to_string(rt.alloc())?)
 }
 
-// What the command answers; of two commands, the second is given what the first answers.
+// What the command returns; of two commands, the second is given what the first returns.
 fn run_commands(alloc: Global, commands: &str, input: &str) -> Result<Answer> {
     let Some((first, second)) = commands.split_once(" | ") else {
         return Ok(run_command(alloc, commands, input)?);
@@ -61,7 +61,7 @@ fn run_commands(alloc: Global, commands: &str, input: &str) -> Result<Answer> {
     Ok(run_command(alloc, second, &between.line)?)
 }
 
-// What one command answers, without the line's end.
+// What one command returns, without the line's end.
 fn run_command(alloc: Global, command: &str, input: &str) -> Result<Answer, AllocError> {
     let (written, status) = written_by(alloc, command, input)?;
     let text = std::str::from_utf8(&written).unwrap_or("not UTF-8");
@@ -77,7 +77,7 @@ fn written_by(alloc: Global, command: &str, input: &str) -> Result<(Vec<u8>, u8)
     Ok((written, status))
 }
 
-// Whether the answer has the status and the line that are due.
+// Whether the result has the status and the line that are due.
 fn is_due(rt: &HostRuntime, answer: &Answer, due: &Value) -> Result<bool> {
     if part(due, "status")?.as_u64() != Some(u64::from(answer.status)) {
         return Ok(false);
@@ -85,7 +85,7 @@ fn is_due(rt: &HostRuntime, answer: &Answer, due: &Value) -> Result<bool> {
     is_line_due(rt, answer, due)
 }
 
-// Whether the answer's line is what is due of it: a value, one of some refusals, some members, or
+// Whether the result's line is what is due of it: a value, one of some refusals, some members, or
 // what a file has.
 fn is_line_due(rt: &HostRuntime, answer: &Answer, due: &Value) -> Result<bool> {
     let line = answer.line.as_str();
@@ -115,7 +115,7 @@ fn is_in_file(rt: &HostRuntime, line: &str, name: &str) -> Result<bool> {
     Ok(bytes.as_slice().trim_ascii_end() == line.as_bytes())
 }
 
-// Whether the answer is a refusal with one of these names.
+// Whether the result is a refusal with one of these names.
 fn is_one_of(alloc: Global, line: &str, names: &Value) -> Result<bool> {
     let Some(names) = names.as_array() else {
         bail!("the names of a case are no list");
@@ -130,7 +130,7 @@ fn is_one_of(alloc: Global, line: &str, names: &Value) -> Result<bool> {
     Ok(false)
 }
 
-// Whether the answer is an object that has these members.
+// Whether the result is an object that has these members.
 fn has_members(alloc: Global, line: &str, members: &Value) -> Result<bool> {
     let Some(members) = members.as_object() else {
         bail!("the members of a case are no object");

@@ -1,5 +1,5 @@
 //! Cases of calls, read from files of JSON that the arguments name: what each call is given, and
-//! what is due. For each case a line says whether the answer is what is due; the last line counts.
+//! what is due. For each case a line says whether the result is what is due; the last line counts.
 #![tactic(auto)]
 
 mod case;

@@ -75,7 +75,7 @@ fn insert(items: &mut Vec<Value>, place: &str, new: Value) -> Result<(), AllocFa
     items.insert(place.min(items.len()), new)
 }
 
-// Has the items of a list come so many times, all of them and then all again.
+// Has the items of a list come `times` times, all of them and then all again.
 fn repeat(value: &mut Value, path: &str, change: &Value) -> Result<()> {
     let times = part(change, "times")?.as_u64().unwrap_or(0);
     match value.pointer_mut(path) {

@@ -9,7 +9,7 @@ use std::path::Path;
 /// How many cases agree and how many differ.
 #[derive(Clone, Copy, Default)]
 pub struct Tally {
-    /// The cases whose answer is what is due.
+    /// The cases whose result is what is due.
     pub agree: u64,
     /// The others.
     pub differ: u64,
@@ -52,7 +52,7 @@ fn report_value(rt: &HostRuntime, value: &Value, tally: &mut Tally) -> Result<()
     report_case(rt, &Case::of(&changed)?, tally)
 }
 
-// The answer to a case where it isn't what is due.
+// The result of a case where it isn't what is due.
 fn difference(rt: &HostRuntime, case: &Case) -> Result<Option<String>> {
     if commands::are_named(case.call) {
         return commands::difference(rt, case);

@@ -1,12 +1,13 @@
 //! Openings on domains that are not standard are accepted, and whole runs over any scheme.
 ghost use Rattle.std.specs.Prelude.{◌≡◌, ◌≤◌, length, All, IsTrue};
-ghost use Rattle.circle_commit.specs.RoundTrip.{HasPoints};
-ghost use Rattle.circle_scheme.specs.Committing.{HaveRowsForPoints};
+ghost use Rattle.circle_round_trip.specs.RoundTrip.{HasPoints};
+ghost use Rattle.p3_circle.specs.Committing.{HaveRowsForPoints};
 
 use circle_challenger::Sha256Challenger;
-use circle_commit::{OpenedValues, RoundTripError};
+use circle_commit::OpenedValues;
 use circle_field::Cubic;
 use circle_presets::{Scheme, VerifierError};
+use circle_round_trip::RoundTripError;
 use p3_circle::{Point, ProverError, heights_match_domains};
 use std::alloc::Global;
 use std::fmt::InlineText;
@@ -18,7 +19,7 @@ use test_batches::batches::{
 use test_batches::openings::{claims_of, open, shown, verify};
 use test_batches::parameters::{Numbers, SMALL, scheme};
 
-// The text of what is answered to the opening of the batches.
+// The text of the result of opening the batches.
 fn answer_to(
     alloc: Global,
     scheme: &Scheme,
@@ -130,11 +131,11 @@ fn can_all_be_opened(batches: &[AtPoints]) -> bool
     true
 }
 
-/// What a whole run answers.
+/// What a whole run returns.
 type Run = Result<OpenedValues<Cubic>, RoundTripError<ProverError, VerifierError>>;
 
-// `CirclePcs::round_trip`, after a test of what it asks, and whether both challengers end in one
-// state.
+// `CirclePcs::round_trip`, after a test of what it requires, and whether both challengers end in
+// one state.
 fn whole_run(
     rt: &impl Abort,
     alloc: Global,
@@ -147,7 +148,7 @@ fn whole_run(
     (run, verifier == prover)
 }
 
-// Asserts that a whole run over batches of these sizes answers values, and that both challengers
+// Asserts that a whole run over batches of these sizes returns values, and that both challengers
 // end in one state.
 fn assert_whole_run(
     rt: &impl Abort,
@@ -202,14 +203,14 @@ fn whole_runs(rt: HostRuntime) -> Result<(), Fail> {
     Ok(())
 }
 
-// A column of so many rows, with this coordinate of a point.
+// A column of `2^log_n` rows, with this coordinate of a point.
 fn column_at(alloc: Global, log_n: usize, at: [u64; 3]) -> Result<Vec<AtPoints>, Fail> {
     let mut batch = at_points(alloc, &[(log_n, 1, 0)], 12)?;
     batch.points = one(alloc, one(alloc, cubic(at))?)?;
     Ok(one(alloc, batch)?)
 }
 
-// What is answered to a whole run over a column of so many rows, opened at this coordinate.
+// The result of a whole run over a column of `2^log_n` rows, opened at this coordinate.
 fn run_of_one(
     rt: &impl Abort,
     alloc: Global,
@@ -224,7 +225,7 @@ fn run_of_one(
     }
 }
 
-// Asserts that a run over so many rows, opened at this coordinate, is answered by this text.
+// Asserts that a run over `2^log_n` rows, opened at this coordinate, ends with this text.
 fn assert_refused(
     rt: &impl Abort,
     alloc: Global,

@@ -9,5 +9,3 @@ mod accepted;
 mod plain;
 #[cfg(test)]
 mod refusals;
-#[cfg(test)]
-mod stubborn;

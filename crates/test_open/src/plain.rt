@@ -149,7 +149,7 @@ fn seed(
     Ok(())
 }
 
-// Takes in the coefficients of an element.
+// Absorbs the coefficients of an element.
 fn observe(challenger: &mut Sha256Challenger, element: Cubic) {
     for i in 0..3 {
         let coefficient: Mersenne31 = element.coefficient(i);
@@ -157,7 +157,7 @@ fn observe(challenger: &mut Sha256Challenger, element: Cubic) {
     }
 }
 
-// Takes in the claims on a matrix.
+// Absorbs the claims on a matrix.
 fn observe_claims(rt: &impl Abort, challenger: &mut Sha256Challenger, matrix: &Opened) {
     for (at, values) in matrix.points.iter().zip(matrix.values) {
         let point = on_line(rt, *at);
@@ -184,7 +184,7 @@ fn grind(rt: &impl Abort, challenger: &mut Sha256Challenger, bits: usize) -> Mer
     challenger.grind(bits).expect(rt, "no witness passes")
 }
 
-/// Words that were committed to together.
+/// Codewords that were committed to together.
 #[derive(Drop)]
 struct Layer {
     words: Vec<Vec<Cubic>>,
@@ -192,7 +192,7 @@ struct Layer {
     data: <ChallengeMmcs as Mmcs<Cubic>>::ProverData,
 }
 
-// The matrices of the words' pairs.
+// The matrices of the codewords' pairs.
 fn pairs_of(
     rt: &impl Abort,
     alloc: Global,
@@ -207,7 +207,7 @@ fn pairs_of(
     Ok(matrices)
 }
 
-// Commits to words by pairs, and takes the commitment in.
+// Commits to codewords by pairs, and absorbs the commitment.
 fn commit_words(
     rt: &impl Abort,
     alloc: Global,
@@ -226,7 +226,7 @@ fn commit_words(
     })
 }
 
-/// The rounds, with their witnesses, and the last word.
+/// The rounds, with their witnesses, and the last codeword.
 #[derive(Drop)]
 struct Rounds {
     layers: Vec<Layer>,
@@ -234,7 +234,7 @@ struct Rounds {
     word: Vec<Cubic>,
 }
 
-// Commits to the word, folds it, and adds the one of its length that waits.
+// Commits to the codeword, folds it, and adds the one of its length that waits.
 fn play_round(
     rt: &impl Abort,
     alloc: Global,
@@ -253,7 +253,7 @@ fn play_round(
     Ok(())
 }
 
-// Folds words of all heights, the least first, until as few entries are left as the final
+// Folds codewords of all heights, the least first, until as few entries are left as the final
 // polynomial has values.
 fn play_rounds(
     rt: &impl Abort,
@@ -286,7 +286,7 @@ struct First {
     layer: Layer,
 }
 
-// Takes in the claims on the matrices, finds the first witness, and commits to the first layer.
+// Absorbs the claims on the matrices, finds the first witness, and commits to the first layer.
 fn play_first(
     rt: &impl Abort,
     alloc: Global,
@@ -309,7 +309,7 @@ fn play_first(
     })
 }
 
-// What the words of the first layer fold to by the y coordinates.
+// What the codewords of the first layer fold to by the y coordinates.
 fn folded_first(
     rt: &impl Abort,
     alloc: Global,
@@ -332,7 +332,7 @@ fn commitments_of(alloc: Global, rounds: &Rounds) -> Result<Vec<[u8; 32]>, Alloc
         .collect(alloc)
 }
 
-// Takes in the final polynomial. Answers it and the witness after it.
+// Absorbs the final polynomial. Returns it and the witness after it.
 fn play_final_poly(
     rt: &impl Abort,
     alloc: Global,
@@ -349,7 +349,7 @@ fn play_final_poly(
     Ok((coefficients, witness))
 }
 
-// Draws so many indices of so many bits.
+// Draws indices of this number of bits.
 fn drawn_indices(
     rt: &impl Abort,
     alloc: Global,

@@ -1,5 +1,4 @@
 //! What is refused of requests to open, in its order.
-use crate::stubborn::Stubborn;
 use circle_challenger::{CanObserve, CanSample, GrindingChallenger, Sha256Challenger};
 use circle_commit::{OpeningRequest, heights_are_powers_of_two};
 use circle_field::{ExtensionField, Field, Mersenne31};
@@ -14,6 +13,7 @@ use test_batches::openings::{open, open_at, told};
 use test_batches::parameters::{Numbers, SMALL, parameters, scheme};
 use test_schemes::quadratic::Quadratic;
 use test_schemes::schemes::ListMmcs;
+use test_schemes::stubborn::Stubborn;
 
 // The text of the refusal to open the batches.
 fn refusal<C>(
@@ -186,13 +186,13 @@ fn phases_in_which_no_witness_passes(rt: HostRuntime) -> Result<(), Fail> {
     for (work, expected) in cases {
         let guarded = scheme(of_work(work));
         let four = [sevens(alloc, &guarded)?];
-        let refused = refusal(alloc, &guarded, &four, &mut Stubborn);
+        let refused = refusal(alloc, &guarded, &four, &mut Stubborn { taken: 0 });
         assert_eq!(&rt; refused.as_str(), expected);
     }
     Ok(())
 }
 
-// `CirclePcs::commit_ldes`, after a test of what it asks.
+// `CirclePcs::commit_ldes`, after a test of what it requires.
 fn commit_ldes(
     rt: &impl Abort,
     alloc: Global,

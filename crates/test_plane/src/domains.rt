@@ -7,7 +7,7 @@ use test_schemes::quadratic::Quadratic;
 
 type Domain = CircleDomain<Mersenne31>;
 
-// `next_point`, after a test of what it asks.
+// `next_point`, after a test of what it requires.
 fn next_point(rt: &impl Abort, domain: Domain, point: Quadratic) -> Option<Quadratic> {
     assert!(rt; domain.log_n() >= 1 && domain.log_n() <= 31);
     domain.next_point(point)

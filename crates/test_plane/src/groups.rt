@@ -70,7 +70,7 @@ fn backward_layers(
     }
 }
 
-// These entries with zeros behind them, so many in all.
+// These entries with zeros behind them, of this length in all.
 fn padded(
     alloc: Global,
     entries: &[Mersenne31],
@@ -116,7 +116,7 @@ fn interpolate_by_layers(
     Ok(rows_of(rt, entries, rows.width()))
 }
 
-// `CircleEvaluations::evaluate_grouped`, after a test of what it asks.
+// `CircleEvaluations::evaluate_grouped`, after a test of what it requires.
 fn evaluate_grouped(
     rt: &impl Abort,
     alloc: Global,
@@ -201,7 +201,7 @@ fn assert_extended(
     Ok(())
 }
 
-// Asserts that the transforms of a domain's rows answer what one layer after another does.
+// Asserts that the transforms of a domain's rows return what one layer after another does.
 fn assert_as_by_layers(
     rt: &impl Abort,
     alloc: Global,

@@ -1,5 +1,5 @@
 //! Tests of fields, points, domains, the transform, values off a domain, periodic columns, folds
-//! and words that no case of `test_cases` can tell: those over the quadratic extension, those
+//! and codewords that no case of `test_cases` can state: those over the quadratic extension, those
 //! beside a plain form, and those whose conditions take a proof.
 #![tactic(auto)]
 

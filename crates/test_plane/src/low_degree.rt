@@ -1,5 +1,5 @@
-//! Which words are of low degree: quotients under true claims and under others, sums of columns,
-//! words without their lambda.
+//! Which codewords are of low degree: quotients under true claims and under others, sums of
+//! columns, codewords without their lambda.
 use crate::off_domain::{cubic, on_line};
 use crate::smaller::{coefficients, extended, point_at, prefix, values_at};
 use crate::transform::{Domain, Rows, assert_same, evaluate, rows_of, scattered};
@@ -11,7 +11,7 @@ use std::alloc::{AllocError, Global};
 use std::process::Abort;
 use std::test::Fail;
 
-// The coefficients of a word's entries, a column for each of the three.
+// The coefficients of a codeword's entries, a column for each of the three.
 fn flattened(rt: &impl Abort, alloc: Global, word: &[Cubic]) -> Result<Rows, AllocError> {
     let mut values = Vec::new(alloc);
     for entry in word {
@@ -22,7 +22,7 @@ fn flattened(rt: &impl Abort, alloc: Global, word: &[Cubic]) -> Result<Rows, All
     Ok(rows_of(rt, values, 3))
 }
 
-// The word whose entries have the rows of three as coefficients.
+// The codeword whose entries have the rows of three as coefficients.
 pub(crate) fn word_of(
     rt: &impl Abort,
     alloc: Global,
@@ -37,7 +37,7 @@ pub(crate) fn word_of(
     Ok(word)
 }
 
-// The word of the values of these coefficients, in the transform's order.
+// The codeword of the values of these coefficients, in the transform's order.
 pub(crate) fn evaluated_word(
     rt: &impl Abort,
     alloc: Global,
@@ -48,7 +48,7 @@ pub(crate) fn evaluated_word(
     word_of(rt, alloc, &rows)
 }
 
-// The coefficients of a word on a domain.
+// The coefficients of a codeword on a domain.
 fn coefficients_of(
     rt: &impl Abort,
     alloc: Global,
@@ -59,7 +59,7 @@ fn coefficients_of(
     word_of(rt, alloc, &coefficients(rt, alloc, domain, &rows)?)
 }
 
-// How many coefficients a word on a standard domain has, up to the last that isn't zero.
+// How many coefficients a codeword on a standard domain has, up to the last that isn't zero.
 fn dimension(
     rt: &impl Abort,
     alloc: Global,
@@ -127,7 +127,7 @@ fn quotients_under_true_claims_and_under_others(rt: HostRuntime) -> Result<(), F
     Ok(())
 }
 
-// Adds to a word another, times a factor.
+// Adds to a codeword another, times a factor.
 fn add_times(rt: &impl Abort, word: &mut [Cubic], other: &[Cubic], factor: Cubic) {
     assert!(rt; word.len() == other.len());
     for (entry, added) in word.iter_mut().zip(other) {

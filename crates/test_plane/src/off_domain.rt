@@ -23,7 +23,7 @@ pub(crate) fn on_line(rt: &impl Abort, t: Cubic) -> Point<Cubic> {
     Point::from_projective_line(t).expect(rt, "the square of the coordinate is -1")
 }
 
-// `evaluate_at_point` of rows in natural order, after a test of what it asks.
+// `evaluate_at_point` of rows in natural order, after a test of what it requires.
 pub(crate) fn evaluate_at_point(
     rt: &impl Abort,
     alloc: Global,
@@ -36,7 +36,7 @@ pub(crate) fn evaluate_at_point(
     CircleEvaluations::from_natural_order(domain, rows).evaluate_at_point(alloc, at)
 }
 
-// `lagrange_weights`, after a test of what it asks.
+// `lagrange_weights`, after a test of what it requires.
 fn weights(
     rt: &impl Abort,
     alloc: Global,

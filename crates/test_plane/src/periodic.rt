@@ -38,7 +38,8 @@ fn have_four_entries<F: Field>(columns: &[Vec<F>]) -> bool
     columns.iter().all(|column| column.len() == 4)
 }
 
-// `eval_at_point` of columns of four entries over a trace of 16 rows, after a test of what it asks.
+// `eval_at_point` of columns of four entries over a trace of 16 rows, after a test of what it
+// requires.
 fn four_at_point<F: ComplexExtendable, EF: ExtensionField<F>>(
     rt: &impl Abort,
     alloc: Global,
@@ -61,7 +62,7 @@ fn columns(alloc: Global, count: usize) -> Result<Vec<Column>, AllocError> {
     Ok(columns)
 }
 
-// Asserts that each of so many columns of 10, 20, 30, 40 has the value at a point of the only
+// Asserts that each of several columns of 10, 20, 30, 40 has the value at a point of the only
 // polynomial with these values.
 fn assert_at_point(
     rt: &impl Abort,

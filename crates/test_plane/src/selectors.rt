@@ -8,14 +8,14 @@ use std::alloc::{AllocError, Global};
 use std::process::Abort;
 use std::test::Fail;
 
-// `vanishing_poly_at_point`, after a test of what it asks.
+// `vanishing_poly_at_point`, after a test of what it requires.
 pub(crate) fn vanishing(rt: &impl Abort, domain: Domain, point: Mersenne31) -> Mersenne31 {
     assert!(rt; domain.log_n() >= 1);
     assert!(rt; Point::from_projective_line(point).is_some());
     domain.vanishing_poly_at_point(point)
 }
 
-// `selectors_at_point`, after a test of what it asks.
+// `selectors_at_point`, after a test of what it requires.
 fn selectors(rt: &impl Abort, domain: Domain, point: Mersenne31) -> LagrangeSelectors<Mersenne31> {
     assert!(rt; domain.log_n() <= 31 && domain.is_genuine());
     let at = Point::from_projective_line(point).expect(rt, "the point is at infinity");
@@ -23,7 +23,7 @@ fn selectors(rt: &impl Abort, domain: Domain, point: Mersenne31) -> LagrangeSele
     domain.selectors_at_point(point)
 }
 
-// `selectors_on_coset`, after a test of what it asks.
+// `selectors_on_coset`, after a test of what it requires.
 fn selectors_on_coset<F: ComplexExtendable>(
     rt: &impl Abort,
     alloc: Global,

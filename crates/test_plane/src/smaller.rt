@@ -1,4 +1,4 @@
-//! A polynomial's values on domains of several sizes tell the same at a point.
+//! A polynomial's values on domains of several sizes agree at a point.
 use crate::off_domain::{cubic, on_line};
 use crate::transform::{Domain, Rows, plain_entry, scattered};
 use circle_commit::{Matrix, RowMajorMatrix};
@@ -8,7 +8,7 @@ use std::alloc::{AllocError, Global};
 use std::process::Abort;
 use std::test::Fail;
 
-// The rows on another domain, both in the transform's order, after a test of what is asked.
+// The rows on another domain, both in the transform's order, after a test of what is required.
 pub(crate) fn extended(
     rt: &impl Abort,
     alloc: Global,
@@ -27,7 +27,7 @@ pub(crate) fn extended(
     Ok(extended.to_cfft_order())
 }
 
-// The coefficients of rows in the transform's order, after a test of what is asked.
+// The coefficients of rows in the transform's order, after a test of what is required.
 pub(crate) fn coefficients(
     rt: &impl Abort,
     alloc: Global,
@@ -39,7 +39,7 @@ pub(crate) fn coefficients(
     CircleEvaluations::from_cfft_order(domain, copy).interpolate(alloc)
 }
 
-// The values at a point of rows in the transform's order, after a test of what is asked.
+// The values at a point of rows in the transform's order, after a test of what is required.
 pub(crate) fn values_at(
     rt: &impl Abort,
     alloc: Global,

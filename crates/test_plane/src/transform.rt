@@ -51,7 +51,7 @@ pub(crate) fn plain_entry<EF: ExtensionField<Mersenne31>>(
     sum
 }
 
-// `CircleEvaluations::evaluate`, after a test of what it asks.
+// `CircleEvaluations::evaluate`, after a test of what it requires.
 pub(crate) fn evaluate(
     rt: &impl Abort,
     alloc: Global,

@@ -24,7 +24,8 @@ fn assert_walk(rt: &impl Abort, domain: Domain) {
     }
 }
 
-// Asserts that there is a domain of at least so many points, none of which is one of this domain's.
+// Asserts that there is a domain of at least `min_size` points, none of which is one of this
+// domain's.
 fn assert_other(rt: &impl Abort, domain: Domain, min_size: usize) {
     assert!(rt; domain.log_n() >= 1 && domain.log_n() <= 31);
     let other = domain.try_create_disjoint_domain(min_size);
@@ -73,7 +74,7 @@ fn assert_part(
     }
 }
 
-// Asserts that so many parts, with the rows of each, make up the domain with its rows.
+// Asserts that this number of parts, with the rows of each, make up the domain with its rows.
 fn assert_parts(
     rt: &impl Abort,
     alloc: Global,
@@ -103,8 +104,7 @@ fn walks_of_16_and_of_1024_points(rt: HostRuntime) {
     assert_walk(&rt, Domain::standard(10));
 }
 
-// Asserts that there are domains of at least so many points each, none of which has one of this
-// domain's.
+// Asserts that there are domains of at least these sizes, none of which has one of this domain's.
 fn assert_others(rt: &impl Abort, domain: Domain, min_sizes: [usize; 4]) {
     for min_size in min_sizes {
         assert_other(rt, domain, min_size);

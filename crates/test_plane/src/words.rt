@@ -15,7 +15,7 @@ const EIGHT_BY_PAIRS: [u64; 8] = [
     1581940626, 1962669500, 565411951, 184945221, 1754305948, 1969764645, 393308773, 177587932,
 ];
 
-// `opened_values` twice, after a test of what it asks. The second time no weights are added.
+// `opened_values` twice, after a test of what it requires. The second time no weights are added.
 fn opened(
     rt: &impl Abort,
     alloc: Global,

@@ -1,5 +1,5 @@
-//! What the program answers, held against what is expected. Each of these calls fails where the
-//! program answers otherwise, and tells what it answered.
+//! What the program returns, compared with what is expected. Each of these calls fails where the
+//! program returns something else, and reports what it returned.
 use crate::streams::{FailingFlush, FailingWriter};
 use circle_commands::run::run;
 use std::alloc::{AllocError, Global};
@@ -50,7 +50,7 @@ pub fn expect_unreadable(
     Err(unexpected(answer.status, text))
 }
 
-// What is told of another answer.
+// What is reported of another result.
 fn unexpected(status: u8, text: &str) -> Fail {
     let told = InlineText::<512>::of(format_args!("status {status}: {text}"));
     Fail::new(told.as_str())
@@ -71,7 +71,7 @@ fn expect_status<W: Write>(
     Err(unexpected(status, input))
 }
 
-/// Expects the status of a line of so many bytes, with its end, over a writer that takes no more,
+/// Expects the status of a line of this many bytes, with its end, over a writer that takes no more,
 /// and the status 1 over each that takes fewer and over one that can't flush.
 pub fn expect_written_whole(
     alloc: Global,

@@ -1,4 +1,4 @@
-//! What is answered where the scheme refuses for reasons that no input gives.
+//! What is printed where the scheme refuses for reasons that no input gives.
 use circle_commands::Failure;
 use circle_commands::prove::Refusal;
 use circle_commit::PowPhase;
@@ -7,7 +7,7 @@ use std::alloc::AllocError;
 use std::fmt::InlineText;
 use std::process::Abort;
 
-// Expects that a refusal is answered by this line.
+// Expects that a refusal is printed as this line.
 fn expect_named(rt: &impl Abort, refusal: Refusal, line: &str) {
     let failure = Failure::from(refusal);
     assert_eq!(rt; failure.status(), 1);
@@ -15,7 +15,7 @@ fn expect_named(rt: &impl Abort, refusal: Refusal, line: &str) {
     assert_eq!(rt; shown.as_str(), line);
 }
 
-/// Refusals, and what is answered.
+/// Refusals, and what is printed.
 const NAMES: &[(ProverError, &str)] = &[
     (
         ProverError::NoGrindingWitness {

@@ -25,7 +25,7 @@ const USAGES: &[&[&str]] = &[
     &["shapes"],
 ];
 
-// Runs the program with arguments that are no command, and expects that answer.
+// Runs the program with arguments that are no command, and expects that result.
 fn expect_usage<R: Read>(
     rt: &impl Abort,
     alloc: Global,
@@ -43,7 +43,7 @@ fn expect_usage<R: Read>(
     Ok(())
 }
 
-// A reader that fails is not asked, and one that gives a text is left as it is.
+// A reader that fails is not read, and one that gives a text is left as it is.
 #[test]
 fn usage(rt: HostRuntime) -> Result<(), Fail> {
     for words in USAGES {
@@ -121,7 +121,7 @@ const NO_BATCHES: &str = concat!(
     r#""max_log_arity":1,"num_queries":2,"query_pow_bits":0}}"#
 );
 
-/// Commands with inputs, and of each answer how long its line is, with its end, and its status.
+/// Commands with inputs, and of each result how long its line is, with its end, and its status.
 const WRITTEN: &[((&str, &str), (usize, u8))] = &[
     (("values", FOUR_COEFFICIENTS), (54, 0)),
     (("values", "{}"), (28, 2)),

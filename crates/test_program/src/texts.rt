@@ -30,7 +30,7 @@ fn texts_that_are_cut_off(rt: HostRuntime) -> Result<(), Fail> {
     Ok(())
 }
 
-/// How the answer begins where no byte is changed, and where one is, with the statuses.
+/// How the result begins where no byte is changed, and where one is, with the statuses.
 const TAKEN: (&str, u8) = (r#"{"verified":true}"#, 0);
 
 const UNREADABLE: (&str, u8) = (r#"{"unreadable":""#, 2);

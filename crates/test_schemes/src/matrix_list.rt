@@ -160,7 +160,7 @@ fn rows_of<T: Copy>(
     Ok(rows)
 }
 
-/// A challenger takes in a list of matrices by their number alone, not by what is in them.
+/// A challenger absorbs a list of matrices by their number alone, not by what is in them.
 impl<T: Copy> CanObserve<MatrixList<T>> for Sha256Challenger {
     ghost use Rattle.circle_challenger.specs.Sponge.{absorbed};
     ghost use Rattle.test_schemes.specs.MatrixList.{matrices_of};

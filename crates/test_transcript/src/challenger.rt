@@ -33,7 +33,7 @@ fn assert_next(rt: &impl Abort, challenger: &mut Sha256Challenger, expected: u64
     assert_eq!(rt; next, element(expected));
 }
 
-/// The first element that is drawn after these elements are taken in.
+/// The first element that is drawn after these elements are absorbed.
 fn after_elements(elements: &[Mersenne31]) -> Mersenne31 {
     let mut challenger = Sha256Challenger::new();
     for element in elements {
@@ -42,14 +42,14 @@ fn after_elements(elements: &[Mersenne31]) -> Mersenne31 {
     challenger.sample()
 }
 
-/// The first element that is drawn after this commitment is taken in.
+/// The first element that is drawn after this commitment is absorbed.
 fn after_commitment(commitment: [u8; 32]) -> Mersenne31 {
     let mut challenger = Sha256Challenger::new();
     challenger.observe(&commitment);
     challenger.sample()
 }
 
-/// The first element that is drawn after these bytes are taken in.
+/// The first element that is drawn after these bytes are absorbed.
 fn after_bytes(bytes: &[u8]) -> Mersenne31 {
     let mut challenger = Sha256Challenger::new();
     challenger.observe_bytes(bytes);

@@ -5,6 +5,4 @@
 #[cfg(test)]
 mod challenger;
 #[cfg(test)]
-mod stubborn;
-#[cfg(test)]
 mod transcript;

@@ -4,7 +4,6 @@ ghost use Rattle.circle_challenger.specs.Sha256Challenger.{state_of};
 ghost use Rattle.circle_transcript.specs.Shape.{claimed_widths};
 ghost use Rattle.circle_transcript.specs.ShapeOf.{shape_of, batches_of};
 
-use crate::stubborn::Stubborn;
 use circle_challenger::{CanObserve, CanSample, GrindingChallenger, Sha256Challenger};
 use circle_commit::{FriParameters, PowPhase};
 use circle_field::{Cubic, ExtensionField, Field, Mersenne31};
@@ -17,6 +16,7 @@ use std::alloc::{AllocError, Global};
 use std::fmt::InlineText;
 use std::process::Abort;
 use std::test::Fail;
+use test_schemes::stubborn::Stubborn;
 
 mod runs;
 mod seeds;
@@ -68,7 +68,7 @@ fn one_matrix(alloc: Global, widths: Vec<usize>) -> Result<Vec<Vec<Vec<usize>>>,
     Ok(vec![in alloc; matrices]?)
 }
 
-/// The shape of a run of so many rounds over one claim of one column, blowup logarithm 1.
+/// The shape of a run of `rounds` rounds over one claim of one column, blowup logarithm 1.
 fn shape(alloc: Global, rounds: usize, bits: Difficulties) -> Result<CirclePcsShape, AllocError>
     requires { rounds ≤ 10 }
     ensures widths { IfOk result (λ s. claimed_widths (shape_of s) ≡ 1 ∷ []) }

@@ -69,7 +69,7 @@ pub(crate) enum OfWitnesses {
     Missing,
 }
 
-/// What is changed of the rounds and of the word that they end in.
+/// What is changed of the rounds and of the codeword that they end in.
 #[derive(Clone, Copy, Debug)]
 pub(crate) enum OfRounds {
     CommitmentLess,
@@ -243,7 +243,7 @@ fn damage_witnesses(proof: &mut Proof, damage: OfWitnesses) -> Result<(), Fail> 
 /// The openings of the batch and of the first layer.
 type Inputs = CircleInputProof<Mersenne31, Cubic, ValMmcs, ChallengeMmcs>;
 
-/// What is proved of the words.
+/// What is proved of the codewords.
 type Words = CircleFriProof<Cubic, ChallengeMmcs, Mersenne31, Inputs>;
 
 /// What is opened of a round.

@@ -1,4 +1,4 @@
-//! What is answered to an opening that was changed, and the state that this leaves.
+//! The verdict on an opening that was changed, and the state that this leaves.
 use crate::damage::{
     Damage, OfClaims, OfFirstLayer, OfParameters, OfRounds, OfWitnesses, apply, numbers_for,
 };
@@ -16,7 +16,7 @@ use test_batches::batches::{Batch, Domain, two_columns};
 use test_batches::openings::{open, shown, verify};
 use test_batches::parameters::scheme;
 
-/// When the answer is given, which fixes the state of the challenger.
+/// When the verdict is given, which fixes the state of the challenger.
 #[derive(Clone, Copy, Debug)]
 enum When {
     /// Before the challenger is seeded: it is as it was.
@@ -27,7 +27,7 @@ enum When {
     Within,
 }
 
-/// What is changed, the texts of which the answer begins with one, and when it is given.
+/// What is changed, the texts of which the verdict begins with one, and when it is given.
 type Row = (Damage, &'static [&'static str], When);
 
 const BEFORE_THE_SEEDING: &[Row] = &[
@@ -250,7 +250,7 @@ fn played(alloc: Global, given: &Opening) -> Result<Sha256Challenger, Fail> {
     Ok(challenger)
 }
 
-// The challenger that is due after the answer, where it is promised.
+// The challenger that is due after the verdict, where it is promised.
 fn due(alloc: Global, given: &Opening, when: When) -> Result<Option<Sha256Challenger>, Fail> {
     Ok(match when {
         When::Before => Some(Sha256Challenger::new()),
@@ -259,10 +259,10 @@ fn due(alloc: Global, given: &Opening, when: When) -> Result<Option<Sha256Challe
     })
 }
 
-/// The text of an answer, and the challenger after it.
+/// The text of a verdict, and the challenger after it.
 pub(crate) type Answered = (InlineText<128>, Sha256Challenger);
 
-/// What is answered to the opening.
+/// The verdict on the opening.
 pub(crate) fn answer_to(alloc: Global, given: Opening) -> Answered {
     let Opening {
         scheme,
@@ -281,12 +281,13 @@ fn changed(alloc: Global, damage: Damage) -> Result<Opening, Fail> {
     Ok(given)
 }
 
-// Whether the answer begins with one of the texts.
+// Whether the verdict begins with one of the texts.
 fn is_expected(answer: &str, expected: &[&str]) -> bool {
     expected.iter().any(|text| answer.starts_with(*text))
 }
 
-// Asserts that the opening with this change is answered as expected, and which state that leaves.
+// Asserts that the verdict on the opening with this change is as expected, and which state that
+// leaves.
 fn assert_answered(
     rt: &impl Abort,
     alloc: Global,

@@ -1,5 +1,5 @@
 //! Tests of `CirclePcs::verify` on forged proofs: one statement whose claims, proof or parameters
-//! are changed, and claims over schemes that authenticate everything. Each answer is compared, and
+//! are changed, and claims over schemes that authenticate everything. Each verdict is compared, and
 //! the state that the challenger is left in with the one that the verifier's transcript gives.
 #![tactic(auto)]
 

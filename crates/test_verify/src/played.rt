@@ -49,7 +49,7 @@ fn joined(alloc: Global, matrices: &[Vec<usize>]) -> Result<Vec<usize>, AllocErr
     Ok(all)
 }
 
-// The numbers of values of the claims that are taken in.
+// The numbers of values of the claims that are absorbed.
 fn lengths(alloc: Global, claims: &[OpeningClaim<Cubic>]) -> Result<Vec<usize>, AllocError>
     ensures { IfOk result (λ v. v.items ≡ widths_of (claims_of claims.now)) }
 {
@@ -72,7 +72,7 @@ fn push_claims<'a>(
     Ok(())
 }
 
-// The claims as they are taken in.
+// The claims as they are absorbed.
 fn taken<'a>(
     alloc: Global,
     matrices: &'a [MatrixOpening<Cubic, Domain>],
@@ -111,7 +111,7 @@ fn shape<M>(
     Ok(CirclePcsShape::new(params, batches, TOP, 1))
 }
 
-// The shape of a run over one batch of claims, which are taken in as these.
+// The shape of a run over one batch of claims, which are absorbed as these.
 fn shape_for<M>(
     alloc: Global,
     params: &FriParameters<M>,

@@ -1,4 +1,4 @@
-//! Eight sevens whose words are folded to two coefficients: numbers that are refused before the
+//! Eight sevens whose codewords are folded to two coefficients: numbers that are refused before the
 //! challenger is seeded.
 use crate::forged::answer_to;
 use crate::statement::{Opening, opened_batches};
@@ -46,7 +46,7 @@ fn with_two_rows(alloc: Global) -> Result<Opening, Fail> {
     Ok(given)
 }
 
-// Asserts that this is answered, and that the challenger is as it was.
+// Asserts that this is returned, and that the challenger is as it was.
 fn assert_refused(rt: &impl Abort, alloc: Global, given: Opening, expected: &str) {
     let (answer, left) = answer_to(alloc, given);
     assert_eq!(rt; answer.as_str(), expected);

@@ -51,7 +51,7 @@ fn committed_points(alloc: Global) -> Result<Vec<Cubic>, Fail> {
     Ok(points)
 }
 
-// So many lists of so many zeros.
+// `lists` lists of `of` zeros.
 fn lists_of_zeros<F: Field>(
     alloc: Global,
     lists: usize,
@@ -64,7 +64,7 @@ fn lists_of_zeros<F: Field>(
     Ok(all)
 }
 
-// What is opened of so many rounds.
+// What is opened of `count` rounds.
 fn rounds(
     alloc: Global,
     count: usize,
@@ -79,7 +79,7 @@ fn rounds(
     Ok(rounds)
 }
 
-// The rows of so many columns at each query.
+// The rows of `columns` columns at each query.
 fn opened(
     alloc: Global,
     columns: usize,
@@ -94,8 +94,8 @@ fn opened(
     })
 }
 
-// A proof of zeros, of lengths that fit so many columns, each of another height, so many rounds and
-// so many coefficients.
+// A proof of zeros, of lengths that fit `columns` columns, each of another height, `num_rounds`
+// rounds and `coefficients` coefficients.
 fn proof(
     alloc: Global,
     columns: usize,
@@ -169,7 +169,7 @@ fn with_a_short_column(alloc: Global, two_coefficients: bool) -> Result<Zeros, F
 
 type Answer = Result<(), FriError<AllocError, InputError<AllocError, AllocError>>>;
 
-// The text of the answer.
+// The text of the verdict.
 fn shown(answer: Answer) -> InlineText<128> {
     match answer {
         Ok(()) => InlineText::of("accepted"),
@@ -194,7 +194,7 @@ fn played(
     Ok(challenger)
 }
 
-// Asserts that the answer is of this text, and that the whole transcript is played.
+// Asserts that the verdict has this text, and that the whole transcript is played.
 fn assert_answered(
     rt: &impl Abort,
     alloc: Global,

@@ -8,7 +8,7 @@ use circle_challenger::{
 use circle_field::Mersenne31;
 use test_schemes::schemes::Nothing;
 
-/// The challenger over SHA-256, which takes in nothing of a commitment that shows nothing.
+/// The challenger over SHA-256, which absorbs nothing of a commitment that shows nothing.
 #[derive(PartialEq, Eq, Debug, Drop)]
 pub(crate) struct Unhearing {
     inner: Sha256Challenger,

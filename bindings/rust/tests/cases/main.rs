@@ -35,7 +35,7 @@ fn given(case: &Json) -> String {
     value.compact()
 }
 
-// What a command answers, and `None` for other calls.
+// What a command returns, and `None` for other calls.
 fn answer(call: &str, text: &str) -> Option<Result<String, Refusal>> {
     match call {
         "values" => Some(values(text)),
@@ -47,12 +47,12 @@ fn answer(call: &str, text: &str) -> Option<Result<String, Refusal>> {
     }
 }
 
-// The line that `verify` answers.
+// The line that `verify` prints.
 fn verdict(text: &str) -> Result<String, Refusal> {
     verify(text, None).map(|()| "{\"verified\":true}".to_owned())
 }
 
-// Whether an answer is what is due.
+// Whether a result is what is due.
 fn is_due(answer: &Result<String, Refusal>, due: &Json) -> bool {
     let status = match answer {
         Ok(_) => "0",

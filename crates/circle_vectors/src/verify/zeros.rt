@@ -24,10 +24,10 @@ pub(super) type Claims<I> = Vec<
     CommitmentOpening<Cubic, <I as Mmcs<Mersenne31>>::Commitment, CircleDomain<Mersenne31>>,
 >;
 
-/// The scheme over these schemes of batches and of words.
+/// The scheme over these schemes of batches and of codewords.
 type Scheme<I, W> = CirclePcs<Mersenne31, I, W>;
 
-/// The proofs over these schemes of batches and of words.
+/// The proofs over these schemes of batches and of codewords.
 type Proof<I, W> = CirclePcsProof<Mersenne31, Cubic, I, W, Mersenne31>;
 
 /// The numbers of a statement of zeros whose proof has one round.
@@ -70,8 +70,8 @@ pub(super) struct Zeros<I: Mmcs<Mersenne31>, W: Mmcs<Cubic>> {
     pub proof: Proof<I, W>,
 }
 
-/// The commitments to the first layer and to the word of the round, and what the prover keeps of
-/// these.
+/// The commitments to the first layer and to the codeword of the round, and what the prover keeps
+/// of these.
 #[derive(Drop)]
 struct Words<W: Mmcs<Cubic>> {
     first_layer: W::Commitment,
@@ -134,7 +134,7 @@ fn claimed_zero<Com: Drop>(
     one(alloc, batch)
 }
 
-// Commits to a matrix of so many zeros in rows of this width.
+// Commits to a matrix of zeros in rows of this width.
 fn commit_zeros<T: Field, M: Mmcs<T>>(
     alloc: Global,
     mmcs: &M,
@@ -248,7 +248,7 @@ where
     Ok(draws.indices)
 }
 
-// Commits to the words.
+// Commits to the codewords.
 fn commit_words<W: Mmcs<Cubic>>(alloc: Global, mmcs: &W, size: Size) -> Result<Words<W>, Fail> {
     let (first_layer, layer) = commit_zeros(alloc, mmcs, size.height, 2)?;
     let (round, word) = commit_zeros(alloc, mmcs, size.height / 2, 2)?;
@@ -278,7 +278,7 @@ fn input_proof<I: Mmcs<Mersenne31>, W: Mmcs<Cubic>>(
     })
 }
 
-// Opens the word of the round at the queries.
+// Opens the codeword of the round at the queries.
 fn round<W: Mmcs<Cubic>>(
     alloc: Global,
     mmcs: &W,
@@ -346,7 +346,7 @@ fn proof_of<I: Mmcs<Mersenne31>, W: Mmcs<Cubic>>(
     })
 }
 
-// Commits to the words of this column, opens them, and puts the proof together.
+// Commits to the codewords of this column, opens them, and puts the proof together.
 fn proved<I: Mmcs<Mersenne31>, W: Mmcs<Cubic>, C>(
     alloc: Global,
     scheme: &Scheme<I, W>,

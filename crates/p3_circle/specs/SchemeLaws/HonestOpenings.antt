@@ -1,4 +1,4 @@
--- What an opening answers of batches that were committed to: true values, and claims that are
+-- What an opening returns for batches that were committed to: true values, and claims that are
 -- accepted.
 use Rattle.std.specs.Prelude.{◌≡◌, ℕ, ◌+◌, ◌-◌, ◌^◌, ◌<◌, ◌≤◌, List, [], ◌∷◌, length, map, zip, All}
 use Rattle.std.specs.Prelude.{slice_index_or}
@@ -34,7 +34,7 @@ use Rattle.circle_relation.specs.Statement.{MatrixClaim, PointClaim, all_matrice
 use Rattle.circle_relation.specs.StatementOf.{batch_claims, matrix_claim, point_claim}
 use Rattle.circle_codewords.specs.Ratios.{points_of_height}
 use Rattle.circle_codewords.specs.Words.{claim_of}
-use Rattle.circle_scheme.specs.Committing.{AreExtensions, IsExtension}
+use Rattle.p3_circle.specs.Committing.{AreExtensions, IsExtension}
 use Rattle.p3_circle.specs.Honest.{AreValuesOfBatch, AreValuesOfRows}
 use Rattle.p3_circle.specs.Scheme.{IsCommitted}
 
@@ -106,7 +106,7 @@ module _ {F E M : Type 0} {g : Ghosts F} (k : Fields F E) (two : ℕ) (p : FriPa
     batch-low batch ms points made.1 openable.1,
   )
 
-  -- claims of what is answered of one matrix
+  -- claims of what is returned for one matrix
   one-claimed : (x : CircleDomain F g × RowMajorMatrix F) (m : RowMajorMatrix F) (points : List E)
       (values : List (List E)) (c : MatrixOpening E (CircleDomain F g)) →
       IsExtension k.field k.gen p.log_blowup x.0 x.1 m →
@@ -176,7 +176,7 @@ module _ {F E M : Type 0} {g : Ghosts F} (k : Fields F E) (two : ℕ) (p : FriPa
     commits batch commitment d = IsCommitted k.field k.gen p.log_blowup Commits batch commitment
         (kept d)
 
-    -- the claims of a verifier are on what is answered
+    -- the claims of a verifier are on what is returned
     pub are-claimed : (requests : List (OpeningRequest D E)) (values : Openings E)
         (claims : List (CommitmentOpening E Com (CircleDomain F g))) →
         AllByRecursion (IsFit kept k p.log_blowup two) requests →
@@ -220,7 +220,7 @@ module _ {F E M : Type 0} {g : Ghosts F} (k : Fields F E) (two : ℕ) (p : FriPa
         All-from_recursion (λ (m : MatrixClaim E). 1 ≤ length m.claims)
         (all_matrices (batch_claims claims)) (all-pointed requests values claims are)
 
-    -- what is requested, as claims are answered of it, was kept of batches
+    -- what is requested, as the claims on it, was kept of batches
     answered-by-recursion : (requests : List (OpeningRequest D E)) (values : Openings E)
         (claims : List (CommitmentOpening E Com (CircleDomain F g))) → AreAnsweredBy points_in
         commits requests values claims →
@@ -257,7 +257,7 @@ module _ {F E M : Type 0} {g : Ghosts F} (k : Fields F E) (two : ℕ) (p : FriPa
 
   module _ (base : FieldLaws k.field) (laws : FieldLaws k.extension)
       (e : IsEmbedding k.field k.extension k.embed) (gens : AreGenerators k.field two k.gen) where
-    -- the values that are answered of rows on a domain
+    -- the values that are returned for rows on a domain
     one-valued : (x : CircleDomain F g × RowMajorMatrix F) (m : RowMajorMatrix F) (points : List E)
         (values : List (List E)) → IsExtension k.field k.gen p.log_blowup x.0 x.1 m →
         IsOpenable k two p.log_blowup m points →

@@ -24,25 +24,24 @@ use Rattle.circle_codewords.proofs.Logs.{log_of-power}
 use Rattle.circle_commit.specs.Honest.{IsHonest, requested_points}
 use Rattle.circle_relation.specs.Accepts.{Fields}
 use Rattle.circle_codewords.specs.Ratios.{points_of_height}
-use Rattle.circle_scheme.specs.Committing.{AreExtensions, IsExtension, commit_tests, domain_tests}
-use Rattle.circle_scheme.specs.Committing.{evaluation_tests, height_tests, is_degenerate}
-use Rattle.circle_scheme.specs.Committing.{matrix_tests}
+use Rattle.p3_circle.specs.Committing.{AreExtensions, IsExtension, commit_tests, domain_tests}
+use Rattle.p3_circle.specs.Committing.{evaluation_tests, is_degenerate}
+use Rattle.circle_prover.specs.Requesting.{height_tests, matrix_tests, is_at, is_infinite, is_unfit}
+use Rattle.circle_prover.specs.Requesting.{meets_domain, opening_tests, some_on_domain}
 use Rattle.p3_circle.specs.Honest.{CanBeOpenedAt, IsHonestBatch}
-use Rattle.circle_verifier.specs.Refusals.{Test, answer, is_at_infinity}
-use Rattle.circle_scheme.specs.Requesting.{is_at, is_infinite, is_unfit, meets_domain}
-use Rattle.circle_scheme.specs.Requesting.{opening_tests, some_on_domain}
+use Rattle.circle_relation.specs.TestsInOrder.{Test, answer}
+use Rattle.circle_point.specs.Projective.{is_at_infinity}
 use Rattle.p3_circle.specs.Scheme.{IsCommitted, IsFirst, IsFirstFrom}
-use Rattle.circle_verifier.proofs.Answering.{answer-append}
-use Rattle.circle_scheme.proofs.CommitTests.{height_fits}
-use Rattle.circle_verifier.proofs.HeightTests.{answer-none, skipped}
-use Rattle.circle_scheme.proofs.OnDomain.{and-each, never, told}
-use Rattle.circle_scheme.proofs.Unrefused.{none-refused}
+use Rattle.circle_relation.proofs.Answering.{answer-append, answer-none, skipped}
+use Rattle.circle_prover.proofs.CommittedHeights.{height_fits}
+use Rattle.circle_prover.proofs.OnDomain.{and-each, never, told}
+use Rattle.circle_prover.proofs.Unrefused.{none-refused}
 
 -- none of two
 neither : (a b : Bool) → a ≡ false → b ≡ false → (a || b) ≡ false
 neither a b first second = ap (λ c. c || b) first ∙ second
 
--- where no test has reason this holds of an answer
+-- where no test has reason this holds of a result
 pub unrefused : (tests : List (Test ProverError)) (Holds : ProverError → Type 0) (e : ProverError) →
     answer tests (tt {0}) ≡ Ok (tt {0}) → IsFirst tests Holds e → Holds e
 unrefused tests Holds e ok first =

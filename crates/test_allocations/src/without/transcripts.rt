@@ -1,10 +1,11 @@
 //! The calls of transcripts that allocate nothing, of the challenger's crate and of the scheme's.
-ghost use Rattle.std.specs.Prelude.{◌≡◌, [], ◌∷◌, IfOk};
+ghost use Rattle.std.specs.Prelude.{◌≡◌, [], ◌∷◌, IfOk, OnOk, ◌≤◌};
 ghost use Rattle.circle_challenger.specs.Played.{elements_message, element_message, opaque_message};
 ghost use Rattle.circle_challenger.specs.Played.{pow_step, element_challenge};
 ghost use Rattle.circle_challenger.specs.TranscriptState.{due, SameChallenger};
+ghost use Rattle.circle_transcript.specs.Numbers.{indices_steps};
 ghost use Rattle.circle_transcript.specs.Transcript.{due as due_of, numbers};
-ghost use Rattle.test_allocations.specs.Run.{BeginsRun};
+ghost use Rattle.test_allocations.specs.Run.{IsRun};
 
 use crate::plane::cubic;
 use crate::told::{Stage, Told, before, digest, low_bits, told_numbers};
@@ -112,9 +113,12 @@ fn of_paused(separator: &DomainSeparator) -> Mersenne31 {
 
 // What the prover draws before the queries.
 fn prove(transcript: &mut Prover<'_>) -> Result<[Cubic; 3], CircleTranscriptFailure>
-    requires next { BeginsRun (numbers transcript.old) (due_of transcript.old) }
+    requires run { IsRun (numbers transcript.old) (due_of transcript.old) }
     requires batch { (numbers transcript.old).batch_pow_bits ≡ 0 }
     requires commit { (numbers transcript.old).commit_pow_bits ≡ 0 }
+    ensures same { numbers transcript.new ≡ numbers transcript.old }
+    ensures queries { OnOk result
+        (due_of transcript.new ≡ indices_steps 3 (numbers transcript.old)) }
 {
     let values = [cubic([5, 6, 7])];
     let claims = [(Point::<Cubic>::ZERO, values.as_slice())];
@@ -124,9 +128,24 @@ fn prove(transcript: &mut Prover<'_>) -> Result<[Cubic; 3], CircleTranscriptFail
     Ok([alpha, bivariate, beta])
 }
 
+// Plays the whole run as the prover, whose queries are as many as this.
+fn prove_whole(alloc: Global, transcript: &mut Prover<'_>) -> Result<usize, CircleTranscriptFailure>
+    requires run { IsRun (numbers transcript.old) (due_of transcript.old) }
+    requires batch { (numbers transcript.old).batch_pow_bits ≡ 0 }
+    requires commit { (numbers transcript.old).commit_pow_bits ≡ 0 }
+    requires query { (numbers transcript.old).query_pow_bits ≡ 0 }
+    requires index { (numbers transcript.old).index_bits ≤ 63 }
+    requires constant { (numbers transcript.old).log_final_poly_len ≡ 0 }
+    ensures { OnOk result (due_of transcript.new ≡ []) }
+{
+    prove(transcript)?;
+    let (indices, _) = transcript.query_phase(alloc, &[cubic([1, 2, 3])])?;
+    Ok(indices.len())
+}
+
 // What the verifier draws before the queries.
 fn verify(transcript: &mut Verifier<'_>) -> Result<[Cubic; 3], CircleTranscriptFailure>
-    requires next { BeginsRun (numbers transcript.old) (due_of transcript.old) }
+    requires run { IsRun (numbers transcript.old) (due_of transcript.old) }
     requires batch { (numbers transcript.old).batch_pow_bits ≡ 0 }
     requires commit { (numbers transcript.old).commit_pow_bits ≡ 0 }
 {
@@ -170,6 +189,27 @@ pub fn prover(alloc: Global, stage: Stage) -> Result<Told> {
     let drawn = prove(&mut transcript);
     transcript.abort();
     Ok(told_numbers(&[digest(&drawn?)]))
+}
+
+/// `finish` of the prover's transcript, once the indices of the queries are drawn.
+pub fn finish(alloc: Global, stage: Stage) -> Result<Told> {
+    let shape = shape(alloc)?;
+    let mut challenger = Sha256Challenger::new();
+    let mut transcript = Prover::new(alloc, &mut challenger, shape)?;
+    let count = match prove_whole(alloc, &mut transcript) {
+        Ok(count) => count,
+        Err(failure) => {
+            transcript.abort();
+            return Err(failure.into());
+        }
+    };
+    if stage == Stage::Before {
+        transcript.abort();
+        return Ok(before());
+    }
+    transcript.finish();
+    let next: Mersenne31 = challenger.sample();
+    Ok(told_numbers(&[low_bits(count), digest(&[next])]))
 }
 
 /// The calls of the verifier's transcript before it draws the indices of the queries.

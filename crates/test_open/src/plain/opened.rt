@@ -1,4 +1,4 @@
-//! What a proof opens at the queries: rows, the entries beside those that are asked for, digests.
+//! What a proof opens at the queries: rows, the entries beside those at the queries, digests.
 use super::Layer;
 use super::words::{place_in, siblings};
 use circle_commit::{BatchMultiOpening, Matrix, Mmcs, OpenedRows, are_below};
@@ -9,7 +9,7 @@ use std::alloc::{AllocError, Global};
 use std::process::Abort;
 use test_batches::batches::Batch;
 
-// The places that queries fall on among so many rows.
+// The places that queries fall on among `height` rows.
 fn places_in(
     rt: &impl Abort,
     alloc: Global,
@@ -43,7 +43,7 @@ fn digests_at<T: Copy, M: Mmcs<T>>(
 /// What is opened of the batches and of the first layer.
 pub(crate) type Inputs = CircleInputProof<Mersenne31, Cubic, ValMmcs, ChallengeMmcs>;
 
-/// What is opened of a round's words.
+/// What is opened of a round's codewords.
 pub(crate) type Round = CircleCommitPhaseMultiStep<Cubic, ChallengeMmcs>;
 
 // The rows of a batch's matrices that a query falls on, matrix by matrix.
@@ -117,7 +117,7 @@ pub(crate) fn opened_inputs(
     })
 }
 
-/// What is opened of the rounds' words.
+/// What is opened of the rounds' codewords.
 pub(crate) fn opened_rounds(
     rt: &impl Abort,
     alloc: Global,

@@ -1,5 +1,5 @@
-//! Values, quotients, words, folds and coefficients by the plain definitions: values over whole
-//! committed domains, quotients row by row, words entry by entry.
+//! Values, quotients, codewords, folds and coefficients by the plain definitions: values over whole
+//! committed domains, quotients row by row, codewords entry by entry.
 use circle_commit::{Matrix, RowMajorMatrix};
 use circle_field::{Cubic, ExtensionField, Field, Mersenne31};
 use circle_plane::{CircleEvaluations, Point, cfft_permute_index};
@@ -57,8 +57,8 @@ pub(crate) fn values_at(
     CircleEvaluations::from_cfft_order(domain, copy).evaluate_at_point(alloc, point)
 }
 
-// The entry at a place of a height's word: the quotients there of the claims on matrices of that
-// height, each times its power of the batching challenge.
+// The entry at a place of a height's codeword: the quotients there of the claims on matrices of
+// that height, each times its power of the batching challenge.
 fn reduced_entry(
     rt: &impl Abort,
     matrices: &[Opened],
@@ -101,7 +101,7 @@ fn vanishing_values(
     Ok(values)
 }
 
-// The multiple of the vanishing polynomial in a word, and the word without it.
+// The multiple of the vanishing polynomial in a codeword, and the codeword without it.
 fn split(
     rt: &impl Abort,
     alloc: Global,
@@ -121,7 +121,7 @@ fn split(
     Ok((lambda, rest))
 }
 
-// The word of a height.
+// The codeword of a height.
 fn reduced(
     rt: &impl Abort,
     alloc: Global,
@@ -138,7 +138,7 @@ fn reduced(
     Ok(word)
 }
 
-// The lambda of a height, and its word without it.
+// The lambda of a height, and its codeword without it.
 fn first_word(
     rt: &impl Abort,
     alloc: Global,
@@ -152,7 +152,7 @@ fn first_word(
     split(rt, alloc, &word, &vanishing)
 }
 
-/// For each height, from the least up, its lambda and its word without it.
+/// For each height, from the least up, its lambda and its codeword without it.
 pub(crate) fn first_words(
     rt: &impl Abort,
     alloc: Global,
@@ -175,7 +175,7 @@ pub(crate) fn first_words(
     Ok((lambdas, words))
 }
 
-// The coordinate that a pair of a word of so many entries is folded by.
+// The coordinate that a pair of a codeword of `len` entries is folded by.
 fn coordinate(rt: &impl Abort, len: usize, is_first: bool, j: usize) -> Mersenne31 {
     assert!(rt; len >= 2 && j <= 4096);
     let log_len = len.ilog2() as usize;
@@ -197,8 +197,8 @@ fn folded_entry(rt: &impl Abort, word: &[Cubic], beta: Cubic, is_first: bool, j:
     (low + high + beta * (low - high).times_base(inverse)).halve()
 }
 
-/// A word folded by a challenge: by the y coordinates of its points, or by the x coordinates that
-/// its entries belong to.
+/// A codeword folded by a challenge: by the y coordinates of its points, or by the x coordinates
+/// that its entries belong to.
 pub(crate) fn folded(
     rt: &impl Abort,
     alloc: Global,
@@ -214,7 +214,7 @@ pub(crate) fn folded(
     Ok(folded)
 }
 
-/// The place that a query falls on among so many rows, where it is drawn among `2^top`.
+/// The place that a query falls on among `height` rows, where it is drawn among `2^top`.
 pub(crate) fn place_in(rt: &impl Abort, height: usize, top: usize, index: usize) -> usize {
     assert!(rt; height >= 1 && top <= 12);
     let log_height = height.ilog2() as usize;
@@ -222,7 +222,7 @@ pub(crate) fn place_in(rt: &impl Abort, height: usize, top: usize, index: usize)
     index >> (top - log_height)
 }
 
-// Of each word the entry beside the one that a query falls on.
+// Of each codeword the entry beside the one that a query falls on.
 fn siblings_at(
     rt: &impl Abort,
     alloc: Global,
@@ -254,7 +254,7 @@ pub(crate) fn siblings(
     Ok(siblings)
 }
 
-/// Adds to a word the one of its length that waits, if there is one.
+/// Adds to a codeword the one of its length that waits, if there is one.
 pub(crate) fn join(rt: &impl Abort, word: &mut [Cubic], waiting: &[Vec<Cubic>]) {
     for other in waiting {
         if other.len() == word.len() {
@@ -283,7 +283,7 @@ fn assert_values(
     }
 }
 
-/// The coefficients of the polynomial whose values the last word is.
+/// The coefficients of the polynomial whose values the last codeword is.
 pub(crate) fn final_poly(
     rt: &impl Abort,
     alloc: Global,

@@ -1,4 +1,4 @@
-//! What queries ask for folds as the whole word does.
+//! The pairs at the queries fold as the whole codeword does.
 ghost use Rattle.std.specs.Prelude.{◌≡◌, ◌+◌, ◌≤◌, ◌<◌, ◌^◌, length, map, All, IfOk};
 ghost use Rattle.circle_folding.specs.Chain.{round_twiddle};
 
@@ -37,8 +37,8 @@ pub fn scattered_word(alloc: Global, len: usize) -> Result<Vec<Cubic>, AllocErro
     Ok(entries)
 }
 
-// The entries of a word that the indices without so many lowest bits ask for, or with `flip` 1
-// their siblings.
+// The entries of a codeword at the indices without their lowest `bits` bits, or with `flip` 1 their
+// siblings.
 pub fn asked<EF: Field>(
     rt: &impl Abort,
     alloc: Global,
@@ -59,8 +59,8 @@ pub fn asked<EF: Field>(
     Ok(entries)
 }
 
-// Asserts that each query has so many rows, and that its last is the pair of the word that it asks
-// for.
+// Asserts that each query has this number of rows, and that its last is the pair of the codeword at
+// its place.
 pub fn assert_pairs<EF: Field>(
     rt: &impl Abort,
     bits: usize,
@@ -77,7 +77,7 @@ pub fn assert_pairs<EF: Field>(
     }
 }
 
-// Asserts that the entries of the word that the indices without so many lowest bits ask for are
+// Asserts that the entries of the codeword at the indices without their lowest `bits` bits are
 // these values.
 fn assert_asked<EF: Field>(
     rt: &impl Abort,
@@ -92,8 +92,8 @@ fn assert_asked<EF: Field>(
     Ok(())
 }
 
-// The siblings of the values that the indices without so many lowest bits ask for, after a test of
-// the pairs that both make up.
+// The siblings of the values at the indices without their lowest `bits` bits, after a test of the
+// pairs that both make up.
 fn siblings_of<EF: Field>(
     rt: &impl Abort,
     alloc: Global,
@@ -112,7 +112,7 @@ fn siblings_of<EF: Field>(
     Ok(siblings)
 }
 
-// A word folded by x, after a test of what is asked.
+// A codeword folded by x, after a test of what is required.
 fn folded<F: ComplexExtendable, EF: ExtensionField<F>>(
     rt: &impl Abort,
     alloc: Global,
@@ -127,8 +127,8 @@ fn folded<F: ComplexExtendable, EF: ExtensionField<F>>(
     fold_x::<F, EF, RowMajorMatrix<EF>>(alloc, beta, 1, &rows)
 }
 
-// Folds a word of `2^(log_max_height - 1)` entries until two are left, and what the queries ask
-// for beside it, and asserts in each round that the values are the entries that are asked for.
+// Folds a codeword of `2^(log_max_height - 1)` entries until two are left, and what the queries
+// read beside it, and asserts in each round that the values are the entries at the queries.
 fn assert_queries_fold_alike<F: ComplexExtendable, EF: ExtensionField<F>>(
     rt: &impl Abort,
     alloc: Global,
@@ -146,7 +146,7 @@ fn assert_queries_fold_alike<F: ComplexExtendable, EF: ExtensionField<F>>(
     assert_rounds::<F, EF>(rt, alloc, log_max_height, indices, twiddles, values, word)
 }
 
-// All rounds, from the twiddles and the values of round 0. An entry of the word serves as the
+// All rounds, from the twiddles and the values of round 0. An entry of the codeword serves as the
 // challenge.
 fn assert_rounds<F: ComplexExtendable, EF: ExtensionField<F>>(
     rt: &impl Abort,
@@ -177,7 +177,7 @@ fn assert_rounds<F: ComplexExtendable, EF: ExtensionField<F>>(
     Ok(())
 }
 
-// Asserts that all queries of a word of `2^(log_max_height - 1)` entries fold as it does.
+// Asserts that all queries of a codeword of `2^(log_max_height - 1)` entries fold as it does.
 fn assert_queries_of_a_word(
     rt: &impl Abort,
     alloc: Global,
@@ -201,7 +201,7 @@ fn queries_of_a_word(rt: HostRuntime) -> Result<(), Fail> {
     Ok(())
 }
 
-// A word folded by y, after a test of what is asked.
+// A codeword folded by y, after a test of what is required.
 fn folded_by_y<F: ComplexExtendable, EF: ExtensionField<F>>(
     rt: &impl Abort,
     alloc: Global,
@@ -216,7 +216,7 @@ fn folded_by_y<F: ComplexExtendable, EF: ExtensionField<F>>(
     fold_y::<F, EF, RowMajorMatrix<EF>>(alloc, beta, &rows)
 }
 
-// What the queries ask for in a word of `2^log_height` entries, folded by y.
+// What the queries read in a codeword of `2^log_height` entries, folded by y.
 fn folded_values<F: ComplexExtendable, EF: ExtensionField<F>>(
     rt: &impl Abort,
     alloc: Global,
@@ -249,8 +249,8 @@ fn folded_values<F: ComplexExtendable, EF: ExtensionField<F>>(
     Ok(values)
 }
 
-// Folds by y what the queries ask for in a word of `2^log_height` entries, and asserts that the
-// values are those of the whole word folded.
+// Folds by y what the queries read in a codeword of `2^log_height` entries, and asserts that the
+// values are those of the whole codeword folded.
 fn assert_first_folds_alike<F: ComplexExtendable, EF: ExtensionField<F>>(
     rt: &impl Abort,
     alloc: Global,
@@ -280,7 +280,7 @@ fn assert_first_folds_alike<F: ComplexExtendable, EF: ExtensionField<F>>(
     assert_asked(rt, alloc, bits, indices, &word, &values)
 }
 
-// Asserts that all queries below `2^log_max_height` fold by y as the word of this height does.
+// Asserts that all queries below `2^log_max_height` fold by y as the codeword of this height does.
 fn assert_first_layer(
     rt: &impl Abort,
     alloc: Global,
@@ -305,8 +305,8 @@ fn assert_first_layer(
     )
 }
 
-// Asserts that of a word of this height that is the tallest, and of one beside which a tallest is
-// of twice or four times its height.
+// Asserts that of a codeword of this height that is the tallest, and of one beside which a tallest
+// is of twice or four times its height.
 fn assert_first_layers(rt: &impl Abort, alloc: Global, log_height: usize) -> Result<(), AllocError>
     requires height { 3 ≤ log_height }
     requires small { log_height ≤ 7 }

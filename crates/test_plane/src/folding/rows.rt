@@ -1,4 +1,4 @@
-//! Folds of whole words beside those of their pairs, and the degrees of what words fold to.
+//! Folds of whole codewords beside those of their pairs, and the degrees of what codewords fold to.
 use super::queries::scattered_word;
 use super::{cubic, rows_of_two};
 use crate::low_degree::evaluated_word;
@@ -11,7 +11,7 @@ use std::alloc::{AllocError, Global};
 use std::process::Abort;
 use std::test::Fail;
 
-// A word of pairs folded by y or by x, after a test of what is asked.
+// A codeword of pairs folded by y or by x, after a test of what is required.
 fn folded(
     rt: &impl Abort,
     alloc: Global,
@@ -29,7 +29,7 @@ fn folded(
     }
 }
 
-// The fold by y of the pair at an index of a word of 64 entries.
+// The fold by y of the pair at an index of a codeword of 64 entries.
 fn fold_y_row(rt: &impl Abort, index: usize, beta: Cubic, low: Cubic, high: Cubic) -> Cubic {
     assert!(rt; index < 32);
     let inverse = point_at(rt, Domain::standard(6), 2 * index)
@@ -38,7 +38,7 @@ fn fold_y_row(rt: &impl Abort, index: usize, beta: Cubic, low: Cubic, high: Cubi
     fold_row_with_inv_twiddle(inverse.expect(rt, "a coordinate is zero"), beta, low, high)
 }
 
-// Asserts that a word of 64 entries folds by y and by x as its pairs do.
+// Asserts that a codeword of 64 entries folds by y and by x as its pairs do.
 fn assert_pairs_fold(
     rt: &impl Abort,
     beta: Cubic,
@@ -66,7 +66,8 @@ fn whole_words_fold_as_their_pairs(rt: HostRuntime) -> Result<(), Fail> {
     Ok(())
 }
 
-// Asserts that the word has exactly the `2^log_blowup`th part of its length as coefficients in x.
+// Asserts that the codeword has exactly the `2^log_blowup`th part of its length as coefficients in
+// x.
 fn assert_dimension(
     rt: &impl Abort,
     alloc: Global,
@@ -83,7 +84,7 @@ fn assert_dimension(
     Ok(())
 }
 
-// Asserts that a word of so low a degree folds to such words, by y and then by x.
+// Asserts that a codeword of so low a degree folds to such codewords, by y and then by x.
 fn assert_folds(
     rt: &impl Abort,
     alloc: Global,

@@ -12,7 +12,7 @@ fn bits<S: FriFoldingStrategy<Mersenne31, Cubic>>(strategy: &S) -> usize {
     strategy.extra_query_index_bits()
 }
 
-// The fold of the only pair of a word by any strategy.
+// The fold of the only pair of a codeword by any strategy.
 fn fold_of<S: FriFoldingStrategy<Mersenne31, Cubic>>(
     strategy: &S,
     beta: Cubic,
@@ -23,7 +23,7 @@ fn fold_of<S: FriFoldingStrategy<Mersenne31, Cubic>>(
     strategy.fold_row(0, 0, 1, beta, pair)
 }
 
-// The folds of `2^log_height` rows, after a test of what is asked.
+// The folds of `2^log_height` rows, after a test of what is required.
 fn folds_of(
     rt: &impl Abort,
     alloc: Global,
@@ -41,7 +41,7 @@ fn folds_of(
     )
 }
 
-// The values of 3 + x at `t` and `-t`, the two x coordinates of a word of two entries.
+// The values of 3 + x at `t` and `-t`, the two x coordinates of a codeword of two entries.
 fn pair() -> [Cubic; 2] {
     let t = Cubic::from_base(Point::<Mersenne31>::generator(3).x());
     [Cubic::from_u64(3) + t, Cubic::from_u64(3) - t]

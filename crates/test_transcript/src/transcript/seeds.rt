@@ -81,7 +81,7 @@ fn assert_listed(rt: &impl Abort, listed: &DomainSeparator, steps: &[Interaction
     assert!(rt; listed.text() == text);
 }
 
-/// The shape over one claim of four columns with one round, whose indices have so many bits.
+/// The shape over one claim of four columns with one round, whose indices have `index_bits` bits.
 fn of_index_bits(alloc: Global, index_bits: usize) -> Result<CirclePcsShape, AllocError>
     ensures { IfOk result (λ s. s.log_final_poly_len ≡ 0) }
 {

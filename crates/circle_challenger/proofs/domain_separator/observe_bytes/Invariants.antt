@@ -3,7 +3,7 @@ use Rattle.circle_field.specs.Field.{of_nat}
 use Rattle.circle_challenger.specs.Observing.{after_all}
 use Rattle.circle_challenger.proofs.domain_separator.observe_bytes.Given as goal
 
--- the bytes so far were taken in
+-- the bytes so far were absorbed
 abbrev pub invariant-loop-byte : goal.invariant-loop-byte
 invariant-loop-byte g l =
     let state = g.C.ChallengerState.state in

@@ -2,7 +2,7 @@ use Rattle.std.proofs.Common.{◌≡◌, ◌-◌, ◌+◌, ◌∷◌, [], ℕ, S
 use Rattle.circle_codewords.specs.Openings.{OpensSiblings}
 use Rattle.circle_prover.proofs.openings.open_rounds.Given as goal
 
--- the words so far are opened
+-- the codewords so far are opened
 abbrev pub invariant-loop-round : goal.invariant-loop-round
 invariant-loop-round g l =
     record {

@@ -9,8 +9,8 @@ use Rattle.circle_transcript.specs.Transcript.{current, due, numbers, IsSame}
 use Rattle.circle_prover.specs.Words.{AreRounds, HavePlayed, word_at}
 use Rattle.circle_prover.proofs.rounds.play_rounds.Given as goal
 
--- the rounds so far were played with the witnesses and committed to their words, the next word is
--- there, and the other rounds are due
+-- the rounds so far were played with the witnesses and committed to their codewords, the next
+-- codeword is there, and the other rounds are due
 abbrev pub invariant-loop-i : goal.invariant-loop-i
 invariant-loop-i g l =
     let r = run_moves g.C.ChallengerState.state g.C.CanObserve-1.after_observe

@@ -6,7 +6,7 @@ use Rattle.circle_transcript.specs.Draw.{widths_of, after_claims_by}
 use Rattle.circle_transcript.specs.Claims.{claims_of}
 use Rattle.circle_transcript.proofs.play.observe_claims.Given as goal
 
--- the claims so far were taken in, and the steps of the others are due
+-- the claims so far were absorbed, and the steps of the others are due
 abbrev pub invariant-loop-point : goal.invariant-loop-point
 invariant-loop-point g l =
     let degree = g.EF.ExtensionField.DEGREE in

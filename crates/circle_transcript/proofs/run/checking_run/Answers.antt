@@ -32,7 +32,7 @@ challenger g = run_moves g.C.ChallengerState.state g.C.CanObserve-1.after_observ
     g.EF.ExtensionField.DEGREE g.EF.ExtensionField.coefficients (of_nat g.F.Operations.ops)
     g.F.Operations.ops.zero
 
--- what the run takes in, with this list of the rounds' witnesses
+-- what the run absorbs, with this list of the rounds' witnesses
 abbrev taken_beside : {F E Com : Type 0} {g : _} → List (Point E g × Bor (List E)) →
     CircleMessages E Com → CircleWitnesses F → List F → Taken F E Com
 taken_beside claims messages witnesses rounds =

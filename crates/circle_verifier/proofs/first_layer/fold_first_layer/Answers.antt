@@ -35,7 +35,7 @@ fields g = record {
   same = g.EF.PartialEq.eq;
 }
 
--- the word of this turn
+-- the codeword of this turn
 word-here : (g : given.Over) (c : In-Some g) →
     IsClaimed (fields g) c.args.run.now (length c.loop-word.yielded) c.in-Some.word.log_height
     × (queried c.in-Some.word ≡ word_at (fields g) c.args.run.now c.in-Some.word.log_height)

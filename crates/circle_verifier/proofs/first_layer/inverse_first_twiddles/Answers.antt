@@ -12,7 +12,7 @@ use Rattle.circle_folding.proofs.FirstLayer.{first_layer_twiddles-nonzero}
 use Rattle.circle_relation.specs.declared.run.QueriedWord.{QueriedWord}
 use Rattle.circle_verifier.proofs.first_layer.inverse_first_twiddles.Goals as goal
 
--- the word of this turn
+-- the codeword of this turn
 module _ {F E : Type 0} {g : _} (words : List (QueriedWord F E g)) (i : ℕ) (w : QueriedWord F E g)
     (within : i < length words) (is : w ≡ get_or words i w) where
   bounded : (top : ℕ) → All (λ w. (1 ≤ w.log_height) × (w.log_height ≤ top)) words →
@@ -28,7 +28,7 @@ module _ {F E : Type 0} {g : _} (words : List (QueriedWord F E g)) (i : ℕ) (w 
       (sym is) (all i w within)
 
 module _ {W A : Type 0} (f : W → List A) (words : List W) (i : ℕ) where
-  -- the lists of the first words, with that of one more, and of all
+  -- the lists of the first codewords, with that of one more, and of all
   one-more : (w : W) (before added : List A) → i < length words → w ≡ get_or words i w →
       before ≡ flat_map f (take i words) → added ≡ f w →
       before ++ added ≡ flat_map f (take (i + 1) words)

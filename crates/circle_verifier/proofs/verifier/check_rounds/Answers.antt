@@ -1,7 +1,9 @@
 use Rattle.std.proofs.Common.{◌+◌, ◌<◌, length, drop, map, vec_len, sym, ap, ◌∙◌, arith}
 use Rattle.std.specs.Result.{result_and}
-use Rattle.circle_verifier.specs.Refusals.{answer, rounds_tests}
-use Rattle.circle_verifier.proofs.Answering.{answer-round, refused-is}
+use Rattle.circle_relation.specs.TestsInOrder.{answer}
+use Rattle.circle_verifier.specs.Refusals.{rounds_tests}
+use Rattle.circle_verifier.proofs.ShapeTests.{answer-round}
+use Rattle.circle_relation.proofs.Answering.{refused-is}
 use Rattle.circle_verifier.proofs.verifier.check_rounds.Goals as goal
 
 pub loop-round-preserved : goal.loop-round-preserved

@@ -1,8 +1,9 @@
 use Rattle.std.proofs.Common.{◌≡◌, drop, map, vec_len}
-use Rattle.circle_verifier.specs.Refusals.{answer, rounds_tests}
+use Rattle.circle_relation.specs.TestsInOrder.{answer}
+use Rattle.circle_verifier.specs.Refusals.{rounds_tests}
 use Rattle.circle_verifier.proofs.verifier.check_rounds.Given as goal
 
--- the answer is that to the rounds that are left
+-- the result is that for the rounds that are left
 abbrev pub invariant-loop-round : goal.invariant-loop-round
 invariant-loop-round g l =
     answer {A = Unit {0}}

@@ -1,8 +1,9 @@
 use Rattle.std.proofs.Common.{◌≡◌, drop, map, vec_len}
-use Rattle.circle_verifier.specs.Refusals.{answer, sibling_tests}
+use Rattle.circle_relation.specs.TestsInOrder.{answer}
+use Rattle.circle_verifier.specs.Refusals.{sibling_tests}
 use Rattle.circle_verifier.proofs.verifier.check_siblings.Given as goal
 
--- the answer is that to the queries that are left
+-- the result is that for the queries that are left
 abbrev pub invariant-loop-values : goal.invariant-loop-values
 invariant-loop-values g l =
     answer {A = Unit {0}}

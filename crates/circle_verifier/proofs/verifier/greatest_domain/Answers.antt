@@ -2,10 +2,11 @@ use Rattle.std.proofs.Common.{rules, ◌≡◌, ℕ, ◌+◌, ◌<◌, List, ◌
 use Rattle.std.proofs.Common.{arith}
 use Rattle.std.specs.Prelude.{max}
 use Rattle.circle_commit.specs.Mmcs.{greatest}
-use Rattle.circle_verifier.specs.Refusals.{answer, domain_tests}
+use Rattle.circle_relation.specs.TestsInOrder.{answer}
+use Rattle.circle_verifier.specs.Refusals.{domain_tests}
 use Rattle.circle_relation.specs.Statement.{all_matrices, log_sizes}
 use Rattle.circle_relation.specs.StatementOf.{matrix_claims, batch_claims}
-use Rattle.circle_verifier.proofs.Answering.{refused-is}
+use Rattle.circle_relation.proofs.Answering.{refused-is}
 use Rattle.circle_verifier.proofs.Domains.{more_domains, refused_domains, next_batch}
 use Rattle.circle_verifier.proofs.verifier.greatest_domain.Goals as goal
 

@@ -12,8 +12,9 @@ use Rattle.circle_commit.specs.declared.pcs.MatrixOpening.{MatrixOpening}
 use Rattle.circle_relation.specs.Statement.{log_sizes}
 use Rattle.circle_relation.specs.StatementOf.{matrix_claims}
 use Rattle.circle_relation.specs.declared.error.InputError.TheVariants.{DomainTooSmall}
-use Rattle.circle_verifier.specs.Refusals.{answer, domain_tests}
-use Rattle.circle_verifier.proofs.HeightTests.{skipped, refusing}
+use Rattle.circle_relation.specs.TestsInOrder.{answer}
+use Rattle.circle_verifier.specs.Refusals.{domain_tests}
+use Rattle.circle_relation.proofs.Answering.{skipped, refusing}
 use Rattle.circle_verifier.proofs.verifier.greatest_domain_of.Goals as goal
 
 next_matrix : {E F : Type 0} {g : _} (ms : List (MatrixOpening E (CircleDomain F g))) (i : ℕ)

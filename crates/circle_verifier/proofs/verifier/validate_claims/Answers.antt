@@ -2,7 +2,7 @@ use Rattle.std.proofs.Common.{◌≡◌, ◌+◌, ◌<◌, ◌≤◌, sym, ap, �
 use Rattle.circle_commit.specs.declared.error.FriError.TheVariants.{GlobalMaxHeightTooLarge}
 use Rattle.circle_relation.specs.Statement.{all_matrices, log_sizes, log_max_height}
 use Rattle.circle_relation.specs.StatementOf.{batch_claims}
-use Rattle.circle_verifier.proofs.Answering.{refused-is}
+use Rattle.circle_relation.proofs.Answering.{refused-is}
 use Rattle.circle_verifier.proofs.HeightTests.{claims_refused, none_claimed, too_high, fits_group}
 use Rattle.circle_verifier.proofs.HeightTests.{height_is}
 use Rattle.circle_verifier.proofs.verifier.validate_claims.Goals as goal

@@ -1,9 +1,9 @@
 use Rattle.std.proofs.Common.{◌≡◌, [], ◌∷◌, Ok, Err, sym, ap, ◌∙◌}
 use Rattle.circle_commit.specs.declared.error.FriError.TheVariants.{PointAtInfinity}
 use Rattle.circle_commit.specs.declared.params.PowPhase.TheVariants.{Batch}
-use Rattle.circle_verifier.specs.Refusals.{answer, witness_test}
-use Rattle.circle_verifier.proofs.Answering.{refused-is}
-use Rattle.circle_verifier.proofs.HeightTests.{skipped, refusing, answer-none}
+use Rattle.circle_relation.specs.TestsInOrder.{answer}
+use Rattle.circle_verifier.specs.Refusals.{witness_test}
+use Rattle.circle_relation.proofs.Answering.{refused-is, skipped, refusing, answer-none}
 use Rattle.circle_verifier.proofs.ShapeTests.{refused_first, passed_first}
 use Rattle.circle_verifier.proofs.verifier.validate_points.Goals as goal
 

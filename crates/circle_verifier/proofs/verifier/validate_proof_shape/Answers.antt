@@ -5,10 +5,12 @@ use Rattle.std.specs.List.{list_all}
 use Rattle.circle_commit.specs.declared.error.FriError.TheVariants.{CommitPowWitnessCountMismatch}
 use Rattle.circle_commit.specs.declared.error.FriError.TheVariants.{CommitPhaseOpeningsCountMismatch}
 use Rattle.circle_commit.specs.declared.params.PowPhase.TheVariants.{CommitPhase, Query}
-use Rattle.circle_verifier.specs.Refusals.{answer, witness_test, rounds_tests}
-use Rattle.circle_verifier.proofs.Answering.{answer-fifth, not_different, refused-is}
-use Rattle.circle_verifier.proofs.ShapeTests.{different, second_refuses, third_refuses}
-use Rattle.circle_verifier.proofs.ShapeTests.{fourth_refuses, fifth_refuses}
+use Rattle.circle_relation.specs.TestsInOrder.{answer}
+use Rattle.circle_verifier.specs.Refusals.{witness_test, rounds_tests}
+use Rattle.circle_verifier.proofs.ShapeTests.{answer-fifth, not_different, different}
+use Rattle.circle_verifier.proofs.ShapeTests.{second_refuses, third_refuses, fourth_refuses}
+use Rattle.circle_verifier.proofs.ShapeTests.{fifth_refuses}
+use Rattle.circle_relation.proofs.Answering.{refused-is}
 use Rattle.circle_verifier.proofs.verifier.validate_proof_shape.Goals as goal
 
 pub returns-then-got-expected-2 : goal.returns-then-got-expected-2

@@ -2,7 +2,7 @@ use Rattle.std.proofs.Common.{Ok, sym, ap, ◌∙◌, arith}
 use Rattle.circle_relation.specs.Statement.{all_matrices, log_max_height}
 use Rattle.circle_relation.specs.StatementOf.{batch_claims}
 use Rattle.circle_relation.specs.RunOf.{proof_of}
-use Rattle.circle_verifier.proofs.Answering.{refused-is}
+use Rattle.circle_relation.proofs.Answering.{refused-is}
 use Rattle.circle_verifier.proofs.Seeding.{claims_refuse, parameters_refuse, shape_refuses}
 use Rattle.circle_verifier.proofs.Seeding.{final_refuses, points_refuse, none_refuses, claims_known}
 use Rattle.circle_verifier.proofs.Seeding.{shape_same, final_same, points_same_tests}

@@ -1,8 +1,8 @@
 use Rattle.std.proofs.Common.{◌∙◌, refl, subst, All}
 use Rattle.std.proofs.lemmas.List.{take_all}
 use Rattle.std.proofs.lemmas.List.Elements.{All-more}
-use Rattle.circle_commit.specs.RoundTrip.{HasPoints}
-use Rattle.circle_scheme.specs.Committing.{HaveRowsForPoints}
+use Rattle.circle_round_trip.specs.RoundTrip.{HasPoints}
+use Rattle.p3_circle.specs.Committing.{HaveRowsForPoints}
 use Rattle.test_open.proofs.accepted.can_all_be_opened.Goals as goal
 
 pub loop-batch-preserved : goal.loop-batch-preserved

@@ -1,6 +1,6 @@
 use Rattle.std.proofs.Common.{take, All}
-use Rattle.circle_commit.specs.RoundTrip.{HasPoints}
-use Rattle.circle_scheme.specs.Committing.{HaveRowsForPoints}
+use Rattle.circle_round_trip.specs.RoundTrip.{HasPoints}
+use Rattle.p3_circle.specs.Committing.{HaveRowsForPoints}
 use Rattle.test_open.proofs.accepted.can_all_be_opened.Given as goal
 
 abbrev pub invariant-loop-batch : goal.invariant-loop-batch

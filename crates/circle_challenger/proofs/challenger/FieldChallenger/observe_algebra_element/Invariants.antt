@@ -2,7 +2,7 @@ use Rattle.std.proofs.Common.{◌≡◌, take}
 use Rattle.circle_challenger.specs.Observing.{after_all}
 use Rattle.circle_challenger.proofs.challenger.FieldChallenger.observe_algebra_element.Given as goal
 
--- the coefficients so far were taken in
+-- the coefficients so far were absorbed
 abbrev pub invariant-loop-i : goal.invariant-loop-i
 invariant-loop-i g l =
     let state = g.Self.ChallengerState.state in

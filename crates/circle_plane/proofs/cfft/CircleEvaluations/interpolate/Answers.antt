@@ -1,170 +1,30 @@
-use Rattle.std.proofs.Common.{rules, ◌≡◌, ℕ, ◌+◌, ◌*◌, ◌/◌, ◌^◌, ◌<◌, ◌≤◌, ◌%◌, ◌++◌, ◌∙◌, sym, ap}
-use Rattle.std.proofs.Common.{subst, map, take, drop, slice_index_or, length, arith, All}
-use Rattle.std.proofs.Math.Nat.{mul-le-mul_right}
-use Rattle.std.proofs.lemmas.List.{length-map}
-use Rattle.std.proofs.lemmas.Nat.{pow_pos}
-use Rattle.circle_field.specs.Field.{two, nth_power}
-use Rattle.circle_field.proofs.Inverses.{take-whole}
-use Rattle.circle_commit.specs.Matrix.{rows_from, column}
-use Rattle.circle_commit.specs.RowFacts.{length-rows_from}
-use Rattle.circle_commit.specs.RowMajorMatrix.{rows, width_of, height_of, values_of, length-rows}
-use Rattle.circle_commit.specs.RowMajorMatrix.{rows-width, length-values}
-use Rattle.circle_point.specs.Basis.{value}
-use Rattle.circle_domain.specs.Domain.{log_size, shift_of}
-use Rattle.circle_domain.specs.Order.{cfft_order, natural_order}
-use Rattle.circle_domain.specs.Ordering.{other_order}
+use Rattle.std.proofs.Common.{◌≡◌, ◌∙◌, sym, ap, map}
+use Rattle.circle_commit.specs.RowMajorMatrix.{length-rows, rows}
+use Rattle.circle_domain.proofs.Results.{if_ok_both}
+use Rattle.circle_domain.specs.Domain.{points_of}
 use Rattle.circle_domain.specs.Values.{values_at}
-use Rattle.circle_domain.specs.Layers.{layer_factors}
-use Rattle.circle_domain.proofs.Columns.{rows-same_columns}
-use Rattle.circle_domain.proofs.TwoPowers.{inverse_power}
-use Rattle.circle_domain.proofs.Told.{values-tell}
-use Rattle.circle_domain.proofs.CosetOrder.{other_order-points}
-use Rattle.circle_domain.proofs.Stored.{whole, height, rows-values, column-values}
-use Rattle.circle_domain.proofs.Twiddles.{length-layer_factors, made-count}
-use Rattle.circle_cfft.specs.Butterflies.{total, scaled_difference}
-use Rattle.circle_cfft.specs.Passes.{factors_at, ascending, to_coefficients}
-use Rattle.circle_plane.proofs.AllLayers.{factors-made, layer-entries}
-use Rattle.circle_plane.proofs.Transformed.{holds-rows, interpolated}
 use Rattle.circle_plane.proofs.cfft.CircleEvaluations.interpolate.Goals as goal
 
-pub backward_passes-requires-clause-layers : goal.backward_passes-requires-clause-layers
-backward_passes-requires-clause-layers g c l lt =
+pub returns-clause-height : goal.returns-clause-height
+returns-clause-height g c =
+    let made = c.interpolate_by.ensures.values in
+    if_ok_both _ _ _ c.interpolate_by.result
+    (λ coeffs are _. sym (length-rows coeffs) ∙ are.told.height) made made
+
+pub returns-clause-values : goal.returns-clause-values
+returns-clause-values g c =
+    let made = c.interpolate_by.ensures.values in
+    if_ok_both _ _ _ c.interpolate_by.result (λ coeffs are _. are.told) made made
+
+pub returns-clause-natural : goal.returns-clause-natural
+returns-clause-natural g c =
     let k = g.F.Operations.ops in
-    let gen = g.F.ComplexExtendable.generators in
-    let n = log_size c.args.self.domain in
-    let s = shift_of c.args.self.domain in
-    let values = c.args.self.values in
-    let width = g.M.MatrixShape.width values in
-    let m = c.in_ok-matrix.matrix in
-    let entries = c.into_values-entries.result.items in
-    let items = c.in_ok-inverses.inverses.items in
-    let f = λ (i : ℕ). map k.inv (layer_factors k gen n s i) in
-    let holds = holds-rows m n width (g.M.Matrix.rows values) c.in_ok-matrix.ensures.rows
-    c.in_ok-matrix.ensures.width (g.met.M.Matrix.height_law values
-    ∙ c.args.self.row_for_each_point) in
-    let long : length entries ≡ 2 ^ n * width = ap length c.into_values-entries.ensures
-    ∙ holds.long in
-    let wide : c.width-width.result ≡ width = c.width-width.ensures
-    ∙ c.in_ok-matrix.ensures.width in
-    let below : l < n =
-    omega (
-      arith,
-      lt,
-      ap length c.deref.ensures.value,
-      made-count (λ w. w.items) f items n c.in_ok-inverses.ensures,
-    ) in
-    let ts = factors_at c.deref.result.now l in
-    let read : ts ≡ f l = ap (λ all. factors_at all l) c.deref.ensures.value
-    ∙ factors-made f items n l c.in_ok-inverses.ensures below in
-    let count = ap length read ∙ length-map (layer_factors k gen n s l) k.inv
-    ∙ length-layer_factors k gen n l s in
-    ap (λ w. length ts * (2 ^ l * w + 2 ^ l * w)) wide
-    ∙ layer-entries k gen n s width l ts below count ∙ sym long
-    ∙ sym (ap length c.deref_mut.ensures.value)
+    let points = points_of k g.F.ComplexExtendable.generators c.args.self.domain in
+    if_ok_both _ _ _ c.interpolate_by.result
+    (λ coeffs are width. ap (λ w. map (values_at k (rows coeffs) w) points) width ∙ are.natural)
+    c.interpolate_by.ensures.values c.interpolate_by.ensures.width
 
-pub backward_passes-requires-clause-some : goal.backward_passes-requires-clause-some
-backward_passes-requires-clause-some g c =
-    let n = log_size c.args.self.domain in
-    let values = c.args.self.values in
-    let width = g.M.MatrixShape.width values in
-    let holds = holds-rows c.in_ok-matrix.matrix n width (g.M.Matrix.rows values)
-    c.in_ok-matrix.ensures.rows c.in_ok-matrix.ensures.width (g.met.M.Matrix.height_law values
-    ∙ c.args.self.row_for_each_point) in
-    let long : length c.deref_mut.result.now ≡ 2 ^ n * width =
-    ap length (c.deref_mut.ensures.value ∙ c.into_values-entries.ensures) ∙ holds.long in
-    let some : 1 * width ≤ 2 ^ n * width = mul-le-mul_right width (pow_pos n) in
-    omega (arith, long, some, g.met.M.Matrix.width_positive values)
-
-pub new-requires-clause-whole : goal.new-requires-clause-whole
-new-requires-clause-whole g c =
-    let n = log_size c.args.self.domain in
-    let values = c.args.self.values in
-    let width = g.M.MatrixShape.width values in
-    let holds = holds-rows c.in_ok-matrix.matrix n width (g.M.Matrix.rows values)
-    c.in_ok-matrix.ensures.rows c.in_ok-matrix.ensures.width (g.met.M.Matrix.height_law values
-    ∙ c.args.self.row_for_each_point) in
-    let old = c.into_values-entries.result in
-    let total : old.len ≡ 2 ^ n * width = old.ok.0 ∙ ap length c.into_values-entries.ensures
-    ∙ holds.long in
-    ap (λ w. old.len % w) (c.width-width.ensures ∙ c.in_ok-matrix.ensures.width)
-    ∙ whole old.len (2 ^ n) width total (g.met.M.Matrix.width_positive values)
-
-pub returns : goal.returns
-returns g c =
-    let k = g.F.Operations.ops in
-    let gen = g.F.ComplexExtendable.generators in
-    let n = log_size c.args.self.domain in
-    let s = shift_of c.args.self.domain in
-    let values = c.args.self.values in
-    let width = g.M.MatrixShape.width values in
-    let m = c.in_ok-matrix.matrix in
-    let old = c.into_values-entries.result in
-    let items = c.in_ok-inverses.inverses.items in
-    let f = λ (i : ℕ). map k.inv (layer_factors k gen n s i) in
-    let laws = g.F.Operations.laws in
-    let gens = g.met.F.ComplexExtendable.generators_law in
-    let on_circle = c.args.self.domain.shift.on_circle in
-    let positive = g.met.M.Matrix.width_positive values in
-    let holds = holds-rows m n width (g.M.Matrix.rows values) c.in_ok-matrix.ensures.rows
-    c.in_ok-matrix.ensures.width (g.met.M.Matrix.height_law values
-    ∙ c.args.self.row_for_each_point) in
-    let entries_long : length old.items ≡ 2 ^ n * width = ap length c.into_values-entries.ensures
-    ∙ holds.long in
-    let same : rows_from width (2 ^ n) old.items ≡ g.M.Matrix.rows values =
-    ap (rows_from width (2 ^ n)) c.into_values-entries.ensures ∙ holds.same in
-    let wide : c.width-width.result ≡ width = c.width-width.ensures
-    ∙ c.in_ok-matrix.ensures.width in
-    let total_len : old.len ≡ 2 ^ n * width = old.ok.0 ∙ entries_long in
-    let new = c.backward_passes.new.entries in
-    let r = c.new.result in
-    let factor = c.div_2exp_u64-scale.result in
-    let seen = c.deref.result.now in
-    let count : length seen ≡ n = ap length c.deref.ensures.value
-    ∙ made-count (λ w. w.items) f items n c.in_ok-inverses.ensures in
-    let read : (l : ℕ) → l < n → factors_at seen l ≡ f l =
-    λ l below. ap (λ all. factors_at all l) c.deref.ensures.value
-    ∙ factors-made f items n l c.in_ok-inverses.ensures below in
-    let done = ascending (total k) (scaled_difference k) width (factors_at seen) n old.items in
-    let made : new ≡ map (λ a. k.mul a factor) done =
-    c.backward_passes.ensures
-    ∙ ap (λ w. map (λ a. k.mul a factor) (to_coefficients k w seen c.deref_mut.result.now)) wide
-    ∙ ap
-    (λ i. map (λ a. k.mul a factor)
-    (ascending (total k) (scaled_difference k) width (factors_at seen) i
-    c.deref_mut.result.now)) count
-    ∙ ap
-    (λ xs. map (λ a. k.mul a factor)
-    (ascending (total k) (scaled_difference k) width (factors_at seen) n xs))
-    c.deref_mut.ensures.value in
-    let all : take old.len (new ++ drop (length new) old.items) ≡ new =
-    take-whole old.len new old.items old.ok.0 (c.backward_passes.auto.entries
-    ∙ ap length c.deref_mut.ensures.value) in
-    let content : rows r ≡ rows_from width (2 ^ n) (map (λ a. k.mul a factor) done) =
-    c.new.ensures.content
-    ∙ ap (λ w. rows_from w (old.len / w) (take old.len (new ++ drop (length new) old.items)))
-    wide
-    ∙ ap (λ h. rows_from width h (take old.len (new ++ drop (length new) old.items)))
-    (height old.len (2 ^ n) width total_len positive)
-    ∙ ap (rows_from width (2 ^ n)) (all ∙ made) in
-    let inverse : k.mul factor (nth_power k (two k) n) ≡ k.one =
-    ap (λ x. k.mul x (nth_power k (two k) n))
-    (c.div_2exp_u64-scale.ensures ∙ ap (λ o. k.mul o (nth_power k (k.inv (two k)) c.log_n.result))
-    (c.ONE.ensures ∙ g.met.F.Field.one_law)
-    ∙ laws.ring.one_mul (nth_power k (k.inv (two k)) c.log_n.result)
-    ∙ ap (nth_power k (k.inv (two k))) c.log_n.ensures) ∙ inverse_power laws n in
-    let shape : width_of r ≡ width = c.new.ensures.shape ∙ wide in
-    let own_wide : All (λ row. length row ≡ width) (rows r) =
-    subst (λ w. All (λ row. length row ≡ w) (rows r)) shape (rows-width r) in
-    let found = interpolated laws gens c.args.self.domain
-    c.requires.in_group g.met.F.ComplexExtendable.at_most_62 on_circle width positive old.items
-    (g.M.Matrix.rows values) (rows r) (factors_at seen) factor
-    c.requires.genuine entries_long same (g.met.M.Matrix.width_law values) read inverse own_wide
-    content in
-    record {
-      width = search rules;
-      height = sym (length-rows r) ∙ found.told.height;
-      values = found.told;
-      natural = ap (λ w. map (values_at k (rows r) w) (natural_order k gen n s)) shape
-          ∙ found.natural;
-      only = found.only;
-    }
+pub returns-clause-only : goal.returns-clause-only
+returns-clause-only g c =
+    let made = c.interpolate_by.ensures.values in
+    if_ok_both _ _ _ c.interpolate_by.result (λ coeffs are _. are.only) made made

@@ -96,7 +96,7 @@ record Says (R : Rows) : Type 0 where
   state : R.C.Denot → R.State.Denot
   after : R.C.Denot → CirclePcsShape → R.State.Denot
 
--- what is asked of the shape
+-- what is required of the shape
 abbrev few : CirclePcsShape → Type 0
 few d = d.log_final_poly_len ≤ 63
 
@@ -169,7 +169,7 @@ module _ (R : Rows) where
 module _ (R : Rows) (w : Says R) {M : Type 1} {𝓤 : Ura M} (𝓛 : Logic 𝓤) where
   open 𝓛 use {H, A}
 
-  -- the types outlive their lifetimes, and what else is asked
+  -- the types outlive their lifetimes, and what else is required
   abbrev Asked : Lft → Lft → Lft → Lft → Lft → SProp 𝓤 → SProp 𝓤
   Asked κF κE κC κS κT also =
       sep 𝓤 (fact 𝓤 (κF ⊑ R.F.lives))
@@ -333,7 +333,7 @@ module _ (R : Rows) (w : Says R) {M : Type 1} {𝓤 : Ura M} (𝓛 : Logic 𝓤)
           learn ! (λ k₅. drop ! $
           move ! (3 ∷ []) $ split ! $ split3 ! $ move ! (2 ∷ []) $ split3 ! $ move ! (2 ∷ []) $
           split3 ! $ move ! (2 ∷ []) $ split ! $
-          -- [the tokens of State, none, C, S, F, EF, and the two others of κ; the answer; the last
+          -- [the tokens of State, none, C, S, F, EF, and the two others of κ; the result; the last
           -- value]
           move ! (7 ∷ 2 ∷ []) $ use2 𝓛 (‵ (flft κ (Share.right q))) (𝓛.lfts.lft_join
           κ (Share.right q)) $ move ! (6 ∷ 0 ∷ []) $ use2 𝓛 (‵ (flft κ q)) (𝓛.lfts.lft_join κ q)
@@ -503,14 +503,14 @@ module _ (R : Rows) (w : Says R) {M : Type 1} {𝓤 : Ura M} (𝓛 : Logic 𝓤)
           use1 𝓛 (later (some (Gave κ α.1 δ v))) (seeds_gives κ α.1 δ v) $ await ! tt $ pick !
           (λ r. learn ! (λ told.
           split3 ! $ move ! (2 ∷ []) $ split3 ! $ move ! (2 ∷ []) $ split3 ! $
-          -- [the tokens of S, State; the answer; the tokens of F, EF, κ; the last value; the way
+          -- [the tokens of S, State; the result; the tokens of F, EF, κ; the last value; the way
           -- back; the way to end κ]
           move ! (5 ∷ 8 ∷ []) $ use2 𝓛 (later (‵ (fdead κ) ⊛ ‵ (flft κC qC)))
           (apply∗ 𝓤 (A.lft κ α.1) _) $ await ! tt $ split ! $
           move ! (0 ∷ 8 ∷ 7 ∷ []) $ use3 𝓛 (later (‵ (lent κs.0 p γ r.1) ⊛ ‵ (flft κs.0 qs.0)))
           (comes_back 𝓛 (C-row R) (named 0) κs.0 κ qs.0 γ p.0 p.1 δ c r.1) $ await ! tt $ split
           ! $
-          -- [the reference; the tokens of it, C, S, State; the answer; the tokens of F, EF]
+          -- [the reference; the tokens of it, C, S, State; the result; the tokens of F, EF]
           move ! (5 ∷ []) $ by_result ! (Seeded.the_row (C-row R)) Refused.the_row
           (SeededLaws.the_row_laws (C-row R) (param_laws 2 R.C LC)) RefusedLaws.the_row_laws r.0 v
           (λ x u is e fits.
@@ -565,7 +565,7 @@ module _ (R : Rows) (w : Says R) {M : Type 1} {𝓤 : Ura M} (𝓛 : Logic 𝓤)
           rewrite ! 0 (λ (n : R.C.Denot). ‵ (fres γ ((C-row R).coded.code n)))
           (subst (λ z. OnErr z (r.1 ≡ c)) is told.0) refl $ use1 𝓛 (‵ (Rests (Err x)))
           (rests_err x) $
-          -- [what the challenger ends as; two parts of the reference; the answer; the tokens of the
+          -- [what the challenger ends as; two parts of the reference; the result; the tokens of the
           -- reference, C, S, State, F, EF]
           nothing ! $ move ! (5 ∷ 9 ∷ 10 ∷ 6 ∷ 7 ∷ 8 ∷ 0 ∷ []) $ group ! 7 $
           returns ! (look_at ! 0 refl) $ free_all ! refl $ keep ! (0 ∷ 4 ∷ 1 ∷ []) $ by !

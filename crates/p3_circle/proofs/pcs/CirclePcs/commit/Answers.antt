@@ -2,11 +2,11 @@ use Rattle.std.proofs.Common.{rules, ◌≡◌, ◌==◌, ◌≤◌, length, tru
 use Rattle.std.proofs.Common.{arith}
 use Rattle.std.proofs.lemmas.Slice.Zip.{AllZip-long}
 use Rattle.circle_commit.specs.Mmcs.{HaveHeightsOfPowers}
-use Rattle.circle_scheme.specs.Committing.{commit_tests, evaluation_tests, IsExtension}
+use Rattle.p3_circle.specs.Committing.{commit_tests, evaluation_tests, IsExtension}
 use Rattle.circle_relation.specs.declared.error.ProverError.TheVariants.{NoCommittedMatrices}
-use Rattle.circle_scheme.proofs.Extended.{extensions-heights}
-use Rattle.circle_scheme.proofs.CommitTests.{eqb_positive}
-use Rattle.circle_verifier.proofs.HeightTests.{skipped}
+use Rattle.p3_circle.proofs.Extended.{extensions-heights}
+use Rattle.circle_prover.proofs.CommittedHeights.{eqb_positive}
+use Rattle.circle_relation.proofs.Answering.{skipped}
 use Rattle.p3_circle.proofs.InOrder.{refuses-first, err-refuses, passes, ok-passes, alike}
 use Rattle.p3_circle.proofs.InOrder.{only-memory}
 use Rattle.p3_circle.proofs.pcs.CirclePcs.commit.Goals as goal

@@ -1,9 +1,10 @@
 use Rattle.std.proofs.Common.{rules, ◌≡◌, ◌==◌, length, true, false, sym, subst, ap, ◌∙◌, Ok}
 use Rattle.circle_commit.specs.Mmcs.{HaveHeightsOfPowers}
-use Rattle.circle_scheme.specs.Committing.{lde_tests, matrix_tests}
+use Rattle.p3_circle.specs.Committing.{lde_tests}
+use Rattle.circle_prover.specs.Requesting.{matrix_tests}
 use Rattle.circle_relation.specs.declared.error.ProverError.TheVariants.{NoCommittedMatrices}
-use Rattle.circle_verifier.specs.Refusals.{answer}
-use Rattle.circle_verifier.proofs.HeightTests.{skipped}
+use Rattle.circle_relation.specs.TestsInOrder.{answer}
+use Rattle.circle_relation.proofs.Answering.{skipped}
 use Rattle.p3_circle.proofs.InOrder.{refuses, refuses-first, passes, only-memory}
 use Rattle.p3_circle.proofs.pcs.CirclePcs.commit_ldes.Goals as goal
 

@@ -1,7 +1,7 @@
 use Rattle.std.proofs.Common.{◌∙◌, sym, subst}
 use Rattle.std.specs.Prelude.{All}
-use Rattle.circle_scheme.specs.Committing.{HaveRowsForPoints, IsExtendable}
-use Rattle.circle_scheme.proofs.CommitTests.{all-extendable}
+use Rattle.p3_circle.specs.Committing.{HaveRowsForPoints, IsExtendable}
+use Rattle.p3_circle.proofs.CommitTests.{all-extendable}
 use Rattle.p3_circle.proofs.pcs.CirclePcs.get_quotient_ldes.Goals as goal
 
 pub validate_evaluations-requires : goal.validate_evaluations-requires

@@ -3,7 +3,7 @@ use Rattle.std.proofs.lemmas.Bool.{false≢true}
 use Rattle.std.proofs.lemmas.List.{take_all}
 use Rattle.std.proofs.lemmas.List.Elements.{All-more}
 use Rattle.circle_commit.specs.Mmcs.{HaveHeightsOfPowers}
-use Rattle.circle_scheme.proofs.CommitTests.{at-item}
+use Rattle.circle_prover.proofs.CommittedHeights.{at-item}
 use Rattle.p3_circle.proofs.pcs.CirclePcs.have_heights_of_powers.Goals as goal
 
 pub loop-request-preserved : goal.loop-request-preserved

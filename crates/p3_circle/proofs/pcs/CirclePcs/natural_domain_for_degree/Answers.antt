@@ -1,5 +1,5 @@
 use Rattle.std.proofs.Common.{rules, ◌<◌, arith}
-use Rattle.circle_scheme.proofs.CommitTests.{power_below}
+use Rattle.circle_prover.proofs.CommittedHeights.{power_below}
 use Rattle.p3_circle.proofs.pcs.CirclePcs.natural_domain_for_degree.Goals as goal
 
 pub standard-requires : goal.standard-requires

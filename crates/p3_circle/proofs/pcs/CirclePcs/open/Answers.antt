@@ -7,7 +7,7 @@ use Rattle.circle_commit.specs.Pcs.{openings}
 use Rattle.circle_commit.specs.declared.pcs.OpeningRequest.{OpeningRequest}
 use Rattle.circle_codewords.specs.Requests.{AreRequests}
 use Rattle.circle_relation.specs.Accepts.{Fields}
-use Rattle.circle_scheme.proofs.Unrefused.{are-binary, are-fit, are-requests}
+use Rattle.circle_prover.proofs.Unrefused.{are-binary, are-fit, are-requests}
 use Rattle.p3_circle.proofs.Degrees.{high-degree}
 use Rattle.p3_circle.proofs.InOrder.{refuses-before, is-first}
 use Rattle.p3_circle.proofs.OwnRows.{own-rows}

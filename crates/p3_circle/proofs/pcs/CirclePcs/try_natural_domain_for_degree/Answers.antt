@@ -1,6 +1,6 @@
-use Rattle.std.proofs.Common.{rules, ◌≡◌, ◌≤◌, ◌<◌, ◌^◌, sym, arith}
+use Rattle.std.proofs.Common.{rules, ◌≤◌, ◌<◌, sym, arith}
 use Rattle.p3_circle.specs.Scheme.{CanBeDegree}
-use Rattle.circle_scheme.proofs.CommitTests.{pow_below, power_below}
+use Rattle.circle_prover.proofs.CommittedHeights.{pow_below, power_below}
 use Rattle.p3_circle.proofs.pcs.CirclePcs.try_natural_domain_for_degree.Goals as goal
 
 pub

@@ -3,8 +3,7 @@ use Rattle.circle_field.specs.Field.{of_nat}
 use Rattle.circle_challenger.specs.Moves.{RunMoves}
 use Rattle.circle_relation.specs.Accepts.{Fields}
 use Rattle.circle_relation.specs.Taken.{challenges_of}
-use Rattle.circle_verifier.proofs.Answering.{refused-is}
-use Rattle.circle_verifier.proofs.Domains.{passed-value, refused-value}
+use Rattle.circle_relation.proofs.Answering.{refused-is, passed-value, refused-value}
 use Rattle.p3_circle.proofs.Verdicts.{at_err, at_ok, not_both, first-by, later-by, of-three, tests}
 use Rattle.p3_circle.proofs.Verdicts.{tested-of, queries-drawn, betas-drawn, accepted-passes}
 use Rattle.p3_circle.proofs.Verdicts.{reason-memory}

@@ -1,14 +1,9 @@
-use Rattle.std.proofs.Common.{sym, subst, ◌∙◌}
 use Rattle.circle_transcript.specs.ShapeOf.{shape_of}
-use Rattle.circle_transcript.specs.Transcript.{due}
-use Rattle.test_allocations.specs.Run.{BeginsRun}
 use Rattle.test_allocations.proofs.OneRound.{one_round}
 use Rattle.test_allocations.proofs.without.transcripts.verifier.Goals as goal
 
-pub verify-drawn-requires-clause-next : goal.verify-drawn-requires-clause-next
-verify-drawn-requires-clause-next c =
+pub verify-drawn-requires-clause-run : goal.verify-drawn-requires-clause-run
+verify-drawn-requires-clause-run c =
     let shape = c.in_ok-shape.ensures in
-    let begun = one_round (shape_of c.in_ok-shape.shape) shape.widths shape.rounds in
-    let transcript = c.in_ok-transcript.ensures in
-    subst (λ n. BeginsRun n (due c.in_ok-transcript.transcript)) (sym transcript.shape)
-    (begun.0, transcript.due ∙ begun.1)
+    let begun = c.in_ok-transcript.ensures in
+    one_round (shape_of c.in_ok-shape.shape) _ _ shape.widths shape.rounds begun.shape begun.due

@@ -1,0 +1,9 @@
+use Rattle.std.proofs.Common.{◌≡◌, ℕ, ◌<◌}
+use Rattle.circle_field.specs.Field.{sub}
+use Rattle.circle_air.specs.Values.{entry}
+use Rattle.circle_air.proofs.evaluate.write_differences.Given as goal
+
+abbrev pub invariant-loop-i : goal.invariant-loop-i
+invariant-loop-i g l =
+    let k = g.E.Operations.ops in
+    (r : ℕ) → r < l.i → entry k l.differences r ≡ sub k (entry k l.left r) (entry k l.right r)

@@ -1,0 +1,14 @@
+pub mod Places
+pub mod Parts
+pub mod Values
+pub mod Degrees
+pub mod Refusal
+pub mod Satisfies
+pub mod Air
+pub mod Text
+pub mod Lanes
+pub mod Ranges
+pub mod Valid
+pub mod Built
+pub mod Builder
+pub mod WorkedRows

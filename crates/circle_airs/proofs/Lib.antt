@@ -1,0 +1,2 @@
+mod Sequence
+pub mod Shapes

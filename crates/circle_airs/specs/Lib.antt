@@ -1,0 +1,3 @@
+pub mod Fibonacci
+pub mod Handles
+pub mod Shape

@@ -1,0 +1,13 @@
+pub mod Basis
+pub mod Blocks
+pub mod Composition
+pub mod Fit
+pub mod Identity
+pub mod Lanes
+pub mod NextRow
+pub mod NodeLanes
+pub mod Quotient
+pub mod Recomposition
+pub mod Records
+pub mod Terms
+pub mod Window

@@ -1,0 +1,66 @@
+-- The quotient by what stands at each place of its domain: rows, selectors and periodic columns of
+-- the base field, and weights of the challenge field.
+use Rattle.std.specs.Prelude.{◌≡◌, ℕ, ◌+◌, ◌%◌, ◌<◌, List, [], ◌∷◌, length, map, All, Some}
+use Rattle.std.specs.Prelude.{slice_get, slice_index_or}
+use Rattle.std.proofs.Common.{zero, suc}
+use Rattle.circle_field.specs.Field.{FieldOps, nth_power}
+use Rattle.circle_field.specs.Circle.{Coordinates}
+use Rattle.circle_commit.specs.DotProduct.{dot}
+use Rattle.circle_commit.specs.PeriodicLdeTable.{width_of, height_of, entry_at}
+use Rattle.circle_commit.specs.declared.periodic.PeriodicLdeTable.{PeriodicLdeTable}
+use Rattle.circle_domain.specs.Order.{natural_order}
+use Rattle.circle_domain.specs.Periodic.{IsPeriodicValue}
+use Rattle.circle_air.specs.declared.node.Constraint.{Constraint}
+use Rattle.circle_air.specs.Values.{Window, entry}
+use Rattle.circle_quotient.specs.Composition.{Selectors, term}
+
+-- x^(n - 1), .., x, 1
+abbrev pub falling_powers : {E : Type 0} → FieldOps E → E → ℕ → List E
+falling_powers l x zero = []
+falling_powers l x (suc n) = nth_power l x n ∷ falling_powers l x n
+
+-- the columns of a table
+pub record AreTableColumns {F : Type 0} (k : FieldOps F) (table : PeriodicLdeTable F)
+    (made : List (List F)) : Type 0 where
+  pub count : length made ≡ width_of table
+  pub heights : All (λ column. length column ≡ height_of table) made
+  pub entries : (i c : ℕ) → i < height_of table → c < width_of table →
+      entry_at table i c ≡ Some (entry k (slice_index_or made c []) i)
+
+-- for each column that repeats over 2^n rows the values at the points of the domain of
+-- 2^(n + log_chunks) points, as far as they differ
+pub record ArePeriodicColumns {F : Type 0} (k : FieldOps F) (gen : ℕ → Coordinates F)
+    (n log_chunks : ℕ) (columns made : List (List F)) : Type 0 where
+  pub count : length made ≡ length columns
+  pub positive : All (λ column. 0 < length column) made
+  pub values : (i c : ℕ) (s : Coordinates F) →
+      slice_get (natural_order k gen (n + log_chunks) (gen (n + log_chunks + 1))) i ≡ Some s →
+      c < length columns → IsPeriodicValue k gen k (λ x. x) n (slice_index_or columns c []) s
+      (entry k (slice_index_or made c []) (i % length (slice_index_or made c [])))
+
+module _ {F : Type 0} (k : FieldOps F) where
+  -- what constraints read at place i, where the next row is so many rows on, and after the last
+  -- come the first again
+  abbrev pub window_of_place : List (List F) → ℕ → List (List F) → List F → ℕ → Window F
+  window_of_place rows step periodic public i = record {
+    local = slice_index_or rows (i % length rows) [];
+    next = slice_index_or rows ((i + step) % length rows) [];
+    periodic = map (λ column. entry k column (i % length column)) periodic;
+    public = public;
+  }
+
+  -- the selectors at place i
+  abbrev pub selectors_of_place : (first last transition : List F) → ℕ → Selectors F
+  selectors_of_place first last transition i = record {
+    first = entry k first i;
+    last = entry k last i;
+    transition = entry k transition i;
+  }
+
+  -- each constraint's node times the selector of its place
+  abbrev pub terms : List Constraint → List F → Selectors F → List F
+  terms constraints nodes s = map (term k s nodes) constraints
+
+  -- elements, each times its weight, added up
+  abbrev pub weighted : {E : Type 0} → FieldOps E → (F → E) → List E → List F → E
+  weighted l embed weights elements = dot l (map embed elements) weights

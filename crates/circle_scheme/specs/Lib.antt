@@ -1,3 +1,0 @@
-pub mod Committing
-pub mod Replay
-pub mod Requesting

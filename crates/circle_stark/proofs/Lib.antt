@@ -1,0 +1,17 @@
+pub mod BasisSums
+pub mod ChunkPolynomials
+pub mod ChunkSizes
+pub mod CommittedValues
+pub mod Fixed
+pub mod Heads
+pub mod HonestIdentity
+pub mod HonestRun
+pub mod OpenedClaims
+pub mod OpenedColumns
+pub mod OpenedRuns
+pub mod Passing
+pub mod Selecting
+pub mod TracePassing
+pub mod Unopened
+pub mod TrueValues
+pub mod Verdicts

@@ -1,0 +1,53 @@
+-- The tests of a trace, and what they establish.
+use Rattle.std.specs.Prelude.{◌≡◌, ℕ, ◌^◌, ◌<◌, ◌==◌, Bool, true, false, not, length, Ok}
+use Rattle.std.specs.Int.{is_power_of_two}
+use Rattle.std.proofs.Common.{◌∙◌, ap, sym}
+use Rattle.circle_air.specs.Degrees.{IsLogOfChunks, degree_of_parts}
+use Rattle.circle_codewords.specs.Requests.{log_of}
+use Rattle.circle_codewords.proofs.Logs.{log_of-power}
+use Rattle.circle_commit.specs.declared.params.FriParameters.{FriParameters}
+use Rattle.circle_relation.specs.TestsInOrder.{answer}
+use Rattle.circle_relation.proofs.Answering.{answer-none, passing, skipped}
+use Rattle.circle_stark.specs.Provable.{IsProvable}
+use Rattle.circle_stark.specs.Statement.{Statement}
+use Rattle.circle_stark.specs.Trace.{shape_tests, size_tests}
+use Rattle.circle_stark.proofs.Passing.{provable, same_count}
+
+not-false : (b : Bool) → not b ≡ false → b ≡ true
+not-false true is = cc
+not-false false is = cc
+
+-- a trace of the AIR's shape
+pub record IsShaped {F : Type 0} (s : Statement F) (width height : ℕ) : Type 0 where
+  pub counts : not (length s.public_values == s.parts.num_public_values) ≡ false
+  pub columns : width ≡ s.parts.width
+  pub a_power : is_power_of_two height ≡ true
+
+pub shaped : {F : Type 0} (s : Statement F) (width height : ℕ) →
+    answer (shape_tests s width height) (tt {0}) ≡ Ok (tt {0}) → IsShaped s width height
+shaped s width height passed =
+    let first = passing _ _ passed in
+    let second = passing _ _ first.1 in
+    let third = passing _ _ second.1 in
+    record {
+      counts = first.0;
+      columns = same_count width s.parts.width second.0;
+      a_power = not-false (is_power_of_two height) third.0;
+    }
+
+-- of sizes that pass, with parameters that are supported
+pub sized : {F M : Type 0} (two_adicity : ℕ) (params : FriParameters M) (k : ℕ) (s : Statement F)
+    (width height : ℕ) → IsShaped s width height → IsLogOfChunks (degree_of_parts s.parts) k →
+    answer (size_tests two_adicity params k s.log_n s.parts.periodic_columns) (tt {0})
+    ≡ Ok (tt {0}) → IsProvable two_adicity params s k
+sized two_adicity params k s width height shape log passed =
+    let first = passing _ _ passed in
+    let second = passing _ _ first.1 in
+    let third = passing _ _ second.1 in
+    provable {Opening = Unit {0}} two_adicity params k s log
+    (skipped _ _ (tt {0}) shape.counts ∙ skipped _ _ (tt {0}) first.0
+    ∙ skipped _ _ (tt {0}) second.0 ∙ skipped _ _ (tt {0}) third.0 ∙ answer-none (tt {0}))
+
+-- the logarithm of a power of two
+pub log-is : (height n : ℕ) → 2 ^ n ≡ height → n < 64 → n ≡ log_of height
+log-is height n power small = sym (ap log_of (sym power) ∙ log_of-power n small)

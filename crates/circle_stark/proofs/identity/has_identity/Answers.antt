@@ -1,0 +1,40 @@
+use Rattle.std.proofs.Common.{◌∙◌, ap, sym}
+use Rattle.circle_air.specs.Air.{air_of}
+use Rattle.circle_air.specs.Valid.{valid}
+use Rattle.circle_relation.specs.Accepts.{Fields}
+use Rattle.circle_stark.specs.Statement.{statement_of, values_of}
+use Rattle.circle_stark.proofs.Fixed.{identity-shown, identity-told}
+use Rattle.circle_stark.proofs.identity.has_identity.Goals as goal
+
+pub returns : goal.returns
+returns g c =
+    let l = g.EF.Operations.ops in
+    let fields : Fields g.row.F.Denot g.row.EF.Denot = record {
+      field = g.F.Operations.ops;
+      gen = g.F.ComplexExtendable.generators;
+      two_adicity = g.F.ComplexExtendable.CIRCLE_TWO_ADICITY;
+      is_zero = λ w. g.F.PartialEq.eq w g.F.Field.ZERO;
+      extension = l;
+      embed = g.EF.ExtensionField.embed;
+      same = g.EF.PartialEq.eq;
+    } in
+    let s = statement_of c.args.statement.now in
+    let v = values_of c.args.values.now in
+    let air = c.args.statement.now.air.now in
+    let sides = c.in_ok-sides.sides in
+    let product = g.met.EF.Field.mul_law _ _ _ c.mul.ensures
+    ∙ ap (λ x. l.mul x sides.quotient) c.vanishing_at.ensures in
+    let powers = (valid (air_of air) air.valid).periods in
+    let told = g.met.EF.ExtensionField.are_coefficients in
+    let composed = c.in_ok-sides.ensures.composed in
+    let recomposed = c.in_ok-sides.ensures.recomposed in
+    let same = g.met.EF.Field.eq_law sides.composition c.mul.result in (
+      λ holds. identity-shown fields s v c.args.drawn.alpha c.args.drawn.zeta powers
+          g.EF.ExtensionField.coefficients g.EF.ExtensionField.DEGREE c.args.log_chunks told
+          sides.composition sides.quotient composed recomposed
+          (same.0 (sym c.eq.ensures ∙ holds) ∙ product),
+      λ h. c.eq.ensures ∙ same.1
+          (identity-told fields s v c.args.drawn.alpha c.args.drawn.zeta powers
+          g.EF.ExtensionField.coefficients g.EF.ExtensionField.DEGREE c.args.log_chunks told
+          sides.composition sides.quotient composed recomposed h ∙ sym product),
+    )

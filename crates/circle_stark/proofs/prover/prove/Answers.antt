@@ -1,0 +1,116 @@
+use Rattle.std.proofs.Common.{◌∙◌, ◌^◌, ℕ, ap, subst, sym}
+use Rattle.std.proofs.lemmas.Result.{IfErr-weaker}
+use Rattle.std.specs.Prelude.{IfErr, IfOk, List}
+use Rattle.circle_commit.specs.declared.pcs.OpeningRequest.{OpeningRequest}
+use Rattle.circle_prover.specs.Opening.{IsFailure}
+use Rattle.circle_prover.specs.Requesting.{opening_tests}
+use Rattle.p3_circle.specs.Scheme.{IsFirstFrom}
+use Rattle.circle_commit.specs.RowMajorMatrix.{rows}
+use Rattle.circle_air.specs.Air.{air_of}
+use Rattle.circle_air.specs.Degrees.{degree_of_parts}
+use Rattle.circle_challenger.specs.Moves.{RunMoves, run_moves}
+use Rattle.circle_field.specs.Field.{of_nat}
+use Rattle.circle_relation.specs.Accepts.{Fields}
+use Rattle.circle_stark.specs.Accepts.{StarkAccepts}
+use Rattle.circle_stark.specs.Provable.{IsProvable}
+use Rattle.circle_stark.specs.Statement.{Statement, described_by, proved_of}
+use Rattle.circle_stark.specs.Unproved.{IsUnprovedFor}
+use Rattle.circle_stark.proofs.Passing.{same-log}
+use Rattle.circle_stark.proofs.Unopened.{none-first, on-ok, violated-by}
+use Rattle.circle_stark.proofs.prover.prove.Given
+use Rattle.circle_stark.proofs.prover.prove.Goals as goal
+
+-- what is known of the fields
+abbrev fields : (g : Given.Over) → Fields g.row.Val.Denot g.row.EF.Denot
+fields g = record {
+  field = g.Val.Operations.ops;
+  gen = g.Val.ComplexExtendable.generators;
+  two_adicity = g.Val.ComplexExtendable.CIRCLE_TWO_ADICITY;
+  is_zero = λ w. g.Val.PartialEq.eq w g.Val.Field.ZERO;
+  extension = g.EF.Operations.ops;
+  embed = g.EF.ExtensionField.embed;
+  same = g.EF.PartialEq.eq;
+}
+
+-- what the challenger is to the transcript of the batches' commitments, and to the scheme's
+abbrev own : (g : Given.Over) →
+    RunMoves g.row.C.Denot g.row.C-State.Denot g.row.Val.Denot g.row.EF.Denot
+    g.row.InputMmcs-Commitment.Denot
+own g = run_moves g.C.ChallengerState.state g.C.CanObserve-1.after_observe
+    g.C.CanObserve-2.after_observe g.C.CanSample.sampled g.C.CanSample.after_sample
+    g.C.CanSampleBits.sampled_bits g.C.CanSampleBits.after_bits g.C.GrindingChallenger.found_witness
+    g.EF.ExtensionField.DEGREE g.EF.ExtensionField.coefficients (of_nat g.Val.Operations.ops)
+    g.Val.Operations.ops.zero
+
+abbrev words : (g : Given.Over) →
+    RunMoves g.row.C.Denot g.row.C-State.Denot g.row.Val.Denot g.row.EF.Denot
+    g.row.FriMmcs-Commitment.Denot
+words g = run_moves g.C.ChallengerState.state g.C.CanObserve-1.after_observe
+    g.C.CanObserve-3.after_observe g.C.CanSample.sampled g.C.CanSample.after_sample
+    g.C.CanSampleBits.sampled_bits g.C.CanSampleBits.after_bits g.C.GrindingChallenger.found_witness
+    g.EF.ExtensionField.DEGREE g.EF.ExtensionField.coefficients (of_nat g.Val.Operations.ops)
+    g.Val.Operations.ops.zero
+
+pub prove_satisfied-requires-clause-provable : goal.prove_satisfied-requires-clause-provable
+prove_satisfied-requires-clause-provable g c = λ kk log.
+    let t = c.args.trace in
+    let parts = air_of t.air.now in
+    let two = g.Val.ComplexExtendable.CIRCLE_TWO_ADICITY in
+    let params = c.args.pcs.now.fri_params in
+    let sizes = c.in_ok-sizes.sizes in
+    let at : ℕ → Statement g.row.Val.Denot = λ i.
+    record { parts = parts; log_n = i; public_values = t.public_values.now } in
+    let able : IsProvable two params (at sizes.log_n) sizes.log_chunks =
+    subst (λ i. IsProvable two params (at i) sizes.log_chunks) (sym c.in_ok-sizes.ensures.log_n)
+    c.in_ok-sizes.ensures.provable in
+    subst (IsProvable two params (at sizes.log_n))
+    (same-log (degree_of_parts parts) sizes.log_chunks kk able.domains.chunks log) able
+
+pub returns-clause-accepted : goal.returns-clause-accepted
+returns-clause-accepted g c =
+    let t = c.args.trace in
+    let at : ℕ → Statement g.row.Val.Denot = λ i.
+    record { parts = air_of t.air.now; log_n = i; public_values = t.public_values.now } in
+    subst
+    (λ i. IfOk c.prove_satisfied.result (λ proof. StarkAccepts (fields g) c.args.pcs.now.fri_params
+    (own g) (words g) (g.InputMmcs.Mmcs.authenticates c.args.pcs.now.mmcs)
+    (g.FriMmcs.Mmcs.authenticates c.args.pcs.now.fri_params.mmcs)
+    (described_by g.Val.ElementBytes.bytes g.Val.ElementBytes.BYTES (at i)) (at i)
+    (proved_of proof) (g.C.ChallengerState.state c.args.challenger.now)
+    (g.C.ChallengerState.state c.prove_satisfied.new.challenger)))
+    c.in_ok-sizes.ensures.log_n c.prove_satisfied.ensures.accepted
+
+pub returns-in-Some-clause-first : goal.returns-in-Some-clause-first
+returns-in-Some-clause-first g c = λ k log.
+    none-first _ _ _ (c.in_ok-sizes.ensures.tested k log)
+
+pub returns-in-Some-clause-reason : goal.returns-in-Some-clause-reason
+returns-in-Some-clause-reason g c = λ kk log passed satisfied.
+    let t = c.args.trace in
+    absurd
+    (violated-by g.Val.Operations.ops (air_of t.air.now) (rows t.rows) t.public_values.now _
+    c.in-Some.violation c.in-Some.is c.in_ok-violation.ensures satisfied)
+
+pub returns-clause-height : goal.returns-clause-height
+returns-clause-height g c =
+    on-ok c.prove_satisfied.result
+    (c.in_ok-sizes.ensures.height ∙ ap (λ i. 2 ^ i) c.in_ok-sizes.ensures.log_n)
+
+pub returns-clause-reason : goal.returns-clause-reason
+returns-clause-reason g c = λ kk log passed satisfied.
+    let t = c.args.trace in
+    let s = g.C.ChallengerState.state in
+    let at : ℕ → Statement g.row.Val.Denot = λ i.
+    record { parts = air_of t.air.now; log_n = i; public_values = t.public_values.now } in
+    let params = c.args.pcs.now.fri_params in
+    let kept = g.InputMmcs.Mmcs.matrices in
+    let Refuses = λ (requests : List (OpeningRequest g.row.InputMmcs-ProverData.Denot
+    g.row.EF.Denot)) (old : g.row.C-State.Denot).
+    IsFirstFrom (opening_tests kept requests g.Val.ComplexExtendable.CIRCLE_TWO_ADICITY params
+    (fields g) g.EF.PartialEq.eq) (IsFailure (fields g) (words g) params
+    (g.FriMmcs.Mmcs.commits params.mmcs) kept requests old) old in
+    subst
+    (λ i. IfErr c.prove_satisfied.result (λ e. IsUnprovedFor (fields g) Refuses i (2 ^ kk) (own g)
+    (described_by g.Val.ElementBytes.bytes g.Val.ElementBytes.BYTES (at i))
+    (s c.args.challenger.now) (s c.prove_satisfied.new.challenger) e)) c.in_ok-sizes.ensures.log_n
+    (IfErr-weaker c.prove_satisfied.result _ _ (λ e h. h kk log) c.prove_satisfied.ensures.reason)

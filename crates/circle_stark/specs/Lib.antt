@@ -1,0 +1,15 @@
+pub mod Accepts
+pub mod Claims
+pub mod Described
+pub mod Draw
+pub mod Honest
+pub mod Json
+pub mod Opened
+pub mod Provable
+pub mod Refusals
+pub mod RoundTrip
+pub mod Statement
+pub mod Steps
+pub mod Trace
+pub mod Verdict
+pub mod Unproved

@@ -1,0 +1,84 @@
+-- What is to be proved of a trace, and what is refused of it before the challenger is seeded.
+use Rattle.std.specs.Prelude.{◌≡◌, ℕ, not, List, [], ◌∷◌, ◌++◌, length, Result, IfErr, Ok, Err}
+use Rattle.std.specs.Int.{is_power_of_two}
+use Rattle.circle_air.specs.Air.{air_of}
+use Rattle.circle_air.specs.Degrees.{IsLogOfChunks, degree_of_parts}
+use Rattle.circle_commit.specs.RowMajorMatrix.{height_of}
+use Rattle.circle_commit.specs.declared.params.FriParameters.{FriParameters}
+use Rattle.circle_codewords.specs.Requests.{log_of}
+use Rattle.circle_prover.specs.Requesting.{is_unfit}
+use Rattle.circle_relation.specs.TestsInOrder.{Test, answer}
+use Rattle.circle_relation.specs.declared.error.ProverError.{ProverError}
+use Rattle.circle_relation.specs.declared.error.ProverError.TheVariants.{NoGrindingWitness as NoWitness}
+use Rattle.circle_relation.specs.declared.error.ProverError.TheVariants.{PointOnDomain as OnDomain}
+use Rattle.circle_stark.specs.Refusals.{count_test, is_too_large, is_too_small, period_test}
+use Rattle.circle_stark.specs.Statement.{Statement}
+use Rattle.circle_stark.specs.declared.error.StarkProverError.{StarkProverError}
+use Rattle.circle_stark.specs.declared.error.StarkProverError.TheVariants.{PublicValuesMismatch}
+use Rattle.circle_stark.specs.declared.error.StarkProverError.TheVariants.{WidthMismatch}
+use Rattle.circle_stark.specs.declared.error.StarkProverError.TheVariants.{HeightNotPowerOfTwo}
+use Rattle.circle_stark.specs.declared.error.StarkProverError.TheVariants.{HeightTooSmall}
+use Rattle.circle_stark.specs.declared.error.StarkProverError.TheVariants.{HeightTooLarge}
+use Rattle.circle_stark.specs.declared.error.StarkProverError.TheVariants.{PeriodTooLong}
+use Rattle.circle_stark.specs.declared.error.StarkProverError.TheVariants.{UnfitParameters}
+use Rattle.circle_stark.specs.declared.error.StarkProverError.TheVariants.{NoGrindingWitness}
+use Rattle.circle_stark.specs.declared.error.StarkProverError.TheVariants.{PointOnDomain, Memory}
+use Rattle.circle_stark.specs.declared.proof.StarkStatement.{StarkStatement}
+use Rattle.circle_stark.specs.declared.trace.StarkTrace.{StarkTrace}
+
+-- the statement that a proof of the trace is of
+abbrev pub stated : {F : Type 0} → StarkTrace F → Statement F
+stated t = record {
+  parts = air_of t.air.now;
+  log_n = log_of (height_of t.rows);
+  public_values = t.public_values.now;
+}
+
+abbrev pub statement_by : {F : Type 0} → StarkTrace F → StarkStatement F
+statement_by t = record {
+  air = t.air;
+  log_n = log_of (height_of t.rows);
+  public_values = t.public_values;
+}
+
+-- so many public values and columns as the AIR has, and a power of two of rows
+abbrev pub shape_tests : {F : Type 0} → Statement F → ℕ → ℕ → List (Test StarkProverError)
+shape_tests s width height =
+    count_test PublicValuesMismatch s.parts.num_public_values (length s.public_values)
+    ∷ count_test WidthMismatch s.parts.width width
+    ∷ (not (is_power_of_two height), HeightNotPowerOfTwo)
+    ∷ []
+
+module _ {M : Type 0} (two_adicity : ℕ) (params : FriParameters M) (log_chunks : ℕ) where
+  -- rows enough to be folded, few enough for the group, no period longer than the trace, and
+  -- parameters that are supported
+  abbrev pub size_tests : {F : Type 0} → ℕ → List (List F) → List (Test StarkProverError)
+  size_tests n columns =
+      (is_too_small params n, HeightTooSmall)
+      ∷ (is_too_large two_adicity params log_chunks n, HeightTooLarge)
+      ∷ period_test PeriodTooLong n columns
+      ∷ (is_unfit params, UnfitParameters)
+      ∷ []
+
+  abbrev pub trace_tests : {F : Type 0} → Statement F → ℕ → ℕ → List (Test StarkProverError)
+  trace_tests s width height =
+      shape_tests s width height ++ size_tests s.log_n s.parts.periodic_columns
+
+-- none of them has reason to refuse
+abbrev pub IsUnrefused : {F M : Type 0} → ℕ → FriParameters M → ℕ → Statement F → ℕ → ℕ → Type 0
+IsUnrefused two_adicity params k s width height =
+    answer (trace_tests two_adicity params k s width height) (tt {0}) ≡ Ok (tt {0})
+
+-- where one of them has reason to refuse, the first is returned, and the challenger is as it was
+abbrev pub IsFirstTraceRefusal : {A C F M : Type 0} → ℕ → FriParameters M → Statement F → ℕ → ℕ
+    → Result A StarkProverError → C → C → Type 0
+IsFirstTraceRefusal two_adicity params s width height result old new =
+    (k : ℕ) → IsLogOfChunks (degree_of_parts s.parts) k →
+    IfErr (answer (trace_tests two_adicity params k s width height) (tt {0}))
+    (λ e. (result ≡ Err e) × (new ≡ old))
+
+-- the refusal by which that of the scheme is returned
+abbrev pub refusal_by : ProverError → StarkProverError
+refusal_by (NoWitness phase) = NoGrindingWitness phase
+refusal_by OnDomain = PointOnDomain
+refusal_by _ = Memory

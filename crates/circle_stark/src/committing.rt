@@ -1,0 +1,155 @@
+//! The commitments of a prover: to the rows of a trace, and to its quotient in chunks.
+ghost use Rattle.std.specs.Prelude.{◌≡◌, ◌+◌, ◌^◌, ◌<◌, ◌≤◌, ℕ, IfErr, IfOk, length};
+ghost use Rattle.circle_air.specs.Degrees.{IsLogOfChunks, degree_of_parts};
+ghost use Rattle.circle_commit.specs.RowMajorMatrix.{height_of, width_of};
+ghost use Rattle.circle_stark.specs.Honest.{AreChunksCommitted, ContinuesTrace};
+ghost use Rattle.circle_stark.specs.Honest.{IsQuotientCommitted, IsTraceCommitted, IsTraceKept};
+ghost use Rattle.circle_stark.specs.Provable.{IsProvable};
+ghost use Rattle.circle_stark.specs.Statement.{statement_of};
+ghost use Rattle.circle_stark.specs.declared.error.StarkProverError.TheVariants.{Memory};
+
+use crate::error::StarkProverError;
+use crate::lists::single;
+use crate::proof::StarkStatement;
+use circle_commit::{Mmcs, RowMajorMatrix};
+use circle_domain::CircleDomain;
+use circle_field::{ComplexExtendable, ExtensionField};
+use circle_quotient::chunks::quotient_chunks;
+use circle_quotient::quotient::quotient_values;
+use circle_quotient::trace::ExtendedTrace;
+use circle_relation::OverCircle;
+use p3_circle::CirclePcs;
+use std::alloc::Global;
+
+/// A commitment, and what the committer keeps.
+pub(crate) type Committed<Val, InputMmcs> = (
+    <InputMmcs as Mmcs<Val>>::Commitment,
+    <InputMmcs as Mmcs<Val>>::ProverData,
+);
+
+/// Commits to the rows of a trace as values on the standard domain of `2^log_n` points.
+///
+/// Requires `2^log_n` rows, and `log_n < CIRCLE_TWO_ADICITY`.
+pub(crate) fn commit_trace<Val: ComplexExtendable, InputMmcs: Mmcs<Val>, FriMmcs>(
+    alloc: Global,
+    pcs: &CirclePcs<Val, InputMmcs, FriMmcs>,
+    log_n: usize,
+    rows: RowMajorMatrix<Val>,
+) -> Result<Committed<Val, InputMmcs>, StarkProverError>
+    requires height { height_of rows ≡ 2 ^ log_n }
+    requires in_group { log_n + 1 ≤ Val.CIRCLE_TWO_ADICITY }
+    ensures refused { IfErr result (λ e. e ≡ Memory) }
+    ensures committed { IfOk result (λ r. IsTraceCommitted Val.Operations Val.ops Val.generators
+        pcs.now.fri_params.log_blowup (InputMmcs.commits pcs.now.mmcs) log_n rows r.0 (InputMmcs.matrices r.1)) }
+{
+    let batch = single(alloc, (CircleDomain::standard(log_n), rows))?;
+    match pcs.commit(alloc, batch) {
+        Ok(committed) => Ok(committed),
+        // Of a trace that was validated the scheme refuses nothing but memory.
+        Err(_) => Err(StarkProverError::Memory),
+    }
+}
+
+// The rows of a statement's committed trace on the standard domain of `2^log_size` points.
+fn extended_rows<Val: ComplexExtendable, InputMmcs: Mmcs<Val>, FriMmcs>(
+    alloc: Global,
+    pcs: &CirclePcs<Val, InputMmcs, FriMmcs>,
+    statement: &StarkStatement<Val>,
+    trace: &InputMmcs::ProverData,
+    log_size: usize,
+) -> Result<RowMajorMatrix<Val>, StarkProverError>
+    requires kept { IsTraceKept Val.Operations Val.ops Val.generators pcs.now.fri_params.log_blowup
+        statement.now.log_n (statement_of statement.now).parts.width
+        (InputMmcs.matrices trace.now) }
+    requires larger { statement.now.log_n ≤ log_size }
+    requires positive { 1 ≤ statement.now.log_n }
+    requires extended { statement.now.log_n + pcs.now.fri_params.log_blowup
+        < Val.CIRCLE_TWO_ADICITY }
+    requires in_group { log_size + 1 ≤ Val.CIRCLE_TWO_ADICITY }
+    ensures refused { IfErr result (λ e. e ≡ Memory) }
+    ensures height { IfOk result (λ made. height_of made ≡ 2 ^ log_size) }
+    ensures width { IfOk result (λ made. width_of made
+        ≡ (statement_of statement.now).parts.width) }
+    ensures values { IfOk result (ContinuesTrace Val.Operations Val.ops Val.generators
+        pcs.now.fri_params.log_blowup statement.now.log_n log_size
+        (InputMmcs.matrices trace.now)) }
+{
+    match pcs.get_evaluations_on_domain(alloc, trace, 0, CircleDomain::standard(log_size)) {
+        Ok(rows) => Ok(rows),
+        // Of a trace that was validated the scheme refuses nothing but memory.
+        Err(_) => Err(StarkProverError::Memory),
+    }
+}
+
+// Commits to values on the quotient's domain, in chunks.
+fn commit_chunks<Val, EF, InputMmcs, FriMmcs>(
+    alloc: Global,
+    pcs: &CirclePcs<Val, InputMmcs, FriMmcs>,
+    log_n: usize,
+    log_chunks: usize,
+    values: Vec<EF>,
+) -> Result<Committed<Val, InputMmcs>, StarkProverError>
+where
+    Val: ComplexExtendable,
+    EF: ExtensionField<Val>,
+    InputMmcs: Mmcs<Val>,
+    requires positive { 1 ≤ log_n }
+    requires in_group { log_n + log_chunks < Val.CIRCLE_TWO_ADICITY }
+    requires count { length values.items ≡ 2 ^ (log_n + log_chunks) }
+    ensures refused { IfErr result (λ e. e ≡ Memory) }
+    ensures committed { IfOk result (λ r. AreChunksCommitted Val.Operations Val.ops Val.generators
+        pcs.now.fri_params.log_blowup (InputMmcs.commits pcs.now.mmcs) EF.coefficients EF.DEGREE
+        log_n log_chunks values.items r.0 (InputMmcs.matrices r.1)) }
+{
+    let chunks = quotient_chunks::<Val, EF>(alloc, log_n, log_chunks, values)?;
+    match pcs.commit(alloc, chunks) {
+        Ok(committed) => Ok(committed),
+        // Of a trace that was validated the scheme refuses nothing but memory.
+        Err(_) => Err(StarkProverError::Memory),
+    }
+}
+
+/// Commits to the quotient of a committed trace's constraints, put together by the powers of
+/// `alpha`: in chunks, each a matrix of the coefficients of its values.
+///
+/// Requires a statement that was validated, and what [`commit_trace`] keeps.
+pub(crate) fn commit_quotient<Val, EF, InputMmcs, FriMmcs>(
+    alloc: Global,
+    pcs: &CirclePcs<Val, InputMmcs, FriMmcs>,
+    statement: &StarkStatement<Val>,
+    trace: &InputMmcs::ProverData,
+    alpha: EF,
+) -> Result<Committed<Val, InputMmcs>, StarkProverError>
+where
+    Val: ComplexExtendable,
+    EF: ExtensionField<Val>,
+    InputMmcs: Mmcs<Val>,
+    requires kept { IsTraceKept Val.Operations Val.ops Val.generators pcs.now.fri_params.log_blowup
+        statement.now.log_n (statement_of statement.now).parts.width
+        (InputMmcs.matrices trace.now) }
+    requires provable { (kk : ℕ) →
+        IsLogOfChunks (degree_of_parts (statement_of statement.now).parts) kk →
+        IsProvable Val.CIRCLE_TWO_ADICITY pcs.now.fri_params (statement_of statement.now) kk }
+    ensures refused { IfErr result (λ e. e ≡ Memory) }
+    ensures committed { IfOk result (λ r. (kk : ℕ) →
+        IsLogOfChunks (degree_of_parts (statement_of statement.now).parts) kk →
+        IsQuotientCommitted Val.Operations ⟦<EF as OverCircle<Val>>⟧.fields pcs.now.fri_params.log_blowup
+        (InputMmcs.commits pcs.now.mmcs) EF.coefficients EF.DEGREE (statement_of statement.now) kk
+        (InputMmcs.matrices trace.now) alpha r.0 (InputMmcs.matrices r.1)) }
+{
+    let StarkStatement {
+        air,
+        log_n,
+        public_values,
+    } = *statement;
+    let log_num_chunks = air.log_num_quotient_chunks();
+    let rows = extended_rows(alloc, pcs, statement, trace, log_n + log_num_chunks)?;
+    let extended = ExtendedTrace {
+        rows: &rows,
+        log_n,
+        log_num_chunks,
+        public_values,
+    };
+    let values = quotient_values(alloc, air, &extended, alpha)?;
+    commit_chunks(alloc, pcs, log_n, log_num_chunks, values)
+}

@@ -1,0 +1,102 @@
+//! A prover and a verifier, one after the other.
+ghost use Rattle.std.specs.Prelude.{◌≡◌, IfErr, IfOk, OnErr, OnOk};
+ghost use Rattle.circle_air.specs.Satisfies.{Satisfies};
+ghost use Rattle.circle_commit.specs.RowMajorMatrix.{rows as rows_of};
+ghost use Rattle.circle_stark.specs.Trace.{stated, statement_by};
+ghost use Rattle.circle_stark.specs.RoundTrip.{unverified};
+ghost use Rattle.circle_stark.specs.declared.round_trip.StarkRoundTripError.TheVariants.{Verify};
+
+use crate::error::{StarkError, StarkProverError};
+use crate::proof::{StarkProof, StarkStatement};
+use crate::prover::prove;
+use crate::relation::StarkRelation;
+use crate::trace::StarkTrace;
+use crate::verifier::verify;
+use circle_challenger::{CanObserve, CanSample, GrindingChallenger};
+use circle_commit::{Matrix, Mmcs, log2_strict};
+use circle_field::{ComplexExtendable, ElementBytes, ExtensionField};
+use circle_relation::VerifierError;
+use p3_circle::CirclePcs;
+use std::alloc::Global;
+use std::fmt::Display;
+use thiserror::Error;
+
+/// Why [`prove_and_verify`] returns no proof.
+///
+/// The parameter is the error of the scheme's verifier.
+#[derive(Debug, Drop, Error)]
+#[error_bound(OpeningError: Display)]
+pub enum StarkRoundTripError<OpeningError> {
+    /// There is no proof.
+    #[error("there is no proof: {0}")]
+    Prove(StarkProverError),
+    /// The proof is refused. It never is, by the contract.
+    #[error("the proof is refused: {0}")]
+    Verify(StarkError<OpeningError>),
+    /// Memory was refused.
+    #[error("out of memory")]
+    Memory,
+}
+
+/// Proves that the rows of a trace satisfy its AIR, and verifies the proof, by two challengers that
+/// begin in one state.
+///
+/// Returns the proof, once it is accepted; then both challengers end in one state, and the rows
+/// satisfy the constraints. Otherwise the result is the refusal of [`prove`], or `Memory`:
+/// [`verify`] refuses no proof that `prove` returned, unless out of memory.
+pub fn prove_and_verify<Val, EF, InputMmcs, FriMmcs, C>(
+    alloc: Global,
+    pcs: &CirclePcs<Val, InputMmcs, FriMmcs>,
+    trace: StarkTrace<'_, Val>,
+    prover: &mut C,
+    verifier: &mut C,
+) -> Result<
+    StarkProof<Val, EF, InputMmcs, FriMmcs>,
+    StarkRoundTripError<VerifierError<InputMmcs::Error, FriMmcs::Error>>,
+>
+where
+    Val: ComplexExtendable + ElementBytes,
+    EF: ExtensionField<Val>,
+    InputMmcs: Mmcs<Val>,
+    InputMmcs::Commitment: Copy,
+    FriMmcs: Mmcs<EF>,
+    C: CanSample<Val>
+        + GrindingChallenger<Val>
+        + CanObserve<InputMmcs::Commitment>
+        + CanObserve<FriMmcs::Commitment>,
+    requires same { C.state prover.old ≡ C.state verifier.old }
+    ensures satisfied { OnOk result (Satisfies Val.ops (stated trace.entry).parts
+        (rows_of trace.entry.rows) (stated trace.entry).public_values) }
+    ensures accepted { let p = ⟦<CirclePcs<Val, InputMmcs, FriMmcs> as StarkRelation<Val, EF, InputMmcs, FriMmcs, C>>⟧ in
+        IfOk result (λ proof. p.accepts pcs.now (statement_by trace.entry) proof
+        (C.state prover.old) (C.state prover.new)) }
+    ensures states { OnOk result (C.state prover.new ≡ C.state verifier.new) }
+    ensures complete { IfErr result (λ e. (error : _) → e ≡ Verify error → ⊥) }
+{
+    let (air, public_values) = (trace.air, trace.public_values);
+    let height = trace.rows.height();
+    let proof = match prove(alloc, pcs, trace, prover) {
+        Ok(proof) => proof,
+        Err(StarkProverError::Memory) => return Err(StarkRoundTripError::Memory),
+        Err(error) => return Err(StarkRoundTripError::Prove(error)),
+    };
+    let statement = StarkStatement {
+        air,
+        log_n: log2_strict(height),
+        public_values,
+    };
+    match verify(alloc, pcs, statement, &proof, verifier) {
+        Ok(()) => Ok(proof),
+        Err(error) => Err(unverified(error)),
+    }
+}
+
+// The refusal by which that of the verifier is returned.
+fn unverified<E>(error: StarkError<E>) -> StarkRoundTripError<E>
+    ensures { result ≡ unverified error }
+{
+    match error {
+        StarkError::Memory => StarkRoundTripError::Memory,
+        error => StarkRoundTripError::Verify(error),
+    }
+}

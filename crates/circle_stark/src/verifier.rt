@@ -1,0 +1,201 @@
+//! The verifier.
+ghost use Rattle.std.specs.Prelude.{◌≡◌, ℕ, IfErr, IfOk, OnErr, OnOk};
+ghost use Rattle.circle_air.specs.Degrees.{IsLogOfChunks, degree_of_parts};
+ghost use Rattle.circle_stark.specs.Draw.{AreDrawn};
+ghost use Rattle.circle_stark.specs.Provable.{HasShape, IsProvable};
+ghost use Rattle.circle_stark.specs.Refusals.{IsFirstRefusal, IsTested, stark_tests};
+ghost use Rattle.circle_stark.specs.Statement.{described_by, statement_of, values_of};
+ghost use Rattle.circle_stark.specs.Verdict.{refusal_of};
+ghost use Rattle.circle_stark.specs.declared.error.StarkError.TheVariants.{Memory};
+
+use crate::claims::{OpenedPoints, claims_of};
+use crate::error::StarkError;
+use crate::identity::has_identity;
+use crate::proof::{StarkProof, StarkStatement};
+use crate::relation::StarkRelation;
+use crate::statement::{validate_values, validated_log_chunks};
+use crate::transcript::{Description, out_of_domain_point};
+use circle_challenger::{CanObserve, CanSample, GrindingChallenger, RunChallenger};
+use circle_commit::{FriError, FriParameters, Mmcs};
+use circle_field::{ComplexExtendable, ElementBytes, ExtensionField};
+use circle_quotient::fit::is_fit;
+use circle_relation::{OverCircle, VerifierError};
+use p3_circle::CirclePcs;
+use std::alloc::{AllocError, Global};
+
+/// The challenges of a run before the scheme's.
+#[derive(Clone, Copy)]
+pub(crate) struct Challenges<EF> {
+    /// The challenge that puts the constraints together.
+    pub alpha: EF,
+    /// The coordinate of the point at which all is opened.
+    pub zeta: EF,
+}
+
+// Draws the challenges of a statement and a proof. Where memory is refused the challenger is left
+// as it was.
+fn draw<F, EF, Com, C>(
+    alloc: Global,
+    statement: &StarkStatement<F>,
+    trace: &Com,
+    quotient: &Com,
+    challenger: &mut C,
+) -> Result<Challenges<EF>, AllocError>
+where
+    F: ComplexExtendable + ElementBytes,
+    EF: ExtensionField<F>,
+    C: CanSample<F> + GrindingChallenger<F> + CanObserve<Com>,
+    ensures refused { OnErr result (challenger.new ≡ challenger.old) }
+    ensures drawn { let r = ⟦<C as RunChallenger<F, EF, Com>>⟧.run in IfOk result (λ d. AreDrawn r
+        (described_by F.bytes F.BYTES (statement_of statement.now)) trace.now quotient.now
+        (C.state challenger.old) d.alpha d.zeta (C.state challenger.new)) }
+{
+    let digest = statement.air.digest();
+    let description = Description {
+        digest: &digest,
+        log_n: statement.log_n,
+        public_values: statement.public_values,
+    };
+    let (alpha, due) = description.constraint_challenge(alloc, challenger, trace)?;
+    let zeta = out_of_domain_point(challenger, due, quotient);
+    Ok(Challenges { alpha, zeta })
+}
+
+// The refusal by which that of the scheme is returned.
+fn refusal_of<I, W>(error: VerifierError<I, W>) -> StarkError<VerifierError<I, W>>
+    ensures { result ≡ refusal_of error }
+{
+    match error {
+        FriError::Memory => StarkError::Memory,
+        error => StarkError::InvalidOpening(error),
+    }
+}
+
+// The binary logarithm of the number of chunks of a statement whose proof can be judged. Refuses
+// others by the first reason. Takes no memory.
+fn validate<Val, EF, InputMmcs, FriMmcs>(
+    params: &FriParameters<FriMmcs>,
+    statement: &StarkStatement<Val>,
+    proof: &StarkProof<Val, EF, InputMmcs, FriMmcs>,
+) -> Result<usize, StarkError<VerifierError<InputMmcs::Error, FriMmcs::Error>>>
+where
+    Val: ComplexExtendable,
+    EF: ExtensionField<Val>,
+    InputMmcs: Mmcs<Val>,
+    FriMmcs: Mmcs<EF>,
+    ensures tested { (k : ℕ) → IsLogOfChunks (degree_of_parts (statement_of statement.now).parts) k
+        → IsTested (stark_tests Val.CIRCLE_TWO_ADICITY params.now k EF.DEGREE
+        (statement_of statement.now) (values_of proof.now.opened_values)) result }
+    ensures provable { IfOk result (λ k. IsProvable Val.CIRCLE_TWO_ADICITY params.now
+        (statement_of statement.now) k) }
+    ensures shape { IfOk result (λ k. HasShape EF.DEGREE (statement_of statement.now).parts.width k
+        (values_of proof.now.opened_values)) }
+{
+    let log_chunks = validated_log_chunks(params, statement)?;
+    let width = statement.air.width();
+    validate_values::<Val, EF, _>(width, log_chunks, &proof.opened_values)?;
+    Ok(log_chunks)
+}
+
+// Whether a proof that can be judged is accepted, as `verify` says, once the challenger is seeded.
+fn verify_seeded<Val, EF, InputMmcs, FriMmcs, C>(
+    alloc: Global,
+    pcs: &CirclePcs<Val, InputMmcs, FriMmcs>,
+    statement: &StarkStatement<Val>,
+    log_chunks: usize,
+    proof: &StarkProof<Val, EF, InputMmcs, FriMmcs>,
+    challenger: &mut C,
+) -> Result<(), StarkError<VerifierError<InputMmcs::Error, FriMmcs::Error>>>
+where
+    Val: ComplexExtendable + ElementBytes,
+    EF: ExtensionField<Val>,
+    InputMmcs: Mmcs<Val>,
+    InputMmcs::Commitment: Copy,
+    FriMmcs: Mmcs<EF>,
+    C: CanSample<Val>
+        + GrindingChallenger<Val>
+        + CanObserve<InputMmcs::Commitment>
+        + CanObserve<FriMmcs::Commitment>,
+    requires provable { IsProvable Val.CIRCLE_TWO_ADICITY pcs.now.fri_params
+        (statement_of statement.now) log_chunks }
+    requires shape { HasShape EF.DEGREE (statement_of statement.now).parts.width log_chunks
+        (values_of proof.now.opened_values) }
+    ensures accepted { let p = ⟦<CirclePcs<Val, InputMmcs, FriMmcs> as StarkRelation<Val, EF, InputMmcs, FriMmcs, C>>⟧ in OnOk result (p.accepts pcs.now statement.now proof.now
+        (C.state challenger.old) (C.state challenger.new)) }
+    ensures complete { IfErr result (λ e. (t : C.State) → ⟦<CirclePcs<Val, InputMmcs, FriMmcs> as StarkRelation<Val, EF, InputMmcs, FriMmcs, C>>⟧.accepts pcs.now statement.now proof.now
+        (C.state challenger.old) t → e ≡ Memory) }
+    ensures reason { let p = ⟦<CirclePcs<Val, InputMmcs, FriMmcs> as StarkRelation<Val, EF, InputMmcs, FriMmcs, C>>⟧ in IfErr result (p.refuses_seeded pcs.now statement.now proof.now
+        log_chunks (C.state challenger.old) (C.state challenger.new)) }
+{
+    let log_n = statement.log_n;
+    let trace = &proof.trace_commitment;
+    let drawn = draw(
+        alloc,
+        statement,
+        trace,
+        &proof.quotient_commitment,
+        challenger,
+    )?;
+    let zeta = drawn.zeta;
+    let next = match is_fit::<Val, EF>(log_n, zeta) {
+        Some(next) => next,
+        None => return Err(StarkError::UnfitPoint),
+    };
+    let claims = claims_of(alloc, log_n, proof, OpenedPoints { zeta, next })?;
+    match pcs.verify(alloc, claims, &proof.opening_proof, challenger) {
+        Ok(()) => {}
+        Err(error) => return Err(refusal_of(error)),
+    }
+    if !has_identity(alloc, statement, log_chunks, &proof.opened_values, drawn)? {
+        return Err(StarkError::OodEvaluationMismatch);
+    }
+    Ok(())
+}
+
+/// Whether a proof shows that rows of a trace satisfy an AIR: Ok exactly where the relation
+/// `StarkAccepts` holds of the statement, the proof and the drawn challenges, unless out of memory
+/// (Circle STARKs, IACR ePrint 2024/278, section 5). Any input may be passed: what is malformed is
+/// refused.
+///
+/// Before the challenger is seeded, `verify` leaves it as it was and returns the first of these, by
+/// tests that take no memory: `PublicValuesMismatch`; `HeightTooSmall` where the trace has fewer
+/// than `2^(2 + log_final_poly_len)` rows; `HeightTooLarge` where the group has no domain for its
+/// extension or its quotient; `PeriodTooLong` of the first periodic column that is longer than the
+/// trace; `TraceLocalLength` and `TraceNextLength` where there isn't a value for each column;
+/// `QuotientChunkCount`, and `QuotientChunkLength` of the first chunk that hasn't a value for each
+/// coefficient of an element.
+///
+/// Then `UnfitPoint` where the drawn point can't be opened, with the challenger as the draw left it;
+/// `InvalidOpening` with what the scheme's verifier returns; and `OodEvaluationMismatch` where the
+/// constraints at the point aren't the quotient times the vanishing polynomial. `Memory` where an
+/// allocation is refused. An Ok leaves the challenger as the scheme's verifier does.
+pub fn verify<Val, EF, InputMmcs, FriMmcs, C>(
+    alloc: Global,
+    pcs: &CirclePcs<Val, InputMmcs, FriMmcs>,
+    statement: StarkStatement<'_, Val>,
+    proof: &StarkProof<Val, EF, InputMmcs, FriMmcs>,
+    challenger: &mut C,
+) -> Result<(), StarkError<VerifierError<InputMmcs::Error, FriMmcs::Error>>>
+where
+    Val: ComplexExtendable + ElementBytes,
+    EF: ExtensionField<Val>,
+    InputMmcs: Mmcs<Val>,
+    InputMmcs::Commitment: Copy,
+    FriMmcs: Mmcs<EF>,
+    C: CanSample<Val>
+        + GrindingChallenger<Val>
+        + CanObserve<InputMmcs::Commitment>
+        + CanObserve<FriMmcs::Commitment>,
+    ensures first { IsFirstRefusal Val.CIRCLE_TWO_ADICITY pcs.now.fri_params EF.DEGREE
+        (statement_of statement.entry) (values_of proof.now.opened_values) result challenger.old
+        challenger.new }
+    ensures accepted { let p = ⟦<CirclePcs<Val, InputMmcs, FriMmcs> as StarkRelation<Val, EF, InputMmcs, FriMmcs, C>>⟧ in OnOk result (p.accepts pcs.now statement.entry proof.now
+        (C.state challenger.old) (C.state challenger.new)) }
+    ensures complete { IfErr result (λ e. (t : C.State) → ⟦<CirclePcs<Val, InputMmcs, FriMmcs> as StarkRelation<Val, EF, InputMmcs, FriMmcs, C>>⟧.accepts pcs.now statement.entry proof.now
+        (C.state challenger.old) t → e ≡ Memory) }
+    ensures reason { let p = ⟦<CirclePcs<Val, InputMmcs, FriMmcs> as StarkRelation<Val, EF, InputMmcs, FriMmcs, C>>⟧ in IfErr result (p.refuses pcs.now statement.entry proof.now
+        (C.state challenger.old) (C.state challenger.new)) }
+{
+    let log_chunks = validate(&pcs.fri_params, &statement, proof)?;
+    verify_seeded(alloc, pcs, &statement, log_chunks, proof, challenger)
+}

@@ -1,0 +1,73 @@
+//! The calls on requests to open and on proofs that allocate nothing, laws among them.
+use crate::plane::cubic;
+use crate::scheme::{after_commitment, claims, committed, opened, requests, scheme};
+use crate::told::{Stage, Told, before};
+use anyhow::{Result, bail};
+use circle_challenger::{CanObserve, CanSample, GrindingChallenger};
+use circle_commit::{Mmcs, OpeningRequest};
+use circle_completeness::laws::honest_openings_end_low;
+use circle_completeness::openings_are_accepted;
+use circle_field::{ComplexExtendable, ExtensionField};
+use circle_presets::{Claim, Proof, Scheme};
+use circle_prover::validate_requests;
+use circle_relation::OpenedRun;
+use p3_circle::CirclePcs;
+use p3_circle::laws::constant_ends;
+use std::alloc::Global;
+
+// Those of requests, which are tested.
+fn of_requests<
+    Val: ComplexExtendable,
+    EF: ExtensionField<Val>,
+    InputMmcs: Mmcs<Val>,
+    FriMmcs: Mmcs<EF>,
+    C,
+>(
+    pcs: &CirclePcs<Val, InputMmcs, FriMmcs>,
+    requests: &[OpeningRequest<InputMmcs::ProverData, EF>],
+    challenger: &C,
+) -> Result<()>
+where
+    C: CanSample<Val> + GrindingChallenger<Val> + CanObserve<FriMmcs::Commitment>,
+{
+    if !pcs.have_heights_of_powers(requests) {
+        bail!("a height is no power of two");
+    }
+    let params = &pcs.fri_params;
+    validate_requests::<Val, EF, InputMmcs, FriMmcs>(&pcs.mmcs, params, requests)?;
+    honest_openings_end_low::<Val, EF, InputMmcs, FriMmcs, C>(params, requests, challenger);
+    openings_are_accepted::<Val, EF, InputMmcs, FriMmcs, C>(
+        &pcs.mmcs, params, requests, challenger,
+    );
+    Ok(())
+}
+
+// That of a proof whose final polynomial is a constant.
+fn of_constants(scheme: &Scheme, claims: &[Claim], proof: &Proof) {
+    constant_ends(&OpenedRun {
+        mmcs: &scheme.mmcs,
+        params: &scheme.fri_params,
+        claims,
+        proof,
+        log_max_height: 5,
+        alpha: cubic([1, 5, 9]),
+        bivariate: cubic([3, 1, 4]),
+        betas: &[cubic([2, 7, 1])],
+        indices: &[3, 1],
+    });
+}
+
+/// Those calls.
+pub fn openings(alloc: Global, stage: Stage) -> Result<Told> {
+    let (commitment, data) = committed(alloc)?;
+    let (values, proof) = opened(alloc, &commitment, &data)?;
+    let claims = claims(alloc, commitment, values)?;
+    let requests = requests(alloc, &data)?;
+    if stage == Stage::Before {
+        return Ok(before());
+    }
+    let scheme = scheme();
+    of_requests(&scheme, &requests, &after_commitment(&commitment))?;
+    of_constants(&scheme, &claims, &proof);
+    Ok(Told::of("Ok"))
+}
