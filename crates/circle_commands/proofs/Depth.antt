@@ -61,7 +61,8 @@ module _ {T : Type 0} where
   members_within (field key part form others) n h x = let a = h.0 (part x) in let b = members_within
       others n h.1 x in omega arith
 
-  pub object : (fields : Fields T) (n : ℕ) → AreWithin fields n → IsWithin (object_form fields) (n + 1)
+  pub object : (fields : Fields T) (n : ℕ) → AreWithin fields n → IsWithin
+      (object_form fields) (n + 1)
   object fields n h x = let a = members_within fields n h x in omega arith
 
 pub count : IsWithin count_form 0
