@@ -40,18 +40,18 @@ module _ {T : Type 0} (written : T → Data) (n : ℕ) (within : (x : T) → dep
       omega arith
 
 module _ {T : Type 0} (form : Form T) (n : ℕ) (within : IsWithin form n) where
-  list : IsWithin (list_form form) (n + 1)
+  pub list : IsWithin (list_form form) (n + 1)
   list v = let a = items_within form.written n within v.items in omega arith
 
   coefficients : IsWithin (coefficients_form form) (n + 1)
   coefficients v = coefficients_within form.written n within v.items
 
-  more : (m : ℕ) → n ≤ m → IsWithin form m
+  pub more : (m : ℕ) → n ≤ m → IsWithin form m
   more m h x = let a = within x in omega arith
 
 module _ {T : Type 0} where
   -- each part nests no deeper
-  abbrev AreWithin : Fields T → ℕ → Type 0
+  abbrev pub AreWithin : Fields T → ℕ → Type 0
   AreWithin none_left n = Unit {0}
   AreWithin (field key part form others) n = IsWithin form n × AreWithin others n
 
@@ -61,10 +61,11 @@ module _ {T : Type 0} where
   members_within (field key part form others) n h x = let a = h.0 (part x) in let b = members_within
       others n h.1 x in omega arith
 
-  object : (fields : Fields T) (n : ℕ) → AreWithin fields n → IsWithin (object_form fields) (n + 1)
+  pub object : (fields : Fields T) (n : ℕ) → AreWithin fields n → IsWithin
+      (object_form fields) (n + 1)
   object fields n h x = let a = members_within fields n h x in omega arith
 
-count : IsWithin count_form 0
+pub count : IsWithin count_form 0
 count n = omega arith
 
 parameters_within : (n : ℕ) (p : FriParameters ⊤) → depth (parameters_written n p) ≤ 1
@@ -73,7 +74,7 @@ parameters_within zero p =
 parameters_within (suc n) p =
     object whole_fields 0 (count, (count, (count, (count, (count, (count, (count, tt))))))) p
 
-parameters : IsWithin parameters_form 1
+pub parameters : IsWithin parameters_form 1
 parameters p = parameters_within p.log_final_poly_len p
 
 module _ {E C : Type 0} (element : Form E) (commitment : Form C) (flat : IsWithin element 1)
@@ -181,7 +182,7 @@ module _ {F E I W Witness IC ID IP IE WC WD WP WE : Type 0} (base : Form F) (ele
           ),
         )
 
-    proof : IsWithin
+    pub proof : IsWithin
         {T = CirclePcsProof F E I W Witness IC ID IP IE WC WD WP WE}
         (object_form (proof_fields base element witness batch_proof commitment word_proof)) 8
     proof =
@@ -193,16 +194,16 @@ module _ {F E I W Witness IC ID IP IE WC WD WP WE : Type 0} (base : Form F) (ele
           ),
         )
 
-abbrev base_form : Form Mersenne31
+abbrev pub base_form : Form Mersenne31
 base_form = told_form residue_of residue count_written same_residue
 
-abbrev element_form : Form Cubic
+abbrev pub element_form : Form Cubic
 element_form = told_form residues_of coefficient_residues residues_written same_coefficients
 
-abbrev digest_form : Form (List ℕ)
+abbrev pub digest_form : Form (List ℕ)
 digest_form = told_form digest_of (λ digest. digest) digest_written (λ x y same. same)
 
-abbrev digests_form : Form (Vec (List ℕ) Global)
+abbrev pub digests_form : Form (Vec (List ℕ) Global)
 digests_form = list_form digest_form
 
 -- the form of claims and their proof
@@ -214,14 +215,14 @@ claims_form =
     (object_form
     (proof_fields base_form element_form base_form digests_form digest_form digests_form)))
 
-base : IsWithin base_form 0
+pub base : IsWithin base_form 0
 base x = omega arith
 
-element : IsWithin element_form 1
+pub element : IsWithin element_form 1
 element x = let a = items_within count_written 0 (λ n. count n) (coefficient_residues x) in
     omega arith
 
-digest : IsWithin digest_form 0
+pub digest : IsWithin digest_form 0
 digest x = omega arith
 
 pub claims : IsWithin claims_form 9

@@ -40,7 +40,7 @@ pub taken_all : (s : List ℕ) (batches : Batches) (i : ℕ) → length batches 
 taken_all s batches i h = ap (taken_in s) (sym (drop_all i batches h))
 
 -- the type of its entries fixes a scheme
-one_scheme : {F : Type 0} (a b : ShaMmcs F) → a ≡ b
+pub one_scheme : {F : Type 0} (a b : ShaMmcs F) → a ≡ b
 one_scheme a b = refl
 
 -- what the scheme refuses from the state that has absorbed the commitments, it refuses of the input

@@ -11,8 +11,10 @@ use serde_json::Value;
 use std::alloc::{AllocError, Global};
 
 /// The compact text of a value, as a line.
+///
+/// Fails where memory is refused.
 pub fn line(alloc: Global, value: &Value) -> Result<String, AllocError>
-    ensures { IfOk result (λ line. depth (view value.now) ≤ 9
+    ensures { IfOk result (λ line. depth (view value.now) ≤ 127
         → IsJsonLine (view value.now) (string_bytes line)) }
 {
     let mut text = value.to_string(alloc)?;

@@ -36,7 +36,7 @@
 
 pub mod command;
 pub mod failure;
-mod json;
+pub mod json;
 pub mod prove;
 pub mod run;
 pub mod shape;

@@ -1,12 +1,14 @@
 //! Cases of AIRs: their digests, and those of `circle_airs` with a trace, as inputs of `check`.
-use crate::given::{list_of, rows_of};
+ghost use Rattle.std.specs.Prelude.{◌≤◌};
+
+use crate::given::rows_of;
 use anyhow::{Result, bail};
 use circle_air::{Air, AirParts};
 use circle_airs::permutation::{STATE_LEN, State};
 use circle_airs::{Trace, fibonacci_air, fibonacci_trace, permutation_air, permutation_trace};
 use circle_field::Mersenne31;
-use circle_json::{JsonForm, member};
-use serde_json::{Value, json};
+use circle_json::{JsonForm, member, put_member};
+use serde_json::{Map, Value, json, put};
 use std::alloc::{AllocError, Global};
 
 /// What a call of this kind answers, or none where the call is of another kind.
@@ -42,14 +44,23 @@ fn degrees(alloc: Global, given: &Value) -> Result<Value> {
 
 // The input of `check`, read and written.
 fn written(alloc: Global, given: &Value) -> Result<Value> {
-    let parts: AirParts<Mersenne31> = member(alloc, given, "air")?;
-    let public_values: Vec<Mersenne31> = member(alloc, given, "public_values")?;
-    let rows: Vec<Vec<Mersenne31>> = member(alloc, given, "rows")?;
-    Ok(json!(in alloc; {
-        "air": parts.to_json(alloc)?,
-        "public_values": public_values.to_json(alloc)?,
-        "rows": rows.to_json(alloc)?
-    })?)
+    let mut members = Map::new(alloc);
+    copy_member::<AirParts<Mersenne31>>(alloc, &mut members, given, "air")?;
+    copy_member::<Vec<Mersenne31>>(alloc, &mut members, given, "public_values")?;
+    copy_member::<Vec<Vec<Mersenne31>>>(alloc, &mut members, given, "rows")?;
+    Ok(Value::Object(members))
+}
+
+// Reads the member with this key, and writes it.
+fn copy_member<T: JsonForm + Drop>(
+    alloc: Global,
+    members: &mut Map<String, Value>,
+    given: &Value,
+    key: &str,
+) -> Result<()> {
+    let value: T = member(alloc, given, key)?;
+    put_member(alloc, members, key, &value)?;
+    Ok(())
 }
 
 fn fibonacci(alloc: Global, given: &Value) -> Result<Value> {
@@ -60,18 +71,31 @@ fn fibonacci(alloc: Global, given: &Value) -> Result<Value> {
         bail!("there are no rows");
     }
     let trace = fibonacci_trace(alloc, first, second, height)?;
-    Ok(input(alloc, &fibonacci_air(alloc)?, &trace)?)
+    of_fibonacci(alloc, &trace)
+}
+
+// The input of `check` that has this trace.
+fn of_fibonacci(alloc: Global, trace: &Trace<Mersenne31>) -> Result<Value> {
+    let air = fibonacci_air(alloc)?;
+    Ok(input(alloc, &air, trace)?)
 }
 
 fn permutation(alloc: Global, given: &Value) -> Result<Value> {
     let first: Vec<Mersenne31> = member(alloc, given, "first")?;
     let height: usize = member(alloc, given, "height")?;
-    let state: &State = match first.first_chunk::<STATE_LEN>() {
-        Some(state) if height != 0 => state,
+    match first.first_chunk::<STATE_LEN>() {
+        Some(state) if height != 0 => of_permutation(alloc, state, height),
         _ => bail!("there is no state, or there are no rows"),
-    };
+    }
+}
+
+// The input of `check` that has the trace of this state.
+fn of_permutation(alloc: Global, state: &State, height: usize) -> Result<Value>
+    requires { 1 ≤ height }
+{
     let trace = permutation_trace(alloc, state, height)?;
-    Ok(input(alloc, &permutation_air(alloc)?, &trace)?)
+    let air = permutation_air(alloc)?;
+    Ok(input(alloc, &air, &trace)?)
 }
 
 // The input of `check` that has this AIR and this trace.
@@ -80,24 +104,34 @@ fn input(
     air: &Air<Mersenne31>,
     trace: &Trace<Mersenne31>,
 ) -> Result<Value, AllocError> {
-    json!(in alloc; {
-        "air": parts_of(alloc, air)?.to_json(alloc)?,
-        "public_values": list_of(alloc, &trace.public_values)?,
-        "rows": rows_of(alloc, &trace.rows)?
-    })
+    let mut members = Map::new(alloc);
+    put_air(alloc, &mut members, air)?;
+    put_member(alloc, &mut members, "public_values", &trace.public_values)?;
+    put(&mut members, alloc, "rows", rows_of(alloc, &trace.rows)?)?;
+    Ok(Value::Object(members))
 }
 
-// What an AIR is made of.
-fn parts_of(alloc: Global, air: &Air<Mersenne31>) -> Result<AirParts<Mersenne31>, AllocError> {
-    let mut periodic_columns = Vec::new(alloc);
-    for column in air.periodic_columns() {
-        periodic_columns.push(column.clone()?)?;
-    }
-    Ok(AirParts {
+// Writes what an AIR is made of.
+fn put_air(
+    alloc: Global,
+    members: &mut Map<String, Value>,
+    air: &Air<Mersenne31>,
+) -> Result<(), AllocError> {
+    let parts = AirParts {
         width: air.width(),
         num_public_values: air.num_public_values(),
-        periodic_columns,
+        periodic_columns: copies(alloc, air.periodic_columns())?,
         nodes: Vec::from_slice(alloc, air.nodes())?,
         constraints: Vec::from_slice(alloc, air.constraints())?,
-    })
+    };
+    put_member(alloc, members, "air", &parts)
+}
+
+// Copies of the columns.
+fn copies(alloc: Global, columns: &[Vec<Mersenne31>]) -> Result<Vec<Vec<Mersenne31>>, AllocError> {
+    let mut copies = Vec::new(alloc);
+    for column in columns {
+        copies.push(Vec::from_slice(alloc, column)?)?;
+    }
+    Ok(copies)
 }
