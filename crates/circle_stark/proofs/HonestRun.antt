@@ -42,6 +42,7 @@ use Rattle.circle_stark.specs.Accepts.{HasIdentity, IsCompositionAt, StarkAccept
 use Rattle.circle_stark.specs.Draw.{AreDrawn, Described}
 use Rattle.circle_stark.specs.Honest.{IsQuotientCommitted, IsTraceCommitted}
 use Rattle.circle_stark.specs.Opened.{IsOpenedRun}
+use Rattle.circle_stark.specs.OpensRows.{OpensRows}
 use Rattle.circle_stark.specs.Provable.{HasShape, IsProvable}
 use Rattle.circle_stark.specs.Statement.{OpenedValues, Statement}
 use Rattle.circle_stark.proofs.ChunkPolynomials.{AreBaseChunksOf}
@@ -112,6 +113,20 @@ module _ {C S D F E I M IC ID IP IE WC WD WP WE : Type 0} {g : Ghosts F} (k : Fi
         of-batch k s.log_n own.base.degree zeta chunks-of (2 ^ kk) v.chunks sizes
         (recursion_from_All (λ c. width_of c.1 ≡ own.base.degree) chunks-of quotient.chunks.widths)
         parts-long as_long truths.of_chunks
+
+    -- what is opened of the trace
+    pub opened-rows : (d : Described F) (old : S) → AreDrawn own d tc qc old alpha zeta between →
+        OpensRows g k own d s.log_n x old
+        (record { trace = tc; quotient = qc; opened = v; opening = proof_of proof })
+    opened-rows d old drawn = record {
+      alpha = alpha;
+      zeta = zeta;
+      between = between;
+      drawn = drawn;
+      domain = trace.domain;
+      standard = trace.standard;
+      values = truths.of_trace.0;
+    }
 
     -- the trace's coefficients
     abbrev coeffs : List (List F)

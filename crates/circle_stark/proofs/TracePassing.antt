@@ -1,12 +1,14 @@
 -- The tests of a trace, and what they establish.
-use Rattle.std.specs.Prelude.{◌≡◌, ℕ, ◌^◌, ◌<◌, ◌==◌, Bool, true, false, not, length, Ok}
+use Rattle.std.specs.Prelude.{◌≡◌, ℕ, ◌^◌, ◌<◌, ◌==◌, Bool, true, false, not, length, List}
+use Rattle.std.specs.Prelude.{[], ◌∷◌, Err, Ok}
 use Rattle.std.specs.Int.{is_power_of_two}
-use Rattle.std.proofs.Common.{◌∙◌, ap, sym}
+use Rattle.std.specs.List.{AllByRecursion}
+use Rattle.std.proofs.Common.{◌∙◌, ap, subst, sym}
 use Rattle.circle_air.specs.Degrees.{IsLogOfChunks, degree_of_parts}
 use Rattle.circle_codewords.specs.Requests.{log_of}
 use Rattle.circle_codewords.proofs.Logs.{log_of-power}
 use Rattle.circle_commit.specs.declared.params.FriParameters.{FriParameters}
-use Rattle.circle_relation.specs.TestsInOrder.{answer}
+use Rattle.circle_relation.specs.TestsInOrder.{Test, answer}
 use Rattle.circle_relation.proofs.Answering.{answer-none, passing, skipped}
 use Rattle.circle_stark.specs.Provable.{IsProvable}
 use Rattle.circle_stark.specs.Statement.{Statement}
@@ -16,6 +18,15 @@ use Rattle.circle_stark.proofs.Passing.{provable, same_count}
 not-false : (b : Bool) → not b ≡ false → b ≡ true
 not-false true is = cc
 not-false false is = cc
+
+-- what holds of each refusal holds of the one that is returned
+pub one-of : {Error : Type 0} (P : Error → Type 0) (tests : List (Test Error)) (e : Error) →
+    AllByRecursion (λ t. P t.1) tests → answer tests (tt {0}) ≡ Err e → P e
+unfolding answer
+one-of P [] e all is = absurd (cc)
+one-of P ((true, first) ∷ tests) e all is =
+    let same : first ≡ e = cc in subst P same all.0
+one-of P ((false, first) ∷ tests) e all is = one-of P tests e all.1 is
 
 -- a trace of the AIR's shape
 pub record IsShaped {F : Type 0} (s : Statement F) (width height : ℕ) : Type 0 where

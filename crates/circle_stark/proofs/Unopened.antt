@@ -1,15 +1,16 @@
 -- Why nothing is opened, by why the scheme refuses to open.
-use Rattle.std.specs.Prelude.{◌≡◌, ℕ, List, [], ◌∷◌, map, replicate, IfErr, OnOk, Result, Ok, Err}
-use Rattle.std.specs.Prelude.{MatchOption, Option, Some}
+use Rattle.std.specs.Prelude.{◌≡◌, ℕ, ◌^◌, List, [], ◌∷◌, map, replicate, IfErr, OnOk, Result, Ok}
+use Rattle.std.specs.Prelude.{Err, MatchOption, MatchResult, None, Option, Some}
 use Rattle.circle_air.specs.Parts.{Parts}
 use Rattle.circle_air.specs.Satisfies.{IsFirstViolation, Satisfies}
 use Rattle.circle_air.specs.declared.check.Violation.{Violation}
-use Rattle.circle_air.specs.declared.node.Constraint.{Constraint}
-use Rattle.circle_air.specs.declared.node.Place.TheVariants.{Every}
 use Rattle.circle_field.specs.Field.{FieldOps}
+use Rattle.circle_field.specs.declared.field.Operations.{Ghosts}
 use Rattle.std.proofs.Common.{inl, inr, refl, subst, sym}
 use Rattle.circle_challenger.specs.Moves.{RunMoves}
 use Rattle.circle_commit.specs.Honest.{requested_points}
+use Rattle.circle_commit.specs.RowMajorMatrix.{rows}
+use Rattle.circle_commit.specs.declared.matrix.RowMajorMatrix.{RowMajorMatrix}
 use Rattle.circle_commit.specs.declared.pcs.OpeningRequest.{OpeningRequest}
 use Rattle.circle_domain.specs.Selectors.{next_from}
 use Rattle.circle_point.specs.Projective.{to_line}
@@ -25,22 +26,26 @@ use Rattle.circle_relation.specs.declared.error.ProverError.TheVariants.{NoCommi
 use Rattle.circle_relation.specs.declared.error.ProverError.TheVariants.{PointAtInfinity}
 use Rattle.circle_relation.specs.declared.error.ProverError.TheVariants.{LastWordNotConstant}
 use Rattle.circle_relation.specs.declared.error.ProverError.TheVariants.{DomainSmallerThanTrace}
-use Rattle.circle_stark.specs.Trace.{refusal_by}
-use Rattle.circle_stark.specs.Draw.{AreDrawn, Described}
-use Rattle.circle_stark.specs.Unproved.{IsUnopenedFor, IsUnprovedFor}
+use Rattle.circle_relation.specs.TestsInOrder.{Test, answer}
+use Rattle.circle_stark.specs.Draw.{Described}
+use Rattle.circle_stark.specs.Statement.{Statement}
+use Rattle.circle_stark.specs.Trace.{IsNoViolation, refusal_by}
+use Rattle.circle_stark.specs.Unproved.{IsTraceUnprovedFor, IsUnopenedFor, IsUnprovedFor}
 use Rattle.circle_stark.specs.declared.error.StarkProverError.{StarkProverError}
-use Rattle.circle_stark.specs.declared.error.StarkProverError.TheVariants.{Memory as OutOfRoom}
+use Rattle.circle_stark.specs.declared.error.StarkProverError.TheVariants.{Unsatisfied}
 
 module _ {S D F E : Type 0} (k : Fields F E)
-    (refuses : List (OpeningRequest D E) → S → S → ProverError → Type 0) (n count : ℕ) (zeta : E)
-    (old new : S) (requests : List (OpeningRequest D E))
+    (refuses : List (OpeningRequest D E) → S → S → ProverError → Type 0) (n count : ℕ)
+    (trace quotient : D) (zeta : E) (old new : S) (requests : List (OpeningRequest D E))
+    (kept : map (λ r. r.prover_data.now) requests ≡ trace ∷ quotient ∷ [])
     (points : map requested_points requests
     ≡ ((zeta ∷ to_line k.extension (next_from k.extension k.embed k.gen n zeta) ∷ []) ∷ [])
     ∷ replicate count (zeta ∷ []) ∷ []) where
   by-each : (error : ProverError) → refuses requests old new error →
-      IsUnopenedFor k refuses n count zeta old new (refusal_by error)
+      IsUnopenedFor k refuses n count trace quotient zeta old new (refusal_by error)
   by-each (NoGrindingWitness phase) refused = record {
     requests = requests;
+    kept = kept;
     points = points;
     error = NoGrindingWitness phase;
     refused = refused;
@@ -48,6 +53,7 @@ module _ {S D F E : Type 0} (k : Fields F E)
   }
   by-each PointOnDomain refused = record {
     requests = requests;
+    kept = kept;
     points = points;
     error = PointOnDomain;
     refused = refused;
@@ -66,52 +72,82 @@ module _ {S D F E : Type 0} (k : Fields F E)
 
   pub unopened-for : (e : StarkProverError) (error : ProverError) →
       refuses requests old new error → e ≡ refusal_by error →
-      IsUnopenedFor k refuses n count zeta old new e
+      IsUnopenedFor k refuses n count trace quotient zeta old new e
   unopened-for e error refused same =
-      subst (IsUnopenedFor k refuses n count zeta old new) (sym same) (by-each error refused)
+      subst (IsUnopenedFor k refuses n count trace quotient zeta old new) (sym same)
+      (by-each error refused)
 
--- so of a run that was drawn
-pub unproved-by : {C S D F E Com : Type 0} (k : Fields F E)
-    (refuses : List (OpeningRequest D E) → S → S → ProverError → Type 0) (n count : ℕ)
-    (own : RunMoves C S F E Com) (d : Described F) (trace quotient : Com) (alpha zeta : E)
-    (old between new : S) (e : StarkProverError) →
-    AreDrawn own d trace quotient old alpha zeta between →
-    IsUnopenedFor k refuses n count zeta between new e →
-    IsUnprovedFor k refuses n count own d old new e
-unproved-by k refuses n count own d trace quotient alpha zeta old between new e drawn why =
-    inr (record {
-      trace = trace;
-      quotient = quotient;
-      alpha = alpha;
-      zeta = zeta;
-      between = between;
-      drawn = drawn;
-      unopened = why;
-    })
+-- no refusal by a constraint
+pub no-violation : (e : StarkProverError) (row constraint : ℕ) → IsNoViolation e →
+    e ≡ Unsatisfied row constraint → ⊥
+no-violation e row constraint none is = subst IsNoViolation is none
 
--- or memory was refused
-pub unproved-memory : {C S D F E Com : Type 0} (k : Fields F E)
-    (refuses : List (OpeningRequest D E) → S → S → ProverError → Type 0) (n count : ℕ)
-    (own : RunMoves C S F E Com) (d : Described F) (old new : S) (e : StarkProverError) →
-    e ≡ OutOfRoom → IsUnprovedFor k refuses n count own d old new e
-unproved-memory k refuses n count own d old new e is = inl is
+-- neither is why there is no proof of rows that satisfy the constraints
+module _ {C S D F E Com : Type 0} (g : Ghosts F) (k : Fields F E) (own : RunMoves C S F E Com)
+    (blowup : ℕ) (Commits : List (RowMajorMatrix F) → Com → Type 0)
+    (kept : D → List (RowMajorMatrix F))
+    (refuses : List (OpeningRequest D E) → S → S → ProverError → Type 0) (d : Described F)
+    (s : Statement F) (kk : ℕ) (x : RowMajorMatrix F) where
+  pub unopened-violation : (old new : S) (e : StarkProverError) (row constraint : ℕ) →
+      IsUnprovedFor g k own blowup Commits kept refuses d s kk x old new e →
+      e ≡ Unsatisfied row constraint → ⊥
+  unopened-violation old new e row constraint why is =
+      elim why [
+        | inl memory ↦ subst IsNoViolation is (subst IsNoViolation (sym memory) (tt {0}))
+        | inr run ↦
+            subst (IsUnopenedFor k refuses s.log_n (2 ^ kk) run.trace_data run.quotient_data
+            run.zeta run.between new) is run.unopened
+      ]
 
--- rows of which a constraint doesn't hold don't satisfy the AIR
-pub violated : {F : Type 0} (k : FieldOps F) (p : Parts F) (rows : List (List F)) (public : List F)
-    (v : Violation) → IsFirstViolation k p rows public v → Satisfies k p rows public → ⊥
-violated k p rows public v found all =
-    let c : Constraint = record { place = Every; node = 0 } in
-    found.fails c (all.holds v.row found.row_below v.constraint c found.constraint)
+  -- why there is no proof of rows that satisfy the constraints, as is said of a trace
+  pub of-satisfied : (state : C → S) (old new : C) (e : StarkProverError) →
+      Satisfies k.field s.parts (rows x) s.public_values →
+      IsUnprovedFor g k own blowup Commits kept refuses d s kk x (state old) (state new) e →
+      IsTraceUnprovedFor g k own blowup Commits kept refuses d s kk x state old new e
+  of-satisfied state old new e satisfied why =
+      elim why [ inl memory ↦ inl memory | inr run ↦ inr (inr (satisfied, run)) ]
 
--- nor where they are what a check found
-pub violated-by : {F : Type 0} (k : FieldOps F) (p : Parts F) (rows : List (List F))
+-- what comes after tests that pass, and what is said of the first that refuses
+module _ {Error : Type 0} (tests : List (Test Error)) (P : Type 0) (First : Error → Type 0) where
+  pub after-tests : answer tests (tt {0}) ≡ Ok (tt {0}) → P →
+      MatchResult (answer {A = Unit {0}} tests (tt {0})) (λ passed. P) First
+  after-tests passed holds =
+      subst (λ a. MatchResult a (λ (u : Unit {0}). P) First) (sym passed) holds
+
+  pub at-first : (e : Error) → answer tests (tt {0}) ≡ Err e → First e →
+      MatchResult (answer {A = Unit {0}} tests (tt {0})) (λ passed. P) First
+  at-first e refused holds =
+      subst (λ a. MatchResult a (λ (u : Unit {0}). P) First) (sym refused) holds
+
+-- what a check found is the first
+pub found-violation : {F : Type 0} (k : FieldOps F) (p : Parts F) (rows : List (List F))
     (public : List F) (o : Option Violation) (v : Violation) → o ≡ Some v →
     MatchOption o (Satisfies k p rows public) (IsFirstViolation k p rows public) →
-    Satisfies k p rows public → ⊥
-violated-by k p rows public o v is found all =
-    violated k p rows public v
-    (subst (λ a. MatchOption a (Satisfies k p rows public) (IsFirstViolation k p rows public)) is
-    found) all
+    IsFirstViolation k p rows public v
+found-violation k p rows public o v is found =
+    subst (λ a. MatchOption a (Satisfies k p rows public) (IsFirstViolation k p rows public)) is
+    found
+
+-- and where it found none the rows satisfy the AIR
+pub none-found : {F : Type 0} (k : FieldOps F) (p : Parts F) (rows : List (List F))
+    (public : List F) (o : Option Violation) → o ≡ None →
+    MatchOption o (Satisfies k p rows public) (IsFirstViolation k p rows public) →
+    Satisfies k p rows public
+none-found k p rows public o is found =
+    subst (λ a. MatchOption a (Satisfies k p rows public) (IsFirstViolation k p rows public)) is
+    found
+
+-- what the refusal names is what was found
+pub named-violation : {F : Type 0} (k : FieldOps F) (p : Parts F) (rows : List (List F))
+    (public : List F) (v w : Violation) → IsFirstViolation k p rows public v →
+    Unsatisfied v.row v.constraint ≡ Unsatisfied w.row w.constraint →
+    IsFirstViolation k p rows public w
+named-violation k p rows public v w first is =
+    let at : ℕ → ℕ → Violation = λ row constraint. record { row = row; constraint = constraint } in
+    let same_row : v.row ≡ w.row = cc in
+    let same_constraint : v.constraint ≡ w.constraint = cc in
+    subst (λ i. IsFirstViolation k p rows public (at i w.constraint)) same_row
+    (subst (λ j. IsFirstViolation k p rows public (at v.row j)) same_constraint first)
 
 -- what holds in any case holds of an Ok
 pub on-ok : {A Err P : Type 0} (r : Result A Err) → P → OnOk r P

@@ -5,6 +5,7 @@ pub mod Draw
 pub mod Honest
 pub mod Json
 pub mod Opened
+pub mod OpensRows
 pub mod Provable
 pub mod Refusals
 pub mod RoundTrip

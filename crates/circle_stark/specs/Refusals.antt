@@ -5,7 +5,7 @@ use Rattle.std.specs.Prelude.{unwrap_or, if◌then◌else◌}
 use Rattle.circle_commit.specs.declared.params.FriParameters.{FriParameters}
 use Rattle.circle_air.specs.Degrees.{IsLogOfChunks, degree_of_parts}
 use Rattle.circle_relation.specs.TestsInOrder.{Test, answer}
-use Rattle.circle_stark.specs.Statement.{OpenedValues, Statement}
+use Rattle.circle_stark.specs.Statement.{OpenedValues, Statement, statement_of, values_of}
 use Rattle.circle_stark.specs.declared.error.StarkError.{StarkError}
 use Rattle.circle_stark.specs.declared.error.StarkError.TheVariants.{PublicValuesMismatch}
 use Rattle.circle_stark.specs.declared.error.StarkError.TheVariants.{HeightTooSmall, HeightTooLarge}
@@ -14,6 +14,8 @@ use Rattle.circle_stark.specs.declared.error.StarkError.TheVariants.{TraceLocalL
 use Rattle.circle_stark.specs.declared.error.StarkError.TheVariants.{TraceNextLength}
 use Rattle.circle_stark.specs.declared.error.StarkError.TheVariants.{QuotientChunkCount}
 use Rattle.circle_stark.specs.declared.error.StarkError.TheVariants.{QuotientChunkLength}
+use Rattle.circle_stark.specs.declared.proof.StarkOpenedValues.{StarkOpenedValues}
+use Rattle.circle_stark.specs.declared.proof.StarkStatement.{StarkStatement}
 
 -- what is returned of tests: the first refusal that there is reason for, and otherwise a value
 abbrev pub IsTested : {A Err : Type 0} → List (Test Err) → Result A Err → Type 0
@@ -78,9 +80,10 @@ module _ {Opening M : Type 0} (two_adicity : ℕ) (params : FriParameters M) (lo
   stark_tests degree s v = statement_tests s ++ value_tests log_chunks degree s.parts.width v
 
 -- where one of them has reason to refuse, the first is returned, and the challenger is as it was
-abbrev pub IsFirstRefusal : {C Opening M F E : Type 0} → ℕ → FriParameters M → ℕ → Statement F
-    → OpenedValues E → Result (Unit {0}) (StarkError Opening) → C → C → Type 0
+abbrev pub IsFirstRefusal : {C Opening M F E : Type 0} → ℕ → FriParameters M → ℕ
+    → StarkStatement F → StarkOpenedValues E → Result (Unit {0}) (StarkError Opening) → C → C
+    → Type 0
 IsFirstRefusal two_adicity params degree s v result old new =
-    (k : ℕ) → IsLogOfChunks (degree_of_parts s.parts) k →
-    IfErr (answer (stark_tests two_adicity params k degree s v) (tt {0}))
+    (k : ℕ) → IsLogOfChunks (degree_of_parts (statement_of s).parts) k →
+    IfErr (answer (stark_tests two_adicity params k degree (statement_of s) (values_of v)) (tt {0}))
     (λ e. (result ≡ Err e) × (new ≡ old))

@@ -32,6 +32,7 @@ pub record Proved (F E InputCom Com InputProof WordProof : Type 0) : Type 0 wher
   pub opened : OpenedValues E
   pub opening : OpeningProof F E Com InputProof WordProof
 
+-- a statement as contracts see it
 abbrev pub statement_of : {F : Type 0} → StarkStatement F → Statement F
 statement_of s = record {
   parts = air_of s.air.now;
@@ -47,6 +48,7 @@ described_by bytes size s = record {
   public_values = s.public_values;
 }
 
+-- opened values as contracts see them
 abbrev pub values_of : {E : Type 0} → StarkOpenedValues E → OpenedValues E
 values_of v = record {
   local = v.trace_local.items;

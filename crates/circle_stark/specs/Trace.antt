@@ -1,11 +1,14 @@
 -- What is to be proved of a trace, and what is refused of it before the challenger is seeded.
-use Rattle.std.specs.Prelude.{◌≡◌, ℕ, not, List, [], ◌∷◌, ◌++◌, length, Result, IfErr, Ok, Err}
+use Rattle.std.specs.Prelude.{◌≡◌, ℕ, not, List, [], ◌∷◌, ◌++◌, length, Result, IfErr, Err}
 use Rattle.std.specs.Int.{is_power_of_two}
 use Rattle.circle_air.specs.Air.{air_of}
 use Rattle.circle_air.specs.Degrees.{IsLogOfChunks, degree_of_parts}
-use Rattle.circle_commit.specs.RowMajorMatrix.{height_of}
+use Rattle.circle_air.specs.Satisfies.{IsFirstViolation}
+use Rattle.circle_air.specs.declared.check.Violation.{Violation}
+use Rattle.circle_commit.specs.RowMajorMatrix.{height_of, rows, width_of}
 use Rattle.circle_commit.specs.declared.params.FriParameters.{FriParameters}
 use Rattle.circle_codewords.specs.Requests.{log_of}
+use Rattle.circle_field.specs.Field.{FieldOps}
 use Rattle.circle_prover.specs.Requesting.{is_unfit}
 use Rattle.circle_relation.specs.TestsInOrder.{Test, answer}
 use Rattle.circle_relation.specs.declared.error.ProverError.{ProverError}
@@ -21,6 +24,7 @@ use Rattle.circle_stark.specs.declared.error.StarkProverError.TheVariants.{Heigh
 use Rattle.circle_stark.specs.declared.error.StarkProverError.TheVariants.{HeightTooLarge}
 use Rattle.circle_stark.specs.declared.error.StarkProverError.TheVariants.{PeriodTooLong}
 use Rattle.circle_stark.specs.declared.error.StarkProverError.TheVariants.{UnfitParameters}
+use Rattle.circle_stark.specs.declared.error.StarkProverError.TheVariants.{Unsatisfied}
 use Rattle.circle_stark.specs.declared.error.StarkProverError.TheVariants.{NoGrindingWitness}
 use Rattle.circle_stark.specs.declared.error.StarkProverError.TheVariants.{PointOnDomain, Memory}
 use Rattle.circle_stark.specs.declared.proof.StarkStatement.{StarkStatement}
@@ -64,18 +68,32 @@ module _ {M : Type 0} (two_adicity : ℕ) (params : FriParameters M) (log_chunks
   trace_tests s width height =
       shape_tests s width height ++ size_tests s.log_n s.parts.periodic_columns
 
--- none of them has reason to refuse
-abbrev pub IsUnrefused : {F M : Type 0} → ℕ → FriParameters M → ℕ → Statement F → ℕ → ℕ → Type 0
-IsUnrefused two_adicity params k s width height =
-    answer (trace_tests two_adicity params k s width height) (tt {0}) ≡ Ok (tt {0})
+-- these tests, of a trace
+abbrev pub tests_of_trace : {F M : Type 0} → ℕ → FriParameters M → ℕ → StarkTrace F
+    → List (Test StarkProverError)
+tests_of_trace two_adicity params log_chunks t =
+    trace_tests two_adicity params log_chunks (stated t) (width_of t.rows) (height_of t.rows)
 
 -- where one of them has reason to refuse, the first is returned, and the challenger is as it was
-abbrev pub IsFirstTraceRefusal : {A C F M : Type 0} → ℕ → FriParameters M → Statement F → ℕ → ℕ
+abbrev pub IsFirstTraceRefusal : {A C F M : Type 0} → ℕ → FriParameters M → StarkTrace F
     → Result A StarkProverError → C → C → Type 0
-IsFirstTraceRefusal two_adicity params s width height result old new =
-    (k : ℕ) → IsLogOfChunks (degree_of_parts s.parts) k →
-    IfErr (answer (trace_tests two_adicity params k s width height) (tt {0}))
+IsFirstTraceRefusal two_adicity params t result old new =
+    (k : ℕ) → IsLogOfChunks (degree_of_parts (stated t).parts) k →
+    IfErr (answer (tests_of_trace two_adicity params k t) (tt {0}))
     (λ e. (result ≡ Err e) × (new ≡ old))
+
+-- a refusal by a constraint names the first row at which one doesn't hold, and the first such
+-- constraint there, and the challenger is as it was
+abbrev pub NamesViolation : {C F : Type 0} → FieldOps F → StarkTrace F → C → C → StarkProverError
+    → Type 0
+NamesViolation k t old new e =
+    (v : Violation) → e ≡ Unsatisfied v.row v.constraint →
+    IsFirstViolation k (stated t).parts (rows t.rows) (stated t).public_values v × (new ≡ old)
+
+-- no refusal by a constraint
+abbrev pub IsNoViolation : StarkProverError → Type 0
+IsNoViolation (Unsatisfied row constraint) = ⊥
+IsNoViolation _ = Unit {0}
 
 -- the refusal by which that of the scheme is returned
 abbrev pub refusal_by : ProverError → StarkProverError

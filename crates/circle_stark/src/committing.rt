@@ -40,7 +40,8 @@ pub(crate) fn commit_trace<Val: ComplexExtendable, InputMmcs: Mmcs<Val>, FriMmcs
     requires in_group { log_n + 1 ≤ Val.CIRCLE_TWO_ADICITY }
     ensures refused { IfErr result (λ e. e ≡ Memory) }
     ensures committed { IfOk result (λ r. IsTraceCommitted Val.Operations Val.ops Val.generators
-        pcs.now.fri_params.log_blowup (InputMmcs.commits pcs.now.mmcs) log_n rows r.0 (InputMmcs.matrices r.1)) }
+        pcs.now.fri_params.log_blowup (InputMmcs.commits pcs.now.mmcs) log_n rows r.0
+        (InputMmcs.matrices r.1)) }
 {
     let batch = single(alloc, (CircleDomain::standard(log_n), rows))?;
     match pcs.commit(alloc, batch) {
@@ -133,9 +134,10 @@ where
     ensures refused { IfErr result (λ e. e ≡ Memory) }
     ensures committed { IfOk result (λ r. (kk : ℕ) →
         IsLogOfChunks (degree_of_parts (statement_of statement.now).parts) kk →
-        IsQuotientCommitted Val.Operations ⟦<EF as OverCircle<Val>>⟧.fields pcs.now.fri_params.log_blowup
-        (InputMmcs.commits pcs.now.mmcs) EF.coefficients EF.DEGREE (statement_of statement.now) kk
-        (InputMmcs.matrices trace.now) alpha r.0 (InputMmcs.matrices r.1)) }
+        IsQuotientCommitted Val.Operations ⟦<EF as OverCircle<Val>>⟧.fields
+        pcs.now.fri_params.log_blowup (InputMmcs.commits pcs.now.mmcs) EF.coefficients EF.DEGREE
+        (statement_of statement.now) kk (InputMmcs.matrices trace.now) alpha r.0
+        (InputMmcs.matrices r.1)) }
 {
     let StarkStatement {
         air,

@@ -3,16 +3,19 @@
 //!
 //! What is proved, for every lawful field, extension, commitment scheme and challenger:
 //!
-//! - `verify` returns Ok exactly where the relation `StarkAccepts` holds of the statement, the proof
-//!   and what is drawn, unless out of memory (`accepted`, `complete`). It returns the first of the
-//!   refusals that need no challenge, with the challenger as it was (`first`), and each later one
-//!   only where its reason holds (`reason`).
-//! - `prove` returns Ok only where the rows satisfy the constraints (`satisfied`), and `StarkAccepts`
-//!   holds of what it returns, from the state in which it was called to that which it leaves
-//!   (`accepted`). It returns the first of the refusals that need no challenge, with the challenger
-//!   as it was (`first`).
-//! - `prove_and_verify` returns a proof that was accepted, with both challengers in one state, and
-//!   never fails because `verify` refuses (`complete`).
+//! - `verify` returns Ok exactly where the relation `StarkAccepts` holds of the statement, the
+//!   proof and what is drawn, unless out of memory (`accepted`, `complete`). It returns the first of
+//!   the refusals that need no challenge, with the challenger as it was (`first`), and each later
+//!   one only where its reason holds (`reason`).
+//! - `prove` returns Ok only where the rows satisfy the constraints (`satisfied`), and
+//!   `StarkAccepts` holds of what it returns, from the state in which it was called to that which it
+//!   leaves (`accepted`). The trace's opened values are those of the only polynomials with its rows
+//!   (`values`). It returns the first of the refusals that need no challenge, with the challenger as
+//!   it was (`first`). Where the rows don't satisfy the constraints it names the first row and
+//!   constraint, with the challenger as it was (`unsatisfied`), and it fails in no other case but
+//!   those that its page names (`reason`).
+//! - `prove_and_verify` returns a proof that was accepted, with both challengers in one state. It
+//!   fails as `prove` does (`reason`), and never because `verify` refuses (`complete`).
 //! - A proof is written as JSON and read back, and a JSON value stands for one proof at most.
 //!
 //! Its files:
@@ -24,8 +27,9 @@
 //!   `round_trip.rt`: `prove_and_verify`. `relation.rt`: what contracts cite.
 //! - In `specs/`, `Accepts`: the relation. `Draw`, `Steps`: the transcript. `Statement`, `Claims`,
 //!   `Provable`: statements and proofs as lists, the claims, and their shape. `Refusals`, `Verdict`:
-//!   refusals in order, and reasons. `Trace`: the refusals of a trace. `Honest`, `Opened`: what an
-//!   honest prover commits to and opens. `Json`: the members of objects.
+//!   refusals in order, and reasons. `Trace`, `Unproved`: the refusals of a trace, and why there is
+//!   no proof. `Honest`, `Opened`: what an honest prover commits to and opens. `OpensRows`: the
+//!   values that it opens. `RoundTrip`: the refusals of both. `Json`: the members of objects.
 //! - In `proofs/`, of `verify`: `Passing`: what tests establish. `Fixed`: the opened values fix the
 //!   identity. `Selecting`: selectors of a standard domain. `Verdicts`: what is drawn fixes the
 //!   verdict.

@@ -16,9 +16,9 @@ ghost use Rattle.circle_stark.specs.Honest.{IsQuotientCommitted, IsTraceCommitte
 ghost use Rattle.circle_stark.specs.Opened.{IsOpenedRun};
 ghost use Rattle.circle_stark.specs.Provable.{IsProvable};
 ghost use Rattle.circle_stark.specs.Statement.{described_by, statement_of, values_of};
-ghost use Rattle.circle_stark.specs.Trace.{IsFirstTraceRefusal, IsUnrefused, refusal_by};
+ghost use Rattle.circle_stark.specs.Trace.{IsFirstTraceRefusal, NamesViolation, refusal_by};
 ghost use Rattle.circle_stark.specs.Trace.{stated, statement_by};
-ghost use Rattle.circle_stark.specs.Unproved.{IsRefusedBy, IsUnopenedFor, IsUnprovedFor};
+ghost use Rattle.circle_stark.specs.Unproved.{IsRefusedBy, IsUnopenedFor};
 ghost use Rattle.circle_stark.specs.declared.error.StarkProverError.TheVariants.{Memory};
 
 use crate::claims::OpenedPoints;
@@ -77,10 +77,10 @@ where
         r.trace_commitment (InputMmcs.matrices r.trace_data)) }
     ensures quotient { IfOk result (λ r. (kk : ℕ) →
         IsLogOfChunks (degree_of_parts (statement_of statement.now).parts) kk →
-        IsQuotientCommitted Val.Operations ⟦<EF as OverCircle<Val>>⟧.fields pcs.now.fri_params.log_blowup
-        (InputMmcs.commits pcs.now.mmcs) EF.coefficients EF.DEGREE (statement_of statement.now) kk
-        (InputMmcs.matrices r.trace_data) r.drawn.alpha r.quotient_commitment
-        (InputMmcs.matrices r.quotient_data)) }
+        IsQuotientCommitted Val.Operations ⟦<EF as OverCircle<Val>>⟧.fields
+        pcs.now.fri_params.log_blowup (InputMmcs.commits pcs.now.mmcs) EF.coefficients EF.DEGREE
+        (statement_of statement.now) kk (InputMmcs.matrices r.trace_data) r.drawn.alpha
+        r.quotient_commitment (InputMmcs.matrices r.quotient_data)) }
     ensures drawn { let r = ⟦<C as RunChallenger<Val, EF, InputMmcs::Commitment>>⟧.run in IfOk
         result (λ d. AreDrawn r (described_by Val.bytes Val.BYTES (statement_of statement.now))
         d.trace_commitment d.quotient_commitment (C.state challenger.old) d.drawn.alpha d.drawn.zeta
@@ -201,7 +201,8 @@ where
         IfErr result (λ e. (kk : ℕ) →
         IsLogOfChunks (degree_of_parts (statement_of statement.now).parts) kk →
         IsUnopenedFor ⟦<EF as OverCircle<Val>>⟧.fields (p.open_refuses pcs.now) statement.now.log_n
-        (2 ^ kk) run.now.drawn.zeta (C.state challenger.old) (C.state challenger.new) e) }
+        (2 ^ kk) run.now.trace_data run.now.quotient_data run.now.drawn.zeta
+        (C.state challenger.old) (C.state challenger.new) e) }
     ensures next { OnOk result (let next = next_from EF.ops EF.embed Val.generators
         statement.now.log_n run.now.drawn.zeta in from_line EF.ops (to_line EF.ops next) ≡ next) }
     ensures opened { let p = ⟦<CirclePcs<Val, InputMmcs, FriMmcs> as Statements<EF, C>>⟧ in
@@ -252,16 +253,12 @@ where
         IsProvable Val.CIRCLE_TWO_ADICITY pcs.now.fri_params (statement_of statement.now) kk }
     requires satisfied { Satisfies Val.ops (statement_of statement.now).parts (rows_of rows)
         statement.now.public_values.now }
-    ensures reason { let p = ⟦<CirclePcs<Val, InputMmcs, FriMmcs> as Pcs<EF, C>>⟧ in
-        let r = ⟦<C as RunChallenger<Val, EF, InputMmcs::Commitment>>⟧.run in
-        IfErr result (λ e. (kk : ℕ) →
-        IsLogOfChunks (degree_of_parts (statement_of statement.now).parts) kk →
-        IsUnprovedFor ⟦<EF as OverCircle<Val>>⟧.fields (p.open_refuses pcs.now) statement.now.log_n
-        (2 ^ kk) r (described_by Val.bytes Val.BYTES (statement_of statement.now))
-        (C.state challenger.old) (C.state challenger.new) e) }
-    ensures accepted { let p = ⟦<CirclePcs<Val, InputMmcs, FriMmcs> as StarkRelation<Val, EF, InputMmcs, FriMmcs, C>>⟧ in
-        IfOk result (λ proof. p.accepts pcs.now statement.now proof
-        (C.state challenger.old) (C.state challenger.new)) }
+    ensures reason { let p = ⟦<CirclePcs<Val, InputMmcs, FriMmcs> as StarkRelation<EF, C>>⟧ in
+        IfErr result (p.unopened pcs.now statement.now rows challenger.old challenger.new) }
+    ensures accepted { let p = ⟦<CirclePcs<Val, InputMmcs, FriMmcs> as StarkRelation<EF, C>>⟧ in
+        IfOk result (p.accepts pcs.now statement.now challenger.old challenger.new) }
+    ensures values { let p = ⟦<CirclePcs<Val, InputMmcs, FriMmcs> as StarkRelation<EF, C>>⟧ in
+        IfOk result (p.opens pcs.now statement.now rows challenger.old) }
 {
     let log_chunks = statement.air.log_num_quotient_chunks();
     let run = commit_and_draw::<Val, EF, InputMmcs, FriMmcs, C>(
@@ -284,7 +281,8 @@ where
 ///
 /// Ok only where the rows satisfy the constraints. Then [`verify`](crate::verify) accepts the proof
 /// under that statement, from the state in which `prove` was called, and leaves the challenger in
-/// the state in which `prove` left it.
+/// the state in which `prove` left it. The opened values of the trace are those of the only
+/// polynomials with its rows.
 ///
 /// Before the challenger is seeded, `prove` leaves it as it was and returns the first of these, by
 /// tests that take no memory: `PublicValuesMismatch`; `WidthMismatch` where the rows haven't an
@@ -293,7 +291,7 @@ where
 /// extension of the trace or for its quotient; `PeriodTooLong` of the first periodic column that is
 /// longer than the trace; `UnfitParameters` where the scheme's `open` doesn't support the
 /// parameters. Then it returns `Unsatisfied` with the first row at which a constraint doesn't hold,
-/// and the first such constraint.
+/// and the first such constraint, and leaves the challenger as it was too.
 ///
 /// Once the challenger is seeded, `UnfitPoint` where the drawn point can't be opened, and
 /// `PointOnDomain` where it is on the domain that the trace is committed on, both with the
@@ -314,25 +312,19 @@ where
         + GrindingChallenger<Val>
         + CanObserve<InputMmcs::Commitment>
         + CanObserve<FriMmcs::Commitment>,
-    ensures first { IsFirstTraceRefusal Val.CIRCLE_TWO_ADICITY pcs.now.fri_params
-        (stated trace.entry) (width_of trace.entry.rows) (height_of trace.entry.rows) result
+    ensures first { IsFirstTraceRefusal Val.CIRCLE_TWO_ADICITY pcs.now.fri_params trace.entry result
         challenger.old challenger.new }
     ensures height { OnOk result (height_of trace.entry.rows ≡ 2 ^ (stated trace.entry).log_n) }
     ensures satisfied { OnOk result (Satisfies Val.ops (stated trace.entry).parts
         (rows_of trace.entry.rows) (stated trace.entry).public_values) }
-    ensures reason { let p = ⟦<CirclePcs<Val, InputMmcs, FriMmcs> as Pcs<EF, C>>⟧ in
-        let r = ⟦<C as RunChallenger<Val, EF, InputMmcs::Commitment>>⟧.run in (kk : ℕ) →
-        IsLogOfChunks (degree_of_parts (stated trace.entry).parts) kk →
-        IsUnrefused Val.CIRCLE_TWO_ADICITY pcs.now.fri_params kk (stated trace.entry)
-        (width_of trace.entry.rows) (height_of trace.entry.rows) →
-        Satisfies Val.ops (stated trace.entry).parts (rows_of trace.entry.rows)
-        (stated trace.entry).public_values → IfErr result (IsUnprovedFor
-        ⟦<EF as OverCircle<Val>>⟧.fields (p.open_refuses pcs.now) (stated trace.entry).log_n
-        (2 ^ kk) r (described_by Val.bytes Val.BYTES (stated trace.entry)) (C.state challenger.old)
-        (C.state challenger.new)) }
-    ensures accepted { let p = ⟦<CirclePcs<Val, InputMmcs, FriMmcs> as StarkRelation<Val, EF, InputMmcs, FriMmcs, C>>⟧ in
-        IfOk result (λ proof. p.accepts pcs.now (statement_by trace.entry) proof
-        (C.state challenger.old) (C.state challenger.new)) }
+    ensures unsatisfied { IfErr result
+        (NamesViolation Val.ops trace.entry challenger.old challenger.new) }
+    ensures reason { let p = ⟦<CirclePcs<Val, InputMmcs, FriMmcs> as StarkRelation<EF, C>>⟧ in
+        IfErr result (p.unproved pcs.now trace.entry challenger.old challenger.new) }
+    ensures accepted { let p = ⟦<CirclePcs<Val, InputMmcs, FriMmcs> as StarkRelation<EF, C>>⟧ in
+        IfOk result (p.accepts pcs.now (statement_by trace.entry) challenger.old challenger.new) }
+    ensures values { let p = ⟦<CirclePcs<Val, InputMmcs, FriMmcs> as StarkRelation<EF, C>>⟧ in
+        IfOk result (p.opens pcs.now (statement_by trace.entry) trace.entry.rows challenger.old) }
 {
     let sizes = validated_sizes(&pcs.fri_params, &trace)?;
     let StarkTrace {

@@ -2,61 +2,76 @@
 ghost use Rattle.std.specs.Prelude.{ℕ};
 ghost use Rattle.circle_air.specs.Degrees.{IsLogOfChunks, degree_of_parts};
 ghost use Rattle.circle_stark.specs.Accepts.{StarkAccepts};
+ghost use Rattle.circle_stark.specs.OpensRows.{OpensRows};
 ghost use Rattle.circle_stark.specs.Statement.{described_by, proved_of, statement_of, values_of};
 ghost use Rattle.circle_stark.specs.Refusals.{stark_tests};
+ghost use Rattle.circle_stark.specs.Trace.{stated, tests_of_trace};
+ghost use Rattle.circle_stark.specs.Unproved.{IsTraceUnprovedFor, IsUnprovedFor};
 ghost use Rattle.circle_stark.specs.Verdict.{IsOpeningRefused, IsRefusedFor};
 ghost use Rattle.p3_circle.specs.Scheme.{IsFirstFrom};
-ghost use Rattle.circle_commit.specs.declared.error.FriError.{FriError};
-ghost use Rattle.circle_relation.specs.declared.error.InputError.{InputError};
+ghost use Rattle.circle_commit.specs.declared.matrix.RowMajorMatrix.{RowMajorMatrix};
 ghost use Rattle.circle_stark.specs.declared.error.StarkError.{StarkError};
-ghost use Rattle.circle_stark.specs.declared.proof.StarkProof.{StarkProof};
+ghost use Rattle.circle_stark.specs.declared.error.StarkProverError.{StarkProverError};
 ghost use Rattle.circle_stark.specs.declared.proof.StarkStatement.{StarkStatement};
+ghost use Rattle.circle_stark.specs.declared.trace.StarkTrace.{StarkTrace};
 
+use crate::proof::StarkProof;
 use circle_challenger::{
     CanObserve, CanSample, ChallengerState, GrindingChallenger, RunChallenger,
 };
 use circle_commit::{Mmcs, Pcs};
 use circle_field::{ComplexExtendable, ElementBytes, ExtensionField};
-use circle_relation::OverCircle;
+use circle_relation::{OverCircle, VerifierError};
 use p3_circle::CirclePcs;
 
 /// What is promised of proofs over a scheme, for contracts alone.
 ///
 /// Each scheme has it, so no function requires it: a clause cites
-/// `⟦<CirclePcs<Val, InputMmcs, FriMmcs> as StarkRelation<Val, EF, InputMmcs, FriMmcs, C>>⟧.accepts`.
-pub trait StarkRelation<Val, EF, InputMmcs, FriMmcs, C>
-where
-    Val: ComplexExtendable,
-    EF: ExtensionField<Val>,
-    InputMmcs: Mmcs<Val>,
-    FriMmcs: Mmcs<EF>,
-    C: ChallengerState,
-{
-    // From the first state of a challenger the proof of the statement is accepted, which leaves the
+/// `⟦<CirclePcs<Val, InputMmcs, FriMmcs> as StarkRelation<EF, C>>⟧.accepts`.
+pub trait StarkRelation<EF, C: ChallengerState> {
+    /// The entries of a trace.
+    type Entry;
+
+    /// The proofs.
+    type Proof;
+
+    /// Why the scheme refuses claimed values.
+    type Error;
+
+    // From the state of the first challenger the proof of the statement is accepted, which leaves
+    // that of the second.
+    ghost accepts: { Self → StarkStatement Self.Entry → C → C → Self.Proof → Type 0 };
+
+    // So for some state that is left.
+    ghost holds: { Self → StarkStatement Self.Entry → Self.Proof → C → Type 0 };
+
+    // From the state of the first challenger it is seeded, and the proof of the statement, of a
+    // quotient in so many chunks by their logarithm, is refused for this reason, which leaves that
+    // of the second.
+    ghost refuses_seeded: { Self → StarkStatement Self.Entry → Self.Proof → ℕ → C → C
+        → StarkError Self.Error → Type 0 };
+
+    // From the first challenger the proof of the statement is refused for this reason, which leaves
+    // the second.
+    ghost refuses: { Self → StarkStatement Self.Entry → Self.Proof → C → C → StarkError Self.Error
+        → Type 0 };
+
+    // From the state of the first challenger rows that satisfy the statement are not proved for
+    // this reason, which leaves that of the second.
+    ghost unopened: { Self → StarkStatement Self.Entry → RowMajorMatrix Self.Entry → C → C
+        → StarkProverError → Type 0 };
+
+    // From the first challenger there is no proof of the trace for this reason, which leaves the
     // second.
-    ghost accepts: { Self → StarkStatement Val → StarkProof Val EF InputMmcs FriMmcs
-        InputMmcs.Commitment InputMmcs.ProverData InputMmcs.MultiProof InputMmcs.Error
-        FriMmcs.Commitment FriMmcs.ProverData FriMmcs.MultiProof FriMmcs.Error → C.State → C.State
-        → Type 0 };
+    ghost unproved: { Self → StarkTrace Self.Entry → C → C → StarkProverError → Type 0 };
 
-    // From the first state the challenger is seeded, and the proof of the statement, of a quotient
-    // in so many chunks by their logarithm, is refused for this reason, which leaves the second.
-    ghost refuses_seeded: { Self → StarkStatement Val → StarkProof Val EF InputMmcs FriMmcs
-        InputMmcs.Commitment InputMmcs.ProverData InputMmcs.MultiProof InputMmcs.Error
-        FriMmcs.Commitment FriMmcs.ProverData FriMmcs.MultiProof FriMmcs.Error → ℕ → C.State
-        → C.State → StarkError (FriError FriMmcs.Error (InputError InputMmcs.Error FriMmcs.Error))
+    // From the state of the challenger the proof of the statement opens these rows: the values are
+    // those of their polynomials.
+    ghost opens: { Self → StarkStatement Self.Entry → RowMajorMatrix Self.Entry → C → Self.Proof
         → Type 0 };
-
-    // From the first state of a challenger the proof of the statement is refused for this reason,
-    // which leaves the second.
-    ghost refuses: { Self → StarkStatement Val → StarkProof Val EF InputMmcs FriMmcs
-        InputMmcs.Commitment InputMmcs.ProverData InputMmcs.MultiProof InputMmcs.Error
-        FriMmcs.Commitment FriMmcs.ProverData FriMmcs.MultiProof FriMmcs.Error → C.State → C.State
-        → StarkError (FriError FriMmcs.Error (InputError InputMmcs.Error FriMmcs.Error)) → Type 0 };
 }
 
-impl<Val, EF, InputMmcs, FriMmcs, C> StarkRelation<Val, EF, InputMmcs, FriMmcs, C>
-    for CirclePcs<Val, InputMmcs, FriMmcs>
+impl<Val, EF, InputMmcs, FriMmcs, C> StarkRelation<EF, C> for CirclePcs<Val, InputMmcs, FriMmcs>
 where
     Val: ComplexExtendable + ElementBytes,
     EF: ExtensionField<Val>,
@@ -67,24 +82,40 @@ where
         + CanObserve<InputMmcs::Commitment>
         + CanObserve<FriMmcs::Commitment>,
 {
-    ghost accepts = { λ pcs statement proof. StarkAccepts ⟦<EF as OverCircle<Val>>⟧.fields
-        pcs.fri_params ⟦<C as RunChallenger<Val, EF, InputMmcs::Commitment>>⟧.run
+    type Entry = Val;
+
+    type Proof = StarkProof<Val, EF, InputMmcs, FriMmcs>;
+
+    type Error = VerifierError<InputMmcs::Error, FriMmcs::Error>;
+
+    ghost accepts = { λ pcs statement old new proof. StarkAccepts
+        ⟦<EF as OverCircle<Val>>⟧.fields pcs.fri_params
+        ⟦<C as RunChallenger<Val, EF, InputMmcs::Commitment>>⟧.run
         ⟦<C as RunChallenger<Val, EF, FriMmcs::Commitment>>⟧.run
         (InputMmcs.authenticates pcs.mmcs) (FriMmcs.authenticates pcs.fri_params.mmcs)
         (described_by Val.bytes Val.BYTES (statement_of statement)) (statement_of statement)
-        (proved_of proof) };
+        (proved_of proof) (C.state old) (C.state new) };
 
-    ghost refuses_seeded = { λ pcs statement proof k. IsRefusedFor ⟦<EF as OverCircle<Val>>⟧.fields
-        pcs.fri_params ⟦<C as RunChallenger<Val, EF, InputMmcs::Commitment>>⟧.run
+    ghost holds = { λ pcs statement proof old. (left : C.State) × StarkAccepts
+        ⟦<EF as OverCircle<Val>>⟧.fields pcs.fri_params
+        ⟦<C as RunChallenger<Val, EF, InputMmcs::Commitment>>⟧.run
+        ⟦<C as RunChallenger<Val, EF, FriMmcs::Commitment>>⟧.run
+        (InputMmcs.authenticates pcs.mmcs) (FriMmcs.authenticates pcs.fri_params.mmcs)
+        (described_by Val.bytes Val.BYTES (statement_of statement)) (statement_of statement)
+        (proved_of proof) (C.state old) left };
+
+    ghost refuses_seeded = { λ pcs statement proof kk old new. IsRefusedFor
+        ⟦<EF as OverCircle<Val>>⟧.fields pcs.fri_params
+        ⟦<C as RunChallenger<Val, EF, InputMmcs::Commitment>>⟧.run
         ⟦<C as RunChallenger<Val, EF, FriMmcs::Commitment>>⟧.run
         (InputMmcs.authenticates pcs.mmcs) (FriMmcs.authenticates pcs.fri_params.mmcs)
         (IsOpeningRefused (⟦<Self as Pcs<EF, C>>⟧.verify_refuses pcs) proof.opening_proof)
         (described_by Val.bytes Val.BYTES (statement_of statement)) (statement_of statement)
-        (proved_of proof) k };
+        (proved_of proof) kk (C.state old) (C.state new) };
 
-    ghost refuses = { λ pcs statement proof old new e. (k : ℕ) →
-        IsLogOfChunks (degree_of_parts (statement_of statement).parts) k →
-        IsFirstFrom (stark_tests Val.CIRCLE_TWO_ADICITY pcs.fri_params k EF.DEGREE
+    ghost refuses = { λ pcs statement proof old new e. (kk : ℕ) →
+        IsLogOfChunks (degree_of_parts (statement_of statement).parts) kk →
+        IsFirstFrom (stark_tests Val.CIRCLE_TWO_ADICITY pcs.fri_params kk EF.DEGREE
         (statement_of statement) (values_of proof.opened_values))
         (IsRefusedFor ⟦<EF as OverCircle<Val>>⟧.fields
         pcs.fri_params ⟦<C as RunChallenger<Val, EF, InputMmcs::Commitment>>⟧.run
@@ -92,5 +123,27 @@ where
         (InputMmcs.authenticates pcs.mmcs) (FriMmcs.authenticates pcs.fri_params.mmcs)
         (IsOpeningRefused (⟦<Self as Pcs<EF, C>>⟧.verify_refuses pcs) proof.opening_proof)
         (described_by Val.bytes Val.BYTES (statement_of statement)) (statement_of statement)
-        (proved_of proof) k old new) old new e };
+        (proved_of proof) kk (C.state old) (C.state new)) (C.state old) (C.state new) e };
+
+    ghost unopened = { λ pcs statement rows old new e. (kk : ℕ) →
+        IsLogOfChunks (degree_of_parts (statement_of statement).parts) kk →
+        IsUnprovedFor Val.Operations ⟦<EF as OverCircle<Val>>⟧.fields
+        ⟦<C as RunChallenger<Val, EF, InputMmcs::Commitment>>⟧.run pcs.fri_params.log_blowup
+        (InputMmcs.commits pcs.mmcs) InputMmcs.matrices (⟦<Self as Pcs<EF, C>>⟧.open_refuses pcs)
+        (described_by Val.bytes Val.BYTES (statement_of statement)) (statement_of statement) kk
+        rows (C.state old) (C.state new) e };
+
+    ghost unproved = { λ pcs trace old new e. (kk : ℕ) →
+        IsLogOfChunks (degree_of_parts (stated trace).parts) kk →
+        IsFirstFrom (tests_of_trace Val.CIRCLE_TWO_ADICITY pcs.fri_params kk trace)
+        (IsTraceUnprovedFor Val.Operations ⟦<EF as OverCircle<Val>>⟧.fields
+        ⟦<C as RunChallenger<Val, EF, InputMmcs::Commitment>>⟧.run pcs.fri_params.log_blowup
+        (InputMmcs.commits pcs.mmcs) InputMmcs.matrices (⟦<Self as Pcs<EF, C>>⟧.open_refuses pcs)
+        (described_by Val.bytes Val.BYTES (stated trace)) (stated trace) kk
+        trace.rows C.state old new) old new e };
+
+    ghost opens = { λ pcs statement rows old proof. OpensRows Val.Operations
+        ⟦<EF as OverCircle<Val>>⟧.fields ⟦<C as RunChallenger<Val, EF, InputMmcs::Commitment>>⟧.run
+        (described_by Val.bytes Val.BYTES (statement_of statement)) statement.log_n rows
+        (C.state old) (proved_of proof) };
 }

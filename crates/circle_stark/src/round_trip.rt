@@ -3,7 +3,7 @@ ghost use Rattle.std.specs.Prelude.{◌≡◌, IfErr, IfOk, OnErr, OnOk};
 ghost use Rattle.circle_air.specs.Satisfies.{Satisfies};
 ghost use Rattle.circle_commit.specs.RowMajorMatrix.{rows as rows_of};
 ghost use Rattle.circle_stark.specs.Trace.{stated, statement_by};
-ghost use Rattle.circle_stark.specs.RoundTrip.{unverified};
+ghost use Rattle.circle_stark.specs.RoundTrip.{IsOfProver, unverified};
 ghost use Rattle.circle_stark.specs.declared.round_trip.StarkRoundTripError.TheVariants.{Verify};
 
 use crate::error::{StarkError, StarkProverError};
@@ -67,11 +67,14 @@ where
     requires same { C.state prover.old ≡ C.state verifier.old }
     ensures satisfied { OnOk result (Satisfies Val.ops (stated trace.entry).parts
         (rows_of trace.entry.rows) (stated trace.entry).public_values) }
-    ensures accepted { let p = ⟦<CirclePcs<Val, InputMmcs, FriMmcs> as StarkRelation<Val, EF, InputMmcs, FriMmcs, C>>⟧ in
-        IfOk result (λ proof. p.accepts pcs.now (statement_by trace.entry) proof
-        (C.state prover.old) (C.state prover.new)) }
+    ensures accepted { let p = ⟦<CirclePcs<Val, InputMmcs, FriMmcs> as StarkRelation<EF, C>>⟧ in
+        IfOk result (p.accepts pcs.now (statement_by trace.entry) prover.old prover.new) }
+    ensures values { let p = ⟦<CirclePcs<Val, InputMmcs, FriMmcs> as StarkRelation<EF, C>>⟧ in
+        IfOk result (p.opens pcs.now (statement_by trace.entry) trace.entry.rows prover.old) }
     ensures states { OnOk result (C.state prover.new ≡ C.state verifier.new) }
     ensures complete { IfErr result (λ e. (error : _) → e ≡ Verify error → ⊥) }
+    ensures reason { let p = ⟦<CirclePcs<Val, InputMmcs, FriMmcs> as StarkRelation<EF, C>>⟧ in
+        IfErr result (IsOfProver (p.unproved pcs.now trace.entry prover.old prover.new)) }
 {
     let (air, public_values) = (trace.air, trace.public_values);
     let height = trace.rows.height();

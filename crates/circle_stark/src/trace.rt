@@ -1,5 +1,5 @@
 //! The trace of which a proof is made, and what is refused of it before the challenger is seeded.
-ghost use Rattle.std.specs.Prelude.{◌≡◌, ◌^◌, ◌≤◌, ℕ, IfOk};
+ghost use Rattle.std.specs.Prelude.{◌≡◌, ◌^◌, ◌≤◌, ℕ, IfErr, IfOk};
 ghost use Rattle.circle_air.specs.Air.{air_of};
 ghost use Rattle.circle_air.specs.Degrees.{IsLogOfChunks, degree_of_parts};
 ghost use Rattle.circle_commit.specs.RowMajorMatrix.{height_of, width_of};
@@ -7,7 +7,8 @@ ghost use Rattle.circle_prover.specs.Requesting.{is_unfit};
 ghost use Rattle.circle_relation.specs.TestsInOrder.{answer};
 ghost use Rattle.circle_stark.specs.Provable.{IsProvable};
 ghost use Rattle.circle_stark.specs.Refusals.{IsTested};
-ghost use Rattle.circle_stark.specs.Trace.{shape_tests, size_tests, stated, trace_tests};
+ghost use Rattle.circle_stark.specs.Trace.{IsNoViolation, shape_tests, size_tests, stated};
+ghost use Rattle.circle_stark.specs.Trace.{tests_of_trace};
 
 use crate::error::StarkProverError;
 use crate::statement::{first_longer, is_too_large, is_too_small};
@@ -106,8 +107,8 @@ pub(crate) fn validated_sizes<F: ComplexExtendable, M>(
     trace: &StarkTrace<F>,
 ) -> Result<TraceSizes, StarkProverError>
     ensures tested { (k : ℕ) → IsLogOfChunks (degree_of_parts (air_of trace.now.air.now)) k →
-        IsTested (trace_tests F.CIRCLE_TWO_ADICITY params.now k (stated trace.now)
-        (width_of trace.now.rows) (height_of trace.now.rows)) result }
+        IsTested (tests_of_trace F.CIRCLE_TWO_ADICITY params.now k trace.now) result }
+    ensures early { IfErr result IsNoViolation }
     ensures height { IfOk result (λ sizes. height_of trace.now.rows ≡ 2 ^ sizes.log_n) }
     ensures log_n { IfOk result (λ sizes. sizes.log_n ≡ (stated trace.now).log_n) }
     ensures provable { IfOk result (λ sizes. IsProvable F.CIRCLE_TWO_ADICITY params.now

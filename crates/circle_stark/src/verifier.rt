@@ -120,12 +120,13 @@ where
         (statement_of statement.now) log_chunks }
     requires shape { HasShape EF.DEGREE (statement_of statement.now).parts.width log_chunks
         (values_of proof.now.opened_values) }
-    ensures accepted { let p = ⟦<CirclePcs<Val, InputMmcs, FriMmcs> as StarkRelation<Val, EF, InputMmcs, FriMmcs, C>>⟧ in OnOk result (p.accepts pcs.now statement.now proof.now
-        (C.state challenger.old) (C.state challenger.new)) }
-    ensures complete { IfErr result (λ e. (t : C.State) → ⟦<CirclePcs<Val, InputMmcs, FriMmcs> as StarkRelation<Val, EF, InputMmcs, FriMmcs, C>>⟧.accepts pcs.now statement.now proof.now
-        (C.state challenger.old) t → e ≡ Memory) }
-    ensures reason { let p = ⟦<CirclePcs<Val, InputMmcs, FriMmcs> as StarkRelation<Val, EF, InputMmcs, FriMmcs, C>>⟧ in IfErr result (p.refuses_seeded pcs.now statement.now proof.now
-        log_chunks (C.state challenger.old) (C.state challenger.new)) }
+    ensures accepted { let p = ⟦<CirclePcs<Val, InputMmcs, FriMmcs> as StarkRelation<EF, C>>⟧ in
+        OnOk result (p.accepts pcs.now statement.now challenger.old challenger.new proof.now) }
+    ensures complete { let p = ⟦<CirclePcs<Val, InputMmcs, FriMmcs> as StarkRelation<EF, C>>⟧ in
+        IfErr result (λ e. p.holds pcs.now statement.now proof.now challenger.old → e ≡ Memory) }
+    ensures reason { let p = ⟦<CirclePcs<Val, InputMmcs, FriMmcs> as StarkRelation<EF, C>>⟧ in
+        IfErr result (p.refuses_seeded pcs.now statement.now proof.now log_chunks challenger.old
+        challenger.new) }
 {
     let log_n = statement.log_n;
     let trace = &proof.trace_commitment;
@@ -165,10 +166,10 @@ where
 /// `QuotientChunkCount`, and `QuotientChunkLength` of the first chunk that hasn't a value for each
 /// coefficient of an element.
 ///
-/// Then `UnfitPoint` where the drawn point can't be opened, with the challenger as the draw left it;
-/// `InvalidOpening` with what the scheme's verifier returns; and `OodEvaluationMismatch` where the
-/// constraints at the point aren't the quotient times the vanishing polynomial. `Memory` where an
-/// allocation is refused. An Ok leaves the challenger as the scheme's verifier does.
+/// Then `UnfitPoint` where the drawn point can't be opened, with the challenger as the draw left
+/// it; `InvalidOpening` with what the scheme's verifier returns; and `OodEvaluationMismatch` where
+/// the constraints at the point aren't the quotient times the vanishing polynomial. `Memory` where
+/// an allocation is refused. An Ok leaves the challenger as the scheme's verifier does.
 pub fn verify<Val, EF, InputMmcs, FriMmcs, C>(
     alloc: Global,
     pcs: &CirclePcs<Val, InputMmcs, FriMmcs>,
@@ -187,14 +188,13 @@ where
         + CanObserve<InputMmcs::Commitment>
         + CanObserve<FriMmcs::Commitment>,
     ensures first { IsFirstRefusal Val.CIRCLE_TWO_ADICITY pcs.now.fri_params EF.DEGREE
-        (statement_of statement.entry) (values_of proof.now.opened_values) result challenger.old
-        challenger.new }
-    ensures accepted { let p = ⟦<CirclePcs<Val, InputMmcs, FriMmcs> as StarkRelation<Val, EF, InputMmcs, FriMmcs, C>>⟧ in OnOk result (p.accepts pcs.now statement.entry proof.now
-        (C.state challenger.old) (C.state challenger.new)) }
-    ensures complete { IfErr result (λ e. (t : C.State) → ⟦<CirclePcs<Val, InputMmcs, FriMmcs> as StarkRelation<Val, EF, InputMmcs, FriMmcs, C>>⟧.accepts pcs.now statement.entry proof.now
-        (C.state challenger.old) t → e ≡ Memory) }
-    ensures reason { let p = ⟦<CirclePcs<Val, InputMmcs, FriMmcs> as StarkRelation<Val, EF, InputMmcs, FriMmcs, C>>⟧ in IfErr result (p.refuses pcs.now statement.entry proof.now
-        (C.state challenger.old) (C.state challenger.new)) }
+        statement.entry proof.now.opened_values result challenger.old challenger.new }
+    ensures accepted { let p = ⟦<CirclePcs<Val, InputMmcs, FriMmcs> as StarkRelation<EF, C>>⟧ in
+        OnOk result (p.accepts pcs.now statement.entry challenger.old challenger.new proof.now) }
+    ensures complete { let p = ⟦<CirclePcs<Val, InputMmcs, FriMmcs> as StarkRelation<EF, C>>⟧ in
+        IfErr result (λ e. p.holds pcs.now statement.entry proof.now challenger.old → e ≡ Memory) }
+    ensures reason { let p = ⟦<CirclePcs<Val, InputMmcs, FriMmcs> as StarkRelation<EF, C>>⟧ in
+        IfErr result (p.refuses pcs.now statement.entry proof.now challenger.old challenger.new) }
 {
     let log_chunks = validate(&pcs.fri_params, &statement, proof)?;
     verify_seeded(alloc, pcs, &statement, log_chunks, proof, challenger)

@@ -53,8 +53,9 @@ returns-in_err-values-clause-unopened g c =
     counted n (c.requires.chunks n c.log_num_quotient_chunks-num_chunks.ensures)
     ∙ ap (λ i. 2 ^ i) same in
     let why = c.in_err-values.ensures.refused in
-    unopened-for (fields g) _ c.args.statement.now.log_n (2 ^ kk) zeta _ _
-    c.in_ok-requests.requests.items
+    let run = c.args.run.now in
+    unopened-for (fields g) _ c.args.statement.now.log_n (2 ^ kk) run.trace_data run.quotient_data
+    zeta _ _ c.in_ok-requests.requests.items c.in_ok-requests.ensures.kept
     (c.in_ok-requests.ensures.points
     ∙ ap (λ i. ((zeta ∷ c.in-Some.next ∷ []) ∷ []) ∷ replicate i (zeta ∷ []) ∷ []) count
     ∙ ap (λ t. ((zeta ∷ t ∷ []) ∷ []) ∷ replicate (2 ^ kk) (zeta ∷ []) ∷ []) c.in-Some.ensures.next)

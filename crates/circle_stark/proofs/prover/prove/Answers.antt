@@ -1,6 +1,6 @@
-use Rattle.std.proofs.Common.{◌∙◌, ◌^◌, ℕ, ap, subst, sym}
+use Rattle.std.proofs.Common.{◌∙◌, ◌^◌, ℕ, ap, inl, inr, refl, subst, sym}
 use Rattle.std.proofs.lemmas.Result.{IfErr-weaker}
-use Rattle.std.specs.Prelude.{IfErr, IfOk, List}
+use Rattle.std.specs.Prelude.{IfOk, List}
 use Rattle.circle_commit.specs.declared.pcs.OpeningRequest.{OpeningRequest}
 use Rattle.circle_prover.specs.Opening.{IsFailure}
 use Rattle.circle_prover.specs.Requesting.{opening_tests}
@@ -12,11 +12,15 @@ use Rattle.circle_challenger.specs.Moves.{RunMoves, run_moves}
 use Rattle.circle_field.specs.Field.{of_nat}
 use Rattle.circle_relation.specs.Accepts.{Fields}
 use Rattle.circle_stark.specs.Accepts.{StarkAccepts}
+use Rattle.circle_stark.specs.OpensRows.{OpensRows}
 use Rattle.circle_stark.specs.Provable.{IsProvable}
 use Rattle.circle_stark.specs.Statement.{Statement, described_by, proved_of}
-use Rattle.circle_stark.specs.Unproved.{IsUnprovedFor}
+use Rattle.circle_stark.specs.Unproved.{IsTraceUnprovedFor}
 use Rattle.circle_stark.proofs.Passing.{same-log}
-use Rattle.circle_stark.proofs.Unopened.{none-first, on-ok, violated-by}
+use Rattle.circle_stark.proofs.Unopened.{after-tests, at-first, found-violation, named-violation}
+use Rattle.circle_stark.proofs.Unopened.{no-violation, none-first, none-found, of-satisfied}
+use Rattle.circle_stark.proofs.Unopened.{on-ok, unopened-violation}
+use Rattle.circle_stark.proofs.Verdicts.{refuses-with}
 use Rattle.circle_stark.proofs.prover.prove.Given
 use Rattle.circle_stark.proofs.prover.prove.Goals as goal
 
@@ -80,26 +84,60 @@ returns-clause-accepted g c =
     (g.C.ChallengerState.state c.prove_satisfied.new.challenger)))
     c.in_ok-sizes.ensures.log_n c.prove_satisfied.ensures.accepted
 
+pub returns-in_err-sizes-clause-unsatisfied : goal.returns-in_err-sizes-clause-unsatisfied
+returns-in_err-sizes-clause-unsatisfied g c =
+    let e = c.in_err-sizes.field-0.0 in
+    refuses-with _ c.from_residual.result e c.from_residual.ensures.1
+    (λ v is. absurd (no-violation e v.row v.constraint c.in_err-sizes.ensures.early is))
+
+pub returns-in_err-sizes-clause-reason : goal.returns-in_err-sizes-clause-reason
+returns-in_err-sizes-clause-reason g c =
+    let e = c.in_err-sizes.field-0.0 in
+    refuses-with _ c.from_residual.result e c.from_residual.ensures.1
+    (λ kk log. at-first _ _ _ e (c.in_err-sizes.ensures.tested kk log) (refl, refl))
+
 pub returns-in-Some-clause-first : goal.returns-in-Some-clause-first
 returns-in-Some-clause-first g c = λ k log.
     none-first _ _ _ (c.in_ok-sizes.ensures.tested k log)
 
-pub returns-in-Some-clause-reason : goal.returns-in-Some-clause-reason
-returns-in-Some-clause-reason g c = λ kk log passed satisfied.
+pub returns-in-Some-clause-unsatisfied : goal.returns-in-Some-clause-unsatisfied
+returns-in-Some-clause-unsatisfied g c = λ v is.
     let t = c.args.trace in
-    absurd
-    (violated-by g.Val.Operations.ops (air_of t.air.now) (rows t.rows) t.public_values.now _
-    c.in-Some.violation c.in-Some.is c.in_ok-violation.ensures satisfied)
+    let found = found-violation g.Val.Operations.ops (air_of t.air.now) (rows t.rows)
+    t.public_values.now _ c.in-Some.violation c.in-Some.is c.in_ok-violation.ensures in (
+      named-violation g.Val.Operations.ops (air_of t.air.now) (rows t.rows) t.public_values.now
+          c.in-Some.violation v found is,
+      refl,
+    )
+
+pub returns-in-Some-clause-reason : goal.returns-in-Some-clause-reason
+returns-in-Some-clause-reason g c = λ kk log.
+    let t = c.args.trace in
+    after-tests _ _ _ (c.in_ok-sizes.ensures.tested kk log) (inr (inl record {
+      violation = c.in-Some.violation;
+      named = refl;
+      first =
+          found-violation g.Val.Operations.ops (air_of t.air.now) (rows t.rows)
+          t.public_values.now _ c.in-Some.violation c.in-Some.is c.in_ok-violation.ensures;
+      same = refl;
+    }))
 
 pub returns-clause-height : goal.returns-clause-height
 returns-clause-height g c =
     on-ok c.prove_satisfied.result
     (c.in_ok-sizes.ensures.height ∙ ap (λ i. 2 ^ i) c.in_ok-sizes.ensures.log_n)
 
+pub returns-clause-unsatisfied : goal.returns-clause-unsatisfied
+returns-clause-unsatisfied g c =
+    IfErr-weaker c.prove_satisfied.result _ _
+    (λ e h v is. absurd
+    (unopened-violation _ (fields g) (own g) _ _ _ _ _ _ _ _ _ _ e v.row v.constraint
+    (h c.in_ok-sizes.sizes.log_chunks c.in_ok-sizes.ensures.provable.domains.chunks) is))
+    c.prove_satisfied.ensures.reason
+
 pub returns-clause-reason : goal.returns-clause-reason
-returns-clause-reason g c = λ kk log passed satisfied.
+returns-clause-reason g c =
     let t = c.args.trace in
-    let s = g.C.ChallengerState.state in
     let at : ℕ → Statement g.row.Val.Denot = λ i.
     record { parts = air_of t.air.now; log_n = i; public_values = t.public_values.now } in
     let params = c.args.pcs.now.fri_params in
@@ -109,8 +147,29 @@ returns-clause-reason g c = λ kk log passed satisfied.
     IsFirstFrom (opening_tests kept requests g.Val.ComplexExtendable.CIRCLE_TWO_ADICITY params
     (fields g) g.EF.PartialEq.eq) (IsFailure (fields g) (words g) params
     (g.FriMmcs.Mmcs.commits params.mmcs) kept requests old) old in
+    IfErr-weaker c.prove_satisfied.result _ _
+    (λ e h kk log.
+    let satisfied = none-found g.Val.Operations.ops (air_of t.air.now) (rows t.rows)
+    t.public_values.now _ c.in-None.is c.in_ok-violation.ensures in
+    let Why = λ (i : ℕ). IsTraceUnprovedFor g.Val.Operations (fields g) (own g) params.log_blowup
+    (g.InputMmcs.Mmcs.commits c.args.pcs.now.mmcs) kept Refuses
+    (described_by g.Val.ElementBytes.bytes g.Val.ElementBytes.BYTES (at i)) (at i) kk t.rows
+    g.C.ChallengerState.state c.args.challenger.now c.prove_satisfied.new.challenger in
+    after-tests _ _ _ (c.in_ok-sizes.ensures.tested kk log)
+    (subst (λ i. Why i e) c.in_ok-sizes.ensures.log_n
+    (of-satisfied g.Val.Operations (fields g) (own g) _ _ kept Refuses _
+    (at c.in_ok-sizes.sizes.log_n) kk t.rows
+    g.C.ChallengerState.state c.args.challenger.now c.prove_satisfied.new.challenger e
+    satisfied (h kk log))))
+    c.prove_satisfied.ensures.reason
+
+pub returns-clause-values : goal.returns-clause-values
+returns-clause-values g c =
+    let t = c.args.trace in
+    let at : ℕ → Statement g.row.Val.Denot = λ i.
+    record { parts = air_of t.air.now; log_n = i; public_values = t.public_values.now } in
     subst
-    (λ i. IfErr c.prove_satisfied.result (λ e. IsUnprovedFor (fields g) Refuses i (2 ^ kk) (own g)
-    (described_by g.Val.ElementBytes.bytes g.Val.ElementBytes.BYTES (at i))
-    (s c.args.challenger.now) (s c.prove_satisfied.new.challenger) e)) c.in_ok-sizes.ensures.log_n
-    (IfErr-weaker c.prove_satisfied.result _ _ (λ e h. h kk log) c.prove_satisfied.ensures.reason)
+    (λ i. IfOk c.prove_satisfied.result (λ proof. OpensRows g.Val.Operations (fields g) (own g)
+    (described_by g.Val.ElementBytes.bytes g.Val.ElementBytes.BYTES (at i)) i t.rows
+    (g.C.ChallengerState.state c.args.challenger.now) (proved_of proof)))
+    c.in_ok-sizes.ensures.log_n c.prove_satisfied.ensures.values

@@ -1,12 +1,11 @@
-use Rattle.std.proofs.Common.{[], ◌∷◌, ◌^◌}
+use Rattle.std.proofs.Common.{[], ◌∷◌, inr}
 use Rattle.circle_air.specs.Air.{air_of}
 use Rattle.circle_air.specs.Valid.{valid}
 use Rattle.circle_challenger.specs.Moves.{RunMoves, run_moves}
 use Rattle.circle_field.specs.Field.{of_nat}
 use Rattle.circle_relation.specs.Accepts.{Fields}
 use Rattle.circle_stark.specs.Statement.{described_by, statement_of, values_of}
-use Rattle.circle_stark.proofs.HonestRun.{accepted, shape}
-use Rattle.circle_stark.proofs.Unopened.{unproved-by}
+use Rattle.circle_stark.proofs.HonestRun.{accepted, opened-rows, shape}
 use Rattle.circle_stark.proofs.Verdicts.{refuses-with}
 use Rattle.p3_circle.specs.SchemeFacts.{extended-powers}
 use Rattle.circle_stark.proofs.prover.prove_satisfied.Given
@@ -93,9 +92,19 @@ returns-in_err-opened_values-clause-reason g c =
     let run = c.in_ok-run.run' in
     refuses-with _ c.from_residual-in_err-opened_values.result e
     c.from_residual-in_err-opened_values.ensures.1
-    (λ kk log. unproved-by (fields g) _ c.args.statement.now.log_n (2 ^ kk) (own g) _
-    run.trace_commitment run.quotient_commitment run.drawn.alpha run.drawn.zeta _ _ _ e
-    c.in_ok-run.ensures.drawn (c.in_err-opened_values.ensures.unopened kk log))
+    (λ kk log. inr record {
+      trace = run.trace_commitment;
+      trace_data = run.trace_data;
+      quotient = run.quotient_commitment;
+      quotient_data = run.quotient_data;
+      alpha = run.drawn.alpha;
+      zeta = run.drawn.zeta;
+      between = _;
+      trace_committed = c.in_ok-run.ensures.trace;
+      quotient_committed = c.in_ok-run.ensures.quotient kk log;
+      drawn = c.in_ok-run.ensures.drawn;
+      unopened = c.in_err-opened_values.ensures.unopened kk log;
+    })
 
 pub returns : goal.returns
 returns g c =
@@ -122,6 +131,23 @@ returns g c =
           c.in_ok-opened_values.opening_proof _ _ (c.in_ok-opened_values.ensures.opened kk log)
           c.in_ok-opened_values.ensures.next sides.composition sides.quotient
           c.in_ok-_sides.ensures.composed c.in_ok-_sides.ensures.recomposed
+          (described_by g.Val.ElementBytes.bytes g.Val.ElementBytes.BYTES s) _
+          c.in_ok-run.ensures.drawn;
+      values = opened-rows (fields g) g.Val.Operations.laws g.EF.Operations.laws
+          g.met.EF.ExtensionField.embedding g.met.Val.ComplexExtendable.generators_law
+          g.met.Val.ComplexExtendable.at_most_62 (own g) (words g) g.met.C.CanSampleBits.bits_below
+          g.met.EF.ExtensionField.are_coefficients c.args.pcs.now.fri_params
+          g.InputMmcs.Mmcs.matrices (g.InputMmcs.Mmcs.commits c.args.pcs.now.mmcs)
+          (g.InputMmcs.Mmcs.authenticates c.args.pcs.now.mmcs)
+          (g.FriMmcs.Mmcs.commits c.args.pcs.now.fri_params.mmcs)
+          (g.FriMmcs.Mmcs.authenticates c.args.pcs.now.fri_params.mmcs) s kk
+          (c.requires.provable kk log)
+          (valid (air_of c.args.statement.now.air.now) c.args.statement.now.air.now.valid)
+          c.args.rows c.requires.width c.requires.satisfied run.trace_data run.quotient_data
+          run.trace_commitment run.quotient_commitment run.drawn.alpha run.drawn.zeta
+          c.in_ok-run.ensures.trace (c.in_ok-run.ensures.quotient kk log)
+          c.in_ok-opened_values.ensures.fit (values_of c.in_ok-opened_values.opened_values)
+          c.in_ok-opened_values.opening_proof _ _ (c.in_ok-opened_values.ensures.opened kk log)
           (described_by g.Val.ElementBytes.bytes g.Val.ElementBytes.BYTES s) _
           c.in_ok-run.ensures.drawn;
     }

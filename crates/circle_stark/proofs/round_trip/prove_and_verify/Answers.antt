@@ -6,7 +6,7 @@ use Rattle.circle_relation.specs.Accepts.{Fields}
 use Rattle.circle_stark.specs.Accepts.{StarkAccepts}
 use Rattle.circle_stark.specs.Statement.{Statement, described_by, proved_of}
 use Rattle.circle_stark.specs.Trace.{stated}
-use Rattle.circle_stark.specs.RoundTrip.{unverified}
+use Rattle.circle_stark.specs.RoundTrip.{IsOfProver, unverified}
 use Rattle.circle_stark.proofs.Verdicts.{accepted-state, never-verify}
 use Rattle.circle_stark.proofs.round_trip.prove_and_verify.Given
 use Rattle.circle_stark.proofs.round_trip.prove_and_verify.Goals as goal
@@ -73,8 +73,8 @@ returns-in-Ok-verify-clause-states g c =
     checked.zeta checked.between checked.drawn (s c.verify.new.challenger) checked
     (s c.prove.new.challenger) proved
 
-pub returns-in-Err-verify-clause-complete : goal.returns-in-Err-verify-clause-complete
-returns-in-Err-verify-clause-complete g c = λ error same.
+pub returns-in-Err-verify : goal.returns-in-Err-verify
+returns-in-Err-verify g c =
     let t = c.args.trace in
     let s = g.C.ChallengerState.state in
     let log = c.log2_strict.ensures.only (stated t).log_n
@@ -87,8 +87,17 @@ returns-in-Err-verify-clause-complete g c = λ error same.
     (g.FriMmcs.Mmcs.authenticates c.args.pcs.now.fri_params.mmcs)
     (described_by g.Val.ElementBytes.bytes g.Val.ElementBytes.BYTES (at i)) (at i)
     (proved_of c.in-Ok.proof) old new in
-    let memory = c.in-Err-verify.ensures.complete (s c.prove.new.challenger)
-    (subst (λ old. Accepted c.log2_strict.result old (s c.prove.new.challenger)) c.requires.same
-    (subst (λ i. Accepted i (s c.args.prover.now) (s c.prove.new.challenger)) (sym log)
-    c.in-Ok.ensures.accepted)) in
-    never-verify error (sym (ap unverified memory) ∙ sym c.unverified.ensures ∙ same)
+    let memory = c.in-Err-verify.ensures.complete (
+      s c.prove.new.challenger,
+      subst (λ old. Accepted c.log2_strict.result old (s c.prove.new.challenger)) c.requires.same
+          (subst (λ i. Accepted i (s c.args.prover.now) (s c.prove.new.challenger)) (sym log)
+          c.in-Ok.ensures.accepted),
+    ) in
+    let is = sym (ap unverified memory) ∙ sym c.unverified.ensures in record {
+      satisfied = tt;
+      accepted = tt;
+      values = tt;
+      states = tt;
+      complete = λ error same. never-verify error (is ∙ same);
+      reason = subst (IsOfProver _) is tt;
+    }

@@ -5,8 +5,8 @@ use Rattle.circle_stark.proofs.verifier.verify.Goals as goal
 pub returns-in_err-log_chunks-clause-complete : goal.returns-in_err-log_chunks-clause-complete
 returns-in_err-log_chunks-clause-complete g c =
     refuses-with _ _ c.in_err-log_chunks.field-0.0 c.from_residual.ensures.1
-    (λ t a. absurd
-    (ok-err _ _ _ (accepted-passes _ _ _ _ _ _ _ _ _ _ t a)
+    (λ h. let a = h.1 in absurd
+    (ok-err _ _ _ (accepted-passes _ _ _ _ _ _ _ _ _ _ h.0 a)
     (c.in_err-log_chunks.ensures.tested a.log_chunks a.provable.domains.chunks)))
 
 pub returns-clause-reason : goal.returns-clause-reason

@@ -22,19 +22,19 @@ fields g = record {
 }
 
 pub returns-in-None-clause-complete : goal.returns-in-None-clause-complete
-returns-in-None-clause-complete g c = λ t a.
+returns-in-None-clause-complete g c = λ h.
     let some = c.in-None.ensures.some.1
     (accepted-fit _ _ _ _ _ _ g.met.EF.ExtensionField.are_coefficients.determined _ _ _ _ _ _ _
-    c.in_ok-drawn.ensures.drawn t a) in
+    c.in_ok-drawn.ensures.drawn h.0 h.1) in
     absurd (cc)
 
 pub returns-in-Err-clause-complete : goal.returns-in-Err-clause-complete
-returns-in-Err-clause-complete g c = λ t a.
+returns-in-Err-clause-complete g c = λ h.
     let opens = accepted-opens _ _ _ _ _ _ g.met.EF.ExtensionField.are_coefficients.determined _ _ _
-    _ _ _ _ c.in_ok-drawn.ensures.drawn t a in
+    _ _ _ _ c.in_ok-drawn.ensures.drawn h.0 h.1 in
     c.refusal_of.ensures
     ∙ memory-for c.in-Err.error
-    (c.in-Err.ensures.complete t
+    (c.in-Err.ensures.complete h.0
     (accepts-of (fields g) (statement_of c.args.statement.now) (proved_of c.args.proof.now)
     c.in_ok-drawn.drawn.zeta c.in-Some.next c.in-Some.ensures.next
     (batch_claims c.in_ok-claims.claims.items) c.in_ok-claims.ensures _ _ _ _ _ _ opens))
@@ -60,10 +60,10 @@ returns-in-Err-clause-reason g c =
     })
 
 pub returns-then-not-branch-clause-complete : goal.returns-then-not-branch-clause-complete
-returns-then-not-branch-clause-complete g c = λ t a.
+returns-then-not-branch-clause-complete g c = λ h.
     let holds = c.in_ok-has_identity.ensures.1
     (accepted-identity _ _ _ _ _ _ g.met.EF.ExtensionField.are_coefficients.determined _ _ _ _ _ _ _
-    c.in_ok-drawn.ensures.drawn t a c.args.log_chunks c.requires.provable.domains.chunks) in
+    c.in_ok-drawn.ensures.drawn h.0 h.1 c.args.log_chunks c.requires.provable.domains.chunks) in
     let fails = c.if-not-branch.true in
     absurd (cc)
 

@@ -1,0 +1,30 @@
+-- What a proof opens: the values of the only polynomials that have the rows of the trace.
+use Rattle.std.specs.Prelude.{ℕ, [], ◌∷◌}
+use Rattle.circle_challenger.specs.Moves.{RunMoves}
+use Rattle.circle_commit.specs.declared.matrix.RowMajorMatrix.{RowMajorMatrix}
+use Rattle.circle_domain.specs.Domain.{IsStandardOf}
+use Rattle.circle_domain.specs.Selectors.{next_from}
+use Rattle.circle_domain.specs.declared.domain.CircleDomain.{CircleDomain}
+use Rattle.circle_field.specs.declared.field.Operations.{Ghosts}
+use Rattle.circle_point.specs.Projective.{to_line}
+use Rattle.circle_relation.specs.Accepts.{Fields}
+use Rattle.circle_stark.specs.Draw.{AreDrawn, Described}
+use Rattle.circle_stark.specs.Statement.{Proved}
+use Rattle.p3_circle.specs.Honest.{AreValuesOfRows}
+
+-- d describes the run of a trace of 2^n rows: at the zeta that is drawn from this state, and at the
+-- next point, the opened values of the trace are those of the only polynomials whose values on the
+-- standard domain are the rows
+pub record OpensRows {C S F E IC WC IP WP : Type 0} (g : Ghosts F) (k : Fields F E)
+    (own : RunMoves C S F E IC) (d : Described F) (n : ℕ) (x : RowMajorMatrix F) (old : S)
+    (p : Proved F E IC WC IP WP) : Type 0 where
+  pub alpha : E
+  pub zeta : E
+  pub between : S
+  pub drawn : AreDrawn own d p.trace p.quotient old alpha zeta between
+  pub domain : CircleDomain F g
+  pub standard : IsStandardOf k.gen n domain
+  pub values :
+      AreValuesOfRows k (domain, x)
+      (zeta ∷ to_line k.extension (next_from k.extension k.embed k.gen n zeta) ∷ [])
+      (p.opened.local ∷ p.opened.next ∷ [])
