@@ -3,8 +3,8 @@
 //! - `fibonacci_air`, `fibonacci_trace`: sums of the two entries before, over any field. The
 //!   contracts say which AIR and which rows these are, and that the rows satisfy the AIR.
 //! - `permutation_air`, `permutation_trace`: rounds of fifth powers over a state of eight elements
-//!   of `Mersenne31`. The contracts say how many columns, public values and rows there are. They
-//!   don't pin the parts and rows, and no test compares these yet.
+//!   of `Mersenne31`. The contracts say how many columns, public values and rows there are, and
+//!   tests compare the parts and the rows with those of another implementation.
 //!
 //! Its files:
 //!

@@ -1,8 +1,9 @@
 //! Chains of field operations, circle transforms, values at a point, tables of periodic columns,
-//! commitments, the challenger over SHA-256, the whole scheme and a stored proof: what they come
-//! to, or with the argument `time` how long they take.
+//! commitments, the challenger over SHA-256, the whole scheme, a stored proof and constraints on
+//! traces: what they come to, or with the argument `time` how long they take.
 #![tactic(auto)]
 
+mod airs;
 mod openings;
 mod proofs;
 
@@ -256,6 +257,12 @@ const LARGE: [Size; 9] = [
     },
 ];
 
+/// The numbers of rows of traces that are checked; their widths are those of the AIRs.
+const CHECKED: [Size; 1] = [Size {
+    log_rows: 16,
+    width: 8,
+}];
+
 /// What the program is asked for.
 enum Asked {
     /// A line for each case.
@@ -279,12 +286,13 @@ fn main(rt: HostRuntime) -> io::Result<ExitCode> {
     Ok(ExitCode::SUCCESS)
 }
 
-/// Prints the times of the widest transform, of proofs, of their compressions alone and of
-/// verifying, for matrices of ever more rows.
+/// Prints the times of the widest transform, of proofs, of their compressions alone, of verifying
+/// and of checking constraints, for matrices of ever more rows.
 fn report_growth(rt: &HostRuntime, start: Mersenne31, step: Mersenne31) -> io::Result<()> {
     let sizes = GROWING.as_slice();
     timing::report_transform(rt, Mode::Times, Transform::Extrapolate, sizes, start, step)?;
-    openings::report(rt, Mode::Times, sizes, start, step)
+    openings::report(rt, Mode::Times, sizes, start, step)?;
+    airs::report(rt, Mode::Times, sizes)
 }
 
 /// Prints a line for each case.
@@ -301,7 +309,8 @@ fn report_cases(
     let step = Cubic::from_coefficients(&[step, start.coefficient(2), step.square()]);
     timing::report(rt, mode, "Cubic", &CUBIC, start, step)?;
     hashing::report(rt, mode)?;
-    proofs::report(rt, mode)
+    proofs::report(rt, mode)?;
+    airs::report(rt, mode, mode.sizes(PROVED.as_slice(), CHECKED.as_slice()))
 }
 
 /// Prints the lines of transforms, of values at a point and of tables.

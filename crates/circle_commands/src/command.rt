@@ -60,8 +60,10 @@ pub fn read<T: Command>(alloc: Global, text: &[u8]) -> Result<T, Failure>
     Ok(T::read(alloc, &value)?)
 }
 
-// The JSON value of a text.
-fn value(alloc: Global, text: &[u8]) -> Result<Value, Failure>
+/// The JSON value of a text.
+///
+/// Fails as `Json` where the text isn't JSON, and as `Memory`.
+pub fn value(alloc: Global, text: &[u8]) -> Result<Value, Failure>
     ensures reads { IfOk result (λ value. IsJsonOf text.now (view value)) }
     ensures refuses { IfErr result (IsNotText text.now) }
 {

@@ -131,8 +131,8 @@ pub fn refuse<W: Write>(failure: &Failure, output: &mut W) -> u8
     write_line(output, failure.line().as_str().as_bytes(), failure.status())
 }
 
-// Writes the whole line at once; the status is 1 where that fails.
-fn write_line<W: Write>(output: &mut W, line: &[u8], status: u8) -> u8
+/// Writes the whole line at once, and returns the status; it is 1 where that fails.
+pub fn write_line<W: Write>(output: &mut W, line: &[u8], status: u8) -> u8
     ensures { IsWritten status line.now (W.contents output.old) (W.contents output.new) result }
 {
     if output.write_all(line).is_err() || output.flush().is_err() {

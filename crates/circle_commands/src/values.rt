@@ -160,7 +160,7 @@ fn is_on_circle(x: Mersenne31, y: Mersenne31) -> bool
 }
 
 /// Whether the rows have one length, which isn't 0.
-pub(crate) fn is_rectangular(rows: &[Vec<Mersenne31>]) -> bool
+pub fn is_rectangular(rows: &[Vec<Mersenne31>]) -> bool
     ensures { IsTrue result ↔ IsRectangular (lists rows.now) }
 {
     match rows.first() {
@@ -185,7 +185,9 @@ fn is_fitting_height(height: usize, log_n: usize) -> bool
 }
 
 /// The matrix of these rows.
-pub(crate) fn matrix(
+///
+/// Requires rows of one length, at least one. Fails where memory is refused.
+pub fn matrix(
     alloc: Global,
     rows: &[Vec<Mersenne31>],
 ) -> Result<RowMajorMatrix<Mersenne31>, AllocError>

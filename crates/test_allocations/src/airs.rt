@@ -2,6 +2,7 @@
 use crate::told::{Stage, Told, before, told};
 use anyhow::{Result, bail};
 use circle_air::{Air, AirBuilder, AirError, Place, check_constraints};
+use circle_airs::{fibonacci_air, fibonacci_trace, permutation_air, permutation_trace};
 use circle_commit::{Matrix, RowMajorMatrix};
 use circle_field::{Field, Mersenne31};
 use std::alloc::Global;
@@ -37,4 +38,39 @@ pub fn check(alloc: Global, stage: Stage) -> Result<Told> {
     }
     let found = check_constraints(alloc, &air, &rows, &[]);
     Ok(told(found.map(|violation| violation.is_none())))
+}
+
+/// `fibonacci_air`.
+pub fn fibonacci(alloc: Global, stage: Stage) -> Result<Told> {
+    if stage == Stage::Before {
+        return Ok(before());
+    }
+    let air: Result<Air<Mersenne31>, AirError> = fibonacci_air(alloc);
+    Ok(told(air.map(|air| air.nodes().len())))
+}
+
+/// `fibonacci_trace`.
+pub fn fibonacci_rows(alloc: Global, stage: Stage) -> Result<Told> {
+    if stage == Stage::Before {
+        return Ok(before());
+    }
+    let trace = fibonacci_trace(alloc, Mersenne31::ONE, Mersenne31::ONE, 8);
+    Ok(told(trace.map(|trace| trace.rows.height())))
+}
+
+/// `permutation_air`.
+pub fn permutation(alloc: Global, stage: Stage) -> Result<Told> {
+    if stage == Stage::Before {
+        return Ok(before());
+    }
+    Ok(told(permutation_air(alloc).map(|air| air.nodes().len())))
+}
+
+/// `permutation_trace`.
+pub fn permutation_rows(alloc: Global, stage: Stage) -> Result<Told> {
+    if stage == Stage::Before {
+        return Ok(before());
+    }
+    let trace = permutation_trace(alloc, &[Mersenne31::ONE; 8], 4);
+    Ok(told(trace.map(|trace| trace.rows.height())))
 }

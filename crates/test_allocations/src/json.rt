@@ -1,10 +1,11 @@
-//! A call on JSON.
+//! Calls on JSON.
 use crate::plane::cubic;
-use crate::told::{Stage, Told, before, told_elements};
+use crate::told::{Stage, Told, before, told, told_elements};
 use anyhow::Result;
-use circle_field::Cubic;
+use circle_air::{AirParts, Constraint, Node, Place};
+use circle_field::{Cubic, Field, Mersenne31};
 use circle_json::JsonForm;
-use std::alloc::Global;
+use std::alloc::{AllocError, Global};
 
 /// `JsonForm::from_json` of a list of elements.
 pub fn elements(alloc: Global, stage: Stage) -> Result<Told> {
@@ -14,4 +15,42 @@ pub fn elements(alloc: Global, stage: Stage) -> Result<Told> {
         return Ok(before());
     }
     Ok(told_elements(Vec::<Cubic>::from_json(alloc, &value)))
+}
+
+// The parts of an AIR with a node of each form, which needs no test.
+fn parts(alloc: Global) -> Result<AirParts<Mersenne31>, AllocError> {
+    let nodes = [
+        Node::Local(0),
+        Node::Constant(Mersenne31::ONE),
+        Node::Add(0, 1),
+        Node::Neg(2),
+    ];
+    let place = Place::Transition;
+    Ok(AirParts {
+        width: 1,
+        num_public_values: 0,
+        periodic_columns: vec![in alloc; vec![in alloc; Mersenne31::TWO]?]?,
+        nodes: Vec::from_slice(alloc, &nodes)?,
+        constraints: Vec::from_slice(alloc, &[Constraint { place, node: 3 }])?,
+    })
+}
+
+/// `JsonForm::from_json` of the parts of an AIR.
+pub fn air(alloc: Global, stage: Stage) -> Result<Told> {
+    let value = parts(alloc)?.to_json(alloc)?;
+    if stage == Stage::Before {
+        return Ok(before());
+    }
+    let read = AirParts::<Mersenne31>::from_json(alloc, &value);
+    Ok(told(read.map(|parts| parts.nodes.len())))
+}
+
+/// `JsonForm::to_json` of the parts of an AIR.
+pub fn air_written(alloc: Global, stage: Stage) -> Result<Told> {
+    let parts = parts(alloc)?;
+    if stage == Stage::Before {
+        return Ok(before());
+    }
+    let value = parts.to_json(alloc);
+    Ok(told(value.map(|value| value.is_object())))
 }

@@ -3,6 +3,7 @@
 //! meet isn't made.
 #![tactic(auto)]
 
+mod airs;
 mod domains;
 mod fields;
 mod folds;
@@ -29,7 +30,10 @@ pub fn answer(alloc: Global, call: &str, given: &Value) -> Result<Value> {
     if let Some(answer) = transforms::answer(alloc, call, given)? {
         return Ok(answer);
     }
-    match folds::answer(alloc, call, given)? {
+    if let Some(answer) = folds::answer(alloc, call, given)? {
+        return Ok(answer);
+    }
+    match airs::answer(alloc, call, given)? {
         Some(answer) => Ok(answer),
         None => bail!("there is no call {call}"),
     }

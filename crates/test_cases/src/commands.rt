@@ -5,6 +5,7 @@ use crate::report::{bytes_of_file, value_of_file};
 use anyhow::{Result, bail};
 use circle_commands::run::run;
 use serde_json::Value;
+use stark_commands::run::run as run_stark;
 use std::alloc::{AllocError, Global};
 
 /// What a command wrote, and its status.
@@ -14,11 +15,12 @@ struct Answer {
     status: u8,
 }
 
-/// Whether a call's name is that of a command, or of one that reads what another wrote.
+/// Whether a call's name is that of a command of `circle_tool` or of `check` of `stark_tool`, or of
+/// one that reads what another wrote.
 pub fn are_named(call: &str) -> bool {
     matches!(
         call,
-        "values" | "shape" | "prove" | "verify" | "prove | verify"
+        "values" | "shape" | "prove" | "verify" | "prove | verify" | "check"
     )
 }
 
@@ -73,7 +75,10 @@ fn run_command(alloc: Global, command: &str, input: &str) -> Result<Answer, Allo
 fn written_by(alloc: Global, command: &str, input: &str) -> Result<(Vec<u8>, u8), AllocError> {
     let args = vec![in alloc; String::from_str(alloc, command)?]?;
     let mut written = Vec::new(alloc);
-    let status = run(alloc, &args, &mut input.as_bytes(), &mut written);
+    let status = match command {
+        "check" => run_stark(alloc, &args, &mut input.as_bytes(), &mut written),
+        _ => run(alloc, &args, &mut input.as_bytes(), &mut written),
+    };
     Ok((written, status))
 }
 
@@ -109,8 +114,8 @@ fn is_text_of(alloc: Global, line: &str, value: &Value) -> Result<bool, AllocErr
     Ok(value.to_string(alloc)?.as_str() == line)
 }
 
-// Whether a line is what a file has.
-fn is_in_file(rt: &HostRuntime, line: &str, name: &str) -> Result<bool> {
+/// Whether a line is what a file has.
+pub fn is_in_file(rt: &HostRuntime, line: &str, name: &str) -> Result<bool> {
     let bytes = bytes_of_file(rt, name)?;
     Ok(bytes.as_slice().trim_ascii_end() == line.as_bytes())
 }

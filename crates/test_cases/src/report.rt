@@ -1,5 +1,5 @@
 //! The lines of a file's cases.
-use crate::case::{Case, part};
+use crate::case::{Case, part, text};
 use crate::{commands, patch};
 use anyhow::{Result, bail};
 use serde_json::Value;
@@ -57,11 +57,19 @@ fn difference(rt: &HostRuntime, case: &Case) -> Result<Option<String>> {
     if commands::are_named(case.call) {
         return commands::difference(rt, case);
     }
-    let answer = test_calls::answer(rt.alloc(), case.call, case.given)?;
-    if answer == *case.due {
-        return Ok(None);
-    }
-    Ok(Some(answer.to_string(rt.alloc())?))
+    let answer = match case.given.get("file") {
+        Some(_) => {
+            let given = value_of_file(rt, text(case.given, "file")?)?;
+            test_calls::answer(rt.alloc(), case.call, &given)?
+        }
+        None => test_calls::answer(rt.alloc(), case.call, case.given)?,
+    };
+    let line = answer.to_string(rt.alloc())?;
+    let is_due = match case.due.get("file") {
+        Some(_) => commands::is_in_file(rt, line.as_str(), text(case.due, "file")?)?,
+        None => answer == *case.due,
+    };
+    Ok(if is_due { None } else { Some(line) })
 }
 
 // Prints a case's line.

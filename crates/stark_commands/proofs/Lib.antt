@@ -1,0 +1,3 @@
+mod Checked
+mod Given
+pub mod Told

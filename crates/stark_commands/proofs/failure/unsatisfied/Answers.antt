@@ -1,0 +1,36 @@
+use Rattle.std.proofs.Common.{◌<◌, ◌≤◌, ◌^◌, arith, length}
+use Rattle.std.specs.Fmt.InlineText.{inline_text}
+use Rattle.stark_commands.proofs.Told.{few_digits, first_part, name_part, number_part, with_room}
+use Rattle.stark_commands.proofs.failure.unsatisfied.Goals as goal
+
+pub with_number-begun-requires : goal.with_number-begun-requires
+with_number-begun-requires c =
+    let fits : c.args.constraint < 2 ^ 64 = omega arith in
+    with_room _ _ 14 20 (first_part _ _ c.new.ensures.text c.with.ensures)
+    (few_digits c.args.constraint fits) (omega arith)
+
+pub with-requires-2 : goal.with-requires-2
+with-requires-2 c =
+    let fits : c.args.constraint < 2 ^ 64 = omega arith in
+    with_room _ _ 34 31
+    (number_part _ _ c.args.constraint 14 fits c.with_number-begun.ensures
+    (first_part _ _ c.new.ensures.text c.with.ensures)) (omega arith) (omega arith)
+
+pub with_number-named-requires : goal.with_number-named-requires
+with_number-named-requires c =
+    let fits : c.args.constraint < 2 ^ 64 = omega arith in
+    let small : c.args.row < 2 ^ 64 = omega arith in
+    with_room _ _ 65 20
+    (name_part _ _ c.with-2.ensures
+    (number_part _ _ c.args.constraint 14 fits c.with_number-begun.ensures
+    (first_part _ _ c.new.ensures.text c.with.ensures))) (few_digits c.args.row small) (omega arith)
+
+pub with-requires-3 : goal.with-requires-3
+with-requires-3 c =
+    let fits : c.args.constraint < 2 ^ 64 = omega arith in
+    let small : c.args.row < 2 ^ 64 = omega arith in
+    with_room _ _ 85 2
+    (number_part _ _ c.args.row 65 small c.with_number-named.ensures
+    (name_part _ _ c.with-2.ensures
+    (number_part _ _ c.args.constraint 14 fits c.with_number-begun.ensures
+    (first_part _ _ c.new.ensures.text c.with.ensures)))) (omega arith) (omega arith)

@@ -1,0 +1,80 @@
+//! The program as a function of its arguments, its input and its output.
+ghost use Rattle.std.specs.Prelude.{◌≡◌, ◌≤◌, ◌↔◌, Err, IsTrue};
+ghost use Rattle.circle_commands.specs.declared.failure.Failure.TheVariants.{Usage};
+ghost use Rattle.stark_commands.specs.Answer.{IsAnswer};
+ghost use Rattle.stark_commands.specs.Program.{HasRun, IsOfInput, IsTold, NamesCheck};
+ghost use Rattle.stark_commands.specs.declared.failure.Failure.TheVariants.{Common as CommonFailure};
+
+use crate::check;
+use crate::command::{Command, answer};
+use crate::failure::Failure;
+use circle_commands::Failure as Common;
+use circle_commands::run::{refuse as refuse_common, write_line};
+use std::alloc::Global;
+use std::io::{Read, Write};
+
+// Whether the arguments are the name of the command `check`.
+fn name_check(args: &[String]) -> bool
+    ensures { IsTrue result ↔ NamesCheck args.now }
+{
+    let [name] = args else {
+        return false;
+    };
+    matches!(name.as_str(), "check")
+}
+
+/// Runs the program whose arguments, without its own name, are `args`: reads `input` to its end,
+/// writes one line of JSON to `output`, and returns the exit status.
+///
+/// The status is 0 where there is a result, 1 where the command refuses the input, an allocation is
+/// refused or writing fails, and 2 where the input can't be read. Of several faults the first
+/// counts: wrong arguments, in which case nothing is read, then a failure of `input`, then text that
+/// isn't JSON, then JSON that isn't an input of the command, then what the command refuses.
+pub fn run<R: Read, W: Write>(alloc: Global, args: &[String], input: &mut R, output: &mut W) -> u8
+    ensures status { result ≤ 2 }
+    ensures usage { ¬ NamesCheck args.now → IsTold (Err (CommonFailure Usage))
+        (W.contents output.old) (W.contents output.new) result }
+    ensures unread { ¬ NamesCheck args.now → input.new ≡ input.old }
+    ensures check { let c = ⟦<check::Input as Command>⟧ in NamesCheck args.now
+        → HasRun (IsAnswer c.form c.is_result c.is_reason) (R.remaining input.old)
+        (R.remaining input.new) (W.contents output.old) (W.contents output.new) result }
+{
+    if !name_check(args) {
+        return refuse(&Failure::Common(Common::Usage), output);
+    }
+    run_command::<check::Input, R, W>(alloc, input, output)
+}
+
+// Runs the command that takes these inputs.
+fn run_command<T: Command, R: Read, W: Write>(alloc: Global, input: &mut R, output: &mut W) -> u8
+    ensures status { result ≤ 2 }
+    ensures run { HasRun (IsAnswer T.form T.is_result T.is_reason) (R.remaining input.old)
+        (R.remaining input.new) (W.contents output.old) (W.contents output.new) result }
+{
+    match answer_input::<T, R>(alloc, input) {
+        Ok(line) => write_line(output, line.as_bytes(), 0),
+        Err(failure) => refuse(&failure, output),
+    }
+}
+
+// What the command returns of the text that it reads to the end of the input.
+fn answer_input<T: Command, R: Read>(alloc: Global, input: &mut R) -> Result<String, Failure>
+    ensures { IsOfInput (IsAnswer T.form T.is_result T.is_reason) (R.remaining input.old)
+        (R.remaining input.new) result }
+{
+    let mut text = Vec::new(alloc);
+    input.read_to_end(&mut text)?;
+    answer::<T>(alloc, &text)
+}
+
+/// Writes the line of a failure, and returns the status that the program ends with: the failure's,
+/// but 1 where writing fails.
+pub fn refuse<W: Write>(failure: &Failure, output: &mut W) -> u8
+    ensures range { result ≤ 2 }
+    ensures told { IsTold (Err failure.now) (W.contents output.old) (W.contents output.new) result }
+{
+    match failure {
+        Failure::Common(common) => refuse_common(common, output),
+        Failure::Refused(reason) => write_line(output, reason.line().as_str().as_bytes(), 1),
+    }
+}
