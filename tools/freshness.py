@@ -5,7 +5,8 @@ usage: python3 -m tools.freshness sums FILE
        python3 -m tools.freshness left NAME FILE
        python3 -m tools.freshness changed NAME BUILT
 
-sums FILE           writes to the file what the sources of each crate and of those below it sum to.
+sums FILE           writes to the file what the sources of each crate and of those below it sum to,
+                    and what is built already.
 record FILE         notes of each library and program that was built since that it was built of
                     these sources, if they still sum to the same.
 left NAME FILE      does so, and ends with status 0 where all libraries below NAME are among them.
@@ -60,8 +61,14 @@ def sum_of(built):
 
 
 def is_whole(library):
-    """Whether a library is built: the kit makes its folder elsewhere, and moves it there whole."""
+    """Whether a library is built while `rt ci` runs. Some kits write this file last, and others
+    don't write it: of theirs nothing is known before `rt ci` ends."""
     return (library / "format").is_file()
+
+
+def is_there(library):
+    """Whether there is a library, while nothing builds one."""
+    return library.is_dir() and any(library.iterdir())
 
 
 def place_of_note(built):
@@ -118,7 +125,7 @@ class Built:
     def is_left(self, name):
         """Whether the crate's library is built of the sources that are there."""
         built = self.workspace.rlib(name)
-        if not is_whole(built):
+        if not is_there(built):
             return False
         return has_stamp(self.workspace, name) or bool(has_note(built, self.sums.of_sources(name)))
 
@@ -156,9 +163,11 @@ class Built:
         write_note(self.workspace.folder(name) / "out" / file, self.sums.of_sources(name))
 
 
-def programs(workspace):
-    """What is built of crates that no crate stands on: programs and static libraries."""
+def all_built(workspace):
+    """Each library, program and static library that is built, with its crate."""
     for name in workspace.names():
+        if is_there(workspace.rlib(name)):
+            yield name, workspace.rlib(name)
         for file in (name, f"lib{name}.a"):
             built = workspace.folder(name) / "out" / file
             if built.is_file():
@@ -168,34 +177,37 @@ def programs(workspace):
 def write_sums(file):
     workspace = Workspace()
     sums = Sums(workspace)
-    found = {name: sums.of_sources(name) for name in workspace.names()}
+    found = {
+        "sources": {name: sums.of_sources(name) for name in workspace.names()},
+        "built": {str(built): built.stat().st_mtime for _, built in all_built(workspace)},
+    }
     pathlib.Path(file).write_text(json.dumps(found), encoding="utf-8")
 
 
-def record(file):
+def record(file, is_due=is_there):
     """Writes the notes, and returns the crates whose libraries have one."""
     workspace, noted = Workspace(), set()
-    sums, began = Sums(workspace), pathlib.Path(file).stat().st_mtime
-    given = json.loads(pathlib.Path(file).read_text(encoding="utf-8"))
-    due = [(it, workspace.rlib(it)) for it in workspace.names() if is_whole(workspace.rlib(it))]
-    for name, built in [*due, *programs(workspace)]:
+    sums, began = Sums(workspace), json.loads(pathlib.Path(file).read_text(encoding="utf-8"))
+    for name, built in all_built(workspace):
+        is_new = began["built"].get(str(built)) != built.stat().st_mtime
         of = sums.of_sources(name)
-        if built.stat().st_mtime >= began and given.get(name) == of:
-            if not has_note(built, of):
-                write_note(built, of)
-            if built.is_dir():
-                noted.add(name)
+        if not is_new or began["sources"].get(name) != of or built.is_dir() and not is_due(built):
+            continue
+        if not has_note(built, of):
+            write_note(built, of)
+        if built.is_dir():
+            noted.add(name)
     return noted
 
 
 def are_left(name, file):
-    """Notes what was built, and says whether all libraries below a crate are among it."""
-    workspace, began = Workspace(), pathlib.Path(file).stat().st_mtime
+    """Notes what was built, and says whether all libraries below a crate are among it, while
+    `rt ci` runs."""
+    workspace = Workspace()
     below = workspace.below(name)[:-1]
-    places = [workspace.rlib(it) for it in below]
-    if not all(is_whole(it) and it.stat().st_mtime >= began for it in places):
+    if not all(is_whole(workspace.rlib(it)) for it in below):
         return False
-    return {*below} <= record(file)
+    return {*below} <= record(file, is_whole)
 
 
 def main(words):
