@@ -1,11 +1,11 @@
 -- The generators of the circle's cyclic groups over the field of 127 elements.
-use Rattle.std.specs.Prelude.{◌≡◌, ℕ, ◌+◌, ◌*◌, ◌-◌, ◌%◌, ◌^◌, ◌<◌, refl}
+use Rattle.std.specs.Prelude.{◌≡◌, ℕ, ◌+◌, ◌-◌, ◌<◌, refl}
 use Rattle.std.proofs.Common.{zero, suc, sym, ◌∙◌, ap, arith}
 use Rattle.test_quotient.specs.declared.mersenne7.Mersenne7.{Mersenne7}
-use Rattle.circle_field.specs.Field.{FieldOps}
 use Rattle.circle_field.specs.Circle.{Coordinates, at, plus, origin, IsOnCircle, AreGenerators}
 use Rattle.circle_field.specs.CircleGroup.{plus-on_circle}
-use Rattle.test_quotient.specs.Mersenne7.{order, residue, element, operations, doubled_times, generators}
+use Rattle.test_quotient.specs.Mersenne7.{residue, element, operations, doubled_times}
+use Rattle.test_quotient.specs.Mersenne7.{generators}
 use Rattle.test_quotient.specs.Mersenne7Laws.{same_residue, laws}
 
 -- the residues of both coordinates
@@ -55,6 +55,7 @@ pub are_generators : AreGenerators operations 7 generators
 are_generators = record {
   on_circle = λ n h. doubled-on_circle (7 - n) start (same_residue _ _ refl);
   doubled = generators-doubled;
-  half_turn = same_residues (generators 1) (at (operations.neg operations.one) operations.zero) refl;
+  half_turn = same_residues (generators 1) (at (operations.neg operations.one) operations.zero)
+      refl;
   neutral = same_residues (generators 0) (origin operations) refl;
 }
