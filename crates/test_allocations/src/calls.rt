@@ -1,7 +1,7 @@
 //! The calls by their names.
 use crate::plane::Domain;
 use crate::told::{Stage, Told};
-use crate::{airs, json, plane, scheme, transcript, trees, without, words};
+use crate::{airs, json, plane, scheme, stark, transcript, trees, without, words};
 use anyhow::Result;
 use std::alloc::Global;
 
@@ -37,6 +37,9 @@ pub const NAMES: &[&str] = &[
     "open",
     "verify",
     "round_trip",
+    "stark_prove",
+    "stark_verify",
+    "stark_round_trip",
     "without_fields",
     "without_points",
     "without_domains",
@@ -92,6 +95,9 @@ pub fn told_of(alloc: Global, stage: Stage, name: &str) -> Option<Result<Told>> 
         "open" => scheme::open(alloc, stage),
         "verify" => scheme::verify(alloc, stage),
         "round_trip" => scheme::round_trip(alloc, stage),
+        "stark_prove" => stark::prove(alloc, stage),
+        "stark_verify" => stark::verify(alloc, stage),
+        "stark_round_trip" => stark::round_trip(alloc, stage),
         "without_fields" => without::fields::fields(stage),
         "without_points" => without::points::points(stage),
         "without_domains" => without::domains::domains(stage),

@@ -15,6 +15,7 @@ mod calls;
 mod json;
 mod plane;
 mod scheme;
+mod stark;
 mod told;
 mod transcript;
 mod trees;

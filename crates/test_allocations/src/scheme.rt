@@ -83,8 +83,8 @@ pub fn committed(alloc: Global) -> Result<(Commitment, ProverData)> {
     }
 }
 
-// The first number of a digest.
-fn number(digest: &[u8; 32]) -> u32 {
+/// The first number of a digest.
+pub fn number(digest: &[u8; 32]) -> u32 {
     u32::from_be_bytes([digest[0], digest[1], digest[2], digest[3]])
 }
 

@@ -1,19 +1,27 @@
-//! Proofs of stored traces. For each trace that the arguments name, `circle_stark` makes a proof, and
-//! a line says whether it is the one that another implementation made, and whether it is accepted;
-//! of a trace that is refused, the line says why.
+//! Proofs of traces by `circle_stark`.
+//!
+//! - For each stored trace that the arguments name, a line says whether its proof is the one that
+//!   another implementation made, and whether it is accepted; of a trace that is refused, why.
+//! - Then, for each power of two of rows, a line says what comes of proving and verifying a trace of
+//!   both example AIRs.
 #![tactic(auto)]
 
 mod files;
+mod sizes;
 mod stored;
 
 use anyhow::Result;
 use files::{bytes_of_file, value_of_file};
+use sizes::{HEIGHTS, fibonacci, permutation};
 use std::env;
 use stored::{Stored, accepts, proof_text, proved};
 
 fn main(rt: HostRuntime) -> Result<()> {
     for name in env::args(&rt)?.skip(1) {
         report(&rt, name.as_str())?;
+    }
+    for height in HEIGHTS {
+        report_size(&rt, height)?;
     }
     Ok(())
 }
@@ -33,5 +41,17 @@ fn report(rt: &HostRuntime, name: &str) -> Result<()> {
         }
         Err(error) => println!(rt; "{name}: {error}")?,
     }
+    Ok(())
+}
+
+// Prints the lines of a number of rows.
+fn report_size(rt: &HostRuntime, height: usize) -> Result<()> {
+    if height == 0 {
+        return Ok(());
+    }
+    let of_sums = fibonacci(rt.alloc(), height)?;
+    println!(rt; "fibonacci, {height} rows: {}", of_sums.as_str())?;
+    let of_rounds = permutation(rt.alloc(), height)?;
+    println!(rt; "permutation, {height} rows: {}", of_rounds.as_str())?;
     Ok(())
 }

@@ -1,0 +1,232 @@
+//! What `prove` and `prove_and_verify` return of traces, and the states of both challengers.
+use crate::calls::{Given, Text, proof_of, told, verdict_on};
+use crate::cases::{Case, FIBONACCI, LOG_N, Rule, air_of, elements, rows_of};
+use circle_air::Place;
+use circle_challenger::Sha256Challenger;
+use circle_presets::Scheme;
+use circle_stark::{StarkTrace, prove_and_verify};
+use std::alloc::Global;
+use std::process::Abort;
+use std::test::Fail;
+use test_batches::parameters::{Numbers, SMALL, scheme};
+
+const ACCEPTED: &str = "accepted";
+
+const TOO_FEW_ROWS: &str = "the trace has too few rows to be folded";
+
+const TOO_MANY_ROWS: &str = "the trace has too many rows for the group of points";
+
+const NO_POWER_OF_TWO: &str = "the number of rows isn't a power of two";
+
+// Numbers with their squares, but for the last row.
+const SQUARES: &[u64] = &[0, 0, 1, 1, 2, 4, 3, 9, 4, 16, 5, 25, 6, 36, 7, 50];
+
+/// A trace, and what is returned of it.
+type Row = (Case, &'static str);
+
+const HONEST: &[Row] = &[
+    (FIBONACCI, ACCEPTED),
+    (
+        Case {
+            rule: Rule::Squares(Place::Transition),
+            entries: SQUARES,
+            ..FIBONACCI
+        },
+        ACCEPTED,
+    ),
+    (
+        Case {
+            rule: Rule::Ones(8),
+            entries: &[1; 16],
+            ..FIBONACCI
+        },
+        ACCEPTED,
+    ),
+];
+
+const OF_OTHER_SHAPES: &[Row] = &[
+    (
+        Case {
+            public_values: &[1, 1],
+            ..FIBONACCI
+        },
+        "the AIR has 3 public values, and there are 2",
+    ),
+    (
+        Case {
+            entries: &[0; 24],
+            width: 3,
+            ..FIBONACCI
+        },
+        "the AIR has 2 columns, and the trace 3",
+    ),
+    (
+        Case {
+            entries: &[],
+            ..FIBONACCI
+        },
+        NO_POWER_OF_TWO,
+    ),
+    (
+        Case {
+            entries: &[1, 1],
+            ..FIBONACCI
+        },
+        TOO_FEW_ROWS,
+    ),
+    (
+        Case {
+            entries: &[1, 1, 1, 2],
+            ..FIBONACCI
+        },
+        TOO_FEW_ROWS,
+    ),
+    (
+        Case {
+            entries: &[1, 1, 1, 2, 2, 3],
+            ..FIBONACCI
+        },
+        NO_POWER_OF_TWO,
+    ),
+    (
+        Case {
+            rule: Rule::Ones(16),
+            entries: &[1; 16],
+            ..FIBONACCI
+        },
+        "periodic column 0 is longer than the trace",
+    ),
+];
+
+const BY_OTHER_NUMBERS: &[Row] = &[
+    (
+        Case {
+            numbers: Numbers {
+                log_final_poly_len: 2,
+                ..SMALL
+            },
+            ..FIBONACCI
+        },
+        TOO_FEW_ROWS,
+    ),
+    (
+        Case {
+            numbers: Numbers {
+                log_blowup: 28,
+                ..SMALL
+            },
+            ..FIBONACCI
+        },
+        TOO_MANY_ROWS,
+    ),
+    (
+        Case {
+            numbers: Numbers {
+                log_blowup: usize::MAX,
+                ..SMALL
+            },
+            ..FIBONACCI
+        },
+        TOO_MANY_ROWS,
+    ),
+    (
+        Case {
+            numbers: Numbers {
+                num_queries: 0,
+                ..SMALL
+            },
+            ..FIBONACCI
+        },
+        "the parameters are not supported",
+    ),
+];
+
+const UNSATISFIED: &[Row] = &[
+    (
+        Case {
+            public_values: &[1, 1, 35],
+            ..FIBONACCI
+        },
+        "constraint 4 doesn't hold at row 7",
+    ),
+    (
+        Case {
+            rule: Rule::Squares(Place::Every),
+            entries: SQUARES,
+            ..FIBONACCI
+        },
+        "constraint 0 doesn't hold at row 7",
+    ),
+];
+
+// The text of what `verify` returns of the proof of a trace, or of what `prove` returns where there
+// is none.
+fn outcome(
+    alloc: Global,
+    case: &Case,
+    prover: &mut Sha256Challenger,
+    verifier: &mut Sha256Challenger,
+) -> Result<Text, Fail> {
+    let pcs = scheme(case.numbers);
+    match proof_of(alloc, &pcs, case, prover)? {
+        Ok(proof) => {
+            let given = Given {
+                pcs,
+                rule: case.rule,
+                log_n: LOG_N,
+                public_values: case.public_values,
+                proof,
+            };
+            verdict_on(alloc, &given, verifier)
+        }
+        Err(refusal) => Ok(Text::of(refusal)),
+    }
+}
+
+// The text of what `prove_and_verify` returns of a trace, and whether both challengers are in one
+// state.
+fn outcome_of_both(alloc: Global, pcs: &Scheme, case: &Case) -> Result<(Text, bool), Fail> {
+    let air = air_of(alloc, case.rule)?;
+    let public_values = elements(alloc, case.public_values)?;
+    let trace = StarkTrace {
+        air: &air,
+        rows: rows_of(alloc, case)?,
+        public_values: &public_values,
+    };
+    let (mut prover, mut verifier) = (Sha256Challenger::new(), Sha256Challenger::new());
+    let run = prove_and_verify(alloc, pcs, trace, &mut prover, &mut verifier);
+    Ok((told(run), prover == verifier))
+}
+
+// What `prove_and_verify` is to return where the verdict on the proof, or the refusal to make one, is
+// this.
+fn of_both(expected: &str) -> Text {
+    if expected == ACCEPTED {
+        Text::of(ACCEPTED)
+    } else {
+        Text::of(format_args!("there is no proof: {expected}"))
+    }
+}
+
+// Asserts what `prove` and then `verify` return of a trace, and `prove_and_verify`, and that both
+// challengers are in one state: where there is no proof, in that in which they were.
+fn assert_outcome(rt: &impl Abort, alloc: Global, (case, expected): &Row) -> Result<(), Fail> {
+    let (mut prover, mut verifier) = (Sha256Challenger::new(), Sha256Challenger::new());
+    let text = outcome(alloc, case, &mut prover, &mut verifier)?;
+    assert_eq!(rt; text.as_str(), *expected);
+    assert!(rt; prover == verifier, "{expected}");
+    let (text, is_one_state) = outcome_of_both(alloc, &scheme(case.numbers), case)?;
+    assert_eq!(rt; text.as_str(), of_both(expected).as_str());
+    assert!(rt; is_one_state, "{expected}");
+    Ok(())
+}
+
+#[test]
+fn traces(rt: HostRuntime) -> Result<(), Fail> {
+    for rows in [HONEST, OF_OTHER_SHAPES, BY_OTHER_NUMBERS, UNSATISFIED] {
+        for row in rows {
+            assert_outcome(&rt, rt.alloc(), row)?;
+        }
+    }
+    Ok(())
+}
