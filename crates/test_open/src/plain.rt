@@ -33,7 +33,7 @@ fn assert_values_of(
 ) -> Result<(), AllocError> {
     assert_eq!(rt; values.len(), points.len());
     for (at, columns) in points.iter().zip(values) {
-        let expected = values_at(rt, alloc, rows, *at)?;
+        let expected = values_at(rt, alloc, rows, on_line(rt, *at))?;
         assert!(rt; columns.as_slice() == expected.as_slice());
     }
     Ok(())

@@ -47,14 +47,13 @@ pub(crate) fn values_at(
     rt: &impl Abort,
     alloc: Global,
     rows: &RowMajorMatrix<Mersenne31>,
-    at: Cubic,
+    at: Point<Cubic>,
 ) -> Result<Vec<Cubic>, AllocError> {
-    let (domain, point) = (domain_of(rt, rows), on_line(rt, at));
+    let domain = domain_of(rt, rows);
     let copy = rows.try_clone(alloc)?;
-    assert!(rt; domain.log_n() >= 1 && domain.log_n() <= 31 && domain.is_genuine());
-    assert!(rt; domain.is_clear_of(point));
-    assert!(rt; copy.height() == domain.size());
-    CircleEvaluations::from_cfft_order(domain, copy).evaluate_at_point(alloc, point)
+    assert!(rt; domain.log_n() <= 31 && domain.is_genuine() && copy.height() == domain.size());
+    assert!(rt; domain.is_clear_of(at));
+    CircleEvaluations::from_cfft_order(domain, copy).evaluate_at_point(alloc, at)
 }
 
 // The entry at a place of a height's codeword: the quotients there of the claims on matrices of
