@@ -1,4 +1,6 @@
-//! Lines about checking the constraints of an AIR on the rows of a trace.
+//! Lines about the constraints of an AIR on the rows of a trace: checking and proving them.
+use crate::openings;
+use crate::starks::{self, Statement};
 use bench_passes::timing::{self, Mode};
 use bench_passes::transforms::Size;
 use circle_air::{Air, AirError, check_constraints};
@@ -9,19 +11,46 @@ use circle_field::{Field, Mersenne31};
 use std::io::{self, ErrorKind};
 use std::time::{Duration, Instant};
 
-/// Prints a line for each of two AIRs and each number of rows.
-pub fn report(rt: &HostRuntime, mode: Mode, sizes: &[Size]) -> io::Result<()> {
+/// The binary logarithm of the largest number of rows of traces that are proved.
+const MAX_LOG_PROVED: usize = 18;
+
+/// Prints the lines of two AIRs with traces of each number of rows.
+pub fn report(
+    rt: &HostRuntime,
+    mode: Mode,
+    sizes: &[Size],
+    start: Mersenne31,
+    step: Mersenne31,
+) -> io::Result<()> {
+    let points = openings::points(start, step);
     let air = built(fibonacci_air(rt.alloc()))?;
     for size in sizes {
         let height = size.rows().max(1);
         let trace = fibonacci_trace(rt.alloc(), Mersenne31::ONE, Mersenne31::ONE, height)?;
-        report_check(rt, mode, "check fibonacci", *size, &air, &trace)?;
+        report_trace(
+            rt,
+            mode,
+            &Statement::new("fibonacci", *size, &air, &trace, points),
+        )?;
     }
     let air = built(permutation_air(rt.alloc()))?;
     for size in sizes {
         let height = size.rows().max(1);
         let trace = permutation_trace(rt.alloc(), &[Mersenne31::ONE; STATE_LEN], height)?;
-        report_check(rt, mode, "check permutation", *size, &air, &trace)?;
+        report_trace(
+            rt,
+            mode,
+            &Statement::new("permutation", *size, &air, &trace, points),
+        )?;
+    }
+    Ok(())
+}
+
+/// Prints the lines of a trace.
+fn report_trace(rt: &HostRuntime, mode: Mode, statement: &Statement) -> io::Result<()> {
+    report_check(rt, mode, statement)?;
+    if statement.size.log_rows <= MAX_LOG_PROVED {
+        starks::report(rt, mode, statement)?;
     }
     Ok(())
 }
@@ -35,14 +64,14 @@ fn built(air: Result<Air<Mersenne31>, AirError>) -> io::Result<Air<Mersenne31>> 
 }
 
 /// Prints the line of a check: 1 where the trace satisfied the AIR each time, else 0.
-fn report_check(
-    rt: &HostRuntime,
-    mode: Mode,
-    name: &str,
-    size: Size,
-    air: &Air<Mersenne31>,
-    trace: &Trace<Mersenne31>,
-) -> io::Result<()> {
+fn report_check(rt: &HostRuntime, mode: Mode, statement: &Statement) -> io::Result<()> {
+    let Statement {
+        name,
+        size,
+        air,
+        trace,
+        ..
+    } = *statement;
     let mut best = Duration::MAX;
     let mut satisfied = true;
     for _ in 0..timing::runs(mode, timing::runs_of(size)) {
@@ -51,7 +80,7 @@ fn report_check(
         best = best.min(begin.elapsed(rt)?);
         satisfied = satisfied && is_satisfied;
     }
-    print!(rt; "Air {name} {} x {}: ", size.rows(), air.width())?;
+    print!(rt; "Air check {name} {} x {}: ", size.rows(), air.width())?;
     timing::print_result(rt, mode, best, u64::from(satisfied))
 }
 

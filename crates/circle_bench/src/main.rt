@@ -6,6 +6,8 @@
 mod airs;
 mod openings;
 mod proofs;
+mod quotients;
+mod starks;
 
 use bench_passes::chains::Operation;
 use bench_passes::timing::{self, Case, Mode};
@@ -257,7 +259,7 @@ const LARGE: [Size; 9] = [
     },
 ];
 
-/// The numbers of rows of traces that are checked; their widths are those of the AIRs.
+/// The numbers of rows of traces that are checked and proved; their widths are those of the AIRs.
 const CHECKED: [Size; 1] = [Size {
     log_rows: 16,
     width: 8,
@@ -286,13 +288,13 @@ fn main(rt: HostRuntime) -> io::Result<ExitCode> {
     Ok(ExitCode::SUCCESS)
 }
 
-/// Prints the times of the widest transform, of proofs, of their compressions alone, of verifying
-/// and of checking constraints, for matrices of ever more rows.
+/// Prints the times of the widest transform, of proofs, of their compressions alone, of verifying,
+/// and of checking and proving constraints, for matrices of ever more rows.
 fn report_growth(rt: &HostRuntime, start: Mersenne31, step: Mersenne31) -> io::Result<()> {
     let sizes = GROWING.as_slice();
     timing::report_transform(rt, Mode::Times, Transform::Extrapolate, sizes, start, step)?;
     openings::report(rt, Mode::Times, sizes, start, step)?;
-    airs::report(rt, Mode::Times, sizes)
+    airs::report(rt, Mode::Times, sizes, start, step)
 }
 
 /// Prints a line for each case.
@@ -305,12 +307,23 @@ fn report_cases(
     timing::report(rt, mode, "Mersenne31", &MERSENNE31, start, step)?;
     report_passes(rt, mode, start, step)?;
     report_schemes(rt, mode, start, step)?;
-    let start = Cubic::from_coefficients(&[start, step, start.square()]);
-    let step = Cubic::from_coefficients(&[step, start.coefficient(2), step.square()]);
-    timing::report(rt, mode, "Cubic", &CUBIC, start, step)?;
+    report_cubic(rt, mode, start, step)?;
     hashing::report(rt, mode)?;
     proofs::report(rt, mode)?;
-    airs::report(rt, mode, mode.sizes(PROVED.as_slice(), CHECKED.as_slice()))
+    let sizes = mode.sizes(PROVED.as_slice(), CHECKED.as_slice());
+    airs::report(rt, mode, sizes, start, step)
+}
+
+/// Prints the lines of chains over the extension.
+fn report_cubic(
+    rt: &HostRuntime,
+    mode: Mode,
+    start: Mersenne31,
+    step: Mersenne31,
+) -> io::Result<()> {
+    let start = Cubic::from_coefficients(&[start, step, start.square()]);
+    let step = Cubic::from_coefficients(&[step, start.coefficient(2), step.square()]);
+    timing::report(rt, mode, "Cubic", &CUBIC, start, step)
 }
 
 /// Prints the lines of transforms, of values at a point and of tables.

@@ -141,7 +141,7 @@ fn print_line(
 }
 
 /// Two points off the base field, and so off each domain.
-fn points(start: Mersenne31, step: Mersenne31) -> [Cubic; 2] {
+pub fn points(start: Mersenne31, step: Mersenne31) -> [Cubic; 2] {
     let square = start.square();
     [
         Cubic::from_coefficients(&[start, step, square]),
@@ -197,7 +197,7 @@ fn report_proof(
 }
 
 /// Twice as many rows are committed to as there are, and 40 of them are queried.
-const PARAMETERS: FriParameters<()> = FriParameters {
+pub const PARAMETERS: FriParameters<()> = FriParameters {
     log_blowup: 1,
     log_final_poly_len: 0,
     max_log_arity: 1,
@@ -258,7 +258,7 @@ fn evaluations(alloc: Global, size: Size, matrix: Rows) -> Result<Vec<(Domain, R
 }
 
 /// Commits to matrices on domains.
-fn commit(
+pub fn commit(
     alloc: Global,
     pcs: &Scheme,
     evaluations: Vec<(Domain, Rows)>,
@@ -306,7 +306,7 @@ fn points_of_batch(alloc: Global, points: &[Cubic]) -> Result<Vec<Vec<Cubic>>, A
 }
 
 /// The failure where a prover's call is refused.
-fn failure(error: ProverError) -> io::Error {
+pub fn failure(error: ProverError) -> io::Error {
     match error {
         ProverError::Memory => io::Error::from(AllocError),
         _ => io::Error::from(ErrorKind::InvalidInput),
