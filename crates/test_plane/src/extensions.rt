@@ -2,6 +2,7 @@
 use circle_field::{Cubic, ExtensionField, Field, Mersenne31};
 use circle_plane::{Neutral, Point};
 use std::process::Abort;
+use test_schemes::expect;
 use test_schemes::quadratic::Quadratic;
 
 type Circle = Point<Mersenne31>;
@@ -28,8 +29,9 @@ fn on_line<F: Field>(rt: &impl Abort, t: F) -> Point<F> {
 // Asserts that the point of this coordinate has these coordinates and leads back.
 fn assert_on_line<F: Field>(rt: &impl Abort, t: F, x: F, y: F) {
     let point = on_line(rt, t);
-    assert!(rt; point.x() == x && point.y() == y);
-    assert!(rt; point.to_projective_line() == Some(t));
+    expect!(rt; point.x() == x);
+    expect!(rt; point.y() == y);
+    expect!(rt; point.to_projective_line() == Some(t));
 }
 
 #[test]
@@ -42,7 +44,7 @@ fn the_projective_line_over_the_quadratic_extension(rt: HostRuntime) {
     );
     // The square of X is -1.
     for t in [quadratic(0, 1), quadratic(0, 2147483646)] {
-        assert_eq!(rt; Point::from_projective_line(t), None);
+        expect!(rt; Point::from_projective_line(t).is_none());
     }
 }
 
@@ -59,8 +61,8 @@ fn selector(rt: &impl Abort, point: Circle, at: Point<Cubic>) -> Cubic {
 // difference, and is this.
 fn assert_selector(rt: &impl Abort, point: Circle, t: Cubic, expected: Cubic) {
     let at = on_line(rt, t);
-    assert!(rt; selector(rt, point, at) == expected);
-    assert!(rt; (at - point).to_projective_line() == Some(expected));
+    expect!(rt; selector(rt, point, at) == expected);
+    expect!(rt; (at - point).to_projective_line() == Some(expected));
 }
 
 #[test]
@@ -71,5 +73,5 @@ fn selectors(rt: HostRuntime) {
     assert_selector(&rt, point, cubic(7, 0, 0), cubic(2017150203, 0, 0));
     // It vanishes at the point.
     let lifted = Point::<Cubic>::ZERO + point;
-    assert!(rt; selector(&rt, point, lifted) == Cubic::ZERO);
+    expect!(rt; selector(&rt, point, lifted) == Cubic::ZERO);
 }

@@ -3,7 +3,7 @@ use circle_commit::RowMajorMatrix;
 use circle_field::{Cubic, ExtensionField, Field, Mersenne31};
 use circle_folding::fold_row_with_inv_twiddle;
 use std::process::Abort;
-use std::test::Fail;
+use test_schemes::expect;
 
 mod queries;
 mod rows;
@@ -18,10 +18,9 @@ fn cubic(a: u64, b: u64, c: u64) -> Cubic {
 }
 
 #[test]
-fn the_fold_of_a_pair(rt: HostRuntime) -> Result<(), Fail> {
+fn the_fold_of_a_pair(rt: HostRuntime) {
     let folded = fold_row_with_inv_twiddle(element(1), element(3), element(10), element(4));
-    assert!(&rt; folded == element(16));
-    Ok(())
+    expect!(&rt; folded == element(16));
 }
 
 // The rows of two that these entries make up.

@@ -1,14 +1,13 @@
 //! The circle transform over Mersenne31, without groups and by groups of layers, beside one layer
 //! over all entries after another.
 use crate::smaller::{coefficients, extended};
-use crate::transform::{Domain, Evaluations, Rows, assert_same, evaluate, rows_of, scattered};
+use crate::transform::{Domain, MEMORY, Rows, assert_same, copy_of, evaluate, rows_of, scattered};
 use circle_commit::Matrix;
 use circle_domain::layer_twiddles;
 use circle_field::{Field, Mersenne31};
 use circle_plane::CircleEvaluations;
 use std::alloc::{AllocError, Global};
 use std::process::Abort;
-use std::test::Fail;
 
 // How many layers a group takes; the last passes the number of layers.
 const GROUPS: [usize; 4] = [1, 2, 3, 64];
@@ -84,51 +83,49 @@ fn padded(
 }
 
 // The rows in the transform's order by one layer over the whole matrix after another.
-fn evaluate_by_layers(
-    rt: &impl Abort,
-    alloc: Global,
-    domain: Domain,
-    coeffs: &Rows,
-) -> Result<Rows, AllocError> {
+fn evaluate_by_layers(rt: &impl Abort, alloc: Global, domain: Domain, coeffs: &Rows) -> Rows {
     let width = coeffs.width();
     assert!(rt; domain.log_n() >= 1 && domain.log_n() <= 8 && width <= 64);
-    let twiddles = layer_twiddles(alloc, domain)?;
-    let mut entries = padded(alloc, coeffs.values(), domain.size() * width)?;
+    let twiddles = layer_twiddles(alloc, domain).expect(rt, MEMORY);
+    let count = domain.size() * width;
+    let mut entries = padded(alloc, coeffs.values(), count).expect(rt, MEMORY);
     forward_layers(rt, &mut entries, width, &twiddles);
-    Ok(rows_of(rt, entries, width))
+    rows_of(rt, entries, width)
 }
 
 // The coefficients by one layer over the whole matrix after another, from rows in the transform's
 // order.
-fn interpolate_by_layers(
-    rt: &impl Abort,
-    alloc: Global,
-    domain: Domain,
-    rows: &Rows,
-) -> Result<Rows, AllocError> {
+fn interpolate_by_layers(rt: &impl Abort, alloc: Global, domain: Domain, rows: &Rows) -> Rows {
     assert!(rt; domain.log_n() >= 1 && domain.log_n() <= 8);
-    let twiddles = layer_twiddles(alloc, domain)?;
-    let mut entries = Vec::from_slice(alloc, rows.values())?;
+    let twiddles = layer_twiddles(alloc, domain).expect(rt, MEMORY);
+    let mut entries = Vec::from_slice(alloc, rows.values()).expect(rt, MEMORY);
     backward_layers(rt, &mut entries, rows.width(), &twiddles);
     for entry in entries.iter_mut() {
         *entry = entry.div_2exp_u64(domain.log_n() as u64);
     }
-    Ok(rows_of(rt, entries, rows.width()))
+    rows_of(rt, entries, rows.width())
 }
 
-// `CircleEvaluations::evaluate_grouped`, after a test of what it requires.
+// The rows of `CircleEvaluations::evaluate_grouped`, after a test of what it requires.
 fn evaluate_grouped(
     rt: &impl Abort,
     alloc: Global,
     domain: Domain,
-    coeffs: Rows,
+    coeffs: &Rows,
     group: usize,
-) -> Result<Evaluations, AllocError> {
-    let height = coeffs.height();
-    assert!(rt; height >= 1 && height == 1 << height.ilog2() && group >= 1);
-    assert!(rt; domain.log_n() >= 1 && domain.log_n() <= 31 && height <= domain.size());
-    let (evaluations, _) = CircleEvaluations::evaluate_grouped(alloc, domain, coeffs, group)?;
-    Ok(evaluations)
+) -> Rows {
+    let copy = copy_of(rt, alloc, coeffs);
+    let height = copy.height();
+    assert!(rt;
+        height >= 1
+            && height == 1 << height.ilog2()
+            && group >= 1
+            && domain.log_n() >= 1
+            && domain.log_n() <= 31
+            && height <= domain.size()
+    );
+    let made = CircleEvaluations::evaluate_grouped(alloc, domain, copy, group);
+    made.expect(rt, MEMORY).0.to_cfft_order()
 }
 
 // The coefficients of polynomials with these rows in the transform's order, by groups.
@@ -136,54 +133,44 @@ fn interpolate_grouped(
     rt: &impl Abort,
     alloc: Global,
     domain: Domain,
-    rows: Rows,
+    rows: &Rows,
     group: usize,
-) -> Result<Rows, AllocError> {
+) -> Rows {
+    let copy = copy_of(rt, alloc, rows);
     assert!(rt;
-        group >= 1 && domain.log_n() <= 31 && domain.is_genuine() && rows.height() == domain.size()
+        group >= 1 && domain.log_n() <= 31 && domain.is_genuine() && copy.height() == domain.size()
     );
-    let evaluations = CircleEvaluations::from_cfft_order(domain, rows);
-    let (coeffs, _) = evaluations.interpolate_grouped(alloc, group)?;
-    Ok(coeffs)
+    let evaluations = CircleEvaluations::from_cfft_order(domain, copy);
+    evaluations
+        .interpolate_grouped(alloc, group)
+        .expect(rt, MEMORY)
+        .0
 }
 
 // Asserts that these are the values of coefficients in the transform's order, without groups and
 // by each.
-fn assert_evaluated(
-    rt: &impl Abort,
-    alloc: Global,
-    domain: Domain,
-    coeffs: &Rows,
-    rows: &Rows,
-) -> Result<(), AllocError> {
-    let whole = evaluate(rt, alloc, domain, coeffs.try_clone(alloc)?)?;
+fn assert_evaluated(rt: &impl Abort, alloc: Global, domain: Domain, coeffs: &Rows, rows: &Rows) {
+    let whole = evaluate(rt, alloc, domain, copy_of(rt, alloc, coeffs));
     assert_same(rt, &whole.to_cfft_order(), rows);
     for group in GROUPS {
-        let copy = coeffs.try_clone(alloc)?;
-        let grouped = evaluate_grouped(rt, alloc, domain, copy, group)?;
-        assert_same(rt, &grouped.to_cfft_order(), rows);
+        assert_same(
+            rt,
+            &evaluate_grouped(rt, alloc, domain, coeffs, group),
+            rows,
+        );
     }
-    Ok(())
 }
 
 // Asserts that rows in the transform's order have these coefficients, without groups and by each.
-fn assert_interpolated(
-    rt: &impl Abort,
-    alloc: Global,
-    domain: Domain,
-    rows: &Rows,
-    coeffs: &Rows,
-) -> Result<(), AllocError> {
-    assert_same(rt, &coefficients(rt, alloc, domain, rows)?, coeffs);
+fn assert_interpolated(rt: &impl Abort, alloc: Global, domain: Domain, rows: &Rows, coeffs: &Rows) {
+    assert_same(rt, &coefficients(rt, alloc, domain, rows), coeffs);
     for group in GROUPS {
-        let copy = rows.try_clone(alloc)?;
         assert_same(
             rt,
-            &interpolate_grouped(rt, alloc, domain, copy, group)?,
+            &interpolate_grouped(rt, alloc, domain, rows, group),
             coeffs,
         );
     }
-    Ok(())
 }
 
 // Asserts that the values of these coefficients on a larger domain are the same by layers, by the
@@ -194,35 +181,28 @@ fn assert_extended(
     (domain, target): (Domain, Domain),
     coeffs: &Rows,
     rows: &Rows,
-) -> Result<(), AllocError> {
-    let values = evaluate_by_layers(rt, alloc, target, coeffs)?;
-    assert_evaluated(rt, alloc, target, coeffs, &values)?;
-    assert_same(rt, &extended(rt, alloc, domain, rows, target)?, &values);
-    Ok(())
+) {
+    let values = evaluate_by_layers(rt, alloc, target, coeffs);
+    assert_evaluated(rt, alloc, target, coeffs, &values);
+    assert_same(rt, &extended(rt, alloc, domain, rows, target), &values);
 }
 
 // Asserts that the transforms of a domain's rows return what one layer after another does.
-fn assert_as_by_layers(
-    rt: &impl Abort,
-    alloc: Global,
-    log_n: usize,
-    width: usize,
-) -> Result<(), AllocError> {
+fn assert_as_by_layers(rt: &impl Abort, alloc: Global, log_n: usize, width: usize) {
     assert!(rt; log_n >= 1 && log_n <= 6 && width >= 1 && width <= 4);
     let (domain, target) = (Domain::standard(log_n), Domain::standard(log_n + 2));
-    let rows = scattered(rt, alloc, 1 << log_n, width, log_n as u64)?;
-    let coeffs = interpolate_by_layers(rt, alloc, domain, &rows)?;
-    assert_interpolated(rt, alloc, domain, &rows, &coeffs)?;
-    assert_evaluated(rt, alloc, domain, &coeffs, &rows)?;
-    assert_extended(rt, alloc, (domain, target), &coeffs, &rows)
+    let rows = scattered(rt, alloc, 1 << log_n, width, log_n as u64);
+    let coeffs = interpolate_by_layers(rt, alloc, domain, &rows);
+    assert_interpolated(rt, alloc, domain, &rows, &coeffs);
+    assert_evaluated(rt, alloc, domain, &coeffs, &rows);
+    assert_extended(rt, alloc, (domain, target), &coeffs, &rows);
 }
 
 #[test]
-fn the_fast_forms_beside_one_layer_after_another(rt: HostRuntime) -> Result<(), Fail> {
+fn the_fast_forms_beside_one_layer_after_another(rt: HostRuntime) {
     for log_n in [1, 2, 3, 6] {
         for width in [1, 4] {
-            assert_as_by_layers(&rt, rt.alloc(), log_n, width)?;
+            assert_as_by_layers(&rt, rt.alloc(), log_n, width);
         }
     }
-    Ok(())
 }

@@ -1,13 +1,13 @@
 //! The weights of values off a domain over Mersenne31 and its cubic extension, beside quotients.
 use crate::smaller::point_at;
-use crate::transform::Rows;
+use crate::transform::{MEMORY, Rows};
 use circle_commit::Matrix;
 use circle_domain::{LagrangeWeights, lagrange_weights};
 use circle_field::{Cubic, ExtensionField, Field, Mersenne31};
 use circle_plane::{CircleDomain, CircleEvaluations, Point};
-use std::alloc::{AllocError, Global};
+use std::alloc::Global;
 use std::process::Abort;
-use std::test::Fail;
+use test_schemes::expect;
 
 pub(crate) fn element(value: u64) -> Mersenne31 {
     Mersenne31::from_u64(value)
@@ -30,10 +30,12 @@ pub(crate) fn evaluate_at_point(
     domain: CircleDomain<Mersenne31>,
     rows: Rows,
     at: Point<Cubic>,
-) -> Result<Vec<Cubic>, AllocError> {
+) -> Vec<Cubic> {
     assert!(rt; domain.log_n() <= 31 && domain.is_genuine() && rows.height() == domain.size());
     assert!(rt; domain.is_clear_of(at));
-    CircleEvaluations::from_natural_order(domain, rows).evaluate_at_point(alloc, at)
+    CircleEvaluations::from_natural_order(domain, rows)
+        .evaluate_at_point(alloc, at)
+        .expect(rt, MEMORY)
 }
 
 // `lagrange_weights`, after a test of what it requires.
@@ -42,9 +44,9 @@ fn weights(
     alloc: Global,
     domain: CircleDomain<Mersenne31>,
     at: Point<Cubic>,
-) -> Result<LagrangeWeights<Cubic>, AllocError> {
+) -> LagrangeWeights<Cubic> {
     assert!(rt; domain.log_n() <= 31 && domain.is_genuine() && domain.is_clear_of(at));
-    lagrange_weights(alloc, domain, at)
+    lagrange_weights(alloc, domain, at).expect(rt, MEMORY)
 }
 
 // Asserts that each weight is the vanishing polynomial at `at` over the product of the selector of
@@ -63,12 +65,12 @@ fn assert_weights(
         let difference = at - point;
         let denominator = difference.y() * Cubic::from_base(point.s_p_at_p(log_n));
         let numerator = vanishing * (difference.x() + Cubic::ONE);
-        assert!(rt; *share * weights.scale * denominator == numerator);
+        expect!(rt; *share * weights.scale * denominator == numerator);
     }
 }
 
 #[test]
-fn lagrange_polynomials_are_quotients(rt: HostRuntime) -> Result<(), Fail> {
+fn lagrange_polynomials_are_quotients(rt: HostRuntime) {
     let at = on_line(&rt, cubic(9, 0, 1));
     for log_n in 1..10 {
         let shift = Point::<Mersenne31>::generator(log_n + 2);
@@ -76,8 +78,7 @@ fn lagrange_polynomials_are_quotients(rt: HostRuntime) -> Result<(), Fail> {
             CircleDomain::standard(log_n),
             CircleDomain::new(log_n, shift),
         ] {
-            assert_weights(&rt, domain, at, &weights(&rt, rt.alloc(), domain, at)?);
+            assert_weights(&rt, domain, at, &weights(&rt, rt.alloc(), domain, at));
         }
     }
-    Ok(())
 }

@@ -2,13 +2,13 @@
 ghost use Rattle.std.specs.Prelude.{◌≡◌, All, IsTrue, length};
 
 use crate::off_domain::{element, evaluate_at_point, on_line};
-use crate::transform::column;
+use crate::transform::{MEMORY, column};
 use circle_commit::PeriodicEvaluator;
 use circle_field::{ComplexExtendable, Cubic, ExtensionField, Field, Mersenne31};
 use circle_plane::{CircleDomain, CirclePeriodicEvaluator, Point};
 use std::alloc::{AllocError, Global};
 use std::process::Abort;
-use std::test::Fail;
+use test_schemes::expect;
 
 type Column = Vec<Mersenne31>;
 
@@ -21,13 +21,8 @@ fn elements(alloc: Global, values: &[u64]) -> Result<Column, AllocError> {
 
 // The value at a point of the only polynomial with these values on the standard domain of four
 // points.
-fn value_of_four(
-    rt: &impl Abort,
-    alloc: Global,
-    values: &[u64],
-    at: Point<Cubic>,
-) -> Result<Vec<Cubic>, AllocError> {
-    let rows = column(alloc, values)?;
+fn value_of_four(rt: &impl Abort, alloc: Global, values: &[u64], at: Point<Cubic>) -> Vec<Cubic> {
+    let rows = column(rt, alloc, values);
     evaluate_at_point(rt, alloc, CircleDomain::standard(2), rows, at)
 }
 
@@ -64,25 +59,20 @@ fn columns(alloc: Global, count: usize) -> Result<Vec<Column>, AllocError> {
 
 // Asserts that each of several columns of 10, 20, 30, 40 has the value at a point of the only
 // polynomial with these values.
-fn assert_at_point(
-    rt: &impl Abort,
-    alloc: Global,
-    count: usize,
-    t: Cubic,
-) -> Result<(), AllocError> {
-    let by_point = four_at_point(rt, alloc, &columns(alloc, count)?, t)?;
+fn assert_at_point(rt: &impl Abort, alloc: Global, count: usize, t: Cubic) {
+    let columns = columns(alloc, count).expect(rt, MEMORY);
+    let by_point = four_at_point(rt, alloc, &columns, t).expect(rt, MEMORY);
     let at = on_line(rt, t).repeated_double(2);
-    let plain = value_of_four(rt, alloc, &[10, 20, 30, 40], at)?;
-    assert!(rt; by_point.len() == count && plain.len() == 1);
-    assert!(rt; by_point.iter().all(|value| plain.contains(value)));
-    Ok(())
+    let plain = value_of_four(rt, alloc, &[10, 20, 30, 40], at);
+    expect!(rt; by_point.len() == count);
+    expect!(rt; plain.len() == 1);
+    expect!(rt; by_point.iter().all(|value| plain.contains(value)));
 }
 
 #[test]
-fn periodic_columns_at_points(rt: HostRuntime) -> Result<(), Fail> {
+fn periodic_columns_at_points(rt: HostRuntime) {
     for (count, k) in [(1, 0), (1, 1), (1, 2), (1, 3), (1, 4), (2000, 5)] {
         let t = Cubic::from_coefficients(&[element(k), element(7), element(k * k + 1)]);
-        assert_at_point(&rt, rt.alloc(), count, t)?;
+        assert_at_point(&rt, rt.alloc(), count, t);
     }
-    Ok(())
 }

@@ -2,14 +2,18 @@
 use circle_commit::{Matrix, RowMajorMatrix};
 use circle_field::{ExtensionField, Field, Mersenne31};
 use circle_plane::{CircleDomain, CircleEvaluations};
-use std::alloc::{AllocError, Global};
+use std::alloc::Global;
 use std::process::Abort;
+use test_schemes::expect;
 
 pub(crate) type Domain = CircleDomain<Mersenne31>;
 
 pub(crate) type Rows = RowMajorMatrix<Mersenne31>;
 
 pub(crate) type Evaluations = CircleEvaluations<Mersenne31, Rows>;
+
+// Why a test ends that memory is refused.
+pub(crate) const MEMORY: &str = "memory is refused";
 
 // The rows of this width that these entries make up.
 pub(crate) fn rows_of(rt: &impl Abort, entries: Vec<Mersenne31>, width: usize) -> Rows {
@@ -24,15 +28,20 @@ pub(crate) fn scattered(
     height: usize,
     width: usize,
     seed: u64,
-) -> Result<Rows, AllocError> {
+) -> Rows {
     assert!(rt; height <= 1024 && width >= 1 && width <= 1024);
     let mut state = Mersenne31::from_u64(seed);
-    let mut values = Vec::with_capacity(alloc, height * width)?;
+    let mut values = Vec::new(alloc);
     for _ in 0..height * width {
         state = state * Mersenne31::from_u64(1103515245) + Mersenne31::from_u64(12345);
-        values.push(state)?;
+        values.push(state).expect(rt, MEMORY);
     }
-    Ok(rows_of(rt, values, width))
+    rows_of(rt, values, width)
+}
+
+// A copy of a matrix.
+pub(crate) fn copy_of(rt: &impl Abort, alloc: Global, rows: &Rows) -> Rows {
+    rows.try_clone(alloc).expect(rt, MEMORY)
 }
 
 // The sum of a column's entries, each times its factor.
@@ -57,22 +66,24 @@ pub(crate) fn evaluate(
     alloc: Global,
     domain: Domain,
     coeffs: Rows,
-) -> Result<Evaluations, AllocError> {
+) -> Evaluations {
     let height = coeffs.height();
-    assert!(rt; height >= 1 && height == 1 << height.ilog2());
-    assert!(rt; domain.log_n() >= 1 && domain.log_n() <= 31 && height <= domain.size());
-    CircleEvaluations::evaluate(alloc, domain, coeffs)
+    assert!(rt;
+        height >= 1
+            && height == 1 << height.ilog2()
+            && domain.log_n() >= 1
+            && domain.log_n() <= 31
+            && height <= domain.size()
+    );
+    CircleEvaluations::evaluate(alloc, domain, coeffs).expect(rt, MEMORY)
 }
 
 // The coefficients of polynomials with these rows in natural order.
-pub(crate) fn interpolate(
-    rt: &impl Abort,
-    alloc: Global,
-    domain: Domain,
-    rows: Rows,
-) -> Result<Rows, AllocError> {
+pub(crate) fn interpolate(rt: &impl Abort, alloc: Global, domain: Domain, rows: Rows) -> Rows {
     assert!(rt; domain.log_n() <= 31 && domain.is_genuine() && rows.height() == domain.size());
-    CircleEvaluations::from_natural_order(domain, rows).interpolate(alloc)
+    CircleEvaluations::from_natural_order(domain, rows)
+        .interpolate(alloc)
+        .expect(rt, MEMORY)
 }
 
 // Asserts that the rows of both are the same.
@@ -83,15 +94,17 @@ pub(crate) fn assert_same<L: Matrix<Mersenne31>, R: Matrix<Mersenne31>>(
 ) {
     assert!(rt; left.height() == right.height() && left.width() == right.width());
     for r in 0..left.height() {
-        assert!(rt; left.row(r) == right.row(r));
+        expect!(rt; left.row(r) == right.row(r));
     }
 }
 
 // The matrix of one column with these entries.
-pub(crate) fn column(alloc: Global, values: &[u64]) -> Result<Rows, AllocError> {
-    let values = values
-        .iter()
-        .map(|value| Mersenne31::from_u64(*value))
-        .collect(alloc)?;
-    Ok(RowMajorMatrix::new_col(values))
+pub(crate) fn column(rt: &impl Abort, alloc: Global, values: &[u64]) -> Rows {
+    let mut entries = Vec::new(alloc);
+    for value in values {
+        entries
+            .push(Mersenne31::from_u64(*value))
+            .expect(rt, MEMORY);
+    }
+    RowMajorMatrix::new_col(entries)
 }

@@ -1,101 +1,170 @@
 //! Standard domains of 16 and of 1024 points over Mersenne31: from point to point, domains beside
 //! them, and their parts with the rows of these, of 8 and of 32 columns.
 use crate::selectors::{coordinate, vanishing};
-use crate::transform::{Domain, Rows, rows_of};
+use crate::transform::{Domain, MEMORY, Rows, copy_of, rows_of};
 use circle_commit::{Matrix, PolynomialSpace, is_power_of_two};
 use circle_field::{Field, Mersenne31};
-use std::alloc::{AllocError, Global};
+use circle_plane::Point;
+use std::alloc::Global;
 use std::process::Abort;
-use std::test::Fail;
+use test_schemes::expect;
+
+// The coordinate of the first point.
+fn first_point(rt: &impl Abort, domain: Domain) -> Mersenne31 {
+    assert!(rt; domain.shift().to_projective_line().is_some());
+    domain.first_point()
+}
+
+// The coordinate after that of point `i`. Asserts that the point's is `t`, that the vanishing
+// polynomial is zero there, and that the next one is the first behind the last point alone.
+fn step(
+    rt: &impl Abort,
+    domain: Domain,
+    first: Mersenne31,
+    (i, point): (usize, Point<Mersenne31>),
+    t: Mersenne31,
+) -> Mersenne31 {
+    assert!(rt; domain.log_n() >= 1 && domain.log_n() <= 31 && i < domain.size());
+    expect!(rt; point == domain.nth_point(i));
+    expect!(rt; coordinate(rt, point) == t);
+    expect!(rt; vanishing(rt, domain, t).is_zero());
+    let next = domain.next_point(t).expect(rt, "there is no next point");
+    expect!(rt; (next == first) == (i + 1 == domain.size()));
+    next
+}
 
 // Asserts that the steps from the first point are through the points in natural order, at each of
 // which the vanishing polynomial is zero, and lead back.
 fn assert_walk(rt: &impl Abort, domain: Domain) {
     assert!(rt; domain.log_n() >= 1 && domain.log_n() <= 31);
-    let first = coordinate(rt, domain.shift());
-    assert!(rt; domain.shift().to_projective_line().is_some());
-    assert!(rt; domain.first_point() == first);
+    let first = first_point(rt, domain);
+    expect!(rt; coordinate(rt, domain.shift()) == first);
     let mut t = first;
-    for (i, point) in domain.points().enumerate() {
-        assert!(rt; i < domain.size() && point == domain.nth_point(i));
-        assert!(rt; coordinate(rt, point) == t && vanishing(rt, domain, t).is_zero());
-        t = domain.next_point(t).expect(rt, "there is no next point");
-        assert!(rt; (t == first) == (i + 1 == domain.size()));
+    for place in domain.points().enumerate() {
+        t = step(rt, domain, first, place, t);
     }
+}
+
+// A domain beside this one of at least `min_size` points.
+fn other_of(rt: &impl Abort, domain: Domain, min_size: usize) -> Domain {
+    assert!(rt; domain.log_n() >= 1 && domain.log_n() <= 31);
+    let other = domain.try_create_disjoint_domain(min_size);
+    other.expect(rt, "there is no other domain")
+}
+
+// Asserts that a point is none of a domain's.
+fn assert_clear(rt: &impl Abort, domain: Domain, point: Point<Mersenne31>) {
+    assert!(rt; domain.log_n() >= 1 && domain.log_n() <= 31);
+    expect!(rt; domain.is_clear_of(point));
 }
 
 // Asserts that there is a domain of at least `min_size` points, none of which is one of this
 // domain's.
 fn assert_other(rt: &impl Abort, domain: Domain, min_size: usize) {
-    assert!(rt; domain.log_n() >= 1 && domain.log_n() <= 31);
-    let other = domain.try_create_disjoint_domain(min_size);
-    let other = other.expect(rt, "there is no other domain");
+    let other = other_of(rt, domain, min_size);
     assert!(rt; other.log_n() >= 1 && other.log_n() <= 31 && other.size() >= min_size);
     for point in other.points() {
-        assert!(rt; domain.is_clear_of(point));
+        assert_clear(rt, domain, point);
     }
 }
 
 // Rows of this width, one after another of the entries 0, 1, 2, ..
-fn counting(
-    rt: &impl Abort,
-    alloc: Global,
-    height: usize,
-    width: usize,
-) -> Result<Rows, AllocError> {
+fn counting(rt: &impl Abort, alloc: Global, height: usize, width: usize) -> Rows {
     assert!(rt; height <= 1024 && width <= 32);
-    let mut entries = Vec::with_capacity(alloc, height * width)?;
+    let mut entries = Vec::new(alloc);
     for i in 0..height * width {
-        entries.push(Mersenne31::from_u64(i as u64))?;
+        entries
+            .push(Mersenne31::from_u64(i as u64))
+            .expect(rt, MEMORY);
     }
-    Ok(rows_of(rt, entries, width))
+    rows_of(rt, entries, width)
+}
+
+// The place of a row of a part in the domain, by the row's first entry.
+fn place_of(rt: &impl Abort, row: &[Mersenne31]) -> usize {
+    assert!(rt; !row.is_empty());
+    row[0].value() as usize / row.len()
+}
+
+// Asserts that the domain has this point at a place, with this row.
+fn assert_at(
+    rt: &impl Abort,
+    (domain, rows): (Domain, &Rows),
+    place: usize,
+    (point, row): (Point<Mersenne31>, &[Mersenne31]),
+) {
+    assert!(rt; domain.log_n() >= 1 && domain.log_n() <= 31);
+    assert!(rt; place < domain.size() && place < rows.height());
+    expect!(rt; point == domain.nth_point(place));
+    expect!(rt; row == rows.row(place));
+}
+
+// Marks a place that wasn't seen.
+fn mark(rt: &impl Abort, seen: &mut [bool], place: usize) {
+    assert!(rt; place < seen.len() && !seen[place]);
+    seen[place] = true;
+}
+
+// The row of point `i` of a part, after a test of that point: its opposite is as many places before
+// the end.
+fn row_of_point<'a>(
+    rt: &impl Abort,
+    (part, of_part): (Domain, &'a Rows),
+    i: usize,
+    point: Point<Mersenne31>,
+) -> &'a [Mersenne31] {
+    assert!(rt; part.log_n() >= 1 && part.log_n() <= 31);
+    assert!(rt; i < part.size() && i < of_part.height());
+    expect!(rt; part.nth_point(part.size() - 1 - i) == -point);
+    of_part.row(i)
 }
 
 // Asserts that a part holds points of the domain that no other part has, each with its row, and the
 // opposite of each as many places before the end.
 fn assert_part(
     rt: &impl Abort,
-    (domain, rows): (Domain, &Rows),
-    (part, of_part): (Domain, &Rows),
+    of_domain: (Domain, &Rows),
+    of_part: (Domain, &Rows),
     seen: &mut [bool],
 ) {
-    assert!(rt; domain.log_n() >= 1 && domain.log_n() <= 31);
-    assert!(rt; part.log_n() >= 1 && part.log_n() <= 31);
-    for (i, point) in part.points().enumerate() {
-        assert!(rt; i < part.size() && part.nth_point(part.size() - 1 - i) == -point);
-        assert!(rt; i < of_part.height());
-        let row = of_part.row(i);
-        assert!(rt; !row.is_empty());
-        let place = row[0].value() as usize / row.len();
-        assert!(rt; place < domain.size() && point == domain.nth_point(place));
-        assert!(rt; place < rows.height() && row == rows.row(place));
-        assert!(rt; place < seen.len() && !seen[place]);
-        seen[place] = true;
+    assert!(rt; of_part.0.log_n() >= 1 && of_part.0.log_n() <= 31);
+    for (i, point) in of_part.0.points().enumerate() {
+        let row = row_of_point(rt, of_part, i, point);
+        let place = place_of(rt, row);
+        assert_at(rt, of_domain, place, (point, row));
+        mark(rt, seen, place);
     }
 }
 
-// Asserts that this number of parts, with the rows of each, make up the domain with its rows.
-fn assert_parts(
+// The parts of a domain, this number of them, and the rows of each.
+fn parts_of(
     rt: &impl Abort,
     alloc: Global,
     domain: Domain,
-    width: usize,
+    rows: Rows,
     count: usize,
-) -> Result<(), AllocError> {
+) -> (Vec<Domain>, Vec<Rows>) {
     assert!(rt; domain.log_n() >= 1 && domain.log_n() <= 31 && domain.is_standard());
-    assert!(rt; is_power_of_two(count) && count <= domain.size() / 2);
-    let rows = counting(rt, alloc, domain.size(), width)?;
-    let copy = rows.try_clone(alloc)?;
-    assert!(rt; copy.height() == domain.size());
-    let parts = domain.split_domains(alloc, count)?;
-    let of_parts = domain.split_evals(alloc, count, copy)?;
-    assert!(rt; parts.len() == count && of_parts.len() == count);
-    let mut seen = vec![in alloc; false; domain.size()]?;
+    assert!(rt;
+        is_power_of_two(count) && count <= domain.size() / 2 && rows.height() == domain.size()
+    );
+    let parts = domain.split_domains(alloc, count);
+    let of_parts = domain.split_evals(alloc, count, rows);
+    (parts.expect(rt, MEMORY), of_parts.expect(rt, MEMORY))
+}
+
+// Asserts that this number of parts, with the rows of each, make up the domain with its rows.
+fn assert_parts(rt: &impl Abort, alloc: Global, domain: Domain, width: usize, count: usize) {
+    assert!(rt; domain.log_n() <= 31);
+    let rows = counting(rt, alloc, domain.size(), width);
+    let (parts, of_parts) = parts_of(rt, alloc, domain, copy_of(rt, alloc, &rows), count);
+    expect!(rt; parts.len() == count);
+    expect!(rt; of_parts.len() == count);
+    let mut seen = vec![in alloc; false; domain.size()].expect(rt, MEMORY);
     for (part, of_part) in parts.iter().zip(&of_parts) {
         assert_part(rt, (domain, &rows), (*part, of_part), &mut seen);
     }
-    assert!(rt; seen.iter().all(|seen| *seen));
-    Ok(())
+    expect!(rt; seen.iter().all(|seen| *seen));
 }
 
 #[test]
@@ -118,10 +187,9 @@ fn other_domains(rt: HostRuntime) {
 }
 
 #[test]
-fn parts_of_16_and_of_1024_points(rt: HostRuntime) -> Result<(), Fail> {
+fn parts_of_16_and_of_1024_points(rt: HostRuntime) {
     for count in [1, 2, 4, 8] {
-        assert_parts(&rt, rt.alloc(), Domain::standard(4), 8, count)?;
-        assert_parts(&rt, rt.alloc(), Domain::standard(10), 32, count)?;
+        assert_parts(&rt, rt.alloc(), Domain::standard(4), 8, count);
+        assert_parts(&rt, rt.alloc(), Domain::standard(10), 32, count);
     }
-    Ok(())
 }

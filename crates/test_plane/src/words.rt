@@ -1,13 +1,13 @@
 //! What a committed column is opened to, over Mersenne31 and its cubic extension.
 use crate::off_domain::{cubic, on_line};
-use crate::transform::{Rows, column};
+use crate::transform::{MEMORY, Rows, column};
 use circle_codewords::{are_off_domain, opened_values};
 use circle_commit::Matrix;
 use circle_field::{Cubic, Field, Mersenne31};
 use circle_plane::Point;
 use std::alloc::{AllocError, Global};
 use std::process::Abort;
-use std::test::Fail;
+use test_schemes::expect;
 
 // The values of 1 + 2y + 3x + 4xy at the eight points of the standard domain in the transform's
 // order.
@@ -24,15 +24,19 @@ fn opened(
     rows: &Rows,
     points: &[Cubic],
 ) -> Result<Vec<Vec<Cubic>>, AllocError> {
-    assert!(rt; log_height < 31 && log_blowup < log_height && rows.height() == 1 << log_height);
-    assert!(rt; are_off_domain::<Mersenne31, Cubic>(log_height, points));
+    assert!(rt;
+        log_height < 31
+            && log_blowup < log_height
+            && rows.height() == 1 << log_height
+            && are_off_domain::<Mersenne31, Cubic>(log_height, points)
+    );
     let mut all = Vec::new(alloc);
     let values = opened_values(alloc, &mut all, log_blowup, log_height, rows, points)?;
     let added = all.len();
     let again = opened_values(alloc, &mut all, log_blowup, log_height, rows, points)?;
-    assert!(rt;
-        added == points.len() && all.len() == added && values.as_slice() == again.as_slice()
-    );
+    expect!(rt; added == points.len());
+    expect!(rt; all.len() == added);
+    expect!(rt; values.as_slice() == again.as_slice());
     Ok(values)
 }
 
@@ -43,11 +47,11 @@ fn polynomial_at(at: Point<Cubic>) -> Cubic {
 }
 
 #[test]
-fn the_weights_of_a_point_are_made_once(rt: HostRuntime) -> Result<(), Fail> {
+fn the_weights_of_a_point_are_made_once(rt: HostRuntime) {
     let alloc = rt.alloc();
     let t = cubic(0, 1, 0);
     let expected = polynomial_at(on_line(&rt, t));
-    let values = opened(&rt, alloc, 1, 3, &column(alloc, &EIGHT_BY_PAIRS)?, &[t])?;
+    let column = column(&rt, alloc, &EIGHT_BY_PAIRS);
+    let values = opened(&rt, alloc, 1, 3, &column, &[t]).expect(&rt, MEMORY);
     assert!(&rt; values.len() == 1 && values[0].as_slice() == [expected].as_slice());
-    Ok(())
 }

@@ -12,6 +12,7 @@ use circle_folding::{
 use std::alloc::{AllocError, Global};
 use std::process::Abort;
 use std::test::Fail;
+use test_schemes::expect;
 
 // All indices below `2^log_max_height`, in no order, and some of them twice.
 pub fn repeated_indices(alloc: Global, log_max_height: usize) -> Result<Vec<usize>, AllocError>
@@ -73,7 +74,7 @@ pub fn assert_pairs<EF: Field>(
     for (i, index) in indices.iter().enumerate() {
         let pair = *index >> (bits + 1);
         assert!(rt; pair < word.len() / 2 && 0 < count && rows[i].len() == count);
-        assert!(rt; rows[i][count - 1].as_slice() == &word[2 * pair..2 * pair + 2]);
+        expect!(rt; rows[i][count - 1].as_slice() == &word[2 * pair..2 * pair + 2]);
     }
 }
 
@@ -88,7 +89,7 @@ fn assert_asked<EF: Field>(
     values: &[EF],
 ) -> Result<(), AllocError> {
     let expected = asked(rt, alloc, bits, 0, indices, word)?;
-    assert!(rt; values == expected.as_slice());
+    expect!(rt; values == expected.as_slice());
     Ok(())
 }
 

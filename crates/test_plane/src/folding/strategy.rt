@@ -6,6 +6,7 @@ use circle_point::Point;
 use std::alloc::{AllocError, Global};
 use std::process::Abort;
 use std::test::Fail;
+use test_schemes::expect;
 
 // How many further bits of an index any strategy takes.
 fn bits<S: FriFoldingStrategy<Mersenne31, Cubic>>(strategy: &S) -> usize {
@@ -50,7 +51,7 @@ fn pair() -> [Cubic; 2] {
 #[test]
 fn a_pair_folds_to_the_value_at_the_challenge(rt: HostRuntime) -> Result<(), Fail> {
     let (beta, five) = (Cubic::from_u64(2), Cubic::from_u64(5));
-    assert!(&rt; fold_of(&CircleFriFolding, beta, pair()) == five);
+    expect!(&rt; fold_of(&CircleFriFolding, beta, pair()) == five);
     let rows = RowMajorMatrix::new(Vec::from_slice(rt.alloc(), &pair())?, 2);
     let folded = folds_of(&rt, rt.alloc(), beta, 0, rows)?;
     assert!(&rt; folded.len() == 1 && folded[0] == five);
@@ -63,12 +64,12 @@ fn a_constant_of_many_pairs_folds_to_itself(rt: HostRuntime) -> Result<(), Fail>
     let entries = vec![in rt.alloc(); seven; 1 << 14]?;
     let rows = RowMajorMatrix::new(entries, 2);
     let folded = folds_of(&rt, rt.alloc(), Cubic::from_u64(3), 13, rows)?;
-    assert_eq!(&rt; folded.len(), 1 << 13);
-    assert!(&rt; folded.iter().all(|entry| *entry == seven));
+    expect!(&rt; folded.len() == 1 << 13);
+    expect!(&rt; folded.iter().all(|entry| *entry == seven));
     Ok(())
 }
 
 #[test]
 fn one_further_bit(rt: HostRuntime) {
-    assert_eq!(rt; bits(&CircleFriFolding), 1);
+    expect!(rt; bits(&CircleFriFolding) == 1);
 }
