@@ -9,6 +9,7 @@ use std::test::Fail;
 use test_batches::batches::{Domain, Rows, one, rows};
 use test_batches::openings::told;
 use test_batches::parameters::{Numbers, SMALL, parameters};
+use test_schemes::expect;
 
 type Committed = ([u8; 32], ProverData);
 
@@ -102,8 +103,8 @@ fn evaluations_on(
 
 // Asserts that a matrix is the column of these entries.
 fn assert_column(rt: &impl Abort, matrix: &Rows, expected: &[u64]) {
-    assert_eq!(rt; matrix.width(), 1);
-    assert!(rt; matrix.height() == expected.len());
+    expect!(rt; matrix.width() == 1);
+    expect!(rt; matrix.height() == expected.len());
     for (r, entry) in expected.iter().enumerate() {
         assert!(rt; r < matrix.height());
         let row = [Mersenne31::from_u64(*entry)];
@@ -113,7 +114,7 @@ fn assert_column(rt: &impl Abort, matrix: &Rows, expected: &[u64]) {
 
 // Asserts that matrices are the columns of these entries.
 fn assert_columns(rt: &impl Abort, matrices: &[Rows], expected: &[&[u64]]) {
-    assert!(rt; matrices.len() == expected.len());
+    expect!(rt; matrices.len() == expected.len());
     for (matrix, entries) in matrices.iter().zip(expected) {
         assert_column(rt, matrix, entries);
     }
@@ -153,11 +154,10 @@ fn assert_refused(
     kinds: &[Kind],
     expected: &str,
 ) -> Result<(), Fail> {
-    let (to_commit, to_extend) = (zeros(rt, alloc, kinds)?, zeros(rt, alloc, kinds)?);
-    let committed = told(commit(rt, alloc, scheme, to_commit));
-    let extended = told(quotient_ldes(rt, alloc, scheme, to_extend, 1));
-    assert_eq!(rt; committed.as_str(), expected);
-    assert_eq!(rt; extended.as_str(), expected);
+    let committed = told(commit(rt, alloc, scheme, zeros(rt, alloc, kinds)?));
+    let extended = told(quotient_ldes(rt, alloc, scheme, zeros(rt, alloc, kinds)?, 1));
+    expect!(rt; committed.as_str() == expected);
+    expect!(rt; extended.as_str() == expected);
     Ok(())
 }
 
@@ -203,7 +203,7 @@ fn assert_extended(
     let ldes = quotient_ldes(rt, alloc, scheme, given, num_chunks)?;
     assert_columns(rt, &ldes, &[EIGHT_BY_PAIRS]);
     let (same, _) = commit_ldes(rt, alloc, scheme, ldes)?;
-    assert!(rt; same == *commitment);
+    expect!(rt; same == *commitment);
     Ok(())
 }
 
@@ -245,7 +245,7 @@ fn assert_on_domains(
     let (scheme, given) = (scheme(1, 0), batch(alloc, Domain::standard(2), entries)?);
     let (_, data) = commit(rt, alloc, &scheme, given)?;
     let small = told(evaluations_on(rt, alloc, &scheme, &data, Domain::standard(1)));
-    assert_eq!(rt; small.as_str(), "a domain is smaller than the trace");
+    expect!(rt; small.as_str() == "a domain is smaller than the trace");
     for (domain, expected) in cases {
         assert_values(rt, alloc, &scheme, &data, *domain, expected)?;
     }
@@ -281,7 +281,7 @@ fn assert_too_low(
     entries: &[&[u64]],
 ) -> Result<(), Fail> {
     let refused = told(commit_ldes(rt, alloc, scheme, columns(alloc, entries)?));
-    assert_eq!(rt; refused.as_str(), TOO_SMALL);
+    expect!(rt; refused.as_str() == TOO_SMALL);
     Ok(())
 }
 
@@ -292,8 +292,8 @@ const TOO_LOW: [&[u64]; 2] = [&[7; 32], &[1, 0, 0, 0, 0, 0, 0, 0]];
 // Asserts that no matrices are nothing to commit to, and that their extensions are none.
 fn assert_nothing(rt: &impl Abort, alloc: Global, scheme: &Scheme) -> Result<(), Fail> {
     let refused = told(commit_ldes(rt, alloc, scheme, Vec::new(alloc)));
-    assert_eq!(rt; refused.as_str(), "no matrix is committed to");
-    assert!(rt; quotient_ldes(rt, alloc, scheme, Vec::new(alloc), 1)?.is_empty());
+    expect!(rt; refused.as_str() == "no matrix is committed to");
+    expect!(rt; quotient_ldes(rt, alloc, scheme, Vec::new(alloc), 1)?.is_empty());
     Ok(())
 }
 
@@ -305,7 +305,7 @@ fn assert_too_few(
     data: &ProverData,
 ) -> Result<(), Fail> {
     let small = told(evaluations_on(rt, alloc, scheme, data, Domain::standard(3)));
-    assert_eq!(rt; small.as_str(), TOO_SMALL);
+    expect!(rt; small.as_str() == TOO_SMALL);
     assert_too_low(rt, alloc, scheme, &TOO_LOW)
 }
 
@@ -326,13 +326,13 @@ fn matrices_as_they_are(rt: HostRuntime) -> Result<(), Fail> {
 #[test]
 fn domains_and_limits(rt: HostRuntime) {
     let one = scheme(1, 0);
-    assert_eq!(&rt; one.natural_domain_for_degree(2), Domain::standard(1));
-    assert_eq!(&rt; one.natural_domain_for_degree(8), Domain::standard(3));
-    assert_eq!(&rt; one.log_max_trace_height(), 30);
+    expect!(&rt; one.natural_domain_for_degree(2) == Domain::standard(1));
+    expect!(&rt; one.natural_domain_for_degree(8) == Domain::standard(3));
+    expect!(&rt; one.log_max_trace_height() == 30);
     for (log_final_poly_len, least) in [(0, 2), (3, 5), (usize::MAX - 1, usize::MAX)] {
-        assert_eq!(&rt; scheme(1, log_final_poly_len).log_min_trace_height(), least);
+        expect!(&rt; scheme(1, log_final_poly_len).log_min_trace_height() == least);
     }
-    assert!(&rt; !Scheme::ZK);
+    expect!(&rt; !Scheme::ZK);
 }
 
 // So many columns of one seven each.
@@ -351,7 +351,8 @@ fn periodic_columns(rt: HostRuntime) -> Result<(), Fail> {
     for count in [1, 2000] {
         let columns = periodic_sevens(alloc, count)?;
         let table = scheme.build_periodic_lde_table(alloc, &columns, trace, extension)?;
-        assert!(&rt; table.width() == count && table.height() == 2);
+        expect!(&rt; table.width() == count);
+        expect!(&rt; table.height() == 2);
     }
     Ok(())
 }
@@ -376,8 +377,9 @@ fn sevens(
 
 // Asserts that a matrix has sevens alone, in `height` rows.
 fn assert_sevens(rt: &impl Abort, matrix: &Rows, height: usize, width: usize) {
-    assert!(rt; matrix.height() == height && matrix.width() == width);
-    assert!(rt; matrix.values().iter().all(|entry| entry.value() == 7));
+    expect!(rt; matrix.height() == height);
+    expect!(rt; matrix.width() == width);
+    expect!(rt; matrix.values().iter().all(|entry| entry.value() == 7));
 }
 
 // A blowup's binary logarithm, and what is extended.
@@ -397,7 +399,7 @@ fn extended_sevens(
     height: usize,
 ) -> Result<Vec<Rows>, Fail> {
     let ldes = quotient_ldes(rt, alloc, scheme, sevens(rt, alloc, size)?, 1)?;
-    assert!(rt; ldes.len() == size.0);
+    expect!(rt; ldes.len() == size.0);
     for matrix in &ldes {
         assert_sevens(rt, matrix, height, size.2);
     }
