@@ -24,12 +24,8 @@ fn opened(
     rows: &Rows,
     points: &[Cubic],
 ) -> Result<Vec<Vec<Cubic>>, AllocError> {
-    assert!(rt;
-        log_height < 31
-            && log_blowup < log_height
-            && rows.height() == 1 << log_height
-            && are_off_domain::<Mersenne31, Cubic>(log_height, points)
-    );
+    assert!(rt; log_height < 31 && log_blowup < log_height && rows.height() == 1 << log_height);
+    assert!(rt; are_off_domain::<Mersenne31, Cubic>(log_height, points));
     let mut all = Vec::new(alloc);
     let values = opened_values(alloc, &mut all, log_blowup, log_height, rows, points)?;
     let added = all.len();
