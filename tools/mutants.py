@@ -1,4 +1,5 @@
 """Mutants: texts in place of a crate's own, which turn the meaning of one function."""
+import functools
 import os
 import re
 
@@ -12,6 +13,13 @@ FOLDERS = ("mutants", "must-fail")
 
 class Unfit(Exception):
     """Why a mutant can't be applied."""
+
+
+@functools.lru_cache(maxsize=None)
+def source_of(folder, path):
+    """A crate's file of src/, read once."""
+    text = (folder / path).read_text(encoding="utf-8")
+    return Source(path[len("src/") :], text)
 
 
 class Mutant:
@@ -79,8 +87,8 @@ class Mutant:
         found = {}
         for path, old, _ in self.pairs():
             if path.startswith("src/"):
-                text = (self.crate_folder / path).read_text(encoding="utf-8")
-                source, place = Source(path[len("src/") :], text), text.find(old)
+                source = source_of(self.crate_folder, path)
+                place = source.text.find(old)
                 it = source.at(place + len(old) - len(old.lstrip())) if place >= 0 else None
                 found[it.path if it else None] = None
         return list(found)
