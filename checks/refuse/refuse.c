@@ -7,8 +7,9 @@
  *                once the child has ended
  * EACH_ONWARD=1  a second child for each of these, to which all after it are refused too
  * EACH_IN=FOLDER where the file `ended` gets a line for each child, 'N alone' or 'N onward' with its
- *                status as waitpid has it and the lengths of what it wrote from then on, on its
- *                standard output and error, and behind the line what it wrote
+ *                exit status, or the number of a signal with a minus, and the lengths of what it
+ *                wrote from then on, on its standard output and error, and behind the line what it
+ *                wrote
  * COUNT_TO=FILE  at the program's exit the file gets the number of allocations that were asked for
  *
  * An allocation is a call of malloc or of realloc. It stands on the names by which the GNU C library
@@ -101,7 +102,7 @@ static int is_child(const char *how) {
     if (read_to >= 0) {
         lseek(STDIN_FILENO, read_to, SEEK_SET);
     }
-    tell(how, status);
+    tell(how, WIFEXITED(status) ? WEXITSTATUS(status) : -WTERMSIG(status));
     return 0;
 }
 
