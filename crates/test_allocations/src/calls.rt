@@ -59,6 +59,23 @@ pub const NAMES: &[&str] = &[
 
 /// What is told of the call with this name, or none where there is no such call.
 pub fn told_of(alloc: Global, stage: Stage, name: &str) -> Option<Result<Told>> {
+    if let Some(subject) = name.strip_prefix("without_") {
+        return of_subject(alloc, stage, subject);
+    }
+    if let Some(told) = of_values(alloc, stage, name) {
+        return Some(told);
+    }
+    if let Some(told) = of_words(alloc, stage, name) {
+        return Some(told);
+    }
+    if let Some(told) = of_airs(alloc, stage, name) {
+        return Some(told);
+    }
+    of_openings(alloc, stage, name)
+}
+
+// Those on elements and on values on a domain.
+fn of_values(alloc: Global, stage: Stage, name: &str) -> Option<Result<Told>> {
     Some(match name {
         "powers" => plane::powers(alloc, stage),
         "batch_multiplicative_inverse" => plane::inverses(alloc, stage),
@@ -75,6 +92,13 @@ pub fn told_of(alloc: Global, stage: Stage, name: &str) -> Option<Result<Told>> 
         ),
         "split_evals" => plane::split_evals(alloc, stage),
         "eval_on_lde" => plane::eval_on_lde(alloc, stage),
+        _ => return None,
+    })
+}
+
+// Those on codewords, on transcripts and on trees, and of elements as JSON.
+fn of_words(alloc: Global, stage: Stage, name: &str) -> Option<Result<Told>> {
+    Some(match name {
         "extract_lambda" => words::lambda(alloc, stage, 3),
         "fold_y" => words::by_y(alloc, stage, 3),
         "fold_x" => words::by_x(alloc, stage, 3),
@@ -83,6 +107,13 @@ pub fn told_of(alloc: Global, stage: Stage, name: &str) -> Option<Result<Told>> 
         "prover_run" => transcript::run(alloc, stage),
         "from_json" => json::elements(alloc, stage),
         "verify_multi_batch" => trees::verdict(alloc, stage),
+        _ => return None,
+    })
+}
+
+// Those on AIRs.
+fn of_airs(alloc: Global, stage: Stage, name: &str) -> Option<Result<Told>> {
+    Some(match name {
         "build_air" => airs::build(alloc, stage),
         "check_constraints" => airs::check(alloc, stage),
         "air_from_json" => json::air(alloc, stage),
@@ -91,6 +122,13 @@ pub fn told_of(alloc: Global, stage: Stage, name: &str) -> Option<Result<Told>> 
         "fibonacci_trace" => airs::fibonacci_rows(alloc, stage),
         "permutation_air" => airs::permutation(alloc, stage),
         "permutation_trace" => airs::permutation_rows(alloc, stage),
+        _ => return None,
+    })
+}
+
+// Those of the scheme and of the STARK.
+fn of_openings(alloc: Global, stage: Stage, name: &str) -> Option<Result<Told>> {
+    Some(match name {
         "commit" => scheme::commit(alloc, stage),
         "open" => scheme::open(alloc, stage),
         "verify" => scheme::verify(alloc, stage),
@@ -98,21 +136,28 @@ pub fn told_of(alloc: Global, stage: Stage, name: &str) -> Option<Result<Told>> 
         "stark_prove" => stark::prove(alloc, stage),
         "stark_verify" => stark::verify(alloc, stage),
         "stark_round_trip" => stark::round_trip(alloc, stage),
-        "without_fields" => without::fields::fields(stage),
-        "without_points" => without::points::points(stage),
-        "without_domains" => without::domains::domains(stage),
-        "without_matrices" => without::matrices::matrices(alloc, stage),
-        "without_codewords" => without::codewords::codewords(stage),
-        "without_airs" => without::airs::airs(alloc, stage),
-        "without_quotients" => without::quotients::quotients(stage),
-        "without_challenger" => without::challenger::challenger(stage),
-        "without_states" => without::transcripts::states(alloc, stage),
-        "without_prover" => without::transcripts::prover(alloc, stage),
-        "without_verifier" => without::transcripts::verifier(alloc, stage),
-        "without_finish" => without::transcripts::finish(alloc, stage),
-        "without_schemes" => without::scheme::schemes(alloc, stage),
-        "without_openings" => without::openings::openings(alloc, stage),
-        "without_laws" => without::laws::laws(alloc, stage),
+        _ => return None,
+    })
+}
+
+// Those of a subject that allocate nothing.
+fn of_subject(alloc: Global, stage: Stage, subject: &str) -> Option<Result<Told>> {
+    Some(match subject {
+        "fields" => without::fields::fields(stage),
+        "points" => without::points::points(stage),
+        "domains" => without::domains::domains(stage),
+        "matrices" => without::matrices::matrices(alloc, stage),
+        "codewords" => without::codewords::codewords(stage),
+        "airs" => without::airs::airs(alloc, stage),
+        "quotients" => without::quotients::quotients(stage),
+        "challenger" => without::challenger::challenger(stage),
+        "states" => without::transcripts::states(alloc, stage),
+        "prover" => without::transcripts::prover(alloc, stage),
+        "verifier" => without::transcripts::verifier(alloc, stage),
+        "finish" => without::transcripts::finish(alloc, stage),
+        "schemes" => without::scheme::schemes(alloc, stage),
+        "openings" => without::openings::openings(alloc, stage),
+        "laws" => without::laws::laws(alloc, stage),
         _ => return None,
     })
 }
