@@ -26,7 +26,7 @@ const FINAL: &str = "final_poly";
 const INDICES: &str = "query_indices";
 
 /// What a run draws, and its witness.
-#[derive(Debug, Drop)]
+#[derive(Drop)]
 pub struct Drawn {
     pub witness: Mersenne31,
     pub alpha: Cubic,
