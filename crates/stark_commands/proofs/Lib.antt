@@ -1,3 +1,5 @@
 mod Checked
 mod Given
+mod Refused
 pub mod Told
+mod Verified
