@@ -87,8 +87,8 @@ module _ {D WD : Type 0}
         ⊎_elim (λ memory. memory.1) (λ other. absurd (other.0 (complete v))) is
 
     pub proof_refused : {P : Type 0} (part : Input → P)
-        (Refuses : Scheme → StarkStatement Mersenne31 → P → List ℕ → List ℕ → ProofError → Type 0)
-        (error : ProofError) (reason : Refusal) → IsRefusalOfProof Proof Memory error reason →
+        (Refuses : Scheme → StarkStatement Mersenne31 → P → Sha256Challenger → Sha256Challenger →
+        ProofError → Type 0) (error : ProofError) (reason : Refusal) → IsRefusalOfProof Proof Memory error reason →
         HasAir input → (IsVerified o input → error ≡ stark.Memory) →
         IsUnverified Refuses (part input) input error →
         (reason ≡ Memory) ⊎ IsVerifyRefusal o part Refuses input reason
@@ -96,20 +96,3 @@ module _ {D WD : Type 0}
         ⊎_elim (λ memory. inl memory.1)
         (λ other. inr (subst (IsVerifyRefusal o part Refuses input) (sym other.1)
         (air, (λ v. other.0 (complete v), refused)))) is
-
--- what is refused from the state that has absorbed nothing is refused of the input
-pub unverified : {P Error : Type 0}
-    (Refuses : Scheme → StarkStatement Mersenne31 → P → List ℕ → List ℕ → Error → Type 0)
-    (proof : P) (input : Input) (error : Error) (scheme : Scheme)
-    (statement : StarkStatement Mersenne31) (start left : List ℕ) →
-    scheme.fri_params ≡ with_scheme input.params scheme.fri_params.mmcs →
-    statement_of statement ≡ statement_given input → start ≡ replicate 32 0 →
-    Refuses scheme statement proof start left error → IsUnverified Refuses proof input error
-unverified Refuses proof input error scheme statement start left same is begun refused = record {
-  scheme = scheme;
-  statement = statement;
-  left = left;
-  params = same;
-  stated = is;
-  refuses = subst (λ old. Refuses scheme statement proof old left error) begun refused;
-}

@@ -3,8 +3,6 @@ pub mod Refused
 pub mod Check
 pub mod Verify
 pub mod Verified
-pub mod Prove
-pub mod Proved
 pub mod Reasons
 pub mod Named
 pub mod Failure

@@ -5,30 +5,25 @@ use Rattle.circle_air.specs.Parts.{parts_of}
 use Rattle.circle_air.specs.Refusal.{refusal}
 use Rattle.circle_challenger.specs.declared.sha256.Sha256Challenger.{Sha256Challenger}
 use Rattle.circle_commit.specs.declared.error.FriError.{FriError}
-use Rattle.circle_commit.specs.declared.pcs.OpeningRequest.{OpeningRequest}
 use Rattle.circle_field.specs.declared.cubic.Cubic.{Cubic}
 use Rattle.circle_field.specs.declared.mersenne31.Mersenne31.{Mersenne31}
 use Rattle.circle_merkle.specs.declared.error.MerkleTreeError.{MerkleTreeError}
 use Rattle.circle_merkle.specs.declared.mmcs.ShaMmcs.{ShaMmcs}
 use Rattle.circle_prover.specs.Schemes.{Schemes}
 use Rattle.circle_relation.specs.declared.error.InputError.{InputError}
-use Rattle.circle_relation.specs.declared.error.ProverError.{ProverError}
 use Rattle.circle_stark.specs.declared.error.StarkError.{StarkError}
 use Rattle.circle_stark.specs.declared.proof.StarkStatement.{StarkStatement}
 use Rattle.stark_commands.specs.Check.{IsUnsatisfied}
-use Rattle.stark_commands.specs.Proved.{IsUnproved}
 use Rattle.stark_commands.specs.Verified.{HasAir, IsUnverified, IsVerified, Scheme}
 use Rattle.stark_commands.specs.declared.check.Input.{Input}
 use Rattle.stark_commands.specs.declared.failure.Reason.{Reason}
-use Rattle.stark_commands.specs.declared.failure.Reason.TheVariants.{Check, Prove, Verify}
-use Rattle.stark_commands.specs.declared.prove.Input.{Input as Statement}
+use Rattle.stark_commands.specs.declared.failure.Reason.TheVariants.{Check, Verify}
 use Rattle.stark_commands.specs.declared.verify.Input.{Input as Claim}
 use Rattle.stark_commands.specs.declared.verify.Refusal.{Refusal}
 use Rattle.stark_commands.specs.declared.verify.Refusal.TheVariants.{Air, Proof, Memory}
 
 abbrev pub IsCheckReason : Input → Reason → Type 0
 IsCheckReason input (Check refusal) = IsUnsatisfied input refusal
-IsCheckReason input (Prove refusal) = ⊥
 IsCheckReason input (Verify refusal) = ⊥
 
 -- why the verifier refuses a proof
@@ -39,7 +34,8 @@ module _ {D WD : Type 0}
     (o : Schemes Sha256Challenger (List ℕ) Mersenne31 Cubic (ShaMmcs Mersenne31) (List ℕ) D
     (Vec (List ℕ) Global) (ShaMmcs Cubic) (List ℕ) WD (Vec (List ℕ) Global)) {P : Type 0}
     (part : Claim → P)
-    (Refuses : Scheme → StarkStatement Mersenne31 → P → List ℕ → List ℕ → ProofError → Type 0)
+    (Refuses : Scheme → StarkStatement Mersenne31 → P → Sha256Challenger → Sha256Challenger →
+    ProofError → Type 0)
   where
     -- the parts make no AIR, or the proof isn't verified and the verifier refuses it for this
     -- reason
@@ -52,15 +48,4 @@ module _ {D WD : Type 0}
 
     abbrev pub IsVerifyReason : Claim → Reason → Type 0
     IsVerifyReason input (Check refusal) = ⊥
-    IsVerifyReason input (Prove refusal) = ⊥
     IsVerifyReason input (Verify refusal) = IsVerifyRefusal input refusal
-
-module _ {D WD : Type 0}
-    (o : Schemes Sha256Challenger (List ℕ) Mersenne31 Cubic (ShaMmcs Mersenne31) (List ℕ) D
-    (Vec (List ℕ) Global) (ShaMmcs Cubic) (List ℕ) WD (Vec (List ℕ) Global))
-    (OpenRefuses : Scheme → List (OpeningRequest D Cubic) → List ℕ → List ℕ → ProverError → Type 0)
-  where
-    abbrev pub IsProveReason : Statement → Reason → Type 0
-    IsProveReason input (Check refusal) = ⊥
-    IsProveReason input (Prove refusal) = IsUnproved o OpenRefuses input refusal
-    IsProveReason input (Verify refusal) = ⊥

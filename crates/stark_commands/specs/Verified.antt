@@ -4,6 +4,7 @@ use Rattle.std.specs.Fmt.{decimal}
 use Rattle.std.specs.declared.alloc.Global.{Global}
 use Rattle.circle_air.specs.Parts.{parts_of}
 use Rattle.circle_air.specs.Refusal.{refusal}
+use Rattle.circle_challenger.specs.Sha256Challenger.{state_of}
 use Rattle.circle_challenger.specs.declared.sha256.Sha256Challenger.{Sha256Challenger}
 use Rattle.circle_commit.specs.Parameters.{with_scheme}
 use Rattle.circle_field.specs.Bytes.{bytes}
@@ -57,14 +58,16 @@ Scheme = CirclePcs Mersenne31 (ShaMmcs Mersenne31) (ShaMmcs Cubic)
 -- the verifier refuses, for this reason, the input's proof of its statement under its parameters,
 -- from a challenger that has absorbed nothing
 pub record IsUnverified {Proof Error : Type 0}
-    (Refuses : Scheme → StarkStatement Mersenne31 → Proof → List ℕ → List ℕ → Error → Type 0)
-    (proof : Proof) (input : Input) (error : Error) : Type 0 where
+    (Refuses : Scheme → StarkStatement Mersenne31 → Proof → Sha256Challenger → Sha256Challenger →
+    Error → Type 0) (proof : Proof) (input : Input) (error : Error) : Type 0 where
   pub scheme : Scheme
   pub statement : StarkStatement Mersenne31
-  pub left : List ℕ
+  pub start : Sha256Challenger
+  pub left : Sha256Challenger
   pub params : scheme.fri_params ≡ with_scheme input.params scheme.fri_params.mmcs
   pub stated : statement_of statement ≡ statement_given input
-  pub refuses : Refuses scheme statement proof (replicate 32 0) left error
+  pub begun : state_of start ≡ replicate 32 0
+  pub refuses : Refuses scheme statement proof start left error
 
 -- the line of a proof that is accepted, of an AIR with this digest and of 2^log_n rows
 abbrev pub verified_line : List ℕ → ℕ → List ℕ

@@ -137,7 +137,7 @@ impl Command for Input {
 
     ghost is_reason = { IsVerifyReason
         ⟦<Challenger as OpeningOver<Val, Challenge, ValMmcs, ChallengeMmcs>>⟧.schemes (λ i. i.proof)
-        ⟦<Scheme as StarkRelation<Val, Challenge, ValMmcs, ChallengeMmcs, Challenger>>⟧.refuses };
+        ⟦<Scheme as StarkRelation<Challenge, Challenger>>⟧.refuses };
 
     fn read(alloc: Global, value: &Value) -> Result<Input, JsonError> {
         <Input as JsonForm>::from_json(alloc, value)
@@ -165,7 +165,7 @@ pub fn verify(alloc: Global, input: Input) -> Result<[u8; 32], Refusal>
     ensures complete { let o = ⟦<Challenger as OpeningOver<Val, Challenge, ValMmcs, ChallengeMmcs>>⟧
         in IfErr result (λ e. IsVerified o.schemes input → e ≡ Memory) }
     ensures reason { let o = ⟦<Challenger as OpeningOver<Val, Challenge, ValMmcs, ChallengeMmcs>>⟧
-        in let p = ⟦<Scheme as StarkRelation<Val, Challenge, ValMmcs, ChallengeMmcs, Challenger>>⟧
+        in let p = ⟦<Scheme as StarkRelation<Challenge, Challenger>>⟧
         in IfErr result (λ e. (e ≡ Memory)
         ⊎ IsVerifyRefusal o.schemes (λ i. i.proof) p.refuses input e) }
 {
