@@ -88,7 +88,8 @@ module _ {D WD : Type 0}
 
     pub proof_refused : {P : Type 0} (part : Input → P)
         (Refuses : Scheme → StarkStatement Mersenne31 → P → Sha256Challenger → Sha256Challenger →
-        ProofError → Type 0) (error : ProofError) (reason : Refusal) → IsRefusalOfProof Proof Memory error reason →
+        ProofError → Type 0) (error : ProofError) (reason : Refusal) →
+        IsRefusalOfProof Proof Memory error reason →
         HasAir input → (IsVerified o input → error ≡ stark.Memory) →
         IsUnverified Refuses (part input) input error →
         (reason ≡ Memory) ⊎ IsVerifyRefusal o part Refuses input reason
