@@ -96,4 +96,4 @@ module _ {D WD : Type 0}
     proof_refused part Refuses error reason is air complete refused =
         ⊎_elim (λ memory. inl memory.1)
         (λ other. inr (subst (IsVerifyRefusal o part Refuses input) (sym other.1)
-        (air, (λ v. other.0 (complete v), refused)))) is
+        (air, (λ v. other.0 (complete v), (other.0, refused))))) is

@@ -12,6 +12,7 @@ use Rattle.circle_merkle.specs.declared.mmcs.ShaMmcs.{ShaMmcs}
 use Rattle.circle_prover.specs.Schemes.{Schemes}
 use Rattle.circle_relation.specs.declared.error.InputError.{InputError}
 use Rattle.circle_stark.specs.declared.error.StarkError.{StarkError}
+use Rattle.circle_stark.specs.declared.error.StarkError.TheVariants.{Memory as OutOfMemory}
 use Rattle.circle_stark.specs.declared.proof.StarkStatement.{StarkStatement}
 use Rattle.stark_commands.specs.Check.{IsUnsatisfied}
 use Rattle.stark_commands.specs.Verified.{HasAir, IsUnverified, IsVerified, Scheme}
@@ -38,12 +39,13 @@ module _ {D WD : Type 0}
     ProofError → Type 0)
   where
     -- the parts make no AIR, or the proof isn't verified and the verifier refuses it for this
-    -- reason
+    -- reason, which isn't want of memory
     abbrev pub IsVerifyRefusal : Claim → Refusal → Type 0
     IsVerifyRefusal input (Air error) = refusal (parts_of input.air) ≡ Some error
     IsVerifyRefusal input (Proof error) =
         HasAir input
-        × ((¬ IsVerified o input) × IsUnverified Refuses (part input) input error)
+        × ((¬ IsVerified o input)
+        × ((¬ (error ≡ OutOfMemory)) × IsUnverified Refuses (part input) input error))
     IsVerifyRefusal input Memory = ⊥
 
     abbrev pub IsVerifyReason : Claim → Reason → Type 0
