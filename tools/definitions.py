@@ -6,9 +6,10 @@ usage: python3 -m tools.definitions [--write]
 --write  writes docs/DEFINITIONS.md anew. Without it the status is 1 where the page is another, and
          each definition that is cited and has no comment is named.
 
-Beside those that are cited stand those that these are said by, and those of the same files that all
-of these are said by. A comment over several definitions, or over a module of several, describes all
-of them.
+A clause that cites a ghost member of a trait cites what the trait's impls say of their members.
+Beside the definitions that are cited stand those that these are said by, and those of the same
+files that all of these are said by. A comment over several definitions, or over a module of
+several, describes all of them.
 """
 import functools
 import re
@@ -32,6 +33,9 @@ behind several names describes them in their order.
 USE = re.compile(r"\bghost\s+use\s+Rattle\.(\w+)\.specs\.([\w.]+?)\.\{([^}]*)\}")
 OWN_USE = re.compile(r"(?m)^\s*(?:pub )?use Rattle\.(\w+)\.specs\.([\w.]+?)\.\{([^}]*)\}")
 WORD = re.compile(r"[^\s(){}\[\],.;⟦⟧]+")
+# A trait whose ghost member a clause may cite, and the trait of an impl.
+QUOTED = re.compile(r"\bas (\w+)[^⟦⟧]*⟧")
+OF_IMPL = re.compile(r"\b(\w+)(?:<(?:[^<>]|<[^<>]*>)*>)?\s+for\s")
 DECLARED = re.compile(
     r"( *)(?:(?:abbrev|unfoldable|pub|record|data|opaque) +)*([A-Za-z_][\w-]*)(?= *[:({])"
 )
@@ -115,20 +119,34 @@ def is_promised(kind, owner):
     return kind == "struct" or kind == "ghost" and owner is not None and owner[1] == "trait"
 
 
+def implements(owner, traits):
+    """Whether an item stands in an impl of one of the traits."""
+    found = OF_IMPL.search(owner[2]) if owner and owner[1] == "impl" else None
+    return found is not None and found[1] in traits
+
+
+def clauses_shown(source):
+    """The clauses of a file's public functions."""
+    traits = {it[0] for _, _, _, _, it in source.items if it and it[1] == "trait"}
+    shown = [it for it in source.functions if is_shown(it, traits)]
+    return [text for it in shown for _, _, text in it.clauses]
+
+
 def cited(workspace):
     """The definitions that clauses of public functions cite: a crate, a module and a name each."""
+    crates = [it for it in workspace.names() if not it.startswith("test_")]
+    sources = [it for name in crates for it in sources_of(workspace.folder(name)).values()]
+    clauses = {source: clauses_shown(source) for source in sources}
+    quoted = {it for texts in clauses.values() for text in texts for it in QUOTED.findall(text)}
     found = set()
-    for crate in workspace.names():
-        if crate.startswith("test_"):
-            continue
-        for source in sources_of(workspace.folder(crate)).values():
-            names = imported(USE, source.plain, workspace)
-            traits = {it[0] for _, _, _, _, it in source.items if it and it[1] == "trait"}
-            shown = [it for it in source.functions if is_shown(it, traits)]
-            texts = [text for it in shown for _, _, text in it.clauses]
-            texts += [text for kind, _, text, _, owner in source.items if is_promised(kind, owner)]
-            words = {word for text in texts for word in WORD.findall(text)}
-            found |= {names[it] for it in words if it in names}
+    for source, texts in clauses.items():
+        names = imported(USE, source.plain, workspace)
+        for kind, _, text, _, owner in source.items:
+            if is_promised(kind, owner) or kind == "ghost" and implements(owner, quoted):
+                texts.append(text)
+        words = {word for text in texts for word in WORD.findall(text)}
+        # A name with a hyphen is a lemma's.
+        found |= {names[it] for it in words if it in names and "-" not in it}
     return found
 
 

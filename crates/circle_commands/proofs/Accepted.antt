@@ -43,11 +43,11 @@ use Rattle.circle_relation.specs.Statement.{BatchClaim, MatrixClaim, all_matrice
 use Rattle.circle_codewords.specs.Ratios.{points_of_height}
 use Rattle.circle_codewords.specs.Words.{claim_of}
 use Rattle.circle_commands.specs.Proved.{AreCommitted, HavePoints, IsCommitted, IsExtended}
-use Rattle.circle_commands.specs.Proved.{IsRequested, batch_claimed, commitments_taken}
+use Rattle.circle_commands.specs.Proved.{IsRequested, batch_claimed, after_batches}
 use Rattle.circle_commands.specs.Proved.{matrix_claimed, points_of}
 use Rattle.circle_commands.specs.Rows.{lists}
 use Rattle.circle_commands.specs.Traces.{HasFittingRows}
-use Rattle.circle_commands.specs.Verified.{IsVerified, batch_told, batches_told, taken_in}
+use Rattle.circle_commands.specs.Verified.{IsVerified, batch_told, batches_told, after_claims}
 use Rattle.circle_commands.specs.declared.prove.Committed.{Committed}
 use Rattle.circle_commands.specs.declared.prove.Input.{Input}
 use Rattle.circle_commands.specs.declared.prove.Trace.{Trace}
@@ -57,7 +57,7 @@ use Rattle.circle_commands.proofs.Proving.{log_fits}
 -- the claims have the commitments of what was committed to
 taken-same : (s : List ℕ) (cs : List Committed) (vs : Openings Cubic)
     (bs : List (CommitmentOpening Cubic (List ℕ) ℕ)) → length vs ≡ length cs → batches_told bs
-    ≡ pairwise batch_claimed cs vs → commitments_taken s cs ≡ taken_in s bs
+    ≡ pairwise batch_claimed cs vs → after_batches s cs ≡ after_claims s bs
 taken-same s [] vs [] long told = refl
 taken-same s [] vs (b ∷ bs) long told = absurd (cc)
 taken-same s (c ∷ cs) [] bs long told = absurd (omega (arith, long))
@@ -67,7 +67,7 @@ taken-same s (c ∷ cs) (v ∷ vs) (b ∷ bs) long told =
     let rest : batches_told bs ≡ pairwise batch_claimed cs vs = cc in
     let same : b.commitment ≡ c.commitment =
     ap (λ (x : BatchClaim (List ℕ) Cubic). x.commitment) first in
-    ap (λ root. commitments_taken (absorbed s root) cs) (sym same)
+    ap (λ root. after_batches (absorbed s root) cs) (sym same)
     ∙ taken-same (absorbed s b.commitment) cs vs bs (omega (arith, long)) rest
 
 both : {T : Type 0} (P : T → Type 0) (xs ys : List T) → AllByRecursion P xs → AllByRecursion P ys →
@@ -276,7 +276,7 @@ module _ {D WD : Type 0}
       p.max_log_arity ≡ 1 → AreRequests o.kept o.fields o.fields.two_adicity p requests
       → AreCommitted (o.Commits mmcs) p.log_blowup input.batches.items committed →
       AllZip (IsRequested o.kept) committed requests
-      → state_of start ≡ commitments_taken (replicate 32 0) committed →
+      → state_of start ≡ after_batches (replicate 32 0) committed →
       AllZip (AreAnswers o.kept o.fields p.log_blowup) requests values
       → IsOpening p o.kept requests values o.fields o.run (proof_of output.proof) (o.Commits mmcs)
       (o.authenticates mmcs) (o.WordCommits scheme) (o.word_authenticates scheme)

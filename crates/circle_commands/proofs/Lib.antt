@@ -1,5 +1,6 @@
 pub mod Accepted
 pub mod Claimed
+pub mod Commitments
 pub mod Depth
 pub mod First
 pub mod Heights

@@ -16,7 +16,7 @@ use Rattle.circle_codewords.specs.Requests.{AreAnswers}
 use Rattle.circle_prover.specs.Schemes.{Schemes}
 use Rattle.circle_relation.specs.RunOf.{proof_of}
 use Rattle.circle_commands.specs.Proved.{IsCommitted, IsProved, IsRequested, batch_claimed}
-use Rattle.circle_commands.specs.Proved.{commitments_taken}
+use Rattle.circle_commands.specs.Proved.{after_batches}
 use Rattle.circle_commands.specs.Verified.{batches_told}
 use Rattle.circle_commands.specs.declared.prove.Committed.{Committed}
 use Rattle.circle_commands.specs.declared.prove.Input.{Input}
@@ -33,7 +33,7 @@ module _ {D WD : Type 0}
       (params : FriParameters (ShaMmcs Cubic)) → params ≡ with_scheme input.params scheme
       → AllZip (λ b m. IsCommitted (o.Commits mmcs) params.log_blowup b.items m) input.batches.items
       committed → AllZip (IsRequested o.kept) committed requests
-      → state_of start ≡ commitments_taken (replicate 32 0) committed →
+      → state_of start ≡ after_batches (replicate 32 0) committed →
       AllZip (AreAnswers o.kept o.fields params.log_blowup) requests values
       → IsOpening params o.kept requests values o.fields o.run (proof_of output.proof)
       (o.Commits mmcs) (o.authenticates mmcs) (o.WordCommits scheme)

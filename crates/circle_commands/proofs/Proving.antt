@@ -1,10 +1,8 @@
 -- Rows that are placed on domains, and what is committed to.
-use Rattle.std.proofs.Common.{◌≡◌, ℕ, ◌+◌, ◌^◌, ◌<◌, ◌≤◌, List, [], ◌∷◌, length, All, ap, subst}
-use Rattle.std.proofs.Common.{sym, ◌∙◌, Vec, Global, drop, get_or}
+use Rattle.std.proofs.Common.{◌≡◌, ℕ, ◌+◌, ◌^◌, ◌≤◌, List, [], ◌∷◌, length, All, ap, subst}
+use Rattle.std.proofs.Common.{sym, ◌∙◌, Vec, Global}
 use Rattle.std.specs.List.{AllZip}
-use Rattle.std.proofs.lemmas.List.{at_drop_more, drop_all}
 use Rattle.std.proofs.lemmas.List.Elements.{All-nil, All-cons}
-use Rattle.circle_challenger.specs.Sponge.{absorbed}
 use Rattle.circle_commit.specs.Matrix.{IsPowerOfTwo}
 use Rattle.circle_commit.specs.Mmcs.{HaveHeightsOfPowers}
 use Rattle.circle_commit.specs.declared.pcs.OpeningRequest.{OpeningRequest}
@@ -18,7 +16,6 @@ use Rattle.circle_field.specs.Mersenne31.{operations, generators}
 use Rattle.circle_field.specs.declared.mersenne31.Mersenne31.{Mersenne31}
 use Rattle.p3_circle.specs.Committing.{AreExtensions, HaveRowsForPoints, IsExtension, IsExtensionOf}
 use Rattle.circle_commands.specs.Proved.{ArePlaced, IsCommitted, IsExtended, IsRequested}
-use Rattle.circle_commands.specs.Proved.{commitments_taken}
 use Rattle.circle_commands.specs.Rows.{lists}
 use Rattle.circle_commands.specs.Traces.{HasFittingRows}
 use Rattle.circle_commands.specs.declared.prove.Committed.{Committed}
@@ -111,16 +108,3 @@ module _ (Commits : List (RowMajorMatrix Mersenne31) → List ℕ → Type 0) (b
       All-cons (λ r. HaveHeightsOfPowers (kept r.prover_data.now)) r rs
       (subst HaveHeightsOfPowers (sym q.0.matrices) p.0.powers)
       (requested_powers kept bs cs rs p.1 q.1)
-
--- one more commitment was absorbed
-pub commitment_more : (s t : List ℕ) (cs : List Committed) (i : ℕ) (c : Committed) → i < length cs →
-    c ≡ get_or cs i c → t ≡ absorbed s c.commitment
-    → commitments_taken t (drop (i + 1) cs) ≡ commitments_taken s (drop i cs)
-commitment_more s t cs i c h at step = ap (λ u. commitments_taken u (drop (i + 1) cs)) step
-    ∙ ap (λ (x : Committed). commitments_taken (absorbed s x.commitment) (drop (i + 1) cs)) at
-    ∙ sym (at_drop_more (commitments_taken s) cs i c h)
-
--- all were
-pub commitments_all : (s : List ℕ) (cs : List Committed) (i : ℕ) → length cs ≤ i →
-    s ≡ commitments_taken s (drop i cs)
-commitments_all s cs i h = ap (commitments_taken s) (sym (drop_all i cs h))

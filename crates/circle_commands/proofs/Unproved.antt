@@ -16,10 +16,10 @@ use Rattle.circle_merkle.specs.declared.mmcs.ShaMmcs.{ShaMmcs}
 use Rattle.circle_prover.specs.Schemes.{Schemes}
 use Rattle.circle_relation.specs.declared.error.ProverError.{ProverError}
 use Rattle.circle_relation.specs.declared.error.ProverError.TheVariants.{Memory}
-use Rattle.circle_commands.specs.Proved.{AreCommitted, IsCommitted, IsRequested, commitments_taken}
+use Rattle.circle_commands.specs.Proved.{AreCommitted, IsCommitted, IsRequested, after_batches}
 use Rattle.circle_commands.specs.Reasons.{IsProveRefusal}
 use Rattle.circle_commands.specs.Traces.{IsRefusalOfBatches}
-use Rattle.circle_commands.specs.Unproved.{IsFirstUncommitted, IsRefusedByScheme, IsUncommitted}
+use Rattle.circle_commands.specs.Unproved.{IsFirstUncommitted, IsUncommitted}
 use Rattle.circle_commands.specs.Unproved.{IsUnopened}
 use Rattle.circle_commands.specs.Verified.{Scheme}
 use Rattle.circle_commands.specs.declared.prove.Committed.{Committed}
@@ -92,7 +92,7 @@ module _ {D WD : Type 0}
         AreCommitted (o.Commits scheme.mmcs) scheme.fri_params.log_blowup input.batches.items
         committed
         → AllZip (IsRequested o.kept) committed requests →
-        start ≡ commitments_taken (replicate 32 0) committed →
+        start ≡ after_batches (replicate 32 0) committed →
         OpenRefuses scheme requests start left e →
         IsUnopened o OpenRefuses scheme input.batches.items e
     unopened scheme committed requests start left e are asked taken refuses = record {

@@ -1,7 +1,6 @@
 -- What the program hands to the verifier.
-use Rattle.std.proofs.Common.{◌≡◌, ℕ, ◌+◌, ◌<◌, ◌≤◌, List, length, drop, get_or, refl, ap, sym}
+use Rattle.std.proofs.Common.{◌≡◌, ℕ, List, refl, ap, sym}
 use Rattle.std.proofs.Common.{subst, ◌∙◌, replicate, Vec, Global}
-use Rattle.std.proofs.lemmas.List.{at_drop_more, drop_all}
 use Rattle.circle_field.specs.declared.cubic.Cubic.{Cubic}
 use Rattle.circle_field.specs.declared.mersenne31.Mersenne31.{Mersenne31}
 use Rattle.circle_challenger.specs.Sha256Challenger.{state_of}
@@ -18,26 +17,9 @@ use Rattle.circle_relation.specs.RunOf.{proof_of}
 use Rattle.circle_relation.specs.Statement.{BatchClaim}
 use Rattle.circle_relation.specs.StatementOf.{batch_claims}
 use Rattle.p3_circle.specs.Verdict.{IsAccepted}
-use Rattle.circle_commands.specs.Verified.{IsUnverified, IsVerified, Scheme, batches_told, taken_in}
+use Rattle.circle_commands.specs.Verified.{IsUnverified, IsVerified, Scheme, after_claims}
+use Rattle.circle_commands.specs.Verified.{batches_told}
 use Rattle.circle_commands.specs.declared.verify.Input.{Input}
-
-abbrev Batches : Type 0
-Batches = List (CommitmentOpening Cubic (List ℕ) ℕ)
-
--- one more commitment was absorbed
-pub taken_more : (s t : List ℕ) (batches : Batches) (i : ℕ)
-    (b : CommitmentOpening Cubic (List ℕ) ℕ) → i < length batches → b ≡ get_or batches i b →
-    t ≡ absorbed s b.commitment
-    → taken_in t (drop (i + 1) batches) ≡ taken_in s (drop i batches)
-taken_more s t batches i b h at step = ap (λ u. taken_in u (drop (i + 1) batches)) step
-    ∙ ap (λ (x : CommitmentOpening Cubic (List ℕ) ℕ). taken_in
-    (absorbed s x.commitment) (drop (i + 1) batches)) at
-    ∙ sym (at_drop_more (taken_in s) batches i b h)
-
--- all were
-pub taken_all : (s : List ℕ) (batches : Batches) (i : ℕ) → length batches ≤ i → s ≡ taken_in
-    s (drop i batches)
-taken_all s batches i h = ap (taken_in s) (sym (drop_all i batches h))
 
 -- the type of its entries fixes a scheme
 pub one_scheme : {F : Type 0} (a b : ShaMmcs F) → a ≡ b
@@ -51,7 +33,7 @@ pub unverified : {g : _} {Proof Error : Type 0} (Refuses : Scheme →
     (claims : List (CommitmentOpening Cubic (List ℕ) (CircleDomain Mersenne31 g)))
     (start left : List ℕ)
     → scheme.fri_params ≡ with_scheme input.params scheme.fri_params.mmcs → batch_claims claims
-    ≡ batches_told input.batches.items → start ≡ taken_in (replicate 32 0) input.batches.items
+    ≡ batches_told input.batches.items → start ≡ after_claims (replicate 32 0) input.batches.items
     → Refuses scheme claims proof start left error → IsUnverified Refuses proof input error
 unverified Refuses proof input error scheme claims start left same told taken refused = record {
   scheme = scheme;
@@ -82,7 +64,7 @@ module _ {g : _} {D WD : Type 0}
         (params : FriParameters (ShaMmcs Cubic))
         (start left : Sha256Challenger)
         → batch_claims claims ≡ batches_told input.batches.items →
-        params ≡ with_scheme input.params scheme → state_of start ≡ taken_in
+        params ≡ with_scheme input.params scheme → state_of start ≡ after_claims
         (replicate 32 0) input.batches.items
         → IsAccepted o.fields o.run o.authenticates o.word_authenticates mmcs params claims
         input.proof (state_of start) (state_of left) → IsVerified o input
@@ -106,7 +88,7 @@ module _ {g : _} {D WD : Type 0}
         (params : FriParameters (ShaMmcs Cubic))
         (start : Sha256Challenger)
         → batch_claims claims ≡ batches_told input.batches.items →
-        params ≡ with_scheme input.params scheme → state_of start ≡ taken_in
+        params ≡ with_scheme input.params scheme → state_of start ≡ after_claims
         (replicate 32 0) input.batches.items
         → (v : IsVerified o input) →
         IsAccepted o.fields o.run o.authenticates o.word_authenticates mmcs params claims

@@ -1,10 +1,9 @@
 -- What the command `prove` returns.
-use Rattle.std.specs.Prelude.{◌≡◌, ℕ, ◌+◌, ◌^◌, ◌≤◌, List, [], ◌∷◌, length, map, replicate, zip}
+use Rattle.std.specs.Prelude.{◌≡◌, ℕ, ◌+◌, ◌^◌, ◌≤◌, List, length, map, replicate, zip}
 use Rattle.std.specs.Prelude.{All, Vec}
 use Rattle.std.specs.List.{AllZip}
 use Rattle.std.specs.declared.alloc.Global.{Global}
 use Rattle.circle_challenger.specs.Sha256Challenger.{state_of}
-use Rattle.circle_challenger.specs.Sponge.{absorbed}
 use Rattle.circle_challenger.specs.declared.sha256.Sha256Challenger.{Sha256Challenger}
 use Rattle.circle_commit.specs.DotProduct.{pairwise}
 use Rattle.circle_commit.specs.Mmcs.{HaveHeightsOfPowers}
@@ -28,6 +27,7 @@ use Rattle.circle_relation.specs.RunOf.{proof_of}
 use Rattle.circle_relation.specs.Statement.{BatchClaim, MatrixClaim}
 use Rattle.circle_codewords.specs.Words.{claim_of}
 use Rattle.p3_circle.specs.Committing.{IsExtensionOf}
+use Rattle.circle_commands.specs.Commitments.{after_commitments}
 use Rattle.circle_commands.specs.Rows.{lists}
 use Rattle.circle_commands.specs.Traces.{HasFittingRows}
 use Rattle.circle_commands.specs.Verified.{batches_told}
@@ -71,10 +71,9 @@ known_of c = (c.commitment, zip (logs_of c.traces.now) (points_of c.traces.now))
 abbrev pub known_told : CommittedBatch Cubic (List ℕ) ℕ → List ℕ × List (ℕ × List Cubic)
 known_told b = (b.commitment, zip b.domains.items (lists_of b.points.items))
 
--- the challenger's state once it has absorbed the commitments, in order
-abbrev pub commitments_taken : List ℕ → List Committed → List ℕ
-commitments_taken s [] = s
-commitments_taken s (c ∷ cs) = commitments_taken (absorbed s c.commitment) cs
+-- the challenger's state once it has absorbed the commitments of batches, in order
+abbrev pub after_batches : List ℕ → List Committed → List ℕ
+after_batches s batches = after_commitments s (map (λ b. b.commitment) batches)
 
 -- the claims that matrices have these values at their points
 abbrev pub matrix_claimed : Trace → List (List Cubic) → MatrixClaim Cubic
@@ -129,7 +128,7 @@ module _ {D WD : Type 0}
       pub batches :
           AreCommitted (o.Commits mmcs) input.params.log_blowup input.batches.items committed
       pub asked : AllZip (IsRequested o.kept) committed requests
-      pub taken : state_of start ≡ commitments_taken (replicate 32 0) committed
+      pub taken : state_of start ≡ after_batches (replicate 32 0) committed
       pub answered :
           AllZip (AreAnswers o.kept o.fields input.params.log_blowup) requests values
       pub opened :

@@ -13,7 +13,7 @@ use Rattle.circle_merkle.specs.declared.mmcs.ShaMmcs.{ShaMmcs}
 use Rattle.circle_prover.specs.Schemes.{Schemes}
 use Rattle.circle_relation.specs.declared.error.ProverError.{ProverError}
 use Rattle.circle_commands.specs.Proved.{AreCommitted, ArePlaced, IsCommitted, IsRequested}
-use Rattle.circle_commands.specs.Proved.{commitments_taken}
+use Rattle.circle_commands.specs.Proved.{after_batches}
 use Rattle.circle_commands.specs.Traces.{IsFirst}
 use Rattle.circle_commands.specs.Verified.{Scheme}
 use Rattle.circle_commands.specs.declared.prove.Committed.{Committed}
@@ -55,7 +55,7 @@ module _ {D WD : Type 0}
           AreCommitted (o.Commits scheme.mmcs) scheme.fri_params.log_blowup batches committed
       pub asked : AllZip (IsRequested o.kept) committed requests
       pub refuses :
-          Refuses scheme requests (commitments_taken (replicate 32 0) committed) left error
+          Refuses scheme requests (after_batches (replicate 32 0) committed) left error
 
     module _ {g : _} (CommitRefuses : Scheme →
         List (CircleDomain Mersenne31 g × RowMajorMatrix Mersenne31) → ProverError → Type 0)

@@ -1,10 +1,9 @@
 -- When the command `verify` accepts.
-use Rattle.std.specs.Prelude.{◌≡◌, ℕ, List, [], ◌∷◌, map, replicate, Vec, codes}
+use Rattle.std.specs.Prelude.{◌≡◌, ℕ, List, map, replicate, Vec, codes}
 use Rattle.std.specs.declared.alloc.Global.{Global}
 use Rattle.circle_field.specs.declared.cubic.Cubic.{Cubic}
 use Rattle.circle_field.specs.declared.mersenne31.Mersenne31.{Mersenne31}
 use Rattle.circle_challenger.specs.Sha256Challenger.{state_of}
-use Rattle.circle_challenger.specs.Sponge.{absorbed}
 use Rattle.circle_challenger.specs.declared.sha256.Sha256Challenger.{Sha256Challenger}
 use Rattle.circle_commit.specs.Parameters.{with_scheme}
 use Rattle.circle_commit.specs.declared.pcs.CommitmentOpening.{CommitmentOpening}
@@ -17,6 +16,7 @@ use Rattle.circle_relation.specs.RunOf.{proof_of}
 use Rattle.circle_relation.specs.Statement.{BatchClaim, MatrixClaim}
 use Rattle.circle_relation.specs.StatementOf.{batch_claims, point_claim}
 use Rattle.p3_circle.specs.declared.pcs.CirclePcs.{CirclePcs}
+use Rattle.circle_commands.specs.Commitments.{after_commitments}
 use Rattle.circle_commands.specs.declared.verify.Input.{Input}
 
 -- the claims about matrices whose sizes are given by logarithms
@@ -33,10 +33,9 @@ abbrev pub batches_told : List (CommitmentOpening Cubic (List ℕ) ℕ) →
     List (BatchClaim (List ℕ) Cubic)
 batches_told batches = map batch_told batches
 
--- the challenger's state once it has absorbed the commitments, in order
-abbrev pub taken_in : List ℕ → List (CommitmentOpening Cubic (List ℕ) ℕ) → List ℕ
-taken_in s [] = s
-taken_in s (b ∷ bs) = taken_in (absorbed s b.commitment) bs
+-- the challenger's state once it has absorbed the commitments of claims, in order
+abbrev pub after_claims : List ℕ → List (CommitmentOpening Cubic (List ℕ) ℕ) → List ℕ
+after_claims s batches = after_commitments s (map (λ b. b.commitment) batches)
 
 -- the verifier accepts the proof of the input's claims from a challenger that has absorbed the
 -- commitments alone, under the scheme's relation
@@ -48,7 +47,7 @@ pub record IsVerified {D WD : Type 0}
   pub scheme : ShaMmcs Cubic
   pub start : Sha256Challenger
   pub left : Sha256Challenger
-  pub taken : state_of start ≡ taken_in (replicate 32 0) input.batches.items
+  pub taken : state_of start ≡ after_claims (replicate 32 0) input.batches.items
   pub accepts :
       AcceptsFrom o.fields (with_scheme input.params scheme) o.run (o.authenticates mmcs)
       (o.word_authenticates scheme) (batches_told input.batches.items) (proof_of input.proof)
@@ -70,7 +69,7 @@ pub record IsUnverified {g : _} {Proof Error : Type 0}
   pub params : scheme.fri_params ≡ with_scheme input.params scheme.fri_params.mmcs
   pub told : batch_claims claims ≡ batches_told input.batches.items
   pub refuses :
-      Refuses scheme claims proof (taken_in (replicate 32 0) input.batches.items) left error
+      Refuses scheme claims proof (after_claims (replicate 32 0) input.batches.items) left error
 
 -- the line of a proof that is accepted
 abbrev pub verified_line : List ℕ

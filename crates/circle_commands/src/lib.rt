@@ -30,11 +30,12 @@
 //!   `Traces`, what `verify` and `prove` return and refuse; `Reasons`, the reasons of all commands;
 //!   `Named`, the names of refusals; `Failure`, lines and statuses; `Text`, what bytes stand for;
 //!   `Answer`, what a command makes of them; `Program`, what a run reads and writes; `Arguments`,
-//!   `Json`, `Rows`.
+//!   `Commitments`, `Json`, `Rows`.
 //! - In `proofs/`: what they need of lists, rows, batches, texts and of how deep JSON nests.
 #![tactic(auto)]
 
 pub mod command;
+mod commitments;
 pub mod failure;
 pub mod json;
 pub mod prove;

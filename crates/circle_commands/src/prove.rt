@@ -3,7 +3,6 @@
 ghost use Rattle.std.specs.Prelude.{◌≡◌, ◌⊎◌, ◌+◌, ◌^◌, ◌<◌, ◌≤◌, ◌++◌, ◌∷◌, [], All, map};
 ghost use Rattle.std.specs.Prelude.{IfErr, IfOk, IsTrue, MatchResult, OnOk, false, string_bytes};
 ghost use Rattle.std.specs.List.{AllZip};
-ghost use Rattle.circle_challenger.specs.Sha256Challenger.{state_of};
 ghost use Rattle.circle_commit.specs.DotProduct.{pairwise};
 ghost use Rattle.circle_commit.specs.Matrix.{IsPowerOfTwo};
 ghost use Rattle.circle_commit.specs.Pcs.{openings};
@@ -17,7 +16,7 @@ ghost use Rattle.circle_commands.specs.Unproved.{IsFirstUncommitted, IsUncommitt
 ghost use Rattle.circle_commands.specs.Prove.{input_fields, trace_fields};
 ghost use Rattle.circle_commands.specs.Proved.{AreCommitted, ArePlaced, HavePoints, IsCommitted};
 ghost use Rattle.circle_commands.specs.Proved.{IsProved};
-ghost use Rattle.circle_commands.specs.Proved.{IsRequested, batch_claimed, commitments_taken};
+ghost use Rattle.circle_commands.specs.Proved.{IsRequested, batch_claimed};
 ghost use Rattle.circle_commands.specs.Proved.{known_of, known_told, logs_of, points_of};
 ghost use Rattle.circle_commands.specs.Traces.{AreFitting, AreFittingRows, HasFittingRows};
 ghost use Rattle.circle_commands.specs.Traces.{AreTall, AreTallRows, HasTallRows};
@@ -27,17 +26,18 @@ ghost use Rattle.circle_commands.specs.Verified.{IsVerified, batches_told};
 ghost use Rattle.circle_commands.specs.declared.prove.Refusal.TheVariants.{Prover};
 
 use crate::command::Command;
+use crate::commitments::{HasCommitment, observe_commitments};
 use crate::failure::Failure;
 use crate::values::{is_rectangular, matrix};
 use crate::{json, verify};
-use circle_challenger::CanObserve;
 use circle_commit::{
     FriParameters, Mmcs, OpenedValues, OpeningRequest, RowMajorMatrix, is_power_of_two, log2_strict,
 };
 use circle_field::{Cubic, Mersenne31};
 use circle_json::{JsonError, JsonForm, has_keys, member};
 use circle_presets::{
-    Challenge, ChallengeMmcs, Challenger, ClaimOn, ProverData, Request, Scheme, Val, ValMmcs,
+    Challenge, ChallengeMmcs, Challenger, ClaimOn, Commitment, ProverData, Request, Scheme, Val,
+    ValMmcs,
 };
 use circle_prover::OpeningOver;
 use p3_circle::{CircleDomain, CommittedBatch, Pcs, ProverError, claims_of};
@@ -60,6 +60,14 @@ pub(crate) struct Committed<'a> {
     kept: ProverData,
     /// The matrices of the input.
     traces: &'a [Trace],
+}
+
+impl HasCommitment for Committed<'_> {
+    ghost commitment_of = { λ batch. batch.commitment };
+
+    fn commitment(&self) -> &Commitment {
+        &self.commitment
+    }
 }
 
 /// A matrix, and where the polynomials are opened that have its columns as values.
@@ -363,15 +371,6 @@ fn evaluation(
 {
     let domain = CircleDomain::standard(log2_strict(rows.len()));
     Ok((domain, matrix(alloc, rows)?))
-}
-
-// Absorbs the commitments, in order.
-fn observe_commitments(challenger: &mut Challenger, committed: &[Committed])
-    ensures { state_of challenger.new ≡ commitments_taken (state_of challenger.old) committed.now }
-{
-    for batch in committed {
-        challenger.observe(&batch.commitment);
-    }
 }
 
 // What is to be opened, batch by batch.

@@ -2,20 +2,19 @@
 
 ghost use Rattle.std.specs.Prelude.{◌≡◌, ◌⊎◌, IfOk, IfErr, OnOk};
 ghost use Rattle.circle_json.specs.ObjectForm.{object_form};
-ghost use Rattle.circle_challenger.specs.Sha256Challenger.{state_of};
 ghost use Rattle.circle_commit.specs.declared.error.FriError.TheVariants.{Memory};
 ghost use Rattle.circle_relation.specs.StatementOf.{batch_claim, batch_claims};
 ghost use Rattle.circle_commands.specs.Verified.{IsVerified, batch_told, batches_told};
-ghost use Rattle.circle_commands.specs.Verified.{IsUnverified, taken_in};
+ghost use Rattle.circle_commands.specs.Verified.{IsUnverified};
 ghost use Rattle.circle_commands.specs.Verify.{input_fields};
 
 use crate::command::Command;
+use crate::commitments::{HasCommitment, observe_commitments};
 use crate::failure::Failure;
-use circle_challenger::CanObserve;
 use circle_commit::{CommitmentOpening, FriParameters, MatrixOpening};
 use circle_json::{JsonError, JsonForm, has_keys, member};
 use circle_presets::{
-    Challenge, ChallengeMmcs, Challenger, Claim, ClaimOn, Proof, Scheme, Val, ValMmcs,
+    Challenge, ChallengeMmcs, Challenger, Claim, ClaimOn, Commitment, Proof, Scheme, Val, ValMmcs,
 };
 use circle_prover::OpeningOver;
 use p3_circle::{CircleDomain, Neutral, Pcs, Point};
@@ -37,6 +36,14 @@ pub struct Input {
     pub params: FriParameters<()>,
     /// The proof.
     pub proof: Proof,
+}
+
+impl HasCommitment for ClaimOn<usize> {
+    ghost commitment_of = { λ batch. batch.commitment };
+
+    fn commitment(&self) -> &Commitment {
+        &self.commitment
+    }
 }
 
 /// An object of the `batches`, the `params` and the `proof`.
@@ -112,15 +119,6 @@ pub fn verify(alloc: Global, input: Input) -> Result<(), Refusal>
     observe_commitments(&mut challenger, &batches);
     let scheme = Scheme::new(ValMmcs::new(), params.with_mmcs(ChallengeMmcs::new()));
     scheme.verify(alloc, placed(alloc, batches)?, &proof, &mut challenger)
-}
-
-// Absorbs the commitments, in order.
-fn observe_commitments(challenger: &mut Challenger, batches: &[ClaimOn<usize>])
-    ensures { state_of challenger.new ≡ taken_in (state_of challenger.old) batches.now }
-{
-    for batch in batches {
-        challenger.observe(&batch.commitment);
-    }
 }
 
 // The claims about domains of these sizes; only their sizes count.

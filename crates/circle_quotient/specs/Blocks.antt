@@ -19,13 +19,13 @@ module _ {F E : Type 0} where
       selectors_of_place k t.selectors.is_first_row.items t.selectors.is_last_row.items
       t.selectors.is_transition.items i
 
-  -- selectors for so many places
+  -- there are selectors for `count` places
   pub record HavePlaces (count : ℕ) (t : QuotientTerms F E) : Type 0 where
     pub first : count ≤ length t.selectors.is_first_row.items
     pub last : count ≤ length t.selectors.is_last_row.items
     pub transition : count ≤ length t.selectors.is_transition.items
 
-  -- terms for an AIR at so many places
+  -- terms for an AIR at `size` places
   pub record AreTermsOf (p : Parts F) (size : ℕ) (t : QuotientTerms F E) : Type 0 where
     pub first : length t.selectors.is_first_row.items ≡ size
     pub last : length t.selectors.is_last_row.items ≡ size

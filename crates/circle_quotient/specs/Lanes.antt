@@ -9,7 +9,7 @@ use Rattle.circle_air.specs.Values.{entry}
 abbrev pub lane_of : {F : Type 0} → FieldOps F → List (Vec F Global) → ℕ → List F
 lane_of k columns r = map (λ column. entry k column.items r) columns
 
--- so many lists with an entry for each of so many lanes
+-- `count` lists, each with an entry for each of `lanes` lanes
 pub record HaveLanes {F : Type 0} (count lanes : ℕ) (columns : List (Vec F Global)) : Type 0 where
   pub all : length columns ≡ count
   pub each : All (λ column. length column ≡ lanes) (columns_of columns)

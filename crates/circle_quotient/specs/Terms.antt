@@ -39,8 +39,8 @@ pub record ArePeriodicColumns {F : Type 0} (k : FieldOps F) (gen : ℕ → Coord
       (entry k (slice_index_or made c []) (i % length (slice_index_or made c [])))
 
 module _ {F : Type 0} (k : FieldOps F) where
-  -- what constraints read at place i, where the next row is so many rows on, and after the last
-  -- come the first again
+  -- what constraints read at place i, where the next row is `step` rows on, and the first row comes
+  -- again after the last
   abbrev pub window_of_place : List (List F) → ℕ → List (List F) → List F → ℕ → Window F
   window_of_place rows step periodic public i = record {
     local = slice_index_or rows (i % length rows) [];

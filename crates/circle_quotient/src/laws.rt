@@ -20,7 +20,7 @@ use circle_point::Point;
 /// of the first is the value of the second at that point plus the generator of `2^log_n` points.
 ///
 /// Both are polynomials of the circle basis with `2^log_n` coefficients, and the column and its
-/// next rows are their values on the standard domain of so many points, in natural order. Requires
+/// next rows are their values on its standard domain, in natural order. Requires
 /// `1 <= log_n < CIRCLE_TWO_ADICITY`, and that `next` is the column with each entry moved up by
 /// one, the first to the end.
 pub fn next_row<F: ComplexExtendable, EF: ExtensionField<F>>(
@@ -41,10 +41,9 @@ pub fn next_row<F: ComplexExtendable, EF: ExtensionField<F>>(
     let _point = at;
 }
 
-/// For rows that satisfy the constraints, the quotient's chunks give back the constraints put
-/// together at every point off the trace's domain: what the constraints come to there is the
-/// vanishing polynomial times what the chunks come to (Circle STARKs, IACR ePrint 2024/278, section
-/// 5.1).
+/// For rows that satisfy the constraints, the quotient's chunks recompose at every point off the
+/// trace's domain: the composition there is the vanishing polynomial times what is recomposed of the
+/// chunks (Circle STARKs, IACR ePrint 2024/278, section 5.1).
 ///
 /// The quotient's values are those of `quotient_values` on `2^(log_n + log_chunks)` points, and the
 /// chunks are the polynomials with those values on the parts. Requires rows that satisfy the

@@ -27,7 +27,7 @@ pub(crate) struct NodeLanes<F> {
 impl<F: Field> NodeLanes<F> {
     ghost use Rattle.circle_quotient.specs.NodeLanes.{HasRoom};
 
-    /// Room for blocks of so many rows. Fails where memory is refused.
+    /// Room for blocks of `lanes` rows. Fails where memory is refused.
     pub fn new(alloc: Global, air: &Air<F>, lanes: usize) -> Result<Self, AllocError>
         ensures lanes { IfOk result (λ made. made.lanes ≡ lanes) }
         ensures room { IfOk result (HasRoom (air_of air.now)) }

@@ -24,7 +24,7 @@ module _ {F : Type 0} (k : FieldOps F) (coeffs : List (List F)) (width : ℕ) wh
   abbrev pub columns_of : List (List F)
   columns_of = map (column k.zero coeffs) (range_with_len 0 width)
 
-  -- there are so many
+  -- there are `width` of them
   pub length-columns_of : length columns_of ≡ width
   length-columns_of = length-map-range_with_len (column k.zero coeffs) 0 width
 

@@ -58,7 +58,7 @@ module _ {F : Type 0} (n : ℕ) where
       (all_short (j + 1) columns (λ i d below. short (suc i) d (omega (arith, below))))
 
 module _ {E Err : Type 0} (refusal : ℕ → ℕ → ℕ → Err) (degree : ℕ) where
-  -- each chunk has so many columns
+  -- each chunk has `degree` columns
   even_chunks : (j : ℕ) (chunks : List (List E)) →
       answer {A = Unit {0}} (chunk_tests refusal degree j chunks) (tt {0}) ≡ Ok (tt {0}) →
       All (λ c. length c ≡ degree) chunks

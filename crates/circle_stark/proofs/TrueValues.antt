@@ -34,7 +34,7 @@ related-length R (x ∷ xs) [] all = absurd all
 related-length R (x ∷ xs) (y ∷ ys) all =
     let rest = related-length R xs ys all.1 in omega (arith, rest)
 
--- the values at the point of zeta, by coefficients of so many columns
+-- the values at the point of zeta, by the coefficients of `degree` columns
 abbrev pub opened_of : {F E : Type 0} → Fields F E → ℕ → E → List (List F) → List E
 opened_of k degree zeta c =
     lifted_values_at k.field.zero k.extension k.embed c degree (from_line k.extension zeta)

@@ -23,7 +23,8 @@ use Rattle.circle_stark.specs.Provable.{HasShape, IsProvable}
 use Rattle.circle_stark.specs.Statement.{OpenedValues, Proved, Statement}
 
 module _ {F E : Type 0} (k : Fields F E) (s : Statement F) where
-  -- what the constraints come to under alpha at the point of zeta, by the values of the columns
+  -- value is the composition of the constraints, under the challenge alpha, at the point of zeta,
+  -- where the columns have the values v
   pub record IsCompositionAt (v : OpenedValues E) (alpha zeta value : E) : Type 0 where
     pub window : Window E
     pub reads :
@@ -34,9 +35,9 @@ module _ {F E : Type 0} (k : Fields F E) (s : Statement F) where
         ≡ composition k.extension k.embed s.parts window
         (selectors_at k.field k.gen k.extension k.embed s.log_n (from_line k.extension zeta)) alpha
 
-  -- at the point of zeta the constraints put together under alpha are the vanishing polynomial of
-  -- the trace's domain times the quotient that is put together from its chunks; coefficients are
-  -- those of the extension's elements, so many
+  -- the identity at the point of zeta: the composition is the vanishing polynomial of the trace's
+  -- domain times the quotient, which is recomposed from its chunks; an element of the extension has
+  -- `degree` coefficients
   pub record HasIdentity (coefficients : E → List F) (degree log_chunks : ℕ) (v : OpenedValues E)
       (alpha zeta : E) : Type 0 where
     pub value : E
@@ -53,19 +54,21 @@ module _ {F E : Type 0} (k : Fields F E) (s : Statement F) where
 -- of the batches and of the codewords
 module _ {C S F E M IC WC IP WP : Type 0} (k : Fields F E) (params : FriParameters M)
     (r : RunMoves C S F E WC) (inputs : Authenticates IC F IP) (words : Authenticates WC E WP) where
-  -- from the one state the scheme accepts the proof's claims, opened at zeta, and leaves the other
+  -- in the state old the scheme accepts what the proof claims to open at zeta, and it ends in the
+  -- state new
   abbrev pub OpensAt : Statement F → Proved F E IC WC IP WP → E → S → S → Type 0
   OpensAt s p zeta old new =
       let next = next_from k.extension k.embed k.gen s.log_n zeta in
       AcceptsFrom k params r inputs words
       (claims_at s.log_n p zeta (to_line k.extension next)) p.opening old new
 
--- and own is what the challenger is to a transcript of the batches' commitments
+-- own is what the challenger is to a transcript of the batches' commitments
 module _ {C S F E M IC WC IP WP : Type 0} (k : Fields F E) (params : FriParameters M)
     (own : RunMoves C S F E IC) (r : RunMoves C S F E WC) (inputs : Authenticates IC F IP)
     (words : Authenticates WC E WP) where
-  -- d describes the run of the statement s: from the one state of the challenger the proof is
-  -- accepted, and the other is left
+  -- a verifier whose challenger is in the state old accepts the proof p of the statement s, and
+  -- leaves the challenger in the state new; d is what seeds the transcript and is absorbed first:
+  -- the AIR's digest, the height and the public values
   pub record StarkAccepts (d : Described F) (s : Statement F) (p : Proved F E IC WC IP WP)
       (old new : S) : Type 0 where
     pub log_chunks : ℕ

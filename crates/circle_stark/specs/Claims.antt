@@ -3,7 +3,7 @@ use Rattle.std.specs.Prelude.{ℕ, List, [], ◌∷◌, map}
 use Rattle.circle_relation.specs.Statement.{BatchClaim, MatrixClaim, PointClaim}
 use Rattle.circle_stark.specs.Statement.{Proved}
 
--- what is claimed of one matrix of 2^n rows, at points with the values there
+-- the claims on one matrix of 2^n rows, and the claim that it has these values at a point
 abbrev pub claimed : {E : Type 0} → ℕ → List (PointClaim E) → MatrixClaim E
 claimed n claims = record { log_n = n; claims = claims }
 

@@ -17,8 +17,8 @@ use Rattle.p3_circle.specs.Scheme.{IsCommitted}
 use Rattle.circle_stark.specs.Statement.{Statement}
 
 module _ {F : Type 0} (k : FieldOps F) (gen : ℕ → Coordinates F) where
-  -- on the standard domain of 2^m points, the values of the polynomials whose values on that of 2^n
-  -- points are the given rows
+  -- the given rows continued: the values, on the standard domain of 2^m points, of the polynomials
+  -- that have the given rows on the standard domain of 2^n points
   pub record AreContinuedOn (n m : ℕ) (given made : RowMajorMatrix F) : Type 0 where
     pub width : width_of made ≡ width_of given
     pub values : (coeffs : List (List F)) →
@@ -26,14 +26,15 @@ module _ {F : Type 0} (k : FieldOps F) (gen : ℕ → Coordinates F) where
         rows made ≡ map (values_at k coeffs (width_of given)) (natural_order k gen m (gen (m + 1)))
 
 module _ {F : Type 0} (g : Ghosts F) (k : FieldOps F) (gen : ℕ → Coordinates F) where
-  -- so of whatever rows the matrices are the extension
+  -- made continues whatever rows have these matrices as their extension
   abbrev pub ContinuesTrace : ℕ → ℕ → ℕ → List (RowMajorMatrix F) → RowMajorMatrix F → Type 0
   ContinuesTrace blowup n m matrices made =
       (domain : CircleDomain F g) (given : RowMajorMatrix F) → IsStandardOf gen n domain →
       AreExtensions k gen blowup ((domain, given) ∷ []) matrices →
       AreContinuedOn k gen n m given made
 
-  -- matrices that are kept of rows of so many columns on the standard domain of 2^n points
+  -- a committer keeps these matrices of some rows, of this width, on the standard domain of 2^n
+  -- points
   pub record IsTraceKept (blowup n width : ℕ) (matrices : List (RowMajorMatrix F)) : Type 0 where
     pub given : RowMajorMatrix F
     pub domain : CircleDomain F g
@@ -42,15 +43,15 @@ module _ {F : Type 0} (g : Ghosts F) (k : FieldOps F) (gen : ℕ → Coordinates
     pub extended : AreExtensions k gen blowup ((domain, given) ∷ []) matrices
 
   module _ {Com : Type 0} (blowup : ℕ) (Commits : List (RowMajorMatrix F) → Com → Type 0) where
-    -- rows on the standard domain of 2^n points have this commitment, and these matrices are kept
+    -- the commitment to rows on the standard domain of 2^n points, and the matrices that are kept
     pub record IsTraceCommitted (n : ℕ) (given : RowMajorMatrix F) (commitment : Com)
         (matrices : List (RowMajorMatrix F)) : Type 0 where
       pub domain : CircleDomain F g
       pub standard : IsStandardOf gen n domain
       pub committed : IsCommitted k gen blowup Commits ((domain, given) ∷ []) commitment matrices
 
-    -- the coefficients of 2^(n + kk) values, of elements with that many, have this commitment in
-    -- 2^kk parts, each on its domain, and these matrices are kept
+    -- the commitment to 2^(n + kk) values as 2^kk parts, each on its domain, with a column for each
+    -- coefficient of an element, and the matrices that are kept
     pub record AreChunksCommitted {E : Type 0} (coefficients : E → List F) (degree n kk : ℕ)
         (values : List E) (commitment : Com) (matrices : List (RowMajorMatrix F)) : Type 0 where
       pub batch : List (CircleDomain F g × RowMajorMatrix F)
@@ -64,8 +65,8 @@ module _ {F : Type 0} (g : Ghosts F) (k : FieldOps F) (gen : ℕ → Coordinates
           ≡ split_rows (2 ^ kk) (2 ^ (n + kk)) (map coefficients values)
       pub committed : IsCommitted k gen blowup Commits batch commitment matrices
 
--- of the trace that the matrices extend, the quotient under alpha has this commitment in chunks,
--- and others are kept
+-- the commitment to the chunks of the quotient, under the challenge alpha, of the trace that the
+-- first matrices extend; the last matrices are those that are kept of it
 pub record IsQuotientCommitted {F E Com : Type 0} (g : Ghosts F) (k : Fields F E) (blowup : ℕ)
     (Commits : List (RowMajorMatrix F) → Com → Type 0) (coefficients : E → List F) (degree : ℕ)
     (s : Statement F) (kk : ℕ) (trace : List (RowMajorMatrix F)) (alpha : E) (commitment : Com)

@@ -23,8 +23,8 @@ pub record IsOpenedOf {E : Type 0} (values : Openings E) : Type 0 where
 module _ {S D E Proof : Type 0}
     (Gives : List (OpeningRequest D E) → S → Openings E → Proof → S → Type 0)
     (AreTrue : List (OpeningRequest D E) → Openings E → Type 0) where
-  -- of what is kept of a trace and of so many chunks these values are opened, at two points of the
-  -- trace and at the first of each chunk
+  -- the values v are opened of what is kept of a trace and of its quotient in count chunks: of the
+  -- trace at zeta and next, and of each chunk at zeta
   pub record IsOpenedRun (trace quotient : D) (count : ℕ) (zeta next : E) (v : OpenedValues E)
       (proof : Proof) (old new : S) : Type 0 where
     pub requests : List (OpeningRequest D E)

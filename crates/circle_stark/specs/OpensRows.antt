@@ -12,9 +12,9 @@ use Rattle.circle_stark.specs.Draw.{AreDrawn, Described}
 use Rattle.circle_stark.specs.Statement.{Proved}
 use Rattle.p3_circle.specs.Honest.{AreValuesOfRows}
 
--- d describes the run of a trace of 2^n rows: at the zeta that is drawn from this state, and at the
--- next point, the opened values of the trace are those of the only polynomials whose values on the
--- standard domain are the rows
+-- at the zeta that is drawn from the state old, and at the next point, the opened values of the
+-- trace are those of the only polynomials that have the 2^n rows x on the standard domain; d
+-- describes the statement
 pub record OpensRows {C S F E IC WC IP WP : Type 0} (g : Ghosts F) (k : Fields F E)
     (own : RunMoves C S F E IC) (d : Described F) (n : ℕ) (x : RowMajorMatrix F) (old : S)
     (p : Proved F E IC WC IP WP) : Type 0 where

@@ -17,7 +17,8 @@ use Rattle.circle_stark.specs.declared.error.StarkError.TheVariants.{QuotientChu
 use Rattle.circle_stark.specs.declared.proof.StarkOpenedValues.{StarkOpenedValues}
 use Rattle.circle_stark.specs.declared.proof.StarkStatement.{StarkStatement}
 
--- what is returned of tests: the first refusal that there is reason for, and otherwise a value
+-- what a function returns that tests in order: the first refusal whose test applies, and a value
+-- where none does
 abbrev pub IsTested : {A Err : Type 0} → List (Test Err) → Result A Err → Type 0
 IsTested tests (Ok value) = answer tests (tt {0}) ≡ Ok (tt {0})
 IsTested tests (Err e) = answer tests (tt {0}) ≡ Err e
@@ -29,7 +30,7 @@ first_longer n j (column ∷ columns) =
     if nat_lt (2 ^ n) (length column) then Some j else first_longer n (j + 1) columns
 
 module _ {Err : Type 0} where
-  -- another number than is due
+  -- there are `got` of them, and another number is expected
   abbrev pub count_test : (ℕ → ℕ → Err) → ℕ → ℕ → Test Err
   count_test refusal expected got = (not (got == expected), refusal expected got)
 
@@ -39,7 +40,7 @@ module _ {Err : Type 0} where
       let found = first_longer n 0 columns in
       (is_some found, refusal (unwrap_or found 0))
 
-  -- the chunks from j on: one that has another number of columns than an element has coefficients
+  -- the chunks from j on, each of which has a column for each coefficient of an element
   unfoldable pub chunk_tests : {E : Type 0} → (ℕ → ℕ → ℕ → Err) → ℕ → ℕ → List (List E)
       → List (Test Err)
   chunk_tests refusal degree j [] = []
@@ -47,8 +48,8 @@ module _ {Err : Type 0} where
       count_test (refusal j) degree (length chunk)
       ∷ chunk_tests refusal degree (j + 1) chunks
 
--- 2^n rows, of a quotient in 2^log_chunks chunks, in a group of an order of 2^two_adicity: too few
--- to be folded; so many that the group has no domain for the extension, or for the quotient
+-- 2^n rows are too few to be folded; they are too many for a group of order 2^two_adicity, where it
+-- has no domain for their extension, or none for their quotient in 2^log_chunks chunks
 abbrev pub is_too_small : {M : Type 0} → FriParameters M → ℕ → Bool
 is_too_small params n = nat_lt n (2 + params.log_final_poly_len)
 
@@ -56,8 +57,8 @@ abbrev pub is_too_large : {M : Type 0} → ℕ → FriParameters M → ℕ → �
 is_too_large two_adicity params log_chunks n =
     nat_le two_adicity (n + params.log_blowup) || nat_le two_adicity (n + log_chunks)
 
--- the values of a trace of so many columns, where an element has so many coefficients and there are
--- 2^log_chunks chunks
+-- the opened values of a trace of this width, with 2^log_chunks chunks, where an element has this
+-- many coefficients
 abbrev pub value_tests : {Opening E : Type 0} → ℕ → ℕ → ℕ → OpenedValues E
     → List (Test (StarkError Opening))
 value_tests log_chunks degree width v =
@@ -67,6 +68,7 @@ value_tests log_chunks degree width v =
     ∷ chunk_tests QuotientChunkLength degree 0 v.chunks
 
 module _ {Opening M : Type 0} (two_adicity : ℕ) (params : FriParameters M) (log_chunks : ℕ) where
+  -- those of the statement, in order, and then those of the opened values
   abbrev pub statement_tests : {F : Type 0} → Statement F → List (Test (StarkError Opening))
   statement_tests s =
       count_test PublicValuesMismatch s.parts.num_public_values (length s.public_values)
@@ -79,7 +81,7 @@ module _ {Opening M : Type 0} (two_adicity : ℕ) (params : FriParameters M) (lo
       → List (Test (StarkError Opening))
   stark_tests degree s v = statement_tests s ++ value_tests log_chunks degree s.parts.width v
 
--- where one of them has reason to refuse, the first is returned, and the challenger is as it was
+-- where a test applies, the first refusal is returned, and the challenger stays as it was
 abbrev pub IsFirstRefusal : {C Opening M F E : Type 0} → ℕ → FriParameters M → ℕ
     → StarkStatement F → StarkOpenedValues E → Result (Unit {0}) (StarkError Opening) → C → C
     → Type 0

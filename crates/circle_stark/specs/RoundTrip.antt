@@ -1,4 +1,4 @@
--- How a run of a prover and a verifier reports the refusals of both.
+-- How proving and verifying in one call reports the refusals of both.
 use Rattle.circle_stark.specs.declared.error.StarkError.{StarkError}
 use Rattle.circle_stark.specs.declared.error.StarkError.TheVariants.{Memory as NoMemory}
 use Rattle.circle_stark.specs.declared.error.StarkProverError.{StarkProverError}
@@ -6,12 +6,12 @@ use Rattle.circle_stark.specs.declared.round_trip.StarkRoundTripError.{StarkRoun
 use Rattle.circle_stark.specs.declared.round_trip.StarkRoundTripError.TheVariants.{Memory, Prove}
 use Rattle.circle_stark.specs.declared.round_trip.StarkRoundTripError.TheVariants.{Verify}
 
--- the refusal by which that of the verifier is returned
+-- how a refusal of the verifier is returned
 abbrev pub unverified : {Error : Type 0} → StarkError Error → StarkRoundTripError Error
 unverified NoMemory = Memory
 unverified error = Verify error
 
--- this holds of the prover's refusal, where that is what is returned
+-- where a refusal of the prover is returned, this holds of it
 abbrev pub IsOfProver : {Error : Type 0} → (StarkProverError → Type 0) → StarkRoundTripError Error
     → Type 0
 IsOfProver Unproved (Prove error) = Unproved error

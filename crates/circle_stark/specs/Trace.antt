@@ -1,4 +1,4 @@
--- What is to be proved of a trace, and what is refused of it before the challenger is seeded.
+-- The statement that a trace proves, and why a trace is refused before the challenger is seeded.
 use Rattle.std.specs.Prelude.{◌≡◌, ℕ, not, List, [], ◌∷◌, ◌++◌, length, Result, IfErr, Err}
 use Rattle.std.specs.Int.{is_power_of_two}
 use Rattle.circle_air.specs.Air.{air_of}
@@ -30,7 +30,7 @@ use Rattle.circle_stark.specs.declared.error.StarkProverError.TheVariants.{Point
 use Rattle.circle_stark.specs.declared.proof.StarkStatement.{StarkStatement}
 use Rattle.circle_stark.specs.declared.trace.StarkTrace.{StarkTrace}
 
--- the statement that a proof of the trace is of
+-- the statement that a trace proves, as contracts see it, and as a value of the code
 abbrev pub stated : {F : Type 0} → StarkTrace F → Statement F
 stated t = record {
   parts = air_of t.air.now;
@@ -45,7 +45,7 @@ statement_by t = record {
   public_values = t.public_values;
 }
 
--- so many public values and columns as the AIR has, and a power of two of rows
+-- the trace has as many public values and columns as the AIR, and a power of two of rows
 abbrev pub shape_tests : {F : Type 0} → Statement F → ℕ → ℕ → List (Test StarkProverError)
 shape_tests s width height =
     count_test PublicValuesMismatch s.parts.num_public_values (length s.public_values)
@@ -54,8 +54,8 @@ shape_tests s width height =
     ∷ []
 
 module _ {M : Type 0} (two_adicity : ℕ) (params : FriParameters M) (log_chunks : ℕ) where
-  -- rows enough to be folded, few enough for the group, no period longer than the trace, and
-  -- parameters that are supported
+  -- there are rows enough to be folded, and few enough for the group, no period is longer than the
+  -- trace, and the parameters are supported
   abbrev pub size_tests : {F : Type 0} → ℕ → List (List F) → List (Test StarkProverError)
   size_tests n columns =
       (is_too_small params n, HeightTooSmall)
@@ -68,13 +68,13 @@ module _ {M : Type 0} (two_adicity : ℕ) (params : FriParameters M) (log_chunks
   trace_tests s width height =
       shape_tests s width height ++ size_tests s.log_n s.parts.periodic_columns
 
--- these tests, of a trace
+-- the tests of a trace, in order
 abbrev pub tests_of_trace : {F M : Type 0} → ℕ → FriParameters M → ℕ → StarkTrace F
     → List (Test StarkProverError)
 tests_of_trace two_adicity params log_chunks t =
     trace_tests two_adicity params log_chunks (stated t) (width_of t.rows) (height_of t.rows)
 
--- where one of them has reason to refuse, the first is returned, and the challenger is as it was
+-- where a test applies, the first refusal is returned, and the challenger stays as it was
 abbrev pub IsFirstTraceRefusal : {A C F M : Type 0} → ℕ → FriParameters M → StarkTrace F
     → Result A StarkProverError → C → C → Type 0
 IsFirstTraceRefusal two_adicity params t result old new =
@@ -82,20 +82,20 @@ IsFirstTraceRefusal two_adicity params t result old new =
     IfErr (answer (tests_of_trace two_adicity params k t) (tt {0}))
     (λ e. (result ≡ Err e) × (new ≡ old))
 
--- a refusal by a constraint names the first row at which one doesn't hold, and the first such
--- constraint there, and the challenger is as it was
+-- `Unsatisfied` names the first row at which a constraint doesn't hold, and the first such
+-- constraint there, and the challenger stays as it was
 abbrev pub NamesViolation : {C F : Type 0} → FieldOps F → StarkTrace F → C → C → StarkProverError
     → Type 0
 NamesViolation k t old new e =
     (v : Violation) → e ≡ Unsatisfied v.row v.constraint →
     IsFirstViolation k (stated t).parts (rows t.rows) (stated t).public_values v × (new ≡ old)
 
--- no refusal by a constraint
+-- the refusal isn't `Unsatisfied`
 abbrev pub IsNoViolation : StarkProverError → Type 0
 IsNoViolation (Unsatisfied row constraint) = ⊥
 IsNoViolation _ = Unit {0}
 
--- the refusal by which that of the scheme is returned
+-- how a refusal of the scheme's prover is returned
 abbrev pub refusal_by : ProverError → StarkProverError
 refusal_by (NoWitness phase) = NoGrindingWitness phase
 refusal_by OnDomain = PointOnDomain

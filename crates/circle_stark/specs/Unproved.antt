@@ -24,12 +24,12 @@ use Rattle.circle_stark.specs.declared.error.StarkProverError.TheVariants.{NoGri
 use Rattle.circle_stark.specs.declared.error.StarkProverError.TheVariants.{PointOnDomain}
 use Rattle.circle_stark.specs.declared.error.StarkProverError.TheVariants.{Unsatisfied}
 
--- a refusal by which that of the scheme is returned
+-- e is how a refusal of the scheme's prover is returned
 abbrev pub IsRefusedBy : (ProverError → Type 0) → StarkProverError → Type 0
 IsRefusedBy Refuses e = (error : ProverError) × Refuses error × (e ≡ refusal_by error)
 
 -- the refusal names the first row at which a constraint of the statement doesn't hold, and the
--- first such constraint there, and the challenger is as it was
+-- first such constraint there, and the challenger stays as it was
 pub record IsViolatedBy {C F : Type 0} (k : FieldOps F) (s : Statement F) (x : RowMajorMatrix F)
     (old new : C) (e : StarkProverError) : Type 0 where
   pub violation : Violation
@@ -37,12 +37,13 @@ pub record IsViolatedBy {C F : Type 0} (k : FieldOps F) (s : Statement F) (x : R
   pub first : IsFirstViolation k s.parts (rows x) s.public_values violation
   pub same : new ≡ old
 
--- refuses says of requests, the states before and after, and an error that the scheme's opening is
--- refused so; trace and quotient are what is kept of both
+-- refuses says when the scheme refuses to open requests: from which state, in which state it ends,
+-- and with which error; trace and quotient are what a committer keeps of both
 module _ {S D F E : Type 0} (k : Fields F E)
     (refuses : List (OpeningRequest D E) → S → S → ProverError → Type 0) (n count : ℕ)
     (trace quotient : D) where
-  -- requests for the trace at two points, and for each of count chunks at the first, are refused
+  -- the scheme refuses to open the trace at zeta and the next point, and each of count chunks at
+  -- zeta
   pub record IsUnopened (zeta : E) (old new : S) (e : StarkProverError) : Type 0 where
     pub requests : List (OpeningRequest D E)
     pub kept : map (λ r. r.prover_data.now) requests ≡ trace ∷ quotient ∷ []
@@ -54,7 +55,7 @@ module _ {S D F E : Type 0} (k : Fields F E)
     pub refused : refuses requests old new error
     pub same : e ≡ refusal_by error
 
-  -- why nothing is opened at the drawn point
+  -- why nothing is opened at the drawn point zeta
   abbrev pub IsUnopenedFor : E → S → S → StarkProverError → Type 0
   IsUnopenedFor zeta old new UnfitPoint =
       (¬ IsFit k.extension k.embed k.gen n zeta) × (new ≡ old)
@@ -64,16 +65,16 @@ module _ {S D F E : Type 0} (k : Fields F E)
   IsUnopenedFor zeta old new Memory = Unit {0}
   IsUnopenedFor zeta old new _ = ⊥
 
--- own is what the challenger is to a transcript of the batches' commitments, kept of what a
--- committer keeps are the matrices, and x are the rows of the statement s, of which d describes the
--- run, with a quotient in 2^kk chunks
+-- own is what the challenger is to a transcript of the batches' commitments, kept gives the
+-- matrices of what a committer keeps, and x are rows of the statement s, which d describes, with a
+-- quotient in 2^kk chunks
 module _ {C S D F E Com : Type 0} (g : Ghosts F) (k : Fields F E) (own : RunMoves C S F E Com)
     (blowup : ℕ) (Commits : List (RowMajorMatrix F) → Com → Type 0)
     (kept : D → List (RowMajorMatrix F))
     (refuses : List (OpeningRequest D E) → S → S → ProverError → Type 0) (d : Described F)
     (s : Statement F) (kk : ℕ) (x : RowMajorMatrix F) where
-  -- the rows are committed to, and the quotient under the alpha that is drawn then; at the zeta
-  -- that is drawn then nothing is opened
+  -- a run that commits to the rows, draws alpha, commits to the quotient under it, and draws zeta,
+  -- where nothing is opened
   pub record IsUnopenedRun (old new : S) (e : StarkProverError) : Type 0 where
     pub trace : Com
     pub trace_data : D
@@ -96,8 +97,8 @@ module _ {C S D F E Com : Type 0} (g : Ghosts F) (k : Fields F E) (own : RunMove
   abbrev pub IsUnprovedFor : S → S → StarkProverError → Type 0
   IsUnprovedFor old new e = (e ≡ Memory) ⊎ IsUnopenedRun old new e
 
-  -- and why there is none of a trace that passes the tests before: or the rows don't satisfy the
-  -- constraints, which is said of the first
+  -- why there is no proof of a trace that passes the tests: memory was refused, a constraint isn't
+  -- satisfied, or the rows satisfy all of them and nothing is opened
   abbrev pub IsTraceUnprovedFor : (C → S) → C → C → StarkProverError → Type 0
   IsTraceUnprovedFor state old new e =
       (e ≡ Memory) ⊎ (IsViolatedBy k.field s x old new e

@@ -21,21 +21,21 @@ use Rattle.circle_stark.specs.declared.error.StarkError.TheVariants.{InvalidOpen
 use Rattle.circle_stark.specs.declared.error.StarkError.TheVariants.{OodEvaluationMismatch}
 use Rattle.circle_stark.specs.declared.error.StarkError.TheVariants.{UnfitPoint}
 
--- as in `StarkAccepts`; refuses says of claims, the scheme's proof, the states before and after and
--- an error that the scheme's verifier refuses so
+-- as for `StarkAccepts`; refuses says when the scheme's verifier refuses claims: from which state,
+-- in which state it ends, and with which error
 module _ {C S F E M IC WC IP WP Error : Type 0} (k : Fields F E) (params : FriParameters M)
     (own : RunMoves C S F E IC) (r : RunMoves C S F E WC) (inputs : Authenticates IC F IP)
     (words : Authenticates WC E WP)
     (refuses : List (BatchClaim IC E) → S → S → Error → Type 0) (d : Described F) (s : Statement F)
     (p : Proved F E IC WC IP WP) (log_chunks : ℕ) (old : S) where
-  -- the drawn point can't be opened
+  -- the drawn point isn't fit
   pub record IsUnfit (new : S) : Type 0 where
     pub alpha : E
     pub zeta : E
     pub drawn : AreDrawn own d p.trace p.quotient old alpha zeta new
     pub unfit : ¬ IsFit k.extension k.embed k.gen s.log_n zeta
 
-  -- the scheme refuses the opened values
+  -- the scheme's verifier refuses the opened values
   pub record IsInvalid (new : S) (error : Error) : Type 0 where
     pub alpha : E
     pub zeta : E
@@ -46,7 +46,7 @@ module _ {C S F E M IC WC IP WP Error : Type 0} (k : Fields F E) (params : FriPa
         refuses (claims_at s.log_n p zeta
         (to_line k.extension (next_from k.extension k.embed k.gen s.log_n zeta))) between new error
 
-  -- the scheme accepts them, and the identity doesn't hold
+  -- the scheme's verifier accepts them, and the identity doesn't hold
   pub record IsMismatched (new : S) : Type 0 where
     pub alpha : E
     pub zeta : E
@@ -64,11 +64,11 @@ module _ {C S F E M IC WC IP WP Error : Type 0} (k : Fields F E) (params : FriPa
   IsRefusedFor new Memory = Unit {0}
   IsRefusedFor new _ = ⊥
 
--- the refusal by which that of the scheme is returned
+-- how a refusal of the scheme's verifier is returned
 abbrev pub refusal_of : {W I : Type 0} → FriError W I → StarkError (FriError W I)
 refusal_of error = if says_memory error then Memory else InvalidOpening error
 
--- the scheme's verifier refuses claims of these, and a proof
+-- the scheme's verifier refuses a proof of claims that are these
 pub record IsOpeningRefused {S E IC D Proof Error : Type 0} {g : _}
     (Refuses : List (CommitmentOpening E IC (CircleDomain D g)) → Proof → S → S → Error → Type 0)
     (proof : Proof) (batches : List (BatchClaim IC E)) (old new : S) (error : Error)

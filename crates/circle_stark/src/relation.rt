@@ -38,35 +38,33 @@ pub trait StarkRelation<EF, C: ChallengerState> {
     /// Why the scheme refuses claimed values.
     type Error;
 
-    // From the state of the first challenger the proof of the statement is accepted, which leaves
-    // that of the second.
+    // A verifier with the first challenger accepts the proof of the statement, and leaves the
+    // second.
     ghost accepts: { Self → StarkStatement Self.Entry → C → C → Self.Proof → Type 0 };
 
-    // So for some state that is left.
+    // The proof is accepted so, whatever state is left.
     ghost holds: { Self → StarkStatement Self.Entry → Self.Proof → C → Type 0 };
 
-    // From the state of the first challenger it is seeded, and the proof of the statement, of a
-    // quotient in so many chunks by their logarithm, is refused for this reason, which leaves that
-    // of the second.
+    // With the first challenger, not yet seeded, the proof of the statement, whose quotient has
+    // 2^n chunks, is refused for this reason, which leaves the second.
     ghost refuses_seeded: { Self → StarkStatement Self.Entry → Self.Proof → ℕ → C → C
         → StarkError Self.Error → Type 0 };
 
-    // From the first challenger the proof of the statement is refused for this reason, which leaves
-    // the second.
+    // A verifier with the first challenger refuses the proof of the statement for this reason, and
+    // leaves the second.
     ghost refuses: { Self → StarkStatement Self.Entry → Self.Proof → C → C → StarkError Self.Error
         → Type 0 };
 
-    // From the state of the first challenger rows that satisfy the statement are not proved for
-    // this reason, which leaves that of the second.
+    // A prover with the first challenger doesn't prove rows that satisfy the statement, for this
+    // reason, and leaves the second.
     ghost unopened: { Self → StarkStatement Self.Entry → RowMajorMatrix Self.Entry → C → C
         → StarkProverError → Type 0 };
 
-    // From the first challenger there is no proof of the trace for this reason, which leaves the
-    // second.
+    // A prover with the first challenger refuses the trace for this reason, and leaves the second.
     ghost unproved: { Self → StarkTrace Self.Entry → C → C → StarkProverError → Type 0 };
 
-    // From the state of the challenger the proof of the statement opens these rows: the values are
-    // those of their polynomials.
+    // The proof of the statement, made with this challenger, opens these rows: its values are those
+    // of the only polynomials that have them.
     ghost opens: { Self → StarkStatement Self.Entry → RowMajorMatrix Self.Entry → C → Self.Proof
         → Type 0 };
 }

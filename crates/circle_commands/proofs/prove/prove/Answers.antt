@@ -10,7 +10,7 @@ use Rattle.circle_field.specs.Mersenne31Circle.{are_generators}
 use Rattle.circle_field.specs.Mersenne31Laws.{laws as base-laws}
 use Rattle.circle_merkle.specs.Authentication.{IsShaRoot}
 use Rattle.circle_merkle.specs.ProverData.{matrices_of}
-use Rattle.circle_commands.specs.Proved.{IsCommitted, IsRequested, batch_claimed, commitments_taken}
+use Rattle.circle_commands.specs.Proved.{IsCommitted, IsRequested, batch_claimed, after_batches}
 use Rattle.circle_commands.specs.Traces.{AreFitting, AreTall, HasFittingRows, IsRefusalOfBatches}
 use Rattle.circle_commands.proofs.Accepted.{verified}
 use Rattle.circle_commands.proofs.First.{passed_by, tall-fitting}
@@ -90,8 +90,8 @@ returns-clause-proof c =
     bs committed) c.deref-2.ensures.value c.in_ok-committed.ensures.made)
     (subst (λ cs. AllZip (IsRequested matrices_of) cs requests) c.deref-4.ensures.value
     c.in_ok-requests.ensures)
-    (c.observe_commitments.ensures ∙ ap (λ s. commitments_taken s c.deref-3.result.now)
-    c.new-challenger.ensures ∙ ap (commitments_taken (replicate 32 0)) c.deref-3.ensures.value)
+    (c.observe_commitments.ensures ∙ ap (λ s. after_batches s c.deref-3.result.now)
+    c.new-challenger.ensures ∙ ap (after_batches (replicate 32 0)) c.deref-3.ensures.value)
     c.in_ok-values.ensures.values c.in_ok-values.ensures.opened.opening
     (c.in_ok-claims.ensures ∙ ap (λ cs. pairwise batch_claimed cs (openings values))
     c.deref-5.ensures.value)
@@ -114,8 +114,8 @@ returns-clause-accepted c =
     bs committed) c.deref-2.ensures.value c.in_ok-committed.ensures.made)
     (subst (λ cs. AllZip (IsRequested matrices_of) cs requests) c.deref-4.ensures.value
     c.in_ok-requests.ensures)
-    (c.observe_commitments.ensures ∙ ap (λ s. commitments_taken s c.deref-3.result.now)
-    c.new-challenger.ensures ∙ ap (commitments_taken (replicate 32 0)) c.deref-3.ensures.value)
+    (c.observe_commitments.ensures ∙ ap (λ s. after_batches s c.deref-3.result.now)
+    c.new-challenger.ensures ∙ ap (after_batches (replicate 32 0)) c.deref-3.ensures.value)
     given.answers given.opening
     (c.in_ok-claims.ensures ∙ ap (λ cs. pairwise batch_claimed cs (openings values))
     c.deref-5.ensures.value)
@@ -165,8 +165,8 @@ returns-in_err-values-clause-reason c =
     bs committed) c.deref-2.ensures.value c.in_ok-committed.ensures.made)
     (subst (λ cs. AllZip (IsRequested matrices_of) cs requests) c.deref-4.ensures.value
     c.in_ok-requests.ensures)
-    (c.observe_commitments.ensures ∙ ap (λ s. commitments_taken s c.deref-3.result.now)
-    c.new-challenger.ensures ∙ ap (commitments_taken (replicate 32 0)) c.deref-3.ensures.value)
+    (c.observe_commitments.ensures ∙ ap (λ s. after_batches s c.deref-3.result.now)
+    c.new-challenger.ensures ∙ ap (after_batches (replicate 32 0)) c.deref-3.ensures.value)
     c.in_err-values.ensures.failure)))
 
 pub returns-in_err-claims-clause-reason : goal.returns-in_err-claims-clause-reason

@@ -1,7 +1,7 @@
 use Rattle.std.proofs.Common.{◌∙◌, ap, inr}
 use Rattle.circle_challenger.specs.Sha256Challenger.{state_of}
 use Rattle.circle_relation.proofs.Results.{on_one, if_err}
-use Rattle.circle_commands.specs.Verified.{taken_in}
+use Rattle.circle_commands.specs.Verified.{after_claims}
 use Rattle.circle_commands.proofs.Verified.{unverified, verified, accepted}
 use Rattle.circle_commands.proofs.verify.verify.Goals as goal
 
@@ -12,8 +12,8 @@ returns-clause-accepted c =
     c.observe_commitments.new.challenger c.verify.new.challenger c.in_ok-placed.ensures
     (c.new-scheme.ensures.params ∙ c.with_mmcs.ensures)
     (c.observe_commitments.ensures
-    ∙ ap (λ s. taken_in s c.deref.result.now) c.new-challenger.ensures
-    ∙ ap (taken_in _) c.deref.ensures.value) a)
+    ∙ ap (λ s. after_claims s c.deref.result.now) c.new-challenger.ensures
+    ∙ ap (after_claims _) c.deref.ensures.value) a)
     c.verify.ensures.accepted
 
 pub returns-clause-complete : goal.returns-clause-complete
@@ -24,8 +24,8 @@ returns-clause-complete c =
     c.observe_commitments.new.challenger c.in_ok-placed.ensures
     (c.new-scheme.ensures.params ∙ c.with_mmcs.ensures)
     (c.observe_commitments.ensures
-    ∙ ap (λ s. taken_in s c.deref.result.now) c.new-challenger.ensures
-    ∙ ap (taken_in _) c.deref.ensures.value) v))
+    ∙ ap (λ s. after_claims s c.deref.result.now) c.new-challenger.ensures
+    ∙ ap (after_claims _) c.deref.ensures.value) v))
     c.verify.ensures.complete
 
 pub returns-clause-reason : goal.returns-clause-reason
@@ -35,6 +35,6 @@ returns-clause-reason c =
     (state_of c.verify.new.challenger) (c.new-scheme.ensures.params ∙ c.with_mmcs.ensures)
     c.in_ok-placed.ensures
     (c.observe_commitments.ensures
-    ∙ ap (λ s. taken_in s c.deref.result.now) c.new-challenger.ensures
-    ∙ ap (taken_in _) c.deref.ensures.value) h))
+    ∙ ap (λ s. after_claims s c.deref.result.now) c.new-challenger.ensures
+    ∙ ap (after_claims _) c.deref.ensures.value) h))
     c.verify.ensures.reason
