@@ -18,7 +18,7 @@ use circle_presets::{
     Challenge, ChallengeMmcs, Challenger, Scheme, Val, ValMmcs, VerifierError, scheme,
 };
 use circle_prover::OpeningOver;
-use circle_stark::{StarkError, StarkProof, StarkRelation, StarkStatement, verify as verify_proof};
+use circle_stark::{StarkError, StarkProof, StarkRelation, StarkStatement};
 use serde_json::{Map, Value};
 use std::alloc::{AllocError, Global};
 use std::fmt::InlineText;
@@ -183,7 +183,7 @@ pub fn verify(alloc: Global, input: Input) -> Result<[u8; 32], Refusal>
         public_values: &public_values,
     };
     let mut challenger = Challenger::new();
-    verify_proof(alloc, &scheme(params), statement, &proof, &mut challenger)?;
+    circle_stark::verify(alloc, &scheme(params), statement, &proof, &mut challenger)?;
     Ok(air.digest())
 }
 

@@ -33,9 +33,9 @@ returns-in_err-verify-clause-complete c =
     (λ reason is. never_of_verified _ c.args.input c.in_err-verify.field-0.0 reason is
     (λ v. c.in_err-verify.ensures.complete
     (v.left, accepted _ c.args.input _ c.scheme.result.mmcs c.scheme.result.fri_params.mmcs
-    c.scheme.result.fri_params (state_of c.new.result)
+    c.scheme.result.fri_params (state_of c.new-challenger.result)
     (stated c.args.input (air_of c.in_ok-air.air) c.deref.result.now c.in_ok-air.ensures.same
-    c.deref.ensures.value) c.scheme.ensures c.new.ensures v)))
+    c.deref.ensures.value) c.scheme.ensures c.new-challenger.ensures v)))
 
 pub returns-in_err-verify-clause-reason : goal.returns-in_err-verify-clause-reason
 returns-in_err-verify-clause-reason c =
@@ -44,28 +44,28 @@ returns-in_err-verify-clause-reason c =
     c.in_ok-air.ensures.accepts
     (λ v. c.in_err-verify.ensures.complete
     (v.left, accepted _ c.args.input _ c.scheme.result.mmcs c.scheme.result.fri_params.mmcs
-    c.scheme.result.fri_params (state_of c.new.result)
+    c.scheme.result.fri_params (state_of c.new-challenger.result)
     (stated c.args.input (air_of c.in_ok-air.air) c.deref.result.now c.in_ok-air.ensures.same
-    c.deref.ensures.value) c.scheme.ensures c.new.ensures v))
+    c.deref.ensures.value) c.scheme.ensures c.new-challenger.ensures v))
     record {
       scheme = c.scheme.result;
       statement = _;
-      start = c.new.result;
+      start = c.new-challenger.result;
       left = c.verify.new.challenger;
       params = c.scheme.ensures;
       stated =
           stated c.args.input (air_of c.in_ok-air.air) c.deref.result.now c.in_ok-air.ensures.same
           c.deref.ensures.value;
-      begun = c.new.ensures;
+      begun = c.new-challenger.ensures;
       refuses = c.in_err-verify.ensures.reason;
     })
 
 pub returns-clause-accepted : goal.returns-clause-accepted
 returns-clause-accepted c =
     verified _ c.args.input _ c.scheme.result.mmcs c.scheme.result.fri_params.mmcs
-    c.scheme.result.fri_params (state_of c.new.result)
+    c.scheme.result.fri_params (state_of c.new-challenger.result)
     (stated c.args.input (air_of c.in_ok-air.air) c.deref.result.now c.in_ok-air.ensures.same
-    c.deref.ensures.value) c.scheme.ensures c.new.ensures (state_of c.verify.new.challenger)
+    c.deref.ensures.value) c.scheme.ensures c.new-challenger.ensures (state_of c.verify.new.challenger)
     c.in_ok-air.ensures.accepts c.in_ok-verify.ensures.accepted
 
 pub returns-clause-digest : goal.returns-clause-digest
