@@ -1,6 +1,6 @@
+pub mod Absorbing
 pub mod Accepted
 pub mod Claimed
-pub mod Commitments
 pub mod Depth
 pub mod First
 pub mod Heights

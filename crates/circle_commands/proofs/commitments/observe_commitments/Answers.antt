@@ -1,7 +1,7 @@
 use Rattle.std.proofs.Common.{refl, ap, ◌∙◌}
 use Rattle.circle_challenger.specs.Sha256Challenger.{state_of}
 use Rattle.circle_challenger.specs.Sponge.{absorbed}
-use Rattle.circle_commands.proofs.Commitments.{one_more, all_absorbed}
+use Rattle.circle_commands.proofs.Absorbing.{one_more, all_absorbed}
 use Rattle.circle_commands.proofs.commitments.observe_commitments.Goals as goal
 
 pub loop-batch-init : goal.loop-batch-init
