@@ -6,13 +6,16 @@ use Rattle.circle_commands.specs.Failure.{IsFailureOfJson as IsCommonOfJson, lin
 use Rattle.circle_commands.specs.Failure.{status_of}
 use Rattle.circle_commands.specs.declared.failure.Failure.{Failure as CommonFailure}
 use Rattle.circle_commands.specs.declared.failure.Failure.TheVariants as common
-use Rattle.stark_commands.specs.Named.{check_name, verify_name}
+use Rattle.stark_commands.specs.Named.{check_name, prove_name, verify_name}
 use Rattle.stark_commands.specs.declared.check.Refusal.{Refusal}
 use Rattle.stark_commands.specs.declared.check.Refusal.TheVariants.{Unsatisfied}
+use Rattle.stark_commands.specs.declared.prove.Refusal.{Refusal as Unproved}
+use Rattle.stark_commands.specs.declared.prove.Refusal.TheVariants.{Prover}
+use Rattle.circle_stark.specs.declared.error.StarkProverError.TheVariants.{Unsatisfied as BadTrace}
 use Rattle.stark_commands.specs.declared.failure.Failure.{Failure}
 use Rattle.stark_commands.specs.declared.failure.Failure.TheVariants.{Common, Refused}
 use Rattle.stark_commands.specs.declared.failure.Reason.{Reason}
-use Rattle.stark_commands.specs.declared.failure.Reason.TheVariants.{Check, Verify}
+use Rattle.stark_commands.specs.declared.failure.Reason.TheVariants.{Check, Prove, Verify}
 
 -- the line of a constraint that doesn't hold at a row
 abbrev pub unsatisfied_line : ℕ → ℕ → List ℕ
@@ -25,8 +28,14 @@ abbrev pub check_line : Refusal → List ℕ
 check_line (Unsatisfied violation) = unsatisfied_line violation.constraint violation.row
 check_line refusal = refused_line (check_name refusal)
 
+-- and of `prove`
+abbrev pub prove_line : Unproved → List ℕ
+prove_line (Prover (BadTrace row constraint)) = unsatisfied_line constraint row
+prove_line refusal = refused_line (prove_name refusal)
+
 abbrev pub reason_line : Reason → List ℕ
 reason_line (Check refusal) = check_line refusal
+reason_line (Prove refusal) = prove_line refusal
 reason_line (Verify refusal) = refused_line (verify_name refusal)
 
 -- 2 where the input can't be read, 1 where it is refused

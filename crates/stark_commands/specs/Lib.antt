@@ -3,6 +3,8 @@ pub mod Refused
 pub mod Check
 pub mod Verify
 pub mod Verified
+pub mod Prove
+pub mod Proved
 pub mod Reasons
 pub mod Named
 pub mod Failure

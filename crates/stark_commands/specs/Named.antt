@@ -7,9 +7,13 @@ use Rattle.circle_commit.specs.declared.error.FriError.{FriError}
 use Rattle.circle_relation.specs.Named.{input_name}
 use Rattle.circle_relation.specs.declared.error.InputError.{InputError}
 use Rattle.circle_stark.specs.declared.error.StarkError.{StarkError}
+use Rattle.circle_stark.specs.declared.error.StarkProverError.{StarkProverError}
+use Rattle.circle_stark.specs.declared.error.StarkProverError.TheVariants as prover
 use Rattle.circle_stark.specs.declared.error.StarkError.TheVariants as stark
 use Rattle.stark_commands.specs.declared.check.Refusal.{Refusal as Unchecked}
 use Rattle.stark_commands.specs.declared.check.Refusal.TheVariants as check
+use Rattle.stark_commands.specs.declared.prove.Refusal.{Refusal as Unproved}
+use Rattle.stark_commands.specs.declared.prove.Refusal.TheVariants as prove
 use Rattle.stark_commands.specs.declared.verify.Refusal.{Refusal as Unverified}
 use Rattle.stark_commands.specs.declared.verify.Refusal.TheVariants as verify
 
@@ -41,6 +45,21 @@ stark_name (stark.InvalidOpening error) = fri_name input_name error
 stark_name stark.OodEvaluationMismatch = codes "OodEvaluationMismatch"
 stark_name stark.Memory = codes "Memory"
 
+-- that of the reason to make no proof
+abbrev pub prover_name : StarkProverError → List ℕ
+prover_name (prover.PublicValuesMismatch _ _) = codes "PublicValuesMismatch"
+prover_name (prover.WidthMismatch _ _) = codes "WidthMismatch"
+prover_name prover.HeightNotPowerOfTwo = codes "HeightNotPowerOfTwo"
+prover_name prover.HeightTooSmall = codes "HeightTooSmall"
+prover_name prover.HeightTooLarge = codes "HeightTooLarge"
+prover_name (prover.PeriodTooLong _) = codes "PeriodTooLong"
+prover_name prover.UnfitParameters = codes "UnfitParameters"
+prover_name (prover.Unsatisfied _ _) = codes "Unsatisfied"
+prover_name prover.UnfitPoint = codes "UnfitPoint"
+prover_name prover.PointOnDomain = codes "PointOnDomain"
+prover_name (prover.NoGrindingWitness _) = codes "NoGrindingWitness"
+prover_name prover.Memory = codes "Memory"
+
 -- of a refusal of the command `check`
 abbrev pub check_name : Unchecked → List ℕ
 check_name (check.Air error) = air_name error
@@ -57,3 +76,12 @@ abbrev pub verify_name : Unverified → List ℕ
 verify_name (verify.Air error) = air_name error
 verify_name (verify.Proof error) = stark_name error
 verify_name verify.Memory = codes "Memory"
+
+-- of `prove`
+abbrev pub prove_name : Unproved → List ℕ
+prove_name (prove.Air error) = air_name error
+prove_name prove.RaggedRows = codes "RaggedRows"
+prove_name prove.HeightNotPowerOfTwo = codes "HeightNotPowerOfTwo"
+prove_name prove.HeightTooLarge = codes "HeightTooLarge"
+prove_name (prove.Prover error) = prover_name error
+prove_name prove.Memory = codes "Memory"

@@ -13,19 +13,30 @@ use Rattle.circle_prover.specs.Schemes.{Schemes}
 use Rattle.circle_relation.specs.declared.error.InputError.{InputError}
 use Rattle.circle_stark.specs.declared.error.StarkError.{StarkError}
 use Rattle.circle_stark.specs.declared.error.StarkError.TheVariants.{Memory as OutOfMemory}
+use Rattle.circle_stark.specs.declared.error.StarkProverError.{StarkProverError}
 use Rattle.circle_stark.specs.declared.proof.StarkStatement.{StarkStatement}
+use Rattle.circle_stark.specs.declared.trace.StarkTrace.{StarkTrace}
 use Rattle.stark_commands.specs.Check.{IsUnsatisfied}
+use Rattle.stark_commands.specs.Proved.{IsUnproved}
 use Rattle.stark_commands.specs.Verified.{HasAir, IsUnverified, IsVerified, Scheme}
 use Rattle.stark_commands.specs.declared.check.Input.{Input}
 use Rattle.stark_commands.specs.declared.failure.Reason.{Reason}
-use Rattle.stark_commands.specs.declared.failure.Reason.TheVariants.{Check, Verify}
+use Rattle.stark_commands.specs.declared.failure.Reason.TheVariants.{Check, Prove, Verify}
+use Rattle.stark_commands.specs.declared.prove.Input.{Input as Statement}
 use Rattle.stark_commands.specs.declared.verify.Input.{Input as Claim}
 use Rattle.stark_commands.specs.declared.verify.Refusal.{Refusal}
 use Rattle.stark_commands.specs.declared.verify.Refusal.TheVariants.{Air, Proof, Memory}
 
 abbrev pub IsCheckReason : Input → Reason → Type 0
 IsCheckReason input (Check refusal) = IsUnsatisfied input refusal
+IsCheckReason input (Prove refusal) = ⊥
 IsCheckReason input (Verify refusal) = ⊥
+
+abbrev pub IsProveReason : (Scheme → StarkTrace Mersenne31 → Sha256Challenger → Sha256Challenger →
+    StarkProverError → Type 0) → Statement → Reason → Type 0
+IsProveReason Unproved input (Check refusal) = ⊥
+IsProveReason Unproved input (Prove refusal) = IsUnproved Unproved input refusal
+IsProveReason Unproved input (Verify refusal) = ⊥
 
 -- why the verifier refuses a proof
 abbrev pub ProofError : Type 0
@@ -50,4 +61,5 @@ module _ {D WD : Type 0}
 
     abbrev pub IsVerifyReason : Claim → Reason → Type 0
     IsVerifyReason input (Check refusal) = ⊥
+    IsVerifyReason input (Prove refusal) = ⊥
     IsVerifyReason input (Verify refusal) = IsVerifyRefusal input refusal

@@ -38,6 +38,7 @@ pub mod check;
 pub mod command;
 pub mod failure;
 mod names;
+pub mod prove;
 pub mod run;
 pub mod verify;
 

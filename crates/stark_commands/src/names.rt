@@ -1,10 +1,10 @@
 //! The names of the libraries' errors, as the program writes them.
 ghost use Rattle.std.specs.Prelude.{◌≡◌};
-ghost use Rattle.stark_commands.specs.Named.{air_name, stark_name};
+ghost use Rattle.stark_commands.specs.Named.{air_name, prover_name, stark_name};
 
 use circle_air::AirError;
 use circle_presets::VerifierError;
-use circle_stark::StarkError;
+use circle_stark::{StarkError, StarkProverError};
 
 /// The name of the reason to refuse an AIR.
 pub(crate) fn air_name(error: &AirError) -> &'static str
@@ -41,5 +41,25 @@ pub(crate) fn stark_name(error: &StarkError<VerifierError>) -> &'static str
         StarkError::InvalidOpening(error) => error.name(),
         StarkError::OodEvaluationMismatch => "OodEvaluationMismatch",
         StarkError::Memory => "Memory",
+    }
+}
+
+/// The name of the reason to make no proof.
+pub(crate) fn prover_name(error: &StarkProverError) -> &'static str
+    ensures { result.now ≡ prover_name error.now }
+{
+    match error {
+        StarkProverError::PublicValuesMismatch { .. } => "PublicValuesMismatch",
+        StarkProverError::WidthMismatch { .. } => "WidthMismatch",
+        StarkProverError::HeightNotPowerOfTwo => "HeightNotPowerOfTwo",
+        StarkProverError::HeightTooSmall => "HeightTooSmall",
+        StarkProverError::HeightTooLarge => "HeightTooLarge",
+        StarkProverError::PeriodTooLong { .. } => "PeriodTooLong",
+        StarkProverError::UnfitParameters => "UnfitParameters",
+        StarkProverError::Unsatisfied { .. } => "Unsatisfied",
+        StarkProverError::UnfitPoint => "UnfitPoint",
+        StarkProverError::PointOnDomain => "PointOnDomain",
+        StarkProverError::NoGrindingWitness { .. } => "NoGrindingWitness",
+        StarkProverError::Memory => "Memory",
     }
 }

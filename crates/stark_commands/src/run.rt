@@ -9,7 +9,7 @@ ghost use Rattle.stark_commands.specs.declared.run.CommandName.TheVariants as na
 
 use crate::command::{Command, answer};
 use crate::failure::Failure;
-use crate::{check, verify};
+use crate::{check, prove, verify};
 use circle_commands::Failure as Common;
 use circle_commands::run::{refuse as refuse_common, write_line};
 use std::alloc::Global;
@@ -19,6 +19,7 @@ use std::io::{Read, Write};
 #[derive(Clone, Copy)]
 enum CommandName {
     Check,
+    Prove,
     Verify,
 }
 
@@ -33,6 +34,7 @@ impl CommandName {
         };
         match name.as_str() {
             "check" => Some(CommandName::Check),
+            "prove" => Some(CommandName::Prove),
             "verify" => Some(CommandName::Verify),
             _ => None,
         }
@@ -54,12 +56,16 @@ pub fn run<R: Read, W: Write>(alloc: Global, args: &[String], input: &mut R, out
     ensures check { let c = ⟦<check::Input as Command>⟧ in Names args.now names.Check
         → HasRun (IsAnswer c.form c.is_result c.is_reason) (R.remaining input.old)
         (R.remaining input.new) (W.contents output.old) (W.contents output.new) result }
+    ensures prove { let c = ⟦<prove::Input as Command>⟧ in Names args.now names.Prove
+        → HasRun (IsAnswer c.form c.is_result c.is_reason) (R.remaining input.old)
+        (R.remaining input.new) (W.contents output.old) (W.contents output.new) result }
     ensures verify { let c = ⟦<verify::Input as Command>⟧ in Names args.now names.Verify
         → HasRun (IsAnswer c.form c.is_result c.is_reason) (R.remaining input.old)
         (R.remaining input.new) (W.contents output.old) (W.contents output.new) result }
 {
     match CommandName::from_args(args) {
         Some(CommandName::Check) => run_command::<check::Input, R, W>(alloc, input, output),
+        Some(CommandName::Prove) => run_command::<prove::Input, R, W>(alloc, input, output),
         Some(CommandName::Verify) => run_command::<verify::Input, R, W>(alloc, input, output),
         None => refuse(&Failure::Common(Common::Usage), output),
     }
