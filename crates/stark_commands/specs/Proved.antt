@@ -47,29 +47,36 @@ statement_proved input = record {
   public_values = input.public_values.items;
 }
 
--- more than 2^24 rows, a quotient in more than 2^10 chunks, or more than 2^26 points of the
--- extension or of the quotient
+-- of 2^log_n rows: there are more than 2^24, the quotient has more than 2^10 chunks, or the
+-- extension or the quotient more than 2^26 points
 abbrev pub IsTooLarge : ℕ → ℕ → ℕ → Type 0
-IsTooLarge height log_blowup log_chunks =
-    (2 ^ 24 < height)
-    ⊎ ((10 < log_chunks)
-    ⊎ ((26 < log_of height + log_blowup) ⊎ (26 < log_of height + log_chunks)))
+IsTooLarge log_n log_blowup log_chunks =
+    (24 < log_n)
+    ⊎ ((10 < log_chunks) ⊎ ((26 < log_n + log_blowup) ⊎ (26 < log_n + log_chunks)))
 
--- the first reason to refuse rows, of a quotient in 2^log_chunks chunks
+-- rows of one length, 2^log_n of them, which aren't too many, of a quotient in 2^log_chunks chunks
+pub record AreFittingRows (log_blowup log_chunks : ℕ) (rows : List (Vec Mersenne31 Global))
+    (log_n : ℕ) : Type 0 where
+  pub rectangular : IsRectangular (lists rows)
+  pub height : length rows ≡ 2 ^ log_n
+  pub log : log_n ≡ log_of (length rows)
+  pub small : ¬ IsTooLarge log_n log_blowup log_chunks
+
+-- the first reason to refuse rows
 abbrev pub IsRefusalOfRows : ℕ → ℕ → List (Vec Mersenne31 Global) → Refusal → Type 0
 IsRefusalOfRows log_blowup log_chunks rows RaggedRows = ¬ IsRectangular (lists rows)
 IsRefusalOfRows log_blowup log_chunks rows HeightNotPowerOfTwo =
     IsRectangular (lists rows) × (¬ IsPowerOfTwo (length rows))
 IsRefusalOfRows log_blowup log_chunks rows HeightTooLarge =
     IsRectangular (lists rows)
-    × (IsPowerOfTwo (length rows) × IsTooLarge (length rows) log_blowup log_chunks)
+    × (IsPowerOfTwo (length rows) × IsTooLarge (log_of (length rows)) log_blowup log_chunks)
 IsRefusalOfRows log_blowup log_chunks rows _ = ⊥
 
 -- so of an input, whatever the number of chunks is called
 abbrev pub IsLargeInput : Input → Type 0
 IsLargeInput input =
     (k : ℕ) × IsLogOfChunks (degree_of_parts (parts_given input)) k
-    × IsTooLarge (length (rows_given input)) input.params.log_blowup k
+    × IsTooLarge (log_of (length (rows_given input))) input.params.log_blowup k
 
 abbrev pub HasAir : Input → Type 0
 HasAir input = refusal (parts_given input) ≡ None

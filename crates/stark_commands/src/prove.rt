@@ -1,14 +1,14 @@
 //! The command `prove`: a proof that rows of a trace satisfy an AIR.
-ghost use Rattle.std.specs.Prelude.{◌≡◌, ◌⊎◌, ◌↔◌, IfErr, IfOk, IsTrue, OnOk, length, string_bytes};
+ghost use Rattle.std.specs.Prelude.{◌≡◌, ◌⊎◌, ◌↔◌, IfErr, IfOk, IsTrue, MatchResult, string_bytes};
 ghost use Rattle.circle_air.specs.Air.{air_of};
 ghost use Rattle.circle_air.specs.Parts.{parts_of};
-ghost use Rattle.circle_commands.specs.Rows.{IsRectangular, lists};
+ghost use Rattle.circle_commands.specs.Rows.{lists};
 ghost use Rattle.circle_commands.specs.Text.{IsLineOf};
-ghost use Rattle.circle_commit.specs.Matrix.{IsPowerOfTwo};
 ghost use Rattle.circle_json.specs.ObjectForm.{object_form};
 ghost use Rattle.stark_commands.specs.Named.{prove_name};
 ghost use Rattle.stark_commands.specs.Prove.{input_fields};
-ghost use Rattle.stark_commands.specs.Proved.{IsProved, IsRefusalOfRows, IsTooLarge, IsUnproved};
+ghost use Rattle.stark_commands.specs.Proved.{AreFittingRows, IsProved, IsRefusalOfRows, IsTooLarge};
+ghost use Rattle.stark_commands.specs.Proved.{IsUnproved};
 ghost use Rattle.stark_commands.specs.declared.prove.Refusal.TheVariants.{Memory};
 
 use crate::command::Command;
@@ -26,8 +26,8 @@ use circle_stark::{StarkProverError, StarkRelation, StarkTrace, prove as prove_t
 use serde_json::Value;
 use std::alloc::{AllocError, Global};
 
-/// The greatest number of rows.
-const MAX_HEIGHT: usize = 1 << 24;
+/// The binary logarithm of the greatest number of rows.
+const MAX_LOG_HEIGHT: usize = 24;
 
 /// The binary logarithm of the greatest number of chunks of the quotient.
 const MAX_LOG_CHUNKS: usize = 10;
@@ -182,8 +182,7 @@ pub fn prove(alloc: Global, input: Input) -> Result<verify::Input, Refusal>
         rows,
     } = input;
     let air = Air::try_new(alloc, air)?;
-    validate_rows(params.log_blowup, air.log_num_quotient_chunks(), &rows)?;
-    let log_n = log2_strict(rows.len());
+    let log_n = validate_rows(params.log_blowup, air.log_num_quotient_chunks(), &rows)?;
     let scheme = Scheme::new(ValMmcs::new(), params.with_mmcs(ChallengeMmcs::new()));
     let trace = StarkTrace {
         air: &air,
@@ -201,12 +200,11 @@ pub fn prove(alloc: Global, input: Input) -> Result<verify::Input, Refusal>
     })
 }
 
-// Refuses rows by the first reason, of an AIR whose quotient has `2^log_chunks` chunks.
-fn validate_rows(log_blowup: usize, log_chunks: usize, rows: &[Vec<Val>]) -> Result<(), Refusal>
-    ensures rectangular { OnOk result (IsRectangular (lists rows.now)) }
-    ensures power { OnOk result (IsPowerOfTwo (length rows.now)) }
-    ensures fitting { OnOk result (¬ IsTooLarge (length rows.now) log_blowup log_chunks) }
-    ensures refused { IfErr result (IsRefusalOfRows log_blowup log_chunks rows.now) }
+// The binary logarithm of the number of rows, of an AIR whose quotient has `2^log_chunks` chunks,
+// unless there is a reason to refuse them: then the first.
+fn validate_rows(log_blowup: usize, log_chunks: usize, rows: &[Vec<Val>]) -> Result<usize, Refusal>
+    ensures { MatchResult result (AreFittingRows log_blowup log_chunks rows.now)
+        (IsRefusalOfRows log_blowup log_chunks rows.now) }
 {
     if !is_rectangular(rows) {
         return Err(Refusal::RaggedRows);
@@ -214,22 +212,21 @@ fn validate_rows(log_blowup: usize, log_chunks: usize, rows: &[Vec<Val>]) -> Res
     if !is_power_of_two(rows.len()) {
         return Err(Refusal::HeightNotPowerOfTwo);
     }
-    if is_too_large(log_blowup, log_chunks, rows.len()) {
+    let log_n = log2_strict(rows.len());
+    if is_too_large(log_n, log_blowup, log_chunks) {
         return Err(Refusal::HeightTooLarge);
     }
-    Ok(())
+    Ok(log_n)
 }
 
-// Whether so many rows, a power of two, are too many to be proved.
-fn is_too_large(log_blowup: usize, log_chunks: usize, height: usize) -> bool
-    requires { IsPowerOfTwo height }
-    ensures { IsTrue result ↔ IsTooLarge height log_blowup log_chunks }
+// Whether `2^log_n` rows are too many to be proved.
+fn is_too_large(log_n: usize, log_blowup: usize, log_chunks: usize) -> bool
+    ensures { IsTrue result ↔ IsTooLarge log_n log_blowup log_chunks }
 {
-    if height > MAX_HEIGHT || log_chunks > MAX_LOG_CHUNKS {
-        return true;
-    }
-    log2_strict(height) + log_chunks > MAX_LOG_POINTS
-        || log_blowup > MAX_LOG_POINTS - log2_strict(height)
+    log_n > MAX_LOG_HEIGHT
+        || log_chunks > MAX_LOG_CHUNKS
+        || log_blowup > MAX_LOG_POINTS - log_n
+        || log_n + log_chunks > MAX_LOG_POINTS
 }
 
 // What an AIR is made of.
