@@ -40,13 +40,24 @@ one_log : (degree j k : ℕ) → IsLogOfChunks degree j → IsLogOfChunks degree
 one_log degree j k a b =
     le_antisymm (a.least k b.positive b.enough) (b.least j a.positive a.enough)
 
--- what is proved of so many rows
-abbrev pub stated_by : Parts Mersenne31 → ℕ → List Mersenne31 → Statement Mersenne31
-stated_by parts height public = record {
+-- what is proved of 2^log_n rows, and of so many
+abbrev pub statement_of : Parts Mersenne31 → ℕ → List Mersenne31 → Statement Mersenne31
+statement_of parts log_n public = record {
   parts = parts;
-  log_n = log_of height;
+  log_n = log_n;
   public_values = public;
 }
+
+abbrev pub stated_by : Parts Mersenne31 → ℕ → List Mersenne31 → Statement Mersenne31
+stated_by parts height public = statement_of parts (log_of height) public
+
+-- equal parts make equal statements
+same_statement : (p q : Parts Mersenne31) (m n : ℕ) (v w : List Mersenne31) → p ≡ q → m ≡ n →
+    v ≡ w → statement_of p m v ≡ statement_of q n w
+same_statement p q m n v w parts log public =
+    ap (λ (x : Parts Mersenne31). statement_of x m v) parts
+    ∙ ap (λ (x : ℕ). statement_of q x v) log
+    ∙ ap (λ (x : List Mersenne31). statement_of q n x) public
 
 module _ (Unproved : Scheme → StarkTrace Mersenne31 → Sha256Challenger → Sha256Challenger →
     StarkProverError → Type 0) (input : Input) where
@@ -91,6 +102,17 @@ module _ (Unproved : Scheme → StarkTrace Mersenne31 → Sha256Challenger → S
       (fitting, refused other.0))) is
 
 module _ (input : Input) where
+  -- the AIR's logarithm of the number of chunks is that of its parts
+  pub chunks_of : (k : ℕ) (p : Parts Mersenne31) → p ≡ parts_given input →
+      IsLogOfChunks (degree_of_parts p) k → IsLogOfChunks (degree_of_parts (parts_given input)) k
+  chunks_of k p same log =
+      subst (λ (q : Parts Mersenne31). IsLogOfChunks (degree_of_parts q) k) same log
+
+  -- the number of rows
+  pub height_is : (rows : List (Vec Mersenne31 Global)) (n : ℕ) → rows ≡ input.rows.items →
+      n ≡ length rows → n ≡ length (rows_given input)
+  height_is rows n same is = is ∙ ap length same ∙ sym (length-lists input.rows.items)
+
   -- rows that the prover sees
   pub fitting : (k n : ℕ) (rows : List (Vec Mersenne31 Global)) → rows ≡ input.rows.items →
       IsLogOfChunks (degree_of_parts (parts_given input)) k → HasAir input →
@@ -119,10 +141,16 @@ module _ (input : Input) where
       parts ≡ parts_given input → height ≡ length (rows_given input) →
       public ≡ input.public_values.items → stated_by parts height public ≡ statement_proved input
   stated parts height public same many given =
-      ap (λ (p : Parts Mersenne31). stated_by p height public) same
-      ∙ ap (λ (h : ℕ). stated_by (parts_given input) h public) many
-      ∙ ap (λ (v : List Mersenne31). stated_by (parts_given input) (length (rows_given input)) v)
-      given
+      same_statement parts (parts_given input) (log_of height) (log_of (length (rows_given input)))
+      public input.public_values.items same (ap log_of many) given
+
+-- and so does what the claim has of it
+pub claimed : (claim : Claim) (parts : Parts Mersenne31) (height : ℕ) (public : List Mersenne31) →
+    parts_of claim.air ≡ parts → claim.log_n ≡ log_of height →
+    public ≡ claim.public_values.items → stated_by parts height public ≡ statement_given claim
+claimed claim parts height public air log given =
+    same_statement parts (parts_of claim.air) (log_of height) claim.log_n public
+    claim.public_values.items (sym air) (sym log) given
 
 module _ {D WD : Type 0}
     (o : Schemes Sha256Challenger (List ℕ) Mersenne31 Cubic (ShaMmcs Mersenne31) (List ℕ) D
