@@ -22,7 +22,7 @@ use circle_commit::{FriParameters, is_power_of_two, log2_strict};
 use circle_json::{JsonError, JsonForm, has_keys, member};
 use circle_presets::{Challenge, ChallengeMmcs, Challenger, Scheme, Val, ValMmcs};
 use circle_prover::OpeningOver;
-use circle_stark::{StarkProverError, StarkRelation, StarkTrace, prove as prove_trace};
+use circle_stark::{StarkProverError, StarkRelation, StarkTrace};
 use serde_json::Value;
 use std::alloc::{AllocError, Global};
 
@@ -190,7 +190,7 @@ pub fn prove(alloc: Global, input: Input) -> Result<verify::Input, Refusal>
         public_values: &public_values,
     };
     let mut challenger = Challenger::new();
-    let proof = prove_trace(alloc, &scheme, trace, &mut challenger)?;
+    let proof = circle_stark::prove(alloc, &scheme, trace, &mut challenger)?;
     Ok(verify::Input {
         air: parts(alloc, &air)?,
         log_n,

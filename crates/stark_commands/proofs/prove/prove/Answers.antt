@@ -32,11 +32,11 @@ returns-in_err-log_n-clause-refused c =
     (subst (IsRefusalOfRows c.args.input.params.log_blowup c.log_num_quotient_chunks.result
     c.deref.result.now) (sym is) c.in_err-log_n.ensures)))
 
-pub returns-in_err-prove-clause-refused : goal.returns-in_err-prove-clause-refused
-returns-in_err-prove-clause-refused c =
+pub returns-in_err-proof-clause-refused : goal.returns-in_err-proof-clause-refused
+returns-in_err-proof-clause-refused c =
     let i = c.args.input in
-    refused_by _ _ c.from_residual-in_err-prove.result c.from_residual-in_err-prove.ensures.1
-    (λ reason is. trace_refused _ i c.in_err-prove.field-0.0 reason is
+    refused_by _ _ c.from_residual-in_err-proof.result c.from_residual-in_err-proof.ensures.1
+    (λ reason is. trace_refused _ i c.in_err-proof.field-0.0 reason is
     (fitting i c.log_num_quotient_chunks.result c.in_ok-log_n.log_n c.deref.result.now
     c.deref.ensures.value
     (chunks_of i c.log_num_quotient_chunks.result (air_of c.in_ok-air.air)
@@ -58,7 +58,7 @@ returns-in_err-prove-clause-refused c =
           ∙ ap (λ (rs : List (Vec Mersenne31 Global)). lists rs) c.deref-2.ensures.value;
       begun = c.new-challenger.ensures;
       reported = reported;
-      refuses = c.in_err-prove.ensures.reason;
+      refuses = c.in_err-proof.ensures.reason;
     }))
 
 pub returns-clause-proved : goal.returns-clause-proved
