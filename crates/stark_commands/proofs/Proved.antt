@@ -1,6 +1,6 @@
 -- What the command `prove` hands to the prover, and what it refuses.
 use Rattle.std.proofs.Common.{◌≡◌, ℕ, ◌≤◌, ◌^◌, ◌⊎◌, ⊎_elim, List, Vec, Global, ap, inl, inr, length}
-use Rattle.std.proofs.Common.{le_antisymm, replicate, subst, sym, ◌∙◌}
+use Rattle.std.proofs.Common.{arith, replicate, subst, sym, ◌∙◌}
 use Rattle.std.specs.Prelude.{None}
 use Rattle.circle_air.specs.Degrees.{IsLogOfChunks, degree_of_parts}
 use Rattle.circle_air.specs.Parts.{Parts, parts_of}
@@ -23,9 +23,9 @@ use Rattle.circle_stark.specs.declared.error.StarkProverError.{StarkProverError}
 use Rattle.circle_stark.specs.declared.error.StarkProverError.TheVariants as prover
 use Rattle.circle_stark.specs.declared.trace.StarkTrace.{StarkTrace}
 use Rattle.stark_commands.proofs.Verified.{Accepts, verified}
-use Rattle.stark_commands.specs.Proved.{AreFittingRows, HasAir, IsFitting, IsProved, IsRefusalOfRows}
-use Rattle.stark_commands.specs.Proved.{IsRefusedByProver, IsTooLarge, IsUnproved, parts_given}
-use Rattle.stark_commands.specs.Proved.{rows_given, statement_proved}
+use Rattle.stark_commands.specs.Proved.{AreFittingRows, HasAir, IsFitting, IsProved}
+use Rattle.stark_commands.specs.Proved.{IsRefusalOfRows, IsRefusedByProver, IsTooLarge}
+use Rattle.stark_commands.specs.Proved.{IsUnproved, parts_given, rows_given, statement_proved}
 use Rattle.stark_commands.specs.Refused.{IsRefusalOfTrace}
 use Rattle.stark_commands.specs.Verified.{Scheme, statement_given}
 use Rattle.stark_commands.specs.declared.prove.Input.{Input}
@@ -38,7 +38,7 @@ use Rattle.stark_commands.specs.declared.verify.Input.{Input as Claim}
 -- a degree fixes the logarithm of the number of chunks
 one_log : (degree j k : ℕ) → IsLogOfChunks degree j → IsLogOfChunks degree k → j ≡ k
 one_log degree j k a b =
-    le_antisymm (a.least k b.positive b.enough) (b.least j a.positive a.enough)
+    omega (arith, a.least k b.positive b.enough, b.least j a.positive a.enough)
 
 -- what is proved of 2^log_n rows, and of so many
 abbrev pub statement_of : Parts Mersenne31 → ℕ → List Mersenne31 → Statement Mersenne31
@@ -61,35 +61,36 @@ same_statement p q m n v w parts log public =
 
 module _ (Unproved : Scheme → StarkTrace Mersenne31 → Sha256Challenger → Sha256Challenger →
     StarkProverError → Type 0) (input : Input) where
+  many : length (rows_given input) ≡ length input.rows.items
+  many = length-lists input.rows.items
+
+  first_refused : (k : ℕ) → IsLogOfChunks (degree_of_parts (parts_given input)) k → HasAir input →
+      (e : Refusal) → IsRefusalOfRows input.params.log_blowup k input.rows.items e →
+      IsUnproved Unproved input e
+  first_refused k log air (Air error) h = absurd h
+  first_refused k log air RaggedRows h = (air, h)
+  first_refused k log air HeightNotPowerOfTwo h =
+      ((air, h.0), λ p. h.1 (subst IsPowerOfTwo many p))
+  first_refused k log air HeightTooLarge h = (
+    ((air, h.0), subst IsPowerOfTwo (sym many) h.1.0),
+    (
+      k,
+      log,
+      subst (λ (n : ℕ). IsTooLarge (log_of n) input.params.log_blowup k) (sym many) h.1.1,
+    ),
+  )
+  first_refused k log air (Prover error) h = absurd h
+  first_refused k log air Memory h = absurd h
+
   -- rows that are refused before the prover sees them
   pub rows_refused : (k : ℕ) (rows : List (Vec Mersenne31 Global)) (e : Refusal) →
       rows ≡ input.rows.items → IsLogOfChunks (degree_of_parts (parts_given input)) k →
       HasAir input → IsRefusalOfRows input.params.log_blowup k rows e →
       IsUnproved Unproved input e
   rows_refused k rows e same log air refused =
-      first e (subst (λ (rs : List (Vec Mersenne31 Global)). IsRefusalOfRows input.params.log_blowup
-      k rs e) same refused)
-    where
-      many : length (rows_given input) ≡ length input.rows.items
-      many = length-lists input.rows.items
-
-      first : (e : Refusal) → IsRefusalOfRows input.params.log_blowup k input.rows.items e →
-          IsUnproved Unproved input e
-      first (Air error) h = absurd h
-      first RaggedRows h = (air, h)
-      first HeightNotPowerOfTwo h = ((air, h.0), λ p. h.1 (subst IsPowerOfTwo many p))
-      first HeightTooLarge h = (
-        ((air, h.0), subst IsPowerOfTwo (sym many) h.1.0),
-        (
-          k,
-          (
-            log,
-            subst (λ (n : ℕ). IsTooLarge (log_of n) input.params.log_blowup k) (sym many) h.1.1,
-          ),
-        ),
-      )
-      first (Prover error) h = absurd h
-      first Memory h = absurd h
+      first_refused k log air e
+      (subst (λ (rs : List (Vec Mersenne31 Global)). IsRefusalOfRows input.params.log_blowup k rs e)
+      same refused)
 
   -- what the prover refuses, but where it is memory that is refused
   pub trace_refused : (error : StarkProverError) (reason : Refusal) →
@@ -133,7 +134,7 @@ module _ (input : Input) where
             (ap log_of many ∙ sym fits.log)
             (subst
             (λ (j : ℕ). IsTooLarge (log_of (length (rows_given input))) input.params.log_blowup j)
-            (one_log _ large.0 k large.1.0 log) large.1.1)),
+            (one_log _ large.0 k large.1 log) large.2)),
       )
 
   -- it is handed the input's statement
@@ -167,7 +168,7 @@ module _ {D WD : Type 0}
       Satisfies operations s.parts rows s.public_values →
       Accepts o claim mmcs params s start left → IsProved o input claim
   proved s rows mmcs scheme params start left is claimed given same public height with begun air
-  holds accepts =
+      holds accepts =
       let parts : parts_of claim.air ≡ parts_given input =
       ap (λ (t : Statement Mersenne31). t.parts) (sym claimed ∙ is) in record {
         air = parts;
