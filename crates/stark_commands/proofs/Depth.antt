@@ -17,7 +17,6 @@ use Rattle.stark_commands.proofs.Given.{air_form, row_form}
 use Rattle.stark_commands.specs.Verify.{input_fields}
 use Rattle.stark_commands.specs.declared.verify.Input.{Input}
 
-
 node : IsWithin (node_form base_form) 2
 node (Local c) = omega arith
 node (Next c) = omega arith
@@ -86,16 +85,16 @@ claim =
             object
                 (stark_fields base_form element_form digest_form digests_form digest_form
                 digests_form) 8 (
-              more (object_form (value_fields element_form)) 4 values 8 (omega arith),
-              (
-                proof base_form element_form base_form digests_form digest_form digests_form base
-                    element base (list digest_form 0 digest) digest (list digest_form 0 digest),
-                (
-                  more digest_form 0 digest 8 (omega arith),
-                  (more digest_form 0 digest 8 (omega arith), tt),
+                  more (object_form (value_fields element_form)) 4 values 8 (omega arith),
+                  (
+                    proof base_form element_form base_form digests_form digest_form digests_form base
+                        element base (list digest_form 0 digest) digest (list digest_form 0 digest),
+                    (
+                      more digest_form 0 digest 8 (omega arith),
+                      (more digest_form 0 digest 8 (omega arith), tt),
+                    ),
+                  ),
                 ),
-              ),
-            ),
             (more row_form 1 (list base_form 0 base) 9 (omega arith), tt),
           ),
         ),

@@ -24,28 +24,32 @@ returns-in_err-air-clause-reason c =
     refused_by _ _ c.from_residual.result c.from_residual.ensures.1
     (λ reason is. air_refused Air Memory (refusal (parts_of c.args.input.air))
     c.in_err-air.field-0.0 reason c.in_err-air.ensures.refuses is
-    (IsVerifyRefusal _ _ _ c.args.input) (λ some. some))
+    (IsVerifyRefusal _ (λ i. i.proof) _ c.args.input) (λ some. some))
 
 pub returns-in_err-verify-clause-complete : goal.returns-in_err-verify-clause-complete
 returns-in_err-verify-clause-complete c =
     refused_by _ _ c.from_residual-in_err-verify.result c.from_residual-in_err-verify.ensures.1
     (λ reason is. never_of_verified _ c.args.input c.in_err-verify.field-0.0 reason is
-    (λ v. c.in_err-verify.ensures.complete
-    (v.left, accepted _ c.args.input _ c.scheme.result.mmcs c.scheme.result.fri_params.mmcs
-    c.scheme.result.fri_params (state_of c.new-challenger.result)
-    (stated c.args.input (air_of c.in_ok-air.air) c.deref.result.now c.in_ok-air.ensures.same
-    c.deref.ensures.value) c.scheme.ensures c.new-challenger.ensures v)))
+    (λ v. c.in_err-verify.ensures.complete (
+      v.left,
+      accepted _ c.args.input _ c.scheme.result.mmcs c.scheme.result.fri_params.mmcs
+          c.scheme.result.fri_params (state_of c.new-challenger.result)
+          (stated c.args.input (air_of c.in_ok-air.air) c.deref.result.now c.in_ok-air.ensures.same
+          c.deref.ensures.value) c.scheme.ensures c.new-challenger.ensures v,
+    )))
 
 pub returns-in_err-verify-clause-reason : goal.returns-in_err-verify-clause-reason
 returns-in_err-verify-clause-reason c =
     refused_by _ _ c.from_residual-in_err-verify.result c.from_residual-in_err-verify.ensures.1
     (λ reason is. proof_refused _ c.args.input (λ i. i.proof) _ c.in_err-verify.field-0.0 reason is
     c.in_ok-air.ensures.accepts
-    (λ v. c.in_err-verify.ensures.complete
-    (v.left, accepted _ c.args.input _ c.scheme.result.mmcs c.scheme.result.fri_params.mmcs
-    c.scheme.result.fri_params (state_of c.new-challenger.result)
-    (stated c.args.input (air_of c.in_ok-air.air) c.deref.result.now c.in_ok-air.ensures.same
-    c.deref.ensures.value) c.scheme.ensures c.new-challenger.ensures v))
+    (λ v. c.in_err-verify.ensures.complete (
+      v.left,
+      accepted _ c.args.input _ c.scheme.result.mmcs c.scheme.result.fri_params.mmcs
+          c.scheme.result.fri_params (state_of c.new-challenger.result)
+          (stated c.args.input (air_of c.in_ok-air.air) c.deref.result.now c.in_ok-air.ensures.same
+          c.deref.ensures.value) c.scheme.ensures c.new-challenger.ensures v,
+    ))
     record {
       scheme = c.scheme.result;
       statement =
