@@ -8,8 +8,6 @@ use Rattle.circle_air.specs.Parts.{Parts}
 use Rattle.circle_air.specs.Refusal.{refusal}
 use Rattle.circle_air.specs.Satisfies.{IsFirstViolation, Satisfies}
 use Rattle.circle_air.specs.declared.check.Violation.{Violation}
-use Rattle.circle_air.specs.declared.error.AirError.{AirError}
-use Rattle.circle_air.specs.declared.error.AirError.TheVariants as air
 use Rattle.circle_commit.specs.Matrix.{IsPowerOfTwo}
 use Rattle.circle_field.specs.Mersenne31.{operations}
 use Rattle.circle_field.specs.declared.mersenne31.Mersenne31.{Mersenne31}
@@ -17,7 +15,7 @@ use Rattle.circle_commands.proofs.Rows.{length-lists}
 use Rattle.circle_commands.specs.Rows.{IsRectangular, lists, row_length}
 use Rattle.circle_json.proofs.Objects.{is_not_true}
 use Rattle.stark_commands.specs.Check.{ArePeriodsShort, HasHeight, HasPublicValues, HasRows}
-use Rattle.stark_commands.specs.Check.{HasWidth, IsFitting, IsRefusalOfAir, IsSatisfied}
+use Rattle.stark_commands.specs.Check.{HasWidth, IsFitting, IsSatisfied}
 use Rattle.stark_commands.specs.Check.{IsUnsatisfied, parts_given, rows_given}
 use Rattle.stark_commands.specs.declared.check.Input.{Input}
 use Rattle.stark_commands.specs.declared.check.Refusal.{Refusal}
@@ -25,15 +23,6 @@ use Rattle.stark_commands.specs.declared.check.Refusal.TheVariants.{HeightNotPow
 use Rattle.stark_commands.specs.declared.check.Refusal.TheVariants.{PeriodTooLong, Unsatisfied}
 use Rattle.stark_commands.specs.declared.check.Refusal.TheVariants.{PublicValuesMismatch}
 use Rattle.stark_commands.specs.declared.check.Refusal.TheVariants.{WidthMismatch}
-
--- a refused AIR is a refused input, but where it is memory that is refused
-pub air_refused : (input : Input) (error : AirError) (reason : Refusal) →
-    (error ≡ air.Memory) ⊎ (refusal (parts_given input) ≡ Some error) →
-    IsRefusalOfAir error reason → (reason ≡ Memory) ⊎ IsUnsatisfied input reason
-air_refused input error reason why is =
-    ⊎_elim (λ memory. inl memory.1)
-    (λ other. ⊎_elim (λ memory. absurd (other.0 memory))
-    (λ refused. inr (subst (IsUnsatisfied input) (sym other.1) refused)) why) is
 
 -- a power of two is positive
 pub positive_power : (n : ℕ) → IsPowerOfTwo n → 0 < n

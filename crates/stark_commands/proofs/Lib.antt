@@ -1,3 +1,7 @@
 mod Checked
+mod Depth
 mod Given
+mod Proved
+mod Refused
 pub mod Told
+mod Verified

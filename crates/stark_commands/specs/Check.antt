@@ -1,10 +1,8 @@
 -- What the command `check` is given, when rows satisfy an AIR, and why an input is refused.
-use Rattle.std.specs.Prelude.{◌≡◌, ℕ, ◌≤◌, ◌⊎◌, List, All, length, Option, Some, None, Vec, codes}
+use Rattle.std.specs.Prelude.{◌≡◌, ℕ, ◌≤◌, List, All, length, Option, Some, None, Vec, codes}
 use Rattle.std.specs.Prelude.{⊤}
 use Rattle.std.proofs.Common.{ap}
 use Rattle.std.specs.declared.alloc.Global.{Global}
-use Rattle.circle_air.specs.declared.error.AirError.{AirError}
-use Rattle.circle_air.specs.declared.error.AirError.TheVariants as air
 use Rattle.circle_air.specs.declared.parts.AirParts.{AirParts}
 use Rattle.circle_air.specs.Parts.{Parts, parts_of}
 use Rattle.circle_air.specs.Refusal.{refusal}
@@ -94,11 +92,6 @@ IsUnsatisfied input (Unsatisfied violation) =
     × IsFirstViolation operations (parts_given input) (rows_given input)
     input.public_values.items violation
 IsUnsatisfied input Memory = ⊥
-
--- what a reason to refuse an AIR is to the command
-abbrev pub IsRefusalOfAir : AirError → Refusal → Type 0
-IsRefusalOfAir error refusal =
-    ((error ≡ air.Memory) × (refusal ≡ Memory)) ⊎ ((¬ (error ≡ air.Memory)) × (refusal ≡ Air error))
 
 -- the line of rows that satisfy the AIR
 abbrev pub satisfied_line : List ℕ

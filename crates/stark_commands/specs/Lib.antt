@@ -1,6 +1,13 @@
 pub mod Options
+pub mod Refused
 pub mod Check
+pub mod Verify
+pub mod Verified
+pub mod Prove
+pub mod Proved
 pub mod Reasons
+pub mod Named
 pub mod Failure
 pub mod Answer
+pub mod Arguments
 pub mod Program

@@ -1,5 +1,5 @@
 -- What a run of the program reads, writes and reports by its status.
-use Rattle.std.specs.Prelude.{◌≡◌, ℕ, ◌⊎◌, List, [], ◌∷◌, map, codes, Option, Result, Ok, Err}
+use Rattle.std.specs.Prelude.{ℕ, ◌⊎◌, List, Option, Result, Ok, Err}
 use Rattle.std.specs.Prelude.{String, string_bytes}
 use Rattle.std.specs.Io.KnownBytes.{Appends, Consumes, IsAtEnd}
 use Rattle.std.specs.declared.alloc.Global.{Global}
@@ -7,10 +7,6 @@ use Rattle.circle_commands.specs.Program.{IsUnread as IsCommonUnread, IsWritten}
 use Rattle.stark_commands.specs.Failure.{failure_line, failure_status}
 use Rattle.stark_commands.specs.declared.failure.Failure.{Failure}
 use Rattle.stark_commands.specs.declared.failure.Failure.TheVariants.{Common, Refused}
-
--- the one argument is the name of the command
-abbrev pub NamesCheck : List (String Global) → Type 0
-NamesCheck args = map string_bytes args ≡ codes "check" ∷ []
 
 -- a line, or why there is none
 abbrev pub Answer : Type 0

@@ -3,11 +3,12 @@ ghost use Rattle.std.specs.Prelude.{◌≡◌, ◌≤◌, ◌⊎◌, ◌↔◌, 
 ghost use Rattle.circle_air.specs.Air.{air_of};
 ghost use Rattle.circle_commands.specs.Rows.{lists, row_length};
 ghost use Rattle.stark_commands.specs.Check.{IsSatisfied, IsUnsatisfied};
-ghost use Rattle.stark_commands.specs.Failure.{air_name as name_of_air, check_name};
+ghost use Rattle.stark_commands.specs.Named.{check_name};
 ghost use Rattle.stark_commands.specs.declared.check.Refusal.TheVariants.{Memory};
 
 use crate::command::Command;
 use crate::failure::Failure;
+use crate::names::air_name;
 use circle_air::{Air, AirError, AirParts, Violation, check_constraints};
 use circle_commands::values::{is_rectangular, matrix};
 use circle_commit::{FriParameters, is_power_of_two};
@@ -71,24 +72,6 @@ impl Refusal {
     }
 }
 
-// The name of the reason to refuse an AIR.
-fn air_name(error: &AirError) -> &'static str
-    ensures { result.now ≡ name_of_air error.now }
-{
-    match error {
-        AirError::NoColumns => "NoColumns",
-        AirError::PeriodicLength { .. } => "PeriodicLength",
-        AirError::NodeOutOfOrder { .. } => "NodeOutOfOrder",
-        AirError::ColumnOutOfRange { .. } => "ColumnOutOfRange",
-        AirError::PeriodicOutOfRange { .. } => "PeriodicOutOfRange",
-        AirError::PublicOutOfRange { .. } => "PublicOutOfRange",
-        AirError::DegreeTooHigh { .. } => "DegreeTooHigh",
-        AirError::NoConstraints => "NoConstraints",
-        AirError::ConstraintOutOfRange { .. } => "ConstraintOutOfRange",
-        AirError::Memory => "Memory",
-    }
-}
-
 impl From<AllocError> for Refusal {
     ghost use Rattle.stark_commands.specs.declared.check.Refusal.TheVariants.{Memory};
 
@@ -101,9 +84,10 @@ impl From<AllocError> for Refusal {
 
 /// A refused AIR, but where it is memory that is refused.
 impl From<AirError> for Refusal {
-    ghost use Rattle.stark_commands.specs.Check.{IsRefusalOfAir};
+    ghost use Rattle.stark_commands.specs.Refused.{IsRefusalOfAir};
+    ghost use Rattle.stark_commands.specs.declared.check.Refusal.TheVariants.{Air, Memory};
 
-    ghost from_gives = { IsRefusalOfAir };
+    ghost from_gives = { IsRefusalOfAir Air Memory };
 
     fn from(error: AirError) -> Refusal {
         match error {

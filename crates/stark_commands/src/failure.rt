@@ -3,11 +3,12 @@ ghost use Rattle.std.specs.Prelude.{◌≡◌, ◌+◌, ◌<◌, ◌≤◌, [], 
 ghost use Rattle.std.specs.Fmt.{decimal};
 ghost use Rattle.std.specs.Fmt.InlineText.{inline_text};
 ghost use Rattle.circle_commands.specs.Failure.{refused_line};
-ghost use Rattle.stark_commands.specs.Failure.{reason_line, unsatisfied_line};
+ghost use Rattle.stark_commands.specs.Failure.{prove_line, reason_line, unsatisfied_line};
 
-use crate::check;
+use crate::{check, prove, verify};
 use circle_commands::Failure as Common;
 use circle_json::JsonError;
+use circle_stark::StarkProverError;
 use std::alloc::AllocError;
 use std::fmt::InlineText;
 use std::{fmt, io};
@@ -33,6 +34,10 @@ pub enum Failure {
 pub enum Reason {
     /// The command `check` does.
     Check(check::Refusal),
+    /// The command `prove` does.
+    Prove(prove::Refusal),
+    /// The command `verify` does.
+    Verify(verify::Refusal),
 }
 
 impl Reason {
@@ -46,6 +51,8 @@ impl Reason {
                 unsatisfied(violation.constraint, violation.row)
             }
             Reason::Check(refusal) => refused(refusal.name()),
+            Reason::Prove(refusal) => prove_line(refusal),
+            Reason::Verify(refusal) => refused(refusal.name()),
         }
     }
 }
@@ -54,6 +61,18 @@ impl Reason {
 impl fmt::Display for Reason {
     fn fmt<W: fmt::Write>(&self, f: &mut fmt::Formatter<W>) -> fmt::Result {
         f.write_str(self.line().as_str().trim_end())
+    }
+}
+
+// The line of a refusal of `prove`.
+fn prove_line(refusal: &prove::Refusal) -> InlineText<LINE_LEN>
+    ensures { inline_text result ≡ prove_line refusal.now }
+{
+    match refusal {
+        prove::Refusal::Prover(StarkProverError::Unsatisfied { row, constraint }) => {
+            unsatisfied(*constraint, *row)
+        }
+        refusal => refused(refusal.name()),
     }
 }
 
@@ -85,8 +104,10 @@ fn with(text: InlineText<LINE_LEN>, more: &str) -> InlineText<LINE_LEN>
     text.and_str(more, LINE_LEN)
 }
 
-// The text with the decimal digits of a number after it.
-fn with_number(text: InlineText<LINE_LEN>, number: usize) -> InlineText<LINE_LEN>
+/// The text with the decimal digits of a number after it.
+///
+/// Requires room for them.
+pub(crate) fn with_number(text: InlineText<LINE_LEN>, number: usize) -> InlineText<LINE_LEN>
     requires { length (inline_text text ++ decimal number) ≤ 128 }
     ensures { inline_text result ≡ inline_text text ++ decimal number }
 {
@@ -151,14 +172,46 @@ impl From<JsonError> for Failure {
 }
 
 impl From<check::Refusal> for Failure {
-    ghost use Rattle.stark_commands.specs.Failure.{IsFailureOfCheck};
+    ghost use Rattle.stark_commands.specs.Failure.{IsFailureOfRefusal};
+    ghost use Rattle.stark_commands.specs.declared.check.Refusal.TheVariants.{Memory};
+    ghost use Rattle.stark_commands.specs.declared.failure.Reason.TheVariants.{Check};
 
-    ghost from_gives = { IsFailureOfCheck };
+    ghost from_gives = { IsFailureOfRefusal Check Memory };
 
     fn from(refusal: check::Refusal) -> Failure {
         match refusal {
             check::Refusal::Memory => Failure::Common(Common::Memory),
             other => Failure::Refused(Reason::Check(other)),
+        }
+    }
+}
+
+impl From<prove::Refusal> for Failure {
+    ghost use Rattle.stark_commands.specs.Failure.{IsFailureOfRefusal};
+    ghost use Rattle.stark_commands.specs.declared.failure.Reason.TheVariants.{Prove};
+    ghost use Rattle.stark_commands.specs.declared.prove.Refusal.TheVariants.{Memory};
+
+    ghost from_gives = { IsFailureOfRefusal Prove Memory };
+
+    fn from(refusal: prove::Refusal) -> Failure {
+        match refusal {
+            prove::Refusal::Memory => Failure::Common(Common::Memory),
+            other => Failure::Refused(Reason::Prove(other)),
+        }
+    }
+}
+
+impl From<verify::Refusal> for Failure {
+    ghost use Rattle.stark_commands.specs.Failure.{IsFailureOfRefusal};
+    ghost use Rattle.stark_commands.specs.declared.failure.Reason.TheVariants.{Verify};
+    ghost use Rattle.stark_commands.specs.declared.verify.Refusal.TheVariants.{Memory};
+
+    ghost from_gives = { IsFailureOfRefusal Verify Memory };
+
+    fn from(refusal: verify::Refusal) -> Failure {
+        match refusal {
+            verify::Refusal::Memory => Failure::Common(Common::Memory),
+            other => Failure::Refused(Reason::Verify(other)),
         }
     }
 }

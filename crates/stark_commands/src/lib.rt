@@ -1,4 +1,5 @@
-//! The commands of `stark_tool` over constraints on a trace, as functions of JSON texts.
+//! The commands of `stark_tool` over constraints on a trace and proofs that rows satisfy them, as
+//! functions of JSON texts.
 //!
 //! A command is a module with the type of its input, `Input`, the reasons to refuse it, `Refusal`,
 //! and the call that computes its result. `Input` implements the trait [`Command`], by which
@@ -11,26 +12,41 @@
 //!   refuses for the named error, where there is the named reason to refuse the input, or when out
 //!   of memory (`Answer.IsAnswer`).
 //! - `run::run` reads its input to the end and writes the line that `answer` returns of it, with
-//!   its status, unless reading fails, an allocation is refused or writing fails (`check`, by
-//!   `Program.HasRun`). It reads nothing where the arguments name no command (`usage`, `unread`).
+//!   its status, unless reading fails, an allocation is refused or writing fails (`check`, `prove`,
+//!   `verify`, by `Program.HasRun`). It reads nothing where the arguments name no command (`usage`,
+//!   `unread`).
 //! - `check`: the line is `{"satisfied":true}`, only where the AIR is accepted and the rows satisfy
 //!   it (`Check.IsSatisfied`). Each refusal has its own condition, and `Unsatisfied` names the
 //!   first row and its first constraint that fail (`Check.IsUnsatisfied`).
+//! - `prove`: the line is an input of `verify`, with this AIR, these parameters and public values,
+//!   and the logarithm of the number of rows. It is written only where the rows satisfy the AIR,
+//!   with a proof of which `StarkAccepts` holds (`Proved.IsProved`). Each refusal has its own
+//!   condition (`Proved.IsUnproved`).
+//! - `verify`: the line has the AIR's digest and `"verified":true`, and is written only where the
+//!   AIR is accepted and the relation `StarkAccepts` holds (`Verified.IsVerified`). It refuses only
+//!   where these don't hold, for a reason that `circle_stark` has (`Reasons.IsVerifyRefusal`).
 //!
 //! Its files:
 //!
-//! - In `src/`, `check.rt`: the command. `command.rt`, `failure.rt`, `run.rt`: what commands have in
-//!   common, and the program.
-//! - In `specs/`, `Check`: the command's input, result and refusals. `Options`: the form of what may
-//!   be missing. `Failure`, `Answer`, `Program`: lines and statuses, what a command makes of a text,
-//!   what a run reads and writes.
-//! - In `proofs/`: what they need of texts and of rows.
+//! - In `src/`, `check.rt`, `prove.rt`, `verify.rt`: the commands. `command.rt`, `failure.rt`,
+//!   `names.rt`, `run.rt`: what commands have in common, and the program.
+//! - In `specs/`, `Check`: the input, result and refusals of `check`. `Prove`, `Proved`: those of
+//!   `prove`. `Verify`, `Verified`: the input and the result of `verify`. `Reasons`: why each
+//!   command refuses. `Options`: the form of what may be missing. `Named`, `Refused`: the names of
+//!   refusals, and what the libraries' errors become. `Failure`, `Answer`, `Arguments`, `Program`:
+//!   lines and statuses, what a command makes of a text, the names of commands, what a run reads
+//!   and writes.
+//! - In `proofs/`: what they need of texts, of rows, and of what the prover and the verifier are
+//!   handed.
 #![tactic(auto)]
 
 pub mod check;
 pub mod command;
 pub mod failure;
+mod names;
+pub mod prove;
 pub mod run;
+pub mod verify;
 
 pub use command::Command;
 pub use failure::{Failure, Reason};

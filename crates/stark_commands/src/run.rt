@@ -1,26 +1,44 @@
 //! The program as a function of its arguments, its input and its output.
-ghost use Rattle.std.specs.Prelude.{◌≡◌, ◌≤◌, ◌↔◌, Err, IsTrue};
+ghost use Rattle.std.specs.Prelude.{◌≡◌, ◌≤◌, ◌↔◌, Err, IfSome, IsSome};
 ghost use Rattle.circle_commands.specs.declared.failure.Failure.TheVariants.{Usage};
 ghost use Rattle.stark_commands.specs.Answer.{IsAnswer};
-ghost use Rattle.stark_commands.specs.Program.{HasRun, IsOfInput, IsTold, NamesCheck};
+ghost use Rattle.stark_commands.specs.Arguments.{Names, NamesCommand};
+ghost use Rattle.stark_commands.specs.Program.{HasRun, IsOfInput, IsTold};
 ghost use Rattle.stark_commands.specs.declared.failure.Failure.TheVariants.{Common as CommonFailure};
+ghost use Rattle.stark_commands.specs.declared.run.CommandName.TheVariants as names;
 
-use crate::check;
 use crate::command::{Command, answer};
 use crate::failure::Failure;
+use crate::{check, prove, verify};
 use circle_commands::Failure as Common;
 use circle_commands::run::{refuse as refuse_common, write_line};
 use std::alloc::Global;
 use std::io::{Read, Write};
 
-// Whether the arguments are the name of the command `check`.
-fn name_check(args: &[String]) -> bool
-    ensures { IsTrue result ↔ NamesCheck args.now }
-{
-    let [name] = args else {
-        return false;
-    };
-    matches!(name.as_str(), "check")
+/// The commands of the program.
+#[derive(Clone, Copy)]
+enum CommandName {
+    Check,
+    Prove,
+    Verify,
+}
+
+impl CommandName {
+    // The command that the arguments name, if they are one name of a command.
+    fn from_args(args: &[String]) -> Option<CommandName>
+        ensures some { IsSome result ↔ NamesCommand args.now }
+        ensures named { IfSome result (Names args.now) }
+    {
+        let [name] = args else {
+            return None;
+        };
+        match name.as_str() {
+            "check" => Some(CommandName::Check),
+            "prove" => Some(CommandName::Prove),
+            "verify" => Some(CommandName::Verify),
+            _ => None,
+        }
+    }
 }
 
 /// Runs the program whose arguments, without its own name, are `args`: reads `input` to its end,
@@ -32,17 +50,25 @@ fn name_check(args: &[String]) -> bool
 /// isn't JSON, then JSON that isn't an input of the command, then what the command refuses.
 pub fn run<R: Read, W: Write>(alloc: Global, args: &[String], input: &mut R, output: &mut W) -> u8
     ensures status { result ≤ 2 }
-    ensures usage { ¬ NamesCheck args.now → IsTold (Err (CommonFailure Usage))
+    ensures usage { ¬ NamesCommand args.now → IsTold (Err (CommonFailure Usage))
         (W.contents output.old) (W.contents output.new) result }
-    ensures unread { ¬ NamesCheck args.now → input.new ≡ input.old }
-    ensures check { let c = ⟦<check::Input as Command>⟧ in NamesCheck args.now
+    ensures unread { ¬ NamesCommand args.now → input.new ≡ input.old }
+    ensures check { let c = ⟦<check::Input as Command>⟧ in Names args.now names.Check
+        → HasRun (IsAnswer c.form c.is_result c.is_reason) (R.remaining input.old)
+        (R.remaining input.new) (W.contents output.old) (W.contents output.new) result }
+    ensures prove { let c = ⟦<prove::Input as Command>⟧ in Names args.now names.Prove
+        → HasRun (IsAnswer c.form c.is_result c.is_reason) (R.remaining input.old)
+        (R.remaining input.new) (W.contents output.old) (W.contents output.new) result }
+    ensures verify { let c = ⟦<verify::Input as Command>⟧ in Names args.now names.Verify
         → HasRun (IsAnswer c.form c.is_result c.is_reason) (R.remaining input.old)
         (R.remaining input.new) (W.contents output.old) (W.contents output.new) result }
 {
-    if !name_check(args) {
-        return refuse(&Failure::Common(Common::Usage), output);
+    match CommandName::from_args(args) {
+        Some(CommandName::Check) => run_command::<check::Input, R, W>(alloc, input, output),
+        Some(CommandName::Prove) => run_command::<prove::Input, R, W>(alloc, input, output),
+        Some(CommandName::Verify) => run_command::<verify::Input, R, W>(alloc, input, output),
+        None => refuse(&Failure::Common(Common::Usage), output),
     }
-    run_command::<check::Input, R, W>(alloc, input, output)
 }
 
 // Runs the command that takes these inputs.

@@ -15,12 +15,20 @@ struct Answer {
     status: u8,
 }
 
-/// Whether a call's name is that of a command of `circle_tool` or of `check` of `stark_tool`, or of
-/// one that reads what another wrote.
+/// Whether a call's name is that of a command: of `circle_tool`, of `stark_tool` with `stark ` before
+/// it, or of one that reads what another wrote.
 pub fn are_named(call: &str) -> bool {
     matches!(
         call,
-        "values" | "shape" | "prove" | "verify" | "prove | verify" | "check"
+        "values"
+            | "shape"
+            | "prove"
+            | "verify"
+            | "prove | verify"
+            | "stark check"
+            | "stark prove"
+            | "stark prove | stark verify"
+            | "stark verify"
     )
 }
 
@@ -73,11 +81,12 @@ fn run_command(alloc: Global, command: &str, input: &str) -> Result<Answer, Allo
 
 // What one command writes, and its status.
 fn written_by(alloc: Global, command: &str, input: &str) -> Result<(Vec<u8>, u8), AllocError> {
-    let args = vec![in alloc; String::from_str(alloc, command)?]?;
+    let name = command.strip_prefix("stark ");
+    let args = vec![in alloc; String::from_str(alloc, name.unwrap_or(command))?]?;
     let mut written = Vec::new(alloc);
-    let status = match command {
-        "check" => run_stark(alloc, &args, &mut input.as_bytes(), &mut written),
-        _ => run(alloc, &args, &mut input.as_bytes(), &mut written),
+    let status = match name {
+        Some(_) => run_stark(alloc, &args, &mut input.as_bytes(), &mut written),
+        None => run(alloc, &args, &mut input.as_bytes(), &mut written),
     };
     Ok((written, status))
 }

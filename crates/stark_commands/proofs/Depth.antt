@@ -1,0 +1,102 @@
+-- How deep the JSON of a claim nests.
+use Rattle.std.proofs.Common.{ℕ, ◌≤◌, arith}
+use Rattle.circle_air.specs.declared.node.Node.{Node}
+use Rattle.circle_air.specs.declared.node.Node.TheVariants.{Local, Next, Periodic, Public}
+use Rattle.circle_air.specs.declared.node.Node.TheVariants.{Constant, Add, Sub, Mul, Neg}
+use Rattle.circle_commands.proofs.Depth.{IsWithin, base, base_form, count, digest, digest_form}
+use Rattle.circle_commands.proofs.Depth.{digests_form, element, element_form, list, more, object}
+use Rattle.circle_commands.proofs.Depth.{parameters, proof}
+use Rattle.circle_field.specs.declared.mersenne31.Mersenne31.{Mersenne31}
+use Rattle.circle_json.specs.Airs.{constraint_fields, node_form, parts_fields, place_form}
+use Rattle.circle_json.specs.Claims.{parameters_form}
+use Rattle.circle_json.specs.Form.{Form, count_form, list_form}
+use Rattle.circle_json.specs.ObjectForm.{object_form}
+use Rattle.circle_json.specs.Proof.{proof_fields}
+use Rattle.circle_stark.specs.Json.{stark_fields, value_fields}
+use Rattle.stark_commands.proofs.Given.{air_form, row_form}
+use Rattle.stark_commands.specs.Verify.{input_fields}
+use Rattle.stark_commands.specs.declared.verify.Input.{Input}
+
+node : IsWithin (node_form base_form) 2
+node (Local c) = omega arith
+node (Next c) = omega arith
+node (Periodic i) = omega arith
+node (Public i) = omega arith
+node (Constant x) = omega arith
+node (Add a b) = omega arith
+node (Sub a b) = omega arith
+node (Mul a b) = omega arith
+node (Neg a) = omega arith
+
+place : IsWithin place_form 0
+place p = omega arith
+
+air : IsWithin air_form 4
+air =
+    object (parts_fields base_form) 3 (
+      more (list_form (object_form constraint_fields)) 2
+          (list (object_form constraint_fields) 1
+          (object constraint_fields 0 (count, (place, tt)))) 3 (omega arith),
+      (
+        list (node_form base_form) 2 node,
+        (
+          more count_form 0 count 3 (omega arith),
+          (
+            more (list_form row_form) 2 (list row_form 1 (list base_form 0 base)) 3 (omega arith),
+            (more count_form 0 count 3 (omega arith), tt),
+          ),
+        ),
+      ),
+    )
+
+-- of a proof: its opened values, what the scheme proves of them, and the commitments
+values : IsWithin (object_form (value_fields element_form)) 4
+values =
+    object (value_fields element_form) 3 (
+      list (list_form element_form) 2 (list element_form 1 element),
+      (
+        more (list_form element_form) 2 (list element_form 1 element) 3 (omega arith),
+        (more (list_form element_form) 2 (list element_form 1 element) 3 (omega arith), tt),
+      ),
+    )
+
+-- the form of a claim
+abbrev pub claim_form : Form Input
+claim_form =
+    object_form
+    (input_fields (λ i. i.proof) air_form parameters_form
+    (object_form
+    (stark_fields base_form element_form digest_form digests_form digest_form digests_form))
+    row_form)
+
+pub claim : IsWithin claim_form 10
+claim =
+    object
+    (input_fields (λ i. i.proof) air_form parameters_form
+    (object_form
+    (stark_fields base_form element_form digest_form digests_form digest_form digests_form))
+    row_form) 9 (
+      more air_form 4 air 9 (omega arith),
+      (
+        more count_form 0 count 9 (omega arith),
+        (
+          more parameters_form 1 parameters 9 (omega arith),
+          (
+            object
+                (stark_fields base_form element_form digest_form digests_form digest_form
+                digests_form) 8 (
+                  more (object_form (value_fields element_form)) 4 values 8 (omega arith),
+                  (
+                    proof base_form element_form base_form digests_form digest_form digests_form base
+                        element base (list digest_form 0 digest) digest (list digest_form 0 digest),
+                    (
+                      more digest_form 0 digest 8 (omega arith),
+                      (more digest_form 0 digest 8 (omega arith), tt),
+                    ),
+                  ),
+                ),
+            (more row_form 1 (list base_form 0 base) 9 (omega arith), tt),
+          ),
+        ),
+      ),
+    )

@@ -1,0 +1,99 @@
+-- What the command `verify` hands to the verifier.
+use Rattle.std.proofs.Common.{◌≡◌, ℕ, ◌⊎◌, ⊎_elim, List, Vec, Global, ap, inl, inr, replicate}
+use Rattle.std.proofs.Common.{subst, sym, ◌∙◌}
+use Rattle.circle_air.specs.Parts.{Parts, parts_of}
+use Rattle.circle_challenger.specs.declared.sha256.Sha256Challenger.{Sha256Challenger}
+use Rattle.circle_commands.proofs.Verified.{one_scheme}
+use Rattle.circle_commit.specs.Parameters.{with_scheme}
+use Rattle.circle_commit.specs.declared.params.FriParameters.{FriParameters}
+use Rattle.circle_field.specs.declared.cubic.Cubic.{Cubic}
+use Rattle.circle_field.specs.declared.mersenne31.Mersenne31.{Mersenne31}
+use Rattle.circle_merkle.specs.declared.mmcs.ShaMmcs.{ShaMmcs}
+use Rattle.circle_prover.specs.Schemes.{Schemes}
+use Rattle.circle_stark.specs.Accepts.{StarkAccepts}
+use Rattle.circle_stark.specs.Statement.{Statement, proved_of, statement_of}
+use Rattle.circle_stark.specs.declared.error.StarkError.TheVariants as stark
+use Rattle.circle_stark.specs.declared.proof.StarkStatement.{StarkStatement}
+use Rattle.stark_commands.specs.Reasons.{IsVerifyRefusal, ProofError}
+use Rattle.stark_commands.specs.Refused.{IsRefusalOfProof}
+use Rattle.stark_commands.specs.Verified.{HasAir, IsUnverified, IsVerified, Scheme, described}
+use Rattle.stark_commands.specs.Verified.{statement_given}
+use Rattle.stark_commands.specs.declared.verify.Input.{Input}
+use Rattle.stark_commands.specs.declared.verify.Refusal.{Refusal}
+use Rattle.stark_commands.specs.declared.verify.Refusal.TheVariants.{Memory, Proof}
+
+-- a statement of as many rows as the input's
+abbrev pub stated_by : Input → Parts Mersenne31 → List Mersenne31 → Statement Mersenne31
+stated_by input parts public = record {
+  parts = parts;
+  log_n = input.log_n;
+  public_values = public;
+}
+
+-- of the input's AIR and public values it is the input's
+pub stated : (input : Input) (parts : Parts Mersenne31) (public : List Mersenne31) →
+    parts ≡ parts_of input.air → public ≡ input.public_values.items →
+    stated_by input parts public ≡ statement_given input
+stated input parts public same given =
+    ap (λ (p : Parts Mersenne31). stated_by input p public) same
+    ∙ ap (λ (v : List Mersenne31). stated_by input (parts_of input.air) v) given
+
+module _ {D WD : Type 0}
+    (o : Schemes Sha256Challenger (List ℕ) Mersenne31 Cubic (ShaMmcs Mersenne31) (List ℕ) D
+    (Vec (List ℕ) Global) (ShaMmcs Cubic) (List ℕ) WD (Vec (List ℕ) Global)) (input : Input)
+  where
+    abbrev pub Accepts : ShaMmcs Mersenne31 → FriParameters (ShaMmcs Cubic) →
+        Statement Mersenne31 → List ℕ → List ℕ → Type 0
+    Accepts mmcs params s old new =
+        StarkAccepts o.fields params o.run o.run (o.authenticates mmcs)
+        (o.word_authenticates params.mmcs) (described s) s (proved_of input.proof) old new
+
+    module _ (s : Statement Mersenne31) (mmcs : ShaMmcs Mersenne31) (scheme : ShaMmcs Cubic)
+        (params : FriParameters (ShaMmcs Cubic)) (start : List ℕ) (is : s ≡ statement_given input)
+        (same : params ≡ with_scheme input.params scheme) (begun : start ≡ replicate 32 0) where
+      -- what is accepted of the input's statement under its parameters is verified
+      pub verified : (left : List ℕ) → HasAir input → Accepts mmcs params s start left →
+          IsVerified o input
+      verified left air a = record {
+        air = air;
+        mmcs = mmcs;
+        scheme = scheme;
+        left = left;
+        accepts =
+            subst (λ t. Accepts mmcs (with_scheme input.params scheme) t (replicate 32 0) left) is
+            (subst (λ p. Accepts mmcs p s (replicate 32 0) left) same
+            (subst (λ old. Accepts mmcs params s old left) begun a));
+      }
+
+      -- what is verified is accepted
+      pub accepted : (v : IsVerified o input) → Accepts mmcs params s start v.left
+      accepted v =
+          let of_schemes =
+          subst
+          (λ m. Accepts m (with_scheme input.params v.scheme) (statement_given input)
+          (replicate 32 0) v.left) (one_scheme v.mmcs mmcs) v.accepts in
+          let of_params =
+          subst (λ p. Accepts mmcs p (statement_given input) (replicate 32 0) v.left)
+          (ap (with_scheme input.params) (one_scheme v.scheme scheme) ∙ sym same) of_schemes in
+          let of_statement =
+          subst (λ t. Accepts mmcs params t (replicate 32 0) v.left) (sym is) of_params in
+          subst (λ old. Accepts mmcs params s old v.left) (sym begun) of_statement
+
+    -- a refused proof is a refused input, but where it is memory that is refused
+    pub never_of_verified : (error : ProofError) (reason : Refusal) →
+        IsRefusalOfProof Proof Memory error reason → (IsVerified o input → error ≡ stark.Memory) →
+        IsVerified o input → reason ≡ Memory
+    never_of_verified error reason is complete v =
+        ⊎_elim (λ memory. memory.1) (λ other. absurd (other.0 (complete v))) is
+
+    pub proof_refused : {P : Type 0} (part : Input → P)
+        (Refuses : Scheme → StarkStatement Mersenne31 → P → Sha256Challenger → Sha256Challenger →
+        ProofError → Type 0) (error : ProofError) (reason : Refusal) →
+        IsRefusalOfProof Proof Memory error reason →
+        HasAir input → (IsVerified o input → error ≡ stark.Memory) →
+        IsUnverified Refuses (part input) input error →
+        (reason ≡ Memory) ⊎ IsVerifyRefusal o part Refuses input reason
+    proof_refused part Refuses error reason is air complete refused =
+        ⊎_elim (λ memory. inl memory.1)
+        (λ other. inr (subst (IsVerifyRefusal o part Refuses input) (sym other.1)
+        (air, (λ v. other.0 (complete v), (other.0, refused))))) is

@@ -1,0 +1,76 @@
+-- When the command `verify` accepts, and what it writes then.
+use Rattle.std.specs.Prelude.{◌≡◌, ℕ, ◌++◌, List, None, replicate, Vec, codes}
+use Rattle.std.specs.Fmt.{decimal}
+use Rattle.std.specs.declared.alloc.Global.{Global}
+use Rattle.circle_air.specs.Parts.{parts_of}
+use Rattle.circle_air.specs.Refusal.{refusal}
+use Rattle.circle_challenger.specs.Sha256Challenger.{state_of}
+use Rattle.circle_challenger.specs.declared.sha256.Sha256Challenger.{Sha256Challenger}
+use Rattle.circle_commit.specs.Parameters.{with_scheme}
+use Rattle.circle_field.specs.Bytes.{bytes}
+use Rattle.circle_field.specs.declared.cubic.Cubic.{Cubic}
+use Rattle.circle_field.specs.declared.mersenne31.Mersenne31.{Mersenne31}
+use Rattle.circle_merkle.specs.declared.mmcs.ShaMmcs.{ShaMmcs}
+use Rattle.circle_prover.specs.Schemes.{Schemes}
+use Rattle.circle_stark.specs.Accepts.{StarkAccepts}
+use Rattle.circle_stark.specs.Draw.{Described}
+use Rattle.circle_stark.specs.Statement.{Statement, described_by, proved_of, statement_of}
+use Rattle.circle_stark.specs.declared.proof.StarkStatement.{StarkStatement}
+use Rattle.hex.specs.Hex.{encode_lower}
+use Rattle.p3_circle.specs.declared.pcs.CirclePcs.{CirclePcs}
+use Rattle.stark_commands.specs.declared.verify.Input.{Input}
+
+-- the statement that the input's proof is of
+abbrev pub statement_given : Input → Statement Mersenne31
+statement_given input = record {
+  parts = parts_of input.air;
+  log_n = input.log_n;
+  public_values = input.public_values.items;
+}
+
+-- what describes a statement's run: the AIR's digest, the height and the public values
+abbrev pub described : Statement Mersenne31 → Described Mersenne31
+described s = described_by bytes 4 s
+
+-- the parts make an AIR
+abbrev pub HasAir : Input → Type 0
+HasAir input = refusal (parts_of input.air) ≡ None
+
+-- the parts make an AIR, and the verifier accepts the proof of the input's statement from a
+-- challenger that has absorbed nothing, under the relation
+pub record IsVerified {D WD : Type 0}
+    (o : Schemes Sha256Challenger (List ℕ) Mersenne31 Cubic (ShaMmcs Mersenne31) (List ℕ) D
+    (Vec (List ℕ) Global) (ShaMmcs Cubic) (List ℕ) WD (Vec (List ℕ) Global))
+    (input : Input) : Type 0 where
+  pub air : HasAir input
+  pub mmcs : ShaMmcs Mersenne31
+  pub scheme : ShaMmcs Cubic
+  pub left : List ℕ
+  pub accepts :
+      StarkAccepts o.fields (with_scheme input.params scheme) o.run o.run (o.authenticates mmcs)
+      (o.word_authenticates scheme) (described (statement_given input)) (statement_given input)
+      (proved_of input.proof) (replicate 32 0) left
+
+-- the scheme over these parts
+abbrev pub Scheme : Type 0
+Scheme = CirclePcs Mersenne31 (ShaMmcs Mersenne31) (ShaMmcs Cubic)
+
+-- the verifier refuses, for this reason, the input's proof of its statement under its parameters,
+-- from a challenger that has absorbed nothing
+pub record IsUnverified {Proof Error : Type 0}
+    (Refuses : Scheme → StarkStatement Mersenne31 → Proof → Sha256Challenger → Sha256Challenger →
+    Error → Type 0) (proof : Proof) (input : Input) (error : Error) : Type 0 where
+  pub scheme : Scheme
+  pub statement : StarkStatement Mersenne31
+  pub start : Sha256Challenger
+  pub left : Sha256Challenger
+  pub params : scheme.fri_params ≡ with_scheme input.params scheme.fri_params.mmcs
+  pub stated : statement_of statement ≡ statement_given input
+  pub begun : state_of start ≡ replicate 32 0
+  pub refuses : Refuses scheme statement proof start left error
+
+-- the line of a proof that is accepted, of an AIR with this digest and of 2^log_n rows
+abbrev pub verified_line : List ℕ → ℕ → List ℕ
+verified_line digest log_n =
+    codes "{\"air_digest\":\"" ++ encode_lower digest ++ codes "\",\"log_n\":" ++ decimal log_n
+    ++ codes ",\"verified\":true}\n"
