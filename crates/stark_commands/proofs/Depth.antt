@@ -87,7 +87,8 @@ claim =
                 digests_form) 8 (
                   more (object_form (value_fields element_form)) 4 values 8 (omega arith),
                   (
-                    proof base_form element_form base_form digests_form digest_form digests_form base
+                    proof base_form element_form base_form digests_form digest_form digests_form
+                        base
                         element base (list digest_form 0 digest) digest (list digest_form 0 digest),
                     (
                       more digest_form 0 digest 8 (omega arith),

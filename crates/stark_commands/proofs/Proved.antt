@@ -1,5 +1,6 @@
 -- What the command `prove` hands to the prover, and what it refuses.
-use Rattle.std.proofs.Common.{◌≡◌, ℕ, ◌≤◌, ◌^◌, ◌⊎◌, ⊎_elim, List, Vec, Global, ap, inl, inr, length}
+use Rattle.std.proofs.Common.{◌≡◌, ℕ, ◌≤◌, ◌^◌, ◌⊎◌, ⊎_elim, List, Vec, Global, ap, inl, inr}
+use Rattle.std.proofs.Common.{length}
 use Rattle.std.proofs.Common.{arith, replicate, subst, sym, ◌∙◌}
 use Rattle.std.specs.Prelude.{None}
 use Rattle.circle_air.specs.Degrees.{IsLogOfChunks, degree_of_parts}
