@@ -1,6 +1,6 @@
 -- What the command `check` finds of its input.
-use Rattle.std.proofs.Common.{◌≡◌, ℕ, ◌<◌, ◌≤◌, ◌^◌, ◌⊎◌, ⊎_elim, List, [], ◌∷◌, length, map, Some}
-use Rattle.std.proofs.Common.{None, All, Vec, Global, arith, inl, inr, refl, subst, sym, ap, ◌∙◌}
+use Rattle.std.proofs.Common.{◌≡◌, ℕ, ◌<◌, ◌≤◌, List, [], ◌∷◌, length, map, Some}
+use Rattle.std.proofs.Common.{None, All, Vec, Global, arith, subst, sym, ap, ◌∙◌}
 use Rattle.std.proofs.Common.{zero, suc, vec_len, Bool, false, IsTrue, Option}
 use Rattle.std.specs.Prelude.{MatchOption}
 use Rattle.std.proofs.lemmas.Nat.{pow_pos}
@@ -18,8 +18,7 @@ use Rattle.stark_commands.specs.Check.{ArePeriodsShort, HasHeight, HasPublicValu
 use Rattle.stark_commands.specs.Check.{HasWidth, IsFitting, IsSatisfied}
 use Rattle.stark_commands.specs.Check.{IsUnsatisfied, parts_given, rows_given}
 use Rattle.stark_commands.specs.declared.check.Input.{Input}
-use Rattle.stark_commands.specs.declared.check.Refusal.{Refusal}
-use Rattle.stark_commands.specs.declared.check.Refusal.TheVariants.{HeightNotPowerOfTwo, Memory}
+use Rattle.stark_commands.specs.declared.check.Refusal.TheVariants.{HeightNotPowerOfTwo}
 use Rattle.stark_commands.specs.declared.check.Refusal.TheVariants.{PeriodTooLong, Unsatisfied}
 use Rattle.stark_commands.specs.declared.check.Refusal.TheVariants.{PublicValuesMismatch}
 use Rattle.stark_commands.specs.declared.check.Refusal.TheVariants.{WidthMismatch}

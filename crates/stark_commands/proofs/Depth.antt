@@ -1,17 +1,14 @@
 -- How deep the JSON of a claim nests.
-use Rattle.std.proofs.Common.{ℕ, ◌≤◌, arith}
-use Rattle.circle_air.specs.declared.node.Node.{Node}
+use Rattle.std.proofs.Common.{arith}
 use Rattle.circle_air.specs.declared.node.Node.TheVariants.{Local, Next, Periodic, Public}
 use Rattle.circle_air.specs.declared.node.Node.TheVariants.{Constant, Add, Sub, Mul, Neg}
 use Rattle.circle_commands.proofs.Depth.{IsWithin, base, base_form, count, digest, digest_form}
 use Rattle.circle_commands.proofs.Depth.{digests_form, element, element_form, list, more, object}
 use Rattle.circle_commands.proofs.Depth.{parameters, proof}
-use Rattle.circle_field.specs.declared.mersenne31.Mersenne31.{Mersenne31}
 use Rattle.circle_json.specs.Airs.{constraint_fields, node_form, parts_fields, place_form}
 use Rattle.circle_json.specs.Claims.{parameters_form}
 use Rattle.circle_json.specs.Form.{Form, count_form, list_form}
 use Rattle.circle_json.specs.ObjectForm.{object_form}
-use Rattle.circle_json.specs.Proof.{proof_fields}
 use Rattle.circle_stark.specs.Json.{stark_fields, value_fields}
 use Rattle.stark_commands.proofs.Given.{air_form, row_form}
 use Rattle.stark_commands.specs.Verify.{input_fields}

@@ -1,5 +1,5 @@
 -- The input of `check` in JSON, by whether parameters are there.
-use Rattle.std.proofs.Common.{◌≡◌, Option, Some, None, inl, inr, ⊎_elim, Vec, Global}
+use Rattle.std.proofs.Common.{Option, Some, None, inl, inr, ⊎_elim, Vec, Global}
 use Rattle.circle_air.specs.declared.parts.AirParts.{AirParts}
 use Rattle.circle_field.specs.declared.mersenne31.Mersenne31.{Mersenne31}
 use Rattle.circle_field.specs.Mersenne31.{residue}

@@ -1,5 +1,5 @@
 -- What the command `prove` hands to the prover, and what it refuses.
-use Rattle.std.proofs.Common.{◌≡◌, ℕ, ◌≤◌, ◌^◌, ◌⊎◌, ⊎_elim, List, Vec, Global, ap, inl, inr}
+use Rattle.std.proofs.Common.{◌≡◌, ℕ, ◌^◌, ◌⊎◌, ⊎_elim, List, Vec, Global, ap, inl, inr}
 use Rattle.std.proofs.Common.{length}
 use Rattle.std.proofs.Common.{arith, replicate, subst, sym, ◌∙◌}
 use Rattle.std.specs.Prelude.{None}

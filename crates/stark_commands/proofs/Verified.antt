@@ -11,7 +11,7 @@ use Rattle.circle_field.specs.declared.mersenne31.Mersenne31.{Mersenne31}
 use Rattle.circle_merkle.specs.declared.mmcs.ShaMmcs.{ShaMmcs}
 use Rattle.circle_prover.specs.Schemes.{Schemes}
 use Rattle.circle_stark.specs.Accepts.{StarkAccepts}
-use Rattle.circle_stark.specs.Statement.{Statement, proved_of, statement_of}
+use Rattle.circle_stark.specs.Statement.{Statement, proved_of}
 use Rattle.circle_stark.specs.declared.error.StarkError.TheVariants as stark
 use Rattle.circle_stark.specs.declared.proof.StarkStatement.{StarkStatement}
 use Rattle.stark_commands.specs.Reasons.{IsVerifyRefusal, ProofError}

@@ -4,7 +4,6 @@ use Rattle.std.specs.Fmt.{decimal}
 use Rattle.circle_json.specs.declared.error.JsonError.{JsonError}
 use Rattle.circle_commands.specs.Failure.{IsFailureOfJson as IsCommonOfJson, line_of, refused_line}
 use Rattle.circle_commands.specs.Failure.{status_of}
-use Rattle.circle_commands.specs.declared.failure.Failure.{Failure as CommonFailure}
 use Rattle.circle_commands.specs.declared.failure.Failure.TheVariants as common
 use Rattle.stark_commands.specs.Named.{check_name, prove_name, verify_name}
 use Rattle.stark_commands.specs.declared.check.Refusal.{Refusal}

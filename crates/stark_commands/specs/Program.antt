@@ -1,7 +1,7 @@
 -- What a run of the program reads, writes and reports by its status.
 use Rattle.std.specs.Prelude.{ℕ, ◌⊎◌, List, Option, Result, Ok, Err}
 use Rattle.std.specs.Prelude.{String, string_bytes}
-use Rattle.std.specs.Io.KnownBytes.{Appends, Consumes, IsAtEnd}
+use Rattle.std.specs.Io.KnownBytes.{Consumes, IsAtEnd}
 use Rattle.std.specs.declared.alloc.Global.{Global}
 use Rattle.circle_commands.specs.Program.{IsUnread as IsCommonUnread, IsWritten}
 use Rattle.stark_commands.specs.Failure.{failure_line, failure_status}

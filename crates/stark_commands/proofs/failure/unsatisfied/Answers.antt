@@ -1,5 +1,4 @@
-use Rattle.std.proofs.Common.{◌<◌, ◌≤◌, ◌^◌, arith, length}
-use Rattle.std.specs.Fmt.InlineText.{inline_text}
+use Rattle.std.proofs.Common.{◌<◌, ◌^◌, arith}
 use Rattle.stark_commands.proofs.Told.{few_digits, first_part, name_part, number_part, with_room}
 use Rattle.stark_commands.proofs.failure.unsatisfied.Goals as goal
 

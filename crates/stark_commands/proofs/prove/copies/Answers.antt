@@ -1,4 +1,4 @@
-use Rattle.std.proofs.Common.{◌≡◌, ◌++◌, ◌∷◌, ◌∙◌, [], ap, arith, sym, take, List, Vec, Global}
+use Rattle.std.proofs.Common.{◌≡◌, ◌++◌, ◌∷◌, ◌∙◌, [], ap, sym, take, List, Vec, Global}
 use Rattle.std.proofs.lemmas.List.{map-append, take_all, take_more}
 use Rattle.circle_commands.specs.Rows.{lists}
 use Rattle.circle_field.specs.declared.mersenne31.Mersenne31.{Mersenne31}

@@ -1,6 +1,6 @@
-use Rattle.std.proofs.Common.{◌≡◌, ◌∙◌, ap, inr, refl, subst, sym, List, Vec, Global, length}
+use Rattle.std.proofs.Common.{◌∙◌, ap, inr, refl, subst, sym, List, Vec, Global}
 use Rattle.circle_air.specs.Air.{air_of}
-use Rattle.circle_air.specs.Parts.{Parts, parts_of}
+use Rattle.circle_air.specs.Parts.{parts_of}
 use Rattle.circle_air.specs.Refusal.{refusal}
 use Rattle.circle_challenger.specs.Sha256Challenger.{state_of}
 use Rattle.circle_codewords.specs.Requests.{log_of}

@@ -74,7 +74,7 @@ returns-clause-accepted c =
     c.scheme.result.fri_params (state_of c.new-challenger.result)
     (stated c.args.input (air_of c.in_ok-air.air) c.deref.result.now c.in_ok-air.ensures.same
     c.deref.ensures.value) c.scheme.ensures c.new-challenger.ensures
-        (state_of c.verify.new.challenger)
+    (state_of c.verify.new.challenger)
     c.in_ok-air.ensures.accepts c.in_ok-verify.ensures.accepted
 
 pub returns-clause-digest : goal.returns-clause-digest

@@ -2,6 +2,11 @@ use Rattle.std.proofs.Common.{inl, inr}
 use Rattle.circle_json.proofs.Items.{if_err_from}
 use Rattle.stark_commands.proofs.prove.InputCommand.read.Goals as goal
 
+pub returns-in_err-member-clause-refuses : goal.returns-in_err-member-clause-refuses
+returns-in_err-member-clause-refuses c =
+    if_err_from _ _ c.in_err-member.field-0.0 c.from_residual-in_err-member.ensures.1
+    (inr (inr (inl c.in_err-member.ensures.refuses)))
+
 pub returns-in_err-member-3-clause-refuses : goal.returns-in_err-member-3-clause-refuses
 returns-in_err-member-3-clause-refuses c =
     if_err_from _ _ c.in_err-member-3.field-0.0 c.from_residual-in_err-member-3.ensures.1
