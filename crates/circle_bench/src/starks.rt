@@ -1,7 +1,7 @@
 //! Lines about proofs of traces: the values of a quotient, proving and verifying, and beside these
 //! the same two commitments and the same opening alone.
 use crate::openings::{self, PARAMETERS, failure, is_accepted};
-use crate::quotients::quotient;
+use crate::quotients::{extended, quotient};
 use bench_passes::commitments::Hash;
 use bench_passes::timing::{self, Mode};
 use bench_passes::transforms::Size;
@@ -76,8 +76,7 @@ struct Opened {
 
 /// Prints the lines of a trace.
 pub fn report(rt: &HostRuntime, mode: Mode, statement: &Statement) -> io::Result<()> {
-    let (time, count) = time_quotient(rt, mode, statement)?;
-    print_line(rt, mode, "quotient", statement, time, count)?;
+    report_quotient(rt, mode, statement)?;
     let (time, proof) = time_proving(rt, mode, statement)?;
     let (verifying, accepted) = time_verifying(rt, mode, statement, &proof)?;
     print_line(rt, mode, "prove", statement, time, u64::from(accepted))?;
@@ -123,21 +122,22 @@ fn print_line(
     timing::print_result(rt, mode, time, digest)
 }
 
-/// The shortest time of the trace's values on the quotient's domain and of the quotient's, and how
-/// many these are.
-fn time_quotient(
-    rt: &HostRuntime,
-    mode: Mode,
-    statement: &Statement,
-) -> io::Result<(Duration, u64)> {
-    let (mut best, mut count) = (Duration::MAX, 0);
+/// Prints the lines of the trace's values on the quotient's domain and of the quotient's there.
+fn report_quotient(rt: &HostRuntime, mode: Mode, statement: &Statement) -> io::Result<()> {
+    let (mut extending, mut dividing) = (Duration::MAX, Duration::MAX);
+    let (mut height, mut count) = (0, 0);
     for _ in 0..timing::runs(mode, PROOFS) {
         let rows = statement.trace.rows.try_clone(rt.alloc())?;
         let begin = Instant::now(rt)?;
-        count = quotient(rt.alloc(), statement, rows)?.len();
-        best = best.min(begin.elapsed(rt)?);
+        let rows = extended(rt.alloc(), statement, rows)?;
+        extending = extending.min(begin.elapsed(rt)?);
+        let begin = Instant::now(rt)?;
+        count = quotient(rt.alloc(), statement, &rows)?.len();
+        dividing = dividing.min(begin.elapsed(rt)?);
+        height = rows.height();
     }
-    Ok((best, count as u64))
+    print_line(rt, mode, "extend", statement, extending, height as u64)?;
+    print_line(rt, mode, "quotient", statement, dividing, count as u64)
 }
 
 /// The shortest time of a proof, and the last one.
@@ -197,7 +197,8 @@ fn time_verifying(
 fn chunks(alloc: Global, statement: &Statement) -> io::Result<Vec<(Domain, Rows)>> {
     let log_n = statement.size.log_rows;
     let log_num_chunks = statement.air.log_num_quotient_chunks();
-    let values = quotient(alloc, statement, statement.trace.rows.try_clone(alloc)?)?;
+    let rows = extended(alloc, statement, statement.trace.rows.try_clone(alloc)?)?;
+    let values = quotient(alloc, statement, &rows)?;
     if log_num_chunks > 4 || values.len() != 1 << (log_n + log_num_chunks) {
         return Err(io::Error::from(ErrorKind::InvalidInput));
     }

@@ -26,6 +26,7 @@ pub mod QuotientPlaces
 pub mod QuotientPoints
 pub mod QuotientRows
 pub mod Recomposing
+pub mod RowSelectors
 pub mod Selecting
 pub mod Sizes
 pub mod Together

@@ -55,6 +55,14 @@ module _ {E : Type 0} {l : FieldOps E} (laws : FieldLaws l) {gen : ℕ → Coord
       (point-on laws gens (suc j + kk) (omega arith) fits i)
       ∙ ap (λ (p : Coordinates E). p.x) (large-small i)
 
+  -- the values repeat
+  pub vanishing-turn : (i : ℕ) → vanishing_at i ≡ vanishing_at (i % 2 ^ suc kk)
+  vanishing-turn i =
+      vanishing-small i
+      ∙ ap (λ (p : Coordinates E). p.x)
+      (sym (point-mod laws gens (suc kk) (omega arith) (omega (arith, fits)) i))
+      ∙ sym (vanishing-small (i % 2 ^ suc kk))
+
   -- one value on each part
   pub vanishing-part : (i : ℕ) → vanishing_at i ≡ vanishing_at (part_of (2 ^ kk) i)
   vanishing-part i =

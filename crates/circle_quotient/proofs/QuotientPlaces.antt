@@ -9,11 +9,9 @@ use Rattle.std.proofs.lemmas.Bool.{cases_lt}
 use Rattle.std.proofs.lemmas.List.{get_or-map, length-map}
 use Rattle.std.proofs.lemmas.List.FromFn.{length-map-range_with_len, get_or-map-range_with_len}
 use Rattle.std.proofs.lemmas.Option.{slice_get-get_or, slice_get_within, get_or_from_slice_get}
-use Rattle.circle_field.specs.Field.{FieldOps, FieldLaws, IsEmbedding, sub}
-use Rattle.circle_field.specs.Ring.{var, con, plus as sum, minus}
-use Rattle.circle_field.specs.RingCombine.{combine}
+use Rattle.circle_field.specs.Field.{FieldOps, FieldLaws, IsEmbedding}
 use Rattle.circle_field.specs.Circle.{Coordinates, IsOnCircle, AreGenerators, lifted}
-use Rattle.circle_point.specs.Basis.{vanishing, iterated_x}
+use Rattle.circle_point.specs.Basis.{vanishing}
 use Rattle.circle_commit.specs.DotProduct.{dot}
 use Rattle.circle_commit.specs.PeriodicLdeTable.{columns_of}
 use Rattle.circle_domain.specs.Clear.{IsClearOf}
@@ -23,7 +21,7 @@ use Rattle.circle_domain.specs.Selectors.{first_row, last_row, transition, vanis
 use Rattle.circle_domain.proofs.Lifted.{lifted-vanishing}
 use Rattle.circle_domain.proofs.PartLists.{length-natural_order}
 use Rattle.circle_domain.proofs.StandardDomain.{standard-genuine}
-use Rattle.circle_domain.proofs.Walking.{standard-at, standard-on_circle}
+use Rattle.circle_domain.proofs.Walking.{standard-on_circle}
 use Rattle.circle_air.specs.Parts.{Parts}
 use Rattle.circle_air.specs.Values.{Window, entry, values}
 use Rattle.circle_quotient.specs.Blocks.{AreQuotientTerms, AreTermsOf, quotient_of_place}
@@ -37,9 +35,7 @@ use Rattle.circle_quotient.specs.declared.blocks.QuotientTerms.{QuotientTerms}
 use Rattle.circle_quotient.proofs.LiftedPlaces.{AreLiftedSelectors, lifted-inv, terms-lifted}
 use Rattle.circle_quotient.proofs.LiftedPlaces.{first-lifted, last-lifted, transition-lifted}
 use Rattle.circle_quotient.proofs.LiftedPlaces.{periodic-lifted}
-use Rattle.circle_quotient.proofs.PartValues.{vanishing-nonzero}
-use Rattle.circle_quotient.proofs.QuotientPoints.{quotient-clear}
-use Rattle.circle_quotient.proofs.Selecting.{at_shift}
+use Rattle.circle_quotient.proofs.QuotientPoints.{quotient-clear, standard-vanishing}
 use Rattle.circle_quotient.proofs.Weighing.{length-falling_powers, together-dot}
 use Rattle.circle_quotient.proofs.Windows.{AreLifted, entry-mapped}
 
@@ -177,25 +173,7 @@ module _ {F E : Type 0} {k : FieldOps F} {l : FieldOps E} {m : F → E} (base : 
 
     -- one over the vanishing polynomial
     vanishing-there : (vanishing_on k n shift s ≡ vanishing k n s) × (vanishing k n s ≢ k.zero)
-    vanishing-there = go n positive fits here
-      where
-        go : (n' : ℕ) → 1 ≤ n' → (fits' : n' + kk < bits) →
-            slice_get (natural_order k gen (n' + kk) (gen (n' + kk + 1))) i ≡ Some s →
-            (vanishing_on k n' (gen (n' + 1)) s ≡ vanishing k n' s) × (vanishing k n' s ≢ k.zero)
-        go zero h fits' here' = absurd (omega (arith, h))
-        go (suc j) h fits' here' =
-            let same : suc j - 1 ≡ j = omega arith in
-            let root : vanishing k (suc j) (gen (suc j + 1)) ≡ k.zero =
-            ap (λ r. iterated_x k r (gen (suc j + 1)).x) same
-            ∙ at_shift base gens j (omega (arith, fits')) in
-            let there = standard-at base.ring gens (suc j + kk) (omega arith) fits' i s here' in (
-              ap (sub k (vanishing k (suc j) s)) root
-                  ∙ combine base.ring (vanishing k (suc j) s ∷ [])
-                  (sum (var 0) (minus (con 0))) (var 0) [] refl tt,
-              λ z. vanishing-nonzero base gens j kk some fits' i
-                  (ap (λ (q : Coordinates F). iterated_x k j q.x) (sym there)
-                  ∙ ap (λ r. iterated_x k r s.x) (sym same) ∙ z),
-            )
+    vanishing-there = standard-vanishing base gens n kk positive some fits i s here
 
     inverse-lifted : m (entry k t.selectors.inv_vanishing.items i)
         ≡ l.inv (vanishing l n (lifted m s))

@@ -49,7 +49,7 @@ module _ {E : Type 0} {l : FieldOps E} (laws : FieldLaws l) where
 
   -- at a point q where v_n is not 0, of a point s where it is 0: one over the selector that is 0 at
   -- s alone
-  over-line : (j : ℕ) (s q : Coordinates E) → IsOnCircle l s → IsOnCircle l q →
+  pub over-line : (j : ℕ) (s q : Coordinates E) → IsOnCircle l s → IsOnCircle l q →
       iterated_x l j s.x ≡ l.zero → iterated_x l j q.x ≢ l.zero →
       sub l s.x q.x ≢ l.zero →
       l.inv (to_line l (plus l q (opposite l s))) ≡ l.mul (l.add s.y q.y) (l.inv (sub l s.x q.x))

@@ -9,5 +9,6 @@ pub mod NodeLanes
 pub mod Quotient
 pub mod Recomposition
 pub mod Records
+pub mod RowSelectors
 pub mod Terms
 pub mod Window

@@ -50,8 +50,8 @@ fn write_column<F: Field>(column: &[F], lanes: &mut [F])
     }
 }
 
-// Writes consecutive entries of a column, the first after the last.
-fn write_cycle<F: Field>(column: &[F], first: usize, lanes: &mut [F])
+/// Writes consecutive entries of a column, the first after the last.
+pub(crate) fn write_cycle<F: Field>(column: &[F], first: usize, lanes: &mut [F])
     requires { 0 < length column.now }
     ensures { (r : ℕ) (d : F) → r < length lanes.new → slice_index_or lanes.new r d
         ≡ entry F.ops column.now ((first + r) % length column.now) }
@@ -63,8 +63,8 @@ fn write_cycle<F: Field>(column: &[F], first: usize, lanes: &mut [F])
     }
 }
 
-// The place after this one, which is the first where this is the last.
-fn following(at: usize, count: usize) -> usize
+/// The place after this one, which is the first where this is the last.
+pub(crate) fn following(at: usize, count: usize) -> usize
     requires { at < count }
     ensures next { result ≡ (at + 1) % count }
     ensures below { result < count }

@@ -26,13 +26,14 @@
 //!
 //! - In `src/`, `window`, `composition`: the constraints at one point. `trace`, `quotient`: the
 //!   quotient's values on its domain, over `lanes` and `nodes` (the rows of a block and the nodes'
-//!   values there), `periodic`, `weights`, and `blocks` and `sums` (the constraints put together).
-//!   `chunks`, `recomposition`, `fit`, `laws`: chunks, the quotient put together, points, theorems.
+//!   values there), `selectors`, `periodic`, `weights`, and `blocks` and `sums` (the constraints
+//!   put together). `chunks`, `recomposition`, `fit`, `laws`: chunks, the quotient put together,
+//!   points, theorems.
 //! - In `specs/`, `Window` and `Composition`: what constraints read at a point, and what they come
 //!   to under a challenge; `Records`: the records of the calls. `Basis`, `Recomposition`,
 //!   `Identity`: chunks put together, and the identity. `Quotient`: the quotient's values by rows;
-//!   `Terms`, `Blocks`, `Lanes`, `NodeLanes`: by what stands at each place. `Fit`, `NextRow`: the
-//!   points to open at, and next rows.
+//!   `Terms`, `Blocks`, `Lanes`, `NodeLanes`, `RowSelectors`: by what stands at each place. `Fit`,
+//!   `NextRow`: the points to open at, and next rows.
 //! - In `proofs/`, of polynomials: `Monomials`, by their coefficients, with as many roots;
 //!   `Forms`, functions `a(x) + y b(x)` on the circle; `Waves`, what a translation makes of them;
 //!   `Doubling`, what doublings do; `LineRoots`, roots by coordinates of the projective line;
@@ -46,8 +47,9 @@
 //!   degree of what they come to. `Identity`, `Binding`: the two theorems; `Sizes` for every size.
 //! - In `proofs/`, of the quotient's values: `LaneLists`, `PlaceRanges`: lists by lanes and places;
 //!   `Weighing`: powers as weights; `LiftedPlaces`: what constraints read in the base field and in
-//!   the larger one; `QuotientPoints`, `QuotientPlaces`, `QuotientRows`: so the values by places
-//!   are those by rows, and those of polynomials.
+//!   the larger one; `RowSelectors`: the rows' selectors by one inverse for both;
+//!   `QuotientPoints`, `QuotientPlaces`, `QuotientRows`: so the values by places are those by rows,
+//!   and those of polynomials.
 #![tactic(auto)]
 
 mod blocks;
@@ -60,6 +62,7 @@ mod nodes;
 mod periodic;
 pub mod quotient;
 pub mod recomposition;
+mod selectors;
 mod sums;
 pub mod trace;
 mod weights;

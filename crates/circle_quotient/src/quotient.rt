@@ -9,12 +9,12 @@ ghost use Rattle.circle_quotient.specs.Quotient.{AreQuotientsOf, AreQuotientsOfC
 use crate::blocks::{QuotientTerms, push_quotients};
 use crate::nodes::NodeLanes;
 use crate::periodic::extended_periodic_columns;
+use crate::selectors::quotient_selectors;
 use crate::sums::zero_lists;
 use crate::trace::ExtendedTrace;
 use crate::weights::falling_powers;
 use circle_air::Air;
-use circle_commit::{Matrix, PolynomialSpace};
-use circle_domain::CircleDomain;
+use circle_commit::Matrix;
 use circle_field::{ComplexExtendable, ExtensionField, Field};
 use std::alloc::{AllocError, Global};
 
@@ -34,9 +34,7 @@ fn quotient_terms<'a, F: ComplexExtendable, EF: ExtensionField<F>, M: Matrix<F>>
     ensures { IfOk result (AreQuotientTerms F.ops F.generators EF.ops trace.now.log_n
         trace.now.log_num_chunks (air_of air.now) alpha) }
 {
-    let domain = CircleDomain::<F>::standard(trace.log_n);
-    let coset = CircleDomain::<F>::standard(trace.log_n + trace.log_num_chunks);
-    let selectors = domain.selectors_on_coset(alloc, coset)?;
+    let selectors = quotient_selectors(alloc, trace.log_n, trace.log_num_chunks)?;
     let columns = air.periodic_columns();
     let periodic = extended_periodic_columns(alloc, columns, trace.log_n, trace.log_num_chunks)?;
     let constraints = air.constraints();

@@ -1,6 +1,6 @@
 //! The quotient put together from its chunks, at a point out of their domains.
 ghost use Rattle.std.specs.Prelude.{◌≡◌, ◌≢◌, ◌≤◌, ◌<◌, ◌+◌, ◌^◌, ℕ, IfOk, All, length, map, remove};
-ghost use Rattle.std.specs.Prelude.{slice_index_or, vec_len};
+ghost use Rattle.std.specs.Prelude.{slice_index_or, take, vec_len};
 ghost use Rattle.std.specs.List.{range_with_len};
 ghost use Rattle.circle_field.specs.Field.{sub};
 ghost use Rattle.circle_field.specs.Products.{product};
@@ -8,6 +8,7 @@ ghost use Rattle.circle_commit.specs.DotProduct.{dot};
 ghost use Rattle.circle_commit.specs.Matrix.{IsPowerOfTwo};
 ghost use Rattle.circle_point.specs.Basis.{vanishing};
 ghost use Rattle.circle_point.specs.Projective.{from_line};
+ghost use Rattle.circle_domain.specs.Order.{natural_order};
 ghost use Rattle.circle_domain.specs.Selectors.{IsFinite};
 ghost use Rattle.circle_quotient.specs.Basis.{AreBasis};
 ghost use Rattle.circle_quotient.specs.Recomposition.{IsRecomposed, part_factor, part_values};
@@ -76,6 +77,32 @@ fn dot_product<E: Field>(left: &[E], right: &[E]) -> E
     sum
 }
 
+/// The values of the vanishing polynomial of `2^log_n` points at the first points of the quotient's
+/// domain.
+///
+/// Requires `1 <= log_n`, `log_n + log_num_chunks < CIRCLE_TWO_ADICITY`, and a count of at most
+/// `2^(log_n + log_num_chunks)`. Fails where memory is refused.
+pub(crate) fn first_vanishing_values<F: ComplexExtendable>(
+    alloc: Global,
+    log_n: usize,
+    log_num_chunks: usize,
+    count: usize,
+) -> Result<Vec<F>, AllocError>
+    requires positive { 1 ≤ log_n }
+    requires in_group { log_n + log_num_chunks < F.CIRCLE_TWO_ADICITY }
+    requires count { count ≤ 2 ^ (log_n + log_num_chunks) }
+    ensures { let n = log_n + log_num_chunks in IfOk result (λ values. values.items
+        ≡ map (vanishing F.ops log_n) (take count (natural_order F.ops F.generators n
+        (F.generators (n + 1))))) }
+{
+    let domain = CircleDomain::<F>::standard(log_n + log_num_chunks);
+    let mut values = Vec::with_capacity(alloc, count)?;
+    for i in 0..count {
+        values.push(domain.nth_point(i).v_n(log_n))?;
+    }
+    Ok(values)
+}
+
 // The values of the vanishing polynomial of `2^log_n` points at the first points of the parts.
 fn values_on_parts<F: ComplexExtendable>(
     alloc: Global,
@@ -87,13 +114,7 @@ fn values_on_parts<F: ComplexExtendable>(
     ensures { IfOk result (λ values.
         values.items ≡ part_values F.ops F.generators log_n log_num_chunks) }
 {
-    let domain = CircleDomain::<F>::standard(log_n + log_num_chunks);
-    let num_chunks = 1usize << log_num_chunks;
-    let mut values = Vec::with_capacity(alloc, num_chunks)?;
-    for i in 0..num_chunks {
-        values.push(domain.nth_point(i).v_n(log_n))?;
-    }
-    Ok(values)
+    first_vanishing_values(alloc, log_n, log_num_chunks, 1 << log_num_chunks)
 }
 
 // The vanishing polynomial of the standard domain of `2^log_n` points at the point of `zeta`.

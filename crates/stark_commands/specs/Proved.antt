@@ -72,12 +72,13 @@ IsRefusalOfRows log_blowup log_chunks rows HeightTooLarge =
     × (IsPowerOfTwo (length rows) × IsTooLarge (log_of (length rows)) log_blowup log_chunks)
 IsRefusalOfRows log_blowup log_chunks rows _ = ⊥
 
--- so of an input, whatever the number of chunks is called
+-- there are too many rows, points or chunks for the input's AIR and parameters
 abbrev pub IsLargeInput : Input → Type 0
 IsLargeInput input =
     (k : ℕ) × IsLogOfChunks (degree_of_parts (parts_given input)) k
     × IsTooLarge (log_of (length (rows_given input))) input.params.log_blowup k
 
+-- the parts make an AIR
 abbrev pub HasAir : Input → Type 0
 HasAir input = refusal (parts_given input) ≡ None
 

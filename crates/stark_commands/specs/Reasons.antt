@@ -27,11 +27,13 @@ use Rattle.stark_commands.specs.declared.verify.Input.{Input as Claim}
 use Rattle.stark_commands.specs.declared.verify.Refusal.{Refusal}
 use Rattle.stark_commands.specs.declared.verify.Refusal.TheVariants.{Air, Proof, Memory}
 
+-- `check` refuses an input for this reason
 abbrev pub IsCheckReason : Input → Reason → Type 0
 IsCheckReason input (Check refusal) = IsUnsatisfied input refusal
 IsCheckReason input (Prove refusal) = ⊥
 IsCheckReason input (Verify refusal) = ⊥
 
+-- `prove` refuses an input for this reason, where `Unproved` holds of what the prover refuses
 abbrev pub IsProveReason : (Scheme → StarkTrace Mersenne31 → Sha256Challenger → Sha256Challenger →
     StarkProverError → Type 0) → Statement → Reason → Type 0
 IsProveReason Unproved input (Check refusal) = ⊥

@@ -1,7 +1,7 @@
 use Rattle.std.proofs.Common.{◌≡◌, ◌+◌, map, take}
 use Rattle.circle_point.specs.Basis.{vanishing}
 use Rattle.circle_domain.specs.Order.{natural_order}
-use Rattle.circle_quotient.proofs.recomposition.values_on_parts.Given as goal
+use Rattle.circle_quotient.proofs.recomposition.first_vanishing_values.Given as goal
 
 abbrev pub invariant-loop-i : goal.invariant-loop-i
 invariant-loop-i g l =
