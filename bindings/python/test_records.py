@@ -104,9 +104,9 @@ class Cases(unittest.TestCase):
     def test_cases_of_verify(self):
         count = 0
         for case in given.verify_py.all_cases():
-            case = given.verify_py.whole(case)
             if case["call"] != "verify" or "text" in case["given"]:
                 continue
+            case = given.verify_py.whole(case)
             value = given.verify_py.given_value(case["given"])
             if not isinstance(value, dict) or value.keys() != {"batches", "params", "proof"}:
                 continue
