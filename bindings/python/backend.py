@@ -1,9 +1,9 @@
-"""Makes a wheel of the package and the library, as PEP 517 has it: pip wheel bindings/python.
+"""Makes a wheel of the package and the library, as PEP 517 describes: pip wheel bindings/python.
 
-The library is libcircle.so of the folder that the environment's CIRCLE_LIBRARIES names, else of
-../c/out. Where that folder has libraries for further processors, in glibc-hwcaps, they are in the
-wheel too, and the system's loader chooses one: libcircle.so in the wheel is then an empty library
-that depends on the chosen one, and cc links it.
+The library is that of the folder that the environment's CIRCLE_LIBRARIES names, or of ../c/out,
+where bindings/c/build leaves it. If the folder has libraries for further processors, in
+glibc-hwcaps, the wheel has them too, and the system's loader chooses one: libcircle.so in the wheel
+is then an empty library, which cc links, and depends on the chosen one.
 """
 
 import base64
@@ -35,15 +35,21 @@ def version():
 
 def libraries():
     """The folder that has the library."""
-    return pathlib.Path(os.environ.get("CIRCLE_LIBRARIES", HERE.parent / "c" / "out"))
+    named = os.environ.get("CIRCLE_LIBRARIES")
+    folder = HERE.parent / "c" / "out" if named is None else pathlib.Path(named)
+    if not folder.is_absolute():
+        raise OSError(f"CIRCLE_LIBRARIES isn't the path of a folder from the root: {named!r}")
+    if not (folder / soname()).is_file():
+        told = "bindings/c/build makes it" if named is None else f"CIRCLE_LIBRARIES names {named!r}"
+        raise OSError(f"there is no {soname()} in {folder}: {told}")
+    return folder
 
 
 def licenses():
-    """The files of the licenses: beside this one, or at the top of the repository."""
-    for folder in (HERE, HERE.parent.parent):
-        if all((folder / name).is_file() for name in LICENSES):
-            return [folder / name for name in LICENSES]
-    raise FileNotFoundError(LICENSES[0])
+    """The files of the licenses: those of the repository, and those of others' code beside the
+    library or above it, where they are."""
+    others = (folder / "THIRD-PARTY" for folder in (libraries(), libraries().parent))
+    return [HERE.parent.parent / name for name in LICENSES] + [it for it in others if it.is_file()]
 
 
 def soname():
@@ -83,7 +89,7 @@ def metadata(of):
     """The files of the folder of metadata, but for the list of all files."""
     lines = ["Metadata-Version: 2.1", "Name: circle", f"Version: {version()}"]
     lines += [f"Summary: {SUMMARY}", "License: MIT OR Apache-2.0", "Requires-Python: >=3.8"]
-    lines += [f"License-File: {name}" for name in LICENSES]
+    lines += [f"License-File: {path.name}" for path in licenses()]
     wheel = ["Wheel-Version: 1.0", f"Generator: circle {version()}", "Root-Is-Purelib: false"]
     wheel += [f"Tag: {of}"]
     files = {f"licenses/{path.name}": path.read_bytes() for path in licenses()}
