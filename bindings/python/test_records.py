@@ -163,6 +163,9 @@ class Faults(unittest.TestCase):
         self.fault("WrongKind", "points[0]", lambda: circle.ClaimedMatrix(2, [CUBIC]))
         self.fault("BadHex", "commitment", lambda: circle.ClaimedBatch("00", []))
         self.fault("WrongKind", "rows[1][0]", lambda: circle.Matrix([], [[1], ["1"]]))
+        path, params = "batches[0][1].rows[1][0]", circle.Params(1, 2)
+        batch = [circle.Matrix([CUBIC], [[1]]), {"points": [CUBIC], "rows": [[1], [True]]}]
+        self.fault("WrongKind", path, lambda: circle.prove([batch], params))
 
     def test_texts_that_are_no_json(self):
         no_values = "", "{", "[1,]", "NaN", "[Infinity]", "1e999", "\ufeff[]", "[" * 10**5

@@ -14,8 +14,8 @@ unless out of memory. That is proved of the library. This package is tested and 
 docs/BINDINGS.md says what remains.
 
 `prove_text`, `verify_text`, `verify_as_stated`, `shape` and `values` take texts, as str or as the
-bytes of UTF-8, which docs/PROGRAM.md describes. `bits` says how many bits of security parameters
-have.
+bytes of UTF-8, which docs/PROGRAM.md describes. `bits` returns how many bits of security parameters
+give.
 
 The library is libcircle.so, of the wheel that the package comes from, or in ../../c/out, where
 bindings/c/build leaves it. Where the environment's CIRCLE_LIBRARIES names a folder, the library is
@@ -29,7 +29,7 @@ made, and each raises RuntimeError.
 from typing import Any, Callable, Mapping, Sequence, Tuple, Type, TypeVar, Union
 
 from .errors import Error, Refused, Unreadable
-from .forms import Cubic, Record, compact, parsed
+from .forms import Cubic, Record
 from .inputs import ProveInput, ShapeInput, ValuesInput, VerifyInput, located
 from .library import Text, line, line_with
 from .records import (
@@ -96,10 +96,8 @@ def verify(
     Statement and parameters are the caller's own; nothing but the proof may be a stranger's. In the
     place of each may stand the value of JSON that it has in a text.
     """
-    statement, proof = _made(Statement, statement), _made(Proof, proof)
-    params = _made(Params, params)
-    value = {name: part.to_value() for name, part in (("params", params), ("proof", proof))}
-    verify_text(compact({"batches": statement.to_value(), **value}), params)
+    batches, params = _made(Statement, statement).batches, _made(Params, params)
+    verify_text(VerifyInput(batches, params, _made(Proof, proof)).to_json(), params)
 
 
 def verify_text(text: Text, params: Union[Params, Mapping[str, Any]]) -> None:
@@ -129,10 +127,9 @@ def prove(
 ) -> Tuple[Statement, Proof]:
     """Commits to batches of matrices, opens them and returns the claims with their proof, which
     `verify` accepts where every matrix is opened at a point."""
-    params = _made(Params, params)
-    rows = [[_made(Matrix, matrix).to_value() for matrix in batch] for batch in batches]
-    value = parsed(prove_text(compact({"batches": rows, "params": params.to_value()})))
-    return Statement.from_value(value["batches"]), Proof.from_value(value["proof"])
+    given = ProveInput(batches, _made(Params, params))  # type: ignore[arg-type]
+    made = VerifyInput.from_json(prove_text(given.to_json()))
+    return Statement(made.batches), made.proof
 
 
 def prove_text(text: Text) -> str:

@@ -199,13 +199,14 @@ class Record:
         """The record that a value of JSON stands for, as `json.loads` makes it."""
         if not isinstance(value, collections.abc.Mapping):
             raise _wrong(value, "object")
-        names = [member.name for member in fields(cls)]
-        for member in fields(cls):
-            if member.name not in value and not member.metadata["may_be_missing"]:
-                raise Unreadable("MissingKey", member.name)
-        for key in value:
-            if key not in names:
-                raise Unreadable("UnknownKey", str(key))
+        members = {it.name: it.metadata["may_be_missing"] for it in fields(cls)}
+        due = [name for name, may_be_missing in members.items() if not may_be_missing]
+        missing = next((name for name in due if name not in value), None)
+        unknown = next((name for name in value if name not in members), None)
+        if missing is not None:
+            raise Unreadable("MissingKey", missing)
+        if unknown is not None:
+            raise Unreadable("UnknownKey", str(unknown))
         return cls(**value)
 
     @classmethod
