@@ -142,8 +142,8 @@ class Built:
 
     def changed(self, name, file):
         """Why a program or a static library of a crate, by its name in the crate's out/, isn't
-        built of the sources that are there, or None. Where nothing is noted of it, as where `rt ci` alone
-        built it, times decide."""
+        built of the sources that are there, or None. Where nothing is noted of it, as where `rt ci`
+        alone built it, times decide."""
         built = self.workspace.folder(name) / "out" / file
         if not built.is_file():
             return "it isn't built"

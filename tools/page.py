@@ -38,9 +38,11 @@ def blocks(language):
     return {files[kind]: text for kind, text in found.items()}
 
 
-def commands(language):
-    """The section's commands."""
+def commands(language, places):
+    """The section's commands, with these places in those of the page."""
     text = re.sub(r"^```.*?^```$", "", section(language), flags=re.M | re.S)
+    for place, other in places.items():
+        text = text.replace(place, other)
     return re.findall(r"^    (\S.*)$", text, re.M)
 
 
@@ -77,9 +79,7 @@ def try_program(room, language, places):
     *_, proof, accepted = LANGUAGES[language]
     env = {**os.environ, "CARGO_NET_OFFLINE": "true", "PIP_NO_INDEX": "1"}
     env = {name: value for name, value in env.items() if name != "CIRCLE_LIBRARIES"}
-    for line in commands(language):
-        for place, other in places.items():
-            line = line.replace(place, other)
+    for line in commands(language, places):
         write_files(room, language)
         said = run(room, line, env)
         if said[1] or "verify" in line.split() and said[0] != accepted:

@@ -198,7 +198,7 @@ class Texts(unittest.TestCase):
             ("verify", ["proof", "lambdas", 0, 1, -1], "OutOfRange", "proof.lambdas[0][1]"),
             ("verify", ["batches", 0, "commitment", "0"], "BadHex", "batches[0].commitment"),
             ("verify", ["params", "more", 1], "UnknownKey", "params.more"),
-            ("prove", ["batches", 0, 0, "rows", 1, 0, "7"], "WrongKind", "batches[0][0].rows[1][0]"),
+            ("prove", ["batches", 0, 0, "rows", 1, "7"], "WrongKind", "batches[0][0].rows[1]"),
             ("values", ["coefficients", 1, True], "WrongKind", "coefficients[1]"),
             ("shape", ["log_max_height", 1.5], "WrongKind", "log_max_height"),
         ):

@@ -1,9 +1,9 @@
 //! Links the static library `circle_c` and the kit's part of the C library that it needs.
 //!
-//! If the environment's `CIRCLE_LIBRARIES` names a folder, both come from there. Otherwise they come
-//! from this package's folder `lib`, as in a bundle. A clone has none: there `bindings/c/build`
-//! leaves both in `bindings/c/out`. Where the first is missing, or built of other sources, it proves
-//! and builds it, which takes tens of minutes from nothing.
+//! If the environment's `CIRCLE_LIBRARIES` names a folder, both come from there. Otherwise they
+//! come from this package's folder `lib`, as in a bundle. A clone has none: there
+//! `bindings/c/build` leaves both in `bindings/c/out`. Where the first is missing, or is built of
+//! other sources, it proves and builds it, which takes tens of minutes from nothing.
 
 use std::env;
 use std::path::{Path, PathBuf};

@@ -69,14 +69,13 @@ fn number(value: &Value) -> Result<u64, Error> {
     let Value::Number(digits) = value else {
         return Err(wrong);
     };
-    let is_negative = digits.parse::<i64>().is_ok_and(|number| number < 0);
-    if is_negative {
+    if digits.parse::<i64>().is_ok_and(|number| number < 0) {
         return Err(Error::of_form(Refusal::OutOfRange));
     }
-    match digits.starts_with('-') {
-        true => Err(wrong),
-        false => digits.parse().map_err(|_| wrong),
+    if digits.starts_with('-') {
+        return Err(wrong);
     }
+    digits.parse().map_err(|_| wrong)
 }
 
 impl Form for usize {
