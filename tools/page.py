@@ -2,8 +2,8 @@
 
 A section of the page that is named for a language has a program, in a block of that language, which
 proves a statement and judges the proof. Its indented lines are the commands, in order, in a folder
-where `circle` is an unpacked bundle. A table of the page says what stands in a clone for the places
-of a bundle.
+where `circle` is an unpacked bundle. The table in the section `A bundle` says what stands in a
+clone for the places of a bundle.
 """
 import json
 import os
@@ -25,10 +25,10 @@ class Fault(Exception):
     """Why a program fails its test."""
 
 
-def section(language):
-    """The page's section on a language."""
+def section(heading):
+    """The page's section under a heading, such as a language."""
     text = PAGE.read_text(encoding="utf-8")
-    return re.search(rf"^## {language}\n(.*?)^## ", text, re.M | re.S)[1]
+    return re.search(rf"^## {heading}\n(.*?)^## ", text, re.M | re.S)[1]
 
 
 def blocks(language):
@@ -38,9 +38,9 @@ def blocks(language):
     return {files[kind]: text for kind, text in found.items()}
 
 
-def commands(language, places):
-    """The section's commands, with these places in those of the page."""
-    text = re.sub(r"^```.*?^```$", "", section(language), flags=re.M | re.S)
+def commands(heading, places):
+    """A section's commands, with these places in those of the page."""
+    text = re.sub(r"^```.*?^```$", "", section(heading), flags=re.M | re.S)
     for place, other in places.items():
         text = text.replace(place, other)
     return re.findall(r"^    (\S.*)$", text, re.M)
@@ -48,7 +48,7 @@ def commands(language, places):
 
 def places_in_clone():
     """What stands in a clone for each place of a bundle, by the page's table."""
-    rows = re.findall(r"^\| `(circle/\S+)` \| `(circle/\S+)` \|", PAGE.read_text(), re.M)
+    rows = re.findall(r"^\| `(circle/\S+)` \| `(circle/\S+)` \|", section("A bundle"), re.M)
     return dict(rows)
 
 
