@@ -107,7 +107,7 @@ fn parameters_differ_after_faults_of_the_form_and_before_refusals() {
 fn empty_texts_are_no_json() {
     for text in ["", " ", "\n", "\0", "\u{feff}"] {
         assert_eq!(as_stated(text), Err(Refusal::Json));
-        assert_eq!(by(&SEVENS, &text), Err(Refusal::Json));
+        assert_eq!(by(&SEVENS, text), Err(Refusal::Json));
         assert_eq!(proved(text), Err(Refusal::Json));
     }
 }
