@@ -75,21 +75,28 @@ def place_of_note(built):
     return built.parent / (NOTE if built.is_dir() else f"{built.name}.{NOTE}")
 
 
-def write_note(built, of):
-    """Notes that a library or a program was built of sources with this sum."""
+def write_note(built, of, cpu=None):
+    """Notes that a library or a program was built of sources with this sum, and for which processor
+    where that is known."""
     by_kit = kit.identity() if built.is_dir() else None
-    note = {"sources": of, "kit": by_kit, "built": sum_of(built)}
+    note = {"sources": of, "kit": by_kit, "built": sum_of(built), "cpu": cpu}
     place_of_note(built).write_text(json.dumps(note) + "\n", encoding="utf-8")
+
+
+def note_of(built):
+    """The note of what is built, or None."""
+    place = place_of_note(built)
+    if not place.is_file():
+        return None
+    note = json.loads(place.read_text(encoding="utf-8"))
+    return note if note["built"] == sum_of(built) else None
 
 
 def has_note(built, of):
     """Whether a note says that what is built was built of sources with this sum; None where there
     is no note of what is built."""
-    place = place_of_note(built)
-    if not place.is_file():
-        return None
-    note = json.loads(place.read_text(encoding="utf-8"))
-    if note["built"] != sum_of(built):
+    note = note_of(built)
+    if note is None:
         return None
     return note["sources"] == of and (not built.is_dir() or note["kit"] == kit.identity())
 
@@ -135,8 +142,8 @@ class Built:
 
     def changed(self, name, file):
         """Why a program or a static library of a crate, by its name in the crate's out/, isn't
-        built of the sources that are there, or None. Where nothing is noted of it, as where `rt ci` alone
-        built it, times decide."""
+        built of the sources that are there, or None. Where nothing is noted of it, as where `rt ci`
+        alone built it, times decide."""
         built = self.workspace.folder(name) / "out" / file
         if not built.is_file():
             return "it isn't built"
@@ -158,9 +165,16 @@ class Built:
                 return path
         return None
 
-    def note(self, name, file):
-        """Notes that a program or a static library is built of the sources that are there."""
-        write_note(self.workspace.folder(name) / "out" / file, self.sums.of_sources(name))
+    def cpu(self, name, file):
+        """The processor that a program or static library is built for, or None where no note says
+        so."""
+        note = note_of(self.workspace.folder(name) / "out" / file)
+        return note and note.get("cpu")
+
+    def note(self, name, file, cpu):
+        """Notes that a program or a static library is built of the sources that are there, for this
+        processor."""
+        write_note(self.workspace.folder(name) / "out" / file, self.sums.of_sources(name), cpu)
 
 
 def all_built(workspace):

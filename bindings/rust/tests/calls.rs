@@ -1,6 +1,6 @@
 //! Stored proofs, parameters that differ, long texts and many threads.
 
-use circle::{prove, values, verify, Params, Refusal};
+use circle::{prove_text, values, verify_as_stated, verify_text, Error, Params, Refusal};
 use std::fs;
 use std::thread;
 
@@ -12,15 +12,7 @@ const NAMES: [&str; 5] = [
     "two_batches_with_work",
     "two_batches_four_coefficients",
 ];
-const SEVENS: Params = Params {
-    batch_pow_bits: 0,
-    commit_pow_bits: 0,
-    log_blowup: 1,
-    log_final_poly_len: 0,
-    max_log_arity: 1,
-    num_queries: 2,
-    query_pow_bits: 0,
-};
+const SEVENS: Params = Params::new(1, 2);
 // The stack that suffices for a thread, as the page says.
 const STACK: usize = 1 << 20;
 const LONG: usize = 100_000_000;
@@ -30,10 +22,27 @@ fn stored(name: &str, kind: &str) -> String {
     text.trim_end().to_owned()
 }
 
+// A result with the bare refusal.
+fn bare<T>(result: Result<T, Error>) -> Result<T, Refusal> {
+    result.map_err(|error| error.refusal())
+}
+
+fn as_stated(text: &str) -> Result<(), Refusal> {
+    bare(verify_as_stated(text))
+}
+
+fn by(params: &Params, text: &str) -> Result<(), Refusal> {
+    bare(verify_text(text, params))
+}
+
+fn proved(text: &str) -> Result<String, Refusal> {
+    bare(prove_text(text))
+}
+
 #[test]
 fn stored_proofs_are_accepted() {
     for name in NAMES {
-        assert_eq!(verify(&stored(name, "verify"), None), Ok(()), "{name}");
+        assert_eq!(as_stated(&stored(name, "verify")), Ok(()), "{name}");
     }
 }
 
@@ -41,7 +50,7 @@ fn stored_proofs_are_accepted() {
 fn stored_statements_are_proved_by_the_same_bytes() {
     for name in NAMES {
         assert_eq!(
-            prove(&stored(name, "prove")),
+            proved(&stored(name, "prove")),
             Ok(stored(name, "verify")),
             "{name}"
         );
@@ -51,7 +60,7 @@ fn stored_statements_are_proved_by_the_same_bytes() {
 #[test]
 fn parameters_are_compared() {
     let text = stored("sevens", "verify");
-    assert_eq!(verify(&text, Some(&SEVENS)), Ok(()));
+    assert_eq!(by(&SEVENS, &text), Ok(()));
     let changes: [fn(&mut Params) -> &mut usize; 7] = [
         |params| &mut params.batch_pow_bits,
         |params| &mut params.commit_pow_bits,
@@ -65,7 +74,7 @@ fn parameters_are_compared() {
         for other in [3, usize::MAX] {
             let mut params = SEVENS;
             *change(&mut params) = other;
-            let verdict = verify(&text, Some(&params));
+            let verdict = by(&params, &text);
             assert_eq!(
                 verdict,
                 Err(Refusal::ParametersDiffer),
@@ -83,29 +92,23 @@ fn parameters_differ_after_faults_of_the_form_and_before_refusals() {
         ..SEVENS
     };
     let unreadable = text.replace("\"max_log_arity\":1", "\"max_log_arity\":-1");
-    assert_eq!(verify(&unreadable, Some(&other)), Err(Refusal::OutOfRange));
+    assert_eq!(by(&other, &unreadable), Err(Refusal::OutOfRange));
     let refused = text.replace("\"max_log_arity\":1", "\"max_log_arity\":2");
-    assert_eq!(verify(&refused, None), Err(Refusal::UnsupportedFoldingCap));
-    assert_eq!(
-        verify(&refused, Some(&other)),
-        Err(Refusal::ParametersDiffer)
-    );
+    assert_eq!(as_stated(&refused), Err(Refusal::UnsupportedFoldingCap));
+    assert_eq!(by(&other, &refused), Err(Refusal::ParametersDiffer));
     let same = Params {
         max_log_arity: 2,
         ..SEVENS
     };
-    assert_eq!(
-        verify(&refused, Some(&same)),
-        Err(Refusal::UnsupportedFoldingCap)
-    );
+    assert_eq!(by(&same, &refused), Err(Refusal::UnsupportedFoldingCap));
 }
 
 #[test]
 fn empty_texts_are_no_json() {
     for text in ["", " ", "\n", "\0", "\u{feff}"] {
-        assert_eq!(verify(text, None), Err(Refusal::Json));
-        assert_eq!(verify(text, Some(&SEVENS)), Err(Refusal::Json));
-        assert_eq!(prove(text), Err(Refusal::Json));
+        assert_eq!(as_stated(text), Err(Refusal::Json));
+        assert_eq!(by(&SEVENS, text), Err(Refusal::Json));
+        assert_eq!(proved(text), Err(Refusal::Json));
     }
 }
 
@@ -113,17 +116,17 @@ fn empty_texts_are_no_json() {
 fn a_long_text_is_read_to_its_end() {
     let text = stored("sevens", "verify");
     let spaces = " ".repeat(LONG - text.len());
-    assert_eq!(verify(&(spaces.clone() + &text), None), Ok(()));
-    assert_eq!(verify(&(text.clone() + &spaces), None), Ok(()));
+    assert_eq!(as_stated(&(spaces.clone() + &text)), Ok(()));
+    assert_eq!(as_stated(&(text.clone() + &spaces)), Ok(()));
     assert_eq!(
-        verify(&(text.clone() + &spaces + "x"), None),
+        as_stated(&(text.clone() + &spaces + "x")),
         Err(Refusal::Json)
     );
-    assert_eq!(verify(&"[".repeat(LONG), None), Err(Refusal::Json));
+    assert_eq!(as_stated(&"[".repeat(LONG)), Err(Refusal::Json));
     let digest = "0".repeat(LONG);
     let name = text.find("first_layer_commitment\":\"").expect("a digest") + 25;
     let long = text[..name].to_owned() + &digest + &text[name..];
-    assert_eq!(verify(&long, None), Err(Refusal::BadHex));
+    assert_eq!(as_stated(&long), Err(Refusal::BadHex));
 }
 
 #[test]
@@ -145,9 +148,9 @@ fn eight_threads_call_at_once() {
         let (statement, text) = (stored(name, "prove"), stored(name, "verify"));
         let damaged = text.replacen("commitment\":\"", "commitment\":\"0", 1);
         for _ in 0..20 {
-            assert_eq!(verify(&text, None), Ok(()));
-            assert_eq!(verify(&damaged, None), Err(Refusal::BadHex));
-            assert_eq!(prove(&statement).as_ref(), Ok(&text));
+            assert_eq!(as_stated(&text), Ok(()));
+            assert_eq!(as_stated(&damaged), Err(Refusal::BadHex));
+            assert_eq!(proved(&statement).as_ref(), Ok(&text));
         }
     };
     thread::scope(|scope| {
@@ -161,9 +164,9 @@ fn eight_threads_call_at_once() {
 fn the_stack_that_is_told_is_enough() {
     for name in NAMES {
         let calls = move || {
-            assert_eq!(verify(&stored(name, "verify"), None), Ok(()));
-            assert_eq!(prove(&stored(name, "prove")), Ok(stored(name, "verify")));
-            assert_eq!(verify(&"[".repeat(200), None), Err(Refusal::Json));
+            assert_eq!(as_stated(&stored(name, "verify")), Ok(()));
+            assert_eq!(proved(&stored(name, "prove")), Ok(stored(name, "verify")));
+            assert_eq!(as_stated(&"[".repeat(200)), Err(Refusal::Json));
         };
         let thread = thread::Builder::new()
             .stack_size(STACK)

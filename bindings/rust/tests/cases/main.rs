@@ -3,15 +3,12 @@
 
 mod json;
 
-use circle::{prove, shape, values, verify, Refusal};
+use circle::{prove_text, shape, values, verify_as_stated, Error};
 use json::Json;
 use std::fs;
 use std::path::Path;
 
-const DATA: &str = concat!(
-    env!("CARGO_MANIFEST_DIR"),
-    "/../../crates/test_cases/data"
-);
+const DATA: &str = concat!(env!("CARGO_MANIFEST_DIR"), "/../../crates/test_cases/data");
 
 fn read(name: &str) -> Json {
     let path = Path::new(DATA).join(name);
@@ -36,32 +33,32 @@ fn given(case: &Json) -> String {
 }
 
 // What a command returns, and `None` for other calls.
-fn answer(call: &str, text: &str) -> Option<Result<String, Refusal>> {
+fn answer(call: &str, text: &str) -> Option<Result<String, Error>> {
     match call {
         "values" => Some(values(text)),
-        "prove" => Some(prove(text)),
+        "prove" => Some(prove_text(text)),
         "shape" => Some(shape(text)),
         "verify" => Some(verdict(text)),
-        "prove | verify" => Some(prove(text).and_then(|proof| verdict(&proof))),
+        "prove | verify" => Some(prove_text(text).and_then(|proof| verdict(&proof))),
         _ => None,
     }
 }
 
 // The line that `verify` prints.
-fn verdict(text: &str) -> Result<String, Refusal> {
-    verify(text, None).map(|()| "{\"verified\":true}".to_owned())
+fn verdict(text: &str) -> Result<String, Error> {
+    verify_as_stated(text).map(|()| "{\"verified\":true}".to_owned())
 }
 
 // Whether a result is what is due.
-fn is_due(answer: &Result<String, Refusal>, due: &Json) -> bool {
+fn is_due(answer: &Result<String, Error>, due: &Json) -> bool {
     let status = match answer {
         Ok(_) => "0",
-        Err(refusal) if refusal.is_unreadable() => "2",
+        Err(error) if error.is_unreadable() => "2",
         Err(_) => "1",
     };
     let line = match answer {
         Ok(line) => Json::read(line),
-        Err(refusal) => refused(*refusal),
+        Err(error) => refused(error),
     };
     let is_line = if let Some(due) = due.get("line") {
         *due == line
@@ -81,16 +78,13 @@ fn is_due(answer: &Result<String, Refusal>, due: &Json) -> bool {
 }
 
 // The line of a refusal.
-fn refused(refusal: Refusal) -> Json {
-    let kind = if refusal.is_unreadable() {
+fn refused(error: &Error) -> Json {
+    let kind = if error.is_unreadable() {
         "unreadable"
     } else {
         "refused"
     };
-    Json::Object(vec![(
-        kind.to_owned(),
-        Json::Text(refusal.name().to_owned()),
-    )])
+    Json::Object(vec![(kind.to_owned(), Json::Text(error.name().to_owned()))])
 }
 
 // Tests the cases of a file of which this crate has the calls.

@@ -1,0 +1,40 @@
+"""Why there is no result."""
+
+from typing import Optional
+
+__all__ = ["Error", "Refused", "Unreadable"]
+
+
+class Error(Exception):
+    """There is no result. `name` is the reason's name in docs/PROGRAM.md."""
+
+    def __init__(self, name: str) -> None:
+        super().__init__(name)
+        self.name = name
+
+
+class Refused(Error):
+    """The input is refused. Where `name` is `Memory` the call ran out of memory: no verdict."""
+
+
+class Unreadable(Error, ValueError):
+    """The text or value can't be read as what it is given for.
+
+    `path` leads to the value that can't be read, as `proof.fri_proof.final_poly[0]`, or to the key
+    that is missing or unknown, and is empty for the whole. The library names no key. So this
+    package reads the text once more to find it; where it finds another fault first, path is None.
+    """
+
+    def __init__(self, name: str, path: Optional[str] = None, why: str = "") -> None:
+        super().__init__(name)
+        self.path, self.why = path, why
+
+    def under(self, part: str) -> "Unreadable":
+        """This fault, of the value's member `part`: a name, or an index in brackets."""
+        path = self.path or ""
+        dot = "." if path and not path.startswith("[") else ""
+        return type(self)(self.name, part + dot + path, self.why)
+
+    def __str__(self) -> str:
+        place = f" at {self.path}" if self.path else ""
+        return self.name + place + (f": {self.why}" if self.why else "")

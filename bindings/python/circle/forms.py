@@ -1,0 +1,223 @@
+"""How records read their members and write them: numbers, lists, digests, and texts of JSON.
+
+A record reads its members when it is made. Of a member that can't be read it raises `Unreadable`,
+with the name that the library has for the fault and the path of the member. A member that is a
+record may be given as the value of JSON that stands for it, and a list as any sequence, such as an
+array of numpy. What is read is kept as tuples.
+"""
+
+import collections.abc
+import json
+import math
+import numbers
+import operator
+import re
+import reprlib
+from dataclasses import dataclass, field, fields
+from typing import Any, Callable, Dict, Sequence, Tuple, Type, TypeVar, Union
+
+from .errors import Unreadable
+
+__all__ = [
+    "CUBIC",
+    "CUBICS",
+    "COUNT",
+    "DIGEST",
+    "DIGESTS",
+    "ELEMENT",
+    "ELEMENTS",
+    "LISTS_OF_CUBICS",
+    "ROWS",
+    "Cubic",
+    "Record",
+    "by",
+    "coefficients",
+    "compact",
+    "count",
+    "element",
+    "list_of",
+    "parsed",
+    "record",
+    "written",
+]
+
+# An element of the challenge field: its three coefficients, each from 0 to 2^31 - 2.
+Cubic = Sequence[int]
+
+# The number of elements of the base field.
+_ORDER = (1 << 31) - 1
+
+_Read = Callable[[Any], Any]
+_R = TypeVar("_R", bound="Record")
+
+
+def _wrong(value: Any, wanted: str) -> Unreadable:
+    is_long = isinstance(value, (list, tuple, collections.abc.Mapping))
+    told = f"a {type(value).__name__}" if is_long else reprlib.repr(value)
+    return Unreadable("WrongKind", "", f"{told} is no {wanted}")
+
+
+def _number(value: Any, wanted: str) -> int:
+    """A whole number from 0, where True and False are none."""
+    try:
+        found = operator.index(value)
+    except TypeError:
+        raise _wrong(value, wanted) from None
+    if isinstance(value, bool) or not -(1 << 63) <= found < 1 << 64:
+        raise _wrong(value, wanted)
+    if found < 0:
+        raise Unreadable("OutOfRange", "", f"{found} is negative")
+    return found
+
+
+def count(value: Any) -> int:
+    return _number(value, "whole number below 2^64")
+
+
+def element(value: Any) -> int:
+    """An element of the base field."""
+    if type(value) is int and 0 <= value < _ORDER:
+        return value
+    found = _number(value, "whole number below 2^31 - 1")
+    if found >= _ORDER:
+        raise Unreadable("OutOfRange", "", f"{found} isn't below 2^31 - 1")
+    return found
+
+
+def _digest(value: Any) -> str:
+    if not isinstance(value, str):
+        raise _wrong(value, "string of 64 hexadecimal digits")
+    if not re.fullmatch("[0-9A-Fa-f]{64}", value):
+        raise Unreadable("BadHex", "", f"{reprlib.repr(value)} isn't 64 hexadecimal digits")
+    return value.lower()
+
+
+def _items(value: Any) -> Any:
+    """The items of a sequence."""
+    if isinstance(value, (list, tuple)):
+        return value
+    found = value.tolist() if hasattr(value, "tolist") else value
+    if isinstance(found, (str, bytes)) or not isinstance(found, collections.abc.Sequence):
+        raise _wrong(value, "list")
+    return found
+
+
+def list_of(item: _Read) -> _Read:
+    def read(value: Any) -> Tuple[Any, ...]:
+        found = []
+        for given in _items(value):
+            try:
+                found.append(item(given))
+            except Unreadable as fault:
+                raise fault.under(f"[{len(found)}]") from None
+        return tuple(found)
+
+    return read
+
+
+def _cubic(value: Any) -> Cubic:
+    if len(_items(value)) != 3:
+        raise _wrong(value, "list of three numbers")
+    return list_of(element)(value)
+
+
+def coefficients(value: Any) -> Tuple[Cubic, ...]:
+    """A final polynomial. One coefficient may stand for the list of it."""
+    items = _items(value)
+    is_one = len(items) > 0 and isinstance(items[0], numbers.Integral)
+    return (_cubic(items),) if is_one else list_of(_cubic)(items)
+
+
+def record(kind: Type[_R]) -> _Read:
+    return lambda value: value if isinstance(value, kind) else kind.from_value(value)
+
+
+def by(read: _Read, may_be_missing: bool = False) -> Dict[str, Any]:
+    """How a member of a record is read, and whether a value of JSON may leave it out."""
+    return {"read": read, "may_be_missing": may_be_missing}
+
+
+COUNT, ELEMENT, DIGEST, CUBIC = map(by, (count, element, _digest, _cubic))
+ELEMENTS, DIGESTS, CUBICS = (by(list_of(it)) for it in (element, _digest, _cubic))
+ROWS, LISTS_OF_CUBICS = (by(list_of(list_of(it))) for it in (element, _cubic))
+
+
+def written(value: Any) -> Any:
+    """The value of JSON that stands for a member."""
+    if isinstance(value, tuple):
+        return [written(item) for item in value]
+    return value.to_value() if isinstance(value, Record) else value
+
+
+def _real(digits: str) -> float:
+    found = float(digits)
+    if math.isinf(found):
+        raise ValueError(f"{reprlib.repr(digits)} is too large")
+    return found
+
+
+def _whole(digits: str) -> Union[int, float]:
+    """A number without a point. The library takes no number that a float doesn't hold, and -0 as
+    none that is whole."""
+    found = _real(digits)
+    return found if digits == "-0" else int(digits)
+
+
+def _constant(word: str) -> None:
+    raise ValueError(f"{word} is no JSON")
+
+
+def parsed(text: Union[str, bytes]) -> Any:
+    """The value of a text of JSON, as the library reads it."""
+    hooks: Dict[str, Any]
+    hooks = {"parse_int": _whole, "parse_float": _real, "parse_constant": _constant}
+    try:
+        return json.loads(text if isinstance(text, str) else bytes(text).decode(), **hooks)
+    except (ValueError, RecursionError) as fault:
+        raise Unreadable("json", "", str(fault)) from None
+
+
+def compact(value: Any) -> str:
+    """The text of a value of JSON, as the library writes it."""
+    return json.dumps(value, separators=(",", ":"), sort_keys=True)
+
+
+@dataclass(frozen=True)
+class Record:
+    """What all records have in common."""
+
+    def __post_init__(self) -> None:
+        for member in fields(self):
+            try:
+                found = member.metadata["read"](getattr(self, member.name))
+            except Unreadable as fault:
+                raise fault.under(member.name) from None
+            object.__setattr__(self, member.name, found)
+
+    @classmethod
+    def from_value(cls: Type[_R], value: Any) -> _R:
+        """The record that a value of JSON stands for, as `json.loads` makes it."""
+        if not isinstance(value, collections.abc.Mapping):
+            raise _wrong(value, "object")
+        members = {it.name: it.metadata["may_be_missing"] for it in fields(cls)}
+        due = [name for name, may_be_missing in members.items() if not may_be_missing]
+        missing = next((name for name in due if name not in value), None)
+        unknown = next((name for name in value if name not in members), None)
+        if missing is not None:
+            raise Unreadable("MissingKey", missing)
+        if unknown is not None:
+            raise Unreadable("UnknownKey", str(unknown))
+        return cls(**value)
+
+    @classmethod
+    def from_json(cls: Type[_R], text: Union[str, bytes]) -> _R:
+        """The record that a text of JSON stands for."""
+        return cls.from_value(parsed(text))
+
+    def to_value(self) -> Any:
+        """The value of JSON that stands for the record."""
+        return {member.name: written(getattr(self, member.name)) for member in fields(self)}
+
+    def to_json(self) -> str:
+        """The text of JSON that stands for the record, by ascending keys."""
+        return compact(self.to_value())

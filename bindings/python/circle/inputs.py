@@ -1,0 +1,58 @@
+"""What the calls by texts read, as records: they find where a text can't be read."""
+
+from dataclasses import dataclass, field
+from typing import Sequence, Type
+
+from .errors import Unreadable
+from .forms import COUNT, ELEMENTS, ROWS, Record, by, count, list_of, record
+from .library import Text
+from .records import ClaimedBatch, Matrix, Params, Proof
+
+__all__ = ["ProveInput", "ShapeInput", "ValuesInput", "VerifyInput", "located"]
+
+
+@dataclass(frozen=True)
+class ValuesInput(Record):
+    """An input of the program's `values`."""
+
+    coefficients: Sequence[Sequence[int]] = field(metadata=ROWS)
+    log_n: int = field(metadata=COUNT)
+    shift: Sequence[int] = field(metadata=ELEMENTS)
+
+
+@dataclass(frozen=True)
+class ProveInput(Record):
+    """An input of the program's `prove`."""
+
+    batches: Sequence[Sequence[Matrix]] = field(metadata=by(list_of(list_of(record(Matrix)))))
+    params: Params = field(metadata=by(record(Params)))
+
+
+@dataclass(frozen=True)
+class VerifyInput(Record):
+    """An input of the program's `verify`."""
+
+    batches: Sequence[ClaimedBatch] = field(metadata=by(list_of(record(ClaimedBatch))))
+    params: Params = field(metadata=by(record(Params)))
+    proof: Proof = field(metadata=by(record(Proof)))
+
+
+@dataclass(frozen=True)
+class ShapeInput(Record):
+    """An input of the program's `shape`."""
+
+    log_max_height: int = field(metadata=COUNT)
+    opened_widths: Sequence[Sequence[Sequence[int]]] = field(
+        metadata=by(list_of(list_of(list_of(count))))
+    )
+    params: Params = field(metadata=by(record(Params)))
+
+
+def located(fault: Unreadable, kind: Type[Record], text: Text) -> Unreadable:
+    """The library's fault of a text, with the path that leads to it where that is found."""
+    try:
+        kind.from_json(text)
+    except Unreadable as found:
+        if found.name == fault.name:
+            return found
+    return Unreadable("json", "") if fault.name == "json" else fault
