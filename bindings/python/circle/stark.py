@@ -14,8 +14,20 @@ from typing import Any, Dict, Mapping, Sequence, Union
 from . import records
 from .air import Air
 from .errors import Unsatisfied
-from .forms import COUNT, CUBICS, DIGEST, ELEMENTS, LISTS_OF_CUBICS, ROWS
-from .forms import Cubic, Record, by, compact, parsed, record
+from .forms import (
+    COUNT,
+    CUBICS,
+    DIGEST,
+    ELEMENTS,
+    LISTS_OF_CUBICS,
+    ROWS,
+    Cubic,
+    Record,
+    by,
+    compact,
+    parsed,
+    record,
+)
 from .library import Text, line, line_of_proof
 from .records import Params
 
