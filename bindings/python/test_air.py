@@ -330,10 +330,9 @@ class Calls:
 
     def test_rows_of_another_height(self):
         mine = statement("fibonacci_8_rows", fibonacci())
-        for rows in ([], [[1, 1]] * 4, [[1, 1]] * 16):
+        for rows in ([], [[1, 1]] * 4, [[1, 1]] * 9, [[1, 1]] * 16):
             with self.assertRaisesRegex(ValueError, f"is of 2\\^3 rows, and there are {len(rows)}"):
                 stark.prove(mine, rows)
-        self.refused("HeightNotPowerOfTwo", stark.prove, mine, [[1, 1]] * 9)
 
     def found(self, sample):
         """What `check` finds of a random AIR and its trace."""

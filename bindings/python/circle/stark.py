@@ -106,7 +106,7 @@ def prove(statement: Statement, rows: Sequence[Sequence[int]]) -> Proof:
     Unsatisfied where a constraint doesn't hold at a row."""
     value = {**statement.to_value(), **_Trace(rows, statement.public_values).to_value()}
     height, log_n = len(value["rows"]), value.pop("log_n")
-    if height >> log_n != 1:
+    if height != 2 ** min(log_n, 64):
         raise ValueError(f"the statement is of 2^{log_n} rows, and there are {height}")
     told = _line(statement.air, "stark_prove", value, _PROOF_LEN)
     return Proof.from_value(parsed(told)["proof"])
