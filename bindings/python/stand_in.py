@@ -19,6 +19,8 @@ verify_stark = given.script("../examples/verify_stark.py")
 ROWS = {"public_values": [verify_stark.P], "rows": [[verify_stark.P]]}
 CHECK = {"air": verify_stark.AIR, **ROWS}
 PROVE = {**CHECK, "params": verify_stark.params}
+PROOF = verify_stark.INPUT["proof"]
+STATEMENT = {key: form for key, form in verify_stark.INPUT.items() if key != "proof"}
 REFUSED, UNREADABLE = 1, 2
 
 
@@ -70,9 +72,21 @@ def proved(text):
     return next(stored(it, "verify") for it in names() if is_same[it]), 0
 
 
+def unread(name, form, text):
+    """The line of a text that can't be read, and None of one that can."""
+    try:
+        verify_stark.read(form, verify_stark.parse(text))
+    except verify_stark.Unreadable as why:
+        return {"text": name, "unreadable": str(why)}
+    return None
+
+
 def verified(statement, proof):
     """The line and the status of `verify`."""
-    value = {**verify_stark.parse(statement), "proof": verify_stark.parse(proof)}
+    line = unread("statement", STATEMENT, statement) or unread("proof", PROOF, proof)
+    if line:
+        return line, UNREADABLE
+    value = {**json.loads(statement), "proof": json.loads(proof)}
     return verify_stark.answer(lambda: json.dumps(value).encode())
 
 

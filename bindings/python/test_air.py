@@ -304,7 +304,10 @@ class Calls:
             value["log_n"] += 1
             self.assertRaises(circle.Refused, stark.verify_text, given.compact(value), proof)
         self.assertRaises(circle.Unreadable, stark.check_text, "")
-        self.assertRaises(circle.Unreadable, stark.verify_text, "{}", "{}")
+        with self.assertRaisesRegex(circle.Unreadable, "^json: the text of the statement$"):
+            stark.verify_text("", "")
+        with self.assertRaisesRegex(circle.Unreadable, "^MissingKey: the text of the proof$"):
+            stark.verify_text(given.compact(value), "{}")
 
     def test_another_statement_is_refused(self):
         mine = statement("fibonacci_8_rows", fibonacci())

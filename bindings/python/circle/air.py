@@ -92,10 +92,10 @@ class Expr:
             return NotImplemented
         if count < 0:
             raise ValueError(f"the exponent is {count}, and at least 0")
-        power = self._air.constant(1)
+        power: Operand = 1
         for bit in f"{count:b}":
             power = power * power * (self if bit == "1" else 1)
-        return power
+        return self._air.expression(power)
 
     def __bool__(self) -> bool:
         raise TypeError("an expression is neither true nor false: it has a value at each row")
@@ -165,11 +165,10 @@ class Air:
 
     def expression(self, value: Operand) -> Expr:
         """The expression that a value stands for: itself, or a constant."""
-        found = self._operand(value)
-        if found is None:
+        if not self._is_operand(value):
             kind = type(value).__name__
             raise TypeError(f"an expression or a whole number is due here, and not a {kind}")
-        return found
+        return value if isinstance(value, Expr) else self.constant(value)
 
     @property
     def constraint_names(self) -> Tuple[Optional[str], ...]:
@@ -204,37 +203,35 @@ class Air:
             self._nodes.append(node)
         return Expr(self, self._numbers[key])
 
-    def _operand(self, value: Any) -> Optional[Expr]:
-        """The expression that a value stands for, if it does for one."""
-        if not isinstance(value, Expr):
-            number = _whole(value)
-            return None if number is None else self.constant(number)
-        if value._air is not self:
+    def _is_operand(self, value: Any) -> bool:
+        """Whether a value stands for an expression of this AIR."""
+        if isinstance(value, Expr) and value._air is not self:
             raise ValueError("the expression is one of another AIR")
-        return value
+        return isinstance(value, Expr) or _whole(value) is not None
 
-    def _constant_of(self, expr: Expr) -> Optional[int]:
-        """The value of an expression that is a constant."""
-        kind, value, *_ = self._nodes[expr._node]
-        return value if kind == "constant" else None
+    def _known(self, value: Operand) -> Optional[int]:
+        """The element that an operand is at each row, if it is a constant."""
+        if not isinstance(value, Expr):
+            return operator.index(value) % ORDER
+        kind, operand, *_ = self._nodes[value._node]
+        return operand if kind == "constant" else None
 
     def _combined(self, kind: str, left: Operand, right: Operand) -> Any:
-        """The expression of an operation on two others, and NotImplemented where one is none."""
-        first, second = self._operand(left), self._operand(right)
-        if first is None or second is None:
+        """The expression of an operation on two operands, and NotImplemented where one is none."""
+        if not self._is_operand(left) or not self._is_operand(right):
             return NotImplemented
         compute, neutral = _OPERATIONS[kind]
-        known, behind = self._constant_of(first), self._constant_of(second)
+        known, behind = self._known(left), self._known(right)
         if known is not None and behind is not None:
             return self.constant(compute(known, behind))
         if behind == neutral:
-            return first
+            return left
         if known == neutral and kind in _COMMUTATIVE:
-            return second
-        return self._expr(kind, first._node, second._node)
+            return right
+        return self._expr(kind, self.expression(left)._node, self.expression(right)._node)
 
     def _opposite(self, expr: Expr) -> Expr:
-        known = self._constant_of(expr)
+        known = self._known(expr)
         return self._expr("neg", expr._node) if known is None else self.constant(-known)
 
     def _require(self, when: str, expr: Expr, name: Optional[str]) -> None:
