@@ -108,6 +108,31 @@ class Stored(unittest.TestCase):
                 self.assertTrue(given.is_due(found, case["due"]), (case["name"], found))
 
 
+class HashChain(unittest.TestCase):
+    """The chain of examples/hash_chain.py, over the stored rows of the permutation."""
+
+    chain = given.script("../bindings/python/examples/hash_chain.py")
+
+    def test_its_rounds_are_those_of_the_permutation(self):
+        stored = stand_in.stored("permutation_16_rows", "prove")
+        constants, rows = self.chain.CONSTANTS, stored["rows"]
+        self.assertEqual([list(it) for it in zip(*constants)], stored["air"]["periodic_columns"])
+        for row, following, added in zip(rows, rows[1:], constants):
+            powers = [pow(entry + it, 5, P) for entry, it in zip(row, added)]
+            self.assertEqual([it % P for it in self.chain.mixed(powers)], following[:8])
+
+    def test_its_rows_are_all_constrained(self):
+        rows, rng = self.chain.chain_rows([3, 1, 4, 1])[-32:], random.Random(7)
+        air, digest = self.chain.chain_air().to_value(), rows[-1][:4]
+        self.assertEqual(rows[0][4:8], [0] * 4)
+        self.assertIsNone(reference.first_violation(air, rows, digest))
+        for _ in range(100):
+            row, column = rng.randrange(32), rng.randrange(16)
+            rows[row][column] += 1
+            self.assertIsNotNone(reference.first_violation(air, rows, digest))
+            rows[row][column] -= 1
+
+
 class Nodes(unittest.TestCase):
     def setUp(self):
         self.air = circle.Air(columns=3, public_values=1)
@@ -204,8 +229,9 @@ class Faults(unittest.TestCase):
     def test_what_makes_no_air(self):
         for wrong in ([], [1, 2, 3]):
             self.assertRaises(ValueError, self.air.periodic, wrong)
-        self.assertRaises(TypeError, self.air.periodic, [1.0])
-        self.assertRaises(TypeError, self.air.constant, 1.0)
+        for wrong in (1.0, True, None):
+            self.assertRaises(TypeError, self.air.constant, wrong)
+            self.assertRaises(TypeError, self.air.periodic, [wrong])
         self.assertRaises(TypeError, self.air.every_row.assert_zero, self.a, 7)
         for columns, public_values in ((0, 0), (1, -1)):
             self.assertRaises(ValueError, circle.Air, columns, public_values)
@@ -304,9 +330,9 @@ class Calls:
             value["log_n"] += 1
             self.assertRaises(circle.Refused, stark.verify_text, given.compact(value), proof)
         self.assertRaises(circle.Unreadable, stark.check_text, "")
-        with self.assertRaisesRegex(circle.Unreadable, "^json: the text of the statement$"):
+        with self.assertRaisesRegex(circle.Unreadable, "^json at statement$"):
             stark.verify_text("", "")
-        with self.assertRaisesRegex(circle.Unreadable, "^MissingKey: the text of the proof$"):
+        with self.assertRaisesRegex(circle.Unreadable, "^MissingKey at proof$"):
             stark.verify_text(given.compact(value), "{}")
 
     def test_another_statement_is_refused(self):

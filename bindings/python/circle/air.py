@@ -53,6 +53,14 @@ def _whole(value: Any) -> Optional[int]:
         return None
 
 
+def _element(value: Any) -> int:
+    """The element that a whole number is modulo ORDER."""
+    number = _whole(value)
+    if number is None:
+        raise TypeError(f"a whole number is due here, and not a {type(value).__name__}")
+    return number % ORDER
+
+
 class Expr:
     """What has a value at each row of a trace: a column or what is computed of columns.
 
@@ -152,7 +160,7 @@ class Air:
     def periodic(self, entries: Sequence[int]) -> Expr:
         """A column that both sides know: row i has the entry i modulo their number, which is a
         power of two."""
-        column = tuple(operator.index(it) % ORDER for it in entries)
+        column = tuple(map(_element, entries))
         if len(column) == 0 or len(column) & (len(column) - 1):
             raise ValueError(f"a period of {len(column)} rows isn't a power of two")
         if column not in self._periodic_columns:
@@ -161,7 +169,7 @@ class Air:
 
     def constant(self, value: int) -> Expr:
         """The same value at each row."""
-        return self._expr("constant", operator.index(value) % ORDER)
+        return self._expr("constant", _element(value))
 
     def expression(self, value: Operand) -> Expr:
         """The expression that a value stands for: itself, or a constant."""
@@ -212,7 +220,7 @@ class Air:
     def _known(self, value: Operand) -> Optional[int]:
         """The element that an operand is at each row, if it is a constant."""
         if not isinstance(value, Expr):
-            return operator.index(value) % ORDER
+            return _element(value)
         kind, operand, *_ = self._nodes[value._node]
         return operand if kind == "constant" else None
 
@@ -269,22 +277,22 @@ def _listed(items: Sequence[bytes]) -> bytes:
     return _be64(len(items)) + b"".join(items)
 
 
-def _element(value: int) -> bytes:
+def _element_text(value: int) -> bytes:
     return value.to_bytes(4, "big")
 
 
 def _node_text(node: Dict[str, Any]) -> bytes:
     [(kind, operands)] = node.items()
     if kind == "constant":
-        return bytes([_KINDS.index(kind)]) + _element(operands)
+        return bytes([_KINDS.index(kind)]) + _element_text(operands)
     numbers = operands if isinstance(operands, list) else [operands]
     return bytes([_KINDS.index(kind)]) + b"".join(map(_be64, numbers))
 
 
 def _parts_of_text(air: Dict[str, Any]) -> Iterator[bytes]:
     yield b"circle-air" + bytes([1])
-    yield _be64(len(_element(0))) + _be64(air["width"]) + _be64(air["num_public_values"])
-    yield _listed([_listed(list(map(_element, column))) for column in air["periodic_columns"]])
+    yield _be64(len(_element_text(0))) + _be64(air["width"]) + _be64(air["num_public_values"])
+    yield _listed([_listed(list(map(_element_text, it))) for it in air["periodic_columns"]])
     yield _listed(list(map(_node_text, air["nodes"])))
     yield _listed(
         [bytes([_PLACES.index(it["when"])]) + _be64(it["node"]) for it in air["constraints"]]

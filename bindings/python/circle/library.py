@@ -87,7 +87,7 @@ def _error(status: int, told: str) -> Exception:
         return Unsatisfied(int(row[2]), int(row[1]))
     one = re.fullmatch(r'\{"text":"(\w+)","unreadable":"(\w+)"\}\n', told)
     if one and status == 2:
-        return Unreadable(one[2], None, f"the text of the {one[1]}")
+        return Unreadable(one[2], one[1])
     found = re.fullmatch(r'\{"(\w+)":"(\w+)"\}\n', told)
     error = found and _ERRORS.get((status, found[1]))
     if not found or not error:

@@ -138,7 +138,8 @@ def prove_text(text: Text) -> str:
 
 def verify_text(statement: Text, proof: Text) -> None:
     """Returns where the proof of the statement is accepted, and raises otherwise. The statement is
-    an input of the program's `verify` without its proof."""
+    an input of the program's `verify` without its proof. Of one that can't be read `path` names the
+    text, `statement` or `proof`."""
     line_of_proof(statement, proof, _VERDICT_LEN)
 
 
