@@ -1,5 +1,4 @@
-/* Verifies the proof of one file of the statement in another: verify_stark STATEMENT PROOF. The
- * statement is the caller's own, and nothing but the proof may be a stranger's. */
+/* Verifies a stranger's proof of the caller's own statement: verify_stark STATEMENT PROOF. */
 #include "circle.h"
 
 #include <stdio.h>
