@@ -603,11 +603,11 @@ impl Asserted<'_> {
 
 // The element that a whole number is modulo the order.
 fn modulo(value: i128) -> u32 {
-    u32::try_from(value.rem_euclid(ORDER.into())).unwrap_or(0)
+    value.rem_euclid(ORDER.into()) as u32
 }
 
-// A list of JSON.
-fn listed(items: impl Iterator<Item = impl ToString>) -> String {
+/// A list of JSON.
+pub(crate) fn listed(items: impl Iterator<Item = impl ToString>) -> String {
     let items: Vec<String> = items.map(|item| item.to_string()).collect();
     format!("[{}]", items.join(","))
 }

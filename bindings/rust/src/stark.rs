@@ -16,6 +16,7 @@
 //! A prover and a verifier write the statement each for itself: nothing but the proof is the
 //! other's.
 
+use crate::air::listed;
 use crate::form::{records, texts, Cubic, Digest, Form};
 use crate::json::Value;
 use crate::library::Call;
@@ -62,7 +63,7 @@ impl<'a> Statement<'a> {
             self.air.to_json(),
             self.log_n,
             self.params.to_json(),
-            list(self.public_values)
+            listed(self.public_values.iter())
         )
     }
 }
@@ -149,7 +150,7 @@ pub fn check(air: &Air, rows: &[impl AsRef<[u32]>], public_values: &[u32]) -> Re
     let text = format!(
         "{{\"air\":{},\"public_values\":{},\"rows\":{}}}",
         air.to_json(),
-        list(public_values),
+        listed(public_values.iter()),
         lists(rows)
     );
     match line(air, Call::StarkCheck, &text, VERDICT_LEN)?.as_str() {
@@ -178,7 +179,7 @@ pub fn prove(statement: &Statement<'_>, rows: &[impl AsRef<[u32]>]) -> Result<Pr
         "{{\"air\":{},\"params\":{},\"public_values\":{},\"rows\":{}}}",
         statement.air.to_json(),
         statement.params.to_json(),
-        list(statement.public_values),
+        listed(statement.public_values.iter()),
         lists(rows)
     );
     let line = line(statement.air, Call::StarkProve, &text, PROOF_LEN)?;
@@ -240,12 +241,7 @@ fn unread(line: &str) -> crate::Error {
     }
 }
 
-fn list(values: &[u32]) -> String {
-    let values: Vec<String> = values.iter().map(u32::to_string).collect();
-    format!("[{}]", values.join(","))
-}
-
+// The rows as a list of JSON.
 fn lists(rows: &[impl AsRef<[u32]>]) -> String {
-    let rows: Vec<String> = rows.iter().map(|row| list(row.as_ref())).collect();
-    format!("[{}]", rows.join(","))
+    listed(rows.iter().map(|row| listed(row.as_ref().iter())))
 }
