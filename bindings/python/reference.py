@@ -109,8 +109,8 @@ class Sample:
         self.constraints = []
         for _ in range(rng.randint(1, 5)):
             rng.choice([self.add_free, self.add_bits, self.add_computed, self.add_stepped])()
-        for row, when in ((0, "first"), (-1, "last")):
-            self.add_end(row, when)
+        self.add_end(0, "first")
+        self.add_end(-1, "last")
         self.require("every", "zero", ("sub", ("local", 0), ("local", 0)))
         rng.shuffle(self.constraints)
 

@@ -44,22 +44,23 @@ def fibonacci():
     return air
 
 
+def require_equal(place, left, right):
+    for one, other in zip(left, right):
+        place.assert_eq(one, other)
+
+
 def permutation():
     """The AIR of crates/circle_airs, with the constants of the stored one."""
     air = circle.Air(columns=16, public_values=16)
     columns = stand_in.stored("permutation_16_rows", "prove")["air"]["periodic_columns"]
     matrix = [7, 1, 3, 8, 8, 3, 4, 9]
     sums = [entry + air.periodic(column) for entry, column in zip(air.columns, columns)]
-    for helper, it in zip(air.columns[8:], sums):
-        air.every_row.assert_eq(helper, it**3)
     powers = [helper * it**2 for helper, it in zip(air.columns[8:], sums)]
-    for row in range(8):
-        mixed = sum(matrix[(column - row) % 8] * powers[column] for column in range(8))
-        air.transition.assert_eq(air.next_columns[row], mixed)
-    for entry, public in zip(air.columns, air.public_values[:8]):
-        air.first_row.assert_eq(entry, public)
-    for entry, public in zip(air.columns, air.public_values[8:]):
-        air.last_row.assert_eq(entry, public)
+    rows = [[matrix[(j - i) % 8] * powers[j] for j in range(8)] for i in range(8)]
+    require_equal(air.every_row, air.columns[8:], [it**3 for it in sums])
+    require_equal(air.transition, air.next_columns, map(sum, rows))
+    require_equal(air.first_row, air.columns, air.public_values[:8])
+    require_equal(air.last_row, air.columns, air.public_values[8:])
     return air
 
 
