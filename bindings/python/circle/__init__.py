@@ -17,6 +17,9 @@ docs/BINDINGS.md says what remains.
 bytes of UTF-8, which docs/PROGRAM.md describes. `bits` returns how many bits of security parameters
 give.
 
+`Air` is for constraints on the rows of a trace, and the module `stark` proves that rows satisfy
+them (docs/AIRS.md).
+
 The library is libcircle.so, of the wheel that the package comes from, or in ../../c/out, where
 bindings/c/build leaves it. Where the environment's CIRCLE_LIBRARIES names a folder, the library is
 the one that is there.
@@ -28,8 +31,10 @@ made, and each raises RuntimeError.
 
 from typing import Any, Callable, Mapping, Sequence, Tuple, Type, TypeVar, Union
 
-from .errors import Error, Refused, Unreadable
-from .forms import Cubic, Record
+from . import stark
+from .air import Air, Expr
+from .errors import Error, Refused, Unreadable, Unsatisfied
+from .forms import ORDER, Cubic, Record
 from .inputs import ProveInput, ShapeInput, ValuesInput, VerifyInput, located
 from .library import Text, line, line_with
 from .records import (
@@ -48,6 +53,7 @@ from .records import (
 from .security import Bits, Level, bits
 
 __all__ = [
+    "Air",
     "BatchOpening",
     "Bits",
     "Claim",
@@ -55,20 +61,24 @@ __all__ = [
     "ClaimedMatrix",
     "Cubic",
     "Error",
+    "Expr",
     "FriProof",
     "InputOpenings",
     "Level",
     "Matrix",
+    "ORDER",
     "Params",
     "Proof",
     "Refused",
     "RoundOpening",
     "Statement",
     "Unreadable",
+    "Unsatisfied",
     "bits",
     "prove",
     "prove_text",
     "shape",
+    "stark",
     "values",
     "verify",
     "verify_as_stated",

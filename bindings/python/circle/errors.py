@@ -1,8 +1,8 @@
 """Why there is no result."""
 
-from typing import Optional
+from typing import Any, Optional, Tuple
 
-__all__ = ["Error", "Refused", "Unreadable"]
+__all__ = ["Error", "Refused", "Unreadable", "Unsatisfied"]
 
 
 class Error(Exception):
@@ -15,6 +15,25 @@ class Error(Exception):
 
 class Refused(Error):
     """The input is refused. Where `name` is `Memory` the call ran out of memory: no verdict."""
+
+
+class Unsatisfied(Refused):
+    """A constraint doesn't hold at a row: the first such row, and its first such constraint.
+
+    `row` and `constraint` count from 0. `constraint_name` is the name that the constraint was
+    given, and None where it has none.
+    """
+
+    def __init__(self, row: int, constraint: int, constraint_name: Optional[str] = None) -> None:
+        super().__init__("Unsatisfied")
+        self.row, self.constraint, self.constraint_name = row, constraint, constraint_name
+
+    def __reduce__(self) -> Tuple[Any, ...]:
+        return type(self), (self.row, self.constraint, self.constraint_name)
+
+    def __str__(self) -> str:
+        named = f" ({self.constraint_name})" if self.constraint_name is not None else ""
+        return f"Unsatisfied: row {self.row} fails constraint {self.constraint}{named}"
 
 
 class Unreadable(Error, ValueError):

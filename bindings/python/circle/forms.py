@@ -27,6 +27,7 @@ __all__ = [
     "ELEMENT",
     "ELEMENTS",
     "LISTS_OF_CUBICS",
+    "ORDER",
     "ROWS",
     "Cubic",
     "Record",
@@ -45,7 +46,7 @@ __all__ = [
 Cubic = Sequence[int]
 
 # The number of elements of the base field.
-_ORDER = (1 << 31) - 1
+ORDER = (1 << 31) - 1
 
 _Read = Callable[[Any], Any]
 _R = TypeVar("_R", bound="Record")
@@ -76,10 +77,10 @@ def count(value: Any) -> int:
 
 def element(value: Any) -> int:
     """An element of the base field."""
-    if type(value) is int and 0 <= value < _ORDER:
+    if type(value) is int and 0 <= value < ORDER:
         return value
     found = _number(value, "whole number below 2^31 - 1")
-    if found >= _ORDER:
+    if found >= ORDER:
         raise Unreadable("OutOfRange", "", f"{found} isn't below 2^31 - 1")
     return found
 

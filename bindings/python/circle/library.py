@@ -5,12 +5,12 @@ import functools
 import os
 import pathlib
 import re
-from typing import Any, Union
+from typing import Any, Sequence, Union
 
-from .errors import Refused, Unreadable
+from .errors import Refused, Unreadable, Unsatisfied
 from .records import Params
 
-__all__ = ["Text", "line", "line_with"]
+__all__ = ["Text", "line", "line_of_proof", "line_with"]
 
 Text = Union[str, bytes, bytearray, memoryview]
 
@@ -35,13 +35,18 @@ class _Params(ctypes.Structure):
 
 def line(name: str, text: Text, room: int) -> str:
     """The line of a call, without its newline. There is room for so many bytes at first."""
-    return _line(getattr(_library(), f"circle_{name}"), text, room)
+    return _line(getattr(_library(), f"circle_{name}"), [text], room)
 
 
 def line_with(text: Text, params: Params, room: int) -> str:
     """The line of circle_verify_with, without its newline."""
     numbers = _Params(*(getattr(params, name) for name, _ in _Params._fields_))
-    return _line(_library().circle_verify_with, text, room, ctypes.byref(numbers))
+    return _line(_library().circle_verify_with, [text], room, ctypes.byref(numbers))
+
+
+def line_of_proof(statement: Text, proof: Text, room: int) -> str:
+    """The line of circle_stark_verify, without its newline."""
+    return _line(_library().circle_stark_verify, [statement, proof], room)
 
 
 def _bytes(text: Text) -> bytes:
@@ -59,13 +64,14 @@ def _bytes(text: Text) -> bytes:
         raise Unreadable("json") from None
 
 
-def _line(call: Any, text: Text, room: int, *params: Any) -> str:
+def _line(call: Any, texts: Sequence[Text], room: int, *params: Any) -> str:
     if _is_forked:
         raise RuntimeError("this is the forked child of a process with threads")
-    given, needed = _bytes(text), ctypes.c_size_t(room)
+    given = [part for text in map(_bytes, texts) for part in (text, len(text))]
+    needed = ctypes.c_size_t(room)
     while True:
         into, into_len = ctypes.create_string_buffer(needed.value), needed.value
-        status = call(given, len(given), *params, into, into_len, ctypes.byref(needed))
+        status = call(*given, *params, into, into_len, ctypes.byref(needed))
         if needed.value <= into_len:
             break
     told = ctypes.string_at(into, needed.value).decode()
@@ -76,6 +82,12 @@ def _line(call: Any, text: Text, room: int, *params: Any) -> str:
 
 def _error(status: int, told: str) -> Exception:
     """The error that a line without a result names."""
+    row = re.fullmatch(r'\{"constraint":(\d+),"refused":"Unsatisfied","row":(\d+)\}\n', told)
+    if row and status == 1:
+        return Unsatisfied(int(row[2]), int(row[1]))
+    one = re.fullmatch(r'\{"text":"(\w+)","unreadable":"(\w+)"\}\n', told)
+    if one and status == 2:
+        return Unreadable(one[2], one[1])
     found = re.fullmatch(r'\{"(\w+)":"(\w+)"\}\n', told)
     error = found and _ERRORS.get((status, found[1]))
     if not found or not error:
@@ -106,11 +118,12 @@ def _library() -> ctypes.CDLL:
     library = ctypes.CDLL(str(_path()))
     text = [ctypes.c_char_p, ctypes.c_size_t]
     into = [ctypes.c_char_p, ctypes.c_size_t, ctypes.POINTER(ctypes.c_size_t)]
-    for name in ("values", "prove", "verify", "shape"):
-        getattr(library, f"circle_{name}").argtypes = [*text, *into]
-    library.circle_verify_with.argtypes = [*text, ctypes.POINTER(_Params), *into]
-    for name in ("values", "prove", "verify", "shape", "verify_with"):
-        getattr(library, f"circle_{name}").restype = ctypes.c_uint8
+    taken = {name: text for name in ("values", "prove", "verify", "shape")}
+    taken.update(stark_check=text, stark_prove=text, stark_verify=[*text, *text])
+    taken["verify_with"] = [*text, ctypes.POINTER(_Params)]
+    for name, types in taken.items():
+        call = getattr(library, f"circle_{name}")
+        call.argtypes, call.restype = [*types, *into], ctypes.c_uint8
     return library
 
 

@@ -6,7 +6,7 @@ use std::collections::BTreeMap;
 use std::fmt;
 
 /// The number of elements of the base field.
-const ORDER: u32 = (1 << 31) - 1;
+pub const ORDER: u32 = (1 << 31) - 1;
 
 /// An element of the challenge field: its three coefficients, each below `2^31 - 1`.
 pub type Cubic = [u32; 3];

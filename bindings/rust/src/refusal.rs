@@ -13,8 +13,8 @@ macro_rules! refusals {
             $($(#[$refused_doc:meta])* $refused:ident = $refused_name:literal,)*
         }
     ) => {
-        /// Why a text has no result. `docs/PROGRAM.md` says when each is returned, and which comes
-        /// first.
+        /// Why a text has no result. `docs/PROGRAM.md` and `docs/STARK.md` say when each is
+        /// returned, and which comes first.
         #[derive(Clone, Copy, Debug, PartialEq, Eq, Hash)]
         #[non_exhaustive]
         pub enum Refusal {
@@ -141,6 +141,42 @@ refusals! {
         UnconsumedReducedOpenings = "UnconsumedReducedOpenings",
         /// A query ends in another value than the final polynomial's.
         FinalPolyMismatch = "FinalPolyMismatch",
+        /// An AIR has no column.
+        NoColumns = "NoColumns",
+        /// The length of a periodic column isn't a power of two.
+        PeriodicLength = "PeriodicLength",
+        /// A node of an AIR is computed of one that isn't earlier.
+        NodeOutOfOrder = "NodeOutOfOrder",
+        /// A node reads a column that the AIR doesn't have.
+        ColumnOutOfRange = "ColumnOutOfRange",
+        /// A node reads a periodic column that the AIR doesn't have.
+        PeriodicOutOfRange = "PeriodicOutOfRange",
+        /// A node reads a public value that the AIR doesn't have.
+        PublicOutOfRange = "PublicOutOfRange",
+        /// The degree of a node is too high.
+        DegreeTooHigh = "DegreeTooHigh",
+        /// An AIR has no constraint.
+        NoConstraints = "NoConstraints",
+        /// A constraint is of a node that the AIR doesn't have.
+        ConstraintOutOfRange = "ConstraintOutOfRange",
+        /// There are more or fewer public values than the AIR has.
+        PublicValuesMismatch = "PublicValuesMismatch",
+        /// The rows don't have the AIR's width.
+        WidthMismatch = "WidthMismatch",
+        /// A periodic column has more entries than there are rows.
+        PeriodTooLong = "PeriodTooLong",
+        /// A proof has no value of the row for each column.
+        TraceLocalLength = "TraceLocalLength",
+        /// A proof has no value of the next row for each column.
+        TraceNextLength = "TraceNextLength",
+        /// A proof has a wrong number of the quotient's chunks.
+        QuotientChunkCount = "QuotientChunkCount",
+        /// A chunk of the quotient doesn't have three values.
+        QuotientChunkLength = "QuotientChunkLength",
+        /// The drawn point can't be opened.
+        UnfitPoint = "UnfitPoint",
+        /// The constraints don't fit the quotient at the drawn point.
+        OodEvaluationMismatch = "OodEvaluationMismatch",
     }
 }
 

@@ -5,6 +5,11 @@ use std::collections::BTreeSet;
 use std::fs;
 
 const PAGE: &str = concat!(env!("CARGO_MANIFEST_DIR"), "/../../docs/PROGRAM.md");
+// The names that the STARK's commands give.
+const STARK: &str = concat!(
+    env!("CARGO_MANIFEST_DIR"),
+    "/../../crates/stark_commands/src/names.rt"
+);
 
 // Whether a word of the page is a refusal's name: one of several words that begin with capitals.
 fn is_name(word: &str) -> bool {
@@ -31,6 +36,17 @@ fn told_names() -> BTreeSet<String> {
     names
 }
 
+// The names behind arrows, but the one of rows that don't satisfy an AIR, which is no refusal here.
+fn names_of_stark() -> BTreeSet<String> {
+    let source = fs::read_to_string(STARK).expect("the source");
+    let arrows = source.split("=> \"").skip(1);
+    let mut names: BTreeSet<String> = arrows
+        .map(|rest| rest.split('"').next().expect("a name").to_owned())
+        .collect();
+    assert!(names.remove("Unsatisfied"));
+    names
+}
+
 #[test]
 fn names_are_those_of_the_page() {
     let mut names: BTreeSet<String> = Refusal::ALL
@@ -40,7 +56,7 @@ fn names_are_those_of_the_page() {
     assert_eq!(names.len(), Refusal::ALL.len());
     // The program has no such parameters.
     assert!(names.remove(Refusal::ParametersDiffer.name()));
-    assert_eq!(names, told_names());
+    assert_eq!(names, &told_names() | &names_of_stark());
 }
 
 #[test]
@@ -49,7 +65,9 @@ fn names_of_unreadable_texts_are_those_of_the_list() {
     let (_, list) = page
         .split_once("The name of an input that can't be read:\n")
         .expect("a list");
-    let (list, _) = list.split_once("The first of several faults").expect("its end");
+    let (list, _) = list
+        .split_once("The first of several faults")
+        .expect("its end");
     for refusal in Refusal::ALL {
         let stands = list.contains(&format!("`{}`", refusal.name()));
         assert_eq!(stands, refusal.is_unreadable(), "{refusal:?}");
