@@ -1,35 +1,38 @@
 /*
- * Circle STARK commitments, proved: the commands of the program circle_tool, called from C.
+ * Circle STARKs, proved: the commands of the programs circle_tool and stark_tool, called from C.
  *
  * Link libcircle_c.a and then the kit's liblibc_c.a, or libcircle.so, which holds both.
  *
- * Each call reads one JSON text, which it borrows for the call, in UTF-8 and without a terminator.
- * It returns the program's status:
+ * Each call reads a JSON text, or circle_stark_verify two, which it borrows for the call, in UTF-8
+ * and without a terminator. It returns the program's status:
  *
  *   0  there is a result
  *   1  the input is refused, or the call ran out of memory
- *   2  the text can't be read as an input of the command
+ *   2  a text can't be read as an input of the command
  *
  * and writes the line that the program writes, with its newline at the end and no zero byte after
  * it. It always writes the line's length to *needed. If that is at most line_len, it writes the
  * line to line[0] up to line[*needed - 1]; else it writes nothing to line. docs/PROGRAM.md describes
- * the inputs and the lines. CIRCLE_LINE_LEN bytes hold each line of circle_verify and
- * circle_verify_with, and every refusal.
+ * the inputs and the lines of circle_tool, docs/STARK.md those of stark_tool. CIRCLE_LINE_LEN bytes
+ * hold each line of circle_verify and circle_verify_with, and every refusal of circle_tool's
+ * commands; CIRCLE_STARK_LINE_LEN bytes hold each line of circle_stark_check and
+ * circle_stark_verify, and every refusal.
  *
- * A pointer beside a length of 0 may be null, as data() of an empty std::vector is: text where the
- * text is empty, and line where only *needed is to be written.
+ * A pointer beside a length of 0 may be null, as data() of an empty std::vector is: that of a text
+ * which is empty, and line where only *needed is to be written.
  *
- * A call keeps nothing: the same text gets the same line, unless the call is out of memory. It may
+ * A call keeps nothing: the same texts get the same line, unless the call is out of memory. It may
  * be made from any thread, and from several at once, each with a line and a needed of its own.
  *
  * What the caller must ensure. Nothing tests it; otherwise the behaviour is undefined, in the sense
  * of the C standard:
  *
- * - text points to text_len bytes, line to line_len bytes, needed to one size_t and params to one
- *   circle_params. needed and params aren't null. The bytes of line need no initial value.
- * - While the call runs, nobody else writes the text or the parameters, and nobody else reads or
+ * - text, statement and proof point to as many bytes as the length beside them says, line to
+ *   line_len bytes, needed to one size_t and params to one circle_params. needed and params aren't
+ *   null. The bytes of line need no initial value.
+ * - While the call runs, nobody else writes a text or the parameters, and nobody else reads or
  *   writes the line or *needed.
- * - line and *needed overlap neither each other nor the text nor the parameters. So a call can't
+ * - line and *needed overlap neither each other nor a text nor the parameters. So a call can't
  *   write its line over its own text.
  * - malloc, realloc and free come from one allocator, which aligns a block to each power of two up
  *   to 16 that divides its size, as that of a C library does.
@@ -48,6 +51,10 @@ extern "C" {
 
 /* A line of this many bytes holds what circle_verify and circle_verify_with write, and refusals. */
 #define CIRCLE_LINE_LEN 64
+
+/* A line of this many bytes holds what circle_stark_check and circle_stark_verify write, and every
+ * refusal. */
+#define CIRCLE_STARK_LINE_LEN 128
 
 /* The parameters of proofs, as docs/PROGRAM.md has them in "params". */
 typedef struct circle_params {
@@ -84,6 +91,30 @@ uint8_t circle_shape(const uint8_t *text, size_t text_len, uint8_t *line, size_t
  * own refusals. */
 uint8_t circle_verify_with(const uint8_t *text, size_t text_len, const circle_params *params,
                            uint8_t *line, size_t line_len, size_t *needed);
+
+/* Whether the rows of a table satisfy constraints, an AIR: {"satisfied":true}. Where one doesn't
+ * hold, the line is {"constraint":n,"refused":"Unsatisfied","row":n}. */
+uint8_t circle_stark_check(const uint8_t *text, size_t text_len, uint8_t *line, size_t line_len,
+                           size_t *needed);
+
+/* A proof that rows satisfy an AIR, with its statement, in one object: without "proof" it is a
+ * statement for circle_stark_verify, and "proof" is the proof. If the line doesn't fit, a call with
+ * a longer one proves again. */
+uint8_t circle_stark_prove(const uint8_t *text, size_t text_len, uint8_t *line, size_t line_len,
+                           size_t *needed);
+
+/* Status 0, {"air_digest":..,"log_n":n,"verified":true}, exactly where the proof of one text is
+ * accepted of the statement of the other, unless the call is out of memory. The statement is the
+ * caller's own, an object of the AIR, the logarithm of the number of rows, the parameters and the
+ * public values:
+ *
+ *   {"air":..,"log_n":n,"params":..,"public_values":[..]}
+ *
+ * and the proof a stranger's, the object that stands under "proof" in what circle_stark_prove
+ * writes. Where a text can't be read, the statement being read first, status 2, and the line says
+ * which and why: {"text":"statement","unreadable":NAME} or {"text":"proof","unreadable":NAME}. */
+uint8_t circle_stark_verify(const uint8_t *statement, size_t statement_len, const uint8_t *proof,
+                            size_t proof_len, uint8_t *line, size_t line_len, size_t *needed);
 
 #ifdef __cplusplus
 }

@@ -3,12 +3,15 @@
  *   tests judge COMMAND                judges standard input, with lines of several lengths, and
  *                                      with null pointers where there are no bytes
  *   tests with N N N N N N N           the same by circle_verify_with and these parameters
- *   tests once COMMAND                 judges it by one call, and allocates nothing else
+ *   tests stark FILE                   the same by circle_stark_verify and the file's statement
+ *   tests once COMMAND [FILE]          judges it by one call, and allocates nothing else
  *   tests threads (COMMAND FILE)..     judges the files in eight threads at once
  *   tests time COMMAND FILE N          prints how many nanoseconds each of N calls took
  *
- * `judge`, `with` and `once` print the line and end with the status. Where a call breaks what
- * circle.h says, standard error says so and the status is 9.
+ * A file behind `once stark_verify`, and one behind the word `statement` in place of a command of
+ * threads, has the statement of circle_stark_verify. `judge`, `with`, `stark` and `once` print the
+ * line and end with the status. Where a call breaks what circle.h says, standard error says so and
+ * the status is 9.
  */
 #define _POSIX_C_SOURCE 200809L
 
@@ -48,7 +51,9 @@ typedef struct work {
     const char *fault;
 } work;
 
+/* What circle_verify_with and circle_stark_verify take beside the text that is judged. */
 static const circle_params *params;
+static bytes statement;
 
 static void fail(const char *why) {
     fprintf(stderr, "%s\n", why);
@@ -78,6 +83,16 @@ static uint8_t call(const char *command, bytes text, bytes line, size_t *needed)
     }
     if (strcmp(command, "with") == 0) {
         return circle_verify_with(text.at, text.len, params, line.at, line.len, needed);
+    }
+    if (strcmp(command, "stark_check") == 0) {
+        return circle_stark_check(text.at, text.len, line.at, line.len, needed);
+    }
+    if (strcmp(command, "stark_prove") == 0) {
+        return circle_stark_prove(text.at, text.len, line.at, line.len, needed);
+    }
+    if (strcmp(command, "stark_verify") == 0) {
+        return circle_stark_verify(statement.at, statement.len, text.at, text.len, line.at,
+                                   line.len, needed);
     }
     fail("no such command");
     return 9;
@@ -114,6 +129,18 @@ static bytes read_file(const char *path) {
     return text;
 }
 
+static bytes copied(bytes text) {
+    bytes copy = {room(text.len), text.len};
+    if (text.len > 0) {
+        memcpy(copy.at, text.at, text.len);
+    }
+    return copy;
+}
+
+static int same(bytes one, bytes other) {
+    return one.len == other.len && (one.len == 0 || memcmp(one.at, other.at, one.len) == 0);
+}
+
 static int all_marked(const uint8_t *at, size_t len) {
     for (size_t place = 0; place < len; place++) {
         if (at[place] != MARK) {
@@ -146,13 +173,25 @@ static bytes judged(const char *command, bytes text, size_t len, const size_t *d
     return line;
 }
 
-/* Calls with null pointers where there are no bytes: without a line, and without a text where it is
- * empty. What is due are the length and the status of an earlier call. */
+/* Calls with null pointers where there are no bytes: without a line, and without a statement and
+ * without a text where they are empty. What is due are the length and the status of an earlier
+ * call. */
 static void judge_null(const char *command, bytes text, bytes due, uint8_t status) {
     bytes null = {NULL, 0};
     size_t needed = (size_t)-1;
     if (call(command, text, null, &needed) != status || needed != due.len) {
         fail("a call with a line that is null differs from the others");
+    }
+    if (statement.at != NULL && statement.len == 0) {
+        bytes kept = statement;
+        statement = null;
+        bytes line = judged(command, text, due.len, &due.len, &status);
+        if (memcmp(line.at, due.at, due.len) != 0) {
+            fail("a call with a statement that is null differs from the others");
+        }
+        free(line.at);
+        judge_null(command, text, due, status);
+        statement = kept;
     }
     if (text.len > 0) {
         return;
@@ -170,15 +209,14 @@ static void judge_null(const char *command, bytes text, bytes due, uint8_t statu
 
 static int judge(const char *command, bytes text) {
     uint8_t status = 0;
-    bytes copy = {room(text.len), text.len};
-    memcpy(copy.at, text.at, text.len);
+    bytes copy = copied(text), stated = copied(statement);
     bytes none = judged(command, text, 0, NULL, &status);
     size_t needed = none.len;
     bytes less = judged(command, text, needed - 1, &needed, &status);
     bytes more = judged(command, text, needed + 1, &needed, &status);
     bytes line = judged(command, text, needed, &needed, &status);
-    if (memcmp(line.at, more.at, needed) != 0 || memcmp(copy.at, text.at, text.len) != 0) {
-        fail("two lines differ, or the text was changed");
+    if (memcmp(line.at, more.at, needed) != 0 || !same(copy, text) || !same(stated, statement)) {
+        fail("two lines differ, or a text was changed");
     }
     judge_null(command, text, line, status);
     fwrite(line.at, 1, needed, stdout);
@@ -187,17 +225,30 @@ static int judge(const char *command, bytes text) {
     free(more.at);
     free(line.at);
     free(copy.at);
+    free(stated.at);
     return status;
 }
 
+/* Reads to the end, at most MOST bytes, to a place that is there. */
+static bytes read_to(int file, uint8_t *at) {
+    bytes text = {at, 0};
+    ssize_t now;
+    while ((now = read(file, at + text.len, MOST - text.len)) > 0) {
+        text.len += (size_t)now;
+    }
+    return text;
+}
+
 /* One call, by memory that is there from the start. */
-static int once(const char *command) {
-    static uint8_t given[MOST], written[MOST];
-    bytes text = {given, 0}, line = {written, MOST};
+static int once(const char *command, const char *path) {
+    static uint8_t given[MOST], stated[MOST], written[MOST];
+    bytes text = read_to(0, given), line = {written, MOST};
     size_t needed = 0, done = 0;
     ssize_t now;
-    while ((now = read(0, given + text.len, MOST - text.len)) > 0) {
-        text.len += (size_t)now;
+    if (path != NULL) {
+        int file = open(path, O_RDONLY);
+        statement = read_to(file, stated);
+        close(file);
     }
     uint8_t status = call(command, text, line, &needed);
     while (needed <= MOST && done < needed && (now = write(1, written + done, needed - done)) > 0) {
@@ -223,12 +274,17 @@ static void *work_on(void *given) {
 }
 
 static int threads(int count, char **words) {
-    size_t number = (size_t)count / 2;
-    task *tasks = room(number * sizeof *tasks);
-    for (size_t at = 0; at < number; at++) {
-        task *now = &tasks[at];
-        now->command = words[2 * at];
-        now->text = read_file(words[2 * at + 1]);
+    size_t number = 0;
+    task *tasks = room((size_t)count / 2 * sizeof *tasks);
+    for (int at = 0; at < count; at += 2) {
+        if (strcmp(words[at], "statement") == 0) {
+            free(statement.at);
+            statement = read_file(words[at + 1]);
+            continue;
+        }
+        task *now = &tasks[number++];
+        now->command = words[at];
+        now->text = read_file(words[at + 1]);
         bytes none = judged(now->command, now->text, 0, NULL, &now->status);
         now->line = judged(now->command, now->text, none.len, &none.len, &now->status);
         free(none.at);
@@ -254,6 +310,7 @@ static int threads(int count, char **words) {
         free(tasks[at].line.at);
     }
     free(tasks);
+    free(statement.at);
     return 0;
 }
 
@@ -294,14 +351,20 @@ int main(int argc, char **argv) {
         bytes text = read_all(0);
         status = judge("with", text);
         free(text.at);
-    } else if (strcmp(mode, "once") == 0 && argc == 3) {
-        status = once(argv[2]);
+    } else if (strcmp(mode, "stark") == 0 && argc == 3) {
+        statement = read_file(argv[2]);
+        bytes text = read_all(0);
+        status = judge("stark_verify", text);
+        free(text.at);
+        free(statement.at);
+    } else if (strcmp(mode, "once") == 0 && (argc == 3 || argc == 4)) {
+        status = once(argv[2], argv[3]);
     } else if (strcmp(mode, "threads") == 0 && argc > 3 && argc % 2 == 0) {
         status = threads(argc - 2, argv + 2);
     } else if (strcmp(mode, "time") == 0 && argc == 5) {
         status = time_calls(argv[2], argv[3], strtoull(argv[4], NULL, 10));
     } else {
-        fprintf(stderr, "usage: tests judge|with|once|threads|time ..\n");
+        fprintf(stderr, "usage: tests judge|with|stark|once|threads|time ..\n");
     }
     return status;
 }

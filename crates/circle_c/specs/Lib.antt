@@ -1,3 +1,4 @@
 pub mod Line
 pub mod Params
+pub mod Statement
 pub mod With

@@ -1,21 +1,26 @@
-//! The commands of `circle_commands`, as a static library for C and what calls C.
+//! The commands of `circle_commands` and `stark_commands`, as a static library for C and what calls
+//! C.
 //!
 //! Each export takes the bytes of a JSON text, a line to write to and a place for a length. It
-//! returns the status that the program `circle_tool` ends with, and writes the line that it writes,
-//! where that fits. `bindings/c/circle.h` declares them for C. No export requires anything of its
-//! caller beyond its types, and each returns. What is proved of every export, by the clauses:
+//! returns the status that the program `circle_tool` or `stark_tool` ends with, and writes the line
+//! that it writes, where that fits. `bindings/c/circle.h` declares them for C. No export requires
+//! anything of its caller beyond its types, and each returns. What is proved of every export, by the
+//! clauses:
 //!
 //! - `status`: the status is 0, 1 or 2.
-//! - Status 0 (`rows`, `shape`, `proved`, `accepted`): the text stands for an input of the command,
-//!   and the line is a result of that input, as `is_result` of the command in `circle_commands` has
-//!   it: of `values` the JSON text of the polynomials' values, of `shape` that of the shape, of
-//!   `prove` claims with a proof that is accepted where each matrix has a point, and of `verify`
-//!   `{"verified":true}`, where the relation holds of the input (`Verified.IsVerified`).
-//! - Status 1 (`refused`): the line is `{"refused":"Memory"}`, or that of the name of a reason to
-//!   refuse the input that the text stands for, as `is_reason` of the command has it.
+//! - Status 0 (`rows`, `shape`, `proved`, `accepted`, `satisfied`): the text stands for an input of
+//!   the command, and the line is a result of that input, as `is_result` of the command has it: of
+//!   `values` the JSON text of the polynomials' values, of `shape` that of the shape, of `prove`
+//!   claims with a proof that is accepted where each matrix has a point, and of `verify`
+//!   `{"verified":true}`, where the relation holds of the input (`Verified.IsVerified`). Over
+//!   constraints it is of `check` `{"satisfied":true}`, where the rows satisfy the AIR, and of
+//!   `prove` an input of `verify` of which the relation holds.
+//! - Status 1 (`refused`): the line is `{"refused":"Memory"}`, or that of a reason to refuse the
+//!   input that the text stands for, as `is_reason` of the command has it.
 //! - Status 2 (`unreadable`): the line is `{"unreadable":"json"}` and the text isn't JSON, or the
 //!   line is that of why the JSON stands for no input.
-//! - `short`: the line of a refusal, and each line of a verifier, has at most `LINE_LEN` bytes.
+//! - `short`: the line of a refusal, and each line of a verifier and of a check, has at most
+//!   `LINE_LEN` bytes, of `circle_commands` or of `stark_commands`.
 //!
 //! A line is written so: its length is reported whatever it is; it stands at the start of the
 //! caller's line where it fits, and else the caller's line is as it was (`Line.IsWritten`).
@@ -24,6 +29,13 @@
 //! `ParametersDiffer` exactly where they have others, and a reason of `verify` only where they have
 //! these (`With.IsReasonWith`).
 //!
+//! `circle_stark_verify` takes a statement in one text, which is the caller's own, and a proof in
+//! another. They stand for an input of the command `verify` of `stark_commands`: the one for its AIR,
+//! number of rows, parameters and public values, the other for its proof (`Statement.AreTextsOf`).
+//! It returns 0 only where the relation holds of that input, and 1 only for a reason to refuse it or
+//! want of memory. Status 2 says which of the texts can't be read, `{"text":"statement",..}` or
+//! `{"text":"proof",..}`, and why.
+//!
 //! A null pointer beside a length of 0 is an empty text or line. No clause says so, since no slice
 //! has a null pointer here: the compiler passes the export a valid address instead. The scripts that
 //! call the built library test it.
@@ -31,9 +43,12 @@
 //! Its files:
 //!
 //! - In `src/`, `line.rt`: a command's result, and what is written of it. `with.rt`: the verifier's
-//!   result by the caller's parameters. `params.rt`: these.
+//!   result by the caller's parameters. `params.rt`: these. `stark.rt`: the exports over constraints.
+//!   `stark_line.rt`: what is written of their commands. `statement.rt`: the caller's statement,
+//!   read and verified with a proof. `unread.rt`: the line of one of two texts that can't be read.
 //! - In `specs/`: `Line`, what is written; `Params` and `With`, the parameters and what a verifier
-//!   returns by them.
+//!   returns by them; `Statement`, the texts of a statement and a proof, and what is written of them.
+//! - In `proofs/`: what is written of an answer, by its status.
 #![tactic(auto)]
 
 ghost use Rattle.std.specs.Prelude.{◌≡◌, ◌≤◌};
@@ -43,12 +58,17 @@ ghost use Rattle.circle_c.specs.With.{IsReasonWith, IsResultWith};
 
 mod line;
 mod params;
+mod stark;
+mod stark_line;
+mod statement;
+mod unread;
 mod with;
 
 use circle_commands::command::Command;
 use circle_commands::failure::LINE_LEN;
 use circle_commands::{prove, shape, values, verify};
 pub use params::CircleParams;
+pub use stark::{circle_stark_check, circle_stark_prove, circle_stark_verify};
 use std::alloc::Global;
 
 /// The values of polynomials on a domain, as the program's command `values` writes them.

@@ -45,8 +45,8 @@ pub(crate) fn report(answer: &Result<String, Failure>, line: &mut [u8], needed: 
     }
 }
 
-// Writes the text to the start of the line, where it fits, and reports its length.
-fn write(text: &[u8], line: &mut [u8], needed: &mut usize)
+/// Writes the text to the start of the line, where it fits, and reports its length.
+pub(crate) fn write(text: &[u8], line: &mut [u8], needed: &mut usize)
     ensures { IsWritten text.now line.old line.new needed.new }
 {
     *needed = text.len();
