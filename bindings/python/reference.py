@@ -136,7 +136,7 @@ class Sample:
             row.append(entry)
 
     def tree(self, local, following):
-        """An expression of so many columns and next columns."""
+        """An expression of `local` columns and `following` next columns."""
         while True:
             found = self.any_tree(local, following, self.rng.randint(0, 4))
             if degree(found) <= DEGREE:

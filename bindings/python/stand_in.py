@@ -1,6 +1,6 @@
 """A stand-in for the library, by which the package's own part is tested where there is no library.
 
-What it answers to the calls of the STARK comes of reference.py, of examples/verify_stark.py and of
+What it returns from the calls of the STARK comes from reference.py, examples/verify_stark.py and
 the stored proofs of examples/starks, and nothing of it from the library.
 """
 

@@ -27,7 +27,7 @@ def params(blowup, queries=2, work=0):
 
 
 def least(level, due):
-    """The least number of queries by which they leave so many bits."""
+    """The least number of queries that leave `due` bits."""
     return next(s for s in itertools.count(1) if level(s).queries >= due)
 
 

@@ -133,7 +133,7 @@ class Place:
 
 
 class Air:
-    """The constraints of a trace with so many columns, and of so many public values.
+    """The constraints of a trace, with its numbers of columns and public values.
 
     `columns` are the entries of a row, `next_columns` those of the row after it (after the last
     comes the first) and `public_values` what prover and verifier both know. Constraints are made at

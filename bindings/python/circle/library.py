@@ -34,7 +34,7 @@ class _Params(ctypes.Structure):
 
 
 def line(name: str, text: Text, room: int) -> str:
-    """The line of a call, without its newline. There is room for so many bytes at first."""
+    """The line of a call, without its newline. At first there is room for `room` bytes."""
     return _line(getattr(_library(), f"circle_{name}"), [text], room)
 
 

@@ -52,8 +52,8 @@ def bits(
     field_bits: float = FIELD_BITS,
     m: Optional[int] = None,
 ) -> Bits:
-    """The levels of claims on matrices of 2^log_n rows, at which so many values are claimed: one
-    for each column and point.
+    """The levels of claims on matrices of 2^log_n rows, at which `values` values are claimed:
+    one for each column and point.
 
     `field_bits` is the binary logarithm of the number of elements of the challenge field. Without m
     the Johnson bound is by the m that gives most. Of the proofs of work only the queries' one

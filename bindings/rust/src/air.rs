@@ -65,7 +65,7 @@ pub struct Air {
 }
 
 impl Air {
-    /// The AIR of so many columns and public values, and of no constraint yet.
+    /// An AIR of `width` columns and `num_public_values` public values, without a constraint.
     ///
     /// # Panics
     ///
@@ -411,7 +411,7 @@ pub struct Expr<'a> {
 }
 
 impl<'a> Expr<'a> {
-    /// The product of so many of the expression, and 1 of none.
+    /// The expression to the power of `exponent`. The power of 0 is 1.
     #[must_use]
     pub fn pow(self, exponent: u32) -> Self {
         let Some(first) = exponent.checked_ilog2() else {

@@ -114,7 +114,7 @@ impl<'a> Reader<'a> {
         run
     }
 
-    // The value that is next, below so many others.
+    // The value that is next, inside `depth` others.
     fn value(&mut self, depth: usize) -> Option<Value> {
         self.skip_space();
         match self.rest.chars().next()? {
