@@ -40,6 +40,20 @@ impl Sha256Challenger {
         Sha256Challenger { state: [0; 32] }
     }
 
+    /// The challenger in this state, as [`to_state`](Self::to_state) returns it.
+    pub fn from_state(state: [u8; 32]) -> Self
+        ensures { state_of result ≡ state }
+    {
+        Sha256Challenger { state }
+    }
+
+    /// The state, by which a challenger can be stored or handed on.
+    pub fn to_state(&self) -> [u8; 32]
+        ensures { result ≡ state_of self.now }
+    {
+        self.state
+    }
+
     /// Absorbs bytes.
     pub fn observe_bytes(&mut self, bytes: &[u8])
         ensures { state_of self.new ≡ absorbed (state_of self.old) bytes.now }
