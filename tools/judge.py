@@ -9,6 +9,7 @@ import tempfile
 
 from tools import kit
 from tools.mutants import Unfit
+from tools.reach import WORD, reach_below, sum_below
 from tools.sources import Source
 
 # A goal that the prover left: by a note, with the place in src/; by the line of its function; and
@@ -194,15 +195,15 @@ def sum_of_parts(workspace, name, parts):
 
 def sum_of(workspace, mutant, source):
     """What a verdict on a mutant rests on: its text, the files that it turns, its function's file,
-    the definitions of the crate, and definitions and code of those below, but for comments."""
+    the definitions of the crate, and what these can name of the crates below, but for comments."""
     given = hashlib.sha256(mutant.text.encode())
     turned = {path for path, _, _ in mutant.pairs()} | ({f"src/{source}"} if source else set())
     for path in sorted(turned):
         given.update(f"\0{path}\0{without_comments(mutant.crate_folder / path)}".encode())
-    parts = [(mutant.crate, ("specs",))]
-    parts += [(it, ("specs", "src")) for it in workspace.below(mutant.crate)[:-1]]
-    for name, folders in parts:
-        given.update(f"\0{name} {sum_of_parts(workspace, name, folders)}".encode())
+    given.update(f"\0{sum_of_parts(workspace, mutant.crate, ('specs',))}".encode())
+    _, own = reach_below(workspace, mutant.crate)
+    further = frozenset(WORD.findall(mutant.text)) - own
+    given.update(f"\0{sum_below(workspace, mutant.crate, further)}".encode())
     return given.hexdigest()[:16]
 
 
