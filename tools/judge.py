@@ -1,5 +1,4 @@
 """Has the prover try mutants, and reads from what it says which clause refuses each."""
-import functools
 import hashlib
 import os
 import pathlib
@@ -9,7 +8,7 @@ import tempfile
 
 from tools import kit
 from tools.mutants import Unfit
-from tools.reach import WORD, reach_below, sum_below
+from tools.reach import WORD, sum_reached
 from tools.sources import Source
 
 # A goal that the prover left: by a note, with the place in src/; by the line of its function; and
@@ -183,27 +182,16 @@ def without_comments(path):
     return "\n".join(it for it in lines if it.strip() and not it.lstrip().startswith(mark))
 
 
-@functools.lru_cache(maxsize=None)
-def sum_of_parts(workspace, name, parts):
-    """The sum of these folders of a crate."""
-    given = hashlib.sha256()
-    for path in workspace.sources(name, parts):
-        inside = path.relative_to(workspace.folder(name))
-        given.update(f"\0{inside}\0{without_comments(path)}".encode())
-    return given.hexdigest()
-
-
 def sum_of(workspace, mutant, source):
-    """What a verdict on a mutant rests on: its text, the files that it turns, its function's file,
-    the definitions of the crate, and what these can name of the crates below, but for comments."""
-    given = hashlib.sha256(mutant.text.encode())
+    """What a verdict on a mutant rests on: its text, the files that it turns and its function's
+    file, and what these can name of the crate and of those below it, but for comments."""
+    given, words = hashlib.sha256(mutant.text.encode()), {*WORD.findall(mutant.text)}
     turned = {path for path, _, _ in mutant.pairs()} | ({f"src/{source}"} if source else set())
     for path in sorted(turned):
-        given.update(f"\0{path}\0{without_comments(mutant.crate_folder / path)}".encode())
-    given.update(f"\0{sum_of_parts(workspace, mutant.crate, ('specs',))}".encode())
-    _, own = reach_below(workspace, mutant.crate)
-    further = frozenset(WORD.findall(mutant.text)) - own
-    given.update(f"\0{sum_below(workspace, mutant.crate, further)}".encode())
+        text = without_comments(mutant.crate_folder / path)
+        given.update(f"\0{path}\0{text}".encode())
+        words.update(WORD.findall(text))
+    given.update(f"\0{sum_reached(workspace, mutant.crate, frozenset(words))}".encode())
     return given.hexdigest()[:16]
 
 

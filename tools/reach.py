@@ -1,10 +1,10 @@
-"""What a crate can name of the crates below it, item by item.
+"""What some text of a crate can name of the crate and of those below it, item by item.
 
-An item of a file of src/ is a function's signature with its contract, whose body nothing above can
-see, or a type, a trait, an impl, a constant, a ghost member; of a file of specs/ it is what stands
-between blank lines. An item declares names, and says others. A crate reaches the items below it
-that declare a name which it says, or which an item that it reaches says. Names are compared as
-words alone, so it may reach more than it uses, and nothing less.
+An item of a file of src/ is a function's signature with its contract, whose body no other can see,
+or a type, a trait, an impl, a constant, a ghost member; of a file of specs/ it is what stands
+between blank lines. An item declares names, and says others. A text reaches the items that declare
+a name which it says, or which an item that it reaches says. Names are compared as words alone, so
+it may reach more than it uses, and nothing less.
 """
 import functools
 import hashlib
@@ -77,18 +77,15 @@ class Reach:
 
 
 @functools.lru_cache(maxsize=None)
-def reach_below(workspace, name):
-    """The items of the crates below a crate, and the words of the crate itself."""
-    texts = (it.read_text(encoding="utf-8") for it in workspace.sources(name, ("specs", "src")))
-    own = frozenset(word for text in texts for word in WORD.findall(text))
-    return Reach(workspace, workspace.below(name)[:-1]), own
+def reach_of(workspace, name):
+    """The items of a crate and of those below it."""
+    return Reach(workspace, workspace.below(name))
 
 
 @functools.lru_cache(maxsize=None)
-def sum_below(workspace, name, words):
-    """The sum of what the crate and these words reach of the crates below it."""
-    reach, own = reach_below(workspace, name)
+def sum_reached(workspace, name, words):
+    """The sum of what these words of a crate reach."""
     given = hashlib.sha256()
-    for item in reach.reached(own | words):
+    for item in reach_of(workspace, name).reached(words):
         given.update(f"\0{item.place}\0{item.text}".encode())
     return given.hexdigest()
