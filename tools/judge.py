@@ -49,9 +49,10 @@ def clause_of(goal):
 
 
 class Said:
-    """What a check said of each function of a crate, whose files have these texts."""
+    """What a check said of each function of a crate, whose files have these texts. It prints some
+    functions under other names than the paths of their files."""
 
-    def __init__(self, crate, text, texts):
+    def __init__(self, crate, text, texts, printed):
         self.told, self.goals, self.broken = {}, {}, set()
         self.lines = text.rstrip().split("\n")
         self.is_whole = re.fullmatch(r"only=\d+ proved=\d+", self.lines[-1]) is not None
@@ -63,12 +64,14 @@ class Said:
                 source = sources[note[1]]
                 self.add(source.at_line(int(note[2])), note[3])
             elif error := ERROR.match(line):
-                self.add_error(error[1].replace("/", "::").replace("::+", "::"), error[2])
+                name = error[1].replace("/", "::").replace("::+", "::")
+                self.add_error(printed.get(name, name), error[2])
             elif told := re.match(rf"fn {crate}::(\S+): (.*)", line):
-                self.told[told[1]] = told[2]
+                name = printed.get(told[1], told[1])
+                self.told[name] = told[2]
                 if untried := UNTRIED.search(told[2]):
                     for goal in re.findall("`([^`]+)`", untried[1]):
-                        self.add(told[1], goal)
+                        self.add(name, goal)
 
     def add(self, function, goal):
         goals = self.goals.setdefault(function, [])
@@ -152,11 +155,11 @@ def copy_kept(workspace, name, to):
 def judge(workspace, contracts, name, mutants, texts, kept):
     """Tries mutants of different functions at once, and yields each with its verdict. What the run
     leaves open is tried in halves."""
-    functions = [mutant.function for mutant in mutants]
+    printed = {contracts.printed(name, mutant.function): mutant.function for mutant in mutants}
     with tempfile.TemporaryDirectory(prefix="circle-mutants-") as room:
         room = pathlib.Path(room, name)
-        _, text = kit.checked(workspace, name, texts, functions, room, kept)
-        said = Said(name, text, lambda path: (room / path).read_text(encoding="utf-8"))
+        _, text = kit.checked(workspace, name, texts, printed, room, kept)
+        said = Said(name, text, lambda path: (room / path).read_text(encoding="utf-8"), printed)
     open_ones = []
     for mutant in mutants:
         verdict = said.verdict(mutant, contracts.clauses(name, mutant.function))

@@ -135,6 +135,20 @@ class Contracts:
                     return it
         return None
 
+    def printed(self, name, path):
+        """The name under which a check prints a function: that of a method begins with the module
+        that declares the type."""
+        it = self.function(name, path)
+        if it is None or not it.owner or it.owner[1] != "impl" or " for " in it.owner[2]:
+            return path
+        declares = re.compile(rf"\b(?:struct|enum)\s+{it.owner[0].partition('+')[0]}\b")
+        sources = self.sources(name)
+        for source in [sources[it.file], *sources.values()]:
+            for _, _, text, modules, _ in source.items:
+                if declares.search(text.partition("{")[0]):
+                    return "::".join([*modules, it.owner[0], it.name])
+        return path
+
     def clauses(self, name, path):
         """The names of the clauses that the function ensures: its own, those of the method of a
         trait that it implements, and the facts that its impl states of it."""
