@@ -5,15 +5,18 @@ use circle_commit::{
 use circle_field::{Field, Mersenne31};
 use circle_merkle::{MerkleTreeError, ShaMmcs, ShaProverData};
 use sha2::{Digest, Sha256};
-use std::alloc::{AllocError, Global};
+use std::alloc::Global;
 use std::fmt::InlineText;
 use std::ops::Range;
 use std::process::Abort;
-use std::test::Fail;
 
 type Hash = [u8; 32];
 
-type Opened = (OpenedRows<Mersenne31>, Vec<Hash>);
+type Matrix = RowMajorMatrix<Mersenne31>;
+
+type Rows = OpenedRows<Mersenne31>;
+
+type Data = ShaProverData<Mersenne31>;
 
 // The root over the one column 10, 11, .. 17, by Python's hashlib.
 const COLUMN_ROOT: Hash = [
@@ -67,73 +70,63 @@ const MANY_ROOT: Hash = [
     0x70, 0xb0, 0x80, 0xdd, 0x5b, 0x85, 0x9d, 0x74, 0xb6, 0x47, 0x52, 0x59, 0x5c, 0x93, 0x7a, 0x75,
 ];
 
+// Why a test ends that memory is refused.
+const MEMORY: &str = "memory is refused";
+
 fn element(value: u64) -> Mersenne31 {
     Mersenne31::from_u64(value)
 }
 
 // The matrix of this width with these entries.
-fn matrix(
-    alloc: Global,
-    values: &[u64],
-    width: usize,
-) -> Result<RowMajorMatrix<Mersenne31>, AllocError> {
-    let entries: Vec<Mersenne31> = values.iter().map(|x| element(*x)).collect(alloc)?;
-    if width == 0 || entries.len() % width != 0 {
-        return Err(AllocError);
-    }
-    Ok(RowMajorMatrix::new(entries, width))
+fn matrix(rt: &impl Abort, alloc: Global, values: &[u64], width: usize) -> Matrix {
+    let entries = values.iter().map(|x| element(*x)).collect(alloc);
+    let entries: Vec<Mersenne31> = entries.expect(rt, MEMORY);
+    assert!(rt; width >= 1 && entries.len() % width == 0);
+    RowMajorMatrix::new(entries, width)
 }
 
 // The matrices of these entries and widths.
-fn matrices(
-    alloc: Global,
-    shapes: &[(&[u64], usize)],
-) -> Result<Vec<RowMajorMatrix<Mersenne31>>, AllocError> {
+fn matrices(rt: &impl Abort, alloc: Global, shapes: &[(&[u64], usize)]) -> Vec<Matrix> {
     let mut all = Vec::new(alloc);
     for (values, width) in shapes {
-        all.push(matrix(alloc, values, *width)?)?;
+        all.push(matrix(rt, alloc, values, *width))
+            .expect(rt, MEMORY);
     }
-    Ok(all)
+    all
 }
 
-fn commit(
-    alloc: Global,
-    inputs: Vec<RowMajorMatrix<Mersenne31>>,
-) -> Result<(Hash, ShaProverData<Mersenne31>), AllocError> {
-    if inputs.is_empty() || !heights_are_powers_of_two(&inputs) {
-        return Err(AllocError);
-    }
-    ShaMmcs::<Mersenne31>::new().commit(alloc, inputs)
+// The root over matrices, and what they are opened with.
+fn commit(rt: &impl Abort, alloc: Global, inputs: Vec<Matrix>) -> (Hash, Data) {
+    assert!(rt; !inputs.is_empty() && heights_are_powers_of_two(&inputs));
+    ShaMmcs::new().commit(alloc, inputs).expect(rt, MEMORY)
 }
 
-fn open(
-    alloc: Global,
-    indices: &[usize],
-    data: &ShaProverData<Mersenne31>,
-) -> Result<Opened, AllocError> {
+// The rows of all matrices at the indices, and the digests that prove them.
+fn open(rt: &impl Abort, alloc: Global, indices: &[usize], data: &Data) -> (Rows, Vec<Hash>) {
     let mmcs = ShaMmcs::<Mersenne31>::new();
-    if indices.is_empty() || !are_below(indices, mmcs.get_max_height(data)) {
-        return Err(AllocError);
-    }
+    assert!(rt; !indices.is_empty() && are_below(indices, mmcs.get_max_height(data)));
     mmcs.open_multi_batch(alloc, indices, data)
+        .expect(rt, MEMORY)
 }
 
 // The rows of one query, each of one of these entries.
-fn rows_of(alloc: Global, entries: &[Mersenne31]) -> Result<Vec<Vec<Mersenne31>>, AllocError> {
+fn rows_of(rt: &impl Abort, alloc: Global, entries: &[Mersenne31]) -> Vec<Vec<Mersenne31>> {
     let mut rows = Vec::new(alloc);
     for entry in entries {
-        rows.push(vec![in alloc; *entry]?)?;
+        let row = vec![in alloc; *entry].expect(rt, MEMORY);
+        rows.push(row).expect(rt, MEMORY);
     }
-    Ok(rows)
+    rows
 }
 
 // The rows of the column at these places, each as the only row of its index.
-fn rows_at(alloc: Global, places: &[u64]) -> Result<OpenedRows<Mersenne31>, AllocError> {
+fn rows_at(rt: &impl Abort, alloc: Global, places: &[u64]) -> Rows {
     let mut rows = Vec::new(alloc);
     for place in places {
-        rows.push(rows_of(alloc, &[element(10) + element(*place)])?)?;
+        rows.push(rows_of(rt, alloc, &[element(10) + element(*place)]))
+            .expect(rt, MEMORY);
     }
-    Ok(rows)
+    rows
 }
 
 // The text of a verdict.
@@ -145,73 +138,65 @@ fn shown(verdict: Result<(), MerkleTreeError>) -> InlineText<64> {
 }
 
 // What is told of rows of the column.
-fn verify(
-    alloc: Global,
-    indices: &[usize],
-    rows: &OpenedRows<Mersenne31>,
-    proof: &Vec<Hash>,
-) -> InlineText<64> {
-    let dimensions = [Dimensions {
-        width: 1,
-        height: 8,
-    }];
-    shown(ShaMmcs::<Mersenne31>::new().verify_multi_batch(
-        alloc,
-        &COLUMN_ROOT,
-        &dimensions,
-        indices,
-        rows,
-        proof,
-    ))
+fn verify(alloc: Global, indices: &[usize], rows: &Rows, proof: &Vec<Hash>) -> InlineText<64> {
+    let mmcs = ShaMmcs::<Mersenne31>::new();
+    let dimensions = [column_of(8)];
+    shown(mmcs.verify_multi_batch(alloc, &COLUMN_ROOT, &dimensions, indices, rows, proof))
 }
 
 // The matrix of this width with these entries, each by one more than the one before it.
-fn counting(
-    alloc: Global,
-    entries: Range<u64>,
-    width: usize,
-) -> Result<RowMajorMatrix<Mersenne31>, AllocError> {
-    let values: Vec<u64> = entries.collect(alloc)?;
-    matrix(alloc, &values, width)
+fn counting(rt: &impl Abort, alloc: Global, entries: Range<u64>, width: usize) -> Matrix {
+    let values: Vec<u64> = entries.collect(alloc).expect(rt, MEMORY);
+    matrix(rt, alloc, &values, width)
 }
 
 // Rows of two blocks, and rows beside nodes, sixteen at a time and in what is left.
 #[test]
-fn commits_to_many_rows(rt: HostRuntime) -> Result<(), Fail> {
+fn commits_to_many_rows(rt: HostRuntime) {
     let alloc = rt.alloc();
-    let high = counting(alloc, 0..1280, 20)?;
-    let lower = counting(alloc, 5000..5032, 1)?;
-    let lowest = counting(alloc, 7000..7006, 3)?;
-    let (root, _data) = commit(alloc, vec![in alloc; high, lower, lowest]?)?;
-    assert!(rt; root == MANY_ROOT);
-    Ok(())
+    let high = counting(&rt, alloc, 0..1280, 20);
+    let lower = counting(&rt, alloc, 5000..5032, 1);
+    let lowest = counting(&rt, alloc, 7000..7006, 3);
+    let inputs = vec![in alloc; high, lower, lowest].expect(&rt, MEMORY);
+    assert!(rt; commit(&rt, alloc, inputs).0 == MANY_ROOT);
+}
+
+// Asserts the height and the number of matrices of what the column is opened with.
+fn assert_data_of_column(rt: &impl Abort, data: &Data) {
+    let mmcs = ShaMmcs::<Mersenne31>::new();
+    assert!(rt; mmcs.get_max_height(data) == 8);
+    assert!(rt; mmcs.get_matrices(data).len() == 1);
+}
+
+// Asserts the rows of the column and the digests that it is opened to, and that they are accepted.
+fn assert_opens_column(rt: &impl Abort, alloc: Global, data: &Data) {
+    let (rows, proof) = open(rt, alloc, &[7, 2, 3, 2], data);
+    assert!(rt; rows == rows_at(rt, alloc, &[7, 2, 3, 2]));
+    assert!(rt; proof.as_slice() == COLUMN_PROOF);
+    assert!(rt; verify(alloc, &[7, 2, 3, 2], &rows, &proof).as_str() == ACCEPTED);
 }
 
 #[test]
-fn opens_a_column(rt: HostRuntime) -> Result<(), Fail> {
+fn opens_a_column(rt: HostRuntime) {
     let alloc = rt.alloc();
-    let column = matrices(alloc, &[(&[10, 11, 12, 13, 14, 15, 16, 17], 1)])?;
-    let (root, data) = commit(alloc, column)?;
+    let column = matrices(&rt, alloc, &[(&[10, 11, 12, 13, 14, 15, 16, 17], 1)]);
+    let (root, data) = commit(&rt, alloc, column);
     assert!(rt; root == COLUMN_ROOT);
-    assert_eq!(rt; ShaMmcs::<Mersenne31>::new().get_max_height(&data), 8);
-    assert_eq!(rt; ShaMmcs::<Mersenne31>::new().get_matrices(&data).len(), 1);
-    let (rows, proof) = open(alloc, &[7, 2, 3, 2], &data)?;
-    assert!(rt; rows == rows_at(alloc, &[7, 2, 3, 2])?);
-    assert!(rt; proof.as_slice() == COLUMN_PROOF);
-    let told = verify(alloc, &[7, 2, 3, 2], &rows, &proof);
-    assert_eq!(rt; told.as_str(), ACCEPTED);
-    Ok(())
+    assert_data_of_column(&rt, &data);
+    assert_opens_column(&rt, alloc, &data);
 }
 
 // What is told of the rows of the column at these places, with these digests for proof.
 fn verdict(
+    rt: &impl Abort,
     alloc: Global,
     indices: &[usize],
     places: &[u64],
     proof: &[Hash],
-) -> Result<InlineText<64>, AllocError> {
-    let (rows, proof) = (rows_at(alloc, places)?, proof.to_vec(alloc)?);
-    Ok(verify(alloc, indices, &rows, &proof))
+) -> InlineText<64> {
+    let rows = rows_at(rt, alloc, places);
+    let proof = proof.to_vec(alloc).expect(rt, MEMORY);
+    verify(alloc, indices, &rows, &proof)
 }
 
 const FEWER: &[Hash] = &[LEAF, LEFT];
@@ -241,31 +226,36 @@ const CASES: &[Case] = &[
 ];
 
 #[test]
-fn refuses_what_is_changed(rt: HostRuntime) -> Result<(), Fail> {
+fn refuses_what_is_changed(rt: HostRuntime) {
     for (indices, places, proof, expected) in CASES {
-        let told = verdict(rt.alloc(), indices, places, proof)?;
-        assert_eq!(rt; told.as_str(), *expected);
+        let told = verdict(&rt, rt.alloc(), indices, places, proof);
+        assert!(rt; told.as_str() == *expected);
     }
-    Ok(())
+}
+
+// The rows of the column at 7, 2, 3, 2, the first with an element more.
+fn with_a_wide_row(rt: &impl Abort, alloc: Global) -> Rows {
+    let mut rows = rows_at(rt, alloc, &[7, 2, 3, 2]);
+    let wide = vec![in alloc; element(17), element(17)].expect(rt, MEMORY);
+    *rows.get_mut(0).expect(rt, "there are no rows") = vec![in alloc; wide].expect(rt, MEMORY);
+    rows
 }
 
 #[test]
-fn refuses_a_wide_row_before_its_index(rt: HostRuntime) -> Result<(), Fail> {
+fn refuses_a_wide_row_before_its_index(rt: HostRuntime) {
     let alloc = rt.alloc();
-    let wide = vec![in alloc; element(17), element(17)]?;
-    let mut rows = rows_at(alloc, &[7, 2, 3, 2])?;
-    *rows.get_mut(0).ok_or("no rows")? = vec![in alloc; wide]?;
-    let proof = COLUMN_PROOF.to_vec(alloc)?;
+    let rows = with_a_wide_row(&rt, alloc);
+    let proof = COLUMN_PROOF.to_vec(alloc).expect(&rt, MEMORY);
     let told = verify(alloc, &[8, 2, 3, 2], &rows, &proof);
-    assert_eq!(rt; told.as_str(), WRONG_WIDTH);
-    Ok(())
+    assert!(rt; told.as_str() == WRONG_WIDTH);
 }
 
-// What is told of the column's first row, without a proof, where matrices have this shape.
-fn shaped(alloc: Global, dimensions: &[Dimensions]) -> Result<InlineText<64>, AllocError> {
-    let (rows, none) = (rows_at(alloc, &[0])?, Vec::new(alloc));
+// Asserts that the column's first row, without a proof, is refused where matrices have this shape.
+fn assert_refused(rt: &impl Abort, alloc: Global, dimensions: &[Dimensions]) {
+    let (rows, none) = (rows_at(rt, alloc, &[0]), Vec::new(alloc));
     let mmcs = ShaMmcs::<Mersenne31>::new();
-    Ok(shown(mmcs.verify_multi_batch(alloc, &COLUMN_ROOT, dimensions, &[0], &rows, &none)))
+    let verdict = mmcs.verify_multi_batch(alloc, &COLUMN_ROOT, dimensions, &[0], &rows, &none);
+    assert!(rt; shown(verdict).as_str() == WRONG_WIDTH);
 }
 
 // The shape of one column.
@@ -274,14 +264,11 @@ const fn column_of(height: usize) -> Dimensions {
 }
 
 #[test]
-fn refuses_shapes(rt: HostRuntime) -> Result<(), Fail> {
-    let alloc = rt.alloc();
-    assert_eq!(rt; shaped(alloc, &[])?.as_str(), WRONG_WIDTH);
+fn refuses_shapes(rt: HostRuntime) {
+    assert_refused(&rt, rt.alloc(), &[]);
     for height in [3, 0] {
-        let told = shaped(alloc, &[column_of(height)])?;
-        assert_eq!(rt; told.as_str(), WRONG_WIDTH);
+        assert_refused(&rt, rt.alloc(), &[column_of(height)]);
     }
-    Ok(())
 }
 
 #[test]
@@ -316,48 +303,46 @@ const FOUR_SHAPES: [Dimensions; 4] = [
     },
 ];
 
-// How many digests prove the rows of the four matrices at the indices, and the verdict on them.
-fn reopened(
-    alloc: Global,
-    indices: &[usize],
-    data: &ShaProverData<Mersenne31>,
-) -> Result<(usize, Result<(), MerkleTreeError>), AllocError> {
-    let (rows, proof) = open(alloc, indices, data)?;
+// Asserts that the rows of the four matrices at the indices are accepted, with `count` digests for
+// proof.
+fn assert_opens(rt: &impl Abort, alloc: Global, indices: &[usize], data: &Data, count: usize) {
+    let (rows, proof) = open(rt, alloc, indices, data);
+    assert!(rt; proof.len() == count);
     let mmcs = ShaMmcs::<Mersenne31>::new();
     let verdict = mmcs.verify_multi_batch(alloc, &FOUR_ROOT, &FOUR_SHAPES, indices, &rows, &proof);
-    Ok((proof.len(), verdict))
+    assert!(rt; verdict.is_ok());
 }
 
 #[test]
-fn opens_several_heights(rt: HostRuntime) -> Result<(), Fail> {
+fn opens_several_heights(rt: HostRuntime) {
     let alloc = rt.alloc();
-    let (root, data) = commit(alloc, matrices(alloc, FOUR)?)?;
+    let (root, data) = commit(&rt, alloc, matrices(&rt, alloc, FOUR));
     assert!(rt; root == FOUR_ROOT);
     for index in 0..4 {
-        assert_eq!(rt; reopened(alloc, &[index], &data)?, (2, Ok(())));
+        assert_opens(&rt, alloc, &[index], &data, 2);
     }
-    assert_eq!(rt; reopened(alloc, &[3, 0, 1, 2], &data)?, (0, Ok(())));
-    Ok(())
+    assert_opens(&rt, alloc, &[3, 0, 1, 2], &data, 0);
+}
+
+// The rows of two indices of two matrices, both of which stand for the only row of the lower one.
+fn disagreeing_rows(rt: &impl Abort, alloc: Global) -> Rows {
+    let first = rows_of(rt, alloc, &[element(1), element(5)]);
+    let second = rows_of(rt, alloc, &[element(2), element(6)]);
+    vec![in alloc; first, second].expect(rt, MEMORY)
 }
 
 #[test]
-fn refuses_two_rows_at_one_position(rt: HostRuntime) -> Result<(), Fail> {
+fn refuses_two_rows_at_one_position(rt: HostRuntime) {
     let alloc = rt.alloc();
-    // Both indices stand for the only row of the lower matrix.
-    let rows = vec![in alloc;
-        rows_of(alloc, &[element(1), element(5)])?,
-        rows_of(alloc, &[element(2), element(6)])?,
-    ]?;
     let verdict = ShaMmcs::<Mersenne31>::new().verify_multi_batch(
         alloc,
         &COLUMN_ROOT,
         &[column_of(2), column_of(1)],
         &[1, 0],
-        &rows,
+        &disagreeing_rows(&rt, alloc),
         &Vec::new(alloc),
     );
-    assert_eq!(rt; shown(verdict).as_str(), DISAGREEING_ROWS);
-    Ok(())
+    assert!(rt; shown(verdict).as_str() == DISAGREEING_ROWS);
 }
 
 // The digest of a first byte and further pieces.
@@ -369,16 +354,20 @@ fn digest(first: u8, left: &[u8], right: &[u8]) -> Hash {
     hasher.finalize()
 }
 
+// The digest of a row of one element.
+fn leaf(x: u8) -> Hash {
+    digest(0, &[0, 0, 0], &[x])
+}
+
+// The digest of two rows with a row beside their node.
+fn node(left: u8, right: u8, beside: u8) -> Hash {
+    digest(2, &digest(1, &leaf(left), &leaf(right)), &leaf(beside))
+}
+
 #[test]
-fn the_root_by_hand(rt: HostRuntime) -> Result<(), Fail> {
+fn the_root_by_hand(rt: HostRuntime) {
     let alloc = rt.alloc();
-    let inputs = matrices(alloc, &[(&[1, 2, 3, 4], 1), (&[100, 200], 1)])?;
-    let (root, _data) = commit(alloc, inputs)?;
-    let leaf = |x: u8| digest(0, &[0, 0, 0], &[x]);
-    let low = digest(1, &leaf(1), &leaf(2));
-    let high = digest(1, &leaf(3), &leaf(4));
-    let low = digest(2, &low, &leaf(100));
-    let high = digest(2, &high, &leaf(200));
-    assert!(rt; root == digest(1, &low, &high));
-    Ok(())
+    let inputs = matrices(&rt, alloc, &[(&[1, 2, 3, 4], 1), (&[100, 200], 1)]);
+    let (root, _data) = commit(&rt, alloc, inputs);
+    assert!(rt; root == digest(1, &node(1, 2, 100), &node(3, 4, 200)));
 }
