@@ -1,5 +1,5 @@
 //! Tests of the crate. What is expected of SHA-256 and of texts was computed apart from this code.
-ghost use Rattle.std.specs.Prelude.{◌≡◌, [], ◌∷◌, IfOk, map};
+ghost use Rattle.std.specs.Prelude.{◌≡◌, ◌≤◌, [], ◌∷◌, map};
 ghost use Rattle.circle_field.specs.Field.{of_nat};
 ghost use Rattle.circle_challenger.specs.Interaction.{step_of};
 ghost use Rattle.circle_challenger.specs.Played.{opaque_message};
@@ -12,12 +12,15 @@ use circle_challenger::{
 };
 use circle_field::{Cubic, ExtensionField, Field, Mersenne31};
 use runs::Drawn;
-use std::alloc::{AllocError, Global};
+use std::alloc::Global;
 use std::process::Abort;
-use std::test::Fail;
+use test_schemes::expect;
 
 mod runs;
 mod wrapped;
+
+/// Why a test ends that memory is refused.
+const MEMORY: &str = "memory is refused";
 
 fn element(n: u64) -> Mersenne31 {
     Mersenne31::from_u64(n)
@@ -30,7 +33,12 @@ fn cubic(a: u64, b: u64, c: u64) -> Cubic {
 /// Asserts the next element that is drawn.
 fn assert_next(rt: &impl Abort, challenger: &mut Sha256Challenger, expected: u64) {
     let next: Mersenne31 = challenger.sample();
-    assert_eq!(rt; next, element(expected));
+    expect!(rt; next == element(expected));
+}
+
+/// Asserts an element.
+fn assert_element(rt: &impl Abort, found: Mersenne31, expected: u64) {
+    expect!(rt; found == element(expected));
 }
 
 /// The first element that is drawn after these elements are absorbed.
@@ -58,27 +66,32 @@ fn after_bytes(bytes: &[u8]) -> Mersenne31 {
 
 #[test]
 fn the_sponge_is_the_digests_of_its_states(rt: HostRuntime) {
-    for (found, expected) in [
-        (after_elements(&[]), 887805594),
-        (after_elements(&[-Mersenne31::ONE, element(5)]), 1443688485),
-        (after_commitment([7; 32]), 563722081),
-        (after_bytes(b"abc"), 990172798),
-    ] {
-        assert_eq!(rt; found, element(expected));
-    }
+    assert_element(&rt, after_elements(&[]), 887805594);
+    assert_element(
+        &rt,
+        after_elements(&[-Mersenne31::ONE, element(5)]),
+        1443688485,
+    );
+    assert_element(&rt, after_commitment([7; 32]), 563722081);
+    assert_element(&rt, after_bytes(b"abc"), 990172798);
+}
+
+/// Asserts the next element of the extension that is drawn.
+fn assert_next_of_extension(rt: &impl Abort, challenger: &mut Sha256Challenger, expected: Cubic) {
+    let next: Cubic = challenger.sample_algebra_element();
+    expect!(rt; next == expected);
 }
 
 #[test]
 fn elements_of_the_extension_are_their_coefficients_in_order(rt: HostRuntime) {
-    let mut challenger = Sha256Challenger::new();
-    let first: Cubic = challenger.sample_algebra_element();
-    assert!(rt; first == cubic(887805594, 2008966348, 1680214714));
+    let expected = cubic(887805594, 2008966348, 1680214714);
+    assert_next_of_extension(&rt, &mut Sha256Challenger::new(), expected);
 
     let mut challenger = Sha256Challenger::new();
     challenger.observe_algebra_element(&cubic(1, 2, 3));
     challenger.observe_algebra_slice(&[cubic(4, 5, 6), cubic(7, 8, 9)]);
-    let next: Cubic = challenger.sample_algebra_element();
-    assert!(rt; next == cubic(942657691, 510228239, 1162152177));
+    let expected = cubic(942657691, 510228239, 1162152177);
+    assert_next_of_extension(&rt, &mut challenger, expected);
 }
 
 #[test]
@@ -92,27 +105,34 @@ fn numbers_are_drawn_from_the_states(rt: HostRuntime) {
         (31, 1934231230),
         (63, 33323379293894408),
     ] {
-        assert_eq!(rt; challenger.sample_bits(bits), number, "{bits} bits");
+        expect!(rt; challenger.sample_bits(bits) == number);
     }
 }
 
 #[test]
 fn grinding_without_a_difficulty_changes_nothing(rt: HostRuntime) {
     let mut challenger = Sha256Challenger::new();
-    assert_eq!(rt; challenger.grind(0), Some(Mersenne31::ZERO));
-    assert!(rt; challenger.check_witness(0, element(9)));
-    assert!(rt; challenger == Sha256Challenger::new());
+    expect!(rt; challenger.grind(0) == Some(Mersenne31::ZERO));
+    expect!(rt; challenger.check_witness(0, element(9)));
+    expect!(rt; challenger == Sha256Challenger::new());
+}
+
+/// Asserts the witness that a search finds, and that a verifier that tests it is left alike.
+fn assert_least_witness(rt: &impl Abort, bits: usize, witness: Mersenne31)
+    requires { bits ≤ 63 }
+{
+    let mut prover = Sha256Challenger::new();
+    expect!(rt; prover.grind(bits) == Some(witness));
+    let mut verifier = Sha256Challenger::new();
+    expect!(rt; verifier.check_witness(bits, witness));
+    expect!(rt; prover == verifier);
 }
 
 #[test]
 fn grinding_finds_the_least_witness(rt: HostRuntime) {
-    for (bits, witness) in [(1, 3), (8, 312), (12, 6094)] {
-        let mut prover = Sha256Challenger::new();
-        assert_eq!(rt; prover.grind(bits), Some(element(witness)), "{bits} bits");
-        let mut verifier = Sha256Challenger::new();
-        assert!(rt; verifier.check_witness(bits, element(witness)));
-        assert!(rt; prover == verifier);
-    }
+    assert_least_witness(&rt, 1, element(3));
+    assert_least_witness(&rt, 8, element(312));
+    assert_least_witness(&rt, 12, element(6094));
 }
 
 #[test]
@@ -121,36 +141,50 @@ fn grinding_and_a_miss_change_the_state(rt: HostRuntime) {
     let _ = challenger.grind(8);
     assert_next(&rt, &mut challenger, 1493963882);
     let mut challenger = Sha256Challenger::new();
-    assert!(rt; !challenger.check_witness(8, Mersenne31::ZERO));
+    expect!(rt; !challenger.check_witness(8, Mersenne31::ZERO));
     assert_next(&rt, &mut challenger, 862777544);
 }
 
 /// Asserts what a run draws, and its witness.
 fn assert_drawn(rt: &impl Abort, drawn: &Drawn) {
-    assert_eq!(rt; drawn.witness, element(4));
-    assert!(rt; drawn.alpha == cubic(435491986, 1509700079, 614995509));
-    assert!(rt; drawn.indices.as_slice() == [3, 1].as_slice());
+    expect!(rt; drawn.witness == element(4));
+    expect!(rt; drawn.alpha == cubic(435491986, 1509700079, 614995509));
+    expect!(rt; drawn.indices.as_slice() == [3, 1].as_slice());
+}
+
+/// The witness of the prover's run, whose draws are asserted.
+fn proved_witness(rt: &impl Abort, alloc: Global, prover: &mut Sha256Challenger) -> Mersenne31 {
+    let drawn = runs::prove(rt, alloc, prover).expect(rt, "no witness");
+    assert_drawn(rt, &drawn);
+    drawn.witness
+}
+
+/// Asserts what the verifier's run with a witness draws.
+fn assert_verified(
+    rt: &impl Abort,
+    alloc: Global,
+    verifier: &mut Sha256Challenger,
+    witness: Mersenne31,
+) {
+    let drawn = runs::verify(rt, alloc, verifier, witness).expect(rt, "a miss");
+    assert_drawn(rt, &drawn);
 }
 
 #[test]
-fn both_sides_draw_alike(rt: HostRuntime) -> Result<(), Fail> {
+fn both_sides_draw_alike(rt: HostRuntime) {
     let mut prover = Sha256Challenger::new();
-    let proved = runs::prove(rt.alloc(), &mut prover)?.ok_or("no witness")?;
-    assert_drawn(&rt, &proved);
+    let witness = proved_witness(&rt, rt.alloc(), &mut prover);
     let mut verifier = Sha256Challenger::new();
-    let verified = runs::verify(rt.alloc(), &mut verifier, proved.witness)?.ok_or("a miss")?;
-    assert_drawn(&rt, &verified);
-    assert!(rt; verifier == prover);
+    assert_verified(&rt, rt.alloc(), &mut verifier, witness);
+    expect!(rt; verifier == prover);
     assert_next(&rt, &mut verifier, 2031691190);
-    Ok(())
 }
 
 #[test]
-fn another_witness_misses(rt: HostRuntime) -> Result<(), Fail> {
+fn another_witness_misses(rt: HostRuntime) {
     let mut verifier = Sha256Challenger::new();
-    let verified = runs::verify(rt.alloc(), &mut verifier, Mersenne31::ZERO)?;
-    assert!(rt; verified.is_none());
-    Ok(())
+    let verified = runs::verify(&rt, rt.alloc(), &mut verifier, Mersenne31::ZERO);
+    expect!(rt; verified.is_none());
 }
 
 /// A transcript of one message, at any challenger.
@@ -173,18 +207,18 @@ where
 }
 
 /// The separator of a transcript of this one step.
-fn of_one_step(alloc: Global, step: Interaction) -> Result<DomainSeparator, AllocError>
-    ensures { IfOk result (λ s. s.steps ≡ step_of step ∷ []) }
+fn of_one_step(rt: &impl Abort, alloc: Global, step: Interaction) -> DomainSeparator
+    ensures { result.steps ≡ step_of step ∷ [] }
 {
-    let steps = vec![in alloc; step]?;
-    DomainSeparator::new(alloc, 1, "one", InteractionPattern::new(steps))
+    let steps = vec![in alloc; step].expect(rt, MEMORY);
+    DomainSeparator::new(alloc, 1, "one", InteractionPattern::new(steps)).expect(rt, MEMORY)
 }
 
 #[test]
-fn a_value_is_taken_in_as_it_is(rt: HostRuntime) -> Result<(), Fail> {
+fn a_value_is_taken_in_as_it_is(rt: HostRuntime) {
     let label = "message";
     let step = Interaction::opaque(Hierarchy::Atomic, Kind::Message, label, Length::Scalar);
-    let separator = of_one_step(rt.alloc(), step)?;
+    let separator = of_one_step(&rt, rt.alloc(), step);
     let mut challenger = Sha256Challenger::new();
     one_message::<Mersenne31, Sha256Challenger, [u8; 32]>(
         &mut challenger,
@@ -193,21 +227,20 @@ fn a_value_is_taken_in_as_it_is(rt: HostRuntime) -> Result<(), Fail> {
         &[7; 32],
     );
     assert_next(&rt, &mut challenger, 478777721);
-    Ok(())
 }
 
 #[test]
-fn a_transcript_goes_on_after_a_pause(rt: HostRuntime) -> Result<(), Fail> {
+fn a_transcript_goes_on_after_a_pause(rt: HostRuntime) {
     let label = "draw";
     let step = Interaction::algebra(Hierarchy::Atomic, Kind::Challenge, label, 3, Length::Scalar);
-    let separator = of_one_step(rt.alloc(), step)?;
+    let separator = of_one_step(&rt, rt.alloc(), step);
     let mut challenger = Sha256Challenger::new();
     let (value, drawn) = wrapped::one_draw::<Cubic, Mersenne31, Sha256Challenger>(
         &mut challenger,
         &separator,
         label,
     );
-    assert!(rt; value == cubic(1668035039, 2137457899, 218258125) && drawn == 1);
+    expect!(rt; value == cubic(1668035039, 2137457899, 218258125));
+    expect!(rt; drawn == 1);
     assert_next(&rt, &mut challenger, 2047373211);
-    Ok(())
 }

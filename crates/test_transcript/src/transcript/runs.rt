@@ -8,13 +8,14 @@ use circle_transcript::{
     CircleMessages, CirclePcsShape, CircleTranscriptFailure, CircleVerifierTranscript, prover_run,
 };
 use std::alloc::Global;
-use std::test::Fail;
+use std::process::Abort;
+use test_schemes::expect;
 
 /// The challenge that batches the claim of one value at the point of this coordinate of the
 /// projective line.
-fn batching_challenge(alloc: Global, t: u64, value: u64) -> Result<Cubic, Fail> {
-    let point = Point::from_projective_line(cubic(t, 0, 0)).ok_or("no point")?;
-    let shape = shape(alloc, 0, NONE)?;
+fn batching_challenge(rt: &impl Abort, alloc: Global, t: u64, value: u64) -> Cubic {
+    let point = Point::from_projective_line(cubic(t, 0, 0)).expect(rt, "no point");
+    let shape = shape(rt, alloc, 0, NONE);
     let values = [cubic(value, 0, 0)];
     let claims = [(point, values.as_slice())];
     let commitments: [[u8; 32]; 0] = [];
@@ -26,20 +27,20 @@ fn batching_challenge(alloc: Global, t: u64, value: u64) -> Result<Cubic, Fail> 
         final_poly: final_poly.as_slice(),
     };
     let run = prover_run(alloc, &mut challenger, shape, claims.as_slice(), &messages);
-    let (draws, _) = run.map_err(|_| "no run")?;
-    Ok(draws.alpha)
+    run.expect(rt, "no run").0.alpha
+}
+
+/// Asserts the challenge that batches a claim.
+fn assert_challenge(rt: &impl Abort, alloc: Global, (t, value): (u64, u64), expected: Cubic) {
+    expect!(rt; batching_challenge(rt, alloc, t, value) == expected);
 }
 
 #[test]
-fn points_and_values_reach_the_batching_challenge(rt: HostRuntime) -> Result<(), Fail> {
-    for (t, value, challenge) in [
-        (3, 1, cubic(1208970606, 512735008, 1302233800)),
-        (5, 1, cubic(560701732, 2107374228, 1877160621)),
-        (3, 2, cubic(1814986885, 521455366, 1016938663)),
-    ] {
-        assert_eq!(rt; batching_challenge(rt.alloc(), t, value)?, challenge);
-    }
-    Ok(())
+fn points_and_values_reach_the_batching_challenge(rt: HostRuntime) {
+    let alloc = rt.alloc();
+    assert_challenge(&rt, alloc, (3, 1), cubic(1208970606, 512735008, 1302233800));
+    assert_challenge(&rt, alloc, (5, 1), cubic(560701732, 2107374228, 1877160621));
+    assert_challenge(&rt, alloc, (3, 2), cubic(1814986885, 521455366, 1016938663));
 }
 
 /// What the verifier draws in the first phase of a transcript that is abandoned then.
@@ -60,7 +61,7 @@ fn abandoned(
 fn an_abandoned_transcript_gives_the_challenger_back(rt: HostRuntime) {
     let mut challenger = Sha256Challenger::new();
     let drawn = abandoned(rt.alloc(), &mut challenger);
-    assert!(rt; drawn == Ok(cubic(1618322056, 275400548, 1748926505)));
+    expect!(rt; drawn == Ok(cubic(1618322056, 275400548, 1748926505)));
     let next: Mersenne31 = challenger.sample();
-    assert_eq!(rt; next, element(1257372603));
+    expect!(rt; next == element(1257372603));
 }
