@@ -21,14 +21,30 @@ use std::io::Read;
 use traces::{Trace, items};
 
 fn main(rt: HostRuntime) -> Result<()> {
+    let input = input(&rt)?;
+    report_traces(&rt, items(&input, "traces")?)?;
+    report_over_127(&rt, items(&input, "over_127")?)
+}
+
+// The value that is read.
+fn input(rt: &HostRuntime) -> Result<Value> {
     let mut text = Vec::new(rt.alloc());
     rt.stdin().read_to_end(&mut text)?;
-    let input = Value::from_slice(rt.alloc(), &text)?;
-    for object in items(&input, "traces")? {
-        report::report(&rt, &mut Trace::read(rt.alloc(), object)?)?;
+    Ok(Value::from_slice(rt.alloc(), &text)?)
+}
+
+// Prints the lines of each trace.
+fn report_traces(rt: &HostRuntime, objects: &[Value]) -> Result<()> {
+    for object in objects {
+        report::report(rt, &mut Trace::read(rt.alloc(), object)?)?;
     }
-    for object in items(&input, "over_127")? {
-        bound::report(&rt, object)?;
+    Ok(())
+}
+
+// Prints the lines of columns and chunks over the field of 127 elements.
+fn report_over_127(rt: &HostRuntime, objects: &[Value]) -> Result<()> {
+    for object in objects {
+        bound::report(rt, object)?;
     }
     Ok(())
 }

@@ -1,8 +1,8 @@
 //! The lines of a trace.
-use crate::opened::{composed, recomposed, vanishing_at};
-use crate::statement::{Domain, Rows, values_at};
+use crate::opened::{Opened, composed, recomposed, vanishing_at};
+use crate::statement::{Domain, Rows, chunks_at};
 use crate::traces::Trace;
-use anyhow::{Result, bail};
+use anyhow::{Context, Result, bail};
 use circle_commit::Matrix;
 use circle_field::{Cubic, Mersenne31};
 use circle_json::JsonForm;
@@ -44,8 +44,13 @@ fn print_line<T: JsonForm>(rt: &HostRuntime, name: &str, what: &str, value: &T) 
 
 // Prints what the constraints read at the trace's point, and what they come to.
 fn report_columns(rt: &HostRuntime, trace: &Trace) -> Result<()> {
+    let opened = trace.statement.opened(rt.alloc(), trace.zeta)?;
+    report_opened(rt, trace, &opened)
+}
+
+// Prints what is opened at the trace's point, and what the constraints come to with it.
+fn report_opened(rt: &HostRuntime, trace: &Trace, opened: &Opened<Cubic>) -> Result<()> {
     let (name, statement, zeta) = (trace.name, &trace.statement, trace.zeta);
-    let opened = statement.opened(rt.alloc(), zeta)?;
     print_line(rt, name, "next_of_zeta", &statement.next_of(zeta)?)?;
     print_line(rt, name, "trace_local", &opened.local)?;
     print_line(rt, name, "trace_next", &opened.next)?;
@@ -54,7 +59,7 @@ fn report_columns(rt: &HostRuntime, trace: &Trace) -> Result<()> {
     print_line(rt, name, "is_first_row_at_zeta", &selectors.is_first_row)?;
     print_line(rt, name, "is_last_row_at_zeta", &selectors.is_last_row)?;
     print_line(rt, name, "is_transition_at_zeta", &selectors.is_transition)?;
-    let composition = composed(rt.alloc(), &statement.air, &opened, trace.alpha)?;
+    let composition = composed(rt.alloc(), &statement.air, opened, trace.alpha)?;
     print_line(rt, name, "composition_at_zeta", &composition)
 }
 
@@ -67,41 +72,69 @@ fn rows_of(alloc: Global, matrix: &Rows) -> Result<Vec<Vec<Mersenne31>>, AllocEr
     Ok(rows)
 }
 
-// The vanishing polynomial of a trace's domain at the first points of its quotient's parts, and the
-// rows there.
-fn parts_of(
+// The vanishing polynomial of a trace's domain at the first points of its quotient's parts.
+fn vanishing_of_parts(
     alloc: Global,
     log_n: usize,
     chunks: &[(Domain, Rows)],
-) -> Result<(Vec<Mersenne31>, Vec<Vec<Vec<Mersenne31>>>)> {
+) -> Result<Vec<Mersenne31>> {
     if log_n == 0 {
         bail!("there is a single row");
     }
-    let (mut vanishing, mut rows) = (Vec::new(alloc), Vec::new(alloc));
-    for (domain, chunk) in chunks {
+    let mut vanishing = Vec::with_capacity(alloc, chunks.len())?;
+    for (domain, _) in chunks {
         vanishing.push(domain.shift().v_n(log_n))?;
+    }
+    Ok(vanishing)
+}
+
+// The rows of each chunk.
+fn rows_of_chunks(
+    alloc: Global,
+    chunks: &[(Domain, Rows)],
+) -> Result<Vec<Vec<Vec<Mersenne31>>>, AllocError> {
+    let mut rows = Vec::with_capacity(alloc, chunks.len())?;
+    for (_, chunk) in chunks {
         rows.push(rows_of(alloc, chunk)?)?;
     }
-    Ok((vanishing, rows))
+    Ok(rows)
+}
+
+// Prints the vanishing polynomial on the quotient's parts, and its chunks.
+fn report_chunks(rt: &HostRuntime, trace: &Trace, chunks: &[(Domain, Rows)]) -> Result<()> {
+    let vanishing = vanishing_of_parts(rt.alloc(), trace.statement.log_n, chunks)?;
+    print_line(rt, trace.name, "vanishing_of_parts", &vanishing)?;
+    print_line(
+        rt,
+        trace.name,
+        "chunks",
+        &rows_of_chunks(rt.alloc(), chunks)?,
+    )
 }
 
 // Prints the quotient's values, its chunks, and what these come to at the trace's point.
 fn report_quotient(rt: &HostRuntime, trace: &Trace) -> Result<()> {
-    let (alloc, name, statement) = (rt.alloc(), trace.name, &trace.statement);
-    let log_num_chunks = statement.air.log_num_quotient_chunks();
-    let values = statement.quotient(alloc, log_num_chunks, trace.alpha)?;
-    print_line(rt, name, "quotient_values", &values)?;
-    let chunks = statement.chunks(alloc, log_num_chunks, values)?;
-    let (vanishing, rows) = parts_of(alloc, statement.log_n, &chunks)?;
-    print_line(rt, name, "vanishing_of_parts", &vanishing)?;
-    print_line(rt, name, "chunks", &rows)?;
-    let mut at_zeta = Vec::new(alloc);
-    for (domain, chunk) in chunks {
-        at_zeta.push(values_at(alloc, domain, chunk, trace.zeta)?)?;
-    }
-    print_line(rt, name, "quotient_chunks_at_zeta", &at_zeta)?;
-    let quotient = recomposed::<Mersenne31, Cubic>(alloc, statement.log_n, &at_zeta, trace.zeta)?;
-    print_line(rt, name, "recomposition_at_zeta", &quotient)
+    let log_num_chunks = trace.statement.air.log_num_quotient_chunks();
+    let values = trace
+        .statement
+        .quotient(rt.alloc(), log_num_chunks, trace.alpha)?;
+    print_line(rt, trace.name, "quotient_values", &values)?;
+    let chunks = trace.statement.chunks(rt.alloc(), log_num_chunks, values)?;
+    report_chunks(rt, trace, &chunks)?;
+    report_recomposition(rt, trace, chunks)
+}
+
+// Prints the chunks at the trace's point, and what they come to there.
+fn report_recomposition(
+    rt: &HostRuntime,
+    trace: &Trace,
+    chunks: Vec<(Domain, Rows)>,
+) -> Result<()> {
+    let (log_n, zeta) = (trace.statement.log_n, trace.zeta);
+    let at_zeta = chunks_at(rt.alloc(), chunks, zeta)?;
+    print_line(rt, trace.name, "quotient_chunks_at_zeta", &at_zeta)?;
+    let quotient = recomposed::<Mersenne31, Cubic>(rt.alloc(), log_n, &at_zeta, zeta)?;
+    print_line(rt, trace.name, "recomposition_at_zeta", &quotient)
 }
 
 // Prints both sides of the identity at the trace's point.
@@ -151,22 +184,18 @@ fn report_multiple(rt: &HostRuntime, trace: &mut Trace) -> Result<()> {
 // Prints for some places whether the identity holds with another entry there.
 fn report_changes(rt: &HostRuntime, trace: &mut Trace) -> Result<()> {
     for place in CHANGED {
-        let rows = trace.statement.rows.try_clone(rt.alloc())?;
-        trace.statement.change(rt.alloc(), place, residue(OTHER)?)?;
+        let entry = trace.statement.change(rt.alloc(), place, residue(OTHER)?)?;
         let same = trace.holds(rt.alloc())?;
         println!(rt;
             "{} with entry {place} changed: identity {same}",
             trace.name
         )?;
-        trace.statement.rows = rows;
+        trace.statement.change(rt.alloc(), place, entry)?;
     }
     Ok(())
 }
 
 // The element of a residue.
 fn residue(number: u32) -> Result<Mersenne31> {
-    match Mersenne31::try_new(number) {
-        Some(element) => Ok(element),
-        None => bail!("{number} is no residue"),
-    }
+    Mersenne31::try_new(number).context("the number is no residue")
 }

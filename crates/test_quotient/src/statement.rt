@@ -1,7 +1,7 @@
 //! A trace under an AIR: its columns' values at a point, its quotient and what that comes to.
 use crate::opened::{Opened, composed, recomposed, vanishing_at};
 use crate::periods::are_periods_short;
-use anyhow::{Result, bail};
+use anyhow::{Context, Result, bail};
 use circle_air::Air;
 use circle_commit::{LagrangeSelectors, Matrix, PolynomialSpace, RowMajorMatrix, is_power_of_two};
 use circle_domain::CircleDomain;
@@ -50,6 +50,19 @@ pub fn values_at(alloc: Global, domain: Domain, rows: Rows, zeta: Cubic) -> Resu
     }
     let evaluations = CircleEvaluations::from_natural_order(domain, rows);
     Ok(evaluations.evaluate_at_point(alloc, point)?)
+}
+
+/// The values of chunks on their domains at the point of `zeta`.
+pub fn chunks_at(
+    alloc: Global,
+    chunks: Vec<(Domain, Rows)>,
+    zeta: Cubic,
+) -> Result<Vec<Vec<Cubic>>> {
+    let mut values = Vec::with_capacity(alloc, chunks.len())?;
+    for (domain, chunk) in chunks {
+        values.push(values_at(alloc, domain, chunk, zeta)?)?;
+    }
+    Ok(values)
 }
 
 // Appends the entries of a row, with `more` added to the first.
@@ -123,18 +136,17 @@ impl Statement {
         }
     }
 
-    /// Puts another entry at a place of the rows.
-    pub fn change(&mut self, alloc: Global, place: usize, entry: Mersenne31) -> Result<()> {
+    /// Puts another entry at a place of the rows, and returns the old one.
+    pub fn change(&mut self, alloc: Global, place: usize, entry: Mersenne31) -> Result<Mersenne31> {
         let mut values = Vec::from_slice(alloc, self.rows.values())?;
-        let Some(old) = values.get_mut(place) else {
+        let Some(changed) = values.get_mut(place) else {
             bail!("there are fewer entries");
         };
-        *old = entry;
-        match Rows::try_new(values, self.air.width()) {
-            Some(rows) => self.rows = rows,
-            None => bail!("the rows don't fit the AIR"),
-        }
-        Ok(())
+        let old = *changed;
+        *changed = entry;
+        let rows = Rows::try_new(values, self.air.width());
+        self.rows = rows.context("the rows don't fit the AIR")?;
+        Ok(old)
     }
 
     /// The coordinate of the next point.
@@ -142,20 +154,18 @@ impl Statement {
         if self.log_n == 0 || self.log_n > MAX_LOG_N {
             bail!("the number of rows is out of range");
         }
-        match is_fit::<Mersenne31, Cubic>(self.log_n, zeta) {
-            Some(next) => Ok(next),
-            None => bail!("the point isn't fit"),
-        }
+        is_fit::<Mersenne31, Cubic>(self.log_n, zeta).context("the point isn't fit")
     }
 
     /// What the constraints read at a point.
     pub fn opened(&self, alloc: Global, zeta: Cubic) -> Result<Opened<Cubic>> {
+        let next = self.next_of(zeta)?;
         Ok(Opened {
+            selectors: self.selectors_at(zeta)?,
             local: self.columns_at(alloc, zeta)?,
-            next: self.columns_at(alloc, self.next_of(zeta)?)?,
+            next: self.columns_at(alloc, next)?,
             periodic: self.periodic_at(alloc, zeta)?,
             public_values: lifted(alloc, &self.public_values)?,
-            selectors: self.selectors_at(zeta)?,
         })
     }
 
@@ -174,10 +184,7 @@ impl Statement {
         let evaluations = CircleEvaluations::from_natural_order(domain, rows);
         let natural = evaluations.extrapolate(alloc, target)?.to_natural_order();
         let values = self.with_multiple(alloc, target, &natural)?;
-        match Rows::try_new(values, natural.width()) {
-            Some(rows) => Ok(rows),
-            None => bail!("the rows differ in length"),
-        }
+        Rows::try_new(values, natural.width()).context("the rows differ in length")
     }
 
     // The entries of rows on a domain, with the multiple of the vanishing polynomial added to the
@@ -209,26 +216,37 @@ impl Statement {
         log_num_chunks: usize,
         alpha: Cubic,
     ) -> Result<Vec<Cubic>> {
-        let (air, log_n) = (&self.air, self.log_n);
         let rows = self.extended_rows(alloc, log_num_chunks)?;
-        if log_n == 0 || log_n > MAX_LOG_N {
-            bail!("the number of rows is out of range");
+        self.quotient_of(alloc, &rows, log_num_chunks, alpha)
+    }
+
+    // The quotient's values, where the columns have these values on its domain.
+    fn quotient_of(
+        &self,
+        alloc: Global,
+        rows: &Rows,
+        log_num_chunks: usize,
+        alpha: Cubic,
+    ) -> Result<Vec<Cubic>> {
+        let (air, log_n, height) = (&self.air, self.log_n, self.rows.height());
+        if log_n == 0
+            || log_n > MAX_LOG_N
+            || log_num_chunks == 0
+            || log_num_chunks > MAX_LOG_CHUNKS
+        {
+            bail!("the sizes are out of range");
         }
-        if log_num_chunks == 0 || log_num_chunks > MAX_LOG_CHUNKS {
-            bail!("the number of chunks is out of range");
+        if rows.height() != 1 << (log_n + log_num_chunks)
+            || rows.width() != air.width()
+            || self.public_values.len() != air.num_public_values()
+        {
+            bail!("the rows or the public values don't fit the AIR");
         }
-        if rows.height() != 1 << (log_n + log_num_chunks) || rows.width() != air.width() {
-            bail!("the rows don't fit the AIR");
-        }
-        if self.public_values.len() != air.num_public_values() {
-            bail!("the public values don't fit the AIR");
-        }
-        let height = self.rows.height();
         if height != 1 << log_n || !are_periods_short(air, height) {
             bail!("a periodic column is too long");
         }
         let trace = ExtendedTrace {
-            rows: &rows,
+            rows,
             log_n,
             log_num_chunks,
             public_values: &self.public_values,
@@ -264,10 +282,7 @@ impl Statement {
     ) -> Result<(Cubic, Cubic)> {
         let constraints = composed(alloc, &self.air, &self.opened(alloc, zeta)?, alpha)?;
         let values = self.quotient(alloc, log_num_chunks, alpha)?;
-        let mut at_zeta = Vec::new(alloc);
-        for (domain, chunk) in self.chunks(alloc, log_num_chunks, values)? {
-            at_zeta.push(values_at(alloc, domain, chunk, zeta)?)?;
-        }
+        let at_zeta = chunks_at(alloc, self.chunks(alloc, log_num_chunks, values)?, zeta)?;
         let quotient = recomposed::<Mersenne31, Cubic>(alloc, self.log_n, &at_zeta, zeta)?;
         Ok((constraints, vanishing_at(self.log_n, zeta)? * quotient))
     }
@@ -280,10 +295,9 @@ impl Statement {
         log_num_chunks: usize,
         alpha: Cubic,
     ) -> Result<bool> {
+        let domain = Domain::try_standard(self.log_n.saturating_add(log_num_chunks));
+        let domain = domain.context("the group is too small")?;
         let values = self.quotient(alloc, log_num_chunks, alpha)?;
-        let Some(domain) = Domain::try_standard(self.log_n.saturating_add(log_num_chunks)) else {
-            bail!("the group is too small");
-        };
         for (i, value) in values.iter().enumerate() {
             if !self.has_value_at(alloc, domain, i, *value, alpha)? {
                 return Ok(false);
@@ -302,12 +316,10 @@ impl Statement {
         value: Cubic,
         alpha: Cubic,
     ) -> Result<bool> {
-        let Some(point) = domain.try_nth_point(index) else {
-            bail!("there are more values than points");
-        };
-        let Some(coordinate) = point.to_projective_line() else {
-            bail!("a point of the domain is at infinity");
-        };
+        let point = domain.try_nth_point(index);
+        let point = point.context("there are more values than points")?;
+        let coordinate = point.to_projective_line();
+        let coordinate = coordinate.context("a point of the domain is at infinity")?;
         let zeta = Cubic::from_base(coordinate);
         let constraints = composed(alloc, &self.air, &self.opened(alloc, zeta)?, alpha)?;
         Ok(constraints == vanishing_at(self.log_n, zeta)? * value)

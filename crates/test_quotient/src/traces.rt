@@ -1,7 +1,8 @@
 //! Traces, read from JSON.
 use crate::statement::{Rows, Statement};
-use anyhow::{Result, bail};
+use anyhow::{Context, Result, bail};
 use circle_air::{Air, AirParts};
+use circle_commit::Matrix;
 use circle_field::{Cubic, Field, Mersenne31};
 use circle_json::member;
 use serde_json::Value;
@@ -19,23 +20,12 @@ pub struct Trace<'a> {
 impl<'a> Trace<'a> {
     /// The trace that an object stands for.
     pub fn read(alloc: Global, object: &'a Value) -> Result<Trace<'a>> {
-        let Some(name) = object.get("name").and_then(|name| name.as_str()) else {
-            bail!("a trace has no name");
-        };
-        let parts: AirParts<Mersenne31> = member(alloc, object, "air")?;
-        let rows: Vec<Vec<Mersenne31>> = member(alloc, object, "rows")?;
-        let statement = Statement {
-            air: Air::try_new(alloc, parts)?,
-            public_values: member(alloc, object, "public_values")?,
-            log_n: rows.len().trailing_zeros() as usize,
-            rows: matrix(alloc, &rows)?,
-            multiple: Mersenne31::ZERO,
-        };
+        let name = object.get("name").and_then(Value::as_str);
         Ok(Trace {
-            name,
-            statement,
+            name: name.context("a trace has no name")?,
             alpha: member(alloc, object, "alpha")?,
             zeta: member(alloc, object, "zeta")?,
+            statement: statement(alloc, object)?,
         })
     }
 
@@ -57,25 +47,34 @@ impl<'a> Trace<'a> {
     }
 }
 
-// The matrix of these rows.
-fn matrix(alloc: Global, rows: &[Vec<Mersenne31>]) -> Result<Rows> {
-    let mut entries = Vec::new(alloc);
-    for row in rows {
-        entries.extend_from_slice(row)?;
-    }
-    let width = match rows.first() {
-        Some(row) => row.len(),
-        None => 1,
-    };
-    match Rows::try_new(entries, width) {
-        Some(rows) => Ok(rows),
-        None => bail!("the rows differ in length"),
-    }
+// The statement that an object stands for.
+fn statement(alloc: Global, object: &Value) -> Result<Statement> {
+    let rows = matrix(alloc, object)?;
+    Ok(Statement {
+        log_n: rows.height().trailing_zeros() as usize,
+        rows,
+        public_values: member(alloc, object, "public_values")?,
+        air: air(alloc, object)?,
+        multiple: Mersenne31::ZERO,
+    })
+}
+
+// The AIR of an object.
+fn air(alloc: Global, object: &Value) -> Result<Air<Mersenne31>> {
+    let parts: AirParts<Mersenne31> = member(alloc, object, "air")?;
+    Ok(Air::try_new(alloc, parts)?)
+}
+
+// The matrix of an object's rows.
+fn matrix(alloc: Global, object: &Value) -> Result<Rows> {
+    let rows: Vec<Vec<Mersenne31>> = member(alloc, object, "rows")?;
+    let width = rows.first().map_or(1, Vec::len);
+    Rows::try_new(rows.concat(alloc)?, width).context("the rows differ in length")
 }
 
 /// The items of an object's list.
 pub fn items<'a>(object: &'a Value, key: &str) -> Result<&'a [Value]> {
-    match object.get(key).and_then(|list| list.as_array()) {
+    match object.get(key).and_then(Value::as_array) {
         Some(list) => Ok(list.as_slice()),
         None => bail!("there is no list {key}"),
     }
