@@ -1,13 +1,13 @@
 //! Cases of AIRs: their digests, and those of `circle_airs` with a trace, as inputs of `check`.
 ghost use Rattle.std.specs.Prelude.{◌≤◌};
 
-use crate::given::rows_of;
+use crate::given::{read, rows_of, told};
 use anyhow::{Result, bail};
 use circle_air::{Air, AirParts};
 use circle_airs::permutation::{STATE_LEN, State};
 use circle_airs::{Trace, fibonacci_air, fibonacci_trace, permutation_air, permutation_trace};
 use circle_field::Mersenne31;
-use circle_json::{JsonForm, member, put_member};
+use circle_json::{JsonForm, put_member};
 use serde_json::{Map, Value, json, put};
 use std::alloc::{AllocError, Global};
 
@@ -26,12 +26,12 @@ pub fn answer(alloc: Global, call: &str, given: &Value) -> Result<Option<Value>>
 
 // The AIR of the parts with the key `air`.
 fn air(alloc: Global, given: &Value) -> Result<Air<Mersenne31>> {
-    let parts: AirParts<Mersenne31> = member(alloc, given, "air")?;
+    let parts: AirParts<Mersenne31> = read(alloc, given, "air")?;
     Ok(Air::try_new(alloc, parts)?)
 }
 
 fn digest(alloc: Global, given: &Value) -> Result<Value> {
-    Ok(air(alloc, given)?.digest().to_json(alloc)?)
+    told(alloc, &air(alloc, given)?.digest())
 }
 
 // The greatest degree of a constraint, and the logarithm of the number of chunks.
@@ -58,15 +58,15 @@ fn copy_member<T: JsonForm + Drop>(
     given: &Value,
     key: &str,
 ) -> Result<()> {
-    let value: T = member(alloc, given, key)?;
+    let value: T = read(alloc, given, key)?;
     put_member(alloc, members, key, &value)?;
     Ok(())
 }
 
 fn fibonacci(alloc: Global, given: &Value) -> Result<Value> {
-    let first: Mersenne31 = member(alloc, given, "first")?;
-    let second: Mersenne31 = member(alloc, given, "second")?;
-    let height: usize = member(alloc, given, "height")?;
+    let first: Mersenne31 = read(alloc, given, "first")?;
+    let second: Mersenne31 = read(alloc, given, "second")?;
+    let height: usize = read(alloc, given, "height")?;
     if height == 0 {
         bail!("there are no rows");
     }
@@ -77,12 +77,12 @@ fn fibonacci(alloc: Global, given: &Value) -> Result<Value> {
 // The input of `check` that has this trace.
 fn of_fibonacci(alloc: Global, trace: &Trace<Mersenne31>) -> Result<Value> {
     let air = fibonacci_air(alloc)?;
-    Ok(input(alloc, &air, trace)?)
+    input(alloc, &air, trace)
 }
 
 fn permutation(alloc: Global, given: &Value) -> Result<Value> {
-    let first: Vec<Mersenne31> = member(alloc, given, "first")?;
-    let height: usize = member(alloc, given, "height")?;
+    let first: Vec<Mersenne31> = read(alloc, given, "first")?;
+    let height: usize = read(alloc, given, "height")?;
     match first.first_chunk::<STATE_LEN>() {
         Some(state) if height != 0 => of_permutation(alloc, state, height),
         _ => bail!("there is no state, or there are no rows"),
@@ -95,15 +95,11 @@ fn of_permutation(alloc: Global, state: &State, height: usize) -> Result<Value>
 {
     let trace = permutation_trace(alloc, state, height)?;
     let air = permutation_air(alloc)?;
-    Ok(input(alloc, &air, &trace)?)
+    input(alloc, &air, &trace)
 }
 
 // The input of `check` that has this AIR and this trace.
-fn input(
-    alloc: Global,
-    air: &Air<Mersenne31>,
-    trace: &Trace<Mersenne31>,
-) -> Result<Value, AllocError> {
+fn input(alloc: Global, air: &Air<Mersenne31>, trace: &Trace<Mersenne31>) -> Result<Value> {
     let mut members = Map::new(alloc);
     put_air(alloc, &mut members, air)?;
     put_member(alloc, &mut members, "public_values", &trace.public_values)?;

@@ -1,15 +1,14 @@
 //! Cases of domains.
 use crate::given::{
     Domain, Rows, check_size, coordinates, domain, maybe, maybe_coordinates, object_of_two,
-    point_off, rows_of, rows_on,
+    point_off, read, rows_of, rows_on, told,
 };
-use anyhow::{Result, bail};
+use anyhow::{Context, Result, bail};
 use circle_commit::{LagrangeSelectors, PolynomialSpace, is_power_of_two};
 use circle_field::{Cubic, Mersenne31};
-use circle_json::{JsonForm, member};
 use circle_plane::Point;
 use serde_json::{Map, Value, put};
-use std::alloc::{AllocError, Global};
+use std::alloc::Global;
 
 /// What a call of this kind returns, or none where the call is of another kind.
 pub fn answer(alloc: Global, call: &str, given: &Value) -> Result<Option<Value>> {
@@ -59,37 +58,37 @@ fn points(alloc: Global, domain: Domain) -> Result<Value> {
 
 // The coordinates of the point at a place, or null where there is none.
 fn nth_point(alloc: Global, domain: Domain, given: &Value) -> Result<Value> {
-    let index: usize = member(alloc, given, "index")?;
-    Ok(maybe_coordinates(alloc, domain.try_nth_point(index))?)
+    let index: usize = read(alloc, given, "index")?;
+    maybe_coordinates(alloc, domain.try_nth_point(index))
 }
 
 fn next_point(alloc: Global, domain: Domain, given: &Value) -> Result<Value> {
-    let t: Mersenne31 = member(alloc, given, "t")?;
+    let t: Mersenne31 = read(alloc, given, "t")?;
     check_size(domain)?;
-    Ok(maybe(alloc, domain.next_point(t))?)
+    maybe(alloc, domain.next_point(t))
 }
 
 // The binary logarithm of the other domain's size.
 fn disjoint(alloc: Global, domain: Domain, given: &Value) -> Result<Value> {
-    let min_size: usize = member(alloc, given, "min_size")?;
+    let min_size: usize = read(alloc, given, "min_size")?;
     check_size(domain)?;
     match domain.try_create_disjoint_domain(min_size) {
-        Some(other) => Ok(other.log_n().to_json(alloc)?),
+        Some(other) => told(alloc, &other.log_n()),
         None => Ok(Value::Null),
     }
 }
 
 // The sizes' logarithms and the first points of the parts.
 fn split_domains(alloc: Global, domain: Domain, given: &Value) -> Result<Value> {
-    let count: usize = member(alloc, given, "count")?;
-    let mut told = Vec::new(alloc);
+    let count: usize = read(alloc, given, "count")?;
+    let mut all = Vec::new(alloc);
     for part in &parts(alloc, domain, count)? {
-        told.push(part_of(alloc, *part)?)?;
+        all.push(part_of(alloc, *part)?)?;
     }
-    Ok(Value::from(told))
+    Ok(Value::from(all))
 }
 
-fn part_of(alloc: Global, part: Domain) -> Result<Value, AllocError> {
+fn part_of(alloc: Global, part: Domain) -> Result<Value> {
     let shift = coordinates(alloc, part.shift())?;
     object_of_two(
         alloc,
@@ -111,28 +110,28 @@ fn parts(alloc: Global, domain: Domain, count: usize) -> Result<Vec<Domain>> {
 
 // The rows of the parts.
 fn split_evals(alloc: Global, domain: Domain, given: &Value) -> Result<Value> {
-    let count: usize = member(alloc, given, "count")?;
+    let count: usize = read(alloc, given, "count")?;
     if domain.log_n() > 31 || !is_power_of_two(count) || count > domain.size() / 2 {
         bail!("there are no such parts");
     }
     let rows = rows_on(alloc, domain, given)?;
-    Ok(rows_of_each(alloc, &domain.split_evals(alloc, count, rows)?)?)
+    rows_of_each(alloc, &domain.split_evals(alloc, count, rows)?)
 }
 
-fn rows_of_each(alloc: Global, parts: &[Rows]) -> Result<Value, AllocError> {
-    let mut told = Vec::new(alloc);
+fn rows_of_each(alloc: Global, parts: &[Rows]) -> Result<Value> {
+    let mut all = Vec::new(alloc);
     for part in parts {
-        told.push(rows_of(alloc, part)?)?;
+        all.push(rows_of(alloc, part)?)?;
     }
-    Ok(Value::from(told))
+    Ok(Value::from(all))
 }
 
 fn vanishing(alloc: Global, domain: Domain, given: &Value) -> Result<Value> {
-    let t: Mersenne31 = member(alloc, given, "t")?;
+    let t: Mersenne31 = read(alloc, given, "t")?;
     if domain.log_n() == 0 || Point::from_projective_line(t).is_none() {
         bail!("the point is at infinity, or the domain has one point");
     }
-    Ok(domain.vanishing_poly_at_point(t).to_json(alloc)?)
+    told(alloc, &domain.vanishing_poly_at_point(t))
 }
 
 // The selectors at a coordinate in the field.
@@ -140,35 +139,33 @@ fn selectors(alloc: Global, domain: Domain, given: &Value) -> Result<Value> {
     if domain.log_n() > 31 || !domain.is_genuine() {
         bail!("the domain is not genuine");
     }
-    let t: Mersenne31 = member(alloc, given, "t")?;
-    let Some(at) = Point::from_projective_line(t) else {
-        bail!("the point is at infinity");
-    };
+    let t: Mersenne31 = read(alloc, given, "t")?;
+    let at = Point::from_projective_line(t).context("the point is at infinity")?;
     if !domain.is_clear_of(at) {
         bail!("the domain is not clear of the point");
     }
-    Ok(selectors_of(alloc, &domain.selectors_at_point(t))?)
+    selectors_of(alloc, &domain.selectors_at_point(t))
 }
 
-fn selectors_of(alloc: Global, row: &LagrangeSelectors<Mersenne31>) -> Result<Value, AllocError> {
+fn selectors_of(alloc: Global, row: &LagrangeSelectors<Mersenne31>) -> Result<Value> {
     let named = [
         ("is_first_row", row.is_first_row),
         ("is_last_row", row.is_last_row),
         ("is_transition", row.is_transition),
         ("inv_vanishing", row.inv_vanishing),
     ];
-    let mut told = Map::new(alloc);
+    let mut members = Map::new(alloc);
     for (key, selector) in &named {
-        put(&mut told, alloc, *key, selector.to_json(alloc)?)?;
+        put(&mut members, alloc, *key, told(alloc, selector)?)?;
     }
-    Ok(Value::Object(told))
+    Ok(Value::Object(members))
 }
 
 // The value of the only polynomial with these values on a standard domain.
 fn value_at(alloc: Global, domain: Domain, given: &Value) -> Result<Value> {
-    let t: Cubic = member(alloc, given, "t")?;
-    let evals: Vec<Mersenne31> = member(alloc, given, "evals")?;
-    Ok(value_of(alloc, domain, &evals, t)?.to_json(alloc)?)
+    let t: Cubic = read(alloc, given, "t")?;
+    let evals: Vec<Mersenne31> = read(alloc, given, "evals")?;
+    told(alloc, &value_of(alloc, domain, &evals, t)?)
 }
 
 fn value_of(alloc: Global, domain: Domain, evals: &[Mersenne31], t: Cubic) -> Result<Cubic> {
@@ -176,9 +173,7 @@ fn value_of(alloc: Global, domain: Domain, evals: &[Mersenne31], t: Cubic) -> Re
     if !domain.is_standard() {
         bail!("the domain is not standard");
     }
-    let Some(at) = Point::from_projective_line(t) else {
-        bail!("the point is at infinity");
-    };
+    let at = Point::from_projective_line(t).context("the point is at infinity")?;
     if !domain.is_clear_of(at) || evals.len() != domain.size() {
         bail!("the domain is not clear of the point, or there is not one value for each point");
     }
@@ -187,14 +182,13 @@ fn value_of(alloc: Global, domain: Domain, evals: &[Mersenne31], t: Cubic) -> Re
 
 // The value of a periodic column of at most one entry.
 fn short_column_at(alloc: Global, domain: Domain, given: &Value) -> Result<Value> {
-    let t: Cubic = member(alloc, given, "t")?;
-    let column: Vec<Mersenne31> = member(alloc, given, "column")?;
+    let t: Cubic = read(alloc, given, "t")?;
+    let column: Vec<Mersenne31> = read(alloc, given, "column")?;
     if column.len() > 1 {
         bail!("the column has more than one entry");
     }
-    Ok(
-        domain
-            .evaluate_periodic_column_at(alloc, &column, t)?
-            .to_json(alloc)?,
+    told(
+        alloc,
+        &domain.evaluate_periodic_column_at(alloc, &column, t)?,
     )
 }

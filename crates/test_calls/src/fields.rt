@@ -1,10 +1,10 @@
 //! Cases of operations of a field: the type's name, a space, and the operation's.
 ghost use Rattle.std.specs.Prelude.{◌≢◌, All, IsTrue};
 
-use crate::given::maybe;
+use crate::given::{maybe, read, told};
 use anyhow::{Result, bail};
 use circle_field::{Cubic, Field, Mersenne31, batch_multiplicative_inverse};
-use circle_json::{JsonForm, member};
+use circle_json::JsonForm;
 use serde_json::Value;
 use std::alloc::Global;
 
@@ -23,7 +23,7 @@ fn of_field<F: Field + JsonForm>(alloc: Global, operation: &str, given: &Value) 
     match operation {
         "powers" => powers::<F>(alloc, given),
         "batch_multiplicative_inverse" => inverses::<F>(alloc, given),
-        _ => Ok(maybe(alloc, element::<F>(alloc, operation, given)?)?),
+        _ => maybe(alloc, element::<F>(alloc, operation, given)?),
     }
 }
 
@@ -33,11 +33,11 @@ fn element<F: Field + JsonForm>(
     operation: &str,
     given: &Value,
 ) -> Result<Option<F>> {
-    let a: F = member(alloc, given, "a")?;
+    let a: F = read(alloc, given, "a")?;
     match operation {
-        "+" | "-" | "*" => Ok(Some(of_two(operation, a, member(alloc, given, "b")?))),
+        "+" | "-" | "*" => Ok(Some(of_two(operation, a, read(alloc, given, "b")?))),
         "exp_u64" | "mul_2exp_u64" | "div_2exp_u64" => {
-            Ok(Some(with_number(operation, a, member(alloc, given, "n")?)))
+            Ok(Some(with_number(operation, a, read(alloc, given, "n")?)))
         }
         _ => of_one(operation, a),
     }
@@ -75,15 +75,15 @@ fn with_number<F: Field>(operation: &str, a: F, n: u64) -> F {
 
 // The first powers of an element.
 fn powers<F: Field + JsonForm>(alloc: Global, given: &Value) -> Result<Value> {
-    let a: F = member(alloc, given, "a")?;
-    let count: usize = member(alloc, given, "n")?;
-    Ok(F::powers(alloc, a, count)?.to_json(alloc)?)
+    let a: F = read(alloc, given, "a")?;
+    let count: usize = read(alloc, given, "n")?;
+    told(alloc, &F::powers(alloc, a, count)?)
 }
 
 // The inverses of elements.
 fn inverses<F: Field + JsonForm>(alloc: Global, given: &Value) -> Result<Value> {
-    let elements: Vec<F> = member(alloc, given, "elements")?;
-    Ok(inverses_of(alloc, &elements)?.to_json(alloc)?)
+    let elements: Vec<F> = read(alloc, given, "elements")?;
+    told(alloc, &inverses_of(alloc, &elements)?)
 }
 
 fn inverses_of<F: Field>(alloc: Global, elements: &[F]) -> Result<Vec<F>> {

@@ -1,14 +1,13 @@
 //! Cases of quotients, lambdas, folds and final polynomials over the cubic extension.
 ghost use Rattle.std.specs.Prelude.{◌≡◌, ◌≤◌, ◌^◌, IfOk};
 
-use crate::given::{matrix, maybe, object_of_two, pair, point, point_off};
+use crate::given::{matrix, maybe, object_of_two, pair, point, point_off, read, told};
 use anyhow::{Result, bail};
 use circle_commit::{Matrix, RowMajorMatrix, is_power_of_two};
 use circle_field::{Cubic, Field, Mersenne31};
 use circle_folding::{
     deep_quotient_reduce_row, extract_lambda, fold_x, fold_x_row, fold_y, x_interpolate, x_value,
 };
-use circle_json::{JsonForm, member};
 use circle_plane::Point;
 use serde_json::Value;
 use std::alloc::Global;
@@ -28,12 +27,12 @@ pub fn answer(alloc: Global, call: &str, given: &Value) -> Result<Option<Value>>
 }
 
 fn quotient(alloc: Global, given: &Value) -> Result<Value> {
-    let alpha: Cubic = member(alloc, given, "alpha")?;
+    let alpha: Cubic = read(alloc, given, "alpha")?;
     let x = point(alloc, given, "x")?;
     let zeta = point_off(alloc, given)?;
-    let row: Vec<Mersenne31> = member(alloc, given, "row")?;
-    let values: Vec<Cubic> = member(alloc, given, "values")?;
-    Ok(maybe(alloc, reduced(alloc, alpha, x, zeta, &row, &values)?)?)
+    let row: Vec<Mersenne31> = read(alloc, given, "row")?;
+    let values: Vec<Cubic> = read(alloc, given, "values")?;
+    maybe(alloc, reduced(alloc, alpha, x, zeta, &row, &values)?)
 }
 
 fn reduced(
@@ -72,10 +71,11 @@ fn log_of(length: usize) -> Result<usize>
 
 // Lambda, and what is left of the codeword.
 fn lambda(alloc: Global, given: &Value) -> Result<Value> {
-    let log_blowup: usize = member(alloc, given, "log_blowup")?;
-    let mut word: Vec<Cubic> = member(alloc, given, "word")?;
-    let lambda = extracted(alloc, &mut word, log_blowup)?.to_json(alloc)?;
-    Ok(object_of_two(alloc, ("lambda", lambda), ("word", word.to_json(alloc)?))?)
+    let log_blowup: usize = read(alloc, given, "log_blowup")?;
+    let mut word: Vec<Cubic> = read(alloc, given, "word")?;
+    let lambda = extracted(alloc, &mut word, log_blowup)?;
+    let lambda = told(alloc, &lambda)?;
+    object_of_two(alloc, ("lambda", lambda), ("word", told(alloc, &word)?))
 }
 
 fn extracted(alloc: Global, word: &mut [Cubic], log_blowup: usize) -> Result<Cubic> {
@@ -88,9 +88,9 @@ fn extracted(alloc: Global, word: &mut [Cubic], log_blowup: usize) -> Result<Cub
 
 // What a fold returns for all rows.
 fn folded(alloc: Global, call: &str, given: &Value) -> Result<Value> {
-    let beta: Cubic = member(alloc, given, "beta")?;
+    let beta: Cubic = read(alloc, given, "beta")?;
     let rows = matrix(alloc, given, "rows")?;
-    Ok(fold(alloc, call, beta, &rows)?.to_json(alloc)?)
+    told(alloc, &fold(alloc, call, beta, &rows)?)
 }
 
 fn fold(
@@ -111,29 +111,30 @@ fn fold(
 }
 
 fn row_by_x(alloc: Global, given: &Value) -> Result<Value> {
-    let index: usize = member(alloc, given, "index")?;
-    let log_height: usize = member(alloc, given, "log_folded_height")?;
+    let index: usize = read(alloc, given, "index")?;
+    let log_height: usize = read(alloc, given, "log_folded_height")?;
     if log_height > 8 || index >= 1 << log_height {
         bail!("there is no such row");
     }
-    let beta: Cubic = member(alloc, given, "beta")?;
+    let beta: Cubic = read(alloc, given, "beta")?;
     let row = pair(alloc, given, "row")?;
-    Ok(fold_x_row::<Mersenne31, Cubic>(index, log_height, 1, beta, row).to_json(alloc)?)
+    let folded = fold_x_row::<Mersenne31, Cubic>(index, log_height, 1, beta, row);
+    told(alloc, &folded)
 }
 
 fn value(alloc: Global, given: &Value) -> Result<Value> {
-    let x: Mersenne31 = member(alloc, given, "x")?;
-    let coefficients: Vec<Cubic> = member(alloc, given, "coefficients")?;
+    let x: Mersenne31 = read(alloc, given, "x")?;
+    let coefficients: Vec<Cubic> = read(alloc, given, "coefficients")?;
     if !is_power_of_two(coefficients.len()) {
         bail!("the number of coefficients is no power of two");
     }
-    Ok(x_value(&coefficients, x).to_json(alloc)?)
+    told(alloc, &x_value(&coefficients, x))
 }
 
 fn coefficients(alloc: Global, given: &Value) -> Result<Value> {
-    let log_len: usize = member(alloc, given, "log_len")?;
-    let word: Vec<Cubic> = member(alloc, given, "word")?;
-    Ok(maybe(alloc, interpolated(alloc, &word, log_len)?)?)
+    let log_len: usize = read(alloc, given, "log_len")?;
+    let word: Vec<Cubic> = read(alloc, given, "word")?;
+    maybe(alloc, interpolated(alloc, &word, log_len)?)
 }
 
 fn interpolated(alloc: Global, word: &[Cubic], log_len: usize) -> Result<Option<Vec<Cubic>>> {

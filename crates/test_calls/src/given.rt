@@ -2,21 +2,31 @@
 ghost use Rattle.std.specs.Prelude.{◌≡◌, IfOk};
 ghost use Rattle.circle_commit.specs.RowMajorMatrix.{height_of};
 
-use anyhow::{Result, bail};
+use anyhow::{Context, Result, bail};
 use circle_commit::{Matrix, PolynomialSpace, RowMajorMatrix};
 use circle_field::{Cubic, Field, Mersenne31};
 use circle_json::{JsonForm, member};
 use circle_plane::{CircleDomain, Point};
 use serde_json::{Map, Value, put};
-use std::alloc::{AllocError, Global};
+use std::alloc::Global;
 
 pub type Domain = CircleDomain<Mersenne31>;
 
 pub type Rows = RowMajorMatrix<Mersenne31>;
 
+/// What the member with this key stands for.
+pub fn read<T: JsonForm>(alloc: Global, given: &Value, key: &str) -> Result<T> {
+    Ok(member(alloc, given, key)?)
+}
+
+/// The form of a value.
+pub fn told<T: JsonForm>(alloc: Global, value: &T) -> Result<Value> {
+    Ok(value.to_json(alloc)?)
+}
+
 /// The pair with this key.
 pub fn pair<F: Field + JsonForm>(alloc: Global, given: &Value, key: &str) -> Result<[F; 2]> {
-    let elements: Vec<F> = member(alloc, given, key)?;
+    let elements: Vec<F> = read(alloc, given, key)?;
     match elements.as_slice() {
         [first, second] => Ok([*first, *second]),
         _ => bail!("{key} is no pair"),
@@ -34,23 +44,17 @@ pub fn point(alloc: Global, given: &Value, key: &str) -> Result<Point<Mersenne31
 
 /// The point over the cubic extension of the coordinate `t` of the projective line.
 pub fn point_off(alloc: Global, given: &Value) -> Result<Point<Cubic>> {
-    let t: Cubic = member(alloc, given, "t")?;
-    match Point::from_projective_line(t) {
-        Some(point) => Ok(point),
-        None => bail!("the square of t is -1"),
-    }
+    let t: Cubic = read(alloc, given, "t")?;
+    Point::from_projective_line(t).context("the square of t is -1")
 }
 
 /// The domain of an object: of `log_n` and a `shift`, or the standard one of `log_n`.
 fn domain_of(alloc: Global, value: &Value) -> Result<Domain> {
-    let log_n: usize = member(alloc, value, "log_n")?;
+    let log_n: usize = read(alloc, value, "log_n")?;
     if value.get("shift").is_some() {
         return Ok(CircleDomain::new(log_n, point(alloc, value, "shift")?));
     }
-    match CircleDomain::try_standard(log_n) {
-        Some(domain) => Ok(domain),
-        None => bail!("the group has no standard domain of this size"),
-    }
+    CircleDomain::try_standard(log_n).context("the group has no standard domain of this size")
 }
 
 /// Refuses a domain that has not 2 to 2^31 points.
@@ -78,12 +82,10 @@ pub fn matrix<F: Field + JsonForm>(
     given: &Value,
     key: &str,
 ) -> Result<RowMajorMatrix<F>> {
-    let rows: Vec<Vec<F>> = member(alloc, given, key)?;
+    let rows: Vec<Vec<F>> = read(alloc, given, key)?;
     let width = rows.first().map_or(0, Vec::len);
-    match RowMajorMatrix::try_new(rows.concat(alloc)?, width) {
-        Some(matrix) => Ok(matrix),
-        None => bail!("{key} are no rows, or rows of other lengths"),
-    }
+    let matrix = RowMajorMatrix::try_new(rows.concat(alloc)?, width);
+    matrix.context("there are no rows, or rows of other lengths")
 }
 
 /// The rows with the key `rows`, one for each point of a domain.
@@ -99,10 +101,7 @@ pub fn rows_on(alloc: Global, domain: Domain, given: &Value) -> Result<Rows>
 }
 
 /// The rows of a matrix.
-pub fn rows_of<F: Field + JsonForm, M: Matrix<F>>(
-    alloc: Global,
-    matrix: &M,
-) -> Result<Value, AllocError> {
+pub fn rows_of<F: Field + JsonForm, M: Matrix<F>>(alloc: Global, matrix: &M) -> Result<Value> {
     let mut rows = Vec::new(alloc);
     for r in 0..matrix.height() {
         rows.push(list_of(alloc, matrix.row(r))?)?;
@@ -111,26 +110,23 @@ pub fn rows_of<F: Field + JsonForm, M: Matrix<F>>(
 }
 
 /// The list of some elements.
-pub fn list_of<F: Field + JsonForm>(alloc: Global, elements: &[F]) -> Result<Value, AllocError> {
-    Vec::from_slice(alloc, elements)?.to_json(alloc)
+pub fn list_of<F: Field + JsonForm>(alloc: Global, elements: &[F]) -> Result<Value> {
+    told(alloc, &Vec::from_slice(alloc, elements)?)
 }
 
 /// The coordinates of a point.
-pub fn coordinates<F: Field + JsonForm>(
-    alloc: Global,
-    point: Point<F>,
-) -> Result<Value, AllocError> {
+pub fn coordinates<F: Field + JsonForm>(alloc: Global, point: Point<F>) -> Result<Value> {
     let mut coordinates = Vec::with_capacity(alloc, 2)?;
     coordinates.push(point.x())?;
     coordinates.push(point.y())?;
-    coordinates.to_json(alloc)
+    told(alloc, &coordinates)
 }
 
 /// The coordinates of a point, or null where there is none.
 pub fn maybe_coordinates<F: Field + JsonForm>(
     alloc: Global,
     point: Option<Point<F>>,
-) -> Result<Value, AllocError> {
+) -> Result<Value> {
     match point {
         Some(point) => coordinates(alloc, point),
         None => Ok(Value::Null),
@@ -138,11 +134,7 @@ pub fn maybe_coordinates<F: Field + JsonForm>(
 }
 
 /// The object of two members.
-pub fn object_of_two(
-    alloc: Global,
-    first: (&str, Value),
-    second: (&str, Value),
-) -> Result<Value, AllocError> {
+pub fn object_of_two(alloc: Global, first: (&str, Value), second: (&str, Value)) -> Result<Value> {
     let mut members = Map::new(alloc);
     put(&mut members, alloc, first.0, first.1)?;
     put(&mut members, alloc, second.0, second.1)?;
@@ -150,9 +142,9 @@ pub fn object_of_two(
 }
 
 /// A value, or null where there is none.
-pub fn maybe<T: JsonForm + Drop>(alloc: Global, value: Option<T>) -> Result<Value, AllocError> {
+pub fn maybe<T: JsonForm + Drop>(alloc: Global, value: Option<T>) -> Result<Value> {
     match value {
-        Some(value) => value.to_json(alloc),
+        Some(value) => told(alloc, &value),
         None => Ok(Value::Null),
     }
 }

@@ -1,8 +1,8 @@
 //! Cases of points and of the transform's order.
-use crate::given::{coordinates, list_of, maybe, maybe_coordinates, point, point_off};
+use crate::given::{coordinates, list_of, maybe, maybe_coordinates, point, point_off, read, told};
 use anyhow::{Result, bail};
 use circle_field::{Cubic, Field, Mersenne31};
-use circle_json::{JsonForm, member};
+use circle_json::JsonForm;
 use circle_plane::{Neutral, Point, cfft_permute_index};
 use serde_json::Value;
 use std::alloc::Global;
@@ -30,7 +30,7 @@ pub fn answer(alloc: Global, call: &str, given: &Value) -> Result<Option<Value>>
 
 // The coordinates of what an operator returns.
 fn operator(alloc: Global, call: &str, given: &Value) -> Result<Value> {
-    Ok(coordinates(alloc, sum(alloc, call, given)?)?)
+    coordinates(alloc, sum(alloc, call, given)?)
 }
 
 // What an operator returns.
@@ -39,28 +39,28 @@ fn sum(alloc: Global, call: &str, given: &Value) -> Result<Circle> {
     Ok(match call {
         "Point +" => p + point(alloc, given, "q")?,
         "Point -" => p - point(alloc, given, "q")?,
-        "Point *" => p * member::<usize>(alloc, given, "n")?,
+        "Point *" => p * read::<usize>(alloc, given, "n")?,
         "Point double" => p.double(),
         _ => -p,
     })
 }
 
 fn repeated_double(alloc: Global, given: &Value) -> Result<Value> {
-    let n: usize = member(alloc, given, "n")?;
-    Ok(coordinates(alloc, point(alloc, given, "p")?.repeated_double(n))?)
+    let n: usize = read(alloc, given, "n")?;
+    coordinates(alloc, point(alloc, given, "p")?.repeated_double(n))
 }
 
 fn generator(alloc: Global, given: &Value) -> Result<Value> {
-    let n: usize = member(alloc, given, "n")?;
+    let n: usize = read(alloc, given, "n")?;
     if n > 31 {
         bail!("the group has no generator of this order");
     }
-    Ok(coordinates(alloc, Circle::generator(n))?)
+    coordinates(alloc, Circle::generator(n))
 }
 
 fn is_on_circle(alloc: Global, given: &Value) -> Result<Value> {
-    let x: Mersenne31 = member(alloc, given, "x")?;
-    let y: Mersenne31 = member(alloc, given, "y")?;
+    let x: Mersenne31 = read(alloc, given, "x")?;
+    let y: Mersenne31 = read(alloc, given, "y")?;
     Ok(Value::Bool(Circle::is_on_circle(x, y)))
 }
 
@@ -73,18 +73,18 @@ fn from_line(alloc: Global, given: &Value) -> Result<Value> {
 }
 
 fn of_coordinate<F: Field + JsonForm>(alloc: Global, given: &Value) -> Result<Value> {
-    let t: F = member(alloc, given, "t")?;
-    Ok(maybe_coordinates(alloc, Point::from_projective_line(t))?)
+    let t: F = read(alloc, given, "t")?;
+    maybe_coordinates(alloc, Point::from_projective_line(t))
 }
 
 fn to_line(alloc: Global, given: &Value) -> Result<Value> {
-    Ok(maybe(alloc, point(alloc, given, "p")?.to_projective_line())?)
+    maybe(alloc, point(alloc, given, "p")?.to_projective_line())
 }
 
 // The value at a point of what vanishes on subgroups of these sizes.
 fn vanishing(alloc: Global, call: &str, given: &Value) -> Result<Value> {
     let p = point(alloc, given, "p")?;
-    let n: usize = member(alloc, given, "n")?;
+    let n: usize = read(alloc, given, "n")?;
     if n == 0 || n > 31 {
         bail!("n is not among 1 to 31");
     }
@@ -93,7 +93,7 @@ fn vanishing(alloc: Global, call: &str, given: &Value) -> Result<Value> {
         "Point::v_n_prod" => p.v_n_prod(n),
         _ => p.s_p_at_p(n),
     };
-    Ok(value.to_json(alloc)?)
+    told(alloc, &value)
 }
 
 // The parts of the vanishing function of a point, at a point over the extension or at one of the
@@ -102,20 +102,20 @@ fn vanishing_parts(alloc: Global, given: &Value) -> Result<Value> {
     let p = point(alloc, given, "p")?;
     if given.get("at").is_some() {
         let (re, im) = p.v_p(point(alloc, given, "at")?);
-        return Ok(list_of(alloc, &[re, im])?);
+        return list_of(alloc, &[re, im]);
     }
     let (re, im) = p.v_p(point_off(alloc, given)?);
-    Ok(list_of(alloc, &[re, im])?)
+    list_of(alloc, &[re, im])
 }
 
 fn permuted(alloc: Global, given: &Value) -> Result<Value> {
-    let index: usize = member(alloc, given, "index")?;
-    let log_n: usize = member(alloc, given, "log_n")?;
+    let index: usize = read(alloc, given, "index")?;
+    let log_n: usize = read(alloc, given, "log_n")?;
     if log_n > 62 {
         bail!("log_n is above 62");
     }
     if index >= 1 << log_n {
         bail!("the index is none of the domain's");
     }
-    Ok(cfft_permute_index(index, log_n).to_json(alloc)?)
+    told(alloc, &cfft_permute_index(index, log_n))
 }

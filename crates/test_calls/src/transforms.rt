@@ -4,19 +4,19 @@ ghost use Rattle.circle_commit.specs.Matrix.{IsPowerOfTwo};
 ghost use Rattle.circle_commit.specs.RowMajorMatrix.{height_of};
 
 use crate::given::{
-    Domain, Rows, check_size, domain, list_of, matrix, object_of_two, point, point_off, rows_of,
-    rows_on,
+    Domain, Rows, check_size, domain, list_of, matrix, object_of_two, point, point_off, read,
+    rows_of, rows_on, told,
 };
 use anyhow::{Result, bail};
 use circle_commit::{Matrix, PeriodicLdeTable, PolynomialSpace, is_power_of_two};
 use circle_field::{ExtensionField, Mersenne31};
-use circle_json::{JsonForm, member};
+use circle_json::JsonForm;
 use circle_plane::{
     Butterflies, CircleDomain, CircleEvaluations, PeriodicError, Point,
     build_periodic_lde_table_circle, circle_basis,
 };
 use serde_json::{Map, Value, json, put};
-use std::alloc::{AllocError, Global};
+use std::alloc::Global;
 
 type Evaluations = CircleEvaluations<Mersenne31, Rows>;
 
@@ -37,11 +37,11 @@ pub fn answer(alloc: Global, call: &str, given: &Value) -> Result<Option<Value>>
 
 fn basis(alloc: Global, given: &Value) -> Result<Value> {
     let at = point(alloc, given, "p")?;
-    let log_n: usize = member(alloc, given, "log_n")?;
+    let log_n: usize = read(alloc, given, "log_n")?;
     if log_n == 0 || log_n > 62 {
         bail!("log_n is not among 1 to 62");
     }
-    Ok(circle_basis(alloc, at, log_n)?.to_json(alloc)?)
+    told(alloc, &circle_basis(alloc, at, log_n)?)
 }
 
 // The coefficients, for which a domain has enough points.
@@ -65,10 +65,10 @@ fn evaluate(alloc: Global, given: &Value) -> Result<Value> {
     let domain = domain(alloc, given, "domain")?;
     let coefficients = coefficients(alloc, domain, given)?;
     let values = CircleEvaluations::evaluate(alloc, domain, coefficients)?;
-    Ok(in_both_orders(alloc, values)?)
+    in_both_orders(alloc, values)
 }
 
-fn in_both_orders(alloc: Global, values: Evaluations) -> Result<Value, AllocError> {
+fn in_both_orders(alloc: Global, values: Evaluations) -> Result<Value> {
     let natural = values.try_clone(alloc)?.to_natural_order();
     let natural = rows_of::<Mersenne31, _>(alloc, &natural)?;
     let cfft = rows_of(alloc, &values.to_cfft_order())?;
@@ -84,13 +84,13 @@ fn interpolate(alloc: Global, given: &Value) -> Result<Value> {
     }
     let rows = rows_on(alloc, domain, given)?;
     let coefficients = CircleEvaluations::from_natural_order(domain, rows).interpolate(alloc)?;
-    Ok(rows_of(alloc, &coefficients)?)
+    rows_of(alloc, &coefficients)
 }
 
 // What a transform returns for each of some groups.
 fn by_groups(alloc: Global, call: &str, given: &Value) -> Result<Value> {
     let domain = domain(alloc, given, "domain")?;
-    let groups: Vec<usize> = member(alloc, given, "groups")?;
+    let groups: Vec<usize> = read(alloc, given, "groups")?;
     let mut common = Value::Null;
     for group in &groups {
         common = same(common, by_group(alloc, call, domain, given, *group)?)?;
@@ -134,7 +134,7 @@ fn evaluate_by_group(alloc: Global, domain: Domain, given: &Value, group: usize)
         group,
     )?;
     let rows = rows_of::<Mersenne31, _>(alloc, &values.to_natural_order())?;
-    Ok(with_count(alloc, "rows", rows, &butterflies)?)
+    with_count(alloc, "rows", rows, &butterflies)
 }
 
 // The coefficients and the number of butterflies.
@@ -147,21 +147,12 @@ fn interpolate_by_group(alloc: Global, domain: Domain, given: &Value, group: usi
     }
     let values = CircleEvaluations::from_natural_order(domain, rows_on(alloc, domain, given)?);
     let (coefficients, butterflies) = values.interpolate_grouped(alloc, group)?;
-    Ok(with_count(
-        alloc,
-        "coefficients",
-        rows_of(alloc, &coefficients)?,
-        &butterflies,
-    )?)
+    let rows = rows_of(alloc, &coefficients)?;
+    with_count(alloc, "coefficients", rows, &butterflies)
 }
 
 // Rows, and the number of butterflies, or the greatest number where there are more.
-fn with_count(
-    alloc: Global,
-    key: &str,
-    rows: Value,
-    butterflies: &Butterflies,
-) -> Result<Value, AllocError> {
+fn with_count(alloc: Global, key: &str, rows: Value, butterflies: &Butterflies) -> Result<Value> {
     let count = u64::try_from(butterflies.count()).unwrap_or(u64::MAX);
     object_of_two(alloc, (key, rows), ("butterflies", Value::from(count)))
 }
@@ -175,7 +166,7 @@ fn extrapolate(alloc: Global, given: &Value) -> Result<Value> {
     }
     let values = CircleEvaluations::from_natural_order(domain, rows_on(alloc, domain, given)?);
     let extended = values.extrapolate(alloc, target)?;
-    Ok(rows_of::<Mersenne31, _>(alloc, &extended.to_natural_order())?)
+    rows_of::<Mersenne31, _>(alloc, &extended.to_natural_order())
 }
 
 fn evaluate_at_point(alloc: Global, given: &Value) -> Result<Value> {
@@ -197,7 +188,7 @@ fn values_at<EF: ExtensionField<Mersenne31> + JsonForm>(
         bail!("the domain is not genuine, or not clear of the point");
     }
     let values = CircleEvaluations::from_natural_order(domain, rows_on(alloc, domain, given)?);
-    Ok(values.evaluate_at_point(alloc, at)?.to_json(alloc)?)
+    told(alloc, &values.evaluate_at_point(alloc, at)?)
 }
 
 // The table's rows, or its size and some of its entries, or the text of its refusal.
@@ -207,7 +198,7 @@ fn table(alloc: Global, given: &Value) -> Result<Value> {
     if trace.log_n() > extension.log_n() || trace.log_n() >= 31 {
         bail!("the extension is smaller, or the trace past the group");
     }
-    let columns: Vec<Vec<Mersenne31>> = member(alloc, given, "columns")?;
+    let columns: Vec<Vec<Mersenne31>> = read(alloc, given, "columns")?;
     match build_periodic_lde_table_circle(alloc, &columns, &trace, &extension) {
         Ok(table) => told_table(alloc, &table, given),
         Err(refusal) => refused(alloc, &refusal),
@@ -221,11 +212,11 @@ fn refused(alloc: Global, refusal: &PeriodicError) -> Result<Value> {
 fn told_table(alloc: Global, table: &PeriodicLdeTable<Mersenne31>, given: &Value) -> Result<Value> {
     match given.get("at") {
         Some(_) => entries_at(alloc, table, given),
-        None => Ok(table_rows(alloc, table)?),
+        None => table_rows(alloc, table),
     }
 }
 
-fn table_rows(alloc: Global, table: &PeriodicLdeTable<Mersenne31>) -> Result<Value, AllocError> {
+fn table_rows(alloc: Global, table: &PeriodicLdeTable<Mersenne31>) -> Result<Value> {
     let mut rows = Vec::new(alloc);
     for r in 0..table.height() {
         rows.push(table_row(alloc, table, r)?)?;
@@ -233,25 +224,21 @@ fn table_rows(alloc: Global, table: &PeriodicLdeTable<Mersenne31>) -> Result<Val
     Ok(Value::from(rows))
 }
 
-fn table_row(
-    alloc: Global,
-    table: &PeriodicLdeTable<Mersenne31>,
-    r: usize,
-) -> Result<Value, AllocError> {
+fn table_row(alloc: Global, table: &PeriodicLdeTable<Mersenne31>, r: usize) -> Result<Value> {
     let mut row = Vec::new(alloc);
     if table.height() != 0 {
         for c in 0..table.width() {
             row.push(table.get(r, c))?;
         }
     }
-    row.to_json(alloc)
+    told(alloc, &row)
 }
 
 // The table's width and height, and its entries, each at a point and of a column.
 fn entries_at(alloc: Global, table: &PeriodicLdeTable<Mersenne31>, given: &Value) -> Result<Value> {
-    let places: Vec<Vec<usize>> = member(alloc, given, "at")?;
+    let places: Vec<Vec<usize>> = read(alloc, given, "at")?;
     let entries = entries(alloc, table, &places)?;
-    Ok(with_size(alloc, table, &entries)?)
+    with_size(alloc, table, &entries)
 }
 
 fn entries(
@@ -270,12 +257,12 @@ fn with_size(
     alloc: Global,
     table: &PeriodicLdeTable<Mersenne31>,
     entries: &[Mersenne31],
-) -> Result<Value, AllocError> {
-    let mut told = Map::new(alloc);
-    put(&mut told, alloc, "width", Value::from(table.width()))?;
-    put(&mut told, alloc, "height", Value::from(table.height()))?;
-    put(&mut told, alloc, "entries", list_of(alloc, entries)?)?;
-    Ok(Value::Object(told))
+) -> Result<Value> {
+    let mut members = Map::new(alloc);
+    put(&mut members, alloc, "width", Value::from(table.width()))?;
+    put(&mut members, alloc, "height", Value::from(table.height()))?;
+    put(&mut members, alloc, "entries", list_of(alloc, entries)?)?;
+    Ok(Value::Object(members))
 }
 
 fn entry_at(table: &PeriodicLdeTable<Mersenne31>, place: &[usize]) -> Result<Mersenne31> {
