@@ -8,9 +8,9 @@ ghost use Rattle.circle_transcript.specs.Transcript.{due as due_of, numbers};
 ghost use Rattle.test_allocations.specs.Run.{IsRun};
 
 use crate::plane::cubic;
-use crate::told::{Stage, Told, digest, low_bits, told_numbers, unfit};
+use crate::told::{Stage, Told, before, digest, low_bits, told_numbers};
 use crate::transcript::shape;
-use anyhow::Result;
+use anyhow::{Result, bail};
 use circle_challenger::{
     CanSample, DomainSeparator, Hierarchy, Interaction, InteractionPattern, Kind, Length,
     ProverState, Sha256Challenger, TranscriptState, VerifierState,
@@ -160,9 +160,11 @@ fn verify(transcript: &mut Verifier<'_>) -> Result<[Cubic; 3], CircleTranscriptF
 /// The calls of the challenger's transcripts, all but those that draw numbers.
 pub fn states(alloc: Global, stage: Stage) -> Result<Told> {
     let separator = separator(alloc)?;
-    stage.begin()?;
+    if stage == Stage::Before {
+        return Ok(before());
+    }
     let Some((witness, proved, checked)) = of_states(&separator) else {
-        return unfit("no witness passes");
+        bail!("no witness passes");
     };
     let [steps, labels, bytes] = of_readers(&separator);
     Ok(told_numbers(&[
@@ -180,9 +182,9 @@ pub fn prover(alloc: Global, stage: Stage) -> Result<Told> {
     let shape = shape(alloc)?;
     let mut challenger = Sha256Challenger::new();
     let mut transcript = Prover::new(alloc, &mut challenger, shape)?;
-    if let Err(end) = stage.begin() {
+    if stage == Stage::Before {
         transcript.abort();
-        return Err(end);
+        return Ok(before());
     }
     let drawn = prove(&mut transcript);
     transcript.abort();
@@ -201,9 +203,9 @@ pub fn finish(alloc: Global, stage: Stage) -> Result<Told> {
             return Err(failure.into());
         }
     };
-    if let Err(end) = stage.begin() {
+    if stage == Stage::Before {
         transcript.abort();
-        return Err(end);
+        return Ok(before());
     }
     transcript.finish();
     let next: Mersenne31 = challenger.sample();
@@ -215,9 +217,9 @@ pub fn verifier(alloc: Global, stage: Stage) -> Result<Told> {
     let shape = shape(alloc)?;
     let mut challenger = Sha256Challenger::new();
     let mut transcript = Verifier::new(alloc, &mut challenger, shape)?;
-    if let Err(end) = stage.begin() {
+    if stage == Stage::Before {
         transcript.abort();
-        return Err(end);
+        return Ok(before());
     }
     let drawn = verify(&mut transcript);
     transcript.abort();
