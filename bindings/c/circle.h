@@ -89,8 +89,8 @@ typedef struct circle_challenger {
  * count: two are not absorbed as their bytes in one. */
 void circle_challenger_observe(circle_challenger *challenger, const uint8_t *bytes, size_t len);
 
-/* Absorbs an element of the field. Returns 0, or 1 where it isn't below 2^31 - 1, and then the
- * challenger is as it was. */
+/* Absorbs an element of the field, as its four bytes, the greatest first. Returns 0, or 1 where it
+ * isn't below 2^31 - 1, and then the challenger is as it was. */
 uint8_t circle_challenger_observe_element(circle_challenger *challenger, uint32_t element);
 
 /* Draws an element of the extension, as a point's coordinate: three numbers below 2^31 - 1. */
