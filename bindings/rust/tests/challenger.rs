@@ -11,24 +11,34 @@ const NAME: &str = "a protocol for tests";
 const PARAMS: Params = Params::new(1, 6);
 const SEVENS: &str = "34c97a0e4c8b6b3ba5efec4935f92f5c9f03c7b4f903106174f717ee21aecab3";
 const POINT: Cubic = [1_163_946_741, 917_893_386, 1_182_848_256];
-const PROOF_OF_SEVENS: &str = concat!(
-    "{\"batch_pow_witness\":0,\"first_layer_commitment\":\"",
-    "8788d6e7c51f7c77cca7aa077ef7a133329b18c1d079f80821c081352089c8f9\",\"fri_proof\":{",
-    "\"commit_phase_commits\":[\"",
-    "318250ba578b27236b5cf463f06b0f4be95e60c178e80cdf51dbe9888febe511\"],",
-    "\"commit_phase_openings\":[{\"opening_proof\":[],\"sibling_values\":",
-    "[[[0,0,0]],[[0,0,0]],[[0,0,0]],[[0,0,0]],[[0,0,0]],[[0,0,0]]]}],",
-    "\"commit_pow_witnesses\":[0],\"final_poly\":[0,0,0],\"input_openings\":{",
-    "\"first_layer_proof\":[\"",
-    "61126de1b795b976f3ac878f48e88fa77a87d7308ba57c7642b9e1068403a496\"],",
-    "\"first_layer_siblings\":",
-    "[[[0,0,0]],[[0,0,0]],[[0,0,0]],[[0,0,0]],[[0,0,0]],[[0,0,0]]],",
-    "\"input_openings\":[{\"opened_values\":[[[7]],[[7]],[[7]],[[7]],[[7]],[[7]]],",
-    "\"opening_proof\":[\"",
-    "043a0631871a3f67ac03c5f8406b69a0dc14bd5b23e55f27a5d4462b0f0a2d23\",\"",
-    "60e4f3c7f5d59049319983c41af6bceadec60b7b1ad8a51f5ca7834aa300eeb0\"]}]},",
-    "\"pow_witness\":0},\"lambdas\":[[0,0,0]]}"
-);
+const PROOF_OF_SEVENS: &str = r#"{
+    "batch_pow_witness": 0,
+    "first_layer_commitment": "8788d6e7c51f7c77cca7aa077ef7a133329b18c1d079f80821c081352089c8f9",
+    "lambdas": [[0, 0, 0]],
+    "fri_proof": {
+        "commit_phase_commits":
+            ["318250ba578b27236b5cf463f06b0f4be95e60c178e80cdf51dbe9888febe511"],
+        "commit_pow_witnesses": [0],
+        "final_poly": [0, 0, 0],
+        "pow_witness": 0,
+        "commit_phase_openings": [{
+            "opening_proof": [],
+            "sibling_values": [[[0,0,0]], [[0,0,0]], [[0,0,0]], [[0,0,0]], [[0,0,0]], [[0,0,0]]]
+        }],
+        "input_openings": {
+            "first_layer_proof":
+                ["61126de1b795b976f3ac878f48e88fa77a87d7308ba57c7642b9e1068403a496"],
+            "first_layer_siblings":
+                [[[0,0,0]], [[0,0,0]], [[0,0,0]], [[0,0,0]], [[0,0,0]], [[0,0,0]]],
+            "input_openings": [{
+                "opened_values": [[[7]], [[7]], [[7]], [[7]], [[7]], [[7]]],
+                "opening_proof":
+                    ["043a0631871a3f67ac03c5f8406b69a0dc14bd5b23e55f27a5d4462b0f0a2d23",
+                     "60e4f3c7f5d59049319983c41af6bceadec60b7b1ad8a51f5ca7834aa300eeb0"]
+            }]
+        }
+    }
+}"#;
 
 fn digits(challenger: &Challenger) -> String {
     Digest(challenger.to_bytes()).to_string()
