@@ -10,7 +10,7 @@ const PARAMS: Params = Params::new(1, 89);
 // What each side draws once the columns are committed to.
 fn drawn_after(commitment: Digest) -> (Cubic, Challenger) {
     let mut challenger = Challenger::new();
-    challenger.observe("my protocol of sums, version 1");
+    challenger.observe("sums, version 1: 4 rows of 3 columns");
     challenger.observe(commitment);
     (challenger.sample_point(), challenger)
 }

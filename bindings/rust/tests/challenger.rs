@@ -215,10 +215,6 @@ fn sevens_are_proved_as_by_another_prover() {
 fn commitments_are_those_of_the_statement() {
     let mut batches = [vec![sums()], vec![sums(), sums()]];
     let commitments = commit(&batches, &PARAMS).expect("commitments");
-    assert_eq!(
-        commit(&[], &PARAMS).map_err(|error| error.name()),
-        Err("NoCommittedMatrices")
-    );
     for batch in &mut batches {
         batch
             .iter_mut()
