@@ -28,8 +28,10 @@ fn main() -> Result<(), Box<dyn Error>> {
 
     // The verifier draws the point itself, and writes the claims anew.
     let (point, mut challenger) = drawn_after(commitment);
-    let sums = [0, 1, 2].map(|i| (values[0][i] + values[1][i]) % ORDER);
-    if sums != values[2] {
+    let [first, second, third] = values[..] else {
+        return Err("three values are due".into());
+    };
+    if [0, 1, 2].map(|i| (first[i] + second[i]) % ORDER) != third {
         return Err("the columns don't add up".into());
     }
     let (log_n, points) = (2, vec![Claim { point, values }]);
