@@ -1,5 +1,5 @@
 //! Traces of one block of rows and of several, each with one entry changed.
-use crate::airs::plain_check;
+use crate::plain::plain_check;
 use circle_air::{Air, AirBuilder, AirError, Place, check_constraints};
 use circle_commit::{Matrix, RowMajorMatrix};
 use circle_field::{Field, Mersenne31};

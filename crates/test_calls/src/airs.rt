@@ -1,11 +1,13 @@
-//! Cases of AIRs: their digests, and those of `circle_airs` with a trace, as inputs of `check`.
+//! Cases of AIRs: their digests, what is found on traces, and those of `circle_airs` with a trace,
+//! as inputs of `check`.
 ghost use Rattle.std.specs.Prelude.{◌≤◌};
 
-use crate::given::rows_of;
+use crate::given::{Rows, matrix, rows_of};
 use anyhow::{Result, bail};
-use circle_air::{Air, AirParts};
+use circle_air::{Air, AirParts, Violation, check_constraints};
 use circle_airs::permutation::{STATE_LEN, State};
 use circle_airs::{Trace, fibonacci_air, fibonacci_trace, permutation_air, permutation_trace};
+use circle_commit::Matrix;
 use circle_field::Mersenne31;
 use circle_json::{JsonForm, member, put_member};
 use serde_json::{Map, Value, json, put};
@@ -17,6 +19,7 @@ pub fn answer(alloc: Global, call: &str, given: &Value) -> Result<Option<Value>>
         "Air::digest" => digest(alloc, given),
         "Air degrees" => degrees(alloc, given),
         "AirParts" => written(alloc, given),
+        "check_constraints" => checked(alloc, given),
         "fibonacci" => fibonacci(alloc, given),
         "permutation" => permutation(alloc, given),
         _ => return Ok(None),
@@ -40,6 +43,28 @@ fn degrees(alloc: Global, given: &Value) -> Result<Value> {
     let degree = air.max_constraint_degree();
     let chunks = air.log_num_quotient_chunks();
     Ok(json!(in alloc; [degree, chunks])?)
+}
+
+// The first violation on the rows, or the text of the reason to refuse the parts.
+fn checked(alloc: Global, given: &Value) -> Result<Value> {
+    let parts: AirParts<Mersenne31> = member(alloc, given, "air")?;
+    match Air::try_new(alloc, parts) {
+        Ok(air) => violation(alloc, &air, given),
+        Err(error) => Ok(Value::from(format!(in alloc; "{error}")?)),
+    }
+}
+
+// The row and the constraint of the first violation, or null where there is none.
+fn violation(alloc: Global, air: &Air<Mersenne31>, given: &Value) -> Result<Value> {
+    let rows: Rows = matrix(alloc, given, "rows")?;
+    let public_values: Vec<Mersenne31> = member(alloc, given, "public_values")?;
+    if rows.width() != air.width() || public_values.len() != air.num_public_values() {
+        bail!("there are more or fewer columns or public values than the AIR has");
+    }
+    match check_constraints(alloc, air, &rows, &public_values)? {
+        Some(Violation { row, constraint }) => Ok(json!(in alloc; [row, constraint])?),
+        None => Ok(Value::Null),
+    }
 }
 
 // The input of `check`, read and written.
