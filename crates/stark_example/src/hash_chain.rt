@@ -198,7 +198,7 @@ fn rows(alloc: Global) -> Result<RowMajorMatrix<Val>> {
     let mut entries = Vec::new(alloc);
     let mut state = START.map(|n| Val::from_u64(n));
     for row in 0..1 << LOG_ROWS {
-        let sums: [Val; STATE] = array::from_fn(|i| state[i] + constant(row % STEP, i));
+        let sums = with_constants(&state, row % STEP);
         entries.extend_from_slice(&state)?;
         entries.extend_from_slice(&sums.map(|sum| sum.exp_u64(3)))?;
         state = if row % STEP == STEP - 1 {
@@ -211,6 +211,11 @@ fn rows(alloc: Global) -> Result<RowMajorMatrix<Val>> {
         Some(rows) => Ok(rows),
         None => bail!("a row lacks an entry"),
     }
+}
+
+/// The state plus the constants of the round from a row of a step on.
+fn with_constants(state: &[Val; STATE], row: usize) -> [Val; STATE] {
+    array::from_fn(|i| state[i] + constant(row, i))
 }
 
 /// The state that a step begins with, after one that ends in a state.
