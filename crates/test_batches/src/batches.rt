@@ -33,6 +33,15 @@ pub fn standard(log_n: usize) -> Result<Domain, Fail> {
     Ok(Domain::standard(log_n))
 }
 
+/// The elements of these numbers.
+pub fn elements(alloc: Global, numbers: &[u64]) -> Result<Vec<Mersenne31>, AllocError> {
+    let mut elements = Vec::with_capacity(alloc, numbers.len())?;
+    for number in numbers {
+        elements.push(Mersenne31::from_u64(*number))?;
+    }
+    Ok(elements)
+}
+
 // The matrix of these entries.
 fn of_width(values: Vec<Mersenne31>, width: usize) -> Result<Rows, Fail> {
     if width == 0 || values.len() % width != 0 {
@@ -43,11 +52,7 @@ fn of_width(values: Vec<Mersenne31>, width: usize) -> Result<Rows, Fail> {
 
 /// The matrix of these entries in rows of this width.
 pub fn rows(alloc: Global, entries: &[u64], width: usize) -> Result<Rows, Fail> {
-    let mut values = Vec::with_capacity(alloc, entries.len())?;
-    for entry in entries {
-        values.push(Mersenne31::from_u64(*entry))?;
-    }
-    of_width(values, width)
+    of_width(elements(alloc, entries)?, width)
 }
 
 /// A matrix of `2^log_n` rows without a pattern.
@@ -72,6 +77,13 @@ pub struct Batch {
     /// The domain that each matrix was given on.
     pub domains: Vec<Domain>,
     pub points: Vec<Vec<Cubic>>,
+}
+
+impl Batch {
+    /// The matrices as they are committed to.
+    pub fn matrices(&self, scheme: &Scheme) -> &[Rows] {
+        scheme.mmcs.get_matrices(&self.data)
+    }
 }
 
 // `CirclePcs::commit`, after a test of what it requires.

@@ -6,7 +6,8 @@ use circle_field::{ComplexExtendable, Cubic, ExtensionField, Mersenne31};
 use circle_presets::{Claim, Known, Proof, ProverData, Scheme, VerifierError};
 use p3_circle::{CircleDomain, CirclePcs, CirclePcsProof, InputError, ProverError};
 use std::alloc::{AllocError, Global};
-use std::fmt::InlineText;
+use std::fmt::{Display, InlineText};
+use std::test::Fail;
 
 pub type Claims = Vec<Claim>;
 
@@ -112,8 +113,8 @@ pub fn verify(
     verify_at(alloc, scheme, claims, proof, challenger)
 }
 
-/// The text of the verdict, `accepted` where it is Ok.
-pub fn shown(answer: Answer) -> InlineText<128> {
+/// The text of a verdict, `accepted` where it is Ok.
+pub fn shown<E: Display + Drop>(answer: Result<(), E>) -> InlineText<128> {
     match answer {
         Ok(()) => InlineText::of("accepted"),
         Err(refusal) => InlineText::of(refusal),
@@ -126,4 +127,22 @@ pub fn told<T: Drop>(answer: Result<T, ProverError>) -> InlineText<64> {
         Ok(_) => InlineText::of("done"),
         Err(refusal) => InlineText::of(refusal),
     }
+}
+
+/// Expects that the text of a result begins with one of these.
+pub fn expect_start(found: &str, starts: &[&str]) -> Result<(), Fail> {
+    for start in starts {
+        if found.starts_with(*start) {
+            return Ok(());
+        }
+    }
+    Err(Fail::new(format_args!("{found}, where one of {starts:?} is due")))
+}
+
+/// Expects this text of a result.
+pub fn expect_text(found: &str, due: &str) -> Result<(), Fail> {
+    if found == due {
+        return Ok(());
+    }
+    Err(Fail::new(format_args!("{found}, where {due} is due")))
 }
