@@ -13,7 +13,7 @@ use test_batches::batches::{Domain, cubic, one};
 use test_batches::parameters::Numbers;
 
 /// What is changed.
-#[derive(Clone, Copy, Debug)]
+#[derive(Clone, Copy)]
 pub(crate) enum Damage {
     Nothing,
     /// Nothing of an opening with a proof of work of the batching challenge.
@@ -30,7 +30,7 @@ pub(crate) enum Damage {
 }
 
 /// What is changed of the parameters.
-#[derive(Clone, Copy, Debug)]
+#[derive(Clone, Copy)]
 pub(crate) enum OfParameters {
     /// The difficulty of the batching challenge.
     Difficulty(usize),
@@ -40,7 +40,7 @@ pub(crate) enum OfParameters {
 }
 
 /// What is changed of the claims.
-#[derive(Clone, Copy, Debug)]
+#[derive(Clone, Copy)]
 pub(crate) enum OfClaims {
     /// There are none.
     None,
@@ -57,7 +57,7 @@ pub(crate) enum OfClaims {
 }
 
 /// What is changed of the witnesses.
-#[derive(Clone, Copy, Debug)]
+#[derive(Clone, Copy)]
 pub(crate) enum OfWitnesses {
     RoundLess,
     Round,
@@ -70,7 +70,7 @@ pub(crate) enum OfWitnesses {
 }
 
 /// What is changed of the rounds and of the codeword that they end in.
-#[derive(Clone, Copy, Debug)]
+#[derive(Clone, Copy)]
 pub(crate) enum OfRounds {
     CommitmentLess,
     OpeningLess,
@@ -89,7 +89,7 @@ pub(crate) enum OfRounds {
 }
 
 /// What is changed of the first layer.
-#[derive(Clone, Copy, Debug)]
+#[derive(Clone, Copy)]
 pub(crate) enum OfFirstLayer {
     LambdaMore,
     LambdaLess,
@@ -121,16 +121,35 @@ pub(crate) fn numbers_for(damage: Damage) -> Numbers {
     }
 }
 
-// Adds one to the element.
-fn raise<F: Field>(element: Option<&mut F>) -> Result<(), Fail> {
-    let element = element.ok_or("an element")?;
+/// The item of a list in this place.
+pub(crate) fn item<T>(items: &mut Vec<T>, place: usize) -> Result<&mut T, Fail> {
+    match items.get_mut(place) {
+        Some(item) => Ok(item),
+        None => Err(Fail::new("a list is too short")),
+    }
+}
+
+// Adds one to the element of a list in this place.
+fn raise<F: Field>(elements: &mut Vec<F>, place: usize) -> Result<(), Fail> {
+    let element = item(elements, place)?;
     *element = *element + F::ONE;
     Ok(())
 }
 
+// Takes away the last item of a list.
+fn shorten<T: Drop>(items: &mut Vec<T>) -> Result<(), Fail> {
+    drop(items.pop());
+    Ok(())
+}
+
+// Adds a zero to a list.
+fn lengthen(elements: &mut Vec<Cubic>) -> Result<(), Fail> {
+    Ok(elements.push(Cubic::ZERO)?)
+}
+
 // Puts zeros in the place of the first digest.
 fn blank(digests: &mut Vec<[u8; 32]>) -> Result<(), Fail> {
-    *digests.first_mut().ok_or("a digest")? = [0; 32];
+    *item(digests, 0)? = [0; 32];
     Ok(())
 }
 
@@ -159,30 +178,20 @@ fn two_rows(alloc: Global) -> Result<MatrixOpening<Cubic, Domain>, Fail> {
     })
 }
 
+/// The claims on matrices.
+type Matrices = Vec<MatrixOpening<Cubic, Domain>>;
+
 // The first claim on the first matrix.
-fn first_claim(
-    matrices: &mut [MatrixOpening<Cubic, Domain>],
-) -> Result<&mut PointOpening<Cubic>, Fail> {
-    let first = matrices.first_mut().ok_or("a matrix")?;
-    Ok(first.points.first_mut().ok_or("a point")?)
+fn first_claim(matrices: &mut Matrices) -> Result<&mut PointOpening<Cubic>, Fail> {
+    item(&mut item(matrices, 0)?.points, 0)
 }
 
-fn damage_matrices(
-    alloc: Global,
-    matrices: &mut Vec<MatrixOpening<Cubic, Domain>>,
-    damage: OfClaims,
-) -> Result<(), Fail> {
+fn damage_matrices(alloc: Global, matrices: &mut Matrices, damage: OfClaims) -> Result<(), Fail> {
     match damage {
-        OfClaims::Size(log_n) => {
-            matrices.first_mut().ok_or("a matrix")?.domain = Domain::new(log_n, Point::ZERO);
-        }
-        OfClaims::Value | OfClaims::ValueOfWorked => {
-            raise(first_claim(matrices)?.values.first_mut())?;
-        }
+        OfClaims::Size(log_n) => item(matrices, 0)?.domain = Domain::new(log_n, Point::ZERO),
+        OfClaims::Value | OfClaims::ValueOfWorked => raise(&mut first_claim(matrices)?.values, 0)?,
         OfClaims::Point => first_claim(matrices)?.point = cubic([0, 1, 1]),
-        OfClaims::NoPoints => {
-            matrices.get_mut(1).ok_or("two matrices")?.points = Vec::new(alloc);
-        }
+        OfClaims::NoPoints => item(matrices, 1)?.points = Vec::new(alloc),
         OfClaims::TwoRows => matrices.push(two_rows(alloc)?)?,
         OfClaims::None => {}
     }
@@ -227,8 +236,8 @@ fn miss(alloc: Global, given: &mut Opening) -> Result<(), Fail> {
 fn damage_witnesses(proof: &mut Proof, damage: OfWitnesses) -> Result<(), Fail> {
     let words = &mut proof.fri_proof;
     match damage {
-        OfWitnesses::RoundLess => drop(words.commit_pow_witnesses.pop()),
-        OfWitnesses::Round => raise(words.commit_pow_witnesses.get_mut(1))?,
+        OfWitnesses::RoundLess => shorten(&mut words.commit_pow_witnesses)?,
+        OfWitnesses::Round => raise(&mut words.commit_pow_witnesses, 1)?,
         OfWitnesses::Batch => proof.batch_pow_witness = Mersenne31::ONE,
         OfWitnesses::BatchAndQuery => {
             words.pow_witness = Mersenne31::ONE;
@@ -250,33 +259,26 @@ type Words = CircleFriProof<Cubic, ChallengeMmcs, Mersenne31, Inputs>;
 type Round = CircleCommitPhaseMultiStep<Cubic, ChallengeMmcs>;
 
 fn round(words: &mut Words, number: usize) -> Result<&mut Round, Fail> {
-    Ok(
-        words
-            .commit_phase_openings
-            .get_mut(number)
-            .ok_or("a round")?,
-    )
+    item(&mut words.commit_phase_openings, number)
 }
 
 // The siblings of the first query of this round.
 fn siblings(words: &mut Words, number: usize) -> Result<&mut Vec<Cubic>, Fail> {
-    let opening = round(words, number)?;
-    Ok(opening.sibling_values.first_mut().ok_or("a query")?)
+    item(&mut round(words, number)?.sibling_values, 0)
 }
 
 fn damage_rounds(words: &mut Words, damage: OfRounds) -> Result<(), Fail> {
     match damage {
-        OfRounds::CommitmentLess => drop(words.commit_phase_commits.pop()),
-        OfRounds::OpeningLess => drop(words.commit_phase_openings.pop()),
-        OfRounds::QueryLess => drop(round(words, 1)?.sibling_values.pop()),
-        OfRounds::SiblingLess => drop(siblings(words, 0)?.pop()),
-        OfRounds::SiblingMore => siblings(words, 2)?.push(Cubic::ZERO)?,
-        OfRounds::Sibling => raise(siblings(words, 0)?.first_mut())?,
-        OfRounds::Digest => blank(&mut round(words, 0)?.opening_proof)?,
-        OfRounds::CoefficientMore => words.final_poly.push(Cubic::ZERO)?,
-        OfRounds::FinalPolynomial => raise(words.final_poly.first_mut())?,
+        OfRounds::CommitmentLess => shorten(&mut words.commit_phase_commits),
+        OfRounds::OpeningLess => shorten(&mut words.commit_phase_openings),
+        OfRounds::QueryLess => shorten(&mut round(words, 1)?.sibling_values),
+        OfRounds::SiblingLess => shorten(siblings(words, 0)?),
+        OfRounds::SiblingMore => lengthen(siblings(words, 2)?),
+        OfRounds::Sibling => raise(siblings(words, 0)?, 0),
+        OfRounds::Digest => blank(&mut round(words, 0)?.opening_proof),
+        OfRounds::CoefficientMore => lengthen(&mut words.final_poly),
+        OfRounds::FinalPolynomial => raise(&mut words.final_poly, 0),
     }
-    Ok(())
 }
 
 // The first query whose index is drawn before.
@@ -299,29 +301,27 @@ fn damage_first_layer(
     let inputs = &mut given.proof.fri_proof.input_openings;
     let siblings = &mut inputs.first_layer_siblings;
     match damage {
-        OfFirstLayer::LambdaMore => lambdas.push(Cubic::ZERO)?,
-        OfFirstLayer::LambdaLess => drop(lambdas.pop()),
-        OfFirstLayer::Lambda => raise(lambdas.first_mut())?,
-        OfFirstLayer::QueryLess => drop(siblings.pop()),
+        OfFirstLayer::LambdaMore => lengthen(lambdas),
+        OfFirstLayer::LambdaLess => shorten(lambdas),
+        OfFirstLayer::Lambda => raise(lambdas, 0),
+        OfFirstLayer::QueryLess => shorten(siblings),
         OfFirstLayer::SiblingOfRepeated(place) => {
             let query = repeated(&indices).ok_or("no index repeats")?;
-            raise(siblings.get_mut(query).ok_or("a query")?.get_mut(place))?;
+            raise(item(siblings, query)?, place)
         }
-        OfFirstLayer::Digest => blank(&mut inputs.first_layer_proof)?,
+        OfFirstLayer::Digest => blank(&mut inputs.first_layer_proof),
     }
-    Ok(())
 }
 
 // What is opened of the batch.
 fn opened(inputs: &mut Inputs) -> Result<&mut BatchMultiOpening<Mersenne31, ValMmcs>, Fail> {
-    Ok(inputs.input_openings.first_mut().ok_or("a batch")?)
+    item(&mut inputs.input_openings, 0)
 }
 
 // Adds one to the element of the first query's row of the second matrix.
 fn damage_row(inputs: &mut Inputs) -> Result<(), Fail> {
-    let batch = opened(inputs)?;
-    let rows = batch.opened_values.first_mut().ok_or("a query")?;
-    raise(rows.get_mut(1).ok_or("two matrices")?.first_mut())
+    let rows = item(&mut opened(inputs)?.opened_values, 0)?;
+    raise(item(rows, 1)?, 0)
 }
 
 /// Changes the opening.
@@ -337,7 +337,7 @@ pub(crate) fn apply(alloc: Global, given: &mut Opening, damage: Damage) -> Resul
             Ok(())
         }
         Damage::Claims(of) => {
-            let batch = given.claims.first_mut().ok_or("a batch")?;
+            let batch = item(&mut given.claims, 0)?;
             damage_matrices(alloc, &mut batch.matrices, of)
         }
         Damage::Witnesses(OfWitnesses::Missing) => miss(alloc, given),

@@ -20,20 +20,23 @@ use test_batches::batches::Domain;
 /// The binary logarithm of the greatest height, which 16 rows have at a blowup of two.
 const TOP: usize = 5;
 
-// The numbers of values of the claims on each matrix.
+// The numbers of values of the claims on a matrix.
+fn widths_at(alloc: Global, points: &[PointOpening<Cubic>]) -> Result<Vec<usize>, AllocError> {
+    let mut widths = Vec::with_capacity(alloc, points.len())?;
+    for claim in points {
+        widths.push(claim.values.len())?;
+    }
+    Ok(widths)
+}
+
+// Those of the claims on each matrix.
 fn widths(
     alloc: Global,
     matrices: &[MatrixOpening<Cubic, Domain>],
 ) -> Result<Vec<Vec<usize>>, AllocError> {
     let mut widths = Vec::with_capacity(alloc, matrices.len())?;
     for matrix in matrices {
-        widths.push(
-            matrix
-                .points
-                .iter()
-                .map(|claim| claim.values.len())
-                .collect(alloc)?,
-        )?;
+        widths.push(widths_at(alloc, &matrix.points)?)?;
     }
     Ok(widths)
 }

@@ -1,5 +1,6 @@
 //! Eight sevens whose codewords are folded to two coefficients: numbers that are refused before the
 //! challenger is seeded.
+use crate::damage::item;
 use crate::forged::answer_to;
 use crate::statement::{Opening, opened_batches};
 use circle_challenger::Sha256Challenger;
@@ -10,6 +11,7 @@ use std::alloc::Global;
 use std::process::Abort;
 use std::test::Fail;
 use test_batches::batches::{Domain, commit_one, cubic, one, rows};
+use test_batches::openings::expect_text;
 use test_batches::parameters::{Numbers, SMALL, scheme};
 
 // The sevens, opened at `[0, 1, 0]`.
@@ -41,16 +43,21 @@ fn with_two_rows(alloc: Global) -> Result<Opening, Fail> {
         domain: Domain::new(1, Point::ZERO),
         points: one(alloc, claim)?,
     };
-    let batch = given.claims.get_mut(0).ok_or("no claims")?;
-    batch.matrices.push(matrix)?;
+    item(&mut given.claims, 0)?.matrices.push(matrix)?;
     Ok(given)
 }
 
 // Asserts that this is returned, and that the challenger is as it was.
-fn assert_refused(rt: &impl Abort, alloc: Global, given: Opening, expected: &str) {
+fn assert_refused(
+    rt: &impl Abort,
+    alloc: Global,
+    given: Opening,
+    expected: &str,
+) -> Result<(), Fail> {
     let (answer, left) = answer_to(alloc, given);
-    assert_eq!(rt; answer.as_str(), expected);
+    expect_text(answer.as_str(), expected)?;
     assert!(rt; left == Sha256Challenger::new());
+    Ok(())
 }
 
 const TWO_DUE: &str = "the final polynomial has 1 coefficients, and 2 are due";
@@ -61,7 +68,6 @@ const TWO_ROWS: &str =
 #[test]
 fn numbers_of_two_coefficients(rt: HostRuntime) -> Result<(), Fail> {
     let alloc = rt.alloc();
-    assert_refused(&rt, alloc, of_one_coefficient(alloc)?, TWO_DUE);
-    assert_refused(&rt, alloc, with_two_rows(alloc)?, TWO_ROWS);
-    Ok(())
+    assert_refused(&rt, alloc, of_one_coefficient(alloc)?, TWO_DUE)?;
+    assert_refused(&rt, alloc, with_two_rows(alloc)?, TWO_ROWS)
 }

@@ -3,18 +3,19 @@ use crate::played::play;
 use crate::statement::{QUERIES, numbers};
 use crate::unhearing::Unhearing;
 use circle_commit::{
-    BatchMultiOpening, CommitmentOpening, FriError, FriParameters, MatrixOpening, PointOpening,
+    BatchMultiOpening, CommitmentOpening, FriParameters, MatrixOpening, PointOpening,
 };
 use circle_field::{Cubic, ExtensionField, Field, Mersenne31};
 use p3_circle::{
     CircleCommitPhaseMultiStep, CircleFriProof, CircleInputProof, CirclePcs, CirclePcsProof,
-    InputError, Neutral, Point,
+    Neutral, Point,
 };
 use std::alloc::{AllocError, Global};
 use std::fmt::InlineText;
 use std::process::Abort;
 use std::test::Fail;
 use test_batches::batches::{Domain, cubic, one};
+use test_batches::openings::{expect_text, shown};
 use test_batches::parameters::parameters;
 use test_schemes::schemes::{Nothing, TrustingMmcs};
 
@@ -132,49 +133,61 @@ struct Zeros {
     proof: Proof,
 }
 
-// A column of 16 zeros, claimed at each point that it is committed on.
-fn at_every_query(alloc: Global) -> Result<Zeros, Fail> {
-    let matrix = zero_at(alloc, 4, &committed_points(alloc)?)?;
-    let batch = CommitmentOpening {
-        commitment: Nothing,
-        matrices: one(alloc, matrix)?,
-    };
-    Ok(Zeros {
-        log_final_poly_len: 0,
-        claims: one(alloc, batch)?,
-        proof: proof(alloc, 1, 3, 1)?,
-    })
-}
+/// The logarithm of the number of coefficients of the final polynomial, the number of rounds, and
+/// that of coefficients.
+type Lengths = (usize, usize, usize);
 
-// A column of 16 zeros, and one of twice as many as there are coefficients.
-fn with_a_short_column(alloc: Global, two_coefficients: bool) -> Result<Zeros, Fail> {
-    let (log_final_poly_len, num_rounds, coefficients) = if two_coefficients {
-        (1, 2, 2)
-    } else {
-        (0, 3, 1)
-    };
-    let at = [cubic([0, 1, 0])];
-    let tall = zero_at(alloc, 4, &at)?;
-    let short = zero_at(alloc, 1 + log_final_poly_len, &at)?;
+const ONE_COEFFICIENT: Lengths = (0, 3, 1);
+
+const TWO_COEFFICIENTS: Lengths = (1, 2, 2);
+
+// One batch of these columns, each of another height, with a proof of these lengths.
+fn zeros(
+    alloc: Global,
+    matrices: Vec<MatrixOpening<Cubic, Domain>>,
+    (log_final_poly_len, num_rounds, coefficients): Lengths,
+) -> Result<Zeros, AllocError> {
+    let proof = proof(alloc, matrices.len(), num_rounds, coefficients)?;
     let batch = CommitmentOpening {
         commitment: Nothing,
-        matrices: vec![in alloc; tall, short]?,
+        matrices,
     };
     Ok(Zeros {
         log_final_poly_len,
         claims: one(alloc, batch)?,
-        proof: proof(alloc, 2, num_rounds, coefficients)?,
+        proof,
     })
 }
 
-type Answer = Result<(), FriError<AllocError, InputError<AllocError, AllocError>>>;
+// A column of 16 zeros, claimed at each point that it is committed on.
+fn at_every_query(alloc: Global) -> Result<Zeros, Fail> {
+    let matrix = zero_at(alloc, 4, &committed_points(alloc)?)?;
+    Ok(zeros(alloc, one(alloc, matrix)?, ONE_COEFFICIENT)?)
+}
 
-// The text of the verdict.
-fn shown(answer: Answer) -> InlineText<128> {
-    match answer {
-        Ok(()) => InlineText::of("accepted"),
-        Err(refusal) => InlineText::of(refusal),
-    }
+// A column of 16 zeros and one of `2^log_n`, each claimed at one point.
+fn with_a_short_column(alloc: Global, log_n: usize, lengths: Lengths) -> Result<Zeros, AllocError> {
+    let at = [cubic([0, 1, 0])];
+    let mut matrices = one(alloc, zero_at(alloc, 4, &at)?)?;
+    matrices.push(zero_at(alloc, log_n, &at)?)?;
+    zeros(alloc, matrices, lengths)
+}
+
+// A column of 16 zeros, claimed at one point, with the commitments and witnesses of two rounds.
+fn of_two_rounds(alloc: Global) -> Result<Zeros, AllocError> {
+    let matrix = zero_at(alloc, 4, &[cubic([0, 1, 0])])?;
+    zeros(alloc, one(alloc, matrix)?, (0, 2, 1))
+}
+
+// The text of the verdict on zeros.
+fn answer_to(
+    alloc: Global,
+    params: FriParameters<TrustingMmcs>,
+    zeros: Zeros,
+    verifier: &mut Unhearing,
+) -> InlineText<128> {
+    let scheme = CirclePcs::new(TrustingMmcs, params);
+    shown(scheme.verify(alloc, zeros.claims, &zeros.proof, verifier))
 }
 
 // The challenger that the verifier's transcript leaves over the claims and the proof.
@@ -203,37 +216,22 @@ fn assert_answered(
 ) -> Result<(), Fail> {
     let params = parameters(numbers(zeros.log_final_poly_len, [0; 3]), TrustingMmcs);
     let due = played(alloc, &params, &zeros)?;
-    let scheme = CirclePcs::new(TrustingMmcs, params);
     let mut verifier = Unhearing::new();
-    let answer = scheme.verify(alloc, zeros.claims, &zeros.proof, &mut verifier);
-    assert_eq!(rt; shown(answer).as_str(), expected);
+    let answer = answer_to(alloc, params, zeros, &mut verifier);
+    expect_text(answer.as_str(), expected)?;
     assert!(rt; verifier == due);
     Ok(())
-}
-
-// A column of 16 zeros, claimed at one point, with the commitments and witnesses of two rounds.
-fn of_two_rounds(alloc: Global) -> Result<Zeros, Fail> {
-    let batch = CommitmentOpening {
-        commitment: Nothing,
-        matrices: one(alloc, zero_at(alloc, 4, &[cubic([0, 1, 0])])?)?,
-    };
-    Ok(Zeros {
-        log_final_poly_len: 0,
-        claims: one(alloc, batch)?,
-        proof: proof(alloc, 1, 2, 1)?,
-    })
 }
 
 #[test]
 fn two_commitments_of_three_rounds(rt: HostRuntime) -> Result<(), Fail> {
     let (alloc, mut verifier) = (rt.alloc(), Unhearing::new());
-    let zeros = of_two_rounds(alloc)?;
-    let scheme = CirclePcs::new(TrustingMmcs, parameters(numbers(0, [0; 3]), TrustingMmcs));
-    let answer = scheme.verify(alloc, zeros.claims, &zeros.proof, &mut verifier);
-    assert_eq!(rt;
-        shown(answer).as_str(),
-        "the proof commits to 2 rounds, and 3 are due"
-    );
+    let params = parameters(numbers(0, [0; 3]), TrustingMmcs);
+    let answer = answer_to(alloc, params, of_two_rounds(alloc)?, &mut verifier);
+    expect_text(
+        answer.as_str(),
+        "the proof commits to 2 rounds, and 3 are due",
+    )?;
     assert!(rt; verifier == Unhearing::new());
     Ok(())
 }
@@ -248,6 +246,8 @@ const OF_FOUR_LEFT: &str = "1 values are left over, the next of height 2^2";
 fn zeros_that_authenticate(rt: HostRuntime) -> Result<(), Fail> {
     let alloc = rt.alloc();
     assert_answered(&rt, alloc, at_every_query(alloc)?, ON_A_QUERY)?;
-    assert_answered(&rt, alloc, with_a_short_column(alloc, false)?, OF_TWO_LEFT)?;
-    assert_answered(&rt, alloc, with_a_short_column(alloc, true)?, OF_FOUR_LEFT)
+    let of_two = with_a_short_column(alloc, 1, ONE_COEFFICIENT)?;
+    assert_answered(&rt, alloc, of_two, OF_TWO_LEFT)?;
+    let of_four = with_a_short_column(alloc, 2, TWO_COEFFICIENTS)?;
+    assert_answered(&rt, alloc, of_four, OF_FOUR_LEFT)
 }
