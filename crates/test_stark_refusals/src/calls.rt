@@ -1,5 +1,5 @@
 //! The calls on traces and proofs, over any extension and any scheme for codewords.
-use crate::cases::{Case, LOG_N, Rule, air_of, elements, rows_of};
+use crate::cases::{Case, LOG_N, Rule, air_of, rows_of};
 use circle_challenger::{CanObserve, CanSample, GrindingChallenger};
 use circle_commit::Mmcs;
 use circle_field::{ExtensionField, Field};
@@ -9,6 +9,7 @@ use p3_circle::CirclePcs;
 use std::alloc::Global;
 use std::fmt::{Display, InlineText};
 use std::test::Fail;
+use test_batches::batches::elements;
 
 /// The text of a result.
 pub(crate) type Text = InlineText<192>;
@@ -49,6 +50,19 @@ where
         public_values: &public_values,
     };
     Ok(prove(alloc, pcs, trace, challenger))
+}
+
+/// The text of what `prove` returns.
+pub(crate) fn answer_to<EF: ExtensionField<Val>, W: Mmcs<EF> + Drop, C>(
+    alloc: Global,
+    pcs: &CirclePcs<Val, ValMmcs, W>,
+    case: &Case,
+    challenger: &mut C,
+) -> Result<Text, Fail>
+where
+    C: CanSample<Val> + GrindingChallenger<Val> + CanObserve<[u8; 32]> + CanObserve<W::Commitment>,
+{
+    Ok(told(proof_of::<EF, W, C>(alloc, pcs, case, challenger)?))
 }
 
 /// A trace of eight rows, proved, with its own statement.

@@ -4,8 +4,9 @@ use circle_airs::fibonacci_air;
 use circle_commit::RowMajorMatrix;
 use circle_field::Field;
 use circle_presets::Val;
-use std::alloc::{AllocError, Global};
+use std::alloc::Global;
 use std::test::Fail;
+use test_batches::batches::elements;
 use test_batches::parameters::{Numbers, SMALL};
 
 /// What an AIR says of its rows.
@@ -73,11 +74,6 @@ pub(crate) fn air_of(alloc: Global, rule: Rule) -> Result<Air<Val>, AirError> {
         Rule::Squares(place) => squares(alloc, place),
         Rule::Ones(length) => ones(alloc, length),
     }
-}
-
-/// The elements of these numbers.
-pub(crate) fn elements(alloc: Global, numbers: &[u64]) -> Result<Vec<Val>, AllocError> {
-    numbers.iter().map(|n| Val::from_u64(*n)).collect(alloc)
 }
 
 /// The rows of a trace.

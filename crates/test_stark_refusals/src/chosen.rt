@@ -27,12 +27,12 @@ pub(crate) struct Chosen {
 impl Chosen {
     /// The challenger that samples these elements.
     pub(crate) fn new(elements: [u64; 3]) -> Self {
-        let [first, second, third] = elements.map(|n| Mersenne31::from_u64(n));
+        let [first, second, third] = elements;
         Chosen {
             left: Cycle {
-                first,
-                second,
-                third,
+                first: Mersenne31::from_u64(first),
+                second: Mersenne31::from_u64(second),
+                third: Mersenne31::from_u64(third),
             },
             count: 0,
         }

@@ -1,5 +1,5 @@
 //! Chosen points: `prove` and `verify` by a challenger that samples given elements.
-use crate::calls::{Given, proof_of, proved, told, verdict_on};
+use crate::calls::{Given, answer_to, proved, verdict_on};
 use crate::cases::{FIBONACCI, Rule};
 use crate::changes::{Change, verdict_after};
 use crate::chosen::Chosen;
@@ -10,6 +10,7 @@ use p3_circle::CirclePcs;
 use std::alloc::Global;
 use std::process::Abort;
 use std::test::Fail;
+use test_batches::openings::expect_text;
 use test_batches::parameters::{Numbers, SMALL, parameters, scheme};
 use test_schemes::quadratic::Quadratic;
 use test_schemes::schemes::ListMmcs;
@@ -61,15 +62,15 @@ const TRACES: &[OfTrace] = &[
 fn assert_proved(rt: &impl Abort, alloc: Global, row: &OfTrace) -> Result<(), Fail> {
     let (elements, expected, when) = *row;
     let mut challenger = Chosen::new(elements);
-    let proof = proof_of::<Cubic, ChallengeMmcs, Chosen>(
+    let answer = answer_to::<Cubic, ChallengeMmcs, Chosen>(
         alloc,
         &scheme(SMALL),
         &FIBONACCI,
         &mut challenger,
     )?;
-    assert_eq!(rt; told(proof).as_str(), expected);
+    expect_text(answer.as_str(), expected)?;
     let is_at_point = challenger.sampled() == OF_CHALLENGES;
-    assert_eq!(rt; is_at_point, matches!(when, When::AtPoint), "{expected}");
+    assert!(rt; is_at_point == matches!(when, When::AtPoint), "{expected}");
     Ok(())
 }
 
@@ -105,13 +106,13 @@ fn phases_in_which_no_witness_passes(rt: HostRuntime) -> Result<(), Fail> {
             ..SMALL
         });
         let mut challenger = Stubborn { taken: 0 };
-        let proof = proof_of::<Cubic, ChallengeMmcs, Stubborn>(
+        let answer = answer_to::<Cubic, ChallengeMmcs, Stubborn>(
             rt.alloc(),
             &pcs,
             &FIBONACCI,
             &mut challenger,
         )?;
-        assert_eq!(&rt; told(proof).as_str(), *expected);
+        expect_text(answer.as_str(), expected)?;
     }
     Ok(())
 }
@@ -148,12 +149,12 @@ fn assert_verified(rt: &impl Abort, alloc: Global, row: &OfProof) -> Result<(), 
     let (change, elements, expected, when) = *row;
     let (mut prover, mut verifier) = (Chosen::new(TWO), Chosen::new(elements));
     let verdict = verdict_after(alloc, change, &mut prover, &mut verifier)?;
-    assert_eq!(rt; verdict.as_str(), expected);
+    expect_text(verdict.as_str(), expected)?;
     let due = match when {
         When::AtPoint => OF_CHALLENGES,
         When::AtEnd => prover.sampled(),
     };
-    assert_eq!(rt; verifier.sampled(), due, "{expected}");
+    assert!(rt; verifier.sampled() == due, "{expected}");
     Ok(())
 }
 
@@ -189,8 +190,13 @@ fn assert_over_quadratic(
     expected: &str,
 ) -> Result<(), Fail> {
     let mut prover = Chosen::new(elements);
-    let proof = proof_of::<Quadratic, ListMmcs, Chosen>(alloc, &lists(), &FIBONACCI, &mut prover)?;
-    assert_eq!(rt; told(proof).as_str(), expected);
+    let answer = answer_to::<Quadratic, ListMmcs, Chosen>(
+        alloc,
+        &lists(),
+        &FIBONACCI,
+        &mut prover,
+    )?;
+    expect_text(answer.as_str(), expected)?;
     let honest: Given<Quadratic, ListMmcs> = proved(
         alloc,
         lists(),
@@ -198,11 +204,9 @@ fn assert_over_quadratic(
         &mut Chosen::new(TWOS),
     )?;
     let mut verifier = Chosen::new(elements);
-    assert_eq!(rt;
-        verdict_on(alloc, &honest, &mut verifier)?.as_str(),
-        expected
-    );
-    assert_eq!(rt; verifier.sampled(), prover.sampled());
+    let verdict = verdict_on(alloc, &honest, &mut verifier)?;
+    expect_text(verdict.as_str(), expected)?;
+    assert!(rt; verifier.sampled() == prover.sampled());
     Ok(())
 }
 

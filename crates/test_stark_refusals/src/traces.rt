@@ -1,6 +1,6 @@
 //! What `prove` and `prove_and_verify` return of traces, and the states of both challengers.
 use crate::calls::{Given, Text, proof_of, told, verdict_on};
-use crate::cases::{Case, FIBONACCI, LOG_N, Rule, air_of, elements, rows_of};
+use crate::cases::{Case, FIBONACCI, LOG_N, Rule, air_of, rows_of};
 use circle_air::Place;
 use circle_challenger::Sha256Challenger;
 use circle_presets::Scheme;
@@ -8,6 +8,8 @@ use circle_stark::{StarkTrace, prove_and_verify};
 use std::alloc::Global;
 use std::process::Abort;
 use std::test::Fail;
+use test_batches::batches::elements;
+use test_batches::openings::expect_text;
 use test_batches::parameters::{Numbers, SMALL, scheme};
 
 const ACCEPTED: &str = "accepted";
@@ -213,10 +215,10 @@ fn of_both(expected: &str) -> Text {
 fn assert_outcome(rt: &impl Abort, alloc: Global, (case, expected): &Row) -> Result<(), Fail> {
     let (mut prover, mut verifier) = (Sha256Challenger::new(), Sha256Challenger::new());
     let text = outcome(alloc, case, &mut prover, &mut verifier)?;
-    assert_eq!(rt; text.as_str(), *expected);
+    expect_text(text.as_str(), expected)?;
     assert!(rt; prover == verifier, "{expected}");
     let (text, is_one_state) = outcome_of_both(alloc, &scheme(case.numbers), case)?;
-    assert_eq!(rt; text.as_str(), of_both(expected).as_str());
+    expect_text(text.as_str(), of_both(expected).as_str())?;
     assert!(rt; is_one_state, "{expected}");
     Ok(())
 }

@@ -6,6 +6,7 @@ use circle_challenger::Sha256Challenger;
 use std::alloc::Global;
 use std::process::Abort;
 use std::test::Fail;
+use test_batches::openings::expect_start;
 
 /// What is changed, and what the verdict begins with.
 type Row = (Change, &'static str);
@@ -152,10 +153,9 @@ fn assert_verdict(
 ) -> Result<(), Fail> {
     let (mut prover, mut verifier) = (Sha256Challenger::new(), Sha256Challenger::new());
     let verdict = verdict_after(alloc, *change, &mut prover, &mut verifier)?;
-    let verdict = verdict.as_str();
-    assert!(rt; verdict.starts_with(*expected), "{expected}, not {verdict}");
+    expect_start(verdict.as_str(), &[*expected])?;
     let is_kept = verifier == Sha256Challenger::new();
-    assert_eq!(rt; is_kept, is_as_it_was, "{expected}");
+    assert!(rt; is_kept == is_as_it_was, "{expected}");
     Ok(())
 }
 
