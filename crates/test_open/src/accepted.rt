@@ -16,7 +16,7 @@ use std::test::Fail;
 use test_batches::batches::{
     AtPoints, Batch, Domain, Size, at_points, commit_one, cubic, one, scattered,
 };
-use test_batches::openings::{claims_of, open, shown, verify};
+use test_batches::openings::{claims_of, expect_text, open, shown, verify};
 use test_batches::parameters::{Numbers, SMALL, scheme};
 
 // The text of the result of opening the batches.
@@ -41,7 +41,7 @@ fn assert_accepted(
 ) -> Result<(), Fail> {
     let (mut prover, mut verifier) = (Sha256Challenger::new(), Sha256Challenger::new());
     let answer = answer_to(alloc, scheme, batches, &mut prover, &mut verifier)?;
-    assert_eq!(rt; answer.as_str(), "accepted");
+    expect_text(answer.as_str(), "accepted")?;
     assert!(rt; verifier == prover);
     Ok(())
 }
@@ -234,8 +234,7 @@ fn assert_refused(
     expected: &str,
 ) -> Result<(), Fail> {
     let answer = run_of_one(rt, alloc, log_n, at)?;
-    assert_eq!(rt; answer.as_str(), expected);
-    Ok(())
+    expect_text(answer.as_str(), expected)
 }
 
 const NO_COMMITMENT: &str = "there is no commitment: a matrix has too few rows to be folded";

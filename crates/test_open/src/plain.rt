@@ -31,7 +31,7 @@ fn assert_values_of(
     points: &[Cubic],
     values: &[Vec<Cubic>],
 ) -> Result<(), AllocError> {
-    assert_eq!(rt; values.len(), points.len());
+    assert!(rt; values.len() == points.len());
     for (at, columns) in points.iter().zip(values) {
         let expected = values_at(rt, alloc, rows, on_line(rt, *at))?;
         assert!(rt; columns.as_slice() == expected.as_slice());
@@ -47,7 +47,7 @@ fn assert_values_of_batch(
     batch: &Batch,
     values: &OpenedValuesForRound<Cubic>,
 ) -> Result<(), AllocError> {
-    let matrices = scheme.mmcs.get_matrices(&batch.data);
+    let matrices = batch.matrices(scheme);
     assert!(rt; values.len() == matrices.len());
     for (rows, (points, values)) in matrices.iter().zip(batch.points.iter().zip(values)) {
         assert_values_of(rt, alloc, rows, points, values)?;
@@ -78,7 +78,7 @@ fn push_matrices<'a>(
     batch: &'a Batch,
     values: &'a OpenedValuesForRound<Cubic>,
 ) -> Result<(), AllocError> {
-    let matrices = scheme.mmcs.get_matrices(&batch.data);
+    let matrices = batch.matrices(scheme);
     for (rows, (points, values)) in matrices.iter().zip(batch.points.iter().zip(values)) {
         assert!(rt; rows.height() >= 1);
         opened.push(Opened {
@@ -106,14 +106,23 @@ fn opened_matrices<'a>(
     Ok(opened)
 }
 
-// The numbers of values that the matrices of a batch are opened to, at each point.
+// The numbers of values that a matrix is opened to, at each point.
+fn lengths_of(alloc: Global, values: &[Vec<Cubic>]) -> Result<Vec<usize>, AllocError> {
+    let mut lengths = Vec::new(alloc);
+    for columns in values {
+        lengths.push(columns.len())?;
+    }
+    Ok(lengths)
+}
+
+// Those of the matrices of a batch.
 fn widths_of(
     alloc: Global,
     values: &OpenedValuesForRound<Cubic>,
 ) -> Result<Vec<Vec<usize>>, AllocError> {
     let mut widths = Vec::new(alloc);
     for matrix in values {
-        widths.push(matrix.iter().map(|columns| columns.len()).collect(alloc)?)?;
+        widths.push(lengths_of(alloc, matrix)?)?;
     }
     Ok(widths)
 }
@@ -325,11 +334,11 @@ fn folded_first(
 
 // The commitments of the rounds.
 fn commitments_of(alloc: Global, rounds: &Rounds) -> Result<Vec<[u8; 32]>, AllocError> {
-    rounds
-        .layers
-        .iter()
-        .map(|layer| layer.commitment)
-        .collect(alloc)
+    let mut commitments = Vec::new(alloc);
+    for layer in &rounds.layers {
+        commitments.push(layer.commitment)?;
+    }
+    Ok(commitments)
 }
 
 // Absorbs the final polynomial. Returns it and the witness after it.
@@ -488,7 +497,7 @@ fn assert_same_text(
     right: &Proof,
 ) -> Result<(), AllocError> {
     let (left, right) = (text_of(alloc, left)?, text_of(alloc, right)?);
-    assert_eq!(rt; left, right);
+    assert!(rt; left == right);
     Ok(())
 }
 

@@ -9,7 +9,7 @@ use std::fmt::InlineText;
 use std::process::Abort;
 use std::test::Fail;
 use test_batches::batches::{Batch, Domain, Rows, cubic, one, rows, scattered_batch, sevens};
-use test_batches::openings::{open, open_at, told};
+use test_batches::openings::{expect_text, open, open_at, told};
 use test_batches::parameters::{Numbers, SMALL, parameters, scheme};
 use test_schemes::quadratic::Quadratic;
 use test_schemes::schemes::ListMmcs;
@@ -35,11 +35,12 @@ fn assert_refused(
     scheme: &Scheme,
     batches: &[Batch],
     expected: &str,
-) {
+) -> Result<(), Fail> {
     let mut challenger = Sha256Challenger::new();
     let refused = refusal(alloc, scheme, batches, &mut challenger);
-    assert_eq!(rt; refused.as_str(), expected);
+    expect_text(refused.as_str(), expected)?;
     assert!(rt; challenger == Sha256Challenger::new());
+    Ok(())
 }
 
 // The small numbers with other difficulties.
@@ -48,7 +49,7 @@ fn of_work(work: [usize; 3]) -> Numbers {
 }
 
 #[test]
-fn nothing_to_open(rt: HostRuntime) {
+fn nothing_to_open(rt: HostRuntime) -> Result<(), Fail> {
     let no_queries = Numbers {
         num_queries: 0,
         ..SMALL
@@ -59,8 +60,9 @@ fn nothing_to_open(rt: HostRuntime) {
         (no_queries, "the parameters are not supported"),
     ];
     for (numbers, expected) in cases {
-        assert_refused(&rt, rt.alloc(), &scheme(numbers), &[], expected);
+        assert_refused(&rt, rt.alloc(), &scheme(numbers), &[], expected)?;
     }
+    Ok(())
 }
 
 // Two matrices with points for the first alone.
@@ -89,11 +91,10 @@ const HIGH_BLOWUP: Numbers = Numbers {
 fn other_numbers_of_lists_of_points(rt: HostRuntime) -> Result<(), Fail> {
     let (alloc, small) = (rt.alloc(), scheme(SMALL));
     let more = more_lists(alloc, &small)?;
-    assert_refused(&rt, alloc, &small, &[more], OTHER_NUMBER);
+    assert_refused(&rt, alloc, &small, &[more], OTHER_NUMBER)?;
     let batches = [sevens(alloc, &small)?, fewer_lists(alloc, &small)?];
-    assert_refused(&rt, alloc, &small, &batches, OTHER_NUMBER);
-    assert_refused(&rt, alloc, &scheme(HIGH_BLOWUP), &batches, OTHER_NUMBER);
-    Ok(())
+    assert_refused(&rt, alloc, &small, &batches, OTHER_NUMBER)?;
+    assert_refused(&rt, alloc, &scheme(HIGH_BLOWUP), &batches, OTHER_NUMBER)
 }
 
 // The coordinate of a point of the domain on which four rows are committed to.
@@ -111,7 +112,7 @@ fn too_few_rows_before_points_of_their_domain(rt: HostRuntime) -> Result<(), Fai
     let (alloc, small) = (rt.alloc(), scheme(SMALL));
     let four = [on_four_rows(alloc, &small)?];
     let on_domain = "an opening point lies on the committed domain of its matrix";
-    assert_refused(&rt, alloc, &small, &four, on_domain);
+    assert_refused(&rt, alloc, &small, &four, on_domain)?;
     for (log_blowup, log_final_poly_len) in [(2, 0), (1, 1), (1, usize::MAX), (usize::MAX, 0)] {
         let other = scheme(Numbers {
             log_blowup,
@@ -119,7 +120,7 @@ fn too_few_rows_before_points_of_their_domain(rt: HostRuntime) -> Result<(), Fai
             ..SMALL
         });
         let too_small = "a matrix has too few rows to be folded";
-        assert_refused(&rt, alloc, &other, &four, too_small);
+        assert_refused(&rt, alloc, &other, &four, too_small)?;
     }
     Ok(())
 }
@@ -162,7 +163,7 @@ fn points_at_infinity(rt: HostRuntime) -> Result<(), Fail> {
     ];
     for (points, expected) in cases {
         let answer = refusal_over_quadratic(rt.alloc(), points)?;
-        assert_eq!(&rt; answer.as_str(), expected);
+        expect_text(answer.as_str(), expected)?;
     }
     Ok(())
 }
@@ -187,7 +188,7 @@ fn phases_in_which_no_witness_passes(rt: HostRuntime) -> Result<(), Fail> {
         let guarded = scheme(of_work(work));
         let four = [sevens(alloc, &guarded)?];
         let refused = refusal(alloc, &guarded, &four, &mut Stubborn { taken: 0 });
-        assert_eq!(&rt; refused.as_str(), expected);
+        expect_text(refused.as_str(), expected)?;
     }
     Ok(())
 }
@@ -237,10 +238,10 @@ fn a_column_of_too_high_degree(rt: HostRuntime) -> Result<(), Fail> {
         let domain = Domain::standard(log_n);
         let high = [as_it_is(&rt, alloc, &small, domain, entries)?];
         let refused = refusal(alloc, &small, &high, &mut Sha256Challenger::new());
-        assert_eq!(&rt;
+        expect_text(
             refused.as_str(),
-            "the last folded word is of too high degree"
-        );
+            "the last folded word is of too high degree",
+        )?;
     }
     Ok(())
 }

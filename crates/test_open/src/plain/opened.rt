@@ -56,7 +56,7 @@ fn rows_at(
     index: usize,
 ) -> Result<Vec<Vec<Mersenne31>>, AllocError> {
     let mut rows = Vec::new(alloc);
-    for matrix in scheme.mmcs.get_matrices(&batch.data) {
+    for matrix in batch.matrices(scheme) {
         let place = place_in(rt, matrix.height(), top, index);
         assert!(rt; place < matrix.height());
         rows.push(Vec::from_slice(alloc, matrix.row(place))?)?;

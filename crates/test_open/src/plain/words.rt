@@ -34,6 +34,11 @@ fn point_at(rt: &impl Abort, log_n: usize, place: usize) -> Point<Mersenne31> {
     domain.nth_point(cfft_permute_index(place, log_n))
 }
 
+// The x coordinate of that point.
+fn x_at(rt: &impl Abort, log_n: usize, place: usize) -> Mersenne31 {
+    point_at(rt, log_n, place).x()
+}
+
 // The domain that a matrix is committed on.
 fn domain_of(rt: &impl Abort, rows: &RowMajorMatrix<Mersenne31>) -> Domain {
     assert!(rt; rows.height() >= 2);
@@ -151,6 +156,16 @@ fn first_word(
     split(rt, alloc, &word, &vanishing)
 }
 
+// Whether a matrix has `2^log_height` rows.
+fn has_height(matrices: &[Opened], log_height: usize) -> bool {
+    for matrix in matrices {
+        if matrix.log_height == log_height {
+            return true;
+        }
+    }
+    false
+}
+
 /// For each height, from the least up, its lambda and its codeword without it.
 pub(crate) fn first_words(
     rt: &impl Abort,
@@ -162,10 +177,7 @@ pub(crate) fn first_words(
     let mut lambdas = Vec::new(alloc);
     let mut words = Vec::new(alloc);
     for log_height in 1..=12 {
-        if matrices
-            .iter()
-            .any(|matrix| matrix.log_height == log_height)
-        {
+        if has_height(matrices, log_height) {
             let (lambda, rest) = first_word(rt, alloc, matrices, log_height, log_blowup, alpha)?;
             lambdas.push(lambda)?;
             words.push(rest)?;
@@ -182,7 +194,7 @@ fn coordinate(rt: &impl Abort, len: usize, is_first: bool, j: usize) -> Mersenne
     if is_first {
         point_at(rt, log_len, 2 * j).y()
     } else {
-        point_at(rt, log_len + 1, 4 * j).x()
+        x_at(rt, log_len + 1, 4 * j)
     }
 }
 
@@ -277,7 +289,7 @@ fn assert_values(
     assert!(rt; coefficients.len() == 1 << log_len);
     for (place, entry) in word.iter().enumerate() {
         assert!(rt; place < 1024);
-        let x = point_at(rt, log_points + 1, 2 * place).x();
+        let x = x_at(rt, log_points + 1, 2 * place);
         assert!(rt; x_value(coefficients, x) == *entry);
     }
 }
