@@ -12,6 +12,7 @@ use std::alloc::{AllocError, Global};
 use std::fmt::InlineText;
 use std::test::Fail;
 use test_batches::batches::one;
+use test_batches::openings::{expect_start, expect_text, shown};
 use test_batches::parameters::{SMALL, parameters};
 use test_schemes::matrix_list::MatrixList;
 use test_schemes::quadratic::Quadratic;
@@ -110,10 +111,7 @@ fn answer_at(
 ) -> Result<InlineText<128>, Fail> {
     let scheme = CirclePcs::new(ValMmcs::new(), parameters(SMALL, ListMmcs));
     let proof = proof_of_nothing(alloc)?;
-    match scheme.verify(alloc, claimed_at(alloc, point)?, &proof, challenger) {
-        Ok(()) => Ok(InlineText::of("accepted")),
-        Err(refusal) => Ok(InlineText::of(refusal)),
-    }
+    Ok(shown(scheme.verify(alloc, claimed_at(alloc, point)?, &proof, challenger)))
 }
 
 // The square of the element `X` of the quadratic extension is -1.
@@ -123,10 +121,10 @@ fn points_at_infinity(rt: HostRuntime) -> Result<(), Fail> {
     let infinity = Quadratic::from_coefficients(&[Mersenne31::ZERO, Mersenne31::ONE]);
     let mut challenger = Sha256Challenger::new();
     let answer = answer_at(alloc, infinity, &mut challenger)?;
-    assert_eq!(rt; answer.as_str(), "a claimed point is at infinity");
+    expect_text(answer.as_str(), "a claimed point is at infinity")?;
     assert!(rt; challenger == Sha256Challenger::new());
     let other = answer_at(alloc, Quadratic::ONE, &mut challenger)?;
-    assert!(rt; other.as_str().starts_with("the input is refused: "));
+    expect_start(other.as_str(), &["the input is refused: "])?;
     assert!(rt; challenger != Sha256Challenger::new());
     Ok(())
 }

@@ -159,13 +159,13 @@ fn refused<M: Mmcs<Mersenne31>>(alloc: Global, mmcs: &M) -> Result<usize, Fail> 
 fn honest_schemes_refuse_each_change(rt: HostRuntime) -> Result<(), Fail> {
     let by_trees = refused(rt.alloc(), &ShaMmcs::<Mersenne31>::new())?;
     let by_lists = refused(rt.alloc(), &ListMmcs)?;
-    assert_eq!(rt; (by_trees, by_lists), (5, 5));
+    assert!(rt; by_trees == 5 && by_lists == 5);
     Ok(())
 }
 
 #[test]
 fn the_trusting_scheme_refuses_none(rt: HostRuntime) -> Result<(), Fail> {
-    assert_eq!(rt; refused(rt.alloc(), &TrustingMmcs)?, 0);
+    assert!(rt; refused(rt.alloc(), &TrustingMmcs)? == 0);
     Ok(())
 }
 

@@ -171,7 +171,11 @@ fn opened<T: Field, M: Mmcs<T>>(
 
 // The half of each number, rounded down.
 fn halves(alloc: Global, numbers: &[usize]) -> Result<Vec<usize>, AllocError> {
-    numbers.iter().map(|n| n / 2).collect(alloc)
+    let mut halves = Vec::with_capacity(alloc, numbers.len())?;
+    for number in numbers {
+        halves.push(*number / 2)?;
+    }
+    Ok(halves)
 }
 
 // One zero for each query.
