@@ -10,9 +10,9 @@ use std::process::Abort;
 // Expects that a refusal is printed as this line.
 fn expect_named(rt: &impl Abort, refusal: Refusal, line: &str) {
     let failure = Failure::from(refusal);
-    assert_eq!(rt; failure.status(), 1);
+    assert!(rt; failure.status() == 1, "{line}");
     let shown = InlineText::<64>::of(failure);
-    assert_eq!(rt; shown.as_str(), line);
+    assert!(rt; shown.as_str() == line, "{line}");
 }
 
 /// Refusals, and what is printed.

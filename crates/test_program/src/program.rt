@@ -35,11 +35,8 @@ fn expect_usage<R: Read>(
     let args = arguments(alloc, words)?;
     let mut output = Vec::new(alloc);
     let status = run(alloc, &args, input, &mut output);
-    assert_eq!(rt; status, 2, "of {words:?}");
-    assert_eq!(rt;
-        output.as_slice(),
-        b"{\"unreadable\":\"usage\"}\n".as_slice()
-    );
+    let line = b"{\"unreadable\":\"usage\"}\n".as_slice();
+    assert!(rt; status == 2 && output.as_slice() == line, "of {words:?}");
     Ok(())
 }
 
@@ -54,7 +51,7 @@ fn usage(rt: HostRuntime) -> Result<(), Fail> {
         expect_usage(&rt, rt.alloc(), words, &mut unreadable)?;
         let mut input = FOUR_COEFFICIENTS.as_bytes();
         expect_usage(&rt, rt.alloc(), words, &mut input)?;
-        assert_eq!(rt; input.len(), FOUR_COEFFICIENTS.len(), "of {words:?}");
+        assert!(rt; input.len() == FOUR_COEFFICIENTS.len(), "of {words:?}");
     }
     Ok(())
 }
@@ -69,8 +66,8 @@ fn expect_line(
 ) {
     let mut output = Vec::new(alloc);
     let status = run(alloc, args, input, &mut output);
-    assert_eq!(rt; status, want, "of {line}");
-    assert_eq!(rt; output.as_slice(), line.as_bytes(), "of {line}");
+    assert!(rt; status == want, "of {line}");
+    assert!(rt; output.as_slice() == line.as_bytes(), "of {line}");
 }
 
 // Runs a command on a reader that fails after each part of this text, and expects this line.
@@ -109,9 +106,9 @@ fn input_that_fails(rt: HostRuntime) -> Result<(), Fail> {
         expect_failure(&rt, alloc, *case, ErrorKind::OutOfMemory, memory)?;
     }
     let failure = Failure::from(serde_json::Error::from(AllocError));
-    assert_eq!(rt; failure.status(), 1);
+    assert!(rt; failure.status() == 1);
     let shown = InlineText::<64>::of(failure);
-    assert_eq!(rt; shown.as_str(), r#"{"refused":"Memory"}"#);
+    assert!(rt; shown.as_str() == r#"{"refused":"Memory"}"#);
     Ok(())
 }
 

@@ -49,11 +49,8 @@ fn expect_bytes(
         text[i] = new;
         let (begins, status) = if new == old { TAKEN } else { UNREADABLE };
         let answer = answer_of(alloc, "verify", text)?;
-        assert_eq!(rt; answer.status, status, "byte {i} is {new}");
-        assert!(rt;
-            answer.written.starts_with(begins.as_bytes()),
-            "byte {i} is {new}"
-        );
+        let is_due = answer.status == status && answer.written.starts_with(begins.as_bytes());
+        assert!(rt; is_due, "byte {i} is {new}");
     }
     text[i] = old;
     Ok(())
