@@ -142,7 +142,7 @@ const ONE_COEFFICIENT: Lengths = (0, 3, 1);
 const TWO_COEFFICIENTS: Lengths = (1, 2, 2);
 
 // One batch of these columns, each of another height, with a proof of these lengths.
-fn zeros(
+fn of_columns(
     alloc: Global,
     matrices: Vec<MatrixOpening<Cubic, Domain>>,
     (log_final_poly_len, num_rounds, coefficients): Lengths,
@@ -162,7 +162,7 @@ fn zeros(
 // A column of 16 zeros, claimed at each point that it is committed on.
 fn at_every_query(alloc: Global) -> Result<Zeros, Fail> {
     let matrix = zero_at(alloc, 4, &committed_points(alloc)?)?;
-    Ok(zeros(alloc, one(alloc, matrix)?, ONE_COEFFICIENT)?)
+    Ok(of_columns(alloc, one(alloc, matrix)?, ONE_COEFFICIENT)?)
 }
 
 // A column of 16 zeros and one of `2^log_n`, each claimed at one point.
@@ -170,13 +170,13 @@ fn with_a_short_column(alloc: Global, log_n: usize, lengths: Lengths) -> Result<
     let at = [cubic([0, 1, 0])];
     let mut matrices = one(alloc, zero_at(alloc, 4, &at)?)?;
     matrices.push(zero_at(alloc, log_n, &at)?)?;
-    zeros(alloc, matrices, lengths)
+    of_columns(alloc, matrices, lengths)
 }
 
 // A column of 16 zeros, claimed at one point, with the commitments and witnesses of two rounds.
 fn of_two_rounds(alloc: Global) -> Result<Zeros, AllocError> {
     let matrix = zero_at(alloc, 4, &[cubic([0, 1, 0])])?;
-    zeros(alloc, one(alloc, matrix)?, (0, 2, 1))
+    of_columns(alloc, one(alloc, matrix)?, (0, 2, 1))
 }
 
 // The text of the verdict on zeros.
