@@ -35,6 +35,7 @@
 #![tactic(auto)]
 
 pub mod command;
+pub mod commit;
 mod commitments;
 pub mod failure;
 pub mod json;

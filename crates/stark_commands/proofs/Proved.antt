@@ -1,7 +1,7 @@
 -- What the command `prove` hands to the prover, and what it refuses.
 use Rattle.std.proofs.Common.{◌≡◌, ℕ, ◌^◌, ◌⊎◌, ⊎_elim, List, Vec, Global, ap, inl, inr}
 use Rattle.std.proofs.Common.{length}
-use Rattle.std.proofs.Common.{arith, replicate, subst, sym, ◌∙◌}
+use Rattle.std.proofs.Common.{arith, subst, sym, ◌∙◌}
 use Rattle.std.specs.Prelude.{None}
 use Rattle.circle_air.specs.Degrees.{IsLogOfChunks, degree_of_parts}
 use Rattle.circle_air.specs.Parts.{Parts, parts_of}
@@ -22,13 +22,12 @@ use Rattle.circle_prover.specs.Schemes.{Schemes}
 use Rattle.circle_stark.specs.Statement.{Statement}
 use Rattle.circle_stark.specs.declared.error.StarkProverError.{StarkProverError}
 use Rattle.circle_stark.specs.declared.error.StarkProverError.TheVariants as prover
-use Rattle.circle_stark.specs.declared.trace.StarkTrace.{StarkTrace}
 use Rattle.stark_commands.proofs.Verified.{Accepts, verified}
-use Rattle.stark_commands.specs.Proved.{AreFittingRows, HasAir, IsFitting, IsProved}
-use Rattle.stark_commands.specs.Proved.{IsRefusalOfRows, IsRefusedByProver, IsTooLarge}
-use Rattle.stark_commands.specs.Proved.{IsUnproved, parts_given, rows_given, statement_proved}
+use Rattle.stark_commands.specs.Proved.{AreFittingRows, HasAir, IsFitting, IsProvedFrom}
+use Rattle.stark_commands.specs.Proved.{IsRefusalOfRows, IsTooLarge, IsUnprovedBy, parts_given}
+use Rattle.stark_commands.specs.Proved.{rows_given, statement_proved}
 use Rattle.stark_commands.specs.Refused.{IsRefusalOfTrace}
-use Rattle.stark_commands.specs.Verified.{Scheme, statement_given}
+use Rattle.stark_commands.specs.Verified.{statement_given}
 use Rattle.stark_commands.specs.declared.prove.Input.{Input}
 use Rattle.stark_commands.specs.declared.prove.Refusal.{Refusal}
 use Rattle.stark_commands.specs.declared.prove.Refusal.TheVariants.{Air, RaggedRows}
@@ -60,14 +59,13 @@ same_statement p q m n v w parts log public =
     ∙ ap (λ (x : ℕ). statement_of q x v) log
     ∙ ap (λ (x : List Mersenne31). statement_of q n x) public
 
-module _ (Unproved : Scheme → StarkTrace Mersenne31 → Sha256Challenger → Sha256Challenger →
-    StarkProverError → Type 0) (input : Input) where
+module _ (Refuses : StarkProverError → Type 0) (input : Input) where
   many : length (rows_given input) ≡ length input.rows.items
   many = length-lists input.rows.items
 
   first_refused : (k : ℕ) → IsLogOfChunks (degree_of_parts (parts_given input)) k → HasAir input →
       (e : Refusal) → IsRefusalOfRows input.params.log_blowup k input.rows.items e →
-      IsUnproved Unproved input e
+      IsUnprovedBy Refuses input e
   first_refused k log air (Air error) h = absurd h
   first_refused k log air RaggedRows h = (air, h)
   first_refused k log air HeightNotPowerOfTwo h =
@@ -87,7 +85,7 @@ module _ (Unproved : Scheme → StarkTrace Mersenne31 → Sha256Challenger → S
   pub rows_refused : (k : ℕ) (rows : List (Vec Mersenne31 Global)) (e : Refusal) →
       rows ≡ input.rows.items → IsLogOfChunks (degree_of_parts (parts_given input)) k →
       HasAir input → IsRefusalOfRows input.params.log_blowup k rows e →
-      IsUnproved Unproved input e
+      IsUnprovedBy Refuses input e
   rows_refused k rows e same log air refused =
       first_refused k log air e
       (subst (λ (rs : List (Vec Mersenne31 Global)). IsRefusalOfRows input.params.log_blowup k rs e)
@@ -96,11 +94,11 @@ module _ (Unproved : Scheme → StarkTrace Mersenne31 → Sha256Challenger → S
   -- what the prover refuses, but where it is memory that is refused
   pub trace_refused : (error : StarkProverError) (reason : Refusal) →
       IsRefusalOfTrace Prover Memory error reason → IsFitting input →
-      ((¬ (error ≡ prover.Memory)) → IsRefusedByProver Unproved input error) →
-      (reason ≡ Memory) ⊎ IsUnproved Unproved input reason
+      ((¬ (error ≡ prover.Memory)) → Refuses error) →
+      (reason ≡ Memory) ⊎ IsUnprovedBy Refuses input reason
   trace_refused error reason is fitting refused =
       ⊎_elim (λ memory. inl memory.1)
-      (λ other. inr (subst (IsUnproved Unproved input) (sym other.1)
+      (λ other. inr (subst (IsUnprovedBy Refuses input) (sym other.1)
       (fitting, refused other.0))) is
 
 module _ (input : Input) where
@@ -161,27 +159,30 @@ module _ {D WD : Type 0}
   -- the claim of what is proved of the input's rows
   pub proved : (s : Statement Mersenne31) (rows : List (List Mersenne31))
       (mmcs : ShaMmcs Mersenne31) (scheme : ShaMmcs Cubic)
-      (params : FriParameters (ShaMmcs Cubic)) (start left : List ℕ) →
+      (params : FriParameters (ShaMmcs Cubic)) (old new : List ℕ) →
       s ≡ statement_proved input → s ≡ statement_given claim → rows ≡ rows_given input →
       claim.params ≡ input.params → claim.public_values ≡ input.public_values →
       length (rows_given input) ≡ 2 ^ claim.log_n →
-      params ≡ with_scheme claim.params scheme → start ≡ replicate 32 0 → HasAir input →
+      params ≡ with_scheme claim.params scheme → HasAir input →
       Satisfies operations s.parts rows s.public_values →
-      Accepts o claim mmcs params s start left → IsProved o input claim
-  proved s rows mmcs scheme params start left is claimed given same public height with begun air
-      holds accepts =
+      Accepts o claim mmcs params s old new → IsProvedFrom o input claim old new
+  proved s rows mmcs scheme params old new is claimed given same public height with air holds
+      accepts =
       let parts : parts_of claim.air ≡ parts_given input =
       ap (λ (t : Statement Mersenne31). t.parts) (sym claimed ∙ is) in record {
-        air = parts;
-        height = height;
-        params = same;
-        public = public;
-        satisfies =
-            subst (λ (t : Statement Mersenne31). Satisfies operations t.parts (rows_given input)
-            t.public_values) is
-            (subst (λ (rs : List (List Mersenne31)). Satisfies operations s.parts rs
-            s.public_values) given holds);
+        claims =
+            record {
+              air = parts;
+              height = height;
+              params = same;
+              public = public;
+              satisfies =
+                  subst (λ (t : Statement Mersenne31). Satisfies operations t.parts
+                  (rows_given input) t.public_values) is
+                  (subst (λ (rs : List (List Mersenne31)). Satisfies operations s.parts rs
+                  s.public_values) given holds);
+            };
         verified =
-            verified o claim s mmcs scheme params start claimed with begun left
+            verified o claim s mmcs scheme params old new claimed with
             (subst (λ (p : Parts Mersenne31). refusal p ≡ None) (sym parts) air) accepts;
       }

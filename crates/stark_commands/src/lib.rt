@@ -48,5 +48,5 @@ pub mod prove;
 pub mod run;
 pub mod verify;
 
-pub use command::Command;
+pub use command::{Command, CommandFrom};
 pub use failure::{Failure, Reason};

@@ -10,10 +10,10 @@ use Rattle.circle_field.specs.declared.mersenne31.Mersenne31.{Mersenne31}
 use Rattle.stark_commands.proofs.Proved.{chunks_of, claimed, fitting, height_is, proved}
 use Rattle.stark_commands.proofs.Proved.{rows_refused, stated, stated_by, trace_refused}
 use Rattle.stark_commands.proofs.Refused.{air_refused, refused_by}
-use Rattle.stark_commands.specs.Proved.{IsRefusalOfRows, IsUnproved}
+use Rattle.stark_commands.specs.Proved.{IsRefusalOfRows, IsUnprovedBy}
 use Rattle.stark_commands.specs.declared.prove.Refusal.TheVariants.{Air, Memory}
 use Rattle.stark_commands.specs.declared.verify.Input.{Input as Claim}
-use Rattle.stark_commands.proofs.prove.prove.Goals as goal
+use Rattle.stark_commands.proofs.prove.prove_from.Goals as goal
 
 pub matrix-requires-clause-rectangular : goal.matrix-requires-clause-rectangular
 matrix-requires-clause-rectangular c =
@@ -24,7 +24,7 @@ pub returns-in_err-air-clause-refused : goal.returns-in_err-air-clause-refused
 returns-in_err-air-clause-refused c =
     refused_by _ _ c.from_residual.result c.from_residual.ensures.1
     (λ reason is. air_refused Air Memory (refusal (parts_of c.args.input.air))
-    c.in_err-air.field-0.0 reason c.in_err-air.ensures.refuses is (IsUnproved _ c.args.input)
+    c.in_err-air.field-0.0 reason c.in_err-air.ensures.refuses is (IsUnprovedBy _ c.args.input)
     (λ some. some))
 
 pub returns-in_err-log_n-clause-refused : goal.returns-in_err-log_n-clause-refused
@@ -56,7 +56,7 @@ returns-in_err-proof-clause-refused c =
             rows = c.in_ok-matrix.field-0;
             public_values = c.deref-3.result;
           };
-      start = c.new-challenger.result;
+      start = c.args.challenger.now;
       left = c.prove.new.challenger;
       params = c.new-scheme.ensures.params ∙ c.with_mmcs.ensures;
       stated =
@@ -67,7 +67,8 @@ returns-in_err-proof-clause-refused c =
       rows =
           c.in_ok-matrix.ensures.content
           ∙ ap (λ (rs : List (Vec Mersenne31 Global)). lists rs) c.deref-2.ensures.value;
-      begun = c.new-challenger.ensures;
+      begun = refl;
+      ended = refl;
       reported = reported;
       refuses = c.in_err-proof.ensures.reason;
     }))
@@ -87,7 +88,7 @@ returns-clause-proved c =
     proved _ i claim (stated_by (air_of c.in_ok-air.air) (height_of c.in_ok-matrix.field-0)
     c.deref-3.result.now) (rows_of c.in_ok-matrix.field-0) c.new-scheme.result.mmcs
     c.new-scheme.result.fri_params.mmcs c.new-scheme.result.fri_params
-    (state_of c.new-challenger.result) (state_of c.prove.new.challenger)
+    (state_of c.args.challenger.now) (state_of c.prove.new.challenger)
     (stated i (air_of c.in_ok-air.air) (height_of c.in_ok-matrix.field-0) c.deref-3.result.now
     c.in_ok-air.ensures.same many c.deref-3.ensures.value)
     (claimed claim (air_of c.in_ok-air.air) (height_of c.in_ok-matrix.field-0) c.deref-3.result.now
@@ -100,5 +101,5 @@ returns-clause-proved c =
     ∙ ap (λ (rs : List (Vec Mersenne31 Global)). lists rs) c.deref-2.ensures.value) refl refl
     (sym (height_is i c.deref.result.now _ c.deref.ensures.value refl)
     ∙ c.in_ok-log_n.ensures.height)
-    (c.new-scheme.ensures.params ∙ c.with_mmcs.ensures) c.new-challenger.ensures
-    c.in_ok-air.ensures.accepts c.in_ok-proof.ensures.satisfied c.in_ok-proof.ensures.accepted
+    (c.new-scheme.ensures.params ∙ c.with_mmcs.ensures) c.in_ok-air.ensures.accepts
+    c.in_ok-proof.ensures.satisfied c.in_ok-proof.ensures.accepted
