@@ -1,5 +1,5 @@
 //! A challenger of the caller's own, and the calls that have it absorb and draw.
-ghost use Rattle.std.specs.Prelude.{◌≡◌, ◌<◌, ◌≤◌, ◌↔◌, map};
+ghost use Rattle.std.specs.Prelude.{◌≡◌, ◌<◌, ◌≤◌, ◌↔◌, IsTrue, false, map};
 ghost use Rattle.circle_challenger.specs.Sampling.{after_samples, samples};
 ghost use Rattle.circle_challenger.specs.Sha256Challenger.{state_of};
 ghost use Rattle.circle_challenger.specs.Sponge.{absorbed, absorbed_element, after_squeeze};
@@ -29,10 +29,20 @@ impl CircleChallenger {
     }
 
     /// Takes the challenger's state.
-    pub(crate) fn leave(&mut self, challenger: &Challenger)
+    fn leave(&mut self, challenger: &Challenger)
         ensures { self.new.state ≡ state_of challenger.now }
     {
         self.state = challenger.to_state();
+    }
+
+    /// Takes the challenger's state where a command is done with it.
+    pub(crate) fn leave_if(&mut self, done: bool, challenger: &Challenger)
+        ensures taken { IsTrue done → self.new.state ≡ state_of challenger.now }
+        ensures kept { done ≡ false → self.new ≡ self.old }
+    {
+        if done {
+            self.leave(challenger);
+        }
     }
 }
 

@@ -1,5 +1,5 @@
 //! What is written to a caller's line.
-ghost use Rattle.std.specs.Prelude.{◌≡◌, ◌≤◌, IsErr, length};
+ghost use Rattle.std.specs.Prelude.{◌≡◌, ◌≤◌, ◌↔◌, IsErr, IsTrue, length};
 ghost use Rattle.circle_commands.specs.Program.{answer_line, answer_status};
 ghost use Rattle.circle_c.specs.Challenger.{IsReasonFrom, IsResultFrom};
 ghost use Rattle.circle_c.specs.Line.{IsWritten, WritesRefusal, WritesResult, WritesUnreadable};
@@ -48,15 +48,20 @@ pub(crate) fn call_from<T: CommandFrom>(
     ensures unreadable { result ≡ 2
         → WritesUnreadable T.form text.now line.old line.new needed.new }
     ensures short { ¬ (result ≡ 0) → needed.new ≤ LINE_LEN }
-    ensures state { ¬ (result ≡ 0 × needed.new ≤ length line.old)
+    ensures state { ¬ ((result ≡ 0) × (needed.new ≤ length line.old))
         → challenger.new ≡ challenger.old }
 {
     let mut own = challenger.to_challenger();
     let status = report(&answer_from::<T>(alloc, text, &mut own), line, needed);
-    if status == 0 && *needed <= line.len() {
-        challenger.leave(&own);
-    }
+    challenger.leave_if(is_told(status, *needed, line.len()), &own);
     status
+}
+
+/// Whether there is a result, by the status, and its line fits.
+pub(crate) fn is_told(status: u8, needed: usize, room: usize) -> bool
+    ensures { IsTrue result ↔ ((status ≡ 0) × (needed ≤ room)) }
+{
+    status == 0 && needed <= room
 }
 
 /// Writes the result, or the line of the failure, and returns the status.

@@ -72,7 +72,7 @@ pub extern "C" fn circle_stark_prove_from(
     ensures unreadable { let c = ⟦<prove::Input as Command>⟧ in result ≡ 2
         → WritesUnreadable c.form text.now line.old line.new needed.new }
     ensures short { ¬ (result ≡ 0) → needed.new ≤ LINE_LEN }
-    ensures state { ¬ (result ≡ 0 × needed.new ≤ length line.old)
+    ensures state { ¬ ((result ≡ 0) × (needed.new ≤ length line.old))
         → challenger.new ≡ challenger.old }
 {
     call_from::<prove::Input>(alloc, text, challenger, line, needed)

@@ -6,7 +6,7 @@ ghost use Rattle.circle_c.specs.Line.{IsWritten, WritesResult, WritesStarkRefusa
 ghost use Rattle.circle_c.specs.Line.{WritesUnreadable};
 
 use crate::challenger::CircleChallenger;
-use crate::line::write;
+use crate::line::{is_told, write};
 use stark_commands::Failure;
 use stark_commands::command::{Command, CommandFrom, answer, answer_from};
 use stark_commands::failure::LINE_LEN;
@@ -50,14 +50,12 @@ pub(crate) fn call_from<T: CommandFrom>(
     ensures unreadable { result ≡ 2
         → WritesUnreadable T.form text.now line.old line.new needed.new }
     ensures short { ¬ (result ≡ 0) → needed.new ≤ LINE_LEN }
-    ensures state { ¬ (result ≡ 0 × needed.new ≤ length line.old)
+    ensures state { ¬ ((result ≡ 0) × (needed.new ≤ length line.old))
         → challenger.new ≡ challenger.old }
 {
     let mut own = challenger.to_challenger();
     let status = report(&answer_from::<T>(alloc, text, &mut own), line, needed);
-    if status == 0 && *needed <= line.len() {
-        challenger.leave(&own);
-    }
+    challenger.leave_if(is_told(status, *needed, line.len()), &own);
     status
 }
 

@@ -180,8 +180,6 @@ pub(crate) fn call_verify_from(
     };
     let mut own = challenger.to_challenger();
     let status = report(&input.line_from(alloc, &mut own), line, needed);
-    if status == 0 {
-        challenger.leave(&own);
-    }
+    challenger.leave_if(status == 0, &own);
     status
 }

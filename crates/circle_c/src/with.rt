@@ -58,7 +58,7 @@ fn read_with<T: Parametrized + Drop>(
 ) -> Result<T, Failure>
     ensures reads { IfOk result (IsTextOf T.form text.now) }
     ensures has { IfOk result (HasNumbersBy T.params_of params.now) }
-    ensures refuses { IfErr result (IsNotReadWith T.form (HasNumbersBy T.params_of params.now)
+    ensures refuses { IfErr result (IsNotReadWith (HasNumbersBy T.params_of params.now) T.form
         text.now) }
 {
     let input: T = read(alloc, text)?;
@@ -146,8 +146,6 @@ pub(crate) fn call_with_from<T: Parametrized + Drop>(
     let mut own = challenger.to_challenger();
     let answer = answer_with_from::<T>(alloc, text, params, &mut own);
     let status = report(&answer, line, needed);
-    if status == 0 {
-        challenger.leave(&own);
-    }
+    challenger.leave_if(status == 0, &own);
     status
 }

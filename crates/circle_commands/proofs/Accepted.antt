@@ -40,8 +40,8 @@ use Rattle.circle_relation.specs.RunOf.{proof_of}
 use Rattle.circle_relation.specs.Statement.{BatchClaim, MatrixClaim, all_matrices}
 use Rattle.circle_codewords.specs.Ratios.{points_of_height}
 use Rattle.circle_codewords.specs.Words.{claim_of}
-use Rattle.circle_commands.specs.Proved.{AreCommitted, HavePoints, IsCommitted, IsExtended}
-use Rattle.circle_commands.specs.Proved.{IsRequested, batch_claimed, commitments_of}
+use Rattle.circle_commands.specs.Proved.{AreCommitted, AreOpened, HavePoints, IsCommitted}
+use Rattle.circle_commands.specs.Proved.{IsExtended, IsRequested, batch_claimed, commitments_of}
 use Rattle.circle_commands.specs.Proved.{matrix_claimed, points_of}
 use Rattle.circle_commands.specs.Rows.{lists}
 use Rattle.circle_commands.specs.Traces.{HasFittingRows}
@@ -324,16 +324,17 @@ module _ {D WD : Type 0}
             (o.word_authenticates scheme) bs (proof_of output.proof) old new) (sym told) accepted);
       }
 
-module _ {D : Type 0} (kept : D → List (RowMajorMatrix Mersenne31)) (k : Fields Mersenne31 Cubic)
-    (blowup : ℕ) where
-  -- the claims that are made of an opening have the commitments of what was opened
-  pub commitments-claimed : (committed : List Committed)
-      (requests : List (OpeningRequest D Cubic)) (values : Openings Cubic) (output : Claims) →
-      AllZip (IsRequested kept) committed requests →
-      AllZip (AreAnswers kept k blowup) requests values →
-      batches_told output.batches.items ≡ pairwise batch_claimed committed values →
+module _ {D WD : Type 0}
+    (o : Schemes Sha256Challenger (List ℕ) Mersenne31 Cubic (ShaMmcs Mersenne31) (List ℕ) D
+    (Vec (List ℕ) Global) (ShaMmcs Cubic) (List ℕ) WD (Vec (List ℕ) Global)) where
+  -- claims of what was opened have the commitments to it
+  pub commitments-opened : (input : Input) (output : Claims) (committed : List Committed)
+      (old new : List ℕ) → AreOpened o input output committed old new →
       commitments_of output ≡ map (λ c. c.commitment) committed
-  commitments-claimed committed requests values output asked answers told =
-      let long = AllZip-long (IsRequested kept) committed requests asked in
-      let answered = AllZip-long (AreAnswers kept k blowup) requests values answers in
-      same-commitments committed values output.batches.items (omega (arith, long, answered)) told
+  commitments-opened input output committed old new is =
+      let long = AllZip-long (IsRequested o.kept) committed is.requests is.asked in
+      let answered =
+      AllZip-long (AreAnswers o.kept o.fields input.params.log_blowup) is.requests is.values
+      is.answered in
+      same-commitments committed is.values output.batches.items (omega (arith, long, answered))
+      is.claims

@@ -1,5 +1,5 @@
 -- What is proved of the batches that are committed to and opened.
-use Rattle.std.proofs.Common.{◌≡◌, ℕ, List, ap, subst, Vec, Global}
+use Rattle.std.proofs.Common.{◌≡◌, ℕ, List, ap, map, subst, Vec, Global}
 use Rattle.std.specs.List.{AllZip}
 use Rattle.circle_challenger.specs.declared.sha256.Sha256Challenger.{Sha256Challenger}
 use Rattle.circle_commit.specs.DotProduct.{pairwise}
@@ -14,9 +14,11 @@ use Rattle.circle_prover.specs.Opening.{IsOpening}
 use Rattle.circle_codewords.specs.Requests.{AreAnswers}
 use Rattle.circle_prover.specs.Schemes.{Schemes}
 use Rattle.circle_relation.specs.RunOf.{proof_of}
-use Rattle.circle_commands.specs.Proved.{AreOpened, IsCommitted, IsRequested, batch_claimed}
+use Rattle.circle_commands.specs.Proved.{AreCommitments, AreCommitted, AreOpened, IsCommitted}
+use Rattle.circle_commands.specs.Proved.{IsCommittedInput, IsRequested, batch_claimed}
 use Rattle.circle_commands.specs.Verified.{batches_told}
 use Rattle.circle_commands.specs.declared.prove.Committed.{Committed}
+use Rattle.circle_commands.specs.declared.prove.CommittedInput.{CommittedInput}
 use Rattle.circle_commands.specs.declared.prove.Input.{Input}
 use Rattle.circle_commands.specs.declared.verify.Input.{Input as Claims}
 
@@ -60,3 +62,30 @@ module _ {D WD : Type 0}
         claims = claims;
         params = kept_params;
       }
+
+module _ {D WD : Type 0}
+    (o : Schemes Sha256Challenger (List ℕ) Mersenne31 Cubic (ShaMmcs Mersenne31) (List ℕ) D
+    (Vec (List ℕ) Global) (ShaMmcs Cubic) (List ℕ) WD (Vec (List ℕ) Global)) (given : CommittedInput)
+    (input : Input) (same : given.input.now ≡ input) where
+  -- what was committed to of an input is opened of it
+  pub opened-of : (output : Claims) (old new : List ℕ) →
+      AreOpened o given.input.now output given.batches.items old new →
+      AreOpened o input output given.batches.items old new
+  opened-of output old new is =
+      subst (λ (i : Input). AreOpened o i output given.batches.items old new) same is
+
+  -- so its commitments are to the input's batches
+  pub commitments-of : (commitments : List (List ℕ)) → IsCommittedInput o given →
+      commitments ≡ map (λ b. b.commitment) given.batches.items →
+      AreCommitments o input commitments
+  commitments-of commitments is are = record {
+    mmcs = given.scheme.mmcs;
+    committed = given.batches.items;
+    batches =
+        subst (λ (i : Input). AreCommitted (o.Commits given.scheme.mmcs) i.params.log_blowup
+        i.batches.items given.batches.items) same
+        (subst (λ (n : ℕ). AreCommitted (o.Commits given.scheme.mmcs) n
+        given.input.now.batches.items given.batches.items)
+        (ap (λ (p : FriParameters (ShaMmcs Cubic)). p.log_blowup) is.params) is.batches);
+    are = are;
+  }

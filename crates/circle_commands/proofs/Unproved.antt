@@ -21,7 +21,8 @@ use Rattle.circle_commands.specs.Reasons.{IsCommitReason, IsProveReasonFrom, IsP
 use Rattle.circle_commands.specs.Reasons.{IsProverRefusal}
 use Rattle.circle_commands.specs.Traces.{IsRefusalOfBatches}
 use Rattle.circle_commands.specs.Unproved.{AreUnopened, IsFirstUncommitted, IsOfScheme}
-use Rattle.circle_commands.specs.Unproved.{IsUncommitted, IsUncommittedFor}
+use Rattle.circle_commands.specs.Unproved.{IsUncommittable, IsUncommitted, IsUnopened}
+use Rattle.circle_commands.specs.Unproved.{IsUnopenedFrom}
 use Rattle.circle_commands.specs.Verified.{Scheme}
 use Rattle.circle_commands.specs.declared.prove.Committed.{Committed}
 use Rattle.circle_commands.specs.declared.prove.Input.{Input}
@@ -109,7 +110,9 @@ module _ {g : _} {D WD : Type 0}
     pub by_commit : {A : Type 0} (r : Result A Refusal) (e : ProverError) (scheme : Scheme) →
         IsErrAnd r (λ x. x ≡ Prover e) →
         scheme.fri_params ≡ with_scheme input.params scheme.fri_params.mmcs →
-        (e ≡ Memory) ⊎ IsUncommittedFor o CommitRefuses input e scheme → IfErr r IsUncommittedOf
+        (e ≡ Memory)
+        ⊎ IsFirstUncommitted CommitRefuses (o.Commits scheme.mmcs) scheme input.batches.items e →
+        IfErr r IsUncommittedOf
     by_commit r e scheme is params h =
         error-is r IsUncommittedOf (Prover e) is
         (⊎_elim (λ m. inl (ap Prover m))
@@ -129,55 +132,50 @@ module _ {g : _} {D WD : Type 0}
           IsUncommittedOf e → IfErr r IsReasoned
       by_new r e is h =
           error-is r IsReasoned e is
-          (⊎_elim (λ m. inl m) (λ n. inr (⊎_elim (λ rows. inl rows)
-          (λ u. inr (of_scheme _ _ (λ error v. record {
-            scheme = v.scheme;
-            params = v.params;
-            refuses = inl v.refuses;
-          }) e u)) n)) h)
+          (⊎_elim (λ m. inl m)
+          (⊎_elim (λ rows. inr (inl rows))
+          (λ u. inr (inr
+          (of_scheme (IsUncommittable o CommitRefuses input)
+          (λ error. IsUncommittable o CommitRefuses input error
+          ⊎ IsUnopened o OpenRefuses input error) (λ error v. inl v) e u)))) h)
 
       -- and leaves the challenger as it was
       pub by_new_from : {A : Type 0} (r : Result A Refusal) (e : Refusal) (s : List ℕ) →
           IsErrAnd r (λ x. x ≡ e) → IsUncommittedOf e → IfErr r (IsReasonedFrom s s)
       by_new_from r e s is h =
           error-is r (IsReasonedFrom s s) e is
-          (⊎_elim (λ m. inl m) (λ n. inr (⊎_elim (λ rows. inl (rows, refl))
-          (λ u. inr (of_scheme _ _ (λ error v. record {
-            scheme = v.scheme;
-            params = v.params;
-            refuses = inl (v.refuses, refl);
-          }) e u)) n)) h)
+          (⊎_elim (λ m. inl m)
+          (⊎_elim (λ rows. inr (inl (rows, refl)))
+          (λ u. inr (inr
+          (of_scheme (IsUncommittable o CommitRefuses input)
+          (λ error. (IsUncommittable o CommitRefuses input error × (s ≡ s))
+          ⊎ IsUnopenedFrom o OpenRefuses input s s error) (λ error v. inl (v, refl)) e u)))) h)
 
-      module _ {A : Type 0} (r : Result A Refusal) (e : ProverError) (scheme : Scheme)
+      module _ {A : Type 0} (r : Result A Refusal) (e : ProverError) (given : Input)
           (committed : List Committed) (old new : List ℕ) (is : IsErrAnd r (λ x. x ≡ Prover e))
-          (params : scheme.fri_params ≡ with_scheme input.params scheme.fri_params.mmcs)
-          (refused : (e ≡ Memory)
-          ⊎ AreUnopened o OpenRefuses scheme input.batches.items committed old new e) where
-        -- an opening that is refused
+          (same : given ≡ input)
+          (refused : (e ≡ Memory) ⊎ AreUnopened o OpenRefuses given committed old new e) where
+        -- an opening of what was committed to that is refused
         pub by_open_from : IfErr r (IsReasonedFrom old new)
         by_open_from =
             error-is r (IsReasonedFrom old new) (Prover e) is
             (⊎_elim (λ m. inl (ap Prover m))
-            (λ n. inr (inr (record {
-              scheme = scheme;
-              params = params;
-              refuses = inr (committed, n);
-            }))) refused)
+            (λ n. inr (inr (inr (
+              committed,
+              subst (λ (i : Input). AreUnopened o OpenRefuses i committed old new e) same n,
+            )))) refused)
 
-        -- from the challenger that has absorbed the commitments
+        -- so from the challenger that has absorbed the commitments
         pub by_open : old ≡ after_batches (replicate 32 0) committed → IfErr r IsReasoned
         by_open taken =
             error-is r IsReasoned (Prover e) is
             (⊎_elim (λ m. inl (ap Prover m))
-            (λ n. inr (inr (record {
-              scheme = scheme;
-              params = params;
-              refuses =
-                  inr (record {
-                    committed = committed;
-                    left = new;
-                    refused =
-                        subst (λ (s : List ℕ). AreUnopened o OpenRefuses scheme
-                        input.batches.items committed s new e) taken n;
-                  });
-            }))) refused)
+            (λ n. inr (inr (inr (
+              committed,
+              (
+                new,
+                subst (λ (s : List ℕ). AreUnopened o OpenRefuses input committed s new e) taken
+                    (subst (λ (i : Input). AreUnopened o OpenRefuses i committed old new e) same
+                    n),
+              ),
+            )))) refused)

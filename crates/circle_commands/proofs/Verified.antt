@@ -4,7 +4,6 @@ use Rattle.std.proofs.Common.{subst, ◌∙◌, replicate, Vec, Global}
 use Rattle.circle_field.specs.declared.cubic.Cubic.{Cubic}
 use Rattle.circle_field.specs.declared.mersenne31.Mersenne31.{Mersenne31}
 use Rattle.circle_challenger.specs.Sha256Challenger.{state_of}
-use Rattle.circle_challenger.specs.Sponge.{absorbed}
 use Rattle.circle_challenger.specs.declared.sha256.Sha256Challenger.{Sha256Challenger}
 use Rattle.circle_commit.specs.Parameters.{with_scheme}
 use Rattle.circle_commit.specs.declared.params.FriParameters.{FriParameters}
@@ -20,6 +19,10 @@ use Rattle.p3_circle.specs.Verdict.{IsAccepted}
 use Rattle.circle_commands.specs.Verified.{IsUnverified, IsUnverifiedFrom, IsVerified}
 use Rattle.circle_commands.specs.Verified.{IsVerifiedFrom, Scheme, after_claims, batches_told}
 use Rattle.circle_commands.specs.declared.verify.Input.{Input}
+
+-- the commitment of claims
+abbrev pub commitment_of : CommitmentOpening Cubic (List ℕ) ℕ → List ℕ
+commitment_of claims = claims.commitment
 
 -- the type of its entries fixes a scheme
 pub one_scheme : {F : Type 0} (a b : ShaMmcs F) → a ≡ b

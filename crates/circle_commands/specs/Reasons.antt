@@ -18,7 +18,7 @@ use Rattle.circle_relation.specs.declared.error.ProverError.TheVariants.{Memory}
 use Rattle.circle_commands.specs.Input.{HasFittingHeight, HasFittingSize, HasPoint, HasRectangle}
 use Rattle.circle_commands.specs.Shape.{HasRoom}
 use Rattle.circle_commands.specs.Traces.{IsRefusalOfBatches}
-use Rattle.circle_commands.specs.Unproved.{IsUncommittable, IsUnproved, IsUnprovedFrom}
+use Rattle.circle_commands.specs.Unproved.{IsOfScheme, IsUncommittable, IsUnproved, IsUnprovedFrom}
 use Rattle.circle_commands.specs.Verified.{IsUnverified, IsUnverifiedFrom, IsVerified}
 use Rattle.circle_commands.specs.Verified.{IsVerifiedFrom, Scheme}
 use Rattle.circle_commands.specs.declared.failure.Reason.{Reason}
@@ -114,7 +114,7 @@ module _ {g : _} {D WD : Type 0}
       abbrev pub IsCommitReason : Statement → Reason → Type 0
       IsCommitReason input =
           IsOfProve (λ refusal. IsRefusalOfBatches input.params.log_final_poly_len
-          input.batches.items refusal ⊎ IsUncommittable o CommitRefuses input refusal)
+          input.batches.items refusal ⊎ IsOfScheme (IsUncommittable o CommitRefuses input) refusal)
 
       module _ (OpenRefuses : Scheme → List (OpeningRequest D Cubic) → List ℕ → List ℕ →
           ProverError → Type 0) where

@@ -45,5 +45,5 @@ pub mod shape;
 pub mod values;
 pub mod verify;
 
-pub use command::Command;
+pub use command::{Command, CommandFrom};
 pub use failure::{Failure, Reason};

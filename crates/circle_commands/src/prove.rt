@@ -331,11 +331,10 @@ impl<'a> CommittedInput<'a> {
     pub(crate) fn commitments(&self, alloc: Global) -> Result<Vec<Commitment>, AllocError>
         ensures { IfOk result (λ v. v.items ≡ map (λ b. b.commitment) self.now.batches.items) }
     {
-        let mut commitments = Vec::with_capacity(alloc, self.batches.len())?;
-        for batch in &self.batches {
-            commitments.push(batch.commitment)?;
-        }
-        Ok(commitments)
+        self.batches
+            .iter()
+            .map(|batch| batch.commitment)
+            .collect(alloc)
     }
 
     // Opens the batches from the challenger's state.
@@ -346,8 +345,6 @@ impl<'a> CommittedInput<'a> {
             ⟦<Challenger as OpeningOver<Val, Challenge, ValMmcs, ChallengeMmcs>>⟧ in IfOk
             result (λ out. AreOpened o.schemes self.now.input.now out self.now.batches.items
             (state_of challenger.old) (state_of challenger.new)) }
-        ensures commitments { IfOk result (λ out. commitments_of out
-            ≡ map (λ b. b.commitment) self.now.batches.items) }
         ensures accepted { let o =
             ⟦<Challenger as OpeningOver<Val, Challenge, ValMmcs, ChallengeMmcs>>⟧ in IfOk
             result (λ out. HavePoints self.now.input.now → IsVerifiedFrom o.schemes out
@@ -355,9 +352,8 @@ impl<'a> CommittedInput<'a> {
         ensures reason { let o =
             ⟦<Challenger as OpeningOver<Val, Challenge, ValMmcs, ChallengeMmcs>>⟧ in
             let p = ⟦<Scheme as Pcs<Challenge, Challenger>>⟧ in IfErr result
-            (λ e. (e ≡ Memory) ⊎ AreUnopened o.schemes p.open_refuses self.now.scheme
-            self.now.input.now.batches.items self.now.batches.items (state_of challenger.old)
-            (state_of challenger.new) e) }
+            (λ e. (e ≡ Memory) ⊎ AreUnopened o.schemes p.open_refuses self.now.input.now
+            self.now.batches.items (state_of challenger.old) (state_of challenger.new) e) }
     {
         let requests = requests(alloc, &self.batches)?;
         let (values, proof) = self.scheme.open(alloc, requests, challenger)?;

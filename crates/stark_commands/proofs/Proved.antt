@@ -1,7 +1,7 @@
 -- What the command `prove` hands to the prover, and what it refuses.
 use Rattle.std.proofs.Common.{◌≡◌, ℕ, ◌^◌, ◌⊎◌, ⊎_elim, List, Vec, Global, ap, inl, inr}
 use Rattle.std.proofs.Common.{length}
-use Rattle.std.proofs.Common.{arith, subst, sym, ◌∙◌}
+use Rattle.std.proofs.Common.{arith, replicate, subst, sym, ◌∙◌}
 use Rattle.std.specs.Prelude.{None}
 use Rattle.circle_air.specs.Degrees.{IsLogOfChunks, degree_of_parts}
 use Rattle.circle_air.specs.Parts.{Parts, parts_of}
@@ -22,12 +22,14 @@ use Rattle.circle_prover.specs.Schemes.{Schemes}
 use Rattle.circle_stark.specs.Statement.{Statement}
 use Rattle.circle_stark.specs.declared.error.StarkProverError.{StarkProverError}
 use Rattle.circle_stark.specs.declared.error.StarkProverError.TheVariants as prover
-use Rattle.stark_commands.proofs.Verified.{Accepts, verified}
-use Rattle.stark_commands.specs.Proved.{AreFittingRows, HasAir, IsFitting, IsProvedFrom}
-use Rattle.stark_commands.specs.Proved.{IsRefusalOfRows, IsTooLarge, IsUnprovedBy, parts_given}
+use Rattle.circle_stark.specs.declared.trace.StarkTrace.{StarkTrace}
+use Rattle.stark_commands.proofs.Verified.{Accepts, verified, verified-new}
+use Rattle.stark_commands.specs.Proved.{AreFittingRows, HasAir, IsFitting, IsProved, IsProvedFrom}
+use Rattle.stark_commands.specs.Proved.{IsRefusalOfRows, IsRefusedByProver, IsTooLarge}
+use Rattle.stark_commands.specs.Proved.{IsUnproved, IsUnprovedBy, IsUnprovedFrom, parts_given}
 use Rattle.stark_commands.specs.Proved.{rows_given, statement_proved}
 use Rattle.stark_commands.specs.Refused.{IsRefusalOfTrace}
-use Rattle.stark_commands.specs.Verified.{statement_given}
+use Rattle.stark_commands.specs.Verified.{Scheme, statement_given}
 use Rattle.stark_commands.specs.declared.prove.Input.{Input}
 use Rattle.stark_commands.specs.declared.prove.Refusal.{Refusal}
 use Rattle.stark_commands.specs.declared.prove.Refusal.TheVariants.{Air, RaggedRows}
@@ -101,6 +103,32 @@ module _ (Refuses : StarkProverError → Type 0) (input : Input) where
       (λ other. inr (subst (IsUnprovedBy Refuses input) (sym other.1)
       (fitting, refused other.0))) is
 
+-- what is refused for some errors is so for others that these are
+unproved_by : (Refuses Other : StarkProverError → Type 0) (input : Input) →
+    ((error : StarkProverError) → Refuses error → Other error) → (e : Refusal) →
+    IsUnprovedBy Refuses input e → IsUnprovedBy Other input e
+unproved_by Refuses Other input then (Air error) h = h
+unproved_by Refuses Other input then RaggedRows h = h
+unproved_by Refuses Other input then HeightNotPowerOfTwo h = h
+unproved_by Refuses Other input then HeightTooLarge h = h
+unproved_by Refuses Other input then (Prover error) h = (h.0, then error h.1)
+unproved_by Refuses Other input then Memory h = absurd h
+
+-- what is refused from a new challenger
+pub unproved-new : (Unproved : Scheme → StarkTrace Mersenne31 → Sha256Challenger →
+    Sha256Challenger → StarkProverError → Type 0) (input : Input) (old new : List ℕ) →
+    old ≡ replicate 32 0 → (e : Refusal) →
+    (e ≡ Memory) ⊎ IsUnprovedFrom Unproved input old new e →
+    (e ≡ Memory) ⊎ IsUnproved Unproved input e
+unproved-new Unproved input old new begun e refused =
+    ⊎_elim (λ none. inl none)
+    (λ u. inr (unproved_by (IsRefusedByProver Unproved input old new)
+    (λ error. (left : List ℕ) × IsRefusedByProver Unproved input (replicate 32 0) left error) input
+    (λ error r. (
+      new,
+      subst (λ (s : List ℕ). IsRefusedByProver Unproved input s new error) begun r,
+    )) e u)) refused
+
 module _ (input : Input) where
   -- the AIR's logarithm of the number of chunks is that of its parts
   pub chunks_of : (k : ℕ) (p : Parts Mersenne31) → p ≡ parts_given input →
@@ -114,10 +142,10 @@ module _ (input : Input) where
   height_is rows n same is = is ∙ ap length same ∙ sym (length-lists input.rows.items)
 
   -- rows that the prover sees
-  pub fitting : (k n : ℕ) (rows : List (Vec Mersenne31 Global)) → rows ≡ input.rows.items →
-      IsLogOfChunks (degree_of_parts (parts_given input)) k → HasAir input →
-      AreFittingRows input.params.log_blowup k rows n → IsFitting input
-  fitting k n rows same log air fits =
+  pub fitting : (k n : ℕ) (p : Parts Mersenne31) (rows : List (Vec Mersenne31 Global)) →
+      rows ≡ input.rows.items → p ≡ parts_given input → IsLogOfChunks (degree_of_parts p) k →
+      HasAir input → AreFittingRows input.params.log_blowup k rows n → IsFitting input
+  fitting k n p rows same is log air fits =
       let many : length (rows_given input) ≡ length rows =
       length-lists input.rows.items ∙ sym (ap length same) in (
         (
@@ -133,7 +161,7 @@ module _ (input : Input) where
             (ap log_of many ∙ sym fits.log)
             (subst
             (λ (j : ℕ). IsTooLarge (log_of (length (rows_given input))) input.params.log_blowup j)
-            (one_log _ large.0 k large.1 log) large.2)),
+            (one_log _ large.0 k large.1 (chunks_of k p is log)) large.2)),
       )
 
   -- it is handed the input's statement
@@ -186,3 +214,11 @@ module _ {D WD : Type 0}
             verified o claim s mmcs scheme params old new claimed with
             (subst (λ (p : Parts Mersenne31). refusal p ≡ None) (sym parts) air) accepts;
       }
+
+  -- so from a new challenger
+  pub proved-new : (old new : List ℕ) → old ≡ replicate 32 0 → IsProvedFrom o input claim old new →
+      IsProved o input claim
+  proved-new old new begun is = record {
+    claims = is.claims;
+    verified = verified-new o claim old new begun is.verified;
+  }

@@ -1,6 +1,6 @@
 -- What the command `verify` hands to the verifier.
 use Rattle.std.proofs.Common.{◌≡◌, ℕ, ◌⊎◌, ⊎_elim, List, Vec, Global, ap, inl, inr}
-use Rattle.std.proofs.Common.{subst, sym, ◌∙◌}
+use Rattle.std.proofs.Common.{replicate, subst, sym, ◌∙◌}
 use Rattle.circle_air.specs.Parts.{Parts, parts_of}
 use Rattle.circle_challenger.specs.declared.sha256.Sha256Challenger.{Sha256Challenger}
 use Rattle.circle_commands.proofs.Verified.{one_scheme}
@@ -14,12 +14,15 @@ use Rattle.circle_stark.specs.Accepts.{StarkAccepts}
 use Rattle.circle_stark.specs.Statement.{Statement, proved_of}
 use Rattle.circle_stark.specs.declared.error.StarkError.TheVariants as stark
 use Rattle.circle_stark.specs.declared.proof.StarkStatement.{StarkStatement}
-use Rattle.stark_commands.specs.Reasons.{IsUnverifiedBy, ProofError}
+use Rattle.stark_commands.specs.Reasons.{IsUnverifiedBy, IsVerifyRefusal, IsVerifyRefusalFrom}
+use Rattle.stark_commands.specs.Reasons.{ProofError}
 use Rattle.stark_commands.specs.Refused.{IsRefusalOfProof}
-use Rattle.stark_commands.specs.Verified.{HasAir, IsVerifiedFrom, described, statement_given}
+use Rattle.stark_commands.specs.Verified.{HasAir, IsAcceptedFrom, IsUnverified, IsUnverifiedFrom}
+use Rattle.stark_commands.specs.Verified.{IsVerified, IsVerifiedFrom, Scheme, described}
+use Rattle.stark_commands.specs.Verified.{statement_given}
 use Rattle.stark_commands.specs.declared.verify.Input.{Input}
 use Rattle.stark_commands.specs.declared.verify.Refusal.{Refusal}
-use Rattle.stark_commands.specs.declared.verify.Refusal.TheVariants.{Memory, Proof}
+use Rattle.stark_commands.specs.declared.verify.Refusal.TheVariants.{Air, Memory, Proof}
 
 -- a statement of as many rows as the input's
 abbrev pub stated_by : Input → Parts Mersenne31 → List Mersenne31 → Statement Mersenne31
@@ -73,6 +76,15 @@ module _ {D WD : Type 0}
           (ap (with_scheme input.params) (one_scheme v.scheme scheme) ∙ sym same) of_schemes in
           subst (λ t. Accepts mmcs params t old new) (sym is) of_params
 
+    -- what is verified from a new challenger
+    pub verified-new : (old new : List ℕ) → old ≡ replicate 32 0 → IsVerifiedFrom o input old new →
+        IsVerified o input
+    verified-new old new begun v = subst (IsAcceptedFrom o input) begun (new, v)
+
+    pub accepted-new : (old : List ℕ) → old ≡ replicate 32 0 → IsVerified o input →
+        IsAcceptedFrom o input old
+    accepted-new old begun v = subst (IsAcceptedFrom o input) (sym begun) v
+
     -- a refused proof is a refused input, but where it is memory that is refused
     pub never_of_verified : (V : Type 0) (error : ProofError) (reason : Refusal) →
         IsRefusalOfProof Proof Memory error reason → (V → error ≡ stark.Memory) → V →
@@ -88,3 +100,33 @@ module _ {D WD : Type 0}
         ⊎_elim (λ memory. inl memory.1)
         (λ other. inr (subst (IsUnverifiedBy V Refuses input) (sym other.1)
         (air, (λ v. other.0 (complete v), (other.0, refused))))) is
+
+-- what is refused for some errors is so for others that these are
+unverified_by : (V W : Type 0) (Refuses Other : ProofError → Type 0) (input : Input) → (W → V) →
+    ((error : ProofError) → Refuses error → Other error) → (e : Refusal) →
+    IsUnverifiedBy V Refuses input e → IsUnverifiedBy W Other input e
+unverified_by V W Refuses Other input back then (Air error) h = h
+unverified_by V W Refuses Other input back then (Proof error) h =
+    (h.0, (λ w. h.1.0 (back w), (h.1.1.0, then error h.1.1.1)))
+unverified_by V W Refuses Other input back then Memory h = absurd h
+
+module _ {D WD : Type 0}
+    (o : Schemes Sha256Challenger (List ℕ) Mersenne31 Cubic (ShaMmcs Mersenne31) (List ℕ) D
+    (Vec (List ℕ) Global) (ShaMmcs Cubic) (List ℕ) WD (Vec (List ℕ) Global)) {P : Type 0}
+    (part : Input → P)
+    (Refuses : Scheme → StarkStatement Mersenne31 → P → Sha256Challenger → Sha256Challenger →
+    ProofError → Type 0) (input : Input)
+  where
+    -- what is refused from a new challenger
+    pub unverified-new : (old new : List ℕ) → old ≡ replicate 32 0 → (e : Refusal) →
+        (e ≡ Memory) ⊎ IsVerifyRefusalFrom o part Refuses input old new e →
+        (e ≡ Memory) ⊎ IsVerifyRefusal o part Refuses input e
+    unverified-new old new begun e refused =
+        ⊎_elim (λ none. inl none)
+        (λ u. inr (unverified_by (IsAcceptedFrom o input old) (IsVerified o input)
+        (IsUnverifiedFrom Refuses (part input) input old new)
+        (IsUnverified Refuses (part input) input) input (accepted-new o input old begun)
+        (λ error r. (
+          new,
+          subst (λ (s : List ℕ). IsUnverifiedFrom Refuses (part input) input s new error) begun r,
+        )) e u)) refused

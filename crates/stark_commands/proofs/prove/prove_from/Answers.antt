@@ -43,11 +43,9 @@ returns-in_err-proof-clause-refused c =
     let i = c.args.input in
     refused_by _ _ c.from_residual-in_err-proof.result c.from_residual-in_err-proof.ensures.1
     (λ reason is. trace_refused _ i c.in_err-proof.field-0.0 reason is
-    (fitting i c.log_num_quotient_chunks.result c.in_ok-log_n.log_n c.deref.result.now
-    c.deref.ensures.value
-    (chunks_of i c.log_num_quotient_chunks.result (air_of c.in_ok-air.air)
-    c.in_ok-air.ensures.same c.log_num_quotient_chunks.ensures) c.in_ok-air.ensures.accepts
-    c.in_ok-log_n.ensures)
+    (fitting i c.log_num_quotient_chunks.result c.in_ok-log_n.log_n (air_of c.in_ok-air.air)
+    c.deref.result.now c.deref.ensures.value c.in_ok-air.ensures.same
+    c.log_num_quotient_chunks.ensures c.in_ok-air.ensures.accepts c.in_ok-log_n.ensures)
     (λ reported. record {
       scheme = c.new-scheme.result;
       trace =
@@ -72,6 +70,22 @@ returns-in_err-proof-clause-refused c =
       reported = reported;
       refuses = c.in_err-proof.ensures.reason;
     }))
+
+pub returns-in_err-proof-clause-kept : goal.returns-in_err-proof-clause-kept
+returns-in_err-proof-clause-kept c =
+    refused_by _ _ c.from_residual-in_err-proof.result c.from_residual-in_err-proof.ensures.1
+    (λ reason is unfit. absurd (unfit
+    (fitting c.args.input c.log_num_quotient_chunks.result c.in_ok-log_n.log_n
+    (air_of c.in_ok-air.air) c.deref.result.now c.deref.ensures.value c.in_ok-air.ensures.same
+    c.log_num_quotient_chunks.ensures c.in_ok-air.ensures.accepts c.in_ok-log_n.ensures)))
+
+pub returns-in_err-parts-clause-kept : goal.returns-in_err-parts-clause-kept
+returns-in_err-parts-clause-kept c =
+    refused_by _ _ c.from_residual-in_err-parts.result c.from_residual-in_err-parts.ensures.1
+    (λ reason is unfit. absurd (unfit
+    (fitting c.args.input c.log_num_quotient_chunks.result c.in_ok-log_n.log_n
+    (air_of c.in_ok-air.air) c.deref.result.now c.deref.ensures.value c.in_ok-air.ensures.same
+    c.log_num_quotient_chunks.ensures c.in_ok-air.ensures.accepts c.in_ok-log_n.ensures)))
 
 pub returns-clause-proved : goal.returns-clause-proved
 returns-clause-proved c =

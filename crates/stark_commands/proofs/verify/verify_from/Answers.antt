@@ -69,6 +69,11 @@ returns-in_err-verify-clause-reason c =
       refuses = c.in_err-verify.ensures.reason;
     })
 
+pub returns-in_err-verify-clause-kept : goal.returns-in_err-verify-clause-kept
+returns-in_err-verify-clause-kept c =
+    refused_by _ _ c.from_residual-in_err-verify.result c.from_residual-in_err-verify.ensures.1
+    (λ reason is none. absurd (none c.in_ok-air.ensures.accepts))
+
 pub returns-clause-accepted : goal.returns-clause-accepted
 returns-clause-accepted c =
     verified _ c.args.input _ c.scheme.result.mmcs c.scheme.result.fri_params.mmcs
