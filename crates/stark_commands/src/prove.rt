@@ -197,7 +197,8 @@ pub fn prove(alloc: Global, input: Input) -> Result<verify::Input, Refusal>
     ensures refused { let p = ⟦<Scheme as StarkRelation<Challenge, Challenger>>⟧ in
         IfErr result (λ e. (e ≡ Memory) ⊎ IsUnproved p.unproved input e) }
 {
-    prove_from(alloc, input, &mut Challenger::new())
+    let mut challenger = Challenger::new();
+    prove_from(alloc, input, &mut challenger)
 }
 
 /// Proves that the input's rows satisfy its AIR, from the caller's challenger, which it leaves as

@@ -194,7 +194,8 @@ pub fn verify(alloc: Global, input: Input) -> Result<[u8; 32], Refusal>
         in IfErr result (λ e. (e ≡ Memory)
         ⊎ IsVerifyRefusal o.schemes (λ i. i.proof) p.refuses input e) }
 {
-    verify_from(alloc, input, &mut Challenger::new())
+    let mut challenger = Challenger::new();
+    verify_from(alloc, input, &mut challenger)
 }
 
 /// Verifies the input's proof, from the caller's challenger, which it leaves as the prover's was
