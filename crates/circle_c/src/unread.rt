@@ -56,14 +56,14 @@ fn told(text: &str, failure: &Failure) -> InlineText<LINE_LEN>
     ensures { inline_text result ≡ failure_line text.now failure.now }
 {
     match failure {
-        Failure::Json => unread(text, "json"),
-        Failure::Unfit(error) => unread(text, error.name()),
+        Failure::Json => unreadable(text, "json"),
+        Failure::Unfit(error) => unreadable(text, error.name()),
         other => other.line(),
     }
 }
 
 // The line of the text of this name, which can't be read for the reason of this name.
-fn unread(text: &str, name: &str) -> InlineText<LINE_LEN>
+fn unreadable(text: &str, name: &str) -> InlineText<LINE_LEN>
     requires text { length text.now ≤ 9 }
     requires name { length name.now ≤ 20 }
     ensures { inline_text result ≡ unread_line text.now name.now }

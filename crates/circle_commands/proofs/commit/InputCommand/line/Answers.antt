@@ -15,8 +15,8 @@ returns-clause-result c =
           subst (λ (d : Data). IsJsonLine d (string_bytes c.in_ok-line.field-0))
           c.in_ok-shown.ensures
           (c.in_ok-line.ensures (
-            let deep = ap depth c.in_ok-shown.ensures in
-            let within = items_within digest_written 0 (λ root. omega arith) commitments in
-            omega arith
+          let deep = ap depth c.in_ok-shown.ensures in
+          let within = items_within digest_written 0 (λ root. omega arith) commitments in
+          omega arith
           ));
     }
