@@ -126,9 +126,9 @@ uint8_t circle_verify_with(const uint8_t *text, size_t text_len, const circle_pa
 uint8_t circle_commit(const uint8_t *text, size_t text_len, uint8_t *line, size_t line_len,
                       size_t *needed);
 
-/* As circle_prove, from the caller's challenger, which has absorbed what the caller wants: nothing is
- * absorbed before the opening. Where the status is 0 and the line fits, *challenger is left as the
- * proof leaves it, else as it was. */
+/* As circle_prove, from the caller's challenger, which has absorbed what the caller wants: nothing
+ * is absorbed before the opening. Where the status is 0 and the line fits, *challenger is left as
+ * the proof leaves it, else as it was. */
 uint8_t circle_prove_from(const uint8_t *text, size_t text_len, circle_challenger *challenger,
                           uint8_t *line, size_t line_len, size_t *needed);
 

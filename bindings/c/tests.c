@@ -5,7 +5,7 @@
  *   tests with N N N N N N N           the same by circle_verify_with and these parameters
  *   tests stark FILE                   the same by circle_stark_verify and the file's statement
  *   tests from STATE WORD..            what the other words say, by the call that goes on from the
- *                                      challenger in this state, and prints the state that it leaves
+ *                                      challenger in this state, and prints the state it leaves
  *   tests moves MOVE..                 has a new challenger observe:HEX, element:N or sample, and
  *                                      prints what each returns and the state
  *   tests once COMMAND [FILE]          judges it by one call, and allocates nothing else

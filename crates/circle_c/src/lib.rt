@@ -7,8 +7,8 @@
 //! anything of its caller beyond its types, and each returns. What is proved of every export, by the
 //! clauses:
 //!
-//! - `status`: the status is 0, 1 or 2.
-//! - Status 0 (`rows`, `shape`, `proved`, `accepted`, `satisfied`): the text stands for an input of
+//! - `status`: the status of a command is 0, 1 or 2.
+//! - Status 0 (`rows`, `shape`, `commitments`, `proved`, `accepted`, `satisfied`): the text stands for an input of
 //!   the command, and the line is a result of that input, as `is_result` of the command has it: of
 //!   `values` the JSON text of the polynomials' values, of `shape` that of the shape, of `prove`
 //!   claims with a proof that is accepted where each matrix has a point, and of `verify`
@@ -36,18 +36,25 @@
 //! want of memory. Status 2 says which of the texts can't be read, `{"text":"statement",..}` or
 //! `{"text":"proof",..}`, and why.
 //!
+//! The calls whose names end in `_from` go on from a challenger of the caller's own, which
+//! `circle_challenger_observe` and `_observe_element` have absorb and `_sample` has draw. It is left
+//! as the command leaves it where the status is 0, and of a prover only where the line fits too; else
+//! it is as it was (`state`). `circle_commit` writes the commitments that claims are about.
+//!
 //! A null pointer beside a length of 0 is an empty text or line. No clause says so, since no slice
 //! has a null pointer here: the compiler passes the export a valid address instead. The scripts that
 //! call the built library test it.
 //!
 //! Its files:
 //!
-//! - In `src/`, `line.rt`: a command's result, and what is written of it. `with.rt`: the verifier's
-//!   result by the caller's parameters. `params.rt`: these. `stark.rt`: the exports over constraints.
-//!   `stark_line.rt`: what is written of their commands. `statement.rt`: the caller's statement,
-//!   read and verified with a proof. `unread.rt`: the line of one of two texts that can't be read.
-//! - In `specs/`: `Line`, what is written; `Params` and `With`, the parameters and what a verifier
-//!   returns by them; `Statement`, the texts of a statement and a proof, and what is written of them.
+//! - In `src/`, `challenger.rt`: the caller's challenger, what it absorbs and draws. `line.rt`: a
+//!   command's result, and what is written of it. `with.rt`: the verifier's result by the caller's
+//!   parameters. `params.rt`: these. `stark.rt`: the exports over constraints. `stark_line.rt`: what
+//!   is written of their commands. `statement.rt`: the caller's statement, read and verified with a
+//!   proof. `unread.rt`: the line of one of two texts that can't be read.
+//! - In `specs/`: `Line`, what is written; `Challenger`, how the caller's challenger is left; `Params`
+//!   and `With`, the parameters and what a verifier returns by them; `Statement`, the texts of a
+//!   statement and a proof, and what is written of them.
 //! - In `proofs/`: what is written of an answer, by its status.
 #![tactic(auto)]
 

@@ -103,8 +103,8 @@ pub extern "C" fn circle_stark_verify(
     call_verify(alloc, statement, proof, line, needed)
 }
 
-/// As [`circle_stark_verify`], from the caller's challenger, which is left as the verifier leaves it
-/// where the proof is accepted, and else as it was.
+/// As [`circle_stark_verify`], from the caller's challenger, which is left as the verifier leaves
+/// it where the proof is accepted, and else as it was.
 #[unsafe(no_mangle)]
 pub extern "C" fn circle_stark_verify_from(
     alloc: Global,

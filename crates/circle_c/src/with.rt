@@ -121,8 +121,8 @@ pub(crate) fn call_with<T: Parametrized + Drop>(
 }
 
 /// Runs the command from the caller's challenger on a text whose parameters are to be these, writes
-/// the line and returns the status. The challenger is left as the command leaves it where there is a
-/// result, and else as it was.
+/// the line and returns the status. The challenger is left as the command leaves it where there is
+/// a result, and else as it was.
 pub(crate) fn call_with_from<T: Parametrized + Drop>(
     alloc: Global,
     text: &[u8],

@@ -65,8 +65,8 @@ module _ {D WD : Type 0}
 
 module _ {D WD : Type 0}
     (o : Schemes Sha256Challenger (List ℕ) Mersenne31 Cubic (ShaMmcs Mersenne31) (List ℕ) D
-    (Vec (List ℕ) Global) (ShaMmcs Cubic) (List ℕ) WD (Vec (List ℕ) Global)) (given : CommittedInput)
-    (input : Input) (same : given.input.now ≡ input) where
+    (Vec (List ℕ) Global) (ShaMmcs Cubic) (List ℕ) WD (Vec (List ℕ) Global))
+    (given : CommittedInput) (input : Input) (same : given.input.now ≡ input) where
   -- what was committed to of an input is opened of it
   pub opened-of : (output : Claims) (old new : List ℕ) →
       AreOpened o given.input.now output given.batches.items old new →

@@ -27,7 +27,8 @@ returns-clause-accepted c = λ none.
     (λ line is. result-between
     (λ i old new l. IsVerifiedFrom _ i old new
     × (l ≡ verified_line (described (statement_given i)).digest i.log_n)) _ _ _ _
-    c.to_challenger-own.ensures (c.leave_if.ensures.taken (eq-eqb c.report-status.result 0 none)) c.in-Ok.input _ is)
+    c.to_challenger-own.ensures (c.leave_if.ensures.taken (eq-eqb c.report-status.result 0 none))
+    c.in-Ok.input _ is)
     c.line_from.ensures.result)
     c.report-status.ensures.written (sym c.report-status.ensures.status ∙ none)
 

@@ -14,4 +14,5 @@ pub returns-clause-refused : goal.returns-clause-refused
 returns-clause-refused c =
     if_err _ _ c.prove_from.result
     (λ e h. unproved-new _ c.args.input (state_of c.new-challenger.result)
-    (state_of c.prove_from.new.challenger) c.new-challenger.ensures e h) c.prove_from.ensures.refused
+    (state_of c.prove_from.new.challenger) c.new-challenger.ensures e h)
+    c.prove_from.ensures.refused

@@ -7,16 +7,19 @@ pub returns-clause-accepted : goal.returns-clause-accepted
 returns-clause-accepted c =
     on_one c.verify_from.result
     (λ v. verified-new _ c.args.input (state_of c.new-challenger.result)
-    (state_of c.verify_from.new.challenger) c.new-challenger.ensures v) c.verify_from.ensures.accepted
+    (state_of c.verify_from.new.challenger) c.new-challenger.ensures v)
+    c.verify_from.ensures.accepted
 
 pub returns-clause-complete : goal.returns-clause-complete
 returns-clause-complete c =
     if_err _ _ c.verify_from.result
-    (λ e complete v. complete (accepted-new _ c.args.input (state_of c.new-challenger.result) c.new-challenger.ensures v))
+    (λ e complete v. complete
+    (accepted-new _ c.args.input (state_of c.new-challenger.result) c.new-challenger.ensures v))
     c.verify_from.ensures.complete
 
 pub returns-clause-reason : goal.returns-clause-reason
 returns-clause-reason c =
     if_err _ _ c.verify_from.result
     (λ e h. unverified-new _ _ _ c.args.input (state_of c.new-challenger.result)
-    (state_of c.verify_from.new.challenger) c.new-challenger.ensures e h) c.verify_from.ensures.reason
+    (state_of c.verify_from.new.challenger) c.new-challenger.ensures e h)
+    c.verify_from.ensures.reason
