@@ -1,5 +1,5 @@
 -- What the program hands to the verifier.
-use Rattle.std.proofs.Common.{◌≡◌, ℕ, List, refl, ap, sym}
+use Rattle.std.proofs.Common.{◌≡◌, ℕ, List, Result, Ok, Err, IfErr, IsErrAnd, refl, ap, sym}
 use Rattle.std.proofs.Common.{subst, ◌∙◌, replicate, Vec, Global}
 use Rattle.circle_field.specs.declared.cubic.Cubic.{Cubic}
 use Rattle.circle_field.specs.declared.mersenne31.Mersenne31.{Mersenne31}
@@ -16,8 +16,16 @@ use Rattle.circle_relation.specs.RunOf.{proof_of}
 use Rattle.circle_relation.specs.Statement.{BatchClaim}
 use Rattle.circle_relation.specs.StatementOf.{batch_claims}
 use Rattle.p3_circle.specs.Verdict.{IsAccepted}
+use Rattle.circle_commit.specs.declared.error.FriError.TheVariants.{Memory}
+use Rattle.circle_commands.specs.Failure.{IsFailureOfRefusal, IsRefusedFor}
+use Rattle.circle_commands.specs.Reasons.{IsOfVerify, VerifierError}
 use Rattle.circle_commands.specs.Verified.{IsUnverified, IsUnverifiedFrom, IsVerified}
 use Rattle.circle_commands.specs.Verified.{IsVerifiedFrom, Scheme, after_claims, batches_told}
+use Rattle.circle_commands.specs.declared.failure.Failure.{Failure}
+use Rattle.circle_commands.specs.declared.failure.Failure.TheVariants.{Usage, Json, Unfit, Refused}
+use Rattle.circle_commands.specs.declared.failure.Failure.TheVariants.{Input as Unread}
+use Rattle.circle_commands.specs.declared.failure.Failure.TheVariants.{Memory as NoMemory}
+use Rattle.circle_commands.specs.declared.failure.Reason.TheVariants as reason
 use Rattle.circle_commands.specs.declared.verify.Input.{Input}
 
 -- the commitment of claims
@@ -69,6 +77,14 @@ module _ {D WD : Type 0}
         AcceptsFrom o.fields params o.run (o.authenticates mmcs) (o.word_authenticates params.mmcs)
         batches (proof_of input.proof) old new
 
+    -- what is verified from the challenger that has absorbed the commitments is so from its state
+    pub verified_from : (start : List ℕ) →
+        start ≡ after_claims (replicate 32 0) input.batches.items → (v : IsVerified o input) →
+        IsVerifiedFrom o input start (state_of v.left)
+    verified_from start taken v =
+        subst (λ (s : List ℕ). IsVerifiedFrom o input s (state_of v.left)) (v.taken ∙ sym taken)
+        v.verified
+
 module _ {g : _} {D WD : Type 0}
     (o : Schemes Sha256Challenger (List ℕ) Mersenne31 Cubic (ShaMmcs Mersenne31) (List ℕ) D
     (Vec (List ℕ) Global) (ShaMmcs Cubic) (List ℕ) WD (Vec (List ℕ) Global)) (input : Input)
@@ -107,10 +123,14 @@ module _ {g : _} {D WD : Type 0}
         (ap (with_scheme input.params) (one_scheme v.scheme scheme) ∙ sym same) of_schemes in
         subst (λ bs. Accepts o input mmcs params bs old new) (sym told) of_params
 
-    -- what is verified from the challenger that has absorbed the commitments is so from its state
-    pub verified_from : (start : List ℕ) →
-        start ≡ after_claims (replicate 32 0) input.batches.items → (v : IsVerified o input) →
-        IsVerifiedFrom o input start (state_of v.left)
-    verified_from start taken v =
-        subst (λ (s : List ℕ). IsVerifiedFrom o input s (state_of v.left)) (v.taken ∙ sym taken)
-        v.verified
+-- a proof that is refused, but where it is memory that is refused
+pub refused-proof : {A : Type 0} (Is : VerifierError → Type 0) (r : Result A Failure)
+    (e : VerifierError) → IsErrAnd r (IsFailureOfRefusal reason.Verify Memory e) →
+    ((¬ (e ≡ Memory)) → Is e) → IfErr r (IsRefusedFor (IsOfVerify Is))
+refused-proof Is (Ok x) e is then = absurd is
+refused-proof Is (Err Usage) e is then = absurd is
+refused-proof Is (Err Unread) e is then = absurd is
+refused-proof Is (Err Json) e is then = absurd is
+refused-proof Is (Err (Unfit error)) e is then = absurd is
+refused-proof Is (Err (Refused why)) e is then = subst (IsOfVerify Is) (sym is.0) (then is.1)
+refused-proof Is (Err NoMemory) e is then = tt

@@ -331,10 +331,11 @@ impl<'a> CommittedInput<'a> {
     pub(crate) fn commitments(&self, alloc: Global) -> Result<Vec<Commitment>, AllocError>
         ensures { IfOk result (λ v. v.items ≡ map (λ b. b.commitment) self.now.batches.items) }
     {
-        self.batches
-            .iter()
-            .map(|batch| batch.commitment)
-            .collect(alloc)
+        let mut commitments = Vec::with_capacity(alloc, self.batches.len())?;
+        for batch in &self.batches {
+            commitments.push(batch.commitment)?;
+        }
+        Ok(commitments)
     }
 
     // Opens the batches from the challenger's state.

@@ -4,7 +4,6 @@ use Rattle.circle_field.specs.Bytes.{bytes}
 use Rattle.circle_merkle.specs.Authentication.{IsShaRoot}
 use Rattle.circle_commands.specs.Proved.{IsCommitted}
 use Rattle.circle_commands.specs.Traces.{AreFitting, AreTall, IsRefusalOfBatches}
-use Rattle.circle_commands.specs.Unproved.{IsFirstUncommitted}
 use Rattle.circle_commands.proofs.First.{passed_by, tall-fitting}
 use Rattle.circle_commands.proofs.Unproved.{by_commit, by_rows, in-params}
 use Rattle.circle_commands.proofs.prove.CommittedInput.new.Goals as goal
