@@ -4,6 +4,10 @@
  *                                      with null pointers where there are no bytes
  *   tests with N N N N N N N           the same by circle_verify_with and these parameters
  *   tests stark FILE                   the same by circle_stark_verify and the file's statement
+ *   tests from STATE WORD..            what the other words say, by the call that goes on from the
+ *                                      challenger in this state, and prints the state it leaves
+ *   tests moves MOVE..                 has a new challenger observe:HEX, element:N or sample, and
+ *                                      prints what each returns and the state
  *   tests once COMMAND [FILE]          judges it by one call, and allocates nothing else
  *   tests threads (COMMAND FILE)..     judges the files in eight threads at once
  *   tests time COMMAND FILE N          prints how many nanoseconds each of N calls took
@@ -55,6 +59,11 @@ typedef struct work {
 static const circle_params *params;
 static bytes statement;
 
+/* The challenger that calls go on from, where there is one, and that they left. */
+static const circle_challenger *begun;
+static _Thread_local circle_challenger left;
+static _Thread_local int is_left;
+
 static void fail(const char *why) {
     fprintf(stderr, "%s\n", why);
     exit(9);
@@ -68,7 +77,51 @@ static void *room(size_t len) {
     return at;
 }
 
+static int same_challenger(const circle_challenger *one, const circle_challenger *other) {
+    return memcmp(one->state, other->state, sizeof one->state) == 0;
+}
+
+/* A call that goes on from the challenger, with a copy of it: circle.h says when it is left as it
+ * was, and each call that isn't leaves the same one. */
+static uint8_t call_from(const char *command, bytes text, bytes line, size_t *needed) {
+    circle_challenger own = *begun;
+    int is_proof = 1;
+    uint8_t status = 9;
+    if (strcmp(command, "prove") == 0) {
+        status = circle_prove_from(text.at, text.len, &own, line.at, line.len, needed);
+    } else if (strcmp(command, "stark_prove") == 0) {
+        status = circle_stark_prove_from(text.at, text.len, &own, line.at, line.len, needed);
+    } else if (strcmp(command, "with") == 0) {
+        is_proof = 0;
+        status = circle_verify_from(text.at, text.len, params, &own, line.at, line.len, needed);
+    } else if (strcmp(command, "stark_verify") == 0) {
+        is_proof = 0;
+        status = circle_stark_verify_from(statement.at, statement.len, text.at, text.len, &own,
+                                          line.at, line.len, needed);
+    } else {
+        fail("no such command goes on from a challenger");
+    }
+    if (status != 0 || (is_proof && *needed > line.len)) {
+        if (!same_challenger(&own, begun)) {
+            fail("a challenger isn't as it was");
+        }
+        return status;
+    }
+    if (is_left && !same_challenger(&own, &left)) {
+        fail("two calls leave two challengers");
+    }
+    left = own;
+    is_left = 1;
+    return status;
+}
+
 static uint8_t call(const char *command, bytes text, bytes line, size_t *needed) {
+    if (begun != NULL) {
+        return call_from(command, text, line, needed);
+    }
+    if (strcmp(command, "commit") == 0) {
+        return circle_commit(text.at, text.len, line.at, line.len, needed);
+    }
     if (strcmp(command, "values") == 0) {
         return circle_values(text.at, text.len, line.at, line.len, needed);
     }
@@ -332,10 +385,71 @@ static int time_calls(const char *command, const char *path, size_t calls) {
     return status;
 }
 
+/* The bytes of hexadecimal digits, and null where there are none. */
+static bytes unhexed(const char *digits) {
+    bytes all = {NULL, strlen(digits) / 2};
+    if (all.len > 0) {
+        all.at = room(all.len);
+    }
+    for (size_t at = 0; at < all.len; at++) {
+        unsigned value = 0;
+        if (sscanf(digits + 2 * at, "%2x", &value) != 1) {
+            fail("no hexadecimal digits");
+        }
+        all.at[at] = (uint8_t)value;
+    }
+    return all;
+}
+
+static void print_state(const circle_challenger *challenger) {
+    for (size_t at = 0; at < sizeof challenger->state; at++) {
+        printf("%02x", challenger->state[at]);
+    }
+    printf("\n");
+}
+
+static int move(int count, char **moves) {
+    circle_challenger own = {{0}};
+    for (int at = 0; at < count; at++) {
+        if (strncmp(moves[at], "observe:", 8) == 0) {
+            bytes now = unhexed(moves[at] + 8);
+            circle_challenger_observe(&own, now.at, now.len);
+            free(now.at);
+        } else if (strncmp(moves[at], "element:", 8) == 0) {
+            uint32_t element = (uint32_t)strtoul(moves[at] + 8, NULL, 10);
+            printf("%u\n", circle_challenger_observe_element(&own, element));
+        } else if (strcmp(moves[at], "sample") == 0) {
+            uint32_t drawn[5] = {MARK, MARK, MARK, MARK, MARK};
+            circle_challenger_sample(&own, drawn + 1);
+            if (drawn[0] != MARK || drawn[4] != MARK) {
+                fail("more than three numbers were written");
+            }
+            printf("%u %u %u\n", drawn[1], drawn[2], drawn[3]);
+        } else {
+            fail("no such move");
+        }
+    }
+    print_state(&own);
+    return 0;
+}
+
 int main(int argc, char **argv) {
     const char *mode = argc > 1 ? argv[1] : "";
+    circle_challenger given;
     circle_params own;
     int status = 9;
+    if (strcmp(mode, "moves") == 0) {
+        return move(argc - 2, argv + 2);
+    }
+    if (strcmp(mode, "from") == 0 && argc > 3 && strlen(argv[2]) == 2 * sizeof given.state) {
+        bytes state = unhexed(argv[2]);
+        memcpy(given.state, state.at, state.len);
+        free(state.at);
+        begun = &given;
+        argc -= 2;
+        argv += 2;
+        mode = argv[1];
+    }
     if (strcmp(mode, "judge") == 0 && argc == 3) {
         bytes text = read_all(0);
         status = judge(argv[2], text);
@@ -364,7 +478,10 @@ int main(int argc, char **argv) {
     } else if (strcmp(mode, "time") == 0 && argc == 5) {
         status = time_calls(argv[2], argv[3], strtoull(argv[4], NULL, 10));
     } else {
-        fprintf(stderr, "usage: tests judge|with|stark|once|threads|time ..\n");
+        fprintf(stderr, "usage: tests judge|with|stark|from|moves|once|threads|time ..\n");
+    }
+    if (begun != NULL) {
+        print_state(is_left ? &left : begun);
     }
     return status;
 }

@@ -1,24 +1,29 @@
 -- What is written of an answer, by its status.
 use Rattle.std.proofs.Common.{◌≡◌, ℕ, ◌≤◌, List, Ok, Err, IfErr, IfOk, arith, inl, inr}
-use Rattle.std.proofs.Common.{string_bytes, subst, sym}
+use Rattle.std.proofs.Common.{codes, string_bytes, subst, sym}
 use Rattle.circle_json.specs.Form.{Form}
-use Rattle.circle_commands.specs.Answer.{IsNotRead}
+use Rattle.circle_commands.specs.Answer.{IsAnswer as IsCommonAnswer, IsNotRead}
 use Rattle.circle_commands.specs.Failure.{line_of, status_of}
-use Rattle.circle_commands.specs.Text.{IsTextOf}
+use Rattle.circle_commands.specs.Program.{Answer as CommonAnswer, answer_line as common_line}
+use Rattle.circle_commands.specs.Program.{answer_status as common_status}
 use Rattle.circle_commands.specs.declared.failure.Failure.{Failure}
 use Rattle.circle_commands.specs.declared.failure.Failure.TheVariants.{Usage, Input, Json, Unfit}
 use Rattle.circle_commands.specs.declared.failure.Failure.TheVariants.{Refused, Memory}
+use Rattle.circle_commands.specs.declared.failure.Reason.{Reason as CommonReason}
 use Rattle.stark_commands.specs.Answer.{IsAnswer}
 use Rattle.stark_commands.specs.Failure.{IsRefusedFor, reason_line}
 use Rattle.stark_commands.specs.Program.{Answer, answer_line, answer_status}
 use Rattle.stark_commands.specs.declared.failure.Failure.TheVariants.{Common, Refused as Reasoned}
 use Rattle.stark_commands.specs.declared.failure.Reason.{Reason}
 use Rattle.stark_commands.specs.declared.verify.Input.{Input as Claim}
-use Rattle.circle_c.specs.Line.{IsWritten, WritesLine, WritesReason, WritesUnread}
+use Rattle.circle_c.specs.Challenger.{IsReasonFrom}
+use Rattle.circle_c.specs.Line.{IsWritten, WritesLine, WritesReason, WritesRefusal, WritesUnread}
 use Rattle.circle_c.specs.Line.{WritesUnreadable}
-use Rattle.circle_c.specs.Statement.{AreTextsOf, failure_line, statement_form, statement_of}
+use Rattle.circle_c.specs.Statement.{IsUnread, WritesUnreadText, failure_line, failure_of, name_of}
 use Rattle.circle_c.specs.Statement.{unread_line}
 use Rattle.circle_c.specs.declared.statement.Statement.{Statement}
+use Rattle.circle_c.specs.declared.unread.Unread.{Unread}
+use Rattle.circle_c.specs.declared.unread.Unread.TheVariants.{OfStatement, OfProof}
 
 -- a failure to read has the status 1 or 2
 pub status_between : (failure : Failure) → (1 ≤ status_of failure) × (status_of failure ≤ 2)
@@ -29,15 +34,30 @@ status_between (Unfit error) = (omega arith, omega arith)
 status_between (Refused reason) = (omega arith, omega arith)
 status_between Memory = (omega arith, omega arith)
 
--- texts of a statement and of a proof are those of the input made of both
-pub are_texts : {Proof : Type 0} (form : Form Proof) (part : Claim → Proof)
-    (statement proof : List ℕ) (input : Claim) (s : Statement) (p : Proof) →
-    statement_of input ≡ s → part input ≡ p → IsTextOf statement_form statement s →
-    IsTextOf form proof p → AreTextsOf form part statement proof input
-are_texts form part statement proof input s p stated proved of_statement of_proof = record {
-  stated = subst (λ (t : Statement). IsTextOf statement_form statement t) (sym stated) of_statement;
-  proved = subst (λ t. IsTextOf form proof t) (sym proved) of_proof;
-}
+-- a reason to refuse an input from the caller's challenger
+pub reason-from : {Given R : Type 0} (IsReason : Given → List ℕ → List ℕ → R → Type 0)
+    (start old left : List ℕ) → start ≡ old → (input : Given) (reason : R) →
+    IsReason input start left reason → IsReasonFrom IsReason old input reason
+reason-from IsReason start old left begun input reason is =
+    (left, subst (λ (s : List ℕ). IsReason input s left reason) begun is)
+
+-- so of a command over constraints
+pub refused-from : {Given : Type 0} (IsReason : Given → List ℕ → List ℕ → Reason → Type 0)
+    (start old left : List ℕ) → start ≡ old → (input : Given) (answer : Answer) →
+    IfErr answer (IsRefusedFor (IsReason input start left)) →
+    IfErr answer (IsRefusedFor (IsReasonFrom IsReason old input))
+refused-from IsReason start old left begun input (Ok line) is = tt
+refused-from IsReason start old left begun input (Err (Common failure)) is = is
+refused-from IsReason start old left begun input (Err (Reasoned reason)) is =
+    reason-from IsReason start old left begun input reason is
+
+-- a result between states that the caller's are
+pub result-between : {Given : Type 0} (IsResult : Given → List ℕ → List ℕ → List ℕ → Type 0)
+    (start old left new : List ℕ) → start ≡ old → new ≡ left → (input : Given) (line : List ℕ) →
+    IsResult input start left line → IsResult input old new line
+result-between IsResult start old left new begun taken input line is =
+    subst (λ (s : List ℕ). IsResult input s new line) begun
+    (subst (λ (t : List ℕ). IsResult input start t line) (sym taken) is)
 
 module _ (old new : List ℕ) (needed : ℕ) where
   module _ {Input : Type 0} (input : Input) (AreTexts : Input → Type 0) (are : AreTexts input) where
@@ -77,19 +97,37 @@ module _ (old new : List ℕ) (needed : ℕ) where
     unread_written name (Refused reason) is written two = absurd is
     unread_written name Memory is written two = absurd (omega (arith, two))
 
-    -- and with 1 that of memory
-    pub memory_written : {R : Type 0} (of_reason : R → List ℕ) (Is : R → Type 0) (name : List ℕ)
-        (failure : Failure) → IsNotRead form text failure →
-        IsWritten (failure_line name failure) old new needed → status_of failure ≡ 1 →
-        WritesReason of_reason Is old new needed
-    memory_written of_reason Is name Usage is written one = absurd is
-    memory_written of_reason Is name Input is written one = absurd is
-    memory_written of_reason Is name Json is written one = absurd (omega (arith, one))
-    memory_written of_reason Is name (Unfit error) is written one = absurd (omega (arith, one))
-    memory_written of_reason Is name (Refused reason) is written one = absurd is
-    memory_written of_reason Is name Memory is written one = inl written
+  -- of two texts of which one isn't read, with the status 2 it is the line of why
+  pub texts_unread : {Proof : Type 0} (statement_form : Form Statement) (form : Form Proof)
+      (part : Claim → Proof) (statement proof : List ℕ) (unread : Unread) →
+      IsUnread statement_form form part statement proof unread →
+      IsWritten (failure_line (name_of unread) (failure_of unread)) old new needed →
+      status_of (failure_of unread) ≡ 2 →
+      WritesUnreadText statement_form form part statement proof old new needed
+  texts_unread statement_form form part statement proof (OfStatement failure) is written two =
+      inl (unread_written statement_form statement (codes "statement") failure is written two)
+  texts_unread statement_form form part statement proof (OfProof failure) is written two =
+      inr (unread_written form proof (codes "proof") failure is written two)
 
-  -- of a command's answer to a text, with the status 2 it is the line of why the text isn't read
+  module _ {Given : Type 0} (form : Form Given) (text : List ℕ)
+      (IsResult : Given → List ℕ → Type 0) (IsReason : Given → CommonReason → Type 0) where
+    -- of a command's answer to a text, where its reasons are the caller's, with the status 1 it is
+    -- the line of memory or of a reason
+    pub reason_told : (Told : Given → CommonReason → Type 0) →
+        ((input : Given) (reason : CommonReason) → IsReason input reason → Told input reason) →
+        (answer : CommonAnswer) → IsCommonAnswer form IsResult IsReason text answer →
+        IsWritten (common_line answer) old new needed → common_status answer ≡ 1 →
+        WritesRefusal form text old new needed Told
+    reason_told Told then (Ok line) is written one = absurd (omega (arith, one))
+    reason_told Told then (Err Usage) is written one = absurd is
+    reason_told Told then (Err Input) is written one = absurd is
+    reason_told Told then (Err Json) is written one = absurd (omega (arith, one))
+    reason_told Told then (Err (Unfit error)) is written one = absurd (omega (arith, one))
+    reason_told Told then (Err (Refused reason)) is written one =
+        inr (reason, ((is.0, (is.1.0, then is.0 reason is.1.1)), written))
+    reason_told Told then (Err Memory) is written one = inl written
+
+  -- of a command over constraints, with the status 2 it is the line of why the text isn't read
   module _ {Given : Type 0} (form : Form Given) (text : List ℕ)
       (IsResult : Given → List ℕ → Type 0) (IsReason : Given → Reason → Type 0) where
     pub call_unread : (answer : Answer) → IsAnswer form IsResult IsReason text answer →

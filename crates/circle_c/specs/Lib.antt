@@ -1,3 +1,4 @@
+pub mod Challenger
 pub mod Line
 pub mod Params
 pub mod Statement

@@ -1,18 +1,14 @@
 -- A verifier's own statement and a proof, each in a text of its own, and what a call writes of
 -- them.
-use Rattle.std.specs.Prelude.{ℕ, ◌⊎◌, ◌++◌, List, Vec, codes}
+use Rattle.std.specs.Prelude.{ℕ, ◌⊎◌, ◌++◌, List, Vec, codes, ⊤}
 use Rattle.std.specs.declared.alloc.Global.{Global}
 use Rattle.circle_air.specs.declared.parts.AirParts.{AirParts}
-use Rattle.circle_field.specs.Mersenne31.{residue}
-use Rattle.circle_field.specs.Mersenne31Laws.{same_residue}
+use Rattle.circle_commit.specs.declared.params.FriParameters.{FriParameters}
 use Rattle.circle_field.specs.declared.mersenne31.Mersenne31.{Mersenne31}
-use Rattle.circle_json.specs.Airs.{parts_fields}
-use Rattle.circle_json.specs.Claims.{parameters_form}
-use Rattle.circle_json.specs.Form.{Form, count_form, list_form, told_form}
+use Rattle.circle_json.specs.Form.{Form, count_form}
 use Rattle.circle_json.specs.Named.{json_name}
-use Rattle.circle_json.specs.ObjectForm.{object_form}
-use Rattle.circle_json.specs.Objects.{field, none_left}
-use Rattle.circle_json.specs.Values.{count_written, residue_of}
+use Rattle.circle_json.specs.Objects.{Fields, field, none_left}
+use Rattle.circle_commands.specs.Answer.{IsNotRead}
 use Rattle.circle_commands.specs.Failure.{line_of}
 use Rattle.circle_commands.specs.Text.{IsTextOf}
 use Rattle.circle_commands.specs.declared.failure.Failure.{Failure}
@@ -22,26 +18,18 @@ use Rattle.stark_commands.specs.declared.failure.Reason.{Reason}
 use Rattle.stark_commands.specs.declared.verify.Input.{Input}
 use Rattle.circle_c.specs.Line.{WritesLine, WritesReason, WritesUnread}
 use Rattle.circle_c.specs.declared.statement.Statement.{Statement}
+use Rattle.circle_c.specs.declared.unread.Unread.{Unread}
+use Rattle.circle_c.specs.declared.unread.Unread.TheVariants.{OfStatement, OfProof}
 
--- how elements, lists of them and the parts of an AIR stand in JSON
-abbrev pub element_form : Form Mersenne31
-element_form = told_form residue_of residue count_written same_residue
-
-abbrev pub elements_form : Form (Vec Mersenne31 Global)
-elements_form = list_form element_form
-
-abbrev pub air_form : Form (AirParts Mersenne31)
-air_form = object_form (parts_fields element_form)
-
--- an object of the AIR, the logarithm of the number of rows, the parameters and the public values
-abbrev pub statement_form : Form Statement
-statement_form =
-    object_form
-    (field (codes "air") (λ s. s.air) air_form
+-- the AIR, the logarithm of the number of rows, the parameters and the public values
+abbrev pub statement_fields : Form (AirParts Mersenne31) → Form (FriParameters ⊤) →
+    Form (Vec Mersenne31 Global) → Fields Statement
+statement_fields air params elements =
+    field (codes "air") (λ s. s.air) air
     (field (codes "log_n") (λ s. s.log_n) count_form
-    (field (codes "params") (λ s. s.params) parameters_form
-    (field (codes "public_values") (λ s. s.public_values) elements_form
-    none_left))))
+    (field (codes "params") (λ s. s.params) params
+    (field (codes "public_values") (λ s. s.public_values) elements
+    none_left)))
 
 -- an input of the command `verify` without its proof
 abbrev pub statement_of : Input → Statement
@@ -63,13 +51,27 @@ failure_line text Json = unread_line text (codes "json")
 failure_line text (Unfit error) = unread_line text (json_name error)
 failure_line text failure = line_of failure
 
--- of a text of a statement and one of a proof, which is this part of an input and has this form
-module _ {Proof : Type 0} (proof_form : Form Proof) (part : Input → Proof)
-    (statement proof : List ℕ) where
+-- the name of a text that can't be read, and the failure to read it
+abbrev pub name_of : Unread → List ℕ
+name_of (OfStatement failure) = codes "statement"
+name_of (OfProof failure) = codes "proof"
+
+abbrev pub failure_of : Unread → Failure
+failure_of (OfStatement failure) = failure
+failure_of (OfProof failure) = failure
+
+-- of a text of a statement and one of a proof, which is this part of an input, by their forms
+module _ {Proof : Type 0} (statement_form : Form Statement) (proof_form : Form Proof)
+    (part : Input → Proof) (statement proof : List ℕ) where
   -- they stand for the input's statement and for its proof
   pub record AreTextsOf (input : Input) : Type 0 where
     pub stated : IsTextOf statement_form statement (statement_of input)
     pub proved : IsTextOf proof_form proof (part input)
+
+  -- the text of the statement isn't read, or that of the proof
+  abbrev pub IsUnread : Unread → Type 0
+  IsUnread (OfStatement failure) = IsNotRead statement_form statement failure
+  IsUnread (OfProof failure) = IsNotRead proof_form proof failure
 
   -- they stand for an input that is so
   abbrev pub StandFor : (Input → Type 0) → Type 0

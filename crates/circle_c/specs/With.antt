@@ -1,5 +1,8 @@
 -- What a command returns of inputs that have certain parameters.
 use Rattle.std.specs.Prelude.{ℕ, List}
+use Rattle.circle_json.specs.Form.{Form}
+use Rattle.circle_commands.specs.Answer.{IsFailureOf}
+use Rattle.circle_commands.specs.declared.failure.Failure.{Failure}
 use Rattle.circle_commands.specs.declared.failure.Reason.{Reason}
 use Rattle.circle_commands.specs.declared.failure.Reason.TheVariants.{Values, Prove, Verify, Shape}
 use Rattle.circle_commands.specs.declared.failure.Reason.TheVariants.{ParametersDiffer}
@@ -16,3 +19,8 @@ module _ {Given : Type 0} (Has : Given → Type 0) where
   IsReasonWith IsReason input (Verify refusal) = Has input × IsReason input (Verify refusal)
   IsReasonWith IsReason input (Shape refusal) = Has input × IsReason input (Shape refusal)
   IsReasonWith IsReason input ParametersDiffer = ¬ Has input
+
+  -- memory was refused, or the text stands for no input, or for one that has other parameters
+  abbrev pub IsNotReadWith : Form Given → List ℕ → Failure → Type 0
+  IsNotReadWith form =
+      IsFailureOf form (IsResultWith (λ input line. ⊥)) (IsReasonWith (λ input reason. ⊥))

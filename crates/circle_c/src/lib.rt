@@ -7,8 +7,8 @@
 //! anything of its caller beyond its types, and each returns. What is proved of every export, by the
 //! clauses:
 //!
-//! - `status`: the status is 0, 1 or 2.
-//! - Status 0 (`rows`, `shape`, `proved`, `accepted`, `satisfied`): the text stands for an input of
+//! - `status`: the status of a command is 0, 1 or 2.
+//! - Status 0 (`rows`, `shape`, `commitments`, `proved`, `accepted`, `satisfied`): the text stands for an input of
 //!   the command, and the line is a result of that input, as `is_result` of the command has it: of
 //!   `values` the JSON text of the polynomials' values, of `shape` that of the shape, of `prove`
 //!   claims with a proof that is accepted where each matrix has a point, and of `verify`
@@ -36,26 +36,35 @@
 //! want of memory. Status 2 says which of the texts can't be read, `{"text":"statement",..}` or
 //! `{"text":"proof",..}`, and why.
 //!
+//! The calls whose names end in `_from` go on from a challenger of the caller's own, which
+//! `circle_challenger_observe` and `_observe_element` have absorb and `_sample` has draw. It is left
+//! as the command leaves it where the status is 0, and of a prover only where the line fits too; else
+//! it is as it was (`state`). `circle_commit` writes the commitments that claims are about.
+//!
 //! A null pointer beside a length of 0 is an empty text or line. No clause says so, since no slice
 //! has a null pointer here: the compiler passes the export a valid address instead. The scripts that
 //! call the built library test it.
 //!
 //! Its files:
 //!
-//! - In `src/`, `line.rt`: a command's result, and what is written of it. `with.rt`: the verifier's
-//!   result by the caller's parameters. `params.rt`: these. `stark.rt`: the exports over constraints.
-//!   `stark_line.rt`: what is written of their commands. `statement.rt`: the caller's statement,
-//!   read and verified with a proof. `unread.rt`: the line of one of two texts that can't be read.
-//! - In `specs/`: `Line`, what is written; `Params` and `With`, the parameters and what a verifier
-//!   returns by them; `Statement`, the texts of a statement and a proof, and what is written of them.
+//! - In `src/`, `challenger.rt`: the caller's challenger, what it absorbs and draws. `line.rt`: a
+//!   command's result, and what is written of it. `with.rt`: the verifier's result by the caller's
+//!   parameters. `params.rt`: these. `stark.rt`: the exports over constraints. `stark_line.rt`: what
+//!   is written of their commands. `statement.rt`: the caller's statement, read and verified with a
+//!   proof. `unread.rt`: the line of one of two texts that can't be read.
+//! - In `specs/`: `Line`, what is written; `Challenger`, how the caller's challenger is left; `Params`
+//!   and `With`, the parameters and what a verifier returns by them; `Statement`, the texts of a
+//!   statement and a proof, and what is written of them.
 //! - In `proofs/`: what is written of an answer, by its status.
 #![tactic(auto)]
 
-ghost use Rattle.std.specs.Prelude.{◌≡◌, ◌≤◌};
+ghost use Rattle.std.specs.Prelude.{◌≡◌, ◌≤◌, length};
+ghost use Rattle.circle_c.specs.Challenger.{IsReasonFrom, IsResultFrom};
 ghost use Rattle.circle_c.specs.Line.{WritesRefusal, WritesResult, WritesUnreadable};
 ghost use Rattle.circle_c.specs.Params.{HasNumbers};
 ghost use Rattle.circle_c.specs.With.{IsReasonWith, IsResultWith};
 
+mod challenger;
 mod line;
 mod params;
 mod stark;
@@ -64,11 +73,18 @@ mod statement;
 mod unread;
 mod with;
 
-use circle_commands::command::Command;
+pub use challenger::{
+    CircleChallenger, circle_challenger_observe, circle_challenger_observe_element,
+    circle_challenger_sample,
+};
+use circle_commands::command::{Command, CommandFrom};
 use circle_commands::failure::LINE_LEN;
-use circle_commands::{prove, shape, values, verify};
+use circle_commands::{commit, prove, shape, values, verify};
 pub use params::CircleParams;
-pub use stark::{circle_stark_check, circle_stark_prove, circle_stark_verify};
+pub use stark::{
+    circle_stark_check, circle_stark_prove, circle_stark_prove_from, circle_stark_verify,
+    circle_stark_verify_from,
+};
 use std::alloc::Global;
 
 /// The values of polynomials on a domain, as the program's command `values` writes them.
@@ -171,4 +187,76 @@ pub extern "C" fn circle_verify_with(
     ensures short { needed.new ≤ LINE_LEN }
 {
     with::call_with::<verify::Input>(alloc, text, params, line, needed)
+}
+
+/// Commitments to the batches of an input of [`circle_prove`], whose points count for nothing.
+#[unsafe(no_mangle)]
+pub extern "C" fn circle_commit(
+    alloc: Global,
+    text: &[u8],
+    line: &mut [u8],
+    needed: &mut usize,
+) -> u8
+    ensures status { result ≤ 2 }
+    ensures commitments { let c = ⟦<commit::Input as Command>⟧ in result ≡ 0
+        → WritesResult c.form text.now line.old line.new needed.new c.is_result }
+    ensures refused { let c = ⟦<commit::Input as Command>⟧ in result ≡ 1
+        → WritesRefusal c.form text.now line.old line.new needed.new c.is_reason }
+    ensures unreadable { let c = ⟦<commit::Input as Command>⟧ in result ≡ 2
+        → WritesUnreadable c.form text.now line.old line.new needed.new }
+    ensures short { ¬ (result ≡ 0) → needed.new ≤ LINE_LEN }
+{
+    line::call::<commit::Input>(alloc, text, line, needed)
+}
+
+/// As [`circle_prove`], from the caller's challenger, which is left as the proof leaves it where
+/// there is a result and its line fits, and else as it was.
+#[unsafe(no_mangle)]
+pub extern "C" fn circle_prove_from(
+    alloc: Global,
+    text: &[u8],
+    challenger: &mut CircleChallenger,
+    line: &mut [u8],
+    needed: &mut usize,
+) -> u8
+    ensures status { result ≤ 2 }
+    ensures proved { let c = ⟦<prove::Input as CommandFrom>⟧ in result ≡ 0 → WritesResult
+        c.Command.form text.now line.old line.new needed.new (IsResultFrom c.is_result_from
+        (needed.new ≤ length line.old) challenger.old.state challenger.new.state) }
+    ensures refused { let c = ⟦<prove::Input as CommandFrom>⟧ in result ≡ 1 → WritesRefusal
+        c.Command.form text.now line.old line.new needed.new
+        (IsReasonFrom c.is_reason_from challenger.old.state) }
+    ensures unreadable { let c = ⟦<prove::Input as Command>⟧ in result ≡ 2
+        → WritesUnreadable c.form text.now line.old line.new needed.new }
+    ensures short { ¬ (result ≡ 0) → needed.new ≤ LINE_LEN }
+    ensures state { ¬ ((result ≡ 0) × (needed.new ≤ length line.old))
+        → challenger.new ≡ challenger.old }
+{
+    line::call_from::<prove::Input>(alloc, text, challenger, line, needed)
+}
+
+/// As [`circle_verify_with`], from the caller's challenger, which is left as the verifier leaves it
+/// where the proof is accepted, and else as it was.
+#[unsafe(no_mangle)]
+pub extern "C" fn circle_verify_from(
+    alloc: Global,
+    text: &[u8],
+    params: &CircleParams,
+    challenger: &mut CircleChallenger,
+    line: &mut [u8],
+    needed: &mut usize,
+) -> u8
+    ensures status { result ≤ 2 }
+    ensures accepted { let c = ⟦<verify::Input as CommandFrom>⟧ in result ≡ 0 → WritesResult
+        c.Command.form text.now line.old line.new needed.new (IsResultWith (HasNumbers params.now)
+        (λ i. c.is_result_from i challenger.old.state challenger.new.state)) }
+    ensures refused { let c = ⟦<verify::Input as CommandFrom>⟧ in result ≡ 1 → WritesRefusal
+        c.Command.form text.now line.old line.new needed.new (IsReasonWith (HasNumbers params.now)
+        (IsReasonFrom c.is_reason_from challenger.old.state)) }
+    ensures unreadable { let c = ⟦<verify::Input as Command>⟧ in result ≡ 2
+        → WritesUnreadable c.form text.now line.old line.new needed.new }
+    ensures short { needed.new ≤ LINE_LEN }
+    ensures state { ¬ (result ≡ 0) → challenger.new ≡ challenger.old }
+{
+    with::call_with_from::<verify::Input>(alloc, text, params, challenger, line, needed)
 }

@@ -4,11 +4,13 @@ ghost use Rattle.serde_json.specs.View.{view};
 ghost use Rattle.circle_json.specs.Form.{Form};
 ghost use Rattle.circle_commands.specs.Answer.{IsNotRead};
 ghost use Rattle.circle_commands.specs.Text.{IsTextOf};
-ghost use Rattle.circle_c.specs.Statement.{WritesRefusalOf, WritesUnreadText, WritesVerdict};
-ghost use Rattle.circle_c.specs.Statement.{statement_of};
+ghost use Rattle.circle_c.specs.Challenger.{IsReasonFrom};
+ghost use Rattle.circle_c.specs.Statement.{AreTextsOf, IsUnread, WritesRefusalOf};
+ghost use Rattle.circle_c.specs.Statement.{WritesUnreadText, WritesVerdict, statement_of};
 
+use crate::challenger::CircleChallenger;
 use crate::stark_line::report;
-use crate::unread::refuse;
+use crate::unread::Unread;
 use circle_air::AirParts;
 use circle_commands::Failure;
 use circle_commands::command::value;
@@ -16,14 +18,14 @@ use circle_commit::FriParameters;
 use circle_json::{JsonError, JsonForm, has_keys, member};
 use circle_presets::Val;
 use serde_json::Value;
-use stark_commands::Command;
 use stark_commands::failure::LINE_LEN;
 use stark_commands::verify::{Input, Proof};
+use stark_commands::{Command, CommandFrom};
 use std::alloc::Global;
 
 /// What a proof is to be of, and under which parameters.
 #[derive(Drop)]
-struct Statement {
+pub(crate) struct Statement {
     /// What the AIR is made of.
     air: AirParts<Val>,
     /// The binary logarithm of the number of rows.
@@ -51,7 +53,7 @@ impl Statement {
 }
 
 /// What one of the two texts stands for.
-trait Part: Sized {
+pub(crate) trait Part: Sized {
     // How such values stand in JSON.
     ghost form: { Form Self };
 
@@ -65,9 +67,11 @@ trait Part: Sized {
 
 /// An object of the parts, each under its name.
 impl Part for Statement {
-    ghost use Rattle.circle_c.specs.Statement.{statement_form};
+    ghost use Rattle.circle_json.specs.ObjectForm.{object_form};
+    ghost use Rattle.circle_c.specs.Statement.{statement_fields};
 
-    ghost form = { statement_form };
+    ghost form = { object_form (statement_fields ⟦<AirParts<Val> as JsonForm>⟧.form
+        ⟦<FriParameters<()> as JsonForm>⟧.form ⟦<Vec<Val> as JsonForm>⟧.form) };
 
     fn read(alloc: Global, value: &Value) -> Result<Statement, JsonError> {
         has_keys(value, &["air", "log_n", "params", "public_values"])?;
@@ -100,8 +104,26 @@ fn read<T: Part>(alloc: Global, text: &[u8]) -> Result<T, Failure>
     Ok(T::read(alloc, &value)?)
 }
 
+// The input whose statement one text stands for, and whose proof the other does. The statement is
+// read first.
+fn read_input(alloc: Global, statement: &[u8], proof: &[u8]) -> Result<Input, Unread>
+    ensures reads { let s = ⟦<Statement as Part>⟧ in let p = ⟦<Proof as Part>⟧ in IfOk result
+        (AreTextsOf s.form p.form (λ i. i.proof) statement.now proof.now) }
+    ensures refuses { let s = ⟦<Statement as Part>⟧ in let p = ⟦<Proof as Part>⟧ in IfErr result
+        (IsUnread s.form p.form (λ i. i.proof) statement.now proof.now) }
+{
+    let stated = match read::<Statement>(alloc, statement) {
+        Ok(stated) => stated,
+        Err(failure) => return Err(Unread::OfStatement(failure)),
+    };
+    match read::<Proof>(alloc, proof) {
+        Ok(proof) => Ok(stated.with_proof(proof)),
+        Err(failure) => Err(Unread::OfProof(failure)),
+    }
+}
+
 /// Verifies the proof that one text stands for, of the statement that another does, writes the line
-/// and returns the status. The statement is read first.
+/// and returns the status.
 pub(crate) fn call_verify(
     alloc: Global,
     statement: &[u8],
@@ -110,23 +132,54 @@ pub(crate) fn call_verify(
     needed: &mut usize,
 ) -> u8
     ensures status { result ≤ 2 }
-    ensures accepted { let c = ⟦<Input as Command>⟧ in let p = ⟦<Proof as JsonForm>⟧ in result ≡ 0
-        → WritesVerdict p.form (λ i. i.proof) statement.now proof.now line.old line.new needed.new
-        c.is_result }
-    ensures refused { let c = ⟦<Input as Command>⟧ in let p = ⟦<Proof as JsonForm>⟧ in result ≡ 1
-        → WritesRefusalOf p.form (λ i. i.proof) statement.now proof.now line.old line.new needed.new
-        c.is_reason }
-    ensures unreadable { let p = ⟦<Proof as JsonForm>⟧ in result ≡ 2 → WritesUnreadText p.form
-        (λ i. i.proof) statement.now proof.now line.old line.new needed.new }
+    ensures accepted { let c = ⟦<Input as Command>⟧ in let s = ⟦<Statement as Part>⟧ in let p =
+        ⟦<Proof as Part>⟧ in result ≡ 0 → WritesVerdict s.form p.form (λ i. i.proof) statement.now
+        proof.now line.old line.new needed.new c.is_result }
+    ensures refused { let c = ⟦<Input as Command>⟧ in let s = ⟦<Statement as Part>⟧ in let p =
+        ⟦<Proof as Part>⟧ in result ≡ 1 → WritesRefusalOf s.form p.form (λ i. i.proof) statement.now
+        proof.now line.old line.new needed.new c.is_reason }
+    ensures unreadable { let s = ⟦<Statement as Part>⟧ in let p = ⟦<Proof as Part>⟧ in result ≡ 2
+        → WritesUnreadText s.form p.form (λ i. i.proof) statement.now proof.now line.old line.new
+        needed.new }
     ensures short { ¬ (result ≡ 0) → needed.new ≤ LINE_LEN }
 {
-    let stated = match read::<Statement>(alloc, statement) {
-        Ok(stated) => stated,
-        Err(failure) => return refuse("statement", &failure, line, needed),
+    match read_input(alloc, statement, proof) {
+        Ok(input) => report(&input.line(alloc), line, needed),
+        Err(unread) => unread.refuse(line, needed),
+    }
+}
+
+/// As [`call_verify`], from the caller's challenger, which is left as the verifier leaves it where
+/// the proof is accepted, and else as it was.
+pub(crate) fn call_verify_from(
+    alloc: Global,
+    statement: &[u8],
+    proof: &[u8],
+    challenger: &mut CircleChallenger,
+    line: &mut [u8],
+    needed: &mut usize,
+) -> u8
+    ensures status { result ≤ 2 }
+    ensures accepted { let c = ⟦<Input as CommandFrom>⟧ in let s = ⟦<Statement as Part>⟧ in let p =
+        ⟦<Proof as Part>⟧ in result ≡ 0 → WritesVerdict s.form p.form (λ i. i.proof) statement.now
+        proof.now line.old line.new needed.new
+        (λ i. c.is_result_from i challenger.old.state challenger.new.state) }
+    ensures refused { let c = ⟦<Input as CommandFrom>⟧ in let s = ⟦<Statement as Part>⟧ in let p =
+        ⟦<Proof as Part>⟧ in result ≡ 1 → WritesRefusalOf s.form p.form (λ i. i.proof) statement.now
+        proof.now line.old line.new needed.new
+        (IsReasonFrom c.is_reason_from challenger.old.state) }
+    ensures unreadable { let s = ⟦<Statement as Part>⟧ in let p = ⟦<Proof as Part>⟧ in result ≡ 2
+        → WritesUnreadText s.form p.form (λ i. i.proof) statement.now proof.now line.old line.new
+        needed.new }
+    ensures short { ¬ (result ≡ 0) → needed.new ≤ LINE_LEN }
+    ensures state { ¬ (result ≡ 0) → challenger.new ≡ challenger.old }
+{
+    let input = match read_input(alloc, statement, proof) {
+        Ok(input) => input,
+        Err(unread) => return unread.refuse(line, needed),
     };
-    let proved = match read::<Proof>(alloc, proof) {
-        Ok(proved) => proved,
-        Err(failure) => return refuse("proof", &failure, line, needed),
-    };
-    report(&stated.with_proof(proved).line(alloc), line, needed)
+    let mut own = challenger.to_challenger();
+    let status = report(&input.line_from(alloc, &mut own), line, needed);
+    challenger.leave_if(status == 0, &own);
+    status
 }

@@ -1,14 +1,12 @@
 -- What the command `prove` writes is accepted by `verify`.
 use Rattle.std.specs.Prelude.{◌≡◌, ℕ, ◌+◌, ◌-◌, ◌^◌, ◌<◌, ◌≤◌, List, [], ◌∷◌, ◌++◌, length, map}
-use Rattle.std.specs.Prelude.{zip, replicate, All, Vec}
+use Rattle.std.specs.Prelude.{zip, All, Vec}
 use Rattle.std.specs.List.{AllByRecursion, AllZip}
 use Rattle.std.specs.declared.alloc.Global.{Global}
 use Rattle.std.proofs.Common.{refl, sym, ◌∙◌, ap, subst, arith}
 use Rattle.std.proofs.lemmas.List.{length-map}
 use Rattle.std.proofs.lemmas.List.Elements.{All-from_recursion, recursion_from_All}
 use Rattle.std.proofs.lemmas.Slice.Zip.{AllZip-long}
-use Rattle.circle_challenger.specs.Sha256Challenger.{state_of}
-use Rattle.circle_challenger.specs.Sponge.{absorbed}
 use Rattle.circle_challenger.specs.declared.sha256.Sha256Challenger.{Sha256Challenger}
 use Rattle.circle_completeness.specs.Claimed.{AreClaimed, IsClaimed}
 use Rattle.circle_completeness.specs.Honest.{IsOfLowDegree}
@@ -42,12 +40,12 @@ use Rattle.circle_relation.specs.RunOf.{proof_of}
 use Rattle.circle_relation.specs.Statement.{BatchClaim, MatrixClaim, all_matrices}
 use Rattle.circle_codewords.specs.Ratios.{points_of_height}
 use Rattle.circle_codewords.specs.Words.{claim_of}
-use Rattle.circle_commands.specs.Proved.{AreCommitted, HavePoints, IsCommitted, IsExtended}
-use Rattle.circle_commands.specs.Proved.{IsRequested, batch_claimed, after_batches}
+use Rattle.circle_commands.specs.Proved.{AreCommitted, AreOpened, HavePoints, IsCommitted}
+use Rattle.circle_commands.specs.Proved.{IsExtended, IsRequested, batch_claimed, commitments_of}
 use Rattle.circle_commands.specs.Proved.{matrix_claimed, points_of}
 use Rattle.circle_commands.specs.Rows.{lists}
 use Rattle.circle_commands.specs.Traces.{HasFittingRows}
-use Rattle.circle_commands.specs.Verified.{IsVerified, batch_told, batches_told, after_claims}
+use Rattle.circle_commands.specs.Verified.{IsVerifiedFrom, batch_told, batches_told}
 use Rattle.circle_commands.specs.declared.prove.Committed.{Committed}
 use Rattle.circle_commands.specs.declared.prove.Input.{Input}
 use Rattle.circle_commands.specs.declared.prove.Trace.{Trace}
@@ -55,20 +53,20 @@ use Rattle.circle_commands.specs.declared.verify.Input.{Input as Claims}
 use Rattle.circle_commands.proofs.Proving.{log_fits}
 
 -- the claims have the commitments of what was committed to
-taken-same : (s : List ℕ) (cs : List Committed) (vs : Openings Cubic)
+same-commitments : (cs : List Committed) (vs : Openings Cubic)
     (bs : List (CommitmentOpening Cubic (List ℕ) ℕ)) → length vs ≡ length cs → batches_told bs
-    ≡ pairwise batch_claimed cs vs → after_batches s cs ≡ after_claims s bs
-taken-same s [] vs [] long told = refl
-taken-same s [] vs (b ∷ bs) long told = absurd (cc)
-taken-same s (c ∷ cs) [] bs long told = absurd (omega (arith, long))
-taken-same s (c ∷ cs) (v ∷ vs) [] long told = absurd (cc)
-taken-same s (c ∷ cs) (v ∷ vs) (b ∷ bs) long told =
+    ≡ pairwise batch_claimed cs vs → map (λ b. b.commitment) bs ≡ map (λ c. c.commitment) cs
+same-commitments [] vs [] long told = refl
+same-commitments [] vs (b ∷ bs) long told = absurd (cc)
+same-commitments (c ∷ cs) [] bs long told = absurd (omega (arith, long))
+same-commitments (c ∷ cs) (v ∷ vs) [] long told = absurd (cc)
+same-commitments (c ∷ cs) (v ∷ vs) (b ∷ bs) long told =
     let first : batch_told b ≡ batch_claimed c v = cc in
     let rest : batches_told bs ≡ pairwise batch_claimed cs vs = cc in
     let same : b.commitment ≡ c.commitment =
     ap (λ (x : BatchClaim (List ℕ) Cubic). x.commitment) first in
-    ap (λ root. after_batches (absorbed s root) cs) (sym same)
-    ∙ taken-same (absorbed s b.commitment) cs vs bs (omega (arith, long)) rest
+    ap (λ root. root ∷ map (λ (b : CommitmentOpening Cubic (List ℕ) ℕ). b.commitment) bs) same
+    ∙ ap (λ roots. c.commitment ∷ roots) (same-commitments cs vs bs (omega (arith, long)) rest)
 
 both : {T : Type 0} (P : T → Type 0) (xs ys : List T) → AllByRecursion P xs → AllByRecursion P ys →
     AllByRecursion P (xs ++ ys)
@@ -270,22 +268,19 @@ module _ {D WD : Type 0}
     o.run.base.sampled_bits s n < 2 ^ n) where
   -- where each matrix has a point
   pub verified : (mmcs : ShaMmcs Mersenne31) (scheme : ShaMmcs Cubic) (committed : List Committed)
-      (requests : List (OpeningRequest D Cubic)) (values : Openings Cubic)
-      (start left : Sha256Challenger)
+      (requests : List (OpeningRequest D Cubic)) (values : Openings Cubic) (old new : List ℕ)
       (p : FriParameters (ShaMmcs Cubic)) → p ≡ with_scheme input.params scheme → AreFit p →
       p.max_log_arity ≡ 1 → AreRequests o.kept o.fields o.fields.two_adicity p requests
       → AreCommitted (o.Commits mmcs) p.log_blowup input.batches.items committed →
-      AllZip (IsRequested o.kept) committed requests
-      → state_of start ≡ after_batches (replicate 32 0) committed →
+      AllZip (IsRequested o.kept) committed requests →
       AllZip (AreAnswers o.kept o.fields p.log_blowup) requests values
       → IsOpening p o.kept requests values o.fields o.run (proof_of output.proof) (o.Commits mmcs)
-      (o.authenticates mmcs) (o.WordCommits scheme) (o.word_authenticates scheme)
-      (state_of start) (state_of left)
+      (o.authenticates mmcs) (o.WordCommits scheme) (o.word_authenticates scheme) old new
       → batches_told output.batches.items ≡ pairwise batch_claimed committed values →
       output.params ≡ input.params
-      → HavePoints input → IsVerified o output
-  verified mmcs scheme committed requests values start left p same fit arity asked batches wanted
-      taken answers opening told kept_params some =
+      → HavePoints input → IsVerifiedFrom o output old new
+  verified mmcs scheme committed requests values old new p same fit arity asked batches wanted
+      answers opening told kept_params some =
       let long = AllZip-long (IsRequested o.kept) committed requests wanted in
       let answered = AllZip-long (AreAnswers o.kept o.fields p.log_blowup) requests values
       answers in
@@ -309,28 +304,37 @@ module _ {D WD : Type 0}
       (λ (b : Vec Trace Global). All (λ t. 1 ≤ length t.points.items) b.items)
       input.batches.items some) batches wanted answers) in
       let accepted : AcceptsFrom o.fields p o.run (o.authenticates mmcs)
-      (o.word_authenticates scheme) claims (proof_of output.proof) (state_of start)
-      (state_of left) =
+      (o.word_authenticates scheme) claims (proof_of output.proof) old new =
       accepts-openings o.fields base laws e gens small o.run below p o.kept (o.Commits mmcs)
       (o.authenticates mmcs) (o.WordCommits scheme) (o.word_authenticates scheme) requests fit
       arity asked
-      (low-read o.fields p o.kept requests low) values answers (proof_of output.proof)
-      (state_of start) (state_of left) opening claims claimed_all pointed in
+      (low-read o.fields p o.kept requests low) values answers (proof_of output.proof) old new
+      opening claims claimed_all pointed in
       record {
         mmcs = mmcs;
         scheme = scheme;
-        start = start;
-        left = left;
-        taken = taken ∙ taken-same (replicate 32 0) committed values output.batches.items as_many
-            told;
         accepts =
             subst
             (λ (q : FriParameters (ShaMmcs Cubic)). AcceptsFrom o.fields q o.run
             (o.authenticates mmcs) (o.word_authenticates scheme) (batches_told output.batches.items)
-            (proof_of output.proof) (state_of start) (state_of left))
+            (proof_of output.proof) old new)
             (same ∙ ap (λ ps. with_scheme ps scheme) (sym kept_params))
             (subst
             (λ bs. AcceptsFrom o.fields p o.run (o.authenticates mmcs)
-            (o.word_authenticates scheme) bs (proof_of output.proof) (state_of start)
-            (state_of left)) (sym told) accepted);
+            (o.word_authenticates scheme) bs (proof_of output.proof) old new) (sym told) accepted);
       }
+
+module _ {D WD : Type 0}
+    (o : Schemes Sha256Challenger (List ℕ) Mersenne31 Cubic (ShaMmcs Mersenne31) (List ℕ) D
+    (Vec (List ℕ) Global) (ShaMmcs Cubic) (List ℕ) WD (Vec (List ℕ) Global)) where
+  -- claims of what was opened have the commitments to it
+  pub commitments-opened : (input : Input) (output : Claims) (committed : List Committed)
+      (old new : List ℕ) → AreOpened o input output committed old new →
+      commitments_of output ≡ map (λ c. c.commitment) committed
+  commitments-opened input output committed old new is =
+      let long = AllZip-long (IsRequested o.kept) committed is.requests is.asked in
+      let answered =
+      AllZip-long (AreAnswers o.kept o.fields input.params.log_blowup) is.requests is.values
+      is.answered in
+      same-commitments committed is.values output.batches.items (omega (arith, long, answered))
+      is.claims

@@ -1,7 +1,6 @@
 -- What is proved of the batches that are committed to and opened.
-use Rattle.std.proofs.Common.{◌≡◌, ℕ, List, ap, subst, replicate, Vec, Global}
+use Rattle.std.proofs.Common.{◌≡◌, ℕ, List, ap, map, subst, Vec, Global}
 use Rattle.std.specs.List.{AllZip}
-use Rattle.circle_challenger.specs.Sha256Challenger.{state_of}
 use Rattle.circle_challenger.specs.declared.sha256.Sha256Challenger.{Sha256Challenger}
 use Rattle.circle_commit.specs.DotProduct.{pairwise}
 use Rattle.circle_commit.specs.Parameters.{with_scheme}
@@ -15,10 +14,11 @@ use Rattle.circle_prover.specs.Opening.{IsOpening}
 use Rattle.circle_codewords.specs.Requests.{AreAnswers}
 use Rattle.circle_prover.specs.Schemes.{Schemes}
 use Rattle.circle_relation.specs.RunOf.{proof_of}
-use Rattle.circle_commands.specs.Proved.{IsCommitted, IsProved, IsRequested, batch_claimed}
-use Rattle.circle_commands.specs.Proved.{after_batches}
+use Rattle.circle_commands.specs.Proved.{AreCommitments, AreCommitted, AreOpened, IsCommitted}
+use Rattle.circle_commands.specs.Proved.{IsCommittedInput, IsRequested, batch_claimed}
 use Rattle.circle_commands.specs.Verified.{batches_told}
 use Rattle.circle_commands.specs.declared.prove.Committed.{Committed}
+use Rattle.circle_commands.specs.declared.prove.CommittedInput.{CommittedInput}
 use Rattle.circle_commands.specs.declared.prove.Input.{Input}
 use Rattle.circle_commands.specs.declared.verify.Input.{Input as Claims}
 
@@ -28,44 +28,64 @@ module _ {D WD : Type 0}
     (output : Claims) where
   -- what is opened under the input's parameters is proved
   pub proved : (mmcs : ShaMmcs Mersenne31) (scheme : ShaMmcs Cubic) (committed : List Committed)
-      (requests : List (OpeningRequest D Cubic)) (values : Openings Cubic)
-      (start left : Sha256Challenger)
+      (requests : List (OpeningRequest D Cubic)) (values : Openings Cubic) (old new : List ℕ)
       (params : FriParameters (ShaMmcs Cubic)) → params ≡ with_scheme input.params scheme
       → AllZip (λ b m. IsCommitted (o.Commits mmcs) params.log_blowup b.items m) input.batches.items
-      committed → AllZip (IsRequested o.kept) committed requests
-      → state_of start ≡ after_batches (replicate 32 0) committed →
+      committed → AllZip (IsRequested o.kept) committed requests →
       AllZip (AreAnswers o.kept o.fields params.log_blowup) requests values
       → IsOpening params o.kept requests values o.fields o.run (proof_of output.proof)
       (o.Commits mmcs) (o.authenticates mmcs) (o.WordCommits scheme)
-      (o.word_authenticates scheme) (state_of start) (state_of left)
+      (o.word_authenticates scheme) old new
       → batches_told output.batches.items ≡ pairwise batch_claimed committed values →
       output.params ≡ input.params
-      → IsProved o input output
-  proved mmcs scheme committed requests values start left params same batches asked taken answered
-      opened claims kept_params =
+      → AreOpened o input output committed old new
+  proved mmcs scheme committed requests values old new params same batches asked answered opened
+      claims kept_params =
       let blowup : params.log_blowup ≡ input.params.log_blowup =
       ap (λ (p : FriParameters (ShaMmcs Cubic)). p.log_blowup) same in
       record {
         mmcs = mmcs;
         scheme = scheme;
-        committed = committed;
         requests = requests;
         values = values;
-        start = start;
-        left = left;
         batches =
             subst (λ n. AllZip (λ b m. IsCommitted (o.Commits mmcs) n b.items m) input.batches.items
             committed) blowup batches;
         asked = asked;
-        taken = taken;
         answered = subst (λ n. AllZip (AreAnswers o.kept o.fields n) requests values) blowup
             answered;
         opened =
             subst
             (λ (p : FriParameters (ShaMmcs Cubic)). IsOpening p o.kept requests values o.fields
             o.run (proof_of output.proof) (o.Commits mmcs) (o.authenticates mmcs)
-            (o.WordCommits scheme) (o.word_authenticates scheme) (state_of start) (state_of left))
-            same opened;
+            (o.WordCommits scheme) (o.word_authenticates scheme) old new) same opened;
         claims = claims;
         params = kept_params;
       }
+
+module _ {D WD : Type 0}
+    (o : Schemes Sha256Challenger (List ℕ) Mersenne31 Cubic (ShaMmcs Mersenne31) (List ℕ) D
+    (Vec (List ℕ) Global) (ShaMmcs Cubic) (List ℕ) WD (Vec (List ℕ) Global))
+    (given : CommittedInput) (input : Input) (same : given.input.now ≡ input) where
+  -- what was committed to of an input is opened of it
+  pub opened-of : (output : Claims) (old new : List ℕ) →
+      AreOpened o given.input.now output given.batches.items old new →
+      AreOpened o input output given.batches.items old new
+  opened-of output old new is =
+      subst (λ (i : Input). AreOpened o i output given.batches.items old new) same is
+
+  -- so its commitments are to the input's batches
+  pub commitments-of : (commitments : List (List ℕ)) → IsCommittedInput o given →
+      commitments ≡ map (λ b. b.commitment) given.batches.items →
+      AreCommitments o input commitments
+  commitments-of commitments is are = record {
+    mmcs = given.scheme.mmcs;
+    committed = given.batches.items;
+    batches =
+        subst (λ (i : Input). AreCommitted (o.Commits given.scheme.mmcs) i.params.log_blowup
+        i.batches.items given.batches.items) same
+        (subst (λ (n : ℕ). AreCommitted (o.Commits given.scheme.mmcs) n
+        given.input.now.batches.items given.batches.items)
+        (ap (λ (p : FriParameters (ShaMmcs Cubic)). p.log_blowup) is.params) is.batches);
+    are = are;
+  }

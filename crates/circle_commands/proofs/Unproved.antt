@@ -16,17 +16,20 @@ use Rattle.circle_merkle.specs.declared.mmcs.ShaMmcs.{ShaMmcs}
 use Rattle.circle_prover.specs.Schemes.{Schemes}
 use Rattle.circle_relation.specs.declared.error.ProverError.{ProverError}
 use Rattle.circle_relation.specs.declared.error.ProverError.TheVariants.{Memory}
-use Rattle.circle_commands.specs.Proved.{AreCommitted, IsCommitted, IsRequested, after_batches}
-use Rattle.circle_commands.specs.Reasons.{IsProveRefusal}
+use Rattle.circle_commands.specs.Proved.{IsCommitted, after_batches}
+use Rattle.circle_commands.specs.Reasons.{IsCommitReason, IsProveReasonFrom, IsProveRefusal}
+use Rattle.circle_commands.specs.Reasons.{IsProverRefusal}
 use Rattle.circle_commands.specs.Traces.{IsRefusalOfBatches}
-use Rattle.circle_commands.specs.Unproved.{IsFirstUncommitted, IsUncommitted}
-use Rattle.circle_commands.specs.Unproved.{IsUnopened}
+use Rattle.circle_commands.specs.Unproved.{AreUnopened, IsFirstUncommitted, IsOfScheme}
+use Rattle.circle_commands.specs.Unproved.{IsUncommittable, IsUncommitted, IsUnopened}
+use Rattle.circle_commands.specs.Unproved.{IsUnopenedFrom}
 use Rattle.circle_commands.specs.Verified.{Scheme}
 use Rattle.circle_commands.specs.declared.prove.Committed.{Committed}
 use Rattle.circle_commands.specs.declared.prove.Input.{Input}
 use Rattle.circle_commands.specs.declared.prove.Refusal.{Refusal}
 use Rattle.circle_commands.specs.declared.prove.Trace.{Trace}
-use Rattle.circle_commands.specs.declared.prove.Refusal.TheVariants.{Prover}
+use Rattle.circle_commands.specs.declared.prove.Refusal.TheVariants.{HeightNotPowerOfTwo, Prover}
+use Rattle.circle_commands.specs.declared.prove.Refusal.TheVariants.{RaggedRows}
 use Rattle.circle_commands.proofs.First.{first_at}
 
 -- each of the first items has its fellow
@@ -80,84 +83,99 @@ module _ {g : _} (CommitRefuses : Scheme →
       (each_has Is (take i batches) committed before)
       (subst (λ ts. IsUncommitted CommitRefuses scheme ts e) same n))) h
 
-module _ {D WD : Type 0}
-    (o : Schemes Sha256Challenger (List ℕ) Mersenne31 Cubic (ShaMmcs Mersenne31) (List ℕ) D
-    (Vec (List ℕ) Global) (ShaMmcs Cubic) (List ℕ) WD (Vec (List ℕ) Global))
-    (OpenRefuses : Scheme → List (OpeningRequest D Cubic) → List ℕ → List ℕ → ProverError → Type 0)
-    (input : Input)
-  where
-    -- an opening that is refused from the state that has absorbed the commitments
-    pub unopened : (scheme : Scheme) (committed : List Committed)
-        (requests : List (OpeningRequest D Cubic)) (start left : List ℕ) (e : ProverError) →
-        AreCommitted (o.Commits scheme.mmcs) scheme.fri_params.log_blowup input.batches.items
-        committed
-        → AllZip (IsRequested o.kept) committed requests →
-        start ≡ after_batches (replicate 32 0) committed →
-        OpenRefuses scheme requests start left e →
-        IsUnopened o OpenRefuses scheme input.batches.items e
-    unopened scheme committed requests start left e are asked taken refuses = record {
-      committed = committed;
-      requests = requests;
-      left = left;
-      are = are;
-      asked = asked;
-      refuses = subst (λ (s : List ℕ). OpenRefuses scheme requests s left e) taken refuses;
-    }
+-- a refusal of the scheme by an error that is so, where what is so is otherwise too
+of_scheme : (Is Other : ProverError → Type 0) → ((e : ProverError) → Is e → Other e) →
+    (r : Refusal) → IsOfScheme Is r → IsOfScheme Other r
+of_scheme Is Other then RaggedRows h = h
+of_scheme Is Other then HeightNotPowerOfTwo h = h
+of_scheme Is Other then (Prover error) h = then error h
 
 module _ {g : _} {D WD : Type 0}
     (o : Schemes Sha256Challenger (List ℕ) Mersenne31 Cubic (ShaMmcs Mersenne31) (List ℕ) D
     (Vec (List ℕ) Global) (ShaMmcs Cubic) (List ℕ) WD (Vec (List ℕ) Global))
     (CommitRefuses : Scheme → List (CircleDomain Mersenne31 g × RowMajorMatrix Mersenne31) →
     ProverError → Type 0)
-    (OpenRefuses : Scheme → List (OpeningRequest D Cubic) → List ℕ → List ℕ → ProverError → Type 0)
     (input : Input)
   where
-    abbrev pub IsReasoned : Refusal → Type 0
-    IsReasoned = IsProveRefusal o CommitRefuses OpenRefuses input
+    abbrev pub IsUncommittedOf : Refusal → Type 0
+    IsUncommittedOf = IsProverRefusal (IsCommitReason o CommitRefuses input)
 
     -- rows that are refused
     pub by_rows : {A : Type 0} (r : Result A Refusal) (e : Refusal) → IsErrAnd r (λ x. x ≡ e) →
         IsRefusalOfBatches input.params.log_final_poly_len input.batches.items e →
-        IfErr r IsReasoned
-    by_rows (Ok x) e is h = absurd is
-    by_rows (Err d) e is h = subst IsReasoned (sym is) (inr (inl h))
+        IfErr r IsUncommittedOf
+    by_rows r e is h = error-is r IsUncommittedOf e is (inr (inl h))
 
-    -- memory that is refused
-    pub by_memory : {A : Type 0} (r : Result A Refusal) → IsErrAnd r (λ x. x ≡ Prover Memory) →
-        IfErr r IsReasoned
-    by_memory (Ok x) is = absurd is
-    by_memory (Err d) is = inl is
-
-    reasoned : (e : ProverError) (scheme : Scheme) → scheme.fri_params
-        ≡ with_scheme input.params scheme.fri_params.mmcs
-        →
+    -- a batch that the scheme refuses to commit to
+    pub by_commit : {A : Type 0} (r : Result A Refusal) (e : ProverError) (scheme : Scheme) →
+        IsErrAnd r (λ x. x ≡ Prover e) →
+        scheme.fri_params ≡ with_scheme input.params scheme.fri_params.mmcs →
         (e ≡ Memory)
-        ⊎ (IsFirstUncommitted CommitRefuses (o.Commits scheme.mmcs) scheme input.batches.items e
-        ⊎ IsUnopened o OpenRefuses scheme input.batches.items e) → IsReasoned (Prover e)
-    reasoned e scheme params h =
-        ⊎_elim (λ m. inl (subst (λ x. Prover e ≡ Prover x) m refl))
-        (λ n. inr (inr (record { scheme = scheme; params = params; refuses = n }))) h
+        ⊎ IsFirstUncommitted CommitRefuses (o.Commits scheme.mmcs) scheme input.batches.items e →
+        IfErr r IsUncommittedOf
+    by_commit r e scheme is params h =
+        error-is r IsUncommittedOf (Prover e) is
+        (⊎_elim (λ m. inl (ap Prover m))
+        (λ n. inr (inr (record { scheme = scheme; params = params; refuses = n }))) h)
 
-    -- what the scheme refuses
-    pub by_scheme : {A : Type 0} (r : Result A Refusal) (e : ProverError) (scheme : Scheme) →
-        IsErrAnd r (λ x. x ≡ Prover e) → scheme.fri_params
-        ≡ with_scheme input.params scheme.fri_params.mmcs
-        →
-        (e ≡ Memory)
-        ⊎ (IsFirstUncommitted CommitRefuses (o.Commits scheme.mmcs) scheme input.batches.items e
-        ⊎ IsUnopened o OpenRefuses scheme input.batches.items e) → IfErr r IsReasoned
-    by_scheme (Ok x) e scheme is params h = absurd is
-    by_scheme (Err d) e scheme is params h = subst IsReasoned (sym is) (reasoned e scheme params h)
+    module _ (OpenRefuses : Scheme → List (OpeningRequest D Cubic) → List ℕ → List ℕ →
+        ProverError → Type 0) where
+      abbrev pub IsReasoned : Refusal → Type 0
+      IsReasoned = IsProveRefusal o CommitRefuses OpenRefuses input
 
-    -- of batches that are the input's
-    pub by_commit : {A : Type 0} (r : Result A Refusal) (e : ProverError) (scheme : Scheme)
-        (batches : List (Vec Trace Global)) → IsErrAnd r (λ x. x ≡ Prover e) → scheme.fri_params
-        ≡ with_scheme input.params scheme.fri_params.mmcs → batches ≡ input.batches.items
-        → (e ≡ Memory) ⊎ IsFirstUncommitted CommitRefuses (o.Commits scheme.mmcs) scheme batches e →
-        IfErr r IsReasoned
-    by_commit r e scheme batches is params same h =
-        by_scheme r e scheme is params
-        (⊎_elim (λ m. inl m)
-        (λ n. inr
-        (inl (subst (λ bs. IsFirstUncommitted CommitRefuses (o.Commits scheme.mmcs) scheme bs e)
-        same n))) h)
+      abbrev pub IsReasonedFrom : List ℕ → List ℕ → Refusal → Type 0
+      IsReasonedFrom old new =
+          IsProverRefusal (IsProveReasonFrom o CommitRefuses OpenRefuses input old new)
+
+      -- an input that isn't committed to isn't proved
+      pub by_new : {A : Type 0} (r : Result A Refusal) (e : Refusal) → IsErrAnd r (λ x. x ≡ e) →
+          IsUncommittedOf e → IfErr r IsReasoned
+      by_new r e is h =
+          error-is r IsReasoned e is
+          (⊎_elim (λ m. inl m)
+          (⊎_elim (λ rows. inr (inl rows))
+          (λ u. inr (inr
+          (of_scheme (IsUncommittable o CommitRefuses input)
+          (λ error. IsUncommittable o CommitRefuses input error
+          ⊎ IsUnopened o OpenRefuses input error) (λ error v. inl v) e u)))) h)
+
+      -- and leaves the challenger as it was
+      pub by_new_from : {A : Type 0} (r : Result A Refusal) (e : Refusal) (s : List ℕ) →
+          IsErrAnd r (λ x. x ≡ e) → IsUncommittedOf e → IfErr r (IsReasonedFrom s s)
+      by_new_from r e s is h =
+          error-is r (IsReasonedFrom s s) e is
+          (⊎_elim (λ m. inl m)
+          (⊎_elim (λ rows. inr (inl (rows, refl)))
+          (λ u. inr (inr
+          (of_scheme (IsUncommittable o CommitRefuses input)
+          (λ error. (IsUncommittable o CommitRefuses input error × (s ≡ s))
+          ⊎ IsUnopenedFrom o OpenRefuses input s s error) (λ error v. inl (v, refl)) e u)))) h)
+
+      module _ {A : Type 0} (r : Result A Refusal) (e : ProverError) (given : Input)
+          (committed : List Committed) (old new : List ℕ) (is : IsErrAnd r (λ x. x ≡ Prover e))
+          (same : given ≡ input)
+          (refused : (e ≡ Memory) ⊎ AreUnopened o OpenRefuses given committed old new e) where
+        -- an opening of what was committed to that is refused
+        pub by_open_from : IfErr r (IsReasonedFrom old new)
+        by_open_from =
+            error-is r (IsReasonedFrom old new) (Prover e) is
+            (⊎_elim (λ m. inl (ap Prover m))
+            (λ n. inr (inr (inr (
+              committed,
+              subst (λ (i : Input). AreUnopened o OpenRefuses i committed old new e) same n,
+            )))) refused)
+
+        -- so from the challenger that has absorbed the commitments
+        pub by_open : old ≡ after_batches (replicate 32 0) committed → IfErr r IsReasoned
+        by_open taken =
+            error-is r IsReasoned (Prover e) is
+            (⊎_elim (λ m. inl (ap Prover m))
+            (λ n. inr (inr (inr (
+              committed,
+              (
+                new,
+                subst (λ (s : List ℕ). AreUnopened o OpenRefuses input committed s new e) taken
+                    (subst (λ (i : Input). AreUnopened o OpenRefuses i committed old new e) same
+                    n),
+              ),
+            )))) refused)

@@ -1,5 +1,6 @@
 pub mod Answer
 pub mod Arguments
+pub mod Commit
 pub mod Commitments
 pub mod Failure
 pub mod Input

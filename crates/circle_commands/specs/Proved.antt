@@ -32,6 +32,7 @@ use Rattle.circle_commands.specs.Rows.{lists}
 use Rattle.circle_commands.specs.Traces.{HasFittingRows}
 use Rattle.circle_commands.specs.Verified.{batches_told}
 use Rattle.circle_commands.specs.declared.prove.Committed.{Committed}
+use Rattle.circle_commands.specs.declared.prove.CommittedInput.{CommittedInput}
 use Rattle.circle_commands.specs.declared.prove.Input.{Input}
 use Rattle.circle_commands.specs.declared.prove.Trace.{Trace}
 use Rattle.circle_commands.specs.declared.verify.Input.{Input as Claims}
@@ -75,6 +76,10 @@ known_told b = (b.commitment, zip b.domains.items (lists_of b.points.items))
 abbrev pub after_batches : List ℕ → List Committed → List ℕ
 after_batches s batches = after_commitments s (map (λ b. b.commitment) batches)
 
+-- the commitments that claims are about, in order
+abbrev pub commitments_of : Claims → List (List ℕ)
+commitments_of claims = map (λ b. b.commitment) claims.batches.items
+
 -- the claims that matrices have these values at their points
 abbrev pub matrix_claimed : Trace → List (List Cubic) → MatrixClaim Cubic
 matrix_claimed t values = record {
@@ -114,26 +119,52 @@ module _ {D WD : Type 0}
     (o : Schemes Sha256Challenger (List ℕ) Mersenne31 Cubic (ShaMmcs Mersenne31) (List ℕ) D
     (Vec (List ℕ) Global) (ShaMmcs Cubic) (List ℕ) WD (Vec (List ℕ) Global))
   where
-    -- the batches are committed to, and opened from the challenger that has absorbed the
-    -- commitments alone; the claims state the commitments, the points and the values, and the proof
+    -- the scheme with the input's parameters has committed to its batches
+    pub record IsCommittedInput (c : CommittedInput) : Type 0 where
+      pub params :
+          c.scheme.fri_params ≡ with_scheme c.input.now.params c.scheme.fri_params.mmcs
+      pub batches :
+          AreCommitted (o.Commits c.scheme.mmcs) c.scheme.fri_params.log_blowup
+          c.input.now.batches.items c.batches.items
+
+    -- the commitments are to the input's batches, in order
+    pub record AreCommitments (input : Input) (commitments : List (List ℕ)) : Type 0 where
+      pub mmcs : ShaMmcs Mersenne31
+      pub committed : List Committed
+      pub batches :
+          AreCommitted (o.Commits mmcs) input.params.log_blowup input.batches.items committed
+      pub are : commitments ≡ map (λ b. b.commitment) committed
+
+    -- the batches are committed to so, and opened from a challenger in the one state, which leaves
+    -- it in the other; the claims state the commitments, the points and the values, and the proof
     -- is theirs
-    pub record IsProved (input : Input) (output : Claims) : Type 0 where
+    pub record AreOpened (input : Input) (output : Claims) (committed : List Committed)
+        (old new : List ℕ) : Type 0 where
       pub mmcs : ShaMmcs Mersenne31
       pub scheme : ShaMmcs Cubic
-      pub committed : List Committed
       pub requests : List (OpeningRequest D Cubic)
       pub values : Openings Cubic
-      pub start : Sha256Challenger
-      pub left : Sha256Challenger
       pub batches :
           AreCommitted (o.Commits mmcs) input.params.log_blowup input.batches.items committed
       pub asked : AllZip (IsRequested o.kept) committed requests
-      pub taken : state_of start ≡ after_batches (replicate 32 0) committed
       pub answered :
           AllZip (AreAnswers o.kept o.fields input.params.log_blowup) requests values
       pub opened :
           IsOpening (with_scheme input.params scheme) o.kept requests values o.fields o.run
           (proof_of output.proof) (o.Commits mmcs) (o.authenticates mmcs) (o.WordCommits scheme)
-          (o.word_authenticates scheme) (state_of start) (state_of left)
+          (o.word_authenticates scheme) old new
       pub claims : batches_told output.batches.items ≡ pairwise batch_claimed committed values
       pub params : output.params ≡ input.params
+
+    -- they are committed to and opened from a challenger in the one state
+    abbrev pub IsProvedFrom : Input → Claims → List ℕ → List ℕ → Type 0
+    IsProvedFrom input output old new =
+        (committed : List Committed) × AreOpened input output committed old new
+
+    -- and from the challenger that has absorbed the commitments alone
+    pub record IsProved (input : Input) (output : Claims) : Type 0 where
+      pub committed : List Committed
+      pub start : Sha256Challenger
+      pub left : Sha256Challenger
+      pub taken : state_of start ≡ after_batches (replicate 32 0) committed
+      pub opened : AreOpened input output committed (state_of start) (state_of left)

@@ -18,8 +18,9 @@ use Rattle.circle_relation.specs.declared.error.ProverError.TheVariants.{Memory}
 use Rattle.circle_commands.specs.Input.{HasFittingHeight, HasFittingSize, HasPoint, HasRectangle}
 use Rattle.circle_commands.specs.Shape.{HasRoom}
 use Rattle.circle_commands.specs.Traces.{IsRefusalOfBatches}
-use Rattle.circle_commands.specs.Unproved.{IsUnproved}
-use Rattle.circle_commands.specs.Verified.{IsUnverified, IsVerified, Scheme}
+use Rattle.circle_commands.specs.Unproved.{IsOfScheme, IsUncommittable, IsUnproved, IsUnprovedFrom}
+use Rattle.circle_commands.specs.Verified.{IsUnverified, IsUnverifiedFrom, IsVerified}
+use Rattle.circle_commands.specs.Verified.{IsVerifiedFrom, Scheme}
 use Rattle.circle_commands.specs.declared.failure.Reason.{Reason}
 use Rattle.circle_commands.specs.declared.failure.Reason.TheVariants as reason
 use Rattle.circle_commands.specs.declared.prove.Input.{Input as Statement}
@@ -64,40 +65,72 @@ IsShapeReason input (reason.Verify refusal) = ⊥
 IsShapeReason input (reason.Shape refusal) = IsShapeless input refusal
 IsShapeReason input reason.ParametersDiffer = ⊥
 
+-- it is a refusal of `prove` that is so
+abbrev pub IsOfProve : (Refusal → Type 0) → Reason → Type 0
+IsOfProve Is (reason.Values refusal) = ⊥
+IsOfProve Is (reason.Prove refusal) = Is refusal
+IsOfProve Is (reason.Verify refusal) = ⊥
+IsOfProve Is (reason.Shape refusal) = ⊥
+IsOfProve Is reason.ParametersDiffer = ⊥
+
+-- memory was refused, or there is such a reason
+abbrev pub IsProverRefusal : (Reason → Type 0) → Refusal → Type 0
+IsProverRefusal Is refusal = (refusal ≡ Prover Memory) ⊎ Is (reason.Prove refusal)
+
 -- why a proof is refused
 abbrev pub VerifierError : Type 0
 VerifierError = FriError MerkleTreeError (InputError MerkleTreeError MerkleTreeError)
+
+-- it is a refusal of `verify` that is so
+abbrev pub IsOfVerify : (VerifierError → Type 0) → Reason → Type 0
+IsOfVerify Is (reason.Values refusal) = ⊥
+IsOfVerify Is (reason.Prove refusal) = ⊥
+IsOfVerify Is (reason.Verify error) = Is error
+IsOfVerify Is (reason.Shape refusal) = ⊥
+IsOfVerify Is reason.ParametersDiffer = ⊥
 
 module _ {g : _} {D WD : Type 0}
     (o : Schemes Sha256Challenger (List ℕ) Mersenne31 Cubic (ShaMmcs Mersenne31) (List ℕ) D
     (Vec (List ℕ) Global) (ShaMmcs Cubic) (List ℕ) WD (Vec (List ℕ) Global))
   where
-    -- the claims aren't verified, and the scheme refuses them and their proof for this reason
-    abbrev pub IsVerifyReason : {Proof : Type 0} → (Claims → Proof) →
-        (Scheme → List (CommitmentOpening Cubic (List ℕ) (CircleDomain Mersenne31 g)) → Proof →
-        List ℕ → List ℕ → VerifierError → Type 0) → Claims → Reason → Type 0
-    IsVerifyReason proof Refuses input (reason.Values refusal) = ⊥
-    IsVerifyReason proof Refuses input (reason.Prove refusal) = ⊥
-    IsVerifyReason proof Refuses input (reason.Verify error) =
-        (¬ IsVerified o input) × IsUnverified Refuses (proof input) input error
-    IsVerifyReason proof Refuses input (reason.Shape refusal) = ⊥
-    IsVerifyReason proof Refuses input reason.ParametersDiffer = ⊥
+    module _ {P : Type 0} (proof : Claims → P)
+        (Refuses : Scheme → List (CommitmentOpening Cubic (List ℕ) (CircleDomain Mersenne31 g)) →
+        P → List ℕ → List ℕ → VerifierError → Type 0) (input : Claims) where
+      -- the claims aren't verified, and the scheme refuses them and their proof for this reason
+      abbrev pub IsVerifyReason : Reason → Type 0
+      IsVerifyReason =
+          IsOfVerify (λ error. (¬ IsVerified o input)
+          × IsUnverified Refuses (proof input) input error)
+
+      -- so from a challenger in the one state, which is left in the other
+      abbrev pub IsVerifyReasonFrom : List ℕ → List ℕ → Reason → Type 0
+      IsVerifyReasonFrom old new =
+          IsOfVerify (λ error. (¬ ((left : List ℕ) × IsVerifiedFrom o input old left))
+          × IsUnverifiedFrom Refuses (proof input) input old new error)
 
     module _ (CommitRefuses : Scheme →
-        List (CircleDomain Mersenne31 g × RowMajorMatrix Mersenne31) → ProverError → Type 0)
-        (OpenRefuses : Scheme → List (OpeningRequest D Cubic) → List ℕ → List ℕ → ProverError →
-        Type 0) where
-      -- the rows don't fit, or the scheme refuses to commit or to open
-      abbrev pub IsProveReason : Statement → Reason → Type 0
-      IsProveReason input (reason.Values refusal) = ⊥
-      IsProveReason input (reason.Prove refusal) =
-          IsRefusalOfBatches input.params.log_final_poly_len input.batches.items refusal
-          ⊎ IsUnproved o CommitRefuses OpenRefuses input refusal
-      IsProveReason input (reason.Verify error) = ⊥
-      IsProveReason input (reason.Shape refusal) = ⊥
-      IsProveReason input reason.ParametersDiffer = ⊥
+        List (CircleDomain Mersenne31 g × RowMajorMatrix Mersenne31) → ProverError → Type 0) where
+      -- the rows don't fit, or the scheme refuses to commit
+      abbrev pub IsCommitReason : Statement → Reason → Type 0
+      IsCommitReason input =
+          IsOfProve (λ refusal. IsRefusalOfBatches input.params.log_final_poly_len
+          input.batches.items refusal ⊎ IsOfScheme (IsUncommittable o CommitRefuses input) refusal)
 
-      -- memory was refused, or there is a reason
-      abbrev pub IsProveRefusal : Statement → Refusal → Type 0
-      IsProveRefusal input refusal =
-          (refusal ≡ Prover Memory) ⊎ IsProveReason input (reason.Prove refusal)
+      module _ (OpenRefuses : Scheme → List (OpeningRequest D Cubic) → List ℕ → List ℕ →
+          ProverError → Type 0) where
+        -- the rows don't fit, or the scheme refuses to commit or to open
+        abbrev pub IsProveReason : Statement → Reason → Type 0
+        IsProveReason input =
+            IsOfProve (λ refusal. IsRefusalOfBatches input.params.log_final_poly_len
+            input.batches.items refusal ⊎ IsUnproved o CommitRefuses OpenRefuses input refusal)
+
+        -- so from a challenger in the one state, which rows that don't fit leave as it was
+        abbrev pub IsProveReasonFrom : Statement → List ℕ → List ℕ → Reason → Type 0
+        IsProveReasonFrom input old new =
+            IsOfProve (λ refusal. (IsRefusalOfBatches input.params.log_final_poly_len
+            input.batches.items refusal × (new ≡ old))
+            ⊎ IsUnprovedFrom o CommitRefuses OpenRefuses input old new refusal)
+
+        -- memory was refused, or there is a reason
+        abbrev pub IsProveRefusal : Statement → Refusal → Type 0
+        IsProveRefusal input = IsProverRefusal (IsProveReason input)

@@ -39,37 +39,65 @@ module _ {g : _} (CommitRefuses : Scheme →
       IsFirst (λ b. (c : Committed) × IsCommitted Commits scheme.fri_params.log_blowup b.items c)
       (λ b. IsUncommitted scheme b.items error) batches
 
+-- it is a refusal of the scheme, by an error that is so
+abbrev pub IsOfScheme : (ProverError → Type 0) → Refusal → Type 0
+IsOfScheme Is RaggedRows = ⊥
+IsOfScheme Is HeightNotPowerOfTwo = ⊥
+IsOfScheme Is (Prover error) = Is error
+
 module _ {D WD : Type 0}
     (o : Schemes Sha256Challenger (List ℕ) Mersenne31 Cubic (ShaMmcs Mersenne31) (List ℕ) D
     (Vec (List ℕ) Global) (ShaMmcs Cubic) (List ℕ) WD (Vec (List ℕ) Global))
   where
-    -- the scheme refuses to open the batches that it committed to, from the challenger that has
-    -- absorbed the commitments alone
-    pub record IsUnopened (Refuses : Scheme → List (OpeningRequest D Cubic) → List ℕ → List ℕ →
-        ProverError → Type 0) (scheme : Scheme) (batches : List (Vec Trace Global))
-        (error : ProverError) : Type 0 where
-      pub committed : List Committed
-      pub requests : List (OpeningRequest D Cubic)
-      pub left : List ℕ
-      pub are :
-          AreCommitted (o.Commits scheme.mmcs) scheme.fri_params.log_blowup batches committed
-      pub asked : AllZip (IsRequested o.kept) committed requests
-      pub refuses :
-          Refuses scheme requests (after_batches (replicate 32 0) committed) left error
-
     module _ {g : _} (CommitRefuses : Scheme →
         List (CircleDomain Mersenne31 g × RowMajorMatrix Mersenne31) → ProverError → Type 0)
-        (OpenRefuses : Scheme → List (OpeningRequest D Cubic) → List ℕ → List ℕ → ProverError →
-        Type 0) where
-      -- the scheme with the input's parameters refuses to commit or to open
-      pub record IsRefusedByScheme (input : Input) (error : ProverError) : Type 0 where
+        (input : Input) where
+      -- the scheme with the input's parameters refuses to commit to its batches
+      pub record IsUncommittable (error : ProverError) : Type 0 where
         pub scheme : Scheme
         pub params : scheme.fri_params ≡ with_scheme input.params scheme.fri_params.mmcs
         pub refuses :
             IsFirstUncommitted CommitRefuses (o.Commits scheme.mmcs) scheme input.batches.items
-            error ⊎ IsUnopened OpenRefuses scheme input.batches.items error
+            error
 
-      abbrev pub IsUnproved : Input → Refusal → Type 0
-      IsUnproved input RaggedRows = ⊥
-      IsUnproved input HeightNotPowerOfTwo = ⊥
-      IsUnproved input (Prover error) = IsRefusedByScheme input error
+    module _ (OpenRefuses : Scheme → List (OpeningRequest D Cubic) → List ℕ → List ℕ →
+        ProverError → Type 0) (input : Input) where
+      -- the scheme with the input's parameters has committed to its batches so, and refuses to open
+      -- them from a challenger in the one state, which it leaves in the other
+      pub record AreUnopened (committed : List Committed) (old new : List ℕ)
+          (error : ProverError) : Type 0 where
+        pub scheme : Scheme
+        pub requests : List (OpeningRequest D Cubic)
+        pub params : scheme.fri_params ≡ with_scheme input.params scheme.fri_params.mmcs
+        pub batches :
+            AreCommitted (o.Commits scheme.mmcs) scheme.fri_params.log_blowup input.batches.items
+            committed
+        pub asked : AllZip (IsRequested o.kept) committed requests
+        pub refuses : OpenRefuses scheme requests old new error
+
+      -- it refuses to open what it committed to, from a challenger in the one state
+      abbrev pub IsUnopenedFrom : List ℕ → List ℕ → ProverError → Type 0
+      IsUnopenedFrom old new error =
+          (committed : List Committed) × AreUnopened committed old new error
+
+      -- and from the challenger that has absorbed the commitments alone
+      abbrev pub IsUnopened : ProverError → Type 0
+      IsUnopened error =
+          (committed : List Committed) × ((left : List ℕ)
+          × AreUnopened committed (after_batches (replicate 32 0) committed) left error)
+
+    module _ {g : _} (CommitRefuses : Scheme →
+        List (CircleDomain Mersenne31 g × RowMajorMatrix Mersenne31) → ProverError → Type 0)
+        (OpenRefuses : Scheme → List (OpeningRequest D Cubic) → List ℕ → List ℕ → ProverError →
+        Type 0) (input : Input) where
+      -- it refuses to commit or to open
+      abbrev pub IsUnproved : Refusal → Type 0
+      IsUnproved =
+          IsOfScheme (λ error. IsUncommittable CommitRefuses input error
+          ⊎ IsUnopened OpenRefuses input error)
+
+      -- it refuses to commit, which leaves the challenger as it was, or to open from its state
+      abbrev pub IsUnprovedFrom : List ℕ → List ℕ → Refusal → Type 0
+      IsUnprovedFrom old new =
+          IsOfScheme (λ error. (IsUncommittable CommitRefuses input error × (new ≡ old))
+          ⊎ IsUnopenedFrom OpenRefuses input old new error)

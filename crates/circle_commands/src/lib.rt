@@ -8,7 +8,8 @@
 //! - `command::answer` returns a line only where the text stands for an input of which the line is
 //!   a result. It fails only where the text isn't JSON, where it is JSON that the input's form
 //!   refuses for the named error, where there is the named reason to refuse the input, or when out
-//!   of memory (`Answer.IsAnswer`).
+//!   of memory (`Answer.IsAnswer`). `command::answer_from` does so of a command that goes on from a
+//!   caller's challenger, [`CommandFrom`].
 //! - `run::run` reads its input to the end and writes the line that `answer` returns of it, with
 //!   its status, unless reading fails, an allocation is refused or writing fails (`values`, `prove`,
 //!   `verify`, `shape`, by `Program.HasRun`). It reads nothing where the arguments name no command
@@ -21,13 +22,19 @@
 //!   reason, and the scheme's refusals are those that its calls promise (`Unproved.IsUnproved`).
 //! - `verify`: the line is `{"verified":true}`, only where `Verified.IsVerified` holds. It refuses
 //!   only where it doesn't hold, for a reason that the scheme has (`Verified.IsUnverified`).
+//! - `prove_from` and `verify_from` do so from a caller's challenger, which has absorbed what both
+//!   sides absorb before, and leave it in one state (`Proved.IsProvedFrom`,
+//!   `Verified.IsVerifiedFrom`). What is refused of the rows or of a batch leaves it as it was
+//!   (`Unproved.IsUnprovedFrom`).
+//! - `commit`: the commitments are those to the input's batches (`Proved.AreCommitments`), which the
+//!   claims of `prove_from` have too.
 //! - `shape`: the line is a JSON text of `Shape.shape_written`: the numbers, the layout's label,
 //!   the seed's text and the number of steps of the input's shape.
 //!
 //! Its files:
 //!
 //! - In `specs/`: one file for each command's input; `Verified`, `Proved`, `Unproved`, `Proof` and
-//!   `Traces`, what `verify` and `prove` return and refuse; `Reasons`, the reasons of all commands;
+//!   `Traces`, what `verify`, `prove` and `commit` return and refuse; `Reasons`, the reasons of all commands;
 //!   `Named`, the names of refusals; `Failure`, lines and statuses; `Text`, what bytes stand for;
 //!   `Answer`, what a command makes of them; `Program`, what a run reads and writes; `Arguments`,
 //!   `Commitments`, `Json`, `Rows`.
@@ -35,6 +42,7 @@
 #![tactic(auto)]
 
 pub mod command;
+pub mod commit;
 mod commitments;
 pub mod failure;
 pub mod json;
@@ -44,5 +52,5 @@ pub mod shape;
 pub mod values;
 pub mod verify;
 
-pub use command::Command;
+pub use command::{Command, CommandFrom};
 pub use failure::{Failure, Reason};

@@ -2,6 +2,7 @@
 
 ghost use Rattle.std.specs.Prelude.{◌≡◌, ◌⊎◌, ◌+◌, ◌^◌, ◌<◌, ◌≤◌, ◌++◌, ◌∷◌, [], All, map};
 ghost use Rattle.std.specs.Prelude.{IfErr, IfOk, IsTrue, MatchResult, OnOk, false, string_bytes};
+ghost use Rattle.circle_challenger.specs.Sha256Challenger.{state_of};
 ghost use Rattle.std.specs.List.{AllZip};
 ghost use Rattle.circle_commit.specs.DotProduct.{pairwise};
 ghost use Rattle.circle_commit.specs.Matrix.{IsPowerOfTwo};
@@ -10,22 +11,24 @@ ghost use Rattle.circle_json.specs.ObjectForm.{object_form};
 ghost use Rattle.circle_codewords.specs.Requests.{lists_of};
 ghost use Rattle.circle_relation.specs.declared.error.ProverError.TheVariants.{Memory};
 ghost use Rattle.circle_commands.specs.Named.{prove_name};
-ghost use Rattle.circle_commands.specs.Reasons.{IsProveRefusal};
+ghost use Rattle.circle_commands.specs.Reasons.{IsCommitReason, IsProveReasonFrom};
+ghost use Rattle.circle_commands.specs.Reasons.{IsProveRefusal, IsProverRefusal};
 ghost use Rattle.circle_commands.specs.Text.{IsLineOf};
-ghost use Rattle.circle_commands.specs.Unproved.{IsFirstUncommitted, IsUncommitted};
+ghost use Rattle.circle_commands.specs.Unproved.{AreUnopened, IsFirstUncommitted, IsUncommitted};
 ghost use Rattle.circle_commands.specs.Prove.{input_fields, trace_fields};
-ghost use Rattle.circle_commands.specs.Proved.{AreCommitted, ArePlaced, HavePoints, IsCommitted};
-ghost use Rattle.circle_commands.specs.Proved.{IsProved};
-ghost use Rattle.circle_commands.specs.Proved.{IsRequested, batch_claimed};
-ghost use Rattle.circle_commands.specs.Proved.{known_of, known_told, logs_of, points_of};
+ghost use Rattle.circle_commands.specs.Proved.{AreCommitments, AreCommitted, AreOpened, ArePlaced};
+ghost use Rattle.circle_commands.specs.Proved.{HavePoints, IsCommitted, IsCommittedInput, IsProved};
+ghost use Rattle.circle_commands.specs.Proved.{IsProvedFrom, IsRequested, batch_claimed};
+ghost use Rattle.circle_commands.specs.Proved.{commitments_of, known_of, known_told, logs_of};
+ghost use Rattle.circle_commands.specs.Proved.{points_of};
 ghost use Rattle.circle_commands.specs.Traces.{AreFitting, AreFittingRows, HasFittingRows};
 ghost use Rattle.circle_commands.specs.Traces.{AreTall, AreTallRows, HasTallRows};
 ghost use Rattle.circle_commands.specs.Traces.{IsRefusalOfBatch, IsRefusalOfBatches};
 ghost use Rattle.circle_commands.specs.Traces.{IsRefusalOfRows};
-ghost use Rattle.circle_commands.specs.Verified.{IsVerified, batches_told};
+ghost use Rattle.circle_commands.specs.Verified.{IsVerified, IsVerifiedFrom, batches_told};
 ghost use Rattle.circle_commands.specs.declared.prove.Refusal.TheVariants.{Prover};
 
-use crate::command::Command;
+use crate::command::{Command, CommandFrom};
 use crate::commitments::{HasCommitment, observe_commitments};
 use crate::failure::Failure;
 use crate::values::{is_rectangular, matrix};
@@ -68,6 +71,17 @@ impl HasCommitment for Committed<'_> {
     fn commitment(&self) -> &Commitment {
         &self.commitment
     }
+}
+
+/// The batches of an input, to which the scheme with its parameters has committed.
+#[derive(Drop)]
+pub(crate) struct CommittedInput<'a> {
+    /// The input.
+    input: &'a Input,
+    /// The scheme.
+    scheme: Scheme,
+    /// The batches, in order.
+    batches: Vec<Committed<'a>>,
 }
 
 /// A matrix, and where the polynomials are opened that have its columns as values.
@@ -198,6 +212,28 @@ impl Command for Input {
     }
 }
 
+impl CommandFrom for Input {
+    ghost use Rattle.circle_commands.specs.Proof.{IsProofLineFrom};
+    ghost use Rattle.circle_commands.specs.Reasons.{IsProveReasonFrom};
+
+    ghost is_result_from = { IsProofLineFrom
+        ⟦<Challenger as OpeningOver<Val, Challenge, ValMmcs, ChallengeMmcs>>⟧.schemes
+        ⟦<verify::Input as JsonForm>⟧.form };
+
+    ghost is_reason_from = { IsProveReasonFrom
+        ⟦<Challenger as OpeningOver<Val, Challenge, ValMmcs, ChallengeMmcs>>⟧.schemes
+        ⟦<Scheme as Pcs<Challenge, Challenger>>⟧.commit_refuses
+        ⟦<Scheme as Pcs<Challenge, Challenger>>⟧.open_refuses };
+
+    /// The line of claims, parameters and a proof, as [`verify::Input`] reads them.
+    ///
+    /// Fails as [`prove_from`] does.
+    fn line_from(self, alloc: Global, challenger: &mut Challenger) -> Result<String, Failure> {
+        let claims = prove_from(alloc, self, challenger)?;
+        Ok(claims_line(alloc, &claims)?)
+    }
+}
+
 // The compact text of claims, as a line.
 fn claims_line(alloc: Global, claims: &verify::Input) -> Result<String, AllocError>
     ensures { IfOk result (λ line. IsLineOf ⟦<verify::Input as JsonForm>⟧.form claims.now
@@ -226,19 +262,108 @@ pub fn prove(alloc: Global, input: Input) -> Result<verify::Input, Refusal>
         in let p = ⟦<Scheme as Pcs<Challenge, Challenger>>⟧ in IfErr result
         (IsProveRefusal o.schemes p.commit_refuses p.open_refuses input) }
 {
-    let Input { batches, params } = input;
-    validate_batches(params.log_final_poly_len, &batches)?;
-    let scheme = Scheme::new(ValMmcs::new(), params.with_mmcs(ChallengeMmcs::new()));
-    let committed = commit_batches(alloc, &scheme, &batches)?;
+    let committed = CommittedInput::new(alloc, &input)?;
     let mut challenger = Challenger::new();
-    observe_commitments(&mut challenger, &committed);
-    let requests = requests(alloc, &committed)?;
-    let (values, proof) = scheme.open(alloc, requests, &mut challenger)?;
-    Ok(verify::Input {
-        batches: claims(alloc, &committed, values)?,
-        params,
-        proof,
-    })
+    observe_commitments(&mut challenger, &committed.batches);
+    Ok(committed.open(alloc, &mut challenger)?)
+}
+
+/// Commits to the batches as [`prove`] does, and opens them from the caller's challenger, which it
+/// leaves as [`verify::verify_from`] leaves that of the verifier. The caller has it absorb the
+/// commitments, which [`commit`](crate::commit::commit) returns; this
+/// call absorbs nothing before the opening.
+///
+/// Fails as [`prove`] does. Where the rows or a batch are refused, the challenger is as it was;
+/// then it is left as [`CirclePcs::open`] leaves it. Where each matrix has a point,
+/// [`verify::verify_from`] accepts the result from the same state.
+pub fn prove_from(
+    alloc: Global,
+    input: Input,
+    challenger: &mut Challenger,
+) -> Result<verify::Input, Refusal>
+    ensures rows { let f = input.params.log_final_poly_len in let bs = input.batches.items in
+        MatchResult result (λ _. AreTall f bs) (λ e. IsRefusalOfBatches f bs e ⊎ AreTall f bs) }
+    ensures proof { let o = ⟦<Challenger as OpeningOver<Val, Challenge, ValMmcs, ChallengeMmcs>>⟧
+        in IfOk result (λ out. IsProvedFrom o.schemes input out (state_of challenger.old)
+        (state_of challenger.new)) }
+    ensures commitments { let o =
+        ⟦<Challenger as OpeningOver<Val, Challenge, ValMmcs, ChallengeMmcs>>⟧ in IfOk result
+        (λ out. AreCommitments o.schemes input (commitments_of out)) }
+    ensures accepted { let o = ⟦<Challenger as OpeningOver<Val, Challenge, ValMmcs, ChallengeMmcs>>⟧
+        in IfOk result (λ out. HavePoints input → IsVerifiedFrom o.schemes out
+        (state_of challenger.old) (state_of challenger.new)) }
+    ensures reason { let o = ⟦<Challenger as OpeningOver<Val, Challenge, ValMmcs, ChallengeMmcs>>⟧
+        in let p = ⟦<Scheme as Pcs<Challenge, Challenger>>⟧ in IfErr result (IsProverRefusal
+        (IsProveReasonFrom o.schemes p.commit_refuses p.open_refuses input
+        (state_of challenger.old) (state_of challenger.new))) }
+{
+    let committed = CommittedInput::new(alloc, &input)?;
+    Ok(committed.open(alloc, challenger)?)
+}
+
+impl<'a> CommittedInput<'a> {
+    /// Tests the rows of the input's matrices, and commits to its batches.
+    ///
+    /// Fails as [`prove`] does before it opens.
+    pub(crate) fn new(alloc: Global, input: &'a Input) -> Result<Self, Refusal>
+        ensures rows { let f = input.now.params.log_final_poly_len in let bs =
+            input.now.batches.items in MatchResult result (λ _. AreTall f bs)
+            (λ e. IsRefusalOfBatches f bs e ⊎ AreTall f bs) }
+        ensures input { IfOk result (λ c. c.input.now ≡ input.now) }
+        ensures committed { IfOk result (IsCommittedInput
+            ⟦<Challenger as OpeningOver<Val, Challenge, ValMmcs, ChallengeMmcs>>⟧.schemes) }
+        ensures reason { let o =
+            ⟦<Challenger as OpeningOver<Val, Challenge, ValMmcs, ChallengeMmcs>>⟧ in
+            let p = ⟦<Scheme as Pcs<Challenge, Challenger>>⟧ in IfErr result
+            (IsProverRefusal (IsCommitReason o.schemes p.commit_refuses input.now)) }
+    {
+        validate_batches(input.params.log_final_poly_len, &input.batches)?;
+        let scheme = Scheme::new(ValMmcs::new(), input.params.with_mmcs(ChallengeMmcs::new()));
+        let batches = commit_batches(alloc, &scheme, &input.batches)?;
+        Ok(CommittedInput {
+            input,
+            scheme,
+            batches,
+        })
+    }
+
+    /// The commitments to the batches, in order.
+    pub(crate) fn commitments(&self, alloc: Global) -> Result<Vec<Commitment>, AllocError>
+        ensures { IfOk result (λ v. v.items ≡ map (λ b. b.commitment) self.now.batches.items) }
+    {
+        let mut commitments = Vec::with_capacity(alloc, self.batches.len())?;
+        for batch in &self.batches {
+            commitments.push(batch.commitment)?;
+        }
+        Ok(commitments)
+    }
+
+    // Opens the batches from the challenger's state.
+    fn open(&self, alloc: Global, challenger: &mut Challenger) -> Result<verify::Input, ProverError>
+        requires { IsCommittedInput
+            ⟦<Challenger as OpeningOver<Val, Challenge, ValMmcs, ChallengeMmcs>>⟧.schemes self.now }
+        ensures opened { let o =
+            ⟦<Challenger as OpeningOver<Val, Challenge, ValMmcs, ChallengeMmcs>>⟧ in IfOk
+            result (λ out. AreOpened o.schemes self.now.input.now out self.now.batches.items
+            (state_of challenger.old) (state_of challenger.new)) }
+        ensures accepted { let o =
+            ⟦<Challenger as OpeningOver<Val, Challenge, ValMmcs, ChallengeMmcs>>⟧ in IfOk
+            result (λ out. HavePoints self.now.input.now → IsVerifiedFrom o.schemes out
+            (state_of challenger.old) (state_of challenger.new)) }
+        ensures reason { let o =
+            ⟦<Challenger as OpeningOver<Val, Challenge, ValMmcs, ChallengeMmcs>>⟧ in
+            let p = ⟦<Scheme as Pcs<Challenge, Challenger>>⟧ in IfErr result
+            (λ e. (e ≡ Memory) ⊎ AreUnopened o.schemes p.open_refuses self.now.input.now
+            self.now.batches.items (state_of challenger.old) (state_of challenger.new) e) }
+    {
+        let requests = requests(alloc, &self.batches)?;
+        let (values, proof) = self.scheme.open(alloc, requests, challenger)?;
+        Ok(verify::Input {
+            batches: claims(alloc, &self.batches, values)?,
+            params: self.input.params.with_mmcs(()),
+            proof,
+        })
+    }
 }
 
 // Refuses the rows of the matrices, by the first reason.

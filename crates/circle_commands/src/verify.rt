@@ -1,14 +1,15 @@
 //! The command `verify`: whether a proof shows that committed polynomials have the claimed values.
 
-ghost use Rattle.std.specs.Prelude.{◌≡◌, ◌⊎◌, IfOk, IfErr, OnOk};
+ghost use Rattle.std.specs.Prelude.{◌≡◌, ◌⊎◌, ℕ, List, IfOk, IfErr, OnOk};
+ghost use Rattle.circle_challenger.specs.Sha256Challenger.{state_of};
 ghost use Rattle.circle_json.specs.ObjectForm.{object_form};
 ghost use Rattle.circle_commit.specs.declared.error.FriError.TheVariants.{Memory};
 ghost use Rattle.circle_relation.specs.StatementOf.{batch_claim, batch_claims};
-ghost use Rattle.circle_commands.specs.Verified.{IsVerified, batch_told, batches_told};
-ghost use Rattle.circle_commands.specs.Verified.{IsUnverified};
+ghost use Rattle.circle_commands.specs.Verified.{IsVerified, IsVerifiedFrom, batch_told};
+ghost use Rattle.circle_commands.specs.Verified.{IsUnverified, IsUnverifiedFrom, batches_told};
 ghost use Rattle.circle_commands.specs.Verify.{input_fields};
 
-use crate::command::Command;
+use crate::command::{Command, CommandFrom};
 use crate::commitments::{HasCommitment, observe_commitments};
 use crate::failure::Failure;
 use circle_commit::{CommitmentOpening, FriParameters, MatrixOpening};
@@ -98,6 +99,28 @@ impl Command for Input {
     }
 }
 
+impl CommandFrom for Input {
+    ghost use Rattle.std.specs.Prelude.{◌≡◌};
+    ghost use Rattle.circle_commands.specs.Reasons.{IsVerifyReasonFrom};
+    ghost use Rattle.circle_commands.specs.Verified.{IsVerifiedFrom, verified_line};
+
+    ghost is_result_from = { λ input old new line. IsVerifiedFrom
+        ⟦<Challenger as OpeningOver<Val, Challenge, ValMmcs, ChallengeMmcs>>⟧.schemes input old new
+        × (line ≡ verified_line) };
+
+    ghost is_reason_from = { IsVerifyReasonFrom
+        ⟦<Challenger as OpeningOver<Val, Challenge, ValMmcs, ChallengeMmcs>>⟧.schemes
+        (λ i. i.proof) ⟦<Scheme as Pcs<Challenge, Challenger>>⟧.verify_refuses };
+
+    /// The line `{"verified":true}`.
+    ///
+    /// Fails as [`verify_from`] does.
+    fn line_from(self, alloc: Global, challenger: &mut Challenger) -> Result<String, Failure> {
+        verify_from(alloc, self, challenger)?;
+        Ok(String::from_str(alloc, VERIFIED)?)
+    }
+}
+
 /// Verifies the input's proof of its claims, from the challenger that has absorbed the commitments
 /// alone, in order.
 ///
@@ -110,15 +133,35 @@ pub fn verify(alloc: Global, input: Input) -> Result<(), Refusal>
     ensures reason { let p = ⟦<Scheme as Pcs<Challenge, Challenger>>⟧ in IfErr result
         (λ e. (e ≡ Memory) ⊎ IsUnverified p.verify_refuses input.proof input e) }
 {
+    let mut challenger = Challenger::new();
+    observe_commitments(&mut challenger, &input.batches);
+    verify_from(alloc, input, &mut challenger)
+}
+
+/// Verifies the input's proof of its claims, from the caller's challenger, and leaves it as the
+/// prover's challenger was left. The caller has it absorb the commitments, and what else the prover
+/// did; this call absorbs nothing before the proof.
+///
+/// Fails as [`CirclePcs::verify`] does, which says how the challenger is left then, and of a proof
+/// that is verified only when out of memory.
+pub fn verify_from(alloc: Global, input: Input, challenger: &mut Challenger) -> Result<(), Refusal>
+    ensures accepted { let o = ⟦<Challenger as OpeningOver<Val, Challenge, ValMmcs, ChallengeMmcs>>⟧
+        in OnOk result (IsVerifiedFrom o.schemes input (state_of challenger.old)
+        (state_of challenger.new)) }
+    ensures complete { let o = ⟦<Challenger as OpeningOver<Val, Challenge, ValMmcs, ChallengeMmcs>>⟧
+        in IfErr result (λ e. (left : List ℕ) → IsVerifiedFrom o.schemes input
+        (state_of challenger.old) left → e ≡ Memory) }
+    ensures reason { let p = ⟦<Scheme as Pcs<Challenge, Challenger>>⟧ in IfErr result
+        (λ e. (e ≡ Memory) ⊎ IsUnverifiedFrom p.verify_refuses input.proof input
+        (state_of challenger.old) (state_of challenger.new) e) }
+{
     let Input {
         batches,
         params,
         proof,
     } = input;
-    let mut challenger = Challenger::new();
-    observe_commitments(&mut challenger, &batches);
     let scheme = Scheme::new(ValMmcs::new(), params.with_mmcs(ChallengeMmcs::new()));
-    scheme.verify(alloc, placed(alloc, batches)?, &proof, &mut challenger)
+    scheme.verify(alloc, placed(alloc, batches)?, &proof, challenger)
 }
 
 // The claims about domains of these sizes; only their sizes count.

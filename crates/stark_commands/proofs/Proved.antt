@@ -23,10 +23,11 @@ use Rattle.circle_stark.specs.Statement.{Statement}
 use Rattle.circle_stark.specs.declared.error.StarkProverError.{StarkProverError}
 use Rattle.circle_stark.specs.declared.error.StarkProverError.TheVariants as prover
 use Rattle.circle_stark.specs.declared.trace.StarkTrace.{StarkTrace}
-use Rattle.stark_commands.proofs.Verified.{Accepts, verified}
-use Rattle.stark_commands.specs.Proved.{AreFittingRows, HasAir, IsFitting, IsProved}
+use Rattle.stark_commands.proofs.Verified.{Accepts, verified, verified-new}
+use Rattle.stark_commands.specs.Proved.{AreFittingRows, HasAir, IsFitting, IsProved, IsProvedFrom}
 use Rattle.stark_commands.specs.Proved.{IsRefusalOfRows, IsRefusedByProver, IsTooLarge}
-use Rattle.stark_commands.specs.Proved.{IsUnproved, parts_given, rows_given, statement_proved}
+use Rattle.stark_commands.specs.Proved.{IsUnproved, IsUnprovedBy, IsUnprovedFrom, parts_given}
+use Rattle.stark_commands.specs.Proved.{rows_given, statement_proved}
 use Rattle.stark_commands.specs.Refused.{IsRefusalOfTrace}
 use Rattle.stark_commands.specs.Verified.{Scheme, statement_given}
 use Rattle.stark_commands.specs.declared.prove.Input.{Input}
@@ -60,14 +61,13 @@ same_statement p q m n v w parts log public =
     ∙ ap (λ (x : ℕ). statement_of q x v) log
     ∙ ap (λ (x : List Mersenne31). statement_of q n x) public
 
-module _ (Unproved : Scheme → StarkTrace Mersenne31 → Sha256Challenger → Sha256Challenger →
-    StarkProverError → Type 0) (input : Input) where
+module _ (Refuses : StarkProverError → Type 0) (input : Input) where
   many : length (rows_given input) ≡ length input.rows.items
   many = length-lists input.rows.items
 
   first_refused : (k : ℕ) → IsLogOfChunks (degree_of_parts (parts_given input)) k → HasAir input →
       (e : Refusal) → IsRefusalOfRows input.params.log_blowup k input.rows.items e →
-      IsUnproved Unproved input e
+      IsUnprovedBy Refuses input e
   first_refused k log air (Air error) h = absurd h
   first_refused k log air RaggedRows h = (air, h)
   first_refused k log air HeightNotPowerOfTwo h =
@@ -87,7 +87,7 @@ module _ (Unproved : Scheme → StarkTrace Mersenne31 → Sha256Challenger → S
   pub rows_refused : (k : ℕ) (rows : List (Vec Mersenne31 Global)) (e : Refusal) →
       rows ≡ input.rows.items → IsLogOfChunks (degree_of_parts (parts_given input)) k →
       HasAir input → IsRefusalOfRows input.params.log_blowup k rows e →
-      IsUnproved Unproved input e
+      IsUnprovedBy Refuses input e
   rows_refused k rows e same log air refused =
       first_refused k log air e
       (subst (λ (rs : List (Vec Mersenne31 Global)). IsRefusalOfRows input.params.log_blowup k rs e)
@@ -96,12 +96,38 @@ module _ (Unproved : Scheme → StarkTrace Mersenne31 → Sha256Challenger → S
   -- what the prover refuses, but where it is memory that is refused
   pub trace_refused : (error : StarkProverError) (reason : Refusal) →
       IsRefusalOfTrace Prover Memory error reason → IsFitting input →
-      ((¬ (error ≡ prover.Memory)) → IsRefusedByProver Unproved input error) →
-      (reason ≡ Memory) ⊎ IsUnproved Unproved input reason
+      ((¬ (error ≡ prover.Memory)) → Refuses error) →
+      (reason ≡ Memory) ⊎ IsUnprovedBy Refuses input reason
   trace_refused error reason is fitting refused =
       ⊎_elim (λ memory. inl memory.1)
-      (λ other. inr (subst (IsUnproved Unproved input) (sym other.1)
+      (λ other. inr (subst (IsUnprovedBy Refuses input) (sym other.1)
       (fitting, refused other.0))) is
+
+-- what is refused for some errors is so for others that these are
+unproved_by : (Refuses Other : StarkProverError → Type 0) (input : Input) →
+    ((error : StarkProverError) → Refuses error → Other error) → (e : Refusal) →
+    IsUnprovedBy Refuses input e → IsUnprovedBy Other input e
+unproved_by Refuses Other input then (Air error) h = h
+unproved_by Refuses Other input then RaggedRows h = h
+unproved_by Refuses Other input then HeightNotPowerOfTwo h = h
+unproved_by Refuses Other input then HeightTooLarge h = h
+unproved_by Refuses Other input then (Prover error) h = (h.0, then error h.1)
+unproved_by Refuses Other input then Memory h = absurd h
+
+-- what is refused from a new challenger
+pub unproved-new : (Unproved : Scheme → StarkTrace Mersenne31 → Sha256Challenger →
+    Sha256Challenger → StarkProverError → Type 0) (input : Input) (old new : List ℕ) →
+    old ≡ replicate 32 0 → (e : Refusal) →
+    (e ≡ Memory) ⊎ IsUnprovedFrom Unproved input old new e →
+    (e ≡ Memory) ⊎ IsUnproved Unproved input e
+unproved-new Unproved input old new begun e refused =
+    ⊎_elim (λ none. inl none)
+    (λ u. inr (unproved_by (IsRefusedByProver Unproved input old new)
+    (λ error. (left : List ℕ) × IsRefusedByProver Unproved input (replicate 32 0) left error) input
+    (λ error r. (
+      new,
+      subst (λ (s : List ℕ). IsRefusedByProver Unproved input s new error) begun r,
+    )) e u)) refused
 
 module _ (input : Input) where
   -- the AIR's logarithm of the number of chunks is that of its parts
@@ -116,10 +142,10 @@ module _ (input : Input) where
   height_is rows n same is = is ∙ ap length same ∙ sym (length-lists input.rows.items)
 
   -- rows that the prover sees
-  pub fitting : (k n : ℕ) (rows : List (Vec Mersenne31 Global)) → rows ≡ input.rows.items →
-      IsLogOfChunks (degree_of_parts (parts_given input)) k → HasAir input →
-      AreFittingRows input.params.log_blowup k rows n → IsFitting input
-  fitting k n rows same log air fits =
+  pub fitting : (k n : ℕ) (p : Parts Mersenne31) (rows : List (Vec Mersenne31 Global)) →
+      rows ≡ input.rows.items → p ≡ parts_given input → IsLogOfChunks (degree_of_parts p) k →
+      HasAir input → AreFittingRows input.params.log_blowup k rows n → IsFitting input
+  fitting k n p rows same is log air fits =
       let many : length (rows_given input) ≡ length rows =
       length-lists input.rows.items ∙ sym (ap length same) in (
         (
@@ -135,7 +161,7 @@ module _ (input : Input) where
             (ap log_of many ∙ sym fits.log)
             (subst
             (λ (j : ℕ). IsTooLarge (log_of (length (rows_given input))) input.params.log_blowup j)
-            (one_log _ large.0 k large.1 log) large.2)),
+            (one_log _ large.0 k large.1 (chunks_of k p is log)) large.2)),
       )
 
   -- it is handed the input's statement
@@ -161,27 +187,38 @@ module _ {D WD : Type 0}
   -- the claim of what is proved of the input's rows
   pub proved : (s : Statement Mersenne31) (rows : List (List Mersenne31))
       (mmcs : ShaMmcs Mersenne31) (scheme : ShaMmcs Cubic)
-      (params : FriParameters (ShaMmcs Cubic)) (start left : List ℕ) →
+      (params : FriParameters (ShaMmcs Cubic)) (old new : List ℕ) →
       s ≡ statement_proved input → s ≡ statement_given claim → rows ≡ rows_given input →
       claim.params ≡ input.params → claim.public_values ≡ input.public_values →
       length (rows_given input) ≡ 2 ^ claim.log_n →
-      params ≡ with_scheme claim.params scheme → start ≡ replicate 32 0 → HasAir input →
+      params ≡ with_scheme claim.params scheme → HasAir input →
       Satisfies operations s.parts rows s.public_values →
-      Accepts o claim mmcs params s start left → IsProved o input claim
-  proved s rows mmcs scheme params start left is claimed given same public height with begun air
-      holds accepts =
+      Accepts o claim mmcs params s old new → IsProvedFrom o input claim old new
+  proved s rows mmcs scheme params old new is claimed given same public height with air holds
+      accepts =
       let parts : parts_of claim.air ≡ parts_given input =
       ap (λ (t : Statement Mersenne31). t.parts) (sym claimed ∙ is) in record {
-        air = parts;
-        height = height;
-        params = same;
-        public = public;
-        satisfies =
-            subst (λ (t : Statement Mersenne31). Satisfies operations t.parts (rows_given input)
-            t.public_values) is
-            (subst (λ (rs : List (List Mersenne31)). Satisfies operations s.parts rs
-            s.public_values) given holds);
+        claims =
+            record {
+              air = parts;
+              height = height;
+              params = same;
+              public = public;
+              satisfies =
+                  subst (λ (t : Statement Mersenne31). Satisfies operations t.parts
+                  (rows_given input) t.public_values) is
+                  (subst (λ (rs : List (List Mersenne31)). Satisfies operations s.parts rs
+                  s.public_values) given holds);
+            };
         verified =
-            verified o claim s mmcs scheme params start claimed with begun left
+            verified o claim s mmcs scheme params old new claimed with
             (subst (λ (p : Parts Mersenne31). refusal p ≡ None) (sym parts) air) accepts;
       }
+
+  -- so from a new challenger
+  pub proved-new : (old new : List ℕ) → old ≡ replicate 32 0 → IsProvedFrom o input claim old new →
+      IsProved o input claim
+  proved-new old new begun is = record {
+    claims = is.claims;
+    verified = verified-new o claim old new begun is.verified;
+  }

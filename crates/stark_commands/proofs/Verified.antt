@@ -1,6 +1,6 @@
 -- What the command `verify` hands to the verifier.
-use Rattle.std.proofs.Common.{◌≡◌, ℕ, ◌⊎◌, ⊎_elim, List, Vec, Global, ap, inl, inr, replicate}
-use Rattle.std.proofs.Common.{subst, sym, ◌∙◌}
+use Rattle.std.proofs.Common.{◌≡◌, ℕ, ◌⊎◌, ⊎_elim, List, Vec, Global, ap, inl, inr}
+use Rattle.std.proofs.Common.{replicate, subst, sym, ◌∙◌}
 use Rattle.circle_air.specs.Parts.{Parts, parts_of}
 use Rattle.circle_challenger.specs.declared.sha256.Sha256Challenger.{Sha256Challenger}
 use Rattle.circle_commands.proofs.Verified.{one_scheme}
@@ -14,13 +14,15 @@ use Rattle.circle_stark.specs.Accepts.{StarkAccepts}
 use Rattle.circle_stark.specs.Statement.{Statement, proved_of}
 use Rattle.circle_stark.specs.declared.error.StarkError.TheVariants as stark
 use Rattle.circle_stark.specs.declared.proof.StarkStatement.{StarkStatement}
-use Rattle.stark_commands.specs.Reasons.{IsVerifyRefusal, ProofError}
+use Rattle.stark_commands.specs.Reasons.{IsUnverifiedBy, IsVerifyRefusal, IsVerifyRefusalFrom}
+use Rattle.stark_commands.specs.Reasons.{ProofError}
 use Rattle.stark_commands.specs.Refused.{IsRefusalOfProof}
-use Rattle.stark_commands.specs.Verified.{HasAir, IsUnverified, IsVerified, Scheme, described}
+use Rattle.stark_commands.specs.Verified.{HasAir, IsAcceptedFrom, IsUnverified, IsUnverifiedFrom}
+use Rattle.stark_commands.specs.Verified.{IsVerified, IsVerifiedFrom, Scheme, described}
 use Rattle.stark_commands.specs.Verified.{statement_given}
 use Rattle.stark_commands.specs.declared.verify.Input.{Input}
 use Rattle.stark_commands.specs.declared.verify.Refusal.{Refusal}
-use Rattle.stark_commands.specs.declared.verify.Refusal.TheVariants.{Memory, Proof}
+use Rattle.stark_commands.specs.declared.verify.Refusal.TheVariants.{Air, Memory, Proof}
 
 -- a statement of as many rows as the input's
 abbrev pub stated_by : Input → Parts Mersenne31 → List Mersenne31 → Statement Mersenne31
@@ -49,51 +51,82 @@ module _ {D WD : Type 0}
         (o.word_authenticates params.mmcs) (described s) s (proved_of input.proof) old new
 
     module _ (s : Statement Mersenne31) (mmcs : ShaMmcs Mersenne31) (scheme : ShaMmcs Cubic)
-        (params : FriParameters (ShaMmcs Cubic)) (start : List ℕ) (is : s ≡ statement_given input)
-        (same : params ≡ with_scheme input.params scheme) (begun : start ≡ replicate 32 0) where
+        (params : FriParameters (ShaMmcs Cubic)) (old new : List ℕ) (is : s ≡ statement_given input)
+        (same : params ≡ with_scheme input.params scheme) where
       -- what is accepted of the input's statement under its parameters is verified
-      pub verified : (left : List ℕ) → HasAir input → Accepts mmcs params s start left →
-          IsVerified o input
-      verified left air a = record {
+      pub verified : HasAir input → Accepts mmcs params s old new → IsVerifiedFrom o input old new
+      verified air a = record {
         air = air;
         mmcs = mmcs;
         scheme = scheme;
-        left = left;
         accepts =
-            subst (λ t. Accepts mmcs (with_scheme input.params scheme) t (replicate 32 0) left) is
-            (subst (λ p. Accepts mmcs p s (replicate 32 0) left) same
-            (subst (λ old. Accepts mmcs params s old left) begun a));
+            subst (λ t. Accepts mmcs (with_scheme input.params scheme) t old new) is
+            (subst (λ p. Accepts mmcs p s old new) same a);
       }
 
       -- what is verified is accepted
-      pub accepted : (v : IsVerified o input) → Accepts mmcs params s start v.left
+      pub accepted : IsVerifiedFrom o input old new → Accepts mmcs params s old new
       accepted v =
           let of_schemes =
           subst
-          (λ m. Accepts m (with_scheme input.params v.scheme) (statement_given input)
-          (replicate 32 0) v.left) (one_scheme v.mmcs mmcs) v.accepts in
+          (λ m. Accepts m (with_scheme input.params v.scheme) (statement_given input) old new)
+          (one_scheme v.mmcs mmcs) v.accepts in
           let of_params =
-          subst (λ p. Accepts mmcs p (statement_given input) (replicate 32 0) v.left)
+          subst (λ p. Accepts mmcs p (statement_given input) old new)
           (ap (with_scheme input.params) (one_scheme v.scheme scheme) ∙ sym same) of_schemes in
-          let of_statement =
-          subst (λ t. Accepts mmcs params t (replicate 32 0) v.left) (sym is) of_params in
-          subst (λ old. Accepts mmcs params s old v.left) (sym begun) of_statement
+          subst (λ t. Accepts mmcs params t old new) (sym is) of_params
+
+    -- what is verified from a new challenger
+    pub verified-new : (old new : List ℕ) → old ≡ replicate 32 0 → IsVerifiedFrom o input old new →
+        IsVerified o input
+    verified-new old new begun v = subst (IsAcceptedFrom o input) begun (new, v)
+
+    pub accepted-new : (old : List ℕ) → old ≡ replicate 32 0 → IsVerified o input →
+        IsAcceptedFrom o input old
+    accepted-new old begun v = subst (IsAcceptedFrom o input) (sym begun) v
 
     -- a refused proof is a refused input, but where it is memory that is refused
-    pub never_of_verified : (error : ProofError) (reason : Refusal) →
-        IsRefusalOfProof Proof Memory error reason → (IsVerified o input → error ≡ stark.Memory) →
-        IsVerified o input → reason ≡ Memory
-    never_of_verified error reason is complete v =
+    pub never_of_verified : (V : Type 0) (error : ProofError) (reason : Refusal) →
+        IsRefusalOfProof Proof Memory error reason → (V → error ≡ stark.Memory) → V →
+        reason ≡ Memory
+    never_of_verified V error reason is complete v =
         ⊎_elim (λ memory. memory.1) (λ other. absurd (other.0 (complete v))) is
 
-    pub proof_refused : {P : Type 0} (part : Input → P)
-        (Refuses : Scheme → StarkStatement Mersenne31 → P → Sha256Challenger → Sha256Challenger →
-        ProofError → Type 0) (error : ProofError) (reason : Refusal) →
-        IsRefusalOfProof Proof Memory error reason →
-        HasAir input → (IsVerified o input → error ≡ stark.Memory) →
-        IsUnverified Refuses (part input) input error →
-        (reason ≡ Memory) ⊎ IsVerifyRefusal o part Refuses input reason
-    proof_refused part Refuses error reason is air complete refused =
+    pub proof_refused : (V : Type 0) (Refuses : ProofError → Type 0) (error : ProofError)
+        (reason : Refusal) → IsRefusalOfProof Proof Memory error reason → HasAir input →
+        (V → error ≡ stark.Memory) → Refuses error →
+        (reason ≡ Memory) ⊎ IsUnverifiedBy V Refuses input reason
+    proof_refused V Refuses error reason is air complete refused =
         ⊎_elim (λ memory. inl memory.1)
-        (λ other. inr (subst (IsVerifyRefusal o part Refuses input) (sym other.1)
+        (λ other. inr (subst (IsUnverifiedBy V Refuses input) (sym other.1)
         (air, (λ v. other.0 (complete v), (other.0, refused))))) is
+
+-- what is refused for some errors is so for others that these are
+unverified_by : (V W : Type 0) (Refuses Other : ProofError → Type 0) (input : Input) → (W → V) →
+    ((error : ProofError) → Refuses error → Other error) → (e : Refusal) →
+    IsUnverifiedBy V Refuses input e → IsUnverifiedBy W Other input e
+unverified_by V W Refuses Other input back then (Air error) h = h
+unverified_by V W Refuses Other input back then (Proof error) h =
+    (h.0, (λ w. h.1.0 (back w), (h.1.1.0, then error h.1.1.1)))
+unverified_by V W Refuses Other input back then Memory h = absurd h
+
+module _ {D WD : Type 0}
+    (o : Schemes Sha256Challenger (List ℕ) Mersenne31 Cubic (ShaMmcs Mersenne31) (List ℕ) D
+    (Vec (List ℕ) Global) (ShaMmcs Cubic) (List ℕ) WD (Vec (List ℕ) Global)) {P : Type 0}
+    (part : Input → P)
+    (Refuses : Scheme → StarkStatement Mersenne31 → P → Sha256Challenger → Sha256Challenger →
+    ProofError → Type 0) (input : Input)
+  where
+    -- what is refused from a new challenger
+    pub unverified-new : (old new : List ℕ) → old ≡ replicate 32 0 → (e : Refusal) →
+        (e ≡ Memory) ⊎ IsVerifyRefusalFrom o part Refuses input old new e →
+        (e ≡ Memory) ⊎ IsVerifyRefusal o part Refuses input e
+    unverified-new old new begun e refused =
+        ⊎_elim (λ none. inl none)
+        (λ u. inr (unverified_by (IsAcceptedFrom o input old) (IsVerified o input)
+        (IsUnverifiedFrom Refuses (part input) input old new)
+        (IsUnverified Refuses (part input) input) input (accepted-new o input old begun)
+        (λ error r. (
+          new,
+          subst (λ (s : List ℕ). IsUnverifiedFrom Refuses (part input) input s new error) begun r,
+        )) e u)) refused

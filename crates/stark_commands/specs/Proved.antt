@@ -24,7 +24,7 @@ use Rattle.circle_stark.specs.Trace.{stated}
 use Rattle.circle_stark.specs.declared.error.StarkProverError.{StarkProverError}
 use Rattle.circle_stark.specs.declared.error.StarkProverError.TheVariants.{Memory as OutOfMemory}
 use Rattle.circle_stark.specs.declared.trace.StarkTrace.{StarkTrace}
-use Rattle.stark_commands.specs.Verified.{IsVerified, Scheme}
+use Rattle.stark_commands.specs.Verified.{IsVerified, IsVerifiedFrom, Scheme}
 use Rattle.stark_commands.specs.declared.prove.Input.{Input}
 use Rattle.stark_commands.specs.declared.prove.Refusal.{Refusal}
 use Rattle.stark_commands.specs.declared.prove.Refusal.TheVariants.{Air, RaggedRows}
@@ -94,11 +94,12 @@ HasHeight input = HasRows input × IsPowerOfTwo (length (rows_given input))
 abbrev pub IsFitting : Input → Type 0
 IsFitting input = HasHeight input × (¬ IsLargeInput input)
 
--- what the prover is handed is the input's, under its parameters and from a challenger that has
--- absorbed nothing, and the prover refuses it for this reason
+-- what the prover is handed is the input's, under its parameters and from a challenger in the one
+-- state, which it leaves in the other, and the prover refuses it for this reason
 pub record IsRefusedByProver
     (Unproved : Scheme → StarkTrace Mersenne31 → Sha256Challenger → Sha256Challenger →
-    StarkProverError → Type 0) (input : Input) (error : StarkProverError) : Type 0 where
+    StarkProverError → Type 0) (input : Input) (old new : List ℕ) (error : StarkProverError)
+    : Type 0 where
   pub scheme : Scheme
   pub trace : StarkTrace Mersenne31
   pub start : Sha256Challenger
@@ -106,39 +107,70 @@ pub record IsRefusedByProver
   pub params : scheme.fri_params ≡ with_scheme input.params scheme.fri_params.mmcs
   pub stated : stated trace ≡ statement_proved input
   pub rows : rows_of trace.rows ≡ rows_given input
-  pub begun : state_of start ≡ replicate 32 0
+  pub begun : state_of start ≡ old
+  pub ended : state_of left ≡ new
   pub reported : ¬ (error ≡ OutOfMemory)
   pub refuses : Unproved scheme trace start left error
 
--- why an input is refused, each where no earlier reason holds
-abbrev pub IsUnproved : (Scheme → StarkTrace Mersenne31 → Sha256Challenger → Sha256Challenger →
-    StarkProverError → Type 0) → Input → Refusal → Type 0
-IsUnproved Unproved input (Air error) = refusal (parts_given input) ≡ Some error
-IsUnproved Unproved input RaggedRows = HasAir input × (¬ IsRectangular (rows_given input))
-IsUnproved Unproved input HeightNotPowerOfTwo =
+-- why an input is refused, each where no earlier reason holds, where the prover refuses it by such
+-- errors
+abbrev pub IsUnprovedBy : (StarkProverError → Type 0) → Input → Refusal → Type 0
+IsUnprovedBy Refuses input (Air error) = refusal (parts_given input) ≡ Some error
+IsUnprovedBy Refuses input RaggedRows = HasAir input × (¬ IsRectangular (rows_given input))
+IsUnprovedBy Refuses input HeightNotPowerOfTwo =
     HasRows input × (¬ IsPowerOfTwo (length (rows_given input)))
-IsUnproved Unproved input HeightTooLarge = HasHeight input × IsLargeInput input
-IsUnproved Unproved input (Prover error) =
-    IsFitting input × IsRefusedByProver Unproved input error
-IsUnproved Unproved input Memory = ⊥
+IsUnprovedBy Refuses input HeightTooLarge = HasHeight input × IsLargeInput input
+IsUnprovedBy Refuses input (Prover error) = IsFitting input × Refuses error
+IsUnprovedBy Refuses input Memory = ⊥
+
+module _ (Unproved : Scheme → StarkTrace Mersenne31 → Sha256Challenger → Sha256Challenger →
+    StarkProverError → Type 0) (input : Input)
+  where
+    -- from a challenger in the one state, which is left in the other
+    abbrev pub IsUnprovedFrom : List ℕ → List ℕ → Refusal → Type 0
+    IsUnprovedFrom old new = IsUnprovedBy (IsRefusedByProver Unproved input old new) input
+
+    -- and from a challenger that has absorbed nothing
+    abbrev pub IsUnproved : Refusal → Type 0
+    IsUnproved =
+        IsUnprovedBy
+        (λ error. (left : List ℕ) × IsRefusedByProver Unproved input (replicate 32 0) left error)
+        input
+
+-- the rows satisfy the AIR, and the claim is of their number, of this AIR, these parameters and
+-- public values
+pub record IsClaimOf (input : Input) (claim : Claim) : Type 0 where
+  pub air : parts_of claim.air ≡ parts_given input
+  pub height : length (rows_given input) ≡ 2 ^ claim.log_n
+  pub params : claim.params ≡ input.params
+  pub public : claim.public_values ≡ input.public_values
+  pub satisfies :
+      Satisfies operations (parts_given input) (rows_given input) input.public_values.items
 
 module _ {D WD : Type 0}
     (o : Schemes Sha256Challenger (List ℕ) Mersenne31 Cubic (ShaMmcs Mersenne31) (List ℕ) D
     (Vec (List ℕ) Global) (ShaMmcs Cubic) (List ℕ) WD (Vec (List ℕ) Global))
   where
-    -- the rows satisfy the AIR, and the claim is of their number, of this AIR, these parameters and
-    -- public values, with a proof that the verifier accepts
-    pub record IsProved (input : Input) (claim : Claim) : Type 0 where
-      pub air : parts_of claim.air ≡ parts_given input
-      pub height : length (rows_given input) ≡ 2 ^ claim.log_n
-      pub params : claim.params ≡ input.params
-      pub public : claim.public_values ≡ input.public_values
-      pub satisfies :
-          Satisfies operations (parts_given input) (rows_given input) input.public_values.items
-      pub verified : IsVerified o claim
+    module _ (input : Input) where
+      -- the rows satisfy the AIR, and the claim is of them, with a proof that the verifier accepts
+      -- from a challenger in the one state, and leaves it in the other
+      pub record IsProvedFrom (claim : Claim) (old new : List ℕ) : Type 0 where
+        pub claims : IsClaimOf input claim
+        pub verified : IsVerifiedFrom o claim old new
 
-    -- the line is that of such a claim
-    pub record IsProofLine (form : Form Claim) (input : Input) (line : List ℕ) : Type 0 where
-      pub claim : Claim
-      pub written : IsLineOf form claim line
-      pub proved : IsProved input claim
+      -- and from a challenger that has absorbed nothing
+      pub record IsProved (claim : Claim) : Type 0 where
+        pub claims : IsClaimOf input claim
+        pub verified : IsVerified o claim
+
+    module _ (form : Form Claim) (input : Input) where
+      -- the line is that of such a claim
+      pub record IsProofLine (line : List ℕ) : Type 0 where
+        pub claim : Claim
+        pub written : IsLineOf form claim line
+        pub proved : IsProved input claim
+
+      pub record IsProofLineFrom (old new line : List ℕ) : Type 0 where
+        pub claim : Claim
+        pub written : IsLineOf form claim line
+        pub proved : IsProvedFrom input claim old new

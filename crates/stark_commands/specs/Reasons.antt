@@ -17,12 +17,14 @@ use Rattle.circle_stark.specs.declared.error.StarkProverError.{StarkProverError}
 use Rattle.circle_stark.specs.declared.proof.StarkStatement.{StarkStatement}
 use Rattle.circle_stark.specs.declared.trace.StarkTrace.{StarkTrace}
 use Rattle.stark_commands.specs.Check.{IsUnsatisfied}
-use Rattle.stark_commands.specs.Proved.{IsUnproved}
-use Rattle.stark_commands.specs.Verified.{HasAir, IsUnverified, IsVerified, Scheme}
+use Rattle.stark_commands.specs.Proved.{IsUnproved, IsUnprovedFrom}
+use Rattle.stark_commands.specs.Verified.{HasAir, IsAcceptedFrom, IsUnverified, IsUnverifiedFrom}
+use Rattle.stark_commands.specs.Verified.{IsVerified, Scheme}
 use Rattle.stark_commands.specs.declared.check.Input.{Input}
 use Rattle.stark_commands.specs.declared.failure.Reason.{Reason}
 use Rattle.stark_commands.specs.declared.failure.Reason.TheVariants.{Check, Prove, Verify}
 use Rattle.stark_commands.specs.declared.prove.Input.{Input as Statement}
+use Rattle.stark_commands.specs.declared.prove.Refusal.{Refusal as Unproved}
 use Rattle.stark_commands.specs.declared.verify.Input.{Input as Claim}
 use Rattle.stark_commands.specs.declared.verify.Refusal.{Refusal}
 use Rattle.stark_commands.specs.declared.verify.Refusal.TheVariants.{Air, Proof, Memory}
@@ -33,16 +35,40 @@ IsCheckReason input (Check refusal) = IsUnsatisfied input refusal
 IsCheckReason input (Prove refusal) = ⊥
 IsCheckReason input (Verify refusal) = ⊥
 
--- `prove` refuses an input for this reason, where `Unproved` holds of what the prover refuses
-abbrev pub IsProveReason : (Scheme → StarkTrace Mersenne31 → Sha256Challenger → Sha256Challenger →
-    StarkProverError → Type 0) → Statement → Reason → Type 0
-IsProveReason Unproved input (Check refusal) = ⊥
-IsProveReason Unproved input (Prove refusal) = IsUnproved Unproved input refusal
-IsProveReason Unproved input (Verify refusal) = ⊥
+-- it is a refusal of `prove` that is so
+abbrev pub IsOfProve : (Unproved → Type 0) → Reason → Type 0
+IsOfProve Is (Check refusal) = ⊥
+IsOfProve Is (Prove refusal) = Is refusal
+IsOfProve Is (Verify refusal) = ⊥
+
+-- and of `verify`
+abbrev pub IsOfVerify : (Refusal → Type 0) → Reason → Type 0
+IsOfVerify Is (Check refusal) = ⊥
+IsOfVerify Is (Prove refusal) = ⊥
+IsOfVerify Is (Verify refusal) = Is refusal
+
+-- `prove` refuses an input for this reason, where `Refuses` holds of what the prover refuses
+module _ (Refuses : Scheme → StarkTrace Mersenne31 → Sha256Challenger → Sha256Challenger →
+    StarkProverError → Type 0) (input : Statement)
+  where
+    abbrev pub IsProveReason : Reason → Type 0
+    IsProveReason = IsOfProve (IsUnproved Refuses input)
+
+    -- from a challenger in the one state, which is left in the other
+    abbrev pub IsProveReasonFrom : List ℕ → List ℕ → Reason → Type 0
+    IsProveReasonFrom old new = IsOfProve (IsUnprovedFrom Refuses input old new)
 
 -- why the verifier refuses a proof
 abbrev pub ProofError : Type 0
 ProofError = StarkError (FriError MerkleTreeError (InputError MerkleTreeError MerkleTreeError))
+
+-- the parts make no AIR, or the proof isn't accepted and the verifier refuses it by such an error,
+-- which isn't want of memory
+abbrev pub IsUnverifiedBy : Type 0 → (ProofError → Type 0) → Claim → Refusal → Type 0
+IsUnverifiedBy Accepted Refuses input (Air error) = refusal (parts_of input.air) ≡ Some error
+IsUnverifiedBy Accepted Refuses input (Proof error) =
+    HasAir input × ((¬ Accepted) × ((¬ (error ≡ OutOfMemory)) × Refuses error))
+IsUnverifiedBy Accepted Refuses input Memory = ⊥
 
 module _ {D WD : Type 0}
     (o : Schemes Sha256Challenger (List ℕ) Mersenne31 Cubic (ShaMmcs Mersenne31) (List ℕ) D
@@ -51,17 +77,19 @@ module _ {D WD : Type 0}
     (Refuses : Scheme → StarkStatement Mersenne31 → P → Sha256Challenger → Sha256Challenger →
     ProofError → Type 0)
   where
-    -- the parts make no AIR, or the proof isn't verified and the verifier refuses it for this
-    -- reason, which isn't want of memory
+    -- from a challenger in the one state, which is left in the other
+    abbrev pub IsVerifyRefusalFrom : Claim → List ℕ → List ℕ → Refusal → Type 0
+    IsVerifyRefusalFrom input old new =
+        IsUnverifiedBy (IsAcceptedFrom o input old)
+        (IsUnverifiedFrom Refuses (part input) input old new) input
+
+    abbrev pub IsVerifyReasonFrom : Claim → List ℕ → List ℕ → Reason → Type 0
+    IsVerifyReasonFrom input old new = IsOfVerify (IsVerifyRefusalFrom input old new)
+
+    -- and from a challenger that has absorbed nothing
     abbrev pub IsVerifyRefusal : Claim → Refusal → Type 0
-    IsVerifyRefusal input (Air error) = refusal (parts_of input.air) ≡ Some error
-    IsVerifyRefusal input (Proof error) =
-        HasAir input
-        × ((¬ IsVerified o input)
-        × ((¬ (error ≡ OutOfMemory)) × IsUnverified Refuses (part input) input error))
-    IsVerifyRefusal input Memory = ⊥
+    IsVerifyRefusal input =
+        IsUnverifiedBy (IsVerified o input) (IsUnverified Refuses (part input) input) input
 
     abbrev pub IsVerifyReason : Claim → Reason → Type 0
-    IsVerifyReason input (Check refusal) = ⊥
-    IsVerifyReason input (Prove refusal) = ⊥
-    IsVerifyReason input (Verify refusal) = IsVerifyRefusal input refusal
+    IsVerifyReason input = IsOfVerify (IsVerifyRefusal input)

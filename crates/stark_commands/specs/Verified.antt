@@ -36,38 +36,53 @@ described s = described_by bytes 4 s
 abbrev pub HasAir : Input → Type 0
 HasAir input = refusal (parts_of input.air) ≡ None
 
--- the parts make an AIR, and the verifier accepts the proof of the input's statement from a
--- challenger that has absorbed nothing, under the relation
-pub record IsVerified {D WD : Type 0}
+module _ {D WD : Type 0}
     (o : Schemes Sha256Challenger (List ℕ) Mersenne31 Cubic (ShaMmcs Mersenne31) (List ℕ) D
-    (Vec (List ℕ) Global) (ShaMmcs Cubic) (List ℕ) WD (Vec (List ℕ) Global))
-    (input : Input) : Type 0 where
-  pub air : HasAir input
-  pub mmcs : ShaMmcs Mersenne31
-  pub scheme : ShaMmcs Cubic
-  pub left : List ℕ
-  pub accepts :
-      StarkAccepts o.fields (with_scheme input.params scheme) o.run o.run (o.authenticates mmcs)
-      (o.word_authenticates scheme) (described (statement_given input)) (statement_given input)
-      (proved_of input.proof) (replicate 32 0) left
+    (Vec (List ℕ) Global) (ShaMmcs Cubic) (List ℕ) WD (Vec (List ℕ) Global)) (input : Input)
+  where
+    -- the parts make an AIR, and the verifier accepts the proof of the input's statement from a
+    -- challenger in the one state, and leaves it in the other, under the relation
+    pub record IsVerifiedFrom (old new : List ℕ) : Type 0 where
+      pub air : HasAir input
+      pub mmcs : ShaMmcs Mersenne31
+      pub scheme : ShaMmcs Cubic
+      pub accepts :
+          StarkAccepts o.fields (with_scheme input.params scheme) o.run o.run (o.authenticates mmcs)
+          (o.word_authenticates scheme) (described (statement_given input)) (statement_given input)
+          (proved_of input.proof) old new
+
+    -- it does so from this state, whatever it leaves
+    abbrev pub IsAcceptedFrom : List ℕ → Type 0
+    IsAcceptedFrom old = (left : List ℕ) × IsVerifiedFrom old left
+
+    -- and from a challenger that has absorbed nothing
+    abbrev pub IsVerified : Type 0
+    IsVerified = IsAcceptedFrom (replicate 32 0)
 
 -- the scheme over these parts
 abbrev pub Scheme : Type 0
 Scheme = CirclePcs Mersenne31 (ShaMmcs Mersenne31) (ShaMmcs Cubic)
 
--- the verifier refuses, for this reason, the input's proof of its statement under its parameters,
--- from a challenger that has absorbed nothing
-pub record IsUnverified {Proof Error : Type 0}
+module _ {Proof Error : Type 0}
     (Refuses : Scheme → StarkStatement Mersenne31 → Proof → Sha256Challenger → Sha256Challenger →
-    Error → Type 0) (proof : Proof) (input : Input) (error : Error) : Type 0 where
-  pub scheme : Scheme
-  pub statement : StarkStatement Mersenne31
-  pub start : Sha256Challenger
-  pub left : Sha256Challenger
-  pub params : scheme.fri_params ≡ with_scheme input.params scheme.fri_params.mmcs
-  pub stated : statement_of statement ≡ statement_given input
-  pub begun : state_of start ≡ replicate 32 0
-  pub refuses : Refuses scheme statement proof start left error
+    Error → Type 0) (proof : Proof) (input : Input)
+  where
+    -- the verifier refuses, for this reason, the input's proof of its statement under its
+    -- parameters, from a challenger in the one state, and leaves it in the other
+    pub record IsUnverifiedFrom (old new : List ℕ) (error : Error) : Type 0 where
+      pub scheme : Scheme
+      pub statement : StarkStatement Mersenne31
+      pub start : Sha256Challenger
+      pub left : Sha256Challenger
+      pub params : scheme.fri_params ≡ with_scheme input.params scheme.fri_params.mmcs
+      pub stated : statement_of statement ≡ statement_given input
+      pub begun : state_of start ≡ old
+      pub ended : state_of left ≡ new
+      pub refuses : Refuses scheme statement proof start left error
+
+    -- it does so from a challenger that has absorbed nothing
+    abbrev pub IsUnverified : Error → Type 0
+    IsUnverified error = (left : List ℕ) × IsUnverifiedFrom (replicate 32 0) left error
 
 -- the line of a proof that is accepted, of an AIR with this digest and of 2^log_n rows
 abbrev pub verified_line : List ℕ → ℕ → List ℕ

@@ -25,6 +25,9 @@
 //! - `verify`: the line has the AIR's digest and `"verified":true`, and is written only where the
 //!   AIR is accepted and the relation `StarkAccepts` holds (`Verified.IsVerified`). It refuses only
 //!   where these don't hold, for a reason that `circle_stark` has (`Reasons.IsVerifyRefusal`).
+//! - `prove_from`, `verify_from` and `command::answer_from` do so from a caller's challenger, which
+//!   prover and verifier leave in one state (`Proved.IsProvedFrom`, `Verified.IsVerifiedFrom`). An
+//!   AIR that is refused leaves it as it was, and so do rows that are.
 //!
 //! Its files:
 //!
@@ -48,5 +51,5 @@ pub mod prove;
 pub mod run;
 pub mod verify;
 
-pub use command::Command;
+pub use command::{Command, CommandFrom};
 pub use failure::{Failure, Reason};

@@ -1,17 +1,19 @@
 //! The command `prove`: a proof that rows of a trace satisfy an AIR.
 ghost use Rattle.std.specs.Prelude.{◌≡◌, ◌⊎◌, ◌↔◌, IfErr, IfOk, IsTrue, MatchResult, string_bytes};
 ghost use Rattle.circle_air.specs.Air.{air_of};
+ghost use Rattle.circle_challenger.specs.Sha256Challenger.{state_of};
 ghost use Rattle.circle_air.specs.Parts.{parts_of};
 ghost use Rattle.circle_commands.specs.Rows.{lists};
 ghost use Rattle.circle_commands.specs.Text.{IsLineOf};
 ghost use Rattle.circle_json.specs.ObjectForm.{object_form};
 ghost use Rattle.stark_commands.specs.Named.{prove_name};
 ghost use Rattle.stark_commands.specs.Prove.{input_fields};
-ghost use Rattle.stark_commands.specs.Proved.{AreFittingRows, IsProved, IsRefusalOfRows, IsTooLarge};
-ghost use Rattle.stark_commands.specs.Proved.{IsUnproved};
+ghost use Rattle.stark_commands.specs.Proved.{AreFittingRows, IsFitting, IsProved, IsProvedFrom};
+ghost use Rattle.stark_commands.specs.Proved.{IsRefusalOfRows, IsTooLarge, IsUnproved};
+ghost use Rattle.stark_commands.specs.Proved.{IsUnprovedFrom};
 ghost use Rattle.stark_commands.specs.declared.prove.Refusal.TheVariants.{Memory};
 
-use crate::command::Command;
+use crate::command::{Command, CommandFrom};
 use crate::failure::Failure;
 use crate::names::{air_name, prover_name};
 use crate::verify;
@@ -157,6 +159,26 @@ impl Command for Input {
     }
 }
 
+impl CommandFrom for Input {
+    ghost use Rattle.stark_commands.specs.Proved.{IsProofLineFrom};
+    ghost use Rattle.stark_commands.specs.Reasons.{IsProveReasonFrom};
+
+    ghost is_result_from = { IsProofLineFrom
+        ⟦<Challenger as OpeningOver<Val, Challenge, ValMmcs, ChallengeMmcs>>⟧.schemes
+        ⟦<verify::Input as JsonForm>⟧.form };
+
+    ghost is_reason_from = { IsProveReasonFrom
+        ⟦<Scheme as StarkRelation<Challenge, Challenger>>⟧.unproved };
+
+    /// The line of an input of `verify`, as [`verify::Input`] reads it.
+    ///
+    /// Fails as [`prove_from`] does.
+    fn line_from(self, alloc: Global, challenger: &mut Challenger) -> Result<String, Failure> {
+        let claim = prove_from(alloc, self, challenger)?;
+        Ok(claim_line(alloc, &claim)?)
+    }
+}
+
 // The compact text of a claim, as a line.
 fn claim_line(alloc: Global, claim: &verify::Input) -> Result<String, AllocError>
     ensures { IfOk result (λ text. IsLineOf ⟦<verify::Input as JsonForm>⟧.form claim.now
@@ -175,6 +197,30 @@ pub fn prove(alloc: Global, input: Input) -> Result<verify::Input, Refusal>
     ensures refused { let p = ⟦<Scheme as StarkRelation<Challenge, Challenger>>⟧ in
         IfErr result (λ e. (e ≡ Memory) ⊎ IsUnproved p.unproved input e) }
 {
+    let mut challenger = Challenger::new();
+    prove_from(alloc, input, &mut challenger)
+}
+
+/// Proves that the input's rows satisfy its AIR, from the caller's challenger, which it leaves as
+/// [`verify::verify_from`] leaves that of the verifier. The caller has the challenger absorb what
+/// is to bind the proof, as a name.
+///
+/// Fails as [`prove`] does: of the AIR and of the rows with the challenger as it was, and else as
+/// [`circle_stark::prove`] leaves it. [`verify::verify_from`] accepts the result from the same
+/// state.
+pub fn prove_from(
+    alloc: Global,
+    input: Input,
+    challenger: &mut Challenger,
+) -> Result<verify::Input, Refusal>
+    ensures proved { let o = ⟦<Challenger as OpeningOver<Val, Challenge, ValMmcs, ChallengeMmcs>>⟧
+        in IfOk result (λ claim. IsProvedFrom o.schemes input claim (state_of challenger.old)
+        (state_of challenger.new)) }
+    ensures refused { let p = ⟦<Scheme as StarkRelation<Challenge, Challenger>>⟧ in
+        IfErr result (λ e. (e ≡ Memory) ⊎ IsUnprovedFrom p.unproved input (state_of challenger.old)
+        (state_of challenger.new) e) }
+    ensures kept { IfErr result (λ e. (¬ IsFitting input) → challenger.new ≡ challenger.old) }
+{
     let Input {
         air,
         params,
@@ -189,8 +235,7 @@ pub fn prove(alloc: Global, input: Input) -> Result<verify::Input, Refusal>
         rows: matrix(alloc, &rows)?,
         public_values: &public_values,
     };
-    let mut challenger = Challenger::new();
-    let proof = circle_stark::prove(alloc, &scheme, trace, &mut challenger)?;
+    let proof = circle_stark::prove(alloc, &scheme, trace, challenger)?;
     Ok(verify::Input {
         air: parts(alloc, &air)?,
         log_n,

@@ -1,14 +1,15 @@
 //! The command `verify`: whether a proof shows that rows of a trace satisfy an AIR.
 ghost use Rattle.std.specs.Prelude.{◌≡◌, ◌⊎◌, IfErr, IfOk, OnOk, string_bytes};
+ghost use Rattle.circle_challenger.specs.Sha256Challenger.{state_of};
 ghost use Rattle.circle_json.specs.ObjectForm.{object_form};
 ghost use Rattle.stark_commands.specs.Named.{verify_name};
-ghost use Rattle.stark_commands.specs.Reasons.{IsVerifyRefusal};
-ghost use Rattle.stark_commands.specs.Verified.{IsVerified, described, statement_given};
-ghost use Rattle.stark_commands.specs.Verified.{verified_line};
+ghost use Rattle.stark_commands.specs.Reasons.{IsVerifyRefusal, IsVerifyRefusalFrom};
+ghost use Rattle.stark_commands.specs.Verified.{HasAir, IsAcceptedFrom, IsVerified, IsVerifiedFrom};
+ghost use Rattle.stark_commands.specs.Verified.{described, statement_given, verified_line};
 ghost use Rattle.stark_commands.specs.Verify.{input_fields};
 ghost use Rattle.stark_commands.specs.declared.verify.Refusal.TheVariants.{Memory};
 
-use crate::command::Command;
+use crate::command::{Command, CommandFrom};
 use crate::failure::{Failure, with_number};
 use crate::names::{air_name, stark_name};
 use circle_air::{Air, AirError, AirParts};
@@ -153,6 +154,30 @@ impl Command for Input {
     }
 }
 
+impl CommandFrom for Input {
+    ghost use Rattle.std.specs.Prelude.{◌≡◌};
+    ghost use Rattle.stark_commands.specs.Reasons.{IsVerifyReasonFrom};
+    ghost use Rattle.stark_commands.specs.Verified.{IsVerifiedFrom, described, statement_given};
+    ghost use Rattle.stark_commands.specs.Verified.{verified_line};
+
+    ghost is_result_from = { λ input old new line. IsVerifiedFrom
+        ⟦<Challenger as OpeningOver<Val, Challenge, ValMmcs, ChallengeMmcs>>⟧.schemes input old new
+        × (line ≡ verified_line (described (statement_given input)).digest input.log_n) };
+
+    ghost is_reason_from = { IsVerifyReasonFrom
+        ⟦<Challenger as OpeningOver<Val, Challenge, ValMmcs, ChallengeMmcs>>⟧.schemes (λ i. i.proof)
+        ⟦<Scheme as StarkRelation<Challenge, Challenger>>⟧.refuses };
+
+    /// The line of the AIR's digest and `log_n`, which ends in `"verified":true}`.
+    ///
+    /// Fails as [`verify_from`] does.
+    fn line_from(self, alloc: Global, challenger: &mut Challenger) -> Result<String, Failure> {
+        let log_n = self.log_n;
+        let digest = verify_from(alloc, self, challenger)?;
+        Ok(verified_line(alloc, &digest, log_n)?)
+    }
+}
+
 /// Verifies the input's proof, from a challenger that has absorbed nothing, and returns the AIR's
 /// digest.
 ///
@@ -169,6 +194,34 @@ pub fn verify(alloc: Global, input: Input) -> Result<[u8; 32], Refusal>
         in IfErr result (λ e. (e ≡ Memory)
         ⊎ IsVerifyRefusal o.schemes (λ i. i.proof) p.refuses input e) }
 {
+    let mut challenger = Challenger::new();
+    verify_from(alloc, input, &mut challenger)
+}
+
+/// Verifies the input's proof, from the caller's challenger, which it leaves as the prover's was
+/// left, and returns the AIR's digest. The caller has the challenger absorb what the prover's had
+/// before.
+///
+/// Fails as [`verify`] does: as `Air` with the challenger as it was, and else as
+/// [`circle_stark::verify`] leaves it.
+pub fn verify_from(
+    alloc: Global,
+    input: Input,
+    challenger: &mut Challenger,
+) -> Result<[u8; 32], Refusal>
+    ensures accepted { let o = ⟦<Challenger as OpeningOver<Val, Challenge, ValMmcs, ChallengeMmcs>>⟧
+        in OnOk result (IsVerifiedFrom o.schemes input (state_of challenger.old)
+        (state_of challenger.new)) }
+    ensures digest { IfOk result (λ digest. digest ≡ (described (statement_given input)).digest) }
+    ensures complete { let o = ⟦<Challenger as OpeningOver<Val, Challenge, ValMmcs, ChallengeMmcs>>⟧
+        in IfErr result (λ e. IsAcceptedFrom o.schemes input (state_of challenger.old)
+        → e ≡ Memory) }
+    ensures reason { let o = ⟦<Challenger as OpeningOver<Val, Challenge, ValMmcs, ChallengeMmcs>>⟧
+        in let p = ⟦<Scheme as StarkRelation<Challenge, Challenger>>⟧
+        in IfErr result (λ e. (e ≡ Memory) ⊎ IsVerifyRefusalFrom o.schemes (λ i. i.proof) p.refuses
+        input (state_of challenger.old) (state_of challenger.new) e) }
+    ensures kept { IfErr result (λ e. (¬ HasAir input) → challenger.new ≡ challenger.old) }
+{
     let Input {
         air,
         log_n,
@@ -182,8 +235,7 @@ pub fn verify(alloc: Global, input: Input) -> Result<[u8; 32], Refusal>
         log_n,
         public_values: &public_values,
     };
-    let mut challenger = Challenger::new();
-    circle_stark::verify(alloc, &scheme(params), statement, &proof, &mut challenger)?;
+    circle_stark::verify(alloc, &scheme(params), statement, &proof, challenger)?;
     Ok(air.digest())
 }
 

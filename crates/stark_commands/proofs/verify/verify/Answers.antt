@@ -1,85 +1,25 @@
-use Rattle.std.proofs.Common.{◌∙◌, ap}
-use Rattle.circle_air.specs.Air.{air_of}
-use Rattle.circle_air.specs.Parts.{parts_of}
-use Rattle.circle_air.specs.Refusal.{refusal}
 use Rattle.circle_challenger.specs.Sha256Challenger.{state_of}
-use Rattle.circle_field.specs.declared.mersenne31.Mersenne31.{Mersenne31}
-use Rattle.circle_stark.specs.Statement.{Statement}
-use Rattle.stark_commands.proofs.Refused.{air_refused, none_refused, refused_by}
-use Rattle.stark_commands.proofs.Verified.{accepted, never_of_verified, proof_refused, stated}
-use Rattle.stark_commands.proofs.Verified.{verified}
-use Rattle.stark_commands.specs.Reasons.{IsVerifyRefusal}
-use Rattle.stark_commands.specs.Verified.{described}
-use Rattle.stark_commands.specs.declared.verify.Refusal.TheVariants.{Air, Memory}
+use Rattle.circle_relation.proofs.Results.{if_err, on_one}
+use Rattle.stark_commands.proofs.Verified.{accepted-new, unverified-new, verified-new}
 use Rattle.stark_commands.proofs.verify.verify.Goals as goal
-
-pub returns-in_err-air-clause-complete : goal.returns-in_err-air-clause-complete
-returns-in_err-air-clause-complete c =
-    refused_by _ _ c.from_residual.result c.from_residual.ensures.1
-    (λ reason is v. none_refused Air Memory (refusal (parts_of c.args.input.air))
-    c.in_err-air.field-0.0 reason c.in_err-air.ensures.refuses is v.air)
-
-pub returns-in_err-air-clause-reason : goal.returns-in_err-air-clause-reason
-returns-in_err-air-clause-reason c =
-    refused_by _ _ c.from_residual.result c.from_residual.ensures.1
-    (λ reason is. air_refused Air Memory (refusal (parts_of c.args.input.air))
-    c.in_err-air.field-0.0 reason c.in_err-air.ensures.refuses is
-    (IsVerifyRefusal _ (λ i. i.proof) _ c.args.input) (λ some. some))
-
-pub returns-in_err-verify-clause-complete : goal.returns-in_err-verify-clause-complete
-returns-in_err-verify-clause-complete c =
-    refused_by _ _ c.from_residual-in_err-verify.result c.from_residual-in_err-verify.ensures.1
-    (λ reason is. never_of_verified _ c.args.input c.in_err-verify.field-0.0 reason is
-    (λ v. c.in_err-verify.ensures.complete (
-      v.left,
-      accepted _ c.args.input _ c.scheme.result.mmcs c.scheme.result.fri_params.mmcs
-          c.scheme.result.fri_params (state_of c.new-challenger.result)
-          (stated c.args.input (air_of c.in_ok-air.air) c.deref.result.now c.in_ok-air.ensures.same
-          c.deref.ensures.value) c.scheme.ensures c.new-challenger.ensures v,
-    )))
-
-pub returns-in_err-verify-clause-reason : goal.returns-in_err-verify-clause-reason
-returns-in_err-verify-clause-reason c =
-    refused_by _ _ c.from_residual-in_err-verify.result c.from_residual-in_err-verify.ensures.1
-    (λ reason is. proof_refused _ c.args.input (λ i. i.proof) _ c.in_err-verify.field-0.0 reason is
-    c.in_ok-air.ensures.accepts
-    (λ v. c.in_err-verify.ensures.complete (
-      v.left,
-      accepted _ c.args.input _ c.scheme.result.mmcs c.scheme.result.fri_params.mmcs
-          c.scheme.result.fri_params (state_of c.new-challenger.result)
-          (stated c.args.input (air_of c.in_ok-air.air) c.deref.result.now c.in_ok-air.ensures.same
-          c.deref.ensures.value) c.scheme.ensures c.new-challenger.ensures v,
-    ))
-    record {
-      scheme = c.scheme.result;
-      statement =
-          record {
-            air = record { ref_ptr = (0, 0); now = c.in_ok-air.air };
-            log_n = c.args.input.log_n;
-            public_values = c.deref.result;
-          };
-      start = c.new-challenger.result;
-      left = c.verify.new.challenger;
-      params = c.scheme.ensures;
-      stated =
-          stated c.args.input (air_of c.in_ok-air.air) c.deref.result.now c.in_ok-air.ensures.same
-          c.deref.ensures.value;
-      begun = c.new-challenger.ensures;
-      refuses = c.in_err-verify.ensures.reason;
-    })
 
 pub returns-clause-accepted : goal.returns-clause-accepted
 returns-clause-accepted c =
-    verified _ c.args.input _ c.scheme.result.mmcs c.scheme.result.fri_params.mmcs
-    c.scheme.result.fri_params (state_of c.new-challenger.result)
-    (stated c.args.input (air_of c.in_ok-air.air) c.deref.result.now c.in_ok-air.ensures.same
-    c.deref.ensures.value) c.scheme.ensures c.new-challenger.ensures
-    (state_of c.verify.new.challenger)
-    c.in_ok-air.ensures.accepts c.in_ok-verify.ensures.accepted
+    on_one c.verify_from.result
+    (λ v. verified-new _ c.args.input (state_of c.new-challenger.result)
+    (state_of c.verify_from.new.challenger) c.new-challenger.ensures v)
+    c.verify_from.ensures.accepted
 
-pub returns-clause-digest : goal.returns-clause-digest
-returns-clause-digest c =
-    c.digest.ensures
-    ∙ ap (λ (t : Statement Mersenne31). (described t).digest)
-    (stated c.args.input (air_of c.in_ok-air.air) c.deref.result.now c.in_ok-air.ensures.same
-    c.deref.ensures.value)
+pub returns-clause-complete : goal.returns-clause-complete
+returns-clause-complete c =
+    if_err _ _ c.verify_from.result
+    (λ e complete v. complete
+    (accepted-new _ c.args.input (state_of c.new-challenger.result) c.new-challenger.ensures v))
+    c.verify_from.ensures.complete
+
+pub returns-clause-reason : goal.returns-clause-reason
+returns-clause-reason c =
+    if_err _ _ c.verify_from.result
+    (λ e h. unverified-new _ _ _ c.args.input (state_of c.new-challenger.result)
+    (state_of c.verify_from.new.challenger) c.new-challenger.ensures e h)
+    c.verify_from.ensures.reason
