@@ -85,21 +85,20 @@ module _ {D WD : Type 0}
         IsAcceptedFrom o input old
     accepted-new old begun v = subst (IsAcceptedFrom o input) (sym begun) v
 
-    -- a refused proof is a refused input, but where it is memory that is refused
-    pub never_of_verified : (V : Type 0) (error : ProofError) (reason : Refusal) →
-        IsRefusalOfProof Proof Memory error reason → (V → error ≡ stark.Memory) → V →
-        reason ≡ Memory
-    never_of_verified V error reason is complete v =
-        ⊎_elim (λ memory. memory.1) (λ other. absurd (other.0 (complete v))) is
+-- a refused proof is a refused input, but where it is memory that is refused
+pub never_of_verified : (V : Type 0) (error : ProofError) (reason : Refusal) →
+    IsRefusalOfProof Proof Memory error reason → (V → error ≡ stark.Memory) → V → reason ≡ Memory
+never_of_verified V error reason is complete v =
+    ⊎_elim (λ memory. memory.1) (λ other. absurd (other.0 (complete v))) is
 
-    pub proof_refused : (V : Type 0) (Refuses : ProofError → Type 0) (error : ProofError)
-        (reason : Refusal) → IsRefusalOfProof Proof Memory error reason → HasAir input →
-        (V → error ≡ stark.Memory) → Refuses error →
-        (reason ≡ Memory) ⊎ IsUnverifiedBy V Refuses input reason
-    proof_refused V Refuses error reason is air complete refused =
-        ⊎_elim (λ memory. inl memory.1)
-        (λ other. inr (subst (IsUnverifiedBy V Refuses input) (sym other.1)
-        (air, (λ v. other.0 (complete v), (other.0, refused))))) is
+pub proof_refused : (input : Input) (V : Type 0) (Refuses : ProofError → Type 0)
+    (error : ProofError) (reason : Refusal) → IsRefusalOfProof Proof Memory error reason →
+    HasAir input → (V → error ≡ stark.Memory) → Refuses error →
+    (reason ≡ Memory) ⊎ IsUnverifiedBy V Refuses input reason
+proof_refused input V Refuses error reason is air complete refused =
+    ⊎_elim (λ memory. inl memory.1)
+    (λ other. inr (subst (IsUnverifiedBy V Refuses input) (sym other.1)
+    (air, (λ v. other.0 (complete v), (other.0, refused))))) is
 
 -- what is refused for some errors is so for others that these are
 unverified_by : (V W : Type 0) (Refuses Other : ProofError → Type 0) (input : Input) → (W → V) →

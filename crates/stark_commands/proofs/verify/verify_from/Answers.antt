@@ -29,7 +29,7 @@ returns-in_err-air-clause-reason c =
 pub returns-in_err-verify-clause-complete : goal.returns-in_err-verify-clause-complete
 returns-in_err-verify-clause-complete c =
     refused_by _ _ c.from_residual-in_err-verify.result c.from_residual-in_err-verify.ensures.1
-    (λ reason is. never_of_verified _ c.args.input _ c.in_err-verify.field-0.0 reason is
+    (λ reason is. never_of_verified _ c.in_err-verify.field-0.0 reason is
     (λ v. c.in_err-verify.ensures.complete (
       v.0,
       accepted _ c.args.input _ c.scheme.result.mmcs c.scheme.result.fri_params.mmcs
@@ -41,7 +41,7 @@ returns-in_err-verify-clause-complete c =
 pub returns-in_err-verify-clause-reason : goal.returns-in_err-verify-clause-reason
 returns-in_err-verify-clause-reason c =
     refused_by _ _ c.from_residual-in_err-verify.result c.from_residual-in_err-verify.ensures.1
-    (λ reason is. proof_refused _ c.args.input _ _ c.in_err-verify.field-0.0 reason is
+    (λ reason is. proof_refused c.args.input _ _ c.in_err-verify.field-0.0 reason is
     c.in_ok-air.ensures.accepts
     (λ v. c.in_err-verify.ensures.complete (
       v.0,
