@@ -6,8 +6,10 @@
 //!
 //! Nobody has examined this hash, which serves as an example. Proofs aren't zero-knowledge: who
 //! sees this one may learn of the start.
+ghost use Rattle.std.specs.Prelude.{◌<◌};
+
 use crate::stark::{self, Proof};
-use anyhow::{Result, bail};
+use anyhow::{Context, Result};
 use circle_air::{Air, AirBuilder, Expr, Place};
 use circle_presets::{Scheme, Val};
 use circle_stark::{StarkStatement, StarkTrace};
@@ -31,11 +33,19 @@ const DIGEST: usize = 4;
 /// The first row of the circulant matrix.
 const MATRIX: [u64; STATE] = [7, 1, 3, 8, 8, 3, 4, 9];
 
-/// The digest that the chain ends in.
-const END: [u64; DIGEST] = [2142406719, 1417013288, 478634157, 999900522];
-
-/// The state that it starts from, which the prover alone knows.
+/// The state that the chain starts from, which the prover alone knows.
 const START: [u64; STATE] = [314159265, 358979323, 846264338, 327950288, 0, 0, 0, 0];
+
+/// A state.
+type State = [Val; STATE];
+
+/// Expressions of the entries of a state.
+type Exprs = [Expr; STATE];
+
+/// The digest that the chain ends in.
+fn public_values() -> [Val; DIGEST] {
+    [2142406719, 1417013288, 478634157, 999900522].map(Val::from_u64)
+}
 
 /// What the round from a row of a step on adds to an entry of the state.
 fn constant(row: usize, entry: usize) -> Val {
@@ -52,109 +62,141 @@ fn constant(row: usize, entry: usize) -> Val {
 
 /// The constants of an entry, as a periodic column.
 fn constants(alloc: Global, entry: usize) -> Result<Vec<Val>, AllocError> {
-    let mut column = Vec::with_capacity(alloc, STEP)?;
-    for row in 0..STEP {
-        column.push(constant(row, entry))?;
-    }
-    Ok(column)
+    (0..STEP).map(|row| constant(row, entry)).collect(alloc)
 }
 
 /// A periodic column that marks the last row of a step.
 fn last_rows(alloc: Global) -> Result<Vec<Val>, AllocError> {
-    let mut column = vec![in alloc; Val::ZERO; STEP - 1]?;
-    column.push(Val::ONE)?;
+    let mut column = vec![in alloc; Val::ZERO; STEP]?;
+    column[STEP - 1] = Val::ONE;
     Ok(column)
 }
 
-/// Constants and multiples that are appended once, as those of the examples in Python and Rust are.
+/// What builds the constraints. It appends each constant and each multiple once, as the examples in
+/// Python and Rust do.
 #[derive(Drop)]
-struct Shared {
+struct Builder {
+    air: AirBuilder<Val>,
     constants: Vec<(u64, Expr)>,
     multiples: Vec<(u64, Expr, Expr)>,
 }
 
-impl Shared {
+impl Builder {
     fn new(alloc: Global) -> Self {
-        Shared {
+        Builder {
+            air: AirBuilder::new(alloc, 2 * STATE, DIGEST),
             constants: Vec::new(alloc),
             multiples: Vec::new(alloc),
         }
     }
 
     /// A constant.
-    fn constant(&mut self, air: &mut AirBuilder<Val>, n: u64) -> Result<Expr> {
-        if let Some((_, constant)) = self.constants.iter().find(|it| it.0 == n) {
-            return Ok(*constant);
+    fn constant(&mut self, n: u64) -> Result<Expr> {
+        for (known, constant) in &self.constants {
+            if *known == n {
+                return Ok(*constant);
+            }
         }
-        let constant = air.constant(Val::from_u64(n))?;
+        let constant = self.air.constant(Val::from_u64(n))?;
         self.constants.push((n, constant))?;
         Ok(constant)
     }
 
     /// An expression times a constant.
-    fn multiple(&mut self, air: &mut AirBuilder<Val>, n: u64, of: Expr) -> Result<Expr> {
+    fn multiple(&mut self, n: u64, of: Expr) -> Result<Expr> {
         if n == 1 {
             return Ok(of);
         }
-        if let Some((.., multiple)) = self.multiples.iter().find(|it| it.0 == n && it.1 == of) {
-            return Ok(*multiple);
+        for (factor, known, multiple) in &self.multiples {
+            if *factor == n && *known == of {
+                return Ok(*multiple);
+            }
         }
-        let constant = self.constant(air, n)?;
-        let multiple = air.mul(of, constant)?;
+        let constant = self.constant(n)?;
+        let multiple = self.air.mul(of, constant)?;
         self.multiples.push((n, of, multiple))?;
         Ok(multiple)
     }
+
+    /// The sum of the products of powers and of entries of the matrix.
+    fn dot(&mut self, row: &[u64; STATE], powers: &Exprs) -> Result<Expr> {
+        let mut sum = self.multiple(row[0], powers[0])?;
+        for j in 1..STATE {
+            let multiple = self.multiple(row[j], powers[j])?;
+            sum = self.air.add(sum, multiple)?;
+        }
+        Ok(sum)
+    }
+
+    /// The product of the matrix and the powers.
+    fn after_round(&mut self, powers: &Exprs) -> Result<Exprs> {
+        let mut row = MATRIX;
+        let mut after = *powers;
+        for entry in after.iter_mut() {
+            *entry = self.dot(&row, powers)?;
+            row.rotate_right(1);
+        }
+        Ok(after)
+    }
+
+    /// Requires an entry of the next state to be `after`. Behind the last row of a step it stays where
+    /// it is of the digest, and else is 0, as in the first row. The last row has the public digest.
+    fn require_next(&mut self, nodes: &Nodes, after: Expr, i: usize) -> Result<()>
+        requires { i < STATE }
+    {
+        let state = nodes.state[i];
+        let kept = if i < DIGEST { state } else { self.constant(0)? };
+        let change = self.air.sub(kept, after)?;
+        let change_at_last = self.air.mul(nodes.is_last, change)?;
+        let due = self.air.add(after, change_at_last)?;
+        self.air.assert_eq(Place::Transition, nodes.next[i], due)?;
+        if i < DIGEST {
+            self.air.assert_eq(Place::Last, state, nodes.digest[i])?;
+        } else {
+            self.air.assert_zero(Place::First, state)?;
+        }
+        Ok(())
+    }
 }
 
-/// The constraints. A row has the state, and the cubes that fifth powers are of.
-fn constraints(alloc: Global) -> Result<Air<Val>> {
-    let mut air = AirBuilder::new(alloc, 2 * STATE, DIGEST);
-    let state: [Expr; STATE] = array::try_from_fn(|i| air.local(i))?;
-    let cubes: [Expr; STATE] = array::try_from_fn(|i| air.local(STATE + i))?;
-    let next: [Expr; STATE] = array::try_from_fn(|i| air.next(i))?;
-    let digest: [Expr; DIGEST] = array::try_from_fn(|i| air.public(i))?;
-    let is_last = air.periodic(last_rows(alloc)?)?;
-    let sums = sums(alloc, &mut air, &state)?;
-    let (squares, fifths) = powers(&mut air, &sums, &cubes)?;
-    let mut shared = Shared::new(alloc);
-    let after = mixed(&mut air, &mut shared, &fifths)?;
-    for i in 0..STATE {
-        let cube = air.mul(squares[i], sums[i])?;
-        air.assert_eq(Place::Every, cubes[i], cube)?;
-        let kept = if i < DIGEST {
-            state[i]
-        } else {
-            shared.constant(&mut air, 0)?
-        };
-        let change = air.sub(kept, after[i])?;
-        let change_at_last = air.mul(is_last, change)?;
-        let due = air.add(after[i], change_at_last)?;
-        air.assert_eq(Place::Transition, next[i], due)?;
-        if i < DIGEST {
-            air.assert_eq(Place::Last, state[i], digest[i])?;
-        } else {
-            air.assert_zero(Place::First, state[i])?;
-        }
+/// What the constraints read: a row, the state of the next row, and what both sides know.
+#[derive(Drop)]
+struct Nodes {
+    state: Exprs,
+    cubes: Exprs,
+    next: Exprs,
+    digest: [Expr; DIGEST],
+    is_last: Expr,
+}
+
+impl Nodes {
+    fn read(alloc: Global, air: &mut AirBuilder<Val>) -> Result<Self> {
+        Ok(Nodes {
+            state: array::try_from_fn(|i| air.local(i))?,
+            cubes: array::try_from_fn(|i| air.local(STATE + i))?,
+            next: array::try_from_fn(|i| air.next(i))?,
+            digest: array::try_from_fn(|i| air.public(i))?,
+            is_last: air.periodic(last_rows(alloc)?)?,
+        })
     }
-    Ok(air.finish()?)
 }
 
 /// The state plus the constants of the round.
-fn sums(alloc: Global, air: &mut AirBuilder<Val>, state: &[Expr; STATE]) -> Result<[Expr; STATE]> {
+fn sums(alloc: Global, air: &mut AirBuilder<Val>, state: &Exprs) -> Result<Exprs> {
     let mut sums = *state;
-    for i in 0..STATE {
-        let constants = air.periodic(constants(alloc, i)?)?;
-        sums[i] = air.add(state[i], constants)?;
+    for (entry, sum) in sums.iter_mut().enumerate() {
+        let constants = air.periodic(constants(alloc, entry)?)?;
+        *sum = air.add(*sum, constants)?;
     }
     Ok(sums)
 }
 
 /// The squares of the sums, and their fifth powers: squares times the cubes of the row.
-fn powers(
+fn squares_and_fifths(
     air: &mut AirBuilder<Val>,
-    sums: &[Expr; STATE],
-    cubes: &[Expr; STATE],
-) -> Result<([Expr; STATE], [Expr; STATE])> {
+    sums: &Exprs,
+    cubes: &Exprs,
+) -> Result<(Exprs, Exprs)> {
     let (mut squares, mut fifths) = (*sums, *sums);
     for i in 0..STATE {
         squares[i] = air.mul(sums[i], sums[i])?;
@@ -163,76 +205,77 @@ fn powers(
     Ok((squares, fifths))
 }
 
-/// The product of the matrix and the powers.
-fn mixed(
-    air: &mut AirBuilder<Val>,
-    shared: &mut Shared,
-    powers: &[Expr; STATE],
-) -> Result<[Expr; STATE]> {
-    let mut mixed = *powers;
+/// The constraints. A row has the state, and the cubes that fifth powers are of.
+fn constraints(alloc: Global) -> Result<Air<Val>> {
+    let mut builder = Builder::new(alloc);
+    let nodes = Nodes::read(alloc, &mut builder.air)?;
+    let sums = sums(alloc, &mut builder.air, &nodes.state)?;
+    let (squares, fifths) = squares_and_fifths(&mut builder.air, &sums, &nodes.cubes)?;
+    let after = builder.after_round(&fifths)?;
     for i in 0..STATE {
-        mixed[i] = mixed_entry(air, shared, powers, i)?;
+        let cube = builder.air.mul(squares[i], sums[i])?;
+        builder.air.assert_eq(Place::Every, nodes.cubes[i], cube)?;
+        builder.require_next(&nodes, after[i], i)?;
     }
-    Ok(mixed)
-}
-
-/// Entry `i` of that product.
-fn mixed_entry(
-    air: &mut AirBuilder<Val>,
-    shared: &mut Shared,
-    powers: &[Expr; STATE],
-    i: usize,
-) -> Result<Expr> {
-    let mut row = MATRIX;
-    row.rotate_right(i % STATE);
-    let mut sum = shared.multiple(air, row[0], powers[0])?;
-    for j in 1..STATE {
-        let multiple = shared.multiple(air, row[j], powers[j])?;
-        sum = air.add(sum, multiple)?;
-    }
-    Ok(sum)
+    Ok(builder.air.finish()?)
 }
 
 /// The rows: the state, and the cubes of its entries plus the round's constants.
 fn rows(alloc: Global) -> Result<RowMajorMatrix<Val>> {
     let mut entries = Vec::new(alloc);
-    let mut state = START.map(|n| Val::from_u64(n));
+    let mut state = START.map(Val::from_u64);
     for row in 0..1 << LOG_ROWS {
         let sums = with_constants(&state, row % STEP);
         entries.extend_from_slice(&state)?;
-        entries.extend_from_slice(&sums.map(|sum| sum.exp_u64(3)))?;
+        entries.extend_from_slice(&powers(&sums, 3))?;
         state = if row % STEP == STEP - 1 {
             first_of_step(&state)
         } else {
-            after_round(&sums.map(|sum| sum.exp_u64(5)))
+            after_round(&powers(&sums, 5))
         };
     }
-    match RowMajorMatrix::try_new(entries, 2 * STATE) {
-        Some(rows) => Ok(rows),
-        None => bail!("a row lacks an entry"),
-    }
+    RowMajorMatrix::try_new(entries, 2 * STATE).context("a row lacks an entry")
 }
 
 /// The state plus the constants of the round from a row of a step on.
-fn with_constants(state: &[Val; STATE], row: usize) -> [Val; STATE] {
-    array::from_fn(|i| state[i] + constant(row, i))
+fn with_constants(state: &State, row: usize) -> State {
+    let mut sums = *state;
+    for (i, sum) in sums.iter_mut().enumerate() {
+        *sum = *sum + constant(row, i);
+    }
+    sums
+}
+
+/// The powers of the entries.
+fn powers(entries: &State, exponent: u64) -> State {
+    entries.map(|entry| entry.exp_u64(exponent))
 }
 
 /// The state that a step begins with, after one that ends in a state.
-fn first_of_step(last: &[Val; STATE]) -> [Val; STATE] {
-    array::from_fn(|i| if i < DIGEST { last[i] } else { Val::ZERO })
+fn first_of_step(last: &State) -> State {
+    let mut first = [Val::ZERO; STATE];
+    first[..DIGEST].copy_from_slice(&last[..DIGEST]);
+    first
 }
 
 /// The product of the matrix and the powers.
-fn after_round(powers: &[Val; STATE]) -> [Val; STATE] {
-    array::from_fn(|i| {
-        let mut row = MATRIX;
-        row.rotate_right(i % STATE);
-        row.iter().zip(powers).fold(
-            Val::ZERO,
-            |sum, (n, power)| sum + Val::from_u64(*n) * *power,
-        )
-    })
+fn after_round(powers: &State) -> State {
+    let mut row = MATRIX;
+    let mut after = [Val::ZERO; STATE];
+    for entry in after.iter_mut() {
+        *entry = dot(&row, powers);
+        row.rotate_right(1);
+    }
+    after
+}
+
+/// The sum of the products of powers and of entries of the matrix.
+fn dot<F: Field>(row: &[u64; STATE], powers: &[F; STATE]) -> F {
+    let mut sum = F::ZERO;
+    for (n, power) in row.iter().zip(powers) {
+        sum = sum + *power * F::from_u64(*n);
+    }
+    sum
 }
 
 /// The prover's part.
@@ -241,7 +284,7 @@ pub fn prove(alloc: Global, pcs: &Scheme) -> Result<Proof> {
     let trace = StarkTrace {
         air: &air,
         rows: rows(alloc)?,
-        public_values: &END.map(|n| Val::from_u64(n)),
+        public_values: &public_values(),
     };
     stark::prove(alloc, pcs, trace)
 }
@@ -252,7 +295,7 @@ pub fn verify(alloc: Global, pcs: &Scheme, proof: &Proof) -> Result<[u8; 32]> {
     let statement = StarkStatement {
         air: &air,
         log_n: LOG_ROWS,
-        public_values: &END.map(|n| Val::from_u64(n)),
+        public_values: &public_values(),
     };
     stark::verify(alloc, pcs, statement, proof)?;
     Ok(air.digest())

@@ -12,21 +12,15 @@ mod stark;
 
 use anyhow::Result;
 use circle_presets::scheme;
-use std::alloc::{AllocError, Global};
-
-/// The 64 hexadecimal digits of a digest.
-fn digits(alloc: Global, digest: [u8; 32]) -> Result<String, AllocError> {
-    hex::encode(alloc, digest.as_slice())
-}
 
 fn main(rt: HostRuntime) -> Result<()> {
     let alloc = rt.alloc();
     let pcs = scheme(stark::PARAMETERS);
     let proof = fibonacci::prove(alloc, &pcs)?;
     let digest = fibonacci::verify(alloc, &pcs, &proof)?;
-    println!(rt; "verified {}", digits(alloc, digest)?)?;
+    println!(rt; "verified {}", hex::encode(alloc, digest.as_slice())?)?;
     let proof = hash_chain::prove(alloc, &pcs)?;
     let digest = hash_chain::verify(alloc, &pcs, &proof)?;
-    println!(rt; "verified {}", digits(alloc, digest)?)?;
+    println!(rt; "verified {}", hex::encode(alloc, digest.as_slice())?)?;
     Ok(())
 }
