@@ -1,0 +1,47 @@
+//! The prover and the verifier, each by a challenger of its own that has absorbed nothing.
+ghost use Rattle.std.specs.Prelude.{OnOk};
+ghost use Rattle.circle_air.specs.Satisfies.{Satisfies};
+ghost use Rattle.circle_commit.specs.RowMajorMatrix.{rows};
+ghost use Rattle.circle_field.specs.Mersenne31.{operations};
+ghost use Rattle.circle_stark.specs.Trace.{stated};
+
+use anyhow::Result;
+use circle_presets::{Challenge, ChallengeMmcs, Challenger, Scheme, Val, ValMmcs};
+use circle_stark::{StarkProof, StarkStatement, StarkTrace};
+use p3_circle::FriParameters;
+use std::alloc::Global;
+
+/// A proof, which is all that the prover publishes.
+pub type Proof = StarkProof<Val, Challenge, ValMmcs, ChallengeMmcs>;
+
+/// The verifier's choice. By conjecture it has 80 bits of security for up to `2^11` rows.
+pub const PARAMETERS: FriParameters<()> = FriParameters {
+    log_blowup: 1,
+    log_final_poly_len: 0,
+    max_log_arity: 1,
+    num_queries: 89,
+    batch_proof_of_work_bits: 0,
+    commit_proof_of_work_bits: 0,
+    query_proof_of_work_bits: 0,
+    mmcs: (),
+};
+
+/// A proof that the rows of a trace satisfy its constraints. Ok only where they do.
+pub fn prove(alloc: Global, pcs: &Scheme, trace: StarkTrace<'_, Val>) -> Result<Proof>
+    ensures { OnOk result (Satisfies operations (stated trace.entry).parts
+        (rows trace.entry.rows) (stated trace.entry).public_values) }
+{
+    let mut challenger = Challenger::new();
+    Ok(circle_stark::prove(alloc, pcs, trace, &mut challenger)?)
+}
+
+/// Ok where the verifier accepts a proof of the statement.
+pub fn verify(
+    alloc: Global,
+    pcs: &Scheme,
+    statement: StarkStatement<'_, Val>,
+    proof: &Proof,
+) -> Result<()> {
+    let mut challenger = Challenger::new();
+    Ok(circle_stark::verify(alloc, pcs, statement, proof, &mut challenger)?)
+}
