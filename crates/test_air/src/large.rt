@@ -1,5 +1,5 @@
 //! An AIR of many nodes.
-use circle_air::{Air, AirParts, Constraint, Node, Place, check_constraints};
+use circle_air::{Air, AirParts, Constraint, Node, Place, Violation, check_constraints};
 use circle_commit::{Matrix, RowMajorMatrix};
 use circle_field::{Field, Mersenne31};
 use std::alloc::{AllocError, Global};
@@ -35,42 +35,28 @@ fn parts_of_many_nodes(alloc: Global) -> Result<AirParts<Mersenne31>, AllocError
     })
 }
 
-// So many powers of `factor`, from 1 on, and zeros after them.
-fn powers<F: Field>(alloc: Global, factor: F, count: usize) -> Result<Vec<F>, AllocError> {
-    let mut powers = Vec::with_capacity(alloc, HEIGHT)?;
-    let mut power = F::ONE;
-    for _ in 0..count {
-        powers.push(power)?;
-        power = power * factor;
-    }
-    for _ in count..HEIGHT {
-        powers.push(F::ZERO)?;
-    }
-    Ok(powers)
-}
-
-// Asserts at which row a violation is found where the first rows are so many powers.
-fn assert_found(
+// What is found where the first `count` rows are powers, from 1 on, and zeros come after them.
+fn found(
     rt: &impl Abort,
     alloc: Global,
     air: &Air<Mersenne31>,
     count: usize,
-    expected: Option<usize>,
-) -> Result<(), Fail> {
+) -> Result<Option<Violation>, AllocError> {
     let factor = Mersenne31::from_u64(NODES as u64 - 2);
-    let rows = RowMajorMatrix::new_col(powers(alloc, factor, count)?);
-    assert_eq!(rt; rows.width(), air.width());
-    assert_eq!(rt; air.num_public_values(), 0);
-    let found = check_constraints(alloc, air, &rows, &[])?;
-    assert_eq!(rt; found.map(|violation| violation.row), expected);
-    Ok(())
+    let mut entries = Mersenne31::powers(alloc, factor, count)?;
+    entries.resize(HEIGHT, Mersenne31::ZERO)?;
+    let rows = RowMajorMatrix::new_col(entries);
+    assert!(rt; rows.width() == air.width() && air.num_public_values() == 0);
+    check_constraints(alloc, air, &rows, &[])
 }
 
 #[test]
 fn many_nodes_are_checked(rt: HostRuntime) -> Result<(), Fail> {
     let air = Air::try_new(rt.alloc(), parts_of_many_nodes(rt.alloc())?)?;
-    assert_eq!(rt; air.nodes().len(), NODES);
-    assert_eq!(rt; air.max_constraint_degree(), 2);
-    assert_found(&rt, rt.alloc(), &air, HEIGHT, None)?;
-    assert_found(&rt, rt.alloc(), &air, HEIGHT - 1, Some(HEIGHT - 2))
+    assert!(rt; air.nodes().len() == NODES);
+    assert!(rt; air.max_constraint_degree() == 2);
+    assert!(rt; found(&rt, rt.alloc(), &air, HEIGHT)?.is_none());
+    let violation = found(&rt, rt.alloc(), &air, HEIGHT - 1)?.ok_or("a violation")?;
+    assert!(rt; violation.row == HEIGHT - 2);
+    Ok(())
 }

@@ -1,8 +1,14 @@
 //! A plain body of `check_constraints`.
 use circle_air::{Air, Constraint, Node, Violation};
-use circle_commit::Matrix;
+use circle_commit::{Matrix, RowMajorMatrix};
 use circle_field::{Field, Mersenne31};
-use std::alloc::{AllocError, Global};
+use std::alloc::Global;
+use std::process::Abort;
+
+type Rows = RowMajorMatrix<Mersenne31>;
+
+/// Why a test ends that memory is refused.
+pub const MEMORY: &str = "memory is refused";
 
 // Entry `i`, or 0 past the end.
 fn entry(xs: &[Mersenne31], i: usize) -> Mersenne31 {
@@ -10,9 +16,9 @@ fn entry(xs: &[Mersenne31], i: usize) -> Mersenne31 {
 }
 
 // The value of a node at a row, by those of the earlier nodes.
-fn plain_value<M: Matrix<Mersenne31>>(
+fn plain_value(
     air: &Air<Mersenne31>,
-    rows: &M,
+    rows: &Rows,
     public_values: &[Mersenne31],
     row: usize,
     earlier: &[Mersenne31],
@@ -55,21 +61,22 @@ fn plain_failure(
 }
 
 /// What `check_constraints` returns, row after row and node after node.
-pub fn plain_check<M: Matrix<Mersenne31>>(
+pub fn plain_check(
+    rt: &impl Abort,
     alloc: Global,
     air: &Air<Mersenne31>,
-    rows: &M,
+    rows: &Rows,
     public_values: &[Mersenne31],
-) -> Result<Option<Violation>, AllocError> {
+) -> Option<Violation> {
     for row in 0..rows.height() {
-        let mut values = Vec::with_capacity(alloc, air.nodes().len())?;
+        let mut values = Vec::new(alloc);
         for node in air.nodes() {
             let value = plain_value(air, rows, public_values, row, &values, *node);
-            values.push(value)?;
+            values.push(value).expect(rt, MEMORY);
         }
         if let Some(constraint) = plain_failure(air, &values, row, rows.height()) {
-            return Ok(Some(Violation { row, constraint }));
+            return Some(Violation { row, constraint });
         }
     }
-    Ok(None)
+    None
 }
