@@ -24,7 +24,7 @@ fn the_fold_of_a_pair(rt: HostRuntime) {
 }
 
 // The rows of two that these entries make up.
-fn rows_of_two<EF: Field>(rt: &impl Abort, entries: Vec<EF>) -> RowMajorMatrix<EF> {
+fn rows_of_two(rt: &impl Abort, entries: Vec<Cubic>) -> RowMajorMatrix<Cubic> {
     assert!(rt; entries.len() % 2 == 0);
     RowMajorMatrix::new(entries, 2)
 }

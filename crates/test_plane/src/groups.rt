@@ -1,7 +1,12 @@
 //! The circle transform over Mersenne31, without groups and by groups of layers, beside one layer
 //! over all entries after another.
+ghost use Rattle.std.specs.Prelude.{◌<◌};
+
 use crate::smaller::{coefficients, extended};
-use crate::transform::{Domain, MEMORY, Rows, assert_same, copy_of, evaluate, rows_of, scattered};
+use crate::transform::{
+    Domain, MEMORY, Rows, assert_same, copy_of, evaluate, evaluations, has_values, rows_of,
+    scattered,
+};
 use circle_commit::Matrix;
 use circle_domain::layer_twiddles;
 use circle_field::{Field, Mersenne31};
@@ -12,14 +17,30 @@ use std::process::Abort;
 // How many layers a group takes; the last passes the number of layers.
 const GROUPS: [usize; 4] = [1, 2, 3, 64];
 
+// The factor of a layer's pair `i`, and the places of both entries.
+fn pair_of(
+    rt: &impl Abort,
+    i: usize,
+    half: usize,
+    factors: &[Mersenne31],
+    count: usize,
+) -> (Mersenne31, usize, usize)
+    ensures low { result.1 < count }
+    ensures high { result.2 < count }
+{
+    assert!(rt; half >= 1 && half <= 65536 && i < 65536);
+    let (block, place) = (i / half, i % half);
+    let low = 2 * half * block + place;
+    assert!(rt; block < factors.len() && low + half < count);
+    (factors[block], low, low + half)
+}
+
 // From coefficients to values: one layer over all entries, one butterfly after another.
 fn forward_layer(rt: &impl Abort, entries: &mut [Mersenne31], half: usize, factors: &[Mersenne31]) {
-    assert!(rt; half >= 1 && half <= entries.len() && entries.len() <= 65536);
     for i in 0..entries.len() / 2 {
-        let (block, low) = (i / half, i / half * (half + half) + i % half);
-        assert!(rt; block < factors.len() && low + half < entries.len());
-        let product = entries[low + half] * factors[block];
-        (entries[low], entries[low + half]) = (entries[low] + product, entries[low] - product);
+        let (factor, low, high) = pair_of(rt, i, half, factors, entries.len());
+        let product = entries[high] * factor;
+        (entries[low], entries[high]) = (entries[low] + product, entries[low] - product);
     }
 }
 
@@ -30,16 +51,11 @@ fn backward_layer(
     half: usize,
     factors: &[Mersenne31],
 ) {
-    assert!(rt; half >= 1 && half <= entries.len() && entries.len() <= 65536);
     for i in 0..entries.len() / 2 {
-        let (block, low) = (i / half, i / half * (half + half) + i % half);
-        assert!(rt; block < factors.len() && low + half < entries.len());
-        let inverse = factors[block].try_inverse().expect(rt, "a genuine domain");
-        let difference = entries[low] - entries[low + half];
-        (entries[low], entries[low + half]) = (
-            entries[low] + entries[low + half],
-            difference * inverse,
-        );
+        let (factor, low, high) = pair_of(rt, i, half, factors, entries.len());
+        let inverse = factor.try_inverse().expect(rt, "a genuine domain");
+        let difference = entries[low] - entries[high];
+        (entries[low], entries[high]) = (entries[low] + entries[high], difference * inverse);
     }
 }
 
@@ -115,15 +131,7 @@ fn evaluate_grouped(
     group: usize,
 ) -> Rows {
     let copy = copy_of(rt, alloc, coeffs);
-    let height = copy.height();
-    assert!(rt;
-        height >= 1
-            && height == 1 << height.ilog2()
-            && group >= 1
-            && domain.log_n() >= 1
-            && domain.log_n() <= 31
-            && height <= domain.size()
-    );
+    assert!(rt; has_values(domain, &copy) && group >= 1);
     let made = CircleEvaluations::evaluate_grouped(alloc, domain, copy, group);
     made.expect(rt, MEMORY).0.to_cfft_order()
 }
@@ -136,15 +144,9 @@ fn interpolate_grouped(
     rows: &Rows,
     group: usize,
 ) -> Rows {
-    let copy = copy_of(rt, alloc, rows);
-    assert!(rt;
-        group >= 1 && domain.log_n() <= 31 && domain.is_genuine() && copy.height() == domain.size()
-    );
-    let evaluations = CircleEvaluations::from_cfft_order(domain, copy);
-    evaluations
-        .interpolate_grouped(alloc, group)
-        .expect(rt, MEMORY)
-        .0
+    assert!(rt; group >= 1);
+    let made = evaluations(rt, alloc, domain, rows).interpolate_grouped(alloc, group);
+    made.expect(rt, MEMORY).0
 }
 
 // Asserts that these are the values of coefficients in the transform's order, without groups and

@@ -241,9 +241,12 @@ fn assert_lambda(rt: &impl Abort, alloc: Global, log_n: usize, log_blowup: usize
 // the same and the others zero.
 fn assert_left(rt: &impl Abort, all: &[Cubic], count: usize, lambda: Cubic, rest: &[Cubic]) {
     assert!(rt; count < all.len() && count < rest.len());
+    let (low, high) = rest.split_at(count);
     expect!(rt; lambda == all[count]);
-    expect!(rt; rest[..count] == all[..count]);
-    expect!(rt; rest[count..].iter().all(|coefficient| coefficient.is_zero()));
+    expect!(rt; low == &all[..count]);
+    for coefficient in high {
+        expect!(rt; coefficient.is_zero());
+    }
 }
 
 #[test]

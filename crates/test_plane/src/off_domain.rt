@@ -1,6 +1,6 @@
 //! The weights of values off a domain over Mersenne31 and its cubic extension, beside quotients.
 use crate::smaller::point_at;
-use crate::transform::{MEMORY, Rows};
+use crate::transform::{MEMORY, Rows, is_genuine, is_in_group};
 use circle_commit::Matrix;
 use circle_domain::{LagrangeWeights, lagrange_weights};
 use circle_field::{Cubic, ExtensionField, Field, Mersenne31};
@@ -31,7 +31,7 @@ pub(crate) fn evaluate_at_point(
     rows: Rows,
     at: Point<Cubic>,
 ) -> Vec<Cubic> {
-    assert!(rt; domain.log_n() <= 31 && domain.is_genuine() && rows.height() == domain.size());
+    assert!(rt; is_genuine(domain) && rows.height() == domain.size());
     assert!(rt; domain.is_clear_of(at));
     CircleEvaluations::from_natural_order(domain, rows)
         .evaluate_at_point(alloc, at)
@@ -45,7 +45,7 @@ fn weights(
     domain: CircleDomain<Mersenne31>,
     at: Point<Cubic>,
 ) -> LagrangeWeights<Cubic> {
-    assert!(rt; domain.log_n() <= 31 && domain.is_genuine() && domain.is_clear_of(at));
+    assert!(rt; is_genuine(domain) && domain.is_clear_of(at));
     lagrange_weights(alloc, domain, at).expect(rt, MEMORY)
 }
 
@@ -58,7 +58,7 @@ fn assert_weights(
     weights: &LagrangeWeights<Cubic>,
 ) {
     let log_n = domain.log_n();
-    assert!(rt; log_n >= 1 && log_n <= 31 && weights.shares.len() == domain.size());
+    assert!(rt; is_in_group(domain) && weights.shares.len() == domain.size());
     let vanishing = at.v_n(log_n) - Cubic::from_base(domain.shift().v_n(log_n));
     for (i, share) in weights.shares.iter().enumerate() {
         let point = point_at(rt, domain, i);

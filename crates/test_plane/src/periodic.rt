@@ -12,13 +12,6 @@ use test_schemes::expect;
 
 type Column = Vec<Mersenne31>;
 
-fn elements(alloc: Global, values: &[u64]) -> Result<Column, AllocError> {
-    values
-        .iter()
-        .map(|value| Mersenne31::from_u64(*value))
-        .collect(alloc)
-}
-
 // The value at a point of the only polynomial with these values on the standard domain of four
 // points.
 fn value_of_four(rt: &impl Abort, alloc: Global, values: &[u64], at: Point<Cubic>) -> Vec<Cubic> {
@@ -49,24 +42,27 @@ fn four_at_point<F: ComplexExtendable, EF: ExtensionField<F>>(
 }
 
 // So many columns of 10, 20, 30, 40.
-fn columns(alloc: Global, count: usize) -> Result<Vec<Column>, AllocError> {
-    let mut columns = Vec::with_capacity(alloc, count)?;
+fn columns(rt: &impl Abort, alloc: Global, count: usize) -> Vec<Column> {
+    let mut columns = Vec::new(alloc);
     for _ in 0..count {
-        columns.push(elements(alloc, &[10, 20, 30, 40])?)?;
+        let column = column(rt, alloc, &[10, 20, 30, 40]).into_values();
+        columns.push(column).expect(rt, MEMORY);
     }
-    Ok(columns)
+    columns
 }
 
 // Asserts that each of several columns of 10, 20, 30, 40 has the value at a point of the only
 // polynomial with these values.
 fn assert_at_point(rt: &impl Abort, alloc: Global, count: usize, t: Cubic) {
-    let columns = columns(alloc, count).expect(rt, MEMORY);
+    let columns = columns(rt, alloc, count);
     let by_point = four_at_point(rt, alloc, &columns, t).expect(rt, MEMORY);
     let at = on_line(rt, t).repeated_double(2);
     let plain = value_of_four(rt, alloc, &[10, 20, 30, 40], at);
     expect!(rt; by_point.len() == count);
     expect!(rt; plain.len() == 1);
-    expect!(rt; by_point.iter().all(|value| plain.contains(value)));
+    for value in &by_point {
+        expect!(rt; plain.contains(value));
+    }
 }
 
 #[test]

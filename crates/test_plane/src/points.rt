@@ -1,7 +1,9 @@
 //! Sums in place and hashes of points, and the halves of a domain, over Mersenne31.
 use circle_field::Mersenne31;
-use circle_plane::{CircleDomain, Point};
+use circle_plane::{CircleCoset, CircleDomain, Point};
 use std::hash::{DefaultHasher, Hash, Hasher};
+use std::process::Abort;
+use test_schemes::expect;
 
 type Circle = Point<Mersenne31>;
 
@@ -16,20 +18,25 @@ fn sums_in_place_and_hashes(rt: HostRuntime) {
     let one = Circle::generator(3);
     let mut sum = one;
     sum += one;
-    assert_eq!(rt; sum, one.double());
-    assert_eq!(rt; hash_of(sum), hash_of(one.double()));
+    expect!(&rt; sum == one.double());
+    expect!(&rt; hash_of(sum) == hash_of(one.double()));
+}
+
+// Asserts that a half of the domain of eight points has every other of them, from this one on.
+fn assert_half(rt: &impl Abort, half: CircleCoset<Mersenne31>, first: usize) {
+    let mut place = first;
+    for point in half {
+        assert!(rt; place < 8);
+        expect!(rt; point == CircleDomain::standard(3).nth_point(place));
+        place += 2;
+    }
 }
 
 #[test]
 fn halves_of_a_domain(rt: HostRuntime) {
     let domain = CircleDomain::<Mersenne31>::standard(3);
-    for (a, point) in domain.coset0().enumerate() {
-        assert!(rt; a < 4);
-        assert!(rt; point == domain.nth_point(2 * a));
-    }
-    for (a, point) in domain.coset1().enumerate() {
-        assert!(rt; a < 4);
-        assert!(rt; point == domain.nth_point(2 * a + 1));
-    }
-    assert_eq!(rt; (domain.coset0().count(), domain.coset1().count()), (4, 4));
+    assert_half(&rt, domain.coset0(), 0);
+    assert_half(&rt, domain.coset1(), 1);
+    expect!(&rt; domain.coset0().count() == 4);
+    expect!(&rt; domain.coset1().count() == 4);
 }

@@ -1,6 +1,6 @@
 //! The vanishing polynomial and the selectors of a domain's rows over Mersenne31:
 //! those on a coset beside those at its points, and as polynomials.
-use crate::transform::{Domain, MEMORY, Rows, evaluate, interpolate};
+use crate::transform::{Domain, MEMORY, Rows, evaluate, interpolate, is_genuine};
 use circle_commit::{LagrangeSelectors, Matrix, PolynomialSpace, RowMajorMatrix};
 use circle_field::{ComplexExtendable, Field, Mersenne31};
 use circle_plane::{CircleDomain, Point};
@@ -17,7 +17,7 @@ pub(crate) fn vanishing(rt: &impl Abort, domain: Domain, point: Mersenne31) -> M
 // `selectors_at_point`, after a test of what it requires.
 fn selectors(rt: &impl Abort, domain: Domain, point: Mersenne31) -> LagrangeSelectors<Mersenne31> {
     let at = Point::from_projective_line(point).expect(rt, "the point is at infinity");
-    assert!(rt; domain.log_n() <= 31 && domain.is_genuine() && domain.is_clear_of(at));
+    assert!(rt; is_genuine(domain) && domain.is_clear_of(at));
     domain.selectors_at_point(point)
 }
 
@@ -53,12 +53,12 @@ fn coefficients(rt: &impl Abort, alloc: Global, values: Vec<Mersenne31>) -> Rows
 
 // The first 2^8 of 2^9 coefficients, of which the others must be zero.
 fn lower_half(rt: &impl Abort, alloc: Global, coeffs: &Rows) -> Rows {
-    assert!(rt; coeffs.height() == 512);
-    let (low, high) = coeffs.split_rows(256);
-    for r in 0..high.height() {
-        expect!(rt; high.row(r).iter().all(|entry| entry.is_zero()));
+    assert!(rt; coeffs.values().len() == 512);
+    let (low, high) = coeffs.values().split_at(256);
+    for entry in high {
+        expect!(rt; entry.is_zero());
     }
-    RowMajorMatrix::copy_of(alloc, &low).expect(rt, MEMORY)
+    RowMajorMatrix::new_col(Vec::from_slice(alloc, low).expect(rt, MEMORY))
 }
 
 // The values on the standard domain of 2^8 points of the polynomial with these values on that of

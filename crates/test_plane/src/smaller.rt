@@ -1,9 +1,9 @@
 //! A polynomial's values on domains of several sizes agree at a point.
 use crate::off_domain::{cubic, on_line};
-use crate::transform::{Domain, MEMORY, Rows, copy_of, plain_entry, scattered};
+use crate::transform::{Domain, MEMORY, Rows, evaluations, is_in_group, plain_entry, scattered};
 use circle_commit::{Matrix, RowMajorMatrix};
 use circle_field::{Cubic, Mersenne31};
-use circle_plane::{CircleDomain, CircleEvaluations, Point, cfft_permute_index, circle_basis};
+use circle_plane::{CircleDomain, Point, cfft_permute_index, circle_basis};
 use std::alloc::Global;
 use std::process::Abort;
 use test_schemes::expect;
@@ -16,26 +16,16 @@ pub(crate) fn extended(
     rows: &Rows,
     target: Domain,
 ) -> Rows {
-    let copy = copy_of(rt, alloc, rows);
-    assert!(rt;
-        domain.log_n() <= target.log_n()
-            && target.log_n() <= 31
-            && domain.is_genuine()
-            && copy.height() == domain.size()
-    );
-    CircleEvaluations::from_cfft_order(domain, copy)
-        .extrapolate(alloc, target)
-        .expect(rt, MEMORY)
-        .to_cfft_order()
+    let evaluations = evaluations(rt, alloc, domain, rows);
+    assert!(rt; domain.log_n() <= target.log_n() && target.log_n() <= 31);
+    let extended = evaluations.extrapolate(alloc, target);
+    extended.expect(rt, MEMORY).to_cfft_order()
 }
 
 // The coefficients of rows in the transform's order, after a test of what is required.
 pub(crate) fn coefficients(rt: &impl Abort, alloc: Global, domain: Domain, rows: &Rows) -> Rows {
-    let copy = copy_of(rt, alloc, rows);
-    assert!(rt; domain.log_n() <= 31 && domain.is_genuine() && copy.height() == domain.size());
-    CircleEvaluations::from_cfft_order(domain, copy)
-        .interpolate(alloc)
-        .expect(rt, MEMORY)
+    let coefficients = evaluations(rt, alloc, domain, rows).interpolate(alloc);
+    coefficients.expect(rt, MEMORY)
 }
 
 // The values at a point of rows in the transform's order, after a test of what is required.
@@ -46,12 +36,10 @@ pub(crate) fn values_at(
     rows: &Rows,
     at: Point<Cubic>,
 ) -> Vec<Cubic> {
-    let copy = copy_of(rt, alloc, rows);
-    assert!(rt; domain.log_n() <= 31 && domain.is_genuine() && copy.height() == domain.size());
+    let evaluations = evaluations(rt, alloc, domain, rows);
     assert!(rt; domain.is_clear_of(at));
-    CircleEvaluations::from_cfft_order(domain, copy)
-        .evaluate_at_point(alloc, at)
-        .expect(rt, MEMORY)
+    let values = evaluations.evaluate_at_point(alloc, at);
+    values.expect(rt, MEMORY)
 }
 
 // The first rows.
@@ -85,16 +73,14 @@ fn assert_values(
 
 // `circle_basis` for a domain at a point, after a test of what it requires.
 fn basis_of(rt: &impl Abort, alloc: Global, domain: Domain, at: Point<Cubic>) -> Vec<Cubic> {
-    let log_n = domain.log_n();
-    assert!(rt; log_n >= 1 && log_n <= 31);
-    circle_basis(alloc, at, log_n).expect(rt, MEMORY)
+    assert!(rt; is_in_group(domain));
+    circle_basis(alloc, at, domain.log_n()).expect(rt, MEMORY)
 }
 
 // The point at a place of the transform's order.
 pub(crate) fn point_at(rt: &impl Abort, domain: Domain, place: usize) -> Point<Mersenne31> {
-    let log_n = domain.log_n();
-    assert!(rt; log_n >= 1 && log_n <= 31 && place < domain.size());
-    domain.nth_point(cfft_permute_index(place, log_n))
+    assert!(rt; is_in_group(domain) && place < domain.size());
+    domain.nth_point(cfft_permute_index(place, domain.log_n()))
 }
 
 // Asserts that the first points of a domain in the transform's order are those of a smaller one.

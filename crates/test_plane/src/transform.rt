@@ -1,6 +1,12 @@
 //! Matrices over Mersenne31 and calls of the circle transform, which the other tests share.
-use circle_commit::{Matrix, RowMajorMatrix};
-use circle_field::{ExtensionField, Field, Mersenne31};
+ghost use Rattle.std.specs.Prelude.{◌≡◌, ◌≢◌, ◌≤◌, ◌<◌, ◌^◌, All, IsTrue};
+ghost use Rattle.circle_commit.specs.RowMajorMatrix.{height_of};
+ghost use Rattle.circle_commit.specs.Matrix.{IsPowerOfTwo};
+ghost use Rattle.circle_domain.specs.Domain.{IsGenuineDomain, log_size};
+ghost use Rattle.circle_plane.specs.CircleEvaluations.{domain_of};
+
+use circle_commit::{Matrix, RowMajorMatrix, is_power_of_two};
+use circle_field::{ExtensionField, Field, Mersenne31, Operations};
 use circle_plane::{CircleDomain, CircleEvaluations};
 use std::alloc::Global;
 use std::process::Abort;
@@ -60,6 +66,59 @@ pub(crate) fn plain_entry<EF: ExtensionField<Mersenne31>>(
     sum
 }
 
+// Whether no element is 0.
+pub(crate) fn are_nonzero(elements: &[Mersenne31]) -> bool
+    ensures { IsTrue result
+        → All (λ element. element ≢ ⟦<Mersenne31 as Operations>⟧.ops.zero) elements.now }
+{
+    elements.iter().all(|element| !element.is_zero())
+}
+
+// Whether the group has a domain.
+pub(crate) fn is_in_group(domain: Domain) -> bool
+    ensures positive { IsTrue result → 1 ≤ log_size domain }
+    ensures in_group { IsTrue result → log_size domain ≤ 31 }
+{
+    domain.log_n() >= 1 && domain.log_n() <= 31
+}
+
+// Whether the group has a domain, and it is genuine.
+pub(crate) fn is_genuine(domain: Domain) -> bool
+    ensures positive { IsTrue result → 1 ≤ log_size domain }
+    ensures in_group { IsTrue result → log_size domain ≤ 31 }
+    ensures genuine { IsTrue result
+        → IsGenuineDomain ⟦<Mersenne31 as Operations>⟧.ops domain }
+{
+    is_in_group(domain) && domain.is_genuine()
+}
+
+// Whether polynomials with these coefficients have values on a domain.
+pub(crate) fn has_values(domain: Domain, coeffs: &Rows) -> bool
+    ensures positive { IsTrue result → 1 ≤ log_size domain }
+    ensures in_group { IsTrue result → log_size domain ≤ 31 }
+    ensures power { IsTrue result → IsPowerOfTwo (height_of coeffs.now) }
+    ensures at_most_size { IsTrue result → height_of coeffs.now ≤ 2 ^ log_size domain }
+{
+    is_in_group(domain) && is_power_of_two(coeffs.height()) && coeffs.height() <= domain.size()
+}
+
+// Rows in the transform's order on their domain, after a test of what calls on them require.
+pub(crate) fn evaluations(
+    rt: &impl Abort,
+    alloc: Global,
+    domain: Domain,
+    rows: &Rows,
+) -> Evaluations
+    ensures domain { domain_of result ≡ domain }
+    ensures positive { 1 ≤ log_size (domain_of result) }
+    ensures in_group { log_size (domain_of result) ≤ 31 }
+    ensures genuine { IsGenuineDomain ⟦<Mersenne31 as Operations>⟧.ops (domain_of result) }
+{
+    let copy = copy_of(rt, alloc, rows);
+    assert!(rt; is_genuine(domain) && copy.height() == domain.size());
+    CircleEvaluations::from_cfft_order(domain, copy)
+}
+
 // `CircleEvaluations::evaluate`, after a test of what it requires.
 pub(crate) fn evaluate(
     rt: &impl Abort,
@@ -67,20 +126,13 @@ pub(crate) fn evaluate(
     domain: Domain,
     coeffs: Rows,
 ) -> Evaluations {
-    let height = coeffs.height();
-    assert!(rt;
-        height >= 1
-            && height == 1 << height.ilog2()
-            && domain.log_n() >= 1
-            && domain.log_n() <= 31
-            && height <= domain.size()
-    );
+    assert!(rt; has_values(domain, &coeffs));
     CircleEvaluations::evaluate(alloc, domain, coeffs).expect(rt, MEMORY)
 }
 
 // The coefficients of polynomials with these rows in natural order.
 pub(crate) fn interpolate(rt: &impl Abort, alloc: Global, domain: Domain, rows: Rows) -> Rows {
-    assert!(rt; domain.log_n() <= 31 && domain.is_genuine() && rows.height() == domain.size());
+    assert!(rt; is_genuine(domain) && rows.height() == domain.size());
     CircleEvaluations::from_natural_order(domain, rows)
         .interpolate(alloc)
         .expect(rt, MEMORY)

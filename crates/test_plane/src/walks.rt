@@ -1,7 +1,7 @@
 //! Standard domains of 16 and of 1024 points over Mersenne31: from point to point, domains beside
 //! them, and their parts with the rows of these, of 8 and of 32 columns.
 use crate::selectors::{coordinate, vanishing};
-use crate::transform::{Domain, MEMORY, Rows, copy_of, rows_of};
+use crate::transform::{Domain, MEMORY, Rows, copy_of, is_in_group, rows_of};
 use circle_commit::{Matrix, PolynomialSpace, is_power_of_two};
 use circle_field::{Field, Mersenne31};
 use circle_plane::Point;
@@ -15,6 +15,12 @@ fn first_point(rt: &impl Abort, domain: Domain) -> Mersenne31 {
     domain.first_point()
 }
 
+// `nth_point`, after a test of what it requires.
+fn nth_point(rt: &impl Abort, domain: Domain, place: usize) -> Point<Mersenne31> {
+    assert!(rt; is_in_group(domain) && place < domain.size());
+    domain.nth_point(place)
+}
+
 // The coordinate after that of point `i`. Asserts that the point's is `t`, that the vanishing
 // polynomial is zero there, and that the next one is the first behind the last point alone.
 fn step(
@@ -24,7 +30,7 @@ fn step(
     (i, point): (usize, Point<Mersenne31>),
     t: Mersenne31,
 ) -> Mersenne31 {
-    assert!(rt; domain.log_n() >= 1 && domain.log_n() <= 31 && i < domain.size());
+    assert!(rt; is_in_group(domain) && i < domain.size());
     expect!(rt; point == domain.nth_point(i));
     expect!(rt; coordinate(rt, point) == t);
     expect!(rt; vanishing(rt, domain, t).is_zero());
@@ -36,7 +42,7 @@ fn step(
 // Asserts that the steps from the first point are through the points in natural order, at each of
 // which the vanishing polynomial is zero, and lead back.
 fn assert_walk(rt: &impl Abort, domain: Domain) {
-    assert!(rt; domain.log_n() >= 1 && domain.log_n() <= 31);
+    assert!(rt; is_in_group(domain));
     let first = first_point(rt, domain);
     expect!(rt; coordinate(rt, domain.shift()) == first);
     let mut t = first;
@@ -47,14 +53,14 @@ fn assert_walk(rt: &impl Abort, domain: Domain) {
 
 // A domain beside this one of at least `min_size` points.
 fn other_of(rt: &impl Abort, domain: Domain, min_size: usize) -> Domain {
-    assert!(rt; domain.log_n() >= 1 && domain.log_n() <= 31);
+    assert!(rt; is_in_group(domain));
     let other = domain.try_create_disjoint_domain(min_size);
     other.expect(rt, "there is no other domain")
 }
 
 // Asserts that a point is none of a domain's.
 fn assert_clear(rt: &impl Abort, domain: Domain, point: Point<Mersenne31>) {
-    assert!(rt; domain.log_n() >= 1 && domain.log_n() <= 31);
+    assert!(rt; is_in_group(domain));
     expect!(rt; domain.is_clear_of(point));
 }
 
@@ -62,7 +68,7 @@ fn assert_clear(rt: &impl Abort, domain: Domain, point: Point<Mersenne31>) {
 // domain's.
 fn assert_other(rt: &impl Abort, domain: Domain, min_size: usize) {
     let other = other_of(rt, domain, min_size);
-    assert!(rt; other.log_n() >= 1 && other.log_n() <= 31 && other.size() >= min_size);
+    assert!(rt; is_in_group(other) && other.size() >= min_size);
     for point in other.points() {
         assert_clear(rt, domain, point);
     }
@@ -93,9 +99,8 @@ fn assert_at(
     place: usize,
     (point, row): (Point<Mersenne31>, &[Mersenne31]),
 ) {
-    assert!(rt; domain.log_n() >= 1 && domain.log_n() <= 31);
-    assert!(rt; place < domain.size() && place < rows.height());
-    expect!(rt; point == domain.nth_point(place));
+    expect!(rt; point == nth_point(rt, domain, place));
+    assert!(rt; place < rows.height());
     expect!(rt; row == rows.row(place));
 }
 
@@ -113,9 +118,8 @@ fn row_of_point<'a>(
     i: usize,
     point: Point<Mersenne31>,
 ) -> &'a [Mersenne31] {
-    assert!(rt; part.log_n() >= 1 && part.log_n() <= 31);
-    assert!(rt; i < part.size() && i < of_part.height());
-    expect!(rt; part.nth_point(part.size() - 1 - i) == -point);
+    assert!(rt; is_in_group(part) && i < part.size() && i < of_part.height());
+    expect!(rt; nth_point(rt, part, part.size() - 1 - i) == -point);
     of_part.row(i)
 }
 
@@ -127,7 +131,7 @@ fn assert_part(
     of_part: (Domain, &Rows),
     seen: &mut [bool],
 ) {
-    assert!(rt; of_part.0.log_n() >= 1 && of_part.0.log_n() <= 31);
+    assert!(rt; is_in_group(of_part.0));
     for (i, point) in of_part.0.points().enumerate() {
         let row = row_of_point(rt, of_part, i, point);
         let place = place_of(rt, row);
@@ -144,7 +148,7 @@ fn parts_of(
     rows: Rows,
     count: usize,
 ) -> (Vec<Domain>, Vec<Rows>) {
-    assert!(rt; domain.log_n() >= 1 && domain.log_n() <= 31 && domain.is_standard());
+    assert!(rt; is_in_group(domain) && domain.is_standard());
     assert!(rt;
         is_power_of_two(count) && count <= domain.size() / 2 && rows.height() == domain.size()
     );
@@ -161,10 +165,21 @@ fn assert_parts(rt: &impl Abort, alloc: Global, domain: Domain, width: usize, co
     expect!(rt; parts.len() == count);
     expect!(rt; of_parts.len() == count);
     let mut seen = vec![in alloc; false; domain.size()].expect(rt, MEMORY);
-    for (part, of_part) in parts.iter().zip(&of_parts) {
-        assert_part(rt, (domain, &rows), (*part, of_part), &mut seen);
+    assert_each_part(rt, (domain, &rows), &parts, &of_parts, &mut seen);
+    expect!(rt; !seen.contains(&false));
+}
+
+// Asserts that of each part.
+fn assert_each_part(
+    rt: &impl Abort,
+    of_domain: (Domain, &Rows),
+    parts: &[Domain],
+    of_parts: &[Rows],
+    seen: &mut [bool],
+) {
+    for (part, of_part) in parts.iter().zip(of_parts) {
+        assert_part(rt, of_domain, (*part, of_part), seen);
     }
-    expect!(rt; seen.iter().all(|seen| *seen));
 }
 
 #[test]

@@ -5,7 +5,7 @@ use circle_codewords::{are_off_domain, opened_values};
 use circle_commit::Matrix;
 use circle_field::{Cubic, Field, Mersenne31};
 use circle_plane::Point;
-use std::alloc::{AllocError, Global};
+use std::alloc::Global;
 use std::process::Abort;
 use test_schemes::expect;
 
@@ -23,17 +23,21 @@ fn opened(
     log_height: usize,
     rows: &Rows,
     points: &[Cubic],
-) -> Result<Vec<Vec<Cubic>>, AllocError> {
+) -> Vec<Vec<Cubic>> {
     assert!(rt; log_height < 31 && log_blowup < log_height && rows.height() == 1 << log_height);
     assert!(rt; are_off_domain::<Mersenne31, Cubic>(log_height, points));
     let mut all = Vec::new(alloc);
-    let values = opened_values(alloc, &mut all, log_blowup, log_height, rows, points)?;
+    let values = opened_values(alloc, &mut all, log_blowup, log_height, rows, points).expect(
+        rt, MEMORY,
+    );
     let added = all.len();
-    let again = opened_values(alloc, &mut all, log_blowup, log_height, rows, points)?;
+    let again = opened_values(alloc, &mut all, log_blowup, log_height, rows, points).expect(
+        rt, MEMORY,
+    );
     expect!(rt; added == points.len());
     expect!(rt; all.len() == added);
     expect!(rt; values.as_slice() == again.as_slice());
-    Ok(values)
+    values
 }
 
 // The value of 1 + 2y + 3x + 4xy at a point.
@@ -48,6 +52,7 @@ fn the_weights_of_a_point_are_made_once(rt: HostRuntime) {
     let t = cubic(0, 1, 0);
     let expected = polynomial_at(on_line(&rt, t));
     let column = column(&rt, alloc, &EIGHT_BY_PAIRS);
-    let values = opened(&rt, alloc, 1, 3, &column, &[t]).expect(&rt, MEMORY);
-    assert!(&rt; values.len() == 1 && values[0].as_slice() == [expected].as_slice());
+    let values = opened(&rt, alloc, 1, 3, &column, &[t]);
+    assert!(&rt; values.len() == 1);
+    expect!(&rt; values[0].as_slice() == [expected].as_slice());
 }

@@ -12,7 +12,7 @@ use std::process::Abort;
 use test_schemes::expect;
 
 // A codeword of pairs folded by y or by x, after a test of what is required.
-fn folded(
+pub(super) fn folded(
     rt: &impl Abort,
     alloc: Global,
     beta: Cubic,
@@ -64,7 +64,7 @@ fn pair(rt: &impl Abort, row: &[Cubic]) -> [Cubic; 2] {
 #[test]
 fn whole_words_fold_as_their_pairs(rt: HostRuntime) {
     let (alloc, beta) = (rt.alloc(), cubic(3, 1, 4));
-    let rows = rows_of_two(&rt, scattered_word(alloc, 64).expect(&rt, MEMORY));
+    let rows = rows_of_two(&rt, scattered_word(&rt, alloc, 64));
     let by_y = folded(&rt, alloc, beta, &rows, true);
     let by_x = folded(&rt, alloc, beta, &rows, false);
     assert_pairs_fold(&rt, beta, &rows, &by_y, &by_x);

@@ -1,11 +1,12 @@
 //! The folds by x as a strategy.
+use super::rows_of_two;
+use crate::transform::MEMORY;
 use circle_commit::{FriFoldingStrategy, Matrix, RowMajorMatrix};
 use circle_field::{Cubic, ExtensionField, Field, Mersenne31};
 use circle_folding::CircleFriFolding;
 use circle_point::Point;
-use std::alloc::{AllocError, Global};
+use std::alloc::Global;
 use std::process::Abort;
-use std::test::Fail;
 use test_schemes::expect;
 
 // How many further bits of an index any strategy takes.
@@ -31,15 +32,16 @@ fn folds_of(
     beta: Cubic,
     log_height: usize,
     rows: RowMajorMatrix<Cubic>,
-) -> Result<Vec<Cubic>, AllocError> {
+) -> Vec<Cubic> {
     assert!(rt; log_height <= 20 && rows.width() == 2 && rows.height() == 1 << log_height);
-    <CircleFriFolding as FriFoldingStrategy<Mersenne31, Cubic>>::fold_matrix(
+    let folds = <CircleFriFolding as FriFoldingStrategy<Mersenne31, Cubic>>::fold_matrix(
         &CircleFriFolding,
         alloc,
         beta,
         1,
         rows,
-    )
+    );
+    folds.expect(rt, MEMORY)
 }
 
 // The values of 3 + x at `t` and `-t`, the two x coordinates of a codeword of two entries.
@@ -49,24 +51,24 @@ fn pair() -> [Cubic; 2] {
 }
 
 #[test]
-fn a_pair_folds_to_the_value_at_the_challenge(rt: HostRuntime) -> Result<(), Fail> {
+fn a_pair_folds_to_the_value_at_the_challenge(rt: HostRuntime) {
     let (beta, five) = (Cubic::from_u64(2), Cubic::from_u64(5));
     expect!(&rt; fold_of(&CircleFriFolding, beta, pair()) == five);
-    let rows = RowMajorMatrix::new(Vec::from_slice(rt.alloc(), &pair())?, 2);
-    let folded = folds_of(&rt, rt.alloc(), beta, 0, rows)?;
-    assert!(&rt; folded.len() == 1 && folded[0] == five);
-    Ok(())
+    let entries = Vec::from_slice(rt.alloc(), &pair()).expect(&rt, MEMORY);
+    let folded = folds_of(&rt, rt.alloc(), beta, 0, rows_of_two(&rt, entries));
+    expect!(&rt; folded.as_slice() == [five].as_slice());
 }
 
 #[test]
-fn a_constant_of_many_pairs_folds_to_itself(rt: HostRuntime) -> Result<(), Fail> {
+fn a_constant_of_many_pairs_folds_to_itself(rt: HostRuntime) {
     let seven = Cubic::from_u64(7);
-    let entries = vec![in rt.alloc(); seven; 1 << 14]?;
-    let rows = RowMajorMatrix::new(entries, 2);
-    let folded = folds_of(&rt, rt.alloc(), Cubic::from_u64(3), 13, rows)?;
+    let entries = vec![in rt.alloc(); seven; 1 << 14].expect(&rt, MEMORY);
+    let rows = rows_of_two(&rt, entries);
+    let folded = folds_of(&rt, rt.alloc(), Cubic::from_u64(3), 13, rows);
     expect!(&rt; folded.len() == 1 << 13);
-    expect!(&rt; folded.iter().all(|entry| *entry == seven));
-    Ok(())
+    for entry in &folded {
+        expect!(&rt; *entry == seven);
+    }
 }
 
 #[test]

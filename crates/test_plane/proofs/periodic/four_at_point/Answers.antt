@@ -2,7 +2,7 @@ use Rattle.std.proofs.Common.{rules, ◌≡◌, ◌+◌, ◌-◌, ◌^◌, ◌<�
 use Rattle.std.proofs.Common.{map, arith, get_or, All}
 use Rattle.std.proofs.lemmas.List.{length-map}
 use Rattle.std.proofs.lemmas.List.Elements.{All-map}
-use Rattle.circle_field.specs.Circle.{Coordinates, times}
+use Rattle.circle_field.specs.Circle.{times}
 use Rattle.circle_point.specs.Point.{coordinates}
 use Rattle.circle_point.specs.Projective.{from_line}
 use Rattle.circle_domain.specs.Clear.{IsClearOf}
