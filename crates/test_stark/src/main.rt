@@ -14,7 +14,7 @@ use anyhow::Result;
 use files::{bytes_of_file, value_of_file};
 use sizes::{HEIGHTS, fibonacci, permutation};
 use std::env;
-use stored::{Stored, accepts, proof_text, proved};
+use stored::{Proof, Stored, accepts, proof_text, proved};
 
 fn main(rt: HostRuntime) -> Result<()> {
     for name in env::args(&rt)?.skip(1) {
@@ -28,19 +28,21 @@ fn main(rt: HostRuntime) -> Result<()> {
 
 // Prints the line of a stored trace.
 fn report(rt: &HostRuntime, name: &str) -> Result<()> {
-    let alloc = rt.alloc();
-    let file = format!(in alloc; "{name}.prove.json")?;
-    let stored = Stored::read(alloc, &value_of_file(rt, file.as_str())?)?;
-    match proved(alloc, &stored)? {
-        Ok(proof) => {
-            let due = format!(in alloc; "{name}.proof.json")?;
-            let stored_proof = bytes_of_file(rt, due.as_str())?;
-            let same = proof_text(alloc, &proof)?.as_bytes() == stored_proof.as_slice();
-            let accepted = accepts(alloc, &stored, &proof);
-            println!(rt; "{name}: the stored proof: {same}, accepted: {accepted}")?;
-        }
-        Err(error) => println!(rt; "{name}: {error}")?,
+    let file = format!(in rt.alloc(); "{name}.prove.json")?;
+    let stored = Stored::read(rt.alloc(), &value_of_file(rt, file.as_str())?)?;
+    match proved(rt.alloc(), &stored) {
+        Ok(proof) => report_proof(rt, name, &stored, &proof),
+        Err(refusal) => Ok(println!(rt; "{name}: {refusal}")?),
     }
+}
+
+// Prints the line of a stored trace that is proved.
+fn report_proof(rt: &HostRuntime, name: &str, stored: &Stored, proof: &Proof) -> Result<()> {
+    let file = format!(in rt.alloc(); "{name}.proof.json")?;
+    let due = bytes_of_file(rt, file.as_str())?;
+    let same = proof_text(rt.alloc(), proof)?.as_bytes() == due.as_slice();
+    let accepted = accepts(rt.alloc(), stored, proof);
+    println!(rt; "{name}: the stored proof: {same}, accepted: {accepted}")?;
     Ok(())
 }
 

@@ -45,10 +45,13 @@ fn outcome(alloc: Global, air: &Air<Val>, trace: Trace<Val>) -> Text {
         &mut prover,
         &mut verifier,
     );
-    match run {
-        Ok(_) if prover == verifier => Text::of("accepted"),
-        Ok(_) => Text::of("accepted, with other challengers"),
-        Err(refusal) => Text::of(refusal),
+    if let Err(refusal) = run {
+        return Text::of(refusal);
+    }
+    if prover == verifier {
+        Text::of("accepted")
+    } else {
+        Text::of("accepted, with other challengers")
     }
 }
 

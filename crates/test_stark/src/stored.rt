@@ -1,10 +1,10 @@
 //! Stored traces, and proofs of them.
-use anyhow::{Result, bail};
+use anyhow::{Context, Result};
 use circle_air::{Air, AirParts};
 use circle_commit::{FriParameters, RowMajorMatrix};
 use circle_json::{JsonForm, member};
 use circle_presets::{Challenge, ChallengeMmcs, Challenger, Scheme, Val, ValMmcs, scheme};
-use circle_stark::{StarkProof, StarkProverError, StarkStatement, StarkTrace, prove, verify};
+use circle_stark::{StarkProof, StarkStatement, StarkTrace, prove, verify};
 use serde_json::Value;
 use std::alloc::{AllocError, Global};
 
@@ -23,42 +23,39 @@ pub struct Stored {
 impl Stored {
     /// The trace that a JSON value stands for.
     pub fn read(alloc: Global, value: &Value) -> Result<Stored> {
-        let parts: AirParts<Val> = member(alloc, value, "air")?;
         let params: FriParameters<()> = member(alloc, value, "params")?;
         Ok(Stored {
-            air: Air::try_new(alloc, parts)?,
-            pcs: scheme(params),
+            air: air(alloc, value)?,
             public_values: member(alloc, value, "public_values")?,
             rows: member(alloc, value, "rows")?,
+            pcs: scheme(params),
         })
     }
 
     // The rows as a matrix.
     fn matrix(&self, alloc: Global) -> Result<RowMajorMatrix<Val>> {
-        let mut entries = Vec::new(alloc);
-        for row in &self.rows {
-            entries.extend_from_slice(row)?;
-        }
-        let width = match self.rows.first() {
-            Some(row) => row.len(),
-            None => 1,
-        };
-        match RowMajorMatrix::try_new(entries, width) {
-            Some(matrix) => Ok(matrix),
-            None => bail!("the rows differ in length"),
-        }
+        let width = self.rows.first().map_or(1, Vec::len);
+        let matrix = RowMajorMatrix::try_new(self.rows.concat(alloc)?, width);
+        matrix.context("the rows differ in length")
     }
 }
 
-/// The proof of a stored trace, by a challenger that has absorbed nothing, or why there is none.
-pub fn proved(alloc: Global, stored: &Stored) -> Result<Result<Proof, StarkProverError>> {
+// The AIR of a stored trace.
+fn air(alloc: Global, value: &Value) -> Result<Air<Val>> {
+    let parts: AirParts<Val> = member(alloc, value, "air")?;
+    Ok(Air::try_new(alloc, parts)?)
+}
+
+/// The proof of a stored trace, by a challenger that has absorbed nothing. The error says why there
+/// is none.
+pub fn proved(alloc: Global, stored: &Stored) -> Result<Proof> {
     let trace = StarkTrace {
         air: &stored.air,
         rows: stored.matrix(alloc)?,
         public_values: &stored.public_values,
     };
     let mut challenger = Challenger::new();
-    Ok(prove(alloc, &stored.pcs, trace, &mut challenger))
+    Ok(prove(alloc, &stored.pcs, trace, &mut challenger)?)
 }
 
 /// Whether the verifier accepts a proof of a stored trace.
