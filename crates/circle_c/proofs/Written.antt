@@ -1,6 +1,6 @@
 -- What is written of an answer, by its status.
 use Rattle.std.proofs.Common.{◌≡◌, ℕ, ◌≤◌, List, Ok, Err, IfErr, IfOk, arith, inl, inr}
-use Rattle.std.proofs.Common.{codes, string_bytes, subst, sym}
+use Rattle.std.proofs.Common.{codes, string_bytes, subst}
 use Rattle.circle_json.specs.Form.{Form}
 use Rattle.circle_commands.specs.Answer.{IsAnswer as IsCommonAnswer, IsNotRead}
 use Rattle.circle_commands.specs.Failure.{line_of, status_of}
@@ -50,14 +50,6 @@ refused-from IsReason start old left begun input (Ok line) is = tt
 refused-from IsReason start old left begun input (Err (Common failure)) is = is
 refused-from IsReason start old left begun input (Err (Reasoned reason)) is =
     reason-from IsReason start old left begun input reason is
-
--- a result between states that the caller's are
-pub result-between : {Given : Type 0} (IsResult : Given → List ℕ → List ℕ → List ℕ → Type 0)
-    (start old left new : List ℕ) → start ≡ old → new ≡ left → (input : Given) (line : List ℕ) →
-    IsResult input start left line → IsResult input old new line
-result-between IsResult start old left new begun taken input line is =
-    subst (λ (s : List ℕ). IsResult input s new line) begun
-    (subst (λ (t : List ℕ). IsResult input start t line) (sym taken) is)
 
 module _ (old new : List ℕ) (needed : ℕ) where
   module _ {Input : Type 0} (input : Input) (AreTexts : Input → Type 0) (are : AreTexts input) where

@@ -221,10 +221,10 @@ pub extern "C" fn circle_prove_from(
 ) -> u8
     ensures status { result ≤ 2 }
     ensures proved { let c = ⟦<prove::Input as CommandFrom>⟧ in result ≡ 0 → WritesResult
-        c.Command.form text.now line.old line.new needed.new (IsResultFrom c.is_result_from
+        c.form text.now line.old line.new needed.new (IsResultFrom c.is_result_from
         (needed.new ≤ length line.old) challenger.old.state challenger.new.state) }
     ensures refused { let c = ⟦<prove::Input as CommandFrom>⟧ in result ≡ 1 → WritesRefusal
-        c.Command.form text.now line.old line.new needed.new
+        c.form text.now line.old line.new needed.new
         (IsReasonFrom c.is_reason_from challenger.old.state) }
     ensures unreadable { let c = ⟦<prove::Input as Command>⟧ in result ≡ 2
         → WritesUnreadable c.form text.now line.old line.new needed.new }
@@ -248,10 +248,10 @@ pub extern "C" fn circle_verify_from(
 ) -> u8
     ensures status { result ≤ 2 }
     ensures accepted { let c = ⟦<verify::Input as CommandFrom>⟧ in result ≡ 0 → WritesResult
-        c.Command.form text.now line.old line.new needed.new (IsResultWith (HasNumbers params.now)
+        c.form text.now line.old line.new needed.new (IsResultWith (HasNumbers params.now)
         (λ i. c.is_result_from i challenger.old.state challenger.new.state)) }
     ensures refused { let c = ⟦<verify::Input as CommandFrom>⟧ in result ≡ 1 → WritesRefusal
-        c.Command.form text.now line.old line.new needed.new (IsReasonWith (HasNumbers params.now)
+        c.form text.now line.old line.new needed.new (IsReasonWith (HasNumbers params.now)
         (IsReasonFrom c.is_reason_from challenger.old.state)) }
     ensures unreadable { let c = ⟦<verify::Input as Command>⟧ in result ≡ 2
         → WritesUnreadable c.form text.now line.old line.new needed.new }

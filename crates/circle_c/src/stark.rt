@@ -64,10 +64,10 @@ pub extern "C" fn circle_stark_prove_from(
 ) -> u8
     ensures status { result ≤ 2 }
     ensures proved { let c = ⟦<prove::Input as CommandFrom>⟧ in result ≡ 0 → WritesResult
-        c.Command.form text.now line.old line.new needed.new (IsResultFrom c.is_result_from
+        c.form text.now line.old line.new needed.new (IsResultFrom c.is_result_from
         (needed.new ≤ length line.old) challenger.old.state challenger.new.state) }
     ensures refused { let c = ⟦<prove::Input as CommandFrom>⟧ in result ≡ 1 → WritesStarkRefusal
-        c.Command.form text.now line.old line.new needed.new
+        c.form text.now line.old line.new needed.new
         (IsReasonFrom c.is_reason_from challenger.old.state) }
     ensures unreadable { let c = ⟦<prove::Input as Command>⟧ in result ≡ 2
         → WritesUnreadable c.form text.now line.old line.new needed.new }

@@ -1,11 +1,9 @@
 use Rattle.std.proofs.Common.{◌≡◌, ◌∙◌, eq-eqb, sym}
 use Rattle.circle_challenger.specs.Sha256Challenger.{state_of}
-use Rattle.circle_commands.proofs.Texts.{if-ok}
 use Rattle.stark_commands.specs.Reasons.{IsVerifyReasonFrom}
 use Rattle.stark_commands.specs.Verified.{IsVerifiedFrom, described, statement_given, verified_line}
 use Rattle.circle_c.specs.Challenger.{IsReasonFrom}
-use Rattle.circle_c.proofs.Written.{reason_written, refused-from, result-between, result_written}
-use Rattle.circle_c.proofs.Written.{texts_unread}
+use Rattle.circle_c.proofs.Written.{reason_written, refused-from, result_written, texts_unread}
 use Rattle.circle_c.specs.Statement.{AreTextsOf}
 use Rattle.circle_c.proofs.statement.call_verify_from.Goals as goal
 
@@ -23,13 +21,10 @@ returns-clause-accepted c = λ none.
     (λ i l. IsVerifiedFrom _ i c.args.challenger.now.state c.leave_if.new.self.state
     × (l ≡ verified_line (described (statement_given i)).digest i.log_n))
     c.line_from.result
-    (if-ok c.line_from.result _ _
-    (λ line is. result-between
-    (λ i old new l. IsVerifiedFrom _ i old new
-    × (l ≡ verified_line (described (statement_given i)).digest i.log_n)) _ _ _ _
-    c.to_challenger-own.ensures (c.leave_if.ensures.taken (eq-eqb c.report-status.result 0 none))
-    c.in-Ok.input _ is)
-    c.line_from.ensures.result)
+    (rw (
+      c.to_challenger-own.ensures,
+      ← c.leave_if.ensures.taken (eq-eqb c.report-status.result 0 none),
+    ) at c.line_from.ensures.result)
     c.report-status.ensures.written (sym c.report-status.ensures.status ∙ none)
 
 pub returns-clause-refused : goal.returns-clause-refused
