@@ -20,6 +20,9 @@ give.
 `Air` is for constraints on the rows of a trace, and the module `stark` proves that rows satisfy
 them (docs/AIRS.md).
 
+A protocol commits by `commit`, and has a `Challenger` on each side, which absorbs the commitments
+and draws the points after them; `prove` and `verify` go on from it (docs/BINDINGS.md).
+
 The library is libcircle.so, of the wheel that the package comes from, or in ../../c/out, where
 bindings/c/build leaves it. Where the environment's CIRCLE_LIBRARIES names a folder, the library is
 the one that is there.
@@ -29,14 +32,15 @@ needs enough stack: 1 MiB suffices. In the forked child of a process with thread
 made, and each raises RuntimeError.
 """
 
-from typing import Any, Callable, Mapping, Sequence, Tuple, Type, TypeVar, Union
+from typing import Any, Callable, List, Mapping, Optional, Sequence, Tuple, Type, TypeVar, Union
 
 from . import stark
 from .air import Air, Expr
+from .challenger import Challenger, moved
 from .errors import Error, Refused, Unreadable, Unsatisfied
-from .forms import ORDER, Cubic, Record
-from .inputs import ProveInput, ShapeInput, ValuesInput, VerifyInput, located
-from .library import Text, line, line_with
+from .forms import ORDER, Commitment, Cubic, Record, parsed
+from .inputs import CommitInput, ProveInput, ShapeInput, ValuesInput, VerifyInput, located
+from .library import State, Text, line
 from .records import (
     BatchOpening,
     Claim,
@@ -56,9 +60,11 @@ __all__ = [
     "Air",
     "BatchOpening",
     "Bits",
+    "Challenger",
     "Claim",
     "ClaimedBatch",
     "ClaimedMatrix",
+    "Commitment",
     "Cubic",
     "Error",
     "Expr",
@@ -75,6 +81,7 @@ __all__ = [
     "Unreadable",
     "Unsatisfied",
     "bits",
+    "commit",
     "prove",
     "prove_text",
     "shape",
@@ -91,6 +98,8 @@ __version__ = "0.1.0"
 _VERDICT_LEN = 64
 # More than most results have. Where a result is longer, the call is repeated.
 _RESULT_LEN = 1 << 22
+# At least the bytes of a list of commitments without these, and of a commitment in it.
+_LIST_LEN, _COMMITMENT_LEN = 64, 67
 
 _R = TypeVar("_R", bound=Record)
 
@@ -99,15 +108,22 @@ def verify(
     statement: Union[Statement, Sequence[Any]],
     proof: Union[Proof, Mapping[str, Any]],
     params: Union[Params, Mapping[str, Any]],
+    *,
+    challenger: Optional[Challenger] = None,
 ) -> None:
     """Returns where the proof of the statement is accepted by these parameters, and raises
     otherwise.
 
     Statement and parameters are the caller's own; nothing but the proof may be a stranger's. In the
     place of each may stand the value of JSON that it has in a text.
+
+    A challenger has absorbed and drawn what the prover's had, and is left as the prover's, or as it
+    was where this raises. The points are then those that it drew. Without one the proof begins with
+    a challenger that has absorbed the commitments alone.
     """
     batches, params = _made(Statement, statement).batches, _made(Params, params)
-    verify_text(VerifyInput(batches, params, _made(Proof, proof)).to_json(), params)
+    text = VerifyInput(batches, params, _made(Proof, proof)).to_json()
+    _verify(text, params, challenger)
 
 
 def verify_text(text: Text, params: Union[Params, Mapping[str, Any]]) -> None:
@@ -117,8 +133,7 @@ def verify_text(text: Text, params: Union[Params, Mapping[str, Any]]) -> None:
     A text with other parameters is refused as `ParametersDiffer`. The claims are the text's own, so
     compare them with the statement (docs/SECURITY.md).
     """
-    numbers = _made(Params, params)
-    _expect_verified(_told(VerifyInput, text, lambda: line_with(text, numbers, _VERDICT_LEN)))
+    _verify(text, _made(Params, params), None)
 
 
 def verify_as_stated(text: Text) -> None:
@@ -128,33 +143,67 @@ def verify_as_stated(text: Text) -> None:
     That says only that the text fits itself: who wrote it chose the parameters, under some of which
     every claim has a proof (docs/SECURITY.md). For a stranger's proof call `verify`.
     """
-    _expect_verified(_told(VerifyInput, text, lambda: line("verify", text, _VERDICT_LEN)))
+    _expect_verified(_told(VerifyInput, text, lambda: line("verify", text, room=_VERDICT_LEN)))
+
+
+def commit(
+    batches: Sequence[Sequence[Union[Matrix, Mapping[str, Any], Sequence[Sequence[int]]]]],
+    params: Union[Params, Mapping[str, Any]],
+) -> List[Commitment]:
+    """The commitments to batches of matrices, in order: those that `prove` has in the statement.
+
+    A matrix may be its rows alone, since its points don't count here.
+    """
+    given = CommitInput(batches, _made(Params, params))  # type: ignore[arg-type]
+    text, room = given.to_json(), _LIST_LEN + _COMMITMENT_LEN * len(given.batches)
+    told = _told(CommitInput, text, lambda: line("commit", text, room=room))
+    return [Commitment(digits) for digits in parsed(told)["commitments"]]
 
 
 def prove(
     batches: Sequence[Sequence[Union[Matrix, Mapping[str, Any]]]],
     params: Union[Params, Mapping[str, Any]],
+    *,
+    challenger: Optional[Challenger] = None,
 ) -> Tuple[Statement, Proof]:
     """Commits to batches of matrices, opens them and returns the claims with their proof, which
-    `verify` accepts where every matrix is opened at a point."""
+    `verify` accepts where every matrix is opened at a point.
+
+    A challenger has absorbed what the protocol requires, the commitments among it, and is left as
+    the proof leaves it, or as it was where this raises. Nothing else is absorbed before the proof.
+    Without one the proof begins with a challenger that has absorbed the commitments alone.
+    """
     given = ProveInput(batches, _made(Params, params))  # type: ignore[arg-type]
-    made = VerifyInput.from_json(prove_text(given.to_json()))
+    with moved(challenger) as state:
+        made = VerifyInput.from_json(_proved(given.to_json(), state))
     return Statement(made.batches), made.proof
 
 
 def prove_text(text: Text) -> str:
     """Claims, parameters and proof, as the program's `prove` writes them."""
-    return _told(ProveInput, text, lambda: line("prove", text, _RESULT_LEN))
+    return _proved(text, None)
 
 
 def shape(text: Text) -> str:
     """The shape of claims, as the program's `shape` writes it."""
-    return _told(ShapeInput, text, lambda: line("shape", text, _RESULT_LEN))
+    return _told(ShapeInput, text, lambda: line("shape", text, room=_RESULT_LEN))
 
 
 def values(text: Text) -> str:
     """The values of polynomials on a domain, as the program's `values` writes them."""
-    return _told(ValuesInput, text, lambda: line("values", text, _RESULT_LEN))
+    return _told(ValuesInput, text, lambda: line("values", text, room=_RESULT_LEN))
+
+
+def _proved(text: Text, state: Optional[State]) -> str:
+    return _told(ProveInput, text, lambda: line("prove", text, room=_RESULT_LEN, state=state))
+
+
+def _verify(text: Text, params: Params, challenger: Optional[Challenger]) -> None:
+    def call() -> str:
+        return line("verify", text, room=_VERDICT_LEN, params=params, state=state)
+
+    with moved(challenger) as state:
+        _expect_verified(_told(VerifyInput, text, call))
 
 
 def _told(kind: Type[Record], text: Text, call: Callable[[], str]) -> str:

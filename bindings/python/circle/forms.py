@@ -20,15 +20,17 @@ from .errors import Unreadable
 
 __all__ = [
     "CUBIC",
+    "COMMITMENT",
+    "COMMITMENTS",
     "CUBICS",
     "COUNT",
-    "DIGEST",
     "DIGESTS",
     "ELEMENT",
     "ELEMENTS",
     "LISTS_OF_CUBICS",
     "ORDER",
     "ROWS",
+    "Commitment",
     "Cubic",
     "Record",
     "by",
@@ -93,6 +95,20 @@ def _digest(value: Any) -> str:
     return value.lower()
 
 
+class Commitment(str):
+    """A commitment: 64 hexadecimal digits in lower case, as texts have it. `bytes` returns its 32
+    bytes, which a challenger absorbs."""
+
+    def __new__(cls, digits: str) -> "Commitment":
+        return super().__new__(cls, _digest(digits))
+
+    def __bytes__(self) -> bytes:
+        return bytes.fromhex(self)
+
+    def __repr__(self) -> str:
+        return f"Commitment({str(self)!r})"
+
+
 def _items(value: Any) -> Any:
     """The items of a sequence."""
     if isinstance(value, (list, tuple)):
@@ -138,8 +154,9 @@ def by(read: _Read, may_be_missing: bool = False) -> Dict[str, Any]:
     return {"read": read, "may_be_missing": may_be_missing}
 
 
-COUNT, ELEMENT, DIGEST, CUBIC = map(by, (count, element, _digest, _cubic))
-ELEMENTS, DIGESTS, CUBICS = (by(list_of(it)) for it in (element, _digest, _cubic))
+COUNT, ELEMENT, COMMITMENT, CUBIC = map(by, (count, element, Commitment, _cubic))
+ELEMENTS, COMMITMENTS, CUBICS = (by(list_of(it)) for it in (element, Commitment, _cubic))
+DIGESTS = by(list_of(_digest))
 ROWS, LISTS_OF_CUBICS = (by(list_of(list_of(it))) for it in (element, _cubic))
 
 

@@ -5,17 +5,23 @@ import functools
 import os
 import pathlib
 import re
-from typing import Any, Sequence, Union
+from typing import Any, Optional, Sequence, Tuple, Union
 
 from .errors import Refused, Unreadable, Unsatisfied
+from .forms import Cubic
 from .records import Params
 
-__all__ = ["Text", "line", "line_of_proof", "line_with"]
+__all__ = ["STATE_LEN", "State", "Text", "absorb", "absorb_element", "draw", "line"]
 
 Text = Union[str, bytes, bytearray, memoryview]
 
+# The number of bytes of a challenger's state.
+STATE_LEN = 32
+
 _FOLDER = "CIRCLE_LIBRARIES"
 _FILE = "libcircle.so"
+# The calls that return nothing.
+_VOID = ("challenger_observe", "challenger_sample")
 _ERRORS = {(1, "refused"): Refused, (2, "unreadable"): Unreadable}
 
 
@@ -33,20 +39,61 @@ class _Params(ctypes.Structure):
     ]
 
 
-def line(name: str, text: Text, room: int) -> str:
-    """The line of a call, without its newline. At first there is room for `room` bytes."""
-    return _line(getattr(_library(), f"circle_{name}"), [text], room)
+class State(ctypes.Structure):
+    """The header's circle_challenger."""
+
+    _fields_ = [("state", ctypes.c_uint8 * STATE_LEN)]
 
 
-def line_with(text: Text, params: Params, room: int) -> str:
-    """The line of circle_verify_with, without its newline."""
-    numbers = _Params(*(getattr(params, name) for name, _ in _Params._fields_))
-    return _line(_library().circle_verify_with, [text], room, ctypes.byref(numbers))
+def absorb(state: State, data: bytes) -> None:
+    """Has a challenger absorb bytes."""
+    _call("challenger_observe")(state, data, len(data))
 
 
-def line_of_proof(statement: Text, proof: Text, room: int) -> str:
-    """The line of circle_stark_verify, without its newline."""
-    return _line(_library().circle_stark_verify, [statement, proof], room)
+def absorb_element(state: State, number: int) -> None:
+    """Has a challenger absorb an element of the base field."""
+    if _call("challenger_observe_element")(state, number):
+        raise RuntimeError(f"the library says that {number} is no element")
+
+
+def draw(state: State) -> Cubic:
+    """Draws an element of the challenge field from a challenger."""
+    drawn = (ctypes.c_uint32 * 3)()
+    _call("challenger_sample")(state, drawn)
+    return tuple(drawn)
+
+
+def line(
+    name: str,
+    *texts: Text,
+    room: int,
+    params: Optional[Params] = None,
+    state: Optional[State] = None,
+) -> str:
+    """The line of a call, without its newline. At first there is room for `room` bytes.
+
+    With parameters the call's name ends in `_with`. With a challenger's state, which it moves on,
+    it ends in `_from`.
+    """
+    kind = "_from" if state is not None else "_with" if params is not None else ""
+    call = _call(name + kind)
+    given = [part for text in map(_bytes, texts) for part in (text, len(text))]
+    given += [] if params is None else [_numbers(params)]
+    status, told = _told(call, [*given, *([] if state is None else [state])], room)
+    if status == 0:
+        return told.rstrip("\n")
+    raise _error(status, told)
+
+
+def _call(name: str) -> Any:
+    """A call of the library."""
+    if _is_forked:
+        raise RuntimeError("this is the forked child of a process with threads")
+    return getattr(_library(), f"circle_{name}")
+
+
+def _numbers(params: Params) -> _Params:
+    return _Params(*(getattr(params, name) for name, _ in _Params._fields_))
 
 
 def _bytes(text: Text) -> bytes:
@@ -64,20 +111,15 @@ def _bytes(text: Text) -> bytes:
         raise Unreadable("json") from None
 
 
-def _line(call: Any, texts: Sequence[Text], room: int, *params: Any) -> str:
-    if _is_forked:
-        raise RuntimeError("this is the forked child of a process with threads")
-    given = [part for text in map(_bytes, texts) for part in (text, len(text))]
+def _told(call: Any, given: Sequence[Any], room: int) -> Tuple[int, str]:
+    """The status and the line of a call. Where the line is longer than the room, the call is
+    repeated."""
     needed = ctypes.c_size_t(room)
     while True:
         into, into_len = ctypes.create_string_buffer(needed.value), needed.value
-        status = call(*given, *params, into, into_len, ctypes.byref(needed))
+        status = call(*given, into, into_len, ctypes.byref(needed))
         if needed.value <= into_len:
-            break
-    told = ctypes.string_at(into, needed.value).decode()
-    if status == 0:
-        return told.rstrip("\n")
-    raise _error(status, told)
+            return status, ctypes.string_at(into, needed.value).decode()
 
 
 def _error(status: int, told: str) -> Exception:
@@ -116,14 +158,22 @@ def _path() -> pathlib.Path:
 def _library() -> ctypes.CDLL:
     """The library, with the types that the header declares. The first call loads it."""
     library = ctypes.CDLL(str(_path()))
-    text = [ctypes.c_char_p, ctypes.c_size_t]
+    text, state = [ctypes.c_char_p, ctypes.c_size_t], ctypes.POINTER(State)
     into = [ctypes.c_char_p, ctypes.c_size_t, ctypes.POINTER(ctypes.c_size_t)]
-    taken = {name: text for name in ("values", "prove", "verify", "shape")}
-    taken.update(stark_check=text, stark_prove=text, stark_verify=[*text, *text])
-    taken["verify_with"] = [*text, ctypes.POINTER(_Params)]
+    params = ctypes.POINTER(_Params)
+    names = ("values", "prove", "verify", "shape", "commit", "stark_check", "stark_prove")
+    taken = {name: [*text, *into] for name in names}
+    taken["verify_with"] = [*text, params, *into]
+    taken["verify_from"] = [*text, params, state, *into]
+    taken["stark_verify"] = [*text, *text, *into]
+    taken["stark_verify_from"] = [*text, *text, state, *into]
+    taken["prove_from"] = taken["stark_prove_from"] = [*text, state, *into]
+    taken["challenger_observe"] = [state, *text]
+    taken["challenger_observe_element"] = [state, ctypes.c_uint32]
+    taken["challenger_sample"] = [state, ctypes.POINTER(ctypes.c_uint32)]
     for name, types in taken.items():
         call = getattr(library, f"circle_{name}")
-        call.argtypes, call.restype = [*types, *into], ctypes.c_uint8
+        call.argtypes, call.restype = types, None if name in _VOID else ctypes.c_uint8
     return library
 
 

@@ -4,15 +4,17 @@ from dataclasses import dataclass, field
 from typing import Any, Sequence
 
 from .forms import (
+    COMMITMENT,
+    COMMITMENTS,
     COUNT,
     CUBIC,
     CUBICS,
-    DIGEST,
     DIGESTS,
     ELEMENT,
     ELEMENTS,
     LISTS_OF_CUBICS,
     ROWS,
+    Commitment,
     Cubic,
     Record,
     by,
@@ -90,7 +92,7 @@ class ClaimedMatrix(Record):
 class ClaimedBatch(Record):
     """The claims on the matrices that were committed to at once."""
 
-    commitment: str = field(metadata=DIGEST)
+    commitment: Commitment = field(metadata=COMMITMENT)
     matrices: Sequence[ClaimedMatrix] = field(metadata=by(list_of(record(ClaimedMatrix))))
 
 
@@ -139,7 +141,7 @@ class RoundOpening(Record):
 class FriProof(Record):
     """The rounds, what is opened at the queries, and the final polynomial's coefficients."""
 
-    commit_phase_commits: Sequence[str] = field(metadata=DIGESTS)
+    commit_phase_commits: Sequence[Commitment] = field(metadata=COMMITMENTS)
     commit_pow_witnesses: Sequence[int] = field(metadata=ELEMENTS)
     input_openings: InputOpenings = field(metadata=by(record(InputOpenings)))
     commit_phase_openings: Sequence[RoundOpening] = field(
@@ -160,6 +162,6 @@ class Proof(Record):
     """A proof of claims. Its value of JSON is a text's `proof`."""
 
     batch_pow_witness: int = field(metadata=ELEMENT)
-    first_layer_commitment: str = field(metadata=DIGEST)
+    first_layer_commitment: Commitment = field(metadata=COMMITMENT)
     lambdas: Sequence[Cubic] = field(metadata=CUBICS)
     fri_proof: FriProof = field(metadata=by(record(FriProof)))

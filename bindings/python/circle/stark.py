@@ -9,18 +9,20 @@ A prover and a verifier write the statement each for itself: nothing but the pro
 """
 
 from dataclasses import dataclass, field
-from typing import Any, Dict, Mapping, Sequence, Union
+from typing import Any, Dict, Mapping, Optional, Sequence, Union
 
 from . import records
 from .air import Air
+from .challenger import Challenger, moved
 from .errors import Unsatisfied
 from .forms import (
+    COMMITMENT,
     COUNT,
     CUBICS,
-    DIGEST,
     ELEMENTS,
     LISTS_OF_CUBICS,
     ROWS,
+    Commitment,
     Cubic,
     Record,
     by,
@@ -28,7 +30,7 @@ from .forms import (
     parsed,
     record,
 )
-from .library import Text, line, line_of_proof
+from .library import State, Text, line
 from .records import Params
 
 __all__ = [
@@ -84,8 +86,8 @@ class Proof(Record):
 
     opened_values: OpenedValues = field(metadata=by(record(OpenedValues)))
     opening_proof: records.Proof = field(metadata=by(record(records.Proof)))
-    quotient_commitment: str = field(metadata=DIGEST)
-    trace_commitment: str = field(metadata=DIGEST)
+    quotient_commitment: Commitment = field(metadata=COMMITMENT)
+    trace_commitment: Commitment = field(metadata=COMMITMENT)
 
 
 @dataclass(frozen=True)
@@ -101,52 +103,75 @@ def check(air: Air, rows: Sequence[Sequence[int]], public_values: Sequence[int] 
     _line(_air(air), "stark_check", {**value, "air": air.to_value()}, _VERDICT_LEN)
 
 
-def prove(statement: Statement, rows: Sequence[Sequence[int]]) -> Proof:
+def prove(
+    statement: Statement,
+    rows: Sequence[Sequence[int]],
+    *,
+    challenger: Optional[Challenger] = None,
+) -> Proof:
     """Returns a proof of the statement, of rows that satisfy its AIR, and raises otherwise:
-    Unsatisfied where a constraint doesn't hold at a row."""
+    Unsatisfied where a constraint doesn't hold at a row.
+
+    A challenger has absorbed what the application requires, such as its name, and is left as the
+    proof leaves it, or as it was where this raises. Without one the proof begins with a challenger
+    that has absorbed nothing.
+    """
     value = {**statement.to_value(), **_Trace(rows, statement.public_values).to_value()}
     height, log_n = len(value["rows"]), value.pop("log_n")
     if height != 2 ** min(log_n, 64):
         raise ValueError(f"the statement is of 2^{log_n} rows, and there are {height}")
-    told = _line(statement.air, "stark_prove", value, _PROOF_LEN)
-    return Proof.from_value(parsed(told)["proof"])
+    with moved(challenger) as state:
+        told = _line(statement.air, "stark_prove", value, _PROOF_LEN, state)
+        return Proof.from_value(parsed(told)["proof"])
 
 
-def verify(statement: Statement, proof: Union[Proof, Mapping[str, Any]]) -> None:
+def verify(
+    statement: Statement,
+    proof: Union[Proof, Mapping[str, Any]],
+    *,
+    challenger: Optional[Challenger] = None,
+) -> None:
     """Returns where the proof of the statement is accepted, and raises otherwise.
 
     The statement is the caller's own; nothing but the proof may be a stranger's. In its place may
     stand the value of JSON that it has in a text.
+
+    A challenger has absorbed what the prover's had, and is left as the prover's, or as it was where
+    this raises. Without one the proof begins with a challenger that has absorbed nothing.
     """
     read = proof if isinstance(proof, Proof) else Proof.from_value(proof)
     verified = {"air_digest": statement.air.digest(), "log_n": statement.log_n, "verified": True}
-    told = line_of_proof(statement.to_json(), read.to_json(), _VERDICT_LEN)
-    if told != compact(verified):
-        raise RuntimeError(f"the library returned {told!r}")
+    texts = statement.to_json(), read.to_json()
+    with moved(challenger) as state:
+        told = line("stark_verify", *texts, room=_VERDICT_LEN, state=state)
+        if told != compact(verified):
+            raise RuntimeError(f"the library returned {told!r}")
 
 
 def check_text(text: Text) -> None:
     """Returns where the rows in a text satisfy its AIR, and raises otherwise, as the program's
     `check`."""
-    line("stark_check", text, _VERDICT_LEN)
+    line("stark_check", text, room=_VERDICT_LEN)
 
 
 def prove_text(text: Text) -> str:
     """A statement with its proof, as the program's `prove` writes them."""
-    return line("stark_prove", text, _PROOF_LEN)
+    return line("stark_prove", text, room=_PROOF_LEN)
 
 
 def verify_text(statement: Text, proof: Text) -> None:
     """Returns where the proof of the statement is accepted, and raises otherwise. The statement is
     an input of the program's `verify` without its proof. Of one that can't be read `path` names the
     text, `statement` or `proof`."""
-    line_of_proof(statement, proof, _VERDICT_LEN)
+    line("stark_verify", statement, proof, room=_VERDICT_LEN)
 
 
-def _line(air: Air, name: str, value: Dict[str, Any], room: int) -> str:
+def _line(
+    air: Air, name: str, value: Dict[str, Any], room: int, state: Optional[State] = None
+) -> str:
     """The line of a call. An error has the name of the constraint that doesn't hold."""
     try:
-        return line(name, compact(value), room)
+        return line(name, compact(value), room=room, state=state)
     except Unsatisfied as found:
         name_of = air.constraint_names[found.constraint]
         raise Unsatisfied(found.row, found.constraint, name_of) from None

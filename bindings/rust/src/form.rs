@@ -29,6 +29,12 @@ impl fmt::Debug for Digest {
     }
 }
 
+impl AsRef<[u8]> for Digest {
+    fn as_ref(&self) -> &[u8] {
+        &self.0
+    }
+}
+
 /// What has a form in JSON.
 pub(crate) trait Form: Sized {
     /// What a value stands for.

@@ -1,9 +1,24 @@
 //! The calls of the static library `circle_c`, as `bindings/c/circle.h` declares them.
 
+use crate::form::Cubic;
 use crate::{Params, Refusal};
+use std::cell::Cell;
+
+/// The state of a challenger: the header's `circle_challenger`.
+pub(crate) type State = [u8; 32];
 
 extern "C" {
+    fn circle_challenger_observe(challenger: *mut State, bytes: *const u8, len: usize);
+    fn circle_challenger_observe_element(challenger: *mut State, element: u32) -> u8;
+    fn circle_challenger_sample(challenger: *mut State, element: *mut u32);
     fn circle_values(
+        text: *const u8,
+        text_len: usize,
+        line: *mut u8,
+        line_len: usize,
+        needed: *mut usize,
+    ) -> u8;
+    fn circle_commit(
         text: *const u8,
         text_len: usize,
         line: *mut u8,
@@ -13,6 +28,14 @@ extern "C" {
     fn circle_prove(
         text: *const u8,
         text_len: usize,
+        line: *mut u8,
+        line_len: usize,
+        needed: *mut usize,
+    ) -> u8;
+    fn circle_prove_from(
+        text: *const u8,
+        text_len: usize,
+        challenger: *mut State,
         line: *mut u8,
         line_len: usize,
         needed: *mut usize,
@@ -39,6 +62,15 @@ extern "C" {
         line_len: usize,
         needed: *mut usize,
     ) -> u8;
+    fn circle_verify_from(
+        text: *const u8,
+        text_len: usize,
+        params: *const Params,
+        challenger: *mut State,
+        line: *mut u8,
+        line_len: usize,
+        needed: *mut usize,
+    ) -> u8;
     fn circle_stark_check(
         text: *const u8,
         text_len: usize,
@@ -53,6 +85,14 @@ extern "C" {
         line_len: usize,
         needed: *mut usize,
     ) -> u8;
+    fn circle_stark_prove_from(
+        text: *const u8,
+        text_len: usize,
+        challenger: *mut State,
+        line: *mut u8,
+        line_len: usize,
+        needed: *mut usize,
+    ) -> u8;
     fn circle_stark_verify(
         statement: *const u8,
         statement_len: usize,
@@ -62,20 +102,59 @@ extern "C" {
         line_len: usize,
         needed: *mut usize,
     ) -> u8;
+    fn circle_stark_verify_from(
+        statement: *const u8,
+        statement_len: usize,
+        proof: *const u8,
+        proof_len: usize,
+        challenger: *mut State,
+        line: *mut u8,
+        line_len: usize,
+        needed: *mut usize,
+    ) -> u8;
 }
 
-/// A call of the library.
+/// Has a challenger absorb bytes.
+pub(crate) fn absorb(challenger: &mut State, bytes: &[u8]) {
+    // SAFETY: the declaration is that of the header. No pointer is null. The state is borrowed for
+    // the call to write to, and the bytes for it to read.
+    unsafe { circle_challenger_observe(challenger, bytes.as_ptr(), bytes.len()) }
+}
+
+/// Has a challenger absorb an element of the base field. Where it is none, returns false, and the
+/// challenger is as it was.
+pub(crate) fn absorb_element(challenger: &mut State, element: u32) -> bool {
+    // SAFETY: the declaration is that of the header, and the state is borrowed for the call.
+    unsafe { circle_challenger_observe_element(challenger, element) == 0 }
+}
+
+/// Draws an element of the challenge field from a challenger.
+pub(crate) fn draw(challenger: &mut State) -> Cubic {
+    let mut element = [0; 3];
+    // SAFETY: the declaration is that of the header. The state and the place for three numbers are
+    // borrowed for the call to write to.
+    unsafe { circle_challenger_sample(challenger, element.as_mut_ptr()) };
+    element
+}
+
+/// A call of the library by texts. Those from a challenger move its state on where there is a
+/// result.
 #[derive(Clone, Copy)]
 pub(crate) enum Call<'a> {
     Values,
+    Commit,
     Prove,
+    ProveFrom(&'a Cell<State>),
     Verify,
     VerifyWith(&'a Params),
+    VerifyFrom(&'a Params, &'a Cell<State>),
     Shape,
     StarkCheck,
     StarkProve,
+    StarkProveFrom(&'a Cell<State>),
     // The text is a statement, and this is its proof.
     StarkVerify(&'a str),
+    StarkVerifyFrom(&'a str, &'a Cell<State>),
 }
 
 impl Call<'_> {
@@ -85,23 +164,41 @@ impl Call<'_> {
         let (start, len) = (text.as_ptr(), text.len());
         let (room, room_len) = (line.as_mut_ptr(), line.capacity());
         // SAFETY: the declarations above are those of the header. No pointer is null. The text, the
-        // parameters and the proof are borrowed for the call. The vector and the number are borrowed
-        // for it to write to, and the vector's bytes need no value before. The library's memory
-        // comes from the C library's malloc, realloc and free.
+        // parameters and the proof are borrowed for the call. The vector and the number are
+        // borrowed for it to write to, and the vector's bytes need no value before. Nobody else
+        // reads or writes the cell of a state meanwhile, since threads share no cell. The library's
+        // memory comes from the C library's malloc, realloc and free.
         unsafe {
             match self {
                 Call::Values => circle_values(start, len, room, room_len, needed),
+                Call::Commit => circle_commit(start, len, room, room_len, needed),
                 Call::Prove => circle_prove(start, len, room, room_len, needed),
+                Call::ProveFrom(state) => {
+                    circle_prove_from(start, len, state.as_ptr(), room, room_len, needed)
+                }
                 Call::Verify => circle_verify(start, len, room, room_len, needed),
                 Call::VerifyWith(params) => {
                     circle_verify_with(start, len, params, room, room_len, needed)
                 }
+                Call::VerifyFrom(params, state) => {
+                    let state = state.as_ptr();
+                    circle_verify_from(start, len, params, state, room, room_len, needed)
+                }
                 Call::Shape => circle_shape(start, len, room, room_len, needed),
                 Call::StarkCheck => circle_stark_check(start, len, room, room_len, needed),
                 Call::StarkProve => circle_stark_prove(start, len, room, room_len, needed),
+                Call::StarkProveFrom(state) => {
+                    circle_stark_prove_from(start, len, state.as_ptr(), room, room_len, needed)
+                }
                 Call::StarkVerify(proof) => {
                     let (proof, proof_len) = (proof.as_ptr(), proof.len());
                     circle_stark_verify(start, len, proof, proof_len, room, room_len, needed)
+                }
+                Call::StarkVerifyFrom(proof, state) => {
+                    let (proof, proof_len, state) = (proof.as_ptr(), proof.len(), state.as_ptr());
+                    circle_stark_verify_from(
+                        start, len, proof, proof_len, state, room, room_len, needed,
+                    )
                 }
             }
         }

@@ -20,7 +20,7 @@ use crate::air::listed;
 use crate::form::{records, texts, Cubic, Digest, Form};
 use crate::json::Value;
 use crate::library::Call;
-use crate::{Air, Params, Refusal};
+use crate::{Air, Challenger, Params, Refusal};
 use std::fmt;
 
 // More bytes than a verdict and each refusal have.
@@ -161,6 +161,8 @@ pub fn check(air: &Air, rows: &[impl AsRef<[u32]>], public_values: &[u32]) -> Re
 
 /// Proves a statement, of rows that satisfy its AIR.
 ///
+/// The proof begins with a challenger that has absorbed nothing.
+///
 /// # Errors
 ///
 /// As for [`check`].
@@ -169,6 +171,61 @@ pub fn check(air: &Air, rows: &[impl AsRef<[u32]>], public_values: &[u32]) -> Re
 ///
 /// Where the number of rows isn't the statement's.
 pub fn prove(statement: &Statement<'_>, rows: &[impl AsRef<[u32]>]) -> Result<Proof, Error> {
+    proved(Call::StarkProve, statement, rows)
+}
+
+/// Proves as [`prove`] does, from the caller's challenger, for [`verify_from`].
+///
+/// The challenger has absorbed what the application requires, such as its name. It is left as the
+/// proof leaves it.
+///
+/// # Errors
+///
+/// As for [`check`]. The challenger is then as it was.
+///
+/// # Panics
+///
+/// Where the number of rows isn't the statement's.
+pub fn prove_from(
+    statement: &Statement<'_>,
+    rows: &[impl AsRef<[u32]>],
+    challenger: &mut Challenger,
+) -> Result<Proof, Error> {
+    challenger.moved(|state| proved(Call::StarkProveFrom(state), statement, rows))
+}
+
+/// Verifies a proof of a statement. The statement is the caller's own; nothing but the proof may be
+/// a stranger's.
+///
+/// # Errors
+///
+/// The first reason why the proof is refused.
+pub fn verify(statement: &Statement<'_>, proof: &Proof) -> Result<(), Error> {
+    verified(Call::StarkVerify(&proof.to_json()), statement)
+}
+
+/// Verifies a proof of a statement as [`verify`] does, from the caller's challenger.
+///
+/// The challenger has absorbed what the prover's had. It is left as the prover's.
+///
+/// # Errors
+///
+/// As for [`verify`]. The challenger is then as it was.
+pub fn verify_from(
+    statement: &Statement<'_>,
+    proof: &Proof,
+    challenger: &mut Challenger,
+) -> Result<(), Error> {
+    let proof = proof.to_json();
+    challenger.moved(|state| verified(Call::StarkVerifyFrom(&proof, state), statement))
+}
+
+// The proof that a call of a prover makes.
+fn proved(
+    call: Call<'_>,
+    statement: &Statement<'_>,
+    rows: &[impl AsRef<[u32]>],
+) -> Result<Proof, Error> {
     let (log_n, height) = (statement.log_n, rows.len());
     let is_height = height.is_power_of_two() && height.trailing_zeros() as usize == log_n;
     assert!(
@@ -182,7 +239,7 @@ pub fn prove(statement: &Statement<'_>, rows: &[impl AsRef<[u32]>]) -> Result<Pr
         listed(statement.public_values.iter()),
         lists(rows)
     );
-    let line = line(statement.air, Call::StarkProve, &text, PROOF_LEN)?;
+    let line = line(statement.air, call, &text, PROOF_LEN)?;
     match Value::read(&line) {
         Some(Value::Object(members)) if members.contains_key("proof") => {
             Proof::read(&members["proof"]).map_err(|_| Refusal::Unknown.into())
@@ -191,15 +248,9 @@ pub fn prove(statement: &Statement<'_>, rows: &[impl AsRef<[u32]>]) -> Result<Pr
     }
 }
 
-/// Verifies a proof of a statement. The statement is the caller's own; nothing but the proof may be
-/// a stranger's.
-///
-/// # Errors
-///
-/// The first reason why the proof is refused.
-pub fn verify(statement: &Statement<'_>, proof: &Proof) -> Result<(), Error> {
-    let (text, proof) = (statement.to_json(), proof.to_json());
-    let line = line(statement.air, Call::StarkVerify(&proof), &text, VERDICT_LEN)?;
+// Whether a call of a verifier accepts its proof of the statement.
+fn verified(call: Call<'_>, statement: &Statement<'_>) -> Result<(), Error> {
+    let line = line(statement.air, call, &statement.to_json(), VERDICT_LEN)?;
     let (digest, log_n) = (statement.air.digest(), statement.log_n);
     if line == format!("{{\"air_digest\":\"{digest}\",\"log_n\":{log_n},\"verified\":true}}") {
         Ok(())
