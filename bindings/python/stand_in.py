@@ -1,7 +1,7 @@
 """A stand-in for the library, by which the package's own part is tested where there is no library.
 
-It has the calls of the STARK, the challenger, and of the scheme those that a protocol makes. The
-last two prove what examples/forge.py can, a column of four sevens. What calls return comes from
+It has the STARK calls, the challenger calls, and those scheme calls that a protocol makes. The last
+prove what examples/forge.py can, a column of four sevens. What calls return comes from
 reference.py, examples/verify.py, examples/verify_stark.py, examples/forge.py, the stored proofs of
 examples/starks and hashlib, and nothing of it from the library.
 """
@@ -46,7 +46,7 @@ def is_power_of_two(count):
 
 
 def refusals(value):
-    """The refusals of an input of `check` but the last, in order, each with whether it is due."""
+    """The refusals of an input of `check` but the last, in order, each with whether it applies."""
     air, rows = value["air"], value["rows"]
     yield from verify_stark.air_refusals(air, [])
     yield "RaggedRows", len(set(map(len, rows))) > 1 or [] in rows
@@ -61,8 +61,8 @@ def checked(text):
     value = verify_stark.parse(text)
     has_params = isinstance(value, dict) and "params" in value
     read = verify_stark.read(PROVE if has_params else CHECK, value)
-    for name, is_due in refusals(read):
-        if is_due:
+    for name, applies in refusals(read):
+        if applies:
             return {"refused": name}, REFUSED
     found = reference.first_violation(value["air"], value["rows"], value["public_values"])
     if found is None:
@@ -143,8 +143,8 @@ def verified_from(text, params, challenger):
         return {"refused": "ParametersDiffer"}, REFUSED
     run = verify.Run(**given)
     tests = verify.tests_from(run, challenger, lambda text, **values: None)
-    for name, is_due in itertools.chain(verify.tests_before(run), tests):
-        if is_due:
+    for name, applies in itertools.chain(verify.tests_before(run), tests):
+        if applies:
             return {"refused": name}, REFUSED
     return {"verified": True}, 0
 
@@ -168,9 +168,9 @@ def leave(state, challenger):
     ctypes.memmove(ctypes.byref(state), challenger.state, len(challenger.state))
 
 
-def as_call(call):
-    """A function with the arguments of the library's call. One from a challenger leaves it as the
-    call does where there is a result that fits."""
+def as_call(call, leaves_if_short=False):
+    """A function with the arguments of the library's call. If there is a result, a call from a
+    challenger leaves its state: a prover's if the line fits, a verifier's even if it doesn't."""
 
     def made(*arguments):
         *given, line, line_len, needed = arguments
@@ -183,7 +183,7 @@ def as_call(call):
         if len(told) <= line_len:
             ctypes.memmove(line, told, len(told))
         for state, challenger in zip(states, challengers):
-            if status == 0 and len(told) <= line_len:
+            if status == 0 and (leaves_if_short or len(told) <= line_len):
                 leave(state, challenger)
         return status
 
@@ -219,23 +219,38 @@ class Library:
     circle_challenger_sample = staticmethod(sample)
     circle_commit = staticmethod(as_call(committed))
     circle_prove_from = staticmethod(as_call(opened_from))
-    circle_verify_from = staticmethod(as_call(verified_from))
+    circle_verify_from = staticmethod(as_call(verified_from, leaves_if_short=True))
     circle_stark_check = staticmethod(as_call(checked))
     circle_stark_prove = staticmethod(as_call(proved))
     circle_stark_prove_from = staticmethod(as_call(proved_from))
     circle_stark_verify = staticmethod(as_call(verified))
-    circle_stark_verify_from = staticmethod(as_call(verified))
+    circle_stark_verify_from = staticmethod(as_call(verified, leaves_if_short=True))
 
 
 def library_fault():
-    """Why the library's calls can't be made, and None where they can."""
+    """Why the library's calls can't be made, and None if they can."""
     try:
-        circle.library._library()
-    except (AttributeError, OSError) as fault:
+        for name in circle.library._types():
+            circle.library._call(name)
+    except OSError as fault:
         return str(fault)
     return None
 
 
-def in_place():
+def in_place(library=Library):
     """Puts the stand-in into the library's place, until it is stopped."""
-    return unittest.mock.patch.object(circle.library, "_library", Library)
+    return unittest.mock.patch.object(circle.library, "_library", library)
+
+
+def returning(line, status=0):
+    """A library whose calls by texts return this line, with its newline, and this status."""
+
+    def call(*arguments):
+        *_, into, into_len, needed = arguments
+        needed._obj.value = len(line)
+        if len(line) <= into_len:
+            ctypes.memmove(into, line, len(line))
+        return status
+
+    calls = {f"circle_{name}": staticmethod(call) for name in circle.library._types()}
+    return type("Returning", (), calls)

@@ -6,6 +6,7 @@ column of sevens, and the verifiers in examples. Where the library isn't there, 
 its place.
 """
 
+import array
 import copy
 import hashlib
 import json
@@ -55,7 +56,7 @@ class Model:
         return tuple(self.sample() for _ in range(3))
 
 
-def due_state(statement, proof, challenger):
+def expected_state(statement, proof, challenger):
     """The state in which the verifier of examples leaves a challenger, of what it accepts."""
     other = stand_in.challenger_of(challenger.to_bytes())
     members = {"batches": statement, "params": PARAMS, "proof": proof}
@@ -71,12 +72,20 @@ def claimed(commitment, log_n, point, values):
     return circle.Statement([circle.ClaimedBatch(commitment, [matrix])])
 
 
-def begun(*absorbed):
+def challenger_with(*absorbed):
     """A challenger that has absorbed these, one after another."""
     challenger = circle.Challenger()
     for data in absorbed:
         challenger.observe(data)
     return challenger
+
+
+class Named(circle.Challenger):
+    """A challenger with another constructor."""
+
+    def __init__(self, name):
+        super().__init__()
+        self.name = name
 
 
 class States(unittest.TestCase):
@@ -89,9 +98,19 @@ class States(unittest.TestCase):
         self.assertNotEqual(challenger, circle.Challenger())
         self.assertNotEqual(challenger, state)
         self.assertRaises(TypeError, hash, challenger)
-        for wrong in (b"", bytes(31), bytes(33)):
-            with self.assertRaisesRegex(ValueError, f"has 32 bytes, and not {len(wrong)}"):
+        for same in (bytearray(state), memoryview(state)):
+            self.assertEqual(circle.Challenger.from_bytes(same), challenger)
+        for wrong in (b"", bytes(31), bytes(33), memoryview(array.array("I", range(32)))):
+            with self.assertRaisesRegex(ValueError, f"expected 32 bytes, got {len(bytes(wrong))}"):
                 circle.Challenger.from_bytes(wrong)
+        for wrong in ("0" * 32, [0] * 32, 32, circle.Commitment("00" * 32)):
+            with self.assertRaisesRegex(TypeError, f"expected bytes, got {type(wrong).__name__}"):
+                circle.Challenger.from_bytes(wrong)
+
+    def test_a_copy_of_another_class(self):
+        other = Named("one").copy()
+        self.assertEqual((type(other), other.name), (Named, "one"))
+        self.assertEqual(other, circle.Challenger())
 
     def test_commitments_are_texts(self):
         digits = "0A" * 32
@@ -107,8 +126,24 @@ class States(unittest.TestCase):
         for wrong in ("", digits[1:], digits + "0", "g" * 64):
             with self.assertRaisesRegex(circle.Unreadable, "BadHex"):
                 circle.Commitment(wrong)
-        with self.assertRaisesRegex(circle.Unreadable, "WrongKind"):
-            circle.Commitment(bytes(32))
+        for wrong, told in ((bytes(32), r"got bytes \(use Commitment.from_bytes"), (7, "got int")):
+            with self.assertRaisesRegex(TypeError, told):
+                circle.Commitment(wrong)
+            with self.assertRaisesRegex(circle.Unreadable, "WrongKind at commitment"):
+                circle.ClaimedBatch(wrong, [])
+
+    def test_commitments_of_bytes(self):
+        data = bytes(range(32))
+        for same in (data, bytearray(data), memoryview(data)):
+            self.assertEqual(circle.Commitment.from_bytes(same), circle.Commitment(data.hex()))
+        for wrong in (b"", data[1:], memoryview(array.array("I", range(32)))):
+            with self.assertRaisesRegex(ValueError, f"expected 32 bytes, got {len(bytes(wrong))}"):
+                circle.Commitment.from_bytes(wrong)
+        for wrong in (data.hex(), 32, None):
+            with self.assertRaisesRegex(TypeError, "expected bytes, got "):
+                circle.Commitment.from_bytes(wrong)
+        with self.assertRaises(AttributeError):
+            circle.Commitment(data.hex()).more = 1
 
 
 class Challengers:
@@ -122,8 +157,9 @@ class Challengers:
                 challenger.observe(given_as)
                 model.observe(data)
                 self.assertEqual(challenger.to_bytes(), model.state)
-        self.assertEqual(begun(circle.Commitment(digits)), begun(bytes.fromhex(digits)))
-        self.assertNotEqual(begun(b"ab"), begun(b"a", b"b"))
+        commitment = circle.Commitment(digits)
+        self.assertEqual(challenger_with(commitment), challenger_with(bytes.fromhex(digits)))
+        self.assertNotEqual(challenger_with(b"ab"), challenger_with(b"a", b"b"))
 
     def test_elements_are_absorbed(self):
         model = Model()
@@ -135,8 +171,16 @@ class Challengers:
         challenger.observe_elements([])
         self.assertEqual(challenger.to_bytes(), model.state)
 
+    def test_elements_are_absorbed_as_their_bytes(self):
+        one, two = circle.Challenger(), circle.Challenger()
+        one.observe_elements([7])
+        self.assertEqual(one, challenger_with(b"\0\0\0\7"))
+        two.observe_elements([7, 1])
+        one.observe_elements([1])
+        self.assertEqual(one, two)
+
     def test_points_are_drawn(self):
-        challenger, model = begun(NAME), Model()
+        challenger, model = challenger_with(NAME), Model()
         model.observe(NAME)
         for _ in range(20):
             self.assertEqual(challenger.sample_point(), model.sample_point())
@@ -153,33 +197,35 @@ class Challengers:
                 move, *what = rng.choice(
                     [("observe", data), ("observe_elements", elements), ("sample_point",)]
                 )
-                found, due = (getattr(it, move)(*what) for it in (challenger, model))
-                self.assertEqual((found, challenger.to_bytes()), (due, model.state))
+                found, expected = (getattr(it, move)(*what) for it in (challenger, model))
+                self.assertEqual((found, challenger.to_bytes()), (expected, model.state))
 
     def test_what_cant_be_absorbed(self):
-        challenger = begun(NAME)
+        challenger = challenger_with(NAME)
         for wrong in ("name", 7, None, [7], circle.Challenger()):
-            with self.assertRaisesRegex(TypeError, "absorbs bytes or a Commitment, and not a "):
+            with self.assertRaisesRegex(TypeError, "expected bytes or a Commitment, got "):
                 challenger.observe(wrong)
+        with self.assertRaisesRegex(TypeError, r"got str \(use `name.encode\(\)`\)"):
+            challenger.observe("name")
         for wrong, told in (
             ([1, P], r"OutOfRange at \[1\]: 2147483647 isn't below 2\^31 - 1"),
             ([-1], r"OutOfRange at \[0\]: -1 is negative"),
             ([1, 2, True], r"WrongKind at \[2\]"),
             ([1.0], r"WrongKind at \[0\]"),
-            (7, "WrongKind: 7 is no list"),
+            (7, "WrongKind: 7 isn't a list"),
         ):
             with self.assertRaisesRegex(circle.Unreadable, told):
                 challenger.observe_elements(wrong)
-        self.assertEqual(challenger, begun(NAME))
+        self.assertEqual(challenger, challenger_with(NAME))
 
     def test_a_copy_goes_its_own_way(self):
-        challenger = begun(NAME)
+        challenger = challenger_with(NAME)
         for make in (circle.Challenger.copy, copy.copy, copy.deepcopy):
             other = make(challenger)
             self.assertEqual(other, challenger)
             other.observe(b"more")
             self.assertNotEqual(other, challenger)
-            self.assertEqual(challenger, begun(NAME))
+            self.assertEqual(challenger, challenger_with(NAME))
         self.assertEqual(pickle.loads(pickle.dumps(challenger)), challenger)
 
 
@@ -191,7 +237,7 @@ class Protocol:
     def setUp(self):
         super().setUp()
         [self.commitment] = circle.commit([[self.rows]], PARAMS)
-        self.prover = begun(NAME, self.commitment)
+        self.prover = challenger_with(NAME, self.commitment)
         self.point = self.prover.sample_point()
         self.before = self.prover.copy()
         self.batches = [[circle.Matrix([self.point], self.rows)]]
@@ -226,12 +272,12 @@ class Protocol:
                 circle.commit([[wrong]], PARAMS)
 
     def test_both_sides_end_in_one_state(self):
-        verifier = begun(NAME, self.commitment)
+        verifier = challenger_with(NAME, self.commitment)
         mine = claimed(self.commitment, self.log_n, verifier.sample_point(), self.values)
         self.assertEqual(mine, self.statement)
         self.verify(verifier, mine)
         self.assertEqual(verifier, self.prover)
-        self.assertEqual(verifier.to_bytes(), due_state(mine, self.proof, self.before))
+        self.assertEqual(verifier.to_bytes(), expected_state(mine, self.proof, self.before))
         self.assertEqual(verifier.sample_point(), self.prover.sample_point())
 
     def test_values_of_json_are_taken(self):
@@ -251,8 +297,16 @@ class Protocol:
     def test_a_line_that_is_longer_than_most(self):
         other = self.before.copy()
         with unittest.mock.patch.object(circle, "_RESULT_LEN", 8):
-            due = self.prove(other)
-        self.assertEqual((due, other), ((self.statement, self.proof), self.prover))
+            made = self.prove(other)
+        self.assertEqual((made, other), ((self.statement, self.proof), self.prover))
+
+    def test_a_verdict_that_is_longer_than_most(self):
+        """The call is repeated from the state before it, not from the one that it left."""
+        verifier = self.before.copy()
+        with unittest.mock.patch.object(circle, "_VERDICT_LEN", 1):
+            self.verify(verifier)
+            self.assertEqual(verifier, self.prover)
+            self.refused(self.before, claimed("0a" * 32, self.log_n, self.point, self.values))
 
     def test_other_values_and_parameters_are_refused(self):
         [first, *others] = self.values
@@ -279,7 +333,7 @@ class Protocol:
     def test_only_a_challenger_is_taken(self):
         for wrong in (self.before.to_bytes(), "name", circle.Challenger):
             for call in (self.prove, self.verify):
-                with self.assertRaisesRegex(TypeError, "a Challenger is due here, and not a "):
+                with self.assertRaisesRegex(TypeError, "expected a Challenger, got "):
                     call(wrong)
 
 
@@ -292,7 +346,7 @@ class Starks:
         self.rows = stand_in.stored("fibonacci_8_rows", "prove")["rows"]
         self.stored = stand_in.stored("fibonacci_8_rows", "verify")["proof"]
 
-    def due_state(self, proof, challenger):
+    def expected_state(self, proof, challenger):
         """The state in which the verifier of examples leaves a challenger."""
         other = stand_in.challenger_of(challenger.to_bytes())
         texts = self.mine.to_json().encode(), stand_in.compact(proof)
@@ -303,15 +357,26 @@ class Starks:
         challenger = circle.Challenger()
         proof = stark.prove(self.mine, self.rows, challenger=challenger)
         self.assertEqual(proof.to_value(), self.stored)
-        due = self.due_state(self.stored, circle.Challenger())
-        self.assertEqual(challenger.to_bytes(), due)
+        state = self.expected_state(self.stored, circle.Challenger())
+        self.assertEqual(challenger.to_bytes(), state)
         verifier = circle.Challenger()
         stark.verify(self.mine, proof, challenger=verifier)
         self.assertEqual(verifier, challenger)
         self.assertIsNone(stark.verify(self.mine, proof))
 
+    def test_lines_that_are_longer_than_most(self):
+        challengers = circle.Challenger(), circle.Challenger()
+        short = unittest.mock.patch.multiple(stark, _VERDICT_LEN=1, _PROOF_LEN=1)
+        with short:
+            proof = stark.prove(self.mine, self.rows, challenger=challengers[0])
+            stark.verify(self.mine, proof, challenger=challengers[1])
+        self.assertEqual(proof.to_value(), self.stored)
+        for challenger in challengers:
+            state = self.expected_state(self.stored, circle.Challenger())
+            self.assertEqual(challenger.to_bytes(), state)
+
     def test_a_challenger_is_as_it_was(self):
-        used, rows = begun(NAME), [*self.rows[:7], [21, 35]]
+        used, rows = challenger_with(NAME), [*self.rows[:7], [21, 35]]
         challenger = used.copy()
         for claims, proof in ((self.mine, self.stored), (self.mine, {**self.stored, "more": 1})):
             with self.assertRaises(circle.Error):
@@ -321,7 +386,7 @@ class Starks:
         with self.assertRaises(ValueError):
             stark.prove(self.mine, rows[:4], challenger=challenger)
         self.assertEqual(challenger, used)
-        with self.assertRaisesRegex(TypeError, "a Challenger is due here, and not a bytes"):
+        with self.assertRaisesRegex(TypeError, "expected a Challenger, got bytes"):
             stark.verify(self.mine, self.stored, challenger=NAME)
 
 
@@ -369,7 +434,7 @@ class ProtocolOfLibrary(Protocol, unittest.TestCase):
             commitments = circle.commit(batches, params)
             statement, proof, _ = parts(json.loads(given.stored(name, "verify")))
             self.assertEqual(commitments, [it.commitment for it in statement.batches])
-            prover, verifier = begun(*commitments), begun(*commitments)
+            prover, verifier = challenger_with(*commitments), challenger_with(*commitments)
             made = circle.prove(batches, params, challenger=prover)
             self.assertEqual(made, (statement, proof))
             circle.verify(*made, params, challenger=verifier)
@@ -377,21 +442,21 @@ class ProtocolOfLibrary(Protocol, unittest.TestCase):
             self.assertIsNone(circle.verify(*made, params))
 
     def test_sevens_are_proved_as_by_another_prover(self):
-        [commitment], challenger = circle.commit([[SEVENS]], PARAMS), begun(NAME)
+        [commitment], challenger = circle.commit([[SEVENS]], PARAMS), challenger_with(NAME)
         other = stand_in.challenger_of(challenger.to_bytes())
         point = stand_in.verify.Cubic(3, 1, 4)
         value = stand_in.forge.forged(6, point, stand_in.verify.Cubic(7), other)
-        due = circle.Proof.from_json(stand_in.compact(value["proof"]))
+        expected = circle.Proof.from_json(stand_in.compact(value["proof"]))
         made = circle.prove([[circle.Matrix([point], SEVENS)]], PARAMS, challenger=challenger)
-        self.assertEqual(made, (claimed(commitment, 2, point, [(7, 0, 0)]), due))
+        self.assertEqual(made, (claimed(commitment, 2, point, [(7, 0, 0)]), expected))
         self.assertEqual(challenger.to_bytes(), other.state)
 
     def test_another_state_is_refused(self):
         for absorbed in ([b"another", self.commitment], [NAME], [self.commitment, NAME], []):
-            verifier = begun(*absorbed)
+            verifier = challenger_with(*absorbed)
             self.assertNotEqual(verifier.sample_point(), self.point)
             self.refused(verifier)
-        self.refused(begun(NAME, self.commitment))
+        self.refused(challenger_with(NAME, self.commitment))
         for move, *what in (("sample_point",), ("observe", b""), ("observe_elements", [0])):
             verifier = self.before.copy()
             getattr(verifier, move)(*what)
@@ -407,13 +472,14 @@ class ProtocolOfLibrary(Protocol, unittest.TestCase):
 @needs_library
 class StarksOfLibrary(Starks, unittest.TestCase):
     def test_a_name_is_absorbed(self):
-        prover, verifier = begun(NAME), begun(NAME)
+        prover, verifier = challenger_with(NAME), challenger_with(NAME)
         proof = stark.prove(self.mine, self.rows, challenger=prover)
         self.assertNotEqual(proof.to_value(), self.stored)
-        self.assertEqual(prover.to_bytes(), self.due_state(proof.to_value(), verifier))
+        self.assertEqual(prover.to_bytes(), self.expected_state(proof.to_value(), verifier))
         stark.verify(self.mine, proof, challenger=verifier)
         self.assertEqual(verifier, prover)
-        for other in (None, circle.Challenger(), begun(b"another"), begun(NAME, b"")):
+        others = challenger_with(b"another"), challenger_with(NAME, b"")
+        for other in (None, circle.Challenger(), *others):
             with self.assertRaises(circle.Refused):
                 stark.verify(self.mine, proof, challenger=other)
 

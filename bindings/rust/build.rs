@@ -62,7 +62,7 @@ fn folder() -> Result<PathBuf, String> {
 fn named_folder(named: &Path) -> Result<PathBuf, String> {
     if !named.is_absolute() {
         return Err(format!(
-            "{FOLDER} isn't the path of a folder from the root: {named:?}"
+            "{FOLDER} must be an absolute path: {named:?}"
         ));
     }
     let missing = LIBRARIES

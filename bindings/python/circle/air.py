@@ -57,7 +57,7 @@ def _element(value: Any) -> int:
     """The element that a whole number is modulo ORDER."""
     number = _whole(value)
     if number is None:
-        raise TypeError(f"a whole number is due here, and not a {type(value).__name__}")
+        raise TypeError(f"expected a whole number, got {type(value).__name__}")
     return number % ORDER
 
 
@@ -175,7 +175,7 @@ class Air:
         """The expression that a value stands for: itself, or a constant."""
         if not self._is_operand(value):
             kind = type(value).__name__
-            raise TypeError(f"an expression or a whole number is due here, and not a {kind}")
+            raise TypeError(f"expected an expression or a whole number, got {kind}")
         return value if isinstance(value, Expr) else self.constant(value)
 
     @property
@@ -244,7 +244,7 @@ class Air:
 
     def _require(self, when: str, expr: Expr, name: Optional[str]) -> None:
         if name is not None and not isinstance(name, str):
-            raise TypeError(f"a constraint's name is a str, and not a {type(name).__name__}")
+            raise TypeError(f"expected a str as the constraint's name, got {type(name).__name__}")
         self._constraints.append(_Constraint(expr._node, when, name))
 
     def _kept(self) -> List[int]:

@@ -35,6 +35,7 @@ __all__ = [
     "Record",
     "by",
     "coefficients",
+    "commitments",
     "compact",
     "count",
     "element",
@@ -50,14 +51,17 @@ Cubic = Sequence[int]
 # The number of elements of the base field.
 ORDER = (1 << 31) - 1
 
+_BYTES = (bytes, bytearray, memoryview)
+_DIGEST_LEN = 32
+
 _Read = Callable[[Any], Any]
 _R = TypeVar("_R", bound="Record")
 
 
 def _wrong(value: Any, wanted: str) -> Unreadable:
     is_long = isinstance(value, (list, tuple, collections.abc.Mapping))
-    told = f"a {type(value).__name__}" if is_long else reprlib.repr(value)
-    return Unreadable("WrongKind", "", f"{told} is no {wanted}")
+    shown = f"a {type(value).__name__}" if is_long else reprlib.repr(value)
+    return Unreadable("WrongKind", "", f"{shown} isn't {wanted}")
 
 
 def _number(value: Any, wanted: str) -> int:
@@ -74,14 +78,14 @@ def _number(value: Any, wanted: str) -> int:
 
 
 def count(value: Any) -> int:
-    return _number(value, "whole number below 2^64")
+    return _number(value, "a whole number below 2^64")
 
 
 def element(value: Any) -> int:
     """An element of the base field."""
     if type(value) is int and 0 <= value < ORDER:
         return value
-    found = _number(value, "whole number below 2^31 - 1")
+    found = _number(value, "a whole number below 2^31 - 1")
     if found >= ORDER:
         raise Unreadable("OutOfRange", "", f"{found} isn't below 2^31 - 1")
     return found
@@ -89,18 +93,34 @@ def element(value: Any) -> int:
 
 def _digest(value: Any) -> str:
     if not isinstance(value, str):
-        raise _wrong(value, "string of 64 hexadecimal digits")
+        raise _wrong(value, "a string of 64 hexadecimal digits")
     if not re.fullmatch("[0-9A-Fa-f]{64}", value):
         raise Unreadable("BadHex", "", f"{reprlib.repr(value)} isn't 64 hexadecimal digits")
     return value.lower()
 
 
 class Commitment(str):
-    """A commitment: 64 hexadecimal digits in lower case, as texts have it. `bytes` returns its 32
-    bytes, which a challenger absorbs."""
+    """A commitment: 64 hexadecimal digits, as in JSON. Digits in upper case are converted to lower
+    case. `bytes(commitment)` returns its 32 bytes, which a challenger absorbs."""
+
+    __slots__ = ()
 
     def __new__(cls, digits: str) -> "Commitment":
+        if not isinstance(digits, str):
+            kind = type(digits).__name__
+            use = " (use Commitment.from_bytes)" if isinstance(digits, _BYTES) else ""
+            raise TypeError(f"expected a str of 64 hexadecimal digits, got {kind}{use}")
         return super().__new__(cls, _digest(digits))
+
+    @classmethod
+    def from_bytes(cls, data: Union[bytes, bytearray, memoryview]) -> "Commitment":
+        """The commitment with these 32 bytes."""
+        if not isinstance(data, _BYTES):
+            raise TypeError(f"expected bytes, got {type(data).__name__}")
+        found = bytes(data)
+        if len(found) != _DIGEST_LEN:
+            raise ValueError(f"expected {_DIGEST_LEN} bytes, got {len(found)}")
+        return cls(found.hex())
 
     def __bytes__(self) -> bytes:
         return bytes.fromhex(self)
@@ -109,13 +129,17 @@ class Commitment(str):
         return f"Commitment({str(self)!r})"
 
 
+def _commitment(value: Any) -> Commitment:
+    return Commitment(_digest(value))
+
+
 def _items(value: Any) -> Any:
     """The items of a sequence."""
     if isinstance(value, (list, tuple)):
         return value
     found = value.tolist() if hasattr(value, "tolist") else value
     if isinstance(found, (str, bytes)) or not isinstance(found, collections.abc.Sequence):
-        raise _wrong(value, "list")
+        raise _wrong(value, "a list")
     return found
 
 
@@ -133,8 +157,9 @@ def list_of(item: _Read) -> _Read:
 
 
 def _cubic(value: Any) -> Cubic:
-    if len(_items(value)) != 3:
-        raise _wrong(value, "list of three numbers")
+    length = len(_items(value))
+    if length != 3:
+        raise Unreadable("WrongKind", "", f"expected three numbers, got {length}")
     return list_of(element)(value)
 
 
@@ -154,8 +179,9 @@ def by(read: _Read, may_be_missing: bool = False) -> Dict[str, Any]:
     return {"read": read, "may_be_missing": may_be_missing}
 
 
-COUNT, ELEMENT, COMMITMENT, CUBIC = map(by, (count, element, Commitment, _cubic))
-ELEMENTS, COMMITMENTS, CUBICS = (by(list_of(it)) for it in (element, Commitment, _cubic))
+commitments = list_of(_commitment)
+COUNT, ELEMENT, COMMITMENT, CUBIC = map(by, (count, element, _commitment, _cubic))
+ELEMENTS, COMMITMENTS, CUBICS = map(by, (list_of(element), commitments, list_of(_cubic)))
 DIGESTS = by(list_of(_digest))
 ROWS, LISTS_OF_CUBICS = (by(list_of(list_of(it))) for it in (element, _cubic))
 
@@ -182,7 +208,7 @@ def _whole(digits: str) -> Union[int, float]:
 
 
 def _constant(word: str) -> None:
-    raise ValueError(f"{word} is no JSON")
+    raise ValueError(f"{word} isn't JSON")
 
 
 def parsed(text: Union[str, bytes]) -> Any:
@@ -216,10 +242,10 @@ class Record:
     def from_value(cls: Type[_R], value: Any) -> _R:
         """The record that a value of JSON stands for, as `json.loads` makes it."""
         if not isinstance(value, collections.abc.Mapping):
-            raise _wrong(value, "object")
+            raise _wrong(value, "an object")
         members = {it.name: it.metadata["may_be_missing"] for it in fields(cls)}
-        due = [name for name, may_be_missing in members.items() if not may_be_missing]
-        missing = next((name for name in due if name not in value), None)
+        required = [name for name, may_be_missing in members.items() if not may_be_missing]
+        missing = next((name for name in required if name not in value), None)
         unknown = next((name for name in value if name not in members), None)
         if missing is not None:
             raise Unreadable("MissingKey", missing)

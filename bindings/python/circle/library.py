@@ -5,15 +5,27 @@ import functools
 import os
 import pathlib
 import re
-from typing import Any, Optional, Sequence, Tuple, Union
+from typing import Any, Callable, Dict, List, Optional, Sequence, Tuple, TypeVar, Union
 
 from .errors import Refused, Unreadable, Unsatisfied
-from .forms import Cubic
+from .forms import Cubic, parsed
 from .records import Params
 
-__all__ = ["STATE_LEN", "State", "Text", "absorb", "absorb_element", "draw", "line"]
+__all__ = [
+    "STATE_LEN",
+    "State",
+    "Text",
+    "absorb",
+    "absorb_element",
+    "draw",
+    "line",
+    "read_answer",
+    "unexpected",
+]
 
 Text = Union[str, bytes, bytearray, memoryview]
+
+_R = TypeVar("_R")
 
 # The number of bytes of a challenger's state.
 STATE_LEN = 32
@@ -22,6 +34,8 @@ _FOLDER = "CIRCLE_LIBRARIES"
 _FILE = "libcircle.so"
 # The calls that return nothing.
 _VOID = ("challenger_observe", "challenger_sample")
+# At most that many characters of a line are shown in an error.
+_SHOWN_LEN = 200
 _ERRORS = {(1, "refused"): Refused, (2, "unreadable"): Unreadable}
 
 
@@ -46,18 +60,18 @@ class State(ctypes.Structure):
 
 
 def absorb(state: State, data: bytes) -> None:
-    """Has a challenger absorb bytes."""
+    """Absorbs bytes into a challenger's state."""
     _call("challenger_observe")(state, data, len(data))
 
 
 def absorb_element(state: State, number: int) -> None:
-    """Has a challenger absorb an element of the base field."""
+    """Absorbs an element of the base field into a challenger's state."""
     if _call("challenger_observe_element")(state, number):
-        raise RuntimeError(f"the library says that {number} is no element")
+        raise RuntimeError(f"the library rejected {number}: not below 2^31 - 1")
 
 
 def draw(state: State) -> Cubic:
-    """Draws an element of the challenge field from a challenger."""
+    """Draws an element of the challenge field from a challenger's state."""
     drawn = (ctypes.c_uint32 * 3)()
     _call("challenger_sample")(state, drawn)
     return tuple(drawn)
@@ -72,24 +86,44 @@ def line(
 ) -> str:
     """The line of a call, without its newline. At first there is room for `room` bytes.
 
-    With parameters the call's name ends in `_with`. With a challenger's state, which it moves on,
-    it ends in `_from`.
+    With parameters the call's name ends in `_with`. With a challenger's state, which a call with a
+    result advances, it ends in `_from`.
     """
     kind = "_from" if state is not None else "_with" if params is not None else ""
     call = _call(name + kind)
-    given = [part for text in map(_bytes, texts) for part in (text, len(text))]
+    given: List[Any] = [part for text in map(_bytes, texts) for part in (text, len(text))]
     given += [] if params is None else [_numbers(params)]
-    status, told = _told(call, [*given, *([] if state is None else [state])], room)
-    if status == 0:
-        return told.rstrip("\n")
-    raise _error(status, told)
+    status, answer = _answer(call, given, state, room)
+    if status == 0 and answer.endswith("\n"):
+        return answer[:-1]
+    raise _error(status, answer)
+
+
+def read_answer(answer: str, read: Callable[[Any], _R]) -> _R:
+    """What `read` makes of the value of a line that the library returned. The caller's input isn't
+    at fault if it can't be read: that is a RuntimeError."""
+    try:
+        return read(parsed(answer))
+    except (KeyError, TypeError, Unreadable):
+        raise unexpected(answer) from None
+
+
+def unexpected(answer: str, status: int = 0) -> RuntimeError:
+    """The error for a line that the library never returns."""
+    start = answer if len(answer) <= _SHOWN_LEN else f"{answer[:_SHOWN_LEN]}..."
+    return RuntimeError(f"the library returned {start!r} with status {status}")
 
 
 def _call(name: str) -> Any:
-    """A call of the library."""
+    """A call of the library. An older library may lack it."""
     if _is_forked:
-        raise RuntimeError("this is the forked child of a process with threads")
-    return getattr(_library(), f"circle_{name}")
+        raise RuntimeError("circle can't be called in the forked child of a multithreaded process")
+    library = _library()
+    found = getattr(library, f"circle_{name}", None)
+    if found is None:
+        path = getattr(library, "_name", _FILE)
+        raise OSError(f"{path} has no circle_{name}: it is older than this package")
+    return found
 
 
 def _numbers(params: Params) -> _Params:
@@ -104,36 +138,46 @@ def _bytes(text: Text) -> bytes:
         return bytes(text)
     if not isinstance(text, str):
         kind = type(text).__name__
-        raise TypeError(f"a text is a str or bytes, as json.dumps makes it, and not a {kind}")
+        raise TypeError(f"expected str or bytes, got {kind} (use json.dumps)")
     try:
         return text.encode()
     except UnicodeEncodeError:
         raise Unreadable("json") from None
 
 
-def _told(call: Any, given: Sequence[Any], room: int) -> Tuple[int, str]:
-    """The status and the line of a call. Where the line is longer than the room, the call is
-    repeated."""
+def _answer(
+    call: Any, given: Sequence[Any], state: Optional[State], room: int
+) -> Tuple[int, str]:
+    """The status and the line of a call. If the line is longer than the room, the call is repeated
+    from the same state: a verifier's call advances the state even if the line doesn't fit."""
     needed = ctypes.c_size_t(room)
+    states, before = ([], b"") if state is None else ([state], bytes(state))
     while True:
         into, into_len = ctypes.create_string_buffer(needed.value), needed.value
-        status = call(*given, into, into_len, ctypes.byref(needed))
+        status = call(*given, *states, into, into_len, ctypes.byref(needed))
         if needed.value <= into_len:
-            return status, ctypes.string_at(into, needed.value).decode()
+            break
+        for it in states:
+            ctypes.memmove(ctypes.byref(it), before, STATE_LEN)
+    answer = ctypes.string_at(into, needed.value)
+    try:
+        return status, answer.decode()
+    except UnicodeDecodeError:
+        raise unexpected(answer.decode(errors="backslashreplace"), status) from None
 
 
-def _error(status: int, told: str) -> Exception:
+def _error(status: int, answer: str) -> Exception:
     """The error that a line without a result names."""
-    row = re.fullmatch(r'\{"constraint":(\d+),"refused":"Unsatisfied","row":(\d+)\}\n', told)
+    row = re.fullmatch(r'\{"constraint":(\d+),"refused":"Unsatisfied","row":(\d+)\}\n', answer)
     if row and status == 1:
         return Unsatisfied(int(row[2]), int(row[1]))
-    one = re.fullmatch(r'\{"text":"(\w+)","unreadable":"(\w+)"\}\n', told)
+    one = re.fullmatch(r'\{"text":"(\w+)","unreadable":"(\w+)"\}\n', answer)
     if one and status == 2:
         return Unreadable(one[2], one[1])
-    found = re.fullmatch(r'\{"(\w+)":"(\w+)"\}\n', told)
+    found = re.fullmatch(r'\{"(\w+)":"(\w+)"\}\n', answer)
     error = found and _ERRORS.get((status, found[1]))
     if not found or not error:
-        return RuntimeError(f"the library returned {told!r} with status {status}")
+        return unexpected(answer, status)
     return error(found[2])
 
 
@@ -147,33 +191,39 @@ def _path() -> pathlib.Path:
             return own if own.exists() else built
         raise OSError(f"{built} isn't there: bindings/c/build makes it")
     if not os.path.isabs(named):
-        raise OSError(f"{_FOLDER} isn't the path of a folder from the root: {named!r}")
+        raise OSError(f"{_FOLDER} must be an absolute path: {named!r}")
     path = pathlib.Path(named) / _FILE
     if not path.exists():
         raise OSError(f"{_FOLDER} names {named!r}, where there is no {_FILE}")
     return path
 
 
-@functools.lru_cache(maxsize=None)
-def _library() -> ctypes.CDLL:
-    """The library, with the types that the header declares. The first call loads it."""
-    library = ctypes.CDLL(str(_path()))
+def _types() -> Dict[str, List[Any]]:
+    """The arguments of each call, as the header declares them."""
     text, state = [ctypes.c_char_p, ctypes.c_size_t], ctypes.POINTER(State)
     into = [ctypes.c_char_p, ctypes.c_size_t, ctypes.POINTER(ctypes.c_size_t)]
     params = ctypes.POINTER(_Params)
     names = ("values", "prove", "verify", "shape", "commit", "stark_check", "stark_prove")
-    taken = {name: [*text, *into] for name in names}
-    taken["verify_with"] = [*text, params, *into]
-    taken["verify_from"] = [*text, params, state, *into]
-    taken["stark_verify"] = [*text, *text, *into]
-    taken["stark_verify_from"] = [*text, *text, state, *into]
-    taken["prove_from"] = taken["stark_prove_from"] = [*text, state, *into]
-    taken["challenger_observe"] = [state, *text]
-    taken["challenger_observe_element"] = [state, ctypes.c_uint32]
-    taken["challenger_sample"] = [state, ctypes.POINTER(ctypes.c_uint32)]
-    for name, types in taken.items():
-        call = getattr(library, f"circle_{name}")
-        call.argtypes, call.restype = types, None if name in _VOID else ctypes.c_uint8
+    types = {name: [*text, *into] for name in names}
+    types["verify_with"] = [*text, params, *into]
+    types["verify_from"] = [*text, params, state, *into]
+    types["stark_verify"] = [*text, *text, *into]
+    types["stark_verify_from"] = [*text, *text, state, *into]
+    types["prove_from"] = types["stark_prove_from"] = [*text, state, *into]
+    types["challenger_observe"] = [state, *text]
+    types["challenger_observe_element"] = [state, ctypes.c_uint32]
+    types["challenger_sample"] = [state, ctypes.POINTER(ctypes.c_uint32)]
+    return types
+
+
+@functools.lru_cache(maxsize=None)
+def _library() -> ctypes.CDLL:
+    """The library, with the types of the calls that it has. The first call loads it."""
+    library = ctypes.CDLL(str(_path()))
+    for name, types in _types().items():
+        call = getattr(library, f"circle_{name}", None)
+        if call is not None:
+            call.argtypes, call.restype = types, None if name in _VOID else ctypes.c_uint8
     return library
 
 

@@ -1,7 +1,7 @@
 """What is proved, as records: parameters, statements and proofs, from and to JSON."""
 
 from dataclasses import dataclass, field
-from typing import Any, Sequence
+from typing import Any, Sequence, Union
 
 from .forms import (
     COMMITMENT,
@@ -90,9 +90,10 @@ class ClaimedMatrix(Record):
 
 @dataclass(frozen=True)
 class ClaimedBatch(Record):
-    """The claims on the matrices that were committed to at once."""
+    """The claims on the matrices that were committed to at once. The commitment may be given as 64
+    hexadecimal digits, and is kept as a Commitment."""
 
-    commitment: Commitment = field(metadata=COMMITMENT)
+    commitment: Union[Commitment, str] = field(metadata=COMMITMENT)
     matrices: Sequence[ClaimedMatrix] = field(metadata=by(list_of(record(ClaimedMatrix))))
 
 
