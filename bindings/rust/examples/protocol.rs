@@ -8,7 +8,7 @@ use std::error::Error;
 const PARAMS: Params = Params::new(1, 89);
 
 // What each side draws once the columns are committed to.
-fn drawn_after(commitment: Digest) -> (Cubic, Challenger) {
+fn draw_point(commitment: Digest) -> (Cubic, Challenger) {
     let mut challenger = Challenger::new();
     challenger.observe("sums, version 1: 4 rows of 3 columns");
     challenger.observe(commitment);
@@ -21,17 +21,18 @@ fn main() -> Result<(), Box<dyn Error>> {
     let points = Vec::new();
     let mut batches = [vec![Matrix { points, rows }]];
     let commitment = commit(&batches, &PARAMS)?[0];
-    let (point, mut challenger) = drawn_after(commitment);
+    let (point, mut challenger) = draw_point(commitment);
     batches[0][0].points.push(point);
     let (claims, proof) = prove_from(&batches, &PARAMS, &mut challenger)?;
     let values = claims.batches[0].matrices[0].points[0].values.clone();
 
     // The verifier draws the point itself, and writes the claims anew.
-    let (point, mut challenger) = drawn_after(commitment);
+    let (point, mut challenger) = draw_point(commitment);
     let [first, second, third] = values[..] else {
-        return Err("three values are due".into());
+        return Err("expected three values".into());
     };
-    if [0, 1, 2].map(|i| (first[i] + second[i]) % ORDER) != third {
+    let sum = |i: usize| (u64::from(first[i]) + u64::from(second[i])) % u64::from(ORDER);
+    if [0, 1, 2].map(sum) != third.map(u64::from) {
         return Err("the columns don't add up".into());
     }
     let (log_n, points) = (2, vec![Claim { point, values }]);

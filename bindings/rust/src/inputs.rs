@@ -1,6 +1,6 @@
 //! What the calls by texts read, as records: they find where a text can't be read.
 
-use crate::form::{records, Digest, Form};
+use crate::form::{records, Form};
 use crate::records::{ClaimedBatch, Matrix, Params, Proof};
 use crate::{Error, Refusal};
 
@@ -16,11 +16,6 @@ records! {
     pub struct ProveInput {
         pub batches: Vec<Vec<Matrix>>,
         pub params: Params,
-    }
-
-    /// What `commit` returns.
-    pub struct Commitments {
-        pub commitments: Vec<Digest>,
     }
 
     /// An input of the program's `verify`.

@@ -182,7 +182,7 @@ refusals! {
 
 impl Refusal {
     // The refusal that a line of the library names, without its newline.
-    pub(crate) fn told(line: &str) -> Refusal {
+    pub(crate) fn of_line(line: &str) -> Refusal {
         let said = |refusal: &&Refusal| refusal.line() == line;
         Refusal::ALL
             .iter()

@@ -1,6 +1,6 @@
 //! Challengers, and proofs from one: what a protocol does on both sides.
 //!
-//! What is due of states, points and the proof of sevens is by hashlib and `examples/forge.py`.
+//! The expected states, points and proof of sevens are by hashlib and `examples/forge.py`.
 
 use circle::{commit, prove, prove_from, stark, verify, verify_from};
 use circle::{Air, Challenger, Claim, ClaimedBatch, ClaimedMatrix, Cubic, Digest};
@@ -45,7 +45,7 @@ fn digits(challenger: &Challenger) -> String {
 }
 
 // A challenger that has absorbed these, one after another.
-fn begun(absorbed: &[&[u8]]) -> Challenger {
+fn challenger_with(absorbed: &[&[u8]]) -> Challenger {
     let mut challenger = Challenger::new();
     for bytes in absorbed {
         challenger.observe(bytes);
@@ -73,7 +73,7 @@ impl Sent {
     fn new() -> Sent {
         let mut batches = [vec![sums()]];
         let commitment = commit(&batches, &PARAMS).expect("a commitment")[0];
-        let mut before = begun(&[NAME.as_bytes(), &commitment.0]);
+        let mut before = challenger_with(&[NAME.as_bytes(), &commitment.0]);
         batches[0][0].points.push(before.sample_point());
         let mut after = before.clone();
         let made = prove_from(&batches, &PARAMS, &mut after);
@@ -111,7 +111,7 @@ impl Sent {
 #[test]
 fn bytes_are_absorbed() {
     let bytes: Vec<u8> = (0..1000).map(|i| i as u8).collect();
-    for (absorbed, due) in [
+    for (absorbed, expected) in [
         (
             &b""[..],
             "7f9c9e31ac8256ca2f258583df262dbc7d6f68f2a03043d5c99a4ae5a7396ce9",
@@ -129,32 +129,42 @@ fn bytes_are_absorbed() {
             "bce678df093f2b5557e8702d4cfdc9d5a590abd42ccc2e18081f2940385cfc90",
         ),
     ] {
-        assert_eq!(digits(&begun(&[absorbed])), due);
+        assert_eq!(digits(&challenger_with(&[absorbed])), expected);
     }
-    assert_ne!(begun(&[b"ab"]), begun(&[b"a", b"b"]));
+    assert_ne!(challenger_with(&[b"ab"]), challenger_with(&[b"a", b"b"]));
 }
 
 #[test]
 fn elements_are_absorbed() {
     let mut challenger = Challenger::new();
     assert_eq!(challenger.observe_elements(&[0, 1, 258, ORDER - 1]), Ok(()));
-    let due = "25fb3cb145a9de96731081a5d1e0ccd7e3a70d8f23ade366448ba41d8f3ee066";
-    assert_eq!(digits(&challenger), due);
+    let expected = "25fb3cb145a9de96731081a5d1e0ccd7e3a70d8f23ade366448ba41d8f3ee066";
+    assert_eq!(digits(&challenger), expected);
     for (elements, path) in [(&[7, ORDER][..], "[1]"), (&[u32::MAX], "[0]")] {
         let error = challenger
             .observe_elements(elements)
             .expect_err("no element");
         assert_eq!((error.name(), error.path()), ("OutOfRange", Some(path)));
-        assert_eq!(digits(&challenger), due);
+        assert_eq!(digits(&challenger), expected);
     }
     assert_eq!(challenger.observe_elements(&[]), Ok(()));
-    assert_eq!(digits(&challenger), due);
+    assert_eq!(digits(&challenger), expected);
+}
+
+#[test]
+fn elements_are_absorbed_as_their_bytes() {
+    let (mut one, mut two) = (Challenger::new(), Challenger::new());
+    assert_eq!(one.observe_elements(&[7]), Ok(()));
+    assert_eq!(one, challenger_with(&[&[0, 0, 0, 7]]));
+    assert_eq!(one.observe_elements(&[1]), Ok(()));
+    assert_eq!(two.observe_elements(&[7, 1]), Ok(()));
+    assert_eq!(one, two);
 }
 
 #[test]
 fn points_are_drawn() {
-    let mut challenger = begun(&[NAME.as_bytes()]);
-    for (point, due) in [
+    let mut challenger = challenger_with(&[NAME.as_bytes()]);
+    for (point, expected) in [
         (
             [131_030_282, 1_491_046_048, 1_445_159_626],
             "3bec6e8ab5ff0f4919823ed8ecc281f08c5080c0a19b57f58217695e0b1db045",
@@ -165,7 +175,7 @@ fn points_are_drawn() {
         ),
     ] {
         assert_eq!(challenger.sample_point(), point);
-        assert_eq!(digits(&challenger), due);
+        assert_eq!(digits(&challenger), expected);
     }
 }
 
@@ -175,8 +185,8 @@ fn a_challenger_is_its_state() {
     let challenger = Challenger::from_bytes(state);
     assert_eq!(Challenger::default().to_bytes(), [0; 32]);
     assert_eq!(challenger.to_bytes(), state);
-    let told = format!("Challenger {{ state: Digest({}) }}", "07".repeat(32));
-    assert_eq!(format!("{challenger:?}"), told);
+    let shown = format!("Challenger({})", "07".repeat(32));
+    assert_eq!(format!("{challenger:?}"), shown);
     let mut other = challenger.clone();
     other.observe("more");
     assert_ne!(other, challenger);
@@ -192,7 +202,7 @@ fn sevens_are_proved_as_by_another_prover() {
     let mut batches = [vec![Matrix { points, rows }]];
     let commitments = commit(&batches, &PARAMS).expect("a commitment");
     assert_eq!(commitments[0].to_string(), SEVENS);
-    let mut challenger = begun(&[NAME.as_bytes(), &commitments[0].0]);
+    let mut challenger = challenger_with(&[NAME.as_bytes(), &commitments[0].0]);
     assert_eq!(challenger.sample_point(), POINT);
     batches[0][0].points.push(POINT);
     let made = prove_from(&batches, &PARAMS, &mut challenger);
@@ -207,8 +217,8 @@ fn sevens_are_proved_as_by_another_prover() {
     let batches = vec![claims];
     let proof = Proof::from_json(PROOF_OF_SEVENS).expect("a proof");
     assert_eq!(made, Ok((Statement { batches }, proof)));
-    let due = "deb8a9d4dd36272f96cd5f37e91edec93931c45571f54d4e24cc4120b79d1c17";
-    assert_eq!(digits(&challenger), due);
+    let expected = "deb8a9d4dd36272f96cd5f37e91edec93931c45571f54d4e24cc4120b79d1c17";
+    assert_eq!(digits(&challenger), expected);
 }
 
 #[test]
@@ -226,10 +236,10 @@ fn commitments_are_those_of_the_statement() {
     assert_eq!(commitments, claimed);
     // A challenger that has absorbed the commitments alone makes the same proof.
     let absorbed: Vec<&[u8]> = commitments.iter().map(AsRef::as_ref).collect();
-    let mut challenger = begun(&absorbed);
+    let mut challenger = challenger_with(&absorbed);
     let made = prove_from(&batches, &PARAMS, &mut challenger);
     assert_eq!(made.as_ref(), Ok(&(statement.clone(), proof.clone())));
-    let mut verifier = begun(&absorbed);
+    let mut verifier = challenger_with(&absorbed);
     let verdict = verify_from(&statement, &proof, &PARAMS, &mut verifier);
     assert_eq!((verdict, verifier), (Ok(()), challenger));
     assert_eq!(verify(&statement, &proof, &PARAMS), Ok(()));
@@ -238,7 +248,7 @@ fn commitments_are_those_of_the_statement() {
 #[test]
 fn both_sides_end_in_one_state() {
     let mut sent = Sent::new();
-    let mut verifier = begun(&[NAME.as_bytes(), &sent.commitment.0]);
+    let mut verifier = challenger_with(&[NAME.as_bytes(), &sent.commitment.0]);
     let point = verifier.sample_point();
     let mine = sent.claiming(|claim| claim.point = point);
     assert_eq!(mine, sent.statement);
@@ -254,14 +264,14 @@ fn other_states_are_refused() {
     let (name, commitment) = (NAME.as_bytes(), &sent.commitment.0[..]);
     let absorbed: [&[&[u8]]; 4] = [&[b"another", commitment], &[name], &[commitment, name], &[]];
     for absorbed in absorbed {
-        let mut verifier = begun(absorbed);
+        let mut verifier = challenger_with(absorbed);
         assert_ne!(
             verifier.sample_point(),
             sent.statement.batches[0].matrices[0].points[0].point
         );
         sent.expect_refused(&sent.statement, &verifier);
     }
-    sent.expect_refused(&sent.statement, &begun(&[name, commitment]));
+    sent.expect_refused(&sent.statement, &challenger_with(&[name, commitment]));
     let mut verifier = sent.before.clone();
     verifier.sample_point();
     sent.expect_refused(&sent.statement, &verifier);
@@ -296,7 +306,7 @@ fn other_claims_and_parameters_are_refused() {
 
 #[test]
 fn what_cant_be_proved() {
-    let mut challenger = begun(&[NAME.as_bytes()]);
+    let mut challenger = challenger_with(&[NAME.as_bytes()]);
     for (count, element, name) in [(3, 7, "HeightNotPowerOfTwo"), (4, ORDER, "OutOfRange")] {
         let (points, rows) = (vec![POINT], vec![vec![element]; count]);
         let batches = [vec![Matrix { points, rows }]];
@@ -307,7 +317,7 @@ fn what_cant_be_proved() {
         let is_of_form = error.path() == Some("batches[0][0].rows[0][0]");
         assert_eq!(is_of_form, error.is_unreadable());
     }
-    assert_eq!(challenger, begun(&[NAME.as_bytes()]));
+    assert_eq!(challenger, challenger_with(&[NAME.as_bytes()]));
 }
 
 // Powers of two.
@@ -323,10 +333,14 @@ fn doubling() -> Air {
 fn starks_from_a_challenger() {
     let (air, mut rows) = (doubling(), [[3], [6], [12], [24]]);
     let statement = stark::Statement::new(&air, 2, &[3], PARAMS);
-    let named = begun(&[NAME.as_bytes()]);
+    let named = challenger_with(&[NAME.as_bytes()]);
     let (mut prover, mut verifier) = (named.clone(), named.clone());
     let proof = stark::prove_from(&statement, &rows, &mut prover).expect("a proof");
-    for mut other in [Challenger::new(), begun(&[b"another"]), prover.clone()] {
+    for mut other in [
+        Challenger::new(),
+        challenger_with(&[b"another"]),
+        prover.clone(),
+    ] {
         let before = other.clone();
         assert!(stark::verify_from(&statement, &proof, &mut other).is_err());
         assert_eq!(other, before);
