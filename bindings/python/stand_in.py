@@ -98,7 +98,7 @@ def verified(statement, proof, challenger=None):
     return verify_stark.answer(lambda: json.dumps(value).encode(), challenger=challenger)
 
 
-def proved_from(text, challenger):
+def stark_prove_from(text, challenger):
     """The line and the status of `prove`, from a challenger that has absorbed nothing."""
     line, status = proved(text)
     if status == 0:
@@ -114,7 +114,7 @@ def compact(value):
     return json.dumps(value, default=bytes.hex, separators=(",", ":"), sort_keys=True).encode()
 
 
-def committed(text):
+def commit(text):
     """The line and the status of `commit`."""
     batches = verify.read(BATCHES, verify.parse(text))["batches"]
     rows = [matrix["rows"] for batch in batches for matrix in batch]
@@ -124,9 +124,9 @@ def committed(text):
     return {"commitments": [forge.committed()[0][0].hex()] * len(batches)}, 0
 
 
-def opened_from(text, challenger):
+def prove_from(text, challenger):
     """The line and the status of `prove`."""
-    line, status = committed(text)
+    line, status = commit(text)
     if status:
         return line, status
     given = verify.read(BATCHES, json.loads(text))
@@ -136,7 +136,7 @@ def opened_from(text, challenger):
     return json.loads(compact(value)), 0
 
 
-def verified_from(text, params, challenger):
+def verify_from(text, params, challenger):
     """The line and the status of `verify`."""
     given = verify.read(verify.INPUT, verify.parse(text))
     if any(number != getattr(params, name) for name, number in given["params"].items()):
@@ -217,12 +217,12 @@ class Library:
     circle_challenger_observe = staticmethod(observe)
     circle_challenger_observe_element = staticmethod(observe_element)
     circle_challenger_sample = staticmethod(sample)
-    circle_commit = staticmethod(as_call(committed))
-    circle_prove_from = staticmethod(as_call(opened_from))
-    circle_verify_from = staticmethod(as_call(verified_from, leaves_if_short=True))
+    circle_commit = staticmethod(as_call(commit))
+    circle_prove_from = staticmethod(as_call(prove_from))
+    circle_verify_from = staticmethod(as_call(verify_from, leaves_if_short=True))
     circle_stark_check = staticmethod(as_call(checked))
     circle_stark_prove = staticmethod(as_call(proved))
-    circle_stark_prove_from = staticmethod(as_call(proved_from))
+    circle_stark_prove_from = staticmethod(as_call(stark_prove_from))
     circle_stark_verify = staticmethod(as_call(verified))
     circle_stark_verify_from = staticmethod(as_call(verified, leaves_if_short=True))
 

@@ -61,7 +61,7 @@ def expected_state(statement, proof, challenger):
     other = stand_in.challenger_of(challenger.to_bytes())
     members = {"batches": statement, "params": PARAMS, "proof": proof}
     value = {name: member.to_value() for name, member in members.items()}
-    told = stand_in.verified_from(stand_in.compact(value), PARAMS, other)
+    told = stand_in.verify_from(stand_in.compact(value), PARAMS, other)
     assert told == ({"verified": True}, 0), told
     return other.state
 

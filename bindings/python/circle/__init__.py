@@ -126,12 +126,13 @@ def verify(
 ) -> None:
     """Returns None if the proof of the statement is accepted by these parameters; raises otherwise.
 
-    Statement and parameters are the caller's own; only the proof may be a stranger's. Each may also
-    be its JSON value, as `json.loads` returns it.
+    Statement and parameters are the caller's own; only the proof may be a stranger's. Each argument
+    may also be its JSON value, as `json.loads` returns it.
 
     A challenger must have absorbed and drawn what the prover's had. The statement's points must be
-    the ones you drew from it; this isn't checked. It ends in the prover's state; unchanged if this
-    raises. Without one, the proof starts from a challenger that has absorbed only the commitments.
+    the ones you drew from it; this isn't checked. The challenger ends in the prover's state;
+    unchanged if this raises. Without one, the proof starts from a challenger that has absorbed only
+    the commitments.
     """
     batches, params = _made(Statement, statement).batches, _made(Params, params)
     text = _VerifyInput(batches, params, _made(Proof, proof)).to_json()

@@ -116,7 +116,7 @@ def prove(
     """Returns a proof of the statement if the rows satisfy its AIR; raises otherwise: Unsatisfied
     if a constraint doesn't hold at a row, ValueError if the number of rows isn't the statement's.
 
-    A challenger must have absorbed what the application requires, such as its name. It ends in the
+    A challenger must have absorbed what the application requires, such as its name, and ends in the
     state that the proof leaves; unchanged if this raises. Without one, the proof starts from a
     challenger that has absorbed nothing.
     """
@@ -140,7 +140,7 @@ def verify(
     The statement is the caller's own; only the proof may be a stranger's. The proof may also be its
     JSON value, as `json.loads` returns it.
 
-    A challenger must have absorbed what the prover's had. It ends in the prover's state; unchanged
+    A challenger must have absorbed what the prover's had, and ends in the prover's state; unchanged
     if this raises. Without one, the proof starts from a challenger that has absorbed nothing.
     """
     read = proof if isinstance(proof, Proof) else Proof.from_value(proof)

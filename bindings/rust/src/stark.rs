@@ -175,12 +175,12 @@ pub fn check(air: &Air, rows: &[impl AsRef<[u32]>], public_values: &[u32]) -> Re
 ///
 /// As for [`check`], and [`Error::HeightMismatch`] if the number of rows isn't the statement's.
 pub fn prove(statement: &Statement<'_>, rows: &[impl AsRef<[u32]>]) -> Result<Proof, Error> {
-    proved(Call::StarkProve, statement, rows)
+    proof(Call::StarkProve, statement, rows)
 }
 
 /// Proves as [`prove`] does, from the caller's challenger, for [`verify_from`].
 ///
-/// The challenger must have absorbed what the application requires, such as its name. It ends in
+/// The challenger must have absorbed what the application requires, such as its name, and ends in
 /// the state that the proof leaves.
 ///
 /// # Errors
@@ -191,7 +191,7 @@ pub fn prove_from(
     rows: &[impl AsRef<[u32]>],
     challenger: &mut Challenger,
 ) -> Result<Proof, Error> {
-    challenger.advance(|state| proved(Call::StarkProveFrom(state), statement, rows))
+    challenger.advance(|state| proof(Call::StarkProveFrom(state), statement, rows))
 }
 
 /// Verifies a proof of a statement. The statement is the caller's own; only the proof may be a
@@ -201,12 +201,12 @@ pub fn prove_from(
 ///
 /// The first reason why the proof is refused.
 pub fn verify(statement: &Statement<'_>, proof: &Proof) -> Result<(), Error> {
-    verified(Call::StarkVerify(&proof.to_json()), statement)
+    verdict(Call::StarkVerify(&proof.to_json()), statement)
 }
 
 /// Verifies a proof of a statement as [`verify`] does, from the caller's challenger.
 ///
-/// The challenger must have absorbed what the prover's had. It ends in the prover's state.
+/// The challenger must have absorbed what the prover's had, and ends in the prover's state.
 ///
 /// # Errors
 ///
@@ -217,11 +217,11 @@ pub fn verify_from(
     challenger: &mut Challenger,
 ) -> Result<(), Error> {
     let proof = proof.to_json();
-    challenger.advance(|state| verified(Call::StarkVerifyFrom(&proof, state), statement))
+    challenger.advance(|state| verdict(Call::StarkVerifyFrom(&proof, state), statement))
 }
 
 // The proof that a call of a prover makes.
-fn proved(
+fn proof(
     call: Call<'_>,
     statement: &Statement<'_>,
     rows: &[impl AsRef<[u32]>],
@@ -241,8 +241,8 @@ fn proved(
     Ok(member(&line, "proof")?)
 }
 
-// Whether a call of a verifier accepts its proof of the statement.
-fn verified(call: Call<'_>, statement: &Statement<'_>) -> Result<(), Error> {
+// What a call of a verifier says of its proof of the statement.
+fn verdict(call: Call<'_>, statement: &Statement<'_>) -> Result<(), Error> {
     let line = line(statement.air, call, &statement.to_json(), VERDICT_LEN)?;
     let (digest, log_n) = (statement.air.digest(), statement.log_n);
     if line == format!("{{\"air_digest\":\"{digest}\",\"log_n\":{log_n},\"verified\":true}}") {
