@@ -2,8 +2,8 @@
 
 A record reads its members when it is made. Of a member that can't be read it raises `Unreadable`,
 with the name that the library has for the fault and the path of the member. A member that is a
-record may be given as the value of JSON that stands for it, and a list as any sequence, such as an
-array of numpy. What is read is kept as tuples.
+record may be given as its JSON value, and a list as any sequence, such as a numpy array. What is
+read is kept as tuples.
 """
 
 import collections.abc
@@ -240,7 +240,7 @@ class Record:
 
     @classmethod
     def from_value(cls: Type[_R], value: Any) -> _R:
-        """The record that a value of JSON stands for, as `json.loads` makes it."""
+        """The record with this JSON value, as `json.loads` returns it."""
         if not isinstance(value, collections.abc.Mapping):
             raise _wrong(value, "an object")
         members = {it.name: it.metadata["may_be_missing"] for it in fields(cls)}
@@ -255,13 +255,13 @@ class Record:
 
     @classmethod
     def from_json(cls: Type[_R], text: Union[str, bytes]) -> _R:
-        """The record that a text of JSON stands for."""
+        """The record with this JSON text."""
         return cls.from_value(parsed(text))
 
     def to_value(self) -> Any:
-        """The value of JSON that stands for the record."""
+        """The record's JSON value."""
         return {member.name: written(getattr(self, member.name)) for member in fields(self)}
 
     def to_json(self) -> str:
-        """The text of JSON that stands for the record, by ascending keys."""
+        """The record's JSON text, with ascending keys."""
         return compact(self.to_value())

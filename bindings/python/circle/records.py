@@ -45,7 +45,7 @@ __all__ = [
 class Params(Record):
     """The parameters of proofs, which the verifier chooses (docs/SECURITY.md).
 
-    Its value of JSON has every member, but that `log_final_poly_len` may be missing where it is 0.
+    Its JSON value has every member, except that `log_final_poly_len` may be missing if it is 0.
     """
 
     log_blowup: int = field(metadata=COUNT)
@@ -99,7 +99,7 @@ class ClaimedBatch(Record):
 
 @dataclass(frozen=True)
 class Statement(Record):
-    """What a proof shows: the claims, batch by batch. Its value of JSON is a text's `batches`."""
+    """What a proof shows: the claims, batch by batch. Its JSON value is a text's `batches`."""
 
     batches: Sequence[ClaimedBatch] = field(metadata=by(list_of(record(ClaimedBatch))))
 
@@ -160,7 +160,7 @@ class FriProof(Record):
 
 @dataclass(frozen=True)
 class Proof(Record):
-    """A proof of claims. Its value of JSON is a text's `proof`."""
+    """A proof of claims. Its JSON value is a text's `proof`."""
 
     batch_pow_witness: int = field(metadata=ELEMENT)
     first_layer_commitment: Commitment = field(metadata=COMMITMENT)

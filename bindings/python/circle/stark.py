@@ -84,7 +84,7 @@ class OpenedValues(Record):
 
 @dataclass(frozen=True)
 class Proof(Record):
-    """A proof of a statement. Its value of JSON is a text's `proof`."""
+    """A proof of a statement. Its JSON value is a text's `proof`."""
 
     opened_values: OpenedValues = field(metadata=by(record(OpenedValues)))
     opening_proof: records.Proof = field(metadata=by(record(records.Proof)))

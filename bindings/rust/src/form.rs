@@ -219,7 +219,7 @@ macro_rules! records {
 macro_rules! texts {
     ($($name:ident),*) => {$(
         impl $name {
-            /// What a text of JSON stands for.
+            /// The value with this JSON text.
             ///
             /// # Errors
             ///
@@ -228,7 +228,7 @@ macro_rules! texts {
                 $crate::form::Form::read_text(text)
             }
 
-            /// The text of JSON that stands for this, compact and with ascending keys.
+            /// The JSON text, compact and with ascending keys.
             pub fn to_json(&self) -> String {
                 $crate::form::Form::write(self).text()
             }

@@ -20,7 +20,7 @@ macro_rules! refusals {
         pub enum Refusal {
             $($(#[$unreadable_doc])* $unreadable,)*
             $($(#[$refused_doc])* $refused,)*
-            /// This crate doesn't know the library's line: they don't belong together.
+            /// The library returned a line that it never should: crate and library don't fit.
             Unknown,
         }
 

@@ -52,8 +52,7 @@ impl<'a> Statement<'a> {
         }
     }
 
-    /// The text of JSON that stands for the statement: an input of `stark_tool verify` without its
-    /// proof.
+    /// The JSON text of the statement: an input of `stark_tool verify` without its proof.
     #[must_use]
     pub fn to_json(&self) -> String {
         format!(

@@ -152,14 +152,14 @@ fn places_are_written() {
 }
 
 #[test]
-#[should_panic(expected = "the expressions are of different AIRs")]
+#[should_panic(expected = "the expressions belong to different AIRs")]
 fn expressions_of_different_airs() {
     let (one, other) = (Air::new(1, 0), Air::new(1, 0));
     let _ = one.column(0) + other.column(0);
 }
 
 #[test]
-#[should_panic(expected = "the expression is one of another AIR")]
+#[should_panic(expected = "the expression belongs to another AIR")]
 fn an_expression_of_another_air() {
     let (one, other) = (Air::new(1, 0), Air::new(1, 0));
     one.every_row().assert_zero(other.column(0));
