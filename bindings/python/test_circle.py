@@ -188,7 +188,7 @@ class Texts(unittest.TestCase):
             self.unreadable("json", text)
         for value in (None, 7, {}, []):
             kind = type(value).__name__
-            with self.assertRaisesRegex(TypeError, f"expected str or bytes, got {kind} "):
+            with self.assertRaisesRegex(TypeError, f"expected str or bytes, got {kind}"):
                 circle.verify_as_stated(value)
 
     def test_the_path_of_what_cant_be_read(self):

@@ -137,8 +137,8 @@ def _bytes(text: Text) -> bytes:
     if isinstance(text, (bytearray, memoryview)):
         return bytes(text)
     if not isinstance(text, str):
-        kind = type(text).__name__
-        raise TypeError(f"expected str or bytes, got {kind} (use json.dumps)")
+        use = " (use json.dumps)" if isinstance(text, (dict, list)) else ""
+        raise TypeError(f"expected str or bytes, got {type(text).__name__}{use}")
     try:
         return text.encode()
     except UnicodeEncodeError:
